@@ -1,0 +1,25 @@
+//! Writing a whole text to a sink that may take it in pieces. A reader may rely on the first part that was appended
+//! being a first part of the text, whatever the sink did.
+ghost use Rattle.std.specs.Prelude.{◌≤◌, OnOk, OnErr};
+ghost use Rattle.std.specs.Io.KnownBytes.{Appends};
+ghost use Rattle.byte_ports.specs.Bytes.{AppendsPrefix};
+ghost use Rattle.byte_ports.specs.Counts.{Rose};
+
+use crate::{Failed, Sink};
+
+/// Appends all of `bytes`, by as many writes as the sink needs. It makes no call where `bytes` is empty.
+///
+/// `Failed`: the sink failed in this call; some first part of `bytes` was appended.
+pub fn write_all<K: Sink>(out: &mut K, bytes: &[u8]) -> Result<(), Failed>
+    ensures all { OnOk result (Appends (K.contents out.old) (K.contents out.new) bytes.now) }
+    ensures failed_prefix { OnErr result (AppendsPrefix (K.contents out.old) (K.contents out.new) bytes.now) }
+    ensures failed_rose { OnErr result (Rose (K.fault_count out.old) (K.fault_count out.new)) }
+    ensures never_falls { K.fault_count out.old ≤ K.fault_count out.new }
+{
+    let mut rest = bytes;
+    while !rest.is_empty() {
+        let taken = out.write(rest)?;
+        rest = &rest[taken..];
+    }
+    Ok(())
+}
