@@ -6,9 +6,9 @@ use Rattle.byte_ports.proofs.whole.write_all.Given as goal
 abbrev pub invariant-loop-rest : goal.invariant-loop-rest
 invariant-loop-rest g l =
     (done : List ℕ)
-    × (l.fn.bytes.now ≡ done ++ l.rest)
-    × Appends (g.K.Sink.contents l.fn.out.now) (g.K.Sink.contents l.out) done
-    × (g.K.Sink.fault_count l.fn.out.now ≤ g.K.Sink.fault_count l.out)
+    × (l.fn.bytes ≡ done ++ l.rest)
+    × Appends (g.K.Sink.contents l.fn.out) (g.K.Sink.contents l.out) done
+    × (g.K.Sink.fault_count l.fn.out ≤ g.K.Sink.fault_count l.out)
 
 abbrev pub decreases-loop-rest : goal.decreases-loop-rest
 decreases-loop-rest g l = length l.rest
