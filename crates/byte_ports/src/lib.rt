@@ -3,8 +3,12 @@
 //! Code above is written over the two traits, so that it is proved once, for files, pipes and memory alike.
 #![tactic(auto)]
 
+mod memory;
 mod ports;
+mod standard;
 mod whole;
 
+pub use memory::{MemorySink, MemorySource};
 pub use ports::{Failed, Sink, Source};
+pub use standard::{StdSink, StdSource};
 pub use whole::write_all;

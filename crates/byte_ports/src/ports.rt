@@ -32,8 +32,9 @@ pub trait Source {
 
         ensures failed_moves_nothing { OnErr result (Keeps (remaining self.old) (remaining self.new)) }
         ensures failed_rose { OnErr result (Rose (fault_count self.old) (fault_count self.new)) }
-        ensures never_falls { fault_count self.old ≤ fault_count self.new }
-        ensures in_range { fault_count self.new < 2 ^ 64 };
+        ensures never_falls { fault_count self.old ≤ fault_count self.new };
+
+    ghost count_in_range: { (port : Self) → fault_count port < 2 ^ 64 };
 }
 
 /// Where bytes go.
@@ -56,6 +57,7 @@ pub trait Sink {
 
         ensures failed_appends_nothing { OnErr result (Keeps (contents self.old) (contents self.new)) }
         ensures failed_rose { OnErr result (Rose (fault_count self.old) (fault_count self.new)) }
-        ensures never_falls { fault_count self.old ≤ fault_count self.new }
-        ensures in_range { fault_count self.new < 2 ^ 64 };
+        ensures never_falls { fault_count self.old ≤ fault_count self.new };
+
+    ghost count_in_range: { (port : Self) → fault_count port < 2 ^ 64 };
 }
