@@ -1,2 +1,3 @@
+pub mod Client
 pub mod Grants
 pub mod Range

@@ -2,6 +2,8 @@
 // The lock follows Kogan, Dice and Issa, "Scalable Range Locks for Scalable Address Spaces and Beyond", EuroSys 2020; a reader may rely on the definitions of `specs/`, which every crate above shares.
 #![tactic(auto)]
 
+mod guard;
 mod range;
 
+pub use guard::{FreeGuard, Guard, Means};
 pub use range::{BadRange, Grant, HIGHEST, Held, Mode, Range, conflict};
