@@ -1,0 +1,56 @@
+-- What a call's arguments alone decide, from mmap(2), munmap(2) and mprotect(2). The checks of a call stand in
+-- a list, and the first that applies answers. That a Map with both SHARED and PRIVATE is refused is this
+-- project's own choice: on Linux both bits together are MAP_SHARED_VALIDATE.
+use Rattle.std.specs.Prelude.{ℕ, Bool, ◌&&◌, not, ◌==◌, nat_lt, if◌then◌else◌, Option, Some, None, List, [], ◌∷◌, nat_le}
+use Rattle.page_types.specs.declared.TheConstants.{LIMIT}
+use Rattle.page_types.specs.declared.sets.MapFlags.{MapFlags}
+use Rattle.page_types.specs.declared.calls.Call.{Call}
+use Rattle.page_types.specs.declared.calls.Call.TheVariants.{Map, Unmap, Protect, Fault}
+use Rattle.page_types.specs.declared.calls.Reply.{Reply}
+use Rattle.page_types.specs.declared.calls.Reply.TheVariants.{Zero, Refused}
+use Rattle.page_types.specs.declared.calls.Why.TheVariants.{Einval, Enomem, MapErr}
+use Rattle.page_types.specs.declared.calls.Short.TheVariants.{PastEnd}
+use Rattle.page_types.specs.declared.pages.Field.TheVariants.{Addr, Len, Flags, End}
+use Rattle.page_types.specs.Pages.{page_of, is_aligned, end_page}
+use Rattle.page_types.specs.Sets.{is_fixed, has_one_sharing}
+
+-- the reply of the first check that applies
+abbrev pub first_that_applies : List (Bool × Reply) → Option Reply
+first_that_applies [] = None
+first_that_applies (check ∷ checks) = if check.0 then Some check.1 else first_that_applies checks
+
+-- mmap(2): only a fixed address has to be aligned and to end at or below LIMIT
+abbrev pub map_reply : ℕ → ℕ → MapFlags → Option Reply
+map_reply addr len flags =
+    first_that_applies
+    ((is_fixed flags && not (is_aligned addr), Refused (Einval Addr)) ∷
+    (len == 0, Refused (Einval Len)) ∷
+    (not (has_one_sharing flags), Refused (Einval Flags)) ∷
+    (is_fixed flags && nat_lt LIMIT (end_page addr len), Refused (Enomem (PastEnd (end_page addr len)))) ∷ [])
+
+-- munmap(2)
+abbrev pub unmap_reply : ℕ → ℕ → Option Reply
+unmap_reply addr len =
+    first_that_applies
+    ((not (is_aligned addr), Refused (Einval Addr)) ∷
+    (len == 0, Refused (Einval Len)) ∷
+    (nat_lt LIMIT (end_page addr len), Refused (Einval End)) ∷ [])
+
+-- mprotect(2): a Protect of no bytes is done
+abbrev pub protect_reply : ℕ → ℕ → Option Reply
+protect_reply addr len =
+    first_that_applies
+    ((not (is_aligned addr), Refused (Einval Addr)) ∷
+    (len == 0, Zero) ∷
+    (nat_lt LIMIT (end_page addr len), Refused (Enomem (PastEnd (end_page addr len)))) ∷ [])
+
+-- SEGV_MAPERR of sigaction(2): no page at or above LIMIT is ever mapped
+abbrev pub fault_reply : ℕ → Option Reply
+fault_reply addr = first_that_applies ((nat_le LIMIT (page_of addr), Refused (MapErr (page_of addr))) ∷ [])
+
+-- the reply to a call that its arguments alone decide
+abbrev pub plain_reply : Call → Option Reply
+plain_reply (Map addr len prot flags) = map_reply addr len flags
+plain_reply (Unmap addr len) = unmap_reply addr len
+plain_reply (Protect addr len prot) = protect_reply addr len
+plain_reply (Fault addr access) = fault_reply addr

@@ -1,0 +1,23 @@
+//! The words of an address space: pages and spans of pages, protections, and the four calls `mmap`,
+//! `munmap`, `mprotect` and a page's fault, with their replies. The calls follow mmap(2), munmap(2) and
+//! mprotect(2) for x86-64 with 4-level paging; what a reader may rely on is the check of a call's
+//! arguments, `plain`, which answers each call that no address space is needed for.
+#![tactic(auto)]
+
+mod calls;
+mod pages;
+mod sets;
+
+pub use calls::{Call, Kind, Reply, Short, Why, plain};
+pub use pages::{Field, Span, end_page, page_count};
+pub use sets::{Access, MapFlags, Prot};
+
+/// The number of pages that user addresses have: pages are numbered from 0 to `LIMIT - 1`, and the first
+/// address past them is 0x7ffffffff000.
+pub const LIMIT: u64 = 34_359_738_367;
+
+/// The most rows, areas and gaps counted together, that an address space may have after a change.
+pub const ROWS: usize = 4096;
+
+/// The number of bytes of a page.
+pub const PAGE: u64 = 4096;
