@@ -1,0 +1,67 @@
+-- Which range is held when a call draws its number: none for a call that its arguments decide, the page as a reader for
+-- a fault, everything for a call that may change the number of rows, and the area with a page on each side for a Protect
+-- that doesn't. The last is the speculative mprotect of Kogan, Dice and Issa, EuroSys 2020; the rest is this project's
+-- own profile.
+use Rattle.std.specs.Prelude.{ℕ, ◌≡◌, ◌≤◌, ◌+◌, ◌-◌, ◌⊎◌, min, MatchOption, List, length}
+use Rattle.std.specs.List.{Contains}
+use Rattle.page_types.specs.declared.TheConstants.{LIMIT}
+use Rattle.page_types.specs.declared.calls.Call.{Call}
+use Rattle.page_types.specs.declared.calls.Call.TheVariants.{Map, Unmap, Protect, Fault}
+use Rattle.page_types.specs.Pages.{page_of, end_page}
+use Rattle.page_types.specs.PlainReply.{plain_reply}
+use Rattle.space_model.specs.declared.areas.Area.{Area}
+use Rattle.space_model.specs.declared.entries.Under.{Under}
+use Rattle.space_model.specs.declared.entries.Under.TheVariants.{Nothing, Reader, Area as Held, Whole}
+use Rattle.space_model.specs.Areas.{gap_count, HasKinds}
+use Rattle.space_model.specs.Effect.{effect_of}
+
+-- the pages from lo up to hi lie in this area of the list
+pub record LiesIn (A : List Area) (a : Area) (lo hi : ℕ) : Type 0 where
+  pub member : Contains A a
+  pub from : a.lo ≤ lo
+  pub within : hi ≤ a.hi
+
+-- the list that the change of the pages gives, before the row limit is asked, has as many areas and as many gaps
+pub record KeepsCounts (A : List Area) (c : Call) (lo hi : ℕ) (B : List Area) : Type 0 where
+  pub changed : HasKinds (effect_of A c lo hi) B
+  pub areas : length B ≡ length A
+  pub gaps : gap_count B ≡ gap_count A
+
+-- a Protect is simple in this area
+abbrev pub IsSimpleIn : List Area → Call → Area → Type 0
+IsSimpleIn A (Map addr len prot flags) a = ⊥
+IsSimpleIn A (Unmap addr len) a = ⊥
+IsSimpleIn A (Protect addr len prot) a =
+    LiesIn A a (page_of addr) (end_page addr len) ×
+    ((B : List Area) × KeepsCounts A (Protect addr len prot) (page_of addr) (end_page addr len) B)
+IsSimpleIn A (Fault addr access) a = ⊥
+
+-- a Protect is simple
+abbrev pub IsSimple : List Area → Call → Type 0
+IsSimple A c = (a : Area) × IsSimpleIn A c a
+
+-- the one page is held as a reader
+abbrev pub ReadsPage : ℕ → Under → Type 0
+ReadsPage page Nothing = ⊥
+ReadsPage page (Reader span) = (span.lo ≡ page) × (span.hi ≡ page + 1)
+ReadsPage page (Held span) = ⊥
+ReadsPage page Whole = ⊥
+
+-- the area is held as a writer, one page wider on each side and clipped to 0 and LIMIT
+abbrev pub HoldsArea : Area → Under → Type 0
+HoldsArea a Nothing = ⊥
+HoldsArea a (Reader span) = ⊥
+HoldsArea a (Held span) = (span.lo ≡ a.lo - 1) × (span.hi ≡ min (a.hi + 1) LIMIT)
+HoldsArea a Whole = ⊥
+
+-- what is held for a call that its arguments don't decide
+abbrev pub FitsByState : List Area → Call → Under → Type 0
+FitsByState A (Map addr len prot flags) under = under ≡ Whole
+FitsByState A (Unmap addr len) under = under ≡ Whole
+FitsByState A (Protect addr len prot) under =
+    (under ≡ Whole) ⊎ ((a : Area) × IsSimpleIn A (Protect addr len prot) a × HoldsArea a under)
+FitsByState A (Fault addr access) under = ReadsPage (page_of addr) under
+
+-- what was held fits the call on this area list
+abbrev pub FitsUnder : List Area → Call → Under → Type 0
+FitsUnder A c under = MatchOption (plain_reply c) (FitsByState A c under) (λ reply. under ≡ Nothing)

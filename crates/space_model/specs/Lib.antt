@@ -1,0 +1,5 @@
+pub mod Areas
+pub mod Effect
+pub mod Answers
+pub mod Held
+pub mod History

@@ -1,0 +1,27 @@
+//! Counting rows.
+
+ghost use Rattle.std.specs.Prelude.{◌≡◌, ◌<◌, ◌^◌, ◌-◌, length};
+ghost use Rattle.space_model.specs.Areas.{row_count};
+
+use crate::areas::Area;
+use page_types::LIMIT;
+
+/// The number of areas and of gaps between 0 and `LIMIT`.
+pub fn row_count(areas: &[Area]) -> u32
+    requires { length areas.now < 2 ^ 31 - 1 }
+    ensures { result ≡ row_count areas.now }
+{
+    let mut rows = 0u32;
+    let mut at = 0;
+    for area in areas {
+        if at < area.lo {
+            rows += 1;
+        }
+        rows += 1;
+        at = area.hi;
+    }
+    if at < LIMIT {
+        rows += 1;
+    }
+    rows
+}

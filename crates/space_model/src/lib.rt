@@ -1,0 +1,11 @@
+//! The address space of one thread, and the legal histories of its calls.
+#![tactic(auto)]
+
+mod areas;
+mod counts;
+mod entries;
+mod space;
+
+pub use areas::Area;
+pub use entries::{Entry, Under};
+pub use space::PlainSpace;
