@@ -15,8 +15,10 @@ pub struct StdSource {
 }
 
 impl StdSource {
-    /// A source over standard input, as `rt.stdin()` gives it in `main`. It reads nothing yet.
-    pub fn new(stdin: Stdin) -> Self {
+    /// A source over standard input, as `rt.stdin()` gives it in `main`. It has read nothing and has no fault yet.
+    pub fn new(stdin: Stdin) -> Self
+        ensures { ⟦<StdSource as Source>⟧.fault_count result ≡ 0 }
+    {
         StdSource { stdin, faults: 0 }
     }
 }
@@ -59,16 +61,20 @@ pub struct StdSink {
 }
 
 impl StdSink {
-    /// A sink over standard output, as `rt.stdout()` gives it in `main`. It writes nothing yet.
-    pub fn output(stdout: Stdout) -> Self {
+    /// A sink over standard output, as `rt.stdout()` gives it in `main`. It has no fault yet.
+    pub fn output(stdout: Stdout) -> Self
+        ensures { ⟦<StdSink as Sink>⟧.fault_count result ≡ 0 }
+    {
         StdSink {
             stream: Stream::Output(stdout),
             faults: 0,
         }
     }
 
-    /// A sink over standard error, as `rt.stderr()` gives it in `main`. It writes nothing yet.
-    pub fn error(stderr: Stderr) -> Self {
+    /// A sink over standard error, as `rt.stderr()` gives it in `main`. It has no fault yet.
+    pub fn error(stderr: Stderr) -> Self
+        ensures { ⟦<StdSink as Sink>⟧.fault_count result ≡ 0 }
+    {
         StdSink {
             stream: Stream::Error(stderr),
             faults: 0,

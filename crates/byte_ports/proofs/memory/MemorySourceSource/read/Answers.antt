@@ -16,6 +16,6 @@ returns-clause-moved c =
     let at = c.args.self.now.at in
     let n = c.min-amount.result in
     let copied = c.copy_from_slice.ensures.after
-        ∙ ap (take n) (take_rest c.deref-2.result.now at)
-        ∙ ap (λ l. take n (drop at l)) c.deref-2.ensures.value in
+    ∙ ap (take n) (take_rest c.deref-2.result.now at)
+    ∙ ap (λ l. take n (drop at l)) c.deref-2.ensures.value in
     moved_whole c.args.self.now.bytes.items _ _ at n copied (omega (arith, length-drop {A = ℕ}))

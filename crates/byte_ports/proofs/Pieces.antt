@@ -1,0 +1,47 @@
+-- How several calls to a port join into one: texts that were appended one after the other, a text that stopped early,
+-- and the count of faults over all of them. For the proofs of code over a sink or a source.
+use Rattle.std.proofs.Common.{◌≤◌, ℕ, List, [], ◌++◌, None, Some, Option, arith, refl, sym, ap, ◌∙◌, append_assoc, append-nil}
+use Rattle.std.specs.Io.KnownBytes.{Appends, Keeps}
+use Rattle.std.proofs.KnownBytes.{Appends-trans}
+use Rattle.byte_ports.specs.Bytes.{AppendsPrefix}
+use Rattle.byte_ports.specs.Counts.{Rose}
+
+-- a port that kept its bytes appended nothing
+pub Appends-none : (a b : Option (List ℕ)) → Keeps a b → Appends a b []
+Appends-none None b h = tt
+Appends-none (Some x) None h = absurd h
+Appends-none (Some x) (Some y) h = h ∙ sym (append-nil x)
+
+-- a whole text is a first part of a longer one
+pub AppendsPrefix-whole : (a b : Option (List ℕ)) (bs more : List ℕ) → Appends a b bs → AppendsPrefix a b (bs ++ more)
+AppendsPrefix-whole a b bs more h = record { front = bs; rest = more; whole = refl; appended = h }
+
+-- so is the whole of itself
+pub AppendsPrefix-itself : (a b : Option (List ℕ)) (bs : List ℕ) → Appends a b bs → AppendsPrefix a b bs
+AppendsPrefix-itself a b bs h = record { front = bs; rest = []; whole = sym (append-nil bs); appended = h }
+
+-- nothing is a first part of each text
+pub AppendsPrefix-none : (a b : Option (List ℕ)) (bs : List ℕ) → Keeps a b → AppendsPrefix a b bs
+AppendsPrefix-none a b bs h = record { front = []; rest = bs; whole = refl; appended = Appends-none a b h }
+
+-- a first part of a text is one of a longer text
+pub AppendsPrefix-more : {a b : Option (List ℕ)} {bs : List ℕ} (more : List ℕ) → AppendsPrefix a b bs → AppendsPrefix a b (bs ++ more)
+AppendsPrefix-more more h = record {
+  front = h.front;
+  rest = h.rest ++ more;
+  whole = ap (λ l. l ++ more) h.whole ∙ append_assoc h.front h.rest more;
+  appended = h.appended;
+}
+
+-- a whole text and then a first part of another
+pub AppendsPrefix-after : (a : Option (List ℕ)) {b c : Option (List ℕ)} (bs : List ℕ) {cs : List ℕ} → Appends a b bs → AppendsPrefix b c cs → AppendsPrefix a c (bs ++ cs)
+AppendsPrefix-after a {b = b} {c = c} bs h k = record {
+  front = bs ++ k.front;
+  rest = k.rest;
+  whole = ap (λ l. bs ++ l) k.whole ∙ sym (append_assoc bs k.front k.rest);
+  appended = Appends-trans a b c bs k.front h k.appended;
+}
+
+-- a count that rose within a run of calls rose in the whole run
+pub Rose-within : (first before after last : ℕ) → first ≤ before → Rose before after → after ≤ last → Rose first last
+Rose-within first before after last low rose high = λ below. omega arith
