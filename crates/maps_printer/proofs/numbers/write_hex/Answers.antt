@@ -1,0 +1,11 @@
+use Rattle.std.proofs.Common.{arith, ap, ◌∙◌, drop_of_length-le, false}
+use Rattle.std.specs.Fmt.{digits_onto}
+use Rattle.maps_printer.proofs.Hex.{spell-hex}
+use Rattle.maps_printer.proofs.numbers.write_hex.Goals as goal
+
+pub loop-at-init : goal.loop-at-init
+loop-at-init c = (
+  omega arith,
+  c.told-digits,
+  ap (digits_onto 64 16 false c.args.n) (drop_of_length-le c.args.digits.now {i = 64} (omega (arith, c.told-digits))) ∙ spell-hex c.args.n,
+)

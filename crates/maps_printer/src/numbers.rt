@@ -1,0 +1,79 @@
+//! Numbers as text, put into the buffer: decimal by the crate `itoa`, lower hexadecimal by a loop of the same kind.
+ghost use Rattle.std.specs.Prelude.{◌≡◌, ◌+◌, ◌<◌, ◌≤◌, ◌++◌, length, drop, decimal, false};
+ghost use Rattle.std.specs.Fmt.{digit_glyph};
+ghost use Rattle.maps_printer.specs.Numbers.{hex_digits, prefixed_hex, address_text, page_address};
+
+use crate::buffer::{Buffer, SIZE};
+
+/// Adds a number in decimal: at most 20 bytes.
+pub(crate) fn push_decimal(buffer: &mut Buffer, n: u64)
+    requires { length buffer.old + 20 ≤ SIZE }
+    ensures text { buffer.new ≡ buffer.old ++ decimal n }
+    ensures room { length buffer.new ≤ length buffer.old + 20 }
+{
+    buffer.push(itoa::Buffer::new().format(n).as_bytes());
+}
+
+/// The digits of a number in lower hexadecimal, at the end of `digits`; answers where they start.
+fn write_hex(n: u64, digits: &mut [u8; 64]) -> usize
+    ensures within { result ≤ 64 }
+    ensures written { drop result digits.new ≡ hex_digits n }
+{
+    let mut at = 64;
+    let mut rest = n;
+    while at > 0 {
+        at -= 1;
+        digits[at] = hex_digit(rest % 16);
+        rest /= 16;
+        if rest == 0 {
+            break;
+        }
+    }
+    at
+}
+
+/// The digit for a number below 16, in lower case.
+fn hex_digit(value: u64) -> u8
+    requires { value < 16 }
+    ensures { result ≡ digit_glyph false value }
+{
+    if value < 10 {
+        b'0' + value as u8
+    } else {
+        b'a' - 10 + value as u8
+    }
+}
+
+/// Adds a number in lower hexadecimal, without leading zeros: at most 16 bytes.
+pub(crate) fn push_hex(buffer: &mut Buffer, n: u64)
+    requires { length buffer.old + 16 ≤ SIZE }
+    ensures text { buffer.new ≡ buffer.old ++ hex_digits n }
+    ensures room { length buffer.new ≤ length buffer.old + 16 }
+{
+    let mut digits = [0; 64];
+    let start = write_hex(n, &mut digits);
+    buffer.push(&digits[start..]);
+}
+
+/// Adds a number in lower hexadecimal after `0x`: at most 18 bytes.
+pub(crate) fn push_prefixed_hex(buffer: &mut Buffer, n: u64)
+    requires { length buffer.old + 18 ≤ SIZE }
+    ensures text { buffer.new ≡ buffer.old ++ prefixed_hex n }
+    ensures room { length buffer.new ≤ length buffer.old + 18 }
+{
+    buffer.push(b"0x");
+    push_hex(buffer, n);
+}
+
+/// Adds an address that a call takes, in lower hexadecimal after `0x`, or `NULL` for 0: at most 18 bytes.
+pub(crate) fn push_address(buffer: &mut Buffer, address: u64)
+    requires { length buffer.old + 18 ≤ SIZE }
+    ensures text { buffer.new ≡ buffer.old ++ address_text address }
+    ensures room { length buffer.new ≤ length buffer.old + 18 }
+{
+    if address == 0 {
+        buffer.push(b"NULL");
+    } else {
+        push_prefixed_hex(buffer, address);
+    }
+}
