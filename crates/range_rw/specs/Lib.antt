@@ -1,0 +1,5 @@
+pub mod Board
+pub mod BoardSteps
+pub mod Running
+pub mod Seats
+pub mod Starting

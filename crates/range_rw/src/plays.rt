@@ -1,0 +1,54 @@
+// What each kind of step tells the seat that makes it, in the words of `atomic_table`: a step of the board, a step on a client word, and the joining of two seats.
+// The step itself is data of `specs/`, which the call picks; a reader may rely on a play naming what belongs to the seat after the step, and nothing that the code could invent.
+use crate::views::BoardView;
+use atomic_table::{Join, Play};
+use lock_core::{Guard, Means};
+use std::marker::{Brand, PhantomData};
+
+/// Which step is made on a client word. Each call picks it.
+pub trait Acting {
+    ghost use Rattle.lock_core.specs.Client.{ClientStep};
+
+    ghost acting: { ClientStep };
+}
+
+impl Acting for Brand {
+    ghost use Rattle.lock_core.specs.Client.{loads};
+
+    ghost acting = { loads 0 };
+}
+
+/// A step on a client word that tells which value it found.
+pub(crate) struct Acts<G, M, C> {
+    of: PhantomData<(G, M, C)>,
+}
+
+impl<G: Guard, M: Means<G>, C: Acting> Play<(), BoardView<G::Pass>> for Acts<G, M, C> {
+    ghost use Rattle.range_rw.specs.Running.{client_play};
+
+    ghost then = { λ _ me found me'. client_play G.holds G.allows M.note C.acting me found me' };
+}
+
+/// A store to a client word, which tells that there was a value and not which.
+pub(crate) struct Overwrites<G, M, C> {
+    of: PhantomData<(G, M, C)>,
+}
+
+impl<G: Guard, M: Means<G>, C: Acting> Play<(), BoardView<G::Pass>> for Overwrites<G, M, C> {
+    ghost use Rattle.std.specs.Prelude.{ℕ};
+    ghost use Rattle.range_rw.specs.Running.{client_play};
+
+    ghost then = { λ _ me _ me'. (found : ℕ) × client_play G.holds G.allows M.note C.acting me found me' };
+}
+
+/// The seat that stays takes in what belongs to the other.
+pub(crate) struct Gathers;
+
+impl<P> Join<BoardView<P>> for Gathers {
+    ghost use Rattle.std.specs.Prelude.{[], ◌++◌};
+    ghost use Rattle.range_rw.specs.Running.{view};
+
+    ghost both = { λ v w. view (v.parts ++ w.parts) };
+
+    ghost spent = { view [] };
+}

@@ -1,0 +1,23 @@
+// A seat of the table while the lock's own calls work with it: whether it has the turn, and what it knows while it has it, stands in its model.
+// The public `Seat` wraps it between calls and hides these; a reader may rely on the token's number being that of its part.
+use crate::views::BoardView;
+use lock_core::Guard;
+use std::marker::Model;
+
+/// A seat of the board's table and its number.
+#[derive(Drop)]
+pub struct Token<G: Guard> {
+    pub(crate) seat: atomic_table::Seat<(), BoardView<G::Pass>>,
+    pub(crate) number: u32,
+}
+
+impl<G: Guard> Model for Token<G> {
+    ghost use Rattle.std.specs.Prelude.{◌≡◌, [], ◌∷◌};
+    ghost use Rattle.range_rw.specs.Seats.{Standing, part_in};
+
+    ghost Value = { Standing G.Pass };
+
+    ghost view = { λ t. record { table = t.seat.table_id; part = part_in (G.first [] 0) t.seat.me.0.parts } };
+
+    ghost invariant = { λ t. (t.seat.me.1 ≡ []) × (t.seat.me.0.parts ≡ part_in (G.first [] 0) t.seat.me.0.parts ∷ []) × ((part_in (G.first [] 0) t.seat.me.0.parts).number ≡ t.number) };
+}
