@@ -3,3 +3,4 @@
 
 mod buffer;
 mod numbers;
+mod words;

@@ -1,5 +1,5 @@
 //! Numbers as text, put into the buffer: decimal by the crate `itoa`, lower hexadecimal by a loop of the same kind.
-ghost use Rattle.std.specs.Prelude.{◌≡◌, ◌+◌, ◌<◌, ◌≤◌, ◌++◌, length, drop, decimal, false};
+ghost use Rattle.std.specs.Prelude.{◌≡◌, ◌+◌, ◌<◌, ◌≤◌, ◌++◌, length, drop, decimal, replicate, false};
 ghost use Rattle.std.specs.Fmt.{digit_glyph};
 ghost use Rattle.maps_printer.specs.Numbers.{hex_digits, prefixed_hex, address_text, page_address};
 
@@ -18,6 +18,8 @@ pub(crate) fn push_decimal(buffer: &mut Buffer, n: u64)
 fn write_hex(n: u64, digits: &mut [u8; 64]) -> usize
     ensures within { result ≤ 64 }
     ensures written { drop result digits.new ≡ hex_digits n }
+    ensures start { result + length (hex_digits n) ≡ 64 }
+    ensures short { length (hex_digits n) ≤ 16 }
 {
     let mut at = 64;
     let mut rest = n;
@@ -76,4 +78,28 @@ pub(crate) fn push_address(buffer: &mut Buffer, address: u64)
     } else {
         push_prefixed_hex(buffer, address);
     }
+}
+
+/// Adds the address of a page's first byte in lower hexadecimal, with at least eight digits: at most 19 bytes. The
+/// page may be any number, so the address is written as the page and three zeros, and isn't computed.
+pub(crate) fn push_page_address(buffer: &mut Buffer, page: u64)
+    requires { length buffer.old + 19 ≤ SIZE }
+    ensures text { buffer.new ≡ buffer.old ++ page_address page }
+    ensures room { length buffer.new ≤ length buffer.old + 19 }
+{
+    let mut digits = [0; 64];
+    let start = write_hex(page, &mut digits);
+    push_zeros(buffer, 5usize.saturating_sub(64 - start));
+    buffer.push(&digits[start..]);
+    buffer.push(b"000");
+}
+
+/// Adds up to five zeros.
+fn push_zeros(buffer: &mut Buffer, count: usize)
+    requires few { count ≤ 5 }
+    requires room { length buffer.old + count ≤ SIZE }
+    ensures { buffer.new ≡ buffer.old ++ replicate count 48 }
+{
+    let zeros: &[u8] = b"00000";
+    buffer.push(&zeros[..count]);
 }

@@ -1,6 +1,6 @@
 use Rattle.std.proofs.Common.{arith, ap, ◌∙◌, drop_of_length-le, false}
 use Rattle.std.specs.Fmt.{digits_onto}
-use Rattle.maps_printer.proofs.Hex.{spell-hex}
+use Rattle.maps_printer.proofs.Hex.{spell-hex, length-hex_digits}
 use Rattle.maps_printer.proofs.numbers.write_hex.Goals as goal
 
 pub loop-at-init : goal.loop-at-init
@@ -9,3 +9,9 @@ loop-at-init c = (
   c.told-digits,
   ap (digits_onto 64 16 false c.args.n) (drop_of_length-le c.args.digits.now {i = 64} (omega (arith, c.told-digits))) ∙ spell-hex c.args.n,
 )
+
+pub returns-after-loop-at-clause-short : goal.returns-after-loop-at-clause-short
+returns-after-loop-at-clause-short c = length-hex_digits c.args.n (omega arith)
+
+pub returns-then-rest-eq0-clause-short : goal.returns-then-rest-eq0-clause-short
+returns-then-rest-eq0-clause-short c = length-hex_digits c.args.n (omega arith)

@@ -1,0 +1,63 @@
+//! Protections, flags and kinds as text: the words of mmap(2) and mprotect(2) and the four characters of
+//! proc_pid_maps(5). A set's bits that have no word aren't printed.
+ghost use Rattle.std.specs.Prelude.{◌≡◌, ◌+◌, ◌≤◌, ◌++◌, length};
+ghost use Rattle.maps_printer.specs.Words.{access_text, letter_if, flags_text, kind_text, prot_text};
+
+use crate::buffer::{Buffer, SIZE};
+use bitflags::Flags;
+use page_types::{Access, Kind, MapFlags, Prot};
+
+/// The words of a protection: at most 30 bytes.
+pub(crate) fn prot_text(prot: Prot) -> &'static str
+    ensures text { result.now ≡ prot_text prot }
+    ensures short { length result.now ≤ 30 }
+{
+    let (read, write, exec) = (
+        prot.contains(Prot::READ),
+        prot.contains(Prot::WRITE),
+        prot.contains(Prot::EXEC),
+    );
+    match (read, write, exec) {
+        (false, false, false) => "PROT_NONE",
+        (true, false, false) => "PROT_READ",
+        (false, true, false) => "PROT_WRITE",
+        (true, true, false) => "PROT_READ|PROT_WRITE",
+        (false, false, true) => "PROT_EXEC",
+        (true, false, true) => "PROT_READ|PROT_EXEC",
+        (false, true, true) => "PROT_WRITE|PROT_EXEC",
+        (true, true, true) => "PROT_READ|PROT_WRITE|PROT_EXEC",
+    }
+}
+
+/// The word for what an access needs: at most 10 bytes.
+pub(crate) fn access_text(access: Access) -> &'static str
+    ensures text { result.now ≡ access_text access }
+    ensures short { length result.now ≤ 10 }
+{
+    match access {
+        Access::Read => "PROT_READ",
+        Access::Write => "PROT_WRITE",
+        Access::Exec => "PROT_EXEC",
+    }
+}
+
+/// Adds the four characters of a kind.
+pub(crate) fn push_kind(buffer: &mut Buffer, kind: Kind)
+    requires { length buffer.old + 4 ≤ SIZE }
+    ensures text { buffer.new ≡ buffer.old ++ kind_text kind }
+    ensures room { length buffer.new ≡ length buffer.old + 4 }
+{
+    buffer.push(&[
+        letter_if(kind.prot.contains(Prot::READ), b'r'),
+        letter_if(kind.prot.contains(Prot::WRITE), b'w'),
+        letter_if(kind.prot.contains(Prot::EXEC), b'x'),
+        if kind.shared { b's' } else { b'p' },
+    ]);
+}
+
+/// The letter, or `-` where its bit isn't set.
+fn letter_if(is_set: bool, letter: u8) -> u8
+    ensures { result ≡ letter_if is_set letter }
+{
+    if is_set { letter } else { b'-' }
+}
