@@ -1,4 +1,5 @@
 pub mod Numbers
 pub mod Pieces
 pub mod Words
+pub mod Calls
 pub mod Lines

@@ -1,9 +1,14 @@
 -- The texts as functions of what they show: the maps of an address space, as proc_pid_maps(5) has them, and the
--- summary of a run, which is this project's own.
+-- log of a history and the summary of a run, which are this project's own.
 use Rattle.std.specs.Prelude.{ℕ, List, ◌++◌, codes, decimal}
 use Rattle.std.specs.List.{flat_map}
+use Rattle.page_types.specs.declared.pages.Span.{Span}
 use Rattle.space_model.specs.declared.areas.Area.{Area}
-use Rattle.maps_printer.specs.Numbers.{page_address}
+use Rattle.space_model.specs.declared.entries.Entry.{Entry}
+use Rattle.space_model.specs.declared.entries.Under.{Under}
+use Rattle.space_model.specs.declared.entries.Under.TheVariants.{Nothing, Reader, Area as UnderArea, Whole}
+use Rattle.maps_printer.specs.Numbers.{page_address, prefixed_hex}
+use Rattle.maps_printer.specs.Calls.{call_text, reply_text}
 use Rattle.maps_printer.specs.Words.{kind_text}
 
 -- proc_pid_maps(5): addresses, permissions, and the offset, device and inode of memory that no file backs
@@ -18,3 +23,23 @@ maps_text areas = flat_map area_line areas
 abbrev pub summary_text : ℕ → ℕ → ℕ → ℕ → List ℕ
 summary_text played skipped refused differ = codes "played " ++ decimal played ++ codes " skipped " ++ decimal skipped
     ++ codes " refused " ++ decimal refused ++ codes " differ " ++ decimal differ ++ codes "\n"
+
+-- a span as its first page and the page after its last one
+abbrev pub span_text : Span → List ℕ
+span_text s = prefixed_hex s.lo ++ codes "-" ++ prefixed_hex s.hi
+
+-- which range was held when the call's number was drawn
+abbrev pub under_text : Under → List ℕ
+under_text Nothing = codes "none"
+under_text (Reader span) = codes "reader " ++ span_text span
+under_text (UnderArea span) = codes "area " ++ span_text span
+under_text Whole = codes "whole"
+
+-- number, worker and line, the call, its reply, and what was held
+abbrev pub entry_line : Entry → List ℕ
+entry_line e = decimal e.number ++ codes " " ++ decimal e.worker ++ codes " " ++ decimal e.line ++ codes " "
+    ++ call_text e.call ++ codes " = " ++ reply_text e.reply ++ codes " under " ++ under_text e.under ++ codes "\n"
+
+-- a line for each entry
+abbrev pub log_text : List Entry → List ℕ
+log_text entries = flat_map entry_line entries

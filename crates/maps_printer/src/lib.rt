@@ -4,8 +4,12 @@
 #![tactic(auto)]
 
 mod buffer;
+mod calls;
+mod log;
 mod maps;
 mod numbers;
 mod words;
 
+pub use calls::write_call;
+pub use log::write_log;
 pub use maps::{write_maps, write_summary};

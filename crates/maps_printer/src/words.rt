@@ -29,6 +29,35 @@ pub(crate) fn prot_text(prot: Prot) -> &'static str
     }
 }
 
+/// The words of flags: at most 52 bytes.
+pub(crate) fn flags_text(flags: MapFlags) -> &'static str
+    ensures text { result.now ≡ flags_text flags }
+    ensures short { length result.now ≤ 52 }
+{
+    let shared = flags.contains(MapFlags::SHARED);
+    let private = flags.contains(MapFlags::PRIVATE);
+    let fixed = flags.contains(MapFlags::FIXED);
+    let noreplace = flags.contains(MapFlags::FIXED_NOREPLACE);
+    match (shared, private, fixed, noreplace) {
+        (false, false, false, false) => "0",
+        (true, false, false, false) => "MAP_SHARED",
+        (false, true, false, false) => "MAP_PRIVATE",
+        (true, true, false, false) => "MAP_SHARED|MAP_PRIVATE",
+        (false, false, true, false) => "MAP_FIXED",
+        (true, false, true, false) => "MAP_SHARED|MAP_FIXED",
+        (false, true, true, false) => "MAP_PRIVATE|MAP_FIXED",
+        (true, true, true, false) => "MAP_SHARED|MAP_PRIVATE|MAP_FIXED",
+        (false, false, false, true) => "MAP_FIXED_NOREPLACE",
+        (true, false, false, true) => "MAP_SHARED|MAP_FIXED_NOREPLACE",
+        (false, true, false, true) => "MAP_PRIVATE|MAP_FIXED_NOREPLACE",
+        (true, true, false, true) => "MAP_SHARED|MAP_PRIVATE|MAP_FIXED_NOREPLACE",
+        (false, false, true, true) => "MAP_FIXED|MAP_FIXED_NOREPLACE",
+        (true, false, true, true) => "MAP_SHARED|MAP_FIXED|MAP_FIXED_NOREPLACE",
+        (false, true, true, true) => "MAP_PRIVATE|MAP_FIXED|MAP_FIXED_NOREPLACE",
+        (true, true, true, true) => "MAP_SHARED|MAP_PRIVATE|MAP_FIXED|MAP_FIXED_NOREPLACE",
+    }
+}
+
 /// The word for what an access needs: at most 10 bytes.
 pub(crate) fn access_text(access: Access) -> &'static str
     ensures text { result.now ≡ access_text access }

@@ -1,0 +1,8 @@
+use Rattle.std.proofs.Common.{◌++◌, ap, ◌∙◌, append_assoc}
+use Rattle.maps_printer.specs.Words.{kind_text}
+use Rattle.maps_printer.proofs.log.push_reply.Goals as goal
+
+pub returns-in-Granted-clause-text : goal.returns-in-Granted-clause-text
+returns-in-Granted-clause-text c =
+    rw c.in-Granted.is
+    (c.push_kind.ensures.text ∙ ap (λ l. l ++ kind_text c.in-Granted.kind) c.push-in-Granted.ensures ∙ append_assoc c.args.buffer.now _ _)

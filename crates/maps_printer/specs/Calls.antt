@@ -1,0 +1,52 @@
+-- A call and its reply as text, as strace(1) prints a system call and its result: addresses in hexadecimal, lengths in
+-- decimal, sets as words. What a refusal says after the error's name is this project's own.
+use Rattle.std.specs.Prelude.{ℕ, List, ◌++◌, codes, decimal}
+use Rattle.page_types.specs.declared.pages.Field.{Field}
+use Rattle.page_types.specs.declared.pages.Field.TheVariants.{Addr, Len, Flags, End}
+use Rattle.page_types.specs.declared.calls.Call.{Call}
+use Rattle.page_types.specs.declared.calls.Call.TheVariants.{Map, Unmap, Protect, Fault}
+use Rattle.page_types.specs.declared.calls.Reply.{Reply}
+use Rattle.page_types.specs.declared.calls.Reply.TheVariants.{At, Zero, Granted, Refused}
+use Rattle.page_types.specs.declared.calls.Why.{Why}
+use Rattle.page_types.specs.declared.calls.Why.TheVariants.{Einval, Enomem, Eexist, MapErr, AccErr}
+use Rattle.page_types.specs.declared.calls.Short.{Short}
+use Rattle.page_types.specs.declared.calls.Short.TheVariants.{Missing, PastEnd, NoGap, Rows}
+use Rattle.maps_printer.specs.Numbers.{address_text, prefixed_hex}
+use Rattle.maps_printer.specs.Words.{access_text, flags_text, kind_text, prot_text}
+
+-- mmap(2), munmap(2), mprotect(2) as strace(1) prints them; no file backs the memory, and a fault is this project's own
+abbrev pub call_text : Call → List ℕ
+call_text (Map addr len prot flags) = codes "mmap(" ++ address_text addr ++ codes ", " ++ decimal len ++ codes ", "
+    ++ prot_text prot ++ codes ", " ++ flags_text flags ++ codes ", -1, 0)"
+call_text (Unmap addr len) = codes "munmap(" ++ address_text addr ++ codes ", " ++ decimal len ++ codes ")"
+call_text (Protect addr len prot) = codes "mprotect(" ++ address_text addr ++ codes ", " ++ decimal len ++ codes ", " ++ prot_text prot ++ codes ")"
+call_text (Fault addr access) = codes "fault(" ++ address_text addr ++ codes ", " ++ access_text access ++ codes ")"
+
+-- the argument that an EINVAL is about
+abbrev pub field_text : Field → List ℕ
+field_text Addr = codes "addr"
+field_text Len = codes "len"
+field_text Flags = codes "flags"
+field_text End = codes "end"
+
+-- what an ENOMEM is short of
+abbrev pub short_text : Short → List ℕ
+short_text (Missing page) = codes "missing page " ++ prefixed_hex page
+short_text (PastEnd page) = codes "end page " ++ prefixed_hex page
+short_text (NoGap pages) = codes "no gap of " ++ decimal pages ++ codes " pages"
+short_text (Rows rows) = codes "rows " ++ decimal rows
+
+-- -1, the error's name, and what it is about
+abbrev pub why_text : Why → List ℕ
+why_text (Einval field) = codes "-1 EINVAL " ++ field_text field
+why_text (Enomem short) = codes "-1 ENOMEM " ++ short_text short
+why_text (Eexist page) = codes "-1 EEXIST page " ++ prefixed_hex page
+why_text (MapErr page) = codes "-1 SEGV_MAPERR page " ++ prefixed_hex page
+why_text (AccErr page kind) = codes "-1 SEGV_ACCERR page " ++ prefixed_hex page ++ codes " " ++ kind_text kind
+
+-- what a call answered
+abbrev pub reply_text : Reply → List ℕ
+reply_text (At addr) = prefixed_hex addr
+reply_text Zero = codes "0"
+reply_text (Granted kind) = codes "granted " ++ kind_text kind
+reply_text (Refused why) = why_text why
