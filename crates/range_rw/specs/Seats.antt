@@ -73,6 +73,9 @@ module _ {P : Type 0} where
   abbrev pub known_of : Standing P → Known P
   known_of s = record { table = s.table; number = s.part.number; held = s.part.core.held; pass = s.part.pass; trace = s.part.trace }
 
+  abbrev pub known_in : TableId → Part P → Known P
+  known_in table p = known_of (record { table = table; part = p })
+
   -- the passes with which the seats from number n on begin, so many
   abbrev pub first_passes : (ℕ → P) → ℕ → ℕ → List P
   first_passes first n zero = []
@@ -88,6 +91,10 @@ module _ {P : Type 0} where
   -- the seats are those of a new table, in order of their numbers
   abbrev pub IsNewRow : TableId → (ℕ → P) → List (Known P) → Type 0
   IsNewRow table first seats = (k : ℕ) (s : Known P) → get_elem? seats k ≡ some s → s ≡ new_seat table first k
+
+  -- the seats are all of one table
+  abbrev pub IsRowOf : TableId → List (Known P) → Type 0
+  IsRowOf table seats = (k : ℕ) (s : Known P) → get_elem? seats k ≡ some s → s.table ≡ table
 
   -- the seats are all of one table, in order of their numbers, and hold nothing
   abbrev pub IsIdleRow : TableId → List (Known P) → Type 0

@@ -1,13 +1,15 @@
 // A table of one range lock: how it is opened with a seat for each number, what a seat holds, and how it is closed.
 // Between the two, seats may go to other threads, and the table is shared by reference; a reader may rely on the guard's rule holding of the client words that come back.
-ghost use Rattle.std.specs.Prelude.{◌≡◌, ◌<◌, ◌≤◌, ◌+◌, ◌-◌, ◌^◌, ◌↔◌, ℕ, ◌++◌, IfOk, length, replicate};
+ghost use Rattle.std.specs.Prelude.{◌≡◌, ◌<◌, ◌≤◌, ◌+◌, ◌-◌, ◌^◌, ◌↔◌, ℕ, List, [], ◌++◌, IfOk, length, map, drop, replicate, vec_capacity};
+ghost use Rattle.std.specs.Mem.Slots.{IsFull, slots_len, slots_items};
 ghost use Rattle.range_rw.specs.Board.{lock_words};
+ghost use Rattle.range_rw.specs.Seats.{known_in, IsRowOf};
 
 use crate::plays::Gathers;
 use crate::rule::BoardRule;
 use crate::token::Token;
 use crate::views::BoardView;
-use atomic_table::Table;
+use atomic_table::{Closed, Shared, Table};
 use lock_core::{Guard, Held, Mode, Range};
 use std::alloc::{AllocError, Global};
 use std::marker::Model;
@@ -78,6 +80,43 @@ fn opening_words(alloc: Global, seats: u32, client: &[u64]) -> Result<Vec<u64>, 
     Ok(words)
 }
 
+/// One seat that has what belongs to all of these, in their order. The seats are of the table, and there is one at least.
+fn join_all<G: Guard>(
+    shared: &Shared<(), BoardView<G::Pass>, Start, BoardRule<G>>,
+    mut seats: Vec<Seat<G>>,
+) -> atomic_table::Seat<(), BoardView<G::Pass>>
+    requires words { 0 < shared.now.table_id.words }
+    requires some { 0 < length seats.items }
+    requires tables { IsRowOf shared.now.table_id seats.items }
+    ensures table { (result.table_id ≡ shared.now.table_id) × (result.me.1 ≡ []) }
+    ensures parts { map (known_in shared.now.table_id) result.me.0.parts ≡ seats.items }
+{
+    let Seat { token, .. } = seats.remove(0);
+    let Token { seat: mut all, .. } = token;
+    'row: while !seats.is_empty() {
+        let Seat { token, .. } = seats.remove(0);
+        let Token { seat, .. } = token;
+        shared.join_seat::<Gathers>(&mut all, seat);
+    }
+    all
+}
+
+/// Fills an empty `Vec` that has room for them with the words from a place on.
+fn copy_words(closed: &Closed<(), Global>, from: u32, count: u32, out: &mut Vec<u64>)
+    requires full { IsFull closed.now.words }
+    requires words { slots_len closed.now.words ≡ from + count }
+    requires small { from + count < 2 ^ 32 }
+    requires empty { out.old.items ≡ [] }
+    requires room { count ≤ vec_capacity out.old }
+    ensures { out.new.items ≡ drop from (slots_items closed.now.words) }
+{
+    let mut i = 0;
+    'words: while i < count {
+        out.push_reserved(closed.word((from + i) as usize));
+        i += 1;
+    }
+}
+
 impl<G: Guard> RangeTable<G> {
     ghost use Rattle.std.specs.Prelude.{◌≡◌, ◌<◌, ◌+◌, ◌≤◌, ◌^◌, ◌↔◌, ℕ, Some, None, IsNone, IfSome, IfOk, IfErr, length, map, replicate};
     ghost use Rattle.range_rw.specs.Seats.{IsSeatCount, IsOpenFault, IsNewRow, IsIdleRow, first_passes, pass_in};
@@ -136,6 +175,31 @@ impl<G: Guard> RangeTable<G> {
             Ok(opened) => Ok(opened),
             Err(_) => Err(OpenFault::Memory),
         }
+    }
+
+    /// Ends the table and gives its client words, which meet the guard with no grant.
+    /// The seats are all those of the opening, in order of their numbers, and none holds a range.
+    /// The one refusal is want of memory: it comes before anything is changed, and hands all back.
+    pub fn close(self, alloc: Global, seats: Vec<Seat<G>>) -> Result<Vec<u64>, CloseRefused<G>>
+        requires count { length seats.items ≡ self.seats }
+        requires idle { IsIdleRow self.table seats.items }
+        ensures words { IfOk result (λ words. length words.items ≡ self.client) }
+        ensures guard { IfOk result (λ words. G.holds (replicate self.seats None) words.items (map pass_in seats.items)) }
+        ensures refused { IfErr result (λ r. (r.table ≡ self) × (r.seats.items ≡ seats.items)) }
+    {
+        let Ok(mut words) = Vec::with_capacity(alloc, self.client as usize) else {
+            return Err(CloseRefused { table: self, seats });
+        };
+        let RangeTable {
+            table,
+            seats: count,
+            client,
+        } = self;
+        let all = join_all(&table.shared, seats);
+        let closed = table.close_with(all);
+        copy_words(&closed, 1 + 2 * count, client, &mut words);
+        closed.free();
+        Ok(words)
     }
 
     /// The range that the seat holds, and how; None where it holds nothing. The seat is of this table.
