@@ -68,8 +68,8 @@ closes {P} seats clients holds table row id v words xs count idle is final =
     let wide : length v.parts ≡ seats = sym (length_map (known_in table) v.parts) ∙ (ap length is ∙ count) in
     let same : parts ≡ v.parts = same_lists parts v.parts (r.count ∙ sym wide) (λ k p there. let o = r.owned id v at k p there in ap (get_elem? parts) (sym (each k p there).0) ∙ o.0) in
     subst (λ (z : Grants × (List ℕ × List P)). holds z.0 z.1.0 z.1.1)
-        (λ i. ((ap (λ l. grants_of (map core_of l)) same ∙ no_grants v.parts seats wide (λ k p there. (each k p there).1)) i, (ap (drop (lock_words seats)) final.2 i, (ap (map pass_of) same ∙ (passes_in table v.parts ∙ ap (map pass_in) is)) i)))
-        r.guard
+    (λ i. ((ap (λ l. grants_of (map core_of l)) same ∙ no_grants v.parts seats wide (λ k p there. (each k p there).1)) i, (ap (drop (lock_words seats)) final.2 i, (ap (map pass_of) same ∙ (passes_in table v.parts ∙ ap (map pass_in) is)) i)))
+    r.guard
 
 module _ {P : Type 0} (table : TableId) where
   -- what the seat that stays has, after the first of the row is joined to it

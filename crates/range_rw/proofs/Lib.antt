@@ -1,3 +1,5 @@
+pub mod ClientSteps
 pub mod Joining
 pub mod Lists
 pub mod Opening
+pub mod Placing

@@ -178,8 +178,7 @@ begins {P} first holds seats zeros client blank h =
     let all = length-append zeros client in
     let front : take (lock_words seats) (zeros ++ client) ≡ replicate (lock_words seats) 0 = ap (λ n. take n (zeros ++ client)) (sym len) ∙ (take-append_seam zeros client ∙ blank) in
     let back : drop (lock_words seats) (zeros ++ client) ≡ client = ap (λ n. drop n (zeros ++ client)) (sym len) ∙ drop-append_seam zeros client in
-    let cores : map core_of (parts_from f 0 seats) ≡ replicate seats idle = cores_are (first (drop (lock_words seats) (zeros ++ client))) 0 seats in
-    (
+    let cores : map core_of (parts_from f 0 seats) ≡ replicate seats idle = cores_are (first (drop (lock_words seats) (zeros ++ client))) 0 seats in (
       parts_from f 0 seats,
       (λ n. 0),
       record {

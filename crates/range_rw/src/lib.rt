@@ -1,6 +1,7 @@
 // A range lock in atomic words, and client words beside it that the layer above guards by a rule of its own.
 #![tactic(auto)]
 
+mod client;
 mod plays;
 mod rule;
 mod table;

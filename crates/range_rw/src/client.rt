@@ -1,0 +1,174 @@
+// The steps on client words that the layer above makes through a seat: a load, a store, an addition and an exchange.
+// Each is one atomic step, made at a moment of the running table at which the guard allows it; a reader may rely on the value that it answers being that of the word there, and on the pass being one that the guard gives there.
+ghost use Rattle.std.specs.Prelude.{◌≡◌, ◌≢◌, ◌<◌, ◌+◌, ℕ, MatchResult};
+ghost use Rattle.lock_core.specs.Client.{loads, stores, adds, exchanges, IsAllowed, IsMade};
+ghost use Rattle.range_rw.specs.Board.{lock_words};
+ghost use Rattle.range_rw.specs.Running.{client_part};
+ghost use Rattle.range_rw.specs.Seats.{IsClientCall};
+
+use crate::plays::{Acting, Acts, Overwrites};
+use crate::table::{RangeTable, Seat};
+use crate::token::Token;
+use lock_core::{Guard, Means};
+use std::marker::Brand;
+use std::sync::ledger::Ledger;
+use word_rows::Steps;
+
+impl<G: Guard> RangeTable<G> {
+    /// The place of a client word in the table.
+    fn client_word(&self, i: u32) -> usize
+        requires { i < self.now.client }
+        ensures { result ≡ lock_words self.now.seats + i }
+    {
+        (1 + 2 * self.seats + i) as usize
+    }
+
+    fn load_client<M: Means<G>, C: Acting>(&self, token: &mut Token<G>, i: u32) -> u64
+        requires acting { C.acting ≡ loads i }
+        requires table { token.old.table ≡ self.now.table }
+        requires place { i < self.now.client }
+        requires allowed { IsAllowed G.holds G.allows M.note token.old.part.number token.old.part.core.held token.old.part.pass C.acting }
+        ensures table { token.new.table ≡ token.old.table }
+        ensures part { token.new.part ≡ client_part token.old.part i token.new.part.pass }
+        ensures made { IsMade G.holds G.allows M.note token.old.part.number token.old.part.core.held token.old.part.pass C.acting result token.new.part.pass }
+    {
+        let word = self.client_word(i);
+        self.table
+            .shared
+            .load::<Acts<G, M, C>>(&mut token.seat, word)
+    }
+
+    /// Loads client word `i`, counted from 0, and answers its value.
+    pub fn load_as<M: Means<G>, L: Ledger>(
+        &self,
+        seat: &mut Seat<G>,
+        i: u32,
+        steps: &mut Steps<L>,
+    ) -> u64
+        requires table { seat.old.table ≡ self.now.table }
+        requires place { i < self.now.client }
+        requires allowed { IsAllowed G.holds G.allows M.note seat.old.number seat.old.held seat.old.pass (loads i) }
+        ensures call { IsClientCall seat.old i seat.new }
+        ensures made { IsMade G.holds G.allows M.note seat.old.number seat.old.held seat.old.pass (loads i) result seat.new.pass }
+        ensures counted { steps.new ≡ steps.old + 1 }
+    {
+        let found = self.load_client::<M, Brand>(&mut seat.token, i);
+        steps.tick();
+        found
+    }
+
+    fn store_client<M: Means<G>, C: Acting>(&self, token: &mut Token<G>, i: u32, value: u64)
+        requires acting { C.acting ≡ stores i value }
+        requires table { token.old.table ≡ self.now.table }
+        requires place { i < self.now.client }
+        requires allowed { IsAllowed G.holds G.allows M.note token.old.part.number token.old.part.core.held token.old.part.pass C.acting }
+        ensures table { token.new.table ≡ token.old.table }
+        ensures part { token.new.part ≡ client_part token.old.part i token.new.part.pass }
+        ensures made { (found : ℕ) × IsMade G.holds G.allows M.note token.old.part.number token.old.part.core.held token.old.part.pass C.acting found token.new.part.pass }
+    {
+        let word = self.client_word(i);
+        self.table
+            .shared
+            .store::<Overwrites<G, M, C>>(&mut token.seat, word, value);
+    }
+
+    /// Stores a value in client word `i`, counted from 0.
+    pub fn store_as<M: Means<G>, L: Ledger>(
+        &self,
+        seat: &mut Seat<G>,
+        i: u32,
+        value: u64,
+        steps: &mut Steps<L>,
+    )
+        requires table { seat.old.table ≡ self.now.table }
+        requires place { i < self.now.client }
+        requires allowed { IsAllowed G.holds G.allows M.note seat.old.number seat.old.held seat.old.pass (stores i value) }
+        ensures call { IsClientCall seat.old i seat.new }
+        ensures made { (found : ℕ) × IsMade G.holds G.allows M.note seat.old.number seat.old.held seat.old.pass (stores i value) found seat.new.pass }
+        ensures counted { steps.new ≡ steps.old + 1 }
+    {
+        self.store_client::<M, Brand>(&mut seat.token, i, value);
+        steps.tick();
+    }
+
+    fn add_client<M: Means<G>, C: Acting>(&self, token: &mut Token<G>, i: u32, by: u64) -> u64
+        requires acting { C.acting ≡ adds i by }
+        requires table { token.old.table ≡ self.now.table }
+        requires place { i < self.now.client }
+        requires allowed { IsAllowed G.holds G.allows M.note token.old.part.number token.old.part.core.held token.old.part.pass C.acting }
+        ensures table { token.new.table ≡ token.old.table }
+        ensures part { token.new.part ≡ client_part token.old.part i token.new.part.pass }
+        ensures made { IsMade G.holds G.allows M.note token.old.part.number token.old.part.core.held token.old.part.pass C.acting result token.new.part.pass }
+    {
+        let word = self.client_word(i);
+        self.table
+            .shared
+            .fetch_add::<Acts<G, M, C>>(&mut token.seat, word, by)
+    }
+
+    /// Adds `by` to client word `i`, counted from 0, modulo 2^64, and answers the value before.
+    pub fn add_as<M: Means<G>, L: Ledger>(
+        &self,
+        seat: &mut Seat<G>,
+        i: u32,
+        by: u64,
+        steps: &mut Steps<L>,
+    ) -> u64
+        requires table { seat.old.table ≡ self.now.table }
+        requires place { i < self.now.client }
+        requires allowed { IsAllowed G.holds G.allows M.note seat.old.number seat.old.held seat.old.pass (adds i by) }
+        ensures call { IsClientCall seat.old i seat.new }
+        ensures made { IsMade G.holds G.allows M.note seat.old.number seat.old.held seat.old.pass (adds i by) result seat.new.pass }
+        ensures counted { steps.new ≡ steps.old + 1 }
+    {
+        let found = self.add_client::<M, Brand>(&mut seat.token, i, by);
+        steps.tick();
+        found
+    }
+
+    fn exchange_client<M: Means<G>, C: Acting>(
+        &self,
+        token: &mut Token<G>,
+        i: u32,
+        expected: u64,
+        new: u64,
+    ) -> u64
+        requires acting { C.acting ≡ exchanges i expected new }
+        requires table { token.old.table ≡ self.now.table }
+        requires place { i < self.now.client }
+        requires allowed { IsAllowed G.holds G.allows M.note token.old.part.number token.old.part.core.held token.old.part.pass C.acting }
+        ensures table { token.new.table ≡ token.old.table }
+        ensures part { token.new.part ≡ client_part token.old.part i token.new.part.pass }
+        ensures made { IsMade G.holds G.allows M.note token.old.part.number token.old.part.core.held token.old.part.pass C.acting result token.new.part.pass }
+    {
+        let word = self.client_word(i);
+        self.table
+            .shared
+            .compare_exchange::<Acts<G, M, C>>(&mut token.seat, word, expected, new)
+    }
+
+    /// Puts `new` in place of `expected` in client word `i`, counted from 0. Where the word has another value, it answers that value, and the word stays.
+    pub fn exchange_as<M: Means<G>, L: Ledger>(
+        &self,
+        seat: &mut Seat<G>,
+        i: u32,
+        expected: u64,
+        new: u64,
+        steps: &mut Steps<L>,
+    ) -> Result<(), u64>
+        requires table { seat.old.table ≡ self.now.table }
+        requires place { i < self.now.client }
+        requires allowed { IsAllowed G.holds G.allows M.note seat.old.number seat.old.held seat.old.pass (exchanges i expected new) }
+        ensures call { IsClientCall seat.old i seat.new }
+        ensures made { MatchResult result (λ _. IsMade G.holds G.allows M.note seat.old.number seat.old.held seat.old.pass (exchanges i expected new) expected seat.new.pass) (λ found. (found ≢ expected) × IsMade G.holds G.allows M.note seat.old.number seat.old.held seat.old.pass (exchanges i expected new) found seat.new.pass) }
+        ensures counted { steps.new ≡ steps.old + 1 }
+    {
+        let found = self.exchange_client::<M, Brand>(&mut seat.token, i, expected, new);
+        steps.tick();
+        if found == expected {
+            Ok(())
+        } else {
+            Err(found)
+        }
+    }
+}
