@@ -3,7 +3,7 @@
 //! too, as every type of the crate `bitflags` may: `IsNamedProt` and `IsNamedFlags` say that it doesn't.
 
 ghost use Rattle.std.specs.Prelude.{⊤, ◌≡◌, ◌↔◌, IsTrue, [], ◌∷◌, codes};
-ghost use Rattle.page_types.specs.Sets.{access_bit, is_fixed, has_one_sharing, IsNamedProt, IsNamedFlags};
+ghost use Rattle.page_types.specs.Sets.{has_bits, prot_bits, flag_bits, access_bit, is_fixed, has_one_sharing, IsNamedProt, IsNamedFlags};
 
 use bitflags::{Flag, Flags, bitflag_items};
 
@@ -90,6 +90,13 @@ impl Prot {
     {
         self.0 < 8
     }
+
+    /// Whether the protection lets an access through: it has the access's bit.
+    pub fn allows(self, access: Access) -> bool
+        ensures { result ≡ has_bits (prot_bits self) (access_bit access) }
+    {
+        self.contains(access.needs())
+    }
 }
 
 impl MapFlags {
@@ -98,6 +105,20 @@ impl MapFlags {
         ensures { IsTrue result ↔ IsNamedFlags self }
     {
         self.0 < 16
+    }
+
+    /// Whether SHARED is set.
+    pub fn is_shared(self) -> bool
+        ensures { result ≡ has_bits (flag_bits self) 1 }
+    {
+        self.contains(MapFlags::SHARED)
+    }
+
+    /// Whether FIXED_NOREPLACE is set, which counts also beside FIXED.
+    pub fn is_no_replace(self) -> bool
+        ensures { result ≡ has_bits (flag_bits self) 8 }
+    {
+        self.contains(MapFlags::FIXED_NOREPLACE)
     }
 
     /// Whether the address binds: FIXED or FIXED_NOREPLACE is set.

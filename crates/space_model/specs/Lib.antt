@@ -3,3 +3,4 @@ pub mod Effect
 pub mod Answers
 pub mod Held
 pub mod History
+pub mod Building

@@ -2,6 +2,7 @@
 #![tactic(auto)]
 
 mod areas;
+mod build;
 mod counts;
 mod entries;
 mod space;

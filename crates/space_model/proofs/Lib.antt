@@ -1,0 +1,3 @@
+pub mod AreaKinds
+pub mod Joining
+pub mod Changing

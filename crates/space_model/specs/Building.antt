@@ -1,0 +1,70 @@
+-- How the bodies of this crate put an area list together: areas are appended in order, and one that touches the last and
+-- is of its kind lengthens it. Only private functions speak of this; what callers see is the kinds of pages.
+use Rattle.std.specs.Prelude.{ℕ, Bool, true, false, ◌&&◌, not, ◌==◌, nat_lt, if◌then◌else◌, min, max, Option, Some, None, List, [], ◌∷◌}
+use Rattle.page_types.specs.declared.TheConstants.{LIMIT}
+use Rattle.page_types.specs.declared.sets.Prot.{Prot}
+use Rattle.page_types.specs.declared.calls.Kind.{Kind}
+use Rattle.page_types.specs.declared.calls.Call.{Call}
+use Rattle.page_types.specs.declared.calls.Call.TheVariants.{Map, Unmap, Protect, Fault}
+use Rattle.page_types.specs.Sets.{prot_bits}
+use Rattle.space_model.specs.declared.areas.Area.{Area}
+use Rattle.space_model.specs.Effect.{mapped_kind, protected_kind}
+
+-- two bools are equal
+abbrev pub same_bool : Bool → Bool → Bool
+same_bool true b = b
+same_bool false b = not b
+
+-- two kinds are equal
+abbrev pub same_kind : Kind → Kind → Bool
+same_kind k m = (prot_bits k.prot == prot_bits m.prot) && same_bool k.shared m.shared
+
+-- the second area goes on where the first ends, in its kind
+abbrev pub goes_on : Area → Area → Bool
+goes_on b a = (b.hi == a.lo) && same_kind b.kind a.kind
+
+-- the two areas as one
+abbrev pub merged : Area → Area → Area
+merged b a = record { lo = b.lo; hi = a.hi; kind = b.kind }
+
+-- two areas, as one where the second goes on with the first
+abbrev pub pair_joined : Area → Area → List Area
+pair_joined b a = if goes_on b a then merged b a ∷ [] else b ∷ a ∷ []
+
+-- the list with an area at its end
+abbrev pub joined : List Area → Area → List Area
+joined [] a = a ∷ []
+joined (b ∷ []) a = pair_joined b a
+joined (b ∷ c ∷ rest) a = b ∷ joined (c ∷ rest) a
+
+-- the list with more areas at its end
+abbrev pub join_all : List Area → List Area → List Area
+join_all list [] = list
+join_all list (a ∷ rest) = join_all (joined list a) rest
+
+-- a kind with a new protection, if there is one
+abbrev pub painted : Option Prot → Kind → Kind
+painted None kind = kind
+painted (Some prot) kind = protected_kind prot kind
+
+-- the part of an area from one page up to another
+abbrev pub part_of : ℕ → ℕ → Option Prot → Area → Area
+part_of from to prot a = record { lo = max a.lo from; hi = min a.hi to; kind = painted prot a.kind }
+
+-- the parts of the areas from one page up to another, where they have pages
+abbrev pub parts : ℕ → ℕ → Option Prot → List Area → List Area
+parts from to prot [] = []
+parts from to prot (a ∷ rest) =
+    if nat_lt (max a.lo from) (min a.hi to) then part_of from to prot a ∷ parts from to prot rest else parts from to prot rest
+
+-- what a call puts at its place
+abbrev pub pieces_at : List Area → Call → ℕ → ℕ → List Area
+pieces_at A (Map addr len prot flags) lo hi = record { lo = lo; hi = hi; kind = mapped_kind prot flags } ∷ []
+pieces_at A (Unmap addr len) lo hi = []
+pieces_at A (Protect addr len prot) lo hi = parts lo hi (Some prot) A
+pieces_at A (Fault addr access) lo hi = parts lo hi None A
+
+-- the list after a call whose place is the pages from lo up to hi
+abbrev pub changed_list : List Area → Call → ℕ → ℕ → List Area
+changed_list A c lo hi =
+    join_all (join_all (join_all [] (parts 0 lo None A)) (pieces_at A c lo hi)) (parts hi LIMIT None A)
