@@ -1,10 +1,10 @@
 -- The kinds of an area list, page by page, and that they give back the list.
-use Rattle.std.proofs.Common.{◌≡◌, ◌≢◌, ℕ, ◌+◌, ◌-◌, ◌<◌, ◌≤◌, ◌⊎◌, inl, inr, List, [], ◌∷◌, Some, None, sym, ◌∙◌, ap, subst, refl, arith}
+use Rattle.std.proofs.Common.{◌≡◌, ◌≢◌, ℕ, ◌<◌, ◌≤◌, inl, inr, List, [], ◌∷◌, Some, None, sym, ◌∙◌, ap, refl, arith}
 use Rattle.std.proofs.lemmas.Bool.{cases_lt, cases_order}
 use Rattle.std.proofs.lemmas.Bool.Decides.{nat_tests}
 use Rattle.page_types.specs.declared.calls.Kind.{Kind}
 use Rattle.space_model.specs.declared.areas.Area.{Area}
-use Rattle.space_model.specs.Areas.{IsInRange, MayFollow, LeadsTo, IsAreaList, kind_at, OnlyOneHasKinds}
+use Rattle.space_model.specs.Areas.{LeadsTo, IsAreaList, kind_at, OnlyOneHasKinds}
 
 pub kind_at-here : (a : Area) (rest : List Area) (p : ℕ) → a.lo ≤ p → p < a.hi → kind_at (a ∷ rest) p ≡ Some a.kind
 kind_at-here a rest p l h = grind (arith, nat_tests)
@@ -24,14 +24,18 @@ pub data Side (lo hi p : ℕ) : Type 0 where
 pub side_of : (lo hi p : ℕ) → Side lo hi p
 side_of lo hi p =
     elim (cases_lt p lo) [
-      inl l ↦ before l
-    | inr g ↦ elim (cases_lt p hi) [ inl l ↦ inside g l | inr h ↦ after h ]
+      | inl l ↦ before l
+      | inr g ↦ elim (cases_lt p hi) [ inl l ↦ inside g l | inr h ↦ after h ]
     ]
 
 -- no area starts below a page
 abbrev pub IsAbove : ℕ → List Area → Type 0
 IsAbove e [] = Unit {0}
 IsAbove e (a ∷ rest) = e ≤ a.lo
+
+pub above_zero : (A : List Area) → IsAbove 0 A
+above_zero [] = tt
+above_zero (a ∷ rest) = omega arith
 
 pub LeadsTo-above : (a : Area) (rest : List Area) → LeadsTo a rest → IsAbove a.hi rest
 LeadsTo-above a [] l = tt
@@ -49,12 +53,12 @@ kind_at-end a [] l w e = cc
 kind_at-end a (b ∷ rest) l w e =
     let n : b.lo < b.hi = w.0.has_page in
     elim (cases_lt a.hi b.lo) [
-      inl lt ↦
-        let none : kind_at (b ∷ rest) a.hi ≡ None = kind_at-below (b ∷ rest) b.lo a.hi w (omega arith) lt in cc
-    | inr ge ↦
-        let touch : a.hi ≡ b.lo = omega (arith, l.after) in
-        let some : kind_at (b ∷ rest) a.hi ≡ Some b.kind = kind_at-here b rest a.hi (omega arith) (omega arith) in
-        let same : a.kind ≡ b.kind = cc in l.differs touch same
+      | inl lt ↦
+          let none : kind_at (b ∷ rest) a.hi ≡ None = kind_at-below (b ∷ rest) b.lo a.hi w (omega arith) lt in cc
+      | inr ge ↦
+          let touch : a.hi ≡ b.lo = omega (arith, l.after) in
+          let some : kind_at (b ∷ rest) a.hi ≡ Some b.kind = kind_at-here b rest a.hi (omega arith) (omega arith) in
+          let same : a.kind ≡ b.kind = cc in l.differs touch same
     ]
 
 -- areas with the same parts are equal
@@ -97,30 +101,30 @@ only_one (a ∷ A) (b ∷ B) w v e =
     let m : b.lo < b.hi = v.0.has_page in
     let back : (p : ℕ) → kind_at (b ∷ B) p ≡ kind_at (a ∷ A) p = λ p. sym (e p) in
     let lows : a.lo ≡ b.lo =
-      elim (cases_order a.lo b.lo) [
-        inl s ↦ s
+    elim (cases_order a.lo b.lo) [
+      | inl s ↦ s
       | inr o ↦ elim o [ inl l ↦ absurd (first_page a b A B w v e l) | inr l ↦ absurd (first_page b a B A v w back l) ]
-      ] in
+    ] in
     let kinds : a.kind ≡ b.kind =
-      let x : kind_at (a ∷ A) a.lo ≡ Some a.kind = kind_at-here a A a.lo (omega arith) n in
-      let y : kind_at (b ∷ B) a.lo ≡ Some b.kind = kind_at-here b B a.lo (omega arith) (omega arith) in
-      let both = e a.lo in cc in
+    let x : kind_at (a ∷ A) a.lo ≡ Some a.kind = kind_at-here a A a.lo (omega arith) n in
+    let y : kind_at (b ∷ B) a.lo ≡ Some b.kind = kind_at-here b B a.lo (omega arith) (omega arith) in
+    let both = e a.lo in cc in
     let ends : a.hi ≡ b.hi =
-      elim (cases_order a.hi b.hi) [
-        inl s ↦ s
+    elim (cases_order a.hi b.hi) [
+      | inl s ↦ s
       | inr o ↦
-        elim o [
-          inl l ↦ absurd (first_end a b A B w v e lows kinds l)
-        | inr l ↦ absurd (first_end b a B A v w back (sym lows) (sym kinds) l)
-        ]
-      ] in
+          elim o [
+            | inl l ↦ absurd (first_end a b A B w v e lows kinds l)
+            | inr l ↦ absurd (first_end b a B A v w back (sym lows) (sym kinds) l)
+          ]
+    ] in
     let rest : (p : ℕ) → kind_at A p ≡ kind_at B p =
-      λ p. elim (cases_lt p a.hi) [
-        inl l ↦
+    λ p. elim (cases_lt p a.hi) [
+      | inl l ↦
           kind_at-below A a.hi p w.2 (LeadsTo-above a A w.1) l ∙
           sym (kind_at-below B b.hi p v.2 (LeadsTo-above b B v.1) (omega arith))
       | inr g ↦ sym (kind_at-after a A p g) ∙ e p ∙ kind_at-after b B p (omega arith)
-      ] in
+    ] in
     let heads : a ≡ b = same_area a b lows ends kinds in
     let tails : A ≡ B = only_one A B w.2 v.2 rest in
     cc

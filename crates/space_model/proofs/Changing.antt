@@ -1,5 +1,5 @@
 -- The list that the body builds has the kinds that the effect says.
-use Rattle.std.proofs.Common.{◌≡◌, ◌≢◌, ℕ, ◌+◌, ◌-◌, ◌<◌, ◌≤◌, ◌⊎◌, inl, inr, Bool, true, false, if◌then◌else◌, nat_lt, List, [], ◌∷◌, ◌++◌, Option, Some, None, max, min, sym, ◌∙◌, ap, subst, refl, arith}
+use Rattle.std.proofs.Common.{◌≡◌, ℕ, ◌<◌, ◌≤◌, ◌⊎◌, inl, inr, if◌then◌else◌, List, [], ◌∷◌, Option, Some, None, max, min, sym, ◌∙◌, ap, subst, refl, arith}
 use Rattle.std.specs.Option.{option_map}
 use Rattle.std.proofs.lemmas.Bool.{cases_lt, lt-ltb, le-ltb}
 use Rattle.std.proofs.lemmas.Bool.Decides.{nat_tests}
@@ -9,12 +9,12 @@ use Rattle.page_types.specs.declared.calls.Call.{Call}
 use Rattle.page_types.specs.declared.calls.Call.TheVariants.{Map, Unmap, Protect, Fault}
 use Rattle.page_types.specs.declared.sets.Prot.{Prot}
 use Rattle.space_model.specs.declared.areas.Area.{Area}
-use Rattle.space_model.specs.Areas.{IsInRange, MayFollow, LeadsTo, IsAreaList, HasKinds, holds, kind_at}
-use Rattle.space_model.specs.Effect.{new_kind, effect_of, is_within, mapped_kind, protected_kind}
+use Rattle.space_model.specs.Areas.{IsInRange, IsAreaList, HasKinds, kind_at}
+use Rattle.space_model.specs.Effect.{new_kind, effect_of, is_within, mapped_kind}
 use Rattle.space_model.specs.Building.{painted, part_of, parts, join_all, pieces_at, changed_list}
-use Rattle.space_model.proofs.AreaKinds.{kind_at-here, kind_at-before, kind_at-after, Side, side_of, IsAbove, LeadsTo-above}
+use Rattle.space_model.proofs.AreaKinds.{kind_at-here, kind_at-before, kind_at-after, side_of, IsAbove, above_zero, LeadsTo-above}
 use Rattle.space_model.proofs.AreaKinds.Side.{before, inside, after}
-use Rattle.space_model.proofs.Joining.{first_of, kind_at-cons, IsFreeFrom, IsPieces, join_all-kinds}
+use Rattle.space_model.proofs.Joining.{first_of, IsFreeFrom, IsPieces, join_all-kinds}
 
 parts-some : (from to : ℕ) (prot : Option Prot) (a : Area) (rest : List Area) → max a.lo from < min a.hi to →
     parts from to prot (a ∷ rest) ≡ part_of from to prot a ∷ parts from to prot rest
@@ -26,10 +26,6 @@ parts-none : (from to : ℕ) (prot : Option Prot) (a : Area) (rest : List Area) 
 parts-none from to prot a rest l =
     ap (λ t. if t then part_of from to prot a ∷ parts from to prot rest else parts from to prot rest) (le-ltb _ _ l)
 
-above_zero : (A : List Area) → IsAbove 0 A
-above_zero [] = tt
-above_zero (a ∷ rest) = omega arith
-
 -- the parts of an area list are pieces in order
 pub parts-pieces : (from to : ℕ) (prot : Option Prot) (A : List Area) (e low : ℕ) →
     IsAreaList A → IsAbove e A → low ≤ max e from → IsPieces low (parts from to prot A)
@@ -37,14 +33,14 @@ parts-pieces from to prot [] e low w above l = tt
 parts-pieces from to prot (a ∷ rest) e low w above l =
     let n : a.lo < a.hi = w.0.has_page in
     elim (cases_lt (max a.lo from) (min a.hi to)) [
-      inl lt ↦
-        let range : IsInRange (part_of from to prot a) =
+      | inl lt ↦
+          let range : IsInRange (part_of from to prot a) =
           record { has_page = lt; below_limit = omega (arith, w.0.below_limit) } in
-        let more = parts-pieces from to prot rest a.hi (min a.hi to) w.2 (LeadsTo-above a rest w.1) (omega arith) in
-        subst (IsPieces low) (sym (parts-some from to prot a rest lt)) (omega (arith, above), range, more)
-    | inr ge ↦
-      subst (IsPieces low) (sym (parts-none from to prot a rest ge))
-      (parts-pieces from to prot rest a.hi low w.2 (LeadsTo-above a rest w.1) (omega (arith, above)))
+          let more = parts-pieces from to prot rest a.hi (min a.hi to) w.2 (LeadsTo-above a rest w.1) (omega arith) in
+          subst (IsPieces low) (sym (parts-some from to prot a rest lt)) (omega (arith, above), range, more)
+      | inr ge ↦
+          subst (IsPieces low) (sym (parts-none from to prot a rest ge))
+          (parts-pieces from to prot rest a.hi low w.2 (LeadsTo-above a rest w.1) (omega (arith, above)))
     ]
 
 -- a choice by whether a page lies within a span
@@ -62,13 +58,13 @@ parts-skip : (from to : ℕ) (prot : Option Prot) (a : Area) (rest : List Area) 
     (p < max a.lo from) ⊎ (min a.hi to ≤ p) → kind_at (parts from to prot (a ∷ rest)) p ≡ kind_at (parts from to prot rest) p
 parts-skip from to prot a rest p out =
     elim (cases_lt (max a.lo from) (min a.hi to)) [
-      inl lt ↦
-        ap (λ list. kind_at list p) (parts-some from to prot a rest lt) ∙
-        elim out [
-          inl l ↦ kind_at-before (part_of from to prot a) (parts from to prot rest) p l
-        | inr g ↦ kind_at-after (part_of from to prot a) (parts from to prot rest) p g
-        ]
-    | inr ge ↦ ap (λ list. kind_at list p) (parts-none from to prot a rest ge)
+      | inl lt ↦
+          ap (λ list. kind_at list p) (parts-some from to prot a rest lt) ∙
+          elim out [
+            | inl l ↦ kind_at-before (part_of from to prot a) (parts from to prot rest) p l
+            | inr g ↦ kind_at-after (part_of from to prot a) (parts from to prot rest) p g
+          ]
+      | inr ge ↦ ap (λ list. kind_at list p) (parts-none from to prot a rest ge)
     ]
 
 -- the kinds of the parts are those of the pages, painted
@@ -78,16 +74,16 @@ parts-inside from to prot [] p l h = refl
 parts-inside from to prot (a ∷ rest) p l h =
     let more = parts-inside from to prot rest p l h in
     elim (side_of a.lo a.hi p) [
-      before below ↦
-        parts-skip from to prot a rest p (inl (omega arith)) ∙ more ∙
-        ap (option_map (painted prot)) (sym (kind_at-before a rest p below))
-    | inside low high ↦
-      ap (λ list. kind_at list p) (parts-some from to prot a rest (omega arith)) ∙
-      kind_at-here (part_of from to prot a) (parts from to prot rest) p (omega arith) (omega arith) ∙
-      ap (option_map (painted prot)) (sym (kind_at-here a rest p low high))
-    | after above ↦
-      parts-skip from to prot a rest p (inr (omega arith)) ∙ more ∙
-      ap (option_map (painted prot)) (sym (kind_at-after a rest p above))
+      | before below ↦
+          parts-skip from to prot a rest p (inl (omega arith)) ∙ more ∙
+          ap (option_map (painted prot)) (sym (kind_at-before a rest p below))
+      | inside low high ↦
+          ap (λ list. kind_at list p) (parts-some from to prot a rest (omega arith)) ∙
+          kind_at-here (part_of from to prot a) (parts from to prot rest) p (omega arith) (omega arith) ∙
+          ap (option_map (painted prot)) (sym (kind_at-here a rest p low high))
+      | after above ↦
+          parts-skip from to prot a rest p (inr (omega arith)) ∙ more ∙
+          ap (option_map (painted prot)) (sym (kind_at-after a rest p above))
     ]
 
 pub parts-outside : (from to : ℕ) (prot : Option Prot) (A : List Area) (p : ℕ) → (p < from) ⊎ (to ≤ p) →
@@ -120,7 +116,7 @@ pieces_at-kinds A (Map addr len prot flags) lo hi w l h =
     record {
       pieces = (omega arith, record { has_page = l; below_limit = h }, tt);
       inside_are = λ p low high. kind_at-here piece [] p low high;
-      outside_are = λ p out. elim out [ inl below ↦ kind_at-before piece [] p below | inr above ↦ kind_at-after piece [] p above ]
+      outside_are = λ p out. elim out [ inl below ↦ kind_at-before piece [] p below | inr above ↦ kind_at-after piece [] p above ];
     }
 pieces_at-kinds A (Unmap addr len) lo hi w l h =
     record { pieces = tt; inside_are = λ p low high. refl; outside_are = λ p out. refl }
@@ -128,13 +124,13 @@ pieces_at-kinds A (Protect addr len prot) lo hi w l h =
     record {
       pieces = parts-pieces lo hi (Some prot) A 0 lo w (above_zero A) (omega arith);
       inside_are = λ p low high. parts-inside lo hi (Some prot) A p low high;
-      outside_are = λ p out. parts-outside lo hi (Some prot) A p out
+      outside_are = λ p out. parts-outside lo hi (Some prot) A p out;
     }
 pieces_at-kinds A (Fault addr access) lo hi w l h =
     record {
       pieces = parts-pieces lo hi None A 0 lo w (above_zero A) (omega arith);
       inside_are = λ p low high. parts-inside lo hi None A p low high ∙ option_map-painted (kind_at A p);
-      outside_are = λ p out. parts-outside lo hi None A p out
+      outside_are = λ p out. parts-outside lo hi None A p out;
     }
 
 -- the three parts of the list have the kinds of the effect
@@ -158,29 +154,29 @@ whole A c lo hi w l h at p =
     let middle = kind_at (pieces_at A c lo hi) p in
     let back = kind_at (parts hi LIMIT None A) p in
     elim (side_of lo hi p) [
-      before below ↦
-        three_parts front middle back (kind_at A p) None None
-        (parts-inside 0 lo None A p (omega arith) below ∙ option_map-painted (kind_at A p))
-        (at.outside_are p (inl below))
-        (parts-outside hi LIMIT None A p (inl (omega arith))) ∙
-        first_of-nones (kind_at A p) ∙
-        sym (within-before lo hi p (new_kind c (kind_at A p)) (kind_at A p) below)
-    | inside low high ↦
-      three_parts front middle back None (new_kind c (kind_at A p)) None
-      (parts-outside 0 lo None A p (inr low))
-      (at.inside_are p low high)
-      (parts-outside hi LIMIT None A p (inl high)) ∙
-      first_of-none_last (new_kind c (kind_at A p)) ∙
-      sym (within-inside lo hi p (new_kind c (kind_at A p)) (kind_at A p) low high)
-    | after above ↦
-      three_parts front middle back None None (kind_at A p)
-      (parts-outside 0 lo None A p (inr (omega arith)))
-      (at.outside_are p (inr above))
-      (elim (cases_lt p LIMIT) [
-        inl lt ↦ parts-inside hi LIMIT None A p above lt ∙ option_map-painted (kind_at A p)
-      | inr ge ↦ parts-outside hi LIMIT None A p (inr ge) ∙ sym (kind_at-limit A w p ge)
-      ]) ∙
-      sym (within-after lo hi p (new_kind c (kind_at A p)) (kind_at A p) above)
+      | before below ↦
+          three_parts front middle back (kind_at A p) None None
+          (parts-inside 0 lo None A p (omega arith) below ∙ option_map-painted (kind_at A p))
+          (at.outside_are p (inl below))
+          (parts-outside hi LIMIT None A p (inl (omega arith))) ∙
+          first_of-nones (kind_at A p) ∙
+          sym (within-before lo hi p (new_kind c (kind_at A p)) (kind_at A p) below)
+      | inside low high ↦
+          three_parts front middle back None (new_kind c (kind_at A p)) None
+          (parts-outside 0 lo None A p (inr low))
+          (at.inside_are p low high)
+          (parts-outside hi LIMIT None A p (inl high)) ∙
+          first_of-none_last (new_kind c (kind_at A p)) ∙
+          sym (within-inside lo hi p (new_kind c (kind_at A p)) (kind_at A p) low high)
+      | after above ↦
+          three_parts front middle back None None (kind_at A p)
+          (parts-outside 0 lo None A p (inr (omega arith)))
+          (at.outside_are p (inr above))
+          (elim (cases_lt p LIMIT) [
+            | inl lt ↦ parts-inside hi LIMIT None A p above lt ∙ option_map-painted (kind_at A p)
+            | inr ge ↦ parts-outside hi LIMIT None A p (inr ge) ∙ sym (kind_at-limit A w p ge)
+          ]) ∙
+          sym (within-after lo hi p (new_kind c (kind_at A p)) (kind_at A p) above)
     ]
 
 -- the list that the body builds is the area list with the kinds of the effect
@@ -195,14 +191,14 @@ changed_list-kinds A c lo hi w l h =
     let one_free : IsFreeFrom (join_all [] front) lo = λ p g. one.kinds_are p ∙ parts-outside 0 lo None A p (inr g) in
     let two = join_all-kinds (join_all [] front) middle lo one.areas one_free at.pieces in
     let two_free : IsFreeFrom (join_all (join_all [] front) middle) hi =
-      λ p g.
-        two.kinds_are p ∙ ap (λ k. first_of k (kind_at middle p)) (one_free p (omega arith)) ∙ at.outside_are p (inr g) in
+    λ p g.
+    two.kinds_are p ∙ ap (λ k. first_of k (kind_at middle p)) (one_free p (omega arith)) ∙ at.outside_are p (inr g) in
     let three =
-      join_all-kinds (join_all (join_all [] front) middle) back hi two.areas two_free
-      (parts-pieces hi LIMIT None A 0 hi w (above_zero A) (omega arith)) in
+    join_all-kinds (join_all (join_all [] front) middle) back hi two.areas two_free
+    (parts-pieces hi LIMIT None A 0 hi w (above_zero A) (omega arith)) in
     let all : (p : ℕ) →
-      kind_at (changed_list A c lo hi) p ≡ first_of (first_of (kind_at front p) (kind_at middle p)) (kind_at back p) =
-      λ p.
-        three.kinds_are p ∙
-        ap (λ k. first_of k (kind_at back p)) (two.kinds_are p ∙ ap (λ k. first_of k (kind_at middle p)) (one.kinds_are p)) in
+    kind_at (changed_list A c lo hi) p ≡ first_of (first_of (kind_at front p) (kind_at middle p)) (kind_at back p) =
+    λ p.
+    three.kinds_are p ∙
+    ap (λ k. first_of k (kind_at back p)) (two.kinds_are p ∙ ap (λ k. first_of k (kind_at middle p)) (one.kinds_are p)) in
     record { areas = three.areas; kinds_are = λ p. all p ∙ whole A c lo hi w l h at p }

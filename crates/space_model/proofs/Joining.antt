@@ -1,13 +1,12 @@
 -- Lists put together in order have the kinds of their parts.
-use Rattle.std.proofs.Common.{◌≡◌, ◌≢◌, ℕ, ◌+◌, ◌-◌, ◌<◌, ◌≤◌, ◌⊎◌, inl, inr, Bool, true, false, if◌then◌else◌, List, [], ◌∷◌, ◌++◌, Option, Some, None, nat_eq, max, min, sym, ◌∙◌, ap, subst, refl, arith}
-use Rattle.std.proofs.lemmas.Bool.{cases_lt, cases_order, cases_Bool, and_parts, and_from, eqb-true, eq-eqb, true≢false}
+use Rattle.std.proofs.Common.{◌≡◌, ℕ, ◌<◌, ◌≤◌, inl, inr, Bool, true, false, if◌then◌else◌, List, [], ◌∷◌, ◌++◌, Option, Some, None, nat_eq, max, sym, ◌∙◌, ap, subst, refl, arith}
+use Rattle.std.proofs.lemmas.Bool.{cases_lt, cases_Bool, and_parts, and_from, eqb-true, eq-eqb, true≢false}
 use Rattle.std.proofs.lemmas.Bool.Decides.{nat_tests}
 use Rattle.page_types.specs.declared.calls.Kind.{Kind}
-use Rattle.page_types.specs.declared.sets.Prot.{Prot}
 use Rattle.space_model.specs.declared.areas.Area.{Area}
-use Rattle.space_model.specs.Areas.{IsInRange, MayFollow, LeadsTo, IsAreaList, HasKinds, holds, kind_at}
+use Rattle.space_model.specs.Areas.{IsInRange, MayFollow, LeadsTo, IsAreaList, HasKinds, kind_at}
 use Rattle.space_model.specs.Building.{same_bool, same_kind, goes_on, merged, pair_joined, joined, join_all}
-use Rattle.space_model.proofs.AreaKinds.{kind_at-here, kind_at-before, kind_at-after, Side, side_of}
+use Rattle.space_model.proofs.AreaKinds.{kind_at-here, kind_at-before, kind_at-after, side_of}
 use Rattle.space_model.proofs.AreaKinds.Side.{before, inside, after}
 
 pub joined-append : (list : List Area) (b a : Area) → joined (list ++ b ∷ []) a ≡ list ++ pair_joined b a
@@ -53,9 +52,9 @@ first_of-assoc None b c = refl
 pub kind_at-cons : (a : Area) (rest : List Area) (p : ℕ) → kind_at (a ∷ rest) p ≡ first_of (kind_at (a ∷ []) p) (kind_at rest p)
 kind_at-cons a rest p =
     elim (side_of a.lo a.hi p) [
-      before l ↦ rw (kind_at-before a rest p l, kind_at-before a [] p l) refl
-    | inside l h ↦ rw (kind_at-here a rest p l h, kind_at-here a [] p l h) refl
-    | after h ↦ rw (kind_at-after a rest p h, kind_at-after a [] p h) refl
+      | before l ↦ rw (kind_at-before a rest p l, kind_at-before a [] p l) refl
+      | inside l h ↦ rw (kind_at-here a rest p l h, kind_at-here a [] p l h) refl
+      | after h ↦ rw (kind_at-after a rest p h, kind_at-after a [] p h) refl
     ]
 
 pub kind_at-append : (A B : List Area) (p : ℕ) → kind_at (A ++ B) p ≡ first_of (kind_at A p) (kind_at B p)
@@ -75,11 +74,11 @@ pub ends_below : (a : Area) (rest : List Area) (e : ℕ) → IsInRange a → IsF
 ends_below a rest e w free =
     let n : a.lo < a.hi = w.has_page in
     elim (cases_lt e a.hi) [
-      inl l ↦
-        let p : ℕ = max e a.lo in
-        let none : kind_at (a ∷ rest) p ≡ None = free p (omega arith) in
-        let some : kind_at (a ∷ rest) p ≡ Some a.kind = kind_at-here a rest p (omega arith) (omega arith) in cc
-    | inr g ↦ g
+      | inl l ↦
+          let p : ℕ = max e a.lo in
+          let none : kind_at (a ∷ rest) p ≡ None = free p (omega arith) in
+          let some : kind_at (a ∷ rest) p ≡ Some a.kind = kind_at-here a rest p (omega arith) (omega arith) in cc
+      | inr g ↦ g
     ]
 
 free_tail : (a : Area) (rest : List Area) (e : ℕ) → a.hi ≤ e → IsFreeFrom (a ∷ rest) e → IsFreeFrom rest e
@@ -106,54 +105,54 @@ merged-kinds b a p w v t k =
     let n : b.lo < b.hi = w.has_page in
     let m : a.lo < a.hi = v.has_page in
     elim (side_of b.lo b.hi p) [
-      before l ↦
-        rw (kind_at-before (merged b a) [] p l, kind_at-before b [] p l, kind_at-before a [] p (omega arith)) refl
-    | inside l h ↦ rw (kind_at-here (merged b a) [] p l (omega arith), kind_at-here b [] p l h) refl
-    | after h ↦
-      elim (cases_lt p a.hi) [
-        inl l ↦
-          rw (kind_at-here (merged b a) [] p (omega arith) l, kind_at-after b [] p h, kind_at-here a [] p (omega arith) l)
-          (ap (λ x. Some x) k)
-      | inr g ↦ rw (kind_at-after (merged b a) [] p g, kind_at-after b [] p h, kind_at-after a [] p g) refl
-      ]
+      | before l ↦
+          rw (kind_at-before (merged b a) [] p l, kind_at-before b [] p l, kind_at-before a [] p (omega arith)) refl
+      | inside l h ↦ rw (kind_at-here (merged b a) [] p l (omega arith), kind_at-here b [] p l h) refl
+      | after h ↦
+          elim (cases_lt p a.hi) [
+            | inl l ↦
+                rw (kind_at-here (merged b a) [] p (omega arith) l, kind_at-after b [] p h, kind_at-here a [] p (omega arith) l)
+                (ap (λ x. Some x) k)
+            | inr g ↦ rw (kind_at-after (merged b a) [] p g, kind_at-after b [] p h, kind_at-after a [] p g) refl
+          ]
     ]
 
 pair-kinds : (b a : Area) (p : ℕ) → IsInRange b → IsInRange a → b.hi ≤ a.lo →
     kind_at (pair_joined b a) p ≡ first_of (kind_at (b ∷ []) p) (kind_at (a ∷ []) p)
 pair-kinds b a p w v l =
     elim (cases_Bool (goes_on b a)) [
-      inl e ↦
-        let t = touches_of b a e in ap (λ list. kind_at list p) (pair-true b a e) ∙ merged-kinds b a p w v t.0 t.1
-    | inr e ↦ ap (λ list. kind_at list p) (pair-false b a e) ∙ kind_at-cons b (a ∷ []) p
+      | inl e ↦
+          let t = touches_of b a e in ap (λ list. kind_at list p) (pair-true b a e) ∙ merged-kinds b a p w v t.0 t.1
+      | inr e ↦ ap (λ list. kind_at list p) (pair-false b a e) ∙ kind_at-cons b (a ∷ []) p
     ]
 
 pair-areas : (b a : Area) → IsInRange b → IsInRange a → b.hi ≤ a.lo → IsAreaList (pair_joined b a)
 pair-areas b a w v l =
     elim (cases_Bool (goes_on b a)) [
-      inl e ↦
-        let t = touches_of b a e in
-        let whole : IsInRange (merged b a) =
+      | inl e ↦
+          let t = touches_of b a e in
+          let whole : IsInRange (merged b a) =
           record {
             has_page = omega (arith, w.has_page, v.has_page, t.0);
-            below_limit = v.below_limit
+            below_limit = v.below_limit;
           } in
-        let list : IsAreaList (merged b a ∷ []) = (whole, tt, tt) in
-        subst IsAreaList (sym (pair-true b a e)) list
-    | inr e ↦
-      let apart : MayFollow b a =
-        record { after = l; differs = λ touch same. true≢false (sym (goes_on_of b a touch same) ∙ e) } in
-      let list : IsAreaList (b ∷ a ∷ []) = (w, apart, (v, tt, tt)) in
-      subst IsAreaList (sym (pair-false b a e)) list
+          let list : IsAreaList (merged b a ∷ []) = (whole, tt, tt) in
+          subst IsAreaList (sym (pair-true b a e)) list
+      | inr e ↦
+          let apart : MayFollow b a =
+          record { after = l; differs = λ touch same. true≢false (sym (goes_on_of b a touch same) ∙ e) } in
+          let list : IsAreaList (b ∷ a ∷ []) = (w, apart, (v, tt, tt)) in
+          subst IsAreaList (sym (pair-false b a e)) list
     ]
 
 -- joining at the end keeps what leads to the list
 joined-leads : (x b : Area) (rest : List Area) (a : Area) → LeadsTo x (b ∷ rest) → LeadsTo x (joined (b ∷ rest) a)
 joined-leads x b [] a l =
     elim (cases_Bool (goes_on b a)) [
-      inl e ↦
-        let list : LeadsTo x (merged b a ∷ []) = record { after = l.after; differs = l.differs } in
-        subst (LeadsTo x) (sym (pair-true b a e)) list
-    | inr e ↦ let list : LeadsTo x (b ∷ a ∷ []) = l in subst (LeadsTo x) (sym (pair-false b a e)) list
+      | inl e ↦
+          let list : LeadsTo x (merged b a ∷ []) = record { after = l.after; differs = l.differs } in
+          subst (LeadsTo x) (sym (pair-true b a e)) list
+      | inr e ↦ let list : LeadsTo x (b ∷ a ∷ []) = l in subst (LeadsTo x) (sym (pair-false b a e)) list
     ]
 joined-leads x b (c ∷ rest) a l = l
 
@@ -169,10 +168,10 @@ joined-kinds (b ∷ c ∷ rest) a w free r =
     record {
       areas = (w.0, joined-leads b c rest a w.1, more.areas);
       kinds_are = λ p.
-        kind_at-cons b (joined (c ∷ rest) a) p ∙
-        ap (first_of (kind_at (b ∷ []) p)) (more.kinds_are p) ∙
-        sym (first_of-assoc (kind_at (b ∷ []) p) (kind_at (c ∷ rest) p) (kind_at (a ∷ []) p)) ∙
-        ap (λ k. first_of k (kind_at (a ∷ []) p)) (sym (kind_at-cons b (c ∷ rest) p))
+          kind_at-cons b (joined (c ∷ rest) a) p ∙
+          ap (first_of (kind_at (b ∷ []) p)) (more.kinds_are p) ∙
+          sym (first_of-assoc (kind_at (b ∷ []) p) (kind_at (c ∷ rest) p) (kind_at (a ∷ []) p)) ∙
+          ap (λ k. first_of k (kind_at (a ∷ []) p)) (sym (kind_at-cons b (c ∷ rest) p));
     }
 
 -- areas in range and in order from a page on; neighbours may be of one kind
@@ -187,16 +186,16 @@ join_all-kinds A (a ∷ rest) e w free s =
     let low : e ≤ a.lo = s.0 in
     let one = joined-kinds A a w (λ p l. free p (omega arith)) s.1 in
     let above : IsFreeFrom (joined A a) a.hi =
-      λ p l.
-        one.kinds_are p ∙
-        ap (λ k. first_of k (kind_at (a ∷ []) p)) (free p (omega (arith, s.1.has_page))) ∙
-        kind_at-after a [] p l in
+    λ p l.
+    one.kinds_are p ∙
+    ap (λ k. first_of k (kind_at (a ∷ []) p)) (free p (omega (arith, s.1.has_page))) ∙
+    kind_at-after a [] p l in
     let all = join_all-kinds (joined A a) rest a.hi one.areas above s.2 in
     record {
       areas = all.areas;
       kinds_are = λ p.
-        all.kinds_are p ∙
-        ap (λ k. first_of k (kind_at rest p)) (one.kinds_are p) ∙
-        first_of-assoc (kind_at A p) (kind_at (a ∷ []) p) (kind_at rest p) ∙
-        ap (first_of (kind_at A p)) (sym (kind_at-cons a rest p))
+          all.kinds_are p ∙
+          ap (λ k. first_of k (kind_at rest p)) (one.kinds_are p) ∙
+          first_of-assoc (kind_at A p) (kind_at (a ∷ []) p) (kind_at rest p) ∙
+          ap (first_of (kind_at A p)) (sym (kind_at-cons a rest p));
     }

@@ -1,12 +1,16 @@
 -- How the bodies of this crate put an area list together: areas are appended in order, and one that touches the last and
 -- is of its kind lengthens it. Only private functions speak of this; what callers see is the kinds of pages.
-use Rattle.std.specs.Prelude.{ℕ, Bool, true, false, ◌&&◌, not, ◌==◌, nat_lt, if◌then◌else◌, min, max, Option, Some, None, List, [], ◌∷◌}
+use Rattle.std.specs.Prelude.{ℕ, Bool, true, false, ◌&&◌, not, ◌==◌, nat_lt, if◌then◌else◌, min, max, ◌≡◌, Option, Some, None, List, [], ◌∷◌}
 use Rattle.page_types.specs.declared.TheConstants.{LIMIT}
 use Rattle.page_types.specs.declared.sets.Prot.{Prot}
 use Rattle.page_types.specs.declared.calls.Kind.{Kind}
 use Rattle.page_types.specs.declared.calls.Call.{Call}
 use Rattle.page_types.specs.declared.calls.Call.TheVariants.{Map, Unmap, Protect, Fault}
 use Rattle.page_types.specs.Sets.{prot_bits}
+use Rattle.page_types.specs.declared.sets.Access.{Access}
+use Rattle.page_types.specs.declared.calls.Reply.{Reply}
+use Rattle.page_types.specs.declared.calls.Reply.TheVariants.{At, Zero, Granted, Refused}
+use Rattle.space_model.specs.Answers.{LetsThrough, RefusesAccess}
 use Rattle.space_model.specs.declared.areas.Area.{Area}
 use Rattle.space_model.specs.Effect.{mapped_kind, protected_kind}
 
@@ -68,3 +72,10 @@ pieces_at A (Fault addr access) lo hi = parts lo hi None A
 abbrev pub changed_list : List Area → Call → ℕ → ℕ → List Area
 changed_list A c lo hi =
     join_all (join_all (join_all [] (parts 0 lo None A)) (pieces_at A c lo hi)) (parts hi LIMIT None A)
+
+-- what a fault on a page of this kind answers
+abbrev pub AnswersFault : Option Kind → ℕ → Access → Reply → Type 0
+AnswersFault kind page access (At addr) = ⊥
+AnswersFault kind page access Zero = ⊥
+AnswersFault kind page access (Granted k) = (kind ≡ Some k) × LetsThrough k access
+AnswersFault kind page access (Refused why) = RefusesAccess kind page access why

@@ -64,21 +64,39 @@ fn join(list: &mut Vec<Area>, area: Area) -> Result<(), AllocError>
 }
 
 /// Appends the parts of `areas` from page `from` up to page `to`, with a new protection, if there is one.
-fn join_parts(list: &mut Vec<Area>, areas: &[Area], from: u64, to: u64, prot: Option<Prot>) -> Result<(), AllocError>
+fn join_parts(
+    list: &mut Vec<Area>,
+    areas: &[Area],
+    from: u64,
+    to: u64,
+    prot: Option<Prot>,
+) -> Result<(), AllocError>
     ensures { OnOk result (list.new.items ≡ join_all list.old.items (parts from to prot areas.now)) }
 {
     for area in areas {
         let lo = area.lo.max(from);
         let hi = area.hi.min(to);
         if lo < hi {
-            join(list, Area { lo, hi, kind: painted(area.kind, prot) })?;
+            join(
+                list,
+                Area {
+                    lo,
+                    hi,
+                    kind: painted(area.kind, prot),
+                },
+            )?;
         }
     }
     Ok(())
 }
 
 /// The areas after a call whose place is `span`.
-pub fn changed(alloc: Global, areas: &[Area], call: &Call, span: Span) -> Result<Vec<Area>, AllocError>
+pub fn changed(
+    alloc: Global,
+    areas: &[Area],
+    call: &Call,
+    span: Span,
+) -> Result<Vec<Area>, AllocError>
     ensures { IfOk result (λ list. list.items ≡ changed_list areas.now call.now span.lo span.hi) }
 {
     let mut list = Vec::new(alloc);
@@ -86,7 +104,14 @@ pub fn changed(alloc: Global, areas: &[Area], call: &Call, span: Span) -> Result
     match *call {
         Call::Map { prot, flags, .. } => {
             let kind = mapped_kind(prot, flags);
-            join(&mut list, Area { lo: span.lo, hi: span.hi, kind })?;
+            join(
+                &mut list,
+                Area {
+                    lo: span.lo,
+                    hi: span.hi,
+                    kind,
+                },
+            )?;
         }
         Call::Unmap { .. } => {}
         Call::Protect { prot, .. } => join_parts(&mut list, areas, span.lo, span.hi, Some(prot))?,

@@ -1,6 +1,6 @@
 //! Counting rows.
 
-ghost use Rattle.std.specs.Prelude.{◌≡◌, ◌<◌, ◌^◌, ◌-◌, length};
+ghost use Rattle.std.specs.Prelude.{◌≡◌, ◌<◌, ◌^◌};
 ghost use Rattle.space_model.specs.Areas.{row_count};
 
 use crate::areas::Area;
@@ -8,7 +8,7 @@ use page_types::LIMIT;
 
 /// The number of areas and of gaps between 0 and `LIMIT`.
 pub fn row_count(areas: &[Area]) -> u32
-    requires { length areas.now < 2 ^ 31 - 1 }
+    requires { row_count areas.now < 2 ^ 32 }
     ensures { result ≡ row_count areas.now }
 {
     let mut rows = 0u32;

@@ -5,6 +5,8 @@ mod areas;
 mod build;
 mod counts;
 mod entries;
+mod place;
+mod search;
 mod space;
 
 pub use areas::Area;

@@ -1,13 +1,17 @@
 //! The address space.
 
-ghost use Rattle.std.specs.Prelude.{◌≡◌, [], IfOk, OnErr};
+ghost use Rattle.std.specs.Prelude.{◌≡◌, [], None, IfOk, OnErr};
 ghost use Rattle.page_types.specs.Named.{IsNamedCall, IsNamedReply};
 ghost use Rattle.space_model.specs.Areas.{IsAreaList, HasNamedKinds, row_count};
-ghost use Rattle.space_model.specs.Answers.{Answers};
+ghost use Rattle.page_types.specs.PlainReply.{plain_reply};
+ghost use Rattle.space_model.specs.Answers.{Answers, IsPlace};
 
 use crate::areas::Area;
+use crate::build::changed;
 use crate::counts::row_count;
-use page_types::{Call, Reply};
+use crate::place::{done, fault, map_place, span_of};
+use crate::search::lowest_missing;
+use page_types::{Call, PAGE, ROWS, Reply, Short, Span, Why, plain};
 use std::alloc::{AllocError, Global};
 use std::marker::Model;
 
@@ -56,12 +60,55 @@ impl PlainSpace {
     }
 
     /// Makes one call: answers it, and changes the space where the answer isn't a refusal.
+    ///
+    /// After want of memory nothing has changed.
     pub fn step(&mut self, call: &Call) -> Result<Reply, AllocError>
         requires { IsNamedCall call.now }
         ensures answer { IfOk result (λ reply. Answers self.old call.now reply self.new) }
         ensures named { IfOk result IsNamedReply }
         ensures memory { OnErr result (self.new ≡ self.old) }
     {
-        Err(AllocError)
+        if let Some(reply) = plain(call) {
+            return Ok(reply);
+        }
+        match *call {
+            Call::Map {
+                addr,
+                len,
+                flags,
+                ..
+            } => match map_place(self.areas.as_slice(), addr, len, flags) {
+                Ok(place) => self.change(call, place),
+                Err(why) => Ok(Reply::Refused(why)),
+            },
+            Call::Unmap { addr, len } => self.change(call, span_of(addr, len)),
+            Call::Protect { addr, len, .. } => {
+                let span = span_of(addr, len);
+                match lowest_missing(self.areas.as_slice(), span.lo, span.hi) {
+                    Some(page) => Ok(Reply::Refused(Why::Enomem(Short::Missing(page)))),
+                    None => self.change(call, span),
+                }
+            }
+            Call::Fault { addr, access } => Ok(fault(self.areas.as_slice(), addr / PAGE, access)),
+        }
+    }
+
+    /// Changes the pages of a call's place, unless the result would have more than `ROWS` rows.
+    fn change(&mut self, call: &Call, place: Span) -> Result<Reply, AllocError>
+        requires named { IsNamedCall call.now }
+        requires undecided { plain_reply call.now ≡ None }
+        requires place { IsPlace self.old call.now place.lo place.hi }
+        ensures answer { IfOk result (λ reply. Answers self.old call.now reply self.new) }
+        ensures named { IfOk result IsNamedReply }
+        ensures memory { OnErr result (self.new ≡ self.old) }
+    {
+        let alloc = *self.areas.allocator();
+        let list = changed(alloc, self.areas.as_slice(), call, place)?;
+        let rows = row_count(list.as_slice());
+        if rows as usize > ROWS {
+            return Ok(Reply::Refused(Why::Enomem(Short::Rows(rows))));
+        }
+        self.areas = list;
+        Ok(done(call, place.lo))
     }
 }

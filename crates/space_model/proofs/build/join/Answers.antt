@@ -1,6 +1,6 @@
 -- Popping and pushing is joining at the end.
-use Rattle.std.proofs.Common.{◌≡◌, ◌∙◌, sym, ap, List, [], ◌∷◌, ◌++◌, append_assoc}
-use Rattle.space_model.specs.Building.{joined, pair_joined}
+use Rattle.std.proofs.Common.{◌∙◌, sym, ap, [], ◌∷◌, ◌++◌, append_assoc}
+use Rattle.space_model.specs.Building.{joined}
 use Rattle.space_model.proofs.Joining.{joined-append, pair-true, pair-false}
 use Rattle.space_model.proofs.build.join.Goals as goal
 
