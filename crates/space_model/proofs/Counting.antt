@@ -8,7 +8,7 @@ use Rattle.space_model.specs.declared.areas.Area.{Area}
 use Rattle.page_types.specs.declared.calls.Call.{Call}
 use Rattle.space_model.specs.Areas.{IsAreaList, HasKinds, kind_at, gap_between, gaps_from, gap_count, row_count}
 use Rattle.space_model.specs.Effect.{effect_of, is_within, new_kind}
-use Rattle.space_model.specs.Building.{same_kind}
+use Rattle.space_model.specs.Building.{same_option, count_if}
 use Rattle.space_model.proofs.AreaKinds.{kind_at-here, kind_at-after, kind_at-below, kind_at-end, IsAbove, above_zero, LeadsTo-above, side_of}
 use Rattle.space_model.proofs.AreaKinds.Side.{before, inside, after}
 use Rattle.space_model.proofs.Joining.{same_kind-true, same_kind-same}
@@ -67,10 +67,10 @@ sum-add (suc n) s f g = omega (arith, sum-add n (suc s) f g)
 abbrev pub only_at : ℕ → ℕ → ℕ → ℕ
 only_at x v p = if p == x then v else 0
 
-only_at-same : (x v : ℕ) → only_at x v x ≡ v
+pub only_at-same : (x v : ℕ) → only_at x v x ≡ v
 only_at-same x v = grind (arith, nat_tests)
 
-only_at-other : (x v p : ℕ) → p ≢ x → only_at x v p ≡ 0
+pub only_at-other : (x v p : ℕ) → p ≢ x → only_at x v p ≡ 0
 only_at-other x v p ne = ap (λ t. if t then v else 0) (ne_eqb p x ne)
 
 pub sum-only_at : (n s x v : ℕ) → s ≤ x → x < s + n → sum_from s n (only_at x v) ≡ v
@@ -98,13 +98,6 @@ sum-only_at-le n s x v l =
       | inr ge ↦ omega (arith, sum-only_past n s x v ge)
     ]
 
--- two kinds, or none, are equal
-abbrev pub same_option : Option Kind → Option Kind → Bool
-same_option None None = true
-same_option None (Some m) = false
-same_option (Some k) None = false
-same_option (Some k) (Some m) = same_kind k m
-
 pub same_option-true : (o q : Option Kind) → same_option o q ≡ true → o ≡ q
 same_option-true None None e = refl
 same_option-true None (Some m) e = cc
@@ -119,10 +112,6 @@ pub same_option-false : (o q : Option Kind) → o ≢ q → same_option o q ≡ 
 same_option-false o q ne =
     elim (cases_Bool (same_option o q)) [ inl t ↦ absurd (ne (same_option-true o q t)) | inr f ↦ f ]
 
-abbrev pub one : Bool → ℕ
-one true = 1
-one false = 0
-
 -- a row starts at a page: page 0, or a page of another kind than the one before it
 abbrev pub starts : (ℕ → Option Kind) → ℕ → Bool
 starts f zero = true
@@ -130,12 +119,12 @@ starts f (suc p) = not (same_option (f p) (f (suc p)))
 
 -- a row of some sort starts at a page
 abbrev pub row_at : (Option Kind → Bool) → (ℕ → Option Kind) → ℕ → ℕ
-row_at sort f p = one (starts f p && sort (f p))
+row_at sort f p = count_if (starts f p && sort (f p))
 
 before_suc : (p : ℕ) → suc p - 1 ≡ p
 before_suc p = omega arith
 
-starts-not : (f : ℕ → Option Kind) (p : ℕ) → 0 < p → f (p - 1) ≡ f p → starts f p ≡ false
+pub starts-not : (f : ℕ → Option Kind) (p : ℕ) → 0 < p → f (p - 1) ≡ f p → starts f p ≡ false
 starts-not f zero l e = absurd (omega arith)
 starts-not f (suc p) l e =
     let a : f p ≡ f (suc p) = ap f (sym (before_suc p)) ∙ e in
@@ -149,22 +138,22 @@ starts-if f (suc p) h =
 
 -- one row of pages of one kind
 one_row : (sort : Option Kind → Bool) (f : ℕ → Option Kind) (s n : ℕ) (v : Option Kind) → 0 < n → starts f s ≡ true →
-    ((p : ℕ) → s ≤ p → p < s + n → f p ≡ v) → sum_from s n (row_at sort f) ≡ one (sort v)
+    ((p : ℕ) → s ≤ p → p < s + n → f p ≡ v) → sum_from s n (row_at sort f) ≡ count_if (sort v)
 one_row sort f s n v l start same =
     sum_first n s (row_at sort f) l
-    (λ p g t. ap (λ b. one (b && sort (f p)))
+    (λ p g t. ap (λ b. count_if (b && sort (f p)))
     (starts-not f p (omega arith) (same (p - 1) (omega arith) (omega arith) ∙ sym (same p (omega arith) t)))) ∙
-    ap (λ b. one (b && sort (f s))) start ∙
-    ap (λ o. one (sort o)) (same s (omega arith) (omega arith))
+    ap (λ b. count_if (b && sort (f s))) start ∙
+    ap (λ o. count_if (sort o)) (same s (omega arith) (omega arith))
 
 -- the gap before a page, if there is one, counted where its sort counts
 abbrev pub gap_by : (Option Kind → Bool) → ℕ → ℕ → ℕ
-gap_by sort lo hi = if nat_lt lo hi then one (sort None) else 0
+gap_by sort lo hi = if nat_lt lo hi then count_if (sort None) else 0
 
 -- the rows of some sort from a page on
 abbrev pub rows_by : (Option Kind → Bool) → ℕ → List Area → ℕ
 rows_by sort e [] = gap_by sort e LIMIT
-rows_by sort e (a ∷ rest) = gap_by sort e a.lo + (one (sort (Some a.kind)) + rows_by sort a.hi rest)
+rows_by sort e (a ∷ rest) = gap_by sort e a.lo + (count_if (sort (Some a.kind)) + rows_by sort a.hi rest)
 
 gap_row : (sort : Option Kind → Bool) (f : ℕ → Option Kind) (lo hi : ℕ) → lo ≤ hi → (lo < hi → starts f lo ≡ true) →
     ((p : ℕ) → lo ≤ p → p < hi → f p ≡ None) → sum_from lo (hi - lo) (row_at sort f) ≡ gap_by sort lo hi
@@ -172,10 +161,10 @@ gap_row sort f lo hi l start none =
     elim (cases_lt lo hi) [
       | inl lt ↦
           one_row sort f lo (hi - lo) None (omega arith) (start lt) (λ p g t. none p g (omega arith)) ∙
-          sym (ap (λ b. if b then one (sort None) else 0) (lt-ltb lo hi lt))
+          sym (ap (λ b. if b then count_if (sort None) else 0) (lt-ltb lo hi lt))
       | inr ge ↦
           sum_zeros (hi - lo) lo (row_at sort f) (λ p g t. absurd (omega arith)) ∙
-          sym (ap (λ b. if b then one (sort None) else 0) (le-ltb lo hi ge))
+          sym (ap (λ b. if b then count_if (sort None) else 0) (le-ltb lo hi ge))
     ]
 
 differ : (o q : Option Kind) (k : Kind) → o ≡ None → o ≡ q → q ≡ Some k → ⊥
@@ -215,12 +204,12 @@ rows_from sort f (a ∷ rest) e limit is w above l start same =
     sum_split_to (a.hi - a.lo) a.lo (limit - a.hi) (limit - a.lo) rows (omega arith) ∙
     ap (λ x. sum_from a.lo (a.hi - a.lo) rows + sum_from x (limit - a.hi) rows) (omega arith) in
     front ∙ ap (λ x. x + sum_from a.lo (limit - a.lo) rows) one' ∙
-    ap (λ x. gap_by sort e a.lo + x) (back ∙ ap (λ x. x + sum_from a.hi (limit - a.hi) rows) two ∙ ap (λ x. one (sort (Some a.kind)) + x) three)
+    ap (λ x. gap_by sort e a.lo + x) (back ∙ ap (λ x. x + sum_from a.hi (limit - a.hi) rows) two ∙ ap (λ x. count_if (sort (Some a.kind)) + x) three)
 
 gap_by-none : (lo hi : ℕ) → gap_by is_some lo hi ≡ 0
 gap_by-none lo hi = elim (cases_lt lo hi) [
-  | inl lt ↦ ap (λ b. if b then one (is_some {T = Kind} None) else 0) (lt-ltb lo hi lt)
-  | inr ge ↦ ap (λ b. if b then one (is_some {T = Kind} None) else 0) (le-ltb lo hi ge)
+  | inl lt ↦ ap (λ b. if b then count_if (is_some {T = Kind} None) else 0) (lt-ltb lo hi lt)
+  | inr ge ↦ ap (λ b. if b then count_if (is_some {T = Kind} None) else 0) (le-ltb lo hi ge)
 ]
 
 abbrev pub every : Option Kind → Bool
@@ -286,13 +275,13 @@ effect-same A c lo hi p n m l e =
     ap (λ k. if is_within lo hi (p - 1) then new_kind c k else k) e ∙
     ap (λ t. if t then new_kind c (kind_at A p) else kind_at A p) b
 
-one-le : (b : Bool) → one b ≤ 1
+one-le : (b : Bool) → count_if b ≤ 1
 one-le true = omega arith
 one-le false = omega arith
 
-row_at-every : (f : ℕ → Option Kind) (p : ℕ) (b : Bool) → starts f p ≡ b → row_at every f p ≡ one b
-row_at-every f p true e = ap (λ x. one (x && true)) e
-row_at-every f p false e = ap (λ x. one (x && true)) e
+row_at-every : (f : ℕ → Option Kind) (p : ℕ) (b : Bool) → starts f p ≡ b → row_at every f p ≡ count_if b
+row_at-every f p true e = ap (λ x. count_if (x && true)) e
+row_at-every f p false e = ap (λ x. count_if (x && true)) e
 
 -- a row that starts where none did starts where the change begins or ends
 row-after : (A B : List Area) (c : Call) (lo hi p : ℕ) → HasKinds (effect_of A c lo hi) B →

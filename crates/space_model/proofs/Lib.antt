@@ -5,3 +5,5 @@ pub mod Searching
 pub mod Counting
 pub mod NamedKinds
 pub mod Stepping
+pub mod InOrder
+pub mod Simple

@@ -1,16 +1,13 @@
 -- What a search over the areas in order knows when it has come to one of them.
-use Rattle.std.proofs.Common.{◌≡◌, ℕ, ◌+◌, ◌-◌, ◌<◌, ◌≤◌, inl, inr, false, List, [], ◌∷◌, length, drop, get_or, add-one, drop-cons, Option, Some, None, MatchOption, IsSome, max, sym, ◌∙◌, subst, refl, arith}
+use Rattle.std.proofs.Common.{◌≡◌, ℕ, ◌+◌, ◌-◌, ◌<◌, ◌≤◌, inl, inr, List, [], ◌∷◌, length, drop, get_or, add-one, drop-cons, Option, Some, None, MatchOption, IsSome, max, sym, ◌∙◌, subst, refl, arith}
 use Rattle.std.proofs.lemmas.Bool.{cases_lt}
 use Rattle.page_types.specs.declared.TheConstants.{LIMIT}
 use Rattle.page_types.specs.declared.calls.Kind.{Kind}
 use Rattle.space_model.specs.declared.areas.Area.{Area}
 use Rattle.space_model.specs.Areas.{IsAreaList, kind_at}
+use Rattle.space_model.specs.Building.{no_area}
 use Rattle.space_model.specs.Answers.{IsFree, IsMapped, IsLowestMapped, FitsAt, IsHighestFit}
 use Rattle.space_model.proofs.AreaKinds.{kind_at-here, kind_at-after, kind_at-below}
-
--- what the check reads where a list has no area
-abbrev pub no_area : Area
-no_area = record { lo = 0; hi = 0; kind = record { prot = record { 0 = 0 }; shared = false } }
 
 -- the areas from an index on, the first one apart
 pub drop_at : (A : List Area) (i : ℕ) → i < length A → drop i A ≡ get_or A i no_area ∷ drop (i + 1) A

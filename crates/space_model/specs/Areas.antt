@@ -1,6 +1,6 @@
 -- An address space as the list of its areas: proc_pid_maps(5) has one line for each. What counts is the kind of each
 -- page; the area list is the one list that has these kinds, since two areas that touch differ in kind.
-use Rattle.std.specs.Prelude.{ℕ, Bool, ◌&&◌, nat_le, nat_lt, if◌then◌else◌, ◌≡◌, ◌≢◌, ◌<◌, ◌≤◌, ◌+◌, Option, Some, None, List, [], ◌∷◌, length, All}
+use Rattle.std.specs.Prelude.{ℕ, Bool, ◌&&◌, nat_le, nat_lt, if◌then◌else◌, ◌≡◌, ◌≢◌, ◌<◌, ◌≤◌, ◌+◌, Option, Some, None, List, [], ◌∷◌, length, take, All}
 use Rattle.page_types.specs.declared.TheConstants.{LIMIT}
 use Rattle.page_types.specs.declared.calls.Kind.{Kind}
 use Rattle.page_types.specs.Named.{IsNamedKind}
@@ -25,6 +25,12 @@ LeadsTo a (b ∷ rest) = MayFollow a b
 abbrev pub IsAreaList : List Area → Type 0
 IsAreaList [] = Unit {0}
 IsAreaList (a ∷ rest) = IsInRange a × LeadsTo a rest × IsAreaList rest
+
+-- the areas before this index are an area list, and with the one at the index they aren't
+pub record IsFirstWrong (list : List Area) (index : ℕ) : Type 0 where
+  pub within : index < length list
+  pub right_before : IsAreaList (take index list)
+  pub wrong : ¬ IsAreaList (take (index + 1) list)
 
 -- the page lies in the area
 abbrev pub holds : Area → ℕ → Bool

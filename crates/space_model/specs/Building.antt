@@ -1,6 +1,6 @@
 -- How the bodies of this crate put an area list together: areas are appended in order, and one that touches the last and
 -- is of its kind lengthens it. Only private functions speak of this; what callers see is the kinds of pages.
-use Rattle.std.specs.Prelude.{ℕ, Bool, true, false, ◌&&◌, not, ◌==◌, nat_lt, if◌then◌else◌, min, max, ◌≡◌, Option, Some, None, List, [], ◌∷◌}
+use Rattle.std.specs.Prelude.{ℕ, zero, suc, ◌+◌, ◌-◌, ◌<◌, slice_index_or, Bool, true, false, ◌&&◌, not, ◌==◌, nat_lt, if◌then◌else◌, min, max, ◌≡◌, Option, Some, None, List, [], ◌∷◌}
 use Rattle.page_types.specs.declared.TheConstants.{LIMIT}
 use Rattle.page_types.specs.declared.sets.Prot.{Prot}
 use Rattle.page_types.specs.declared.calls.Kind.{Kind}
@@ -12,7 +12,21 @@ use Rattle.page_types.specs.declared.calls.Reply.{Reply}
 use Rattle.page_types.specs.declared.calls.Reply.TheVariants.{At, Zero, Granted, Refused}
 use Rattle.space_model.specs.Answers.{LetsThrough, RefusesAccess}
 use Rattle.space_model.specs.declared.areas.Area.{Area}
+use Rattle.space_model.specs.Areas.{IsInRange, MayFollow, kind_at}
 use Rattle.space_model.specs.Effect.{mapped_kind, protected_kind}
+
+-- what stands for an area where a list has none
+abbrev pub no_area : Area
+no_area = record { lo = 0; hi = 0; kind = record { prot = record { 0 = 0 }; shared = false } }
+
+-- the area at an index of a list
+abbrev pub area_at : List Area → ℕ → Area
+area_at list index = slice_index_or list index no_area
+
+-- the area at an index is in range and may follow the one before it
+pub record IsRightAt (list : List Area) (index : ℕ) : Type 0 where
+  pub in_range : IsInRange (area_at list index)
+  pub follows : 0 < index → MayFollow (area_at list (index - 1)) (area_at list index)
 
 -- two bools are equal
 abbrev pub same_bool : Bool → Bool → Bool
@@ -22,6 +36,33 @@ same_bool false b = not b
 -- two kinds are equal
 abbrev pub same_kind : Kind → Kind → Bool
 same_kind k m = (prot_bits k.prot == prot_bits m.prot) && same_bool k.shared m.shared
+
+-- two kinds, or none, are equal
+abbrev pub same_option : Option Kind → Option Kind → Bool
+same_option None None = true
+same_option None (Some m) = false
+same_option (Some k) None = false
+same_option (Some k) (Some m) = same_kind k m
+
+-- 1 where it is so
+abbrev pub count_if : Bool → ℕ
+count_if true = 1
+count_if false = 0
+
+-- 1 where two neighbouring pages differ in kind, so that a row starts between them
+abbrev pub border : Option Kind → Option Kind → ℕ
+border o q = count_if (not (same_option o q))
+
+-- the kind of the page before, or none before page 0
+abbrev pub kind_before : List Area → ℕ → Option Kind
+kind_before A zero = None
+kind_before A (suc page) = kind_at A page
+
+-- pages of one kind may get a new protection with as many rows starting at the two ends of their span as before
+abbrev pub KeepsBorders : List Area → Kind → Prot → ℕ → ℕ → Type 0
+KeepsBorders A kind prot lo hi =
+    border (kind_before A lo) (Some kind) + border (Some kind) (kind_at A hi) ≡
+    border (kind_before A lo) (Some (protected_kind prot kind)) + border (Some (protected_kind prot kind)) (kind_at A hi)
 
 -- the second area goes on where the first ends, in its kind
 abbrev pub goes_on : Area → Area → Bool

@@ -54,6 +54,13 @@ HoldsArea a (Reader span) = ⊥
 HoldsArea a (Held span) = (span.lo ≡ a.lo - 1) × (span.hi ≡ min (a.hi + 1) LIMIT)
 HoldsArea a Whole = ⊥
 
+-- an area is held as a writer
+abbrev pub HoldsSomeArea : Under → Type 0
+HoldsSomeArea Nothing = ⊥
+HoldsSomeArea (Reader span) = ⊥
+HoldsSomeArea (Held span) = Unit {0}
+HoldsSomeArea Whole = ⊥
+
 -- what is held for a call that its arguments don't decide
 abbrev pub FitsByState : List Area → Call → Under → Type 0
 FitsByState A (Map addr len prot flags) under = under ≡ Whole

@@ -4,3 +4,4 @@ pub mod Answers
 pub mod Held
 pub mod History
 pub mod Building
+pub mod Faults

@@ -5,10 +5,14 @@ mod areas;
 mod build;
 mod counts;
 mod entries;
+mod faults;
+mod held;
+mod order;
 mod place;
 mod search;
 mod space;
 
 pub use areas::Area;
 pub use entries::{Entry, Under};
+pub use faults::{AreasFault, NotAreas};
 pub use space::PlainSpace;

@@ -1,14 +1,20 @@
 //! The address space.
 
-ghost use Rattle.std.specs.Prelude.{◌≡◌, [], None, IfOk, OnErr};
+ghost use Rattle.std.specs.Prelude.{◌≡◌, ◌^◌, ◌<◌, ◌↔◌, [], None, IfOk, IfErr, IsOk, OnErr, length};
 ghost use Rattle.page_types.specs.Named.{IsNamedCall, IsNamedReply};
 ghost use Rattle.space_model.specs.Areas.{IsAreaList, HasNamedKinds, row_count};
 ghost use Rattle.page_types.specs.PlainReply.{plain_reply};
 ghost use Rattle.space_model.specs.Answers.{Answers, IsPlace};
+ghost use Rattle.space_model.specs.Faults.{Explains};
+ghost use Rattle.space_model.specs.Held.{HoldsSomeArea, IsSimple, FitsUnder};
 
 use crate::areas::Area;
 use crate::build::changed;
 use crate::counts::row_count;
+use crate::entries::Under;
+use crate::faults::{AreasFault, NotAreas};
+use crate::held::protect_under;
+use crate::order::first_wrong;
 use crate::place::{done, fault, map_place, span_of};
 use crate::search::lowest_missing;
 use page_types::{Call, PAGE, ROWS, Reply, Short, Span, Why, plain};
@@ -40,6 +46,52 @@ impl PlainSpace {
     {
         PlainSpace {
             areas: Vec::new(alloc),
+        }
+    }
+
+    /// The address space with these areas.
+    ///
+    /// It is refused exactly where the list isn't an area list: areas in range, sorted and disjoint, and two
+    /// that touch of different kinds. The refusal names the first wrong area.
+    pub fn of_areas(alloc: Global, list: &[Area]) -> Result<PlainSpace, AreasFault>
+        requires few { length list.now < 2 ^ 30 }
+        requires named { HasNamedKinds list.now }
+        ensures space { IfOk result (λ space. space ≡ list.now) }
+        ensures in_order { IsOk result → IsAreaList list.now }
+        ensures fault { IfErr result (Explains list.now) }
+    {
+        if let Some(index) = first_wrong(list) {
+            return Err(AreasFault::NotAreas(NotAreas { index }));
+        }
+        match Vec::from_slice(alloc, list) {
+            Ok(areas) => Ok(PlainSpace { areas }),
+            Err(_) => Err(AreasFault::Memory),
+        }
+    }
+
+    /// The range that has to be held when a call draws its number on this space.
+    ///
+    /// A Protect that its arguments don't decide holds its area exactly where the change keeps the number of
+    /// areas and of gaps, and everything otherwise. It takes no memory.
+    pub fn under(&self, call: &Call) -> Under
+        ensures fits { FitsUnder self.now call.now result }
+        ensures simple { HoldsSomeArea result ↔ ((plain_reply call.now ≡ None) × IsSimple self.now call.now) }
+    {
+        if plain(call).is_some() {
+            return Under::Nothing;
+        }
+        match *call {
+            Call::Map { .. } | Call::Unmap { .. } => Under::Whole,
+            Call::Protect { addr, len, prot } => protect_under(
+                self.areas.as_slice(),
+                addr,
+                len,
+                prot,
+            ),
+            Call::Fault { addr, .. } => Under::Reader(Span {
+                lo: addr / PAGE,
+                hi: addr / PAGE + 1,
+            }),
         }
     }
 

@@ -1,0 +1,11 @@
+-- Why a list of areas makes no address space.
+use Rattle.std.specs.Prelude.{List}
+use Rattle.space_model.specs.declared.areas.Area.{Area}
+use Rattle.space_model.specs.declared.faults.AreasFault.{AreasFault}
+use Rattle.space_model.specs.declared.faults.AreasFault.TheVariants.{NotAreas, Memory}
+use Rattle.space_model.specs.Areas.{IsAreaList, IsFirstWrong}
+
+-- the index is the first wrong one; memory is wanted only for an area list
+abbrev pub Explains : List Area → AreasFault → Type 0
+Explains list (NotAreas fault) = IsFirstWrong list fault.index
+Explains list Memory = IsAreaList list

@@ -1,0 +1,22 @@
+//! Why a list of areas makes no address space.
+
+use thiserror::Error;
+
+/// The list isn't in order.
+#[derive(Clone, Copy, PartialEq, Eq, Debug)]
+pub struct NotAreas {
+    /// The first area, counted from 0, that isn't in range, starts before the one before it ends, or touches
+    /// it and is of its kind.
+    pub index: u32,
+}
+
+/// Why a list of areas makes no address space.
+#[derive(Clone, Copy, PartialEq, Eq, Debug, Error)]
+pub enum AreasFault {
+    /// The list isn't in order.
+    #[error("the areas aren't in order")]
+    NotAreas(NotAreas),
+    /// There is no memory for the list.
+    #[error("out of memory")]
+    Memory,
+}
