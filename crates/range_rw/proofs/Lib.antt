@@ -1,3 +1,5 @@
+pub mod BoardSteps
+pub mod BoardTable
 pub mod ClientSteps
 pub mod Joining
 pub mod Lists

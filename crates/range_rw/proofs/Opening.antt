@@ -1,5 +1,6 @@
 -- The table at its opening meets its rule, and its seats come in order.
-use Rattle.std.proofs.Common.{◌≡◌, ℕ, suc, ◌+◌, ◌-◌, ◌<◌, List, [], ◌∷◌, ◌++◌, get_or, length, replicate, sym, ap, ◌∙◌, subst, arith}
+use Rattle.std.proofs.Common.{◌≡◌, ℕ, suc, ◌+◌, ◌-◌, ◌<◌, List, [], ◌∷◌, ◌++◌, get_or, length, replicate, sym, ap, ◌∙◌, subst, arith, length-append}
+use Rattle.std.proofs.lemmas.List.{length-replicate}
 use Rattle.std.specs.Prelude.{None, remove}
 use mathlib.Core.Option.{some}
 use lib.ListN.{get_elem?}
@@ -9,7 +10,7 @@ use Rattle.atomic_table.specs.declared.shared.Seat.{Seat}
 use Rattle.atomic_table.proofs.Lists.{at_index}
 use Rattle.range_rw.specs.declared.views.BoardView.{BoardView}
 use Rattle.lock_core.specs.Grants.{Grants}
-use Rattle.range_rw.specs.Board.{lock_words}
+use Rattle.range_rw.specs.Board.{lock_words, hi_place}
 use Rattle.range_rw.specs.Running.{view, IsRunning}
 use Rattle.range_rw.specs.Seats.{first_passes, fresh}
 use Rattle.range_rw.specs.Starting.{begin, parts_from, begins, back_words}
@@ -44,3 +45,9 @@ module _ {P : Type 0} (first : List ℕ → ℕ → P) (table : TableId) (seats 
       let z : n + suc k ≡ n + 1 + k = omega arith in
       let r = wait (suc k) s (sym (at_removed opened k) ∙ (ap (λ l. get_elem? l k) (sym is) ∙ at)) in
       (r.0, r.1 ∙ ap (λ m. (view (begin first seats (replicate (lock_words seats) 0 ++ client) m ∷ []), [])) z)
+
+-- the own words of a seat are there
+pub board_word : (seats n : ℕ) (table : TableId) (client : List ℕ) (id : TableId) → n < seats → id ≡ table → table.words ≡ length (replicate (lock_words seats) 0 ++ client) → hi_place n < id.words
+board_word seats n table client id lt same wide =
+    let all : id.words ≡ lock_words seats + length client = ap (λ (t : TableId). t.words) same ∙ (wide ∙ (length-append (replicate (lock_words seats) 0) client ∙ ap (λ k. k + length client) (length-replicate (lock_words seats) 0))) in
+    omega arith

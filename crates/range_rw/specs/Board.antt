@@ -44,10 +44,10 @@ abbrev pub IsAmong : List Read → Read → Type 0
 IsAmong seen r = (k : ℕ) × (get_elem? seen k ≡ some r)
 
 -- what a seat with the turn knows is so: its own lo word, the last lo word that it loaded, and that a seat whose grant it has read holds nothing else now
-pub record Knows (words : List ℕ) (cores : List Core) (seat : ℕ) (c : Core) : Type 0 where
+pub record Knows (words : List ℕ) (grants : Grants) (seat : ℕ) (c : Core) : Type 0 where
   pub own : (lo : ℕ) → c.own_lo ≡ Some lo → slice_index words (lo_place seat) ≡ lo
   pub loaded : (l : LoadedLo) → c.loaded ≡ Some l → (l.seat ≢ seat) × (slice_index words (lo_place l.seat) ≡ l.lo)
-  pub seen : (r : Read) → IsAmong c.seen r → (r.seat ≢ seat) × ((h : Held) → Holds (grants_of cores) r.seat h → r.held ≡ Some h)
+  pub seen : (r : Read) → IsAmong c.seen r → (r.seat ≢ seat) × ((h : Held) → Holds grants r.seat h → r.held ≡ Some h)
 
 -- the rule of the board over its words and the cores by seat number
 pub record IsBoard (seats : ℕ) (words : List ℕ) (cores : List Core) : Type 0 where
@@ -57,5 +57,5 @@ pub record IsBoard (seats : ℕ) (words : List ℕ) (cores : List Core) : Type 0
   -- each seat's words say what it holds
   pub words_say : (seat : ℕ) (c : Core) → get_elem? cores seat ≡ some c → held_in (slice_index words (lo_place seat)) (slice_index words (hi_place seat)) ≡ c.held
   pub ranges : (seat : ℕ) (h : Held) → Holds (grants_of cores) seat h → IsRange h.range.lo h.range.hi
-  pub knows : (seat : ℕ) (c : Core) → get_elem? cores seat ≡ some c → c.has_turn ≡ true → Knows words cores seat c
+  pub knows : (seat : ℕ) (c : Core) → get_elem? cores seat ≡ some c → c.has_turn ≡ true → Knows words (grants_of cores) seat c
   pub exclusive : IsExclusive (grants_of cores)

@@ -6,6 +6,7 @@
 mod client;
 mod plays;
 mod rule;
+mod steps;
 mod table;
 mod threads;
 mod token;

@@ -41,6 +41,42 @@ impl<G: Guard, M: Means<G>, C: Acting> Play<(), BoardView<G::Pass>> for Overwrit
     ghost then = { λ _ me _ me'. (found : ℕ) × client_play G.holds G.allows M.note C.acting me found me' };
 }
 
+/// Which step is made on the board. Each call picks it.
+pub trait Doing {
+    ghost use Rattle.range_rw.specs.BoardSteps.{BoardStep};
+
+    ghost doing: { BoardStep };
+}
+
+impl Doing for Brand {
+    ghost use Rattle.range_rw.specs.BoardSteps.{gives_turn};
+
+    ghost doing = { gives_turn };
+}
+
+/// A step of the board that tells which value it found.
+pub(crate) struct Does<G, D> {
+    of: PhantomData<(G, D)>,
+}
+
+impl<G: Guard, D: Doing> Play<(), BoardView<G::Pass>> for Does<G, D> {
+    ghost use Rattle.range_rw.specs.Running.{board_play};
+
+    ghost then = { λ _ me found me'. board_play G.rested D.doing me found me' };
+}
+
+/// A store on the board, which tells that there was a value and not which.
+pub(crate) struct Puts<G, D> {
+    of: PhantomData<(G, D)>,
+}
+
+impl<G: Guard, D: Doing> Play<(), BoardView<G::Pass>> for Puts<G, D> {
+    ghost use Rattle.std.specs.Prelude.{ℕ};
+    ghost use Rattle.range_rw.specs.Running.{board_play};
+
+    ghost then = { λ _ me _ me'. (found : ℕ) × board_play G.rested D.doing me found me' };
+}
+
 /// The seat that stays takes in what belongs to the other.
 pub(crate) struct Gathers;
 

@@ -2,7 +2,7 @@ use Rattle.std.proofs.Common.{rules, ◌≡◌, ◌<◌, ◌+◌, [], ◌∷◌,
 use Rattle.range_rw.specs.Board.{lock_words}
 use Rattle.range_rw.specs.Seats.{known_of, part_in, new_seat}
 use Rattle.range_rw.proofs.Lists.{pushed_all, length_removed}
-use Rattle.range_rw.proofs.Opening.{opens, next_seat, wait_on}
+use Rattle.range_rw.proofs.Opening.{opens, next_seat, wait_on, board_word}
 use Rattle.range_rw.proofs.table.RangeTable.open_at.Goals as goal
 
 pub open_words-requires-clause-rule : goal.open_words-requires-clause-rule
@@ -13,7 +13,7 @@ invariant_of-push_reserved g c =
     let t = next_seat g.G.Guard.first _ c.args.seats c.args.client.now c.row.number c.row.opened.items c.remove-seat.result c.row.invariant.rest (search rules) c.remove-seat.ensures.value in
     let parts = ap (λ m. m.0.parts) t.1 in
     let own = ap (part_in (g.G.Guard.first [] 0)) parts in
-    (ap (λ m. m.1) t.1, parts ∙ sym (ap (λ p. p ∷ []) own), ap (λ p. p.number) own)
+    (ap (λ m. m.1) t.1, parts ∙ sym (ap (λ p. p ∷ []) own), ap (λ p. p.number) own, search rules, board_word c.args.seats c.row.number _ c.args.client.now _ (search rules) t.0 (search rules))
 
 pub invariant_of-push_reserved-in-row : goal.invariant_of-push_reserved-in-row
 invariant_of-push_reserved-in-row g c =
