@@ -50,7 +50,7 @@ module _ {P : Type 0} (seats : ℕ) (holds : Grants → List ℕ → List P → 
     pub record Outcome (st : BoardStep) (found : ℕ) : Type 0 where
       pub board : IsBoard seats (set words (word_of p.number st) (effect_of p.number st found)) (set cores p.number (core_after p.core st found))
       pub guard : holds (set grants p.number (core_after p.core st found).held) client (set passes p.number (pass_after rested p.pass st))
-      pub tells : Tells st found
+      pub tells : Tells p.number st found
 
     core_at : get_elem? cores p.number ≡ some p.core
     core_at = at_map core_of parts p.number p at
@@ -66,8 +66,11 @@ module _ {P : Type 0} (seats : ℕ) (holds : Grants → List ℕ → List P → 
     read_word : (i : ℕ) (c : Core) → IsBoard seats words (set cores p.number c) → IsBoard seats (set words i (get_or words i 0)) (set cores p.number c)
     read_word i c = subst (λ w. IsBoard seats w (set cores p.number c)) (set_same words i)
 
-    turn_taken : p.core.has_turn ≡ false → Outcome takes_turn (get_or words 0 0)
-    turn_taken without =
+    own_below : p.number < seats
+    own_below = let lt = at_below parts p.number p at in omega arith
+
+    turn_taken : Outcome (takes_turn seats) (get_or words 0 0)
+    turn_taken =
         let found : ℕ = get_or words 0 0 in
         let taken : Core = record p.core { has_turn = true; own_lo = None; loaded = None; seen = [] } in
         dite (ℕ_discrete found 0)
@@ -75,13 +78,13 @@ module _ {P : Type 0} (seats : ℕ) (holds : Grants → List ℕ → List P → 
           board = subst (λ (t : Bool). IsBoard seats (set words 0 (either t (p.number + 1) found)) (set cores p.number (cond t taken p.core))) (sym (eq-eqb found 0 hit))
               (takes seats words cores b wide same_count p.number p.core core_at taken refl refl refl refl refl hit);
           guard = subst (λ (t : Bool). holds (set grants p.number (cond t taken p.core).held) client (set passes p.number p.pass)) (sym (eq-eqb found 0 hit)) guard_still;
-          tells = tt;
+          tells = own_below;
         })
         (λ miss. record {
           board = subst (λ (t : Bool). IsBoard seats (set words 0 (either t (p.number + 1) found)) (set cores p.number (cond t taken p.core))) (sym (ne_eqb found 0 miss))
               (read_word 0 p.core (subst (IsBoard seats words) (sym (set_again cores p.number p.core core_at)) b));
           guard = subst (λ (t : Bool). holds (set grants p.number (cond t taken p.core).held) client (set passes p.number p.pass)) (sym (ne_eqb found 0 miss)) guard_still;
-          tells = tt;
+          tells = own_below;
         })
 
     lo_read : (other : ℕ) → IsEnabled seats is_at_rest p (reads_lo other) → Outcome (reads_lo other) (get_or words (lo_place other) 0)
@@ -138,7 +141,7 @@ module _ {P : Type 0} (seats : ℕ) (holds : Grants → List ℕ → List P → 
 
     -- each kind of step that is enabled, by what it finds on its word
     pub outcome : (st : BoardStep) → IsEnabled seats is_at_rest p st → Outcome st (get_or words (word_of p.number st) 0)
-    outcome takes_turn may = turn_taken may
+    outcome (takes_turn n) may = subst (λ (k : ℕ). Outcome (takes_turn k) (get_or words 0 0)) (sym may.0) turn_taken
     outcome (reads_lo other) may = lo_read other may
     outcome (reads_hi other lo) may = hi_read other lo may
     outcome (writes_lo lo) may = record {
@@ -158,12 +161,9 @@ module _ {P : Type 0} (seats : ℕ) (holds : Grants → List ℕ → List P → 
       tells = tt;
     }
 
-    own_below : p.number < seats
-    own_below = let lt = at_below parts p.number p at in omega arith
-
     -- the step's word is one of the lock's
     pub lock_word : (st : BoardStep) → IsEnabled seats is_at_rest p st → word_of p.number st < lock_words seats
-    lock_word takes_turn may = omega arith
+    lock_word (takes_turn n) may = omega arith
     lock_word (reads_lo other) may = let lt = may.1 in omega arith
     lock_word (reads_hi other lo) may = let lt = may.1 in omega arith
     lock_word (writes_lo lo) may = let lt = own_below in omega arith

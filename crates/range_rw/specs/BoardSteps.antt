@@ -13,9 +13,9 @@ use Rattle.range_rw.specs.declared.views.Record.{Record}
 use Rattle.range_rw.specs.declared.views.Part.{Part}
 use Rattle.range_rw.specs.Board.{lo_place, hi_place, held_in, IsAmong}
 
--- a step of the board; a load of another seat's hi word carries the lo word that was loaded before, and a store of the own hi word the lo word that was stored before
+-- a step of the board; the taking of the turn carries the number of seats, a load of another seat's hi word the lo word that was loaded before, and a store of the own hi word the lo word that was stored before
 pub data BoardStep : Type 0 where
-  takes_turn : BoardStep
+  takes_turn : ℕ → BoardStep
   reads_lo : ℕ → BoardStep
   reads_hi : ℕ → ℕ → BoardStep
   writes_lo : ℕ → BoardStep
@@ -25,7 +25,7 @@ pub data BoardStep : Type 0 where
 
 -- the place of the word that the seat of that number makes the step on
 abbrev pub word_of : ℕ → BoardStep → ℕ
-word_of seat takes_turn = 0
+word_of seat (takes_turn seats) = 0
 word_of seat (reads_lo other) = lo_place other
 word_of seat (reads_hi other lo) = hi_place other
 word_of seat (writes_lo lo) = lo_place seat
@@ -35,7 +35,7 @@ word_of seat releases = hi_place seat
 
 -- what the word becomes of what it was
 abbrev pub effect_of : ℕ → BoardStep → ℕ → ℕ
-effect_of seat takes_turn = λ found. either (found == 0) (seat + 1) found
+effect_of seat (takes_turn seats) = λ found. either (found == 0) (seat + 1) found
 effect_of seat (reads_lo other) = λ found. found
 effect_of seat (reads_hi other lo) = λ found. found
 effect_of seat (writes_lo lo) = λ _. lo
@@ -45,7 +45,7 @@ effect_of seat releases = λ _. 0
 
 -- what the seat's core is after the step, by the value that it found
 abbrev pub core_after : Core → BoardStep → ℕ → Core
-core_after c takes_turn found = cond (found == 0) (record c { has_turn = true; own_lo = None; loaded = None; seen = [] }) c
+core_after c (takes_turn seats) found = cond (found == 0) (record c { has_turn = true; own_lo = None; loaded = None; seen = [] }) c
 core_after c (reads_lo other) found = record c { loaded = Some (record { seat = other; lo = found }) }
 core_after c (reads_hi other lo) found = record c { seen = record { seat = other; held = held_in lo found } ∷ c.seen }
 core_after c (writes_lo lo) found = record c { own_lo = Some lo }
@@ -60,7 +60,7 @@ met_after before step owner (Some h) = Some (record { owner = owner; held = h; s
 
 -- what the step leaves in the record
 abbrev pub trace_after : Record → BoardStep → ℕ → Record
-trace_after t takes_turn found = cond (found == 0) (record t { taken = t.taken + 1 }) (record t { taken = t.taken + 1; lost = Some (record { place = 0; expected = 0; found = found; step = t.taken }) })
+trace_after t (takes_turn seats) found = cond (found == 0) (record t { taken = t.taken + 1 }) (record t { taken = t.taken + 1; lost = Some (record { place = 0; expected = 0; found = found; step = t.taken }) })
 trace_after t (reads_lo other) found = record t { taken = t.taken + 1 }
 trace_after t (reads_hi other lo) found = record t { taken = t.taken + 1; met = met_after t.met t.taken other (held_in lo found) }
 trace_after t (writes_lo lo) found = record t { taken = t.taken + 1 }
@@ -72,20 +72,20 @@ trace_after t releases found = record t { taken = t.taken + 1 }
 abbrev pub IsClear : ℕ → ℕ → List Read → Held → Type 0
 IsClear seats seat seen h = (other : ℕ) → other < seats → other ≢ seat → (r : Read) × IsAmong seen r × (r.seat ≡ other) × ((g : Held) → r.held ≡ Some g → ¬ (Conflicts g h))
 
--- what the value found tells beside: a hi word that isn't 0 ends a range
-abbrev pub Tells : BoardStep → ℕ → Type 0
-Tells takes_turn found = Unit {0}
-Tells (reads_lo other) found = Unit {0}
-Tells (reads_hi other lo) found = found ≢ 0 → IsRange lo (found / 2)
-Tells (writes_lo lo) found = Unit {0}
-Tells (writes_hi lo hi) found = Unit {0}
-Tells gives_turn found = Unit {0}
-Tells releases found = Unit {0}
+-- what a step of the seat of that number tells beside: who takes the turn is one of the seats, and a hi word that isn't 0 ends a range
+abbrev pub Tells : ℕ → BoardStep → ℕ → Type 0
+Tells seat (takes_turn seats) found = seat < seats
+Tells seat (reads_lo other) found = Unit {0}
+Tells seat (reads_hi other lo) found = found ≢ 0 → IsRange lo (found / 2)
+Tells seat (writes_lo lo) found = Unit {0}
+Tells seat (writes_hi lo hi) found = Unit {0}
+Tells seat gives_turn found = Unit {0}
+Tells seat releases found = Unit {0}
 
 module _ {P : Type 0} where
   -- a seat may make the step: the turn is taken by a seat without it, and the words but for the release are read and written by the seat with it
   abbrev pub IsEnabled : ℕ → (P → Type 0) → Part P → BoardStep → Type 0
-  IsEnabled seats is_at_rest p takes_turn = p.core.has_turn ≡ false
+  IsEnabled seats is_at_rest p (takes_turn n) = (n ≡ seats) × (p.core.has_turn ≡ false)
   IsEnabled seats is_at_rest p (reads_lo other) = (p.core.has_turn ≡ true) × (other < seats) × (other ≢ p.number)
   IsEnabled seats is_at_rest p (reads_hi other lo) = (p.core.has_turn ≡ true) × (other < seats) × (p.core.loaded ≡ Some (record { seat = other; lo = lo }))
   IsEnabled seats is_at_rest p (writes_lo lo) = (p.core.has_turn ≡ true) × (p.core.held ≡ None)
@@ -96,7 +96,7 @@ module _ {P : Type 0} where
 
   -- the pass after the step: rested where a range is given back
   abbrev pub pass_after : (P → P) → P → BoardStep → P
-  pass_after rested pass takes_turn = pass
+  pass_after rested pass (takes_turn seats) = pass
   pass_after rested pass (reads_lo other) = pass
   pass_after rested pass (reads_hi other lo) = pass
   pass_after rested pass (writes_lo lo) = pass

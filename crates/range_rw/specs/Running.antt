@@ -47,7 +47,7 @@ module _ {P : Type 0} where
 
   -- a step of the board tells its seat what belongs to it after
   abbrev pub board_play : (P → P) → BoardStep → Me (Unit {0}) (BoardView P) → ℕ → Me (Unit {0}) (BoardView P) → Type 0
-  board_play rested b me found me' = (p : Part P) × (me.0 ≡ view (p ∷ [])) × (me'.1 ≡ me.1) × (me'.0 ≡ view (part_after rested p b found ∷ [])) × Tells b found
+  board_play rested b me found me' = (p : Part P) × (me.0 ≡ view (p ∷ [])) × (me'.1 ≡ me.1) × (me'.0 ≡ view (part_after rested p b found ∷ [])) × Tells p.number b found
 
   -- what belongs to the seat after a step on client word i that left that pass
   abbrev pub client_part : Part P → ℕ → P → Part P

@@ -40,7 +40,7 @@ impl<G: Guard> RangeTable<G> {
         requires load { effect_of token.old.part.number D.doing ≡ (λ found. found) }
         ensures table { token.new.table ≡ token.old.table }
         ensures part { token.new.part ≡ part_after G.rested token.old.part D.doing result }
-        ensures tells { Tells D.doing result }
+        ensures tells { Tells token.old.part.number D.doing result }
     {
         self.table
             .shared
@@ -67,11 +67,12 @@ impl<G: Guard> RangeTable<G> {
         token: &mut Token<G>,
         steps: &mut Steps<L>,
     ) -> u64
-        requires doing { D.doing ≡ takes_turn }
+        requires doing { D.doing ≡ takes_turn self.now.seats }
         requires table { token.old.table ≡ self.now.table }
         requires enabled { IsEnabled self.now.seats G.is_at_rest token.old.part D.doing }
         ensures table { token.new.table ≡ token.old.table }
         ensures part { token.new.part ≡ part_after G.rested token.old.part D.doing result }
+        ensures tells { Tells token.old.part.number D.doing result }
         ensures counted { steps.new ≡ steps.old + 1 }
     {
         steps.tick();
@@ -115,7 +116,7 @@ impl<G: Guard> RangeTable<G> {
         requires enabled { IsEnabled self.now.seats G.is_at_rest token.old.part D.doing }
         ensures table { token.new.table ≡ token.old.table }
         ensures part { token.new.part ≡ part_after G.rested token.old.part D.doing result }
-        ensures tells { Tells D.doing result }
+        ensures tells { Tells token.old.part.number D.doing result }
         ensures counted { steps.new ≡ steps.old + 1 }
     {
         steps.tick();
