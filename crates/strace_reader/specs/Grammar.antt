@@ -7,6 +7,8 @@ use Rattle.page_types.specs.declared.sets.Prot.{Prot}
 use Rattle.page_types.specs.declared.sets.MapFlags.{MapFlags}
 use Rattle.strace_reader.specs.declared.item.Item.{Item}
 use Rattle.strace_reader.specs.declared.item.Item.TheVariants.{Played}
+use Rattle.strace_reader.specs.declared.item.BadCall.{BadCall}
+use Rattle.strace_reader.specs.declared.item.What.TheVariants.{Later}
 
 -- what a digit stands for, 0 to 9 and then a to f, and 99 where the byte is no digit
 unfoldable pub worth : ℕ → ℕ
@@ -65,3 +67,8 @@ pub record Spells (text : List ℕ) (item : Item) : Type 0 where
   pub rights : IsReadWrite prot
   pub placing : IsPrivateFixed flags
   pub is : item ≡ Played 0 (Map addr len prot flags) None
+
+-- The text is refused: it spells no item, and the refusal says that its form isn't read yet.
+pub record Refuses (text : List ℕ) (bad : BadCall) : Type 0 where
+  pub unspelled : (item : Item) → ¬ Spells text item
+  pub is : bad ≡ record { column = 1; what = Later }

@@ -21,5 +21,5 @@ returns-in-Some-clause-only c = λ item s. ap (λ x. Ok x) (same_item c.args.tex
 pub returns-in-None-clause-only : goal.returns-in-None-clause-only
 returns-in-None-clause-only c = λ item s. absurd (no_item c.args.text.now item (sym c.in-None.ensures) s)
 
-pub returns-in-None-clause-unspelled : goal.returns-in-None-clause-unspelled
-returns-in-None-clause-unspelled c = λ item s. no_item c.args.text.now item (sym c.in-None.ensures) s
+pub returns-in-None-clause-refused : goal.returns-in-None-clause-refused
+returns-in-None-clause-refused c = record { unspelled = λ item s. no_item c.args.text.now item (sym c.in-None.ensures) s; is = refl }
