@@ -1,0 +1,4 @@
+pub mod LineLemmas
+pub mod Draining
+pub mod WordLemmas
+pub mod TraceLemmas

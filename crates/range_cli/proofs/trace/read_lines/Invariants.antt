@@ -1,0 +1,13 @@
+use Rattle.std.proofs.Common.{◌+◌, ◌≤◌, length}
+use Rattle.range_cli.specs.Lines.{lines_of}
+use Rattle.range_cli.proofs.TraceLemmas.{SoFar}
+use Rattle.range_cli.proofs.trace.read_lines.Given as goal
+
+abbrev pub invariant-lines : goal.invariant-lines
+invariant-lines l =
+    SoFar (lines_of l.fn.text) l.number (lines_of l.rest) l.trace.lines.items l.trace.skipped
+  × (l.number + length l.rest ≤ 1 + length l.fn.text)
+  × (l.trace.skipped + 1 ≤ l.number)
+
+abbrev pub decreases-lines : goal.decreases-lines
+decreases-lines l = length l.rest

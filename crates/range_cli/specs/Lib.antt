@@ -1,0 +1,5 @@
+pub mod Lines
+pub mod Input
+pub mod Words
+pub mod Status
+pub mod Trace

@@ -1,0 +1,87 @@
+-- What becomes of the lines of an input, from the first on: each is played, passed over or blank, up to the first that
+-- ends the run. The grammar of one line is the reader's; the limits and the order of refusals stand here, and are this
+-- project's own profile.
+use Rattle.std.specs.Prelude.{◌≡◌, ◌⊎◌, ℕ, ◌+◌, ◌<◌, ◌≤◌, List, [], ◌∷◌, ◌++◌, length}
+use Rattle.strace_reader.specs.declared.item.Item.TheVariants.{Played as Call, Other, Blank as Empty}
+use Rattle.strace_reader.specs.Grammar.{Spells, Refuses}
+use Rattle.range_cli.specs.declared.trace.TheConstants.{LINE_LIMIT, LINES_LIMIT}
+use Rattle.range_cli.specs.declared.status.Status.{Status}
+use Rattle.range_cli.specs.declared.status.Status.TheVariants.{Done, Usage, BadLine, ReadFault, WriteFault, Memory, Limit}
+use Rattle.range_cli.specs.declared.status.Which.{Which}
+use Rattle.range_cli.specs.declared.status.Which.TheVariants.{Input, Line as OfLine, Lines as OfLines, Rows}
+use Rattle.range_cli.specs.declared.trace.Line.{Line}
+use Rattle.range_cli.specs.declared.trace.Step.{Step}
+use Rattle.range_cli.specs.declared.trace.Step.TheVariants.{Played, Skipped, Blank}
+
+-- the line is short enough to be looked at
+abbrev pub IsShort : List ℕ → Type 0
+IsShort text = length text ≤ LINE_LIMIT
+
+-- the line is a call of some process with this result
+abbrev pub IsCall : List ℕ → Line → Type 0
+IsCall text line = (pid : ℕ) × Spells text (Call pid line.call line.recorded)
+
+-- what line `number`, with so many lines played before it, asks for
+abbrev pub Asks : ℕ → ℕ → List ℕ → Step → Type 0
+Asks number played text (Played line) = IsShort text × (played < LINES_LIMIT) × IsCall text line × (line.number ≡ number)
+Asks number played text Skipped = IsShort text × Spells text Other
+Asks number played text Blank = IsShort text × Spells text Empty
+
+-- which limit the line passes
+abbrev pub Passes : ℕ → List ℕ → Which → ℕ → Type 0
+Passes played text Input value = ⊥
+Passes played text OfLine value = (LINE_LIMIT < length text) × (value ≡ LINE_LIMIT + 1)
+Passes played text OfLines value = IsShort text × (LINES_LIMIT ≤ played) × (value ≡ LINES_LIMIT + 1) × ((line : Line) × IsCall text line)
+Passes played text Rows value = ⊥
+
+-- the line ends the run so
+abbrev pub Ends : ℕ → ℕ → List ℕ → Status → Type 0
+Ends number played text Done = ⊥
+Ends number played text Usage = ⊥
+Ends number played text (BadLine line column what) = IsShort text × Refuses text (record { column = column; what = what }) × (line ≡ number)
+Ends number played text ReadFault = ⊥
+Ends number played text WriteFault = ⊥
+Ends number played text Memory = ⊥
+Ends number played text (Limit which value) = Passes played text which value
+
+-- how many lines more are played
+abbrev pub played_by : Step → ℕ
+played_by (Played line) = 1
+played_by Skipped = 0
+played_by Blank = 0
+
+-- the played lines with what a line asks for
+abbrev pub lines_with : List Line → Step → List Line
+lines_with lines (Played line) = lines ++ line ∷ []
+lines_with lines Skipped = lines
+lines_with lines Blank = lines
+
+-- the skipped lines with what a line asks for
+abbrev pub skipped_with : ℕ → Step → ℕ
+skipped_with skipped (Played line) = skipped
+skipped_with skipped Skipped = skipped + 1
+skipped_with skipped Blank = skipped
+
+-- the lines from line `number` on, with so many lines played before them, are played as these, and so many are skipped
+pub data Reads : ℕ → ℕ → List (List ℕ) → List Line → ℕ → Type 0 where
+  nothing : {number played : ℕ} → Reads number played [] [] 0
+  call : {number played : ℕ} {text : List ℕ} {texts : List (List ℕ)} {line : Line} {lines : List Line} {skipped : ℕ} →
+      Asks number played text (Played line) → Reads (number + 1) (played + 1) texts lines skipped →
+      Reads number played (text ∷ texts) (line ∷ lines) skipped
+  other : {number played : ℕ} {text : List ℕ} {texts : List (List ℕ)} {lines : List Line} {skipped : ℕ} →
+      Asks number played text Skipped → Reads (number + 1) played texts lines skipped →
+      Reads number played (text ∷ texts) lines (1 + skipped)
+  empty : {number played : ℕ} {text : List ℕ} {texts : List (List ℕ)} {lines : List Line} {skipped : ℕ} →
+      Asks number played text Blank → Reads (number + 1) played texts lines skipped →
+      Reads number played (text ∷ texts) lines skipped
+
+-- the first of the lines, from line `number` on, that ends the run ends it so
+pub data EndsAt : ℕ → ℕ → List (List ℕ) → Status → Type 0 where
+  here : {number played : ℕ} {text : List ℕ} {texts : List (List ℕ)} {status : Status} → Ends number played text status →
+      EndsAt number played (text ∷ texts) status
+  later : {number played : ℕ} {text : List ℕ} {texts : List (List ℕ)} {status : Status} → (step : Step) → Asks number played text step →
+      EndsAt (number + 1) (played + played_by step) texts status → EndsAt number played (text ∷ texts) status
+
+-- the input's lines end the run so, unless there was no memory
+abbrev pub StopsBy : List (List ℕ) → Status → Type 0
+StopsBy texts status = (status ≡ Memory) ⊎ EndsAt 1 0 texts status

@@ -1,0 +1,39 @@
+-- The accepted words of the command line, this project's own profile: the word `play`, and behind it any of the options
+-- in any order, each at most once.
+use Rattle.std.specs.Prelude.{◌≡◌, ℕ, ◌+◌, Bool, true, false, List, [], ◌∷◌, length, codes}
+use Rattle.std.specs.Str.{bytes_eq}
+use Rattle.range_cli.specs.declared.words.Options.{Options}
+use Rattle.range_cli.specs.declared.words.Word.{Word}
+use Rattle.range_cli.specs.declared.words.Word.TheVariants.{Opening, Log, Other}
+
+-- one for yes
+abbrev pub once : Bool → ℕ
+once true = 1
+once false = 0
+
+-- how often a word stands among the words
+abbrev pub times : List ℕ → List (List ℕ) → ℕ
+times word [] = 0
+times word (next ∷ words) = once (bytes_eq word next) + times word words
+
+-- among these words each option stands as often as it is asked for, and no other word stands
+pub record AreOptions (words : List (List ℕ)) (options : Options) : Type 0 where
+  pub opening : times (codes "--opening") words ≡ once options.opening
+  pub log : times (codes "--log") words ≡ once options.log
+  pub no_other : times (codes "--opening") words + times (codes "--log") words ≡ length words
+
+-- `play`, and behind it the options that are asked for
+pub record Accepts (words : List (List ℕ)) (options : Options) : Type 0 where
+  pub rest : List (List ℕ)
+  pub play : words ≡ codes "play" ∷ rest
+  pub asked : AreOptions rest options
+
+-- no choice of options is what the words ask for
+abbrev pub Refuses : List (List ℕ) → Type 0
+Refuses words = (options : Options) → ¬ Accepts words options
+
+-- which option a word is
+abbrev pub KindOf : List ℕ → Word → Type 0
+KindOf word Opening = word ≡ codes "--opening"
+KindOf word Log = word ≡ codes "--log"
+KindOf word Other = (¬ (word ≡ codes "--opening")) × (¬ (word ≡ codes "--log"))

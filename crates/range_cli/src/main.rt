@@ -1,0 +1,10 @@
+// The program `range_cli`: it plays a trace of address-space calls and prints the areas that are left.
+#![tactic(auto)]
+
+mod input;
+mod lines;
+mod status;
+mod trace;
+mod words;
+
+fn main() {}

@@ -1,0 +1,55 @@
+// How a run ends. The program's exit status and its line on standard error follow from this value alone.
+ghost use Rattle.std.specs.Prelude.{◌≡◌};
+
+use strace_reader::What;
+
+/// Which limit an input passes.
+#[derive(Clone, Copy, Debug, PartialEq, Eq)]
+pub enum Which {
+    /// The bytes of the input.
+    Input,
+    /// The bytes of one line, without its newline.
+    Line,
+    /// The lines that are played.
+    Lines,
+    /// The rows of the opening maps.
+    Rows,
+}
+
+/// How a run ends.
+#[derive(Clone, Copy, Debug, PartialEq, Eq)]
+pub enum Status {
+    /// The whole report was written.
+    Done,
+    /// The words of the command line are not accepted.
+    Usage,
+    /// A line is refused: its number, counted from 1, its column in bytes, counted from 1, and what was due there.
+    BadLine { line: u32, column: u32, what: What },
+    /// The input failed, and nothing was played.
+    ReadFault,
+    /// The output failed; it has a first part of the report.
+    WriteFault,
+    /// There was no memory.
+    Memory,
+    /// A limit is passed; the value is the first number above it, or the count of rows.
+    Limit { which: Which, value: u64 },
+}
+
+impl Status {
+    ghost use Rattle.range_cli.specs.Status.{exit_code};
+
+    /// The exit status of the program.
+    pub fn code(&self) -> u8
+        ensures { result ≡ exit_code self.now }
+    {
+        match self {
+            Status::Done => 0,
+            Status::Usage => 2,
+            Status::BadLine { .. } => 3,
+            Status::ReadFault => 4,
+            Status::WriteFault => 5,
+            Status::Memory => 6,
+            Status::Limit { .. } => 7,
+        }
+    }
+}

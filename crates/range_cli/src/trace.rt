@@ -1,0 +1,127 @@
+// From the lines of an input to the calls that are played, each with the number of its line. `Reads` says line by line
+// what becomes of an input, up to the first line that ends the run.
+ghost use Rattle.std.specs.Prelude.{◌≡◌, ◌<◌, ◌≤◌, length, IfOk, IfErr, OnOk};
+ghost use Rattle.range_cli.specs.Lines.{lines_of};
+ghost use Rattle.range_cli.specs.Trace.{Asks, Ends, Reads, StopsBy, lines_with, skipped_with};
+
+use std::alloc::Global;
+
+use page_types::Call;
+use strace_reader::{Item, Recorded, read_line};
+
+use crate::lines::next_line;
+use crate::status::{Status, Which};
+
+/// How many bytes a line may have, without its newline.
+pub const LINE_LIMIT: usize = 65_535;
+
+/// How many lines may be played.
+pub const LINES_LIMIT: usize = 1_048_576;
+
+/// A line that is played.
+#[derive(Clone, Copy, Debug, PartialEq, Eq)]
+pub struct Line {
+    /// Its number in the input, counted from 1.
+    pub number: u32,
+    /// The call that it names.
+    pub call: Call,
+    /// The result that the trace recorded, where it recorded one.
+    pub recorded: Option<Recorded>,
+}
+
+/// What an input asks for.
+#[derive(Debug, Drop)]
+pub struct Trace {
+    /// The lines that are played, in the input's order.
+    pub lines: Vec<Line>,
+    /// How many lines were passed over.
+    pub skipped: u32,
+}
+
+/// Reads the lines of an input.
+///
+/// `Err`: the run ends with this status, at the first line that is too long, is refused, or is one too many to be
+/// played; or there was no memory.
+pub fn read_lines(alloc: Global, text: &[u8]) -> Result<Trace, Status>
+    requires { length text.now ≤ 67108864 }
+    ensures read { IfOk result (λ trace. Reads 1 0 (lines_of text.now) trace.lines.items trace.skipped) }
+    ensures stopped { IfErr result (StopsBy (lines_of text.now)) }
+{
+    let mut trace = Trace {
+        lines: Vec::new(alloc),
+        skipped: 0,
+    };
+    let mut number = 1;
+    let mut rest = text;
+    'lines: while let Some((line, behind)) = next_line(rest) {
+        let step = read_one(line, number, trace.lines.len())?;
+        trace.take(step)?;
+        number += 1;
+        rest = behind;
+    }
+    Ok(trace)
+}
+
+/// What one line asks for.
+#[derive(Clone, Copy, Debug, PartialEq, Eq)]
+enum Step {
+    Played(Line),
+    Skipped,
+    Blank,
+}
+
+impl Trace {
+    /// Takes what one more line asks for.
+    fn take(&mut self, step: Step) -> Result<(), Status>
+        requires { self.old.skipped < 4294967295 }
+        ensures lines { OnOk result (self.new.lines.items ≡ lines_with self.old.lines.items step) }
+        ensures skipped { OnOk result (self.new.skipped ≡ skipped_with self.old.skipped step) }
+        ensures memory { IfErr result (λ status. status ≡ Status.Memory) }
+    {
+        match step {
+            Step::Played(line) => {
+                if self.lines.push(line).is_err() {
+                    return Err(Status::Memory);
+                }
+            }
+            Step::Skipped => self.skipped += 1,
+            Step::Blank => {}
+        }
+        Ok(())
+    }
+}
+
+/// Reads one line, by its number and the number of lines that are played before it.
+fn read_one(text: &[u8], number: u32, played: usize) -> Result<Step, Status>
+    ensures step { IfOk result (Asks number played text.now) }
+    ensures stopped { IfErr result (Ends number played text.now) }
+{
+    if text.len() > LINE_LIMIT {
+        return Err(Status::Limit {
+            which: Which::Line,
+            value: 65_536,
+        });
+    }
+    match read_line(text) {
+        Err(bad) => Err(Status::BadLine {
+            line: number,
+            column: bad.column,
+            what: bad.what,
+        }),
+        Ok(Item::Played { call, recorded, .. }) => {
+            if played >= LINES_LIMIT {
+                return Err(Status::Limit {
+                    which: Which::Lines,
+                    value: 1_048_577,
+                });
+            }
+            Ok(Step::Played(Line {
+                number,
+                call,
+                recorded,
+            }))
+        }
+        Ok(Item::Other) => Ok(Step::Skipped),
+        Ok(Item::Blank) => Ok(Step::Blank),
+    }
+}
