@@ -2,3 +2,5 @@ pub mod LineLemmas
 pub mod Draining
 pub mod WordLemmas
 pub mod TraceLemmas
+pub mod ErrorPieces
+pub mod PlayLemmas

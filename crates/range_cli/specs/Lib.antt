@@ -3,3 +3,5 @@ pub mod Input
 pub mod Words
 pub mod Status
 pub mod Trace
+pub mod ErrorLine
+pub mod Play

@@ -1,8 +1,10 @@
 // The program `range_cli`: it plays a trace of address-space calls and prints the areas that are left.
 #![tactic(auto)]
 
+mod error_line;
 mod input;
 mod lines;
+mod play;
 mod status;
 mod trace;
 mod words;

@@ -1,0 +1,18 @@
+use Rattle.std.proofs.lemmas.Result.{on_err_weaker}
+use Rattle.byte_ports.proofs.Pieces.{AppendsPrefix-more, AppendsPrefix-after}
+use Rattle.range_cli.proofs.ErrorPieces.{on_err}
+use Rattle.range_cli.proofs.error_line.write_numbered.Goals as goal
+
+pub returns-in_err-write_all-clause-failed_prefix : goal.returns-in_err-write_all-clause-failed_prefix
+returns-in_err-write_all-clause-failed_prefix g c = on_err c.from_residual.result (AppendsPrefix-more _ c.in_err-write_all.ensures.failed_prefix)
+
+pub returns-in_err-write_decimal-clause-failed_prefix : goal.returns-in_err-write_decimal-clause-failed_prefix
+returns-in_err-write_decimal-clause-failed_prefix g c =
+    on_err c.from_residual-in_err-write_decimal.result
+      (AppendsPrefix-after _ _ c.in_ok-write_all.ensures.all (AppendsPrefix-more _ c.in_err-write_decimal.ensures.failed_prefix))
+
+pub returns-clause-failed_prefix : goal.returns-clause-failed_prefix
+returns-clause-failed_prefix g c =
+    on_err_weaker _
+      (λ last. AppendsPrefix-after _ _ c.in_ok-write_all.ensures.all (AppendsPrefix-after _ _ c.in_ok-write_decimal.ensures.all last))
+      c.write_all-2.ensures.failed_prefix

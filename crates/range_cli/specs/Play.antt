@@ -1,0 +1,41 @@
+-- What it means that lines were played: one entry for each of them, in their order, which are a legal history of the
+-- address space and each held what its call has to hold. Legal histories are those of Herlihy and Wing, TOPLAS 1990.
+use Rattle.std.specs.Prelude.{◌≡◌, ℕ, List, [], ◌∷◌}
+use Rattle.space_model.specs.declared.areas.Area.{Area}
+use Rattle.space_model.specs.declared.entries.Entry.{Entry}
+use Rattle.space_model.specs.Answers.{Answers}
+use Rattle.space_model.specs.Held.{FitsUnder}
+use Rattle.space_model.specs.History.{IsLegal, StateAfter}
+use Rattle.range_cli.specs.declared.trace.Line.{Line}
+
+-- the entry is of worker 0, this line and its call
+pub record IsEntryOf (line : Line) (entry : Entry) : Type 0 where
+  pub worker : entry.worker ≡ 0
+  pub number : entry.line ≡ line.number
+  pub call : entry.call ≡ line.call
+
+-- one entry for each line, in order, and no other
+abbrev pub IsCollected : List Line → List Entry → Type 0
+IsCollected [] [] = Unit {0}
+IsCollected [] (entry ∷ entries) = ⊥
+IsCollected (line ∷ lines) [] = ⊥
+IsCollected (line ∷ lines) (entry ∷ entries) = IsEntryOf line entry × IsCollected lines entries
+
+-- what was held fits each call at the state before it
+abbrev pub AllFit : List Area → List Entry → Type 0
+AllFit A [] = Unit {0}
+AllFit A (entry ∷ entries) = FitsUnder A entry.call entry.under × ((B : List Area) × Answers A entry.call entry.reply B × AllFit B entries)
+
+-- at these areas the line was played as this entry, and left others
+pub record IsStep (number : ℕ) (A : List Area) (line : Line) (entry : Entry) (B : List Area) : Type 0 where
+  pub of_line : IsEntryOf line entry
+  pub numbered : entry.number ≡ number
+  pub fits : FitsUnder A entry.call entry.under
+  pub answers : Answers A entry.call entry.reply B
+
+-- the lines were played from the opening areas as these entries, which leave the last areas
+pub record IsPlayed (opening : List Area) (lines : List Line) (entries : List Entry) (last : List Area) : Type 0 where
+  pub collected : IsCollected lines entries
+  pub legal : IsLegal opening entries
+  pub fits : AllFit opening entries
+  pub leaves : StateAfter opening entries last

@@ -1,0 +1,106 @@
+// The line on standard error that says why a run did not write its whole report. It takes no memory, so that it can
+// say that there is none.
+ghost use Rattle.std.specs.Prelude.{◌≡◌, ◌≤◌, OnOk, OnErr, decimal};
+ghost use Rattle.std.specs.Io.KnownBytes.{Appends};
+ghost use Rattle.byte_ports.specs.Bytes.{AppendsPrefix};
+ghost use Rattle.byte_ports.specs.Counts.{Rose};
+ghost use Rattle.range_cli.specs.ErrorLine.{error_line, what_text, which_text, bad_line_text, numbered};
+
+use byte_ports::{Failed, Sink, write_all};
+use strace_reader::What;
+
+use crate::status::{Status, Which};
+
+/// The line for wrong words, with its newline.
+const USAGE: &[u8] =
+    b"usage: play [--threads N] [--opening] [--log] or load --seed N --threads N --calls N\n";
+
+/// Writes the line for a status; nothing for `Done`.
+///
+/// `Failed`: the sink failed in this call; some first part of the line was appended.
+#[tactic(auto, unfolding(crate::specs::ErrorLine::error_line))]
+pub fn write_error<K: Sink>(err: &mut K, status: &Status) -> Result<(), Failed>
+    ensures all { OnOk result
+        (Appends (K.contents err.old) (K.contents err.new) (error_line status.now)) }
+    ensures failed_prefix { OnErr result
+        (AppendsPrefix (K.contents err.old) (K.contents err.new) (error_line status.now)) }
+    ensures failed_rose { OnErr result (Rose (K.fault_count err.old) (K.fault_count err.new)) }
+{
+    match *status {
+        Status::Done => write_all(err, b""),
+        Status::Usage => write_all(err, USAGE),
+        Status::BadLine { line, column, what } => write_bad_line(err, line, column, what),
+        Status::ReadFault => write_all(err, b"read fault\n"),
+        Status::WriteFault => write_all(err, b"write fault\n"),
+        Status::Memory => write_all(err, b"out of memory\n"),
+        Status::Limit { which, value } => write_numbered(err, limit(which), value, b"\n"),
+    }
+}
+
+/// Writes the line for a refused line.
+fn write_bad_line<K: Sink>(err: &mut K, line: u32, column: u32, what: What) -> Result<(), Failed>
+    ensures all { OnOk result
+        (Appends (K.contents err.old) (K.contents err.new) (bad_line_text line column what)) }
+    ensures failed_prefix { OnErr result
+        (AppendsPrefix (K.contents err.old) (K.contents err.new) (bad_line_text line column what)) }
+    ensures failed_rose { OnErr result (Rose (K.fault_count err.old) (K.fault_count err.new)) }
+{
+    write_numbered(err, b"line ", line as u64, b" column ")?;
+    write_numbered(err, b"", column as u64, due(what))
+}
+
+/// Writes a number in decimal, and what stands before and behind it.
+fn write_numbered<K: Sink>(err: &mut K, before: &[u8], number: u64, behind: &[u8]) -> Result<(), Failed>
+    ensures all { OnOk result
+        (Appends (K.contents err.old) (K.contents err.new) (numbered before.now number behind.now)) }
+    ensures failed_prefix { OnErr result
+        (AppendsPrefix (K.contents err.old) (K.contents err.new) (numbered before.now number behind.now)) }
+    ensures failed_rose { OnErr result (Rose (K.fault_count err.old) (K.fault_count err.new)) }
+    ensures never_falls { K.fault_count err.old ≤ K.fault_count err.new }
+{
+    write_all(err, before)?;
+    write_decimal(err, number)?;
+    write_all(err, behind)
+}
+
+/// Writes a number in decimal.
+fn write_decimal<K: Sink>(err: &mut K, number: u64) -> Result<(), Failed>
+    ensures all { OnOk result
+        (Appends (K.contents err.old) (K.contents err.new) (decimal number)) }
+    ensures failed_prefix { OnErr result
+        (AppendsPrefix (K.contents err.old) (K.contents err.new) (decimal number)) }
+    ensures failed_rose { OnErr result (Rose (K.fault_count err.old) (K.fault_count err.new)) }
+    ensures never_falls { K.fault_count err.old ≤ K.fault_count err.new }
+{
+    let mut buffer = itoa::Buffer::new();
+    write_all(err, buffer.format(number).as_bytes())
+}
+
+/// How the line says what was due, with the colon before it and the newline.
+fn due(what: What) -> &'static [u8]
+    ensures { result.now ≡ what_text what }
+{
+    match what {
+        What::Number => b": number expected\n",
+        What::Wide => b": number too wide\n",
+        What::Word => b": word expected\n",
+        What::Comma => b": comma expected\n",
+        What::Close => b": closing parenthesis expected\n",
+        What::Result => b": result expected\n",
+        What::Form => b": no maps line\n",
+        What::Order => b": maps out of order\n",
+        What::Later => b": form not read yet\n",
+    }
+}
+
+/// How the line names a limit.
+fn limit(which: Which) -> &'static [u8]
+    ensures { result.now ≡ which_text which }
+{
+    match which {
+        Which::Input => b"limit input: ",
+        Which::Line => b"limit line: ",
+        Which::Lines => b"limit lines: ",
+        Which::Rows => b"limit rows: ",
+    }
+}
