@@ -4,3 +4,5 @@ pub mod WordLemmas
 pub mod TraceLemmas
 pub mod ErrorPieces
 pub mod PlayLemmas
+pub mod ReportPieces
+pub mod RunLemmas

@@ -75,3 +75,11 @@ pub skipped_by_one : (skipped : ℕ) (step : Step) → skipped_with skipped step
 skipped_by_one skipped (Played line) = omega arith
 skipped_by_one skipped Skipped = omega arith
 skipped_by_one skipped Blank = omega arith
+
+-- no more lines are played than may be
+pub few_with : (number played : ℕ) (text : List ℕ) (lines new_lines : List Line) (step : Step) → played ≡ length lines
+  → Asks number played text step → new_lines ≡ lines_with lines step → length lines ≤ 1048576 → length new_lines ≤ 1048576
+few_with number played text lines new_lines (Played line) count asks is few =
+    omega (arith, asks.1, ap length is, length-append lines (line ∷ []))
+few_with number played text lines new_lines Skipped count asks is few = omega (arith, ap length is)
+few_with number played text lines new_lines Blank count asks is few = omega (arith, ap length is)

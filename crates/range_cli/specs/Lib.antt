@@ -5,3 +5,5 @@ pub mod Status
 pub mod Trace
 pub mod ErrorLine
 pub mod Play
+pub mod Report
+pub mod Run

@@ -2,6 +2,7 @@
 -- ends the run. The grammar of one line is the reader's; the limits and the order of refusals stand here, and are this
 -- project's own profile.
 use Rattle.std.specs.Prelude.{◌≡◌, ◌⊎◌, ℕ, ◌+◌, ◌<◌, ◌≤◌, List, [], ◌∷◌, ◌++◌, length}
+use Rattle.page_types.specs.Named.{IsNamedCall}
 use Rattle.strace_reader.specs.declared.item.Item.TheVariants.{Played as Call, Other, Blank as Empty}
 use Rattle.strace_reader.specs.Grammar.{Spells, Refuses}
 use Rattle.range_cli.specs.declared.trace.TheConstants.{LINE_LIMIT, LINES_LIMIT}
@@ -43,6 +44,15 @@ Ends number played text ReadFault = ⊥
 Ends number played text WriteFault = ⊥
 Ends number played text Memory = ⊥
 Ends number played text (Limit which value) = Passes played text which value
+
+-- the sets of bits of a line's call have no bit but the named ones
+abbrev pub IsNamedLine : Line → Type 0
+IsNamedLine line = IsNamedCall line.call
+
+abbrev pub IsNamedStep : Step → Type 0
+IsNamedStep (Played line) = IsNamedLine line
+IsNamedStep Skipped = Unit {0}
+IsNamedStep Blank = Unit {0}
 
 -- how many lines more are played
 abbrev pub played_by : Step → ℕ

@@ -5,6 +5,8 @@ mod error_line;
 mod input;
 mod lines;
 mod play;
+mod report;
+mod run;
 mod status;
 mod trace;
 mod words;

@@ -1,7 +1,7 @@
 // Playing the lines of a trace on the address space of one thread: one entry for each line, numbered from 0.
 ghost use Rattle.std.specs.Prelude.{◌≤◌, length, All, IfOk};
-ghost use Rattle.page_types.specs.Named.{IsNamedCall};
 ghost use Rattle.range_cli.specs.Play.{IsPlayed, IsStep};
+ghost use Rattle.range_cli.specs.Trace.{IsNamedLine};
 
 use std::alloc::{AllocError, Global};
 
@@ -20,7 +20,7 @@ pub struct Played {
 
 /// Plays the lines on a space, in their order, as worker 0.
 pub fn play(alloc: Global, opening: PlainSpace, lines: &[Line]) -> Result<Played, AllocError>
-    requires named { All (λ line. IsNamedCall line.call) lines.now }
+    requires named { All IsNamedLine lines.now }
     requires few { length lines.now ≤ 1048576 }
     ensures { IfOk result (λ played. IsPlayed opening lines.now played.entries.items played.space) }
 {
@@ -35,7 +35,7 @@ pub fn play(alloc: Global, opening: PlainSpace, lines: &[Line]) -> Result<Played
 
 /// Plays one line, as the entry of a number.
 fn play_line(space: &mut PlainSpace, line: &Line, number: u64) -> Result<Entry, AllocError>
-    requires { IsNamedCall line.now.call }
+    requires { IsNamedLine line.now }
     ensures { IfOk result (λ entry. IsStep number space.old line.now entry space.new) }
 {
     let call = line.call;

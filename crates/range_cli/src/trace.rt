@@ -1,8 +1,8 @@
 // From the lines of an input to the calls that are played, each with the number of its line. `Reads` says line by line
 // what becomes of an input, up to the first line that ends the run.
-ghost use Rattle.std.specs.Prelude.{◌≡◌, ◌<◌, ◌≤◌, length, IfOk, IfErr, OnOk};
+ghost use Rattle.std.specs.Prelude.{◌≡◌, ◌<◌, ◌≤◌, length, All, IfOk, IfErr, OnOk};
 ghost use Rattle.range_cli.specs.Lines.{lines_of};
-ghost use Rattle.range_cli.specs.Trace.{Asks, Ends, Reads, StopsBy, lines_with, skipped_with};
+ghost use Rattle.range_cli.specs.Trace.{Asks, Ends, Reads, StopsBy, lines_with, skipped_with, IsNamedLine, IsNamedStep};
 
 use std::alloc::Global;
 
@@ -45,6 +45,8 @@ pub struct Trace {
 pub fn read_lines(alloc: Global, text: &[u8]) -> Result<Trace, Status>
     requires { length text.now ≤ 67108864 }
     ensures read { IfOk result (λ trace. Reads 1 0 (lines_of text.now) trace.lines.items trace.skipped) }
+    ensures named { IfOk result (λ trace. All IsNamedLine trace.lines.items) }
+    ensures few { IfOk result (λ trace. length trace.lines.items ≤ LINES_LIMIT) }
     ensures stopped { IfErr result (StopsBy (lines_of text.now)) }
 {
     let mut trace = Trace {
@@ -73,9 +75,11 @@ enum Step {
 impl Trace {
     /// Takes what one more line asks for.
     fn take(&mut self, step: Step) -> Result<(), Status>
-        requires { self.old.skipped < 4294967295 }
+        requires few { self.old.skipped < 4294967295 }
+        requires named { IsNamedStep step }
         ensures lines { OnOk result (self.new.lines.items ≡ lines_with self.old.lines.items step) }
         ensures skipped { OnOk result (self.new.skipped ≡ skipped_with self.old.skipped step) }
+        ensures named { All IsNamedLine self.old.lines.items → OnOk result (All IsNamedLine self.new.lines.items) }
         ensures memory { IfErr result (λ status. status ≡ Status.Memory) }
     {
         match step {
@@ -94,6 +98,7 @@ impl Trace {
 /// Reads one line, by its number and the number of lines that are played before it.
 fn read_one(text: &[u8], number: u32, played: usize) -> Result<Step, Status>
     ensures step { IfOk result (Asks number played text.now) }
+    ensures named { IfOk result IsNamedStep }
     ensures stopped { IfErr result (Ends number played text.now) }
 {
     if text.len() > LINE_LIMIT {

@@ -1,12 +1,13 @@
 -- The grammar of the lines that are read, in the form in which strace(1) prints a call of mmap(2): a line is a
 -- concatenation of the listed parts. It stands apart from the reader, which is proved to meet it in both directions.
 use Rattle.std.specs.Prelude.{◌≡◌, ℕ, ◌+◌, ◌-◌, ◌*◌, ◌<◌, ◌≤◌, List, [], ◌∷◌, ◌++◌, length, None, nat_lt, codes, if◌then◌else◌}
+use Rattle.page_types.specs.Named.{IsNamedCall}
 use Rattle.page_types.specs.Sets.{prot_bits, flag_bits}
 use Rattle.page_types.specs.declared.calls.Call.TheVariants.{Map}
 use Rattle.page_types.specs.declared.sets.Prot.{Prot}
 use Rattle.page_types.specs.declared.sets.MapFlags.{MapFlags}
 use Rattle.strace_reader.specs.declared.item.Item.{Item}
-use Rattle.strace_reader.specs.declared.item.Item.TheVariants.{Played}
+use Rattle.strace_reader.specs.declared.item.Item.TheVariants.{Played, Other, Blank}
 use Rattle.strace_reader.specs.declared.item.BadCall.{BadCall}
 use Rattle.strace_reader.specs.declared.item.What.TheVariants.{Later}
 
@@ -72,3 +73,9 @@ pub record Spells (text : List ℕ) (item : Item) : Type 0 where
 pub record Refuses (text : List ℕ) (bad : BadCall) : Type 0 where
   pub unspelled : (item : Item) → ¬ Spells text item
   pub is : bad ≡ record { column = 1; what = Later }
+
+-- the sets of bits of a call that is played have no bit but the named ones
+abbrev pub IsNamedItem : Item → Type 0
+IsNamedItem Blank = Unit {0}
+IsNamedItem Other = Unit {0}
+IsNamedItem (Played pid call recorded) = IsNamedCall call

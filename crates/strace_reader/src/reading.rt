@@ -2,7 +2,7 @@
 //! what the function on lists of `specs/Reading.antt` gives, and `read_line` alone speaks of the grammar.
 
 ghost use Rattle.std.specs.Prelude.{length, Ok, IfOk, IfErr, ◌≡◌, ◌+◌, ◌*◌, ◌<◌, ◌≤◌, ℕ, option_map};
-ghost use Rattle.strace_reader.specs.Grammar.{worth, Spells, Refuses, IsReadWrite, IsPrivateFixed};
+ghost use Rattle.strace_reader.specs.Grammar.{worth, Spells, Refuses, IsNamedItem, IsReadWrite, IsPrivateFixed};
 ghost use Rattle.strace_reader.specs.Reading.{behind, run, narrow, number_at, form_at};
 ghost use Rattle.strace_reader.specs.declared.item.What.TheVariants.{Later};
 
@@ -123,6 +123,7 @@ pub fn read_line(text: &[u8]) -> Result<Item, BadCall>
     requires { length text.now ≤ 131072 }
     ensures found { IfOk result (λ item. Spells text.now item) }
     ensures only { (item : Item) → Spells text.now item → result ≡ Ok item }
+    ensures named { IfOk result IsNamedItem }
     ensures refused { IfErr result (Refuses text.now) }
 {
     match form(text) {

@@ -4,6 +4,6 @@ use Rattle.range_cli.proofs.input.read_input.Goals as goal
 
 pub returns-then-count-eq0-clause-whole : goal.returns-then-count-eq0-clause-whole
 returns-then-count-eq0-clause-whole g c =
-    let last = c.in_ok-count.ensures in
+    let last = c.in-Ok.ensures in
     let none = c.if-count-eq0.true in
     drained _ _ _ _ _ _ c.pieces.invariant.0 none last.moved (last.end none (omega arith))

@@ -3,7 +3,7 @@ use Rattle.std.proofs.lemmas.Result.{err_from_is_err_and}
 use Rattle.range_cli.specs.declared.trace.Step.{Step}
 use Rattle.range_cli.specs.Lines.{lines_of}
 use Rattle.range_cli.specs.Trace.{skipped_with}
-use Rattle.range_cli.proofs.TraceLemmas.{SoFar, so_far_step, so_far_all, so_far_ends, skipped_by_one}
+use Rattle.range_cli.proofs.TraceLemmas.{SoFar, so_far_step, so_far_all, so_far_ends, skipped_by_one, few_with}
 use Rattle.range_cli.proofs.trace.read_lines.Goals as goal
 
 pub returns-in_err-step-clause-stopped : goal.returns-in_err-step-clause-stopped
@@ -20,6 +20,8 @@ lines-preserved c =
       so_far_step _ _ _ _ _ _ _ _ _ _ left count c.in_ok-step.ensures.step c.in_ok-take.ensures.lines c.in_ok-take.ensures.skipped,
       omega (arith, c.in-Some.ensures.shorter),
       omega (arith, c.in_ok-take.ensures.skipped, skipped_by_one c.lines.trace.skipped c.in_ok-step.step),
+      c.in_ok-take.ensures.named c.lines.invariant.3,
+      few_with _ _ _ _ _ _ count c.in_ok-step.ensures.step c.in_ok-take.ensures.lines c.lines.invariant.4,
     )
 
 pub returns-clause-read : goal.returns-clause-read

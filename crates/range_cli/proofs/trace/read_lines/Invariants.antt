@@ -1,5 +1,7 @@
 use Rattle.std.proofs.Common.{◌+◌, ◌≤◌, length}
+use Rattle.std.specs.Prelude.{All}
 use Rattle.range_cli.specs.Lines.{lines_of}
+use Rattle.range_cli.specs.Trace.{IsNamedLine}
 use Rattle.range_cli.proofs.TraceLemmas.{SoFar}
 use Rattle.range_cli.proofs.trace.read_lines.Given as goal
 
@@ -8,6 +10,8 @@ invariant-lines l =
     SoFar (lines_of l.fn.text) l.number (lines_of l.rest) l.trace.lines.items l.trace.skipped
   × (l.number + length l.rest ≤ 1 + length l.fn.text)
   × (l.trace.skipped + 1 ≤ l.number)
+  × All IsNamedLine l.trace.lines.items
+  × (length l.trace.lines.items ≤ 1048576)
 
 abbrev pub decreases-lines : goal.decreases-lines
 decreases-lines l = length l.rest

@@ -1,0 +1,17 @@
+use Rattle.std.proofs.Common.{refl, ap, arith, length}
+use Rattle.range_cli.proofs.RunLemmas.{wrote_nothing, has_cause, as_many}
+use Rattle.range_cli.proofs.run.report.Goals as goal
+
+pub returns-in_default-clause-cause : goal.returns-in_default-clause-cause
+returns-in_default-clause-cause g c = c.in_default.ensures.refused refl
+
+pub returns-in-Err-clause-out : goal.returns-in-Err-clause-out
+returns-in-Err-clause-out g c = wrote_nothing _ _ _ _ _ _ _ c.in-Err.ensures.stopped
+
+pub returns-in-Err-clause-cause : goal.returns-in-Err-clause-cause
+returns-in-Err-clause-cause g c = has_cause _ _ _ _ _ _ _ c.in-Err.ensures.stopped
+
+pub write_report-requires : goal.write_report-requires
+write_report-requires g c =
+    let many = as_many _ _ c.in-Ok-play.ensures.collected in
+    omega (arith, many, ap length c.deref-2.ensures.value, ap length c.deref.ensures.value, c.in-Ok.ensures.few)
