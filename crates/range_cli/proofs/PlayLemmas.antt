@@ -27,8 +27,8 @@ none_plus : (i k : ℕ) → k ≡ i → i ≡ 0 + k
 none_plus i k same = omega arith
 
 plays_more : (n : ℕ) (A : List Area) (lines : List Line) (entries : List Entry) (B C : List Area) (line : Line) (entry : Entry)
-  → Plays n A lines entries B → IsStep (n + length entries) B line entry C
-  → Plays n A (lines ++ line ∷ []) (entries ++ entry ∷ []) C
+    → Plays n A lines entries B → IsStep (n + length entries) B line entry C
+    → Plays n A (lines ++ line ∷ []) (entries ++ entry ∷ []) C
 plays_more n A [] [] B C line entry so_far step =
     let first : IsStep n B line entry C = subst (λ k. IsStep k B line entry C) (plus_none n) step in
     (C, rw so_far at first, refl)
@@ -39,8 +39,8 @@ plays_more n A (l ∷ ls) (e ∷ es) B C line entry so_far step =
 
 -- one line more
 pub plays_next : (A : List Area) (lines : List Line) (i number : ℕ) (d : Line) (entries new : List Entry) (B C : List Area) (entry : Entry)
-  → i < length lines → length entries ≡ i → number ≡ i → Plays 0 A (take i lines) entries B → IsStep number B (get_or lines i d) entry C
-  → new ≡ entries ++ entry ∷ [] → Plays 0 A (take (i + 1) lines) new C × (length new ≡ i + 1)
+    → i < length lines → length entries ≡ i → number ≡ i → Plays 0 A (take i lines) entries B → IsStep number B (get_or lines i d) entry C
+    → new ≡ entries ++ entry ∷ [] → Plays 0 A (take (i + 1) lines) new C × (length new ≡ i + 1)
 plays_next A lines i number d entries new B C entry within count numbered so_far step is =
     let line = get_or lines i d in
     let longer : take (i + 1) lines ≡ take i lines ++ line ∷ [] = rw (add-one, take-suc lines i d) refl in
@@ -81,7 +81,7 @@ played A lines entries B h = record {
 
 -- all lines
 pub played_all : (A : List Area) (lines : List Line) (i : ℕ) (entries : List Entry) (B : List Area) → i ≤ length lines → length lines ≤ i
-  → Plays 0 A (take i lines) entries B → IsPlayed A lines entries B
+    → Plays 0 A (take i lines) entries B → IsPlayed A lines entries B
 played_all A lines i entries B low high h =
     let whole : take i lines ≡ lines = take_all i lines high in
     played A lines entries B (rw whole at h)

@@ -13,19 +13,19 @@ use Rattle.range_cli.specs.declared.words.Options.{Options}
 use Rattle.range_cli.specs.Report.{asked_log, refused_count, report_text}
 
 pub report_all : {T E : Type 0} (r : Result T E) (a b c d : Option (List ℕ)) (options : Options) (areas : List Area) (entries : List Entry)
-  (skipped count refused : ℕ) → count ≡ length entries → refused ≡ refused_count entries → Appends a b (asked_log options entries)
-  → Appends b c (maps_text areas) → OnOk r (Appends c d (summary_text count skipped refused 0))
-  → OnOk r (Appends a d (report_text options areas entries skipped))
+    (skipped count refused : ℕ) → count ≡ length entries → refused ≡ refused_count entries → Appends a b (asked_log options entries)
+    → Appends b c (maps_text areas) → OnOk r (Appends c d (summary_text count skipped refused 0))
+    → OnOk r (Appends a d (report_text options areas entries skipped))
 report_all r a b c d options areas entries skipped count refused is_count is_refused log maps summary =
     on_ok_weaker r
-      (λ last. Appends-trans a b d (asked_log options entries) _ log (Appends-trans b c d (maps_text areas) _ maps last))
-      (rw (is_count, is_refused) at summary)
+    (λ last. Appends-trans a b d (asked_log options entries) _ log (Appends-trans b c d (maps_text areas) _ maps last))
+    (rw (is_count, is_refused) at summary)
 
 pub report_prefix : {T E : Type 0} (r : Result T E) (a b c d : Option (List ℕ)) (options : Options) (areas : List Area) (entries : List Entry)
-  (skipped count refused : ℕ) → count ≡ length entries → refused ≡ refused_count entries → Appends a b (asked_log options entries)
-  → Appends b c (maps_text areas) → OnErr r (AppendsPrefix c d (summary_text count skipped refused 0))
-  → OnErr r (AppendsPrefix a d (report_text options areas entries skipped))
+    (skipped count refused : ℕ) → count ≡ length entries → refused ≡ refused_count entries → Appends a b (asked_log options entries)
+    → Appends b c (maps_text areas) → OnErr r (AppendsPrefix c d (summary_text count skipped refused 0))
+    → OnErr r (AppendsPrefix a d (report_text options areas entries skipped))
 report_prefix r a b c d options areas entries skipped count refused is_count is_refused log maps summary =
     on_err_weaker r
-      (λ last. AppendsPrefix-after a (asked_log options entries) log (AppendsPrefix-after b (maps_text areas) maps last))
-      (rw (is_count, is_refused) at summary)
+    (λ last. AppendsPrefix-after a (asked_log options entries) log (AppendsPrefix-after b (maps_text areas) maps last))
+    (rw (is_count, is_refused) at summary)

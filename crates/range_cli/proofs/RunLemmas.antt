@@ -47,7 +47,7 @@ keeps_same (Some bytes) = refl
 
 -- where the run ends early nothing was written
 pub wrote_nothing : (words : List (List ℕ)) (a b out : Option (List ℕ)) (m n : ℕ) (status : Status) → StopsEarly a b m n status
-  → Wrote words a b out out status
+    → Wrote words a b out out status
 wrote_nothing words a b out m n Done (inl h) = absurd h
 wrote_nothing words a b out m n Done (inr h) = absurd (of_lines h.2)
 wrote_nothing words a b out m n WriteFault (inl h) = absurd h
@@ -60,7 +60,7 @@ wrote_nothing words a b out m n (Limit which value) h = keeps_same out
 
 -- and it has its cause
 pub has_cause : (words : List (List ℕ)) (a b : Option (List ℕ)) (m n : ℕ) (faults : ℕ × ℕ) (status : Status) → StopsEarly a b m n status
-  → HasCause words a b (m, n) faults status
+    → HasCause words a b (m, n) faults status
 has_cause words a b m n faults Done h = tt
 has_cause words a b m n faults Usage (inl h) = absurd h
 has_cause words a b m n faults Usage (inr h) = absurd (of_lines h.2)

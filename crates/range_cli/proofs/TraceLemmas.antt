@@ -20,40 +20,40 @@ so_far_start all = record {
 }
 
 pub so_far_call : (all : List (List ℕ)) (number : ℕ) (text : List ℕ) (texts : List (List ℕ)) (lines : List Line) (skipped : ℕ) (line : Line)
-  → SoFar all number (text ∷ texts) lines skipped → Asks number (length lines) text (Played line)
-  → SoFar all (number + 1) texts (lines ++ line ∷ []) skipped
+    → SoFar all number (text ∷ texts) lines skipped → Asks number (length lines) text (Played line)
+    → SoFar all (number + 1) texts (lines ++ line ∷ []) skipped
 so_far_call all number text texts lines skipped line so_far asks =
     let longer : length (lines ++ line ∷ []) ≡ length lines + 1 = omega (arith, length-append lines (line ∷ [])) in record {
       reads = λ more s h.
-        let h' : Reads (number + 1) (length lines + 1) texts more s = rw longer at h in
-        rw append_assoc (so_far.reads (line ∷ more) s (call asks h'));
+          let h' : Reads (number + 1) (length lines + 1) texts more s = rw longer at h in
+          rw append_assoc (so_far.reads (line ∷ more) s (call asks h'));
       ends = λ status h.
-        let h' : EndsAt (number + 1) (length lines + 1) texts status = rw longer at h in
-        so_far.ends status (later (Played line) asks h');
+          let h' : EndsAt (number + 1) (length lines + 1) texts status = rw longer at h in
+          so_far.ends status (later (Played line) asks h');
     }
 
 pub so_far_other : (all : List (List ℕ)) (number : ℕ) (text : List ℕ) (texts : List (List ℕ)) (lines : List Line) (skipped : ℕ)
-  → SoFar all number (text ∷ texts) lines skipped → Asks number (length lines) text Skipped
-  → SoFar all (number + 1) texts lines (skipped + 1)
+    → SoFar all number (text ∷ texts) lines skipped → Asks number (length lines) text Skipped
+    → SoFar all (number + 1) texts lines (skipped + 1)
 so_far_other all number text texts lines skipped so_far asks = record {
   reads = λ more s h.
-    let more_by_one : skipped + (1 + s) ≡ skipped + 1 + s = omega arith in
-    subst (λ n. Reads 1 0 all (lines ++ more) n) more_by_one (so_far.reads more (1 + s) (other asks h));
+      let more_by_one : skipped + (1 + s) ≡ skipped + 1 + s = omega arith in
+      subst (λ n. Reads 1 0 all (lines ++ more) n) more_by_one (so_far.reads more (1 + s) (other asks h));
   ends = λ status h. so_far.ends status (later Skipped asks (subst (λ n. EndsAt (number + 1) n texts status) (omega arith) h));
 }
 
 pub so_far_blank : (all : List (List ℕ)) (number : ℕ) (text : List ℕ) (texts : List (List ℕ)) (lines : List Line) (skipped : ℕ)
-  → SoFar all number (text ∷ texts) lines skipped → Asks number (length lines) text Blank
-  → SoFar all (number + 1) texts lines skipped
+    → SoFar all number (text ∷ texts) lines skipped → Asks number (length lines) text Blank
+    → SoFar all (number + 1) texts lines skipped
 so_far_blank all number text texts lines skipped so_far asks = record {
   reads = λ more s h. so_far.reads more s (empty asks h);
   ends = λ status h. so_far.ends status (later Blank asks (subst (λ n. EndsAt (number + 1) n texts status) (omega arith) h));
 }
 
 pub so_far_step : (all : List (List ℕ)) (number played : ℕ) (text : List ℕ) (texts : List (List ℕ)) (lines new_lines : List Line)
-  (skipped new_skipped : ℕ) (step : Step) → SoFar all number (text ∷ texts) lines skipped → played ≡ length lines
-  → Asks number played text step → new_lines ≡ lines_with lines step → new_skipped ≡ skipped_with skipped step
-  → SoFar all (number + 1) texts new_lines new_skipped
+    (skipped new_skipped : ℕ) (step : Step) → SoFar all number (text ∷ texts) lines skipped → played ≡ length lines
+    → Asks number played text step → new_lines ≡ lines_with lines step → new_skipped ≡ skipped_with skipped step
+    → SoFar all (number + 1) texts new_lines new_skipped
 so_far_step all number played text texts lines new_lines skipped new_skipped (Played line) so_far count asks is_lines is_skipped =
     rw (is_lines, is_skipped) (so_far_call all number text texts lines skipped line so_far (rw count at asks))
 so_far_step all number played text texts lines new_lines skipped new_skipped Skipped so_far count asks is_lines is_skipped =
@@ -62,13 +62,13 @@ so_far_step all number played text texts lines new_lines skipped new_skipped Bla
     rw (is_lines, is_skipped) (so_far_blank all number text texts lines skipped so_far asks)
 
 pub so_far_all : (all : List (List ℕ)) (number : ℕ) (lines : List Line) (skipped : ℕ) → SoFar all number [] lines skipped
-  → Reads 1 0 all lines skipped
+    → Reads 1 0 all lines skipped
 so_far_all all number lines skipped so_far =
     let h : Reads 1 0 all (lines ++ []) (skipped + 0) = so_far.reads [] 0 nothing in
     rw (append-nil, add-zero) at h
 
 pub so_far_ends : (all : List (List ℕ)) (number played : ℕ) (text : List ℕ) (texts : List (List ℕ)) (lines : List Line) (skipped : ℕ) (status : Status)
-  → SoFar all number (text ∷ texts) lines skipped → played ≡ length lines → Ends number played text status → EndsAt 1 0 all status
+    → SoFar all number (text ∷ texts) lines skipped → played ≡ length lines → Ends number played text status → EndsAt 1 0 all status
 so_far_ends all number played text texts lines skipped status so_far count ends = so_far.ends status (here (rw count at ends))
 
 pub skipped_by_one : (skipped : ℕ) (step : Step) → skipped_with skipped step ≤ skipped + 1
@@ -78,7 +78,7 @@ skipped_by_one skipped Blank = omega arith
 
 -- no more lines are played than may be
 pub few_with : (number played : ℕ) (text : List ℕ) (lines new_lines : List Line) (step : Step) → played ≡ length lines
-  → Asks number played text step → new_lines ≡ lines_with lines step → length lines ≤ 1048576 → length new_lines ≤ 1048576
+    → Asks number played text step → new_lines ≡ lines_with lines step → length lines ≤ 1048576 → length new_lines ≤ 1048576
 few_with number played text lines new_lines (Played line) count asks is few =
     omega (arith, asks.1, ap length is, length-append lines (line ∷ []))
 few_with number played text lines new_lines Skipped count asks is few = omega (arith, ap length is)

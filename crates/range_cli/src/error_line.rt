@@ -6,10 +6,9 @@ ghost use Rattle.byte_ports.specs.Bytes.{AppendsPrefix};
 ghost use Rattle.byte_ports.specs.Counts.{Rose};
 ghost use Rattle.range_cli.specs.ErrorLine.{error_line, what_text, which_text, bad_line_text, numbered};
 
+use crate::status::{Status, Which};
 use byte_ports::{Failed, Sink, write_all};
 use strace_reader::What;
-
-use crate::status::{Status, Which};
 
 /// The line for wrong words, with its newline.
 const USAGE: &[u8] =
@@ -50,7 +49,12 @@ fn write_bad_line<K: Sink>(err: &mut K, line: u32, column: u32, what: What) -> R
 }
 
 /// Writes a number in decimal, and what stands before and behind it.
-fn write_numbered<K: Sink>(err: &mut K, before: &[u8], number: u64, behind: &[u8]) -> Result<(), Failed>
+fn write_numbered<K: Sink>(
+    err: &mut K,
+    before: &[u8],
+    number: u64,
+    behind: &[u8],
+) -> Result<(), Failed>
     ensures all { OnOk result
         (Appends (K.contents err.old) (K.contents err.new) (numbered before.now number behind.now)) }
     ensures failed_prefix { OnErr result

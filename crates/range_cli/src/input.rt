@@ -2,11 +2,9 @@
 ghost use Rattle.std.specs.Prelude.{◌≤◌, length, IfOk, IfErr};
 ghost use Rattle.range_cli.specs.Input.{Drains, StopsInput};
 
-use std::alloc::Global;
-
-use byte_ports::Source;
-
 use crate::status::{Status, Which};
+use byte_ports::Source;
+use std::alloc::Global;
 
 /// How many bytes an input may have: 64 MiB.
 pub const INPUT_LIMIT: usize = 67_108_864;

@@ -1,4 +1,6 @@
-// The program `range_cli`: it plays a trace of address-space calls and prints the areas that are left.
+// The program `range_cli` plays a trace of address-space calls, as strace(1) prints them, and prints the areas that are
+// left as proc_pid_maps(5) does. `run` is the whole program over a source and two sinks; this file ties it to the
+// process: its words, its standard streams and its exit status.
 #![tactic(auto)]
 
 mod error_line;
@@ -8,7 +10,39 @@ mod play;
 mod report;
 mod run;
 mod status;
+#[cfg(test)]
+mod tests;
 mod trace;
 mod words;
 
-fn main() {}
+use crate::run::run;
+use crate::status::Status;
+use byte_ports::{StdSink, StdSource};
+use std::process::ExitCode;
+use std::{env, io};
+
+/// Runs the program on the process's own streams.
+fn main(rt: HostRuntime) -> ExitCode {
+    let words = match words_after_name(&rt) {
+        Ok(words) => words,
+        Err(error) if error.kind() == io::ErrorKind::OutOfMemory => {
+            return ExitCode::from(Status::Memory.code());
+        }
+        // A word that is no UTF-8 is no accepted word; neither are no words at all.
+        Err(_) => Vec::new(rt.alloc()),
+    };
+    let mut input = StdSource::new(rt.stdin());
+    let mut out = StdSink::output(rt.stdout());
+    let mut err = StdSink::error(rt.stderr());
+    let status = run(rt.alloc(), &words, &mut input, &mut out, &mut err);
+    ExitCode::from(status.code())
+}
+
+/// The words of the command line behind the program's name.
+fn words_after_name(rt: &HostRuntime) -> io::Result<Vec<String>> {
+    let mut words = Vec::new(rt.alloc());
+    for word in env::args(rt)?.skip(1) {
+        words.push(word)?;
+    }
+    Ok(words)
+}

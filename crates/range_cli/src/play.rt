@@ -3,11 +3,9 @@ ghost use Rattle.std.specs.Prelude.{◌≤◌, length, All, IfOk};
 ghost use Rattle.range_cli.specs.Play.{IsPlayed, IsStep};
 ghost use Rattle.range_cli.specs.Trace.{IsNamedLine};
 
-use std::alloc::{AllocError, Global};
-
-use space_model::{Entry, PlainSpace};
-
 use crate::trace::Line;
+use space_model::{Entry, PlainSpace};
+use std::alloc::{AllocError, Global};
 
 /// What playing has left: the space, and one entry for each line.
 #[derive(Debug, Drop)]

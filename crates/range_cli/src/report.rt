@@ -5,12 +5,11 @@ ghost use Rattle.byte_ports.specs.Bytes.{AppendsPrefix};
 ghost use Rattle.byte_ports.specs.Counts.{Rose};
 ghost use Rattle.range_cli.specs.Report.{report_text, asked_log, is_refused, refused_count};
 
+use crate::words::Options;
 use byte_ports::{Failed, Sink};
 use maps_printer::{write_log, write_maps, write_summary};
 use page_types::Reply;
 use space_model::{Area, Entry};
-
-use crate::words::Options;
 
 /// Writes the report of what was played, with so many lines passed over: the log is that of `entries`, at most
 /// 2^32 - 1 of them, and the maps are those of `areas`.
@@ -57,7 +56,10 @@ fn refused_count(entries: &[Entry]) -> u32
     requires { length entries.now < 2 ^ 32 }
     ensures { result ≡ refused_count entries.now }
 {
-    entries.iter().filter(|entry| is_refused(entry.reply)).count() as u32
+    entries
+        .iter()
+        .filter(|entry| is_refused(entry.reply))
+        .count() as u32
 }
 
 /// Whether a reply is a refusal.

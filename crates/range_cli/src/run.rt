@@ -7,11 +7,6 @@ ghost use Rattle.range_cli.specs.Trace.{IsNamedLine};
 ghost use Rattle.range_cli.specs.Words.{Refuses};
 ghost use Rattle.range_cli.specs.Run.{Wrote, HasCause, Complains, IsTraceOf, StopsEarly};
 
-use std::alloc::Global;
-
-use byte_ports::{Sink, Source};
-use space_model::PlainSpace;
-
 use crate::error_line::write_error;
 use crate::input::read_input;
 use crate::play::play;
@@ -19,6 +14,9 @@ use crate::report::write_report;
 use crate::status::Status;
 use crate::trace::{Trace, read_lines};
 use crate::words::options_of;
+use byte_ports::{Sink, Source};
+use space_model::PlainSpace;
+use std::alloc::Global;
 
 /// Plays the trace of `input` as `words` ask for, the words behind the program's name, and writes the report to `out`.
 /// Where the run ends otherwise, the reason goes to `err` as one line; if that write fails the status stays.
@@ -44,12 +42,7 @@ pub fn run<S: Source, K: Sink>(
 }
 
 /// The whole of a run but its line on standard error.
-fn report<S: Source, K: Sink>(
-    alloc: Global,
-    words: &[String],
-    input: &mut S,
-    out: &mut K,
-) -> Status
+fn report<S: Source, K: Sink>(alloc: Global, words: &[String], input: &mut S, out: &mut K) -> Status
     ensures out { Wrote (map string_bytes words.now) (S.remaining input.old)
         (S.remaining input.new) (K.contents out.old) (K.contents out.new) result }
     ensures cause { HasCause (map string_bytes words.now) (S.remaining input.old)
@@ -67,7 +60,13 @@ fn report<S: Source, K: Sink>(
     let Ok(played) = play(alloc, PlainSpace::new(alloc), &trace.lines) else {
         return Status::Memory;
     };
-    match write_report(out, options, &played.entries, played.space.areas(), trace.skipped) {
+    match write_report(
+        out,
+        options,
+        &played.entries,
+        played.space.areas(),
+        trace.skipped,
+    ) {
         Ok(()) => Status::Done,
         Err(_) => Status::WriteFault,
     }

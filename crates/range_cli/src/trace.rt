@@ -4,13 +4,11 @@ ghost use Rattle.std.specs.Prelude.{◌≡◌, ◌<◌, ◌≤◌, length, All, 
 ghost use Rattle.range_cli.specs.Lines.{lines_of};
 ghost use Rattle.range_cli.specs.Trace.{Asks, Ends, Reads, StopsBy, lines_with, skipped_with, IsNamedLine, IsNamedStep};
 
-use std::alloc::Global;
-
-use page_types::Call;
-use strace_reader::{Item, Recorded, read_line};
-
 use crate::lines::next_line;
 use crate::status::{Status, Which};
+use page_types::Call;
+use std::alloc::Global;
+use strace_reader::{Item, Recorded, read_line};
 
 /// How many bytes a line may have, without its newline.
 pub const LINE_LIMIT: usize = 65_535;

@@ -11,4 +11,4 @@ pub returns-clause-failed_prefix : goal.returns-clause-failed_prefix
 returns-clause-failed_prefix g c =
     let same = c.due.ensures in
     on_err_weaker _ (λ last. AppendsPrefix-after _ _ c.in_ok-write_numbered.ensures.all last)
-      (rw same at c.write_numbered-2.ensures.failed_prefix)
+    (rw same at c.write_numbered-2.ensures.failed_prefix)

@@ -9,10 +9,10 @@ returns-in_err-write_all-clause-failed_prefix g c = on_err c.from_residual.resul
 pub returns-in_err-write_decimal-clause-failed_prefix : goal.returns-in_err-write_decimal-clause-failed_prefix
 returns-in_err-write_decimal-clause-failed_prefix g c =
     on_err c.from_residual-in_err-write_decimal.result
-      (AppendsPrefix-after _ _ c.in_ok-write_all.ensures.all (AppendsPrefix-more _ c.in_err-write_decimal.ensures.failed_prefix))
+    (AppendsPrefix-after _ _ c.in_ok-write_all.ensures.all (AppendsPrefix-more _ c.in_err-write_decimal.ensures.failed_prefix))
 
 pub returns-clause-failed_prefix : goal.returns-clause-failed_prefix
 returns-clause-failed_prefix g c =
     on_err_weaker _
-      (λ last. AppendsPrefix-after _ _ c.in_ok-write_all.ensures.all (AppendsPrefix-after _ _ c.in_ok-write_decimal.ensures.all last))
-      c.write_all-2.ensures.failed_prefix
+    (λ last. AppendsPrefix-after _ _ c.in_ok-write_all.ensures.all (AppendsPrefix-after _ _ c.in_ok-write_decimal.ensures.all last))
+    c.write_all-2.ensures.failed_prefix

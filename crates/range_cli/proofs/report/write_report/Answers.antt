@@ -11,14 +11,14 @@ returns-in_err-write_asked_log-clause-failed_prefix g c =
 pub returns-in_err-write_maps-clause-failed_prefix : goal.returns-in_err-write_maps-clause-failed_prefix
 returns-in_err-write_maps-clause-failed_prefix g c =
     on_err c.from_residual-in_err-write_maps.result
-      (AppendsPrefix-after _ _ c.in_ok-write_asked_log.ensures.all (AppendsPrefix-more _ c.in_err-write_maps.ensures.failed_prefix))
+    (AppendsPrefix-after _ _ c.in_ok-write_asked_log.ensures.all (AppendsPrefix-more _ c.in_err-write_maps.ensures.failed_prefix))
 
 pub returns-clause-all : goal.returns-clause-all
 returns-clause-all g c =
     report_all _ _ _ _ _ c.args.options _ c.args.entries.now _ _ _ refl c.refused_count-refused.ensures c.in_ok-write_asked_log.ensures.all c.in_ok-write_maps.ensures.text
-      c.write_summary.ensures.text
+    c.write_summary.ensures.text
 
 pub returns-clause-failed_prefix : goal.returns-clause-failed_prefix
 returns-clause-failed_prefix g c =
     report_prefix _ _ _ _ _ c.args.options _ c.args.entries.now _ _ _ refl c.refused_count-refused.ensures c.in_ok-write_asked_log.ensures.all c.in_ok-write_maps.ensures.text
-      c.write_summary.ensures.failed_prefix
+    c.write_summary.ensures.failed_prefix

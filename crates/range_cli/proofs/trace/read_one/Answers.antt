@@ -8,6 +8,8 @@ returns-then-played-ge-LINES_LIMIT-clause-stopped c =
       omega arith,
       c.if-played-ge-LINES_LIMIT.true,
       refl,
-      (record { number = c.args.number; call = c.in-Ok-Played.call; recorded = c.in-Ok-Played.recorded },
-        (c.in-Ok-Played.field-0-0, rw c.in-Ok-Played.field-0-is at spells)),
+      (
+        record { number = c.args.number; call = c.in-Ok-Played.call; recorded = c.in-Ok-Played.recorded },
+        (c.in-Ok-Played.field-0-0, rw c.in-Ok-Played.field-0-is at spells),
+      ),
     )
