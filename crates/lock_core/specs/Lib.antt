@@ -1,3 +1,13 @@
 pub mod Client
+pub mod Compare
 pub mod Grants
+pub mod Invariant
+pub mod Laws
+pub mod Machine
+pub mod Nodes
+pub mod Paths
 pub mod Range
+pub mod Rows
+pub mod Sizes
+pub mod Views
+pub mod Words

@@ -2,8 +2,16 @@
 // The lock follows Kogan, Dice and Issa, "Scalable Range Locks for Scalable Address Spaces and Beyond", EuroSys 2020; a reader may rely on the definitions of `specs/`, which every crate above shares.
 #![tactic(auto)]
 
+mod compare;
 mod guard;
+mod layout;
 mod range;
+mod steps;
+mod views;
 
+pub use compare::Verdict;
 pub use guard::{FreeGuard, Guard, Means};
+pub use layout::NODES;
 pub use range::{BadRange, Grant, HIGHEST, Held, Mode, Range, conflict};
+pub use steps::{NotEnabled, Step};
+pub use views::{Cursor, Flags, Nodes, Notes, Own, Todo, View};

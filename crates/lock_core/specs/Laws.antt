@@ -1,0 +1,52 @@
+-- What is proved of the machine: laws over the definitions alone, each named by the contract of a public function with no body.
+-- A lock is a state with the sizes that its type keeps and the invariant. The start is one, every step keeps it, and it gives exclusion and no reuse; so both hold after every run.
+-- Kogan, Dice and Issa 2020 argue for their list in prose; the barrier before reuse is this project's own profile.
+use Rattle.std.specs.Prelude.{◌≡◌, ℕ, ◌<◌, ◌≤◌, ◌↔◌, List, Option, Some, slice_get}
+use Rattle.lock_core.specs.Grants.{IsExclusive}
+use Rattle.lock_core.specs.declared.views.View.{View}
+use Rattle.lock_core.specs.declared.steps.Step.{Step}
+use Rattle.lock_core.specs.declared.steps.Step.TheVariants.{ClearHome}
+use Rattle.lock_core.specs.Nodes.{times}
+use Rattle.lock_core.specs.Rows.{Plan, Row}
+use Rattle.lock_core.specs.Machine.{Machine, heap, plan, after, run, start, held_by_seat}
+use Rattle.lock_core.specs.Sizes.{IsSized}
+use Rattle.lock_core.specs.Invariant.{LockInvariant, NoReuse}
+
+-- a state that the lock may be in between two steps
+pub record IsLock (m : Machine) : Type 0 where
+  pub sized : IsSized m
+  pub invariant : LockInvariant (heap m) m.views
+
+-- the computing plan is the table: it gives a plan exactly where that is the row of the step
+abbrev pub PlanIsRow : Type 0
+PlanIsRow = (seats s : ℕ) (v : View) (step : Step) (p : Plan) → (plan seats s v step ≡ Some p) ↔ Row seats s v step p
+
+-- before any step the state is a lock, with any number of seats that there may be
+abbrev pub StartIsLock : Type 0
+StartIsLock = (seats : ℕ) → 0 < seats → seats ≤ 16 → IsLock (start seats)
+
+-- this step, of any seat and wherever it is enabled, makes a lock of a lock
+abbrev pub Keeps : Step → Type 0
+Keeps step = (m next : Machine) (s : ℕ) → IsLock m → after m s step ≡ Some next → IsLock next
+
+-- no two conflicting ranges are held
+abbrev pub LockIsExclusive : Type 0
+LockIsExclusive = (m : Machine) → IsLock m → IsExclusive (held_by_seat m)
+
+-- no view may reach a node that is ready or being filled
+abbrev pub LockHasNoReuse : Type 0
+LockHasNoReuse = (m : Machine) → IsLock m → NoReuse (heap m) m.views
+
+-- a node leaves the ready ones of seat i only by a ClearHome of seat i, which names it
+abbrev pub LeavesReadyByClearHome : Type 0
+LeavesReadyByClearHome =
+    (m next : Machine) (s i x : ℕ) (step : Step) (v u : View) →
+    after m s step ≡ Some next → slice_get m.views i ≡ Some v → slice_get next.views i ≡ Some u → times x u.ready < times x v.ready →
+    (i ≡ s) × (step ≡ ClearHome x)
+
+-- after any run, however long and however the seats take turns
+abbrev pub RunsAreExclusive : Type 0
+RunsAreExclusive = (seats : ℕ) (steps : List (ℕ × Step)) → 0 < seats → seats ≤ 16 → IsExclusive (held_by_seat (run (start seats) steps))
+
+abbrev pub RunsHaveNoReuse : Type 0
+RunsHaveNoReuse = (seats : ℕ) (steps : List (ℕ × Step)) → 0 < seats → seats ≤ 16 → NoReuse (heap (run (start seats) steps)) (run (start seats) steps).views

@@ -1,0 +1,52 @@
+-- What the type of a state keeps, whatever steps were made: sizes, and that every node and seat that it names is there.
+-- It is what a step needs to be safe and to take no memory: lists of different nodes of one seat are no longer than the room that was reserved for them.
+-- This project's own profile.
+use Rattle.std.specs.Prelude.{◌≡◌, ◌≢◌, ℕ, suc, ◌+◌, ◌*◌, ◌/◌, ◌%◌, ◌^◌, ◌<◌, ◌≤◌, ◌==◌, if◌then◌else◌, List, length, slice_get, Option, Some, None}
+use Rattle.lock_core.specs.Range.{IsRange}
+use Rattle.lock_core.specs.declared.views.View.{View}
+use Rattle.lock_core.specs.declared.views.Cursor.{Cursor}
+use Rattle.lock_core.specs.Words.{Heap, to, word_count}
+use Rattle.lock_core.specs.Nodes.{Filled, Listed, filling, listed, times, own_times}
+use Rattle.lock_core.specs.Machine.{Machine, heap}
+
+-- node n is there
+abbrev pub IsNode : ℕ → ℕ → Type 0
+IsNode seats n = n < 16 * seats
+
+-- the node that a next word names, if it names one, is there
+abbrev pub NamesNode : ℕ → ℕ → Type 0
+NamesNode seats w = w / 2 ≤ 16 * seats
+
+-- the nodes that a cursor names are there
+pub record IsCursorThere (seats : ℕ) (c : Cursor) : Type 0 where
+  pub prev : (n : ℕ) → c.prev ≡ Some n → IsNode seats n
+  pub cur : NamesNode seats c.cur
+  pub next : (w : ℕ) → c.next ≡ Some w → NamesNode seats w
+
+-- of its own node a view knows a hi only with a lo below it, the hi at most 2^62, and an aim only with both
+pub record IsFilledInOrder (f : Filled) : Type 0 where
+  pub hi : (hi : ℕ) → f.hi ≡ Some hi → (lo : ℕ) × (f.lo ≡ Some lo) × IsRange lo hi
+  pub aimed : (w : ℕ) → f.aimed ≡ Some w → (f.lo ≢ None) × (f.hi ≢ None)
+
+-- what is kept of the view of seat i
+pub record IsViewSized (seats : ℕ) (h : Heap) (i : ℕ) (v : View) : Type 0 where
+  pub notes : length v.notes ≡ seats
+  pub passed : length v.passed ≡ seats
+  -- ready, used and own node are different nodes of this seat, and homes are different nodes of used
+  pub nodes : (x : ℕ) → own_times x v.own + times x v.ready + times x v.used ≤ (if x / 16 == i then 1 else 0)
+  pub homes : (x : ℕ) → times x v.homes ≤ times x v.used
+  pub hand : (x : ℕ) → v.hand ≡ Some x → IsNode seats x
+  pub cursor : (c : Cursor) → v.cursor ≡ Some c → IsCursorThere seats c
+  pub filled : (f : Filled) → v.own ≡ filling f → IsFilledInOrder f
+  -- the next word of an own node that is aimed or linked has no low bit
+  pub aimed : (f : Filled) (w : ℕ) → v.own ≡ filling f → f.aimed ≡ Some w → h.next (suc f.node) % 2 ≡ 0
+  pub linked : (k : Listed) → v.own ≡ listed k → h.next (suc k.node) % 2 ≡ 0
+
+-- what is kept of the whole state
+pub record IsSized (m : Machine) : Type 0 where
+  pub some : 0 < m.seats
+  pub few : m.seats ≤ 16
+  pub words : length m.words ≡ word_count m.seats
+  pub views : length m.views ≡ m.seats
+  pub cells : (c : ℕ) → c ≤ 16 * m.seats → to (heap m) c ≤ 16 * m.seats
+  pub each : (i : ℕ) (v : View) → slice_get m.views i ≡ Some v → IsViewSized m.seats (heap m) i v
