@@ -1,0 +1,88 @@
+-- What the counts of a node in a seat's lists say: a node that is counted is of that seat, and stands there once.
+use Rattle.std.proofs.Common.{◌≡◌, ◌≢◌, ℕ, ◌+◌, ◌/◌, ◌≤◌, Bool, true, false, List, [], ◌∷◌, ◌++◌, Some, ⊎_elim, refl, sym, ap, ◌∙◌, subst, arith, eqb-true, eq-eqb}
+use Rattle.std.specs.Prelude.{◌==◌, if◌then◌else◌}
+use Rattle.std.proofs.lemmas.Bool.{cases_eq}
+use Rattle.lock_core.specs.declared.views.View.{View}
+use Rattle.lock_core.specs.Words.{Heap}
+use Rattle.lock_core.specs.Nodes.{Filled, Listed, filling, listed, times, own_times, without}
+use Rattle.lock_core.specs.Invariant.{IsViewOf, Places}
+use Rattle.lock_core.proofs.ByView.{same_view}
+
+is_true : (b : Bool) (n : ℕ) → n ≡ (if b then 1 else 0) → 1 ≤ n → b ≡ true
+is_true true n e l = refl
+is_true false n e l = absurd (omega arith)
+
+at_most : (b : Bool) → (if b then 1 else 0) ≤ 1
+at_most true = omega arith
+at_most false = omega arith
+
+pub own_filling : (v : View) (f : Filled) → v.own ≡ filling f → own_times f.node v.own ≡ 1
+own_filling v f e = ap (own_times f.node) e ∙ ap (λ (b : Bool). if b then 1 else 0) (eq-eqb f.node f.node refl)
+
+pub own_linked : (v : View) (k : Listed) → v.own ≡ listed k → own_times k.node v.own ≡ 1
+own_linked v k e = ap (own_times k.node) e ∙ ap (λ (b : Bool). if b then 1 else 0) (eq-eqb k.node k.node refl)
+
+pub times_joined : (x : ℕ) (a b : List ℕ) → times x (a ++ b) ≡ times x a + times x b
+times_joined x [] b = omega arith
+times_joined x (y ∷ a) b = let ih = times_joined x a b in omega arith
+
+times_first : (x y : ℕ) (b : Bool) → (y == x) ≡ b → x ≢ y → ◌≡◌ {A = ℕ} (if b then 1 else 0) 0
+times_first x y true e d = absurd (d (sym (eqb-true y x e)))
+times_first x y false e d = refl
+
+-- of a list of one node
+pub times_other : (x y : ℕ) → x ≢ y → times x (y ∷ []) ≡ 0
+times_other x y d = ap (λ n. n + 0) (times_first x y (y == x) refl d)
+
+pub times_itself : (x : ℕ) → times x (x ∷ []) ≡ 1
+times_itself x = ap (λ (b : Bool). (if b then 1 else 0) + 0) (eq-eqb x x refl)
+
+keep_none : (x y : ℕ) (hs rest ys : List ℕ) (b c : Bool) → (times y hs == 0) ≡ b → (y == x) ≡ c → times x hs ≡ 0 → times x rest ≡ times x ys → times x (if b then y ∷ rest else rest) ≡ (if c then 1 else 0) + times x ys
+keep_none x y hs rest ys true c eb ec e ih = ap (λ (d : Bool). (if d then 1 else 0) + times x rest) ec ∙ ap (λ n. (if c then 1 else 0) + n) ih
+keep_none x y hs rest ys false true eb ec e ih =
+    let same : y ≡ x = eqb-true y x ec in absurd (let f : (times y hs == 0) ≡ true = eq-eqb (times y hs) 0 (ap (λ a. times a hs) same ∙ e) in cc)
+keep_none x y hs rest ys false false eb ec e ih = omega arith
+
+-- a node that isn't in the first list stays in the second without the first
+pub without_none : (x : ℕ) (hs l : List ℕ) → times x hs ≡ 0 → times x (without hs l) ≡ times x l
+without_none x hs [] e = refl
+without_none x hs (y ∷ ys) e = keep_none x y hs (without hs ys) ys (times y hs == 0) (y == x) refl refl e (without_none x hs ys e)
+
+keep_some : (x y : ℕ) (hs rest : List ℕ) (b c : Bool) → (times y hs == 0) ≡ b → (y == x) ≡ c → 1 ≤ times x hs → times x rest ≡ 0 → times x (if b then y ∷ rest else rest) ≡ 0
+keep_some x y hs rest false c eb ec e ih = ih
+keep_some x y hs rest true true eb ec e ih = absurd (let z = eqb-true (times y hs) 0 eb in let same : y ≡ x = eqb-true y x ec in let t = ap (λ a. times a hs) same in omega arith)
+keep_some x y hs rest true false eb ec e ih = ap (λ (d : Bool). (if d then 1 else 0) + times x rest) ec ∙ omega arith
+
+-- and one that is in it isn't there
+pub without_some : (x : ℕ) (hs l : List ℕ) → 1 ≤ times x hs → times x (without hs l) ≡ 0
+without_some x hs [] e = refl
+without_some x hs (y ∷ ys) e = keep_some x y hs (without hs ys) (times y hs == 0) (y == x) refl refl e (without_some x hs ys e)
+
+-- the counts after the homes became ready
+pub once_after : (x own one : ℕ) (ready homes used : List ℕ) → own + times x ready + times x used ≡ one → one ≤ 1 → times x homes ≤ times x used → own + times x (ready ++ homes) + times x (without homes used) ≡ one
+once_after x own one ready homes used e few le =
+    ⊎_elim
+    (λ (z : times x homes ≡ 0). let a = without_none x homes used z in let b = times_joined x ready homes in omega arith)
+    (λ (d : times x homes ≢ 0). let a = without_some x homes used (omega arith) in let b = times_joined x ready homes in omega arith)
+    (cases_eq (times x homes) 0)
+
+module _ (h : Heap) (views : List View) (places : Places h views) where
+  -- a node in a seat's lists is of that seat
+  pub seat_is : (i x : ℕ) (v : View) → IsViewOf views i v → 1 ≤ own_times x v.own + times x v.ready + times x v.used → x / 16 ≡ i
+  seat_is i x v at l = eqb-true _ _ (is_true (x / 16 == i) (own_times x v.own + times x v.ready + times x v.used) (places.once i x v at) l)
+
+  -- and stands there once
+  pub only_once : (i x : ℕ) (v : View) → IsViewOf views i v → own_times x v.own + times x v.ready + times x v.used ≤ 1
+  only_once i x v at = let e = places.once i x v at in let l = at_most (x / 16 == i) in omega arith
+
+  -- two seats that have one node are one seat
+  pub one_seat : (i j x : ℕ) (v u : View) → IsViewOf views i v → IsViewOf views j u → 1 ≤ own_times x v.own + times x v.ready + times x v.used → 1 ≤ own_times x u.own + times x u.ready + times x u.used → i ≡ j
+  one_seat i j x v u at at' l l' = sym (seat_is i x v at l) ∙ seat_is j x u at' l'
+
+  -- so a node that one seat has as its own isn't any seat's used node
+  pub own_not_used : (i j x : ℕ) (v u : View) → IsViewOf views i v → IsViewOf views j u → own_times x v.own ≡ 1 → 1 ≤ times x u.used → ⊥
+  own_not_used i j x v u at at' own used =
+      let q = one_seat i j x v u at at' (omega arith) (omega arith) in
+      let same : v ≡ u = same_view views i v u at (subst (λ a. IsViewOf views a u) (sym q) at') in
+      let w = ap (λ (z : View). times x z.used) same in
+      let l = only_once i x v at in omega arith
