@@ -3,4 +3,7 @@ pub mod ByView
 pub mod Counts
 pub mod Judging
 pub mod Paths
+pub mod Stepping
+pub mod Table
+pub mod Times
 pub mod Words

@@ -6,6 +6,7 @@ pub mod Laws
 pub mod Machine
 pub mod Nodes
 pub mod Paths
+pub mod Places
 pub mod Range
 pub mod Rows
 pub mod Sizes

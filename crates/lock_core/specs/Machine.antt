@@ -112,6 +112,11 @@ abbrev pub made : List ℕ → Option Plan → Option (List ℕ × View)
 made words None = None
 made words (Some p) = Some (slice_set words p.place (p.write (slice_index words p.place)), p.view (slice_index words p.place))
 
+-- whether a plan was carried out: the words and the view are then as it makes them, and otherwise there is no plan and both stay
+abbrev pub Makes : Option Plan → Bool → List ℕ → View → List ℕ → View → Type 0
+Makes p true words v words_now v_now = made words p ≡ Some (words_now, v_now)
+Makes p false words v words_now v_now = (p ≡ None) × (words_now ≡ words) × (v_now ≡ v)
+
 -- the whole state: the words, and the view of each seat
 pub record Machine : Type 0 where
   pub seats : ℕ

@@ -1,11 +1,14 @@
 -- What the type of a state keeps, whatever steps were made: sizes, and that every node and seat that it names is there.
 -- It is what a step needs to be safe and to take no memory: lists of different nodes of one seat are no longer than the room that was reserved for them.
 -- This project's own profile.
-use Rattle.std.specs.Prelude.{◌≡◌, ◌≢◌, ℕ, suc, ◌+◌, ◌*◌, ◌/◌, ◌%◌, ◌^◌, ◌<◌, ◌≤◌, ◌==◌, if◌then◌else◌, List, length, slice_get, Option, Some, None}
-use Rattle.lock_core.specs.Range.{IsRange}
+use Rattle.std.specs.Prelude.{◌≡◌, ◌≢◌, ℕ, suc, ◌+◌, ◌*◌, ◌/◌, ◌%◌, ◌^◌, ◌<◌, ◌≤◌, ◌==◌, if◌then◌else◌, List, ◌∷◌, length, slice_get, slice_index, Option, Some, None}
+use Rattle.lock_core.specs.Range.{Interval, IsRange}
+use Rattle.lock_core.specs.declared.range.Mode.{Mode}
+use Rattle.lock_core.specs.declared.views.Todo.{Todo}
+use Rattle.lock_core.specs.declared.views.Own.TheVariants.{Filling, Linked}
 use Rattle.lock_core.specs.declared.views.View.{View}
 use Rattle.lock_core.specs.declared.views.Cursor.{Cursor}
-use Rattle.lock_core.specs.Words.{Heap, to, word_count}
+use Rattle.lock_core.specs.Words.{Heap, to, word_count, cell_place}
 use Rattle.lock_core.specs.Nodes.{Filled, Listed, filling, listed, times, own_times}
 use Rattle.lock_core.specs.Machine.{Machine, heap}
 
@@ -50,3 +53,24 @@ pub record IsSized (m : Machine) : Type 0 where
   pub views : length m.views ≡ m.seats
   pub cells : (c : ℕ) → c ≤ 16 * m.seats → to (heap m) c ≤ 16 * m.seats
   pub each : (i : ℕ) (v : View) → slice_get m.views i ≡ Some v → IsViewSized m.seats (heap m) i v
+
+-- what seat s may rely on when it makes a step: all that it names is there, and there is room in its lists
+pub record MayStep (seats s : ℕ) (ws : List ℕ) (v : View) : Type 0 where
+  pub few : seats ≤ 16
+  pub seat : s < seats
+  pub words : length ws ≡ word_count seats
+  pub filling : (node : ℕ) (lo hi : Option ℕ) (mode : Mode) (aimed : Option ℕ) → v.own ≡ Filling node lo hi mode aimed → IsNode seats node
+  pub ends : (node lo hi : ℕ) (mode : Mode) (aimed : Option ℕ) → v.own ≡ Filling node (Some lo) (Some hi) mode aimed → IsRange lo hi
+  pub linked : (node : ℕ) (range : Interval) (mode : Mode) (todo : Todo) → v.own ≡ Linked node range mode todo → IsNode seats node
+  pub even : (node : ℕ) (range : Interval) (mode : Mode) (todo : Todo) → v.own ≡ Linked node range mode todo → slice_index ws (cell_place seats (suc node)) % 2 ≡ 0
+  pub hand : (x : ℕ) → v.hand ≡ Some x → IsNode seats x
+  pub prev : (c : Cursor) (p : ℕ) → v.cursor ≡ Some c → c.prev ≡ Some p → IsNode seats p
+  pub cur : (c : Cursor) → v.cursor ≡ Some c → NamesNode seats c.cur
+  pub first : (n : ℕ) → slice_get v.ready 0 ≡ Some n → IsNode seats n
+  pub used : (n : ℕ) → 1 ≤ times n v.used → IsNode seats n
+  pub notes : length v.notes ≡ seats
+  pub passed : length v.passed ≡ seats
+  pub ready_room : (node : ℕ) (lo hi : Option ℕ) (mode : Mode) (aimed : Option ℕ) → v.own ≡ Filling node lo hi mode aimed → length v.ready < 16
+  pub used_room : (node : ℕ) (range : Interval) (mode : Mode) (todo : Todo) → v.own ≡ Linked node range mode todo → length v.used < 16
+  pub release_room : length v.ready + length v.homes ≤ 16
+  pub home_room : (n : ℕ) → 1 ≤ times n v.used → times n v.homes ≡ 0 → length v.ready + length v.homes < 16

@@ -28,6 +28,10 @@ home_place seats n = seats + 4 + 4 * n
 abbrev pub word_count : ℕ → ℕ
 word_count seats = 1 + 65 * seats
 
+-- the place of a client word
+abbrev pub client_place : ℕ → ℕ → ℕ
+client_place seats i = 1 + 65 * seats + i
+
 -- the next word that names node n
 abbrev pub word_of : ℕ → Bool → ℕ
 word_of n marked = if marked then 2 * suc n + 1 else 2 * suc n

@@ -3,15 +3,24 @@
 #![tactic(auto)]
 
 mod compare;
+mod fill;
 mod guard;
+mod laws;
 mod layout;
+mod link;
+mod lists;
+mod pools;
+mod quick;
 mod range;
 mod steps;
 mod views;
+mod walk;
 
-pub use compare::Verdict;
+pub use compare::{Verdict, judge};
 pub use guard::{FreeGuard, Guard, Means};
-pub use layout::NODES;
+pub use laws::plan_is_row;
+pub use layout::{Layout, NODES, node_word, read_word};
+pub use lists::{Flags, Nodes, Notes};
 pub use range::{BadRange, Grant, HIGHEST, Held, Mode, Range, conflict};
 pub use steps::{NotEnabled, Step};
-pub use views::{Cursor, Flags, Nodes, Notes, Own, Todo, View};
+pub use views::{Cursor, Own, Todo, View};

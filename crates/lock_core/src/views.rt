@@ -1,10 +1,9 @@
 // What one seat of the list lock knows: its epoch, its nodes by where they are, its own node, its cursor and the node in its hand.
-// A view is plain data. The lists are small types over a `Vec` with room for all nodes or seats, which contracts see as lists, so that no step takes memory.
+// A view is plain data; its lists are the small types of `lists.rt`, so that no step takes memory.
 // Lists with marked nodes and cursors follow Kogan, Dice and Issa 2020; the pools with homes and epochs are this project's own profile.
-ghost use Rattle.std.specs.Prelude.{◌≡◌, ◌+◌, ◌<◌, ◌≤◌, [], ◌∷◌, ◌++◌, length};
 
+use crate::lists::{Flags, Nodes, Notes};
 use crate::range::{Mode, Range};
-use std::marker::Model;
 
 /// What a linked own node still has to do before its range is held.
 #[derive(Clone, Copy, Debug, PartialEq, Eq)]
@@ -75,48 +74,4 @@ pub struct View {
     pub cursor: Option<Cursor>,
     /// A node that this seat unlinked and has still to give home.
     pub hand: Option<u32>,
-}
-
-/// Nodes in order, with room for the sixteen of one seat.
-#[derive(Debug, Drop)]
-pub struct Nodes {
-    items: Vec<u32>,
-}
-
-impl Model for Nodes {
-    ghost use Rattle.std.specs.Prelude.{ℕ, List, ◌≤◌, vec_capacity};
-
-    ghost Value = { List ℕ };
-
-    ghost view = { λ n. n.items.items };
-
-    ghost invariant = { λ n. 16 ≤ vec_capacity n.items };
-}
-
-/// The epoch that was noted of each seat, if one was.
-#[derive(Debug, Drop)]
-pub struct Notes {
-    items: Vec<Option<u64>>,
-}
-
-impl Model for Notes {
-    ghost use Rattle.std.specs.Prelude.{ℕ, List, Option};
-
-    ghost Value = { List (Option ℕ) };
-
-    ghost view = { λ n. n.items.items };
-}
-
-/// A flag for each seat.
-#[derive(Debug, Drop)]
-pub struct Flags {
-    items: Vec<bool>,
-}
-
-impl Model for Flags {
-    ghost use Rattle.std.specs.Prelude.{List, Bool};
-
-    ghost Value = { List Bool };
-
-    ghost view = { λ n. n.items.items };
 }
