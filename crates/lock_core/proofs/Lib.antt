@@ -3,6 +3,10 @@ pub mod ByView
 pub mod Counts
 pub mod Judging
 pub mod Paths
+pub mod Pigeons
+pub mod Safety
+pub mod SizedSteps
+pub mod Sizing
 pub mod Stepping
 pub mod Table
 pub mod Times

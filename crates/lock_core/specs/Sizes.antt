@@ -5,6 +5,7 @@ use Rattle.std.specs.Prelude.{◌≡◌, ◌≢◌, ℕ, suc, ◌+◌, ◌*◌, 
 use Rattle.lock_core.specs.Range.{Interval, IsRange}
 use Rattle.lock_core.specs.declared.range.Mode.{Mode}
 use Rattle.lock_core.specs.declared.views.Todo.{Todo}
+use Rattle.lock_core.specs.declared.views.Own.{Own}
 use Rattle.lock_core.specs.declared.views.Own.TheVariants.{Filling, Linked}
 use Rattle.lock_core.specs.declared.views.View.{View}
 use Rattle.lock_core.specs.declared.views.Cursor.{Cursor}
@@ -31,19 +32,25 @@ pub record IsFilledInOrder (f : Filled) : Type 0 where
   pub hi : (hi : ℕ) → f.hi ≡ Some hi → (lo : ℕ) × (f.lo ≡ Some lo) × IsRange lo hi
   pub aimed : (w : ℕ) → f.aimed ≡ Some w → (f.lo ≢ None) × (f.hi ≢ None)
 
+-- the own node, the ready and the used nodes of seat i are different nodes of this seat, and the homes are different nodes of the used ones
+pub record AreNodesSized (i : ℕ) (own : Own) (ready used homes : List ℕ) : Type 0 where
+  pub nodes : (x : ℕ) → own_times x own + times x ready + times x used ≤ (if x / 16 == i then 1 else 0)
+  pub homes_used : (x : ℕ) → times x homes ≤ times x used
+
+-- the next word of an own node that is aimed or linked has no low bit
+pub record IsOwnSized (h : Heap) (own : Own) : Type 0 where
+  pub filled : (f : Filled) → own ≡ filling f → IsFilledInOrder f
+  pub aimed : (f : Filled) (w : ℕ) → own ≡ filling f → f.aimed ≡ Some w → h.next (suc f.node) % 2 ≡ 0
+  pub linked : (k : Listed) → own ≡ listed k → h.next (suc k.node) % 2 ≡ 0
+
 -- what is kept of the view of seat i
 pub record IsViewSized (seats : ℕ) (h : Heap) (i : ℕ) (v : View) : Type 0 where
   pub notes : length v.notes ≡ seats
   pub passed : length v.passed ≡ seats
-  -- ready, used and own node are different nodes of this seat, and homes are different nodes of used
-  pub nodes : (x : ℕ) → own_times x v.own + times x v.ready + times x v.used ≤ (if x / 16 == i then 1 else 0)
-  pub homes : (x : ℕ) → times x v.homes ≤ times x v.used
+  pub nodes : AreNodesSized i v.own v.ready v.used v.homes
+  pub own : IsOwnSized h v.own
   pub hand : (x : ℕ) → v.hand ≡ Some x → IsNode seats x
   pub cursor : (c : Cursor) → v.cursor ≡ Some c → IsCursorThere seats c
-  pub filled : (f : Filled) → v.own ≡ filling f → IsFilledInOrder f
-  -- the next word of an own node that is aimed or linked has no low bit
-  pub aimed : (f : Filled) (w : ℕ) → v.own ≡ filling f → f.aimed ≡ Some w → h.next (suc f.node) % 2 ≡ 0
-  pub linked : (k : Listed) → v.own ≡ listed k → h.next (suc k.node) % 2 ≡ 0
 
 -- what is kept of the whole state
 pub record IsSized (m : Machine) : Type 0 where

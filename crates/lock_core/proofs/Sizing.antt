@@ -1,0 +1,240 @@
+-- Every step keeps the sizes of a state: what the type of a state keeps, it keeps after any row of the table.
+use Rattle.std.proofs.Common.{◌≡◌, ◌≢◌, ◌⊎◌, ℕ, zero, suc, ◌+◌, ◌-◌, ◌*◌, ◌/◌, ◌%◌, ◌^◌, ◌<◌, ◌≤◌, Bool, true, false, List, [], ◌∷◌, ◌++◌, length, set, get_or, Some, None, inl, inr, ⊎_elim, refl, sym, ap, ◌∙◌, subst, arith, eqb-true, eq-eqb, length-set}
+use Rattle.std.specs.Prelude.{Option, ◌==◌, if◌then◌else◌, slice_get, slice_index, replicate}
+use Rattle.std.proofs.lemmas.Bool.{cases_eq}
+use Rattle.std.proofs.lemmas.List.{set-get_or, length-replicate}
+use Rattle.lock_core.specs.Range.{IsRange}
+use Rattle.lock_core.specs.declared.range.Mode.{Mode}
+use Rattle.lock_core.specs.declared.range.Mode.TheVariants.{Writer}
+use Rattle.lock_core.specs.declared.views.View.{View}
+use Rattle.lock_core.specs.declared.views.Cursor.{Cursor}
+use Rattle.lock_core.specs.declared.views.Todo.{Todo}
+use Rattle.lock_core.specs.declared.views.Todo.TheVariants.{Forward, FromHead, Done}
+use Rattle.lock_core.specs.declared.views.Own.{Own}
+use Rattle.lock_core.specs.declared.views.Own.TheVariants.{Nothing, Filling, Linked}
+use Rattle.lock_core.specs.declared.compare.Verdict.{Verdict}
+use Rattle.lock_core.specs.declared.compare.Verdict.TheVariants.{Past, Stop, Conflict}
+use Rattle.lock_core.specs.declared.steps.Step.{Step}
+use Rattle.lock_core.specs.Words.{Heap, heap_of, to, cell_of, cell_place, epoch_place, lo_place, hi_place, home_place, plain_node_of, word_count}
+use Rattle.lock_core.specs.Nodes.{Filled, Listed, filling, listed, filled_of, times, own_times, without}
+use Rattle.lock_core.specs.Compare.{verdict_of}
+use Rattle.lock_core.specs.Views.{kept_own, ready_left, left, released, is_passed, note_of, are_others_passed, passes, noted, looked_at, released_if_passed, came_home, home_read, own_at, own_stopped, came_to, seen_after, hi_judged, dropped, unlinked}
+use Rattle.lock_core.specs.Rows.{Plan, Row, enter, leave, read_epoch, read_home, give_home, fill_lo, fill_hi, aim, clear_home, walk, read_lo, read_hi, link, unlink, mark, quick_link, quick_unlink, settle}
+use Rattle.lock_core.specs.Machine.{Machine, heap, after, carried_out}
+use Rattle.lock_core.specs.Sizes.{IsNode, NamesNode, IsCursorThere, IsFilledInOrder, AreNodesSized, IsOwnSized, IsViewSized, IsSized}
+use Rattle.lock_core.proofs.ByView.{set_view, set_there}
+use Rattle.lock_core.proofs.Counts.{times_joined, once_after}
+use Rattle.lock_core.proofs.Words.{WroteCell, wrote_cell, wrote_lo, wrote_hi, wrote_home, wrote_epoch}
+use Rattle.lock_core.proofs.Stepping.{stepped}
+
+-- own nodes
+module _ (h now : Heap) (own : Own) (o : IsOwnSized h own) where
+  -- no next word changed
+  pub own_same : ((c : ℕ) → now.next c ≡ h.next c) → IsOwnSized now own
+  own_same e = record {
+    filled = o.filled;
+    aimed = λ f w q q'. ap (λ n. n % 2) (e (suc f.node)) ∙ o.aimed f w q q';
+    linked = λ k q. ap (λ n. n % 2) (e (suc k.node)) ∙ o.linked k q;
+  }
+
+  -- one next word changed, and no node's is odd by it
+  pub own_kept : (seats p x : ℕ) → WroteCell seats h now p x → ((n : ℕ) → p ≡ suc n → own_times n own ≡ 1 → x % 2 ≡ 0) → IsOwnSized now own
+  own_kept seats p x wrote even = record {
+    filled = o.filled;
+    aimed = λ f w q q'. stays f.node (ap (own_times f.node) q ∙ ap (λ (b : Bool). if b then 1 else 0) (eq-eqb f.node f.node refl)) (o.aimed f w q q');
+    linked = λ k q. stays k.node (ap (own_times k.node) q ∙ ap (λ (b : Bool). if b then 1 else 0) (eq-eqb k.node k.node refl)) (o.linked k q);
+  }
+    where
+      stays : (n : ℕ) → own_times n own ≡ 1 → h.next (suc n) % 2 ≡ 0 → now.next (suc n) % 2 ≡ 0
+      stays n mine e =
+          ⊎_elim
+          (λ (q : suc n ≡ p). ap (λ c. now.next c % 2) q ∙ ap (λ w. w % 2) wrote.is ∙ even n (sym q) mine)
+          (λ (d : suc n ≢ p). ap (λ w. w % 2) (wrote.others (suc n) d) ∙ e)
+          (cases_eq (suc n) p)
+
+pub nothing_sized : (h : Heap) → IsOwnSized h Nothing
+nothing_sized h = record { filled = λ f q. absurd (cc); aimed = λ f w q q'. absurd (cc); linked = λ k q. absurd (cc) }
+
+-- the same node with what is known of it changed
+pub linked_sized : (h : Heap) (k : Listed) → h.next (suc k.node) % 2 ≡ 0 → IsOwnSized h (listed k)
+linked_sized h k e = record {
+  filled = λ f q. absurd (cc);
+  aimed = λ f w q q'. absurd (cc);
+  linked = λ g q. let same : k.node ≡ g.node = cc in ap (λ n. h.next (suc n) % 2) (sym same) ∙ e;
+}
+
+pub same_filled : (f g : Filled) → filling f ≡ filling g → f ≡ g
+same_filled f g q = let some : Some f ≡ Some g = ap filled_of q in cc
+
+pub filling_sized : (h : Heap) (f : Filled) → IsFilledInOrder f → ((w : ℕ) → f.aimed ≡ Some w → h.next (suc f.node) % 2 ≡ 0) → IsOwnSized h (filling f)
+filling_sized h f o e = record {
+  filled = λ g q. subst IsFilledInOrder (same_filled f g q) o;
+  aimed = λ g w q q'. subst (λ (a : Filled). (w : ℕ) → a.aimed ≡ Some w → h.next (suc a.node) % 2 ≡ 0) (same_filled f g q) e w q';
+  linked = λ k q. absurd (cc);
+}
+
+-- the own node once a cursor came to a word, or stopped
+own_at_times : (own : Own) (w x : ℕ) → own_times x (own_at own w) ≡ own_times x own
+own_at_times Nothing w x = refl
+own_at_times (Filling node lo hi mode aimed) w x = refl
+own_at_times (Linked node range mode Forward) w x = split (w == 0)
+  where
+    split : (b : Bool) → own_times x (if b then Linked node range mode Done else Linked node range mode Forward) ≡ (if node == x then 1 else 0)
+    split true = refl
+    split false = refl
+own_at_times (Linked node range mode FromHead) w x = split (w == 2 * suc node)
+  where
+    split : (b : Bool) → own_times x (if b then Linked node range mode Done else Linked node range mode FromHead) ≡ (if node == x then 1 else 0)
+    split true = refl
+    split false = refl
+own_at_times (Linked node range mode Done) w x = refl
+
+own_at_sized : (h : Heap) (own : Own) (w : ℕ) → IsOwnSized h own → IsOwnSized h (own_at own w)
+own_at_sized h Nothing w o = o
+own_at_sized h (Filling node lo hi mode aimed) w o = o
+own_at_sized h (Linked node range mode Forward) w o = split (w == 0)
+  where
+    split : (b : Bool) → IsOwnSized h (if b then Linked node range mode Done else Linked node range mode Forward)
+    split true = linked_sized h (record { node = node; range = range; mode = mode; todo = Done }) (o.linked (record { node = node; range = range; mode = mode; todo = Forward }) refl)
+    split false = o
+own_at_sized h (Linked node range mode FromHead) w o = split (w == 2 * suc node)
+  where
+    split : (b : Bool) → IsOwnSized h (if b then Linked node range mode Done else Linked node range mode FromHead)
+    split true = linked_sized h (record { node = node; range = range; mode = mode; todo = Done }) (o.linked (record { node = node; range = range; mode = mode; todo = FromHead }) refl)
+    split false = o
+own_at_sized h (Linked node range mode Done) w o = o
+
+own_stopped_times : (own : Own) (x : ℕ) → own_times x (own_stopped own) ≡ own_times x own
+own_stopped_times Nothing x = refl
+own_stopped_times (Filling node lo hi mode aimed) x = refl
+own_stopped_times (Linked node range mode Forward) x = refl
+own_stopped_times (Linked node range mode FromHead) x = refl
+own_stopped_times (Linked node range mode Done) x = refl
+
+own_stopped_sized : (h : Heap) (own : Own) → IsOwnSized h own → IsOwnSized h (own_stopped own)
+own_stopped_sized h Nothing o = o
+own_stopped_sized h (Filling node lo hi mode aimed) o = o
+own_stopped_sized h (Linked node range mode Forward) o = linked_sized h (record { node = node; range = range; mode = mode; todo = Done }) (o.linked (record { node = node; range = range; mode = mode; todo = Forward }) refl)
+own_stopped_sized h (Linked node range mode FromHead) o = o
+own_stopped_sized h (Linked node range mode Done) o = o
+
+-- the lists of a view
+same_nodes : (i : ℕ) (own own' : Own) (ready used homes : List ℕ) → ((x : ℕ) → own_times x own' ≡ own_times x own) → AreNodesSized i own ready used homes → AreNodesSized i own' ready used homes
+same_nodes i own own' ready used homes e n = record { nodes = λ x. let q = e x in omega (arith, n.nodes x); homes_used = n.homes_used }
+
+at_most_one : (b : Bool) → (if b then 1 else 0) ≤ 1
+at_most_one true = omega arith
+at_most_one false = omega arith
+
+pub left_nodes : (i : ℕ) (own : Own) (ready used homes : List ℕ) → AreNodesSized i own ready used homes → AreNodesSized i (kept_own own) (ready_left own ready) used homes
+left_nodes i Nothing ready used homes n = n
+left_nodes i (Filling node lo hi mode aimed) ready used homes n = record { nodes = λ x. let l = n.nodes x in omega arith; homes_used = n.homes_used }
+left_nodes i (Linked node range mode todo) ready used homes n = n
+
+released_nodes : (i : ℕ) (own : Own) (ready used homes : List ℕ) → AreNodesSized i own ready used homes → AreNodesSized i own (ready ++ homes) (without homes used) []
+released_nodes i own ready used homes n = record {
+  nodes = λ x.
+      let l = n.nodes x in let most = at_most_one (x / 16 == i) in
+      let e = once_after x (own_times x own) (own_times x own + times x ready + times x used) ready homes used refl (omega arith) (n.homes_used x) in omega arith;
+  homes_used = λ x. omega arith;
+}
+
+came_nodes : (i n : ℕ) (own : Own) (ready used homes : List ℕ) → 1 ≤ times n used → times n homes ≡ 0 → AreNodesSized i own ready used homes → AreNodesSized i own ready used (homes ++ n ∷ [])
+came_nodes i n own ready used homes is_used not_home a = record {
+  nodes = a.nodes;
+  homes_used = λ x. let j = times_joined x homes (n ∷ []) in let l = a.homes_used x in split x (n == x) refl j l;
+}
+  where
+    split : (x : ℕ) (b : Bool) → (n == x) ≡ b → times x (homes ++ n ∷ []) ≡ times x homes + ((if b then 1 else 0) + 0) → times x homes ≤ times x used → times x (homes ++ n ∷ []) ≤ times x used
+    split x true e j l = let q = eqb-true n x e in let u = ap (λ a. times a used) q in let z = ap (λ a. times a homes) q in omega arith
+    split x false e j l = omega arith
+
+pub used_nodes : (i : ℕ) (own : Own) (node : ℕ) (ready used homes : List ℕ) → ((x : ℕ) → own_times x own ≡ (if node == x then 1 else 0)) → AreNodesSized i own ready used homes → AreNodesSized i Nothing ready (used ++ node ∷ []) homes
+used_nodes i own node ready used homes e n = record {
+  nodes = λ x. let j = times_joined x used (node ∷ []) in let q = e x in let l = n.nodes x in omega arith;
+  homes_used = λ x. let j = times_joined x used (node ∷ []) in let l = n.homes_used x in omega arith;
+}
+
+pub taken_nodes : (i n : ℕ) (own : Own) (ready rest used homes : List ℕ) → own ≡ Nothing → ready ≡ n ∷ rest → AreNodesSized i own ready used homes → AreNodesSized i (filling (record { node = n; lo = None; hi = None; mode = Writer; aimed = None })) rest used homes
+taken_nodes i n own ready rest used homes e e' a = record {
+  nodes = λ x. let q = ap (own_times x) e in let r = ap (times x) e' in let l = a.nodes x in omega arith;
+  homes_used = a.homes_used;
+}
+
+-- views
+passed_length : (v : View) (j seats : ℕ) → length v.passed ≡ seats → length (passes v j).passed ≡ seats
+passed_length v j seats e = length-set v.passed j true ∙ e
+
+module _ (seats : ℕ) (h : Heap) (i : ℕ) where
+  pub dropped_sized : (v : View) → IsViewSized seats h i v → IsViewSized seats h i (dropped v)
+  dropped_sized v o = record { notes = o.notes; passed = o.passed; nodes = o.nodes; own = o.own; hand = o.hand; cursor = λ c q. absurd (cc) }
+
+  passes_sized : (v : View) (j : ℕ) → IsViewSized seats h i v → IsViewSized seats h i (passes v j)
+  passes_sized v j o = record { notes = o.notes; passed = passed_length v j seats o.passed; nodes = o.nodes; own = o.own; hand = o.hand; cursor = o.cursor }
+
+  noted_sized : (v : View) (j w : ℕ) (note : Option ℕ) → IsViewSized seats h i v → IsViewSized seats h i (noted v j w note)
+  noted_sized v j w None o = record { notes = length-set v.notes j (Some w) ∙ o.notes; passed = o.passed; nodes = o.nodes; own = o.own; hand = o.hand; cursor = o.cursor }
+  noted_sized v j w (Some n) o = split (n == w)
+    where
+      split : (b : Bool) → IsViewSized seats h i (if b then v else passes v j)
+      split true = o
+      split false = passes_sized v j o
+
+  pub looked_sized : (v : View) (j w : ℕ) → IsViewSized seats h i v → IsViewSized seats h i (looked_at v j w)
+  looked_sized v j w o = split (is_passed v j) (w % 2 == 0)
+    where
+      split : (b d : Bool) → IsViewSized seats h i (if b then v else (if d then passes v j else noted v j w (note_of v j)))
+      split true d = o
+      split false true = passes_sized v j o
+      split false false = noted_sized v j w (note_of v j) o
+
+  released_sized : (v : View) → IsViewSized seats h i v → IsViewSized seats h i (released v)
+  released_sized v o = record { notes = o.notes; passed = o.passed; nodes = released_nodes i v.own v.ready v.used v.homes o.nodes; own = o.own; hand = o.hand; cursor = o.cursor }
+
+  pub epoch_sized : (s : ℕ) (v : View) → IsViewSized seats h i v → IsViewSized seats h i (released_if_passed s v)
+  epoch_sized s v o = split (are_others_passed s v.passed)
+    where
+      split : (b : Bool) → IsViewSized seats h i (if b then released v else v)
+      split true = released_sized v o
+      split false = o
+
+  came_home_sized : (v : View) (n : ℕ) → 1 ≤ times n v.used → times n v.homes ≡ 0 → IsViewSized seats h i v → IsViewSized seats h i (came_home seats v n)
+  came_home_sized v n used homes o = record { notes = length-replicate seats None; passed = length-replicate seats false; nodes = came_nodes i n v.own v.ready v.used v.homes used homes o.nodes; own = o.own; hand = o.hand; cursor = o.cursor }
+
+  pub home_sized : (v : View) (n w : ℕ) → 1 ≤ times n v.used → times n v.homes ≡ 0 → IsViewSized seats h i v → IsViewSized seats h i (home_read seats v n w)
+  home_sized v n w used homes o = split (w == 1) (seats == 1)
+    where
+      split : (b d : Bool) → IsViewSized seats h i (if b then (if d then released (came_home seats v n) else came_home seats v n) else v)
+      split true true = released_sized (came_home seats v n) (came_home_sized v n used homes o)
+      split true false = came_home_sized v n used homes o
+      split false d = o
+
+  pub came_sized : (v : View) (prev : Option ℕ) (w seen : ℕ) → ((n : ℕ) → prev ≡ Some n → IsNode seats n) → NamesNode seats w → IsViewSized seats h i v → IsViewSized seats h i (came_to v prev w seen)
+  came_sized v prev w seen p there o = record {
+    notes = o.notes; passed = o.passed;
+    nodes = same_nodes i v.own (own_at v.own w) v.ready v.used v.homes (own_at_times v.own w) o.nodes;
+    own = own_at_sized h v.own w o.own;
+    hand = o.hand;
+    cursor = λ c q. let same : record { prev = prev; cur = w; next = None; lo = None; seen = seen_after seen w } ≡ c = cc in
+        subst (IsCursorThere seats) same (record { prev = p; cur = there; next = λ w q. absurd (cc) });
+  }
+
+  -- only the cursor changed, or went
+  pub cursor_sized : (v : View) (c : Cursor) → IsCursorThere seats c → IsViewSized seats h i v → IsViewSized seats h i (record v { cursor = Some c })
+  cursor_sized v c there o = record {
+    notes = o.notes; passed = o.passed; nodes = o.nodes; own = o.own; hand = o.hand;
+    cursor = λ d q. let same : c ≡ d = cc in subst (IsCursorThere seats) same there;
+  }
+
+  -- the own node changed, and not which it is
+  pub own_sized : (v : View) (own : Own) → ((x : ℕ) → own_times x own ≡ own_times x v.own) → IsOwnSized h own → IsViewSized seats h i v → IsViewSized seats h i (record v { own = own })
+  own_sized v own e new o = record {
+    notes = o.notes; passed = o.passed; nodes = same_nodes i v.own own v.ready v.used v.homes e o.nodes; own = new; hand = o.hand; cursor = o.cursor;
+  }
+
+  pub judged_sized : (v : View) (c : Cursor) (y n : ℕ) (verdict : Verdict) → IsNode seats y → NamesNode seats n → IsCursorThere seats c → IsViewSized seats h i v → IsViewSized seats h i (hi_judged v c y n verdict)
+  judged_sized v c y n Past node next there o = came_sized v (Some y) n c.seen (λ m q. let same : y ≡ m = cc in subst (IsNode seats) same node) next o
+  judged_sized v c y n Stop node next there o =
+      cursor_sized (record v { own = own_stopped v.own }) (record c { next = None }) (record { prev = there.prev; cur = there.cur; next = λ w q. absurd (cc) })
+      (own_sized v (own_stopped v.own) (own_stopped_times v.own) (own_stopped_sized h v.own o.own) o)
+  judged_sized v c y n Conflict node next there o = o
