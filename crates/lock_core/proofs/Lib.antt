@@ -1,7 +1,9 @@
 pub mod Along
+pub mod Applying
 pub mod ByView
 pub mod Counts
 pub mod Judging
+pub mod Opening
 pub mod Paths
 pub mod Pigeons
 pub mod Safety
