@@ -12,4 +12,5 @@ pub mod Sizing
 pub mod Stepping
 pub mod Table
 pub mod Times
+pub mod PathSteps
 pub mod Words
