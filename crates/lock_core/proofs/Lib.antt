@@ -2,8 +2,10 @@ pub mod Along
 pub mod Applying
 pub mod ByView
 pub mod Counts
+pub mod Cutting
 pub mod Judging
 pub mod Opening
+pub mod Linking
 pub mod Paths
 pub mod Pigeons
 pub mod Safety
@@ -13,4 +15,5 @@ pub mod Stepping
 pub mod Table
 pub mod Times
 pub mod PathSteps
+pub mod Putting
 pub mod Words
