@@ -1,6 +1,7 @@
 pub mod Along
 pub mod Applying
 pub mod ByView
+pub mod Coming
 pub mod Counts
 pub mod Cutting
 pub mod Judging
@@ -16,4 +17,5 @@ pub mod Table
 pub mod Times
 pub mod PathSteps
 pub mod Putting
+pub mod Unlinking
 pub mod Words
