@@ -1,5 +1,5 @@
 -- What the counts of a node in a seat's lists say: a node that is counted is of that seat, and stands there once.
-use Rattle.std.proofs.Common.{◌≡◌, ◌≢◌, ℕ, ◌+◌, ◌/◌, ◌≤◌, Bool, true, false, List, [], ◌∷◌, ◌++◌, Some, ⊎_elim, refl, sym, ap, ◌∙◌, subst, arith, eqb-true, eq-eqb}
+use Rattle.std.proofs.Common.{◌≡◌, ◌≢◌, ◌⊎◌, ℕ, ◌+◌, ◌/◌, ◌≤◌, Bool, true, false, List, [], ◌∷◌, ◌++◌, Some, inl, inr, ⊎_elim, refl, sym, ap, ◌∙◌, subst, arith, eqb-true, eq-eqb}
 use Rattle.std.specs.Prelude.{◌==◌, if◌then◌else◌}
 use Rattle.std.proofs.lemmas.Bool.{cases_eq}
 use Rattle.lock_core.specs.declared.views.View.{View}
@@ -86,3 +86,17 @@ module _ (h : Heap) (views : List View) (places : Places h views) where
       let same : v ≡ u = same_view views i v u at (subst (λ a. IsViewOf views a u) (sym q) at') in
       let w = ap (λ (z : View). times x z.used) same in
       let l = only_once i x v at in omega arith
+
+-- the own node is used from now on: it stands there once, and the counts stay
+module _ (v : View) (k : Listed) (own : v.own ≡ listed k) where
+  pub counts_moved : (x : ℕ) → 0 + times x (v.used ++ k.node ∷ []) ≡ own_times x v.own + times x v.used
+  counts_moved x = let a = times_joined x v.used (k.node ∷ []) in let b = ap (own_times x) own in omega arith
+
+  pub used_or_own : (x : ℕ) → times x (v.used ++ k.node ∷ []) ≡ 1 → (x ≡ k.node) ⊎ (times x v.used ≡ 1)
+  used_or_own x e = ⊎_elim inl (λ (d : x ≢ k.node). inr (let a = times_joined x v.used (k.node ∷ []) in let z = times_other x k.node d in omega arith)) (cases_eq x k.node)
+
+  pub used_grows : (x : ℕ) → times x v.used ≤ times x (v.used ++ k.node ∷ [])
+  used_grows x = let a = times_joined x v.used (k.node ∷ []) in omega arith
+
+  pub own_is_used : (h : Heap) (views : List View) (i : ℕ) → Places h views → IsViewOf views i v → times k.node (v.used ++ k.node ∷ []) ≡ 1
+  own_is_used h views i places at = let a = counts_moved k.node in let b = own_linked v k own in let l = only_once h views places i k.node v at in omega arith

@@ -4,9 +4,11 @@ pub mod ByView
 pub mod Coming
 pub mod Counts
 pub mod Cutting
+pub mod Dropping
 pub mod Judging
 pub mod Opening
 pub mod Linking
+pub mod Marking
 pub mod Paths
 pub mod Pigeons
 pub mod Safety
@@ -17,5 +19,9 @@ pub mod Table
 pub mod Times
 pub mod PathSteps
 pub mod Putting
+pub mod QuickLinking
+pub mod QuickUnlinking
+pub mod LockAfter
+pub mod Taking
 pub mod Unlinking
 pub mod Words
