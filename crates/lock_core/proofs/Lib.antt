@@ -22,6 +22,6 @@ pub mod Putting
 pub mod QuickLinking
 pub mod QuickUnlinking
 pub mod LockAfter
-pub mod Taking
 pub mod Unlinking
 pub mod Words
+pub mod PathLaws

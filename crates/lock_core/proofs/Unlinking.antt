@@ -92,7 +92,7 @@ module _ (seats : ℕ) (h now : Heap) (views : List View) (s : ℕ) (v : View) (
   abbrev view_now : View
   view_now = unlinked v c y (n - 1)
 
-  abbrev cursor_now : Cursor
+  abbrev pub cursor_now : Cursor
   cursor_now = record { prev = c.prev; cur = n - 1; next = None; lo = None; seen = seen_after c.seen (n - 1) }
 
   y_marked_now : IsMarked now y
