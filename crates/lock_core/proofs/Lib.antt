@@ -25,3 +25,4 @@ pub mod LockAfter
 pub mod Unlinking
 pub mod Words
 pub mod PathLaws
+pub mod Holding

@@ -5,6 +5,7 @@
 mod compare;
 mod fill;
 mod guard;
+mod keeps_paths;
 mod laws;
 mod layout;
 mod link;
@@ -19,6 +20,7 @@ mod walk;
 
 pub use compare::{Verdict, judge};
 pub use guard::{FreeGuard, Guard, Means};
+pub use keeps_paths::{link_keeps, mark_keeps, quick_link_keeps, quick_unlink_keeps, unlink_keeps};
 pub use laws::plan_is_row;
 pub use layout::{Layout, NODES, node_word, read_word};
 pub use lists::{Flags, Nodes, Notes};
