@@ -1,7 +1,6 @@
 -- What a cursor that comes to a word makes of the own node: it stays, or its range is held from now on.
 use Rattle.std.proofs.Common.{◌≡◌, ◌≢◌, ◌⊎◌, ℕ, suc, ◌+◌, ◌-◌, ◌*◌, ◌/◌, ◌%◌, Bool, true, false, Some, None, inl, inr, ⊎_elim, refl, ap, ◌∙◌, arith, eqb-true}
 use Rattle.std.specs.Prelude.{◌==◌, if◌then◌else◌}
-use Rattle.std.proofs.lemmas.Bool.{eqb-false}
 use Rattle.lock_core.specs.Range.{Interval, Overlaps}
 use Rattle.lock_core.specs.declared.range.Mode.{Mode}
 use Rattle.lock_core.specs.declared.range.Mode.TheVariants.{Writer}
@@ -9,7 +8,7 @@ use Rattle.lock_core.specs.declared.views.Todo.TheVariants.{Forward, FromHead, D
 use Rattle.lock_core.specs.declared.views.Own.{Own}
 use Rattle.lock_core.specs.declared.views.Own.TheVariants.{Nothing, Filling, Linked}
 use Rattle.lock_core.specs.Paths.{Reach}
-use Rattle.lock_core.specs.Words.{Heap, to, node_of, plain_node_of}
+use Rattle.lock_core.specs.Words.{Heap, to}
 use Rattle.lock_core.specs.Nodes.{Listed, listed}
 use Rattle.lock_core.specs.Views.{own_at}
 use Rattle.lock_core.specs.Invariant.{InChain, IsOrdered, IsWritten}
@@ -42,15 +41,6 @@ coming (Linked node range mode FromHead) w = go (w == 2 * suc node) refl
     go : (b : Bool) → (w == 2 * suc node) ≡ b → ((if b then Linked node range mode Done else Linked node range mode FromHead) ≡ Linked node range mode FromHead) ⊎ CameHome (Linked node range mode FromHead) w (if b then Linked node range mode Done else Linked node range mode FromHead)
     go true e = inr (record { was = record { node = node; range = range; mode = mode; todo = FromHead }; is = refl; now = refl; way = inr (refl, eqb-true w (2 * suc node) e) })
     go false e = inl refl
-
--- a word that names a node without a low bit
-pub plain_node : (w y : ℕ) → plain_node_of w ≡ Some y → (w % 2 ≡ 0) × (w / 2 ≡ suc y)
-plain_node w y e = low (w % 2 == 0) (w / 2 == 0) refl refl e
-  where
-    low : (a b : Bool) → (w % 2 == 0) ≡ a → (w / 2 == 0) ≡ b → (if a then (if b then None else Some (w / 2 - 1)) else None) ≡ Some y → (w % 2 ≡ 0) × (w / 2 ≡ suc y)
-    low false b p q e = absurd (cc)
-    low true true p q e = absurd (cc)
-    low true false p q e = let d = eqb-false (w / 2) 0 q in let i : w / 2 - 1 ≡ y = cc in (eqb-true (w % 2) 0 p, omega arith)
 
 -- a writer that has come to its own node has no other overlapping node behind it
 pub writer_blind : (h : Heap) (k r : Listed) → IsOrdered h (to h 0) → InChain h k.node → IsWritten h k → IsWritten h r → r.node ≢ k.node → k.mode ≡ Writer → Overlaps r.range k.range → Reach (to h) r.node (suc k.node) → ⊥

@@ -21,8 +21,9 @@ pub mod PathSteps
 pub mod Putting
 pub mod QuickLinking
 pub mod QuickUnlinking
-pub mod LockAfter
 pub mod Unlinking
 pub mod Words
 pub mod PathLaws
 pub mod Holding
+pub mod Exclusive
+pub mod Runs

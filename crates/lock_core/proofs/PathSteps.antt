@@ -25,11 +25,6 @@ listed_one k g e =
     let a : k.node ≡ g.node = cc in let b : k.range ≡ g.range = cc in let c : k.mode ≡ g.mode = cc in let d : k.todo ≡ g.todo = cc in
     λ z. record { node = a z; range = b z; mode = c z; todo = d z }
 
-pub filling_one : (k g : Filled) → filling k ≡ filling g → k ≡ g
-filling_one k g e =
-    let a : k.node ≡ g.node = cc in let b : k.lo ≡ g.lo = cc in let c : k.hi ≡ g.hi = cc in let d : k.mode ≡ g.mode = cc in let i : k.aimed ≡ g.aimed = cc in
-    λ z. record { node = a z; lo = b z; hi = c z; mode = d z; aimed = i z }
-
 -- a node isn't both marked and unmarked
 pub not_both : (h : Heap) (x : ℕ) → IsMarked h x → IsUnmarked h x → ⊥
 not_both h x m u = omega arith

@@ -21,8 +21,9 @@ use Rattle.lock_core.proofs.Counts.{own_linked}
 use Rattle.lock_core.proofs.PathSteps.{Change, Fresh, PathStep, listed_one, not_both}
 use Rattle.lock_core.proofs.Putting.{IsLive}
 use Rattle.lock_core.proofs.Cutting.{Cut, cut_change, cut_in_chain, cut_not_in_chain}
-use Rattle.lock_core.proofs.Coming.{done, CameHome, coming, plain_node, writer_blind}
+use Rattle.lock_core.proofs.Coming.{done, CameHome, coming, writer_blind}
 use Rattle.lock_core.proofs.Linking.{own_apart, prev_live, head_even}
+use Rattle.lock_core.proofs.SizedSteps.{plain_is}
 
 -- an own node that a cursor came to its place with is as it was, or done
 pub own_after : (own : Own) (w : ℕ) (g : Listed) → own_at own w ≡ listed g → (own ≡ listed g) ⊎ ((k : Listed) × (own ≡ listed k) × (g ≡ done k) × (((k.todo ≡ Forward) × (w ≡ 0)) ⊎ ((k.todo ≡ FromHead) × (w ≡ 2 * suc k.node))))
@@ -52,10 +53,10 @@ module _ (seats : ℕ) (h now : Heap) (views : List View) (s : ℕ) (v : View) (
   read = k.invariant.fields.cursor s v c k.at k.cursor
 
   low : c.cur % 2 ≡ 0
-  low = (plain_node c.cur y k.node).0
+  low = let e = plain_is c.cur y k.node in omega arith
 
   cur_is : c.cur / 2 ≡ suc y
-  cur_is = (plain_node c.cur y k.node).1
+  cur_is = let e = plain_is c.cur y k.node in omega arith
 
   next_is : n ≡ h.next (suc y)
   next_is = read.marked n k.next k.marked ∙ ap h.next cur_is

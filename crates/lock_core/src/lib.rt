@@ -11,6 +11,7 @@ mod layout;
 mod link;
 mod lists;
 mod pools;
+mod promises;
 mod quick;
 mod range;
 mod state;
@@ -24,6 +25,7 @@ pub use keeps_paths::{link_keeps, mark_keeps, quick_link_keeps, quick_unlink_kee
 pub use laws::plan_is_row;
 pub use layout::{Layout, NODES, node_word, read_word};
 pub use lists::{Flags, Nodes, Notes};
+pub use promises::{lock_has_no_reuse, lock_is_exclusive};
 pub use range::{BadRange, Grant, HIGHEST, Held, Mode, Range, conflict};
 pub use state::{State, apply, fresh, grants};
 pub use steps::{NotEnabled, Step};
