@@ -9,6 +9,11 @@ pub mod Judging
 pub mod Opening
 pub mod Linking
 pub mod Marking
+pub mod Frame
+pub mod Idle
+pub mod Judging
+pub mod Owns
+pub mod Parts
 pub mod Paths
 pub mod Pigeons
 pub mod Safety
@@ -22,6 +27,8 @@ pub mod Putting
 pub mod QuickLinking
 pub mod QuickUnlinking
 pub mod Unlinking
+pub mod Steady
+pub mod Untouched
 pub mod Words
 pub mod PathLaws
 pub mod Holding
