@@ -9,6 +9,7 @@ pub mod Judging
 pub mod Opening
 pub mod Linking
 pub mod Marking
+pub mod Entering
 pub mod Frame
 pub mod Idle
 pub mod Judging
@@ -27,6 +28,7 @@ pub mod Putting
 pub mod QuickLinking
 pub mod QuickUnlinking
 pub mod Unlinking
+pub mod Quiet
 pub mod Steady
 pub mod Untouched
 pub mod Words

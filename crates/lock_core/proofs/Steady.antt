@@ -169,6 +169,27 @@ pub record Looks (h now : Heap) (views : List View) (v u : View) (k : Listed) : 
   pub mode : old.mode ≡ k.mode
   pub sees : (g : Listed) → Rival views old g → HasToSee h old v.cursor g.node → (k.todo ≡ old.todo) × HasToSee now k u.cursor g.node
 
+-- where no epoch but that of a seat without cursor changed, no view reaches what waits for the barrier, unless its seat was in the operation already
+module _ (h now : Heap) (views : List View) (s : ℕ) (v : View) (parts : Parts h views) (at : IsViewOf views s v) (epochs : (j : ℕ) (w : View) → IsViewOf views j w → j ≢ s → now.epoch j ≡ h.epoch j) (epoch : (now.epoch s ≡ h.epoch s) ⊎ (v.cursor ≡ None)) where
+  -- a view that is known to be out afterwards was so before, or had no cursor
+  out_back : (j : ℕ) (w b : View) → IsViewOf views j b → IsOut now w j → IsOut h w j ⊎ (b.cursor ≡ None)
+  out_back j w b e (inl p) = inl (inl p)
+  out_back j w b e (inr n) =
+      ⊎_elim
+      (λ (q : j ≡ s). ⊎_elim
+      (λ (same : now.epoch s ≡ h.epoch s). inl (inr (n.0, n.1, λ z. n.2 (ap now.epoch q ∙ same ∙ sym (ap h.epoch q) ∙ z))))
+      (λ (none : v.cursor ≡ None). inr (sym (ap (λ (z : View). z.cursor) (is_view views s j v b at e q)) ∙ none))
+      epoch)
+      (λ (d : j ≢ s). inl (inr (n.0, n.1, λ z. n.2 (epochs j b e d ∙ z))))
+      (cases_eq j s)
+
+  pub stays_out : (i j x : ℕ) (w b : View) (c : Cursor) → IsViewOf views i w → 1 ≤ times x w.homes → IsOut now w j → IsViewOf views j b → b.cursor ≡ Some c → MayReach h c x → ⊥
+  stays_out i j x w b c ew home out e has m =
+      ⊎_elim
+      (λ (o : IsOut h w j). parts.barrier i j x w b c ew e has home o m)
+      (λ (none : b.cursor ≡ None). cc)
+      (out_back j w b e out)
+
 -- what a step has to say of the stepping seat's view
 pub record Mine (h now : Heap) (views : List View) (s : ℕ) (v u : View) : Type 0 where
   pub kept : IsViewKept now s u
@@ -219,18 +240,6 @@ module _ (h now : Heap) (views : List View) (s : ℕ) (v u : View) (parts : Part
       (λ (b : Met j x). parts.no_reuse i j x w b.view b.cursor ew b.there b.has idle b.may)
       (reach_after j x y d e' has m))
 
-  -- a view that is known to be out afterwards was so before, or had no cursor
-  out_back : (j : ℕ) (w : View) → (b : View) → IsViewOf views j b → IsOut now w j → IsOut h w j ⊎ (b.cursor ≡ None)
-  out_back j w b e (inl p) = inl (inl p)
-  out_back j w b e (inr n) =
-      ⊎_elim
-      (λ (q : j ≡ s). ⊎_elim
-      (λ (same : now.epoch s ≡ h.epoch s). inl (inr (n.0, n.1, λ z. n.2 (ap now.epoch q ∙ same ∙ sym (ap h.epoch q) ∙ z))))
-      (λ (none : v.cursor ≡ None). inr (sym (ap (λ (z : View). z.cursor) (mine_is h now views s v u parts at aside j b e q)) ∙ none))
-      mine.epoch)
-      (λ (d : j ≢ s). inl (inr (n.0, n.1, λ z. n.2 (mine.epochs j b e d ∙ z))))
-      (cases_eq j s)
-
   barrier_now : Barrier now these
   barrier_now i j x w y d e e' has home out m =
       let one = places.at_home i x w e home in
@@ -238,10 +247,7 @@ module _ (h now : Heap) (views : List View) (s : ℕ) (v u : View) (parts : Part
       ⊎_elim off
       (λ (b : Met j x). by_seat h now views s v u parts at aside i w e
       (λ q r. mine.out j x b.view b.cursor (subst (λ (z : View). 1 ≤ times x z.homes) (sym r) home) (subst (λ (z : View). IsOut now z j) (sym r) out) b.there b.has b.may)
-      (λ n ew. ⊎_elim
-      (λ (o : IsOut h w j). parts.barrier i j x w b.view b.cursor ew b.there b.has home o b.may)
-      (λ (none : b.view.cursor ≡ None). let z = b.has in cc)
-      (out_back j w b.view b.there out)))
+      (λ n ew. stays_out h now views s v parts at mine.epochs mine.epoch i j x w b.view b.cursor ew home out b.there b.has b.may))
       (reach_after j x y d e' has m)
 
   alone_now : now.next 0 % 2 ≡ 1 → IsAlone now these
