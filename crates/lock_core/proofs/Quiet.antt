@@ -5,12 +5,27 @@ use Rattle.lock_core.specs.declared.views.View.{View}
 use Rattle.lock_core.specs.declared.views.Cursor.{Cursor}
 use Rattle.lock_core.specs.declared.views.Own.{Own}
 use Rattle.lock_core.specs.Words.{Heap, to}
-use Rattle.lock_core.specs.Nodes.{Filled, Listed, filling, listed, times}
+use Rattle.lock_core.specs.Nodes.{Filled, Listed, filling, listed, times, own_times}
 use Rattle.lock_core.specs.Invariant.{IsViewOf, InChain, MayReach, IsKnown, IsWritten, HasToSee, IsOut, IsIdle, IsAlone}
 use Rattle.lock_core.proofs.Idle.{idle_not_chain}
 use Rattle.lock_core.proofs.Parts.{Parts, IsCursorKept, IsViewKept}
 use Rattle.lock_core.proofs.Frame.{Aside, cursor_now, clear_cursor, may_back, sees_on}
-use Rattle.lock_core.proofs.Steady.{Rival, Looks, Mine}
+use Rattle.lock_core.proofs.Steady.{Rival, Looks, Mine, Stands}
+
+-- the nodes stay where they are
+pub stands_quiet : (h now : Heap) (views : List View) (s : ℕ) (v u : View) → Parts h views → IsViewOf views s v → ((x : ℕ) → now.home x ≡ h.home x) → u.own ≡ v.own → u.ready ≡ v.ready → u.used ≡ v.used → u.homes ≡ v.homes → u.hand ≡ v.hand → Stands h now views s v u
+stands_quiet h now views s v u parts at home own ready used homes hand = record {
+  times_same = λ x z. own_times x (own z) + times x (ready z) + times x (used z);
+  homes = λ x. let a = ap (times x) homes in let b = ap (times x) used in let l = parts.places.homes s x v at in omega (arith, a, b, l);
+  at_home = λ x l. home x ∙ parts.places.at_home s x v at (subst (λ (q : List ℕ). 1 ≤ times x q) homes l);
+  linked = λ k e. (k, sym own ∙ e, refl);
+  linked_on = λ k e. (k, own ∙ e, refl);
+  used = λ x e. sym (ap (times x) used) ∙ e;
+  used_on = λ x e z. ap (times x) used ∙ e;
+  filling = λ f e. home f.node ∙ parts.places.filling_home s v f at (sym own ∙ e);
+  hand = λ x e. sym hand ∙ e;
+  hand_on = λ x e. inl (hand ∙ e);
+}
 
 -- the words of every node but its home word stay, and the head names what it named
 pub record Calm (h now : Heap) : Type 0 where
@@ -60,10 +75,10 @@ module _ (h now : Heap) (views : List View) (s : ℕ) (v u : View) (parts : Part
 
     pub mine_quiet : IsViewKept now s u
         → ((x : ℕ) → IsIdle u x → (InChain h x → ⊥) × ((j : ℕ) (w : View) (c : Cursor) → IsViewOf views j w → w.cursor ≡ Some c → MayReach h c x → ⊥))
-        → ((j x : ℕ) (w : View) (c : Cursor) → 1 ≤ times x u.homes → IsOut now u j → IsViewOf views j w → w.cursor ≡ Some c → MayReach h c x → ⊥)
+        → ((j x : ℕ) (w : View) (c : Cursor) → (j ≡ s → now.epoch s ≡ h.epoch s) → 1 ≤ times x u.homes → IsOut now u j → IsViewOf views j w → w.cursor ≡ Some c → MayReach h c x → ⊥)
         → (now.next 0 % 2 ≡ 1 → h.next 0 % 2 ≡ 1)
         → ((j : ℕ) (w : View) → IsViewOf views j w → j ≢ s → now.epoch j ≡ h.epoch j)
-        → (now.epoch s ≡ h.epoch s) ⊎ (v.cursor ≡ None)
+        → (now.epoch s ≡ h.epoch s) ⊎ (u.cursor ≡ None)
         → Mine h now views s v u
     mine_quiet kept idle out low epochs epoch = record {
       kept = kept;

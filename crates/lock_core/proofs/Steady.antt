@@ -169,26 +169,23 @@ pub record Looks (h now : Heap) (views : List View) (v u : View) (k : Listed) : 
   pub mode : old.mode ≡ k.mode
   pub sees : (g : Listed) → Rival views old g → HasToSee h old v.cursor g.node → (k.todo ≡ old.todo) × HasToSee now k u.cursor g.node
 
--- where no epoch but that of a seat without cursor changed, no view reaches what waits for the barrier, unless its seat was in the operation already
-module _ (h now : Heap) (views : List View) (s : ℕ) (v : View) (parts : Parts h views) (at : IsViewOf views s v) (epochs : (j : ℕ) (w : View) → IsViewOf views j w → j ≢ s → now.epoch j ≡ h.epoch j) (epoch : (now.epoch s ≡ h.epoch s) ⊎ (v.cursor ≡ None)) where
-  -- a view that is known to be out afterwards was so before, or had no cursor
-  out_back : (j : ℕ) (w b : View) → IsViewOf views j b → IsOut now w j → IsOut h w j ⊎ (b.cursor ≡ None)
-  out_back j w b e (inl p) = inl (inl p)
-  out_back j w b e (inr n) =
-      ⊎_elim
-      (λ (q : j ≡ s). ⊎_elim
-      (λ (same : now.epoch s ≡ h.epoch s). inl (inr (n.0, n.1, λ z. n.2 (ap now.epoch q ∙ same ∙ sym (ap h.epoch q) ∙ z))))
-      (λ (none : v.cursor ≡ None). inr (sym (ap (λ (z : View). z.cursor) (is_view views s j v b at e q)) ∙ none))
-      epoch)
-      (λ (d : j ≢ s). inl (inr (n.0, n.1, λ z. n.2 (epochs j b e d ∙ z))))
-      (cases_eq j s)
+-- no view of a seat whose epoch stays reaches what waits for the barrier of one that knows it to be out
+module _ (h now : Heap) (views : List View) (s : ℕ) (v : View) (parts : Parts h views) (at : IsViewOf views s v) (epochs : (j : ℕ) (w : View) → IsViewOf views j w → j ≢ s → now.epoch j ≡ h.epoch j) where
+  -- a view that is known to be out afterwards was so before
+  out_back : (j : ℕ) (w b : View) → IsViewOf views j b → (j ≡ s → now.epoch s ≡ h.epoch s) → IsOut now w j → IsOut h w j
+  out_back j w b e same (inl p) = inl p
+  out_back j w b e same (inr n) =
+      inr (
+        n.0,
+        n.1,
+        ⊎_elim
+        (λ (q : j ≡ s). λ z. n.2 (ap now.epoch q ∙ same q ∙ sym (ap h.epoch q) ∙ z))
+        (λ (d : j ≢ s). λ z. n.2 (epochs j b e d ∙ z))
+        (cases_eq j s),
+      )
 
-  pub stays_out : (i j x : ℕ) (w b : View) (c : Cursor) → IsViewOf views i w → 1 ≤ times x w.homes → IsOut now w j → IsViewOf views j b → b.cursor ≡ Some c → MayReach h c x → ⊥
-  stays_out i j x w b c ew home out e has m =
-      ⊎_elim
-      (λ (o : IsOut h w j). parts.barrier i j x w b c ew e has home o m)
-      (λ (none : b.cursor ≡ None). cc)
-      (out_back j w b e out)
+  pub stays_out : (i j x : ℕ) (w b : View) (c : Cursor) → (j ≡ s → now.epoch s ≡ h.epoch s) → IsViewOf views i w → 1 ≤ times x w.homes → IsOut now w j → IsViewOf views j b → b.cursor ≡ Some c → MayReach h c x → ⊥
+  stays_out i j x w b c same ew home out e has m = parts.barrier i j x w b c ew e has home (out_back j w b e same out) m
 
 -- what a step has to say of the stepping seat's view
 pub record Mine (h now : Heap) (views : List View) (s : ℕ) (v u : View) : Type 0 where
@@ -197,7 +194,7 @@ pub record Mine (h now : Heap) (views : List View) (s : ℕ) (v u : View) : Type
   pub reach : (d : Cursor) (x : ℕ) → u.cursor ≡ Some d → MayReach now d x → InChain h x ⊎ ((c : Cursor) × (v.cursor ≡ Some c) × MayReach h c x)
   -- no view may reach its idle nodes, nor one that it knows to be out its homes
   pub idle : (x : ℕ) → IsIdle u x → (InChain h x → ⊥) × ((j : ℕ) (w : View) (c : Cursor) → IsViewOf views j w → w.cursor ≡ Some c → MayReach h c x → ⊥)
-  pub out : (j x : ℕ) (w : View) (c : Cursor) → 1 ≤ times x u.homes → IsOut now u j → IsViewOf views j w → w.cursor ≡ Some c → MayReach h c x → ⊥
+  pub out : (j x : ℕ) (w : View) (c : Cursor) → (j ≡ s → now.epoch s ≡ h.epoch s) → 1 ≤ times x u.homes → IsOut now u j → IsViewOf views j w → w.cursor ≡ Some c → MayReach h c x → ⊥
   pub looks : (k : Listed) → u.own ≡ listed k → Looks h now views v u k
   pub held : (k : Listed) → v.own ≡ listed k → k.todo ≡ Done → u.own ≡ listed k
   -- while the fast path is taken, its cursor names a node that stands alone by the head's word only
@@ -205,7 +202,7 @@ pub record Mine (h now : Heap) (views : List View) (s : ℕ) (v u : View) : Type
   -- the head has the low bit only where it had it, and epochs of other seats stay
   pub low : now.next 0 % 2 ≡ 1 → h.next 0 % 2 ≡ 1
   pub epochs : (j : ℕ) (w : View) → IsViewOf views j w → j ≢ s → now.epoch j ≡ h.epoch j
-  pub epoch : (now.epoch s ≡ h.epoch s) ⊎ (v.cursor ≡ None)
+  pub epoch : (now.epoch s ≡ h.epoch s) ⊎ (u.cursor ≡ None)
 
 module _ (h now : Heap) (views : List View) (s : ℕ) (v u : View) (parts : Parts h views) (at : IsViewOf views s v) (aside : Aside h now v) (mine : Mine h now views s v u) (places : Places now (slice_set views s u)) where
   abbrev these : List View
@@ -244,10 +241,14 @@ module _ (h now : Heap) (views : List View) (s : ℕ) (v u : View) (parts : Part
   barrier_now i j x w y d e e' has home out m =
       let one = places.at_home i x w e home in
       let off : InChain h x → ⊥ = λ r. let z = places.chain_home x (chain_on h now views s v parts at aside x r) in omega (arith, one, z) in
+      let same : j ≡ s → now.epoch s ≡ h.epoch s = λ q. ⊎_elim
+          (λ (a : now.epoch s ≡ h.epoch s). a)
+          (λ (none : u.cursor ≡ None). absurd (let z = is_view these s j u y (mine_after h now views s v u parts at aside) e' q in let k = ap (λ (g : View). g.cursor) z in cc))
+          mine.epoch in
       ⊎_elim off
       (λ (b : Met j x). by_seat h now views s v u parts at aside i w e
-      (λ q r. mine.out j x b.view b.cursor (subst (λ (z : View). 1 ≤ times x z.homes) (sym r) home) (subst (λ (z : View). IsOut now z j) (sym r) out) b.there b.has b.may)
-      (λ n ew. stays_out h now views s v parts at mine.epochs mine.epoch i j x w b.view b.cursor ew home out b.there b.has b.may))
+      (λ q r. mine.out j x b.view b.cursor same (subst (λ (z : View). 1 ≤ times x z.homes) (sym r) home) (subst (λ (z : View). IsOut now z j) (sym r) out) b.there b.has b.may)
+      (λ n ew. stays_out h now views s v parts at mine.epochs i j x w b.view b.cursor same ew home out b.there b.has b.may))
       (reach_after j x y d e' has m)
 
   alone_now : now.next 0 % 2 ≡ 1 → IsAlone now these
