@@ -11,6 +11,7 @@ pub mod Linking
 pub mod Marking
 pub mod Entering
 pub mod Frame
+pub mod Homing
 pub mod Idle
 pub mod Judging
 pub mod Owns
