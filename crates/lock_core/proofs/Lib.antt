@@ -10,6 +10,7 @@ pub mod Opening
 pub mod Linking
 pub mod Marking
 pub mod Entering
+pub mod FillSteps
 pub mod Frame
 pub mod Homing
 pub mod Idle
