@@ -1,5 +1,6 @@
 pub mod Along
 pub mod Applying
+pub mod Barring
 pub mod ByView
 pub mod Coming
 pub mod Counts
@@ -22,6 +23,8 @@ pub mod Pigeons
 pub mod Safety
 pub mod SizedSteps
 pub mod Sizing
+pub mod Quiet
+pub mod Steady
 pub mod Stepping
 pub mod Table
 pub mod Times
