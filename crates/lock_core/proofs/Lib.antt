@@ -16,6 +16,7 @@ pub mod Frame
 pub mod Homing
 pub mod Idle
 pub mod Judging
+pub mod Moving
 pub mod Owns
 pub mod Parts
 pub mod Paths
