@@ -96,7 +96,7 @@ leaves h now views s v parts at done wrote =
         sees = λ o r q. absurd (not_looking g o r.way (done g own));
       };
       held = λ g e todo. ap kept_own e;
-      unseen = λ a d e m. absurd (cc);
+      unseen = λ odd a d e m. absurd (cc);
       low = λ l. sym (ap (λ n. n % 2) (wrote.next 0)) ∙ l;
       epochs = epochs;
       epoch = inr refl;

@@ -51,7 +51,7 @@ module _ (seats : ℕ) (h now : Heap) (views : List View) (s : ℕ) (v : View) (
         out = λ j x w c same here out e has m. stays_out h now views s v parts at epochs s j x v w c same at here out e has m;
         looks = λ q e. absurd (cc);
         held = λ q e todo. absurd (cc);
-        unseen = λ a d e m. a.unseen s v d at e (may_back h now views s v parts at aside d (clear_cursor h now views s v parts at aside s v d at e) a.node m);
+        unseen = λ odd a d e m. a.unseen s v d at e (may_back h now views s v parts at aside d (clear_cursor h now views s v parts at aside s v d at e) a.node m);
         low = low;
         epochs = epochs;
         epoch = inl (epoch s (few s v at));

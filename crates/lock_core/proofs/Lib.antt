@@ -38,6 +38,7 @@ pub mod Unlinking
 pub mod Quiet
 pub mod Steady
 pub mod Untouched
+pub mod Walking
 pub mod Words
 pub mod PathLaws
 pub mod Holding

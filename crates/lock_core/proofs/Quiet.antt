@@ -90,7 +90,7 @@ module _ (h now : Heap) (views : List View) (s : ℕ) (v u : View) (parts : Part
         sees = λ g r q. (refl, subst (λ (o : Option Cursor). HasToSee now k o g.node) (sym cursor) (sees_on h now views s v parts at aside k v.cursor g.node (parts.places.linked s v k at e').0 (λ c has. clear_cursor h now views s v parts at aside s v c at has) q));
       };
       held = λ k e done. own ∙ e;
-      unseen = λ a d e m. let e' = old_cursor d e in a.unseen s v d at e' (may_back h now views s v parts at aside d (clear_cursor h now views s v parts at aside s v d at e') a.node m);
+      unseen = λ odd a d e m. let e' = old_cursor d e in a.unseen s v d at e' (may_back h now views s v parts at aside d (clear_cursor h now views s v parts at aside s v d at e') a.node m);
       low = low;
       epochs = epochs;
       epoch = epoch;

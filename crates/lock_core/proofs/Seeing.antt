@@ -106,5 +106,5 @@ drops h views s v parts at = moves_kept h h views s v (dropped v) parts at (calm
   reach = λ d x e m. absurd (cc);
   sees = λ k g own r see. (refl, sees_anew h views s v k g parts at own r);
   to_see = λ k own e. sees_own_anew h k (parts.places.linked s v k at own).0 e;
-  unseen = λ a d e m. absurd (cc);
+  unseen = λ odd a d e m. absurd (cc);
 })
