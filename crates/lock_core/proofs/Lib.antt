@@ -25,6 +25,7 @@ pub mod Safety
 pub mod SizedSteps
 pub mod Sizing
 pub mod Quiet
+pub mod Reading
 pub mod Seeing
 pub mod Steady
 pub mod Stepping
