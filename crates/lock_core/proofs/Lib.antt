@@ -15,6 +15,7 @@ pub mod FillSteps
 pub mod Frame
 pub mod Homing
 pub mod Idle
+pub mod Judged
 pub mod Judging
 pub mod Moving
 pub mod Owns
