@@ -28,6 +28,7 @@ pub mod Sizing
 pub mod Quiet
 pub mod Reading
 pub mod Seeing
+pub mod Settling
 pub mod Steady
 pub mod Stepping
 pub mod Table

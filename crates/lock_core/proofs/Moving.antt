@@ -41,7 +41,7 @@ pub record Moves (h now : Heap) (views : List View) (s : ℕ) (v u : View) : Typ
   -- what it had to see it still has, unless nothing is there
   pub sees : (k g : Listed) → v.own ≡ listed k → Rival views k g → HasToSee h k v.cursor g.node → (u.own ≡ v.own) × HasToSee now k u.cursor g.node
   pub to_see : (k : Listed) → u.own ≡ listed k → k.todo ≡ FromHead → HasToSee now k u.cursor k.node
-  pub unseen : h.next 0 % 2 ≡ 1 → (a : IsAlone h views) (d : Cursor) → u.cursor ≡ Some d → MayReach now d a.node → d.cur ≡ 2 * suc a.node + 1
+  pub unseen : now.next 0 % 2 ≡ 1 → (a : IsAlone h views) (d : Cursor) → u.cursor ≡ Some d → MayReach now d a.node → d.cur ≡ 2 * suc a.node + 1
 
 module _ (h now : Heap) (views : List View) (s : ℕ) (v u : View) (parts : Parts h views) (at : IsViewOf views s v) (calm : Calm h now) (home : (x : ℕ) → now.home x ≡ h.home x) (epochs : (j : ℕ) (w : View) → IsViewOf views j w → now.epoch j ≡ h.epoch j) (low : now.next 0 % 2 ≡ 1 → h.next 0 % 2 ≡ 1) (moves : Moves h now views s v u) where
   filling_back : (f : Filled) → u.own ≡ filling f → v.own ≡ filling f

@@ -198,7 +198,7 @@ pub record Mine (h now : Heap) (views : List View) (s : ℕ) (v u : View) : Type
   pub looks : (k : Listed) → u.own ≡ listed k → Looks h now views v u k
   pub held : (k : Listed) → v.own ≡ listed k → k.todo ≡ Done → u.own ≡ listed k
   -- while the fast path is taken, its cursor names a node that stands alone by the head's word only
-  pub unseen : h.next 0 % 2 ≡ 1 → (a : IsAlone h views) (d : Cursor) → u.cursor ≡ Some d → MayReach now d a.node → d.cur ≡ 2 * suc a.node + 1
+  pub unseen : now.next 0 % 2 ≡ 1 → (a : IsAlone h views) (d : Cursor) → u.cursor ≡ Some d → MayReach now d a.node → d.cur ≡ 2 * suc a.node + 1
   -- the head has the low bit only where it had it, and epochs of other seats stay
   pub low : now.next 0 % 2 ≡ 1 → h.next 0 % 2 ≡ 1
   pub epochs : (j : ℕ) (w : View) → IsViewOf views j w → j ≢ s → now.epoch j ≡ h.epoch j
@@ -265,7 +265,7 @@ module _ (h now : Heap) (views : List View) (s : ℕ) (v u : View) (parts : Part
             (λ (b : IsHeldBy views a.node). inr (held_now a.node b))
             a.rest;
         unseen = λ i w c e has m. by_seat h now views s v u parts at aside i w e
-            (λ q r. mine.unseen (mine.low low) a c (ap (λ (z : View). z.cursor) r ∙ has) m)
+            (λ q r. mine.unseen low a c (ap (λ (z : View). z.cursor) r ∙ has) m)
             (λ d e'. a.unseen i w c e' has (may_back h now views s v parts at aside c (clear_cursor h now views s v parts at aside i w c e' has) a.node m));
       }
     where
