@@ -49,6 +49,7 @@ pub mod QuickUnlinking
 pub mod Unlinking
 pub mod Untouched
 pub mod Walking
+pub mod WordGrants
 pub mod WordLaws
 pub mod Words
 pub mod PathLaws

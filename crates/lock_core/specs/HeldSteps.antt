@@ -57,3 +57,11 @@ QuickLinkMayGain = EachStep QuickLink (λ m next s. HoldsOn m next ⊎ Gains m n
 -- QuickUnlink gives back where its exchange succeeds
 abbrev pub QuickUnlinkMayGiveBack : Type 0
 QuickUnlinkMayGiveBack = EachStep QuickUnlink (λ m next s. HoldsOn m next ⊎ GivesBack m next s)
+
+-- a step of this kind changes no grant
+abbrev pub ChangesNoGrant : Step → Type 0
+ChangesNoGrant step = EachStep step (λ m next s. HoldsOn m next)
+
+-- a step of this kind may gain, since a validation may come to its end by it
+abbrev pub MayGain : Step → Type 0
+MayGain step = EachStep step (λ m next s. HoldsOn m next ⊎ Gains m next s)
