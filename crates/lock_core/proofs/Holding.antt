@@ -18,7 +18,7 @@ use Rattle.lock_core.specs.Words.{cell_place, cell_of}
 use Rattle.lock_core.specs.Views.{todo_of, own_at, dropped, unlinked, quick_linked, quick_unlinked}
 use Rattle.lock_core.specs.Rows.{Plan, Row, link, unlink, mark, quick_link, quick_unlink}
 use Rattle.lock_core.specs.Machine.{Machine, after, carried_out, held_at, held_by_seat}
-use Rattle.lock_core.specs.HeldSteps.{OwnHeld, HoldsOn, Gains, GivesBack, EachStep, LinkHoldsOn, UnlinkMayGain, MarkGivesBack, QuickLinkMayGain, QuickUnlinkMayGiveBack}
+use Rattle.lock_core.specs.HeldSteps.{OwnHeld, HoldsOn, Gains, GivesBack, EachStep, ChangesNoGrant, MayGain, AlwaysGivesBack, MayGiveBack}
 use Rattle.lock_core.proofs.ByView.{set_there}
 use Rattle.lock_core.proofs.Coming.{CameHome, coming}
 use Rattle.lock_core.proofs.Stepping.{stepped}
@@ -103,17 +103,17 @@ module _ (m : Machine) (s : ℕ) (v : View) (at : slice_get m.views s ≡ Some v
 pub each_row : (step : Step) (does : Machine → Machine → ℕ → Type 0) → ((m : Machine) (s : ℕ) (v : View) → slice_get m.views s ≡ Some v → (p : Plan) → Row m.seats s v step p → does m (carried_out m s p) s) → EachStep step does
 each_row step does rows m next s e = let t = stepped m next s step e in subst (λ (n : Machine). does m n s) t.is (rows m s t.view t.at t.plan t.row)
 
-pub link_holds_law : LinkHoldsOn
+pub link_holds_law : ChangesNoGrant Link
 link_holds_law = each_row Link _ link_holds
 
-pub unlink_gains_law : UnlinkMayGain
+pub unlink_gains_law : MayGain Unlink
 unlink_gains_law = each_row Unlink _ unlink_gains
 
-pub mark_gives_back_law : MarkGivesBack
+pub mark_gives_back_law : AlwaysGivesBack Mark
 mark_gives_back_law = each_row Mark _ mark_gives_back
 
-pub quick_link_gains_law : QuickLinkMayGain
+pub quick_link_gains_law : MayGain QuickLink
 quick_link_gains_law = each_row QuickLink _ quick_link_gains
 
-pub quick_unlink_gives_back_law : QuickUnlinkMayGiveBack
+pub quick_unlink_gives_back_law : MayGiveBack QuickUnlink
 quick_unlink_gives_back_law = each_row QuickUnlink _ quick_unlink_gives_back

@@ -1,10 +1,7 @@
 -- The held ranges after a step that changes no path: a walk gains where its validation comes to its end, and no other step changes a grant.
-use Rattle.std.proofs.Common.{◌≡◌, ◌⊎◌, ℕ, suc, ◌+◌, ◌-◌, ◌*◌, ◌/◌, ◌%◌, Bool, true, false, List, ◌∷◌, Some, None, inl, inr, ⊎_elim, refl, sym, ap, ◌∙◌, subst}
+use Rattle.std.proofs.Common.{◌≡◌, ◌⊎◌, ℕ, suc, ◌*◌, ◌%◌, Bool, true, false, Some, None, inl, inr, ⊎_elim, refl, sym, ap, ◌∙◌}
 use Rattle.std.specs.Prelude.{slice_get, slice_index, Option, ◌==◌, if◌then◌else◌}
-use Rattle.lock_core.specs.Range.{Interval}
 use Rattle.lock_core.specs.declared.range.Mode.{Mode}
-use Rattle.lock_core.specs.declared.range.Mode.TheVariants.{Writer}
-use Rattle.lock_core.specs.declared.range.Held.{Held}
 use Rattle.lock_core.specs.declared.compare.Verdict.{Verdict}
 use Rattle.lock_core.specs.declared.compare.Verdict.TheVariants.{Past, Stop, Conflict}
 use Rattle.lock_core.specs.declared.views.View.{View}
@@ -13,17 +10,15 @@ use Rattle.lock_core.specs.declared.views.Own.{Own}
 use Rattle.lock_core.specs.declared.views.Own.TheVariants.{Nothing, Filling, Linked}
 use Rattle.lock_core.specs.declared.views.Todo.{Todo}
 use Rattle.lock_core.specs.declared.views.Todo.TheVariants.{Forward, FromHead, Done}
-use Rattle.lock_core.specs.declared.steps.Step.{Step}
 use Rattle.lock_core.specs.declared.steps.Step.TheVariants.{Enter, Leave, ReadEpoch, ReadHome, GiveHome, FillLo, FillHi, Aim, ClearHome, Walk, ReadLo, ReadHi, Settle}
-use Rattle.lock_core.specs.Nodes.{Filled, Listed, filling, listed}
+use Rattle.lock_core.specs.Nodes.{Listed, listed}
 use Rattle.lock_core.specs.Compare.{verdict_of}
-use Rattle.lock_core.specs.Views.{kept_own, own_at, own_stopped, looked_at, noted, passes, is_passed, note_of, released, released_if_passed, are_others_passed, epoch_read, came_home, home_read, walked, hi_read, hi_judged, settled, dropped}
+use Rattle.lock_core.specs.Views.{kept_own, own_at, own_stopped, looked_at, noted, passes, is_passed, note_of, released, are_others_passed, epoch_read, home_read, walked, hi_read, hi_judged, settled, dropped}
 use Rattle.lock_core.specs.Rows.{Plan, Row, enter, leave, read_epoch, read_home, give_home, fill_lo, fill_hi, aim, clear_home, walk, read_lo, read_hi, settle}
-use Rattle.lock_core.specs.Machine.{Machine, carried_out, held_at, held_by_seat}
+use Rattle.lock_core.specs.Machine.{Machine, carried_out, held_at}
 use Rattle.lock_core.specs.HeldSteps.{HoldsOn, Gains, ChangesNoGrant, MayGain}
 use Rattle.lock_core.proofs.Holding.{holds_on, gains, each_row}
-use Rattle.lock_core.proofs.Moving.{done}
-use Rattle.lock_core.proofs.Walking.{Comes, comes, stays, at_end, at_own}
+use Rattle.lock_core.proofs.Coming.{CameHome, coming, done}
 
 -- the own node of a view that is one of two
 own_if : (b : Bool) (x y : View) (o : Own) → x.own ≡ o → y.own ≡ o → (if b then x else y).own ≡ o
@@ -49,11 +44,8 @@ held_left (Filling node lo hi mode aimed) = refl
 held_left (Linked node range mode todo) = refl
 
 -- a linked node whose validation isn't done holds nothing
-held_forward : (k : Listed) → k.todo ≡ Forward → held_at (listed k) ≡ None
-held_forward k e = ap (λ (t : Todo). held_at (Linked k.node k.range k.mode t)) e
-
-held_from_head : (k : Listed) → k.todo ≡ FromHead → held_at (listed k) ≡ None
-held_from_head k e = ap (λ (t : Todo). held_at (Linked k.node k.range k.mode t)) e
+held_at_todo : (k : Listed) (t : Todo) → k.todo ≡ t → held_at (Linked k.node k.range k.mode t) ≡ None → held_at (listed k) ≡ None
+held_at_todo k t e none = ap (λ (t : Todo). held_at (Linked k.node k.range k.mode t)) e ∙ none
 
 module _ (m : Machine) (s : ℕ) (v : View) (at : slice_get m.views s ≡ Some v) where
   -- the view that a plan leaves
@@ -68,12 +60,12 @@ module _ (m : Machine) (s : ℕ) (v : View) (at : slice_get m.views s ≡ Some v
   gains_own p k own none e = gains m s v at p (record { range = k.range; mode = k.mode }) (inl (k, own, refl)) (ap held_at own ∙ none) (ap held_at e)
 
   came : (p : Plan) (w : ℕ) → (left_by p).own ≡ own_at v.own w → HoldsOn m (carried_out m s p) ⊎ Gains m (carried_out m s p) s
-  came p w e = by_case (comes v.own w)
-    where
-      by_case : Comes v.own w → HoldsOn m (carried_out m s p) ⊎ Gains m (carried_out m s p) s
-      by_case (stays q) = inl (same_own p (e ∙ q))
-      by_case (at_end k own todo z q) = inr (gains_own p k own (held_forward k todo) (e ∙ q))
-      by_case (at_own k own todo z q) = inr (gains_own p k own (held_from_head k todo) (e ∙ q))
+  came p w e =
+      ⊎_elim
+      (λ (q : own_at v.own w ≡ v.own). inl (same_own p (e ∙ q)))
+      (λ (c : CameHome v.own w (own_at v.own w)).
+      inr (gains_own p c.was c.is (⊎_elim (λ (t : (c.was.todo ≡ Forward) × (w ≡ 0)). held_at_todo c.was Forward t.0 refl) (λ (t : (c.was.todo ≡ FromHead) × (w ≡ 2 * suc c.was.node)). held_at_todo c.was FromHead t.0 refl) c.way) (e ∙ c.now)))
+      (coming v.own w)
 
   stopped : (p : Plan) → (left_by p).own ≡ own_stopped v.own → HoldsOn m (carried_out m s p) ⊎ Gains m (carried_out m s p) s
   stopped p e = by_own v.own refl
@@ -127,6 +119,7 @@ module _ (m : Machine) (s : ℕ) (v : View) (at : slice_get m.views s ≡ Some v
     where
       view_is : (t : Verdict) → verdict_of v.own lo (slice_index m.words p.place) ≡ t → (hi_read v c y n lo (slice_index m.words p.place)).own ≡ (hi_judged v c y n t).own
       view_is t e = ap (λ (a : Verdict). (hi_judged v c y n a).own) e
+
       by_verdict : (t : Verdict) → verdict_of v.own lo (slice_index m.words p.place) ≡ t → HoldsOn m (carried_out m s p) ⊎ Gains m (carried_out m s p) s
       by_verdict Past e = came p n (view_is Past e)
       by_verdict Stop e = stopped p (view_is Stop e)

@@ -7,7 +7,6 @@ use Rattle.lock_core.specs.declared.range.Held.{Held}
 use Rattle.lock_core.specs.declared.views.View.{View}
 use Rattle.lock_core.specs.declared.views.Own.{Own}
 use Rattle.lock_core.specs.declared.steps.Step.{Step}
-use Rattle.lock_core.specs.declared.steps.Step.TheVariants.{Link, Unlink, Mark, QuickLink, QuickUnlink}
 use Rattle.lock_core.specs.Nodes.{Filled, Listed, filling, listed}
 use Rattle.lock_core.specs.Machine.{Machine, after, held_by_seat}
 
@@ -38,30 +37,18 @@ GivesBack m next s = held_by_seat next ≡ slice_set (held_by_seat m) s None
 abbrev pub EachStep : Step → (Machine → Machine → ℕ → Type 0) → Type 0
 EachStep step does = (m next : Machine) (s : ℕ) → after m s step ≡ Some next → does m next s
 
--- Link changes no grant: a validation begins
-abbrev pub LinkHoldsOn : Type 0
-LinkHoldsOn = EachStep Link (λ m next s. HoldsOn m next)
-
--- Unlink may end a validation, since its cursor comes to another word
-abbrev pub UnlinkMayGain : Type 0
-UnlinkMayGain = EachStep Unlink (λ m next s. HoldsOn m next ⊎ Gains m next s)
-
--- Mark gives back
-abbrev pub MarkGivesBack : Type 0
-MarkGivesBack = EachStep Mark GivesBack
-
--- QuickLink gains where its exchange succeeds
-abbrev pub QuickLinkMayGain : Type 0
-QuickLinkMayGain = EachStep QuickLink (λ m next s. HoldsOn m next ⊎ Gains m next s)
-
--- QuickUnlink gives back where its exchange succeeds
-abbrev pub QuickUnlinkMayGiveBack : Type 0
-QuickUnlinkMayGiveBack = EachStep QuickUnlink (λ m next s. HoldsOn m next ⊎ GivesBack m next s)
-
 -- a step of this kind changes no grant
 abbrev pub ChangesNoGrant : Step → Type 0
 ChangesNoGrant step = EachStep step (λ m next s. HoldsOn m next)
 
--- a step of this kind may gain, since a validation may come to its end by it
+-- a step of this kind may gain: a validation may come to its end by it, or an exchange that takes the empty list succeed
 abbrev pub MayGain : Step → Type 0
 MayGain step = EachStep step (λ m next s. HoldsOn m next ⊎ Gains m next s)
+
+-- a step of this kind gives back
+abbrev pub AlwaysGivesBack : Step → Type 0
+AlwaysGivesBack step = EachStep step GivesBack
+
+-- a step of this kind may give back: it does where its exchange succeeds
+abbrev pub MayGiveBack : Step → Type 0
+MayGiveBack step = EachStep step (λ m next s. HoldsOn m next ⊎ GivesBack m next s)

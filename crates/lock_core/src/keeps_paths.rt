@@ -2,36 +2,36 @@
 // Each law is a public function with nothing to run. From every state that meets the invariant this step, of any seat and wherever it is enabled, leads to a state that meets it, also where its exchange fails; and each law says which grant the step gains or gives back.
 // The list follows Kogan, Dice and Issa 2020, with marks as in Harris 2001; the invariant in nine parts is this project's own profile.
 ghost use Rattle.lock_core.specs.Laws.{Keeps};
-ghost use Rattle.lock_core.specs.HeldSteps.{LinkHoldsOn, UnlinkMayGain, MarkGivesBack, QuickLinkMayGain, QuickUnlinkMayGiveBack};
+ghost use Rattle.lock_core.specs.HeldSteps.{ChangesNoGrant, MayGain, AlwaysGivesBack, MayGiveBack};
 
 use crate::steps::Step;
 
 /// Linking a node into the list keeps the lock. No grant changes: the node's owner still has to validate.
 pub fn link_keeps()
     ensures keeps { Keeps Step.Link }
-    ensures grants { LinkHoldsOn }
+    ensures grants { ChangesNoGrant Step.Link }
 {}
 
 /// Unlinking a marked node keeps the lock. The unlinking seat may gain the range of its own linked node, where its validation comes to its end by this step; no other grant changes.
 pub fn unlink_keeps()
     ensures keeps { Keeps Step.Unlink }
-    ensures grants { UnlinkMayGain }
+    ensures grants { MayGain Step.Unlink }
 {}
 
 /// Marking the own node keeps the lock, and gives its range back; no other grant changes.
 pub fn mark_keeps()
     ensures keeps { Keeps Step.Mark }
-    ensures grants { MarkGivesBack }
+    ensures grants { AlwaysGivesBack Step.Mark }
 {}
 
 /// Linking a node into the empty list at once keeps the lock. Where the exchange succeeds the seat gains the range of that node, and no other grant changes.
 pub fn quick_link_keeps()
     ensures keeps { Keeps Step.QuickLink }
-    ensures grants { QuickLinkMayGain }
+    ensures grants { MayGain Step.QuickLink }
 {}
 
 /// Unlinking a node that stands alone since it was linked at once keeps the lock. Where the exchange succeeds the seat gives its range back, and no other grant changes.
 pub fn quick_unlink_keeps()
     ensures keeps { Keeps Step.QuickUnlink }
-    ensures grants { QuickUnlinkMayGiveBack }
+    ensures grants { MayGiveBack Step.QuickUnlink }
 {}

@@ -1,24 +1,22 @@
 -- GiveHome and ClearHome: a node comes home, and a ready node is taken.
-use Rattle.std.proofs.Common.{◌≡◌, ◌≢◌, ◌⊎◌, ℕ, suc, ◌+◌, ◌*◌, ◌/◌, ◌%◌, ◌<◌, ◌≤◌, List, ◌∷◌, Some, None, inl, inr, ⊎_elim, refl, sym, ap, ◌∙◌, subst, arith, eqb-true, eq-eqb}
-use Rattle.std.specs.Prelude.{Option, slice_set, ◌==◌, if◌then◌else◌, Bool, true, false}
+use Rattle.std.proofs.Common.{◌≡◌, ◌≢◌, ℕ, suc, ◌+◌, ◌/◌, ◌%◌, ◌<◌, ◌≤◌, List, ◌∷◌, Some, None, inl, inr, ⊎_elim, refl, sym, ap, ◌∙◌, subst, arith, eq-eqb}
+use Rattle.std.specs.Prelude.{slice_set, ◌==◌, if◌then◌else◌, Bool}
 use Rattle.std.proofs.lemmas.Bool.{cases_eq}
 use Rattle.lock_core.specs.declared.range.Mode.TheVariants.{Writer}
 use Rattle.lock_core.specs.declared.views.View.{View}
-use Rattle.lock_core.specs.declared.views.Cursor.{Cursor}
-use Rattle.lock_core.specs.declared.views.Own.{Own}
-use Rattle.lock_core.specs.declared.views.Own.TheVariants.{Nothing, Filling, Linked}
-use Rattle.lock_core.specs.Words.{Heap, to}
-use Rattle.lock_core.specs.Nodes.{Filled, Listed, filling, listed, times, own_times}
+use Rattle.lock_core.specs.declared.views.Own.TheVariants.{Nothing}
+use Rattle.lock_core.specs.Words.{Heap}
+use Rattle.lock_core.specs.Nodes.{Filled, filling, times, own_times}
 use Rattle.lock_core.specs.Views.{gave_home, taken}
-use Rattle.lock_core.specs.Invariant.{IsViewOf, InChain, InHand, IsIdle}
+use Rattle.lock_core.specs.Invariant.{IsViewOf, InHand, IsIdle}
 use Rattle.lock_core.proofs.ByView.{set_view}
-use Rattle.lock_core.proofs.Owns.{filling_is}
+use Rattle.lock_core.proofs.Sizing.{same_filled}
 use Rattle.lock_core.proofs.Counts.{only_once}
-use Rattle.lock_core.proofs.Idle.{idle_not_used}
+use Rattle.lock_core.proofs.Frames.Idle.{idle_not_used}
 use Rattle.lock_core.proofs.Words.{WroteHome}
-use Rattle.lock_core.proofs.Parts.{Parts}
-use Rattle.lock_core.proofs.Steady.{Stands, Homes, places_now, stays_out, steady}
-use Rattle.lock_core.proofs.Quiet.{Calm, aside_of, idle_alone, kept_quiet, mine_quiet}
+use Rattle.lock_core.proofs.Frames.Parts.{Parts}
+use Rattle.lock_core.proofs.Frames.Steady.{places_now, stays_out, steady}
+use Rattle.lock_core.proofs.Frames.Quiet.{Calm, aside_of, idle_alone, kept_quiet, mine_quiet}
 
 calm_home : (seats : ℕ) (h now : Heap) (n w : ℕ) → WroteHome seats h now n w → Calm h now
 calm_home seats h now n w wrote = record { head = ap (λ k. k / 2) (wrote.next 0); next = λ x. wrote.next (suc x); lo = wrote.lo; hi = wrote.hi }
@@ -66,10 +64,13 @@ gives_home seats h now views s n v few parts at hand wrote =
   where
     one : (x : ℕ) → h.home x ≡ 1 → now.home x ≡ 1
     one x r = ⊎_elim (λ (q : x ≡ n). subst (λ a. now.home a ≡ 1) (sym q) wrote.is) (λ (d : x ≢ n). wrote.others x d ∙ r) (cases_eq x n)
+
     zero_at : (x : ℕ) → h.home x ≡ 0 → x ≢ n → now.home x ≡ 0
     zero_at x z d = wrote.others x d ∙ z
+
     not_filled : (j : ℕ) (w : View) (f : Filled) → IsViewOf views j w → w.own ≡ filling f → f.node ≡ n → ⊥
     not_filled j w f e own q = let used = (parts.places.in_hand n (hand_of views s n v at hand)).0 in idle_not_used h views parts.places j used.seat f.node w used.view e used.at (inr (f, own, refl)) (subst (λ a. times a used.view.used ≡ 1) (sym q) used.used)
+
     not_mine : (x : ℕ) → InHand (slice_set views s (gave_home v)) x → x ≡ n → ⊥
     not_mine x a q =
         ⊎_elim
@@ -95,7 +96,7 @@ clears_home seats h now views s n rest v few parts at own even ready wrote =
       kept = record {
         epoch = k.epoch ∙ sym (wrote.epoch s (few s v at));
         even = k.even;
-        filled = λ f e. let same = filling_is (bare n) f e in record {
+        filled = λ f e. let same = same_filled (bare n) f e in record {
           lo = λ a q. absurd (let z = ap (λ (g : Filled). g.lo) same in cc);
           hi = λ a q. absurd (let z = ap (λ (g : Filled). g.hi) same in cc);
           aimed = λ a q. absurd (let z = ap (λ (g : Filled). g.aimed) same in cc);
@@ -126,7 +127,7 @@ clears_home seats h now views s n rest v few parts at own even ready wrote =
       linked_on = λ g e. absurd (cc);
       used = λ x e. e;
       used_on = λ x e z. e;
-      filling = λ f e. ap now.home (sym (ap (λ (g : Filled). g.node) (filling_is (bare n) f e))) ∙ wrote.is;
+      filling = λ f e. ap now.home (sym (ap (λ (g : Filled). g.node) (same_filled (bare n) f e))) ∙ wrote.is;
       hand = λ x e. e;
       hand_on = λ x e. inl e;
     }) (record {
@@ -138,15 +139,20 @@ clears_home seats h now views s n rest v few parts at own even ready wrote =
   where
     first : 1 ≤ times n v.ready
     first = let a = ap (times n) ready in let b = ap (λ (t : Bool). (if t then 1 else 0) + times n rest) (eq-eqb n n refl) in omega (arith, a, b)
+
     was_ready : (x : ℕ) → IsIdle (taken v n rest) x → IsIdle v x
     was_ready x (inl r) = inl (let a = ap (times x) ready in omega (arith, a, r))
-    was_ready x (inr g) = inl (subst (λ a. 1 ≤ times a v.ready) (ap (λ (b : Filled). b.node) (filling_is (bare n) g.0 g.1) ∙ g.2) first)
+    was_ready x (inr g) = inl (subst (λ a. 1 ≤ times a v.ready) (ap (λ (b : Filled). b.node) (same_filled (bare n) g.0 g.1) ∙ g.2) first)
+
     counts : (x : ℕ) → own_times x v.own + times x v.ready + times x v.used ≡ (if n == x then 1 else 0) + times x rest + times x v.used
     counts x = let a = ap (own_times x) own in let b = ap (times x) ready in omega (arith, a, b)
+
     zero_at : (x : ℕ) → h.home x ≡ 0 → now.home x ≡ 0
     zero_at x z = ⊎_elim (λ (q : x ≡ n). ap now.home q ∙ wrote.is) (λ (d : x ≢ n). wrote.others x d ∙ z) (cases_eq x n)
+
     taken_once : (i x : ℕ) (w : View) → IsViewOf views i w → 1 ≤ times x w.used → x ≡ n → ⊥
     taken_once i x w e l q = let f = only_once h views parts.places i x w e in idle_not_used h views parts.places s i x v w at e (inl (subst (λ a. 1 ≤ times a v.ready) (sym q) first)) (omega (arith, f, l))
+
     one : (i x : ℕ) (w : View) → IsViewOf views i w → 1 ≤ times x w.used → h.home x ≡ 1 → now.home x ≡ 1
     one i x w e l r =
         ⊎_elim

@@ -1,16 +1,16 @@
 -- Steps that leave the own node and the cursor of the stepping seat as they are, and every word of every node but its home word.
-use Rattle.std.proofs.Common.{◌≡◌, ◌≢◌, ◌⊎◌, ℕ, suc, ◌+◌, ◌*◌, ◌/◌, ◌%◌, ◌≤◌, List, Some, None, inl, inr, refl, sym, ap, ◌∙◌, subst, arith}
-use Rattle.std.specs.Prelude.{Option, slice_set}
+use Rattle.std.proofs.Common.{◌≡◌, ◌≢◌, ◌⊎◌, ℕ, suc, ◌+◌, ◌%◌, ◌≤◌, List, Some, None, inl, inr, refl, sym, ap, ◌∙◌, subst, arith}
+use Rattle.std.specs.Prelude.{Option}
 use Rattle.lock_core.specs.declared.views.View.{View}
 use Rattle.lock_core.specs.declared.views.Cursor.{Cursor}
 use Rattle.lock_core.specs.declared.views.Own.{Own}
 use Rattle.lock_core.specs.Words.{Heap, to}
-use Rattle.lock_core.specs.Nodes.{Filled, Listed, filling, listed, times, own_times}
-use Rattle.lock_core.specs.Invariant.{IsViewOf, InChain, MayReach, IsKnown, IsWritten, HasToSee, IsOut, IsIdle, IsAlone}
-use Rattle.lock_core.proofs.Idle.{idle_not_chain}
-use Rattle.lock_core.proofs.Parts.{Parts, IsCursorKept, IsViewKept}
-use Rattle.lock_core.proofs.Frame.{Aside, cursor_now, clear_cursor, may_back, sees_on}
-use Rattle.lock_core.proofs.Steady.{Rival, Looks, Mine, Stands}
+use Rattle.lock_core.specs.Nodes.{Filled, Listed, listed, times, own_times}
+use Rattle.lock_core.specs.Invariant.{IsViewOf, InChain, MayReach, IsKnown, IsWritten, HasToSee, IsOut, IsIdle}
+use Rattle.lock_core.proofs.Frames.Idle.{idle_not_chain}
+use Rattle.lock_core.proofs.Frames.Parts.{Parts, IsCursorKept, IsViewKept}
+use Rattle.lock_core.proofs.Frames.Frame.{Aside, cursor_now, clear_cursor, may_back, sees_on}
+use Rattle.lock_core.proofs.Frames.Steady.{Mine, Stands}
 
 -- the nodes stay where they are
 pub stands_quiet : (h now : Heap) (views : List View) (s : ℕ) (v u : View) → Parts h views → IsViewOf views s v → ((x : ℕ) → now.home x ≡ h.home x) → u.own ≡ v.own → u.ready ≡ v.ready → u.used ≡ v.used → u.homes ≡ v.homes → u.hand ≡ v.hand → Stands h now views s v u
@@ -86,7 +86,11 @@ module _ (h now : Heap) (views : List View) (s : ℕ) (v u : View) (parts : Part
       idle = idle;
       out = out;
       looks = λ k e. let e' = sym own ∙ e in record {
-        old = k; own = e'; node = refl; range = refl; mode = refl;
+        old = k;
+        own = e';
+        node = refl;
+        range = refl;
+        mode = refl;
         sees = λ g r q. (refl, subst (λ (o : Option Cursor). HasToSee now k o g.node) (sym cursor) (sees_on h now views s v parts at aside k v.cursor g.node (parts.places.linked s v k at e').0 (λ c has. clear_cursor h now views s v parts at aside s v c at has) q));
       };
       held = λ k e done. own ∙ e;

@@ -1,11 +1,10 @@
 -- Enter and Leave: the own epoch counts on.
-use Rattle.std.proofs.Common.{◌≡◌, ◌≢◌, ◌⊎◌, ℕ, suc, ◌+◌, ◌*◌, ◌/◌, ◌%◌, ◌<◌, ◌≤◌, List, Some, None, inl, inr, refl, sym, ap, ◌∙◌, subst, arith}
-use Rattle.std.specs.Prelude.{Option, slice_set, ◌==◌, if◌then◌else◌, Bool, true, false}
-use Rattle.std.proofs.Common.{◌∷◌, ⊎_elim, eqb-true}
+use Rattle.std.proofs.Common.{◌≡◌, ◌≢◌, ◌⊎◌, ℕ, suc, ◌+◌, ◌/◌, ◌%◌, ◌≤◌, List, None, inl, inr, refl, sym, ap, ◌∙◌, subst, arith}
+use Rattle.std.specs.Prelude.{slice_set, ◌==◌, if◌then◌else◌, Bool, true, false}
+use Rattle.std.proofs.Common.{⊎_elim, eqb-true}
 use Rattle.lock_core.specs.declared.views.View.{View}
-use Rattle.lock_core.specs.declared.views.Cursor.{Cursor}
 use Rattle.lock_core.specs.declared.range.Mode.TheVariants.{Reader, Writer}
-use Rattle.lock_core.specs.Words.{Heap, to}
+use Rattle.lock_core.specs.Words.{Heap}
 use Rattle.lock_core.specs.Nodes.{Filled, Listed, filling, listed, times, own_times}
 use Rattle.lock_core.specs.declared.views.Own.{Own}
 use Rattle.lock_core.specs.declared.views.Own.TheVariants.{Nothing, Filling, Linked}
@@ -13,10 +12,10 @@ use Rattle.lock_core.specs.declared.views.Todo.TheVariants.{Forward, FromHead, D
 use Rattle.lock_core.specs.Views.{next_epoch, entered, left, kept_own, ready_left}
 use Rattle.lock_core.specs.Invariant.{IsViewOf, IsIdle}
 use Rattle.lock_core.proofs.Words.{WroteEpoch}
-use Rattle.lock_core.proofs.Parts.{Parts}
-use Rattle.lock_core.proofs.Steady.{Stands, Rival, homes_same, places_now, stays_out, steady}
-use Rattle.lock_core.proofs.Quiet.{Calm, aside_of, idle_alone, written_on, kept_quiet, mine_quiet, stands_quiet}
-use Rattle.lock_core.proofs.Owns.{own_is}
+use Rattle.lock_core.proofs.Frames.Parts.{Parts}
+use Rattle.lock_core.proofs.Frames.Steady.{homes_same, places_now, stays_out, steady}
+use Rattle.lock_core.proofs.Frames.Quiet.{Calm, aside_of, idle_alone, written_on, kept_quiet, mine_quiet, stands_quiet}
+use Rattle.lock_core.proofs.Frames.Owns.{own_is}
 
 calm_epoch : (h now : Heap) (s w : ℕ) → WroteEpoch h now s w → Calm h now
 calm_epoch h now s w wrote = record { head = ap (λ n. n / 2) (wrote.next 0); next = λ x. wrote.next (suc x); lo = wrote.lo; hi = wrote.hi }
@@ -92,7 +91,11 @@ leaves h now views s v parts at done wrote =
       idle = λ x idle. idle_alone h now views s v u parts at calm x (left_idle v x idle);
       out = λ j x w c same home out e has m. stays_out h now views s v parts at epochs s j x v w c same at home out e has m;
       looks = λ g e. let own = stays_linked v.own g e in record {
-        old = g; own = own; node = refl; range = refl; mode = refl;
+        old = g;
+        own = own;
+        node = refl;
+        range = refl;
+        mode = refl;
         sees = λ o r q. absurd (not_looking g o r.way (done g own));
       };
       held = λ g e todo. ap kept_own e;

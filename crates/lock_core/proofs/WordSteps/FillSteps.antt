@@ -1,23 +1,23 @@
 -- FillLo, FillHi and Aim: words of the own node are written while nobody may reach it.
-use Rattle.std.proofs.Common.{◌≡◌, ◌≢◌, ◌⊎◌, ℕ, suc, ◌+◌, ◌*◌, ◌/◌, ◌%◌, ◌^◌, ◌<◌, ◌≤◌, List, Some, None, inl, inr, refl, sym, ap, ◌∙◌, subst, arith}
-use Rattle.std.specs.Prelude.{Option, slice_set}
+use Rattle.std.proofs.Common.{◌≡◌, ◌≢◌, ℕ, suc, ◌+◌, ◌/◌, ◌%◌, ◌^◌, ◌<◌, ◌≤◌, List, Some, None, inl, inr, refl, sym, ap, ◌∙◌, subst, arith}
+use Rattle.std.specs.Prelude.{slice_set}
 use Rattle.lock_core.specs.declared.range.Mode.{Mode}
 use Rattle.lock_core.specs.declared.views.View.{View}
 use Rattle.lock_core.specs.declared.views.Cursor.{Cursor}
-use Rattle.lock_core.specs.declared.views.Own.{Own}
 use Rattle.lock_core.specs.declared.views.Own.TheVariants.{Filling}
-use Rattle.lock_core.specs.Words.{Heap, to, hi_word}
-use Rattle.lock_core.specs.Nodes.{Filled, Listed, filling, listed, times, own_times}
+use Rattle.lock_core.specs.Words.{Heap, hi_word}
+use Rattle.lock_core.specs.Nodes.{Filled, filling, times, own_times}
 use Rattle.lock_core.specs.Compare.{compared}
 use Rattle.lock_core.specs.Views.{lo_filled, hi_filled, aimed_at}
 use Rattle.lock_core.specs.Invariant.{IsViewOf, IsIdle, IsKnown}
-use Rattle.lock_core.proofs.Owns.{filling_is, same_some}
+use Rattle.lock_core.proofs.Frames.Owns.{same_some}
+use Rattle.lock_core.proofs.Sizing.{same_filled}
 use Rattle.lock_core.proofs.Words.{WroteLo, WroteHi, WroteCell}
-use Rattle.lock_core.proofs.Parts.{Parts, IsCursorKept}
-use Rattle.lock_core.proofs.Frame.{Aside, clear_cursor, cursor_now, may_back}
-use Rattle.lock_core.proofs.Steady.{homes_same, places_now, stays_out, steady}
-use Rattle.lock_core.proofs.Idle.{idle_not_chain}
-use Rattle.lock_core.proofs.Homing.{AreSeats}
+use Rattle.lock_core.proofs.Frames.Parts.{Parts, IsCursorKept}
+use Rattle.lock_core.proofs.Frames.Frame.{Aside, clear_cursor, cursor_now, may_back}
+use Rattle.lock_core.proofs.Frames.Steady.{homes_same, places_now, stays_out, steady}
+use Rattle.lock_core.proofs.Frames.Idle.{idle_not_chain}
+use Rattle.lock_core.proofs.WordSteps.Homing.{AreSeats}
 
 -- the own node g after the step is f before it, with other things known of its words
 module _ (seats : ℕ) (h now : Heap) (views : List View) (s : ℕ) (v : View) (f g : Filled) (few : AreSeats seats views) (parts : Parts h views) (at : IsViewOf views s v) (own : v.own ≡ filling f) (node : g.node ≡ f.node) (aside : Aside h now v) (known : IsKnown now g) (past_stop : (c : Cursor) → v.cursor ≡ Some c → IsCursorKept now v.own c → IsCursorKept now (filling g) c) (home : (x : ℕ) → now.home x ≡ h.home x) (epoch : (j : ℕ) → j < seats → now.epoch j ≡ h.epoch j) (low : now.next 0 % 2 ≡ 1 → h.next 0 % 2 ≡ 1) where
@@ -26,7 +26,7 @@ module _ (seats : ℕ) (h now : Heap) (views : List View) (s : ℕ) (v : View) (
 
   was_idle : (x : ℕ) → IsIdle refilled x → IsIdle v x
   was_idle x (inl r) = inl r
-  was_idle x (inr t) = inr (f, own, sym node ∙ ap (λ (q : Filled). q.node) (filling_is g t.0 t.1) ∙ t.2)
+  was_idle x (inr t) = inr (f, own, sym node ∙ ap (λ (q : Filled). q.node) (same_filled g t.0 t.1) ∙ t.2)
 
   epochs : (j : ℕ) (w : View) → IsViewOf views j w → j ≢ s → now.epoch j ≡ h.epoch j
   epochs j w e d = epoch j (few j w e)
@@ -41,7 +41,7 @@ module _ (seats : ℕ) (h now : Heap) (views : List View) (s : ℕ) (v : View) (
         kept = record {
           epoch = (parts.each s v at).epoch ∙ sym (epoch s (few s v at));
           even = (parts.each s v at).even;
-          filled = λ q e. subst (IsKnown now) (filling_is g q e) known;
+          filled = λ q e. subst (IsKnown now) (same_filled g q e) known;
           linked = λ q e. absurd (cc);
           cursor = λ c e. past_stop c e (cursor_now h now views s v parts at aside c (clear_cursor h now views s v parts at aside s v c at e) v.own ((parts.each s v at).cursor c e));
           to_see = λ q e. absurd (cc);
@@ -64,7 +64,7 @@ module _ (seats : ℕ) (h now : Heap) (views : List View) (s : ℕ) (v : View) (
         linked_on = λ q e. absurd (cc);
         used = λ x e. e;
         used_on = λ x e z. e;
-        filling = λ q e. ap now.home (sym (ap (λ (b : Filled). b.node) (filling_is g q e)) ∙ node) ∙ home f.node ∙ parts.places.filling_home s v f at own;
+        filling = λ q e. ap now.home (sym (ap (λ (b : Filled). b.node) (same_filled g q e)) ∙ node) ∙ home f.node ∙ parts.places.filling_home s v f at own;
         hand = λ x e. e;
         hand_on = λ x e. inl e;
       }) (homes_same h now views (slice_set views s refilled) s home))
@@ -119,9 +119,9 @@ aims_at seats h now views s lo hi w v f few parts at own low high wrote =
       range = q.range;
       kept = q.kept;
       low = q.low;
-      past = λ g a b p e1 e2 e3 e4. let same = filling_is (record f { aimed = Some w }) g e1 in
+      past = λ g a b p e1 e2 e3 e4. let same = same_filled (record f { aimed = Some w }) g e1 in
           (λ z. compared ((sym same z).mode) a b (now.lo p) (now.hi p)) ∙ q.past f a b p own (ap (λ (z : Filled). z.lo) same ∙ e2) (ap (λ (z : Filled). z.hi) same ∙ e3) e4;
-      stop = λ g a b y e1 e2 e3 place e4. let same = filling_is (record f { aimed = Some w }) g e1 in
+      stop = λ g a b y e1 e2 e3 place e4. let same = same_filled (record f { aimed = Some w }) g e1 in
           (λ z. compared ((sym same z).mode) a b (now.lo y) (now.hi y)) ∙ q.stop f a b y own (ap (λ (z : Filled). z.lo) same ∙ e2) (ap (λ (z : Filled). z.hi) same ∙ e3) place e4;
     })
     wrote.home wrote.epoch

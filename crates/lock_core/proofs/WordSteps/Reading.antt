@@ -1,35 +1,20 @@
 -- Walk of a cursor that is at a node, and ReadLo: a word of the cursor's node becomes known.
-use Rattle.std.proofs.Common.{◌≡◌, ◌≢◌, ◌⊎◌, ℕ, zero, suc, ◌+◌, ◌-◌, ◌*◌, ◌/◌, ◌%◌, ◌<◌, ◌≤◌, Bool, true, false, List, Some, None, inl, inr, ⊎_elim, refl, sym, ap, ◌∙◌, subst, arith, eqb-true}
-use Rattle.std.specs.Prelude.{Option, slice_set, option_map, ◌==◌, if◌then◌else◌}
-use Rattle.std.proofs.lemmas.Bool.{eqb-false}
+use Rattle.std.proofs.Common.{◌≡◌, ◌⊎◌, ℕ, suc, ◌/◌, ◌%◌, List, Some, None, inl, inr, ⊎_elim, refl, sym, ap, ◌∙◌, subst, arith}
+use Rattle.std.specs.Prelude.{Option, slice_set}
 use Rattle.lock_core.specs.declared.views.View.{View}
 use Rattle.lock_core.specs.declared.views.Cursor.{Cursor}
-use Rattle.lock_core.specs.declared.views.Own.{Own}
-use Rattle.lock_core.specs.declared.views.Todo.TheVariants.{Forward, FromHead, Done}
-use Rattle.lock_core.specs.Paths.{Reach, here, there, Ends}
-use Rattle.lock_core.specs.Words.{Heap, to, cell_of, plain_node_of, node_of, IsMarked, IsUnmarked}
-use Rattle.lock_core.specs.Nodes.{Filled, Listed, filling, listed}
+use Rattle.lock_core.specs.Paths.{Reach, here, there}
+use Rattle.lock_core.specs.Words.{Heap, to, IsUnmarked}
+use Rattle.lock_core.specs.Nodes.{Listed}
 use Rattle.lock_core.specs.Views.{walked, lo_read}
 use Rattle.lock_core.specs.Rows.{IsAtPlace}
 use Rattle.lock_core.specs.Invariant.{IsViewOf, InChain, Names, MayReach, IsOrdered, IsAlone, HasToSee, SeesFrom}
-use Rattle.lock_core.proofs.Owns.{same_some}
-use Rattle.lock_core.proofs.Paths.{reach_on, unreach}
-use Rattle.lock_core.proofs.Parts.{Parts, IsCursorKept}
-use Rattle.lock_core.proofs.Steady.{Rival}
-use Rattle.lock_core.proofs.Moving.{Moves, moves_kept}
-use Rattle.lock_core.proofs.Seeing.{calm_same, rival_chain}
-use Rattle.lock_core.proofs.Walking.{ordered_behind}
-
--- a word without low bit that names a node
-pub plain_is : (w y : ℕ) → plain_node_of w ≡ Some y → (w % 2 ≡ 0) × (w / 2 ≡ suc y)
-plain_is w y e = by_parity (w % 2 == 0) refl e
-  where
-    by_node : (t : Bool) → w / 2 == 0 ≡ t → ◌≡◌ {A = Option ℕ} (if t then None else Some (w / 2 - 1)) (Some y) → w / 2 ≡ suc y
-    by_node true q e = absurd (cc)
-    by_node false q e = let n = eqb-false (w / 2) 0 q in let s = same_some (w / 2 - 1) y e in omega (arith, n, s)
-    by_parity : (t : Bool) → w % 2 == 0 ≡ t → ◌≡◌ {A = Option ℕ} (if t then node_of w else None) (Some y) → (w % 2 ≡ 0) × (w / 2 ≡ suc y)
-    by_parity true q e = (eqb-true (w % 2) 0 q, by_node (w / 2 == 0) refl e)
-    by_parity false q e = absurd (cc)
+use Rattle.lock_core.proofs.Frames.Owns.{same_some}
+use Rattle.lock_core.proofs.Paths.{unreach}
+use Rattle.lock_core.proofs.Frames.Parts.{Parts, IsCursorKept}
+use Rattle.lock_core.proofs.Frames.Moving.{moves_kept}
+use Rattle.lock_core.proofs.Frames.Seeing.{calm_same, rival_chain}
+use Rattle.lock_core.proofs.WordSteps.Walking.{ordered_behind}
 
 module _ (h : Heap) (views : List View) (s : ℕ) (v : View) (c : Cursor) (y : ℕ) (parts : Parts h views) (at : IsViewOf views s v) (has : v.cursor ≡ Some c) (even : c.cur % 2 ≡ 0) (cur : c.cur / 2 ≡ suc y) where
   kept : IsCursorKept h v.own c
@@ -106,7 +91,13 @@ module _ (h : Heap) (views : List View) (s : ℕ) (v : View) (c : Cursor) (y : �
 
   pub loads_next : Parts h (slice_set views s (walked v (Some c) w))
   loads_next = moves_kept h h views s v (walked v (Some c) w) parts at (calm_same h) (λ x. refl) (λ j w e. refl) (λ l. l) (record {
-    ready = refl; used = refl; homes = refl; hand = refl; notes = refl; passed = refl; epoch = refl;
+    ready = refl;
+    used = refl;
+    homes = refl;
+    hand = refl;
+    notes = refl;
+    passed = refl;
+    epoch = refl;
     own = inl refl;
     odd = λ e. absurd (odd e);
     cursor = λ b e. subst (IsCursorKept h v.own) (same_some d b e) kept_next;
@@ -120,7 +111,13 @@ module _ (h : Heap) (views : List View) (s : ℕ) (v : View) (c : Cursor) (y : �
 
   pub reads_lo : (n : ℕ) → c.next ≡ Some n → Parts h (slice_set views s (lo_read v c (h.lo y)))
   reads_lo n next = moves_kept h h views s v (lo_read v c (h.lo y)) parts at (calm_same h) (λ x. refl) (λ j w e. refl) (λ l. l) (record {
-    ready = refl; used = refl; homes = refl; hand = refl; notes = refl; passed = refl; epoch = refl;
+    ready = refl;
+    used = refl;
+    homes = refl;
+    hand = refl;
+    notes = refl;
+    passed = refl;
+    epoch = refl;
     own = inl refl;
     odd = λ e. absurd (odd e);
     cursor = λ b e. subst (IsCursorKept h v.own) (same_some (record c { lo = Some (h.lo y) }) b e) (record {
@@ -146,6 +143,7 @@ module _ (h : Heap) (views : List View) (s : ℕ) (v : View) (c : Cursor) (y : �
     where
       same_may : (x : ℕ) → MayReach h (record c { lo = Some (h.lo y) }) x → MayReach h c x
       same_may x m = record { target = m.target; named = m.named; reach = m.reach }
+
       no_place : IsAtPlace (record c { lo = Some (h.lo y) }) → ⊥
       no_place (inl e) = omega (arith, cur, e)
       no_place (inr t) = let a = t.0 in cc

@@ -1,26 +1,17 @@
 -- Steps of a walk: only the cursor of the stepping seat moves, and its range may be held from now on.
-use Rattle.std.proofs.Common.{◌≡◌, ◌≢◌, ◌⊎◌, ℕ, zero, suc, ◌+◌, ◌*◌, ◌/◌, ◌%◌, ◌<◌, ◌≤◌, List, Some, None, inl, inr, ⊎_elim, refl, sym, ap, ◌∙◌, subst, arith}
-use Rattle.std.specs.Prelude.{Option, slice_set, slice_get}
-use Rattle.lock_core.specs.declared.range.Mode.TheVariants.{Reader, Writer}
+use Rattle.std.proofs.Common.{◌≡◌, ◌⊎◌, ℕ, suc, ◌+◌, ◌*◌, ◌%◌, ◌≤◌, List, Some, None, inl, inr, ⊎_elim, refl, sym, ap, ◌∙◌, subst, arith}
+use Rattle.std.specs.Prelude.{slice_set, slice_get}
 use Rattle.lock_core.specs.declared.views.View.{View}
 use Rattle.lock_core.specs.declared.views.Cursor.{Cursor}
-use Rattle.lock_core.specs.declared.views.Own.{Own}
-use Rattle.lock_core.specs.declared.views.Todo.TheVariants.{Forward, FromHead, Done}
-use Rattle.lock_core.specs.Paths.{Reach, here}
-use Rattle.lock_core.specs.Words.{Heap, to, IsMarked, IsUnmarked}
+use Rattle.lock_core.specs.declared.views.Todo.TheVariants.{FromHead, Done}
+use Rattle.lock_core.specs.Words.{Heap}
 use Rattle.lock_core.specs.Nodes.{Filled, Listed, filling, listed, times, own_times}
-use Rattle.lock_core.specs.Views.{dropped}
 use Rattle.lock_core.specs.Invariant.{IsViewOf, InChain, MayReach, IsOut, IsIdle, IsAlone, IsWritten, HasToSee}
-use Rattle.lock_core.proofs.Along.{in_line, clear_behind}
-use Rattle.lock_core.proofs.Judging.{hi_is, writer_odd, reader_low}
-use Rattle.lock_core.proofs.Owns.{filling_is, listed_is}
-use Rattle.lock_core.proofs.Parts.{Parts, IsCursorKept}
-use Rattle.lock_core.proofs.Steady.{Rival, Looks, homes_same, places_now, stays_out, steady}
-use Rattle.lock_core.proofs.Quiet.{Calm, aside_of, idle_alone, known_on, written_on}
-
--- a linked node that has nothing left to do
-abbrev pub done : Listed → Listed
-done k = record k { todo = Done }
+use Rattle.lock_core.proofs.Coming.{done}
+use Rattle.lock_core.proofs.PathSteps.{listed_one}
+use Rattle.lock_core.proofs.Frames.Parts.{Parts, IsCursorKept}
+use Rattle.lock_core.proofs.Frames.Steady.{Rival, Looks, homes_same, places_now, stays_out, steady}
+use Rattle.lock_core.proofs.Frames.Quiet.{Calm, aside_of, idle_alone, known_on, written_on}
 
 -- the own node stays, or its range is held from now on
 abbrev pub OwnStays : View → View → Type 0
@@ -54,13 +45,13 @@ module _ (h now : Heap) (views : List View) (s : ℕ) (v u : View) (parts : Part
   linked_back : (g : Listed) → u.own ≡ listed g → (v.own ≡ listed g) ⊎ ((k : Listed) × (v.own ≡ listed k) × (done k ≡ g))
   linked_back g e = ⊎_elim
       (λ (q : u.own ≡ v.own). inl (sym q ∙ e))
-      (λ (t : (k : Listed) × (v.own ≡ listed k) × (u.own ≡ listed (done k))). inr (t.0, t.1, listed_is (done t.0) g (sym t.2 ∙ e)))
+      (λ (t : (k : Listed) × (v.own ≡ listed k) × (u.own ≡ listed (done k))). inr (t.0, t.1, listed_one (done t.0) g (sym t.2 ∙ e)))
       moves.own
 
   linked_forth : (k : Listed) → v.own ≡ listed k → (g : Listed) × (u.own ≡ listed g) × (g.node ≡ k.node)
   linked_forth k e = ⊎_elim
       (λ (q : u.own ≡ v.own). (k, q ∙ e, refl))
-      (λ (t : (b : Listed) × (v.own ≡ listed b) × (u.own ≡ listed (done b))). (done t.0, t.2, ap (λ (z : Listed). z.node) (listed_is t.0 k (sym t.1 ∙ e))))
+      (λ (t : (b : Listed) × (v.own ≡ listed b) × (u.own ≡ listed (done b))). (done t.0, t.2, ap (λ (z : Listed). z.node) (listed_one t.0 k (sym t.1 ∙ e))))
       moves.own
 
   own_same : (x : ℕ) → own_times x u.own ≡ own_times x v.own
@@ -73,7 +64,7 @@ module _ (h now : Heap) (views : List View) (s : ℕ) (v u : View) (parts : Part
   held_forth k e d = ⊎_elim
       (λ (q : u.own ≡ v.own). q ∙ e)
       (λ (t : (b : Listed) × (v.own ≡ listed b) × (u.own ≡ listed (done b))).
-      let same = listed_is t.0 k (sym t.1 ∙ e) in t.2 ∙ ap listed (ap done same) ∙ ap (λ a. listed (record k { todo = a })) (sym d))
+      let same = listed_one t.0 k (sym t.1 ∙ e) in t.2 ∙ ap listed (ap done same) ∙ ap (λ a. listed (record k { todo = a })) (sym d))
       moves.own
 
   written : (g : Listed) → u.own ≡ listed g → IsWritten now g
@@ -86,17 +77,22 @@ module _ (h now : Heap) (views : List View) (s : ℕ) (v u : View) (parts : Part
   looks : (g : Listed) → u.own ≡ listed g → Looks h now views v u g
   looks g e = ⊎_elim
       (λ (q : v.own ≡ listed g). record {
-        old = g; own = q; node = refl; range = refl; mode = refl;
+        old = g;
+        own = q;
+        node = refl;
+        range = refl;
+        mode = refl;
         sees = λ o r see. (refl, (moves.sees g o q r see).1);
       })
       (λ (t : (k : Listed) × (v.own ≡ listed k) × (done k ≡ g)). record {
-        old = t.0; own = t.1;
+        old = t.0;
+        own = t.1;
         node = ap (λ (z : Listed). z.node) t.2;
         range = ap (λ (z : Listed). z.range) t.2;
         mode = ap (λ (z : Listed). z.mode) t.2;
         sees = λ o r see.
             let w = moves.sees t.0 o t.1 r see in
-            let same : g ≡ t.0 = listed_is g t.0 (sym e ∙ w.0 ∙ t.1) in
+            let same : g ≡ t.0 = listed_one g t.0 (sym e ∙ w.0 ∙ t.1) in
             (ap (λ (z : Listed). z.todo) same, subst (λ (z : Listed). HasToSee now z u.cursor o.node) (sym same) w.1);
       })
       (linked_back g e)

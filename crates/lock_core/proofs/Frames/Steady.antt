@@ -1,7 +1,7 @@
 -- What each view knows after a step that leaves every path as it is, and where each node then stands.
 -- A kind of step says only what is special to the stepping seat's view; the invariant follows here, once.
 use Rattle.std.proofs.Common.{◌≡◌, ◌≢◌, ◌⊎◌, ℕ, suc, ◌+◌, ◌*◌, ◌/◌, ◌%◌, ◌≤◌, List, Some, None, inl, inr, ⊎_elim, refl, sym, ap, ◌∙◌, subst, arith}
-use Rattle.std.specs.Prelude.{Option, slice_set, slice_get, ◌==◌, if◌then◌else◌}
+use Rattle.std.specs.Prelude.{slice_set, ◌==◌, if◌then◌else◌}
 use Rattle.std.proofs.lemmas.Bool.{cases_eq}
 use Rattle.lock_core.specs.Range.{Overlaps}
 use Rattle.lock_core.specs.declared.range.Mode.TheVariants.{Reader, Writer}
@@ -13,11 +13,11 @@ use Rattle.lock_core.specs.Words.{Heap, to, IsMarked, IsUnmarked}
 use Rattle.lock_core.specs.Nodes.{Filled, Listed, filling, listed, times, own_times}
 use Rattle.lock_core.specs.Invariant.{IsViewOf, InChain, MayReach, InHand, IsUsed, IsLinked, Places, IsHeldBy, IsAlone, HasToSee, Pairs, IsOut, Barrier, IsIdle, NoReuse}
 use Rattle.lock_core.proofs.ByView.{set_view, kept_view, new_view, is_view}
-use Rattle.lock_core.proofs.Owns.{listed_is}
+use Rattle.lock_core.proofs.PathSteps.{listed_one}
 use Rattle.lock_core.proofs.Counts.{only_once}
-use Rattle.lock_core.proofs.Idle.{idle_not_chain}
-use Rattle.lock_core.proofs.Parts.{Parts, IsViewKept}
-use Rattle.lock_core.proofs.Frame.{Aside, chain_now, chain_on, chain_back, chain_apart, mark_is, others, may_back, clear_cursor, view_now, sees_on}
+use Rattle.lock_core.proofs.Frames.Idle.{idle_not_chain}
+use Rattle.lock_core.proofs.Frames.Parts.{Parts, IsViewKept}
+use Rattle.lock_core.proofs.Frames.Frame.{Aside, chain_now, chain_on, chain_back, chain_apart, mark_is, others, may_back, clear_cursor, view_now, sees_on}
 
 -- where the nodes of the stepping seat's view stand afterwards
 pub record Stands (h now : Heap) (views : List View) (s : ℕ) (v u : View) : Type 0 where
@@ -148,6 +148,7 @@ module _ (h now : Heap) (views : List View) (s : ℕ) (v u : View) (parts : Part
       where
         used_once : (i x : ℕ) (w : View) → IsViewOf views i w → 1 ≤ times x w.homes → times x w.used ≡ 1
         used_once i x w e l = let a = p.homes i x w e in let b = only_once h views p i x w e in omega (arith, a, b, l)
+
         linked_now : (i : ℕ) (w : View) (k : Listed) → IsViewOf views i w → w.own ≡ listed k → InChain now k.node × IsUnmarked now k.node
         linked_now i w k e own = let t = p.linked i w k e own in (chain_on h now views s v parts at aside k.node t.0, mark_is h now views s v parts at aside k.node (chain_apart h now views s v parts at aside k.node t.0) ∙ t.1)
 
@@ -179,9 +180,9 @@ module _ (h now : Heap) (views : List View) (s : ℕ) (v : View) (parts : Parts 
         n.0,
         n.1,
         ⊎_elim
-        (λ (q : j ≡ s). λ z. n.2 (ap now.epoch q ∙ same q ∙ sym (ap h.epoch q) ∙ z))
-        (λ (d : j ≢ s). λ z. n.2 (epochs j b e d ∙ z))
-        (cases_eq j s),
+            (λ (q : j ≡ s). λ z. n.2 (ap now.epoch q ∙ same q ∙ sym (ap h.epoch q) ∙ z))
+            (λ (d : j ≢ s). λ z. n.2 (epochs j b e d ∙ z))
+            (cases_eq j s),
       )
 
   pub stays_out : (i j x : ℕ) (w b : View) (c : Cursor) → (j ≡ s → now.epoch s ≡ h.epoch s) → IsViewOf views i w → 1 ≤ times x w.homes → IsOut now w j → IsViewOf views j b → b.cursor ≡ Some c → MayReach h c x → ⊥
@@ -242,9 +243,9 @@ module _ (h now : Heap) (views : List View) (s : ℕ) (v u : View) (parts : Part
       let one = places.at_home i x w e home in
       let off : InChain h x → ⊥ = λ r. let z = places.chain_home x (chain_on h now views s v parts at aside x r) in omega (arith, one, z) in
       let same : j ≡ s → now.epoch s ≡ h.epoch s = λ q. ⊎_elim
-          (λ (a : now.epoch s ≡ h.epoch s). a)
-          (λ (none : u.cursor ≡ None). absurd (let z = is_view these s j u y (mine_after h now views s v u parts at aside) e' q in let k = ap (λ (g : View). g.cursor) z in cc))
-          mine.epoch in
+      (λ (a : now.epoch s ≡ h.epoch s). a)
+      (λ (none : u.cursor ≡ None). absurd (let z = is_view these s j u y (mine_after h now views s v u parts at aside) e' q in let k = ap (λ (g : View). g.cursor) z in cc))
+      mine.epoch in
       ⊎_elim off
       (λ (b : Met j x). by_seat h now views s v u parts at aside i w e
       (λ q r. mine.out j x b.view b.cursor same (subst (λ (z : View). 1 ≤ times x z.homes) (sym r) home) (subst (λ (z : View). IsOut now z j) (sym r) out) b.there b.has b.may)
@@ -304,7 +305,7 @@ module _ (h now : Heap) (views : List View) (s : ℕ) (v u : View) (parts : Part
   pairs_now : Pairs now these
   pairs_now i j a b r w ea eb er ew reader writer over = by_seat h now views s v u parts at aside i a ea
       (λ q1 q. by_seat h now views s v u parts at aside j b eb
-      (λ p1 p. absurd (let same : r ≡ w = listed_is r w (sym er ∙ sym (ap (λ (z : View). z.own) q) ∙ ap (λ (z : View). z.own) p ∙ ew) in let m = ap (λ (z : Listed). z.mode) same in cc))
+      (λ p1 p. absurd (let same : r ≡ w = listed_one r w (sym er ∙ sym (ap (λ (z : View). z.own) q) ∙ ap (λ (z : View). z.own) p ∙ ew) in let m = ap (λ (z : Listed). z.mode) same in cc))
       (λ d e. subst (λ (z : View). Pair z b r w) q (as_reader r (mine.looks r (ap (λ (z : View). z.own) q ∙ er)) j b w e ew reader writer over)))
       (λ d1 e1. by_seat h now views s v u parts at aside j b eb
       (λ p1 p. subst (λ (z : View). Pair a z r w) p (as_writer w (mine.looks w (ap (λ (z : View). z.own) p ∙ ew)) i a r e1 er reader writer over))

@@ -1,24 +1,23 @@
 -- Settle: the head loses its low bit, and the cursor that found it stands there as any other.
-use Rattle.std.proofs.Common.{◌≡◌, ◌≢◌, ◌⊎◌, ℕ, zero, suc, ◌+◌, ◌-◌, ◌*◌, ◌/◌, ◌%◌, ◌<◌, ◌≤◌, List, Some, None, inl, inr, ⊎_elim, refl, sym, ap, ◌∙◌, subst, arith}
+use Rattle.std.proofs.Common.{◌≡◌, ◌⊎◌, ℕ, suc, ◌-◌, ◌/◌, ◌%◌, List, Some, None, inl, inr, ⊎_elim, refl, sym, ap, ◌∙◌, subst, arith}
 use Rattle.std.specs.Prelude.{Option, slice_set}
 use Rattle.lock_core.specs.declared.views.View.{View}
 use Rattle.lock_core.specs.declared.views.Cursor.{Cursor}
-use Rattle.lock_core.specs.declared.views.Todo.TheVariants.{Forward, FromHead, Done}
-use Rattle.lock_core.specs.Paths.{Reach, here, there}
+use Rattle.lock_core.specs.Paths.{Reach}
 use Rattle.lock_core.specs.Words.{Heap, to, cell_of}
-use Rattle.lock_core.specs.Nodes.{Filled, Listed, filling, listed}
+use Rattle.lock_core.specs.Nodes.{Listed}
 use Rattle.lock_core.specs.Views.{settled}
 use Rattle.lock_core.specs.Rows.{IsAtPlace}
 use Rattle.lock_core.specs.Invariant.{IsViewOf, InChain, Names, MayReach, IsOrdered, HasToSee, SeesFrom}
-use Rattle.lock_core.proofs.Owns.{same_some}
+use Rattle.lock_core.proofs.Frames.Owns.{same_some}
 use Rattle.lock_core.proofs.Words.{WroteCell}
-use Rattle.lock_core.proofs.Parts.{Parts, IsCursorKept, IsChainKept}
-use Rattle.lock_core.proofs.Frame.{chain_now, chain_on, chain_back}
-use Rattle.lock_core.proofs.Quiet.{Calm, aside_of}
-use Rattle.lock_core.proofs.Homing.{AreSeats}
-use Rattle.lock_core.proofs.Moving.{Moves, moves_kept}
-use Rattle.lock_core.proofs.Seeing.{rival_chain}
-use Rattle.lock_core.proofs.Walking.{ordered_end}
+use Rattle.lock_core.proofs.Frames.Parts.{Parts, IsCursorKept, IsChainKept}
+use Rattle.lock_core.proofs.Frames.Frame.{chain_now, chain_on, chain_back}
+use Rattle.lock_core.proofs.Frames.Quiet.{Calm, aside_of}
+use Rattle.lock_core.proofs.WordSteps.Homing.{AreSeats}
+use Rattle.lock_core.proofs.Frames.Moving.{moves_kept}
+use Rattle.lock_core.proofs.Frames.Seeing.{rival_chain}
+use Rattle.lock_core.proofs.WordSteps.Walking.{ordered_end}
 
 module _ (seats : ℕ) (h now : Heap) (views : List View) (s : ℕ) (v : View) (c : Cursor) (few : AreSeats seats views) (parts : Parts h views) (at : IsViewOf views s v) (has : v.cursor ≡ Some c) (prev : c.prev ≡ None) (odd : c.cur % 2 ≡ 1) (found : h.next 0 ≡ c.cur) (wrote : WroteCell seats h now 0 (c.cur - 1)) where
   calm : Calm h now
@@ -90,7 +89,13 @@ module _ (seats : ℕ) (h now : Heap) (views : List View) (s : ℕ) (v : View) (
 
   pub settles : Parts now (slice_set views s (settled v c))
   settles = moves_kept h now views s v (settled v c) parts at calm wrote.home (λ j w e. wrote.epoch j (few j w e)) (λ l. absurd (let w = wrote.is in omega (arith, w, odd, l))) (record {
-    ready = refl; used = refl; homes = refl; hand = refl; notes = refl; passed = refl; epoch = refl;
+    ready = refl;
+    used = refl;
+    homes = refl;
+    hand = refl;
+    notes = refl;
+    passed = refl;
+    epoch = refl;
     own = inl refl;
     odd = λ e. absurd (let n = (parts.each s v at).even e in cc);
     cursor = λ b e. subst (IsCursorKept now v.own) (same_some d b e) kept_now;

@@ -11,7 +11,7 @@ use Rattle.lock_core.specs.Words.{Heap, to, IsMarked}
 use Rattle.lock_core.specs.Nodes.{Filled, Listed, filling, listed}
 use Rattle.lock_core.specs.Compare.{compared}
 use Rattle.lock_core.specs.Rows.{IsAtPlace}
-use Rattle.lock_core.specs.Invariant.{IsViewOf, InChain, Names, MayReach, IsOrdered, Order, Places, IsKnown, IsWritten, HasRange, IsRead, Fields, IsAlone, FastPath, Way, HasToSee, ToSee, Pairs, Barrier, NoReuse, LockInvariant}
+use Rattle.lock_core.specs.Invariant.{IsViewOf, InChain, Names, MayReach, IsOrdered, Places, IsKnown, IsWritten, HasRange, IsRead, IsAlone, HasToSee, Pairs, Barrier, NoReuse, LockInvariant}
 
 -- what is kept of a cursor beside this own node
 pub record IsCursorKept (h : Heap) (own : Own) (c : Cursor) : Type 0 where

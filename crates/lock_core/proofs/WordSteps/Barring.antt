@@ -1,20 +1,21 @@
 -- ReadEpoch and ReadHome: a seat learns that others left, and that its nodes came home; no word changes.
-use Rattle.std.proofs.Common.{◌≡◌, ◌≢◌, ◌⊎◌, ℕ, zero, suc, ◌+◌, ◌*◌, ◌/◌, ◌%◌, ◌<◌, ◌≤◌, List, [], ◌∷◌, ◌++◌, take, drop, length, replicate, Some, None, inl, inr, ⊎_elim, refl, sym, ap, ◌∙◌, subst, arith, eqb-true, eq-eqb, get_or, add-one}
+use Rattle.std.proofs.Common.{◌≡◌, ◌≢◌, ◌⊎◌, ℕ, zero, suc, ◌+◌, ◌%◌, ◌<◌, ◌≤◌, List, [], ◌∷◌, ◌++◌, take, drop, length, replicate, Some, None, inl, inr, ⊎_elim, refl, sym, ap, ◌∙◌, subst, arith, eqb-true, get_or, add-one}
 use Rattle.std.specs.Prelude.{Option, slice_set, slice_get, unwrap_or, ◌==◌, ◌&&◌, if◌then◌else◌, Bool, true, false}
 use Rattle.std.specs.List.{list_all}
 use Rattle.std.proofs.lemmas.Bool.{cases_eq, eqb-false}
 use Rattle.std.proofs.lemmas.Option.{slice_get-get_or, slice_get_within}
 use Rattle.lock_core.specs.declared.views.View.{View}
 use Rattle.lock_core.specs.declared.views.Cursor.{Cursor}
-use Rattle.lock_core.specs.Words.{Heap, to}
-use Rattle.lock_core.specs.Nodes.{Filled, Listed, filling, listed, times, own_times, without}
+use Rattle.lock_core.specs.Words.{Heap}
+use Rattle.lock_core.specs.Nodes.{times, own_times, without}
 use Rattle.lock_core.specs.Views.{released, is_passed, note_of, are_others_passed, passes, noted, looked_at, released_if_passed, epoch_read, came_home, home_read}
 use Rattle.lock_core.specs.Invariant.{IsViewOf, InChain, MayReach, IsOut, IsIdle}
+use Rattle.lock_core.proofs.Table.{both, together}
 use Rattle.lock_core.proofs.ByView.{set_view, set_there, is_view}
 use Rattle.lock_core.proofs.Counts.{only_once, times_joined, times_itself, times_other, without_none, without_some, once_after}
-use Rattle.lock_core.proofs.Parts.{Parts}
-use Rattle.lock_core.proofs.Steady.{Stands, homes_same, places_now, stays_out, steady}
-use Rattle.lock_core.proofs.Quiet.{Calm, aside_of, idle_alone, kept_quiet, mine_quiet}
+use Rattle.lock_core.proofs.Frames.Parts.{Parts}
+use Rattle.lock_core.proofs.Frames.Steady.{homes_same, places_now, steady}
+use Rattle.lock_core.proofs.Frames.Quiet.{Calm, aside_of, idle_alone, kept_quiet, mine_quiet}
 
 -- ---- lists of flags and of notes
 
@@ -24,22 +25,14 @@ all_true (true ∷ l) zero b e at = cc
 all_true (false ∷ l) i b e at = absurd (cc)
 all_true (true ∷ l) (suc i) b e at = all_true l i b e at
 
-both_true : (a b : Bool) → (a && b) ≡ true → (a ≡ true) × (b ≡ true)
-both_true true b e = (refl, e)
-both_true false b e = absurd (cc)
-
-two_true : (a b : Bool) → a ≡ true → b ≡ true → (a && b) ≡ true
-two_true true b e e' = e'
-two_true false b e e' = absurd (cc)
-
 others_passed_at : (s : ℕ) (l : List Bool) (j : ℕ) (b : Bool) → (list_all (λ a. a) (take s l) && list_all (λ a. a) (drop (suc s) l)) ≡ true → j ≢ s → slice_get l j ≡ Some b → b ≡ true
 others_passed_at s [] j b e d at = absurd (cc)
 others_passed_at zero (x ∷ l) zero b e d at = absurd (d refl)
 others_passed_at zero (x ∷ l) (suc j) b e d at = all_true l j b e at
-others_passed_at (suc s) (x ∷ l) zero b e d at = let t = both_true _ _ e in let a = both_true x _ t.0 in let f = a.0 in cc
+others_passed_at (suc s) (x ∷ l) zero b e d at = let t = both _ _ e in let a = both x _ t.0 in let f = a.0 in cc
 others_passed_at (suc s) (x ∷ l) (suc j) b e d at =
-    let t = both_true _ _ e in let a = both_true x _ t.0 in
-    others_passed_at s l j b (two_true _ _ a.1 t.1) (λ q. d (ap suc q)) at
+    let t = both _ _ e in let a = both x _ t.0 in
+    others_passed_at s l j b (together _ _ a.1 t.1) (λ q. d (ap suc q)) at
 
 -- where all others are passed each of them is
 pub others_passed : (s : ℕ) (l : List Bool) (j : ℕ) → are_others_passed s l ≡ true → j ≢ s → j < length l → slice_get l j ≡ Some true
@@ -178,15 +171,26 @@ looked_waits h views s j v parts at = by_flag (is_passed v j) refl
   where
     same : Waits h views v v
     same = record {
-      own = refl; cursor = refl; epoch = refl; ready = refl; used = refl; hand = refl;
+      own = refl;
+      cursor = refl;
+      epoch = refl;
+      ready = refl;
+      used = refl;
+      hand = refl;
       homes = λ x. parts.places.homes s x v at;
       at_home = λ x l. parts.places.at_home s x v at l;
       out = λ i x b c home out e has m. parts.barrier s i x v b c at e has home out m;
     }
+
     -- a seat that is passed now left its operation
     passing : ((b : View) (c : Cursor) (x : ℕ) → IsViewOf views j b → b.cursor ≡ Some c → 1 ≤ times x v.homes → MayReach h c x → ⊥) → Waits h views v (passes v j)
     passing far = record {
-      own = refl; cursor = refl; epoch = refl; ready = refl; used = refl; hand = refl;
+      own = refl;
+      cursor = refl;
+      epoch = refl;
+      ready = refl;
+      used = refl;
+      hand = refl;
       homes = λ x. parts.places.homes s x v at;
       at_home = λ x l. parts.places.at_home s x v at l;
       out = λ i x b c home out e has m.
@@ -195,10 +199,16 @@ looked_waits h views s j v parts at = by_flag (is_passed v j) refl
           (λ (o : IsOut h v i). parts.barrier s i x v b c at e has home o m)
           (passed_out h v j i out);
     }
+
     -- a note of the epoch that seat j has now tells nothing
     noting : Waits h views v (record v { notes = slice_set v.notes j (Some (h.epoch j)) })
     noting = record {
-      own = refl; cursor = refl; epoch = refl; ready = refl; used = refl; hand = refl;
+      own = refl;
+      cursor = refl;
+      epoch = refl;
+      ready = refl;
+      used = refl;
+      hand = refl;
       homes = λ x. parts.places.homes s x v at;
       at_home = λ x l. parts.places.at_home s x v at l;
       out = λ i x b c home out e has m. out_note i x b c home out e has m;
@@ -211,6 +221,7 @@ looked_waits h views s j v parts at = by_flag (is_passed v j) refl
             (λ (t : (i ≡ j) × (Some (h.epoch j) ≡ Some n.0)). n.2 (ap h.epoch t.0 ∙ (let r = t.1 in cc)))
             (λ (t : (i ≢ j) × (slice_get v.notes i ≡ Some (Some n.0))). parts.barrier s i x v b c at e has home (inr (n.0, t.1, n.2)) m)
             (set_view v.notes j i (Some (h.epoch j)) (Some n.0) n.1)
+
     by_note : (o : Option ℕ) → note_of v j ≡ o → Waits h views v (noted v j (h.epoch j) o)
     by_note None q = noting
     by_note (Some n) q = by_same (n == h.epoch j) refl
@@ -218,9 +229,11 @@ looked_waits h views s j v parts at = by_flag (is_passed v j) refl
         by_same : (b : Bool) → n == h.epoch j ≡ b → Waits h views v (if b then v else passes v j)
         by_same true e = same
         by_same false e = passing (λ b c x eb has home m. parts.barrier s j x v b c at eb has home (inr (n, noted_is v.notes j n q, λ z. eqb-false n (h.epoch j) e (sym z))) m)
+
     by_parity : (b : Bool) → h.epoch j % 2 == 0 ≡ b → Waits h views v (if b then passes v j else noted v j (h.epoch j) (note_of v j))
     by_parity true e = passing (λ b c x eb has home m. none_even h views j b c parts eb has (eqb-true _ _ e))
     by_parity false e = by_note (note_of v j) refl
+
     by_flag : (b : Bool) → is_passed v j ≡ b → Waits h views v (if b then v else if h.epoch j % 2 == 0 then passes v j else noted v j (h.epoch j) (note_of v j))
     by_flag true e = same
     by_flag false e = by_parity (h.epoch j % 2 == 0) refl
@@ -241,6 +254,7 @@ reads_epoch h views s j v parts at even len = by_passed (looked_at v j (h.epoch 
             (λ (q : i ≡ s). not_mine h views s i v b c parts at even e has q)
             (λ (d : i ≢ s). waits.out i x b c home (inl (others_passed s w.passed i all d (let l = slice_get_within views i b e in omega (arith, l, len)))) e has m)
             (cases_eq i s)
+
         by_test : (t : Bool) → are_others_passed s w.passed ≡ t → Parts h (slice_set views s (if t then released w else w))
         by_test true all = released_kept h views s v w parts at waits (alone all)
         by_test false all = waits_kept h views s v w parts at waits
@@ -249,7 +263,12 @@ reads_epoch h views s j v parts at even len = by_passed (looked_at v j (h.epoch 
 
 came_waits : (h : Heap) (views : List View) (s n seats : ℕ) (v : View) → Parts h views → IsViewOf views s v → 1 ≤ times n v.used → times n v.homes ≡ 0 → h.home n ≡ 1 → Waits h views v (came_home seats v n)
 came_waits h views s n seats v parts at used none one = record {
-  own = refl; cursor = refl; epoch = refl; ready = refl; used = refl; hand = refl;
+  own = refl;
+  cursor = refl;
+  epoch = refl;
+  ready = refl;
+  used = refl;
+  hand = refl;
   homes = λ x. ⊎_elim
       (λ (q : x ≡ n). subst (λ a. times a (v.homes ++ n ∷ []) ≤ times a v.used) (sym q) (let t = times_joined n v.homes (n ∷ []) in let i = times_itself n in omega (arith, t, i, used, none)))
       (λ (d : x ≢ n). let t = times_joined x v.homes (n ∷ []) in let o = times_other x n d in let l = parts.places.homes s x v at in omega (arith, t, o, l))
@@ -270,9 +289,11 @@ reads_home h views s n seats v parts at even used none len = by_word (h.home n =
   where
     only_seat : seats ≡ 1 → (i x : ℕ) (b : View) (c : Cursor) → 1 ≤ times x (came_home seats v n).homes → IsViewOf views i b → b.cursor ≡ Some c → MayReach h c x → ⊥
     only_seat one i x b c home e has m = not_mine h views s i v b c parts at even e has (let l = slice_get_within views i b e in let k = slice_get_within views s v at in omega (arith, l, k, len, one))
+
     by_seats : (t : Bool) → seats == 1 ≡ t → Waits h views v (came_home seats v n) → Parts h (slice_set views s (if t then released (came_home seats v n) else came_home seats v n))
     by_seats true one waits = released_kept h views s v (came_home seats v n) parts at waits (only_seat (eqb-true seats 1 one))
     by_seats false one waits = waits_kept h views s v (came_home seats v n) parts at waits
+
     by_word : (t : Bool) → h.home n == 1 ≡ t → Parts h (slice_set views s (if t then (if seats == 1 then released (came_home seats v n) else came_home seats v n) else v))
     by_word true one = by_seats (seats == 1) refl (came_waits h views s n seats v parts at used none (eqb-true (h.home n) 1 one))
     by_word false one = subst (Parts h) (sym (set_there views s v at)) parts

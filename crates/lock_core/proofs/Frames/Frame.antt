@@ -7,16 +7,14 @@ use Rattle.lock_core.specs.declared.views.Cursor.{Cursor}
 use Rattle.lock_core.specs.declared.views.Own.{Own}
 use Rattle.lock_core.specs.declared.views.Todo.{Todo}
 use Rattle.lock_core.specs.declared.views.Todo.TheVariants.{Forward, FromHead, Done}
-use Rattle.lock_core.specs.declared.compare.Verdict.TheVariants.{Past, Stop}
-use Rattle.lock_core.specs.Paths.{Reach, here, there, Ends}
-use Rattle.lock_core.specs.Words.{Heap, to, cell_of, hi_word, IsMarked, IsUnmarked}
-use Rattle.lock_core.specs.Nodes.{Filled, Listed, filling, listed}
+use Rattle.lock_core.specs.Paths.{Reach, here}
+use Rattle.lock_core.specs.Words.{Heap, to, cell_of, IsMarked}
+use Rattle.lock_core.specs.Nodes.{Filled, Listed}
 use Rattle.lock_core.specs.Compare.{compared}
-use Rattle.lock_core.specs.Rows.{IsAtPlace}
-use Rattle.lock_core.specs.Invariant.{IsViewOf, InChain, Names, MayReach, IsBefore, IsOrdered, IsKnown, IsWritten, HasRange, IsRead, IsIdle, HasToSee, SeesFrom, first_cell_of}
-use Rattle.lock_core.proofs.Parts.{Parts, IsCursorKept, IsViewKept, IsChainKept}
-use Rattle.lock_core.proofs.Idle.{idle_not_chain, idle_not_linked, idle_seat}
-use Rattle.lock_core.proofs.Untouched.{keeps_reach, adds_reach, keeps_ends}
+use Rattle.lock_core.specs.Invariant.{IsViewOf, InChain, Names, MayReach, IsOrdered, HasRange, IsRead, IsIdle, HasToSee, SeesFrom, first_cell_of}
+use Rattle.lock_core.proofs.Frames.Parts.{Parts, IsCursorKept, IsViewKept, IsChainKept}
+use Rattle.lock_core.proofs.Frames.Idle.{idle_not_chain, idle_seat}
+use Rattle.lock_core.proofs.Frames.Untouched.{keeps_reach, adds_reach, keeps_ends}
 use Rattle.lock_core.proofs.Paths.{reach_on}
 
 -- the words after a step: those of nodes that aren't idle in view v stay, and the head names what it named

@@ -1,6 +1,6 @@
 -- Walk and ReadLo: a cursor begins at the head or behind the own node, and reads the next word and the lower end of its node.
-use Rattle.std.proofs.Common.{◌≡◌, ◌≢◌, ◌⊎◌, ℕ, zero, suc, ◌+◌, ◌-◌, ◌*◌, ◌/◌, ◌%◌, ◌<◌, ◌≤◌, Bool, true, false, List, Some, None, inl, inr, ⊎_elim, refl, sym, ap, ◌∙◌, subst, arith, eqb-true}
-use Rattle.std.specs.Prelude.{Option, slice_set, option_map, ◌==◌, if◌then◌else◌}
+use Rattle.std.proofs.Common.{◌≡◌, ◌≢◌, ◌⊎◌, ℕ, suc, ◌+◌, ◌*◌, ◌/◌, ◌%◌, List, Some, None, inl, inr, ⊎_elim, refl, sym, ap, ◌∙◌, subst, arith}
+use Rattle.std.specs.Prelude.{Option, slice_set}
 use Rattle.lock_core.specs.declared.range.Mode.TheVariants.{Reader, Writer}
 use Rattle.lock_core.specs.declared.views.View.{View}
 use Rattle.lock_core.specs.declared.views.Cursor.{Cursor}
@@ -9,19 +9,21 @@ use Rattle.lock_core.specs.declared.views.Own.TheVariants.{Nothing, Filling, Lin
 use Rattle.lock_core.specs.declared.views.Todo.{Todo}
 use Rattle.lock_core.specs.declared.views.Todo.TheVariants.{Forward, FromHead, Done}
 use Rattle.lock_core.specs.Paths.{Reach, here, there, Ends, end, on}
-use Rattle.lock_core.specs.Words.{Heap, to, cell_of, plain_node_of, node_of, IsMarked, IsUnmarked}
+use Rattle.lock_core.specs.Words.{Heap, to, cell_of, IsMarked, IsUnmarked}
 use Rattle.lock_core.specs.Nodes.{Filled, Listed, filling, listed, own_times}
-use Rattle.lock_core.specs.Views.{came_to, own_at, start_of, walk_cell, walked, lo_read, seen_after}
+use Rattle.lock_core.specs.Views.{came_to, own_at, start_of, seen_after}
 use Rattle.lock_core.specs.Rows.{IsAtPlace}
-use Rattle.lock_core.specs.Invariant.{IsViewOf, InChain, Names, MayReach, IsBefore, IsOrdered, HasRange, IsAlone, IsHeldBy, HasToSee, SeesFrom, first_cell_of}
+use Rattle.lock_core.specs.Invariant.{IsViewOf, InChain, Names, MayReach, IsOrdered, IsAlone, IsHeldBy, HasToSee, first_cell_of}
 use Rattle.lock_core.proofs.ByView.{is_view}
 use Rattle.lock_core.proofs.Counts.{own_linked, one_seat}
-use Rattle.lock_core.proofs.Owns.{own_is, listed_is, same_some}
+use Rattle.lock_core.proofs.Frames.Owns.{same_some}
+use Rattle.lock_core.proofs.PathSteps.{listed_one}
 use Rattle.lock_core.proofs.Paths.{reach_on, unreach, unends}
-use Rattle.lock_core.proofs.Parts.{Parts, IsCursorKept}
-use Rattle.lock_core.proofs.Steady.{Rival}
-use Rattle.lock_core.proofs.Moving.{Moves, OwnStays, done, moves_kept}
-use Rattle.lock_core.proofs.Seeing.{calm_same, sees_anew, sees_own_anew, blind_at_own}
+use Rattle.lock_core.proofs.Frames.Parts.{Parts, IsCursorKept}
+use Rattle.lock_core.proofs.Frames.Steady.{Rival}
+use Rattle.lock_core.proofs.Coming.{CameHome, coming, done}
+use Rattle.lock_core.proofs.Frames.Moving.{OwnStays, moves_kept}
+use Rattle.lock_core.proofs.Frames.Seeing.{calm_same, sees_anew, sees_own_anew, blind_at_own}
 
 -- ---- parts of a path
 
@@ -53,64 +55,37 @@ alone_is h views a x r = ⊎_elim
 
 -- ---- the own node once a cursor came to a word
 
--- it stays, or a reader came to the end, or a writer came to its own node
-pub data Comes (o : Own) (w : ℕ) : Type 0 where
-  stays : own_at o w ≡ o → Comes o w
-  at_end : (k : Listed) → o ≡ listed k → k.todo ≡ Forward → w ≡ 0 → own_at o w ≡ listed (done k) → Comes o w
-  at_own : (k : Listed) → o ≡ listed k → k.todo ≡ FromHead → w ≡ 2 * suc k.node → own_at o w ≡ listed (done k) → Comes o w
-
-pub comes : (o : Own) (w : ℕ) → Comes o w
-comes Nothing w = stays refl
-comes (Filling node lo hi mode aimed) w = stays refl
-comes (Linked node range mode Done) w = stays refl
-comes (Linked node range mode Forward) w = test (w == 0) refl
-  where
-    test : (t : Bool) → w == 0 ≡ t → Comes (Linked node range mode Forward) w
-    test true e = at_end (record { node = node; range = range; mode = mode; todo = Forward }) refl refl (eqb-true w 0 e) (ap (λ (b : Bool). if b then Linked node range mode Done else Linked node range mode Forward) e)
-    test false e = stays (ap (λ (b : Bool). if b then Linked node range mode Done else Linked node range mode Forward) e)
-comes (Linked node range mode FromHead) w = test (w == 2 * suc node) refl
-  where
-    test : (t : Bool) → w == 2 * suc node ≡ t → Comes (Linked node range mode FromHead) w
-    test true e = at_own (record { node = node; range = range; mode = mode; todo = FromHead }) refl refl (eqb-true w (2 * suc node) e) (ap (λ (b : Bool). if b then Linked node range mode Done else Linked node range mode FromHead) e)
-    test false e = stays (ap (λ (b : Bool). if b then Linked node range mode Done else Linked node range mode FromHead) e)
-
-pub own_stays : (v u : View) (w : ℕ) → u.own ≡ own_at v.own w → Comes v.own w → OwnStays v u
-own_stays v u w e (stays q) = inl (e ∙ q)
-own_stays v u w e (at_end k own todo z q) = inr (k, own, e ∙ q)
-own_stays v u w e (at_own k own todo z q) = inr (k, own, e ∙ q)
+pub own_stays : (v u : View) (w : ℕ) → u.own ≡ own_at v.own w → OwnStays v u
+own_stays v u w e = ⊎_elim (λ (q : own_at v.own w ≡ v.own). inl (e ∙ q)) (λ (c : CameHome v.own w (own_at v.own w)). inr (c.was, c.is, e ∙ c.now)) (coming v.own w)
 
 -- an own node that is being filled is so before and after
 pub fills_still : (o : Own) (w : ℕ) (f : Filled) → own_at o w ≡ filling f → o ≡ filling f
-fills_still o w f e = by_case (comes o w)
-  where
-    by_case : Comes o w → o ≡ filling f
-    by_case (stays q) = sym q ∙ e
-    by_case (at_end k own todo z q) = absurd (cc)
-    by_case (at_own k own todo z q) = absurd (cc)
+fills_still o w f e = ⊎_elim (λ (q : own_at o w ≡ o). sym q ∙ e) (λ (c : CameHome o w (own_at o w)). absurd (let n = c.now in cc)) (coming o w)
 
 -- and so is a linked one that has still something to do
 pub listed_still : (o : Own) (w : ℕ) (k : Listed) → own_at o w ≡ listed k → k.todo ≢ Done → o ≡ listed k
-listed_still o w k e d = by_case (comes o w)
-  where
-    by_case : Comes o w → o ≡ listed k
-    by_case (stays q) = sym q ∙ e
-    by_case (at_end g own todo z q) = absurd (d (sym (ap (λ (a : Listed). a.todo) (listed_is (done g) k (sym q ∙ e)))))
-    by_case (at_own g own todo z q) = absurd (d (sym (ap (λ (a : Listed). a.todo) (listed_is (done g) k (sym q ∙ e)))))
+listed_still o w k e d = ⊎_elim
+    (λ (q : own_at o w ≡ o). sym q ∙ e)
+    (λ (c : CameHome o w (own_at o w)). absurd (d (sym (ap (λ (a : Listed). a.todo) (listed_one (done c.was) k (sym c.now ∙ e))))))
+    (coming o w)
 
 -- as long as a rival is ahead the range isn't held
 pub not_yet : (h : Heap) (views : List View) (s w : ℕ) (v : View) (k g : Listed) → Parts h views → IsViewOf views s v → v.own ≡ listed k → Rival views k g → Reach (to h) g.node (w / 2) → own_at v.own w ≡ v.own
-not_yet h views s w v k g parts at own rival r = by_case (comes v.own w)
-  where
-    by_case : Comes v.own w → own_at v.own w ≡ v.own
-    by_case (stays q) = q
-    by_case (at_end b e todo z q) = absurd (let n : Reach (to h) g.node 0 = subst (Reach (to h) g.node) (ap (λ a. a / 2) z) r in elim n [ ])
-    by_case (at_own b e todo z q) =
-        let same = listed_is b k (sym e ∙ own) in
-        let half : w / 2 ≡ suc k.node = let a = ap (λ (c : Listed). c.node) same in omega (arith, a, z) in
-        absurd (⊎_elim
-        (λ (t : (k.todo ≡ Forward) × (k.mode ≡ Reader) × (g.mode ≡ Writer)). let a = ap (λ (c : Listed). c.todo) same in let f = t.0 in cc)
-        (λ (t : (k.todo ≡ FromHead) × (k.mode ≡ Writer) × (g.mode ≡ Reader)). blind_at_own h views s v k g parts at own rival t.1 (subst (Reach (to h) g.node) half r))
-        rival.way)
+not_yet h views s w v k g parts at own rival r =
+    ⊎_elim
+    (λ (q : own_at v.own w ≡ v.own). q)
+    (λ (c : CameHome v.own w (own_at v.own w)).
+    let same = listed_one c.was k (sym c.is ∙ own) in
+    absurd (⊎_elim
+    (λ (t : (c.was.todo ≡ Forward) × (w ≡ 0)). let n : Reach (to h) g.node 0 = subst (Reach (to h) g.node) (ap (λ a. a / 2) t.1) r in elim n [ ])
+    (λ (t : (c.was.todo ≡ FromHead) × (w ≡ 2 * suc c.was.node)).
+    let half : w / 2 ≡ suc k.node = let a = ap (λ (b : Listed). b.node) same in let z = t.1 in omega (arith, a, z) in
+    ⊎_elim
+    (λ (u : (k.todo ≡ Forward) × (k.mode ≡ Reader) × (g.mode ≡ Writer)). let a = ap (λ (b : Listed). b.todo) same in let f = u.0 in let b = t.0 in cc)
+    (λ (u : (k.todo ≡ FromHead) × (k.mode ≡ Writer) × (g.mode ≡ Reader)). blind_at_own h views s v k g parts at own rival u.1 (subst (Reach (to h) g.node) half r))
+    rival.way)
+    c.way))
+    (coming v.own w)
 
 -- ---- where a walk begins
 
@@ -123,8 +98,8 @@ starts : (o : Own) → Start o
 starts Nothing = at_head refl (λ k e. absurd (cc))
 starts (Filling node lo hi mode aimed) = at_head refl (λ k e. absurd (cc))
 starts (Linked node range mode Forward) = behind_own (record { node = node; range = range; mode = mode; todo = Forward }) refl refl refl
-starts (Linked node range mode FromHead) = at_head refl (λ k e q. let t = ap (λ (z : Listed). z.todo) (listed_is (record { node = node; range = range; mode = mode; todo = FromHead }) k e) in cc)
-starts (Linked node range mode Done) = at_head refl (λ k e q. let t = ap (λ (z : Listed). z.todo) (listed_is (record { node = node; range = range; mode = mode; todo = Done }) k e) in cc)
+starts (Linked node range mode FromHead) = at_head refl (λ k e q. let t = ap (λ (z : Listed). z.todo) (listed_one (record { node = node; range = range; mode = mode; todo = FromHead }) k e) in cc)
+starts (Linked node range mode Done) = at_head refl (λ k e q. let t = ap (λ (z : Listed). z.todo) (listed_one (record { node = node; range = range; mode = mode; todo = Done }) k e) in cc)
 
 module _ (h : Heap) (views : List View) (s : ℕ) (v : View) (parts : Parts h views) (at : IsViewOf views s v) (none : v.cursor ≡ None) (odd : v.epoch % 2 ≡ 1) where
   abbrev word : ℕ
@@ -196,8 +171,10 @@ module _ (h : Heap) (views : List View) (s : ℕ) (v : View) (parts : Parts h vi
       by_name t (inl e) = subst (IsOrdered h) (sym e) (prev_ordered (start_of v.own) (from_chain (starts v.own)))
       by_name t (inr (inl e)) = subst (IsOrdered h) (sym e) (cur_ordered (start_of v.own) (from_chain (starts v.own)))
       by_name t (inr (inr n)) = absurd (let e = n.1 in cc)
+
       no_prev : (f : Filled) (p : ℕ) → v.own ≡ filling f → start_of v.own ≡ Some p → ⊥
       no_prev f p e q = let z : start_of v.own ≡ None = ap start_of e in cc
+
       no_place : (y : ℕ) → IsAtPlace d → word / 2 ≡ suc y → ⊥
       no_place y (inl e) q = omega (arith, e, q)
       no_place y (inr t) q = t.1 refl
@@ -212,9 +189,10 @@ module _ (h : Heap) (views : List View) (s : ℕ) (v : View) (parts : Parts h vi
           let its' : own_times k.node b.view.own ≡ 1 = subst (λ n. own_times n b.view.own ≡ 1) (b.node ∙ sym e) its in
           let seat = one_seat h views parts.places s b.seat k.node v b.view at b.at (omega (arith, mine)) (omega (arith, its')) in
           let same = is_view views s b.seat v b.view at b.at (sym seat) in
-          let t = ap (λ (z : Listed). z.todo) (listed_is k b.own (sym own ∙ ap (λ (z : View). z.own) same ∙ b.is)) in
+          let t = ap (λ (z : Listed). z.todo) (listed_one k b.own (sym own ∙ ap (λ (z : View). z.own) same ∙ b.is)) in
           let d = b.done in
           cc
+
       by_start : Start v.own → word ≡ 2 * suc a.node + 1
       by_start (at_head e n) = let w = ap (λ (o : Option ℕ). h.next (cell_of o)) e in let f = a.first in omega (arith, w, f, low)
       by_start (behind_own k own todo q) =
@@ -237,7 +215,7 @@ module _ (h : Heap) (views : List View) (s : ℕ) (v : View) (parts : Parts h vi
           by_todo FromHead q = subst (λ (a : Todo). Reach (to h) x (to h (first_cell_of a k.node))) q r
           by_todo Done q = absurd (d q)
       by_start (behind_own b e todo q) =
-          let same = listed_is b k (sym e ∙ own) in
+          let same = listed_one b k (sym e ∙ own) in
           subst (λ (o : Option ℕ). Reach (to h) x (to h (cell_of o))) (sym q)
           (subst (λ (a : ℕ). Reach (to h) x (to h (suc a))) (sym (ap (λ (c : Listed). c.node) same)) (subst (λ (a : Todo). Reach (to h) x (to h (first_cell_of a k.node))) (sym (ap (λ (c : Listed). c.todo) same) ∙ todo) r))
 
@@ -252,8 +230,14 @@ module _ (h : Heap) (views : List View) (s : ℕ) (v : View) (parts : Parts h vi
 
   pub begins : Parts h (slice_set views s there_at)
   begins = moves_kept h h views s v there_at parts at (calm_same h) (λ x. refl) (λ j w e. refl) (λ l. l) (record {
-    ready = refl; used = refl; homes = refl; hand = refl; notes = refl; passed = refl; epoch = refl;
-    own = own_stays v there_at word refl (comes v.own word);
+    ready = refl;
+    used = refl;
+    homes = refl;
+    hand = refl;
+    notes = refl;
+    passed = refl;
+    epoch = refl;
+    own = own_stays v there_at word refl;
     odd = λ e. absurd (omega (arith, odd, e));
     cursor = λ c e. subst (IsCursorKept h (own_at v.own word)) (same_some d c e) kept;
     reach = λ c x e m. inl (inside x (subst (λ z. MayReach h z x) (sym (same_some d c e)) m));

@@ -1,9 +1,8 @@
 -- ReadHi: the cursor's node is judged, and the walk goes on past it, stops before it, or stays at a conflict.
-use Rattle.std.proofs.Common.{◌≡◌, ◌≢◌, ◌⊎◌, ℕ, zero, suc, ◌+◌, ◌-◌, ◌*◌, ◌/◌, ◌%◌, ◌<◌, ◌≤◌, ◌&&◌, nat_lt, nat_le, Bool, true, false, List, Some, None, inl, inr, ⊎_elim, refl, sym, ap, ◌∙◌, subst, arith, eqb-true, leb-true}
+use Rattle.std.proofs.Common.{◌≡◌, ◌⊎◌, ℕ, suc, ◌+◌, ◌*◌, ◌/◌, ◌%◌, ◌<◌, ◌≤◌, ◌&&◌, nat_lt, nat_le, Bool, true, false, List, Some, None, inl, inr, ⊎_elim, refl, sym, ap, ◌∙◌, subst, arith, leb-true}
 use Rattle.std.specs.Prelude.{Option, slice_set, ◌==◌, if◌then◌else◌}
-use Rattle.std.proofs.lemmas.Bool.{ltb-true, ltb-false, lt-ltb, eqb-false}
+use Rattle.std.proofs.lemmas.Bool.{ltb-false, lt-ltb, eqb-false}
 use Rattle.lock_core.specs.Range.{Interval}
-use Rattle.lock_core.specs.declared.range.Mode.{Mode}
 use Rattle.lock_core.specs.declared.range.Mode.TheVariants.{Reader, Writer}
 use Rattle.lock_core.specs.declared.compare.Verdict.{Verdict}
 use Rattle.lock_core.specs.declared.compare.Verdict.TheVariants.{Past, Stop, Conflict}
@@ -14,20 +13,23 @@ use Rattle.lock_core.specs.declared.views.Own.TheVariants.{Nothing, Filling, Lin
 use Rattle.lock_core.specs.declared.views.Todo.{Todo}
 use Rattle.lock_core.specs.declared.views.Todo.TheVariants.{Forward, FromHead, Done}
 use Rattle.lock_core.specs.Paths.{Reach, here, there}
-use Rattle.lock_core.specs.Words.{Heap, to, hi_word, mode_of, IsUnmarked}
+use Rattle.lock_core.specs.Words.{Heap, to, mode_of}
 use Rattle.lock_core.specs.Nodes.{Filled, Listed, filling, listed}
 use Rattle.lock_core.specs.Compare.{is_reader, compared, forward, from_head, validated, walked_past, verdict_of}
 use Rattle.lock_core.specs.Views.{came_to, own_at, own_stopped, hi_judged, hi_read, seen_after}
 use Rattle.lock_core.specs.Rows.{IsAtPlace}
-use Rattle.lock_core.specs.Invariant.{IsViewOf, InChain, Names, MayReach, IsOrdered, IsAlone, IsWritten, HasToSee, SeesFrom}
+use Rattle.lock_core.specs.Invariant.{IsViewOf, InChain, Names, MayReach, IsOrdered, HasToSee, SeesFrom}
+use Rattle.lock_core.proofs.Table.{together}
 use Rattle.lock_core.proofs.ByView.{set_there}
-use Rattle.lock_core.proofs.Owns.{own_is, filling_is, listed_is, same_some}
-use Rattle.lock_core.proofs.Parts.{Parts, IsCursorKept}
-use Rattle.lock_core.proofs.Steady.{Rival}
-use Rattle.lock_core.proofs.Moving.{Moves, OwnStays, done, moves_kept}
-use Rattle.lock_core.proofs.Seeing.{calm_same, end_is, writer_is, reader_is, rival_chain, rival_written, mine_written, blind_behind}
-use Rattle.lock_core.proofs.Walking.{Comes, comes, own_stays, fills_still, listed_still, not_yet}
-use Rattle.lock_core.proofs.Reading.{not_alone}
+use Rattle.lock_core.proofs.Frames.Owns.{same_some}
+use Rattle.lock_core.proofs.PathSteps.{listed_one}
+use Rattle.lock_core.proofs.Frames.Parts.{Parts, IsCursorKept}
+use Rattle.lock_core.proofs.Frames.Steady.{Rival}
+use Rattle.lock_core.proofs.Coming.{done}
+use Rattle.lock_core.proofs.Frames.Moving.{moves_kept}
+use Rattle.lock_core.proofs.Frames.Seeing.{calm_same, end_is, writer_is, rival_chain, rival_written, blind_behind}
+use Rattle.lock_core.proofs.WordSteps.Walking.{own_stays, fills_still, listed_still, not_yet}
+use Rattle.lock_core.proofs.WordSteps.Reading.{not_alone}
 
 -- ---- what a verdict tells
 
@@ -42,6 +44,7 @@ forward_past range lo w odd e = by_stop (nat_le range.hi lo) e
         by_end true q e = absurd (cc)
         by_end false q e = ltb-false range.lo (w / 2) q
     by_mode false q e = absurd (eqb-false (w % 2) 1 q odd)
+
     by_stop : (t : Bool) → (if t then Stop else if is_reader (mode_of w) then Past else if nat_lt range.lo (w / 2) then Conflict else Past) ≡ Past → w / 2 ≤ range.lo
     by_stop true e = absurd (cc)
     by_stop false e = by_mode (w % 2 == 1) refl e
@@ -62,13 +65,9 @@ forward_stop range lo w e = by_stop (nat_le range.hi lo) refl e
 -- a writer that validates goes past no node that overlaps it, and never stops
 from_head_past : (range : Interval) (lo w : ℕ) → range.lo < w / 2 → lo < range.hi → from_head range lo w ≡ Past → ⊥
 from_head_past range lo w a b e =
-    let t : (nat_lt range.lo (w / 2) && nat_lt lo range.hi) ≡ true = two_true _ _ (lt-ltb range.lo (w / 2) a) (lt-ltb lo range.hi b) in
+    let t : (nat_lt range.lo (w / 2) && nat_lt lo range.hi) ≡ true = together _ _ (lt-ltb range.lo (w / 2) a) (lt-ltb lo range.hi b) in
     let z : Conflict ≡ Past = sym (ap (λ (q : Bool). if q then Conflict else Past) t) ∙ e in
     cc
-  where
-    two_true : (a b : Bool) → a ≡ true → b ≡ true → (a && b) ≡ true
-    two_true true b e e' = e'
-    two_true false b e e' = absurd (cc)
 
 from_head_stop : (range : Interval) (lo w : ℕ) → from_head range lo w ≡ Stop → ⊥
 from_head_stop range lo w e = by_test (nat_lt range.lo (w / 2) && nat_lt lo range.hi) e
@@ -94,7 +93,7 @@ stopped_filling (Linked node range mode Done) f e = absurd (cc)
 stopped_listed : (o : Own) (k : Listed) → own_stopped o ≡ listed k → k.todo ≡ FromHead → o ≡ listed k
 stopped_listed Nothing k e t = absurd (cc)
 stopped_listed (Filling node lo hi mode aimed) k e t = absurd (cc)
-stopped_listed (Linked node range mode Forward) k e t = absurd (let q = ap (λ (z : Listed). z.todo) (listed_is (record { node = node; range = range; mode = mode; todo = Done }) k e) in cc)
+stopped_listed (Linked node range mode Forward) k e t = absurd (let q = ap (λ (z : Listed). z.todo) (listed_one (record { node = node; range = range; mode = mode; todo = Done }) k e) in cc)
 stopped_listed (Linked node range mode FromHead) k e t = e
 stopped_listed (Linked node range mode Done) k e t = e
 
@@ -188,8 +187,14 @@ module _ (h : Heap) (views : List View) (s : ℕ) (v : View) (c : Cursor) (y n l
 
   goes_past : verdict_of v.own lo (h.hi y) ≡ Past → Parts h (slice_set views s (came_to v (Some y) n c.seen))
   goes_past past = moves_kept h h views s v (came_to v (Some y) n c.seen) parts at (calm_same h) (λ x. refl) (λ j w e. refl) (λ l. l) (record {
-    ready = refl; used = refl; homes = refl; hand = refl; notes = refl; passed = refl; epoch = refl;
-    own = own_stays v (came_to v (Some y) n c.seen) n refl (comes v.own n);
+    ready = refl;
+    used = refl;
+    homes = refl;
+    hand = refl;
+    notes = refl;
+    passed = refl;
+    epoch = refl;
+    own = own_stays v (came_to v (Some y) n c.seen) n refl;
     odd = λ e. absurd (odd e);
     cursor = λ b e. subst (IsCursorKept h (own_at v.own n)) (same_some d b e) (kept_past past);
     reach = λ b x e m. inr (c, has, may_past x (subst (λ z. MayReach h z x) (sym (same_some d b e)) m));
@@ -267,7 +272,13 @@ module _ (h : Heap) (views : List View) (s : ℕ) (v : View) (c : Cursor) (y n l
 
   stops : verdict_of v.own lo (h.hi y) ≡ Stop → Parts h (slice_set views s (hi_judged v c y n Stop))
   stops stop = moves_kept h h views s v (hi_judged v c y n Stop) parts at (calm_same h) (λ x. refl) (λ j w e. refl) (λ l. l) (record {
-    ready = refl; used = refl; homes = refl; hand = refl; notes = refl; passed = refl; epoch = refl;
+    ready = refl;
+    used = refl;
+    homes = refl;
+    hand = refl;
+    notes = refl;
+    passed = refl;
+    epoch = refl;
     own = own_stop stop;
     odd = λ e. absurd (odd e);
     cursor = λ b e. subst (IsCursorKept h (own_stopped v.own)) (same_some stopped b e) (kept_stop stop);

@@ -1,23 +1,19 @@
 -- What a validation still has to see, and when it has nothing left to see.
-use Rattle.std.proofs.Common.{◌≡◌, ◌≢◌, ◌⊎◌, ℕ, zero, suc, ◌+◌, ◌*◌, ◌/◌, ◌%◌, ◌<◌, ◌≤◌, List, Some, None, inl, inr, ⊎_elim, refl, sym, ap, ◌∙◌, subst, arith}
-use Rattle.std.specs.Prelude.{Option, slice_set}
+use Rattle.std.proofs.Common.{◌≡◌, ◌≢◌, ◌⊎◌, ℕ, suc, ◌/◌, ◌%◌, ◌≤◌, List, None, ⊎_elim, refl, sym, ap, ◌∙◌, subst, arith}
 use Rattle.lock_core.specs.declared.range.Mode.TheVariants.{Reader, Writer}
 use Rattle.lock_core.specs.declared.views.View.{View}
-use Rattle.lock_core.specs.declared.views.Cursor.{Cursor}
 use Rattle.lock_core.specs.declared.views.Todo.{Todo}
-use Rattle.lock_core.specs.declared.views.Todo.TheVariants.{Forward, FromHead, Done}
-use Rattle.lock_core.specs.Paths.{Reach, here, there}
-use Rattle.lock_core.specs.Words.{Heap, to, hi_word}
-use Rattle.lock_core.specs.Nodes.{Filled, Listed, filling, listed}
-use Rattle.lock_core.specs.Views.{dropped}
+use Rattle.lock_core.specs.declared.views.Todo.TheVariants.{Forward, FromHead}
+use Rattle.lock_core.specs.Paths.{Reach}
+use Rattle.lock_core.specs.Words.{Heap, to}
+use Rattle.lock_core.specs.Nodes.{Listed, listed}
 use Rattle.lock_core.specs.Invariant.{IsViewOf, InChain, IsOrdered, IsWritten, HasToSee, first_cell_of}
 use Rattle.lock_core.proofs.Along.{in_line, along, clear_behind}
-use Rattle.lock_core.proofs.Paths.{reach_on, unreach}
+use Rattle.lock_core.proofs.Paths.{unreach}
 use Rattle.lock_core.proofs.Judging.{hi_is, writer_odd, reader_low}
-use Rattle.lock_core.proofs.Parts.{Parts}
-use Rattle.lock_core.proofs.Quiet.{Calm}
-use Rattle.lock_core.proofs.Steady.{Rival}
-use Rattle.lock_core.proofs.Moving.{Moves, moves_kept}
+use Rattle.lock_core.proofs.Frames.Parts.{Parts}
+use Rattle.lock_core.proofs.Frames.Quiet.{Calm}
+use Rattle.lock_core.proofs.Frames.Steady.{Rival}
 
 pub calm_same : (h : Heap) → Calm h h
 calm_same h = record { head = refl; next = λ x. refl; lo = λ x. refl; hi = λ x. refl }
@@ -95,16 +91,3 @@ module _ (h : Heap) (views : List View) (s : ℕ) (v : View) (k g : Listed) (par
 -- a writer has its own node to see, from the head on
 pub sees_own_anew : (h : Heap) (k : Listed) → InChain h k.node → k.todo ≡ FromHead → HasToSee h k None k.node
 sees_own_anew h k r e = subst (λ (a : Todo). Reach (to h) k.node (to h (first_cell_of a k.node))) (sym e) r
-
--- a seat lets its cursor go, as after an exchange that failed
-pub drops : (h : Heap) (views : List View) (s : ℕ) (v : View) → Parts h views → IsViewOf views s v → Parts h (slice_set views s (dropped v))
-drops h views s v parts at = moves_kept h h views s v (dropped v) parts at (calm_same h) (λ x. refl) (λ j w e. refl) (λ l. l) (record {
-  ready = refl; used = refl; homes = refl; hand = refl; notes = refl; passed = refl; epoch = refl;
-  own = inl refl;
-  odd = λ e. refl;
-  cursor = λ d e. absurd (cc);
-  reach = λ d x e m. absurd (cc);
-  sees = λ k g own r see. (refl, sees_anew h views s v k g parts at own r);
-  to_see = λ k own e. sees_own_anew h k (parts.places.linked s v k at own).0 e;
-  unseen = λ odd a d e m. absurd (cc);
-})

@@ -1,17 +1,11 @@
 -- What an own node says of its record.
-use Rattle.std.proofs.Common.{◌≡◌, ◌⊎◌, Some, inl, inr, refl, ap}
+use Rattle.std.proofs.Common.{◌≡◌, ◌⊎◌, Some, inl, inr, refl}
 use Rattle.lock_core.specs.declared.views.Own.{Own}
 use Rattle.lock_core.specs.declared.views.Own.TheVariants.{Nothing, Filling, Linked}
-use Rattle.lock_core.specs.Nodes.{Filled, Listed, filling, listed, filled_of, listed_of}
+use Rattle.lock_core.specs.Nodes.{Filled, Listed, filling, listed}
 
 pub same_some : {A : Type 0} (a b : A) → Some a ≡ Some b → a ≡ b
 same_some a b e = cc
-
-pub filling_is : (f g : Filled) → filling f ≡ filling g → f ≡ g
-filling_is f g e = same_some f g (ap filled_of e)
-
-pub listed_is : (k g : Listed) → listed k ≡ listed g → k ≡ g
-listed_is k g e = same_some k g (ap listed_of e)
 
 -- an own node is nothing, a node that is being filled or a linked one
 pub own_is : (o : Own) → (o ≡ Nothing) ⊎ (((f : Filled) × (o ≡ filling f)) ⊎ (k : Listed) × (o ≡ listed k))
