@@ -5,3 +5,4 @@ pub mod Joining
 pub mod Lists
 pub mod Opening
 pub mod Placing
+pub mod Searching

@@ -32,6 +32,14 @@ mode_of word = cond (word % 2 == 0) Reader Writer
 abbrev pub held_in : ℕ → ℕ → Option Held
 held_in lo hi = cond (hi == 0) None (Some (record { range = record { lo = lo; hi = hi / 2 }; mode = mode_of hi }))
 
+-- the code of a held range's end and mode in a hi word
+abbrev pub bit_of : Mode → ℕ
+bit_of Reader = 0
+bit_of Writer = 1
+
+abbrev pub hi_of : Held → ℕ
+hi_of h = 2 * h.range.hi + bit_of h.mode
+
 abbrev pub held_of : Core → Option Held
 held_of c = c.held
 

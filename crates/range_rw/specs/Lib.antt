@@ -3,3 +3,4 @@ pub mod BoardSteps
 pub mod Running
 pub mod Seats
 pub mod Starting
+pub mod Trying

@@ -114,3 +114,11 @@ module _ {P : Type 0} where
     pub number : after.number ≡ before.number
     pub held : after.held ≡ before.held
     pub trace : after.trace ≡ client_trace before.trace i
+
+  -- a range was given back in one step, which is no client step: the pass is rested, and the rest stays
+  pub record IsRelease (rested : P → P) (before after : Known P) : Type 0 where
+    pub table : after.table ≡ before.table
+    pub number : after.number ≡ before.number
+    pub held : after.held ≡ None
+    pub pass : after.pass ≡ rested before.pass
+    pub trace : after.trace ≡ record before.trace { taken = before.trace.taken + 1 }

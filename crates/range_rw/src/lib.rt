@@ -3,6 +3,7 @@
 // A reader may rely on it that between any two steps no two conflicting ranges are held and the guard's rule holds of the client words.
 #![tactic(auto)]
 
+mod acquire;
 mod client;
 mod plays;
 mod rule;
@@ -12,6 +13,7 @@ mod threads;
 mod token;
 mod views;
 
+pub use acquire::NotHeld;
 pub use rule::BoardRule;
 pub use table::{CloseRefused, OpenFault, RangeTable, Seat};
 pub use threads::crosses_threads;
