@@ -75,8 +75,7 @@ module _ {P : Type 0} where
       let says = look.says in
       let h : Held = record { range = grant.range; mode = grant.mode } in
       let taken : next.trace.taken ≡ now.trace.taken + 2 = ap (λ p. p.trace.taken) look.part ∙ (omega arith) in
-      let low = s.low in
-      (
+      let low = s.low in (
         record { owner = other; held = h; step = now.trace.taken + 1 },
         ap (λ p. p.trace.met) look.part ∙ ap (λ o. met_after now.trace.met (now.trace.taken + 1) other o) says.1,
         omega arith,

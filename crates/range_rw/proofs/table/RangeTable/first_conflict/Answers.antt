@@ -12,7 +12,7 @@ others-preserved g c = let i = c.others.invariant in let own = sym (ap (λ s. s.
   table = search rules;
   below = search rules;
   search = elim c.if-other-token.branch [
-    then-other-token+else-is_some w ↦ subst (λ t. IsSearching c.args.token.now.part (held_of c.args.asked.now) (c.others.other + 1) t.part) (sym w.token-is)
+    | then-other-token+else-is_some w ↦ subst (λ t. IsSearching c.args.token.now.part (held_of c.args.asked.now) (c.others.other + 1) t.part) (sym w.token-is)
         (looked g.G.Guard.rested _ _ c.others.other c.others.token.part w.look_at-met.new.token.part w.look_at-met.result i.search (λ e. w.if-other-token.true (e ∙ own)) (not_some _ (sym w.is_some.ensures ∙ w.if-is_some.false)) w.look_at-met.ensures.look)
     | else-other-token w ↦ subst (λ t. IsSearching c.args.token.now.part (held_of c.args.asked.now) (c.others.other + 1) t.part) (sym w.token-is)
         (passed_over _ _ c.others.other c.others.token.part i.search (w.if-other-token.false ∙ sym own))
