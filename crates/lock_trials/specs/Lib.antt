@@ -1,1 +1,2 @@
 pub mod Turnstile
+pub mod Turns

@@ -22,6 +22,14 @@ door = 7
 abbrev pub HasDoor : Held → Type 0
 HasDoor h = (h.range.lo ≤ door) × (door < h.range.hi)
 
+-- what a seat holds has the door in it
+abbrev pub IsIn : Option Held → Type 0
+IsIn held = (h : Held) × (held ≡ Some h) × HasDoor h
+
+-- the same as a writer
+abbrev pub IsWriterIn : Option Held → Type 0
+IsWriterIn held = (h : Held) × (held ≡ Some h) × HasDoor h × (h.mode ≡ Writer)
+
 -- the seat of that number holds a range with the door in it as a writer
 abbrev pub MayEnter : Grants → ℕ → Type 0
 MayEnter grants seat = (h : Held) × Holds grants seat h × HasDoor h × (h.mode ≡ Writer)

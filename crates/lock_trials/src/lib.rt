@@ -2,8 +2,10 @@
 // The guard counts the writers that are inside in a client word, and keeps in each pass what its writers came for; a reader may take it as an example of how a layer above the lock is written.
 #![tactic(auto)]
 
+mod turns;
 mod turnstile;
+mod visits;
 
+pub use turns::{add_turns, visit_turns};
 pub use turnstile::{Turnstile, Visits};
-
-pub fn hello() {}
+pub use visits::{enter, leave, look};

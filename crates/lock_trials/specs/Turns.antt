@@ -1,0 +1,16 @@
+-- What a number of turns leaves of a seat.
+-- Its pass and the record of its steps may differ after; what a next call asks of it doesn't.
+use Rattle.std.specs.Prelude.{◌≡◌, ◌<◌, ◌≤◌, None}
+use Rattle.lock_core.specs.Range.{Interval}
+use Rattle.range_rw.specs.Seats.{Known}
+use Rattle.lock_trials.specs.Turnstile.{door}
+
+-- the seat is of the same table and number, and holds nothing
+pub record IsBack {P : Type 0} (before after : Known P) : Type 0 where
+  pub table : after.table ≡ before.table
+  pub number : after.number ≡ before.number
+  pub held : after.held ≡ None
+
+-- a range has the door in it
+abbrev pub HasDoorIn : Interval → Type 0
+HasDoorIn range = (range.lo ≤ door) × (door < range.hi)

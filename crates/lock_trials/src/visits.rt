@@ -1,0 +1,102 @@
+// Visits under the turnstile: a writer takes a range with the door in it, goes in, goes out and gives the range back, and a reader looks at the count meanwhile.
+// Each call is one guarded step; that the count is 0 before a writer goes in, and for a reader that looks, is proved from the guard's rule over every interleaving.
+ghost use Rattle.std.specs.Prelude.{◌≡◌, ◌+◌, ◌<◌, false, true};
+ghost use Rattle.lock_trials.specs.Turnstile.{IsIn, IsWriterIn, entered, gone};
+ghost use Rattle.range_rw.specs.Seats.{IsClientCall};
+
+use crate::turnstile::Turnstile;
+use lock_core::Means;
+use range_rw::{RangeTable, Seat};
+use std::marker::{Brand, PhantomData};
+use std::sync::ledger::Ledger;
+use word_rows::Steps;
+
+/// What a writer comes for. Each call picks it.
+pub trait Noted {
+    ghost use Rattle.std.specs.Prelude.{ℕ};
+
+    ghost noted: { ℕ };
+}
+
+impl Noted for Brand {
+    ghost noted = { 0 };
+}
+
+/// Means by a step what its call picked.
+pub(crate) struct By<N> {
+    of: PhantomData<N>,
+}
+
+impl<N: Noted> Means<Turnstile> for By<N> {
+    ghost note = { N.noted };
+}
+
+fn enter_for<N: Noted, L: Ledger>(
+    table: &RangeTable<Turnstile>,
+    seat: &mut Seat<Turnstile>,
+    errand: u64,
+    steps: &mut Steps<L>,
+) -> u64
+    requires noted { N.noted ≡ errand }
+    requires table { seat.old.table ≡ table.now.table }
+    requires word { 0 < table.now.client }
+    requires held { IsWriterIn seat.old.held }
+    requires outside { seat.old.pass.inside ≡ false }
+    ensures call { IsClientCall seat.old 0 seat.new }
+    ensures empty { result ≡ 0 }
+    ensures pass { seat.new.pass ≡ entered seat.old.pass errand }
+{
+    table.add_as::<By<N>, L>(seat, 0, 1, steps)
+}
+
+/// Goes in for an errand, under a range with the door in it that the seat holds as a writer, and answers how many writers were inside: none.
+pub fn enter<L: Ledger>(
+    table: &RangeTable<Turnstile>,
+    seat: &mut Seat<Turnstile>,
+    errand: u64,
+    steps: &mut Steps<L>,
+) -> u64
+    requires table { seat.old.table ≡ table.now.table }
+    requires word { 0 < table.now.client }
+    requires held { IsWriterIn seat.old.held }
+    requires outside { seat.old.pass.inside ≡ false }
+    ensures call { IsClientCall seat.old 0 seat.new }
+    ensures empty { result ≡ 0 }
+    ensures pass { seat.new.pass ≡ entered seat.old.pass errand }
+{
+    enter_for::<Brand, L>(table, seat, errand, steps)
+}
+
+/// Goes out, and answers how many writers were inside: this one alone.
+pub fn leave<L: Ledger>(
+    table: &RangeTable<Turnstile>,
+    seat: &mut Seat<Turnstile>,
+    steps: &mut Steps<L>,
+) -> u64
+    requires table { seat.old.table ≡ table.now.table }
+    requires word { 0 < table.now.client }
+    requires held { IsWriterIn seat.old.held }
+    requires inside { seat.old.pass.inside ≡ true }
+    ensures call { IsClientCall seat.old 0 seat.new }
+    ensures one { result ≡ 1 }
+    ensures pass { seat.new.pass ≡ gone seat.old.pass }
+{
+    table.add_as::<By<Brand>, L>(seat, 0, u64::MAX, steps)
+}
+
+/// Looks how many writers are inside, under a range with the door in it: none.
+pub fn look<L: Ledger>(
+    table: &RangeTable<Turnstile>,
+    seat: &mut Seat<Turnstile>,
+    steps: &mut Steps<L>,
+) -> u64
+    requires table { seat.old.table ≡ table.now.table }
+    requires word { 0 < table.now.client }
+    requires held { IsIn seat.old.held }
+    requires outside { seat.old.pass.inside ≡ false }
+    ensures call { IsClientCall seat.old 0 seat.new }
+    ensures empty { result ≡ 0 }
+    ensures pass { seat.new.pass ≡ seat.old.pass }
+{
+    table.load_as::<By<Brand>, L>(seat, 0, steps)
+}
