@@ -41,10 +41,10 @@ spell-append zero n acc = refl
 spell-append (suc k) n acc = ⊎_elim
     (λ small. let e : n / 16 ≡ 0 = omega arith in spell_only k n acc e ∙ ap (λ l. l ++ acc) (sym (spell_only k n [] e)))
     (λ large.
-      let e : n / 16 ≢ 0 = omega arith in
-      let last = digit_glyph false (n % 16) in
-      spell_more k n acc e ∙ spell-append k (n / 16) (last ∷ acc) ∙ sym (append_assoc (spell k (n / 16) []) (last ∷ []) acc)
-      ∙ ap (λ l. l ++ acc) (sym (spell_more k n [] e ∙ spell-append k (n / 16) (last ∷ []))))
+    let e : n / 16 ≢ 0 = omega arith in
+    let last = digit_glyph false (n % 16) in
+    spell_more k n acc e ∙ spell-append k (n / 16) (last ∷ acc) ∙ sym (append_assoc (spell k (n / 16) []) (last ∷ []) acc)
+    ∙ ap (λ l. l ++ acc) (sym (spell_more k n [] e ∙ spell-append k (n / 16) (last ∷ []))))
     (cases_lt n 16)
 
 -- how many digits are allowed doesn't matter once it is enough
@@ -54,8 +54,8 @@ spell_enough (suc j) zero n acc p q = let e : n / 16 ≡ 0 = omega arith in spel
 spell_enough (suc j) (suc k) n acc p q = ⊎_elim
     (λ small. let e : n / 16 ≡ 0 = omega arith in spell_only (suc j) n acc e ∙ sym (spell_only (suc k) n acc e))
     (λ large.
-      let e : n / 16 ≢ 0 = omega arith in
-      spell_more (suc j) n acc e ∙ spell_enough j k (n / 16) (digit_glyph false (n % 16) ∷ acc) (omega arith) (omega arith) ∙ sym (spell_more (suc k) n acc e))
+    let e : n / 16 ≢ 0 = omega arith in
+    spell_more (suc j) n acc e ∙ spell_enough j k (n / 16) (digit_glyph false (n % 16) ∷ acc) (omega arith) (omega arith) ∙ sym (spell_more (suc k) n acc e))
     (cases_lt n 16)
 
 -- a number times 16 has one digit more, a zero

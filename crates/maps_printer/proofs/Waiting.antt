@@ -18,10 +18,10 @@ Waits-nothing a = record { front = []; appended = Appends-nil a; whole = refl }
 pub Waits-after : (a : Option (List ℕ)) {b c : Option (List ℕ)} {text waiting after : List ℕ} (line : List ℕ)
     → Waits a b text waiting → Waits b c (waiting ++ line) after → Waits a c (text ++ line) after
 Waits-after a {b = b} {c = c} {after = after} line h k = record {
-    front = h.front ++ k.front;
-    appended = Appends-trans a b c h.front k.front h.appended k.appended;
-    whole = ap (λ l. l ++ line) h.whole ∙ append_assoc h.front _ line ∙ ap (λ l. h.front ++ l) k.whole ∙ sym (append_assoc h.front k.front after)
-  }
+  front = h.front ++ k.front;
+  appended = Appends-trans a b c h.front k.front h.appended k.appended;
+  whole = ap (λ l. l ++ line) h.whole ∙ append_assoc h.front _ line ∙ ap (λ l. h.front ++ l) k.whole ∙ sym (append_assoc h.front k.front after);
+}
 
 -- the sink failed while the buffer with one more line went to it
 pub Waits-failed : (a : Option (List ℕ)) {b c : Option (List ℕ)} {text waiting : List ℕ} (line : List ℕ)

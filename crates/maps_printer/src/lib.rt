@@ -13,3 +13,6 @@ mod words;
 pub use calls::write_call;
 pub use log::write_log;
 pub use maps::{write_maps, write_summary};
+
+#[cfg(test)]
+mod tests;
