@@ -9,12 +9,12 @@ use Rattle.page_types.specs.declared.calls.Call.{Call}
 use Rattle.page_types.specs.declared.calls.Call.TheVariants.{Map, Unmap, Protect, Fault}
 use Rattle.page_types.specs.declared.sets.Prot.{Prot}
 use Rattle.space_model.specs.declared.areas.Area.{Area}
-use Rattle.space_model.specs.Areas.{IsInRange, IsAreaList, HasKinds, kind_at}
+use Rattle.space_model.specs.Areas.{IsInRange, IsAreaList, IsInOrder, HasKinds, kind_at}
 use Rattle.space_model.specs.Effect.{new_kind, effect_of, is_within, mapped_kind}
 use Rattle.space_model.specs.Building.{painted, part_of, parts, join_all, pieces_at, changed_list}
 use Rattle.space_model.proofs.AreaKinds.{kind_at-here, kind_at-before, kind_at-after, side_of, IsAbove, above_zero, LeadsTo-above}
 use Rattle.space_model.proofs.AreaKinds.Side.{before, inside, after}
-use Rattle.space_model.proofs.Joining.{first_of, IsFreeFrom, IsPieces, join_all-kinds}
+use Rattle.space_model.proofs.Joining.{first_of, IsFreeFrom, join_all-kinds}
 
 parts-some : (from to : ℕ) (prot : Option Prot) (a : Area) (rest : List Area) → max a.lo from < min a.hi to →
     parts from to prot (a ∷ rest) ≡ part_of from to prot a ∷ parts from to prot rest
@@ -28,7 +28,7 @@ parts-none from to prot a rest l =
 
 -- the parts of an area list are pieces in order
 pub parts-pieces : (from to : ℕ) (prot : Option Prot) (A : List Area) (e low : ℕ) →
-    IsAreaList A → IsAbove e A → low ≤ max e from → IsPieces low (parts from to prot A)
+    IsAreaList A → IsAbove e A → low ≤ max e from → IsInOrder low (parts from to prot A)
 parts-pieces from to prot [] e low w above l = tt
 parts-pieces from to prot (a ∷ rest) e low w above l =
     let n : a.lo < a.hi = w.0.has_page in
@@ -37,9 +37,9 @@ parts-pieces from to prot (a ∷ rest) e low w above l =
           let range : IsInRange (part_of from to prot a) =
           record { has_page = lt; below_limit = omega (arith, w.0.below_limit) } in
           let more = parts-pieces from to prot rest a.hi (min a.hi to) w.2 (LeadsTo-above a rest w.1) (omega arith) in
-          subst (IsPieces low) (sym (parts-some from to prot a rest lt)) (omega (arith, above), range, more)
+          subst (IsInOrder low) (sym (parts-some from to prot a rest lt)) (omega (arith, above), range, more)
       | inr ge ↦
-          subst (IsPieces low) (sym (parts-none from to prot a rest ge))
+          subst (IsInOrder low) (sym (parts-none from to prot a rest ge))
           (parts-pieces from to prot rest a.hi low w.2 (LeadsTo-above a rest w.1) (omega (arith, above)))
     ]
 
@@ -106,7 +106,7 @@ kind_at-limit (a ∷ rest) w p l =
 
 -- what the pieces at a place have to give
 record PiecesAt (A : List Area) (c : Call) (lo hi : ℕ) : Type 0 where
-  pieces : IsPieces lo (pieces_at A c lo hi)
+  pieces : IsInOrder lo (pieces_at A c lo hi)
   inside_are : (p : ℕ) → lo ≤ p → p < hi → kind_at (pieces_at A c lo hi) p ≡ new_kind c (kind_at A p)
   outside_are : (p : ℕ) → (p < lo) ⊎ (hi ≤ p) → kind_at (pieces_at A c lo hi) p ≡ None
 

@@ -1,10 +1,10 @@
 -- Lists put together in order have the kinds of their parts.
-use Rattle.std.proofs.Common.{◌≡◌, ℕ, ◌<◌, ◌≤◌, inl, inr, Bool, true, false, if◌then◌else◌, List, [], ◌∷◌, ◌++◌, Option, Some, None, nat_eq, max, sym, ◌∙◌, ap, subst, refl, arith}
+use Rattle.std.proofs.Common.{◌≡◌, ℕ, ◌+◌, ◌<◌, ◌≤◌, length, inl, inr, Bool, true, false, if◌then◌else◌, List, [], ◌∷◌, ◌++◌, Option, Some, None, nat_eq, max, sym, ◌∙◌, ap, subst, refl, arith, get_or, drop, drop-cons, add-one}
 use Rattle.std.proofs.lemmas.Bool.{cases_lt, cases_Bool, and_parts, and_from, eqb-true, eq-eqb, true≢false}
 use Rattle.std.proofs.lemmas.Bool.Decides.{nat_tests}
 use Rattle.page_types.specs.declared.calls.Kind.{Kind}
 use Rattle.space_model.specs.declared.areas.Area.{Area}
-use Rattle.space_model.specs.Areas.{IsInRange, MayFollow, LeadsTo, IsAreaList, HasKinds, kind_at}
+use Rattle.space_model.specs.Areas.{IsInRange, MayFollow, LeadsTo, IsAreaList, IsInOrder, HasKinds, kind_at}
 use Rattle.space_model.specs.Building.{same_bool, same_kind, goes_on, merged, pair_joined, joined, join_all}
 use Rattle.space_model.proofs.AreaKinds.{kind_at-here, kind_at-before, kind_at-after, side_of}
 use Rattle.space_model.proofs.AreaKinds.Side.{before, inside, after}
@@ -174,12 +174,7 @@ joined-kinds (b ∷ c ∷ rest) a w free r =
           ap (λ k. first_of k (kind_at (a ∷ []) p)) (sym (kind_at-cons b (c ∷ rest) p));
     }
 
--- areas in range and in order from a page on; neighbours may be of one kind
-abbrev pub IsPieces : ℕ → List Area → Type 0
-IsPieces e [] = Unit {0}
-IsPieces e (a ∷ rest) = (e ≤ a.lo) × IsInRange a × IsPieces a.hi rest
-
-pub join_all-kinds : (A pieces : List Area) (e : ℕ) → IsAreaList A → IsFreeFrom A e → IsPieces e pieces →
+pub join_all-kinds : (A pieces : List Area) (e : ℕ) → IsAreaList A → IsFreeFrom A e → IsInOrder e pieces →
     HasKinds (λ p. first_of (kind_at A p) (kind_at pieces p)) (join_all A pieces)
 join_all-kinds A [] e w free s = record { areas = w; kinds_are = λ p. sym (first_of-none (kind_at A p)) }
 join_all-kinds A (a ∷ rest) e w free s =
@@ -199,3 +194,30 @@ join_all-kinds A (a ∷ rest) e w free s =
           first_of-assoc (kind_at A p) (kind_at (a ∷ []) p) (kind_at rest p) ∙
           ap (first_of (kind_at A p)) (sym (kind_at-cons a rest p));
     }
+
+length-pair : (b a : Area) → length (pair_joined b a) ≤ 2
+length-pair b a = elim (cases_Bool (goes_on b a)) [
+    | inl e ↦ omega (arith, ap length (pair-true b a e))
+    | inr e ↦ omega (arith, ap length (pair-false b a e))
+  ]
+
+pub length-joined : (A : List Area) (a : Area) → length (joined A a) ≤ length A + 1
+length-joined [] a = omega arith
+length-joined (b ∷ []) a = omega (arith, length-pair b a)
+length-joined (b ∷ c ∷ rest) a = omega (arith, length-joined (c ∷ rest) a)
+
+-- pieces in order keep their kinds when they are joined
+pub pieces-kinds : (pieces : List Area) → IsInOrder 0 pieces → HasKinds (kind_at pieces) (join_all [] pieces)
+pieces-kinds pieces s =
+    let h = join_all-kinds [] pieces 0 tt (λ p g. refl) s in record { areas = h.areas; kinds_are = λ p. h.kinds_are p }
+
+-- one more piece
+pub join_all-next : (list new pieces : List Area) (i : ℕ) (d : Area) → i < length pieces → new ≡ joined list (get_or pieces i d) →
+    join_all list (drop i pieces) ≡ join_all [] pieces → length list ≤ i →
+    (join_all new (drop (i + 1) pieces) ≡ join_all [] pieces) × (length new ≤ i + 1)
+join_all-next list new pieces i d within is so_far few =
+    let step : join_all list (drop i pieces) ≡ join_all (joined list (get_or pieces i d)) (drop (i + 1) pieces) =
+        rw (drop-cons pieces i d, add-one) refl in (
+      rw is (sym step ∙ so_far),
+      omega (arith, ap length is, length-joined list (get_or pieces i d)),
+    )

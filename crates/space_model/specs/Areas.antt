@@ -32,6 +32,11 @@ pub record IsFirstWrong (list : List Area) (index : ℕ) : Type 0 where
   pub right_before : IsAreaList (take index list)
   pub wrong : ¬ IsAreaList (take (index + 1) list)
 
+-- areas in range and in order from a page on, as maps lines have them; two that touch may be of one kind
+abbrev pub IsInOrder : ℕ → List Area → Type 0
+IsInOrder from [] = Unit {0}
+IsInOrder from (a ∷ rest) = (from ≤ a.lo) × IsInRange a × IsInOrder a.hi rest
+
 -- the page lies in the area
 abbrev pub holds : Area → ℕ → Bool
 holds a page = nat_le a.lo page && nat_lt page a.hi

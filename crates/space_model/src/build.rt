@@ -1,6 +1,6 @@
 //! Building the list of areas after a change.
 
-ghost use Rattle.std.specs.Prelude.{◌≡◌, OnOk, IfOk};
+ghost use Rattle.std.specs.Prelude.{◌≡◌, ◌≤◌, [], length, OnOk, IfOk};
 ghost use Rattle.space_model.specs.Areas.{IsAreaList};
 ghost use Rattle.space_model.specs.Building.{same_kind, goes_on, joined, join_all, painted, parts, pieces_at, changed_list};
 ghost use Rattle.space_model.specs.Effect.{mapped_kind};
@@ -118,5 +118,17 @@ pub fn changed(
         Call::Fault { .. } => join_parts(&mut list, areas, span.lo, span.hi, None)?,
     }
     join_parts(&mut list, areas, span.hi, LIMIT, None)?;
+    Ok(list)
+}
+
+/// The areas of pieces in order, where two that touch and are of one kind become one.
+pub fn joined_pieces(alloc: Global, pieces: &[Area]) -> Result<Vec<Area>, AllocError>
+    ensures list { IfOk result (λ list. list.items ≡ join_all [] pieces.now) }
+    ensures few { IfOk result (λ list. length list.items ≤ length pieces.now) }
+{
+    let mut list = Vec::with_capacity(alloc, pieces.len())?;
+    for piece in pieces {
+        join(&mut list, *piece)?;
+    }
     Ok(list)
 }

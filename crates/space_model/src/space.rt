@@ -2,14 +2,14 @@
 
 ghost use Rattle.std.specs.Prelude.{◌≡◌, ◌^◌, ◌<◌, ◌↔◌, [], None, IfOk, IfErr, IsOk, OnErr, length};
 ghost use Rattle.page_types.specs.Named.{IsNamedCall, IsNamedReply};
-ghost use Rattle.space_model.specs.Areas.{IsAreaList, HasNamedKinds, row_count};
+ghost use Rattle.space_model.specs.Areas.{IsAreaList, IsInOrder, HasKinds, HasNamedKinds, kind_at, row_count};
 ghost use Rattle.page_types.specs.PlainReply.{plain_reply};
 ghost use Rattle.space_model.specs.Answers.{Answers, IsPlace};
 ghost use Rattle.space_model.specs.Faults.{Explains};
 ghost use Rattle.space_model.specs.Held.{HoldsSomeArea, IsSimple, FitsUnder};
 
 use crate::areas::Area;
-use crate::build::changed;
+use crate::build::{changed, joined_pieces};
 use crate::counts::row_count;
 use crate::entries::Under;
 use crate::faults::{AreasFault, NotAreas};
@@ -93,6 +93,18 @@ impl PlainSpace {
                 hi: addr / PAGE + 1,
             }),
         }
+    }
+
+    /// The address space whose pages have the kinds of these areas, fewer than 2^30: in range, sorted and disjoint, as
+    /// maps lines have them. Where two of one kind touch they become one.
+    pub fn of_pieces(alloc: Global, pieces: &[Area]) -> Result<PlainSpace, AllocError>
+        requires in_order { IsInOrder 0 pieces.now }
+        requires few { length pieces.now < 2 ^ 30 }
+        requires named { HasNamedKinds pieces.now }
+        ensures { IfOk result (HasKinds (kind_at pieces.now)) }
+    {
+        let areas = joined_pieces(alloc, pieces)?;
+        Ok(PlainSpace { areas })
     }
 
     /// The areas, in order.
