@@ -1,2 +1,6 @@
-pub mod Numbers
-pub mod Form
+pub mod ArgumentParts
+pub mod ResultParts
+pub mod WholeCalls
+pub mod FormFacts
+pub mod LineAnswers
+pub mod MapsFacts

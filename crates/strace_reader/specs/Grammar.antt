@@ -1,81 +1,81 @@
--- The grammar of the lines that are read, in the form in which strace(1) prints a call of mmap(2): a line is a
--- concatenation of the listed parts. It stands apart from the reader, which is proved to meet it in both directions.
-use Rattle.std.specs.Prelude.{◌≡◌, ℕ, ◌+◌, ◌-◌, ◌*◌, ◌<◌, ◌≤◌, List, [], ◌∷◌, ◌++◌, length, None, nat_lt, codes, if◌then◌else◌}
+-- The forms of a line and what each is, in the order in which they are tried. Lines of strace(1), in
+-- this project's own profile; docs/FORMATS.md has the forms as a table. `Spells` is the relation that
+-- the reader of lines is, and `Refuses` says where a line is refused and why.
+use Rattle.std.specs.Prelude.{◌≡◌, ◌≢◌, ◌⊎◌, ℕ, ◌^◌, ◌<◌, List, [], ◌∷◌, ◌++◌, codes}
+use Rattle.line_parts.specs.declared.fault.What.TheVariants.{Later}
+use Rattle.line_parts.specs.Parts.{Refused}
+use Rattle.line_parts.specs.Leaves.{is, EachIs, Digits}
 use Rattle.page_types.specs.Named.{IsNamedCall}
-use Rattle.page_types.specs.Sets.{prot_bits, flag_bits}
-use Rattle.page_types.specs.declared.calls.Call.TheVariants.{Map}
-use Rattle.page_types.specs.declared.sets.Prot.{Prot}
-use Rattle.page_types.specs.declared.sets.MapFlags.{MapFlags}
+use Rattle.strace_reader.specs.declared.item.BadCall.{BadCall}
 use Rattle.strace_reader.specs.declared.item.Item.{Item}
 use Rattle.strace_reader.specs.declared.item.Item.TheVariants.{Played, Other, Blank}
-use Rattle.strace_reader.specs.declared.item.BadCall.{BadCall}
-use Rattle.strace_reader.specs.declared.item.What.TheVariants.{Later}
+use Rattle.strace_reader.specs.declared.item.Name.{Name}
+use Rattle.strace_reader.specs.Words.{opening, resumption}
+use Rattle.strace_reader.specs.Calls.{call}
 
--- what a digit stands for, 0 to 9 and then a to f, and 99 where the byte is no digit
-unfoldable pub worth : ℕ → ℕ
-worth b = if nat_lt b 48 then 99 else if nat_lt b 58 then b - 48 else if nat_lt b 97 then 99 else if nat_lt b 103 then b - 87 else 99
+-- the text begins with the word
+abbrev pub BeginsWith : List ℕ → List ℕ → Type 0
+BeginsWith word text = (rest : List ℕ) × (text ≡ word ++ rest)
 
--- each byte is a digit of the base
-abbrev pub AllDigits : ℕ → List ℕ → Type 0
-AllDigits base [] = Unit {0}
-AllDigits base (b ∷ text) = (worth b < base) × AllDigits base text
+-- the text ends with the word
+abbrev pub EndsWith : List ℕ → List ℕ → Type 0
+EndsWith word text = (front : List ℕ) × (text ≡ front ++ word)
 
--- the number that digits stand for, behind a number n
-abbrev pub value : ℕ → ℕ → List ℕ → ℕ
-value base n [] = n
-value base n (b ∷ text) = value base (n * base + worth b) text
+-- how the first half of an interrupted line ends
+abbrev pub unfinished : List ℕ
+unfinished = codes "<unfinished ...>"
 
--- one digit or more, and at most so many, that stand for n
-pub record Digits (base most : ℕ) (text : List ℕ) (n : ℕ) : Type 0 where
-  pub some : 0 < length text
-  pub few : length text ≤ most
-  pub all : AllDigits base text
-  pub stands : n ≡ value base 0 text
+-- The call never returned: <unfinished ...>), one or more spaces, and = ?.
+abbrev pub NeverReturned : List ℕ → Type 0
+NeverReturned text = (front more : List ℕ) × EachIs (is 32) more × (text ≡ front ++ (codes "<unfinished ...>)" ++ ((32 ∷ more) ++ codes "= ?")))
 
--- the texts before the address, between address and length, and behind the length
-abbrev pub opening : List ℕ
-opening = codes "mmap(0x"
+-- a process number of 32 bits
+abbrev pub IsPid : List ℕ → Type 0
+IsPid digits = (n : ℕ) × Digits 10 digits n × (n < 2 ^ 32)
 
-abbrev pub between : List ℕ
-between = codes ", "
+-- a process number, and then a word
+abbrev pub PidThen : List ℕ → List ℕ → Type 0
+PidThen word text = (digits rest : List ℕ) × IsPid digits × (text ≡ digits ++ (word ++ rest))
 
-abbrev pub closing : List ℕ
-closing = codes ", PROT_READ|PROT_WRITE, MAP_PRIVATE|MAP_FIXED|MAP_ANONYMOUS, -1, 0)"
+-- digits and a space, or [pid, spaces, digits, ] and a space
+abbrev pub HasPrefix : List ℕ → Type 0
+HasPrefix text = PidThen (codes " ") text ⊎ ((more after : List ℕ) × EachIs (is 32) more × (text ≡ codes "[pid " ++ (more ++ after)) × PidThen (codes "] ") after)
 
--- a line that spells an address, in hexadecimal digits, and a length, in decimal digits
-pub record Fixed (text : List ℕ) (addr len : ℕ) : Type 0 where
-  pub hexadecimal : List ℕ
-  pub decimal : List ℕ
-  pub parts : text ≡ opening ++ (hexadecimal ++ (between ++ (decimal ++ closing)))
-  pub address : Digits 16 16 hexadecimal addr
-  pub size : Digits 10 19 decimal len
+-- the form of a call, which names it and is neither a half nor a call that never returned
+pub record IsCall (name : Name) (text : List ℕ) : Type 0 where
+  pub names : BeginsWith (opening name) text
+  pub returned : NeverReturned text → ⊥
+  pub whole : EndsWith unfinished text → ⊥
 
--- READ and WRITE
-abbrev pub IsReadWrite : Prot → Type 0
-IsReadWrite prot = prot_bits prot ≡ 3
+-- none of the other forms
+pub record NoForm (text : List ℕ) : Type 0 where
+  pub some : text ≢ []
+  pub no_signal : BeginsWith (codes "---") text → ⊥
+  pub no_exit : BeginsWith (codes "+++") text → ⊥
+  pub no_prefix : HasPrefix text → ⊥
+  pub no_resumption : (name : Name) → BeginsWith (resumption name) text → ⊥
+  pub no_call : (name : Name) → BeginsWith (opening name) text → ⊥
 
--- PRIVATE and FIXED
-abbrev pub IsPrivateFixed : MapFlags → Type 0
-IsPrivateFixed flags = flag_bits flags ≡ 6
+-- the forms of a line that is skipped
+abbrev pub IsOther : List ℕ → Type 0
+IsOther text = BeginsWith (codes "---") text ⊎ BeginsWith (codes "+++") text ⊎ ((name : Name) × BeginsWith (opening name) text × NeverReturned text) ⊎ ((name : Name) × IsCall name text × (call name).takes text [] Other) ⊎ NoForm text
 
--- The text is a spelling of the item: a Map that is played, of process 0 and with no recorded result.
-pub record Spells (text : List ℕ) (item : Item) : Type 0 where
-  pub addr : ℕ
-  pub len : ℕ
-  pub prot : Prot
-  pub flags : MapFlags
-  pub form : Fixed text addr len
-  pub rights : IsReadWrite prot
-  pub placing : IsPrivateFixed flags
-  pub is : item ≡ Played 0 (Map addr len prot flags) None
+-- a whole line and what it is
+unfoldable pub Spells : List ℕ → Item → Type 0
+Spells text Blank = text ≡ []
+Spells text Other = IsOther text
+Spells text (Played pid done recorded) = (name : Name) × IsCall name text × (call name).takes text [] (Played pid done recorded)
 
--- The text is refused: it spells no item, and the refusal says that its form isn't read yet.
-pub record Refuses (text : List ℕ) (bad : BadCall) : Type 0 where
-  pub unspelled : (item : Item) → ¬ Spells text item
-  pub is : bad ≡ record { column = 1; what = Later }
+-- the forms that are not read yet: with a prefix, and the two halves of an interrupted line
+abbrev pub IsLater : List ℕ → Type 0
+IsLater text = HasPrefix text ⊎ ((name : Name) × BeginsWith (resumption name) text) ⊎ ((name : Name) × BeginsWith (opening name) text × EndsWith unfinished text)
+
+-- where a line is refused, and why
+unfoldable pub Refuses : List ℕ → BadCall → Type 0
+Refuses text bad = (IsLater text × (bad ≡ record { column = 1; what = Later })) ⊎ ((name : Name) × IsCall name text × Refused (call name) text bad.column bad.what)
 
 -- the sets of bits of a call that is played have no bit but the named ones
 abbrev pub IsNamedItem : Item → Type 0
 IsNamedItem Blank = Unit {0}
 IsNamedItem Other = Unit {0}
-IsNamedItem (Played pid call recorded) = IsNamedCall call
+IsNamedItem (Played pid done recorded) = IsNamedCall done

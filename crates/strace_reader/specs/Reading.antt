@@ -1,42 +1,191 @@
--- Reading from left to right, as a function on lists, which the code follows step by step. That it is
--- exactly the grammar is proved of it once, apart from the code.
-use Rattle.std.specs.Prelude.{ℕ, ◌+◌, ◌-◌, ◌*◌, ◌^◌, List, [], ◌∷◌, length, Option, Some, None, nat_lt, ◌==◌, if◌then◌else◌}
-use Rattle.strace_reader.specs.Grammar.{worth, opening, between, closing}
+-- Reading a line from left to right, with the first fault that is met: what the functions of src/
+-- compute, as functions on lists. The definition of what is right is not here but in Calls and Lines.
+use Rattle.std.specs.Prelude.{ℕ, suc, ◌^◌, ◌%◌, ◌==◌, nat_lt, List, [], ◌∷◌, length, codes, Bool, true, false, Option, Some, None, Result, Ok, Err, if◌then◌else◌}
+use Rattle.line_parts.specs.declared.fault.Fault.{Fault}
+use Rattle.line_parts.specs.declared.fault.What.TheVariants.{Number, Word, Comma, Close, Result as AtResult}
+use Rattle.line_parts.specs.Parts.{starts}
+use Rattle.line_parts.specs.Leaves.{is, is_digit, is_capital, is_word_byte}
+use Rattle.line_parts.specs.Reading.{◌>>=◌, fault_at, byte_at, letters_at, after_spaces, run_at, digits_end, number_at, until_at, end_at, list_at, digits_of}
+use Rattle.std.specs.Int.RustNames.{bit_or}
+use Rattle.page_types.specs.declared.calls.Kind.{Kind}
+use Rattle.page_types.specs.declared.calls.Call.{Call}
+use Rattle.page_types.specs.declared.calls.Call.TheVariants.{Map, Unmap, Protect, Fault as FaultCall}
+use Rattle.page_types.specs.declared.sets.Access.{Access}
+use Rattle.strace_reader.specs.declared.item.Item.{Item}
+use Rattle.strace_reader.specs.declared.item.Item.TheVariants.{Played, Other}
+use Rattle.strace_reader.specs.declared.item.Recorded.{Recorded}
+use Rattle.strace_reader.specs.declared.item.Recorded.TheVariants.{Value, Failed}
+use Rattle.strace_reader.specs.declared.item.Name.{Name}
+use Rattle.strace_reader.specs.declared.item.Name.TheVariants.{Mmap, Munmap, Mprotect, Fault as FaultName}
+use Rattle.strace_reader.specs.Words.{prot_of, flag_of, access_of, errno_of}
 
-infixl 10 ◌>>=◌
-abbrev pub ◌>>=◌ : {A B : Type 0} → Option A → (A → Option B) → Option B
-(Some x) >>= f = f x
-None >>= f = None
+-- a comma and spaces
+unfoldable pub comma_at : List ℕ → Result (Unit {0} × List ℕ) Fault
+comma_at text = byte_at 44 Comma text >>= λ u. Ok (tt, after_spaces u.1)
 
--- the text behind this word
-unfoldable pub behind : List ℕ → List ℕ → Option (List ℕ)
-behind [] text = Some text
-behind (b ∷ word) [] = None
-behind (b ∷ word) (c ∷ text) = if c == b then behind word text else None
+-- an address
+unfoldable pub addr_at : List ℕ → Result (ℕ × List ℕ) Fault
+addr_at text = if starts (is 78) text then (letters_at (codes "NULL") Number text >>= λ u. Ok (0, u.1)) else number_at Number text
 
--- The digits are taken while they come, behind a number n: the number with them, and the text that is left.
-unfoldable pub run : ℕ → ℕ → List ℕ → ℕ × List ℕ
-run base n [] = (n, [])
-run base n (c ∷ rest) = if nat_lt (worth c) base then run base (n * base + worth c) rest else (n, c ∷ rest)
+-- a word
+abbrev pub word_at : List ℕ → Result (List ℕ × List ℕ) Fault
+word_at text = run_at is_capital is_word_byte Word text
 
--- a number as a u64, where it is one
-unfoldable pub narrow : ℕ → Option ℕ
-narrow n = if nat_lt n (2 ^ 64) then Some n else None
+-- the bits of a word, or all that is left
+abbrev pub known_at : Option ℕ → List ℕ → Result (Option ℕ × List ℕ) Fault
+known_at None text = Ok (None, [])
+known_at (Some bits) text = Ok (Some bits, text)
 
--- a number of one digit or more, and at most so many, and the text that is left
-abbrev pub number_from : ℕ → List ℕ → ℕ × List ℕ → Option (ℕ × List ℕ)
-number_from most text r =
-    if length text - length r.1 == 0 then None else if nat_lt most (length text - length r.1) then None else narrow r.0 >>= λ n. Some (n, r.1)
+-- one word of a protection
+unfoldable pub prot_word_at : List ℕ → Result (Option ℕ × List ℕ) Fault
+prot_word_at text = if starts is_digit text then Ok (None, []) else (word_at text >>= λ w. known_at (prot_of w.0) w.1)
 
-unfoldable pub number_at : ℕ → ℕ → List ℕ → Option (ℕ × List ℕ)
-number_at base most text = number_from most text (run base 0 text)
+-- a protection
+unfoldable pub prot_at : List ℕ → Result (Option ℕ × List ℕ) Fault
+prot_at text = list_at prot_word_at (suc (length text)) 0 text
 
--- the address and the length
-unfoldable pub form_at : List ℕ → Option (ℕ × ℕ)
-form_at text = do
-  begun ← behind opening text
-  addr ← number_at 16 16 begun
-  parted ← behind between addr.1
-  len ← number_at 10 19 parted
-  closed ← behind closing len.1
-  if length closed == 0 then Some (addr.0, len.0) else None
+-- a comment, where one stands
+unfoldable pub commented_at : List ℕ → Result (Unit {0} × List ℕ) Fault
+commented_at text = if starts (is 32) text then (letters_at (codes " /*") Comma text >>= λ u. until_at 42 47 Comma u.1 >>= λ v. byte_at 47 Comma v.1) else Ok (tt, text)
+
+-- what a number is shifted by
+unfoldable pub operand_at : List ℕ → Result (Unit {0} × List ℕ) Fault
+operand_at text = if starts is_digit text then (number_at Number text >>= λ n. Ok (tt, n.1)) else (word_at text >>= λ w. Ok (tt, w.1))
+
+-- a shift and a comment
+unfoldable pub shifted_at : List ℕ → Result (Unit {0} × List ℕ) Fault
+shifted_at text = if starts (is 60) text then (letters_at (codes "<<") Comma text >>= λ u. operand_at u.1 >>= λ v. commented_at v.1) else commented_at text
+
+-- one of the flags
+unfoldable pub flag_word_at : List ℕ → Result (Option ℕ × List ℕ) Fault
+flag_word_at text = if starts is_digit text then (number_at Number text >>= λ n. shifted_at n.1 >>= λ u. Ok (Some 0, u.1)) else (word_at text >>= λ w. known_at (flag_of w.0) w.1)
+
+-- the flags
+unfoldable pub flags_at : List ℕ → Result (Option ℕ × List ℕ) Fault
+flags_at text = list_at flag_word_at (suc (length text)) 0 text
+
+-- a descriptor's path
+unfoldable pub path_at : List ℕ → Result (Unit {0} × List ℕ) Fault
+path_at text = if starts (is 60) text then (byte_at 60 Comma text >>= λ u. until_at 62 44 Comma u.1) else Ok (tt, text)
+
+-- a descriptor
+unfoldable pub descriptor_at : List ℕ → Result (Unit {0} × List ℕ) Fault
+descriptor_at text = if starts (is 45) text then (letters_at (codes "-1") Number text >>= λ u. path_at u.1) else (digits_end Number text >>= λ u. path_at u.1)
+
+-- an access, or a fault at the first byte of the word
+abbrev pub access_read : List ℕ → List ℕ → Option Access → Result (Access × List ℕ) Fault
+access_read text rest None = Err (fault_at text Word)
+access_read text rest (Some a) = Ok (a, rest)
+
+-- an access
+unfoldable pub access_at : List ℕ → Result (Access × List ℕ) Fault
+access_at text = word_at text >>= λ w. access_read text w.1 (access_of w.0)
+
+-- an error's name or a number
+unfoldable pub failed_at : List ℕ → Result (Option Recorded × List ℕ) Fault
+failed_at text = if starts (is 45) text then (letters_at (codes "-1 ") AtResult text >>= λ u. run_at is_word_byte is_word_byte AtResult u.1 >>= λ w. Ok (Some (Failed (errno_of w.0)), w.1)) else (number_at AtResult text >>= λ n. Ok (Some (Value n.0), n.1))
+
+-- a result
+unfoldable pub recorded_at : List ℕ → Result (Option Recorded × List ℕ) Fault
+recorded_at text = if starts (is 63) text then (byte_at 63 AtResult text >>= λ u. Ok (None, u.1)) else failed_at text
+
+-- spaces, an equals sign and spaces
+unfoldable pub equals_at : List ℕ → Result (Unit {0} × List ℕ) Fault
+equals_at text = byte_at 32 AtResult text >>= λ a. letters_at (codes "= ") AtResult (after_spaces a.1) >>= λ c. Ok (tt, after_spaces c.1)
+
+-- the end of a line
+unfoldable pub tail_at : Item → List ℕ → Result (Item × List ℕ) Fault
+tail_at item text = if starts (is 32) text then Ok (item, []) else end_at AtResult item text
+
+-- what stands behind the parenthesis
+unfoldable pub outcome_at : Call → List ℕ → Result (Item × List ℕ) Fault
+outcome_at call text = if starts (is 32) text then (equals_at text >>= λ u. recorded_at u.1 >>= λ r. tail_at (Played 0 call r.0) r.1) else end_at AtResult (Played 0 call None) text
+
+-- the parenthesis and what is behind it
+unfoldable pub closing_at : Call → List ℕ → Result (Item × List ℕ) Fault
+closing_at call text = byte_at 41 Close text >>= λ u. outcome_at call u.1
+
+-- munmap
+unfoldable pub munmap_at : List ℕ → Result (Item × List ℕ) Fault
+munmap_at text = addr_at text >>= λ a. comma_at a.1 >>= λ u. number_at Number u.1 >>= λ n. closing_at (Unmap a.0 n.0) n.1
+
+-- mprotect, behind its protection
+abbrev pub protected_at : ℕ → ℕ → Option ℕ → List ℕ → Result (Item × List ℕ) Fault
+protected_at a n None text = Ok (Other, text)
+protected_at a n (Some p) text = closing_at (Protect a n (record { 0 = p })) text
+
+-- mprotect
+unfoldable pub mprotect_at : List ℕ → Result (Item × List ℕ) Fault
+mprotect_at text = addr_at text >>= λ a. comma_at a.1 >>= λ u. number_at Number u.1 >>= λ n. comma_at n.1 >>= λ v. prot_at v.1 >>= λ p. protected_at a.0 n.0 p.0 p.1
+
+-- fault
+unfoldable pub fault_call_at : List ℕ → Result (Item × List ℕ) Fault
+fault_call_at text = addr_at text >>= λ a. comma_at a.1 >>= λ u. access_at u.1 >>= λ c. closing_at (FaultCall a.0 c.0) c.1
+
+-- behind the flags: the descriptor and the offset
+unfoldable pub dropped_at : Call → List ℕ → Result (Item × List ℕ) Fault
+dropped_at call text = comma_at text >>= λ u. descriptor_at u.1 >>= λ v. comma_at v.1 >>= λ w. number_at Number w.1 >>= λ o. closing_at call o.1
+
+-- mmap, behind its flags
+abbrev pub mapped_at : ℕ → ℕ → ℕ → Option ℕ → List ℕ → Result (Item × List ℕ) Fault
+mapped_at a n p None text = Ok (Other, text)
+mapped_at a n p (Some f) text = dropped_at (Map a n (record { 0 = p }) (record { 0 = f })) text
+
+-- mmap, behind its protection
+abbrev pub flagged_at : ℕ → ℕ → Option ℕ → List ℕ → Result (Item × List ℕ) Fault
+flagged_at a n None text = Ok (Other, text)
+flagged_at a n (Some p) text = comma_at text >>= λ u. flags_at u.1 >>= λ f. mapped_at a n p f.0 f.1
+
+-- mmap
+unfoldable pub mmap_at : List ℕ → Result (Item × List ℕ) Fault
+mmap_at text = addr_at text >>= λ a. comma_at a.1 >>= λ u. number_at Number u.1 >>= λ n. comma_at n.1 >>= λ v. prot_at v.1 >>= λ p. flagged_at a.0 n.0 p.0 p.1
+
+-- the arguments of each call, and what comes behind them
+abbrev pub arguments_at : Name → List ℕ → Result (Item × List ℕ) Fault
+arguments_at Mmap text = mmap_at text
+arguments_at Munmap text = munmap_at text
+arguments_at Mprotect text = mprotect_at text
+arguments_at FaultName text = fault_call_at text
+
+-- ---- maps lines
+
+-- a value, and what is made of it
+abbrev pub then_some : {A B : Type 0} → Option A → (A → Option B) → Option B
+then_some None f = None
+then_some (Some x) f = f x
+
+-- the digits of an address that were taken: their number and what is left
+abbrev pub address_of : List ℕ → ℕ × List ℕ → Option (ℕ × List ℕ)
+address_of text r = if length r.1 == length text then None else if nat_lt r.0 (2 ^ 64) then (if r.0 % 4096 == 0 then Some r else None) else None
+
+-- an address of a maps line
+unfoldable pub address_at : List ℕ → Option (ℕ × List ℕ)
+address_at text = address_of text (digits_of 16 0 text)
+
+-- what is left behind a byte
+unfoldable pub behind_byte : ℕ → List ℕ → Option (List ℕ)
+behind_byte b [] = None
+behind_byte b (c ∷ rest) = if c == b then Some rest else None
+
+-- one of the first three characters
+unfoldable pub mark_at : ℕ → ℕ → List ℕ → Option (ℕ × List ℕ)
+mark_at letter bit [] = None
+mark_at letter bit (c ∷ rest) = if c == letter then Some (bit, rest) else if c == 45 then Some (0, rest) else None
+
+-- the fourth character
+unfoldable pub sharing_at : List ℕ → Option (Bool × List ℕ)
+sharing_at [] = None
+sharing_at (c ∷ rest) = if c == 115 then Some (true, rest) else if c == 112 then Some (false, rest) else None
+
+-- the kind, where the line ends or goes on with a space
+unfoldable pub ended_at : Kind → List ℕ → Option Kind
+ended_at kind [] = Some kind
+ended_at kind (c ∷ rest) = if c == 32 then Some kind else None
+
+-- the four characters
+unfoldable pub kind_at : List ℕ → Option Kind
+kind_at text = then_some (mark_at 114 1 text) (λ r. then_some (mark_at 119 2 r.1) (λ w. then_some (mark_at 120 4 w.1) (λ x. then_some (sharing_at x.1) (λ s. ended_at (record { prot = record { 0 = bit_or (bit_or r.0 w.0) x.0 }; shared = s.0 }) s.1))))
+
+-- a maps line
+unfoldable pub maps_at : List ℕ → Option (ℕ × ℕ × Kind)
+maps_at text = then_some (address_at text) (λ a. then_some (behind_byte 45 a.1) (λ u. then_some (address_at u) (λ b. then_some (behind_byte 32 b.1) (λ v. then_some (kind_at v) (λ k. Some (a.0, b.0, k))))))

@@ -1,64 +1,72 @@
-//! What a line says, and why a line is refused. The names of the errors are those of errno(3) that strace(1)
-//! prints behind a call, and `MapErr` and `AccErr` are the codes of a page fault's signal, of sigaction(2).
-//! Each is a plain value, which may be copied and compared.
+//! What a line of a trace says: a call with what the trace recorded of it, or nothing that is played.
+//! The error names are those that mmap(2), munmap(2) and mprotect(2) give, and the SIGSEGV codes of
+//! sigaction(2) for a fault. A refusal says where the line stops being one that is read, and why.
 
+use line_parts::What;
 use page_types::Call;
 
-/// An error that a call has answered.
-#[derive(Clone, Copy, Debug, PartialEq, Eq)]
+/// The four calls by the name that a line begins with.
+#[derive(Clone, Copy, PartialEq, Eq, Debug, Drop)]
+pub enum Name {
+    /// `mmap`
+    Mmap,
+    /// `munmap`
+    Munmap,
+    /// `mprotect`
+    Mprotect,
+    /// `fault`
+    Fault,
+}
+
+/// The error that a trace recorded, by its name.
+#[derive(Clone, Copy, PartialEq, Eq, Debug, Drop)]
 pub enum Errno {
+    /// `EINVAL`
     Einval,
+    /// `ENOMEM`
     Enomem,
+    /// `EEXIST`
     Eexist,
-    /// No area is mapped at the address of a page fault.
+    /// `SEGV_MAPERR`
     MapErr,
-    /// The area at the address of a page fault doesn't allow the access.
+    /// `SEGV_ACCERR`
     AccErr,
-    /// Any other error.
+    /// Every other name.
     Other,
 }
 
-/// What the trace recorded as a call's result: a number, or an error.
-#[derive(Clone, Copy, Debug, PartialEq, Eq)]
+/// What a trace recorded as a call's result.
+#[derive(Clone, Copy, PartialEq, Eq, Debug, Drop)]
 pub enum Recorded {
+    /// A number, for a Map an address in bytes.
     Value(u64),
+    /// -1 and an error's name.
     Failed(Errno),
 }
 
-/// What a line says.
-#[derive(Clone, Copy, Debug, PartialEq, Eq)]
+/// What a line is.
+#[derive(Clone, Copy, PartialEq, Eq, Debug, Drop)]
 pub enum Item {
-    /// A call that is played, the process that made it (0 where the line names none), and the recorded result.
+    /// A call to be played.
     Played {
+        /// The process that made the call; 0 where the line names none.
         pid: u32,
+        /// The call.
         call: Call,
+        /// What was recorded; None where the line has no result, or `?`.
         recorded: Option<Recorded>,
     },
-    /// A line that is well formed and isn't played.
+    /// A line that is skipped.
     Other,
-    /// A line with nothing on it.
+    /// An empty line.
     Blank,
 }
 
-/// Why a line is refused: the column in bytes, counted from 1, and what was due there.
-#[derive(Clone, Copy, Debug, PartialEq, Eq)]
+/// Where a line is refused, and why.
+#[derive(Clone, Copy, PartialEq, Eq, Debug, Drop)]
 pub struct BadCall {
+    /// The byte that cannot go on, counted from 1; behind the last byte where the line ends too early.
     pub column: u32,
+    /// What was due there.
     pub what: What,
-}
-
-/// What was due where a line is refused.
-#[derive(Clone, Copy, Debug, PartialEq, Eq)]
-pub enum What {
-    Number,
-    /// A number that is at most 2^64 - 1.
-    Wide,
-    Word,
-    Comma,
-    Close,
-    Result,
-    Form,
-    Order,
-    /// A form of line that isn't read yet.
-    Later,
 }

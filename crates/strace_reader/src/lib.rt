@@ -1,13 +1,22 @@
-//! Reads the lines of a trace: what strace(1) prints of a call that changes the address space becomes an item.
-//! The grammar is a relation between whole texts and items, in `specs/Grammar.antt`, and `read_line` is exactly
-//! that relation: a reader may rely on it that no other line is read, and that each spelling is.
+//! Reads the lines of a trace, as strace(1) prints them, and the lines of a maps file, as
+//! proc_pid_maps(5) shows them. The forms are this project's own profile of the two; `specs/` has them
+//! as a relation between whole texts and items, and each reader is exactly that relation.
 #![tactic(auto)]
 
+mod arguments;
+mod calls;
+mod forms;
 mod item;
-mod reading;
+mod lines;
+mod maps;
+mod playing;
+mod words;
 
-pub use item::{BadCall, Errno, Item, Recorded, What};
-pub use reading::read_line;
+pub use item::{BadCall, Errno, Item, Recorded};
+pub use line_parts::What;
+pub use lines::read_line;
+pub use maps::{MapsItem, read_maps_line};
+pub use playing::{as_played, differs};
 
 #[cfg(test)]
 mod tests;

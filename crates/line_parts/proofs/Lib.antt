@@ -1,0 +1,5 @@
+pub mod Sequence
+pub mod Choices
+pub mod Leaves
+pub mod Numerals
+pub mod Lists

@@ -1,0 +1,10 @@
+use Rattle.std.proofs.Common.{◌≡◌, length}
+use Rattle.line_parts.specs.Leaves.{is_word_byte}
+use Rattle.line_parts.specs.Reading.{taken}
+use Rattle.line_parts.proofs.bytes.skip_word_bytes.Given as goal
+
+abbrev pub invariant-loop-rest : goal.invariant-loop-rest
+invariant-loop-rest l = (taken is_word_byte l.rest).1 ≡ (taken is_word_byte l.text).1
+
+abbrev pub decreases-loop-rest : goal.decreases-loop-rest
+decreases-loop-rest l = length l.rest

@@ -1,0 +1,9 @@
+use Rattle.std.proofs.Common.{◌≡◌, length}
+use Rattle.line_parts.specs.Reading.{until_at}
+use Rattle.line_parts.proofs.bytes.until.Given as goal
+
+abbrev pub invariant-loop-rest : goal.invariant-loop-rest
+invariant-loop-rest l = until_at l.x l.y l.what l.rest ≡ until_at l.x l.y l.what l.text
+
+abbrev pub decreases-loop-rest : goal.decreases-loop-rest
+decreases-loop-rest l = length l.rest

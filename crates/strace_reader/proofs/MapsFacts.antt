@@ -1,0 +1,374 @@
+-- A maps line is read as its relation says: what is found is such a line, and each such line is found.
+use Rattle.std.proofs.Common.{◌≡◌, ◌≢◌, ℕ, ◌*◌, ◌/◌, ◌%◌, ◌^◌, ◌<◌, ◌≤◌, List, [], ◌∷◌, ◌++◌, length, Result, Ok, Err, Option, Some, None, Bool, true, false, refl, sym, ap, subst, ◌∙◌, inl, inr, arith}
+use Rattle.std.specs.Prelude.{◌⊎◌, IfOk, IfErr}
+use Rattle.std.specs.Int.RustNames.{bit_or}
+use Rattle.std.proofs.lemmas.Bool.Decides.{eqb_tells}
+use Rattle.std.proofs.lemmas.Bool.{cases_lt, lt-ltb, le-ltb}
+use Rattle.std.proofs.lemmas.List.{length-append, append_cancel_left}
+use Rattle.std.proofs.lemmas.Nat.{or_lt}
+use Rattle.line_parts.specs.declared.fault.What.TheVariants.{Form, Order}
+use Rattle.line_parts.specs.Parts.{starts}
+use Rattle.line_parts.specs.Leaves.{is, NoDigit, value, worth}
+use Rattle.line_parts.specs.Reading.{digits_of}
+use Rattle.line_parts.proofs.Sequence.{alike_same}
+use Rattle.line_parts.proofs.Leaves.{is_same}
+use Rattle.line_parts.proofs.Numerals.{run_takes, same_digits}
+use Rattle.page_types.specs.declared.calls.Kind.{Kind}
+use Rattle.page_types.specs.declared.sets.Prot.{Prot}
+use Rattle.space_model.specs.declared.areas.Area.{Area as AreaOf}
+use Rattle.strace_reader.specs.declared.item.BadCall.{BadCall}
+use Rattle.strace_reader.specs.declared.maps.MapsItem.{MapsItem}
+use Rattle.strace_reader.specs.declared.maps.MapsItem.TheVariants.{Area, Past}
+use Rattle.strace_reader.specs.Maps.{IsAddress, IsMark, IsKind, IsMapsLine, user_end, SpellsMaps, RefusesMaps, IsNamedMapsItem}
+use Rattle.strace_reader.specs.Reading.{then_some, address_of, address_at, behind_byte, mark_at, sharing_at, ended_at, kind_at, maps_at}
+
+then_yes : {A B : Type 0} (o : Option A) (f : A → Option B) (y : B) → then_some o f ≡ Some y → (x : A) × (o ≡ Some x) × (f x ≡ Some y)
+then_yes None f y h = absurd cc
+then_yes (Some x) f y h = (x, refl, h)
+
+-- ---- addresses
+
+some_pair : (p q : ℕ × List ℕ) → Some p ≡ Some q → p ≡ q
+some_pair p q h = cc
+
+address_some : (text : List ℕ) (p : ℕ × List ℕ) (n : ℕ) (rest : List ℕ) → address_of text p ≡ Some (n, rest) → (length p.1 ≢ length text) × (p.0 < 2 ^ 64) × (p.0 % 4096 ≡ 0) × (p ≡ (n, rest))
+address_some text p n rest h =
+    elim (eqb_tells (length p.1) (length text)) [
+      | inl a ↦ let k = rw a.0 at h in absurd cc
+      | inr a ↦ elim (cases_lt p.0 (2 ^ 64)) [
+        | inl b ↦ elim (eqb_tells (p.0 % 4096) 0) [
+          | inl d ↦ (a.1, b, d.1, some_pair p (n, rest) (rw (a.0, lt-ltb p.0 (2 ^ 64) b, d.0) at h))
+          | inr d ↦ let k = rw (a.0, lt-ltb p.0 (2 ^ 64) b, d.0) at h in absurd cc
+        ]
+        | inr b ↦ let k = rw (a.0, le-ltb p.0 (2 ^ 64) b) at h in absurd cc
+      ]
+    ]
+
+address_yes : (text rest : List ℕ) (n : ℕ) → address_at text ≡ Some (n, rest) → (digits : List ℕ) × IsAddress digits n × (text ≡ digits ++ rest)
+unfolding address_at
+address_yes text rest n h =
+    let r = run_takes 16 0 text in
+    let ds = r.0 in
+    let s = address_some text (digits_of 16 0 text) n rest h in
+    let is_n : value 16 0 ds ≡ n = ap (λ (x : ℕ × List ℕ). x.0) (sym r.2.is_read ∙ s.3) in
+    let is_rest : r.1 ≡ rest = ap (λ (x : ℕ × List ℕ). x.1) (sym r.2.is_read ∙ s.3) in
+    let is_p : (digits_of 16 0 text).0 ≡ n = ap (λ (x : ℕ × List ℕ). x.0) s.3 in
+    let is_q : (digits_of 16 0 text).1 ≡ rest = ap (λ (x : ℕ × List ℕ). x.1) s.3 in
+    let k = ap length r.2.parts ∙ length-append ds r.1 in
+    let l = ap length is_rest in
+    let m = ap length is_q in
+    let long = s.0 in
+    let fits = s.1 in
+    let aligned = s.2 in
+    let some : 0 < length ds = omega arith in
+    (ds, record { hexadecimal = (some, r.2.all, sym is_n); fits = omega arith; aligned = ap (λ (x : ℕ). x % 4096) (sym is_p) ∙ aligned }, r.2.parts ∙ ap (λ (x : List ℕ). ds ++ x) is_rest)
+
+address_is : (text rest : List ℕ) (n : ℕ) → length rest ≢ length text → n < 2 ^ 64 → n % 4096 ≡ 0 → address_of text (n, rest) ≡ Some (n, rest)
+address_is text rest n long fits aligned =
+    elim (eqb_tells (length rest) (length text)) [
+      | inl a ↦ absurd (long a.1)
+      | inr a ↦ elim (eqb_tells (n % 4096) 0) [ inl d ↦ rw (a.0, lt-ltb n (2 ^ 64) fits, d.0) refl | inr d ↦ absurd (d.1 aligned) ]
+    ]
+
+address_no : (text digits rest : List ℕ) (n : ℕ) → IsAddress digits n → NoDigit 16 rest → text ≡ digits ++ rest → address_at text ≡ Some (n, rest)
+unfolding address_at
+address_no text digits rest n is_addr stop e =
+    let r = run_takes 16 0 text in
+    let ds = r.0 in
+    let whole : ds ++ r.1 ≡ digits ++ rest = sym r.2.parts ∙ e in
+    let s = same_digits 16 rest ds digits r.1 rest r.2.all is_addr.hexadecimal.1 r.2.ended stop whole (alike_same rest) in
+    let after : r.1 ≡ rest = append_cancel_left ds r.1 rest (whole ∙ ap (λ (x : List ℕ). x ++ rest) (sym s)) in
+    let same : value 16 0 ds ≡ n = ap (value 16 0) s ∙ sym is_addr.hexadecimal.2 in
+    let read : digits_of 16 0 text ≡ (n, rest) = r.2.is_read ∙ ap (λ (x : ℕ). (x, r.1)) same ∙ ap (λ (x : List ℕ). (n, x)) after in
+    let k = ap length e ∙ length-append digits rest in
+    let some = is_addr.hexadecimal.0 in
+    let long : length rest ≢ length text = λ z. omega arith in
+    ap (address_of text) read ∙ address_is text rest n long is_addr.fits is_addr.aligned
+
+behind_yes : (b : ℕ) (text rest : List ℕ) → behind_byte b text ≡ Some rest → text ≡ b ∷ rest
+unfolding behind_byte
+behind_yes b [] rest h = absurd cc
+behind_yes b (c ∷ text) rest h = elim (eqb_tells c b) [ inl k ↦ let g = rw k.0 at h in let i = k.1 in cc | inr k ↦ let g = rw k.0 at h in absurd cc ]
+
+behind_no : (b : ℕ) (rest : List ℕ) → behind_byte b (b ∷ rest) ≡ Some rest
+unfolding behind_byte
+behind_no b rest = rw (is_same b) refl
+
+-- ---- kinds
+
+mark_yes : (letter bit : ℕ) (text rest : List ℕ) (v : ℕ) → mark_at letter bit text ≡ Some (v, rest) → (c : ℕ) × (text ≡ c ∷ rest) × IsMark letter bit c v
+unfolding mark_at
+mark_yes letter bit [] rest v h = absurd cc
+mark_yes letter bit (c ∷ text) rest v h =
+    elim (eqb_tells c letter) [
+      | inl k ↦ let g : (bit, text) ≡ (v, rest) = some_pair (bit, text) (v, rest) (rw k.0 at h) in (c, ap (λ (x : ℕ × List ℕ). c ∷ x.1) g, inl (k.1, sym (ap (λ (x : ℕ × List ℕ). x.0) g)))
+      | inr k ↦ elim (eqb_tells c 45) [
+        | inl l ↦ let g : (0, text) ≡ (v, rest) = some_pair (0, text) (v, rest) (rw (k.0, l.0) at h) in (c, ap (λ (x : ℕ × List ℕ). c ∷ x.1) g, inr (l.1, sym (ap (λ (x : ℕ × List ℕ). x.0) g)))
+        | inr l ↦ let g = rw (k.0, l.0) at h in absurd cc
+      ]
+    ]
+
+dash_no : (letter bit : ℕ) (rest : List ℕ) → letter ≢ 45 → mark_at letter bit (45 ∷ rest) ≡ Some (0, rest)
+unfolding mark_at
+dash_no letter bit rest other = elim (eqb_tells 45 letter) [ inl k ↦ absurd (other (sym k.1)) | inr k ↦ rw k.0 refl ]
+
+mark_no : (letter bit c v : ℕ) (rest : List ℕ) → letter ≢ 45 → IsMark letter bit c v → mark_at letter bit (c ∷ rest) ≡ Some (v, rest)
+unfolding mark_at
+mark_no letter bit c v rest other (inl h) = rw (h.0, h.1, is_same letter) refl
+mark_no letter bit c v rest other (inr h) = rw (h.0, h.1) (dash_no letter bit rest other)
+
+some_shared : (p q : Bool × List ℕ) → Some p ≡ Some q → p ≡ q
+some_shared p q h = cc
+
+sharing_yes : (text rest : List ℕ) (v : Bool) → sharing_at text ≡ Some (v, rest) → (c : ℕ) × (text ≡ c ∷ rest) × (((c ≡ 115) × (v ≡ true)) ⊎ ((c ≡ 112) × (v ≡ false)))
+unfolding sharing_at
+sharing_yes [] rest v h = absurd cc
+sharing_yes (c ∷ text) rest v h =
+    elim (eqb_tells c 115) [
+      | inl k ↦ let g : (true, text) ≡ (v, rest) = some_shared (true, text) (v, rest) (rw k.0 at h) in (c, ap (λ (x : Bool × List ℕ). c ∷ x.1) g, inl (k.1, sym (ap (λ (x : Bool × List ℕ). x.0) g)))
+      | inr k ↦ elim (eqb_tells c 112) [
+        | inl l ↦ let g : (false, text) ≡ (v, rest) = some_shared (false, text) (v, rest) (rw (k.0, l.0) at h) in (c, ap (λ (x : Bool × List ℕ). c ∷ x.1) g, inr (l.1, sym (ap (λ (x : Bool × List ℕ). x.0) g)))
+        | inr l ↦ let g = rw (k.0, l.0) at h in absurd cc
+      ]
+    ]
+
+sharing_no : (c : ℕ) (v : Bool) (rest : List ℕ) → ((c ≡ 115) × (v ≡ true)) ⊎ ((c ≡ 112) × (v ≡ false)) → sharing_at (c ∷ rest) ≡ Some (v, rest)
+unfolding sharing_at
+sharing_no c v rest (inl h) = rw (h.0, h.1) refl
+sharing_no c v rest (inr h) = rw (h.0, h.1) refl
+
+some_kind : (p q : Kind) → Some p ≡ Some q → p ≡ q
+some_kind p q h = cc
+
+ended_yes : (kind k : Kind) (text : List ℕ) → ended_at kind text ≡ Some k → (kind ≡ k) × ((text ≡ []) ⊎ (starts (is 32) text ≡ true))
+unfolding ended_at
+ended_yes kind k [] h = (some_kind kind k h, inl refl)
+ended_yes kind k (c ∷ text) h = elim (eqb_tells c 32) [ inl a ↦ (some_kind kind k (rw a.0 at h), inr a.0) | inr a ↦ let g = rw a.0 at h in absurd cc ]
+
+ended_no : (kind : Kind) (text : List ℕ) → (text ≡ []) ⊎ (starts (is 32) text ≡ true) → ended_at kind text ≡ Some kind
+unfolding ended_at
+ended_no kind [] h = refl
+ended_no kind (c ∷ text) (inl h) = absurd cc
+ended_no kind (c ∷ text) (inr h) = rw h refl
+
+pub record KindFound (text : List ℕ) (kind : Kind) : Type 0 where
+  pub chars : List ℕ
+  pub tail : List ℕ
+  pub parts : text ≡ chars ++ tail
+  pub is_kind : IsKind chars kind
+  pub behind : (tail ≡ []) ⊎ (starts (is 32) tail ≡ true)
+
+kind_yes : (text : List ℕ) (kind : Kind) → kind_at text ≡ Some kind → KindFound text kind
+unfolding kind_at
+kind_yes text kind h =
+    let a = then_yes (mark_at 114 1 text) (λ r. then_some (mark_at 119 2 r.1) (λ w. then_some (mark_at 120 4 w.1) (λ x. then_some (sharing_at x.1) (λ s. ended_at (record { prot = record { 0 = bit_or (bit_or r.0 w.0) x.0 }; shared = s.0 }) s.1)))) kind h in
+    let b = then_yes (mark_at 119 2 a.0.1) (λ w. then_some (mark_at 120 4 w.1) (λ x. then_some (sharing_at x.1) (λ s. ended_at (record { prot = record { 0 = bit_or (bit_or a.0.0 w.0) x.0 }; shared = s.0 }) s.1))) kind a.2 in
+    let c = then_yes (mark_at 120 4 b.0.1) (λ x. then_some (sharing_at x.1) (λ s. ended_at (record { prot = record { 0 = bit_or (bit_or a.0.0 b.0.0) x.0 }; shared = s.0 }) s.1)) kind b.2 in
+    let d = then_yes (sharing_at c.0.1) (λ s. ended_at (record { prot = record { 0 = bit_or (bit_or a.0.0 b.0.0) c.0.0 }; shared = s.0 }) s.1) kind c.2 in
+    let e = ended_yes (record { prot = record { 0 = bit_or (bit_or a.0.0 b.0.0) c.0.0 }; shared = d.0.0 }) kind d.0.1 d.2 in
+    let p = mark_yes 114 1 text a.0.1 a.0.0 a.1 in
+    let q = mark_yes 119 2 a.0.1 b.0.1 b.0.0 b.1 in
+    let r = mark_yes 120 4 b.0.1 c.0.1 c.0.0 c.1 in
+    let s = sharing_yes c.0.1 d.0.1 d.0.0 d.1 in
+    record {
+      chars = p.0 ∷ q.0 ∷ r.0 ∷ s.0 ∷ [];
+      tail = d.0.1;
+      parts = p.1 ∙ ap (λ (x : List ℕ). p.0 ∷ x) (q.1 ∙ ap (λ (x : List ℕ). q.0 ∷ x) (r.1 ∙ ap (λ (x : List ℕ). r.0 ∷ x) s.1));
+      is_kind = record {
+        r = p.0;
+        w = q.0;
+        x = r.0;
+        s = s.0;
+        read = a.0.0;
+        write = b.0.0;
+        exec = c.0.0;
+        four = refl;
+        reads = p.2;
+        writes = q.2;
+        runs = r.2;
+        rights = ap (λ (x : Kind). x.prot) (sym e.0);
+        sharing = subst (λ (x : Kind). ((s.0 ≡ 115) × (x.shared ≡ true)) ⊎ ((s.0 ≡ 112) × (x.shared ≡ false))) e.0 s.2;
+      };
+      behind = e.1;
+    }
+
+kind_no : (chars tail : List ℕ) (kind : Kind) → IsKind chars kind → (tail ≡ []) ⊎ (starts (is 32) tail ≡ true) → kind_at (chars ++ tail) ≡ Some kind
+unfolding kind_at
+kind_no chars tail kind k behind =
+    let e : chars ++ tail ≡ k.r ∷ k.w ∷ k.x ∷ k.s ∷ tail = ap (λ (x : List ℕ). x ++ tail) k.four in
+    let p = mark_no 114 1 k.r k.read (k.w ∷ k.x ∷ k.s ∷ tail) (λ z. cc) k.reads in
+    let q = mark_no 119 2 k.w k.write (k.x ∷ k.s ∷ tail) (λ z. cc) k.writes in
+    let r = mark_no 120 4 k.x k.exec (k.s ∷ tail) (λ z. cc) k.runs in
+    let s = sharing_no k.s kind.shared tail k.sharing in
+    let t : record { prot = record { 0 = bit_or (bit_or k.read k.write) k.exec }; shared = kind.shared } ≡ kind = ap (λ (x : Prot). record { prot = x; shared = kind.shared }) (sym k.rights) in
+    rw e (rw p (rw q (rw r (rw s (ended_no (record { prot = record { 0 = bit_or (bit_or k.read k.write) k.exec }; shared = kind.shared }) tail behind ∙ ap (λ (x : Kind). Some x) t)))))
+
+-- ---- lines
+
+some_triple : (p q : ℕ × ℕ × Kind) → Some p ≡ Some q → p ≡ q
+some_triple p q h = cc
+
+pub maps_yes : (text : List ℕ) (start stop : ℕ) (kind : Kind) → maps_at text ≡ Some (start, stop, kind) → IsMapsLine text start stop kind
+unfolding maps_at
+maps_yes text start stop kind h =
+    let a = then_yes (address_at text) (λ a. then_some (behind_byte 45 a.1) (λ u. then_some (address_at u) (λ b. then_some (behind_byte 32 b.1) (λ v. then_some (kind_at v) (λ k. Some (a.0, b.0, k)))))) (start, stop, kind) h in
+    let b = then_yes (behind_byte 45 a.0.1) (λ u. then_some (address_at u) (λ b. then_some (behind_byte 32 b.1) (λ v. then_some (kind_at v) (λ k. Some (a.0.0, b.0, k))))) (start, stop, kind) a.2 in
+    let c = then_yes (address_at b.0) (λ b. then_some (behind_byte 32 b.1) (λ v. then_some (kind_at v) (λ k. Some (a.0.0, b.0, k)))) (start, stop, kind) b.2 in
+    let d = then_yes (behind_byte 32 c.0.1) (λ v. then_some (kind_at v) (λ k. Some (a.0.0, c.0.0, k))) (start, stop, kind) c.2 in
+    let e = then_yes (kind_at d.0) (λ k. Some (a.0.0, c.0.0, k)) (start, stop, kind) d.2 in
+    let z : (a.0.0, c.0.0, e.0) ≡ (start, stop, kind) = some_triple (a.0.0, c.0.0, e.0) (start, stop, kind) e.2 in
+    let p = address_yes text a.0.1 a.0.0 a.1 in
+    let q = address_yes b.0 c.0.1 c.0.0 c.1 in
+    let k = kind_yes d.0 e.0 e.1 in
+    let five : d.0 ≡ k.chars ++ k.tail = k.parts in
+    let four : c.0.1 ≡ 32 ∷ (k.chars ++ k.tail) = behind_yes 32 c.0.1 d.0 d.1 ∙ ap (λ (x : List ℕ). 32 ∷ x) five in
+    let three : b.0 ≡ q.0 ++ (32 ∷ (k.chars ++ k.tail)) = q.2 ∙ ap (λ (x : List ℕ). q.0 ++ x) four in
+    let two : a.0.1 ≡ 45 ∷ (q.0 ++ (32 ∷ (k.chars ++ k.tail))) = behind_yes 45 a.0.1 b.0 b.1 ∙ ap (λ (x : List ℕ). 45 ∷ x) three in
+    record {
+      first = p.0;
+      second = q.0;
+      chars = k.chars;
+      tail = k.tail;
+      parts = p.2 ∙ ap (λ (x : List ℕ). p.0 ++ x) two;
+      starts_at = subst (IsAddress p.0) (ap (λ (x : ℕ × ℕ × Kind). x.0) z) p.1;
+      stops_at = subst (IsAddress q.0) (ap (λ (x : ℕ × ℕ × Kind). x.1) z) q.1;
+      is_kind = subst (IsKind k.chars) (ap (λ (x : ℕ × ℕ × Kind). x.2) z) k.is_kind;
+      behind = k.behind;
+    }
+
+dash_stop : (rest : List ℕ) → NoDigit 16 (45 ∷ rest)
+unfolding worth
+dash_stop rest = omega arith
+
+space_stop : (rest : List ℕ) → NoDigit 16 (32 ∷ rest)
+unfolding worth
+space_stop rest = omega arith
+
+pub maps_no : (text : List ℕ) (start stop : ℕ) (kind : Kind) → IsMapsLine text start stop kind → maps_at text ≡ Some (start, stop, kind)
+unfolding maps_at
+maps_no text start stop kind m =
+    let behind_stop = m.chars ++ m.tail in
+    let behind_start = m.second ++ (32 ∷ behind_stop) in
+    let a = address_no text m.first (45 ∷ behind_start) start m.starts_at (dash_stop behind_start) m.parts in
+    let b = behind_no 45 behind_start in
+    let c = address_no behind_start m.second (32 ∷ behind_stop) stop m.stops_at (space_stop behind_stop) refl in
+    let d = behind_no 32 behind_stop in
+    let e = kind_no m.chars m.tail kind m.is_kind m.behind in
+    rw a (rw b (rw c (rw d (rw e refl))))
+
+-- ---- what the reader of maps lines owes at each of its returns
+
+abbrev pub is_maps_item : MapsItem → Result MapsItem BadCall
+is_maps_item item = Ok item
+
+abbrev pub is_maps_err : BadCall → Result MapsItem BadCall
+is_maps_err bad = Err bad
+
+pub record MapsAnswers (text : List ℕ) (r : Result MapsItem BadCall) : Type 0 where
+  pub found : IfOk r (SpellsMaps text)
+  pub only : (item : MapsItem) → SpellsMaps text item → r ≡ Ok item
+  pub refused : IfErr r (RefusesMaps text)
+  pub only_there : (bad : BadCall) → RefusesMaps text bad → r ≡ Err bad
+  pub named : IfOk r IsNamedMapsItem
+
+no_line : (text : List ℕ) → maps_at text ≡ None → (start stop : ℕ) (kind : Kind) → IsMapsLine text start stop kind → ⊥
+no_line text h start stop kind m = let k = sym h ∙ maps_no text start stop kind m in cc
+
+one_line : (text : List ℕ) (a b c d : ℕ) (k l : Kind) → maps_at text ≡ Some (a, b, k) → IsMapsLine text c d l → (c ≡ a) × (d ≡ b) × (l ≡ k)
+one_line text a b c d k l h m =
+    let e : (c, d, l) ≡ (a, b, k) = some_triple (c, d, l) (a, b, k) (sym (maps_no text c d l m) ∙ h) in
+    (ap (λ (x : ℕ × ℕ × Kind). x.0) e, ap (λ (x : ℕ × ℕ × Kind). x.1) e, ap (λ (x : ℕ × ℕ × Kind). x.2) e)
+
+form_only : (text : List ℕ) → maps_at text ≡ None → (item : MapsItem) → SpellsMaps text item → ⊥
+unfolding SpellsMaps
+form_only text h (Area area) s = no_line text h (area.lo * 4096) (area.hi * 4096) area.kind s.0
+form_only text h (Past a b) s = no_line text h a b s.0 s.1
+
+pub form_line : (text : List ℕ) → maps_at text ≡ None → MapsAnswers text (Err (record { column = 1; what = Form }))
+unfolding RefusesMaps
+form_line text h = record {
+  found = tt;
+  only = λ item s. absurd (form_only text h item s);
+  refused = inl (no_line text h, refl);
+  only_there = λ bad r. elim r [ inl k ↦ ap (λ (x : BadCall). is_maps_err x) (sym k.1) | inr k ↦ absurd (no_line text h k.0 k.1 k.2 k.3) ];
+  named = tt;
+}
+
+order_only : (text : List ℕ) (a b : ℕ) (k : Kind) → maps_at text ≡ Some (a, b, k) → b ≤ a → (item : MapsItem) → SpellsMaps text item → ⊥
+unfolding SpellsMaps
+order_only text a b k h le (Area area) s = let o = one_line text a b (area.lo * 4096) (area.hi * 4096) k area.kind h s.0 in let lt = s.1 in let p = o.0 in let q = o.1 in omega arith
+order_only text a b k h le (Past c d) s = let o = one_line text a b c d k s.0 h s.1 in let lt = s.2 in let p = o.0 in let q = o.1 in omega arith
+
+pub order_line : (text : List ℕ) (a b : ℕ) (k : Kind) → maps_at text ≡ Some (a, b, k) → b ≤ a → MapsAnswers text (Err (record { column = 1; what = Order }))
+unfolding RefusesMaps
+order_line text a b k h le = record {
+  found = tt;
+  only = λ item s. absurd (order_only text a b k h le item s);
+  refused = inr (a, b, k, maps_yes text a b k h, le, refl);
+  only_there = λ bad r. elim r [ inl m ↦ absurd (m.0 a b k (maps_yes text a b k h)) | inr m ↦ ap (λ (x : BadCall). is_maps_err x) (sym m.5) ];
+  named = tt;
+}
+
+not_refused : (text : List ℕ) (a b : ℕ) (k : Kind) → maps_at text ≡ Some (a, b, k) → a < b → (bad : BadCall) → RefusesMaps text bad → ⊥
+unfolding RefusesMaps
+not_refused text a b k h lt bad (inl m) = m.0 a b k (maps_yes text a b k h)
+not_refused text a b k h lt bad (inr m) = let o = one_line text a b m.0 m.1 k m.2 h m.3 in let le = m.4 in let p = o.0 in let q = o.1 in omega arith
+
+past_only : (text : List ℕ) (a b : ℕ) (k : Kind) → maps_at text ≡ Some (a, b, k) → user_end < b → (item : MapsItem) → SpellsMaps text item → is_maps_item (Past a b) ≡ is_maps_item item
+unfolding SpellsMaps
+past_only text a b k h past (Area area) s = let o = one_line text a b (area.lo * 4096) (area.hi * 4096) k area.kind h s.0 in let le = s.2 in let q = o.1 in absurd (omega arith)
+past_only text a b k h past (Past c d) s = let o = one_line text a b c d k s.0 h s.1 in ap (λ (x : ℕ). is_maps_item (Past x b)) (sym o.0) ∙ ap (λ (x : ℕ). is_maps_item (Past c x)) (sym o.1)
+
+pub past_line : (text : List ℕ) (a b : ℕ) (k : Kind) → maps_at text ≡ Some (a, b, k) → a < b → user_end < b → MapsAnswers text (Ok (Past a b))
+unfolding SpellsMaps
+past_line text a b k h lt past = record {
+  found = (k, maps_yes text a b k h, lt, past);
+  only = past_only text a b k h past;
+  refused = tt;
+  only_there = λ bad r. absurd (not_refused text a b k h lt bad r);
+  named = tt;
+}
+
+page_of_start : (n : ℕ) → n % 4096 ≡ 0 → (n / 4096) * 4096 ≡ n
+page_of_start n h = omega arith
+
+abbrev area_of : ℕ → ℕ → Kind → AreaOf
+area_of a b k = record { lo = a; hi = b; kind = k }
+
+page_is : (p n : ℕ) → p * 4096 ≡ n → n / 4096 ≡ p
+page_is p n h = omega arith
+
+area_only : (text : List ℕ) (a b : ℕ) (k : Kind) → maps_at text ≡ Some (a, b, k) → b ≤ user_end → (item : MapsItem) → SpellsMaps text item → is_maps_item (Area (area_of (a / 4096) (b / 4096) k)) ≡ is_maps_item item
+unfolding SpellsMaps
+area_only text a b k h le (Area area) s =
+    let o = one_line text a b (area.lo * 4096) (area.hi * 4096) k area.kind h s.0 in
+    ap (λ (x : ℕ). is_maps_item (Area (area_of x (b / 4096) k))) (page_is area.lo a o.0) ∙ ap (λ (x : ℕ). is_maps_item (Area (area_of area.lo x k))) (page_is area.hi b o.1) ∙ ap (λ (x : Kind). is_maps_item (Area (area_of area.lo area.hi x))) (sym o.2)
+area_only text a b k h le (Past c d) s = let o = one_line text a b c d k s.0 h s.1 in let past = s.3 in let q = o.1 in absurd (omega arith)
+
+mark_small : (letter bit char v k : ℕ) → IsMark letter bit char v → bit < 2 ^ k → v < 2 ^ k
+mark_small letter bit char v k (inl h) lt = let e = h.1 in omega arith
+mark_small letter bit char v k (inr h) lt = let e = h.1 in omega arith
+
+kind_named : (chars : List ℕ) (kind : Kind) → IsKind chars kind → kind.prot.0 < 2 ^ 3
+kind_named chars kind k =
+    let both = or_lt 3 k.read k.write (mark_small 114 1 k.r k.read 3 k.reads (omega arith)) (mark_small 119 2 k.w k.write 3 k.writes (omega arith)) in
+    let all = or_lt 3 (bit_or k.read k.write) k.exec both (mark_small 120 4 k.x k.exec 3 k.runs (omega arith)) in
+    subst (λ (x : Prot). x.0 < 2 ^ 3) (sym k.rights) all
+
+area_found : (text : List ℕ) (a b : ℕ) (k : Kind) → IsMapsLine text a b k → a < b → b ≤ user_end → SpellsMaps text (Area (area_of (a / 4096) (b / 4096) k))
+unfolding SpellsMaps
+area_found text a b k m lt le =
+    let p = page_of_start a m.starts_at.aligned in
+    let q = page_of_start b m.stops_at.aligned in
+    (subst (λ (x : ℕ). IsMapsLine text x ((b / 4096) * 4096) k) (sym p) (subst (λ (x : ℕ). IsMapsLine text a x k) (sym q) m), omega arith, omega arith)
+
+pub area_line : (text : List ℕ) (a b : ℕ) (k : Kind) → maps_at text ≡ Some (a, b, k) → a < b → b ≤ user_end → MapsAnswers text (Ok (Area (record { lo = a / 4096; hi = b / 4096; kind = k })))
+area_line text a b k h lt le =
+    let m = maps_yes text a b k h in
+    record {
+      found = area_found text a b k m lt le;
+      only = area_only text a b k h le;
+      refused = tt;
+      only_there = λ bad r. absurd (not_refused text a b k h lt bad r);
+      named = kind_named m.chars k m.is_kind;
+    }

@@ -1,0 +1,154 @@
+-- The four calls of a line, from the name to the end, as strace(1) prints them: arguments that commas
+-- and spaces part, a closing parenthesis, and a result. This project's own profile; docs/FORMATS.md
+-- has it as a table. Each definition is one row of that table.
+use Rattle.std.specs.Prelude.{◌≡◌, ◌⊎◌, ℕ, List, [], false, codes, Option, Some, None}
+use Rattle.line_parts.specs.declared.fault.What.TheVariants.{Number, Word, Comma, Close, Result as AtResult}
+use Rattle.line_parts.specs.Parts.{Part, chain, choice, done, starts}
+use Rattle.line_parts.specs.Leaves.{is, byte, letters, IsRun, run, spaces, number, until, end, anything, begun, no_byte, many_digits, is_digit, is_capital, is_word_byte}
+use Rattle.line_parts.specs.Lists.{listed}
+use Rattle.page_types.specs.declared.calls.Call.{Call}
+use Rattle.page_types.specs.declared.calls.Call.TheVariants.{Map, Unmap, Protect, Fault}
+use Rattle.page_types.specs.declared.sets.Access.{Access}
+use Rattle.strace_reader.specs.declared.item.Item.{Item}
+use Rattle.strace_reader.specs.declared.item.Item.TheVariants.{Played, Other}
+use Rattle.strace_reader.specs.declared.item.Recorded.{Recorded}
+use Rattle.strace_reader.specs.declared.item.Recorded.TheVariants.{Value, Failed}
+use Rattle.strace_reader.specs.declared.item.Name.{Name}
+use Rattle.strace_reader.specs.declared.item.Name.TheVariants.{Mmap, Munmap, Mprotect, Fault as FaultName}
+use Rattle.strace_reader.specs.Words.{prot_of, flag_of, access_of, errno_of, opening}
+
+-- ---- parts of arguments
+
+-- a comma and any number of spaces
+abbrev pub comma : Part (Unit {0})
+comma = chain (byte 44 Comma) (λ u. spaces)
+
+-- NULL, which is 0, or a number
+abbrev pub addr : Part ℕ
+addr = choice (is 78) (chain (letters (codes "NULL") Number) (λ u. done 0)) (number Number)
+
+-- capitals, digits and underscores, with a capital in front
+abbrev pub word : Part (List ℕ)
+word = run is_capital is_word_byte Word
+
+-- A word that is known has its bits. With one that is not the line is left as it is, to its end.
+abbrev pub known : Option ℕ → Part (Option ℕ)
+known None = anything is_word_byte None
+known (Some bits) = done (Some bits)
+
+-- protection words joined by bars; with another word, or a number, the line is not played
+abbrev pub prot_word : Part (Option ℕ)
+prot_word = choice is_digit (anything no_byte None) (chain word (λ w. known (prot_of w)))
+
+-- the protection of a line: the words, from no bit on
+abbrev pub prot : Part (Option ℕ)
+prot = listed prot_word 0
+
+-- behind a number of the flags: a space, and a comment to its first end
+abbrev pub commented : Part (Unit {0})
+commented = choice (is 32) (chain (letters (codes " /*") Comma) (λ u. chain (until 42 47 Comma) (λ v. byte 47 Comma))) (done tt)
+
+-- what a number of the flags is shifted by: a number or a word
+abbrev pub operand : Part (Unit {0})
+operand = choice is_digit (chain (number Number) (λ n. done tt)) (chain word (λ w. done tt))
+
+-- behind a number of the flags: what it is shifted by, and a comment; both may be missing
+abbrev pub shifted : Part (Unit {0})
+shifted = choice (is 60) (chain (letters (codes "<<") Comma) (λ u. chain operand (λ v. commented))) commented
+
+-- flag words and numbers joined by bars; numbers have no bits
+abbrev pub flag_word : Part (Option ℕ)
+flag_word = choice is_digit (chain (number Number) (λ n. chain shifted (λ u. done (Some 0)))) (chain word (λ w. known (flag_of w)))
+
+-- the flags of a line
+abbrev pub flags : Part (Option ℕ)
+flags = listed flag_word 0
+
+-- behind a descriptor: its path in angle brackets, to the first > that a comma follows
+abbrev pub path : Part (Unit {0})
+path = choice (is 60) (chain (byte 60 Comma) (λ u. until 62 44 Comma)) (done tt)
+
+-- a descriptor: -1 or decimal digits, as many as there are
+abbrev pub descriptor : Part (Unit {0})
+descriptor = choice (is 45) (chain (letters (codes "-1") Number) (λ u. path)) (chain (many_digits Number) (λ u. path))
+
+-- The access of a fault, one of three words. Another word is over.
+abbrev pub access : Part Access
+access = record {
+  takes = λ front rest v. IsRun is_capital is_word_byte front × (starts is_word_byte rest ≡ false) × (access_of front ≡ Some v);
+  faults = λ front over rest w. (front ≡ []) × (w ≡ Word) × (((over ≡ []) × (starts is_capital rest ≡ false)) ⊎ (IsRun is_capital is_word_byte over × (starts is_word_byte rest ≡ false) × (access_of over ≡ None)));
+}
+
+-- ---- the result
+
+-- a number, or -1 and an error's name
+abbrev pub failed : Part (Option Recorded)
+failed = choice (is 45) (chain (letters (codes "-1 ") AtResult) (λ u. chain (run is_word_byte is_word_byte AtResult) (λ w. done (Some (Failed (errno_of w)))))) (chain (number AtResult) (λ n. done (Some (Value n))))
+
+-- ?, or a number or an error
+abbrev pub recorded : Part (Option Recorded)
+recorded = choice (is 63) (chain (byte 63 AtResult) (λ u. done None)) failed
+
+-- spaces, an equals sign and spaces
+abbrev pub equals : Part (Unit {0})
+equals = chain (byte 32 AtResult) (λ a. chain spaces (λ b. chain (letters (codes "= ") AtResult) (λ c. spaces)))
+
+-- behind the result: the end, or a space and any bytes
+abbrev pub tail : Item → Part Item
+tail item = choice (is 32) (anything no_byte item) (end AtResult item)
+
+-- behind the parenthesis: the end, or a result
+abbrev pub outcome : Call → Part Item
+outcome call = choice (is 32) (chain equals (λ u. chain recorded (λ r. tail (Played 0 call r)))) (end AtResult (Played 0 call None))
+
+-- the parenthesis, and what is behind it
+abbrev pub closing : Call → Part Item
+closing call = chain (byte 41 Close) (λ u. outcome call)
+
+-- ---- the arguments of each call
+
+-- munmap: an address and a length
+abbrev pub munmap_arguments : Part Item
+munmap_arguments = chain addr (λ a. chain comma (λ u. chain (number Number) (λ n. closing (Unmap a n))))
+
+-- behind the protection: nothing, where it took the line to its end, or the end of the line
+abbrev pub protected : ℕ → ℕ → Option ℕ → Part Item
+protected a n None = done Other
+protected a n (Some p) = closing (Protect a n (record { 0 = p }))
+
+-- mprotect: an address, a length and a protection
+abbrev pub mprotect_arguments : Part Item
+mprotect_arguments = chain addr (λ a. chain comma (λ u. chain (number Number) (λ n. chain comma (λ v. chain prot (protected a n)))))
+
+-- fault: an address and an access
+abbrev pub fault_arguments : Part Item
+fault_arguments = chain addr (λ a. chain comma (λ u. chain access (λ c. closing (Fault a c))))
+
+-- the descriptor and the offset are read and dropped
+abbrev pub dropped : Call → Part Item
+dropped call = chain comma (λ u. chain descriptor (λ v. chain comma (λ w. chain (number Number) (λ o. closing call))))
+
+-- behind the flags: nothing, where they took the line to its end, or what is left of the line
+abbrev pub mapped : ℕ → ℕ → ℕ → Option ℕ → Part Item
+mapped a n p None = done Other
+mapped a n p (Some f) = dropped (Map a n (record { 0 = p }) (record { 0 = f }))
+
+-- behind the protection: nothing, where it took the line to its end, or the flags
+abbrev pub flagged : ℕ → ℕ → Option ℕ → Part Item
+flagged a n None = done Other
+flagged a n (Some p) = chain comma (λ u. chain flags (mapped a n p))
+
+-- mmap: an address, a length, a protection, flags, a descriptor and an offset
+abbrev pub mmap_arguments : Part Item
+mmap_arguments = chain addr (λ a. chain comma (λ u. chain (number Number) (λ n. chain comma (λ v. chain prot (flagged a n)))))
+
+-- the arguments of each call
+abbrev pub arguments : Name → Part Item
+arguments Mmap = mmap_arguments
+arguments Munmap = munmap_arguments
+arguments Mprotect = mprotect_arguments
+arguments FaultName = fault_arguments
+
+-- a whole line of a call; its value is Other where a word or number of the arguments leaves it unplayed
+unfoldable pub call : Name → Part Item
+call name = chain (begun (opening name)) (λ u. arguments name)

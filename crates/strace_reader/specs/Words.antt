@@ -1,0 +1,61 @@
+-- The words of a line and what they stand for: PROT_READ and the others of mmap(2) and mprotect(2),
+-- and the error names of a result. Words that are not listed here are told apart by the forms alone.
+use Rattle.std.specs.Prelude.{ℕ, List, codes, Option, Some, None, if◌then◌else◌}
+use Rattle.std.specs.Str.{bytes_eq}
+use Rattle.page_types.specs.declared.sets.Access.{Access}
+use Rattle.page_types.specs.declared.sets.Access.TheVariants.{Read, Write, Exec}
+use Rattle.strace_reader.specs.declared.item.Errno.{Errno}
+use Rattle.strace_reader.specs.declared.item.Errno.TheVariants.{Einval, Enomem, Eexist, MapErr, AccErr, Other}
+use Rattle.strace_reader.specs.declared.item.Name.{Name}
+use Rattle.strace_reader.specs.declared.item.Name.TheVariants.{Mmap, Munmap, Mprotect, Fault}
+
+-- the bits of a protection word; another word is none
+unfoldable pub prot_of : List ℕ → Option ℕ
+prot_of word =
+    if bytes_eq word (codes "PROT_READ") then Some 1
+    else if bytes_eq word (codes "PROT_WRITE") then Some 2
+    else if bytes_eq word (codes "PROT_EXEC") then Some 4
+    else if bytes_eq word (codes "PROT_NONE") then Some 0
+    else None
+
+-- the bits of a flag: other words have none, and MAP_SHARED_VALIDATE is not played
+unfoldable pub flag_of : List ℕ → Option ℕ
+flag_of word =
+    if bytes_eq word (codes "MAP_SHARED") then Some 1
+    else if bytes_eq word (codes "MAP_PRIVATE") then Some 2
+    else if bytes_eq word (codes "MAP_FIXED") then Some 4
+    else if bytes_eq word (codes "MAP_FIXED_NOREPLACE") then Some 8
+    else if bytes_eq word (codes "MAP_SHARED_VALIDATE") then None
+    else Some 0
+
+-- the access of a fault
+unfoldable pub access_of : List ℕ → Option Access
+access_of word =
+    if bytes_eq word (codes "PROT_READ") then Some Read
+    else if bytes_eq word (codes "PROT_WRITE") then Some Write
+    else if bytes_eq word (codes "PROT_EXEC") then Some Exec
+    else None
+
+-- the error of a name
+unfoldable pub errno_of : List ℕ → Errno
+errno_of word =
+    if bytes_eq word (codes "EINVAL") then Einval
+    else if bytes_eq word (codes "ENOMEM") then Enomem
+    else if bytes_eq word (codes "EEXIST") then Eexist
+    else if bytes_eq word (codes "SEGV_MAPERR") then MapErr
+    else if bytes_eq word (codes "SEGV_ACCERR") then AccErr
+    else Other
+
+-- how a line of a call begins
+abbrev pub opening : Name → List ℕ
+opening Mmap = codes "mmap("
+opening Munmap = codes "munmap("
+opening Mprotect = codes "mprotect("
+opening Fault = codes "fault("
+
+-- how the second half of an interrupted line begins
+abbrev pub resumption : Name → List ℕ
+resumption Mmap = codes "<... mmap resumed>"
+resumption Munmap = codes "<... munmap resumed>"
+resumption Mprotect = codes "<... mprotect resumed>"
+resumption Fault = codes "<... fault resumed>"

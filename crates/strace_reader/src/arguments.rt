@@ -1,0 +1,171 @@
+//! The arguments of a call, one function for each kind, in the order of a line. Each takes what is left
+//! of the line and gives the value and what is left behind it, or the first fault. The forms stand in
+//! `specs/Calls.antt`; that these functions read them is proved part by part.
+
+ghost use Rattle.std.specs.Prelude.{◌≡◌};
+ghost use Rattle.line_parts.specs.Reading.{Gives};
+ghost use Rattle.strace_reader.specs.Reading.{comma_at, addr_at, prot_word_at, prot_at, commented_at, operand_at, shifted_at, flag_word_at, flags_at, path_at, descriptor_at, access_at};
+
+use crate::words::{access_named, flag_bits, prot_bits};
+use line_parts::{
+    Fault, What, begins, begins_digit, behind_first, byte, letters, number, skip_digits,
+    skip_spaces, until, word,
+};
+use page_types::Access;
+
+#[tactic(auto, unfolding(crate::specs::Reading::comma_at))]
+pub(crate) fn comma(text: &[u8]) -> Result<&[u8], Fault>
+    ensures { Gives (λ rest. (tt, rest.now)) result (comma_at text.now) }
+{
+    Ok(skip_spaces(byte(text, b',', What::Comma)?))
+}
+
+#[tactic(auto, unfolding(crate::specs::Reading::addr_at))]
+pub(crate) fn addr(text: &[u8]) -> Result<(u64, &[u8]), Fault>
+    ensures { Gives (λ x. (x.0, x.1.now)) result (addr_at text.now) }
+{
+    if begins(text, b'N') {
+        Ok((0, letters(text, b"NULL", What::Number)?))
+    } else {
+        number(text, What::Number)
+    }
+}
+
+#[tactic(auto, unfolding(crate::specs::Reading::prot_word_at))]
+fn prot_word(text: &[u8]) -> Result<(Option<u8>, &[u8]), Fault>
+    ensures { Gives (λ x. (x.0, x.1.now)) result (prot_word_at text.now) }
+{
+    if begins_digit(text) {
+        return Ok((None, &[]));
+    }
+    let (name, rest) = word(text)?;
+    match prot_bits(name) {
+        Some(bits) => Ok((Some(bits), rest)),
+        None => Ok((None, &[])),
+    }
+}
+
+/// The bits of a protection. None where a word or a number leaves the line unplayed; nothing is left
+/// of the line then.
+pub(crate) fn prot(text: &[u8]) -> Result<(Option<u8>, &[u8]), Fault>
+    ensures { Gives (λ x. (x.0, x.1.now)) result (prot_at text.now) }
+{
+    let mut bits = 0;
+    let mut left = text;
+    'items: loop {
+        let (more, rest) = prot_word(left)?;
+        let Some(more) = more else {
+            return Ok((None, rest));
+        };
+        bits |= more;
+        if !begins(rest, b'|') {
+            return Ok((Some(bits), rest));
+        }
+        left = behind_first(rest);
+    }
+}
+
+#[tactic(auto, unfolding(crate::specs::Reading::commented_at))]
+fn comment(text: &[u8]) -> Result<&[u8], Fault>
+    ensures { Gives (λ rest. (tt, rest.now)) result (commented_at text.now) }
+{
+    if !begins(text, b' ') {
+        return Ok(text);
+    }
+    let rest = letters(text, b" /*", What::Comma)?;
+    let rest = until(rest, b'*', b'/', What::Comma)?;
+    byte(rest, b'/', What::Comma)
+}
+
+#[tactic(auto, unfolding(crate::specs::Reading::operand_at))]
+fn operand(text: &[u8]) -> Result<&[u8], Fault>
+    ensures { Gives (λ rest. (tt, rest.now)) result (operand_at text.now) }
+{
+    if begins_digit(text) {
+        let (_, rest) = number(text, What::Number)?;
+        return Ok(rest);
+    }
+    let (_, rest) = word(text)?;
+    Ok(rest)
+}
+
+#[tactic(auto, unfolding(crate::specs::Reading::shifted_at))]
+fn shift(text: &[u8]) -> Result<&[u8], Fault>
+    ensures { Gives (λ rest. (tt, rest.now)) result (shifted_at text.now) }
+{
+    if begins(text, b'<') {
+        comment(operand(letters(text, b"<<", What::Comma)?)?)
+    } else {
+        comment(text)
+    }
+}
+
+#[tactic(auto, unfolding(crate::specs::Reading::flag_word_at))]
+fn flag_word(text: &[u8]) -> Result<(Option<u8>, &[u8]), Fault>
+    ensures { Gives (λ x. (x.0, x.1.now)) result (flag_word_at text.now) }
+{
+    if begins_digit(text) {
+        let (_, rest) = number(text, What::Number)?;
+        return Ok((Some(0), shift(rest)?));
+    }
+    let (name, rest) = word(text)?;
+    match flag_bits(name) {
+        Some(bits) => Ok((Some(bits), rest)),
+        None => Ok((None, &[])),
+    }
+}
+
+/// The bits of the flags. None where a word leaves the line unplayed; nothing is left of the line then.
+pub(crate) fn flags(text: &[u8]) -> Result<(Option<u8>, &[u8]), Fault>
+    ensures { Gives (λ x. (x.0, x.1.now)) result (flags_at text.now) }
+{
+    let mut bits = 0;
+    let mut left = text;
+    'items: loop {
+        let (more, rest) = flag_word(left)?;
+        let Some(more) = more else {
+            return Ok((None, rest));
+        };
+        bits |= more;
+        if !begins(rest, b'|') {
+            return Ok((Some(bits), rest));
+        }
+        left = behind_first(rest);
+    }
+}
+
+#[tactic(auto, unfolding(crate::specs::Reading::path_at))]
+fn path(text: &[u8]) -> Result<&[u8], Fault>
+    ensures { Gives (λ rest. (tt, rest.now)) result (path_at text.now) }
+{
+    if begins(text, b'<') {
+        until(byte(text, b'<', What::Comma)?, b'>', b',', What::Comma)
+    } else {
+        Ok(text)
+    }
+}
+
+#[tactic(auto, unfolding(crate::specs::Reading::descriptor_at))]
+pub(crate) fn descriptor(text: &[u8]) -> Result<&[u8], Fault>
+    ensures { Gives (λ rest. (tt, rest.now)) result (descriptor_at text.now) }
+{
+    if begins(text, b'-') {
+        path(letters(text, b"-1", What::Number)?)
+    } else {
+        path(skip_digits(text, What::Number)?)
+    }
+}
+
+#[tactic(auto, unfolding(crate::specs::Reading::access_at))]
+pub(crate) fn access(text: &[u8]) -> Result<(Access, &[u8]), Fault>
+    ensures { Gives (λ x. (x.0, x.1.now)) result (access_at text.now) }
+{
+    let (name, rest) = word(text)?;
+    match access_named(name) {
+        Some(access) => Ok((access, rest)),
+        None => Err(Fault {
+            left: text.len(),
+            what: What::Word,
+        }),
+    }
+}

@@ -1,0 +1,82 @@
+//! Words of a line: what each stands for. The names are those of mmap(2), mprotect(2) and errno(3), and
+//! the SIGSEGV codes of sigaction(2); `specs/Words.antt` is the list, and these functions are it.
+
+ghost use Rattle.std.specs.Prelude.{◌≡◌};
+ghost use Rattle.strace_reader.specs.Words.{prot_of, flag_of, access_of, errno_of};
+
+use crate::item::Errno;
+use page_types::Access;
+
+/// The bits of a protection word.
+#[tactic(auto, unfolding(crate::specs::Words::prot_of))]
+pub(crate) fn prot_bits(word: &[u8]) -> Option<u8>
+    ensures { result ≡ prot_of word.now }
+{
+    if word == b"PROT_READ".as_slice() {
+        Some(1)
+    } else if word == b"PROT_WRITE".as_slice() {
+        Some(2)
+    } else if word == b"PROT_EXEC".as_slice() {
+        Some(4)
+    } else if word == b"PROT_NONE".as_slice() {
+        Some(0)
+    } else {
+        None
+    }
+}
+
+/// The bits of a flag; None where the word leaves the line unplayed.
+#[tactic(auto, unfolding(crate::specs::Words::flag_of))]
+pub(crate) fn flag_bits(word: &[u8]) -> Option<u8>
+    ensures { result ≡ flag_of word.now }
+{
+    if word == b"MAP_SHARED".as_slice() {
+        Some(1)
+    } else if word == b"MAP_PRIVATE".as_slice() {
+        Some(2)
+    } else if word == b"MAP_FIXED".as_slice() {
+        Some(4)
+    } else if word == b"MAP_FIXED_NOREPLACE".as_slice() {
+        Some(8)
+    } else if word == b"MAP_SHARED_VALIDATE".as_slice() {
+        None
+    } else {
+        Some(0)
+    }
+}
+
+/// The access of a word.
+#[tactic(auto, unfolding(crate::specs::Words::access_of))]
+pub(crate) fn access_named(word: &[u8]) -> Option<Access>
+    ensures { result ≡ access_of word.now }
+{
+    if word == b"PROT_READ".as_slice() {
+        Some(Access::Read)
+    } else if word == b"PROT_WRITE".as_slice() {
+        Some(Access::Write)
+    } else if word == b"PROT_EXEC".as_slice() {
+        Some(Access::Exec)
+    } else {
+        None
+    }
+}
+
+/// The error of a name.
+#[tactic(auto, unfolding(crate::specs::Words::errno_of))]
+pub(crate) fn errno_named(word: &[u8]) -> Errno
+    ensures { result ≡ errno_of word.now }
+{
+    if word == b"EINVAL".as_slice() {
+        Errno::Einval
+    } else if word == b"ENOMEM".as_slice() {
+        Errno::Enomem
+    } else if word == b"EEXIST".as_slice() {
+        Errno::Eexist
+    } else if word == b"SEGV_MAPERR".as_slice() {
+        Errno::MapErr
+    } else if word == b"SEGV_ACCERR".as_slice() {
+        Errno::AccErr
+    } else {
+        Errno::Other
+    }
+}
