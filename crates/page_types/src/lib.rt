@@ -21,3 +21,6 @@ pub const ROWS: usize = 4096;
 
 /// The number of bytes of a page.
 pub const PAGE: u64 = 4096;
+
+#[cfg(test)]
+mod tests;

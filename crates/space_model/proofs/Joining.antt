@@ -197,9 +197,9 @@ join_all-kinds A (a ∷ rest) e w free s =
 
 length-pair : (b a : Area) → length (pair_joined b a) ≤ 2
 length-pair b a = elim (cases_Bool (goes_on b a)) [
-    | inl e ↦ omega (arith, ap length (pair-true b a e))
-    | inr e ↦ omega (arith, ap length (pair-false b a e))
-  ]
+  | inl e ↦ omega (arith, ap length (pair-true b a e))
+  | inr e ↦ omega (arith, ap length (pair-false b a e))
+]
 
 pub length-joined : (A : List Area) (a : Area) → length (joined A a) ≤ length A + 1
 length-joined [] a = omega arith
@@ -217,7 +217,7 @@ pub join_all-next : (list new pieces : List Area) (i : ℕ) (d : Area) → i < l
     (join_all new (drop (i + 1) pieces) ≡ join_all [] pieces) × (length new ≤ i + 1)
 join_all-next list new pieces i d within is so_far few =
     let step : join_all list (drop i pieces) ≡ join_all (joined list (get_or pieces i d)) (drop (i + 1) pieces) =
-        rw (drop-cons pieces i d, add-one) refl in (
+    rw (drop-cons pieces i d, add-one) refl in (
       rw is (sym step ∙ so_far),
       omega (arith, ap length is, length-joined list (get_or pieces i d)),
     )

@@ -7,3 +7,7 @@ pub mod NamedKinds
 pub mod Stepping
 pub mod InOrder
 pub mod Simple
+pub mod OneAnswer
+pub mod TwiceOnce
+pub mod FourWays
+pub mod Histories

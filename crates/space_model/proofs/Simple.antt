@@ -11,8 +11,8 @@ use Rattle.page_types.specs.Pages.{page_of, end_page}
 use Rattle.space_model.specs.declared.areas.Area.{Area}
 use Rattle.space_model.specs.Areas.{IsInRange, IsAreaList, HasKinds, kind_at, gap_count}
 use Rattle.space_model.specs.Effect.{effect_of, protected_kind}
-use Rattle.space_model.specs.Held.{LiesIn, KeepsCounts, IsSimpleIn, IsSimple}
-use Rattle.space_model.specs.Building.{same_option, same_kind, count_if, border, kind_before, KeepsBorders, changed_list}
+use Rattle.space_model.specs.Held.{LiesIn, KeepsCounts, kind_before, IsSimpleIn, IsSimple}
+use Rattle.space_model.specs.Building.{same_option, same_kind, count_if, border, KeepsBorders, changed_list}
 use Rattle.space_model.proofs.AreaKinds.{kind_at-here, kind_at-after, kind_at-below, LeadsTo-above, side_of}
 use Rattle.space_model.proofs.AreaKinds.Side.{before, inside, after}
 use Rattle.space_model.proofs.Changing.{within-before, within-inside, within-after, changed_list-kinds, kind_at-limit}

@@ -121,7 +121,3 @@ pub data Answers (A : List Area) (c : Call) (reply : Reply) (B : List Area) : Ty
   too_many_rows :
       (lo hi : ℕ) (C : List Area) → plain_reply c ≡ None → IsPlace A c lo hi → HasKinds (effect_of A c lo hi) C →
       ROWS < row_count C → reply ≡ Refused (Enomem (Rows (row_count C))) → B ≡ A → Answers A c reply B
-
--- a call has one answer, and leaves one area list
-abbrev pub HasOneAnswer : List Area → Call → Reply → List Area → Reply → List Area → Type 0
-HasOneAnswer A c r B s C = Answers A c r B → Answers A c s C → (r ≡ s) × (B ≡ C)

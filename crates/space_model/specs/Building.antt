@@ -1,6 +1,6 @@
 -- How the bodies of this crate put an area list together: areas are appended in order, and one that touches the last and
 -- is of its kind lengthens it. Only private functions speak of this; what callers see is the kinds of pages.
-use Rattle.std.specs.Prelude.{ℕ, zero, suc, ◌+◌, ◌-◌, ◌<◌, slice_index_or, Bool, true, false, ◌&&◌, not, ◌==◌, nat_lt, if◌then◌else◌, min, max, ◌≡◌, Option, Some, None, List, [], ◌∷◌}
+use Rattle.std.specs.Prelude.{ℕ, ◌+◌, ◌-◌, ◌<◌, slice_index_or, Bool, true, false, ◌&&◌, not, ◌==◌, nat_lt, if◌then◌else◌, min, max, ◌≡◌, ◌↔◌, IsTrue, Option, Some, None, List, [], ◌∷◌}
 use Rattle.page_types.specs.declared.TheConstants.{LIMIT}
 use Rattle.page_types.specs.declared.sets.Prot.{Prot}
 use Rattle.page_types.specs.declared.calls.Kind.{Kind}
@@ -10,8 +10,10 @@ use Rattle.page_types.specs.Sets.{prot_bits}
 use Rattle.page_types.specs.declared.sets.Access.{Access}
 use Rattle.page_types.specs.declared.calls.Reply.{Reply}
 use Rattle.page_types.specs.declared.calls.Reply.TheVariants.{At, Zero, Granted, Refused}
-use Rattle.space_model.specs.Answers.{LetsThrough, RefusesAccess}
+use Rattle.space_model.specs.Answers.{LetsThrough, RefusesAccess, Answers}
+use Rattle.space_model.specs.declared.entries.Entry.{Entry}
 use Rattle.space_model.specs.declared.areas.Area.{Area}
+use Rattle.space_model.specs.Held.{kind_before}
 use Rattle.space_model.specs.Areas.{IsInRange, MayFollow, kind_at}
 use Rattle.space_model.specs.Effect.{mapped_kind, protected_kind}
 
@@ -52,11 +54,6 @@ count_if false = 0
 -- 1 where two neighbouring pages differ in kind, so that a row starts between them
 abbrev pub border : Option Kind → Option Kind → ℕ
 border o q = count_if (not (same_option o q))
-
--- the kind of the page before, or none before page 0
-abbrev pub kind_before : List Area → ℕ → Option Kind
-kind_before A zero = None
-kind_before A (suc page) = kind_at A page
 
 -- pages of one kind may get a new protection with as many rows starting at the two ends of their span as before
 abbrev pub KeepsBorders : List Area → Kind → Prot → ℕ → ℕ → Type 0
@@ -120,3 +117,8 @@ AnswersFault kind page access (At addr) = ⊥
 AnswersFault kind page access Zero = ⊥
 AnswersFault kind page access (Granted k) = (kind ≡ Some k) × LetsThrough k access
 AnswersFault kind page access (Refused why) = RefusesAccess kind page access why
+
+-- the call of an entry leaves area list B, and the test says whether the entry has this number and the call's reply
+abbrev pub IsNextAnswer : List Area → ℕ → Entry → Bool → List Area → Type 0
+IsNextAnswer A number e right B =
+    (reply : Reply) × Answers A e.call reply B × (IsTrue right ↔ ((e.number ≡ number) × (e.reply ≡ reply)))

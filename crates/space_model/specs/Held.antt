@@ -2,9 +2,10 @@
 -- a fault, everything for a call that may change the number of rows, and the area with a page on each side for a Protect
 -- that doesn't. The last is the speculative mprotect of Kogan, Dice and Issa, EuroSys 2020; the rest is this project's
 -- own profile.
-use Rattle.std.specs.Prelude.{ℕ, ◌≡◌, ◌≤◌, ◌+◌, ◌-◌, ◌⊎◌, min, MatchOption, List, length}
+use Rattle.std.specs.Prelude.{ℕ, zero, suc, Option, None, ◌≡◌, ◌≤◌, ◌+◌, ◌-◌, ◌⊎◌, min, MatchOption, List, length}
 use Rattle.std.specs.List.{Contains}
 use Rattle.page_types.specs.declared.TheConstants.{LIMIT}
+use Rattle.page_types.specs.declared.calls.Kind.{Kind}
 use Rattle.page_types.specs.declared.calls.Call.{Call}
 use Rattle.page_types.specs.declared.calls.Call.TheVariants.{Map, Unmap, Protect, Fault}
 use Rattle.page_types.specs.Pages.{page_of, end_page}
@@ -12,7 +13,7 @@ use Rattle.page_types.specs.PlainReply.{plain_reply}
 use Rattle.space_model.specs.declared.areas.Area.{Area}
 use Rattle.space_model.specs.declared.entries.Under.{Under}
 use Rattle.space_model.specs.declared.entries.Under.TheVariants.{Nothing, Reader, Area as Held, Whole}
-use Rattle.space_model.specs.Areas.{gap_count, HasKinds}
+use Rattle.space_model.specs.Areas.{kind_at, gap_count, HasKinds}
 use Rattle.space_model.specs.Effect.{effect_of}
 
 -- the pages from lo up to hi lie in this area of the list
@@ -26,6 +27,11 @@ pub record KeepsCounts (A : List Area) (c : Call) (lo hi : ℕ) (B : List Area) 
   pub changed : HasKinds (effect_of A c lo hi) B
   pub areas : length B ≡ length A
   pub gaps : gap_count B ≡ gap_count A
+
+-- the kind of the page before, or none before page 0
+abbrev pub kind_before : List Area → ℕ → Option Kind
+kind_before A zero = None
+kind_before A (suc page) = kind_at A page
 
 -- a Protect is simple in this area
 abbrev pub IsSimpleIn : List Area → Call → Area → Type 0

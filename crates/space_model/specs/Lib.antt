@@ -5,3 +5,4 @@ pub mod Held
 pub mod History
 pub mod Building
 pub mod Faults
+pub mod Laws

@@ -1,4 +1,8 @@
-//! Areas of an address space.
+//! Areas of an address space: proc_pid_maps(5) prints one line for each. An area list is in order, and where two
+//! areas touch they differ in kind, so it is the only list of areas that gives its pages their kinds.
+
+ghost use Rattle.std.specs.Prelude.{◌↔◌, IsTrue};
+ghost use Rattle.space_model.specs.Areas.{HasNamedKinds};
 
 use page_types::Kind;
 
@@ -11,4 +15,11 @@ pub struct Area {
     pub hi: u64,
     /// The kind of each page.
     pub kind: Kind,
+}
+
+/// Whether no kind of the list has a bit but READ, WRITE and EXEC.
+pub fn have_named_kinds(list: &[Area]) -> bool
+    ensures { IsTrue result ↔ HasNamedKinds list.now }
+{
+    list.iter().all(|area| area.kind.is_named())
 }

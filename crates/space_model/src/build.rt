@@ -1,4 +1,6 @@
-//! Building the list of areas after a change.
+//! Building the list of areas after a change: the parts before the place, what the place gets, and the parts after
+//! it, appended in order. An area that touches the last and is of its kind lengthens it, so the result is the one
+//! area list with the kinds of the change.
 
 ghost use Rattle.std.specs.Prelude.{◌≡◌, ◌≤◌, [], length, OnOk, IfOk};
 ghost use Rattle.space_model.specs.Areas.{IsAreaList};

@@ -1,4 +1,5 @@
-//! Counting rows.
+//! Counting the rows of a list of areas: the areas and the gaps between 0 and `LIMIT`. The count is this project's
+//! own, since the address space that runs under a lock keeps its gaps as rows too.
 
 ghost use Rattle.std.specs.Prelude.{◌≡◌, ◌<◌, ◌^◌};
 ghost use Rattle.space_model.specs.Areas.{row_count};

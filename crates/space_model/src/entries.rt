@@ -1,4 +1,9 @@
-//! Entries of a history.
+//! Entries of a history: a call with its number, its reply, who made it, and which range was held when it drew its
+//! number. `Under` names the four things that may be held; the area of a Protect is held as in the speculative
+//! mprotect of Kogan, Dice and Issa, EuroSys 2020.
+
+ghost use Rattle.std.specs.Prelude.{◌↔◌, IsTrue};
+ghost use Rattle.space_model.specs.History.{HasNamedCalls};
 
 use page_types::{Call, Reply, Span};
 
@@ -30,4 +35,11 @@ pub struct Entry {
     pub reply: Reply,
     /// Which range was held when its number was drawn.
     pub under: Under,
+}
+
+/// Whether the calls of the entries take no bit but the named ones.
+pub fn have_named_calls(list: &[Entry]) -> bool
+    ensures { IsTrue result ↔ HasNamedCalls list.now }
+{
+    list.iter().all(|entry| entry.call.is_named())
 }

@@ -6,8 +6,8 @@ ghost use Rattle.page_types.specs.declared.TheConstants.{LIMIT};
 ghost use Rattle.page_types.specs.PlainReply.{protect_reply};
 ghost use Rattle.space_model.specs.Areas.{IsAreaList, IsInRange, kind_at};
 ghost use Rattle.space_model.specs.Effect.{protected_kind};
-ghost use Rattle.space_model.specs.Held.{LiesIn, HoldsSomeArea, IsSimple, FitsByState};
-ghost use Rattle.space_model.specs.Building.{border, kind_before, KeepsBorders};
+ghost use Rattle.space_model.specs.Held.{LiesIn, kind_before, HoldsSomeArea, IsSimple, FitsByState};
+ghost use Rattle.space_model.specs.Building.{border, KeepsBorders};
 
 use crate::areas::Area;
 use crate::build::painted;

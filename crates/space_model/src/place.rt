@@ -1,4 +1,5 @@
-//! Where a call's change takes place, and what a fault answers.
+//! Where a call's change takes place, and what a fault answers, after mmap(2): at the address where it binds, at the
+//! hint where it fits, and otherwise as high as the pages fit. How high is this project's own choice.
 
 ghost use Rattle.std.specs.Prelude.{◌≡◌, ◌≢◌, ◌+◌, ◌^◌, ◌<◌, ◌≤◌, ◌↔◌, None, IsTrue, IfOk, IfErr};
 ghost use Rattle.page_types.specs.declared.TheConstants.{LIMIT};

@@ -1,4 +1,5 @@
-//! Looking pages up in a list of areas: each search goes over the list once, in order.
+//! Looking pages up in a list of areas: each search goes over the list once, in order. What each finds is told by
+//! the kinds of pages, as the lowest or the highest page that has some property.
 
 ghost use Rattle.std.specs.Prelude.{◌≡◌, ◌+◌, ◌^◌, ◌<◌, ◌≤◌, ℕ, None, MatchOption};
 ghost use Rattle.page_types.specs.declared.TheConstants.{LIMIT};

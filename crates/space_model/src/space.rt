@@ -1,4 +1,6 @@
-//! The address space.
+//! The address space of one thread, plain and right: a list of areas, which each change builds anew, in one go over
+//! the old list. Callers see the list alone; its invariant is that it is an area list whose kinds have only named
+//! bits.
 
 ghost use Rattle.std.specs.Prelude.{◌≡◌, ◌^◌, ◌<◌, ◌↔◌, [], None, IfOk, IfErr, IsOk, OnErr, length};
 ghost use Rattle.page_types.specs.Named.{IsNamedCall, IsNamedReply};
@@ -67,6 +69,14 @@ impl PlainSpace {
             Ok(areas) => Ok(PlainSpace { areas }),
             Err(_) => Err(AreasFault::Memory),
         }
+    }
+
+    /// The same address space once more.
+    pub fn copied(&self, alloc: Global) -> Result<PlainSpace, AllocError>
+        ensures { IfOk result (λ space. space ≡ self.now) }
+    {
+        let areas = Vec::from_slice(alloc, self.areas.as_slice())?;
+        Ok(PlainSpace { areas })
     }
 
     /// The range that has to be held when a call draws its number on this space.

@@ -1,0 +1,116 @@
+use crate::{Access, Call, Field, LIMIT, MapFlags, Prot, Reply, Short, Span, Why, plain};
+
+fn einval(field: Field) -> Option<Reply> {
+    Some(Reply::Refused(Why::Einval(field)))
+}
+
+#[test]
+fn a_span_is_refused_by_the_first_wrong_argument(rt: HostRuntime) {
+    assert_eq!(rt; Span::of(0x10000, 4097), Ok(Span { lo: 16, hi: 18 }));
+    assert_eq!(rt; Span::of(0x10001, 0), Err(Field::Addr));
+    assert_eq!(rt; Span::of(0x10000, 0), Err(Field::Len));
+    assert_eq!(rt;
+        Span::of(0x7fff_ffff_e000, 4096),
+        Ok(Span {
+            lo: LIMIT - 1,
+            hi: LIMIT
+        })
+    );
+    assert_eq!(rt; Span::of(0x7fff_ffff_e000, 4097), Err(Field::End));
+    assert_eq!(rt; Span::of(0xffff_ffff_ffff_f000, u64::MAX), Err(Field::End));
+}
+
+#[test]
+fn a_map_with_a_hint_has_neither_alignment_nor_end(rt: HostRuntime) {
+    let prot = Prot::READ;
+    for (addr, len, flags, wanted) in [
+        (
+            0x10001,
+            0,
+            MapFlags::PRIVATE | MapFlags::FIXED,
+            einval(Field::Addr),
+        ),
+        (0x10001, 0, MapFlags::PRIVATE, einval(Field::Len)),
+        (
+            0x10001,
+            1,
+            MapFlags::PRIVATE | MapFlags::SHARED,
+            einval(Field::Flags),
+        ),
+        (0x10000, 1, MapFlags::FIXED, einval(Field::Flags)),
+        (0x10001, u64::MAX, MapFlags::SHARED, None),
+        (
+            0x7fff_ffff_e000,
+            8192,
+            MapFlags::PRIVATE | MapFlags::FIXED_NOREPLACE,
+            Some(Reply::Refused(Why::Enomem(Short::PastEnd(LIMIT + 1)))),
+        ),
+    ] {
+        assert_eq!(rt;
+            plain(&Call::Map {
+                addr,
+                len,
+                prot,
+                flags
+            }),
+            wanted
+        );
+    }
+}
+
+#[test]
+fn the_other_calls_are_decided_in_their_own_ways(rt: HostRuntime) {
+    let addr = 0x7fff_ffff_e000;
+    let prot = Prot::READ;
+    let access = Access::Read;
+    for (call, wanted) in [
+        (
+            Call::Unmap {
+                addr: 0x50000,
+                len: 0,
+            },
+            einval(Field::Len),
+        ),
+        (Call::Unmap { addr, len: 8192 }, einval(Field::End)),
+        (
+            Call::Protect {
+                addr: 0x10000,
+                len: 0,
+                prot,
+            },
+            Some(Reply::Zero),
+        ),
+        (
+            Call::Protect {
+                addr: 0x10001,
+                len: 0,
+                prot,
+            },
+            einval(Field::Addr),
+        ),
+        (
+            Call::Protect {
+                addr,
+                len: 8192,
+                prot,
+            },
+            Some(Reply::Refused(Why::Enomem(Short::PastEnd(LIMIT + 1)))),
+        ),
+        (
+            Call::Fault {
+                addr: 0x7fff_ffff_efff,
+                access,
+            },
+            None,
+        ),
+        (
+            Call::Fault {
+                addr: 0x7fff_ffff_f000,
+                access,
+            },
+            Some(Reply::Refused(Why::MapErr(LIMIT))),
+        ),
+    ] {
+        assert_eq!(rt; plain(&call), wanted);
+    }
+}

@@ -1,0 +1,48 @@
+-- The next entry keeps the history legal exactly where it is right.
+use Rattle.std.proofs.Common.{◌≡◌, ◌+◌, [], ◌∷◌, ◌++◌, length, take, ◌∙◌, sym, ap, subst, true≢false, arith}
+use Rattle.std.proofs.lemmas.List.{take_more, length-take-le}
+use Rattle.space_model.specs.Answers.{Answers}
+use Rattle.space_model.specs.History.{IsLegal, StateAfter}
+use Rattle.space_model.proofs.OneAnswer.{one_answer}
+use Rattle.space_model.proofs.Histories.{legal_more, legal_last, after_more}
+use Rattle.space_model.proofs.history.legal.Goals as goal
+
+pub returns-then-not-right : goal.returns-then-not-right
+returns-then-not-right c =
+    let A = c.args.start.now in
+    let list = c.args.list.now in
+    let i = c.loop-i.i in
+    let e = c.index-list-i.result in
+    let front = take i list in
+    let more : take (i + 1) list ≡ front ++ e ∷ [] =
+    take_more list i e c.loop-i-test.true ∙ ap (λ x. front ++ x ∷ []) (sym c.index-list-i.is) in
+    let count : length front ≡ i = length-take-le i list (omega arith) in
+    record {
+      within = c.loop-i-test.true;
+      legal_before = c.loop-i.invariant.0;
+      illegal = λ legal.
+          let last = legal_last A front c.loop-i.space e (subst (IsLegal A) more legal) c.loop-i.invariant.1 in
+          let (reply, answer, right) = c.in_ok-right.ensures in
+          let same = (one_answer c.loop-i.space e.call e.reply reply last.1.0 c.is_next.new.space last.1.1 answer).0 in
+          true≢false (sym (right.1 (last.0 ∙ count, same)) ∙ c.if-not-right.true);
+    }
+
+pub loop-i-preserved : goal.loop-i-preserved
+loop-i-preserved c =
+    let A = c.args.start.now in
+    let list = c.args.list.now in
+    let i = c.loop-i.i in
+    let e = c.index-list-i.result in
+    let front = take i list in
+    let more : take (i + 1) list ≡ front ++ e ∷ [] =
+    take_more list i e c.loop-i-test.true ∙ ap (λ x. front ++ x ∷ []) (sym c.index-list-i.is) in
+    let count : length front ≡ i = length-take-le i list (omega arith) in
+    let (reply, answer, right) = c.in_ok-right.ensures in
+    let is_right = right.0 c.if-not-right.false in
+    let next = c.is_next.new.space in
+    let mine = subst (λ r. Answers c.loop-i.space e.call r next) (sym is_right.1) answer in (
+      subst (IsLegal A) (sym more)
+          (legal_more A front c.loop-i.space e next c.loop-i.invariant.0 c.loop-i.invariant.1 (is_right.0 ∙ sym count) mine),
+      subst (λ entries. StateAfter A entries next) (sym more)
+          (after_more A front c.loop-i.space e reply next c.loop-i.invariant.1 answer),
+    )

@@ -1,0 +1,5 @@
+use Rattle.space_model.proofs.OneAnswer.{one_answer}
+use Rattle.space_model.proofs.laws.calls_have_one_answer.Goals as goal
+
+pub returns-clause-one : goal.returns-clause-one
+returns-clause-one c = one_answer

@@ -1,0 +1,5 @@
+use Rattle.space_model.proofs.TwiceOnce.{protect_twice}
+use Rattle.space_model.proofs.laws.protect_twice_is_once.Goals as goal
+
+pub returns : goal.returns
+returns c = protect_twice

@@ -1,0 +1,5 @@
+use Rattle.space_model.proofs.TwiceOnce.{unmap_twice}
+use Rattle.space_model.proofs.laws.unmap_twice_is_once.Goals as goal
+
+pub returns : goal.returns
+returns c = unmap_twice

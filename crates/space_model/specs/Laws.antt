@@ -1,0 +1,81 @@
+-- Laws of the definitions, each proved on a public function with no body: that the definitions say what they are
+-- meant to. They follow from the definitions alone.
+use Rattle.std.specs.Prelude.{ℕ, ◌≡◌, ◌≢◌, ◌<◌, ◌≤◌, ◌+◌, ◌⊎◌, ◌↔◌, Some, None, List, ◌++◌, map}
+use Rattle.page_types.specs.declared.calls.Kind.{Kind}
+use Rattle.page_types.specs.declared.calls.Call.{Call}
+use Rattle.page_types.specs.declared.calls.Call.TheVariants.{Map, Protect, Fault}
+use Rattle.page_types.specs.declared.calls.Reply.{Reply}
+use Rattle.page_types.specs.declared.calls.Reply.TheVariants.{At, Zero, Granted, Refused}
+use Rattle.page_types.specs.declared.calls.Why.TheVariants.{AccErr}
+use Rattle.page_types.specs.declared.sets.Access.{Access}
+use Rattle.page_types.specs.declared.sets.MapFlags.{MapFlags}
+use Rattle.page_types.specs.declared.sets.Prot.{Prot}
+use Rattle.page_types.specs.Pages.{page_of, page_count, end_page}
+use Rattle.page_types.specs.PlainReply.{protect_reply}
+use Rattle.space_model.specs.declared.areas.Area.{Area}
+use Rattle.space_model.specs.Areas.{IsAreaList, row_count, kind_at}
+use Rattle.space_model.specs.Effect.{mapped_kind, protected_kind}
+use Rattle.space_model.specs.Answers.{Answers}
+use Rattle.space_model.specs.declared.entries.Entry.{Entry}
+use Rattle.space_model.specs.History.{StateAfter, IsLegal}
+use Rattle.space_model.specs.Held.{LiesIn, IsSimpleIn, kind_before}
+
+-- a call has one answer, and leaves one area list
+abbrev pub HasOneAnswer : List Area → Call → Type 0
+HasOneAnswer A c = (r s : Reply) (B C : List Area) → Answers A c r B → Answers A c s C → (r ≡ s) × (B ≡ C)
+
+-- the call leaves an area list
+abbrev pub LeavesAreaList : List Area → Call → Type 0
+LeavesAreaList A c = (r : Reply) (B : List Area) → Answers A c r B → IsAreaList B
+
+-- a fault on a page that a Map has just placed finds the kind that the Map gave, and nothing else
+abbrev pub FaultFindsMapped : List Area → ℕ → ℕ → Prot → MapFlags → ℕ → Access → Type 0
+FaultFindsMapped A addr len prot flags byte access =
+    (place : ℕ) (s : Reply) (B C : List Area) → Answers A (Map addr len prot flags) (At place) B →
+    page_of place ≤ page_of byte → page_of byte < page_of place + page_count len → Answers B (Fault byte access) s C →
+    (s ≡ Granted (mapped_kind prot flags)) ⊎ (s ≡ Refused (AccErr (page_of byte) (mapped_kind prot flags)))
+
+-- a call that was done is done again, and then changes nothing
+abbrev pub DoneTwiceIsOnce : List Area → Call → Type 0
+DoneTwiceIsOnce A c = (s : Reply) (B C : List Area) → Answers A c Zero B → Answers B c s C → (s ≡ Zero) × (C ≡ B)
+
+-- one call makes at most two rows more
+abbrev pub AddsTwoRows : List Area → Call → Type 0
+AddsTwoRows A c = (r : Reply) (B : List Area) → Answers A c r B → row_count B ≤ row_count A + 2
+
+-- the four ways in which pages of one area get a new kind and the counts stay: nothing changes; the whole area changes and
+-- equals no touching neighbour; its first part takes the kind of the touching area on its left; its last part takes the
+-- kind of the touching area on its right
+pub data FourCases (A : List Area) (a : Area) (lo hi : ℕ) (kind : Kind) : Type 0 where
+  nothing : kind ≡ a.kind → FourCases A a lo hi kind
+  whole : lo ≡ a.lo → hi ≡ a.hi → kind_before A lo ≢ Some kind → kind_at A hi ≢ Some kind → FourCases A a lo hi kind
+  first_part : lo ≡ a.lo → hi < a.hi → kind_before A lo ≡ Some kind → FourCases A a lo hi kind
+  last_part : a.lo < lo → hi ≡ a.hi → kind_at A hi ≡ Some kind → FourCases A a lo hi kind
+
+-- a Protect within an area is simple exactly in these four cases
+abbrev pub SimpleInFourCases : List Area → Area → ℕ → ℕ → Prot → Type 0
+SimpleInFourCases A a addr len prot =
+    protect_reply addr len ≡ None → LiesIn A a (page_of addr) (end_page addr len) →
+    IsSimpleIn A (Protect addr len prot) a ↔ FourCases A a (page_of addr) (end_page addr len) (protected_kind prot a.kind)
+
+-- the entries leave one area list
+abbrev pub LeavesOneList : List Area → List Entry → Type 0
+LeavesOneList A entries = (B C : List Area) → StateAfter A entries B → StateAfter A entries C → B ≡ C
+
+-- every beginning of a legal history is legal
+abbrev pub BeginningsAreLegal : List Area → List Entry → List Entry → Type 0
+BeginningsAreLegal A first more = IsLegal A (first ++ more) → IsLegal A first
+
+-- the state after entries and then others is the state after both
+abbrev pub StateAfterBoth : List Area → List Entry → List Entry → List Area → Type 0
+StateAfterBoth A first more C = StateAfter A (first ++ more) C ↔ ((B : List Area) × StateAfter A first B × StateAfter B more C)
+
+-- two legal histories from one area list with the same calls in the same order have the same numbers and replies
+abbrev pub SameCallsSameReplies : List Area → List Entry → List Entry → Type 0
+SameCallsSameReplies A entries others =
+    IsLegal A entries → IsLegal A others → map (λ e. e.call) entries ≡ map (λ e. e.call) others →
+    (map (λ e. e.number) entries ≡ map (λ e. e.number) others) × (map (λ e. e.reply) entries ≡ map (λ e. e.reply) others)
+
+-- a legal history leaves an area list
+abbrev pub LegalLeavesList : List Area → List Entry → Type 0
+LegalLeavesList A entries = IsLegal A entries → (B : List Area) × StateAfter A entries B

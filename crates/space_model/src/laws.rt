@@ -1,0 +1,75 @@
+//! Laws of the definitions, each the contract of a function that does nothing. They say that the definitions
+//! mean what they are meant to: a wrong place, effect or refusal would break one of them.
+
+ghost use Rattle.std.specs.Prelude.{ℕ, List, ◌+◌};
+ghost use Rattle.page_types.specs.declared.calls.Call.{Call};
+ghost use Rattle.page_types.specs.declared.sets.Access.{Access};
+ghost use Rattle.page_types.specs.declared.sets.MapFlags.{MapFlags};
+ghost use Rattle.page_types.specs.declared.sets.Prot.{Prot};
+ghost use Rattle.space_model.specs.declared.areas.Area.{Area};
+ghost use Rattle.space_model.specs.Areas.{IsAreaList, OnlyOneHasKinds};
+ghost use Rattle.space_model.specs.Laws.{HasOneAnswer, LeavesAreaList, FaultFindsMapped, DoneTwiceIsOnce, AddsTwoRows, SimpleInFourCases};
+ghost use Rattle.space_model.specs.Laws.{LeavesOneList, LegalLeavesList, BeginningsAreLegal, StateAfterBoth, SameCallsSameReplies};
+ghost use Rattle.space_model.specs.declared.entries.Entry.{Entry};
+
+/// Only one area list has given kinds.
+pub fn only_one_list_has_kinds()
+    ensures { (A B : List Area) → OnlyOneHasKinds A B }
+{}
+
+/// A call on an area list has one answer, and leaves one area list.
+pub fn calls_have_one_answer()
+    ensures one { (A : List Area) (c : Call) → HasOneAnswer A c }
+    ensures list { (A : List Area) (c : Call) → IsAreaList A → LeavesAreaList A c }
+{}
+
+/// A fault on a page that a Map has just placed is granted, or refused for want of a bit, with just the kind that
+/// the Map gave.
+pub fn faults_find_what_was_mapped()
+    ensures { (A : List Area) (addr len : ℕ) (prot : Prot) (flags : MapFlags) (byte : ℕ) (access : Access) →
+        FaultFindsMapped A addr len prot flags byte access }
+{}
+
+/// An Unmap done twice is an Unmap done once.
+pub fn unmap_twice_is_once()
+    ensures { (A : List Area) (addr len : ℕ) → DoneTwiceIsOnce A (Call.Unmap addr len) }
+{}
+
+/// A Protect done twice with one protection is a Protect done once.
+pub fn protect_twice_is_once()
+    ensures { (A : List Area) (addr len : ℕ) (prot : Prot) → DoneTwiceIsOnce A (Call.Protect addr len prot) }
+{}
+
+/// One call makes at most two rows more.
+pub fn calls_add_at_most_two_rows()
+    ensures { (A : List Area) (c : Call) → IsAreaList A → AddsTwoRows A c }
+{}
+
+/// A Protect within one area keeps the number of areas and of gaps in four cases and no other: nothing changes;
+/// the whole area changes and equals no touching neighbour; its first part takes the kind of the touching area on
+/// its left; its last part takes the kind of the touching area on its right.
+pub fn simple_protects_are_of_four_kinds()
+    ensures { (A : List Area) (a : Area) (addr len : ℕ) (prot : Prot) → IsAreaList A → SimpleInFourCases A a addr len prot }
+{}
+
+/// The entries of a history leave one state, and a legal history leaves one.
+pub fn histories_leave_one_state()
+    ensures one { (A : List Area) (entries : List Entry) → LeavesOneList A entries }
+    ensures some { (A : List Area) (entries : List Entry) → LegalLeavesList A entries }
+{}
+
+/// Every beginning of a legal history is legal.
+pub fn beginnings_are_legal()
+    ensures { (A : List Area) (first more : List Entry) → BeginningsAreLegal A first more }
+{}
+
+/// The state after entries and then others is the state after both.
+pub fn states_follow_one_another()
+    ensures { (A : List Area) (first more : List Entry) (C : List Area) → StateAfterBoth A first more C }
+{}
+
+/// Two legal histories from one state with the same calls in the same order have the same numbers and replies:
+/// worker, line and what was held don't count.
+pub fn same_calls_have_same_replies()
+    ensures { (A : List Area) (entries others : List Entry) → SameCallsSameReplies A entries others }
+{}
