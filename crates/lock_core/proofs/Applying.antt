@@ -1,5 +1,5 @@
 -- From the words and the view that a step leaves to the whole state.
-use Rattle.std.proofs.Common.{◌≡◌, ℕ, ◌+◌, ◌<◌, List, ◌++◌, length, take, drop, set, get_or, Some, None, refl, sym, ap, ◌∙◌, subst, arith}
+use Rattle.std.proofs.Common.{◌≡◌, ℕ, ◌<◌, List, ◌++◌, length, take, drop, get_or, Some, None, refl, ap, ◌∙◌, arith}
 use Rattle.std.specs.Prelude.{Option, slice_get, slice_set, slice_index}
 use Rattle.std.proofs.lemmas.Option.{slice_get-get_or}
 use Rattle.std.proofs.lemmas.Grind.{common_steps}
@@ -7,11 +7,9 @@ use Rattle.lock_core.specs.declared.views.View.{View}
 use Rattle.lock_core.specs.declared.steps.Step.{Step}
 use Rattle.lock_core.specs.Rows.{Plan}
 use Rattle.lock_core.specs.Machine.{Machine, plan, made, after, carried_out, given}
-use Rattle.lock_core.specs.Sizes.{IsSized, MayStep}
+use Rattle.lock_core.specs.Sizes.{IsSized}
 use Rattle.lock_core.proofs.ByView.{set_there}
 use Rattle.lock_core.proofs.Table.{given-is}
-use Rattle.lock_core.proofs.Safety.{may_step}
-use Rattle.lock_core.proofs.SizedSteps.{sized_after}
 
 -- the words after a call that wrote them all
 pub rewritten : (old new : List ℕ) (len : ℕ) → len ≡ length old → length new ≡ length old → take len (new ++ drop (length new) old) ≡ new

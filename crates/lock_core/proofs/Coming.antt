@@ -1,8 +1,7 @@
 -- What a cursor that comes to a word makes of the own node: it stays, or its range is held from now on.
-use Rattle.std.proofs.Common.{◌≡◌, ◌≢◌, ◌⊎◌, ℕ, suc, ◌+◌, ◌-◌, ◌*◌, ◌/◌, ◌%◌, Bool, true, false, Some, None, inl, inr, ⊎_elim, refl, ap, ◌∙◌, arith, eqb-true}
+use Rattle.std.proofs.Common.{◌≡◌, ◌≢◌, ◌⊎◌, ℕ, suc, ◌*◌, ◌/◌, ◌%◌, Bool, true, false, inl, inr, ⊎_elim, refl, ap, ◌∙◌, arith, eqb-true}
 use Rattle.std.specs.Prelude.{◌==◌, if◌then◌else◌}
-use Rattle.lock_core.specs.Range.{Interval, Overlaps}
-use Rattle.lock_core.specs.declared.range.Mode.{Mode}
+use Rattle.lock_core.specs.Range.{Overlaps}
 use Rattle.lock_core.specs.declared.range.Mode.TheVariants.{Writer}
 use Rattle.lock_core.specs.declared.views.Todo.TheVariants.{Forward, FromHead, Done}
 use Rattle.lock_core.specs.declared.views.Own.{Own}

@@ -1,6 +1,6 @@
 -- The invariant gives exclusion: no two held ranges of different seats conflict.
-use Rattle.std.proofs.Common.{◌≡◌, ◌≢◌, ◌⊎◌, ℕ, zero, suc, ◌+◌, ◌*◌, ◌/◌, ◌%◌, ◌≤◌, List, [], ◌∷◌, map, Some, None, inl, inr, ⊎_elim, refl, sym, ap, ◌∙◌, subst, arith}
-use Rattle.std.specs.Prelude.{Option, slice_get}
+use Rattle.std.proofs.Common.{◌≡◌, ◌≢◌, ◌⊎◌, ℕ, zero, suc, List, [], ◌∷◌, map, Some, ⊎_elim, refl, sym, ap, ◌∙◌, subst, arith}
+use Rattle.std.specs.Prelude.{slice_get}
 use mathlib.Core.Option.{some}
 use lib.ListN.{get_elem?}
 use Rattle.lock_core.specs.Range.{Interval, Overlaps}
@@ -9,7 +9,6 @@ use Rattle.lock_core.specs.declared.range.Mode.{Mode}
 use Rattle.lock_core.specs.declared.range.Mode.TheVariants.{Reader, Writer}
 use Rattle.lock_core.specs.declared.range.Held.{Held}
 use Rattle.lock_core.specs.declared.views.View.{View}
-use Rattle.lock_core.specs.declared.views.Todo.{Todo}
 use Rattle.lock_core.specs.declared.views.Todo.TheVariants.{Forward, FromHead, Done}
 use Rattle.lock_core.specs.declared.views.Own.{Own}
 use Rattle.lock_core.specs.declared.views.Own.TheVariants.{Nothing, Filling, Linked}
@@ -57,11 +56,11 @@ module _ (h : Heap) (views : List View) (l : LockInvariant h views) where
       ⊎_elim
       (λ (r : Reach (to h) a.node (to h (suc b.node))). let q = clear_behind h b.node a.node (to h 0) l.order.chain cb (omega arith) r in omega arith)
       (λ (s : (a.node ≡ b.node) ⊎ Reach (to h) b.node (to h (suc a.node))). ⊎_elim
-          (λ (e : a.node ≡ b.node).
-              let ta = own_linked v a own in let tb = ap (λ n. own_times n u.own) e ∙ own_linked u b own' in
-              d (one_seat h views l.places i j a.node v u at at' (omega arith) (omega arith)))
-          (λ (r : Reach (to h) b.node (to h (suc a.node))). let q = clear_behind h a.node b.node (to h 0) l.order.chain ca (omega arith) r in omega arith)
-          s)
+      (λ (e : a.node ≡ b.node).
+      let ta = own_linked v a own in let tb = ap (λ n. own_times n u.own) e ∙ own_linked u b own' in
+      d (one_seat h views l.places i j a.node v u at at' (omega arith) (omega arith)))
+      (λ (r : Reach (to h) b.node (to h (suc a.node))). let q = clear_behind h a.node b.node (to h 0) l.order.chain ca (omega arith) r in omega arith)
+      s)
       (in_line (to h) a.node b.node (to h 0) ca cb)
 
   -- a reader and a writer that overlap aren't both done
@@ -82,3 +81,19 @@ exclusive m l i j g k d at at' c =
     let x = holding a.0.own g a.2 in let y = holding b.0.own k b.2 in
     let over : Overlaps x.node.range y.node.range = subst (λ (t : Interval × Interval). Overlaps t.0 t.1) (λ i. (sym x.range i, sym y.range i)) c.0 in
     apart (heap m) m.views l.invariant i j a.0 b.0 x.node y.node g.mode k.mode d a.1 b.1 x.is y.is x.done y.done x.mode y.mode over c.1
+
+-- of a linked reader and a linked writer that overlap the reader stands first
+pub reader_first : (m : Machine) (i j : ℕ) (v u : View) (r w : Listed) → IsLock m → slice_get m.views i ≡ Some v → slice_get m.views j ≡ Some u → v.own ≡ listed r → u.own ≡ listed w → r.mode ≡ Reader → w.mode ≡ Writer → Overlaps r.range w.range → Reach (to (heap m)) w.node (to (heap m) (suc r.node))
+reader_first m i j v u r w l at at' own own' reader writer over =
+    let p = l.invariant.places in
+    let wr = l.invariant.fields.linked i v r at own in let ww = l.invariant.fields.linked j u w at' own' in
+    let cr = (p.linked i v r at own).0 in let cw = (p.linked j u w at' own').0 in
+    let hr = wr.hi ∙ ap (hi_word r.range.hi) reader in let hw = ww.hi ∙ ap (hi_word w.range.hi) writer in
+    let low = wr.lo in let o = over.0 in
+    ⊎_elim
+    (λ (b : Reach (to (heap m)) w.node (to (heap m) (suc r.node))). b)
+    (λ (s : (w.node ≡ r.node) ⊎ Reach (to (heap m)) r.node (to (heap m) (suc w.node))). absurd (⊎_elim
+    (λ (e : w.node ≡ r.node). let same = ap (λ n. (heap m).hi n) e in omega arith)
+    (λ (b : Reach (to (heap m)) r.node (to (heap m) (suc w.node))). let q = clear_behind (heap m) w.node r.node (to (heap m) 0) l.invariant.order.chain cw (omega arith) b in let k = over.1 in omega arith)
+    s))
+    (in_line (to (heap m)) w.node r.node (to (heap m) 0) cw cr)

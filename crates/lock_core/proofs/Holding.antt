@@ -1,23 +1,20 @@
 -- The held ranges after a step: only the stepping seat's may change, and by its own node alone.
-use Rattle.std.proofs.Common.{◌≡◌, ◌⊎◌, ℕ, zero, suc, ◌-◌, ◌*◌, ◌+◌, Bool, true, false, List, [], ◌∷◌, map, set, Some, None, inl, inr, ⊎_elim, refl, sym, ap, ◌∙◌, subst, eqb-true}
+use Rattle.std.proofs.Common.{◌≡◌, ◌⊎◌, ℕ, zero, suc, ◌-◌, ◌*◌, ◌+◌, Bool, true, false, List, [], ◌∷◌, map, set, Some, None, inl, inr, ⊎_elim, refl, sym, ap, ◌∙◌, subst}
 use Rattle.std.specs.Prelude.{slice_get, slice_index, Option, ◌==◌, if◌then◌else◌}
 use Rattle.std.proofs.lemmas.List.{map-set}
-use Rattle.lock_core.specs.Range.{Interval}
 use Rattle.lock_core.specs.declared.range.Mode.{Mode}
 use Rattle.lock_core.specs.declared.range.Mode.TheVariants.{Reader, Writer}
 use Rattle.lock_core.specs.declared.range.Held.{Held}
 use Rattle.lock_core.specs.declared.views.View.{View}
-use Rattle.lock_core.specs.declared.views.Own.{Own}
-use Rattle.lock_core.specs.declared.views.Own.TheVariants.{Nothing, Filling, Linked}
+use Rattle.lock_core.specs.declared.views.Own.TheVariants.{Linked}
 use Rattle.lock_core.specs.declared.views.Todo.{Todo}
 use Rattle.lock_core.specs.declared.views.Todo.TheVariants.{Forward, FromHead, Done}
 use Rattle.lock_core.specs.declared.steps.Step.{Step}
 use Rattle.lock_core.specs.declared.steps.Step.TheVariants.{Link, Unlink, Mark, QuickLink, QuickUnlink}
-use Rattle.lock_core.specs.Nodes.{Filled, Listed, filling, listed}
 use Rattle.lock_core.specs.Words.{cell_place, cell_of}
 use Rattle.lock_core.specs.Views.{todo_of, own_at, dropped, unlinked, quick_linked, quick_unlinked}
 use Rattle.lock_core.specs.Rows.{Plan, Row, link, unlink, mark, quick_link, quick_unlink}
-use Rattle.lock_core.specs.Machine.{Machine, after, carried_out, held_at, held_by_seat}
+use Rattle.lock_core.specs.Machine.{Machine, carried_out, held_at, held_by_seat}
 use Rattle.lock_core.specs.HeldSteps.{OwnHeld, HoldsOn, Gains, GivesBack, EachStep, ChangesNoGrant, MayGain, AlwaysGivesBack, MayGiveBack}
 use Rattle.lock_core.proofs.ByView.{set_there}
 use Rattle.lock_core.proofs.Coming.{CameHome, coming}

@@ -1,5 +1,5 @@
 -- A node leaves the ready ones of a seat only by that seat's ClearHome of it.
-use Rattle.std.proofs.Common.{◌≡◌, ◌≢◌, ◌⊎◌, ℕ, zero, suc, ◌+◌, ◌-◌, ◌*◌, ◌<◌, ◌≤◌, Bool, true, false, List, [], ◌∷◌, ◌++◌, Some, None, inl, inr, ⊎_elim, refl, sym, ap, ◌∙◌, subst, arith, eqb-true}
+use Rattle.std.proofs.Common.{◌≡◌, ◌≢◌, ℕ, suc, ◌+◌, ◌-◌, ◌*◌, ◌<◌, ◌≤◌, Bool, true, false, List, ◌∷◌, Some, None, ⊎_elim, refl, sym, ap, ◌∙◌, subst, arith, eqb-true}
 use Rattle.std.specs.Prelude.{Option, slice_get, slice_index, slice_set, ◌==◌, ◌%◌, if◌then◌else◌}
 use Rattle.lock_core.specs.declared.views.View.{View}
 use Rattle.lock_core.specs.declared.views.Cursor.{Cursor}
@@ -100,8 +100,8 @@ leaves m next s i x step v u e at at' l =
     let there : slice_get (slice_set m.views s (t.plan.view w)) i ≡ Some u = ap (λ (n : Machine). slice_get n.views i) t.is ∙ at' in
     ⊎_elim
     (λ (q : (i ≡ s) × (t.plan.view w ≡ u)).
-        let old : t.view ≡ v = same_view m.views i t.view v (subst (λ k. slice_get m.views k ≡ Some t.view) (sym q.0) t.at) at in
-        let less : times x (t.plan.view w).ready < times x t.view.ready = let a = ap (λ (z : View). times x z.ready) q.1 in let b = ap (λ (z : View). times x z.ready) old in omega arith in
-        (q.0, by_row m.seats s x t.view step t.plan w t.row less))
+    let old : t.view ≡ v = same_view m.views i t.view v (subst (λ k. slice_get m.views k ≡ Some t.view) (sym q.0) t.at) at in
+    let less : times x (t.plan.view w).ready < times x t.view.ready = let a = ap (λ (z : View). times x z.ready) q.1 in let b = ap (λ (z : View). times x z.ready) old in omega arith in
+    (q.0, by_row m.seats s x t.view step t.plan w t.row less))
     (λ (q : (i ≢ s) × (slice_get m.views i ≡ Some u)). absurd (let old = same_view m.views i v u at q.1 in let a = ap (λ (z : View). times x z.ready) old in omega arith))
     (set_view m.views s i (t.plan.view w) u there)

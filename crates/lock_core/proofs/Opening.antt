@@ -1,11 +1,10 @@
 -- The state before any step: its lists, its sizes, and what is held in it.
-use Rattle.std.proofs.Common.{◌≡◌, ◌≢◌, ℕ, zero, suc, ◌+◌, ◌-◌, ◌*◌, ◌/◌, ◌%◌, ◌<◌, ◌≤◌, Bool, true, false, List, [], ◌∷◌, ◌++◌, length, map, take, Some, None, refl, sym, ap, ◌∙◌, subst, ⊎_elim, arith, add-one, append_assoc, append-nil, length-take-le, get_or, eqb-true}
+use Rattle.std.proofs.Common.{◌≡◌, ◌≢◌, ℕ, zero, suc, ◌+◌, ◌*◌, ◌/◌, ◌<◌, ◌≤◌, Bool, true, false, List, [], ◌∷◌, ◌++◌, length, map, take, Some, None, refl, sym, ap, ◌∙◌, subst, ⊎_elim, arith, append_assoc, append-nil, length-take-le, eqb-true}
 use Rattle.std.proofs.lemmas.Bool.{eqb-false, cases_lt}
 use Rattle.std.proofs.lemmas.List.{length-replicate, length-map, map-append, take_more}
 use Rattle.std.proofs.lemmas.Option.{slice_get_within, get_or_from_slice_get}
 use Rattle.std.specs.Prelude.{Option, ◌==◌, if◌then◌else◌, slice_get, slice_index, replicate}
 use Rattle.lock_core.specs.declared.range.Held.{Held}
-use Rattle.lock_core.specs.declared.range.Grant.{Grant}
 use Rattle.lock_core.specs.declared.views.View.{View}
 use Rattle.lock_core.specs.Nodes.{times}
 use Rattle.lock_core.specs.Words.{Heap, word_count, cell_place}
@@ -100,7 +99,8 @@ start_view_sized seats i h = record {
 
 pub start_sized : (seats : ℕ) → 0 < seats → seats ≤ 16 → IsSized (start seats)
 start_sized seats some few = record {
-  some = some; few = few;
+  some = some;
+  few = few;
   words = length-replicate (word_count seats) 0;
   views = length-map (numbers_from 0 seats) (start_view seats) ∙ numbers_length 0 seats;
   cells = λ c l. let z = ap (λ n. n / 2) (zeros (word_count seats) (cell_place seats c)) in omega arith;
@@ -116,4 +116,4 @@ grants_more views i v at =
     let held : View → Option Held = λ u. held_at u.own in
     let long : 0 + length (map held (take i views)) ≡ i = let l = length-map (take i views) held in let t = length-take-le i views (omega arith) in omega arith in
     sym (ap (λ l. grants_from 0 (map held l)) more ∙ ap (grants_from 0) (map-append held (take i views) (v ∷ [])) ∙ grants-append 0 (map held (take i views)) (held v ∷ [])
-        ∙ ap (λ n. grants_from 0 (map held (take i views)) ++ grants_from n (held v ∷ [])) long ∙ ap (λ l. grants_from 0 (map held (take i views)) ++ l) (append-nil (grant_of i (held v))))
+    ∙ ap (λ n. grants_from 0 (map held (take i views)) ++ grants_from n (held v ∷ [])) long ∙ ap (λ l. grants_from 0 (map held (take i views)) ++ l) (append-nil (grant_of i (held v))))

@@ -1,5 +1,5 @@
 -- The steps that change paths, whole: from a lock, each where it is enabled, to a lock, whether or not its exchange succeeds.
-use Rattle.std.proofs.Common.{◌≡◌, ℕ, suc, ◌+◌, ◌-◌, ◌*◌, ◌/◌, ◌<◌, ◌≤◌, Bool, true, false, List, length, set, Some, None, refl, sym, subst, arith, eqb-true}
+use Rattle.std.proofs.Common.{◌≡◌, ℕ, suc, ◌+◌, ◌-◌, ◌*◌, ◌<◌, ◌≤◌, Bool, true, false, List, length, set, Some, None, refl, sym, subst, arith, eqb-true}
 use Rattle.std.specs.Prelude.{slice_index, Option, ◌==◌, if◌then◌else◌}
 use Rattle.std.proofs.lemmas.List.{set-get_or}
 use Rattle.std.proofs.lemmas.Option.{slice_get_within}
@@ -8,12 +8,12 @@ use Rattle.lock_core.specs.declared.views.Cursor.{Cursor}
 use Rattle.lock_core.specs.declared.steps.Step.{Step}
 use Rattle.lock_core.specs.declared.steps.Step.TheVariants.{Link, Unlink, Mark, QuickLink, QuickUnlink}
 use Rattle.lock_core.specs.Words.{Heap, cell_of, cell_place}
-use Rattle.lock_core.specs.Nodes.{Filled, Listed, filling, listed, times, own_times}
-use Rattle.lock_core.specs.Views.{dropped, linked, todo_of, unlinked, marked, quick_linked, quick_unlinked}
+use Rattle.lock_core.specs.Nodes.{Listed, listed, times, own_times}
+use Rattle.lock_core.specs.Views.{dropped, linked, todo_of, unlinked, quick_linked, quick_unlinked}
 use Rattle.lock_core.specs.Rows.{Plan, Row, exchanges, link, unlink, mark, quick_link, quick_unlink}
 use Rattle.lock_core.specs.Machine.{Machine, heap, carried_out}
 use Rattle.lock_core.specs.Sizes.{IsNode, IsSized}
-use Rattle.lock_core.specs.Invariant.{IsViewOf, Places, LockInvariant}
+use Rattle.lock_core.specs.Invariant.{IsViewOf, LockInvariant}
 use Rattle.lock_core.specs.Laws.{IsLock, Keeps}
 use Rattle.lock_core.proofs.ByView.{set_there}
 use Rattle.lock_core.proofs.Counts.{seat_is, own_linked}
@@ -21,12 +21,12 @@ use Rattle.lock_core.proofs.Words.{wrote_cell}
 use Rattle.lock_core.proofs.PathSteps.{invariant_now}
 use Rattle.lock_core.proofs.Stepping.{stepped}
 use Rattle.lock_core.proofs.SizedSteps.{sized_after}
-use Rattle.lock_core.proofs.Dropping as D
-use Rattle.lock_core.proofs.Linking as L
-use Rattle.lock_core.proofs.Unlinking as U
-use Rattle.lock_core.proofs.Marking as M
-use Rattle.lock_core.proofs.QuickLinking as QL
-use Rattle.lock_core.proofs.QuickUnlinking as QU
+use Rattle.lock_core.proofs.Exchanges.Dropping as D
+use Rattle.lock_core.proofs.Exchanges.Linking as L
+use Rattle.lock_core.proofs.Exchanges.Unlinking as U
+use Rattle.lock_core.proofs.Exchanges.Marking as M
+use Rattle.lock_core.proofs.Exchanges.QuickLinking as QL
+use Rattle.lock_core.proofs.Exchanges.QuickUnlinking as QU
 
 -- the state with these words after a step of seat s to this view
 abbrev pub state_after : Machine → List ℕ → ℕ → View → Machine

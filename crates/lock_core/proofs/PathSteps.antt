@@ -7,15 +7,12 @@ use Rattle.lock_core.specs.Range.{Overlaps}
 use Rattle.lock_core.specs.declared.range.Mode.TheVariants.{Reader, Writer}
 use Rattle.lock_core.specs.declared.views.View.{View}
 use Rattle.lock_core.specs.declared.views.Cursor.{Cursor}
-use Rattle.lock_core.specs.declared.views.Own.{Own}
-use Rattle.lock_core.specs.declared.views.Own.TheVariants.{Filling, Linked}
 use Rattle.lock_core.specs.declared.views.Todo.TheVariants.{Forward, FromHead}
 use Rattle.lock_core.specs.Paths.{Reach}
 use Rattle.lock_core.specs.Words.{Heap, to, IsMarked, IsUnmarked}
 use Rattle.lock_core.specs.Nodes.{Filled, Listed, filling, listed, times, own_times}
-use Rattle.lock_core.specs.Rows.{IsAtPlace}
 use Rattle.lock_core.specs.Invariant.{IsViewOf, InChain, Names, MayReach, IsOrdered, Order, InHand, IsUsed, IsLinked, Places, IsKnown, IsWritten, HasRange, IsRead, Fields, IsAlone, FastPath, Way, SeesFrom, HasToSee, first_cell_of, ToSee, Pairs, IsOut, Barrier, IsIdle, NoReuse, LockInvariant}
-use Rattle.lock_core.proofs.ByView.{set_view, kept_view, new_view, is_view, each, each_two}
+use Rattle.lock_core.proofs.ByView.{kept_view, new_view, is_view, each, each_two}
 use Rattle.lock_core.proofs.Counts.{own_filling, own_linked, only_once, one_seat, own_not_used}
 use Rattle.lock_core.proofs.Judging.{compared_same}
 

@@ -1,5 +1,5 @@
 -- A list of different numbers of an interval is no longer than the interval; so a list of different nodes of one seat has at most sixteen.
-use Rattle.std.proofs.Common.{◌≡◌, ◌≢◌, ℕ, zero, suc, ◌+◌, ◌*◌, ◌/◌, ◌<◌, ◌≤◌, Bool, true, false, List, [], ◌∷◌, length, ⊎_elim, refl, sym, ap, ◌∙◌, subst, arith, eqb-true, eq-eqb}
+use Rattle.std.proofs.Common.{◌≡◌, ◌≢◌, ℕ, zero, suc, ◌+◌, ◌*◌, ◌/◌, ◌<◌, ◌≤◌, Bool, true, false, List, [], ◌∷◌, length, ⊎_elim, refl, ap, ◌∙◌, arith, eqb-true, eq-eqb}
 use Rattle.std.specs.Prelude.{◌==◌, if◌then◌else◌}
 use Rattle.std.proofs.lemmas.Bool.{cases_eq}
 use Rattle.lock_core.specs.Nodes.{times}
@@ -45,13 +45,13 @@ pigeons low zero [] once within = omega arith
 pigeons low zero (x ∷ xs) once within = let w = within x (first_counts (x == x) (times x xs) (eq-eqb x x refl)) in absurd (omega arith)
 pigeons low (suc n) l once within =
     let ih = pigeons low n (others (low + n) l)
-        (λ x. omega (arith, others_times (low + n) x l, once x))
-        (λ x m.
-        let w = within x (omega (arith, others_times (low + n) x l)) in
-        ⊎_elim
-        (λ (e : x ≡ low + n). let none = others_none (low + n) l in let a = ap (λ b. times b (others (low + n) l)) e in absurd (omega arith))
-        (λ (d : x ≢ low + n). (w.0, omega arith))
-        (cases_eq x (low + n))) in
+    (λ x. omega (arith, others_times (low + n) x l, once x))
+    (λ x m.
+    let w = within x (omega (arith, others_times (low + n) x l)) in
+    ⊎_elim
+    (λ (e : x ≡ low + n). let none = others_none (low + n) l in let a = ap (λ b. times b (others (low + n) l)) e in absurd (omega arith))
+    (λ (d : x ≢ low + n). (w.0, omega arith))
+    (cases_eq x (low + n))) in
     omega (arith, others_length (low + n) l, once (low + n))
 
 at_most_one : (b : Bool) (n : ℕ) → n ≤ (if b then 1 else 0) → n ≤ 1

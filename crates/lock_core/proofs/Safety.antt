@@ -1,13 +1,12 @@
 -- What a seat may rely on when it makes a step follows from what the type of a state keeps.
-use Rattle.std.proofs.Common.{◌≡◌, ◌≢◌, ℕ, zero, suc, ◌+◌, ◌*◌, ◌/◌, ◌%◌, ◌<◌, ◌≤◌, Bool, true, false, List, [], ◌∷◌, ◌++◌, length, Some, None, ⊎_elim, refl, sym, ap, ◌∙◌, subst, arith, eqb-true, eq-eqb, length-append}
-use Rattle.std.specs.Prelude.{Option, ◌==◌, if◌then◌else◌, slice_get}
+use Rattle.std.proofs.Common.{◌≡◌, ℕ, ◌+◌, ◌/◌, ◌<◌, ◌≤◌, Bool, true, false, List, [], ◌∷◌, ◌++◌, length, Some, refl, sym, ap, subst, arith, eqb-true, eq-eqb, length-append}
+use Rattle.std.specs.Prelude.{◌==◌, if◌then◌else◌, slice_get}
 use Rattle.std.proofs.lemmas.Option.{slice_get_within}
 use Rattle.lock_core.specs.Range.{IsRange}
 use Rattle.lock_core.specs.declared.views.View.{View}
-use Rattle.lock_core.specs.declared.views.Own.TheVariants.{Nothing, Filling, Linked}
-use Rattle.lock_core.specs.Nodes.{Filled, Listed, filling, listed, times, own_times}
+use Rattle.lock_core.specs.Nodes.{times, own_times}
 use Rattle.lock_core.specs.Machine.{Machine, heap}
-use Rattle.lock_core.specs.Sizes.{IsNode, AreNodesSized, IsViewSized, IsSized, MayStep}
+use Rattle.lock_core.specs.Sizes.{IsNode, IsViewSized, IsSized, MayStep}
 use Rattle.lock_core.proofs.Counts.{times_joined}
 use Rattle.lock_core.proofs.Pigeons.{few_of_seat}
 
@@ -56,7 +55,9 @@ module _ (m : Machine) (s : ℕ) (v : View) (z : IsSized m) (at : slice_get m.vi
 
   pub may_step : MayStep m.seats s m.words v
   may_step = record {
-    few = z.few; seat = seat_there; words = z.words;
+    few = z.few;
+    seat = seat_there;
+    words = z.words;
     filling = λ node lo hi mode aimed e. counted node (let t = ap (own_times node) e in let i = itself (node == node) (eq-eqb node node refl) in omega arith);
     ends = λ node lo hi mode aimed e.
         let o = old.own.filled (record { node = node; lo = Some lo; hi = Some hi; mode = mode; aimed = aimed }) e in

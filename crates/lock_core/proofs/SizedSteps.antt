@@ -1,12 +1,11 @@
 -- Every row of the table keeps the sizes of a state.
-use Rattle.std.proofs.Common.{◌≡◌, ◌≢◌, ◌⊎◌, ℕ, zero, suc, ◌+◌, ◌-◌, ◌*◌, ◌/◌, ◌%◌, ◌^◌, ◌<◌, ◌≤◌, Bool, true, false, List, [], ◌∷◌, ◌++◌, length, set, get_or, Some, None, inl, inr, ⊎_elim, refl, sym, ap, ◌∙◌, subst, arith, eqb-true, eq-eqb, length-set}
+use Rattle.std.proofs.Common.{◌≡◌, ◌≢◌, ◌⊎◌, ℕ, zero, suc, ◌+◌, ◌-◌, ◌*◌, ◌/◌, ◌%◌, ◌<◌, ◌≤◌, Bool, true, false, List, ◌∷◌, length, set, Some, None, inl, inr, ⊎_elim, refl, sym, ap, ◌∙◌, subst, arith, eqb-true, eq-eqb, length-set}
 use Rattle.std.proofs.lemmas.Bool.{eqb-false}
 use Rattle.std.specs.Prelude.{Option, ◌==◌, if◌then◌else◌, slice_get, slice_index, option_map}
 use Rattle.std.proofs.lemmas.Bool.{cases_eq}
 use Rattle.std.proofs.lemmas.List.{set-get_or}
 use Rattle.std.proofs.lemmas.Option.{slice_get_within}
 use Rattle.lock_core.specs.Range.{IsRange}
-use Rattle.lock_core.specs.declared.range.Mode.{Mode}
 use Rattle.lock_core.specs.declared.range.Mode.TheVariants.{Writer}
 use Rattle.lock_core.specs.declared.views.View.{View}
 use Rattle.lock_core.specs.declared.views.Cursor.{Cursor}
@@ -15,13 +14,13 @@ use Rattle.lock_core.specs.declared.views.Todo.TheVariants.{Forward, FromHead, D
 use Rattle.lock_core.specs.declared.views.Own.{Own}
 use Rattle.lock_core.specs.declared.views.Own.TheVariants.{Nothing, Filling, Linked}
 use Rattle.lock_core.specs.declared.steps.Step.{Step}
-use Rattle.lock_core.specs.Words.{Heap, heap_of, to, cell_of, cell_place, epoch_place, lo_place, hi_place, home_place, plain_node_of, node_of, word_count}
+use Rattle.lock_core.specs.Words.{Heap, heap_of, to, cell_of, cell_place, epoch_place, lo_place, hi_place, home_place, plain_node_of}
 use Rattle.lock_core.specs.Nodes.{Filled, Listed, filling, listed, times, own_times}
 use Rattle.lock_core.specs.Compare.{verdict_of}
-use Rattle.lock_core.specs.Views.{entered, left, kept_own, looked_at, start_of, walk_cell, walked, dropped, unlinked, came_to, linked, todo_of, marked, quick_linked, quick_unlinked, settled}
-use Rattle.lock_core.specs.Rows.{Plan, Row, Aims, IsAtPlace, enter, leave, read_epoch, read_home, give_home, fill_lo, fill_hi, aim, clear_home, walk, read_lo, read_hi, link, unlink, mark, quick_link, quick_unlink, settle}
+use Rattle.lock_core.specs.Views.{entered, left, kept_own, looked_at, start_of, walk_cell, walked, todo_of, marked}
+use Rattle.lock_core.specs.Rows.{Plan, Row, Aims, enter, leave, read_epoch, read_home, give_home, fill_lo, fill_hi, aim, clear_home, walk, read_lo, read_hi, link, unlink, mark, quick_link, quick_unlink, settle}
 use Rattle.lock_core.specs.Machine.{Machine, heap, after, carried_out}
-use Rattle.lock_core.specs.Sizes.{IsNode, NamesNode, IsCursorThere, IsFilledInOrder, AreNodesSized, IsOwnSized, IsViewSized, IsSized}
+use Rattle.lock_core.specs.Sizes.{IsNode, NamesNode, IsOwnSized, IsViewSized, IsSized}
 use Rattle.lock_core.proofs.ByView.{set_view}
 use Rattle.lock_core.proofs.Words.{WroteCell, wrote_cell, wrote_lo, wrote_hi, wrote_home, wrote_epoch}
 use Rattle.lock_core.proofs.Sizing.{own_same, own_kept, nothing_sized, linked_sized, filling_sized, left_nodes, used_nodes, taken_nodes, dropped_sized, looked_sized, epoch_sized, home_sized, came_sized, cursor_sized, own_sized, judged_sized}
@@ -70,12 +69,16 @@ module _ (m : Machine) (s : ℕ) (v : View) (z : IsSized m) (at : slice_get m.vi
       ((i : ℕ) (u : View) → i ≢ s → slice_get m.views i ≡ Some u → IsOwnSized (heap_of m.seats ws) u.own) → IsViewSized m.seats (heap_of m.seats ws) s w →
       IsSized (record { seats = m.seats; words = ws; views = set m.views s w })
   resized ws w e cells others mine = record {
-    some = z.some; few = z.few; words = e ∙ z.words; views = length-set m.views s w ∙ z.views; cells = cells;
+    some = z.some;
+    few = z.few;
+    words = e ∙ z.words;
+    views = length-set m.views s w ∙ z.views;
+    cells = cells;
     each = λ i u q. ⊎_elim
         (λ (t : (i ≡ s) × (w ≡ u)). subst (λ (a : ℕ × View). IsViewSized m.seats (heap_of m.seats ws) a.0 a.1) (λ k. (sym t.0 k, t.1 k)) mine)
         (λ (t : (i ≢ s) × (slice_get m.views i ≡ Some u)).
-            let o = z.each i u t.1 in
-            record { notes = o.notes; passed = o.passed; nodes = o.nodes; own = others i u t.0 t.1; hand = o.hand; cursor = o.cursor })
+        let o = z.each i u t.1 in
+        record { notes = o.notes; passed = o.passed; nodes = o.nodes; own = others i u t.0 t.1; hand = o.hand; cursor = o.cursor })
         (set_view m.views s i w u q);
   }
 
@@ -110,19 +113,22 @@ module _ (m : Machine) (s : ℕ) (v : View) (z : IsSized m) (at : slice_get m.vi
   by_cell p x w there names even mine =
       resized (set m.words (cell_place m.seats p) x) w (length-set m.words (cell_place m.seats p) x)
       (λ c l. ⊎_elim
-          (λ (q : c ≡ p). let e = ap (λ a. (now p x).next a / 2) q in let i = ap (λ n. n / 2) (wrote p x there).is in omega arith)
-          (λ (d : c ≢ p). let e = ap (λ n. n / 2) ((wrote p x there).others c d) in let o = z.cells c l in omega arith)
-          (cases_eq c p))
+      (λ (q : c ≡ p). let e = ap (λ a. (now p x).next a / 2) q in let i = ap (λ n. n / 2) (wrote p x there).is in omega arith)
+      (λ (d : c ≢ p). let e = ap (λ n. n / 2) ((wrote p x there).others c d) in let o = z.cells c l in omega arith)
+      (cases_eq c p))
       (λ i u d e. own_kept (heap m) (now p x) u.own (z.each i u e).own m.seats p x (wrote p x there)
-          (λ n q own. ⊎_elim (λ (r : x % 2 ≡ 0). r) (λ (r : n / 16 ≡ s). absurd (d (sym (owner_is i n u e own) ∙ r))) (even n q)))
+      (λ n q own. ⊎_elim (λ (r : x % 2 ≡ 0). r) (λ (r : n / 16 ≡ s). absurd (d (sym (owner_is i n u e own) ∙ r))) (even n q)))
       mine
 
   -- the view where its own node stays and no node's next word is odd by the step
   carried : (p x : ℕ) → p ≤ 16 * m.seats → ((n : ℕ) → p ≡ suc n → x % 2 ≡ 0) → IsViewSized m.seats (now p x) s v
   carried p x there even = record {
-    notes = old.notes; passed = old.passed; nodes = old.nodes;
+    notes = old.notes;
+    passed = old.passed;
+    nodes = old.nodes;
     own = own_kept (heap m) (now p x) v.own old.own m.seats p x (wrote p x there) (λ n q own. even n q);
-    hand = old.hand; cursor = old.cursor;
+    hand = old.hand;
+    cursor = old.cursor;
   }
 
   prev_there : (c : Cursor) → v.cursor ≡ Some c → cell_of c.prev ≤ 16 * m.seats
@@ -163,6 +169,7 @@ module _ (m : Machine) (s : ℕ) (v : View) (z : IsSized m) (at : slice_get m.vi
     where
       there : IsNode m.seats node
       there = (linked_there (record { node = node; range = range; mode = mode; todo = todo }) e).1
+
       go : (t : Todo) → start_of (Linked node range mode t) ≡ Some n → IsNode m.seats n
       go Forward q = let same : node ≡ n = cc in subst (IsNode m.seats) same there
       go FromHead q = absurd (cc)
@@ -225,29 +232,32 @@ module _ (m : Machine) (s : ℕ) (v : View) (z : IsSized m) (at : slice_get m.vi
       let t = filling_there f own in
       by_store (lo_place m.seats f.node) lo _ (wrote_lo m.seats lo m.words f.node (let w = z.words in let l = t.1 in omega arith)).next
       (own_sized m.seats (heap m) s v _ (filling_times f (record f { lo = Some lo; hi = None }) own refl)
-          (filling_sized (heap m) (record f { lo = Some lo; hi = None }) (record { hi = λ h q. absurd (cc); aimed = λ w q. absurd (cc) }) (λ w q. absurd (cc)))
-          old)
+      (filling_sized (heap m) (record f { lo = Some lo; hi = None }) (record { hi = λ h q. absurd (cc); aimed = λ w q. absurd (cc) }) (λ w q. absurd (cc)))
+      old)
   sized_row step p (fill_hi f lo hi mode own low less most aimed cursor) =
       let t = filling_there f own in
       by_store (hi_place m.seats f.node) _ _ (wrote_hi m.seats _ m.words f.node (let w = z.words in let l = t.1 in omega arith)).next
       (own_sized m.seats (heap m) s v _ (filling_times f (record f { hi = Some hi; mode = mode }) own refl)
-          (filling_sized (heap m) (record f { hi = Some hi; mode = mode }) (record { hi = λ h q. let same : hi ≡ h = cc in (lo, low, subst (IsRange lo) same (less, most)); aimed = λ w q. absurd (cc) }) (λ w q. absurd (cc)))
-          old)
+      (filling_sized (heap m) (record f { hi = Some hi; mode = mode }) (record { hi = λ h q. let same : hi ≡ h = cc in (lo, low, subst (IsRange lo) same (less, most)); aimed = λ w q. absurd (cc) }) (λ w q. absurd (cc)))
+      old)
   sized_row step p (aim f lo hi w own low high at) =
       let t = filling_there f own in let a = aim_even v.cursor w refl at in let l : suc f.node ≤ 16 * m.seats = let l = t.1 in omega arith in
       let o = carried (suc f.node) w l (λ n q. a.0) in
       by_cell (suc f.node) w _ l a.1 (λ n q. inl a.0)
       (own_sized m.seats (now (suc f.node) w) s v _ (filling_times f (record f { aimed = Some w }) own refl)
-          (filling_sized (now (suc f.node) w) (record f { aimed = Some w })
-              (record { hi = (old.own.filled f own).hi; aimed = λ x q. ((λ r. cc), (λ r. cc)) })
-              (λ x q. ap (λ n. n % 2) (wrote (suc f.node) w l).is ∙ a.0))
-          o)
+      (filling_sized (now (suc f.node) w) (record f { aimed = Some w })
+      (record { hi = (old.own.filled f own).hi; aimed = λ x q. ((λ r. cc), (λ r. cc)) })
+      (λ x q. ap (λ n. n % 2) (wrote (suc f.node) w l).is ∙ a.0))
+      o)
   sized_row step p (clear_home n rest own even ready) =
       by_store (home_place m.seats n) 0 _ (wrote_home m.seats 0 m.words n (let w = z.words in let l = first_there n rest own ready in omega arith)).next
       (record {
-        notes = old.notes; passed = old.passed; nodes = taken_nodes s n v.own v.ready rest v.used v.homes own ready old.nodes;
+        notes = old.notes;
+        passed = old.passed;
+        nodes = taken_nodes s n v.own v.ready rest v.used v.homes own ready old.nodes;
         own = filling_sized (heap m) (record { node = n; lo = None; hi = None; mode = Writer; aimed = None }) (record { hi = λ h q. absurd (cc); aimed = λ w q. absurd (cc) }) (λ w q. absurd (cc));
-        hand = old.hand; cursor = old.cursor;
+        hand = old.hand;
+        cursor = old.cursor;
       })
   sized_row step p (walk cell odd hand at) = by_load (cell_place m.seats cell) _ (walked_sized v.cursor cell refl at)
   sized_row step p (read_lo c y n cursor node next plain) =
@@ -260,11 +270,11 @@ module _ (m : Machine) (s : ℕ) (v : View) (z : IsSized m) (at : slice_get m.vi
       let t = filling_there f own in let l = prev_there c cursor in
       by_exchange (cell_of c.prev) c.cur (2 * suc f.node) _ _
       (by_cell (cell_of c.prev) (2 * suc f.node) _ l (let n = t.1 in omega arith) (λ n q. inl (omega arith))
-          (dropped_sized m.seats (now (cell_of c.prev) (2 * suc f.node)) s _
-              (own_sized m.seats (now (cell_of c.prev) (2 * suc f.node)) s v _ (listed_times f (record { node = f.node; range = record { lo = lo; hi = hi }; mode = f.mode; todo = todo_of f.mode }) own refl)
-                  (linked_sized (now (cell_of c.prev) (2 * suc f.node)) (record { node = f.node; range = record { lo = lo; hi = hi }; mode = f.mode; todo = todo_of f.mode })
-                      ((carried (cell_of c.prev) (2 * suc f.node) l (λ n q. omega arith)).own.aimed f c.cur own aimed))
-                  (carried (cell_of c.prev) (2 * suc f.node) l (λ n q. omega arith)))))
+      (dropped_sized m.seats (now (cell_of c.prev) (2 * suc f.node)) s _
+      (own_sized m.seats (now (cell_of c.prev) (2 * suc f.node)) s v _ (listed_times f (record { node = f.node; range = record { lo = lo; hi = hi }; mode = f.mode; todo = todo_of f.mode }) own refl)
+      (linked_sized (now (cell_of c.prev) (2 * suc f.node)) (record { node = f.node; range = record { lo = lo; hi = hi }; mode = f.mode; todo = todo_of f.mode })
+      ((carried (cell_of c.prev) (2 * suc f.node) l (λ n q. omega arith)).own.aimed f c.cur own aimed))
+      (carried (cell_of c.prev) (2 * suc f.node) l (λ n q. omega arith)))))
       (dropped_sized m.seats (heap m) s v old)
   sized_row step p (unlink c y n cursor node next marked hand) =
       let l = prev_there c cursor in let there = old.cursor c cursor in let names = there.next n next in
@@ -272,7 +282,7 @@ module _ (m : Machine) (s : ℕ) (v : View) (z : IsSized m) (at : slice_get m.vi
       let came = came_sized m.seats (now (cell_of c.prev) (n - 1)) s v c.prev (n - 1) c.seen there.prev (omega arith) o in
       by_exchange (cell_of c.prev) c.cur (n - 1) _ _
       (by_cell (cell_of c.prev) (n - 1) _ l (omega arith) (λ k q. inl (omega arith))
-          (record { notes = came.notes; passed = came.passed; nodes = came.nodes; own = came.own; hand = λ x q. let same : y ≡ x = cc in subst (IsNode m.seats) same (node_there c y cursor node); cursor = came.cursor }))
+      (record { notes = came.notes; passed = came.passed; nodes = came.nodes; own = came.own; hand = λ x q. let same : y ≡ x = cc in subst (IsNode m.seats) same (node_there c y cursor node); cursor = came.cursor }))
       (dropped_sized m.seats (heap m) s v old)
   sized_row step p (mark k own) =
       let t = linked_there k own in let l : suc k.node ≤ 16 * m.seats = let l = t.1 in omega arith in
@@ -282,23 +292,23 @@ module _ (m : Machine) (s : ℕ) (v : View) (z : IsSized m) (at : slice_get m.vi
       let t = filling_there f own in
       by_exchange 0 0 (2 * suc f.node + 1) _ _
       (by_cell 0 (2 * suc f.node + 1) _ (omega arith) (let n = t.1 in omega arith) (λ n q. absurd (omega arith))
-          (own_sized m.seats (now 0 (2 * suc f.node + 1)) s v _ (listed_times f (record { node = f.node; range = record { lo = lo; hi = hi }; mode = f.mode; todo = Done }) own refl)
-              (linked_sized (now 0 (2 * suc f.node + 1)) (record { node = f.node; range = record { lo = lo; hi = hi }; mode = f.mode; todo = Done })
-                  ((carried 0 (2 * suc f.node + 1) (omega arith) (λ n q. absurd (omega arith))).own.aimed f 0 own aimed))
-              (carried 0 (2 * suc f.node + 1) (omega arith) (λ n q. absurd (omega arith)))))
+      (own_sized m.seats (now 0 (2 * suc f.node + 1)) s v _ (listed_times f (record { node = f.node; range = record { lo = lo; hi = hi }; mode = f.mode; todo = Done }) own refl)
+      (linked_sized (now 0 (2 * suc f.node + 1)) (record { node = f.node; range = record { lo = lo; hi = hi }; mode = f.mode; todo = Done })
+      ((carried 0 (2 * suc f.node + 1) (omega arith) (λ n q. absurd (omega arith))).own.aimed f 0 own aimed))
+      (carried 0 (2 * suc f.node + 1) (omega arith) (λ n q. absurd (omega arith)))))
       old
   sized_row step p (quick_unlink k own done hand) =
       let t = linked_there k own in
       by_exchange 0 (2 * suc k.node + 1) 0 _ _
       (by_cell 0 0 _ (omega arith) (omega arith) (λ n q. absurd (omega arith))
-          (record { notes = old.notes; passed = old.passed; nodes = used_nodes s v.own k.node v.ready v.used v.homes (λ x. ap (own_times x) own) old.nodes; own = nothing_sized _; hand = λ x q. let same : k.node ≡ x = cc in subst (IsNode m.seats) same t.1; cursor = old.cursor }))
+      (record { notes = old.notes; passed = old.passed; nodes = used_nodes s v.own k.node v.ready v.used v.homes (λ x. ap (own_times x) own) old.nodes; own = nothing_sized _; hand = λ x q. let same : k.node ≡ x = cc in subst (IsNode m.seats) same t.1; cursor = old.cursor }))
       old
   sized_row step p (settle c cursor prev low) =
       let there = old.cursor c cursor in
       by_exchange 0 c.cur (c.cur - 1) _ _
       (by_cell 0 (c.cur - 1) _ (omega arith) (let l = there.cur in omega arith) (λ n q. absurd (omega arith))
-          (cursor_sized m.seats (now 0 (c.cur - 1)) s v (record c { cur = c.cur - 1 }) (record { prev = there.prev; cur = let l = there.cur in omega arith; next = there.next })
-              (carried 0 (c.cur - 1) (omega arith) (λ n q. absurd (omega arith)))))
+      (cursor_sized m.seats (now 0 (c.cur - 1)) s v (record c { cur = c.cur - 1 }) (record { prev = there.prev; cur = let l = there.cur in omega arith; next = there.next })
+      (carried 0 (c.cur - 1) (omega arith) (λ n q. absurd (omega arith)))))
       (dropped_sized m.seats (heap m) s v old)
 
 -- a step keeps the sizes of a state

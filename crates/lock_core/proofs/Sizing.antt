@@ -1,31 +1,22 @@
 -- Every step keeps the sizes of a state: what the type of a state keeps, it keeps after any row of the table.
-use Rattle.std.proofs.Common.{◌≡◌, ◌≢◌, ◌⊎◌, ℕ, zero, suc, ◌+◌, ◌-◌, ◌*◌, ◌/◌, ◌%◌, ◌^◌, ◌<◌, ◌≤◌, Bool, true, false, List, [], ◌∷◌, ◌++◌, length, set, get_or, Some, None, inl, inr, ⊎_elim, refl, sym, ap, ◌∙◌, subst, arith, eqb-true, eq-eqb, length-set}
-use Rattle.std.specs.Prelude.{Option, ◌==◌, if◌then◌else◌, slice_get, slice_index, replicate}
+use Rattle.std.proofs.Common.{◌≡◌, ◌≢◌, ℕ, suc, ◌+◌, ◌*◌, ◌/◌, ◌%◌, ◌≤◌, Bool, true, false, List, [], ◌∷◌, ◌++◌, length, Some, None, ⊎_elim, refl, sym, ap, ◌∙◌, subst, arith, eqb-true, eq-eqb, length-set}
+use Rattle.std.specs.Prelude.{Option, ◌==◌, if◌then◌else◌}
 use Rattle.std.proofs.lemmas.Bool.{cases_eq}
-use Rattle.std.proofs.lemmas.List.{set-get_or, length-replicate}
-use Rattle.lock_core.specs.Range.{IsRange}
-use Rattle.lock_core.specs.declared.range.Mode.{Mode}
+use Rattle.std.proofs.lemmas.List.{length-replicate}
 use Rattle.lock_core.specs.declared.range.Mode.TheVariants.{Writer}
 use Rattle.lock_core.specs.declared.views.View.{View}
 use Rattle.lock_core.specs.declared.views.Cursor.{Cursor}
-use Rattle.lock_core.specs.declared.views.Todo.{Todo}
 use Rattle.lock_core.specs.declared.views.Todo.TheVariants.{Forward, FromHead, Done}
 use Rattle.lock_core.specs.declared.views.Own.{Own}
 use Rattle.lock_core.specs.declared.views.Own.TheVariants.{Nothing, Filling, Linked}
 use Rattle.lock_core.specs.declared.compare.Verdict.{Verdict}
 use Rattle.lock_core.specs.declared.compare.Verdict.TheVariants.{Past, Stop, Conflict}
-use Rattle.lock_core.specs.declared.steps.Step.{Step}
-use Rattle.lock_core.specs.Words.{Heap, heap_of, to, cell_of, cell_place, epoch_place, lo_place, hi_place, home_place, plain_node_of, word_count}
+use Rattle.lock_core.specs.Words.{Heap}
 use Rattle.lock_core.specs.Nodes.{Filled, Listed, filling, listed, filled_of, times, own_times, without}
-use Rattle.lock_core.specs.Compare.{verdict_of}
-use Rattle.lock_core.specs.Views.{kept_own, ready_left, left, released, is_passed, note_of, are_others_passed, passes, noted, looked_at, released_if_passed, came_home, home_read, own_at, own_stopped, came_to, seen_after, hi_judged, dropped, unlinked}
-use Rattle.lock_core.specs.Rows.{Plan, Row, enter, leave, read_epoch, read_home, give_home, fill_lo, fill_hi, aim, clear_home, walk, read_lo, read_hi, link, unlink, mark, quick_link, quick_unlink, settle}
-use Rattle.lock_core.specs.Machine.{Machine, heap, after, carried_out}
-use Rattle.lock_core.specs.Sizes.{IsNode, NamesNode, IsCursorThere, IsFilledInOrder, AreNodesSized, IsOwnSized, IsViewSized, IsSized}
-use Rattle.lock_core.proofs.ByView.{set_view, set_there}
+use Rattle.lock_core.specs.Views.{kept_own, ready_left, released, is_passed, note_of, are_others_passed, passes, noted, looked_at, released_if_passed, came_home, home_read, own_at, own_stopped, came_to, seen_after, hi_judged, dropped}
+use Rattle.lock_core.specs.Sizes.{IsNode, NamesNode, IsCursorThere, IsFilledInOrder, AreNodesSized, IsOwnSized, IsViewSized}
 use Rattle.lock_core.proofs.Counts.{times_joined, once_after}
-use Rattle.lock_core.proofs.Words.{WroteCell, wrote_cell, wrote_lo, wrote_hi, wrote_home, wrote_epoch}
-use Rattle.lock_core.proofs.Stepping.{stepped}
+use Rattle.lock_core.proofs.Words.{WroteCell}
 
 -- own nodes
 module _ (h now : Heap) (own : Own) (o : IsOwnSized h own) where
@@ -211,7 +202,8 @@ module _ (seats : ℕ) (h : Heap) (i : ℕ) where
 
   pub came_sized : (v : View) (prev : Option ℕ) (w seen : ℕ) → ((n : ℕ) → prev ≡ Some n → IsNode seats n) → NamesNode seats w → IsViewSized seats h i v → IsViewSized seats h i (came_to v prev w seen)
   came_sized v prev w seen p there o = record {
-    notes = o.notes; passed = o.passed;
+    notes = o.notes;
+    passed = o.passed;
     nodes = same_nodes i v.own (own_at v.own w) v.ready v.used v.homes (own_at_times v.own w) o.nodes;
     own = own_at_sized h v.own w o.own;
     hand = o.hand;
@@ -222,14 +214,23 @@ module _ (seats : ℕ) (h : Heap) (i : ℕ) where
   -- only the cursor changed, or went
   pub cursor_sized : (v : View) (c : Cursor) → IsCursorThere seats c → IsViewSized seats h i v → IsViewSized seats h i (record v { cursor = Some c })
   cursor_sized v c there o = record {
-    notes = o.notes; passed = o.passed; nodes = o.nodes; own = o.own; hand = o.hand;
+    notes = o.notes;
+    passed = o.passed;
+    nodes = o.nodes;
+    own = o.own;
+    hand = o.hand;
     cursor = λ d q. let same : c ≡ d = cc in subst (IsCursorThere seats) same there;
   }
 
   -- the own node changed, and not which it is
   pub own_sized : (v : View) (own : Own) → ((x : ℕ) → own_times x own ≡ own_times x v.own) → IsOwnSized h own → IsViewSized seats h i v → IsViewSized seats h i (record v { own = own })
   own_sized v own e new o = record {
-    notes = o.notes; passed = o.passed; nodes = same_nodes i v.own own v.ready v.used v.homes e o.nodes; own = new; hand = o.hand; cursor = o.cursor;
+    notes = o.notes;
+    passed = o.passed;
+    nodes = same_nodes i v.own own v.ready v.used v.homes e o.nodes;
+    own = new;
+    hand = o.hand;
+    cursor = o.cursor;
   }
 
   pub judged_sized : (v : View) (c : Cursor) (y n : ℕ) (verdict : Verdict) → IsNode seats y → NamesNode seats n → IsCursorThere seats c → IsViewSized seats h i v → IsViewSized seats h i (hi_judged v c y n verdict)

@@ -1,13 +1,12 @@
 -- The state before any step is a lock: the list is empty, every node is ready, and no view has a cursor or an own node.
-use Rattle.std.proofs.Common.{◌≡◌, ◌≢◌, ◌⊎◌, ℕ, zero, suc, ◌+◌, ◌*◌, ◌/◌, ◌%◌, ◌<◌, ◌≤◌, List, Some, None, inl, inr, refl, sym, ap, ◌∙◌, subst, arith}
-use Rattle.std.specs.Prelude.{slice_get, ◌==◌, if◌then◌else◌}
+use Rattle.std.proofs.Common.{◌≡◌, ℕ, ◌+◌, ◌/◌, ◌%◌, ◌<◌, ◌≤◌, None, sym, ap, ◌∙◌, subst, arith}
+use Rattle.std.specs.Prelude.{◌==◌, if◌then◌else◌}
 use Rattle.lock_core.specs.declared.views.View.{View}
-use Rattle.lock_core.specs.declared.views.Cursor.{Cursor}
 use Rattle.lock_core.specs.declared.views.Own.TheVariants.{Nothing}
 use Rattle.lock_core.specs.Paths.{Reach, Ends, end}
 use Rattle.lock_core.specs.Words.{Heap, to, cell_place, word_count}
 use Rattle.lock_core.specs.Nodes.{times, own_times}
-use Rattle.lock_core.specs.Machine.{start, start_view, heap}
+use Rattle.lock_core.specs.Machine.{start, heap}
 use Rattle.lock_core.specs.Invariant.{IsViewOf, InChain, InHand, LockInvariant}
 use Rattle.lock_core.specs.Laws.{IsLock}
 use Rattle.lock_core.proofs.Paths.{nothing_at_end}

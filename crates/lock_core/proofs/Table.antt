@@ -1,8 +1,7 @@
 -- The computing plan is the table: for every kind of step a plan is the row that the view enables, and a row is the plan.
-use Rattle.std.proofs.Common.{◌≡◌, ◌≢◌, ◌⊎◌, ℕ, zero, suc, ◌+◌, ◌-◌, ◌*◌, ◌/◌, ◌%◌, ◌^◌, ◌<◌, ◌≤◌, Bool, true, false, List, [], ◌∷◌, Some, None, inl, inr, ⊎_elim, refl, sym, ap, ◌∙◌, subst, arith, eqb-true, eq-eqb}
-use Rattle.std.specs.Prelude.{Option, ◌==◌, ◌&&◌, ◌||◌, not, nat_lt, nat_le, is_some, is_none, if◌then◌else◌, ◌↔◌}
+use Rattle.std.proofs.Common.{◌≡◌, ◌≢◌, ℕ, Bool, true, false, List, [], ◌∷◌, Some, None, inl, inr, ⊎_elim, refl, sym, ap, ◌∙◌, subst, arith, eqb-true, eq-eqb}
+use Rattle.std.specs.Prelude.{Option, ◌==◌, ◌&&◌, not, is_some, is_none, if◌then◌else◌}
 use Rattle.std.proofs.lemmas.Bool.{eqb-false, ltb-true, lt-ltb, leb-true, le-leb}
-use Rattle.lock_core.specs.declared.range.Mode.{Mode}
 use Rattle.lock_core.specs.declared.views.View.{View}
 use Rattle.lock_core.specs.declared.views.Cursor.{Cursor}
 use Rattle.lock_core.specs.declared.views.Todo.{Todo}
@@ -63,7 +62,6 @@ placed c e = split (c.cur == 0) refl e
     split : (b : Bool) → (c.cur == 0) ≡ b → (if b then true else is_none c.next && is_some c.lo) ≡ true → IsAtPlace c
     split true at e = inl (eqb-true _ _ at)
     split false at e = let t = both _ _ e in inr (none c.next t.0, some c.lo t.1)
-
 
 none_is : {A : Type 0} (o : Option A) → o ≡ None → is_none o ≡ true
 none_is o e = ap is_none e
@@ -228,7 +226,7 @@ plan_of_row seats s v step p (give_home n hand) = given-is _ _ n _ hand refl
 plan_of_row seats s v step p (fill_lo f lo own aimed cursor) = given-is _ _ f _ (ap filled_of own) (when-is _ _ (together _ _ (none_is _ aimed) (none_is _ cursor)))
 plan_of_row seats s v step p (fill_hi f lo hi mode own low less most aimed cursor) =
     given-is _ _ f _ (ap filled_of own) (given-is _ _ lo _ low
-        (when-is _ _ (together _ _ (together _ _ (together _ _ (lt-ltb _ _ less) (le-leb _ _ most)) (none_is _ aimed)) (none_is _ cursor))))
+    (when-is _ _ (together _ _ (together _ _ (together _ _ (lt-ltb _ _ less) (le-leb _ _ most)) (none_is _ aimed)) (none_is _ cursor))))
 plan_of_row seats s v step p (aim f lo hi w own low high at) =
     given-is _ _ f _ (ap filled_of own) (given-is _ _ lo _ low (given-is _ _ hi _ high (given-is _ _ w _ (aiming_is v.cursor w at) refl)))
 plan_of_row seats s v step p (clear_home n rest own even ready) =
@@ -240,7 +238,7 @@ plan_of_row seats s v step p (read_hi c y n lo cursor node next plain low own) =
     given-is _ _ c _ cursor (given-is _ _ y _ node (given-is _ _ n _ next (given-is _ _ lo _ low (when-is _ _ (together _ _ (eq-eqb _ _ plain) (judging_is v.own own))))))
 plan_of_row seats s v step p (link f c lo hi own cursor low high aimed plain place) =
     given-is _ _ f _ (ap filled_of own) (given-is _ _ c _ cursor (given-is _ _ lo _ low (given-is _ _ hi _ high (given-is _ _ c.cur _ aimed
-        (when-is _ _ (together _ _ (together _ _ (eq-eqb _ _ refl) (eq-eqb _ _ plain)) (placed_is c place)))))))
+    (when-is _ _ (together _ _ (together _ _ (eq-eqb _ _ refl) (eq-eqb _ _ plain)) (placed_is c place)))))))
 plan_of_row seats s v step p (unlink c y n cursor node next marked hand) =
     given-is _ _ c _ cursor (given-is _ _ y _ node (given-is _ _ n _ next (when-is _ _ (together _ _ (eq-eqb _ _ marked) (none_is _ hand)))))
 plan_of_row seats s v step p (mark k own) = given-is _ _ k _ (ap listed_of own) refl

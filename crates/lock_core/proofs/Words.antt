@@ -1,5 +1,5 @@
 -- What a write of one word does to the heap: one field changes at one index, since all places differ.
-use Rattle.std.proofs.Common.{◌≡◌, ◌≢◌, ℕ, zero, suc, ◌+◌, ◌*◌, ◌<◌, List, length, set, arith, get_or-set_other, get_or-set_same}
+use Rattle.std.proofs.Common.{◌≡◌, ◌≢◌, ℕ, zero, suc, ◌<◌, List, length, set, arith, get_or-set_other, get_or-set_same}
 use Rattle.lock_core.specs.Words.{Heap, heap_of, cell_place, lo_place, hi_place, home_place, epoch_place}
 
 -- the next word of a cell was written

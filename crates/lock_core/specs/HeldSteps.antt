@@ -1,8 +1,7 @@
 -- What a step makes of the held ranges: at most its own seat's grant is gained or given back, and no other changes.
 -- A seat gains the range of its own node alone, and only where it held nothing; the layer above the lock needs just that to keep its own rule.
 -- Readers and writers hold their ranges as in Kogan, Dice and Issa 2020; the fast path follows the same paper.
-use Rattle.std.specs.Prelude.{◌≡◌, ◌⊎◌, ℕ, List, slice_get, slice_set, Option, Some, None}
-use Rattle.lock_core.specs.Range.{Interval}
+use Rattle.std.specs.Prelude.{◌≡◌, ◌⊎◌, ℕ, slice_get, slice_set, Some, None}
 use Rattle.lock_core.specs.declared.range.Held.{Held}
 use Rattle.lock_core.specs.declared.views.View.{View}
 use Rattle.lock_core.specs.declared.views.Own.{Own}

@@ -1,9 +1,8 @@
 -- The invariant of the list lock, in nine parts, over the words as a heap and the views by seat.
 -- Every kind of step keeps all parts together, in every interleaving; from them follow exclusion and that no node is used again while a seat may reach it. The parts speak of targets and cells as `specs/Paths.antt` has them, and of places of nodes by counts.
 -- The argument for the list is that of Kogan, Dice and Issa 2020; homes, epochs and the barrier are this project's own profile.
-use Rattle.std.specs.Prelude.{◌≡◌, ◌≢◌, ◌⊎◌, ℕ, suc, ◌+◌, ◌*◌, ◌/◌, ◌%◌, ◌^◌, ◌<◌, ◌≤◌, ◌==◌, true, if◌then◌else◌, List, slice_get, Option, Some, None}
-use Rattle.lock_core.specs.Range.{Interval, IsRange, Overlaps}
-use Rattle.lock_core.specs.declared.range.Mode.{Mode}
+use Rattle.std.specs.Prelude.{◌≡◌, ◌≢◌, ◌⊎◌, ℕ, suc, ◌+◌, ◌*◌, ◌/◌, ◌%◌, ◌≤◌, ◌==◌, true, if◌then◌else◌, List, slice_get, Option, Some, None}
+use Rattle.lock_core.specs.Range.{IsRange, Overlaps}
 use Rattle.lock_core.specs.declared.range.Mode.TheVariants.{Reader, Writer}
 use Rattle.lock_core.specs.declared.views.View.{View}
 use Rattle.lock_core.specs.declared.views.Cursor.{Cursor}
@@ -15,7 +14,6 @@ use Rattle.lock_core.specs.Words.{Heap, to, cell_of, hi_word, IsMarked, IsUnmark
 use Rattle.lock_core.specs.Nodes.{Filled, Listed, filling, listed, times, own_times}
 use Rattle.lock_core.specs.Compare.{compared}
 use Rattle.lock_core.specs.Rows.{IsAtPlace}
-use Rattle.lock_core.specs.Machine.{Machine, heap}
 use Rattle.lock_core.specs.Sizes.{IsFilledInOrder}
 
 -- the view of seat i is v

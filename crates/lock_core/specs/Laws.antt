@@ -1,12 +1,16 @@
 -- What is proved of the machine: laws over the definitions alone, each named by the contract of a public function with no body.
 -- A lock is a state with the sizes that its type keeps and the invariant. The start is one, every step keeps it, and it gives exclusion and no reuse; so both hold after every run.
 -- Kogan, Dice and Issa 2020 argue for their list in prose; the barrier before reuse is this project's own profile.
-use Rattle.std.specs.Prelude.{◌≡◌, ℕ, ◌<◌, ◌≤◌, ◌↔◌, List, Option, Some, slice_get}
+use Rattle.std.specs.Prelude.{◌≡◌, ℕ, suc, ◌<◌, ◌≤◌, ◌↔◌, List, Some, slice_get}
+use Rattle.lock_core.specs.Range.{Overlaps}
 use Rattle.lock_core.specs.Grants.{IsExclusive}
+use Rattle.lock_core.specs.declared.range.Mode.TheVariants.{Reader, Writer}
 use Rattle.lock_core.specs.declared.views.View.{View}
 use Rattle.lock_core.specs.declared.steps.Step.{Step}
 use Rattle.lock_core.specs.declared.steps.Step.TheVariants.{ClearHome}
-use Rattle.lock_core.specs.Nodes.{times}
+use Rattle.lock_core.specs.Paths.{Reach}
+use Rattle.lock_core.specs.Words.{to}
+use Rattle.lock_core.specs.Nodes.{Listed, listed, times}
 use Rattle.lock_core.specs.Rows.{Plan, Row}
 use Rattle.lock_core.specs.Machine.{Machine, heap, plan, after, run, start, held_by_seat}
 use Rattle.lock_core.specs.Sizes.{IsSized}
@@ -32,6 +36,12 @@ Keeps step = (m next : Machine) (s : ℕ) → IsLock m → after m s step ≡ So
 -- no two conflicting ranges are held
 abbrev pub LockIsExclusive : Type 0
 LockIsExclusive = (m : Machine) → IsLock m → IsExclusive (held_by_seat m)
+
+-- of a linked reader and a linked writer that overlap the reader stands before the writer
+abbrev pub ReaderStandsFirst : Type 0
+ReaderStandsFirst =
+    (m : Machine) (i j : ℕ) (v u : View) (r w : Listed) → IsLock m → slice_get m.views i ≡ Some v → slice_get m.views j ≡ Some u → v.own ≡ listed r → u.own ≡ listed w →
+    r.mode ≡ Reader → w.mode ≡ Writer → Overlaps r.range w.range → Reach (to (heap m)) w.node (to (heap m) (suc r.node))
 
 -- no view may reach a node that is ready or being filled
 abbrev pub LockHasNoReuse : Type 0

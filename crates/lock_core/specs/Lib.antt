@@ -6,6 +6,7 @@ pub mod Invariant
 pub mod Laws
 pub mod Machine
 pub mod Nodes
+pub mod PathLengths
 pub mod Paths
 pub mod Places
 pub mod Range

@@ -1,8 +1,7 @@
 -- The list lock as a pure machine: its state, and a step of a seat as a function.
 -- `plan` computes the row of the table that a view enables; that it is the relation `Row`, for every step, is proved. A state with all its words and views is a `Machine`; `start` is the state before any step.
 -- This project's own profile.
-use Rattle.std.specs.Prelude.{◌≡◌, ℕ, zero, suc, ◌+◌, ◌-◌, ◌*◌, ◌/◌, ◌%◌, ◌^◌, ◌<◌, ◌≤◌, ◌==◌, ◌&&◌, nat_lt, nat_le, Bool, true, false, not, if◌then◌else◌, List, [], ◌∷◌, map, length, replicate, slice_get, slice_index, slice_set, is_some, is_none, unwrap_or, option_map, Option, Some, None, ◌++◌}
-use Rattle.lock_core.specs.declared.range.Mode.{Mode}
+use Rattle.std.specs.Prelude.{◌≡◌, ℕ, zero, suc, ◌+◌, ◌-◌, ◌*◌, ◌%◌, ◌^◌, ◌==◌, ◌&&◌, nat_lt, nat_le, Bool, true, false, not, if◌then◌else◌, List, [], ◌∷◌, map, replicate, slice_get, slice_index, slice_set, is_some, is_none, unwrap_or, option_map, Option, Some, None, ◌++◌}
 use Rattle.lock_core.specs.declared.range.Held.{Held}
 use Rattle.lock_core.specs.declared.range.Grant.{Grant}
 use Rattle.lock_core.specs.declared.views.View.{View}
@@ -13,8 +12,8 @@ use Rattle.lock_core.specs.declared.views.Own.{Own}
 use Rattle.lock_core.specs.declared.views.Own.TheVariants.{Nothing, Filling, Linked}
 use Rattle.lock_core.specs.declared.steps.Step.{Step}
 use Rattle.lock_core.specs.declared.steps.Step.TheVariants.{Enter, Leave, ReadEpoch, ReadHome, GiveHome, FillLo, FillHi, Aim, ClearHome, Walk, ReadLo, ReadHi, Link, Unlink, Mark, QuickLink, QuickUnlink, Settle}
-use Rattle.lock_core.specs.Words.{Heap, heap_of, to, word_count, cell_place, epoch_place, lo_place, hi_place, home_place, hi_word, cell_of, plain_node_of}
-use Rattle.lock_core.specs.Nodes.{Filled, Listed, filling, listed, filled_of, listed_of, times, own_times}
+use Rattle.lock_core.specs.Words.{Heap, heap_of, word_count, cell_place, epoch_place, lo_place, hi_place, home_place, hi_word, cell_of, plain_node_of}
+use Rattle.lock_core.specs.Nodes.{filled_of, listed_of, times}
 use Rattle.lock_core.specs.Views.{entered, left, epoch_read, home_read, gave_home, lo_filled, hi_filled, aimed_at, taken, walk_cell, walked, lo_read, hi_read, dropped, todo_of, linked, unlinked, marked, quick_linked, quick_unlinked, settled}
 use Rattle.lock_core.specs.Rows.{Plan, loads, stores, adds_one, counts_on, exchanges}
 

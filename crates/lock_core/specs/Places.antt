@@ -1,7 +1,7 @@
 -- The words of a layout by name, each with its place, and that all places differ.
 -- A word of the lock, or of the layer above it, is named by what it is; the places are those of `specs/Words.antt`.
 -- This project's own profile.
-use Rattle.std.specs.Prelude.{◌≡◌, ℕ, suc, ◌+◌, ◌*◌, ◌%◌, ◌^◌, ◌<◌, ◌≤◌, ◌==◌, Bool, Some}
+use Rattle.std.specs.Prelude.{◌≡◌, ℕ, suc, ◌+◌, ◌*◌, ◌%◌, ◌^◌, ◌<◌, ◌==◌, Bool, Some}
 use Rattle.lock_core.specs.Words.{cell_place, epoch_place, lo_place, hi_place, home_place, client_place, word_count, word_of, node_of}
 
 -- how many seats and how many client words a layout has

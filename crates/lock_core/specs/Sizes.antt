@@ -1,7 +1,7 @@
 -- What the type of a state keeps, whatever steps were made: sizes, and that every node and seat that it names is there.
 -- It is what a step needs to be safe and to take no memory: lists of different nodes of one seat are no longer than the room that was reserved for them.
 -- This project's own profile.
-use Rattle.std.specs.Prelude.{◌≡◌, ◌≢◌, ℕ, suc, ◌+◌, ◌*◌, ◌/◌, ◌%◌, ◌^◌, ◌<◌, ◌≤◌, ◌==◌, if◌then◌else◌, List, ◌∷◌, length, slice_get, slice_index, Option, Some, None}
+use Rattle.std.specs.Prelude.{◌≡◌, ◌≢◌, ℕ, suc, ◌+◌, ◌*◌, ◌/◌, ◌%◌, ◌<◌, ◌≤◌, ◌==◌, if◌then◌else◌, List, length, slice_get, slice_index, Option, Some, None}
 use Rattle.lock_core.specs.Range.{Interval, IsRange}
 use Rattle.lock_core.specs.declared.range.Mode.{Mode}
 use Rattle.lock_core.specs.declared.views.Todo.{Todo}

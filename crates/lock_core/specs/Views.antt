@@ -1,9 +1,8 @@
 -- What each step makes of the stepping seat's view, by the value that its word had.
 -- A view changes at its own seat's steps alone. The definitions stand in the order of the steps; the rows of the table and the computing plan both cite them.
 -- Cursors follow Kogan, Dice and Issa 2020; epochs, homes, notes and the barrier are this project's own profile.
-use Rattle.std.specs.Prelude.{◌≡◌, ℕ, suc, ◌+◌, ◌-◌, ◌*◌, ◌/◌, ◌%◌, ◌^◌, ◌==◌, ◌&&◌, min, Bool, true, false, if◌then◌else◌, List, [], ◌∷◌, ◌++◌, take, drop, replicate, slice_get, slice_set, unwrap_or, option_map, Option, Some, None}
+use Rattle.std.specs.Prelude.{ℕ, suc, ◌+◌, ◌-◌, ◌*◌, ◌/◌, ◌%◌, ◌^◌, ◌==◌, ◌&&◌, min, Bool, true, false, if◌then◌else◌, List, [], ◌∷◌, ◌++◌, take, drop, replicate, slice_get, slice_set, unwrap_or, option_map, Option, Some, None}
 use Rattle.std.specs.List.{list_all}
-use Rattle.lock_core.specs.Range.{Interval}
 use Rattle.lock_core.specs.declared.range.Mode.{Mode}
 use Rattle.lock_core.specs.declared.range.Mode.TheVariants.{Reader, Writer}
 use Rattle.lock_core.specs.declared.views.View.{View}
@@ -14,8 +13,8 @@ use Rattle.lock_core.specs.declared.views.Own.{Own}
 use Rattle.lock_core.specs.declared.views.Own.TheVariants.{Nothing, Filling, Linked}
 use Rattle.lock_core.specs.declared.compare.Verdict.{Verdict}
 use Rattle.lock_core.specs.declared.compare.Verdict.TheVariants.{Past, Stop, Conflict}
-use Rattle.lock_core.specs.Words.{node_of, cell_of, plain_node_of}
-use Rattle.lock_core.specs.Nodes.{Filled, Listed, filling, listed, without}
+use Rattle.lock_core.specs.Words.{cell_of, plain_node_of}
+use Rattle.lock_core.specs.Nodes.{Filled, without}
 use Rattle.lock_core.specs.Compare.{verdict_of}
 
 -- an epoch counts on, and wraps

@@ -21,7 +21,11 @@ pub enum Verdict {
 fn mode_in(word: u64) -> Mode
     ensures { result ≡ mode_of word }
 {
-    if word % 2 == 1 { Mode::Writer } else { Mode::Reader }
+    if word % 2 == 1 {
+        Mode::Writer
+    } else {
+        Mode::Reader
+    }
 }
 
 fn reads(mode: Mode) -> bool

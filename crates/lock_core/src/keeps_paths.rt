@@ -1,7 +1,8 @@
-// The steps that change the list's paths keep the lock: linking and unlinking a node, marking the own one, and the two steps of the fast path.
+// The steps that change the list's paths keep the lock: linking and unlinking a node, marking the own one, and the two steps of the fast path; and every path is short.
 // Each law is a public function with nothing to run. From every state that meets the invariant this step, of any seat and wherever it is enabled, leads to a state that meets it, also where its exchange fails; and each law says which grant the step gains or gives back.
 // The list follows Kogan, Dice and Issa 2020, with marks as in Harris 2001; the invariant in nine parts is this project's own profile.
 ghost use Rattle.lock_core.specs.Laws.{Keeps};
+ghost use Rattle.lock_core.specs.PathLengths.{PathsAreShort};
 ghost use Rattle.lock_core.specs.HeldSteps.{ChangesNoGrant, MayGain, AlwaysGivesBack, MayGiveBack};
 
 use crate::steps::Step;
@@ -34,4 +35,9 @@ pub fn quick_link_keeps()
 pub fn quick_unlink_keeps()
     ensures keeps { Keeps Step.QuickUnlink }
     ensures grants { MayGiveBack Step.QuickUnlink }
+{}
+
+/// In every state that meets the invariant a path that ends, from the head or from any node that is there, has at most sixteen nodes for each seat.
+pub fn paths_are_short()
+    ensures { PathsAreShort }
 {}

@@ -142,11 +142,9 @@ pub fn read_word(w: u64) -> (Option<u32>, bool)
 /// All places of words differ, and lie below the number of words: a law, with nothing to run.
 pub fn places_differ()
     ensures { PlacesDiffer }
-{
-}
+{}
 
 /// A code that is read back gives the node and the mark of which it was made: a law, with nothing to run.
 pub fn codes_read_back()
     ensures { CodesReadBack }
-{
-}
+{}

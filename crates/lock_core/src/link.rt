@@ -44,7 +44,7 @@ pub(crate) fn link(seats: u32, seat: u32, words: &mut [u64], view: &mut View) ->
         return false;
     }
     let place = cell(Layout::of(seats, 0), cursor.prev);
-    if words[place] == cursor.cur {
+    if words[place] == aimed {
         let Ok(range) = Range::of(lo, hi) else {
             unreachable!()
         };

@@ -6,11 +6,9 @@ ghost use Rattle.lock_core.specs.Laws.{RunsAreExclusive, RunsHaveNoReuse};
 /// After any run, however long and however its seats take turns, no two conflicting ranges are held: writers exclude each other and readers, and readers share.
 pub fn runs_are_exclusive()
     ensures { RunsAreExclusive }
-{
-}
+{}
 
 /// After any run no seat may reach a node that is ready or being filled, so that its words may be written anew.
 pub fn runs_have_no_reuse()
     ensures { RunsHaveNoReuse }
-{
-}
+{}

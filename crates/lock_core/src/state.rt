@@ -195,7 +195,10 @@ fn held_with(own: Own) -> Option<Held>
         Own::Nothing => None,
         Own::Filling { .. } => None,
         Own::Linked {
-            range, mode, todo, ..
+            range,
+            mode,
+            todo,
+            ..
         } => {
             if todo == Todo::Done {
                 Some(Held { range, mode })
@@ -236,3 +239,6 @@ pub fn grants(alloc: Global, state: &State) -> Result<Vec<Grant>, AllocError>
 {
     grants_of(alloc, &state.views)
 }
+
+#[cfg(test)]
+mod tests;

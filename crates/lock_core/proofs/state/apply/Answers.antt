@@ -1,4 +1,4 @@
-use Rattle.std.proofs.Common.{◌≡◌, ℕ, Some, List, length, sym, ap, ◌∙◌}
+use Rattle.std.proofs.Common.{ℕ, Some, List, length, sym, ap, ◌∙◌}
 use Rattle.lock_core.specs.declared.views.View.{View}
 use Rattle.lock_core.proofs.Safety.{may_step}
 use Rattle.lock_core.proofs.SizedSteps.{sized_after}
@@ -16,7 +16,7 @@ invariant_of-state c =
     let at = at_seat _ c.args.seat c.index_mut.result.now c.state.invariant c.if-seat-state.false ∙ ap (λ (u : View). Some u) (sym c.index_mut.ensures.value) in
     let m = rw c.deref_mut.ensures.value at (c.if-make.ensures {u = tt}) in
     rw (rewritten c.state.inside.words.items c.make.new.words c.state.inside.words.len l k)
-        (sized_after _ _ c.args.seat c.args.step c.state.invariant (after_made _ c.args.seat c.args.step c.index_mut.result.now c.make.new.view c.make.new.words at m))
+    (sized_after _ _ c.args.seat c.args.step c.state.invariant (after_made _ c.args.seat c.args.step c.index_mut.result.now c.make.new.view c.make.new.words at m))
 
 pub returns-then-make-clause-made : goal.returns-then-make-clause-made
 returns-then-make-clause-made c =
@@ -24,7 +24,7 @@ returns-then-make-clause-made c =
     let at = at_seat _ c.args.seat c.index_mut.result.now c.state.invariant c.if-seat-state.false ∙ ap (λ (u : View). Some u) (sym c.index_mut.ensures.value) in
     let m = rw c.deref_mut.ensures.value at (c.if-make.ensures {u = tt}) in
     rw (← c.state.view_is, rewritten c.state.inside.words.items c.make.new.words c.state.inside.words.len l k)
-        (after_made _ c.args.seat c.args.step c.index_mut.result.now c.make.new.view c.make.new.words at m)
+    (after_made _ c.args.seat c.args.step c.index_mut.result.now c.make.new.view c.make.new.words at m)
 
 pub returns-clause-refused : goal.returns-clause-refused
 returns-clause-refused c =

@@ -1,8 +1,8 @@
-use Rattle.std.proofs.Common.{◌≡◌, ℕ, List, ◌++◌, ◌∷◌, [], ◌+◌, map, ap, ◌∙◌, sym, arith, rules, subst}
+use Rattle.std.proofs.Common.{◌≡◌, ℕ, List, ◌++◌, ◌∷◌, [], map, ap, ◌∙◌, sym, arith, rules, subst}
 use Rattle.std.specs.Prelude.{replicate}
 use Rattle.lock_core.specs.declared.views.View.{View}
 use Rattle.lock_core.specs.Words.{word_count}
-use Rattle.lock_core.specs.Machine.{Machine, numbers_from, start_view}
+use Rattle.lock_core.specs.Machine.{numbers_from, start_view}
 use Rattle.lock_core.specs.Sizes.{IsSized}
 use Rattle.lock_core.proofs.Opening.{map_more, start_sized}
 use Rattle.lock_core.proofs.state.fresh.Goals as goal

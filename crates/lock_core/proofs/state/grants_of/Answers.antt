@@ -1,8 +1,7 @@
-use Rattle.std.proofs.Common.{◌≡◌, ℕ, List, ◌++◌, ◌+◌, map, take, ap, ◌∙◌, sym, arith, Some}
+use Rattle.std.proofs.Common.{◌++◌, ap, ◌∙◌, sym, arith, Some}
 use Rattle.std.proofs.lemmas.Option.{slice_get-get_or}
-use Rattle.lock_core.specs.declared.range.Grant.{Grant}
 use Rattle.lock_core.specs.declared.views.View.{View}
-use Rattle.lock_core.specs.Machine.{grants_from, grant_of, held_at}
+use Rattle.lock_core.specs.Machine.{grant_of, held_at}
 use Rattle.lock_core.proofs.Opening.{grants_more}
 use Rattle.lock_core.proofs.state.grants_of.Goals as goal
 

@@ -1,5 +1,4 @@
-use Rattle.std.proofs.Common.{◌≡◌, ◌++◌, ◌∷◌, [], ◌+◌, ap, ◌∙◌, sym, arith, add-one, length}
-use Rattle.lock_core.specs.Machine.{numbers_from}
+use Rattle.std.proofs.Common.{◌++◌, ◌∷◌, [], ◌+◌, ap, ◌∙◌, arith, add-one, length}
 use Rattle.lock_core.proofs.Opening.{numbers_length, numbers_more}
 use Rattle.lock_core.proofs.state.nodes_from.Goals as goal
 

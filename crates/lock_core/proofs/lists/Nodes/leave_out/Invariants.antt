@@ -1,4 +1,4 @@
-use Rattle.std.proofs.Common.{◌≡◌, ◌++◌, ◌≤◌, ◌-◌, ℕ, take, drop, length, vec_capacity}
+use Rattle.std.proofs.Common.{◌≡◌, ◌++◌, ◌≤◌, ◌-◌, take, drop, length, vec_capacity}
 use Rattle.lock_core.specs.Nodes.{without}
 use Rattle.lock_core.proofs.lists.Nodes.leave_out.Given as goal
 

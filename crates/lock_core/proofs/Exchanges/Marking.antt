@@ -1,12 +1,11 @@
 -- Mark: the own node gets its mark and is used from now on. No path changes.
-use Rattle.std.proofs.Common.{◌≡◌, ◌≢◌, ◌⊎◌, ℕ, suc, ◌+◌, ◌*◌, ◌/◌, ◌%◌, List, [], ◌∷◌, ◌++◌, set, Some, None, inl, inr, ⊎_elim, refl, sym, ap, ◌∙◌, subst, arith}
+use Rattle.std.proofs.Common.{◌≡◌, ◌≢◌, ℕ, suc, ◌+◌, ◌*◌, ◌/◌, ◌%◌, List, set, Some, inl, inr, ⊎_elim, refl, sym, ap, ◌∙◌, subst, arith}
 use Rattle.std.proofs.lemmas.Bool.{cases_eq}
 use Rattle.lock_core.specs.declared.views.View.{View}
 use Rattle.lock_core.specs.declared.views.Cursor.{Cursor}
-use Rattle.lock_core.specs.declared.views.Own.TheVariants.{Nothing, Filling, Linked}
 use Rattle.lock_core.specs.Paths.{Reach, Ends}
 use Rattle.lock_core.specs.Words.{Heap, to, IsMarked, IsUnmarked}
-use Rattle.lock_core.specs.Nodes.{Listed, listed, times, own_times}
+use Rattle.lock_core.specs.Nodes.{Listed, listed}
 use Rattle.lock_core.specs.Views.{marked}
 use Rattle.lock_core.specs.Invariant.{IsViewOf, InChain, MayReach, IsUsed, IsAlone, LockInvariant}
 use Rattle.lock_core.proofs.Paths.{reach_same, ends_same, unreach, nothing_at_end}
@@ -15,7 +14,7 @@ use Rattle.lock_core.proofs.ByView.{new_view, each}
 use Rattle.lock_core.proofs.Counts.{own_linked, counts_moved, used_or_own, used_grows, own_is_used}
 use Rattle.lock_core.proofs.Judging.{before_same}
 use Rattle.lock_core.proofs.PathSteps.{Change, PathStep, listed_one}
-use Rattle.lock_core.proofs.Linking.{own_apart}
+use Rattle.lock_core.proofs.Exchanges.Linking.{own_apart}
 
 -- what the step takes, and what it finds
 pub record Case (seats : ℕ) (h now : Heap) (views : List View) (s : ℕ) (v : View) (g : Listed) : Type 0 where

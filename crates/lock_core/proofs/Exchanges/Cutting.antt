@@ -1,5 +1,5 @@
 -- A node is taken out of the list from behind a cell: what that does to the paths and to their order.
-use Rattle.std.proofs.Common.{◌≡◌, ◌≢◌, ◌⊎◌, ℕ, suc, ◌/◌, ◌%◌, inl, inr, ⊎_elim, refl, sym, ap, ◌∙◌, subst, arith}
+use Rattle.std.proofs.Common.{◌≡◌, ◌≢◌, ℕ, suc, ◌/◌, ◌%◌, inl, inr, ⊎_elim, sym, ap, ◌∙◌, subst, arith}
 use Rattle.std.proofs.lemmas.Bool.{cases_eq}
 use Rattle.lock_core.specs.Paths.{Reach, here}
 use Rattle.lock_core.specs.Words.{Heap, to, IsUnmarked}
@@ -8,7 +8,7 @@ use Rattle.lock_core.proofs.Paths.{cut_adds, cut_ends, cut_keeps, cut_keeps_from
 use Rattle.lock_core.proofs.Along.{reach_next}
 use Rattle.lock_core.proofs.Judging.{before_same, before_on}
 use Rattle.lock_core.proofs.PathSteps.{Change}
-use Rattle.lock_core.proofs.Putting.{IsLive}
+use Rattle.lock_core.proofs.Exchanges.Putting.{IsLive}
 
 -- node y, which cell p names, is taken out: p names what y names
 pub record Cut (h now : Heap) (p y : ℕ) : Type 0 where

@@ -7,22 +7,20 @@ use Rattle.lock_core.specs.declared.range.Mode.TheVariants.{Reader, Writer}
 use Rattle.lock_core.specs.declared.views.View.{View}
 use Rattle.lock_core.specs.declared.views.Cursor.{Cursor}
 use Rattle.lock_core.specs.declared.views.Own.{Own}
-use Rattle.lock_core.specs.declared.views.Own.TheVariants.{Nothing, Filling, Linked}
-use Rattle.lock_core.specs.declared.views.Todo.TheVariants.{Forward, FromHead, Done}
+use Rattle.lock_core.specs.declared.views.Todo.TheVariants.{Forward, FromHead}
 use Rattle.lock_core.specs.Paths.{Reach}
 use Rattle.lock_core.specs.Words.{Heap, to, cell_of, plain_node_of, IsMarked, IsUnmarked}
 use Rattle.lock_core.specs.Nodes.{Filled, Listed, filling, listed, times, own_times}
 use Rattle.lock_core.specs.Views.{unlinked, own_at, seen_after}
-use Rattle.lock_core.specs.Invariant.{IsViewOf, InChain, Names, MayReach, IsUsed, IsLinked, IsRead, IsWritten, SeesFrom, HasToSee, LockInvariant}
+use Rattle.lock_core.specs.Invariant.{IsViewOf, InChain, Names, IsUsed, IsLinked, IsRead, IsWritten, SeesFrom, HasToSee, LockInvariant}
 use Rattle.lock_core.proofs.Paths.{nothing_at_end}
 use Rattle.lock_core.proofs.Words.{WroteCell}
 use Rattle.lock_core.proofs.ByView.{kept_view, new_view, is_view}
 use Rattle.lock_core.proofs.Counts.{own_linked}
 use Rattle.lock_core.proofs.PathSteps.{Change, Fresh, PathStep, listed_one, not_both}
-use Rattle.lock_core.proofs.Putting.{IsLive}
-use Rattle.lock_core.proofs.Cutting.{Cut, cut_change, cut_in_chain, cut_not_in_chain}
+use Rattle.lock_core.proofs.Exchanges.Cutting.{Cut, cut_change, cut_in_chain, cut_not_in_chain}
 use Rattle.lock_core.proofs.Coming.{done, CameHome, coming, writer_blind}
-use Rattle.lock_core.proofs.Linking.{own_apart, prev_live, head_even}
+use Rattle.lock_core.proofs.Exchanges.Linking.{own_apart, prev_live, head_even}
 use Rattle.lock_core.proofs.SizedSteps.{plain_is}
 
 -- an own node that a cursor came to its place with is as it was, or done

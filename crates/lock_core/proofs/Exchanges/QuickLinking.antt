@@ -1,13 +1,11 @@
 -- QuickLink, where its exchange succeeds: the own node is put into the empty list, and its range is held at once.
-use Rattle.std.proofs.Common.{◌≡◌, ◌≢◌, ◌⊎◌, ℕ, suc, ◌+◌, ◌*◌, ◌/◌, ◌%◌, List, set, Some, None, inl, inr, ⊎_elim, refl, sym, ap, ◌∙◌, subst, arith}
-use Rattle.lock_core.specs.Range.{Interval}
+use Rattle.std.proofs.Common.{◌≡◌, ℕ, suc, ◌+◌, ◌*◌, ◌/◌, ◌%◌, List, set, Some, inl, inr, ⊎_elim, refl, sym, ap, ◌∙◌, subst, arith}
 use Rattle.lock_core.specs.declared.views.View.{View}
 use Rattle.lock_core.specs.declared.views.Cursor.{Cursor}
-use Rattle.lock_core.specs.declared.views.Todo.TheVariants.{FromHead, Done}
-use Rattle.lock_core.specs.declared.views.Own.TheVariants.{Filling, Linked}
+use Rattle.lock_core.specs.declared.views.Todo.TheVariants.{Done}
 use Rattle.lock_core.specs.Paths.{Reach}
 use Rattle.lock_core.specs.Words.{Heap, to, IsUnmarked}
-use Rattle.lock_core.specs.Nodes.{Filled, Listed, filling, listed, times, own_times}
+use Rattle.lock_core.specs.Nodes.{Filled, Listed, filling, times, own_times}
 use Rattle.lock_core.specs.Views.{quick_linked}
 use Rattle.lock_core.specs.Invariant.{IsViewOf, InChain, MayReach, IsKnown, IsWritten, HasRange, IsAlone, LockInvariant}
 use Rattle.lock_core.proofs.Paths.{put_via, nothing_at_end}
@@ -15,8 +13,8 @@ use Rattle.lock_core.proofs.Words.{WroteCell}
 use Rattle.lock_core.proofs.ByView.{new_view, each}
 use Rattle.lock_core.proofs.Judging.{hi_is}
 use Rattle.lock_core.proofs.PathSteps.{PathStep, IsNew, listed_one}
-use Rattle.lock_core.proofs.Putting.{Put, put_change, put_next, own_in_chain}
-use Rattle.lock_core.proofs.Linking.{Ready, ready}
+use Rattle.lock_core.proofs.Exchanges.Putting.{Put, put_change, put_next, own_in_chain}
+use Rattle.lock_core.proofs.Exchanges.Linking.{Ready, ready}
 
 -- what the step takes, and what it finds
 pub record Case (seats : ℕ) (h now : Heap) (views : List View) (s : ℕ) (v : View) (f : Filled) (lo hi : ℕ) : Type 0 where

@@ -1,14 +1,13 @@
 -- Link, where its exchange succeeds: the own node is put into the list at the cursor's place.
-use Rattle.std.proofs.Common.{◌≡◌, ◌≢◌, ◌⊎◌, ℕ, suc, ◌+◌, ◌*◌, ◌/◌, ◌%◌, ◌<◌, List, set, Some, None, inl, inr, ⊎_elim, refl, sym, ap, ◌∙◌, subst, arith}
+use Rattle.std.proofs.Common.{◌≡◌, ◌≢◌, ◌⊎◌, ℕ, suc, ◌+◌, ◌*◌, ◌/◌, ◌%◌, List, Some, None, inl, inr, ⊎_elim, refl, sym, ap, ◌∙◌, subst, arith}
 use Rattle.std.specs.Prelude.{Option}
 use Rattle.std.proofs.lemmas.Bool.{cases_eq}
-use Rattle.lock_core.specs.Range.{Interval, IsRange, Overlaps}
+use Rattle.lock_core.specs.Range.{IsRange, Overlaps}
 use Rattle.lock_core.specs.declared.range.Mode.{Mode}
 use Rattle.lock_core.specs.declared.range.Mode.TheVariants.{Reader, Writer}
 use Rattle.lock_core.specs.declared.views.View.{View}
 use Rattle.lock_core.specs.declared.views.Cursor.{Cursor}
 use Rattle.lock_core.specs.declared.views.Todo.TheVariants.{Forward, FromHead}
-use Rattle.lock_core.specs.declared.views.Own.TheVariants.{Filling, Linked}
 use Rattle.lock_core.specs.Paths.{Reach, here}
 use Rattle.lock_core.specs.Words.{Heap, to, cell_of, hi_word, IsMarked, IsUnmarked}
 use Rattle.lock_core.specs.Nodes.{Filled, Listed, filling, listed, times, own_times}
@@ -20,8 +19,8 @@ use Rattle.lock_core.proofs.Along.{in_line, clear_behind}
 use Rattle.lock_core.proofs.Words.{WroteCell}
 use Rattle.lock_core.proofs.Counts.{own_filling, own_linked, one_seat}
 use Rattle.lock_core.proofs.Judging.{past_before, stop_before, hi_is, writer_odd}
-use Rattle.lock_core.proofs.PathSteps.{PathStep, IsNew, listed_one, invariant_now}
-use Rattle.lock_core.proofs.Putting.{IsLive, Put, put_change, put_next, own_in_chain, chain_keeps}
+use Rattle.lock_core.proofs.PathSteps.{PathStep, IsNew, listed_one}
+use Rattle.lock_core.proofs.Exchanges.Putting.{IsLive, Put, put_change, put_next, own_in_chain, chain_keeps}
 
 -- the own nodes of different seats differ
 pub own_apart : (h : Heap) (views : List View) (i j : ℕ) (v u : View) (x y : ℕ) → Places h views → IsViewOf views i v → IsViewOf views j u → own_times x v.own ≡ 1 → own_times y u.own ≡ 1 → i ≢ j → x ≢ y

@@ -1,22 +1,19 @@
 -- A seat lets its cursor go, since an exchange failed: no word changes.
 -- A reader that validates begins again behind its own node and a writer at the head, and what they have to see is still before them.
-use Rattle.std.proofs.Common.{◌≡◌, ◌≢◌, ◌⊎◌, ℕ, suc, ◌+◌, ◌*◌, ◌%◌, List, set, Some, None, inl, inr, ⊎_elim, refl, sym, ap, ◌∙◌, subst, arith}
+use Rattle.std.proofs.Common.{◌≡◌, ◌≢◌, ◌⊎◌, ℕ, suc, ◌+◌, ◌*◌, ◌%◌, List, set, Some, inl, inr, ⊎_elim, refl, sym, ap, ◌∙◌, subst, arith}
 use Rattle.std.proofs.lemmas.Bool.{cases_eq}
-use Rattle.lock_core.specs.Range.{Overlaps}
-use Rattle.lock_core.specs.declared.range.Mode.TheVariants.{Reader, Writer}
 use Rattle.lock_core.specs.declared.views.View.{View}
 use Rattle.lock_core.specs.declared.views.Cursor.{Cursor}
 use Rattle.lock_core.specs.declared.views.Todo.{Todo}
 use Rattle.lock_core.specs.declared.views.Todo.TheVariants.{Forward, FromHead}
 use Rattle.lock_core.specs.Paths.{Reach}
 use Rattle.lock_core.specs.Words.{Heap, to}
-use Rattle.lock_core.specs.Nodes.{Listed, listed, times, own_times}
 use Rattle.lock_core.specs.Views.{dropped}
 use Rattle.lock_core.specs.Invariant.{IsViewOf, InChain, MayReach, IsHeldBy, IsAlone, HasToSee, first_cell_of, LockInvariant}
 use Rattle.lock_core.proofs.ByView.{kept_view, new_view, is_view, each}
 use Rattle.lock_core.proofs.Counts.{own_linked}
 use Rattle.lock_core.proofs.PathSteps.{Change, PathStep}
-use Rattle.lock_core.proofs.Linking.{own_apart, reader_first}
+use Rattle.lock_core.proofs.Exchanges.Linking.{own_apart, reader_first}
 
 module _ (h : Heap) (views : List View) (s : ℕ) (v : View) (inv : LockInvariant h views) (at : IsViewOf views s v) where
   abbrev view_now : View

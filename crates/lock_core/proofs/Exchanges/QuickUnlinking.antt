@@ -1,18 +1,16 @@
 -- QuickUnlink, where its exchange succeeds: the own node, which stands alone, is taken out of the list into the hand.
-use Rattle.std.proofs.Common.{◌≡◌, ◌≢◌, ◌⊎◌, ℕ, suc, ◌+◌, ◌*◌, ◌/◌, ◌%◌, List, set, Some, None, inl, inr, ⊎_elim, refl, sym, ap, ◌∙◌, subst, arith}
+use Rattle.std.proofs.Common.{◌≡◌, ℕ, suc, ◌+◌, ◌*◌, ◌/◌, List, set, Some, None, inl, inr, ⊎_elim, refl, sym, ap, ◌∙◌, subst, arith}
 use Rattle.lock_core.specs.declared.views.View.{View}
-use Rattle.lock_core.specs.declared.views.Own.TheVariants.{Nothing, Filling, Linked}
-use Rattle.lock_core.specs.Paths.{Reach}
 use Rattle.lock_core.specs.Words.{Heap, to}
-use Rattle.lock_core.specs.Nodes.{Listed, listed, times, own_times}
+use Rattle.lock_core.specs.Nodes.{Listed, listed}
 use Rattle.lock_core.specs.Views.{quick_unlinked}
 use Rattle.lock_core.specs.Invariant.{IsViewOf, InChain, MayReach, IsUsed, IsAlone, LockInvariant}
 use Rattle.lock_core.proofs.Words.{WroteCell}
 use Rattle.lock_core.proofs.ByView.{new_view}
 use Rattle.lock_core.proofs.Counts.{own_linked, counts_moved, used_or_own, used_grows, own_is_used}
 use Rattle.lock_core.proofs.PathSteps.{PathStep, listed_one}
-use Rattle.lock_core.proofs.Cutting.{Cut, cut_change, cut_in_chain, cut_not_in_chain}
-use Rattle.lock_core.proofs.Linking.{own_apart}
+use Rattle.lock_core.proofs.Exchanges.Cutting.{Cut, cut_change, cut_in_chain, cut_not_in_chain}
+use Rattle.lock_core.proofs.Exchanges.Linking.{own_apart}
 
 -- what the step takes, and what it finds
 pub record Case (seats : ℕ) (h now : Heap) (views : List View) (s : ℕ) (v : View) (g : Listed) : Type 0 where
