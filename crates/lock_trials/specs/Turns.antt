@@ -1,8 +1,11 @@
 -- What a number of turns leaves of a seat.
 -- Its pass and the record of its steps may differ after; what a next call asks of it doesn't.
-use Rattle.std.specs.Prelude.{◌≡◌, ◌<◌, ◌≤◌, None}
+use Rattle.std.specs.Prelude.{◌≡◌, ℕ, ◌<◌, ◌≤◌, List, None, false}
+use mathlib.Core.Option.{some}
+use lib.ListN.{get_elem?}
 use Rattle.lock_core.specs.Range.{Interval}
 use Rattle.range_rw.specs.Seats.{Known}
+use Rattle.lock_trials.specs.declared.turnstile.Visits.{Visits}
 use Rattle.lock_trials.specs.Turnstile.{door}
 
 -- the seat is of the same table and number, and holds nothing
@@ -14,3 +17,7 @@ pub record IsBack {P : Type 0} (before after : Known P) : Type 0 where
 -- a range has the door in it
 abbrev pub HasDoorIn : Interval → Type 0
 HasDoorIn range = (range.lo ≤ door) × (door < range.hi)
+
+-- no writer of these seats is inside
+abbrev pub IsOutside : List (Known Visits) → Type 0
+IsOutside seats = (k : ℕ) (s : Known Visits) → get_elem? seats k ≡ some s → s.pass.inside ≡ false

@@ -1,14 +1,12 @@
 -- The rule of the turnstile: client word 0 counts the writers inside, and who is inside holds a range with the door in it as a writer.
 -- No two such ranges are held together, so the count is 0 or 1. The rule and its laws are this project's own; they stand here, since the guard cites them.
-use Rattle.std.specs.Prelude.{◌≡◌, ◌≢◌, ℕ, zero, suc, ◌+◌, ◌-◌, ◌%◌, ◌^◌, ◌<◌, ◌≤◌, List, [], ◌∷◌, length, slice_index, slice_set, Option, Some, None, true, false, ◌⊎◌, refl}
+use Rattle.std.specs.Prelude.{◌≡◌, ◌≢◌, ℕ, zero, suc, ◌+◌, ◌-◌, ◌%◌, ◌^◌, ◌<◌, ◌≤◌, List, [], ◌∷◌, length, slice_index, slice_set, Option, Some, None, true, false, ◌⊎◌}
 use Rattle.std.proofs.Common.{set, get_or, sym, ap, ◌∙◌, subst, arith, inl, inr, ⊎_elim, length-set, get_or-set_same}
 use Rattle.std.proofs.lemmas.Bool.{false≢true}
 use mathlib.Core.Option.{some, some-injective, some-ne-none}
-use mathlib.Core.Logic.{dite}
-use native.Mathlib.Decide.{ℕ_discrete}
 use lib.ListN.{get_elem?}
 use Rattle.atomic_table.proofs.Lists.{at_set, set_here, set_else, set_again}
-use Rattle.lock_core.specs.Grants.{Grants, Holds, Conflicts, IsExclusive, IsFree}
+use Rattle.lock_core.specs.Grants.{Grants, Holds, IsExclusive, IsFree}
 use Rattle.lock_core.specs.Client.{ClientStep, loads, stores, adds, exchanges, words_after}
 use Rattle.lock_core.specs.declared.range.Mode.TheVariants.{Writer}
 use Rattle.lock_core.specs.declared.range.Held.{Held}

@@ -2,10 +2,18 @@
 // The guard counts the writers that are inside in a client word, and keeps in each pass what its writers came for; a reader may take it as an example of how a layer above the lock is written.
 #![tactic(auto)]
 
+mod crowd;
+mod opened;
+mod pairs;
+#[cfg(test)]
+mod tests;
 mod turns;
 mod turnstile;
 mod visits;
 
+pub use crowd::{add_all, visit_all};
+pub use opened::{open_free, open_turnstile};
+pub use pairs::{both, release_once, row_of, try_once};
 pub use turns::{add_turns, visit_turns};
 pub use turnstile::{Turnstile, Visits};
 pub use visits::{enter, leave, look};

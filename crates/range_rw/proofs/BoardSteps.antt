@@ -1,6 +1,6 @@
 -- Each kind of step of the board keeps the board's rule, over words and cores alone.
 -- A seat that has the turn is the only one, so what others know needs no look where it steps; a release changes a hi word alone, which nobody knows.
-use Rattle.std.proofs.Common.{◌≡◌, ◌≢◌, ℕ, zero, suc, ◌+◌, ◌*◌, ◌/◌, ◌<◌, ◌≤◌, Bool, true, false, cond, eqb, List, [], ◌∷◌, map, get_or, set, length, sym, refl, ap, ◌∙◌, subst, arith, eq-eqb, ne_eqb, ◌⊎◌, inl, inr, ⊎_elim}
+use Rattle.std.proofs.Common.{◌≡◌, ◌≢◌, ℕ, ◌+◌, ◌/◌, ◌<◌, ◌≤◌, true, false, cond, List, [], get_or, set, length, sym, refl, ap, ◌∙◌, subst, arith, eq-eqb, ne_eqb, ◌⊎◌, inl, inr, ⊎_elim}
 use Rattle.std.specs.Prelude.{Option, Some, None, ◌↔◌}
 use Rattle.std.proofs.lemmas.Bool.{false≢true}
 use Rattle.std.proofs.lemmas.List.{map-set, get_or-set_same, get_or-set_other}
@@ -8,15 +8,12 @@ use mathlib.Core.Option.{some, some-ne-none}
 use mathlib.Core.Logic.{dite}
 use native.Mathlib.Decide.{ℕ_discrete}
 use lib.ListN.{get_elem?}
-use prog.Atomic.{either}
-use Rattle.atomic_table.proofs.Lists.{at_set, set_else, set_again, at_map}
+use Rattle.atomic_table.proofs.Lists.{at_set, set_again, at_map}
 use Rattle.lock_core.specs.Range.{IsRange}
 use Rattle.lock_core.specs.Grants.{Grants, Holds, Conflicts, IsExclusive, IsFree}
 use Rattle.lock_core.specs.declared.range.Held.{Held}
 use Rattle.range_rw.specs.declared.views.Core.{Core}
-use Rattle.range_rw.specs.declared.views.LoadedLo.{LoadedLo}
-use Rattle.range_rw.specs.declared.views.Read.{Read}
-use Rattle.range_rw.specs.Board.{lo_place, hi_place, lock_words, held_in, held_of, grants_of, mode_of, IsAmong, Knows, IsBoard}
+use Rattle.range_rw.specs.Board.{lo_place, hi_place, lock_words, held_in, held_of, grants_of, mode_of, Knows, IsBoard}
 use Rattle.range_rw.specs.BoardSteps.{IsClear}
 use Rattle.range_rw.proofs.Lists.{at_below, from_map}
 

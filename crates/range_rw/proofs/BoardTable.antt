@@ -1,5 +1,5 @@
 -- Each kind of step of the board keeps the table's rule: the board's own by its step, the guard's by nothing, by its law of gain where a range is held from this step on, or by its law of loss where one is given back.
-use Rattle.std.proofs.Common.{◌≡◌, ◌≢◌, ℕ, zero, suc, ◌+◌, ◌-◌, ◌*◌, ◌/◌, ◌<◌, ◌≤◌, Bool, true, false, cond, eqb, List, [], ◌∷◌, map, take, drop, get_or, set, length, sym, refl, ap, ◌∙◌, subst, arith, eq-eqb, ne_eqb}
+use Rattle.std.proofs.Common.{◌≡◌, ◌≢◌, ℕ, zero, suc, ◌+◌, ◌-◌, ◌/◌, ◌<◌, Bool, true, false, cond, List, [], ◌∷◌, map, take, drop, get_or, set, length, sym, refl, ap, ◌∙◌, subst, arith, eq-eqb, ne_eqb}
 use Rattle.std.specs.Prelude.{Option, Some, None}
 use lib.Seq.{take-set-lt}
 use Rattle.std.proofs.lemmas.List.{drop-set-lt, get_or-take, length-take-le}
@@ -8,9 +8,8 @@ use mathlib.Core.Logic.{dite}
 use native.Mathlib.Decide.{ℕ_discrete}
 use lib.ListN.{get_elem?}
 use prog.Atomic.{either}
-use Rattle.atomic_table.specs.Table.{State, Me, keeps, stepped, Allows}
-use Rattle.atomic_table.proofs.Lists.{at_index, set_again, at_map}
-use Rattle.lock_core.specs.Range.{IsRange}
+use Rattle.atomic_table.specs.Table.{Me, keeps, Allows}
+use Rattle.atomic_table.proofs.Lists.{set_again, at_map}
 use Rattle.lock_core.specs.Grants.{Grants, Holds, IsFree}
 use Rattle.lock_core.specs.declared.range.Held.{Held}
 use Rattle.range_rw.specs.declared.views.Core.{Core}
@@ -18,7 +17,7 @@ use Rattle.range_rw.specs.declared.views.LoadedLo.{LoadedLo}
 use Rattle.range_rw.specs.declared.views.Read.{Read}
 use Rattle.range_rw.specs.declared.views.Part.{Part}
 use Rattle.range_rw.specs.declared.views.BoardView.{BoardView}
-use Rattle.range_rw.specs.Board.{lo_place, hi_place, lock_words, held_in, grants_of, mode_of, Knows, IsBoard}
+use Rattle.range_rw.specs.Board.{lo_place, hi_place, lock_words, held_in, grants_of, mode_of, IsBoard}
 use Rattle.range_rw.specs.BoardSteps.{BoardStep, takes_turn, reads_lo, reads_hi, writes_lo, writes_hi, gives_turn, releases, word_of, effect_of, core_after, pass_after, part_after, Tells, IsEnabled}
 use Rattle.range_rw.specs.Running.{core_of, pass_of, view, IsRunning, board_play}
 use Rattle.range_rw.specs.Seats.{IsTable}

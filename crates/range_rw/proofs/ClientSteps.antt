@@ -1,13 +1,12 @@
 -- A step on a client word keeps the table's rule by the guard's law of steps alone: it leaves the lock's words and the cores as they are.
-use Rattle.std.proofs.Common.{◌≡◌, ℕ, zero, suc, ◌+◌, ◌-◌, ◌%◌, ◌^◌, ◌<◌, ◌≤◌, eqb, List, [], ◌∷◌, map, take, drop, get_or, set, length, sym, refl, ap, ◌∙◌, subst, arith}
+use Rattle.std.proofs.Common.{◌≡◌, ℕ, zero, suc, ◌+◌, ◌-◌, ◌<◌, List, [], ◌∷◌, map, drop, get_or, set, length, sym, refl, ap, ◌∙◌, subst, arith}
 use Rattle.std.proofs.lemmas.List.{take-set-le, drop-set-add, get_or-drop, length-drop}
-use mathlib.Core.Option.{none, some}
+use mathlib.Core.Option.{some}
 use lib.ListN.{get_elem?}
-use prog.Atomic.{either}
-use Rattle.atomic_table.specs.Table.{State, Me, keeps, stepped, Allows}
+use Rattle.atomic_table.specs.Table.{Me, keeps, stepped, Allows}
 use Rattle.atomic_table.proofs.Lists.{set_again, at_map}
 use Rattle.lock_core.specs.Grants.{Grants}
-use Rattle.lock_core.specs.Client.{ClientStep, loads, stores, adds, exchanges, place_of, words_after, Moment, IsAllowed, IsMade}
+use Rattle.lock_core.specs.Client.{ClientStep, place_of, words_after, Moment, IsAllowed}
 use Rattle.range_rw.specs.declared.views.Core.{Core}
 use Rattle.range_rw.specs.declared.views.Part.{Part}
 use Rattle.range_rw.specs.declared.views.BoardView.{BoardView}

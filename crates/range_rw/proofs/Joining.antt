@@ -1,9 +1,9 @@
 -- All views are joined into one, which then has each part, so the guard's rule holds of the last words with no grant.
-use Rattle.std.proofs.Common.{◌≡◌, ◌≢◌, ℕ, zero, suc, ◌+◌, ◌-◌, ◌<◌, ◌≤◌, Bool, true, false, cond, eqb, List, [], ◌∷◌, ◌++◌, map, drop, take, get_or, set, length, replicate, sym, refl, ap, ◌∙◌, subst, arith, eq-eqb, ne_eqb, ⊎_elim}
+use Rattle.std.proofs.Common.{◌≡◌, ◌≢◌, ℕ, zero, suc, ◌+◌, ◌<◌, cond, eqb, List, [], ◌∷◌, ◌++◌, map, drop, take, get_or, set, length, replicate, sym, refl, ap, ◌∙◌, subst, arith, eq-eqb, ne_eqb, ⊎_elim}
 use Rattle.std.specs.Prelude.{None, remove}
-use mathlib.Core.Option.{some, some-injective, some-ne-none}
+use mathlib.Core.Option.{some, some-ne-none}
 use lib.ListN.{get_elem?}
-use Rattle.atomic_table.specs.Table.{State, Joins, Final, Seen}
+use Rattle.atomic_table.specs.Table.{Joins, Final, Seen}
 use Rattle.atomic_table.specs.Seated.{TableId}
 use Rattle.atomic_table.proofs.Lists.{at_set, set_else, at_map}
 use Rattle.lock_core.specs.Grants.{Grants}
@@ -12,7 +12,7 @@ use Rattle.range_rw.specs.declared.views.BoardView.{BoardView}
 use Rattle.range_rw.specs.Board.{lock_words, grants_of}
 use Rattle.range_rw.specs.Running.{core_of, pass_of, view, IsRunning}
 use Rattle.range_rw.specs.Seats.{Known, Standing, known_of, known_in, pass_in, IsRowOf, IsIdleRow}
-use Rattle.range_rw.proofs.Lists.{append_at, append_none, append_one, map-append, length_map, same_lists, first_of_list, at_removed, at_drop, take_next}
+use Rattle.range_rw.proofs.Lists.{append_at, append_one, map-append, length_map, same_lists, first_of_list, at_removed, at_drop, take_next}
 
 nothing_there : {A : Type 0} (k : ℕ) (a : A) → get_elem? [] k ≡ some a → ⊥
 nothing_there k a e = some-ne-none a (sym e)

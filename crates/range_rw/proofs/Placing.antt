@@ -1,10 +1,10 @@
 -- A step puts one new part at its seat's number and changes one word: what is to be shown for the table's rule to hold after it.
-use Rattle.std.proofs.Common.{◌≡◌, ◌≢◌, ℕ, zero, suc, ◌+◌, ◌<◌, ◌≤◌, List, [], ◌∷◌, map, take, drop, set, length, sym, refl, ap, ◌∙◌, subst, arith, length-set, ⊎_elim}
+use Rattle.std.proofs.Common.{◌≡◌, ℕ, zero, suc, List, [], ◌∷◌, map, take, drop, set, sym, refl, ap, ◌∙◌, subst, length-set, ⊎_elim}
 use Rattle.std.proofs.lemmas.List.{map-set}
 use mathlib.Core.Option.{some, some-injective, some-ne-none}
 use lib.ListN.{get_elem?}
 use Rattle.atomic_table.specs.Table.{State, keeps, stepped}
-use Rattle.atomic_table.proofs.Lists.{at_set, set_here, set_else, at_map}
+use Rattle.atomic_table.proofs.Lists.{at_set, set_here, set_else}
 use Rattle.lock_core.specs.Grants.{Grants}
 use Rattle.range_rw.specs.declared.views.Core.{Core}
 use Rattle.range_rw.specs.declared.views.Part.{Part}

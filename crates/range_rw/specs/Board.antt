@@ -1,7 +1,7 @@
 -- The board: one turn word, a lo and a hi word for each seat, and what its rule says of them between any two steps.
 -- A seat takes the turn, looks at the others' ranges, writes its own and gives the turn back; a range is given back without the turn. Since only the seat with the turn may gain a range, what it has read of another's grant can only be given back meanwhile.
 -- The board is this project's own stand-in for the list of Kogan, Dice and Issa 2020: the plainest words that keep the same promise.
-use Rattle.std.specs.Prelude.{◌≡◌, ◌≢◌, ℕ, ◌+◌, ◌*◌, ◌/◌, ◌%◌, ◌<◌, ◌≤◌, List, map, slice_index, ◌==◌, cond, true, Option, Some, None, ◌↔◌}
+use Rattle.std.specs.Prelude.{◌≡◌, ◌≢◌, ℕ, ◌+◌, ◌*◌, ◌/◌, ◌%◌, ◌≤◌, List, map, slice_index, ◌==◌, cond, true, Option, Some, None, ◌↔◌}
 use mathlib.Core.Option.{some}
 use lib.ListN.{get_elem?}
 use Rattle.lock_core.specs.Range.{IsRange}

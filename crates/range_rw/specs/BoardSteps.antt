@@ -6,7 +6,6 @@ use Rattle.lock_core.specs.Range.{IsRange}
 use Rattle.lock_core.specs.Grants.{Conflicts}
 use Rattle.lock_core.specs.declared.range.Held.{Held}
 use Rattle.range_rw.specs.declared.views.Core.{Core}
-use Rattle.range_rw.specs.declared.views.LoadedLo.{LoadedLo}
 use Rattle.range_rw.specs.declared.views.Read.{Read}
 use Rattle.range_rw.specs.declared.views.Met.{Met}
 use Rattle.range_rw.specs.declared.views.Record.{Record}

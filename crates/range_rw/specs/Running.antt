@@ -1,13 +1,12 @@
 -- The rule of the running table: the board's own rule, the guard's rule, and that each seat number stands in exactly one view.
 -- The record of a view stands in no part of it. A step on a lock word leaves the client words, and a step on a client word leaves the lock words and the cores, so each kind of step is proved apart.
-use Rattle.std.specs.Prelude.{◌≡◌, ℕ, zero, suc, ◌+◌, List, [], ◌∷◌, map, take, drop, length, Some}
+use Rattle.std.specs.Prelude.{◌≡◌, ℕ, ◌+◌, List, [], ◌∷◌, map, take, drop, length, Some}
 use mathlib.Core.Option.{some}
 use lib.ListN.{get_elem?}
-use Rattle.atomic_table.specs.Table.{State, Me, Step}
-use Rattle.lock_core.specs.Grants.{Grants}
+use Rattle.atomic_table.specs.Table.{State, Me}
+use Rattle.lock_core.specs.Grants.{Grants, IsExclusive}
 use Rattle.lock_core.specs.Client.{ClientStep, place_of, IsMade}
 use Rattle.range_rw.specs.declared.views.Core.{Core}
-use Rattle.range_rw.specs.declared.views.LastClient.{LastClient}
 use Rattle.range_rw.specs.declared.views.Record.{Record}
 use Rattle.range_rw.specs.declared.views.Part.{Part}
 use Rattle.range_rw.specs.declared.views.BoardView.{BoardView}
@@ -44,6 +43,11 @@ module _ {P : Type 0} where
   -- the rule of a table with so many seats and client words
   abbrev pub IsRunning : ℕ → ℕ → (Grants → List ℕ → List P → Type 0) → State (Unit {0}) (BoardView P) → Type 0
   IsRunning seats clients holds s = (parts : List (Part P)) × (owner : ℕ → ℕ) × Ruled seats clients holds s parts owner
+
+  -- the rule gives exclusion and the guard's rule, with one held range at most and one pass for each seat
+  abbrev pub KeepsApart : (Grants → List ℕ → List P → Type 0) → Type 0
+  KeepsApart holds = (seats clients : ℕ) (s : State (Unit {0}) (BoardView P)) → IsRunning seats clients holds s
+      → (grants : Grants) × (passes : List P) × (length grants ≡ seats) × (length passes ≡ seats) × IsExclusive grants × holds grants (drop (lock_words seats) s.words) passes
 
   -- a step of the board tells its seat what belongs to it after
   abbrev pub board_play : (P → P) → BoardStep → Me (Unit {0}) (BoardView P) → ℕ → Me (Unit {0}) (BoardView P) → Type 0

@@ -1,7 +1,7 @@
 -- The table at its opening: the first view holds what all seats begin with, and is cut into one view for each number.
 -- The lemmas stand here, and not among the proofs, since the laws of the table's rule cite them.
-use Rattle.std.specs.Prelude.{◌≡◌, ◌≢◌, ℕ, zero, suc, ◌+◌, ◌-◌, ◌*◌, ◌<◌, ◌≤◌, List, [], ◌∷◌, ◌++◌, map, take, drop, length, slice_index, replicate, Option, Some, None, true, false, cond, refl, ◌⊎◌}
-use Rattle.std.proofs.Common.{get_or, set, ltb, sym, ap, ◌∙◌, subst, arith, length-set, length-append, inl, inr, ⊎_elim}
+use Rattle.std.specs.Prelude.{◌≡◌, ℕ, zero, suc, ◌+◌, ◌-◌, ◌<◌, ◌≤◌, List, [], ◌∷◌, ◌++◌, map, take, drop, length, slice_index, replicate, Some, None, cond, refl, ◌⊎◌}
+use Rattle.std.proofs.Common.{set, ltb, sym, ap, ◌∙◌, subst, arith, length-set, length-append, inl, inr, ⊎_elim}
 use Rattle.std.proofs.lemmas.Bool.{lt-ltb, le-ltb, false≢true}
 use Rattle.std.proofs.lemmas.List.{get_or-replicate, length-replicate}
 use lib.Seq.{take-append_seam, drop-append_seam}
@@ -9,8 +9,7 @@ use mathlib.Core.Option.{some, some-injective, some-ne-none}
 use mathlib.Core.Logic.{dite}
 use native.Mathlib.Decide.{dec_le}
 use lib.ListN.{get_elem?}
-use Rattle.atomic_table.specs.Table.{State, Splits, opening}
-use Rattle.atomic_table.specs.Seated.{TableId}
+use Rattle.atomic_table.specs.Table.{Splits, opening}
 use Rattle.atomic_table.proofs.Lists.{at_set}
 use Rattle.lock_core.specs.Grants.{Grants, Holds}
 use Rattle.lock_core.specs.declared.range.Held.{Held}
@@ -18,8 +17,8 @@ use Rattle.range_rw.specs.declared.views.Core.{Core}
 use Rattle.range_rw.specs.declared.views.Part.{Part}
 use Rattle.range_rw.specs.declared.views.BoardView.{BoardView}
 use Rattle.range_rw.specs.Board.{lock_words, lo_place, hi_place, held_in, grants_of, IsBoard}
-use Rattle.range_rw.specs.Running.{core_of, pass_of, view, IsOwned, Ruled, IsRunning}
-use Rattle.range_rw.specs.Seats.{Known, idle, fresh, first_passes}
+use Rattle.range_rw.specs.Running.{core_of, pass_of, view, IsOwned, IsRunning}
+use Rattle.range_rw.specs.Seats.{idle, fresh, first_passes}
 
 -- what the seat of number n begins with, over all words of the table
 abbrev pub begin : {P : Type 0} → (List ℕ → ℕ → P) → ℕ → List ℕ → ℕ → Part P

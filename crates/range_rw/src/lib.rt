@@ -5,6 +5,7 @@
 
 mod acquire;
 mod client;
+mod laws;
 mod plays;
 mod rule;
 mod steps;
@@ -14,7 +15,7 @@ mod token;
 mod views;
 
 pub use acquire::NotHeld;
-pub use rule::BoardRule;
+pub use laws::keeps_apart;
 pub use table::{CloseRefused, OpenFault, RangeTable, Seat};
 pub use threads::crosses_threads;
-pub use views::{BoardView, Core, LastClient, LoadedLo, Lost, Met, Part, Read, Record};
+pub use views::{LastClient, Lost, Met, Record};

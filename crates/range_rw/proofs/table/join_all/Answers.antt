@@ -1,4 +1,4 @@
-use Rattle.std.proofs.Common.{rules, ◌≡◌, ◌<◌, [], ◌∷◌, length, refl, sym, ap, ◌∙◌}
+use Rattle.std.proofs.Common.{rules, ◌<◌, [], length, refl, sym, ap, ◌∙◌}
 use Rattle.atomic_table.proofs.Lists.{at_index}
 use Rattle.range_rw.proofs.Joining.{joins, next_joined, row_without_first, known_again}
 use Rattle.range_rw.proofs.table.join_all.Goals as goal

@@ -1,4 +1,4 @@
-use Rattle.std.proofs.Common.{◌≡◌, ◌≤◌}
+use Rattle.std.proofs.Common.{◌≡◌}
 use Rattle.range_rw.specs.Seats.{IsLockCall}
 use Rattle.range_rw.proofs.table.RangeTable.acquire_counting.Given as goal
 

@@ -1,5 +1,4 @@
-use Rattle.std.proofs.Common.{rules, ◌≡◌, ap, ◌∙◌, sym, subst}
-use Rattle.std.specs.Prelude.{Some}
+use Rattle.std.proofs.Common.{ap, ◌∙◌, sym, subst}
 use Rattle.lock_core.specs.Grants.{held_of}
 use Rattle.range_rw.specs.Board.{held_in}
 use Rattle.range_rw.specs.BoardSteps.{IsClear}

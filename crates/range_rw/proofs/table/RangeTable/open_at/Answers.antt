@@ -1,4 +1,4 @@
-use Rattle.std.proofs.Common.{rules, ◌≡◌, ◌<◌, ◌+◌, [], ◌∷◌, length, replicate, sym, ap, ◌∙◌, arith, refl}
+use Rattle.std.proofs.Common.{rules, ◌≡◌, ◌<◌, [], ◌∷◌, length, replicate, sym, ap, ◌∙◌, arith, refl}
 use Rattle.range_rw.specs.Board.{lock_words}
 use Rattle.range_rw.specs.Seats.{known_of, part_in, new_seat}
 use Rattle.range_rw.proofs.Lists.{pushed_all, length_removed}

@@ -1,0 +1,6 @@
+use Rattle.std.proofs.Common.{refl}
+use Rattle.lock_trials.proofs.Rows.{nobody_yet}
+use Rattle.lock_trials.proofs.opened.open_turnstile.Goals as goal
+
+pub open-requires-clause-rule : goal.open-requires-clause-rule
+open-requires-clause-rule c = λ ok. nobody_yet _ _ c.args.seats (λ k. refl)

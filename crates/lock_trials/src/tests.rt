@@ -1,0 +1,71 @@
+// The worked rows of the board, and threads that meet at one table.
+// Each test ends by a stated number of turns; what it expects is reckoned by hand, never taken from the program.
+use crate::{add_all, both, open_free, open_turnstile, release_once, row_of, try_once, visit_all};
+use lock_core::{Mode, Range};
+use range_rw::{NotHeld, OpenFault};
+use std::sync::atomic::{AtomicU64, Ordering};
+
+#[test]
+fn tries_on_the_board_answer_as_the_worked_row(rt: HostRuntime) {
+    let alloc = rt.alloc();
+    let (table, seats) = open_free(alloc, 2, 7).expect(&rt, "memory");
+    let (mut a, mut b) = both(&table, seats);
+    let first = Range::of(0, 10).expect(&rt, "a range");
+    let far = Range::of(20, 21).expect(&rt, "a range");
+    let inner = Range::of(5, 6).expect(&rt, "a range");
+    assert!(rt; try_once(&table, &mut a, first, Mode::Reader).is_ok());
+    assert!(rt; try_once(&table, &mut b, far, Mode::Writer).is_ok());
+    assert_eq!(rt; table.held(&b), Some((far, Mode::Writer)));
+    release_once(&table, &mut b);
+    let busy = NotHeld::Busy {
+        owner: 0,
+        range: first,
+        mode: Mode::Reader,
+    };
+    let refused = try_once(&table, &mut b, inner, Mode::Writer);
+    assert_eq!(rt; refused, Err(busy));
+    assert_eq!(rt; table.held(&b), None);
+    release_once(&table, &mut a);
+    assert!(rt; try_once(&table, &mut b, inner, Mode::Writer).is_ok());
+    release_once(&table, &mut b);
+    let seats = row_of(alloc, &table, a, b).expect(&rt, "memory");
+    let Ok(words) = table.close(alloc, seats) else {
+        panic!(rt; "memory");
+    };
+    assert_eq!(rt; words.as_slice(), [7].as_slice());
+}
+
+#[test]
+fn a_table_has_from_one_to_sixteen_seats(rt: HostRuntime) {
+    for seats in [0, 17] {
+        match open_free(rt.alloc(), seats, 7) {
+            Ok(_) => panic!(rt; "{seats} seats"),
+            Err(fault) => assert_eq!(rt; fault, OpenFault::Seats(seats)),
+        }
+    }
+    assert!(rt; open_free(rt.alloc(), 16, 7).is_ok());
+}
+
+#[test]
+fn two_threads_add_four_thousand(rt: HostRuntime) {
+    let alloc = rt.alloc();
+    let (table, mut seats) = open_free(alloc, 2, 0).expect(&rt, "memory");
+    add_all(&rt, &table, seats.as_mut_slice(), 2000);
+    let Ok(words) = table.close(alloc, seats) else {
+        panic!(rt; "memory");
+    };
+    assert_eq!(rt; words.as_slice(), [4000].as_slice());
+}
+
+#[test]
+fn four_threads_never_see_a_writer_inside(rt: HostRuntime) {
+    let alloc = rt.alloc();
+    let (table, mut seats) = open_turnstile(alloc, 4).expect(&rt, "memory");
+    let most = AtomicU64::new(0);
+    visit_all(&rt, &table, seats.as_mut_slice(), 1000, &most);
+    assert_eq!(rt; most.load(Ordering::SeqCst), 0);
+    let Ok(words) = table.close(alloc, seats) else {
+        panic!(rt; "memory");
+    };
+    assert_eq!(rt; words.as_slice(), [0].as_slice());
+}
