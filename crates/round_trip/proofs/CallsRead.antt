@@ -1,0 +1,238 @@
+-- The text of a call is read as the call: each argument with the comma behind it, and then the end of the line.
+use Rattle.std.proofs.Common.{rules, ◌≡◌, ◌≢◌, ℕ, zero, suc, ◌^◌, ◌<◌, ◌≤◌, List, [], ◌∷◌, ◌++◌, length, get_or, codes, decimal, if◌then◌else◌, ◌==◌, false, Option, Some, None, refl, sym, ap, subst, ◌∙◌, arith, append_assoc, append-nil}
+use Rattle.std.proofs.lemmas.List.{length-append}
+use Rattle.std.proofs.lemmas.Bool.Decides.{nat_tests}
+use Rattle.std.proofs.lemmas.Fmt.{length-decimal-le}
+use Rattle.maps_printer.proofs.Hex.{length-hex_digits}
+use Rattle.std.proofs.Math.Seq.{get_or-append_seam}
+use Rattle.line_parts.specs.declared.fault.What.{What}
+use Rattle.line_parts.specs.declared.fault.What.TheVariants.{Number}
+use Rattle.line_parts.specs.Parts.{Part, chain, starts}
+use Rattle.line_parts.specs.Leaves.{is, letters, number, worth}
+use Rattle.line_parts.proofs.Numerals.{NoNumeral, zero_number}
+use Rattle.page_types.specs.declared.calls.Call.{Call}
+use Rattle.page_types.specs.declared.calls.Call.TheVariants.{Map, Unmap, Protect, Fault}
+use Rattle.page_types.specs.declared.sets.Access.{Access}
+use Rattle.page_types.specs.declared.sets.Access.TheVariants.{Read, Write, Exec}
+use Rattle.page_types.specs.Named.{IsNamedCall}
+use Rattle.strace_reader.specs.declared.item.Item.TheVariants.{Played}
+use Rattle.strace_reader.specs.declared.item.Name.{Name}
+use Rattle.strace_reader.specs.declared.item.Name.TheVariants.{Mmap, Munmap, Mprotect, Fault as FaultName}
+use Rattle.strace_reader.specs.Words.{opening, access_of}
+use Rattle.strace_reader.specs.Calls.{call, arguments, addr, comma, access, closing, dropped, descriptor, prot, flags, protected, flagged, mapped, munmap_arguments, mprotect_arguments, fault_arguments, mmap_arguments}
+use Rattle.strace_reader.specs.Grammar.{Spells, NeverReturned, EndsWith, unfinished}
+use Rattle.maps_printer.specs.Calls.{call_text}
+use Rattle.maps_printer.specs.Numbers.{address_text, prefixed_hex}
+use Rattle.maps_printer.specs.Words.{prot_text, flags_text, access_text}
+use Rattle.round_trip.proofs.NumbersRead.{decimal_takes, hex_takes, decimal_starts}
+use Rattle.round_trip.proofs.WordsRead.{Ends, comma_ends, comma_ends_number, prot_takes, flags_takes}
+
+letters_take : (word rest : List ℕ) (due : What) → (letters word due).takes word rest tt
+letters_take [] rest due = (refl, refl)
+letters_take (b ∷ word) rest due = (b ∷ [], word, tt, refl, refl, letters_take word rest due)
+
+-- an address, NULL or behind 0x
+addr_takes : (n : ℕ) (rest : List ℕ) → n < 2 ^ 64 → NoNumeral rest → addr.takes (address_text n) rest n
+addr_takes zero rest small ends = (codes "NULL", [], tt, refl, letters_take (codes "NULL") rest Number, (refl, refl))
+addr_takes (suc k) rest small ends =
+    let some : (suc k == 0) ≡ false = grind (arith, nat_tests) in
+    subst (λ none. addr.takes (if none then codes "NULL" else prefixed_hex (suc k)) rest (suc k)) (sym some) (hex_takes Number (suc k) rest small ends)
+
+comma_takes : (rest : List ℕ) → starts (is 32) rest ≡ false → comma.takes (codes ", ") rest tt
+comma_takes rest next = (44 ∷ [], 32 ∷ [], tt, refl, refl, ((refl, tt), next))
+
+-- behind the closing parenthesis the line ends
+closing_takes : (c : Call) → (closing c).takes (codes ")") [] (Played 0 c None)
+closing_takes c = (41 ∷ [], [], tt, refl, refl, (refl, refl, refl))
+
+close_ends : Ends (41 ∷ [])
+close_ends = record { no_word = refl; no_bar = refl }
+
+close_ends_number : NoNumeral (41 ∷ [])
+unfolding worth
+close_ends_number = (omega arith, λ e. cc)
+
+-- ---- one argument, and what is read behind it
+
+then_addr : {B : Type 0} (next : ℕ → Part B) (n : ℕ) (more : List ℕ) (w : B) → n < 2 ^ 64 → NoNumeral (more ++ []) → (next n).takes more [] w
+    → (chain addr next).takes (address_text n ++ more) [] w
+then_addr next n more w small ends h = (address_text n, more, n, refl, addr_takes n (more ++ []) small ends, h)
+
+then_comma : {B : Type 0} (next : Part B) (more : List ℕ) (w : B) → starts (is 32) (more ++ []) ≡ false → next.takes more [] w
+    → (chain comma (λ u. next)).takes (codes ", " ++ more) [] w
+then_comma next more w starts h = (codes ", ", more, tt, refl, comma_takes (more ++ []) starts, h)
+
+then_number : {B : Type 0} (next : ℕ → Part B) (n : ℕ) (more : List ℕ) (w : B) → n < 2 ^ 64 → NoNumeral (more ++ []) → (next n).takes more [] w
+    → (chain (number Number) next).takes (decimal n ++ more) [] w
+then_number next n more w small ends h = (decimal n, more, n, refl, decimal_takes Number n (more ++ []) small ends, h)
+
+-- a comma and a length, and what is read behind them
+then_length : {B : Type 0} (next : ℕ → Part B) (n : ℕ) (more : List ℕ) (w : B) → n < 2 ^ 64 → NoNumeral (more ++ []) → (next n).takes more [] w
+    → (chain comma (λ u. chain (number Number) next)).takes (codes ", " ++ (decimal n ++ more)) [] w
+then_length next n more w small ends h =
+    then_comma (chain (number Number) next) (decimal n ++ more) w (rw append-nil (decimal_starts n more small)) (then_number next n more w small ends h)
+
+-- ---- the arguments of each call
+
+munmap_takes : (a n : ℕ) → a < 2 ^ 64 → n < 2 ^ 64
+    → munmap_arguments.takes (address_text a ++ (codes ", " ++ (decimal n ++ codes ")"))) [] (Played 0 (Unmap a n) None)
+munmap_takes a n small_a small_n =
+    then_addr (λ a. chain comma (λ u. chain (number Number) (λ n. closing (Unmap a n)))) a (codes ", " ++ (decimal n ++ codes ")")) _ small_a (comma_ends_number [])
+    (then_length (λ n. closing (Unmap a n)) n (codes ")") _ small_n close_ends_number (closing_takes (Unmap a n)))
+
+-- a comma and a protection, and what is read behind them
+then_prot : {B : Type 0} (next : Option ℕ → Part B) (bits : ℕ) (more : List ℕ) (w : B) → bits < 8 → Ends (more ++ []) → (next (Some bits)).takes more [] w
+    → (chain comma (λ u. chain prot next)).takes (codes ", " ++ (prot_text (record { 0 = bits }) ++ more)) [] w
+then_prot next bits more w small ends h =
+    let text = prot_text (record { 0 = bits }) in
+    let read = prot_takes bits (more ++ []) small ends in
+    then_comma (chain prot next) (text ++ more) w (rw append_assoc read.1) (text, more, Some bits, refl, read.0, h)
+
+mprotect_takes : (a n p : ℕ) → a < 2 ^ 64 → n < 2 ^ 64 → p < 8
+    → mprotect_arguments.takes (address_text a ++ (codes ", " ++ (decimal n ++ (codes ", " ++ (prot_text (record { 0 = p }) ++ codes ")"))))) [] (Played 0 (Protect a n (record { 0 = p })) None)
+mprotect_takes a n p small_a small_n small_p =
+    then_addr (λ a. chain comma (λ u. chain (number Number) (λ n. chain comma (λ v. chain prot (protected a n))))) a _ _ small_a (comma_ends_number [])
+    (then_length (λ n. chain comma (λ v. chain prot (protected a n))) n _ _ small_n (comma_ends_number [])
+    (then_prot (protected a n) p (codes ")") _ small_p close_ends (closing_takes (Protect a n (record { 0 = p })))))
+
+access_takes : (which : Access) → access.takes (access_text which) (codes ")") which
+unfolding access_of
+access_takes Read = (search rules, refl, refl)
+access_takes Write = (search rules, refl, refl)
+access_takes Exec = (search rules, refl, refl)
+
+access_starts : (which : Access) (more : List ℕ) → starts (is 32) (access_text which ++ more) ≡ false
+access_starts Read more = refl
+access_starts Write more = refl
+access_starts Exec more = refl
+
+access_length : (which : Access) → length (access_text which) ≤ 10
+access_length Read = omega arith
+access_length Write = omega arith
+access_length Exec = omega arith
+
+fault_takes : (a : ℕ) (which : Access) → a < 2 ^ 64
+    → fault_arguments.takes (address_text a ++ (codes ", " ++ (access_text which ++ codes ")"))) [] (Played 0 (Fault a which) None)
+fault_takes a which small =
+    then_addr (λ a. chain comma (λ u. chain access (λ c. closing (Fault a c)))) a _ _ small (comma_ends_number [])
+    (then_comma (chain access (λ c. closing (Fault a c))) (access_text which ++ codes ")") _ (rw append_assoc (access_starts which _))
+    (access_text which, codes ")", which, refl, access_takes which, closing_takes (Fault a which)))
+
+-- the descriptor -1 and the offset 0
+dropped_takes : (c : Call) → (dropped c).takes (codes ", -1, 0)") [] (Played 0 c None)
+dropped_takes c =
+    then_comma (chain descriptor (λ v. chain comma (λ w. chain (number Number) (λ o. closing c)))) (codes "-1, 0)") _ refl
+    (codes "-1", codes ", 0)", tt, refl, (codes "-1", [], tt, refl, letters_take (codes "-1") (codes ", 0)") Number, (refl, refl)), (then_comma (chain (number Number) (λ o. closing c)) (codes "0)") _ refl (codes "0", codes ")", 0, refl, zero_number (codes ")") close_ends_number, closing_takes c)))
+
+mmap_takes : (a n p f : ℕ) → a < 2 ^ 64 → n < 2 ^ 64 → p < 8 → f < 16
+    → mmap_arguments.takes (address_text a ++ (codes ", " ++ (decimal n ++ (codes ", " ++ (prot_text (record { 0 = p }) ++ (codes ", " ++ (flags_text (record { 0 = f }) ++ codes ", -1, 0)"))))))) []
+    (Played 0 (Map a n (record { 0 = p }) (record { 0 = f })) None)
+mmap_takes a n p f small_a small_n small_p small_f =
+    let c = Map a n (record { 0 = p }) (record { 0 = f }) in
+    let read = flags_takes f (codes " -1, 0)") small_f in
+    let text = flags_text (record { 0 = f }) in
+    then_addr (λ a. chain comma (λ u. chain (number Number) (λ n. chain comma (λ v. chain prot (flagged a n))))) a _ _ small_a (comma_ends_number [])
+    (then_length (λ n. chain comma (λ v. chain prot (flagged a n))) n _ _ small_n (comma_ends_number [])
+    (then_prot (flagged a n) p _ _ small_p (comma_ends _)
+    (then_comma (chain flags (mapped a n p)) (text ++ codes ", -1, 0)") _ (rw append_assoc read.1) (text, codes ", -1, 0)", Some f, refl, read.0, dropped_takes c))))
+
+-- ---- the whole line
+
+-- two texts that end with different bytes differ
+last_differs : (xs ys : List ℕ) (a b : ℕ) → xs ++ a ∷ [] ≡ ys ++ b ∷ [] → a ≢ b → ⊥
+last_differs xs ys a b e differ =
+    let same : length xs ≡ length ys = omega (arith, simp length-append at (ap length e)) in
+    let at_a = get_or-append_seam xs a [] 0 in
+    let at_b = get_or-append_seam ys b [] 0 in
+    differ (sym at_a ∙ ap (λ l. get_or l (length xs) 0) e ∙ ap (λ i. get_or (ys ++ b ∷ []) i 0) same ∙ at_b)
+
+-- a line that ends with a closing parenthesis is no half, and it returned
+no_half : (text body : List ℕ) → text ≡ body ++ codes ")" → EndsWith unfinished text → ⊥
+no_half text body e h =
+    last_differs body (h.0 ++ codes "<unfinished ...") 41 62 (sym e ∙ h.1 ∙ sym (append_assoc h.0 (codes "<unfinished ...") (62 ∷ []))) (λ x. omega arith)
+
+did_return : (text body : List ℕ) → text ≡ body ++ codes ")" → NeverReturned text → ⊥
+did_return text body e h =
+    let before = h.0 ++ (codes "<unfinished ...>)" ++ ((32 ∷ h.1) ++ codes "= ")) in
+    last_differs body before 41 63 (sym e ∙ h.3 ∙ simp append_assoc) (λ x. omega arith)
+
+-- a line of the name and arguments that are read
+spelled : (name : Name) (args text body : List ℕ) (c : Call) → (arguments name).takes args [] (Played 0 c None) → text ≡ opening name ++ args → text ≡ body ++ codes ")" → Spells text (Played 0 c None)
+unfolding Spells call
+spelled name args text body c h e ends = (
+  name,
+  record {
+    names = (args, e);
+    returned = did_return text body ends;
+    whole = no_half text body ends;
+  },
+  (opening name, args, tt, e, refl, h),
+)
+
+-- the numbers of a call fit in 64 bits
+abbrev pub Fits64 : Call → Type 0
+Fits64 (Map addr len _ _) = (addr < 2 ^ 64) × (len < 2 ^ 64)
+Fits64 (Unmap addr len) = (addr < 2 ^ 64) × (len < 2 ^ 64)
+Fits64 (Protect addr len _) = (addr < 2 ^ 64) × (len < 2 ^ 64)
+Fits64 (Fault addr _) = addr < 2 ^ 64
+
+-- joined from the left or from the right, a text of several parts is the same
+nest_map : (o a c n p f t : List ℕ) → o ++ a ++ c ++ n ++ c ++ p ++ c ++ f ++ t ≡ o ++ (a ++ (c ++ (n ++ (c ++ (p ++ (c ++ (f ++ t)))))))
+nest_map o a c n p f t = simp append_assoc
+
+nest_protect : (o a c n p t : List ℕ) → o ++ a ++ c ++ n ++ c ++ p ++ t ≡ o ++ (a ++ (c ++ (n ++ (c ++ (p ++ t)))))
+nest_protect o a c n p t = simp append_assoc
+
+nest_unmap : (o a c n t : List ℕ) → o ++ a ++ c ++ n ++ t ≡ o ++ (a ++ (c ++ (n ++ t)))
+nest_unmap o a c n t = simp append_assoc
+
+-- what is written of a call spells the call
+pub call_text_spells : (c : Call) → IsNamedCall c → Fits64 c → Spells (call_text c) (Played 0 c None)
+call_text_spells (Map a n p f) named fits =
+    let body = codes "mmap(" ++ address_text a ++ codes ", " ++ decimal n ++ codes ", " ++ prot_text p ++ codes ", " ++ flags_text f in
+    spelled Mmap _ (call_text (Map a n p f)) (body ++ codes ", -1, 0") _
+    (mmap_takes a n p.0 f.0 fits.0 fits.1 named.0 named.1)
+    (nest_map (codes "mmap(") (address_text a) (codes ", ") (decimal n) (prot_text p) (flags_text f) (codes ", -1, 0)"))
+    (sym (append_assoc body (codes ", -1, 0") (codes ")")))
+call_text_spells (Unmap a n) named fits =
+    spelled Munmap _ (call_text (Unmap a n)) (codes "munmap(" ++ address_text a ++ codes ", " ++ decimal n) _
+    (munmap_takes a n fits.0 fits.1)
+    (nest_unmap (codes "munmap(") (address_text a) (codes ", ") (decimal n) (codes ")"))
+    refl
+call_text_spells (Protect a n p) named fits =
+    spelled Mprotect _ (call_text (Protect a n p)) (codes "mprotect(" ++ address_text a ++ codes ", " ++ decimal n ++ codes ", " ++ prot_text p) _
+    (mprotect_takes a n p.0 fits.0 fits.1 named)
+    (nest_protect (codes "mprotect(") (address_text a) (codes ", ") (decimal n) (prot_text p) (codes ")"))
+    refl
+call_text_spells (Fault a which) named fits =
+    spelled FaultName _ (call_text (Fault a which)) (codes "fault(" ++ address_text a ++ codes ", " ++ access_text which) _
+    (fault_takes a which fits)
+    (nest_unmap (codes "fault(") (address_text a) (codes ", ") (access_text which) (codes ")"))
+    refl
+
+-- ---- how long a text is
+
+address_length : (n : ℕ) → n < 2 ^ 64 → length (address_text n) ≤ 18
+address_length n small = let digits = length-hex_digits n small in grind (arith, length-append {A = ℕ})
+
+-- what is written of a call has at most 143 bytes
+pub call_text_length : (c : Call) → IsNamedCall c → Fits64 c → length (call_text c) ≤ 143
+call_text_length (Map a n p f) named fits =
+    let addr_short = address_length a fits.0 in
+    let len_short = length-decimal-le 20 n (omega arith) (omega arith) fits.1 in
+    let prot_short = (prot_takes p.0 (codes ")") named.0 close_ends).2 in
+    let flags_short = (flags_takes f.0 [] named.1).2 in
+    simp length-append (omega arith)
+call_text_length (Unmap a n) named fits =
+    let addr_short = address_length a fits.0 in
+    let len_short = length-decimal-le 20 n (omega arith) (omega arith) fits.1 in
+    simp length-append (omega arith)
+call_text_length (Protect a n p) named fits =
+    let addr_short = address_length a fits.0 in
+    let len_short = length-decimal-le 20 n (omega arith) (omega arith) fits.1 in
+    let prot_short = (prot_takes p.0 (codes ")") named close_ends).2 in
+    simp length-append (omega arith)
+call_text_length (Fault a which) named fits =
+    let addr_short = address_length a fits in
+    let access_short = access_length which in
+    simp length-append (omega arith)

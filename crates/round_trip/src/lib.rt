@@ -1,0 +1,10 @@
+//! What the printer writes of a call, the reader reads as the same call. The two crates have a definition each, of
+//! the text of a call and of the calls that a line spells; this crate has the law between them.
+#![tactic(auto)]
+
+mod calls;
+
+pub use calls::{read_written, reads_back};
+
+#[cfg(test)]
+mod tests;
