@@ -1,6 +1,5 @@
 -- At the end of an input nothing is left of it.
-use Rattle.std.proofs.Common.{◌≡◌, ℕ, zero, List, [], ◌++◌, Option, None, Some, refl, sym, ap, ◌∙◌, rules, take}
-use Rattle.std.specs.Prelude.{⊤}
+use Rattle.std.proofs.Common.{◌≡◌, ℕ, List, [], Option, None, Some, refl, sym, ap, ◌∙◌, rules, take}
 use Rattle.std.proofs.lemmas.Grind.{common_steps}
 use Rattle.std.specs.Io.KnownBytes.{Consumes, IsAtEnd}
 use Rattle.range_cli.specs.Input.{Drains}

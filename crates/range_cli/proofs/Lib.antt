@@ -6,3 +6,6 @@ pub mod ErrorPieces
 pub mod PlayLemmas
 pub mod ReportPieces
 pub mod RunLemmas
+pub mod OpeningLemmas
+pub mod Differences
+pub mod ScriptLemmas

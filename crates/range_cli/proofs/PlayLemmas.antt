@@ -4,8 +4,6 @@ use Rattle.std.proofs.Math.Seq.{take-suc}
 use Rattle.std.proofs.lemmas.List.{take_all}
 use Rattle.space_model.specs.declared.areas.Area.{Area}
 use Rattle.space_model.specs.declared.entries.Entry.{Entry}
-use Rattle.space_model.specs.Answers.{Answers}
-use Rattle.space_model.specs.Held.{FitsUnder}
 use Rattle.space_model.specs.History.{IsLegalFrom, StateAfter}
 use Rattle.range_cli.specs.declared.trace.Line.{Line}
 use Rattle.range_cli.specs.Play.{IsStep, IsCollected, AllFit, IsPlayed}

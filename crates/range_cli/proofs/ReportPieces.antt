@@ -1,5 +1,5 @@
 -- The report is written in three parts, one after the other.
-use Rattle.std.proofs.Common.{◌≡◌, ℕ, List, ◌++◌, length, Option, Result}
+use Rattle.std.proofs.Common.{ℕ, List, length, Option, Result}
 use Rattle.std.specs.Prelude.{OnOk, OnErr}
 use Rattle.std.proofs.lemmas.Result.{on_err_weaker, on_ok_weaker}
 use Rattle.std.specs.Io.KnownBytes.{Appends}
@@ -9,23 +9,24 @@ use Rattle.byte_ports.proofs.Pieces.{AppendsPrefix-after}
 use Rattle.space_model.specs.declared.areas.Area.{Area}
 use Rattle.space_model.specs.declared.entries.Entry.{Entry}
 use Rattle.maps_printer.specs.Lines.{maps_text, summary_text}
+use Rattle.range_cli.specs.declared.report.Counts.{Counts}
 use Rattle.range_cli.specs.declared.words.Options.{Options}
-use Rattle.range_cli.specs.Report.{asked_log, refused_count, report_text}
+use Rattle.range_cli.specs.Report.{asked_log, report_text}
 
 pub report_all : {T E : Type 0} (r : Result T E) (a b c d : Option (List ℕ)) (options : Options) (areas : List Area) (entries : List Entry)
-    (skipped count refused : ℕ) → count ≡ length entries → refused ≡ refused_count entries → Appends a b (asked_log options entries)
-    → Appends b c (maps_text areas) → OnOk r (Appends c d (summary_text count skipped refused 0))
-    → OnOk r (Appends a d (report_text options areas entries skipped))
-report_all r a b c d options areas entries skipped count refused is_count is_refused log maps summary =
+    (counts : Counts) → Appends a b (asked_log options entries)
+    → Appends b c (maps_text areas) → OnOk r (Appends c d (summary_text (length entries) counts.skipped counts.refused counts.differ))
+    → OnOk r (Appends a d (report_text options areas entries counts))
+report_all r a b c d options areas entries counts log maps summary =
     on_ok_weaker r
     (λ last. Appends-trans a b d (asked_log options entries) _ log (Appends-trans b c d (maps_text areas) _ maps last))
-    (rw (is_count, is_refused) at summary)
+    summary
 
 pub report_prefix : {T E : Type 0} (r : Result T E) (a b c d : Option (List ℕ)) (options : Options) (areas : List Area) (entries : List Entry)
-    (skipped count refused : ℕ) → count ≡ length entries → refused ≡ refused_count entries → Appends a b (asked_log options entries)
-    → Appends b c (maps_text areas) → OnErr r (AppendsPrefix c d (summary_text count skipped refused 0))
-    → OnErr r (AppendsPrefix a d (report_text options areas entries skipped))
-report_prefix r a b c d options areas entries skipped count refused is_count is_refused log maps summary =
+    (counts : Counts) → Appends a b (asked_log options entries)
+    → Appends b c (maps_text areas) → OnErr r (AppendsPrefix c d (summary_text (length entries) counts.skipped counts.refused counts.differ))
+    → OnErr r (AppendsPrefix a d (report_text options areas entries counts))
+report_prefix r a b c d options areas entries counts log maps summary =
     on_err_weaker r
     (λ last. AppendsPrefix-after a (asked_log options entries) log (AppendsPrefix-after b (maps_text areas) maps last))
-    (rw (is_count, is_refused) at summary)
+    summary

@@ -1,5 +1,5 @@
 -- Lines are read one by one: what becomes of those that are left completes what became of those before them.
-use Rattle.std.proofs.Common.{◌≡◌, ℕ, ◌+◌, ◌≤◌, List, [], ◌∷◌, ◌++◌, length, refl, sym, ap, subst, ◌∙◌, arith, add-zero, append-nil, append_assoc, length-append}
+use Rattle.std.proofs.Common.{◌≡◌, ℕ, ◌+◌, ◌≤◌, List, [], ◌∷◌, ◌++◌, length, ap, subst, arith, add-zero, append-nil, append_assoc, length-append}
 use Rattle.range_cli.specs.declared.status.Status.{Status}
 use Rattle.range_cli.specs.declared.trace.Line.{Line}
 use Rattle.range_cli.specs.declared.trace.Step.{Step}
@@ -9,20 +9,20 @@ use Rattle.range_cli.specs.Trace.Reads.{nothing, call, other, empty}
 use Rattle.range_cli.specs.Trace.EndsAt.{here, later}
 
 -- before line `number` these lines are played and so many skipped, and these texts are left
-pub record SoFar (all : List (List ℕ)) (number : ℕ) (left : List (List ℕ)) (lines : List Line) (skipped : ℕ) : Type 0 where
-  pub reads : (more : List Line) (s : ℕ) → Reads number (length lines) left more s → Reads 1 0 all (lines ++ more) (skipped + s)
-  pub ends : (status : Status) → EndsAt number (length lines) left status → EndsAt 1 0 all status
+pub record SoFar (first : ℕ) (all : List (List ℕ)) (number : ℕ) (left : List (List ℕ)) (lines : List Line) (skipped : ℕ) : Type 0 where
+  pub reads : (more : List Line) (s : ℕ) → Reads number (length lines) left more s → Reads first 0 all (lines ++ more) (skipped + s)
+  pub ends : (status : Status) → EndsAt number (length lines) left status → EndsAt first 0 all status
 
-pub so_far_start : (all : List (List ℕ)) → SoFar all 1 all [] 0
-so_far_start all = record {
-  reads = λ more s h. subst (λ n. Reads 1 0 all more n) (omega arith) h;
+pub so_far_start : (first : ℕ) (all : List (List ℕ)) → SoFar first all first all [] 0
+so_far_start first all = record {
+  reads = λ more s h. subst (λ n. Reads first 0 all more n) (omega arith) h;
   ends = λ status h. h;
 }
 
-pub so_far_call : (all : List (List ℕ)) (number : ℕ) (text : List ℕ) (texts : List (List ℕ)) (lines : List Line) (skipped : ℕ) (line : Line)
-    → SoFar all number (text ∷ texts) lines skipped → Asks number (length lines) text (Played line)
-    → SoFar all (number + 1) texts (lines ++ line ∷ []) skipped
-so_far_call all number text texts lines skipped line so_far asks =
+pub so_far_call : (first : ℕ) (all : List (List ℕ)) (number : ℕ) (text : List ℕ) (texts : List (List ℕ)) (lines : List Line) (skipped : ℕ) (line : Line)
+    → SoFar first all number (text ∷ texts) lines skipped → Asks number (length lines) text (Played line)
+    → SoFar first all (number + 1) texts (lines ++ line ∷ []) skipped
+so_far_call first all number text texts lines skipped line so_far asks =
     let longer : length (lines ++ line ∷ []) ≡ length lines + 1 = omega (arith, length-append lines (line ∷ [])) in record {
       reads = λ more s h.
           let h' : Reads (number + 1) (length lines + 1) texts more s = rw longer at h in
@@ -32,44 +32,44 @@ so_far_call all number text texts lines skipped line so_far asks =
           so_far.ends status (later (Played line) asks h');
     }
 
-pub so_far_other : (all : List (List ℕ)) (number : ℕ) (text : List ℕ) (texts : List (List ℕ)) (lines : List Line) (skipped : ℕ)
-    → SoFar all number (text ∷ texts) lines skipped → Asks number (length lines) text Skipped
-    → SoFar all (number + 1) texts lines (skipped + 1)
-so_far_other all number text texts lines skipped so_far asks = record {
+pub so_far_other : (first : ℕ) (all : List (List ℕ)) (number : ℕ) (text : List ℕ) (texts : List (List ℕ)) (lines : List Line) (skipped : ℕ)
+    → SoFar first all number (text ∷ texts) lines skipped → Asks number (length lines) text Skipped
+    → SoFar first all (number + 1) texts lines (skipped + 1)
+so_far_other first all number text texts lines skipped so_far asks = record {
   reads = λ more s h.
       let more_by_one : skipped + (1 + s) ≡ skipped + 1 + s = omega arith in
-      subst (λ n. Reads 1 0 all (lines ++ more) n) more_by_one (so_far.reads more (1 + s) (other asks h));
+      subst (λ n. Reads first 0 all (lines ++ more) n) more_by_one (so_far.reads more (1 + s) (other asks h));
   ends = λ status h. so_far.ends status (later Skipped asks (subst (λ n. EndsAt (number + 1) n texts status) (omega arith) h));
 }
 
-pub so_far_blank : (all : List (List ℕ)) (number : ℕ) (text : List ℕ) (texts : List (List ℕ)) (lines : List Line) (skipped : ℕ)
-    → SoFar all number (text ∷ texts) lines skipped → Asks number (length lines) text Blank
-    → SoFar all (number + 1) texts lines skipped
-so_far_blank all number text texts lines skipped so_far asks = record {
+pub so_far_blank : (first : ℕ) (all : List (List ℕ)) (number : ℕ) (text : List ℕ) (texts : List (List ℕ)) (lines : List Line) (skipped : ℕ)
+    → SoFar first all number (text ∷ texts) lines skipped → Asks number (length lines) text Blank
+    → SoFar first all (number + 1) texts lines skipped
+so_far_blank first all number text texts lines skipped so_far asks = record {
   reads = λ more s h. so_far.reads more s (empty asks h);
   ends = λ status h. so_far.ends status (later Blank asks (subst (λ n. EndsAt (number + 1) n texts status) (omega arith) h));
 }
 
-pub so_far_step : (all : List (List ℕ)) (number played : ℕ) (text : List ℕ) (texts : List (List ℕ)) (lines new_lines : List Line)
-    (skipped new_skipped : ℕ) (step : Step) → SoFar all number (text ∷ texts) lines skipped → played ≡ length lines
+pub so_far_step : (first : ℕ) (all : List (List ℕ)) (number played : ℕ) (text : List ℕ) (texts : List (List ℕ)) (lines new_lines : List Line)
+    (skipped new_skipped : ℕ) (step : Step) → SoFar first all number (text ∷ texts) lines skipped → played ≡ length lines
     → Asks number played text step → new_lines ≡ lines_with lines step → new_skipped ≡ skipped_with skipped step
-    → SoFar all (number + 1) texts new_lines new_skipped
-so_far_step all number played text texts lines new_lines skipped new_skipped (Played line) so_far count asks is_lines is_skipped =
-    rw (is_lines, is_skipped) (so_far_call all number text texts lines skipped line so_far (rw count at asks))
-so_far_step all number played text texts lines new_lines skipped new_skipped Skipped so_far count asks is_lines is_skipped =
-    rw (is_lines, is_skipped) (so_far_other all number text texts lines skipped so_far asks)
-so_far_step all number played text texts lines new_lines skipped new_skipped Blank so_far count asks is_lines is_skipped =
-    rw (is_lines, is_skipped) (so_far_blank all number text texts lines skipped so_far asks)
+    → SoFar first all (number + 1) texts new_lines new_skipped
+so_far_step first all number played text texts lines new_lines skipped new_skipped (Played line) so_far count asks is_lines is_skipped =
+    rw (is_lines, is_skipped) (so_far_call first all number text texts lines skipped line so_far (rw count at asks))
+so_far_step first all number played text texts lines new_lines skipped new_skipped Skipped so_far count asks is_lines is_skipped =
+    rw (is_lines, is_skipped) (so_far_other first all number text texts lines skipped so_far asks)
+so_far_step first all number played text texts lines new_lines skipped new_skipped Blank so_far count asks is_lines is_skipped =
+    rw (is_lines, is_skipped) (so_far_blank first all number text texts lines skipped so_far asks)
 
-pub so_far_all : (all : List (List ℕ)) (number : ℕ) (lines : List Line) (skipped : ℕ) → SoFar all number [] lines skipped
-    → Reads 1 0 all lines skipped
-so_far_all all number lines skipped so_far =
-    let h : Reads 1 0 all (lines ++ []) (skipped + 0) = so_far.reads [] 0 nothing in
+pub so_far_all : (first : ℕ) (all : List (List ℕ)) (number : ℕ) (lines : List Line) (skipped : ℕ) → SoFar first all number [] lines skipped
+    → Reads first 0 all lines skipped
+so_far_all first all number lines skipped so_far =
+    let h : Reads first 0 all (lines ++ []) (skipped + 0) = so_far.reads [] 0 nothing in
     rw (append-nil, add-zero) at h
 
-pub so_far_ends : (all : List (List ℕ)) (number played : ℕ) (text : List ℕ) (texts : List (List ℕ)) (lines : List Line) (skipped : ℕ) (status : Status)
-    → SoFar all number (text ∷ texts) lines skipped → played ≡ length lines → Ends number played text status → EndsAt 1 0 all status
-so_far_ends all number played text texts lines skipped status so_far count ends = so_far.ends status (here (rw count at ends))
+pub so_far_ends : (first : ℕ) (all : List (List ℕ)) (number played : ℕ) (text : List ℕ) (texts : List (List ℕ)) (lines : List Line) (skipped : ℕ) (status : Status)
+    → SoFar first all number (text ∷ texts) lines skipped → played ≡ length lines → Ends number played text status → EndsAt first 0 all status
+so_far_ends first all number played text texts lines skipped status so_far count ends = so_far.ends status (here (rw count at ends))
 
 pub skipped_by_one : (skipped : ℕ) (step : Step) → skipped_with skipped step ≤ skipped + 1
 skipped_by_one skipped (Played line) = omega arith

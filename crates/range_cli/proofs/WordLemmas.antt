@@ -1,11 +1,8 @@
 -- Options are read word by word: those that were read, with those that are still to come, are those of all words.
-use Rattle.std.proofs.Common.{◌≡◌, ◌≢◌, ℕ, zero, suc, ◌+◌, ◌<◌, ◌≤◌, Bool, true, false, not, List, [], ◌∷◌, length, get_or, map, drop, refl, sym, ap, subst, add-one, ◌∙◌, arith, rules, codes}
+use Rattle.std.proofs.Common.{◌≡◌, ℕ, zero, suc, ◌+◌, ◌<◌, ◌≤◌, Bool, true, false, not, List, [], ◌∷◌, length, get_or, map, drop, refl, sym, subst, add-one, ◌∙◌, arith, codes}
 use Rattle.std.specs.Str.{bytes_eq}
-use Rattle.std.proofs.lemmas.List.{length-map}
-use Rattle.std.proofs.lemmas.Grind.{common_steps}
 use Rattle.std.proofs.lemmas.Slice.Eq.{bytes_eq-Decides}
 use Rattle.range_cli.specs.declared.words.Options.{Options}
-use Rattle.range_cli.specs.declared.words.Word.{Word}
 use Rattle.range_cli.specs.declared.words.Word.TheVariants.{Opening, Log, Other}
 use Rattle.range_cli.specs.Words.{times, once, AreOptions, KindOf}
 

@@ -1,8 +1,8 @@
 -- The line on standard error, for each way in which a run ends without its whole report. This project's own profile;
 -- the texts stand in docs/FORMATS.md too.
 use Rattle.std.specs.Prelude.{ℕ, List, [], ◌++◌, codes, decimal}
-use Rattle.strace_reader.specs.declared.item.What.{What}
-use Rattle.strace_reader.specs.declared.item.What.TheVariants.{Number, Wide, Word, Comma, Close, Result as AtResult, Form, Order, Later}
+use Rattle.line_parts.specs.declared.fault.What.{What}
+use Rattle.line_parts.specs.declared.fault.What.TheVariants.{Number, Wide, Word, Comma, Close, Result as AtResult, Form, Order, Later}
 use Rattle.range_cli.specs.declared.status.Status.{Status}
 use Rattle.range_cli.specs.declared.status.Status.TheVariants.{Done, Usage, BadLine, ReadFault, WriteFault, Memory, Limit}
 use Rattle.range_cli.specs.declared.status.Which.{Which}

@@ -7,3 +7,5 @@ pub mod ErrorLine
 pub mod Play
 pub mod Report
 pub mod Run
+pub mod Opening
+pub mod Script

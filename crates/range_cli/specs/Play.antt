@@ -6,13 +6,14 @@ use Rattle.space_model.specs.declared.entries.Entry.{Entry}
 use Rattle.space_model.specs.Answers.{Answers}
 use Rattle.space_model.specs.Held.{FitsUnder}
 use Rattle.space_model.specs.History.{IsLegal, StateAfter}
+use Rattle.strace_reader.specs.Playing.{as_played}
 use Rattle.range_cli.specs.declared.trace.Line.{Line}
 
--- the entry is of worker 0, this line and its call
+-- the entry is of worker 0, this line and its call, whose recorded address is its hint where mmap(2) leaves the choice
 pub record IsEntryOf (line : Line) (entry : Entry) : Type 0 where
   pub worker : entry.worker ≡ 0
   pub number : entry.line ≡ line.number
-  pub call : entry.call ≡ line.call
+  pub call : entry.call ≡ as_played line.call line.recorded
 
 -- one entry for each line, in order, and no other
 abbrev pub IsCollected : List Line → List Entry → Type 0

@@ -1,6 +1,6 @@
 -- What a run of the program tells, and why it ends: the sentence that the whole program is proved to keep. Nothing here
 -- speaks of how lines are read or areas are kept.
-use Rattle.std.specs.Prelude.{◌≡◌, ◌⊎◌, ℕ, ◌+◌, List, [], Option, ⊤}
+use Rattle.std.specs.Prelude.{◌≡◌, ◌⊎◌, ℕ, ◌+◌, List, Option, ⊤}
 use Rattle.std.specs.Io.KnownBytes.{Appends, Keeps}
 use Rattle.byte_ports.specs.Bytes.{AppendsPrefix}
 use Rattle.byte_ports.specs.Counts.{Rose}
@@ -12,34 +12,39 @@ use Rattle.range_cli.specs.declared.status.Status.TheVariants.{Done, Usage, BadL
 use Rattle.range_cli.specs.declared.status.Which.{Which}
 use Rattle.range_cli.specs.declared.status.Which.TheVariants.{Input, Line as OfLine, Lines as OfLines, Rows}
 use Rattle.range_cli.specs.declared.trace.Line.{Line}
-use Rattle.range_cli.specs.declared.trace.Trace.{Trace}
 use Rattle.range_cli.specs.declared.words.Options.{Options}
 use Rattle.range_cli.specs.ErrorLine.{error_line}
-use Rattle.range_cli.specs.Input.{Drains, IsTooLong, StopsInput}
-use Rattle.range_cli.specs.Lines.{lines_of}
+use Rattle.range_cli.specs.Input.{Drains, IsTooLong}
 use Rattle.range_cli.specs.Play.{IsPlayed}
-use Rattle.range_cli.specs.Report.{report_text}
-use Rattle.range_cli.specs.Trace.{Reads, EndsAt}
+use Rattle.range_cli.specs.Report.{report_text, refused_count, Differing}
+use Rattle.range_cli.specs.Script.{IsScript, EndsInput, PassesRows}
 use Rattle.range_cli.specs.Words.{Accepts, Refuses}
 
--- the report of an input with these options: its lines, played from no area, as a legal history with these entries and
--- these last areas
+-- the report of an input with these options: its lines, played from its opening areas as a legal history with these
+-- entries and these last areas
 pub record IsReport (options : Options) (bytes report : List ℕ) : Type 0 where
+  pub opening : List Area
   pub lines : List Line
   pub skipped : ℕ
-  pub reads : Reads 1 0 (lines_of bytes) lines skipped
+  pub script : IsScript options bytes opening lines skipped
   pub entries : List Entry
   pub last : List Area
-  pub played : IsPlayed [] lines entries last
-  pub text : report ≡ report_text options last entries skipped
+  pub played : IsPlayed opening lines entries last
+  pub differ : ℕ
+  pub differs : Differing lines entries differ
+  pub text : report ≡ report_text options last entries (record { skipped = skipped; refused = refused_count entries; differ = differ })
 
--- the words are accepted, the input was read to its end, and this is its report
-pub record Tells (words : List (List ℕ)) (input_old input_new : Option (List ℕ)) (report : List ℕ) : Type 0 where
+-- with accepted words the input was read to its end, and this holds of its bytes
+pub record Heard (words : List (List ℕ)) (input_old input_new : Option (List ℕ)) (P : Options → List ℕ → Type 0) : Type 0 where
   pub options : Options
   pub accepted : Accepts words options
   pub bytes : List ℕ
   pub drained : Drains input_old input_new bytes
-  pub told : IsReport options bytes report
+  pub holds : P options bytes
+
+-- this is the report of the input
+abbrev pub Tells : List (List ℕ) → Option (List ℕ) → Option (List ℕ) → List ℕ → Type 0
+Tells words input_old input_new report = Heard words input_old input_new (λ options bytes. IsReport options bytes report)
 
 -- what a run wrote: the whole report, or a first part of it where the output failed, else nothing
 abbrev pub Wrote : List (List ℕ) → Option (List ℕ) → Option (List ℕ) → Option (List ℕ) → Option (List ℕ) → Status → Type 0
@@ -51,36 +56,28 @@ Wrote words input_old input_new out_old out_new ReadFault = Keeps out_old out_ne
 Wrote words input_old input_new out_old out_new Memory = Keeps out_old out_new
 Wrote words input_old input_new out_old out_new (Limit which value) = Keeps out_old out_new
 
--- the input was read to its end, and the first of its lines that ends the run ends it so
-abbrev pub EndsByLine : Option (List ℕ) → Option (List ℕ) → Status → Type 0
-EndsByLine input_old input_new status = (bytes : List ℕ) × Drains input_old input_new bytes × EndsAt 1 0 (lines_of bytes) status
+-- the first of the input's lines that ends the run ends it so
+abbrev pub EndsByLine : List (List ℕ) → Option (List ℕ) → Option (List ℕ) → Status → Type 0
+EndsByLine words input_old input_new status = Heard words input_old input_new (λ options bytes. EndsInput options bytes status)
 
 -- which limit was passed
-abbrev pub PassedLimit : Option (List ℕ) → Option (List ℕ) → Which → ℕ → Type 0
-PassedLimit input_old input_new Input value = (value ≡ INPUT_LIMIT + 1) × IsTooLong input_old
-PassedLimit input_old input_new OfLine value = EndsByLine input_old input_new (Limit OfLine value)
-PassedLimit input_old input_new OfLines value = EndsByLine input_old input_new (Limit OfLines value)
-PassedLimit input_old input_new Rows value = ⊥
+abbrev pub PassedLimit : List (List ℕ) → Option (List ℕ) → Option (List ℕ) → Which → ℕ → Type 0
+PassedLimit words input_old input_new Input value = (value ≡ INPUT_LIMIT + 1) × IsTooLong input_old
+PassedLimit words input_old input_new OfLine value = EndsByLine words input_old input_new (Limit OfLine value)
+PassedLimit words input_old input_new OfLines value = EndsByLine words input_old input_new (Limit OfLines value)
+PassedLimit words input_old input_new Rows value = Heard words input_old input_new (λ options bytes. PassesRows options bytes value)
 
 -- the cause of each status: the words, the input's lines, or a count of faults that rose; want of memory has none
 abbrev pub HasCause : List (List ℕ) → Option (List ℕ) → Option (List ℕ) → (ℕ × ℕ) → (ℕ × ℕ) → Status → Type 0
 HasCause words input_old input_new input_faults out_faults Done = ⊤
 HasCause words input_old input_new input_faults out_faults Usage = Refuses words
-HasCause words input_old input_new input_faults out_faults (BadLine line column what) = EndsByLine input_old input_new (BadLine line column what)
+HasCause words input_old input_new input_faults out_faults (BadLine line column what) = EndsByLine words input_old input_new (BadLine line column what)
 HasCause words input_old input_new input_faults out_faults ReadFault = Rose input_faults.0 input_faults.1
 HasCause words input_old input_new input_faults out_faults WriteFault = Rose out_faults.0 out_faults.1
 HasCause words input_old input_new input_faults out_faults Memory = ⊤
-HasCause words input_old input_new input_faults out_faults (Limit which value) = PassedLimit input_old input_new which value
+HasCause words input_old input_new input_faults out_faults (Limit which value) = PassedLimit words input_old input_new which value
 
 -- the status's line was written, or a first part of it where that output failed
 abbrev pub Complains : Option (List ℕ) → Option (List ℕ) → ℕ → ℕ → Status → Type 0
 Complains err_old err_new before after status =
     Appends err_old err_new (error_line status) ⊎ (AppendsPrefix err_old err_new (error_line status) × Rose before after)
-
--- the input was read to its end, and its lines ask for this
-abbrev pub IsTraceOf : Option (List ℕ) → Option (List ℕ) → Trace → Type 0
-IsTraceOf input_old input_new trace = (bytes : List ℕ) × Drains input_old input_new bytes × Reads 1 0 (lines_of bytes) trace.lines.items trace.skipped
-
--- the input ends the run before anything is played
-abbrev pub StopsEarly : Option (List ℕ) → Option (List ℕ) → ℕ → ℕ → Status → Type 0
-StopsEarly input_old input_new before after status = StopsInput input_old before after status ⊎ EndsByLine input_old input_new status

@@ -18,6 +18,10 @@ use Rattle.range_cli.specs.declared.trace.Step.TheVariants.{Played, Skipped, Bla
 abbrev pub IsShort : List ℕ → Type 0
 IsShort text = length text ≤ LINE_LIMIT
 
+-- the line is too long; the value is the first length above the limit
+abbrev pub IsTooLongLine : List ℕ → ℕ → Type 0
+IsTooLongLine text value = (LINE_LIMIT < length text) × (value ≡ LINE_LIMIT + 1)
+
 -- the line is a call of some process with this result
 abbrev pub IsCall : List ℕ → Line → Type 0
 IsCall text line = (pid : ℕ) × Spells text (Call pid line.call line.recorded)
@@ -31,7 +35,7 @@ Asks number played text Blank = IsShort text × Spells text Empty
 -- which limit the line passes
 abbrev pub Passes : ℕ → List ℕ → Which → ℕ → Type 0
 Passes played text Input value = ⊥
-Passes played text OfLine value = (LINE_LIMIT < length text) × (value ≡ LINE_LIMIT + 1)
+Passes played text OfLine value = IsTooLongLine text value
 Passes played text OfLines value = IsShort text × (LINES_LIMIT ≤ played) × (value ≡ LINES_LIMIT + 1) × ((line : Line) × IsCall text line)
 Passes played text Rows value = ⊥
 
@@ -92,6 +96,6 @@ pub data EndsAt : ℕ → ℕ → List (List ℕ) → Status → Type 0 where
   later : {number played : ℕ} {text : List ℕ} {texts : List (List ℕ)} {status : Status} → (step : Step) → Asks number played text step →
       EndsAt (number + 1) (played + played_by step) texts status → EndsAt number played (text ∷ texts) status
 
--- the input's lines end the run so, unless there was no memory
-abbrev pub StopsBy : List (List ℕ) → Status → Type 0
-StopsBy texts status = (status ≡ Memory) ⊎ EndsAt 1 0 texts status
+-- the lines from line `number` on end the run so, unless there was no memory
+abbrev pub StopsBy : ℕ → List (List ℕ) → Status → Type 0
+StopsBy number texts status = (status ≡ Memory) ⊎ EndsAt number 0 texts status

@@ -6,9 +6,11 @@
 mod error_line;
 mod input;
 mod lines;
+mod opening;
 mod play;
 mod report;
 mod run;
+mod script;
 mod status;
 #[cfg(test)]
 mod tests;

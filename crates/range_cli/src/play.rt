@@ -6,6 +6,7 @@ ghost use Rattle.range_cli.specs.Trace.{IsNamedLine};
 use crate::trace::Line;
 use space_model::{Entry, PlainSpace};
 use std::alloc::{AllocError, Global};
+use strace_reader::as_played;
 
 /// What playing has left: the space, and one entry for each line.
 #[derive(Debug, Drop)]
@@ -36,7 +37,7 @@ fn play_line(space: &mut PlainSpace, line: &Line, number: u64) -> Result<Entry, 
     requires { IsNamedLine line.now }
     ensures { IfOk result (λ entry. IsStep number space.old line.now entry space.new) }
 {
-    let call = line.call;
+    let call = as_played(&line.call, line.recorded);
     let under = space.under(&call);
     let reply = space.step(&call)?;
     Ok(Entry {

@@ -3,16 +3,29 @@ ghost use Rattle.std.specs.Prelude.{◌≡◌, ◌≤◌, ◌^◌, ◌<◌, leng
 ghost use Rattle.std.specs.Io.KnownBytes.{Appends};
 ghost use Rattle.byte_ports.specs.Bytes.{AppendsPrefix};
 ghost use Rattle.byte_ports.specs.Counts.{Rose};
-ghost use Rattle.range_cli.specs.Report.{report_text, asked_log, is_refused, refused_count};
+ghost use Rattle.range_cli.specs.Report.{report_text, asked_log, is_refused, refused_count, Differing};
 
+use crate::trace::Line;
 use crate::words::Options;
 use byte_ports::{Failed, Sink};
 use maps_printer::{write_log, write_maps, write_summary};
 use page_types::Reply;
 use space_model::{Area, Entry};
+use strace_reader::differs;
 
-/// Writes the report of what was played, with so many lines passed over: the log is that of `entries`, at most
-/// 2^32 - 1 of them, and the maps are those of `areas`.
+/// The counts of a summary but that of the played calls, which is the number of entries.
+#[derive(Clone, Copy, Debug, PartialEq, Eq)]
+pub struct Counts {
+    /// Lines that were passed over.
+    pub skipped: u32,
+    /// Calls that were refused.
+    pub refused: u32,
+    /// Replies that differ from the recorded result.
+    pub differ: u32,
+}
+
+/// Writes the report of what was played: the log is that of `entries`, at most 2^32 - 1 of them, and the maps are those
+/// of `areas`.
 ///
 /// `Failed`: the sink failed in this call; some first part of the report was appended.
 pub fn write_report<K: Sink>(
@@ -20,19 +33,19 @@ pub fn write_report<K: Sink>(
     options: Options,
     entries: &[Entry],
     areas: &[Area],
-    skipped: u32,
+    counts: Counts,
 ) -> Result<(), Failed>
     requires { length entries.now < 2 ^ 32 }
     ensures all { OnOk result (Appends (K.contents out.old) (K.contents out.new)
-        (report_text options areas.now entries.now skipped)) }
+        (report_text options areas.now entries.now counts)) }
     ensures failed_prefix { OnErr result (AppendsPrefix (K.contents out.old) (K.contents out.new)
-        (report_text options areas.now entries.now skipped)) }
+        (report_text options areas.now entries.now counts)) }
     ensures failed_rose { OnErr result (Rose (K.fault_count out.old) (K.fault_count out.new)) }
 {
     write_asked_log(out, options, entries)?;
     write_maps(out, areas)?;
-    let refused = refused_count(entries);
-    write_summary(out, entries.len() as u32, skipped, refused, 0)
+    let played = entries.len() as u32;
+    write_summary(out, played, counts.skipped, counts.refused, counts.differ)
 }
 
 /// Writes the log where the options ask for it.
@@ -52,7 +65,7 @@ fn write_asked_log<K: Sink>(out: &mut K, options: Options, entries: &[Entry]) ->
 }
 
 /// How many calls were refused.
-fn refused_count(entries: &[Entry]) -> u32
+pub fn refused_count(entries: &[Entry]) -> u32
     requires { length entries.now < 2 ^ 32 }
     ensures { result ≡ refused_count entries.now }
 {
@@ -67,4 +80,19 @@ fn is_refused(reply: Reply) -> bool
     ensures { result ≡ is_refused reply }
 {
     matches!(reply, Reply::Refused(_))
+}
+
+/// How many replies differ from the recorded result of their line.
+pub fn differ_count(lines: &[Line], entries: &[Entry]) -> u32
+    requires each { length lines.now ≡ length entries.now }
+    requires few { length lines.now < 2 ^ 32 }
+    ensures { Differing lines.now entries.now result }
+{
+    let mut count = 0;
+    for (i, line) in lines.iter().enumerate() {
+        if differs(&entries[i].reply, line.recorded) {
+            count += 1;
+        }
+    }
+    count
 }

@@ -1,21 +1,17 @@
 // The whole program over a source and two sinks: words, input, lines, calls, report. What `run` wrote is what the input
 // says; why it ended otherwise is told by its status, and each status has its cause.
-ghost use Rattle.std.specs.Prelude.{◌≡◌, ◌≤◌, length, map, All, IfOk, IfErr};
+ghost use Rattle.std.specs.Prelude.{◌≡◌, map};
 ghost use Rattle.std.specs.String.{string_bytes};
-ghost use Rattle.range_cli.specs.declared.trace.TheConstants.{LINES_LIMIT};
-ghost use Rattle.range_cli.specs.Trace.{IsNamedLine};
 ghost use Rattle.range_cli.specs.Words.{Refuses};
-ghost use Rattle.range_cli.specs.Run.{Wrote, HasCause, Complains, IsTraceOf, StopsEarly};
+ghost use Rattle.range_cli.specs.Run.{Wrote, HasCause, Complains};
 
 use crate::error_line::write_error;
-use crate::input::read_input;
 use crate::play::play;
-use crate::report::write_report;
+use crate::report::{Counts, differ_count, refused_count, write_report};
+use crate::script::read_script;
 use crate::status::Status;
-use crate::trace::{Trace, read_lines};
 use crate::words::options_of;
 use byte_ports::{Sink, Source};
-use space_model::PlainSpace;
 use std::alloc::Global;
 
 /// Plays the trace of `input` as `words` ask for, the words behind the program's name, and writes the report to `out`.
@@ -53,35 +49,20 @@ fn report<S: Source, K: Sink>(alloc: Global, words: &[String], input: &mut S, ou
     let Some(options) = options_of(words) else {
         return Status::Usage;
     };
-    let trace = match read_trace(alloc, input) {
-        Ok(trace) => trace,
+    let script = match read_script(alloc, options, input) {
+        Ok(script) => script,
         Err(status) => return status,
     };
-    let Ok(played) = play(alloc, PlainSpace::new(alloc), &trace.lines) else {
+    let Ok(played) = play(alloc, script.opening, &script.lines) else {
         return Status::Memory;
     };
-    match write_report(
-        out,
-        options,
-        &played.entries,
-        played.space.areas(),
-        trace.skipped,
-    ) {
+    let counts = Counts {
+        skipped: script.skipped,
+        refused: refused_count(&played.entries),
+        differ: differ_count(&script.lines, &played.entries),
+    };
+    match write_report(out, options, &played.entries, played.space.areas(), counts) {
         Ok(()) => Status::Done,
         Err(_) => Status::WriteFault,
     }
-}
-
-/// Reads the whole input, and what its lines ask for.
-///
-/// `Err`: the run ends with this status.
-fn read_trace<S: Source>(alloc: Global, input: &mut S) -> Result<Trace, Status>
-    ensures read { IfOk result (IsTraceOf (S.remaining input.old) (S.remaining input.new)) }
-    ensures named { IfOk result (λ trace. All IsNamedLine trace.lines.items) }
-    ensures few { IfOk result (λ trace. length trace.lines.items ≤ LINES_LIMIT) }
-    ensures stopped { IfErr result (StopsEarly (S.remaining input.old) (S.remaining input.new)
-        (S.fault_count input.old) (S.fault_count input.new)) }
-{
-    let bytes = read_input(alloc, input)?;
-    read_lines(alloc, &bytes)
 }

@@ -2,6 +2,9 @@
 use crate::run::run;
 use crate::status::{Status, Which};
 use byte_ports::{MemorySink, MemorySource};
+use maps_printer::write_maps;
+use page_types::{Kind, Prot};
+use space_model::Area;
 use std::alloc::Global;
 use std::process::Abort;
 use std::test::Fail;
@@ -66,6 +69,316 @@ fn an_empty_input_gives_the_summary_alone(rt: HostRuntime) -> Result<(), Fail> {
     Ok(())
 }
 
+/// Fails the test unless a run with these words writes just `out`, and ends well.
+fn plays(
+    rt: &impl Abort,
+    alloc: Global,
+    words: &[&str],
+    input: &str,
+    out: &str,
+) -> Result<(), Fail> {
+    let left = run_with(alloc, words, input.as_bytes(), &[], &[])?;
+    expect(rt, &left, Status::Done, out, "");
+    Ok(())
+}
+
+#[test]
+fn an_unmapped_page_leaves_both_sides(rt: HostRuntime) -> Result<(), Fail> {
+    plays(
+        &rt,
+        rt.alloc(),
+        &["play"],
+        "mmap(0x10000, 12288, PROT_READ|PROT_WRITE, MAP_PRIVATE|MAP_FIXED, -1, 0)\n\
+        munmap(0x11000, 4096) = 0\n",
+        "00010000-00011000 rw-p 00000000 00:00 0\n\
+        00012000-00013000 rw-p 00000000 00:00 0\n\
+        played 2 skipped 0 refused 0 differ 0\n",
+    )?;
+    plays(
+        &rt,
+        rt.alloc(),
+        &["play"],
+        "munmap(0x10000, 4096)",
+        "played 1 skipped 0 refused 0 differ 0\n",
+    )
+}
+
+#[test]
+fn a_protection_of_one_area_holds_a_page_on_each_side(rt: HostRuntime) -> Result<(), Fail> {
+    plays(
+        &rt,
+        rt.alloc(),
+        &["play", "--log"],
+        "mmap(0x10000, 8192, PROT_READ|PROT_WRITE, MAP_PRIVATE|MAP_FIXED, -1, 0) = 0x10000\n\
+        mprotect(0x10000, 8192, PROT_READ) = 0\n",
+        "0 0 1 mmap(0x10000, 8192, PROT_READ|PROT_WRITE, MAP_PRIVATE|MAP_FIXED, -1, 0) = 0x10000 under whole\n\
+        1 0 2 mprotect(0x10000, 8192, PROT_READ) = 0 under area 0xf-0x13\n\
+        00010000-00012000 r--p 00000000 00:00 0\n\
+        played 2 skipped 0 refused 0 differ 0\n",
+    )?;
+    plays(
+        &rt,
+        rt.alloc(),
+        &["play", "--log"],
+        "mmap(0x10000, 8192, PROT_READ|PROT_WRITE, MAP_PRIVATE|MAP_FIXED, -1, 0)\n\
+        mmap(0x12000, 8192, PROT_READ, MAP_PRIVATE|MAP_FIXED, -1, 0)\n\
+        mprotect(0x11000, 4096, PROT_READ)\n",
+        "0 0 1 mmap(0x10000, 8192, PROT_READ|PROT_WRITE, MAP_PRIVATE|MAP_FIXED, -1, 0) = 0x10000 under whole\n\
+        1 0 2 mmap(0x12000, 8192, PROT_READ, MAP_PRIVATE|MAP_FIXED, -1, 0) = 0x12000 under whole\n\
+        2 0 3 mprotect(0x11000, 4096, PROT_READ) = 0 under area 0xf-0x13\n\
+        00010000-00011000 rw-p 00000000 00:00 0\n\
+        00011000-00014000 r--p 00000000 00:00 0\n\
+        played 3 skipped 0 refused 0 differ 0\n",
+    )
+}
+
+#[test]
+fn a_protection_that_splits_or_meets_a_hole_holds_all(rt: HostRuntime) -> Result<(), Fail> {
+    plays(
+        &rt,
+        rt.alloc(),
+        &["play", "--log"],
+        "mmap(0x10000, 12288, PROT_READ|PROT_WRITE, MAP_PRIVATE|MAP_FIXED, -1, 0)\n\
+        mprotect(0x11000, 4096, PROT_READ)\n",
+        "0 0 1 mmap(0x10000, 12288, PROT_READ|PROT_WRITE, MAP_PRIVATE|MAP_FIXED, -1, 0) = 0x10000 under whole\n\
+        1 0 2 mprotect(0x11000, 4096, PROT_READ) = 0 under whole\n\
+        00010000-00011000 rw-p 00000000 00:00 0\n\
+        00011000-00012000 r--p 00000000 00:00 0\n\
+        00012000-00013000 rw-p 00000000 00:00 0\n\
+        played 2 skipped 0 refused 0 differ 0\n",
+    )?;
+    plays(
+        &rt,
+        rt.alloc(),
+        &["play", "--log"],
+        "mmap(0x10000, 4096, PROT_READ|PROT_WRITE, MAP_PRIVATE|MAP_FIXED, -1, 0)\n\
+        mmap(0x12000, 4096, PROT_READ|PROT_WRITE, MAP_PRIVATE|MAP_FIXED, -1, 0)\n\
+        mprotect(0x10000, 12288, PROT_READ)\n",
+        "0 0 1 mmap(0x10000, 4096, PROT_READ|PROT_WRITE, MAP_PRIVATE|MAP_FIXED, -1, 0) = 0x10000 under whole\n\
+        1 0 2 mmap(0x12000, 4096, PROT_READ|PROT_WRITE, MAP_PRIVATE|MAP_FIXED, -1, 0) = 0x12000 under whole\n\
+        2 0 3 mprotect(0x10000, 12288, PROT_READ) = -1 ENOMEM missing page 0x11 under whole\n\
+        00010000-00011000 rw-p 00000000 00:00 0\n\
+        00012000-00013000 rw-p 00000000 00:00 0\n\
+        played 3 skipped 0 refused 1 differ 0\n",
+    )
+}
+
+#[test]
+fn what_the_arguments_decide_holds_nothing(rt: HostRuntime) -> Result<(), Fail> {
+    plays(
+        &rt,
+        rt.alloc(),
+        &["play", "--log"],
+        "mprotect(0x10000, 0, PROT_READ)\n\
+        mprotect(0x10001, 4096, PROT_READ)\n\
+        mprotect(0x10001, 0, PROT_READ)\n\
+        munmap(0x50000, 4096)\n\
+        munmap(0x50000, 0)\n\
+        mmap(0x7fffffffe000, 8192, PROT_READ, MAP_PRIVATE|MAP_FIXED, -1, 0)\n",
+        "0 0 1 mprotect(0x10000, 0, PROT_READ) = 0 under none\n\
+        1 0 2 mprotect(0x10001, 4096, PROT_READ) = -1 EINVAL addr under none\n\
+        2 0 3 mprotect(0x10001, 0, PROT_READ) = -1 EINVAL addr under none\n\
+        3 0 4 munmap(0x50000, 4096) = 0 under whole\n\
+        4 0 5 munmap(0x50000, 0) = -1 EINVAL len under none\n\
+        5 0 6 mmap(0x7fffffffe000, 8192, PROT_READ, MAP_PRIVATE|MAP_FIXED, -1, 0) = -1 ENOMEM end page 0x800000000 under none\n\
+        played 6 skipped 0 refused 4 differ 0\n",
+    )
+}
+
+#[test]
+fn a_fault_reads_the_one_page(rt: HostRuntime) -> Result<(), Fail> {
+    plays(
+        &rt,
+        rt.alloc(),
+        &["play", "--log"],
+        "mmap(0x10000, 8192, PROT_READ, MAP_PRIVATE|MAP_FIXED, -1, 0)\n\
+        fault(0x10000, PROT_READ)\n\
+        fault(0x11fff, PROT_READ)\n\
+        fault(0x12000, PROT_READ)\n\
+        fault(0x10000, PROT_WRITE)\n",
+        "0 0 1 mmap(0x10000, 8192, PROT_READ, MAP_PRIVATE|MAP_FIXED, -1, 0) = 0x10000 under whole\n\
+        1 0 2 fault(0x10000, PROT_READ) = granted r--p under reader 0x10-0x11\n\
+        2 0 3 fault(0x11fff, PROT_READ) = granted r--p under reader 0x11-0x12\n\
+        3 0 4 fault(0x12000, PROT_READ) = -1 SEGV_MAPERR page 0x12 under reader 0x12-0x13\n\
+        4 0 5 fault(0x10000, PROT_WRITE) = -1 SEGV_ACCERR page 0x10 r--p under reader 0x10-0x11\n\
+        00010000-00012000 r--p 00000000 00:00 0\n\
+        played 5 skipped 0 refused 2 differ 0\n",
+    )
+}
+
+#[test]
+fn a_mapping_is_placed_from_the_top(rt: HostRuntime) -> Result<(), Fail> {
+    plays(
+        &rt,
+        rt.alloc(),
+        &["play", "--log"],
+        "mmap(NULL, 4096, PROT_READ|PROT_WRITE, MAP_PRIVATE, -1, 0)\n\
+        mmap(0x7fffffffe000, 4096, PROT_READ|PROT_WRITE, MAP_PRIVATE, -1, 0)\n",
+        "0 0 1 mmap(NULL, 4096, PROT_READ|PROT_WRITE, MAP_PRIVATE, -1, 0) = 0x7fffffffe000 under whole\n\
+        1 0 2 mmap(0x7fffffffe000, 4096, PROT_READ|PROT_WRITE, MAP_PRIVATE, -1, 0) = 0x7fffffffd000 under whole\n\
+        7fffffffd000-7ffffffff000 rw-p 00000000 00:00 0\n\
+        played 2 skipped 0 refused 0 differ 0\n",
+    )?;
+    plays(
+        &rt,
+        rt.alloc(),
+        &["play", "--log"],
+        "mmap(0x7fffffffe000, 4096, PROT_READ, MAP_PRIVATE|MAP_FIXED, -1, 0)\n",
+        "0 0 1 mmap(0x7fffffffe000, 4096, PROT_READ, MAP_PRIVATE|MAP_FIXED, -1, 0) = 0x7fffffffe000 under whole\n\
+        7fffffffe000-7ffffffff000 r--p 00000000 00:00 0\n\
+        played 1 skipped 0 refused 0 differ 0\n",
+    )?;
+    plays(
+        &rt,
+        rt.alloc(),
+        &["play"],
+        "mmap(NULL, 2097152, PROT_READ|PROT_WRITE, \
+        MAP_PRIVATE|MAP_ANONYMOUS|MAP_HUGETLB|21<<MAP_HUGE_SHIFT, -1, 0) = 0x40000000\n",
+        "40000000-40200000 rw-p 00000000 00:00 0\n\
+        played 1 skipped 0 refused 0 differ 0\n",
+    )
+}
+
+#[test]
+fn a_mapping_that_may_not_replace_names_the_lowest_page(rt: HostRuntime) -> Result<(), Fail> {
+    plays(
+        &rt,
+        rt.alloc(),
+        &["play", "--log"],
+        "mmap(0x10000, 8192, PROT_READ, MAP_PRIVATE|MAP_FIXED, -1, 0)\n\
+        mmap(0xf000, 16384, PROT_READ, MAP_PRIVATE|MAP_FIXED_NOREPLACE, -1, 0)\n",
+        "0 0 1 mmap(0x10000, 8192, PROT_READ, MAP_PRIVATE|MAP_FIXED, -1, 0) = 0x10000 under whole\n\
+        1 0 2 mmap(0xf000, 16384, PROT_READ, MAP_PRIVATE|MAP_FIXED_NOREPLACE, -1, 0) = -1 EEXIST page 0x10 under whole\n\
+        00010000-00012000 r--p 00000000 00:00 0\n\
+        played 2 skipped 0 refused 1 differ 0\n",
+    )
+}
+
+#[test]
+fn a_program_starts_with_its_maps(rt: HostRuntime) -> Result<(), Fail> {
+    plays(
+        &rt,
+        rt.alloc(),
+        &["play", "--opening"],
+        "00400000-00401000 r-xp 00000000 08:01 131 /bin/true\n\
+        7ffc10000000-7ffc10021000 rw-p 00000000 00:00 0 [stack]\n\
+        ffffffffff600000-ffffffffff601000 --xp 00000000 00:00 0 [vsyscall]\n\
+        \n\
+        execve(\"/bin/true\", [\"true\"], 0x7ffc1001f000 /* 3 vars */) = 0\n\
+        brk(NULL)                               = 0x1c3a000\n\
+        mmap(NULL, 8192, PROT_READ|PROT_WRITE, MAP_PRIVATE|MAP_ANONYMOUS, -1, 0) = 0x7f1200000000\n\
+        mmap(NULL, 2000, PROT_READ, MAP_PRIVATE|MAP_DENYWRITE, 3, 0) = 0x7f1200010000\n\
+        mmap(0x7f1200010000, 4096, PROT_READ|PROT_EXEC, MAP_PRIVATE|MAP_FIXED|MAP_DENYWRITE, 3, 0x1000) = 0x7f1200010000\n\
+        mprotect(0x7f1200000000, 4096, PROT_READ) = 0\n\
+        munmap(0x7f1200010000, 2000)            = 0\n\
+        exit_group(0)                           = ?\n\
+        +++ exited with 0 +++\n",
+        "00400000-00401000 r-xp 00000000 00:00 0\n\
+        7f1200000000-7f1200001000 r--p 00000000 00:00 0\n\
+        7f1200001000-7f1200002000 rw-p 00000000 00:00 0\n\
+        7ffc10000000-7ffc10021000 rw-p 00000000 00:00 0\n\
+        played 5 skipped 5 refused 0 differ 0\n",
+    )?;
+    plays(
+        &rt,
+        rt.alloc(),
+        &["play", "--log", "--opening"],
+        "00010000-00011000 rw-p\n00011000-00012000 rw-p any\n\nmprotect(0x10000, 4096, PROT_READ) = -1 EACCES\n",
+        "0 0 4 mprotect(0x10000, 4096, PROT_READ) = 0 under whole\n\
+        00010000-00011000 r--p 00000000 00:00 0\n\
+        00011000-00012000 rw-p 00000000 00:00 0\n\
+        played 1 skipped 0 refused 0 differ 1\n",
+    )
+}
+
+/// Fails the test unless a run with `--opening` refuses this line of its input so.
+fn refuses(
+    rt: &impl Abort,
+    alloc: Global,
+    input: &str,
+    line: u32,
+    what: What,
+    err: &str,
+) -> Result<(), Fail> {
+    let left = run_with(alloc, &["play", "--opening"], input.as_bytes(), &[], &[])?;
+    let status = Status::BadLine {
+        line,
+        column: 1,
+        what,
+    };
+    expect(rt, &left, status, "", err);
+    Ok(())
+}
+
+#[test]
+fn maps_come_in_order_and_in_form(rt: HostRuntime) -> Result<(), Fail> {
+    refuses(
+        &rt,
+        rt.alloc(),
+        "00020000-00021000 rw-p\n0001f000-00020000 rw-p\n",
+        2,
+        What::Order,
+        "line 2 column 1: maps out of order\n",
+    )?;
+    refuses(
+        &rt,
+        rt.alloc(),
+        "00020000-00021000 rw-p\n00020000-00021000 r--p\n",
+        2,
+        What::Order,
+        "line 2 column 1: maps out of order\n",
+    )?;
+    refuses(
+        &rt,
+        rt.alloc(),
+        "brk(NULL) = 0\n",
+        1,
+        What::Form,
+        "line 1 column 1: no maps line\n",
+    )
+}
+
+#[test]
+fn an_opening_of_4097_rows_is_too_large(rt: HostRuntime) -> Result<(), Fail> {
+    let mut areas = Vec::new(rt.alloc());
+    for page in 16..4111 {
+        let prot = if page % 2 == 0 {
+            Prot::READ
+        } else {
+            Prot::READ | Prot::WRITE
+        };
+        areas.push(Area {
+            lo: page,
+            hi: page + 1,
+            kind: Kind {
+                prot,
+                shared: false,
+            },
+        })?;
+    }
+    let mut maps = MemorySink::new(vec![in rt.alloc(); 0u8; 200_000]?, Vec::new(rt.alloc()));
+    assert!(rt; write_maps(&mut maps, &areas).is_ok());
+    let left = run_with(rt.alloc(), &["play", "--opening"], maps.written(), &[], &[])?;
+    let status = Status::Limit {
+        which: Which::Rows,
+        value: 4097,
+    };
+    expect(&rt, &left, status, "", "limit rows: 4097\n");
+    Ok(())
+}
+
+#[test]
+fn a_call_that_is_cut_off_says_where(rt: HostRuntime) -> Result<(), Fail> {
+    let left = run_with(rt.alloc(), &["play"], b"mmap(0x10000, 81", &[], &[])?;
+    let status = Status::BadLine {
+        line: 1,
+        column: 17,
+        what: What::Comma,
+    };
+    expect(&rt, &left, status, "", "line 1 column 17: comma expected\n");
+    Ok(())
+}
+
 #[test]
 fn an_unaligned_fixed_address_is_refused(rt: HostRuntime) -> Result<(), Fail> {
     let input =
@@ -82,10 +395,11 @@ fn an_unaligned_fixed_address_is_refused(rt: HostRuntime) -> Result<(), Fail> {
 }
 
 #[test]
-fn a_line_of_another_form_is_refused(rt: HostRuntime) -> Result<(), Fail> {
-    let left = run_with(rt.alloc(), &["play"], b"munmap(0x10000, 4096)", &[], &[])?;
+fn a_line_with_a_process_number_is_not_read_yet(rt: HostRuntime) -> Result<(), Fail> {
+    let input = b"brk(NULL) = 0x1000\n[pid     7] munmap(0x10000, 4096) = 0\n";
+    let left = run_with(rt.alloc(), &["play"], input, &[], &[])?;
     let status = Status::BadLine {
-        line: 1,
+        line: 2,
         column: 1,
         what: What::Later,
     };
@@ -94,7 +408,7 @@ fn a_line_of_another_form_is_refused(rt: HostRuntime) -> Result<(), Fail> {
         &left,
         status,
         "",
-        "line 1 column 1: form not read yet\n",
+        "line 2 column 1: form not read yet\n",
     );
     Ok(())
 }
@@ -107,6 +421,8 @@ fn other_words_get_the_usage_line(rt: HostRuntime) -> Result<(), Fail> {
         let left = run_with(rt.alloc(), &words, FIRST, &[], &[])?;
         expect(&rt, &left, Status::Usage, "", usage);
     }
+    let left = run_with(rt.alloc(), &["play", "--log", "--log"], FIRST, &[], &[])?;
+    expect(&rt, &left, Status::Usage, "", usage);
     let left = run_with(rt.alloc(), &[], FIRST, &[], &[])?;
     expect(&rt, &left, Status::Usage, "", usage);
     Ok(())
@@ -118,6 +434,17 @@ fn a_failed_read_plays_nothing(rt: HostRuntime) -> Result<(), Fail> {
         let left = run_with(rt.alloc(), &["play"], FIRST, &[fails], &[])?;
         expect(&rt, &left, Status::ReadFault, "", "read fault\n");
     }
+    Ok(())
+}
+
+#[test]
+fn a_failed_third_read_plays_nothing(rt: HostRuntime) -> Result<(), Fail> {
+    let mut input = vec![in rt.alloc(); b'\n'; 70_000]?;
+    for byte in FIRST {
+        input.push(*byte)?;
+    }
+    let left = run_with(rt.alloc(), &["play"], &input, &[3], &[])?;
+    expect(&rt, &left, Status::ReadFault, "", "read fault\n");
     Ok(())
 }
 
@@ -145,5 +472,19 @@ fn a_line_of_65536_bytes_is_too_long(rt: HostRuntime) -> Result<(), Fail> {
         value: 65536,
     };
     expect(&rt, &left, status, "", "limit line: 65536\n");
+    Ok(())
+}
+
+#[test]
+fn a_line_of_65535_bytes_is_passed_over(rt: HostRuntime) -> Result<(), Fail> {
+    let line = vec![in rt.alloc(); b'x'; 65535]?;
+    let left = run_with(rt.alloc(), &["play"], &line, &[], &[])?;
+    expect(
+        &rt,
+        &left,
+        Status::Done,
+        "played 0 skipped 1 refused 0 differ 0\n",
+        "",
+    );
     Ok(())
 }

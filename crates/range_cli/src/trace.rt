@@ -1,6 +1,6 @@
 // From the lines of an input to the calls that are played, each with the number of its line. `Reads` says line by line
 // what becomes of an input, up to the first line that ends the run.
-ghost use Rattle.std.specs.Prelude.{◌≡◌, ◌<◌, ◌≤◌, length, All, IfOk, IfErr, OnOk};
+ghost use Rattle.std.specs.Prelude.{◌≡◌, ◌+◌, ◌<◌, ◌≤◌, length, All, IfOk, IfErr, OnOk};
 ghost use Rattle.range_cli.specs.Lines.{lines_of};
 ghost use Rattle.range_cli.specs.Trace.{Asks, Ends, Reads, StopsBy, lines_with, skipped_with, IsNamedLine, IsNamedStep};
 
@@ -36,22 +36,24 @@ pub struct Trace {
     pub skipped: u32,
 }
 
-/// Reads the lines of an input.
+/// Reads the lines of a trace, whose first line has the number `first`.
 ///
 /// `Err`: the run ends with this status, at the first line that is too long, is refused, or is one too many to be
 /// played; or there was no memory.
-pub fn read_lines(alloc: Global, text: &[u8]) -> Result<Trace, Status>
-    requires { length text.now ≤ 67108864 }
-    ensures read { IfOk result (λ trace. Reads 1 0 (lines_of text.now) trace.lines.items trace.skipped) }
+pub fn read_lines(alloc: Global, text: &[u8], first: u32) -> Result<Trace, Status>
+    requires numbered { 0 < first }
+    requires few { first + length text.now ≤ 67108865 }
+    ensures read { IfOk result (λ trace. Reads first 0 (lines_of text.now) trace.lines.items trace.skipped) }
     ensures named { IfOk result (λ trace. All IsNamedLine trace.lines.items) }
     ensures few { IfOk result (λ trace. length trace.lines.items ≤ LINES_LIMIT) }
-    ensures stopped { IfErr result (StopsBy (lines_of text.now)) }
+    ensures counted { IfOk result (λ trace. trace.skipped ≤ length text.now) }
+    ensures stopped { IfErr result (StopsBy first (lines_of text.now)) }
 {
     let mut trace = Trace {
         lines: Vec::new(alloc),
         skipped: 0,
     };
-    let mut number = 1;
+    let mut number = first;
     let mut rest = text;
     'lines: while let Some((line, behind)) = next_line(rest) {
         let step = read_one(line, number, trace.lines.len())?;

@@ -1,5 +1,4 @@
-use Rattle.std.proofs.Common.{◌≡◌, ◌+◌, ◌≤◌, ◌++◌, ◌∷◌, [], length, arith, ap, ◌∙◌, length-append}
-use Rattle.range_cli.specs.Play.{IsStep}
+use Rattle.std.proofs.Common.{◌≡◌, arith}
 use Rattle.range_cli.proofs.PlayLemmas.{plays_next, played_all}
 use Rattle.range_cli.proofs.play.play.Goals as goal
 

@@ -1,4 +1,3 @@
-use Rattle.std.proofs.Common.{refl}
 use Rattle.byte_ports.proofs.Pieces.{AppendsPrefix-more, AppendsPrefix-after}
 use Rattle.range_cli.proofs.ErrorPieces.{on_err}
 use Rattle.range_cli.proofs.ReportPieces.{report_all, report_prefix}
@@ -15,10 +14,10 @@ returns-in_err-write_maps-clause-failed_prefix g c =
 
 pub returns-clause-all : goal.returns-clause-all
 returns-clause-all g c =
-    report_all _ _ _ _ _ c.args.options _ c.args.entries.now _ _ _ refl c.refused_count-refused.ensures c.in_ok-write_asked_log.ensures.all c.in_ok-write_maps.ensures.text
+    report_all _ _ _ _ _ c.args.options _ c.args.entries.now _ c.in_ok-write_asked_log.ensures.all c.in_ok-write_maps.ensures.text
     c.write_summary.ensures.text
 
 pub returns-clause-failed_prefix : goal.returns-clause-failed_prefix
 returns-clause-failed_prefix g c =
-    report_prefix _ _ _ _ _ c.args.options _ c.args.entries.now _ _ _ refl c.refused_count-refused.ensures c.in_ok-write_asked_log.ensures.all c.in_ok-write_maps.ensures.text
+    report_prefix _ _ _ _ _ c.args.options _ c.args.entries.now _ c.in_ok-write_asked_log.ensures.all c.in_ok-write_maps.ensures.text
     c.write_summary.ensures.failed_prefix

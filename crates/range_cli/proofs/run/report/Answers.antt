@@ -6,12 +6,22 @@ pub returns-in_default-clause-cause : goal.returns-in_default-clause-cause
 returns-in_default-clause-cause g c = c.in_default.ensures.refused refl
 
 pub returns-in-Err-clause-out : goal.returns-in-Err-clause-out
-returns-in-Err-clause-out g c = wrote_nothing _ _ _ _ _ _ _ c.in-Err.ensures.stopped
+returns-in-Err-clause-out g c = wrote_nothing _ _ _ _ _ _ _ _ c.in-Err.ensures.stopped
 
 pub returns-in-Err-clause-cause : goal.returns-in-Err-clause-cause
-returns-in-Err-clause-cause g c = has_cause _ _ _ _ _ _ _ c.in-Err.ensures.stopped
+returns-in-Err-clause-cause g c = has_cause _ _ _ _ _ _ _ _ c.in-Some.ensures.accepted c.in-Err.ensures.stopped
+
+pub refused_count-requires : goal.refused_count-requires
+refused_count-requires g c =
+    let many = as_many _ _ c.in-Ok-play.ensures.collected in
+    omega (arith, many, ap length c.deref-2.ensures.value, ap length c.deref.ensures.value, c.in-Ok.ensures.few)
+
+pub differ_count-requires-clause-each : goal.differ_count-requires-clause-each
+differ_count-requires-clause-each g c =
+    let many = as_many _ _ c.in-Ok-play.ensures.collected in
+    omega (arith, many, ap length c.deref-3.ensures.value, ap length c.deref-4.ensures.value, ap length c.deref.ensures.value)
 
 pub write_report-requires : goal.write_report-requires
 write_report-requires g c =
     let many = as_many _ _ c.in-Ok-play.ensures.collected in
-    omega (arith, many, ap length c.deref-2.ensures.value, ap length c.deref.ensures.value, c.in-Ok.ensures.few)
+    omega (arith, many, ap length c.deref-5.ensures.value, ap length c.deref-2.ensures.value, ap length c.deref.ensures.value, c.in-Ok.ensures.few)

@@ -7,9 +7,9 @@ use Rattle.range_cli.proofs.trace.read_lines.Given as goal
 
 abbrev pub invariant-lines : goal.invariant-lines
 invariant-lines l =
-    SoFar (lines_of l.fn.text) l.number (lines_of l.rest) l.trace.lines.items l.trace.skipped
-    × (l.number + length l.rest ≤ 1 + length l.fn.text)
-    × (l.trace.skipped + 1 ≤ l.number)
+    SoFar l.fn.first (lines_of l.fn.text) l.number (lines_of l.rest) l.trace.lines.items l.trace.skipped
+    × (l.number + length l.rest ≤ l.fn.first + length l.fn.text)
+    × (l.trace.skipped + l.fn.first ≤ l.number)
     × All IsNamedLine l.trace.lines.items
     × (length l.trace.lines.items ≤ 1048576)
 

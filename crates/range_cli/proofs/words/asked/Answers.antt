@@ -1,6 +1,5 @@
-use Rattle.std.proofs.Common.{ℕ, drop, map}
 use Rattle.std.specs.String.{string_bytes}
-use Rattle.range_cli.proofs.WordLemmas.{HasAsked, refuses_other, asks_opening, asks_log, next_word}
+use Rattle.range_cli.proofs.WordLemmas.{refuses_other, asks_opening, asks_log, next_word}
 use Rattle.range_cli.proofs.words.asked.Goals as goal
 use Rattle.range_cli.proofs.words.asked.Goals.{in-Opening, in-Log}
 

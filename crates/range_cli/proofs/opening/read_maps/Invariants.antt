@@ -1,0 +1,16 @@
+use Rattle.std.proofs.Common.{◌+◌, ◌<◌, ◌≤◌, length}
+use Rattle.space_model.specs.Areas.{HasNamedKinds}
+use Rattle.range_cli.specs.Lines.{lines_of}
+use Rattle.range_cli.proofs.OpeningLemmas.{MapsSoFar}
+use Rattle.range_cli.proofs.opening.read_maps.Given as goal
+
+abbrev pub invariant-maps : goal.invariant-maps
+invariant-maps l =
+    MapsSoFar (lines_of l.fn.text) l.opening.next l.end (lines_of l.rest) l.opening.areas.items l.opening.past
+    × (l.opening.next + length l.rest ≤ 1 + length l.fn.text)
+    × (l.opening.past < l.opening.next)
+    × (length l.opening.areas.items < l.opening.next)
+    × HasNamedKinds l.opening.areas.items
+
+abbrev pub decreases-maps : goal.decreases-maps
+decreases-maps l = length l.rest
