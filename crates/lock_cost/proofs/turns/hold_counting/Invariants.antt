@@ -1,0 +1,9 @@
+use Rattle.std.proofs.Common.{◌≡◌}
+use Rattle.std.specs.Prelude.{None}
+use Rattle.lock_cost.proofs.turns.hold_counting.Given as goal
+
+abbrev pub invariant-loop : goal.invariant-loop
+invariant-loop g l = record {
+  table : l.seat.table ≡ l.initial.seat.table;
+  held : l.seat.held ≡ None;
+}

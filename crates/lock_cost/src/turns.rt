@@ -1,0 +1,65 @@
+// Turns that hold a range and give it back at once, with nothing between.
+// A number of turns ends by itself and leaves the seat with no range.
+ghost use Rattle.std.specs.Prelude.{◌≡◌, ◌<◌, None, IfOk, IfErr};
+ghost use Rattle.range_rw.specs.Seats.{IsOpenFault, new_seat};
+
+use lock_core::{FreeGuard, Mode, Range};
+use range_rw::{OpenFault, RangeTable, Seat};
+use std::alloc::Global;
+use std::marker::Brand;
+use std::sync::Wait;
+use std::sync::ledger::{Blank, Ledger};
+use word_rows::Steps;
+
+/// A table of so many seats with no client word, and its seat of number 0.
+pub fn open_one(
+    alloc: Global,
+    seats: u32,
+) -> Result<(RangeTable<FreeGuard>, Seat<FreeGuard>), OpenFault>
+    ensures refused { IfErr result (IsOpenFault seats) }
+    ensures seat { IfOk result (λ r. r.1 ≡ new_seat r.0.table (λ _. tt) 0) }
+{
+    let (table, mut row) = RangeTable::open(alloc, seats, &[])?;
+    let seat = row.remove(0);
+    Ok((table, seat))
+}
+
+/// How many turns a round has.
+pub const TURNS: u32 = 5_000;
+
+fn hold_counting<L: Ledger, R: Wait>(
+    wait: &R,
+    table: &RangeTable<FreeGuard>,
+    seat: &mut Seat<FreeGuard>,
+    range: Range,
+    turns: u32,
+    blank: Blank,
+)
+    requires blank { (blank.name ≡ L.name) × (blank.parts ≡ L.parts) × (0 < L.parts) }
+    requires table { seat.old.table ≡ table.now.table }
+    requires free { seat.old.held ≡ None }
+    ensures table { seat.new.table ≡ seat.old.table }
+    ensures free { seat.new.held ≡ None }
+{
+    let mut steps = Steps::<L>::new(blank);
+    for _ in 0..turns {
+        table.acquire(wait, seat, range, Mode::Writer);
+        table.release(seat, &mut steps);
+    }
+}
+
+/// Holds the range as a writer and gives it back, so many times.
+pub fn hold_turns<R: Wait>(
+    wait: &R,
+    table: &RangeTable<FreeGuard>,
+    seat: &mut Seat<FreeGuard>,
+    range: Range,
+    turns: u32,
+)
+    requires table { seat.old.table ≡ table.now.table }
+    requires free { seat.old.held ≡ None }
+    ensures table { seat.new.table ≡ seat.old.table }
+    ensures free { seat.new.held ≡ None }
+{
+    hold_counting::<Brand, R>(wait, table, seat, range, turns, Blank::new(1));
+}
