@@ -1,0 +1,107 @@
+-- A space at its opening: its words and its callers meet the guard, and the callers come in order.
+use Rattle.std.proofs.Common.{◌≡◌, ℕ, zero, suc, ◌+◌, ◌-◌, ◌<◌, ◌≤◌, List, [], ◌∷◌, ◌++◌, take, length, get_or, replicate, sym, refl, ap, ◌∙◌, subst, arith, length-append}
+use Rattle.std.proofs.lemmas.List.{length-replicate}
+use Rattle.std.specs.Prelude.{Some, None, remove, slice_index}
+use mathlib.Core.Option.{some, some-injective, some-ne-none}
+use lib.ListN.{get_elem?}
+use lib.Seq.{take-append_seam}
+use Rattle.atomic_table.specs.Seated.{TableId}
+use Rattle.atomic_table.proofs.Lists.{at_index}
+use Rattle.page_types.specs.declared.TheConstants.{ROWS}
+use Rattle.space_model.specs.declared.areas.Area.{Area}
+use Rattle.space_model.specs.Areas.{IsAreaList, HasNamedKinds, kind_at, row_count}
+use Rattle.space_model.proofs.AreaKinds.{above_zero}
+use Rattle.lock_core.specs.Grants.{Grants}
+use Rattle.range_rw.specs.Seats.{Known, new_seat, first_passes}
+use Rattle.range_rw.proofs.Lists.{at_removed, pushed_all}
+use Rattle.area_rows.specs.declared.guard.Pass.{Pass}
+use Rattle.area_rows.specs.Rows.{rows_in, rows_from, areas_from, ShowFrom, RowsShow}
+use Rattle.area_rows.specs.History.{IsPart, IsRunning, HasHistory, entry_count, newcomer}
+use Rattle.area_rows.specs.Callers.{CallerView, AreNewCallers, new_pass, opening_words}
+use Rattle.area_rows.proofs.RowLists.{length-rows, shows_from, areas_back}
+
+-- the words so far, with zeros up to the end
+take_whole : {A : Type 0} (n : ℕ) (l : List A) → length l ≤ n → take n l ≡ l
+take_whole zero [] le = refl
+take_whole zero (x ∷ xs) le = absurd (omega arith)
+take_whole (suc n) [] le = refl
+take_whole (suc n) (x ∷ xs) le = ap (λ l. x ∷ l) (take_whole n xs (omega arith))
+
+pub padded : (start : List Area) (all : ℕ) (words : List ℕ) (wide : ℕ) → all ≡ 3 + ROWS → words ≡ 0 ∷ 0 ∷ row_count start ∷ rows_from 0 start → wide ≡ length words → row_count start ≤ ROWS → take all words ++ replicate (all - wide) 0 ≡ opening_words start
+padded start all words wide e is w few =
+    let l : length words ≡ 3 + row_count start = ap length is ∙ (let r = length-rows start in omega arith) in
+    (λ i. take_whole all words (omega arith) i ++ replicate (all - wide) 0) ∙ (λ i. is i ++ replicate ((let z : all - wide ≡ ROWS - row_count start = omega arith in z) i) 0)
+
+rows_back : (start : List Area) → rows_in (opening_words start) ≡ rows_from 0 start
+rows_back start = ap (λ n. take n (rows_from 0 start ++ replicate (ROWS - row_count start) 0)) (sym (length-rows start)) ∙ take-append_seam (rows_from 0 start) (replicate (ROWS - row_count start) 0)
+
+some_rows : (rows : List ℕ) (kinds : _) → ShowFrom 0 rows kinds → 0 < length rows
+some_rows [] kinds s = absurd (omega arith)
+some_rows (w ∷ rest) kinds s = omega arith
+
+shows : (start : List Area) → IsAreaList start → HasNamedKinds start → ShowFrom 0 (rows_from 0 start) (kind_at start)
+shows start areas named = shows_from 0 start (kind_at start) (omega arith) areas (above_zero start) named (λ p from. refl)
+
+opens_rows : (start : List Area) → IsAreaList start → HasNamedKinds start → row_count start ≤ ROWS → RowsShow (opening_words start) (kind_at start)
+opens_rows start areas named few =
+    let s = shows start areas named in
+    let more = some_rows (rows_from 0 start) (kind_at start) s in
+    let l = length-rows start in
+    record {
+      room = let a = length-append (rows_from 0 start) (replicate (ROWS - row_count start) 0) in let z : length (replicate {A = ℕ} (ROWS - row_count start) 0) ≡ ROWS - row_count start = length-replicate (ROWS - row_count start) 0 in omega arith;
+      some = omega arith;
+      few = few;
+      show = subst (λ rows. ShowFrom 0 rows (kind_at start)) (sym (rows_back start)) s;
+    }
+
+pub began : (start : List Area) → IsAreaList start → HasNamedKinds start → newcomer (opening_words start) ≡ new_pass start
+began start areas named = ap new_pass (ap areas_from (rows_back start) ∙ areas_back (rows_from 0 start) start (shows start areas named) areas)
+
+module _ (p : Pass) where
+  pub passes_at : (s k i : ℕ) (q : Pass) → get_elem? (first_passes (λ (_ : ℕ). p) s k) i ≡ some q → p ≡ q
+  passes_at s zero i q e = absurd (some-ne-none q (sym e))
+  passes_at s (suc k) zero q e = some-injective p q e
+  passes_at s (suc k) (suc i) q e = passes_at (suc s) k i q e
+
+  length-passes : (s k : ℕ) → length (first_passes (λ (_ : ℕ). p) s k) ≡ k
+  length-passes s zero = refl
+  length-passes s (suc k) = ap suc (length-passes (suc s) k)
+
+no_entries : (start : List Area) (s k : ℕ) → entry_count (first_passes (λ (_ : ℕ). new_pass start) s k) ≡ 0
+no_entries start s zero = refl
+no_entries start s (suc k) = let r = no_entries start (suc s) k in omega arith
+
+pub none_some : {A : Type 0} (a : A) → None ≡ Some a → ⊥
+none_some a e = cc
+
+runs_new : (start : List Area) (callers : ℕ) → IsAreaList start → HasNamedKinds start → row_count start ≤ ROWS → callers ≤ 16 → IsRunning start [] start (opening_words start) (first_passes (λ (_ : ℕ). new_pass start) 0 callers)
+runs_new start callers areas named few most = record {
+  callers = let l = length-passes (new_pass start) 0 callers in omega arith;
+  runs = refl;
+  in_order = areas;
+  number = refl;
+  sequence = refl;
+  rows = opens_rows start areas named few;
+  parts = λ worker pass at. subst (λ (q : Pass). IsPart start [] (opening_words start) worker q) (passes_at (new_pass start) 0 callers worker pass at)
+      (record { began = refl; seen = ([], refl); mine = refl; few = omega arith; count = λ n e. absurd (none_some n e); rows = tt });
+  no_other = λ worker le. refl;
+  total = sym (no_entries start 0 callers);
+}
+
+-- the words of an opening meet the guard
+pub opens : (grants : Grants) (start : List Area) (callers : ℕ) (words : List ℕ) → words ≡ opening_words start → IsAreaList start → HasNamedKinds start → row_count start ≤ ROWS → callers ≤ 16 → HasHistory grants words (first_passes (λ (_ : ℕ). newcomer words) 0 callers)
+opens grants start callers words is areas named few most =
+    subst (λ (w : List ℕ). HasHistory grants w (first_passes (λ (_ : ℕ). newcomer w) 0 callers)) (sym is)
+    (start, [], start, subst (λ (p : Pass). IsRunning start [] start (opening_words start) (first_passes (λ (_ : ℕ). p) 0 callers)) (sym (began start areas named)) (runs_new start callers areas named few most))
+
+-- the seat that is next
+pub next_seat : (table : TableId) (p : Pass) (worker : ℕ) (seats : List (Known Pass)) (s : Known Pass) → ((k : ℕ) (x : Known Pass) → get_elem? seats k ≡ some x → x ≡ new_seat table (λ (_ : ℕ). p) (worker + k)) → 0 < length seats → s ≡ get_or seats 0 s → s ≡ new_seat table (λ (_ : ℕ). p) worker
+next_seat table p worker seats s rest more is = let z : worker + 0 ≡ worker = omega arith in rest 0 s (at_index seats 0 s more is) ∙ ap (new_seat table (λ (_ : ℕ). p)) z
+
+pub seats_on : (table : TableId) (p : Pass) (worker : ℕ) (seats left : List (Known Pass)) → ((k : ℕ) (x : Known Pass) → get_elem? seats k ≡ some x → x ≡ new_seat table (λ (_ : ℕ). p) (worker + k)) → left ≡ remove seats 0 → (k : ℕ) (x : Known Pass) → get_elem? left k ≡ some x → x ≡ new_seat table (λ (_ : ℕ). p) (worker + 1 + k)
+seats_on table p worker seats left rest is k x at =
+    let z : worker + suc k ≡ worker + 1 + k = omega arith in
+    rest (suc k) x (sym (at_removed seats k) ∙ (ap (λ l. get_elem? l k) (sym is) ∙ at)) ∙ ap (new_seat table (λ (_ : ℕ). p)) z
+
+pub one_caller : (table : TableId) (start : List Area) (calls : List ℕ) (made : List CallerView) (c : CallerView) (n : ℕ) → length made ≡ n → AreNewCallers table start calls made → c ≡ record { seat = new_seat table (λ (_ : ℕ). new_pass start) n; left = slice_index calls n } → AreNewCallers table start calls (made ++ c ∷ [])
+one_caller table start calls made c n e all is = pushed_all (λ k x. x ≡ record { seat = new_seat table (λ (_ : ℕ). new_pass start) k; left = slice_index calls k }) made c n e all is

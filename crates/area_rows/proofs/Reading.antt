@@ -1,0 +1,129 @@
+-- What the rows that a caller has read show of the history's state.
+use Rattle.std.proofs.Common.{◌≡◌, ◌≢◌, ℕ, zero, suc, ◌+◌, ◌-◌, ◌<◌, ◌≤◌, List, [], ◌∷◌, length, get_or, sym, refl, ap, ◌∙◌, subst, arith, ◌⊎◌, inl, inr, ⊎_elim}
+use Rattle.std.specs.Prelude.{Option, Some, slice_index}
+use Rattle.page_types.specs.declared.TheConstants.{LIMIT}
+use Rattle.page_types.specs.declared.calls.Kind.{Kind}
+use Rattle.space_model.specs.Areas.{kind_at}
+use Rattle.lock_core.specs.declared.range.Held.{Held}
+use Rattle.range_rw.specs.Seats.{Known}
+use Rattle.area_rows.specs.declared.guard.ReadRow.{ReadRow}
+use Rattle.area_rows.specs.declared.guard.Pass.{Pass}
+use Rattle.area_rows.specs.RowWords.{row_start, row_kind}
+use Rattle.area_rows.specs.Rows.{rows_in, RowsShow}
+use Rattle.area_rows.specs.History.{StillStand, after_row}
+use Rattle.area_rows.specs.Callers.{IsHeldPage, IsHeldBelow, HasRead, RowIs, Shows, IsReading, IsStep}
+use Rattle.area_rows.proofs.RowLists.{row_says}
+use Rattle.area_rows.proofs.Stepping.{length-rows_in, at_row, first_row}
+
+-- what the word of a row says, of those that show kinds
+record WordSays (words : List ℕ) (kinds : ℕ → Option Kind) (i : ℕ) : Type 0 where
+  below : row_start (slice_index words (3 + i)) < LIMIT
+  within : (p : ℕ) → row_start (slice_index words (3 + i)) ≤ p → p < LIMIT → (i + 1 < slice_index words 2 → p < row_start (slice_index words (3 + (i + 1)))) → kinds p ≡ row_kind (slice_index words (3 + i))
+  rises : i + 1 < slice_index words 2 → row_start (slice_index words (3 + i)) < row_start (slice_index words (3 + (i + 1)))
+  differs : i + 1 < slice_index words 2 → row_kind (slice_index words (3 + i)) ≢ row_kind (slice_index words (3 + (i + 1)))
+
+word_says : (words : List ℕ) (kinds : ℕ → Option Kind) (i : ℕ) → RowsShow words kinds → i < slice_index words 2 → WordSays words kinds i
+word_says words kinds i s lt =
+    let rows = rows_in words in
+    let wide : length rows ≡ slice_index words 2 = length-rows_in words kinds s in
+    let r = row_says 0 rows kinds i s.show (omega arith) in
+    let here : get_or rows i 0 ≡ slice_index words (3 + i) = at_row words i lt in
+    record {
+      below = subst (λ w. row_start w < LIMIT) here r.below;
+      within = λ p from low next. subst (λ w. kinds p ≡ row_kind w) here (r.within p (subst (λ w. row_start w ≤ p) (sym here) from) low (λ l. subst (λ w. p < row_start w) (sym (at_row words (i + 1) (omega arith))) (next (omega arith))));
+      rises = λ l. subst (λ (z : ℕ × ℕ). row_start z.0 < row_start z.1) (λ k. (here k, at_row words (i + 1) l k)) (r.rises (omega arith));
+      differs = λ l. subst (λ (z : ℕ × ℕ). row_kind z.0 ≢ row_kind z.1) (λ k. (here k, at_row words (i + 1) l k)) (r.differs (omega arith));
+    }
+
+-- a row that was read still stands
+stands : (words : List ℕ) (rows : List ReadRow) (i w : ℕ) → StillStand words rows → HasRead rows i w → slice_index words (3 + i) ≡ w
+stands words [] i w s h = absurd h
+stands words (r ∷ rest) i w s h = ⊎_elim (λ t. ap (λ n. slice_index words (3 + n)) (sym t.0) ∙ (s.0 ∙ t.1)) (λ t. stands words rest i w s.1 t) h
+
+-- where a row ends: at the start of the next one, or at LIMIT
+abbrev pub EndsAt : List ReadRow → ℕ → ℕ → ℕ → Type 0
+EndsAt rows count index hi = ((index + 1 < count) × (next : ℕ) × HasRead rows (index + 1) next × (hi ≡ row_start next)) ⊎ ((index + 1 ≡ count) × (hi ≡ LIMIT))
+
+pub below_end : (held : Option Held) (p : ℕ) → IsHeldBelow held LIMIT → IsHeldPage held p → p < LIMIT
+below_end held p below h = let b = below h.0 h.1 in let l = h.3 in omega arith
+
+zero_or_more : (n : ℕ) → (n ≡ 0) ⊎ (0 < n)
+zero_or_more zero = inl refl
+zero_or_more (suc n) = inr (omega arith)
+
+module _ (words : List ℕ) (kinds : ℕ → Option Kind) (s : RowsShow words kinds) (page count index word : ℕ)
+    (counts : slice_index words 2 ≡ count) (is : slice_index words (3 + index) ≡ word) (lt : index < count) where
+  -- the page before the row isn't of its kind
+  before_row : 0 < row_start word → kinds (row_start word - 1) ≢ row_kind word
+  before_row more e =
+      let lo = row_start word in
+      let at : row_start (slice_index words (3 + index)) ≡ lo = ap row_start is in
+      let low : row_start (slice_index words (3 + index)) < LIMIT = (word_says words kinds index s (omega arith)).below in
+      ⊎_elim
+      (λ (none : index ≡ 0). let z : row_start word ≡ 0 = sym at ∙ (ap (λ n. row_start (slice_index words (3 + n))) none ∙ first_row words kinds s) in absurd (omega arith))
+      (λ (some_row : 0 < index).
+      let j = index - 1 in
+      let back : j + 1 ≡ index = omega arith in
+      let w = word_says words kinds j s (omega arith) in
+      let next : slice_index words (3 + (j + 1)) ≡ word = ap (λ n. slice_index words (3 + n)) back ∙ is in
+      let up : row_start (slice_index words (3 + j)) < lo = subst (λ x. row_start (slice_index words (3 + j)) < row_start x) next (w.rises (omega arith)) in
+      w.differs (omega arith) (sym (w.within (lo - 1) (omega arith) (omega arith) (λ l. subst (λ x. lo - 1 < row_start x) (sym next) (omega arith))) ∙ (e ∙ ap row_kind (sym next))))
+      (zero_or_more index)
+
+  -- the pages of the row are of its kind
+  in_row : (hi p : ℕ) → (index + 1 < count → hi ≡ row_start (slice_index words (3 + (index + 1)))) → row_start word ≤ p → p < hi → p < LIMIT → kinds p ≡ row_kind word
+  in_row hi p ends from below low =
+      subst (λ w. kinds p ≡ row_kind w) is ((word_says words kinds index s (omega arith)).within p (subst (λ w. row_start w ≤ p) (sym is) from) low (λ l. let e = ends (omega arith) in omega arith))
+
+  -- the page after the row isn't of its kind
+  after_row_page : (hi : ℕ) → index + 1 < count → hi ≡ row_start (slice_index words (3 + (index + 1))) → kinds hi ≢ row_kind word
+  after_row_page hi more e same =
+      let v = word_says words kinds (index + 1) s (omega arith) in
+      let b = v.below in
+      (word_says words kinds index s (omega arith)).differs (omega arith)
+      (ap row_kind is ∙ (sym same ∙ v.within hi (omega arith) (omega arith) (λ l. let r = v.rises l in omega arith)))
+
+row_is : (seat : Known Pass) (held : Option Held) (page count index word hi : ℕ) → IsHeldBelow held LIMIT → seat.pass.count ≡ Some count → HasRead seat.pass.rows index word → index < count → row_start word ≤ page → page < hi
+    → EndsAt seat.pass.rows count index hi → Shows seat (RowIs held page (record { index = index; lo = row_start word; hi = hi; kind = row_kind word }))
+row_is seat held page count index word hi below counted read lt from until ends grants words passes pass start history state r granted own same_count same_rows =
+    let part = r.parts seat.number pass own in
+    let counts : slice_index words 2 ≡ count = part.count count (same_count ∙ counted) in
+    let stand : StillStand words seat.pass.rows = subst (StillStand words) same_rows part.rows in
+    let is : slice_index words (3 + index) ≡ word = stands words seat.pass.rows index word stand read in
+    let kinds = kind_at state in
+    let next : index + 1 < count → hi ≡ row_start (slice_index words (3 + (index + 1))) =
+    λ more. ⊎_elim (λ t. t.3 ∙ ap row_start (sym (stands words seat.pass.rows (index + 1) t.1 stand t.2))) (λ t. absurd (let e = t.0 in omega arith)) ends in
+    record {
+      index = record { there = omega arith; from = subst (λ w. row_start w ≤ page) (sym is) from; last = λ more. let e = next (omega arith) in omega arith };
+      kind = λ p h low high. in_row words kinds r.rows page count index word counts is lt hi p next low high (below_end held p below h);
+      next = λ h. let b = below_end held hi below h in ⊎_elim (λ t. after_row_page words kinds r.rows page count index word counts is lt hi t.0 (next t.0)) (λ t. absurd (let e = t.1 in omega arith)) ends;
+      previous = λ more h. before_row words kinds r.rows page count index word counts is lt more;
+    }
+
+pub shows_row : (seat : Known Pass) (held : Option Held) (page count index word lo hi : ℕ) (kind : Option Kind) → lo ≡ row_start word → kind ≡ row_kind word → IsHeldBelow held LIMIT → seat.pass.count ≡ Some count → HasRead seat.pass.rows index word → index < count → row_start word ≤ page → page < hi
+    → EndsAt seat.pass.rows count index hi → Shows seat (RowIs held page (record { index = index; lo = lo; hi = hi; kind = kind }))
+shows_row seat held page count index word lo hi kind l k below counted read lt from until ends =
+    subst (λ (z : ℕ × Option Kind). Shows seat (RowIs held page (record { index = index; lo = z.0; hi = hi; kind = z.1 }))) (λ i. (sym l i, sym k i)) (row_is seat held page count index word hi below counted read lt from until ends)
+
+pub reading_on : (a b c : Known Pass) → IsReading a b → IsReading b c → IsReading a c
+reading_on a b c f g = record { table = g.table ∙ f.table; number = g.number ∙ f.number; held = g.held ∙ f.held; start = g.start ∙ f.start; seen = g.seen ∙ f.seen; mine = g.mine ∙ f.mine }
+
+pub no_reading : (a : Known Pass) → IsReading a a
+no_reading a = record { table = refl; number = refl; held = refl; start = refl; seen = refl; mine = refl }
+
+pub step_reads : (a b : Known Pass) (p : Pass) → IsStep a p b → p.start ≡ a.pass.start → p.seen ≡ a.pass.seen → p.mine ≡ a.pass.mine → IsReading a b
+step_reads a b p s x y z = record { table = s.table; number = s.number; held = s.held; start = ap (λ (q : Pass). q.start) s.pass ∙ x; seen = ap (λ (q : Pass). q.seen) s.pass ∙ y; mine = ap (λ (q : Pass). q.mine) s.pass ∙ z }
+
+-- the row before one that starts above the page
+pub found_row : (old new : Known Pass) (held : Option Held) (page count index word next lo hi : ℕ) (kind : Option Kind) → IsStep old (after_row (index + 1) next old.pass) new → lo ≡ row_start word → kind ≡ row_kind word → hi ≡ row_start next → IsHeldBelow held LIMIT
+    → old.pass.count ≡ Some count → HasRead old.pass.rows index word → index + 1 < count → row_start word ≤ page → page < hi → Shows new (RowIs held page (record { index = index; lo = lo; hi = hi; kind = kind }))
+found_row old new held page count index word next lo hi kind step l k h below counted read lt from until =
+    let rows : record { index = index + 1; word = next } ∷ old.pass.rows ≡ new.pass.rows = sym (ap (λ (p : Pass). p.rows) step.pass) in
+    shows_row new held page count index word lo hi kind l k below (ap (λ (p : Pass). p.count) step.pass ∙ counted) (subst (λ r. HasRead r index word) rows (inr read)) (omega arith) from until
+    (inl (lt, next, subst (λ r. HasRead r (index + 1) next) rows (inl (refl, refl)), h))
+
+-- the last row
+pub last_row : (seat : Known Pass) (held : Option Held) (page count index word lo : ℕ) (kind : Option Kind) → lo ≡ row_start word → kind ≡ row_kind word → IsHeldBelow held LIMIT → IsHeldPage held page
+    → seat.pass.count ≡ Some count → HasRead seat.pass.rows index word → index < count → ¬ (index + 1 < count) → row_start word ≤ page → Shows seat (RowIs held page (record { index = index; lo = lo; hi = LIMIT; kind = kind }))
+last_row seat held page count index word lo kind l k below h counted read lt not_more from =
+    shows_row seat held page count index word lo LIMIT kind l k below counted read lt from (below_end held page below h) (inr (omega arith, refl))

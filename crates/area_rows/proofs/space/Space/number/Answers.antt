@@ -1,0 +1,8 @@
+use Rattle.std.proofs.Common.{ℕ, List, sym, subst}
+use Rattle.space_model.specs.declared.areas.Area.{Area}
+use Rattle.area_rows.specs.History.{IsRight}
+use Rattle.area_rows.specs.Callers.{CallerView, Shows}
+use Rattle.area_rows.proofs.space.Space.number.Goals as goal
+
+pub draw_as-requires-clause-right : goal.draw_as-requires-clause-right
+draw_as-requires-clause-right g c = subst (λ (v : CallerView). Shows v.seat (λ (words : List ℕ) (state : List Area). IsRight state c.args.call c.args.reply c.args.under)) (sym c.caller.view_is) c.requires.right

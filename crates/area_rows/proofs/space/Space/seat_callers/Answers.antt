@@ -1,0 +1,35 @@
+use Rattle.std.proofs.Common.{rules, ◌<◌, length, ap, ◌∙◌, sym, arith}
+use Rattle.std.specs.Prelude.{slice_index}
+use Rattle.range_rw.specs.Seats.{Known}
+use Rattle.range_rw.proofs.Lists.{length_removed}
+use Rattle.area_rows.specs.declared.guard.Pass.{Pass}
+use Rattle.area_rows.specs.Callers.{CallerView, new_pass}
+use Rattle.area_rows.proofs.Beginning.{next_seat, seats_on, one_caller, none_some}
+use Rattle.area_rows.proofs.space.Space.seat_callers.Goals as goal
+
+pub invariant_of-push_reserved : goal.invariant_of-push_reserved
+invariant_of-push_reserved c =
+    let some_left : 0 < length c.seats.seats.items = search rules in
+    let s = next_seat c.args.table.now.table (new_pass c.args.start.now) c.seats.worker c.seats.seats.items c.remove-seat.result c.seats.invariant.rest some_left c.remove-seat.ensures.value in (
+      ap (λ (x : Known Pass). x.number) s,
+      search rules ∙ sym (ap (λ (x : Known Pass). x.pass.mine) s),
+      search rules,
+      search rules,
+      search rules,
+      λ h e. absurd (none_some h (sym (ap (λ (x : Known Pass). x.held) s) ∙ e)),
+    )
+
+pub seats-preserved : goal.seats-preserved
+seats-preserved c =
+    let i = c.seats.invariant in
+    let some_left : 0 < length c.seats.seats.items = search rules in
+    let table = c.args.table.now.table in
+    let start = c.args.start.now in
+    let s = next_seat table (new_pass start) c.seats.worker c.seats.seats.items c.remove-seat.result i.rest some_left c.remove-seat.ensures.value in
+    record {
+      room = search rules;
+      count = search rules;
+      sum = let left = length_removed c.seats.seats.items some_left in let e = ap length c.remove-seat.ensures.items in let t = i.sum in omega arith;
+      new = rw c.push_reserved.ensures.items (one_caller table start c.args.calls.now c.seats.made.items _ c.seats.worker i.count i.new (ap (λ (x : Known Pass). let v : CallerView = record { seat = x; left = slice_index c.args.calls.now c.seats.worker } in v) s));
+      rest = seats_on table (new_pass start) c.seats.worker c.seats.seats.items c.remove-seat.new.self.items i.rest c.remove-seat.ensures.items;
+    }

@@ -1,0 +1,130 @@
+-- What contracts see of a caller and of a space, and what each call tells.
+-- What a caller's range has shown of the history is stated as what is so at every moment at which the caller holds that range and has read those rows; so it lasts while the caller keeps both.
+use Rattle.std.specs.Prelude.{ℕ, ◌≡◌, ◌≢◌, ◌<◌, ◌≤◌, ◌+◌, ◌-◌, Option, Some, None, List, [], ◌∷◌, ◌++◌, length, replicate, slice_index, ◌⊎◌}
+use mathlib.Core.Option.{some}
+use lib.ListN.{get_elem?}
+use Rattle.page_types.specs.declared.TheConstants.{ROWS}
+use Rattle.space_model.specs.declared.areas.Area.{Area}
+use Rattle.space_model.specs.declared.entries.Entry.{Entry}
+use Rattle.space_model.specs.Areas.{kind_at, row_count}
+use Rattle.atomic_table.specs.Seated.{TableId}
+use Rattle.lock_core.specs.Grants.{Grants}
+use Rattle.lock_core.specs.declared.range.Held.{Held}
+use Rattle.lock_core.specs.declared.range.Mode.{Mode}
+use Rattle.page_types.specs.declared.pages.Span.{Span}
+use Rattle.range_rw.specs.Seats.{Known, IsSeatCount, new_seat}
+use Rattle.area_rows.specs.declared.guard.ReadRow.{ReadRow}
+use Rattle.area_rows.specs.declared.guard.Pass.{Pass}
+use Rattle.area_rows.specs.declared.row.Row.{Row}
+use Rattle.area_rows.specs.declared.space.SpaceFault.{SpaceFault}
+use Rattle.area_rows.specs.declared.space.SpaceFault.TheVariants.{Callers, Rows, Memory}
+use Rattle.area_rows.specs.Rows.{IsRowOf, rows_from}
+use Rattle.area_rows.specs.History.{Runs, StartsWith, entries_of, IsRunning, IsRight}
+
+-- a caller: its seat in the lock's table, whose pass is what it knows of the space, and how many numbers it may still draw
+pub record CallerView : Type 0 where
+  pub seat : Known Pass
+  pub left : ℕ
+
+-- a closed space: the areas that are left and the whole history
+pub record ClosedView : Type 0 where
+  pub areas : List Area
+  pub entries : List Entry
+
+-- a page lies in a held range
+abbrev pub IsHeldPage : Option Held → ℕ → Type 0
+IsHeldPage held page = (h : Held) × (held ≡ Some h) × (h.range.lo ≤ page) × (page < h.range.hi)
+
+-- a span that is held in a mode
+abbrev pub held_span : Span → Mode → Held
+held_span span mode = record { range = record { lo = span.lo; hi = span.hi }; mode = mode }
+
+-- a held range has pages alone
+abbrev pub IsHeldBelow : Option Held → ℕ → Type 0
+IsHeldBelow held limit = (h : Held) → held ≡ Some h → h.range.hi ≤ limit
+
+-- it is so at every moment at which the caller of this seat holds its range and has read what it has read
+abbrev pub Shows : Known Pass → (List ℕ → List Area → Type 0) → Type 0
+Shows seat what = (grants : Grants) (words : List ℕ) (passes : List Pass) (pass : Pass) (start : List Area) (history : List Entry) (state : List Area)
+    → IsRunning start history state words passes → get_elem? grants seat.number ≡ some seat.held → get_elem? passes seat.number ≡ some pass
+    → pass.count ≡ seat.pass.count → pass.rows ≡ seat.pass.rows → what words state
+
+-- a row was read like that, among others
+abbrev pub HasRead : List ReadRow → ℕ → ℕ → Type 0
+HasRead [] index word = ⊥
+HasRead (r ∷ rest) index word = ((r.index ≡ index) × (r.word ≡ word)) ⊎ HasRead rest index word
+
+-- the row is that of the page; its held pages have its kind at the state, and the held pages next to it have another, a gap counting as a kind
+pub record RowIs (held : Option Held) (page : ℕ) (row : Row) (words : List ℕ) (state : List Area) : Type 0 where
+  pub index : IsRowOf words page row.index
+  pub kind : (p : ℕ) → IsHeldPage held p → row.lo ≤ p → p < row.hi → kind_at state p ≡ row.kind
+  pub next : IsHeldPage held row.hi → kind_at state row.hi ≢ row.kind
+  pub previous : 0 < row.lo → IsHeldPage held (row.lo - 1) → kind_at state (row.lo - 1) ≢ row.kind
+
+-- a new pass over these areas
+abbrev pub new_pass : List Area → Pass
+new_pass start = record { start = start; seen = []; mine = []; count = None; rows = [] }
+
+-- the client words of a space that starts with these areas: no entry, none under everything, the row count, the rows, and room for more
+abbrev pub opening_words : List Area → List ℕ
+opening_words start = 0 ∷ 0 ∷ row_count start ∷ (rows_from 0 start ++ replicate (ROWS - row_count start) 0)
+
+-- the callers of a new space, in order of their numbers, each with as many numbers to draw as was asked
+abbrev pub AreNewCallers : TableId → List Area → List ℕ → List CallerView → Type 0
+AreNewCallers table start calls callers = (k : ℕ) (c : CallerView) → get_elem? callers k ≡ some c → c ≡ record { seat = new_seat table (λ _. new_pass start) k; left = slice_index calls k }
+
+-- why no space is opened for so many callers over so many rows
+abbrev pub IsSpaceFault : ℕ → ℕ → SpaceFault → Type 0
+IsSpaceFault callers rows (Callers n) = (n ≡ callers) × ¬ (IsSeatCount callers)
+IsSpaceFault callers rows (Rows n) = IsSeatCount callers × (n ≡ rows) × (ROWS < rows)
+IsSpaceFault callers rows Memory = IsSeatCount callers × (rows ≤ ROWS)
+
+-- the callers are all of one table, in order of their numbers, and hold nothing
+abbrev pub AreIdle : TableId → List CallerView → Type 0
+AreIdle table callers = (k : ℕ) (c : CallerView) → get_elem? callers k ≡ some c → (c.seat.table ≡ table) × (c.seat.number ≡ k) × (c.seat.held ≡ None)
+
+-- one step that left this pass: the seat holds what it held
+pub record IsStep (before : Known Pass) (left_pass : Pass) (after : Known Pass) : Type 0 where
+  pub table : after.table ≡ before.table
+  pub number : after.number ≡ before.number
+  pub held : after.held ≡ before.held
+  pub pass : after.pass ≡ left_pass
+  pub taken : after.trace.taken ≡ before.trace.taken + 1
+
+-- steps that read rows: the seat holds what it held, and has seen and numbered what it had
+pub record IsReading (before after : Known Pass) : Type 0 where
+  pub table : after.table ≡ before.table
+  pub number : after.number ≡ before.number
+  pub held : after.held ≡ before.held
+  pub start : after.pass.start ≡ before.pass.start
+  pub seen : after.pass.seen ≡ before.pass.seen
+  pub mine : after.pass.mine ≡ before.pass.mine
+
+-- a look at the number word: the caller sees the history so far, and keeps what it has read
+pub record IsLook (before : Known Pass) (found : ℕ) (after : Known Pass) : Type 0 where
+  pub step : IsStep before (record before.pass { seen = after.pass.seen }) after
+  pub more : StartsWith after.pass.seen before.pass.seen
+  pub count : length after.pass.seen ≡ found
+
+-- a call got the next number: the history before it begins with what the caller had seen, the entry is right at the state that this history leaves, and the caller sees it at the end and stores it
+pub record IsNumbered (before : Known Pass) (e : Entry) (after : Known Pass) : Type 0 where
+  pub history : List Entry
+  pub state : List Area
+  pub more : StartsWith history before.pass.seen
+  pub runs : Runs 0 before.pass.start history state
+  pub counted : e.number ≡ length history
+  pub worker : e.worker ≡ before.number
+  pub right : IsRight state e.call e.reply e.under
+  pub seen : after.pass.seen ≡ history ++ e ∷ []
+  pub mine : after.pass.mine ≡ before.pass.mine ++ e ∷ []
+  pub start : after.pass.start ≡ before.pass.start
+  pub table : after.table ≡ before.table
+  pub number : after.number ≡ before.number
+  pub held : after.held ≡ before.held
+
+-- the whole history of callers that have stopped: it runs from what each began with to the areas that are left, each caller's entries stand in it in order, no other ones do, and each has seen a beginning of it
+pub record IsWhole (callers : List CallerView) (entries : List Entry) (areas : List Area) : Type 0 where
+  pub runs : (k : ℕ) (c : CallerView) → get_elem? callers k ≡ some c → Runs 0 c.seat.pass.start entries areas
+  pub mine : (k : ℕ) (c : CallerView) → get_elem? callers k ≡ some c → entries_of k entries ≡ c.seat.pass.mine
+  pub seen : (k : ℕ) (c : CallerView) → get_elem? callers k ≡ some c → StartsWith entries c.seat.pass.seen
+  pub no_other : (k : ℕ) → length callers ≤ k → entries_of k entries ≡ []

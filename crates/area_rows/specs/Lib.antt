@@ -1,0 +1,6 @@
+pub mod RowWords
+pub mod Rows
+pub mod History
+pub mod Laws
+pub mod Callers
+pub mod Closing

@@ -1,0 +1,60 @@
+-- What the row words show: the kind of each page. Rows are areas and gaps in order, as the lines of proc_pid_maps(5) and what lies between them.
+-- `RowsShow` takes the kinds as a function from pages, so that rows which lag behind the history at some pages are said by another function and not by another definition.
+use Rattle.std.specs.Prelude.{ℕ, ◌≡◌, ◌≢◌, ◌<◌, ◌≤◌, ◌+◌, nat_lt, if◌then◌else◌, Option, Some, None, List, [], ◌∷◌, ◌++◌, length, take, drop, slice_index}
+use Rattle.page_types.specs.declared.TheConstants.{LIMIT, ROWS}
+use Rattle.page_types.specs.declared.calls.Kind.{Kind}
+use Rattle.space_model.specs.declared.areas.Area.{Area}
+use Rattle.area_rows.specs.RowWords.{row_start, row_kind, row_word}
+
+-- the row words among the client words: word 2 counts them, and they stand from word 3 on
+abbrev pub rows_in : List ℕ → List ℕ
+rows_in words = take (slice_index words 2) (drop 3 words)
+
+-- the page where these rows start, or LIMIT where there is none
+abbrev pub start_of : List ℕ → ℕ
+start_of [] = LIMIT
+start_of (word ∷ rest) = row_start word
+
+-- the next row isn't of the same kind, a gap counting as a kind
+abbrev pub DiffersFrom : ℕ → List ℕ → Type 0
+DiffersFrom word [] = Unit {0}
+DiffersFrom word (next ∷ rest) = row_kind word ≢ row_kind next
+
+-- from a page on the rows rise up to LIMIT, neighbours differ, and each row's pages have its kind
+abbrev pub ShowFrom : ℕ → List ℕ → (ℕ → Option Kind) → Type 0
+ShowFrom page [] kinds = page ≡ LIMIT
+ShowFrom page (word ∷ rest) kinds =
+    (row_start word ≡ page) × (page < start_of rest) × DiffersFrom word rest ×
+    ((p : ℕ) → page ≤ p → p < start_of rest → kinds p ≡ row_kind word) × ShowFrom (start_of rest) rest kinds
+
+-- the row words show these kinds of the pages below LIMIT; there is room for ROWS of them
+pub record RowsShow (words : List ℕ) (kinds : ℕ → Option Kind) : Type 0 where
+  pub room : length words ≡ 3 + ROWS
+  pub some : 0 < slice_index words 2
+  pub few : slice_index words 2 ≤ ROWS
+  pub show : ShowFrom 0 (rows_in words) kinds
+
+-- the row of a page, counted from 0, is the last one that starts at or before it
+pub record IsRowOf (words : List ℕ) (page index : ℕ) : Type 0 where
+  pub there : index < slice_index words 2
+  pub from : row_start (slice_index words (3 + index)) ≤ page
+  pub last : index + 1 < slice_index words 2 → page < row_start (slice_index words (3 + (index + 1)))
+
+-- the areas before others, with one more where the row is no gap
+abbrev pub with_row : ℕ → Option Kind → ℕ → List Area → List Area
+with_row lo None hi rest = rest
+with_row lo (Some kind) hi rest = record { lo = lo; hi = hi; kind = kind } ∷ rest
+
+-- the areas that rows stand for
+abbrev pub areas_from : List ℕ → List Area
+areas_from [] = []
+areas_from (word ∷ rest) = with_row (row_start word) (row_kind word) (start_of rest) (areas_from rest)
+
+-- a gap between two pages, if there is one
+abbrev pub gap_rows : ℕ → ℕ → List ℕ
+gap_rows lo hi = if nat_lt lo hi then row_word lo None ∷ [] else []
+
+-- the row words of an area list, from a page on
+abbrev pub rows_from : ℕ → List Area → List ℕ
+rows_from page [] = gap_rows page LIMIT
+rows_from page (a ∷ rest) = gap_rows page a.lo ++ row_word a.lo (Some a.kind) ∷ rows_from a.hi rest

@@ -1,0 +1,74 @@
+// A caller takes a range of pages and gives it back, by the calls of the range lock.
+// A reader may rely on the caller holding the range where `acquire` returns, and on a release keeping what the caller has seen and numbered.
+ghost use Rattle.std.specs.Prelude.{◌≡◌, ◌≤◌, ◌+◌, ◌*◌, Some, None, IsSome, IfErr, OnOk, OnErr};
+ghost use Rattle.range_rw.specs.Seats.{IsLockCall, IsRelease};
+ghost use Rattle.range_rw.specs.Trying.{IsCause};
+ghost use Rattle.area_rows.specs.History.{rest_of};
+ghost use Rattle.area_rows.specs.Callers.{held_span};
+
+use crate::space::{Caller, Space};
+use lock_core::{Mode, Range};
+use page_types::Span;
+use range_rw::NotHeld;
+use std::sync::Wait;
+use std::sync::ledger::Ledger;
+use word_rows::Steps;
+
+/// The numbers of a span's pages.
+fn range_of(span: Span) -> Range
+    ensures lo { result.lo ≡ span.lo }
+    ensures hi { result.hi ≡ span.hi }
+{
+    let Ok(range) = Range::of(span.lo(), span.hi()) else {
+        unreachable!()
+    };
+    range
+}
+
+impl Space {
+    /// Tries until the caller holds the span, and waits for other callers meanwhile. The caller is of this space and holds nothing.
+    pub fn acquire<R: Wait>(&self, wait: &R, caller: &mut Caller, span: Span, mode: Mode)
+        requires table { caller.old.seat.table ≡ self.now.table }
+        requires free { caller.old.seat.held ≡ None }
+        ensures call { IsLockCall caller.old.seat caller.new.seat }
+        ensures held { caller.new.seat.held ≡ Some (held_span span mode) }
+        ensures left { caller.new.left ≡ caller.old.left }
+    {
+        self.table
+            .acquire(wait, &mut caller.seat, range_of(span), mode);
+    }
+
+    /// Tries once to hold the span, and waits for nobody. The caller is of this space and holds nothing.
+    /// `Busy` names a range of another caller that was in conflict at a step of this call, and `Again` an exchange of this call that found the lock's turn taken. After a refusal the caller is as before, but for the record of its steps.
+    pub fn try_acquire<L: Ledger>(
+        &self,
+        caller: &mut Caller,
+        span: Span,
+        mode: Mode,
+        steps: &mut Steps<L>,
+    ) -> Result<(), NotHeld>
+        requires table { caller.old.seat.table ≡ self.now.table }
+        requires free { caller.old.seat.held ≡ None }
+        ensures call { IsLockCall caller.old.seat caller.new.seat }
+        ensures held { OnOk result (caller.new.seat.held ≡ Some (held_span span mode)) }
+        ensures free { OnErr result (caller.new.seat.held ≡ None) }
+        ensures cause { IfErr result (IsCause caller.old.seat caller.new.seat (held_span span mode)) }
+        ensures left { caller.new.left ≡ caller.old.left }
+        ensures bound { caller.new.seat.trace.taken ≤ caller.old.seat.trace.taken + (64 + 386 * self.now.seats) }
+        ensures counted { steps.new + caller.old.seat.trace.taken ≡ steps.old + caller.new.seat.trace.taken }
+    {
+        self.table
+            .try_acquire(&mut caller.seat, range_of(span), mode, steps)
+    }
+
+    /// Gives the held range back, in one step. The caller is of this space; what it has seen and numbered stays.
+    pub fn release<L: Ledger>(&self, caller: &mut Caller, steps: &mut Steps<L>)
+        requires table { caller.old.seat.table ≡ self.now.table }
+        requires holds { IsSome caller.old.seat.held }
+        ensures release { IsRelease rest_of caller.old.seat caller.new.seat }
+        ensures left { caller.new.left ≡ caller.old.left }
+        ensures counted { steps.new ≡ steps.old + 1 }
+    {
+        self.table.release(&mut caller.seat, steps);
+    }
+}

@@ -1,0 +1,106 @@
+// A running address space and its callers: a caller has a seat in the lock's table, stores its own entries, and has room for all that it may have to write.
+// A space may be shared by threads by reference, and a caller may go from one thread to another; all memory is taken when the space is opened and when it is closed.
+ghost use Rattle.std.specs.Prelude.{◌≡◌, ◌≤◌, ◌<◌, ◌+◌, ◌^◌, vec_len, vec_capacity};
+
+use crate::guard::RowGuard;
+use page_types::{LIMIT, ROWS};
+use range_rw::{RangeTable, Seat};
+use space_model::Entry;
+use std::marker::Model;
+
+/// Why no space was opened.
+#[derive(Debug, Drop, PartialEq, Eq)]
+pub enum SpaceFault {
+    /// The number of callers, where it is 0 or above 16.
+    Callers(u32),
+    /// The number of rows of the start, where it is above `ROWS`.
+    Rows(u32),
+    /// There was no memory.
+    Memory,
+}
+
+/// A running address space.
+#[derive(Drop)]
+pub struct Space {
+    pub(crate) table: RangeTable<RowGuard>,
+}
+
+impl Model for Space {
+    ghost use Rattle.std.specs.Prelude.{◌≡◌, ◌+◌};
+    ghost use Rattle.page_types.specs.declared.TheConstants.{ROWS};
+    ghost use Rattle.range_rw.specs.Seats.{Shape};
+
+    ghost Value = { Shape };
+
+    ghost view = { λ s. s.table };
+
+    ghost invariant = { λ s. s.table.client ≡ 3 + ROWS };
+}
+
+/// One caller of a space. It holds one range at a time, and each of its calls has one entry in the history.
+#[derive(Drop)]
+pub struct Caller {
+    pub(crate) seat: Seat<RowGuard>,
+    pub(crate) worker: u32,
+    pub(crate) mine: Vec<Entry>,
+    pub(crate) left: u32,
+    /// Room for the rows of one change of the whole space.
+    pub(crate) plan: Vec<u64>,
+}
+
+impl Model for Caller {
+    ghost use Rattle.std.specs.Prelude.{◌≡◌, ◌+◌, ◌≤◌, ◌<◌, ◌^◌, vec_len, vec_capacity};
+    ghost use Rattle.page_types.specs.declared.TheConstants.{LIMIT, ROWS};
+    ghost use Rattle.area_rows.specs.Callers.{CallerView, IsHeldBelow};
+
+    ghost Value = { CallerView };
+
+    ghost view = { λ c. record { seat = c.seat; left = c.left } };
+
+    ghost invariant = { λ c. (c.seat.number ≡ c.worker) × (c.mine.items ≡ c.seat.pass.mine) × (vec_len c.mine + c.left ≤ vec_capacity c.mine) × (vec_len c.mine + c.left < 2 ^ 32) × (ROWS + 2 ≤ vec_capacity c.plan) × IsHeldBelow c.seat.held LIMIT };
+}
+
+impl Caller {
+    ghost use Rattle.std.specs.Prelude.{◌≡◌};
+    ghost use Rattle.page_types.specs.declared.TheConstants.{LIMIT};
+    ghost use Rattle.area_rows.specs.Callers.{IsHeldBelow};
+
+    /// That a range which the caller holds has pages alone. It does nothing.
+    pub fn holds_pages(&self)
+        ensures { IsHeldBelow self.now.seat.held LIMIT }
+    {
+        let _worker = self.worker;
+    }
+
+    /// The caller's number, counted from 0.
+    pub fn worker(&self) -> u32
+        ensures { result ≡ self.now.seat.number }
+    {
+        self.worker
+    }
+
+    /// How many numbers the caller may still draw: as many as were asked for it at the opening, less one for each of its entries.
+    pub fn left(&self) -> u32
+        ensures { result ≡ self.now.left }
+    {
+        self.left
+    }
+
+    /// The caller's own entries, in order.
+    pub fn entries(&self) -> &[Entry]
+        ensures { result.now ≡ self.now.seat.pass.mine }
+    {
+        self.mine.as_slice()
+    }
+}
+
+fn sends<T: Send>() {}
+
+fn shares<T: Sync>() {}
+
+/// That a space is Send and Sync, and a caller is Send. It does nothing.
+pub fn crosses_threads() {
+    sends::<Space>();
+    shares::<Space>();
+    sends::<Caller>();
+}

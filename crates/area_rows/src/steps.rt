@@ -1,0 +1,123 @@
+// The four steps that a caller makes on client words: it loads the number word, the row count or a row, or draws a number.
+// Each is one atomic step, made at a moment of the running space; a reader may rely on what it tells being so there.
+ghost use Rattle.std.specs.Prelude.{◌≡◌, ◌<◌, ◌≤◌, ◌+◌, ◌^◌, IsSome, length};
+ghost use Rattle.page_types.specs.declared.TheConstants.{ROWS};
+ghost use Rattle.area_rows.specs.RowWords.{row_start};
+ghost use Rattle.area_rows.specs.History.{HoldsFor, IsFault, IsRight, after_count, after_row, note_of};
+ghost use Rattle.area_rows.specs.Callers.{IsStep, IsLook, IsNumbered, Shows};
+
+use crate::guard::{By, Noted, RowGuard};
+use crate::space::{Caller, Space};
+use page_types::{Call, Reply};
+use range_rw::Seat;
+use space_model::{Entry, Under};
+use std::marker::Brand;
+use std::sync::ledger::Ledger;
+use word_rows::Steps;
+
+impl Space {
+    /// Loads the row count, from 1 to `ROWS`. The caller is of this space and holds a range.
+    pub(crate) fn load_count<L: Ledger>(&self, caller: &mut Caller, steps: &mut Steps<L>) -> u64
+        requires table { caller.old.seat.table ≡ self.now.table }
+        requires held { IsSome caller.old.seat.held }
+        ensures step { IsStep caller.old.seat (after_count result caller.old.seat.pass) caller.new.seat }
+        ensures left { caller.new.left ≡ caller.old.left }
+        ensures some { 0 < result }
+        ensures few { result ≤ ROWS }
+        ensures counted { steps.new ≡ steps.old + 1 }
+    {
+        self.table
+            .load_as::<By<Brand>, L>(&mut caller.seat, 2, steps)
+    }
+
+    /// Loads the word of a row, counted from 0. The caller is of this space and holds a range.
+    pub(crate) fn load_row<L: Ledger>(
+        &self,
+        caller: &mut Caller,
+        index: u32,
+        steps: &mut Steps<L>,
+    ) -> u64
+        requires table { caller.old.seat.table ≡ self.now.table }
+        requires held { IsSome caller.old.seat.held }
+        requires index { index < ROWS }
+        ensures step { IsStep caller.old.seat (after_row index result caller.old.seat.pass) caller.new.seat }
+        ensures left { caller.new.left ≡ caller.old.left }
+        ensures first { index ≡ 0 → row_start result ≡ 0 }
+        ensures counted { steps.new ≡ steps.old + 1 }
+    {
+        self.table
+            .load_as::<By<Brand>, L>(&mut caller.seat, 3 + index, steps)
+    }
+
+    /// Loads the number word: how many entries the history has. The caller then has seen all of them, and what its range has shown still stands.
+    pub fn look<L: Ledger>(&self, caller: &mut Caller, steps: &mut Steps<L>) -> u64
+        requires table { caller.old.seat.table ≡ self.now.table }
+        ensures look { IsLook caller.old.seat result caller.new.seat }
+        ensures left { caller.new.left ≡ caller.old.left }
+        ensures counted { steps.new ≡ steps.old + 1 }
+    {
+        self.table
+            .load_as::<By<Brand>, L>(&mut caller.seat, 0, steps)
+    }
+
+    /// Draws a number for the entry that the note becomes. The call, with all that the note says of it, is an argument so that the note can be picked from it.
+    fn draw_as<N: Noted, L: Ledger>(
+        &self,
+        seat: &mut Seat<RowGuard>,
+        draft: &Entry,
+        steps: &mut Steps<L>,
+    ) -> u64
+        requires note { N.noted ≡ note_of draft.now }
+        requires table { seat.old.table ≡ self.now.table }
+        requires worker { seat.old.number ≡ draft.now.worker }
+        requires few { length seat.old.pass.mine + 1 < 2 ^ 32 }
+        requires fault { IsFault draft.now.call }
+        requires held { HoldsFor seat.old.held draft.now.under }
+        requires right { Shows seat.old (λ _ state. IsRight state draft.now.call draft.now.reply draft.now.under) }
+        ensures numbered { IsNumbered seat.old (record draft.now { number = result }) seat.new }
+        ensures taken { seat.new.trace.taken ≡ seat.old.trace.taken + 1 }
+        ensures counted { steps.new ≡ steps.old + 1 }
+    {
+        self.table.add_as::<By<N>, L>(seat, 0, 1, steps)
+    }
+
+    /// Draws the next number for a call of the caller, which is of this space, has a number left, and holds the range that `under` names.
+    /// The call is a fault, and at the history's state it fits `under` and has this reply, as what the caller has read shows.
+    /// The entry goes to the caller's own, and is the last one that it has seen. One step.
+    pub fn number<L: Ledger>(
+        &self,
+        caller: &mut Caller,
+        line: u32,
+        call: Call,
+        reply: Reply,
+        under: Under,
+        steps: &mut Steps<L>,
+    ) -> Entry
+        requires table { caller.old.seat.table ≡ self.now.table }
+        requires left { 0 < caller.old.left }
+        requires fault { IsFault call }
+        requires held { HoldsFor caller.old.seat.held under }
+        requires right { Shows caller.old.seat (λ _ state. IsRight state call reply under) }
+        ensures line { result.line ≡ line }
+        ensures call { result.call ≡ call }
+        ensures reply { result.reply ≡ reply }
+        ensures under { result.under ≡ under }
+        ensures numbered { IsNumbered caller.old.seat result caller.new.seat }
+        ensures left { caller.new.left + 1 ≡ caller.old.left }
+        ensures taken { caller.new.seat.trace.taken ≡ caller.old.seat.trace.taken + 1 }
+        ensures counted { steps.new ≡ steps.old + 1 }
+    {
+        let mut entry = Entry {
+            number: 0,
+            worker: caller.worker,
+            line,
+            call,
+            reply,
+            under,
+        };
+        entry.number = self.draw_as::<Brand, L>(&mut caller.seat, &entry, steps);
+        caller.mine.push_reserved(entry);
+        caller.left -= 1;
+        entry
+    }
+}

@@ -1,0 +1,48 @@
+-- What the two calls for page faults answer, and what each answer says: an access to a page as sigaction(2) has it, made while the page is held as a reader.
+-- The entry's number is drawn at a step at which that range was held, since nothing else lets a number be drawn.
+use Rattle.std.specs.Prelude.{ℕ, ◌≡◌, ◌<◌, ◌+◌, None}
+use Rattle.page_types.specs.declared.sets.Access.{Access}
+use Rattle.page_types.specs.declared.calls.Call.TheVariants.{Fault}
+use Rattle.page_types.specs.Pages.{page_of}
+use Rattle.page_types.specs.PlainReply.{plain_reply}
+use Rattle.space_model.specs.declared.entries.Entry.{Entry}
+use Rattle.lock_core.specs.declared.range.Held.{Held}
+use Rattle.lock_core.specs.declared.range.Mode.TheVariants.{Reader}
+use Rattle.range_rw.specs.Seats.{IsLockCall}
+use Rattle.range_rw.specs.Trying.{IsCause}
+use Rattle.area_rows.specs.declared.answer.Answer.{Answer}
+use Rattle.area_rows.specs.declared.answer.Answer.TheVariants.{Given, Spent}
+use Rattle.area_rows.specs.Callers.{CallerView, IsNumbered}
+use Rattle.range_rw.specs.declared.acquire.NotHeld.{NotHeld as Why}
+use Rattle.page_fault.specs.declared.faults.TriedFault.{TriedFault}
+use Rattle.page_fault.specs.declared.faults.TriedFault.TheVariants.{Answered, NotHeld, Spent as NoneLeft}
+
+-- the one page of an address, held as a reader
+abbrev pub page_held : ℕ → Held
+page_held addr = record { range = record { lo = page_of addr; hi = page_of addr + 1 }; mode = Reader }
+
+-- the fault got one entry, with this line and these arguments, and one number of the caller is used; the caller holds what it held before
+pub record IsFaulted (before : CallerView) (line addr : ℕ) (access : Access) (e : Entry) (after : CallerView) : Type 0 where
+  pub line_is : e.line ≡ line
+  pub call : e.call ≡ Fault addr access
+  pub numbered : IsNumbered before.seat e after.seat
+  pub left : after.left + 1 ≡ before.left
+
+-- the answer of a fault: an entry where a number is left, and otherwise nothing has changed
+abbrev pub IsAnswer : CallerView → ℕ → ℕ → Access → Answer → CallerView → Type 0
+IsAnswer before line addr access (Given e) after = (0 < before.left) × IsFaulted before line addr access e after
+IsAnswer before line addr access Spent after = (before.left ≡ 0) × (after ≡ before)
+
+-- the range wasn't got in one try, for this cause: the arguments don't decide the call, and what the caller knows is as before
+pub record IsNotHeld (before : CallerView) (addr : ℕ) (access : Access) (why : Why) (after : CallerView) : Type 0 where
+  pub undecided : plain_reply (Fault addr access) ≡ None
+  pub call : IsLockCall before.seat after.seat
+  pub free : after.seat.held ≡ None
+  pub left : after.left ≡ before.left
+  pub cause : IsCause before.seat after.seat (page_held addr) why
+
+-- the answer of a fault that waits for nobody
+abbrev pub IsTried : CallerView → ℕ → ℕ → Access → TriedFault → CallerView → Type 0
+IsTried before line addr access (Answered e) after = (0 < before.left) × IsFaulted before line addr access e after
+IsTried before line addr access (NotHeld why) after = (0 < before.left) × IsNotHeld before addr access why after
+IsTried before line addr access NoneLeft after = (before.left ≡ 0) × (after ≡ before)

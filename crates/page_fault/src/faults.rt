@@ -1,0 +1,189 @@
+// The two calls for a fault: one waits until the page is held, and one tries once and names the cause where it isn't.
+// A fault that its arguments decide holds nothing. What the answers say stands in `specs/Faults.antt`.
+ghost use Rattle.std.specs.Prelude.{◌≡◌, ◌<◌, ◌+◌, Some, None};
+ghost use Rattle.page_types.specs.declared.calls.Call.TheVariants.{Fault};
+ghost use Rattle.page_types.specs.PlainReply.{plain_reply};
+ghost use Rattle.space_model.specs.Building.{AnswersFault};
+ghost use Rattle.area_rows.specs.Callers.{IsNumbered};
+ghost use Rattle.page_fault.specs.Faults.{page_held, IsFaulted, IsAnswer, IsTried};
+
+use area_rows::{Answer, Caller, Space};
+use lock_core::Mode;
+use page_types::{Access, Call, Kind, PAGE, Reply, Span, Why, plain};
+use range_rw::NotHeld;
+use space_model::{Entry, Under};
+use std::marker::Brand;
+use std::sync::Wait;
+use std::sync::ledger::{Blank, Ledger};
+use word_rows::Steps;
+
+/// The answer to a fault that waits for nobody.
+#[derive(Debug, Drop, PartialEq, Eq)]
+pub enum TriedFault {
+    /// The fault's entry.
+    Answered(Entry),
+    /// The page wasn't got in this try: why.
+    NotHeld(NotHeld),
+    /// The caller has no number left.
+    Spent,
+}
+
+/// The page of an address that the arguments don't decide.
+fn page_span(addr: u64, access: Access) -> Span
+    requires { plain_reply (Fault addr access) ≡ None }
+    ensures lo { result.lo ≡ (page_held addr).range.lo }
+    ensures hi { result.hi ≡ (page_held addr).range.hi }
+{
+    let page = addr / PAGE;
+    Span {
+        lo: page,
+        hi: page + 1,
+    }
+}
+
+/// What an access to a page of this kind, or of none, answers.
+fn reply_of(kind: Option<Kind>, page: u64, access: Access) -> Reply
+    ensures { AnswersFault kind page access result }
+{
+    match kind {
+        Some(kind) => {
+            if kind.prot.allows(access) {
+                Reply::Granted(kind)
+            } else {
+                Reply::Refused(Why::AccErr(page, kind))
+            }
+        }
+        None => Reply::Refused(Why::MapErr(page)),
+    }
+}
+
+/// A fault that its arguments decide: it draws its number and holds nothing.
+fn number_plain<L: Ledger>(
+    space: &Space,
+    caller: &mut Caller,
+    line: u32,
+    addr: u64,
+    access: Access,
+    reply: Reply,
+    steps: &mut Steps<L>,
+) -> Entry
+    requires table { caller.old.seat.table ≡ space.now.table }
+    requires left { 0 < caller.old.left }
+    requires decided { plain_reply (Fault addr access) ≡ Some reply }
+    ensures faulted { IsFaulted caller.old line addr access result caller.new }
+    ensures counted { steps.new + caller.old.seat.trace.taken ≡ steps.old + caller.new.seat.trace.taken }
+{
+    let call = Call::Fault { addr, access };
+    space.number(caller, line, call, reply, Under::Nothing, steps)
+}
+
+/// A fault whose page the caller holds: it reads the page's row, draws its number, and gives the page back.
+fn number_held<L: Ledger>(
+    space: &Space,
+    caller: &mut Caller,
+    line: u32,
+    addr: u64,
+    access: Access,
+    span: Span,
+    steps: &mut Steps<L>,
+) -> Entry
+    requires table { caller.old.seat.table ≡ space.now.table }
+    requires left { 0 < caller.old.left }
+    requires undecided { plain_reply (Fault addr access) ≡ None }
+    requires lo { span.lo ≡ (page_held addr).range.lo }
+    requires hi { span.hi ≡ (page_held addr).range.hi }
+    requires held { caller.old.seat.held ≡ Some (page_held addr) }
+    ensures line { result.line ≡ line }
+    ensures call { result.call ≡ Fault addr access }
+    ensures numbered { IsNumbered (record caller.old.seat { held = None }) result caller.new.seat }
+    ensures left { caller.new.left + 1 ≡ caller.old.left }
+    ensures counted { steps.new + caller.old.seat.trace.taken ≡ steps.old + caller.new.seat.trace.taken }
+{
+    let page = addr / PAGE;
+    let row = space.row_of(caller, page, steps);
+    let reply = reply_of(row.kind, page, access);
+    let call = Call::Fault { addr, access };
+    let entry = space.number(caller, line, call, reply, Under::Reader(span), steps);
+    space.release(caller, steps);
+    entry
+}
+
+fn fault_counting<L: Ledger, R: Wait>(
+    space: &Space,
+    wait: &R,
+    caller: &mut Caller,
+    line: u32,
+    addr: u64,
+    access: Access,
+    blank: Blank,
+) -> Entry
+    requires blank { (blank.name ≡ L.name) × (blank.parts ≡ L.parts) × (0 < L.parts) }
+    requires table { caller.old.seat.table ≡ space.now.table }
+    requires free { caller.old.seat.held ≡ None }
+    requires left { 0 < caller.old.left }
+    ensures faulted { IsFaulted caller.old line addr access result caller.new }
+{
+    let mut steps = Steps::<L>::new(blank);
+    if let Some(reply) = plain(&Call::Fault { addr, access }) {
+        return number_plain(space, caller, line, addr, access, reply, &mut steps);
+    }
+    let span = page_span(addr, access);
+    space.acquire(wait, caller, span, Mode::Reader);
+    number_held(space, caller, line, addr, access, span, &mut steps)
+}
+
+/// One access to the byte at `addr`, by the caller, which is of this space and holds nothing; `line` is the line of the input that names it, counted from 1.
+/// It waits until the caller holds the byte's page as a reader, and then draws the number; a fault at or above `LIMIT` holds nothing. `Spent` comes exactly where the caller has no number left, and nothing has changed then.
+pub fn fault<R: Wait>(
+    space: &Space,
+    wait: &R,
+    caller: &mut Caller,
+    line: u32,
+    addr: u64,
+    access: Access,
+) -> Answer
+    requires table { caller.old.seat.table ≡ space.now.table }
+    requires free { caller.old.seat.held ≡ None }
+    ensures answer { IsAnswer caller.old line addr access result caller.new }
+{
+    if caller.left() == 0 {
+        return Answer::Spent;
+    }
+    Answer::Given(fault_counting::<Brand, R>(
+        space,
+        wait,
+        caller,
+        line,
+        addr,
+        access,
+        Blank::new(1),
+    ))
+}
+
+/// The same with one try to hold the page, so that it waits for nobody.
+/// `NotHeld` comes only for a fault below `LIMIT`, and then as for a try of the one page as a reader; the caller has seen and numbered what it had.
+pub fn try_fault<L: Ledger>(
+    space: &Space,
+    caller: &mut Caller,
+    line: u32,
+    addr: u64,
+    access: Access,
+    steps: &mut Steps<L>,
+) -> TriedFault
+    requires table { caller.old.seat.table ≡ space.now.table }
+    requires free { caller.old.seat.held ≡ None }
+    ensures answer { IsTried caller.old line addr access result caller.new }
+    ensures counted { steps.new + caller.old.seat.trace.taken ≡ steps.old + caller.new.seat.trace.taken }
+{
+    if caller.left() == 0 {
+        return TriedFault::Spent;
+    }
+    if let Some(reply) = plain(&Call::Fault { addr, access }) {
+        return TriedFault::Answered(number_plain(space, caller, line, addr, access, reply, steps));
+    }
+    let span = page_span(addr, access);
+    match space.try_acquire(caller, span, Mode::Reader, steps) {
+        Ok(()) => TriedFault::Answered(number_held(space, caller, line, addr, access, span, steps)),
+        Err(why) => TriedFault::NotHeld(why),
+    }
+}
