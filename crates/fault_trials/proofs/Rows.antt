@@ -1,0 +1,75 @@
+-- Callers in a row read by place, before and after what was done to each.
+use Rattle.std.proofs.Common.{◌≡◌, ℕ, zero, suc, ◌<◌, List, [], ◌∷◌, get_or, set, length, sym, refl, ap, ◌∙◌, subst, arith, length-set, ⊎_elim}
+use Rattle.std.specs.Prelude.{None}
+use mathlib.Core.Option.{some, some-injective, some-ne-none}
+use lib.ListN.{get_elem?}
+use Rattle.atomic_table.specs.Seated.{TableId}
+use Rattle.atomic_table.proofs.Lists.{at_index, at_set}
+use Rattle.page_types.specs.declared.sets.Access.{Access}
+use Rattle.space_model.specs.declared.areas.Area.{Area}
+use Rattle.area_rows.specs.declared.answer.Answer.{Answer}
+use Rattle.area_rows.specs.declared.answer.Answer.TheVariants.{Given, Spent}
+use Rattle.area_rows.specs.Callers.{CallerView, AreNewCallers}
+use Rattle.page_fault.specs.Faults.{IsAnswer}
+use Rattle.fault_trials.specs.Trials.{IsBack, IsCrew}
+
+there_below : {A : Type 0} (l : List A) (i : ℕ) (a : A) → get_elem? l i ≡ some a → i < length l
+there_below [] i a e = absurd (some-ne-none a (sym e))
+there_below (x ∷ xs) zero a e = omega arith
+there_below (x ∷ xs) (suc i) a e = let r = there_below xs i a e in omega arith
+
+there_or : {A : Type 0} (l : List A) (i : ℕ) (a d : A) → get_elem? l i ≡ some a → get_or l i d ≡ a
+there_or [] i a d e = absurd (some-ne-none a (sym e))
+there_or (x ∷ xs) zero a d e = some-injective x a e
+there_or (x ∷ xs) (suc i) a d e = there_or xs i a d e
+
+there_same : {A : Type 0} (l : List A) (i : ℕ) (d e : A) → i < length l → get_or l i d ≡ get_or l i e
+there_same [] i d e lt = absurd (omega arith)
+there_same (x ∷ xs) zero d e lt = refl
+there_same (x ∷ xs) (suc i) d e lt = there_same xs i d e (omega arith)
+
+-- what is back is idle
+back_idle : (table : TableId) (k : ℕ) (a b : CallerView) → IsBack a b → (a.seat.table ≡ table) × (a.seat.number ≡ k) × (a.seat.held ≡ None) → (b.seat.table ≡ table) × (b.seat.number ≡ k) × (b.seat.held ≡ None)
+back_idle table k a b back i = (back.table ∙ i.0, back.number ∙ i.1, back.held)
+
+-- new callers are a crew
+pub new_crew : (table : TableId) (seats : ℕ) (start : List Area) (calls : List ℕ) (callers : List CallerView) → length callers ≡ seats → 0 < seats → AreNewCallers table start calls callers → IsCrew table seats callers
+new_crew table seats start calls callers count more new = record {
+  count = count;
+  some = more;
+  idle = λ k c at. let e = new k c at in (ap (λ (x : CallerView). x.seat.table) e, ap (λ (x : CallerView). x.seat.number) e, ap (λ (x : CallerView). x.seat.held) e);
+}
+
+-- a crew whose callers are each back is a crew
+pub crew_back : (table : TableId) (seats : ℕ) (old new : List CallerView) → length new ≡ length old → IsCrew table seats old
+    → ((k : ℕ) (d : CallerView) → k < length old → (a : CallerView) × (b : CallerView) × (a ≡ get_or old k d) × IsBack a b × (b ≡ get_or new k d)) → IsCrew table seats new
+crew_back table seats old new same crew each = record {
+  count = same ∙ crew.count;
+  some = crew.some;
+  idle = λ k c at.
+      let lt = there_below new k c at in
+      let e = each k c (omega arith) in
+      let was : get_elem? old k ≡ some e.0 = at_index old k e.0 (omega arith) (e.2 ∙ there_same old k c e.0 (omega arith)) in
+      let now : e.1 ≡ c = e.4 ∙ there_or new k c c at in
+      subst (λ (x : CallerView). (x.seat.table ≡ table) × (x.seat.number ≡ k) × (x.seat.held ≡ None)) now (back_idle table k e.0 e.1 e.3 (crew.idle k e.0 was));
+}
+
+-- an answered caller is back
+pub answer_back : (before after : CallerView) (line addr : ℕ) (access : Access) (answer : Answer) → before.seat.held ≡ None → IsAnswer before line addr access answer after → IsBack before after
+answer_back before after line addr access (Given e) free is = let n = is.1.numbered in record { table = n.table; number = n.number; held = n.held ∙ free }
+answer_back before after line addr access Spent free is = record { table = ap (λ (x : CallerView). x.seat.table) is.1; number = ap (λ (x : CallerView). x.seat.number) is.1; held = ap (λ (x : CallerView). x.seat.held) is.1 ∙ free }
+
+-- the first caller of a crew
+pub first_of : (table : TableId) (seats : ℕ) (callers : List CallerView) (c : CallerView) → IsCrew table seats callers → c ≡ get_or callers 0 c → (c.seat.table ≡ table) × (c.seat.number ≡ 0) × (c.seat.held ≡ None)
+first_of table seats callers c crew is = crew.idle 0 c (at_index callers 0 c (let n = crew.count in let m = crew.some in omega arith) is)
+
+-- a crew whose first caller is back
+pub first_back : (table : TableId) (seats : ℕ) (callers : List CallerView) (before after : CallerView) → IsCrew table seats callers → before ≡ get_or callers 0 before → IsBack before after → IsCrew table seats (set callers 0 after)
+first_back table seats callers before after crew is back = record {
+  count = length-set callers 0 after ∙ crew.count;
+  some = crew.some;
+  idle = λ k c at. ⊎_elim
+      (λ t. subst (λ (z : ℕ × CallerView). (z.1.seat.table ≡ table) × (z.1.seat.number ≡ z.0) × (z.1.seat.held ≡ None)) (λ i. (sym t.0 i, t.1 i)) (back_idle table 0 before after back (first_of table seats callers before crew is)))
+      (λ t. crew.idle k c t.1)
+      (at_set callers 0 k after c at);
+}

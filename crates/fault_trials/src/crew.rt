@@ -1,0 +1,72 @@
+// All callers of one space in a row: one of them faults, or each faults on a thread of its own.
+// A reader may rely on the row being ready for the closing after each of these calls.
+ghost use Rattle.std.specs.Prelude.{◌≡◌, ◌<◌, ◌^◌, None, length, IfOk, IfErr};
+ghost use Rattle.space_model.specs.Areas.{row_count};
+ghost use Rattle.area_rows.specs.Callers.{AreIdle, IsSpaceFault};
+ghost use Rattle.fault_trials.specs.Trials.{IsBack, IsCrew};
+
+use area_rows::{Answer, Caller, Space, SpaceFault};
+use page_fault::fault;
+use page_types::{Access, PAGE};
+use space_model::PlainSpace;
+use std::alloc::Global;
+use std::sync::Wait;
+use std::thread;
+use std::thread::Threads;
+
+/// A space over a start, and its callers in a row.
+pub fn open_crew(
+    alloc: Global,
+    calls: &[u32],
+    start: &PlainSpace,
+) -> Result<(Space, Vec<Caller>), SpaceFault>
+    requires { length calls.now < 2 ^ 32 }
+    ensures refused { IfErr result (IsSpaceFault (length calls.now) (row_count start.now)) }
+    ensures crew { IfOk result (λ r. IsCrew r.0.table r.0.seats r.1.items) }
+{
+    Space::open(alloc, calls, start)
+}
+
+/// The first caller of the row faults once.
+pub fn fault_by<R: Wait>(
+    rt: &R,
+    space: &Space,
+    callers: &mut [Caller],
+    line: u32,
+    addr: u64,
+    access: Access,
+) -> Answer
+    requires { IsCrew space.now.table space.now.seats callers.old }
+    ensures { IsCrew space.now.table space.now.seats callers.new }
+{
+    fault(space, rt, &mut callers[0], line, addr, access)
+}
+
+/// Reads one of four pages from page 16 on, so many times.
+fn fault_turns<R: Wait>(rt: &R, space: &Space, caller: &mut Caller, turns: u32)
+    requires table { caller.old.seat.table ≡ space.now.table }
+    requires free { caller.old.seat.held ≡ None }
+    ensures { IsBack caller.old caller.new }
+{
+    for turn in 0..turns {
+        let page = 16 + turn as u64 % 4;
+        fault(space, rt, caller, turn, page * PAGE, Access::Read);
+    }
+}
+
+/// Each caller faults so many times, on a thread of its own.
+pub fn fault_all<R: Threads + Wait + Sync>(
+    rt: &R,
+    space: &Space,
+    callers: &mut [Caller],
+    turns: u32,
+)
+    requires { IsCrew space.now.table space.now.seats callers.old }
+    ensures { IsCrew space.now.table space.now.seats callers.new }
+{
+    let turn = |_: usize, caller: &mut Caller|
+        requires { (caller.now.seat.table ≡ space.now.table) × (caller.now.seat.held ≡ None) }
+        ensures { IsBack caller.entry.now caller.exit.now }
+    { fault_turns(rt, space, caller, turns) };
+    thread::for_each_mut(rt, callers, 16, &turn);
+}

@@ -1,0 +1,100 @@
+// The worked rows of faults over a running space, and four threads on shared pages.
+// What a test expects is reckoned by hand or by the one-thread model, never taken from the program.
+use crate::{fault_all, fault_by, open_crew};
+use area_rows::{Answer, SpaceFault};
+use page_types::{Access, Kind, Prot, Reply, Span, Why};
+use space_model::{Area, PlainSpace, Under, have_named_calls, legal};
+
+#[test]
+fn a_space_has_from_one_to_sixteen_callers(rt: HostRuntime) {
+    let start = PlainSpace::new(rt.alloc());
+    for count in [0, 17] {
+        let calls = [1; 17];
+        match open_crew(rt.alloc(), &calls[..count as usize], &start) {
+            Ok(_) => panic!(rt; "{count} callers"),
+            Err(fault) => assert_eq!(rt; fault, SpaceFault::Callers(count)),
+        }
+    }
+}
+
+#[test]
+fn faults_answer_as_the_worked_row(rt: HostRuntime) {
+    let alloc = rt.alloc();
+    let kind = Kind {
+        prot: Prot::READ,
+        shared: false,
+    };
+    let area = Area {
+        lo: 16,
+        hi: 18,
+        kind,
+    };
+    let start = PlainSpace::of_areas(alloc, &[area]).expect(&rt, "an area list");
+    let (space, mut callers) = open_crew(alloc, &[4], &start).expect(&rt, "memory");
+    let cases = [
+        (0x10000, Access::Read, Reply::Granted(kind), 16),
+        (0x11fff, Access::Read, Reply::Granted(kind), 17),
+        (0x12000, Access::Read, Reply::Refused(Why::MapErr(18)), 18),
+        (
+            0x10000,
+            Access::Write,
+            Reply::Refused(Why::AccErr(16, kind)),
+            16,
+        ),
+    ];
+    for (addr, access, reply, page) in cases {
+        let Answer::Given(entry) = fault_by(&rt, &space, callers.as_mut_slice(), 7, addr, access)
+        else {
+            panic!(rt; "no number left");
+        };
+        assert_eq!(rt; entry.reply, reply);
+        assert_eq!(rt; entry.line, 7);
+        match entry.under {
+            Under::Reader(span) => assert_eq!(rt; (span.lo(), span.hi()), (page, page + 1)),
+            _ => panic!(rt; "the page wasn't held"),
+        }
+    }
+    assert_eq!(rt;
+        fault_by(&rt, &space, callers.as_mut_slice(), 7, 0, Access::Read),
+        Answer::Spent
+    );
+    let Ok(closed) = space.close(alloc, callers) else {
+        panic!(rt; "memory");
+    };
+    assert_eq!(rt; closed.areas(), [area].as_slice());
+    assert_eq!(rt; closed.entries().len(), 4);
+}
+
+#[test]
+fn four_threads_draw_two_thousand_numbers(rt: HostRuntime) {
+    let alloc = rt.alloc();
+    let kind = Kind {
+        prot: Prot::READ,
+        shared: true,
+    };
+    let area = Area {
+        lo: 16,
+        hi: 18,
+        kind,
+    };
+    let start = PlainSpace::of_areas(alloc, &[area]).expect(&rt, "an area list");
+    let (space, mut callers) = open_crew(alloc, &[500; 4], &start).expect(&rt, "memory");
+    fault_all(&rt, &space, callers.as_mut_slice(), 500);
+    let Ok(closed) = space.close(alloc, callers) else {
+        panic!(rt; "memory");
+    };
+    let entries = closed.entries();
+    assert_eq!(rt; entries.len(), 2000);
+    assert!(rt; have_named_calls(entries));
+    let illegal = legal(alloc, &start, entries).expect(&rt, "memory");
+    assert_eq!(rt; illegal, None);
+    let mut next = [0; 4];
+    for (i, entry) in entries.iter().enumerate() {
+        assert_eq!(rt; entry.number, i as u64);
+        let worker = entry.worker as usize;
+        assert!(rt; worker < 4);
+        assert_eq!(rt; entry.line, next[worker]);
+        next[worker] = u32::wrapping_add(next[worker], 1);
+    }
+    assert_eq!(rt; next, [500; 4]);
+}
