@@ -12,7 +12,7 @@ use page_types::{Call, Reply};
 use range_rw::Seat;
 use space_model::{Entry, Under};
 use std::marker::Brand;
-use std::sync::ledger::Ledger;
+use std::sync::ledger::{Blank, Ledger};
 use word_rows::Steps;
 
 impl Space {
@@ -49,15 +49,33 @@ impl Space {
             .load_as::<By<Brand>, L>(&mut caller.seat, 3 + index, steps)
     }
 
-    /// Loads the number word: how many entries the history has. The caller then has seen all of them, and what its range has shown still stands.
-    pub fn look<L: Ledger>(&self, caller: &mut Caller, steps: &mut Steps<L>) -> u64
+    /// Loads the number word. The caller is of this space.
+    fn load_number<L: Ledger>(&self, caller: &mut Caller, steps: &mut Steps<L>) -> u64
         requires table { caller.old.seat.table ≡ self.now.table }
         ensures look { IsLook caller.old.seat result caller.new.seat }
         ensures left { caller.new.left ≡ caller.old.left }
-        ensures counted { steps.new ≡ steps.old + 1 }
     {
         self.table
             .load_as::<By<Brand>, L>(&mut caller.seat, 0, steps)
+    }
+
+    fn look_counting<L: Ledger>(&self, caller: &mut Caller, blank: Blank) -> u64
+        requires blank { (blank.name ≡ L.name) × (blank.parts ≡ L.parts) × (0 < L.parts) }
+        requires table { caller.old.seat.table ≡ self.now.table }
+        ensures look { IsLook caller.old.seat result caller.new.seat }
+        ensures left { caller.new.left ≡ caller.old.left }
+    {
+        let mut steps = Steps::<L>::new(blank);
+        self.load_number(caller, &mut steps)
+    }
+
+    /// Loads the number word: how many entries the history has. The caller then has seen all of them, and what its range has shown still stands.
+    pub fn look(&self, caller: &mut Caller) -> u64
+        requires table { caller.old.seat.table ≡ self.now.table }
+        ensures look { IsLook caller.old.seat result caller.new.seat }
+        ensures left { caller.new.left ≡ caller.old.left }
+    {
+        self.look_counting::<Brand>(caller, Blank::new(1))
     }
 
     /// Draws a number for the entry that the note becomes. The call, with all that the note says of it, is an argument so that the note can be picked from it.
