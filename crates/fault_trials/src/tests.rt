@@ -3,7 +3,7 @@
 use crate::{fault_all, fault_by, open_crew};
 use area_rows::{Answer, SpaceFault};
 use page_types::{Access, Kind, Prot, Reply, Span, Why};
-use space_model::{Area, PlainSpace, Under, have_named_calls, legal};
+use space_model::{Area, PlainSpace, Under, have_named_calls, have_named_kinds, legal};
 
 #[test]
 fn a_space_has_from_one_to_sixteen_callers(rt: HostRuntime) {
@@ -97,4 +97,77 @@ fn four_threads_draw_two_thousand_numbers(rt: HostRuntime) {
         next[worker] = u32::wrapping_add(next[worker], 1);
     }
     assert_eq!(rt; next, [500; 4]);
+}
+
+#[test]
+fn a_start_of_4097_rows_is_too_large(rt: HostRuntime) {
+    let alloc = rt.alloc();
+    let mut areas = Vec::new(alloc);
+    for page in 16..4111 {
+        let kind = Kind {
+            prot: if page % 2 == 0 {
+                Prot::READ
+            } else {
+                Prot::WRITE
+            },
+            shared: false,
+        };
+        let area = Area {
+            lo: page,
+            hi: page + 1,
+            kind,
+        };
+        areas.push(area).expect(&rt, "memory");
+    }
+    assert!(rt; areas.len() == 4095 && have_named_kinds(&areas));
+    let start = PlainSpace::of_areas(alloc, &areas).expect(&rt, "an area list");
+    match open_crew(alloc, &[1], &start) {
+        Ok(_) => panic!(rt; "a space of 4097 rows"),
+        Err(fault) => assert_eq!(rt; fault, SpaceFault::Rows(4097)),
+    }
+}
+
+#[test]
+fn a_caller_with_one_number_faults_once(rt: HostRuntime) {
+    let alloc = rt.alloc();
+    let start = PlainSpace::new(alloc);
+    let (space, mut callers) = open_crew(alloc, &[1], &start).expect(&rt, "memory");
+    let first = fault_by(
+        &rt,
+        &space,
+        callers.as_mut_slice(),
+        1,
+        0x10000,
+        Access::Read,
+    );
+    let Answer::Given(entry) = first else {
+        panic!(rt; "no number left");
+    };
+    assert_eq!(rt; entry.reply, Reply::Refused(Why::MapErr(16)));
+    let second = fault_by(
+        &rt,
+        &space,
+        callers.as_mut_slice(),
+        2,
+        0x10000,
+        Access::Read,
+    );
+    assert_eq!(rt; second, Answer::Spent);
+    let Ok(closed) = space.close(alloc, callers) else {
+        panic!(rt; "memory");
+    };
+    assert!(rt; closed.areas().is_empty());
+    assert_eq!(rt; closed.entries(), [entry].as_slice());
+    assert!(rt; have_named_calls(closed.entries()));
+    let illegal = legal(alloc, &start, closed.entries()).expect(&rt, "memory");
+    assert_eq!(rt; illegal, None);
+    let mut wrong = entry;
+    wrong.reply = Reply::Granted(Kind {
+        prot: Prot::READ,
+        shared: false,
+    });
+    let wrong = [wrong];
+    assert!(rt; have_named_calls(&wrong));
+    let illegal = legal(alloc, &start, &wrong).expect(&rt, "memory");
+    assert_eq!(rt; illegal, Some(0));
 }
