@@ -1,5 +1,5 @@
 -- Callers in a row read by place, before and after what was done to each.
-use Rattle.std.proofs.Common.{◌≡◌, ℕ, zero, suc, ◌<◌, List, [], ◌∷◌, get_or, set, length, sym, refl, ap, ◌∙◌, subst, arith, length-set, ⊎_elim}
+use Rattle.std.proofs.Common.{◌≡◌, ℕ, zero, suc, ◌<◌, List, [], ◌∷◌, ◌++◌, ◌≤◌, get_or, set, length, sym, refl, ap, ◌∙◌, subst, arith, length-set, ⊎_elim}
 use Rattle.std.specs.Prelude.{None}
 use mathlib.Core.Option.{some, some-injective, some-ne-none}
 use lib.ListN.{get_elem?}
@@ -9,7 +9,7 @@ use Rattle.page_types.specs.declared.sets.Access.{Access}
 use Rattle.space_model.specs.declared.areas.Area.{Area}
 use Rattle.area_rows.specs.declared.answer.Answer.{Answer}
 use Rattle.area_rows.specs.declared.answer.Answer.TheVariants.{Given, Spent}
-use Rattle.area_rows.specs.Callers.{CallerView, AreNewCallers}
+use Rattle.area_rows.specs.Callers.{CallerView, AreIdle, AreNewCallers}
 use Rattle.page_fault.specs.Faults.{IsAnswer}
 use Rattle.fault_trials.specs.Trials.{IsBack, IsCrew}
 
@@ -73,3 +73,26 @@ first_back table seats callers before after crew is back = record {
       (λ t. crew.idle k c t.1)
       (at_set callers 0 k after c at);
 }
+
+-- two callers at the head that are each back
+idle_two : (table : TableId) (x y : CallerView) (rest : List CallerView) (a b : CallerView) → AreIdle table (x ∷ y ∷ rest) → IsBack x a → IsBack y b
+    → (k : ℕ) (c : CallerView) → get_elem? (a ∷ b ∷ rest) k ≡ some c → (c.seat.table ≡ table) × (c.seat.number ≡ k) × (c.seat.held ≡ None)
+idle_two table x y rest a b idle p q zero c at = subst (λ (v : CallerView). (v.seat.table ≡ table) × (v.seat.number ≡ 0) × (v.seat.held ≡ None)) (some-injective a c at) (back_idle table 0 x a p (idle 0 x refl))
+idle_two table x y rest a b idle p q (suc zero) c at = subst (λ (v : CallerView). (v.seat.table ≡ table) × (v.seat.number ≡ 1) × (v.seat.held ≡ None)) (some-injective b c at) (back_idle table 1 y b q (idle 1 y refl))
+idle_two table x y rest a b idle p q (suc (suc k)) c at = idle (suc (suc k)) c at
+
+-- the one caller of a first part, and the first of the others, of a crew of two or more
+pub two_of : (table : TableId) (seats : ℕ) (first others : List CallerView) (a b : CallerView) → length first ≡ 1 → IsCrew table seats (first ++ others) → 2 ≤ seats
+    → ((get_or first 0 a).seat.table ≡ table) × ((get_or first 0 a).seat.held ≡ None) × ((get_or others 0 b).seat.table ≡ table) × ((get_or others 0 b).seat.held ≡ None)
+two_of table seats [] others a b one crew two = absurd (omega arith)
+two_of table seats (x ∷ y ∷ rest) others a b one crew two = absurd (omega arith)
+two_of table seats (x ∷ []) [] a b one crew two = absurd (let n = crew.count in omega arith)
+two_of table seats (x ∷ []) (y ∷ rest) a b one crew two = let i = crew.idle 0 x refl in let j = crew.idle 1 y refl in (i.0, i.2, j.0, j.2)
+
+-- a crew of two or more whose first two callers are each back
+pub two_back : (table : TableId) (seats : ℕ) (first others : List CallerView) (x a y b : CallerView) → length first ≡ 1 → IsCrew table seats (first ++ others) → 2 ≤ seats
+    → IsBack (get_or first 0 x) a → IsBack (get_or others 0 y) b → IsCrew table seats (set first 0 a ++ set others 0 b)
+two_back table seats [] others x a y b one crew two p q = absurd (omega arith)
+two_back table seats (u ∷ v ∷ rest) others x a y b one crew two p q = absurd (omega arith)
+two_back table seats (u ∷ []) [] x a y b one crew two p q = absurd (let n = crew.count in omega arith)
+two_back table seats (u ∷ []) (v ∷ rest) x a y b one crew two p q = record { count = crew.count; some = crew.some; idle = idle_two table u v rest a b crew.idle p q }

@@ -1,18 +1,22 @@
-// All callers of one space in a row: one of them faults, or each faults on a thread of its own.
+// All callers of one space in a row: one of them faults, or one in one try beside another that holds a span as a writer, or each faults on a thread of its own.
 // A reader may rely on the row being ready for the closing after each of these calls.
-ghost use Rattle.std.specs.Prelude.{◌≡◌, ◌<◌, ◌^◌, None, length, IfOk, IfErr};
+ghost use Rattle.std.specs.Prelude.{◌≡◌, ◌<◌, ◌≤◌, ◌^◌, None, length, IfOk, IfErr};
 ghost use Rattle.space_model.specs.Areas.{row_count};
 ghost use Rattle.area_rows.specs.Callers.{AreIdle, IsSpaceFault};
 ghost use Rattle.fault_trials.specs.Trials.{IsBack, IsCrew};
 
 use area_rows::{Answer, Caller, Space, SpaceFault};
-use page_fault::fault;
-use page_types::{Access, PAGE};
+use lock_core::Mode;
+use page_fault::{TriedFault, fault, try_fault};
+use page_types::{Access, PAGE, Span};
 use space_model::PlainSpace;
 use std::alloc::Global;
+use std::marker::Brand;
 use std::sync::Wait;
+use std::sync::ledger::{Blank, Ledger};
 use std::thread;
 use std::thread::Threads;
+use word_rows::Steps;
 
 /// A space over a start, and its callers in a row.
 pub fn open_crew(
@@ -22,6 +26,7 @@ pub fn open_crew(
 ) -> Result<(Space, Vec<Caller>), SpaceFault>
     requires { length calls.now < 2 ^ 32 }
     ensures refused { IfErr result (IsSpaceFault (length calls.now) (row_count start.now)) }
+    ensures count { IfOk result (λ r. r.0.seats ≡ length calls.now) }
     ensures crew { IfOk result (λ r. IsCrew r.0.table r.0.seats r.1.items) }
 {
     Space::open(alloc, calls, start)
@@ -40,6 +45,53 @@ pub fn fault_by<R: Wait>(
     ensures { IsCrew space.now.table space.now.seats callers.new }
 {
     fault(space, rt, &mut callers[0], line, addr, access)
+}
+
+/// One caller faults in one try while another one holds a span as a writer.
+fn try_counting<L: Ledger, R: Wait>(
+    rt: &R,
+    space: &Space,
+    writer: &mut Caller,
+    span: Span,
+    caller: &mut Caller,
+    addr: u64,
+    blank: Blank,
+) -> TriedFault
+    requires blank { (blank.name ≡ L.name) × (blank.parts ≡ L.parts) × (0 < L.parts) }
+    requires writer { (writer.old.seat.table ≡ space.now.table) × (writer.old.seat.held ≡ None) }
+    requires caller { (caller.old.seat.table ≡ space.now.table) × (caller.old.seat.held ≡ None) }
+    ensures writer { IsBack writer.old writer.new }
+    ensures caller { IsBack caller.old caller.new }
+{
+    let mut steps = Steps::<L>::new(blank);
+    space.acquire(rt, writer, span, Mode::Writer);
+    let answer = try_fault(space, caller, 1, addr, Access::Read, &mut steps);
+    space.release(writer, &mut steps);
+    answer
+}
+
+/// The second caller of the row reads a byte in one try while the first one holds a span as a writer.
+pub fn try_beside<R: Wait>(
+    rt: &R,
+    space: &Space,
+    callers: &mut [Caller],
+    span: Span,
+    addr: u64,
+) -> TriedFault
+    requires crew { IsCrew space.now.table space.now.seats callers.old }
+    requires two { 2 ≤ space.now.seats }
+    ensures crew { IsCrew space.now.table space.now.seats callers.new }
+{
+    let (first, others) = callers.split_at_mut(1);
+    try_counting::<Brand, R>(
+        rt,
+        space,
+        &mut first[0],
+        span,
+        &mut others[0],
+        addr,
+        Blank::new(1),
+    )
 }
 
 /// Reads one of four pages from page 16 on, so many times.

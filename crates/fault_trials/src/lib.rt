@@ -6,4 +6,4 @@ mod crew;
 #[cfg(test)]
 mod tests;
 
-pub use crew::{fault_all, fault_by, open_crew};
+pub use crew::{fault_all, fault_by, open_crew, try_beside};

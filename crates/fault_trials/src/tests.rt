@@ -1,8 +1,11 @@
 // The worked rows of faults over a running space, and four threads on shared pages.
 // What a test expects is reckoned by hand or by the one-thread model, never taken from the program.
-use crate::{fault_all, fault_by, open_crew};
+use crate::{fault_all, fault_by, open_crew, try_beside};
 use area_rows::{Answer, SpaceFault};
-use page_types::{Access, Kind, Prot, Reply, Span, Why};
+use lock_core::{Mode, Range};
+use page_fault::TriedFault;
+use page_types::{Access, Kind, PAGE, Prot, Reply, Span, Why};
+use range_rw::NotHeld;
 use space_model::{Area, PlainSpace, Under, have_named_calls, have_named_kinds, legal};
 
 #[test]
@@ -170,4 +173,50 @@ fn a_caller_with_one_number_faults_once(rt: HostRuntime) {
     assert!(rt; have_named_calls(&wrong));
     let illegal = legal(alloc, &start, &wrong).expect(&rt, "memory");
     assert_eq!(rt; illegal, Some(0));
+}
+
+#[test]
+fn a_try_beside_a_writer_is_answered_at_other_pages(rt: HostRuntime) {
+    let alloc = rt.alloc();
+    let kind = Kind {
+        prot: Prot::READ,
+        shared: true,
+    };
+    let area = Area {
+        lo: 16,
+        hi: 18,
+        kind,
+    };
+    let start = PlainSpace::of_areas(alloc, &[area]).expect(&rt, "an area list");
+    let (space, mut callers) = open_crew(alloc, &[0, 3], &start).expect(&rt, "memory");
+    let Ok(span) = Span::of(17 * PAGE, PAGE) else {
+        panic!(rt; "a page");
+    };
+    let Ok(range) = Range::of(17, 18) else {
+        panic!(rt; "a range");
+    };
+    let busy = NotHeld::Busy {
+        owner: 0,
+        range,
+        mode: Mode::Writer,
+    };
+    let cases = [
+        (16, Some(Reply::Granted(kind))),
+        (17, None),
+        (18, Some(Reply::Refused(Why::MapErr(18)))),
+    ];
+    for (page, reply) in cases {
+        match try_beside(&rt, &space, callers.as_mut_slice(), span, page * PAGE) {
+            TriedFault::Answered(entry) => assert_eq!(rt; Some(entry.reply), reply),
+            TriedFault::NotHeld(why) => assert!(rt; reply.is_none() && why == busy),
+            TriedFault::Spent => panic!(rt; "no number left"),
+        }
+    }
+    let Ok(closed) = space.close(alloc, callers) else {
+        panic!(rt; "memory");
+    };
+    assert_eq!(rt; closed.entries().len(), 2);
+    assert!(rt; have_named_calls(closed.entries()));
+    let illegal = legal(alloc, &start, closed.entries()).expect(&rt, "memory");
+    assert_eq!(rt; illegal, None);
 }

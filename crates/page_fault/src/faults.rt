@@ -149,15 +149,9 @@ pub fn fault<R: Wait>(
     if caller.left() == 0 {
         return Answer::Spent;
     }
-    Answer::Given(fault_counting::<Brand, R>(
-        space,
-        wait,
-        caller,
-        line,
-        addr,
-        access,
-        Blank::new(1),
-    ))
+    let blank = Blank::new(1);
+    let entry = fault_counting::<Brand, R>(space, wait, caller, line, addr, access, blank);
+    Answer::Given(entry)
 }
 
 /// The same with one try to hold the page, so that it waits for nobody.
