@@ -7,7 +7,7 @@ ghost use Rattle.byte_ports.specs.Counts.{Rose};
 
 use crate::{Failed, Sink};
 
-/// Appends all of `bytes`, by as many writes as the sink needs. It makes no call where `bytes` is empty.
+/// Appends all of `bytes`, by as many writes as the sink needs.
 ///
 /// `Failed`: the sink failed in this call; some first part of `bytes` was appended.
 pub fn write_all<K: Sink>(out: &mut K, bytes: &[u8]) -> Result<(), Failed>

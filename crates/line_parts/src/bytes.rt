@@ -1,6 +1,6 @@
 //! Bytes, words and what stands between them. Each function takes what is left of a text and gives
-//! what is left behind its part, or the first fault; none looks at a byte more than a fixed number of
-//! times, and none takes memory. `specs/Leaves.antt` has the parts, `specs/Reading.antt` the answers.
+//! what is left behind its part, or the first fault; none takes memory. `specs/Leaves.antt` has the
+//! parts, `specs/Reading.antt` the answers.
 
 ghost use Rattle.std.specs.Prelude.{◌≡◌};
 ghost use Rattle.line_parts.specs.Parts.{starts};

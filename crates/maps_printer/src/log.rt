@@ -34,7 +34,7 @@ pub fn write_log<K: Sink>(out: &mut K, entries: &[Entry]) -> Result<(), Failed>
     buffer.flush(out)
 }
 
-/// Adds the line of an entry: at most 295 bytes.
+/// Adds the line of an entry: at most `LINE` bytes.
 fn push_entry(buffer: &mut Buffer, entry: &Entry)
     requires { length buffer.old + LINE ≤ SIZE }
     ensures text { buffer.new ≡ buffer.old ++ entry_line entry.now }

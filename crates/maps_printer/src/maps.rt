@@ -57,7 +57,7 @@ pub fn write_summary<K: Sink>(
     buffer.flush(out)
 }
 
-/// Adds the line of an area: at most 62 bytes.
+/// Adds the line of an area: at most `LINE` bytes.
 fn push_area(buffer: &mut Buffer, area: &Area)
     requires { length buffer.old + LINE ≤ SIZE }
     ensures text { buffer.new ≡ buffer.old ++ area_line area.now }

@@ -6,7 +6,7 @@ use Rattle.space_model.specs.declared.areas.Area.{Area}
 use Rattle.space_model.specs.declared.entries.Entry.{Entry}
 use Rattle.space_model.specs.History.{IsLegalFrom, StateAfter}
 use Rattle.range_cli.specs.declared.trace.Line.{Line}
-use Rattle.range_cli.specs.Play.{IsStep, IsCollected, AllFit, IsPlayed}
+use Rattle.range_cli.specs.Play.{IsStep, IsCollected, AllHeld, IsPlayed}
 
 -- the lines were played one after another, numbered from a number on
 abbrev pub Plays : ℕ → List Area → List Line → List Entry → List Area → Type 0
@@ -57,11 +57,11 @@ legal n A [] (e ∷ es) B h = absurd h
 legal n A (l ∷ ls) [] B h = tt
 legal n A (l ∷ ls) (e ∷ es) B h = (h.1.numbered, (h.0, h.1.answers, legal (n + 1) h.0 ls es B h.2))
 
-fit : (n : ℕ) (A : List Area) (lines : List Line) (entries : List Entry) (B : List Area) → Plays n A lines entries B → AllFit A entries
-fit n A [] [] B h = tt
-fit n A [] (e ∷ es) B h = absurd h
-fit n A (l ∷ ls) [] B h = tt
-fit n A (l ∷ ls) (e ∷ es) B h = (h.1.fits, (h.0, h.1.answers, fit (n + 1) h.0 ls es B h.2))
+all_held : (n : ℕ) (A : List Area) (lines : List Line) (entries : List Entry) (B : List Area) → Plays n A lines entries B → AllHeld A entries
+all_held n A [] [] B h = tt
+all_held n A [] (e ∷ es) B h = absurd h
+all_held n A (l ∷ ls) [] B h = tt
+all_held n A (l ∷ ls) (e ∷ es) B h = (h.1.held, (h.0, h.1.answers, all_held (n + 1) h.0 ls es B h.2))
 
 leaves : (n : ℕ) (A : List Area) (lines : List Line) (entries : List Entry) (B : List Area) → Plays n A lines entries B → StateAfter A entries B
 leaves n A [] [] B h = h
@@ -73,7 +73,7 @@ played : (A : List Area) (lines : List Line) (entries : List Entry) (B : List Ar
 played A lines entries B h = record {
   collected = collected 0 A lines entries B h;
   legal = legal 0 A lines entries B h;
-  fits = fit 0 A lines entries B h;
+  held = all_held 0 A lines entries B h;
   leaves = leaves 0 A lines entries B h;
 }
 

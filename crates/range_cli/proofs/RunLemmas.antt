@@ -10,10 +10,10 @@ use Rattle.range_cli.specs.Play.{IsCollected}
 use Rattle.range_cli.specs.Trace.{Ends, EndsAt}
 use Rattle.range_cli.specs.Trace.EndsAt.{here, later}
 use Rattle.range_cli.specs.declared.words.Options.{Options}
-use Rattle.range_cli.specs.Input.{Drains}
-use Rattle.range_cli.specs.Opening.{EndsMap, EndsMaps}
+use Rattle.range_cli.specs.Input.{IsInput}
+use Rattle.range_cli.specs.Opening.{EndsMap, EndsMaps, EndsOpening}
 use Rattle.range_cli.specs.Opening.EndsMaps.{here as here_map, later as later_map}
-use Rattle.range_cli.specs.Script.{EndsOpening, EndsInput, EndsScript, PassesRows, StopsEarly}
+use Rattle.range_cli.specs.Script.{EndsInput, EndsScript, PassesRows, StopsEarly}
 use Rattle.range_cli.specs.Words.{Accepts}
 use Rattle.range_cli.specs.Run.{Heard, Wrote, HasCause, EndsByLine}
 
@@ -118,25 +118,30 @@ wrote_nothing words options a b out m n ReadFault h = keeps_same out
 wrote_nothing words options a b out m n Memory h = keeps_same out
 wrote_nothing words options a b out m n (Limit which value) h = keeps_same out
 
+-- words that are not accepted are told before anything is read
+pub never_usage : (options : Options) (a b : Option (List ℕ)) (m n : ℕ) (status : Status) → StopsEarly options a b m n status → status ≡ Usage → ⊥
+never_usage options a b m n status (inl h) is = rw is at h
+never_usage options a b m n status (inr h) is = of_script options h.0 Usage (rw is at h.2)
+
 -- a line ended the run
 by_line : (words : List (List ℕ)) (options : Options) (a b : Option (List ℕ)) (status : Status) → Accepts words options → status ≢ Memory
-    → ((rows : ℕ) → status ≢ Limit Rows rows) → ((bytes : List ℕ) × Drains a b bytes × EndsScript options bytes status) → EndsByLine words a b status
-by_line words options a b status accepted some some_line (bytes, drained, inl h) = absurd (some h)
-by_line words options a b status accepted some some_line (bytes, drained, inr (inl h)) = record { options = options; accepted = accepted; bytes = bytes; drained = drained; holds = h }
-by_line words options a b status accepted some some_line (bytes, drained, inr (inr h)) = absurd (some_line h.0 h.1)
+    → ((rows : ℕ) → status ≢ Limit Rows rows) → ((bytes : List ℕ) × IsInput a b bytes × EndsScript options bytes status) → EndsByLine words a b status
+by_line words options a b status accepted some some_line (bytes, input, inl h) = absurd (some h)
+by_line words options a b status accepted some some_line (bytes, input, inr (inl h)) = record { options = options; accepted = accepted; bytes = bytes; input = input; holds = h }
+by_line words options a b status accepted some some_line (bytes, input, inr (inr h)) = absurd (some_line h.0 h.1)
 
 -- the rows of the opening ended the run
 not_rows : (options : Options) (bytes : List ℕ) (value : ℕ) → EndsInput options bytes (Limit Rows value) → ⊥
 not_rows options bytes value h = of_input options bytes (Limit Rows value) h
 
 by_rows : (words : List (List ℕ)) (options : Options) (a b : Option (List ℕ)) (value : ℕ) → Accepts words options
-    → ((bytes : List ℕ) × Drains a b bytes × EndsScript options bytes (Limit Rows value))
+    → ((bytes : List ℕ) × IsInput a b bytes × EndsScript options bytes (Limit Rows value))
     → Heard words a b (λ options bytes. PassesRows options bytes value)
-by_rows words options a b value accepted (bytes, drained, inl h) = absurd (let e : Limit Rows value ≡ Memory = h in cc)
-by_rows words options a b value accepted (bytes, drained, inr (inl h)) = absurd (not_rows options bytes value h)
-by_rows words options a b value accepted (bytes, drained, inr (inr h)) =
+by_rows words options a b value accepted (bytes, input, inl h) = absurd (let e : Limit Rows value ≡ Memory = h in cc)
+by_rows words options a b value accepted (bytes, input, inr (inl h)) = absurd (not_rows options bytes value h)
+by_rows words options a b value accepted (bytes, input, inr (inr h)) =
     let same : h.0 ≡ value = (let e : Limit Rows value ≡ Limit Rows h.0 = h.1 in cc) in
-    record { options = options; accepted = accepted; bytes = bytes; drained = drained; holds = subst (λ rows. PassesRows options bytes rows) same h.2 }
+    record { options = options; accepted = accepted; bytes = bytes; input = input; holds = subst (λ rows. PassesRows options bytes rows) same h.2 }
 
 -- and it has its cause
 pub has_cause : (words : List (List ℕ)) (options : Options) (a b : Option (List ℕ)) (m n : ℕ) (faults : ℕ × ℕ) (status : Status) → Accepts words options

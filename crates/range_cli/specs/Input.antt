@@ -1,6 +1,6 @@
 -- What reading to the end of an input means, where the source tells its bytes, and why reading stops before the end.
 -- The words for one read are std's.
-use Rattle.std.specs.Prelude.{◌≡◌, ℕ, ◌+◌, ◌<◌, List, [], length, Option, None, Some, IfSome, ⊤}
+use Rattle.std.specs.Prelude.{◌≡◌, ℕ, ◌+◌, ◌<◌, ◌≤◌, List, [], length, Option, None, Some, IfSome, ⊤}
 use Rattle.byte_ports.specs.Counts.{Rose}
 use Rattle.range_cli.specs.declared.input.TheConstants.{INPUT_LIMIT}
 use Rattle.range_cli.specs.declared.status.Status.{Status}
@@ -11,6 +11,10 @@ use Rattle.range_cli.specs.declared.status.Which.TheVariants.{Input, Line, Lines
 abbrev pub Drains : Option (List ℕ) → Option (List ℕ) → List ℕ → Type 0
 Drains None new all = ⊤
 Drains (Some bytes) new all = (bytes ≡ all) × (new ≡ Some [])
+
+-- these are the bytes of the input: it was read to its end, and they are no more than it may have
+abbrev pub IsInput : Option (List ℕ) → Option (List ℕ) → List ℕ → Type 0
+IsInput old new bytes = Drains old new bytes × (length bytes ≤ INPUT_LIMIT)
 
 -- the input has more bytes than it may have
 abbrev pub IsTooLong : Option (List ℕ) → Type 0

@@ -1,6 +1,6 @@
 -- The lines of an input. They end at newlines, as the lines of a file do, and a last line that lacks its newline
--- counts where it isn't empty. This is how wc(1) and strace(1)'s readers see a text; it is the first thing that
--- every statement on the program's input rests on.
+-- counts where it isn't empty. This is how grep(1) sees a text, while wc(1) counts newlines alone; it is the first
+-- thing that every statement on the program's input rests on.
 use Rattle.std.specs.Prelude.{ℕ, ◌==◌, List, [], ◌∷◌, if◌then◌else◌}
 
 -- the lines with one more byte at the front of the first

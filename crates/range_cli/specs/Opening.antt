@@ -82,7 +82,11 @@ abbrev pub Opens : Bool → List (List ℕ) → List Area → ℕ → ℕ → Li
 Opens true texts areas past next left = ReadsMaps 1 0 texts areas past next left
 Opens false texts areas past next left = (areas ≡ []) × (past ≡ 0) × (next ≡ 1) × (left ≡ texts)
 
--- the maps lines end the run so, where there are any, unless there was no memory
+-- a maps line ends the run so, where the input has any
+abbrev pub EndsOpening : Bool → List (List ℕ) → Status → Type 0
+EndsOpening true texts status = EndsMaps 1 0 texts status
+EndsOpening false texts status = ⊥
+
+-- the maps lines end the run so, unless there was no memory
 abbrev pub StopsOpening : Bool → List (List ℕ) → Status → Type 0
-StopsOpening true texts status = (status ≡ Memory) ⊎ EndsMaps 1 0 texts status
-StopsOpening false texts status = ⊥
+StopsOpening has_maps texts status = (status ≡ Memory) ⊎ EndsOpening has_maps texts status

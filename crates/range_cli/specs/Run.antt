@@ -14,7 +14,7 @@ use Rattle.range_cli.specs.declared.status.Which.TheVariants.{Input, Line as OfL
 use Rattle.range_cli.specs.declared.trace.Line.{Line}
 use Rattle.range_cli.specs.declared.words.Options.{Options}
 use Rattle.range_cli.specs.ErrorLine.{error_line}
-use Rattle.range_cli.specs.Input.{Drains, IsTooLong}
+use Rattle.range_cli.specs.Input.{IsInput, IsTooLong}
 use Rattle.range_cli.specs.Play.{IsPlayed}
 use Rattle.range_cli.specs.Report.{report_text, refused_count, Differing}
 use Rattle.range_cli.specs.Script.{IsScript, EndsInput, PassesRows}
@@ -34,12 +34,12 @@ pub record IsReport (options : Options) (bytes report : List ℕ) : Type 0 where
   pub differs : Differing lines entries differ
   pub text : report ≡ report_text options last entries (record { skipped = skipped; refused = refused_count entries; differ = differ })
 
--- with accepted words the input was read to its end, and this holds of its bytes
+-- with accepted words the whole input was read, within its limit, and this holds of its bytes
 pub record Heard (words : List (List ℕ)) (input_old input_new : Option (List ℕ)) (P : Options → List ℕ → Type 0) : Type 0 where
   pub options : Options
   pub accepted : Accepts words options
   pub bytes : List ℕ
-  pub drained : Drains input_old input_new bytes
+  pub input : IsInput input_old input_new bytes
   pub holds : P options bytes
 
 -- this is the report of the input
@@ -55,6 +55,16 @@ Wrote words input_old input_new out_old out_new (BadLine line column what) = Kee
 Wrote words input_old input_new out_old out_new ReadFault = Keeps out_old out_new
 Wrote words input_old input_new out_old out_new Memory = Keeps out_old out_new
 Wrote words input_old input_new out_old out_new (Limit which value) = Keeps out_old out_new
+
+-- a run that ends so leaves its output alone
+abbrev pub IsUnwritten : Status → Type 0
+IsUnwritten Done = ⊥
+IsUnwritten WriteFault = ⊥
+IsUnwritten Usage = ⊤
+IsUnwritten (BadLine line column what) = ⊤
+IsUnwritten ReadFault = ⊤
+IsUnwritten Memory = ⊤
+IsUnwritten (Limit which value) = ⊤
 
 -- the first of the input's lines that ends the run ends it so
 abbrev pub EndsByLine : List (List ℕ) → Option (List ℕ) → Option (List ℕ) → Status → Type 0

@@ -1,6 +1,6 @@
 -- What an input asks to play, and how an input ends a run before anything is played. The order of refusals is this
 -- project's own: the lines one after another, and last the rows of the opening areas.
-use Rattle.std.specs.Prelude.{◌≡◌, ◌⊎◌, ℕ, ◌+◌, ◌<◌, ◌≤◌, Bool, true, false, List, Option}
+use Rattle.std.specs.Prelude.{◌≡◌, ◌⊎◌, ℕ, ◌+◌, ◌<◌, ◌≤◌, List, Option}
 use Rattle.page_types.specs.declared.TheConstants.{ROWS}
 use Rattle.space_model.specs.declared.areas.Area.{Area}
 use Rattle.space_model.specs.Areas.{kind_at, row_count, HasKinds}
@@ -10,9 +10,9 @@ use Rattle.range_cli.specs.declared.status.Status.TheVariants.{Memory, Limit}
 use Rattle.range_cli.specs.declared.status.Which.TheVariants.{Rows}
 use Rattle.range_cli.specs.declared.trace.Line.{Line}
 use Rattle.range_cli.specs.declared.words.Options.{Options}
-use Rattle.range_cli.specs.Input.{Drains, StopsInput}
+use Rattle.range_cli.specs.Input.{IsInput, StopsInput}
 use Rattle.range_cli.specs.Lines.{lines_of}
-use Rattle.range_cli.specs.Opening.{Opens, EndsMaps}
+use Rattle.range_cli.specs.Opening.{Opens, EndsOpening}
 use Rattle.range_cli.specs.Trace.{Reads, EndsAt}
 
 -- the input begins with these areas, of which so many more lie past the user addresses, and its trace begins at line
@@ -36,11 +36,6 @@ pub record IsScript (options : Options) (bytes : List ℕ) (opening : List Area)
 
 abbrev pub IsScriptOf : Options → List ℕ → Script → Type 0
 IsScriptOf options bytes script = IsScript options bytes script.opening script.lines.items script.skipped
-
--- a maps line ends the run so, where the input has any
-abbrev pub EndsOpening : Bool → List (List ℕ) → Status → Type 0
-EndsOpening true texts status = EndsMaps 1 0 texts status
-EndsOpening false texts status = ⊥
 
 -- a line of the trace ends the run so
 pub record EndsTrace (options : Options) (bytes : List ℕ) (status : Status) : Type 0 where
@@ -69,9 +64,9 @@ EndsScript options bytes status =
 
 -- the input was read to its end, and asks for this
 abbrev pub IsReadScript : Options → Option (List ℕ) → Option (List ℕ) → Script → Type 0
-IsReadScript options input_old input_new script = (bytes : List ℕ) × Drains input_old input_new bytes × IsScriptOf options bytes script
+IsReadScript options input_old input_new script = (bytes : List ℕ) × IsInput input_old input_new bytes × IsScriptOf options bytes script
 
 -- the input ends the run before anything is played
 abbrev pub StopsEarly : Options → Option (List ℕ) → Option (List ℕ) → ℕ → ℕ → Status → Type 0
 StopsEarly options input_old input_new before after status =
-    StopsInput input_old before after status ⊎ ((bytes : List ℕ) × Drains input_old input_new bytes × EndsScript options bytes status)
+    StopsInput input_old before after status ⊎ ((bytes : List ℕ) × IsInput input_old input_new bytes × EndsScript options bytes status)

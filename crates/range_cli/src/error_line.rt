@@ -14,7 +14,7 @@ use strace_reader::What;
 const USAGE: &[u8] =
     b"usage: play [--threads N] [--opening] [--log] or load --seed N --threads N --calls N\n";
 
-/// Writes the line for a status; nothing for `Done`.
+/// Writes the line for a status. For `Done` it makes no call of the sink.
 ///
 /// `Failed`: the sink failed in this call; some first part of the line was appended.
 #[tactic(auto, unfolding(crate::specs::ErrorLine::error_line))]
@@ -24,9 +24,10 @@ pub fn write_error<K: Sink>(err: &mut K, status: &Status) -> Result<(), Failed>
     ensures failed_prefix { OnErr result
         (AppendsPrefix (K.contents err.old) (K.contents err.new) (error_line status.now)) }
     ensures failed_rose { OnErr result (Rose (K.fault_count err.old) (K.fault_count err.new)) }
+    ensures silent { status.now ≡ Status.Done → err.new ≡ err.old }
 {
     match *status {
-        Status::Done => write_all(err, b""),
+        Status::Done => Ok(()),
         Status::Usage => write_all(err, USAGE),
         Status::BadLine { line, column, what } => write_bad_line(err, line, column, what),
         Status::ReadFault => write_all(err, b"read fault\n"),

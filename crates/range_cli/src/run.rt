@@ -3,7 +3,7 @@
 ghost use Rattle.std.specs.Prelude.{◌≡◌, map};
 ghost use Rattle.std.specs.String.{string_bytes};
 ghost use Rattle.range_cli.specs.Words.{Refuses};
-ghost use Rattle.range_cli.specs.Run.{Wrote, HasCause, Complains};
+ghost use Rattle.range_cli.specs.Run.{Wrote, IsUnwritten, HasCause, Complains};
 
 use crate::error_line::write_error;
 use crate::play::play;
@@ -29,8 +29,11 @@ pub fn run<S: Source, K: Sink>(
         (S.remaining input.new) (S.fault_count input.old, S.fault_count input.new)
         (K.fault_count out.old, K.fault_count out.new) result }
     ensures usage { Refuses (map string_bytes words.now) → result ≡ Status.Usage }
+    ensures nothing_read { result ≡ Status.Usage → input.new ≡ input.old }
+    ensures nothing_written { IsUnwritten result → out.new ≡ out.old }
     ensures err { Complains (K.contents err.old) (K.contents err.new)
         (K.fault_count err.old) (K.fault_count err.new) result }
+    ensures silent { result ≡ Status.Done → err.new ≡ err.old }
 {
     let status = report(alloc, words, input, out);
     let _ = write_error(err, &status);
@@ -45,6 +48,8 @@ fn report<S: Source, K: Sink>(alloc: Global, words: &[String], input: &mut S, ou
         (S.remaining input.new) (S.fault_count input.old, S.fault_count input.new)
         (K.fault_count out.old, K.fault_count out.new) result }
     ensures usage { Refuses (map string_bytes words.now) → result ≡ Status.Usage }
+    ensures nothing_read { result ≡ Status.Usage → input.new ≡ input.old }
+    ensures nothing_written { IsUnwritten result → out.new ≡ out.old }
 {
     let Some(options) = options_of(words) else {
         return Status::Usage;

@@ -417,14 +417,19 @@ fn a_line_with_a_process_number_is_not_read_yet(rt: HostRuntime) -> Result<(), F
 fn other_words_get_the_usage_line(rt: HostRuntime) -> Result<(), Fail> {
     let usage =
         "usage: play [--threads N] [--opening] [--log] or load --seed N --threads N --calls N\n";
-    for words in [["play", "x"], ["play", "--"], ["x", "play"]] {
-        let left = run_with(rt.alloc(), &words, FIRST, &[], &[])?;
+    let lists: [&[&str]; 7] = [
+        &["play", "x"],
+        &["play", "--"],
+        &["x", "play"],
+        &["play", "--log", "--log"],
+        &["play", "--threads", "17"],
+        &["load", "--seed", "1"],
+        &[],
+    ];
+    for words in lists {
+        let left = run_with(rt.alloc(), words, FIRST, &[], &[])?;
         expect(&rt, &left, Status::Usage, "", usage);
     }
-    let left = run_with(rt.alloc(), &["play", "--log", "--log"], FIRST, &[], &[])?;
-    expect(&rt, &left, Status::Usage, "", usage);
-    let left = run_with(rt.alloc(), &[], FIRST, &[], &[])?;
-    expect(&rt, &left, Status::Usage, "", usage);
     Ok(())
 }
 

@@ -158,39 +158,107 @@ pub record KindFound (text : List ℕ) (kind : Kind) : Type 0 where
   pub is_kind : IsKind chars kind
   pub behind : (tail ≡ []) ⊎ (starts (is 32) tail ≡ true)
 
+-- what is read behind the first character, the second and the third
+abbrev behind_third : ℕ → ℕ → ℕ → List ℕ → Option Kind
+behind_third read write exec text = then_some (sharing_at text) (λ s. ended_at (record { prot = record { 0 = bit_or (bit_or read write) exec }; shared = s.0 }) s.1)
+
+abbrev behind_second : ℕ → ℕ → List ℕ → Option Kind
+behind_second read write text = then_some (mark_at 120 4 text) (λ x. behind_third read write x.0 x.1)
+
+abbrev behind_first : ℕ → List ℕ → Option Kind
+behind_first read text = then_some (mark_at 119 2 text) (λ w. behind_second read w.0 w.1)
+
+-- the fourth character, behind three that have these bits
+pub record Fourth (read write exec : ℕ) (text : List ℕ) (kind : Kind) : Type 0 where
+  pub s : ℕ
+  pub tail : List ℕ
+  pub parts : text ≡ s ∷ tail
+  pub rights : kind.prot ≡ record { 0 = bit_or (bit_or read write) exec }
+  pub sharing : ((s ≡ 115) × (kind.shared ≡ true)) ⊎ ((s ≡ 112) × (kind.shared ≡ false))
+  pub behind : (tail ≡ []) ⊎ (starts (is 32) tail ≡ true)
+
+fourth_is : (read write exec s : ℕ) (shared : Bool) (text tail : List ℕ) (kind : Kind) → text ≡ s ∷ tail → ((s ≡ 115) × (shared ≡ true)) ⊎ ((s ≡ 112) × (shared ≡ false))
+    → record { prot = record { 0 = bit_or (bit_or read write) exec }; shared = shared } ≡ kind → (tail ≡ []) ⊎ (starts (is 32) tail ≡ true) → Fourth read write exec text kind
+fourth_is read write exec s shared text tail kind parts sharing same behind = record {
+  s = s;
+  tail = tail;
+  parts = parts;
+  rights = ap (λ (x : Kind). x.prot) (sym same);
+  sharing = subst (λ (x : Kind). ((s ≡ 115) × (x.shared ≡ true)) ⊎ ((s ≡ 112) × (x.shared ≡ false))) same sharing;
+  behind = behind;
+}
+
+fourth_yes : (read write exec : ℕ) (text : List ℕ) (kind : Kind) → behind_third read write exec text ≡ Some kind → Fourth read write exec text kind
+fourth_yes read write exec text kind h =
+    let a = then_yes (sharing_at text) (λ s. ended_at (record { prot = record { 0 = bit_or (bit_or read write) exec }; shared = s.0 }) s.1) kind h in
+    let b = sharing_yes text a.0.1 a.0.0 a.1 in
+    let c = ended_yes (record { prot = record { 0 = bit_or (bit_or read write) exec }; shared = a.0.0 }) kind a.0.1 a.2 in
+    fourth_is read write exec b.0 a.0.0 text a.0.1 kind b.1 b.2 c.0 c.1
+
+-- the third character and the fourth, and the second and those
+pub record Third (read write : ℕ) (text : List ℕ) (kind : Kind) : Type 0 where
+  pub x : ℕ
+  pub exec : ℕ
+  pub rest : List ℕ
+  pub parts : text ≡ x ∷ rest
+  pub runs : IsMark 120 4 x exec
+  pub fourth : Fourth read write exec rest kind
+
+third_yes : (read write : ℕ) (text : List ℕ) (kind : Kind) → behind_second read write text ≡ Some kind → Third read write text kind
+third_yes read write text kind h =
+    let a = then_yes (mark_at 120 4 text) (λ x. behind_third read write x.0 x.1) kind h in
+    let b = mark_yes 120 4 text a.0.1 a.0.0 a.1 in
+    record { x = b.0; exec = a.0.0; rest = a.0.1; parts = b.1; runs = b.2; fourth = fourth_yes read write a.0.0 a.0.1 kind a.2 }
+
+pub record Second (read : ℕ) (text : List ℕ) (kind : Kind) : Type 0 where
+  pub w : ℕ
+  pub write : ℕ
+  pub rest : List ℕ
+  pub parts : text ≡ w ∷ rest
+  pub writes : IsMark 119 2 w write
+  pub third : Third read write rest kind
+
+second_yes : (read : ℕ) (text : List ℕ) (kind : Kind) → behind_first read text ≡ Some kind → Second read text kind
+second_yes read text kind h =
+    let a = then_yes (mark_at 119 2 text) (λ w. behind_second read w.0 w.1) kind h in
+    let b = mark_yes 119 2 text a.0.1 a.0.0 a.1 in
+    record { w = b.0; write = a.0.0; rest = a.0.1; parts = b.1; writes = b.2; third = third_yes read a.0.0 a.0.1 kind a.2 }
+
+four_parts : (text one two three tail : List ℕ) (r w x s : ℕ) → text ≡ r ∷ one → one ≡ w ∷ two → two ≡ x ∷ three → three ≡ s ∷ tail → text ≡ (r ∷ w ∷ x ∷ s ∷ []) ++ tail
+four_parts text one two three tail r w x s a b c d = rw (a, b, c, d) refl
+
+kind_is : (text rest : List ℕ) (r read : ℕ) (kind : Kind) → text ≡ r ∷ rest → IsMark 114 1 r read → Second read rest kind → KindFound text kind
+kind_is text rest r read kind parts reads second =
+    let third = second.third in
+    let fourth = third.fourth in
+    record {
+      chars = r ∷ second.w ∷ third.x ∷ fourth.s ∷ [];
+      tail = fourth.tail;
+      parts = four_parts text rest second.rest third.rest fourth.tail r second.w third.x fourth.s parts second.parts third.parts fourth.parts;
+      is_kind = record {
+        r = r;
+        w = second.w;
+        x = third.x;
+        s = fourth.s;
+        read = read;
+        write = second.write;
+        exec = third.exec;
+        four = refl;
+        reads = reads;
+        writes = second.writes;
+        runs = third.runs;
+        rights = fourth.rights;
+        sharing = fourth.sharing;
+      };
+      behind = fourth.behind;
+    }
+
 kind_yes : (text : List ℕ) (kind : Kind) → kind_at text ≡ Some kind → KindFound text kind
 unfolding kind_at
 kind_yes text kind h =
-    let a = then_yes (mark_at 114 1 text) (λ r. then_some (mark_at 119 2 r.1) (λ w. then_some (mark_at 120 4 w.1) (λ x. then_some (sharing_at x.1) (λ s. ended_at (record { prot = record { 0 = bit_or (bit_or r.0 w.0) x.0 }; shared = s.0 }) s.1)))) kind h in
-    let b = then_yes (mark_at 119 2 a.0.1) (λ w. then_some (mark_at 120 4 w.1) (λ x. then_some (sharing_at x.1) (λ s. ended_at (record { prot = record { 0 = bit_or (bit_or a.0.0 w.0) x.0 }; shared = s.0 }) s.1))) kind a.2 in
-    let c = then_yes (mark_at 120 4 b.0.1) (λ x. then_some (sharing_at x.1) (λ s. ended_at (record { prot = record { 0 = bit_or (bit_or a.0.0 b.0.0) x.0 }; shared = s.0 }) s.1)) kind b.2 in
-    let d = then_yes (sharing_at c.0.1) (λ s. ended_at (record { prot = record { 0 = bit_or (bit_or a.0.0 b.0.0) c.0.0 }; shared = s.0 }) s.1) kind c.2 in
-    let e = ended_yes (record { prot = record { 0 = bit_or (bit_or a.0.0 b.0.0) c.0.0 }; shared = d.0.0 }) kind d.0.1 d.2 in
-    let p = mark_yes 114 1 text a.0.1 a.0.0 a.1 in
-    let q = mark_yes 119 2 a.0.1 b.0.1 b.0.0 b.1 in
-    let r = mark_yes 120 4 b.0.1 c.0.1 c.0.0 c.1 in
-    let s = sharing_yes c.0.1 d.0.1 d.0.0 d.1 in
-    record {
-      chars = p.0 ∷ q.0 ∷ r.0 ∷ s.0 ∷ [];
-      tail = d.0.1;
-      parts = p.1 ∙ ap (λ (x : List ℕ). p.0 ∷ x) (q.1 ∙ ap (λ (x : List ℕ). q.0 ∷ x) (r.1 ∙ ap (λ (x : List ℕ). r.0 ∷ x) s.1));
-      is_kind = record {
-        r = p.0;
-        w = q.0;
-        x = r.0;
-        s = s.0;
-        read = a.0.0;
-        write = b.0.0;
-        exec = c.0.0;
-        four = refl;
-        reads = p.2;
-        writes = q.2;
-        runs = r.2;
-        rights = ap (λ (x : Kind). x.prot) (sym e.0);
-        sharing = subst (λ (x : Kind). ((s.0 ≡ 115) × (x.shared ≡ true)) ⊎ ((s.0 ≡ 112) × (x.shared ≡ false))) e.0 s.2;
-      };
-      behind = e.1;
-    }
+    let a = then_yes (mark_at 114 1 text) (λ r. behind_first r.0 r.1) kind h in
+    let b = mark_yes 114 1 text a.0.1 a.0.0 a.1 in
+    kind_is text a.0.1 b.0 a.0.0 kind b.1 b.2 (second_yes a.0.0 a.0.1 kind a.2)
 
 kind_no : (chars tail : List ℕ) (kind : Kind) → IsKind chars kind → (tail ≡ []) ⊎ (starts (is 32) tail ≡ true) → kind_at (chars ++ tail) ≡ Some kind
 unfolding kind_at
@@ -208,33 +276,86 @@ kind_no chars tail kind k behind =
 some_triple : (p q : ℕ × ℕ × Kind) → Some p ≡ Some q → p ≡ q
 some_triple p q h = cc
 
+-- what is read behind the two addresses, behind the first with its dash, and behind the first
+abbrev behind_stop : ℕ → ℕ → List ℕ → Option (ℕ × ℕ × Kind)
+behind_stop start stop text = then_some (behind_byte 32 text) (λ v. then_some (kind_at v) (λ k. Some (start, stop, k)))
+
+abbrev behind_dash : ℕ → List ℕ → Option (ℕ × ℕ × Kind)
+behind_dash start text = then_some (address_at text) (λ b. behind_stop start b.0 b.1)
+
+abbrev behind_start : ℕ → List ℕ → Option (ℕ × ℕ × Kind)
+behind_start start text = then_some (behind_byte 45 text) (λ u. behind_dash start u)
+
+-- the kind behind the two addresses, which are these
+pub record Behind (start stop : ℕ) (text : List ℕ) (line : ℕ × ℕ × Kind) : Type 0 where
+  pub chars : List ℕ
+  pub tail : List ℕ
+  pub parts : text ≡ 32 ∷ (chars ++ tail)
+  pub is_kind : IsKind chars line.2
+  pub behind : (tail ≡ []) ⊎ (starts (is 32) tail ≡ true)
+  pub starts_at : start ≡ line.0
+  pub stops_at : stop ≡ line.1
+
+behind_is : (start stop : ℕ) (text rest : List ℕ) (kind : Kind) (line : ℕ × ℕ × Kind) → text ≡ 32 ∷ rest → KindFound rest kind → (start, stop, kind) ≡ line
+    → Behind start stop text line
+behind_is start stop text rest kind line parts found same = record {
+  chars = found.chars;
+  tail = found.tail;
+  parts = parts ∙ ap (λ (x : List ℕ). 32 ∷ x) found.parts;
+  is_kind = subst (IsKind found.chars) (ap (λ (x : ℕ × ℕ × Kind). x.2) same) found.is_kind;
+  behind = found.behind;
+  starts_at = ap (λ (x : ℕ × ℕ × Kind). x.0) same;
+  stops_at = ap (λ (x : ℕ × ℕ × Kind). x.1) same;
+}
+
+behind_stop_yes : (start stop : ℕ) (text : List ℕ) (line : ℕ × ℕ × Kind) → behind_stop start stop text ≡ Some line → Behind start stop text line
+behind_stop_yes start stop text line h =
+    let a = then_yes (behind_byte 32 text) (λ v. then_some (kind_at v) (λ k. Some (start, stop, k))) line h in
+    let b = then_yes (kind_at a.0) (λ k. Some (start, stop, k)) line a.2 in
+    behind_is start stop text a.0 b.0 line (behind_yes 32 text a.0 a.1) (kind_yes a.0 b.0 b.1) (some_triple (start, stop, b.0) line b.2)
+
+-- the second address and what is behind it
+pub record Stop (start : ℕ) (text : List ℕ) (line : ℕ × ℕ × Kind) : Type 0 where
+  pub second : List ℕ
+  pub rest : List ℕ
+  pub stop : ℕ
+  pub parts : text ≡ second ++ rest
+  pub is_address : IsAddress second stop
+  pub found : Behind start stop rest line
+
+behind_dash_yes : (start : ℕ) (text : List ℕ) (line : ℕ × ℕ × Kind) → behind_dash start text ≡ Some line → Stop start text line
+behind_dash_yes start text line h =
+    let a = then_yes (address_at text) (λ b. behind_stop start b.0 b.1) line h in
+    let b = address_yes text a.0.1 a.0.0 a.1 in
+    record { second = b.0; rest = a.0.1; stop = a.0.0; parts = b.2; is_address = b.1; found = behind_stop_yes start a.0.0 a.0.1 line a.2 }
+
+line_parts_are : (text first one two second three chars tail : List ℕ) → text ≡ first ++ one → one ≡ 45 ∷ two → two ≡ second ++ three → three ≡ 32 ∷ (chars ++ tail)
+    → text ≡ first ++ (45 ∷ (second ++ (32 ∷ (chars ++ tail))))
+line_parts_are text first one two second three chars tail a b c d = rw (a, b, c, d) refl
+
+line_is : (text first one two : List ℕ) (start : ℕ) (line : ℕ × ℕ × Kind) → text ≡ first ++ one → IsAddress first start → one ≡ 45 ∷ two → Stop start two line
+    → IsMapsLine text line.0 line.1 line.2
+line_is text first one two start line parts is_first dash second =
+    let found = second.found in
+    record {
+      first = first;
+      second = second.second;
+      chars = found.chars;
+      tail = found.tail;
+      parts = line_parts_are text first one two second.second second.rest found.chars found.tail parts dash second.parts found.parts;
+      starts_at = subst (IsAddress first) found.starts_at is_first;
+      stops_at = subst (IsAddress second.second) found.stops_at second.is_address;
+      is_kind = found.is_kind;
+      behind = found.behind;
+    }
+
 pub maps_yes : (text : List ℕ) (start stop : ℕ) (kind : Kind) → maps_at text ≡ Some (start, stop, kind) → IsMapsLine text start stop kind
 unfolding maps_at
 maps_yes text start stop kind h =
-    let a = then_yes (address_at text) (λ a. then_some (behind_byte 45 a.1) (λ u. then_some (address_at u) (λ b. then_some (behind_byte 32 b.1) (λ v. then_some (kind_at v) (λ k. Some (a.0, b.0, k)))))) (start, stop, kind) h in
-    let b = then_yes (behind_byte 45 a.0.1) (λ u. then_some (address_at u) (λ b. then_some (behind_byte 32 b.1) (λ v. then_some (kind_at v) (λ k. Some (a.0.0, b.0, k))))) (start, stop, kind) a.2 in
-    let c = then_yes (address_at b.0) (λ b. then_some (behind_byte 32 b.1) (λ v. then_some (kind_at v) (λ k. Some (a.0.0, b.0, k)))) (start, stop, kind) b.2 in
-    let d = then_yes (behind_byte 32 c.0.1) (λ v. then_some (kind_at v) (λ k. Some (a.0.0, c.0.0, k))) (start, stop, kind) c.2 in
-    let e = then_yes (kind_at d.0) (λ k. Some (a.0.0, c.0.0, k)) (start, stop, kind) d.2 in
-    let z : (a.0.0, c.0.0, e.0) ≡ (start, stop, kind) = some_triple (a.0.0, c.0.0, e.0) (start, stop, kind) e.2 in
-    let p = address_yes text a.0.1 a.0.0 a.1 in
-    let q = address_yes b.0 c.0.1 c.0.0 c.1 in
-    let k = kind_yes d.0 e.0 e.1 in
-    let five : d.0 ≡ k.chars ++ k.tail = k.parts in
-    let four : c.0.1 ≡ 32 ∷ (k.chars ++ k.tail) = behind_yes 32 c.0.1 d.0 d.1 ∙ ap (λ (x : List ℕ). 32 ∷ x) five in
-    let three : b.0 ≡ q.0 ++ (32 ∷ (k.chars ++ k.tail)) = q.2 ∙ ap (λ (x : List ℕ). q.0 ++ x) four in
-    let two : a.0.1 ≡ 45 ∷ (q.0 ++ (32 ∷ (k.chars ++ k.tail))) = behind_yes 45 a.0.1 b.0 b.1 ∙ ap (λ (x : List ℕ). 45 ∷ x) three in
-    record {
-      first = p.0;
-      second = q.0;
-      chars = k.chars;
-      tail = k.tail;
-      parts = p.2 ∙ ap (λ (x : List ℕ). p.0 ++ x) two;
-      starts_at = subst (IsAddress p.0) (ap (λ (x : ℕ × ℕ × Kind). x.0) z) p.1;
-      stops_at = subst (IsAddress q.0) (ap (λ (x : ℕ × ℕ × Kind). x.1) z) q.1;
-      is_kind = subst (IsKind k.chars) (ap (λ (x : ℕ × ℕ × Kind). x.2) z) k.is_kind;
-      behind = k.behind;
-    }
+    let a = then_yes (address_at text) (λ b. behind_start b.0 b.1) (start, stop, kind) h in
+    let b = then_yes (behind_byte 45 a.0.1) (λ u. behind_dash a.0.0 u) (start, stop, kind) a.2 in
+    let c = address_yes text a.0.1 a.0.0 a.1 in
+    line_is text c.0 a.0.1 b.0 a.0.0 (start, stop, kind) c.2 c.1 (behind_yes 45 a.0.1 b.0 b.1) (behind_dash_yes a.0.0 b.0 (start, stop, kind) b.2)
 
 dash_stop : (rest : List ℕ) → NoDigit 16 (45 ∷ rest)
 unfolding worth

@@ -1,5 +1,5 @@
 -- Reading a line from left to right, with the first fault that is met: what the functions of src/
--- compute, as functions on lists. The definition of what is right is not here but in Calls and Lines.
+-- compute, as functions on lists. The definition of what is right is not here but in Calls and Maps.
 use Rattle.std.specs.Prelude.{ℕ, suc, ◌^◌, ◌%◌, ◌==◌, nat_lt, List, [], ◌∷◌, length, codes, Bool, true, false, Option, Some, None, Result, Ok, Err, if◌then◌else◌}
 use Rattle.line_parts.specs.declared.fault.Fault.{Fault}
 use Rattle.line_parts.specs.declared.fault.What.TheVariants.{Number, Word, Comma, Close, Result as AtResult}

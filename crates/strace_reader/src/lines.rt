@@ -18,7 +18,7 @@ use line_parts::What;
 /// column 1), or names one of the four calls and is no spelling of it. Its column is then the first byte
 /// at which the bytes up to it begin no spelling of that call, behind the last byte where the line ends
 /// too early; for a number of more than 64 bits and for an access that is another word it is the first
-/// byte of that number or word. Nothing is allocated, and each byte is looked at a fixed number of times.
+/// byte of that number or word. Nothing is allocated.
 pub fn read_line(text: &[u8]) -> Result<Item, BadCall>
     requires { length text.now ≤ 131072 }
     // What is read is spelled so.

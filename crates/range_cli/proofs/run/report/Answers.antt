@@ -1,5 +1,5 @@
 use Rattle.std.proofs.Common.{refl, ap, arith, length}
-use Rattle.range_cli.proofs.RunLemmas.{wrote_nothing, has_cause, as_many}
+use Rattle.range_cli.proofs.RunLemmas.{wrote_nothing, has_cause, never_usage, as_many}
 use Rattle.range_cli.proofs.run.report.Goals as goal
 
 pub returns-in_default-clause-cause : goal.returns-in_default-clause-cause
@@ -10,6 +10,9 @@ returns-in-Err-clause-out g c = wrote_nothing _ _ _ _ _ _ _ _ c.in-Err.ensures.s
 
 pub returns-in-Err-clause-cause : goal.returns-in-Err-clause-cause
 returns-in-Err-clause-cause g c = has_cause _ _ _ _ _ _ _ _ c.in-Some.ensures.accepted c.in-Err.ensures.stopped
+
+pub returns-in-Err-clause-nothing_read : goal.returns-in-Err-clause-nothing_read
+returns-in-Err-clause-nothing_read g c = λ is. absurd (never_usage _ _ _ _ _ _ c.in-Err.ensures.stopped is)
 
 pub refused_count-requires : goal.refused_count-requires
 refused_count-requires g c =
