@@ -9,6 +9,7 @@ pub mod Frames
 pub mod Holding
 pub mod Judging
 pub mod Leaving
+pub mod Listing
 pub mod Opening
 pub mod PathLaws
 pub mod Paths

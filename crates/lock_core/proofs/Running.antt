@@ -3,9 +3,10 @@ use Rattle.std.proofs.Common.{◌≡◌, ℕ, List, [], ◌∷◌, refl}
 use Rattle.std.specs.Prelude.{Option, Some, None, unwrap_or}
 use Rattle.lock_core.specs.declared.steps.Step.{Step}
 use Rattle.lock_core.specs.declared.steps.Step.TheVariants.{Enter, Leave, ReadEpoch, ReadHome, GiveHome, FillLo, FillHi, Aim, ClearHome, Walk, ReadLo, ReadHi, Link, Unlink, Mark, QuickLink, QuickUnlink, Settle}
-use Rattle.lock_core.specs.Machine.{Machine, after, after_or_same, run, start}
-use Rattle.lock_core.specs.Laws.{IsLock, Keeps, RunsAreExclusive, RunsHaveNoReuse}
+use Rattle.lock_core.specs.Machine.{Machine, after, after_or_same, run, start, held_by_seat}
+use Rattle.lock_core.specs.Laws.{IsLock, Keeps, RunsAreExclusive, RunsGrantApart, RunsHaveNoReuse}
 use Rattle.lock_core.proofs.Exclusion.{exclusive}
+use Rattle.lock_core.proofs.Listing.{listed_apart}
 use Rattle.lock_core.proofs.PathLaws.{link_law, unlink_law, mark_law, quick_link_law, quick_unlink_law}
 use Rattle.lock_core.proofs.Starting.{start_lock}
 use Rattle.lock_core.proofs.WordLaws.{enter_law, leave_law, read_epoch_law, read_home_law, give_home_law, fill_lo_law, fill_hi_law, aim_law, clear_home_law, walk_law, read_lo_law, read_hi_law, settle_law}
@@ -43,6 +44,9 @@ run_lock (t ∷ ts) m l = run_lock ts (after_or_same m t.0 t.1) (step_or_same m 
 
 pub runs_are_exclusive_law : RunsAreExclusive
 runs_are_exclusive_law seats steps some few = exclusive (run (start seats) steps) (run_lock steps (start seats) (start_lock seats some few))
+
+pub runs_grant_apart_law : RunsGrantApart
+runs_grant_apart_law seats steps some few = listed_apart (held_by_seat (run (start seats) steps)) (runs_are_exclusive_law seats steps some few)
 
 pub runs_have_no_reuse_law : RunsHaveNoReuse
 runs_have_no_reuse_law seats steps some few = (run_lock steps (start seats) (start_lock seats some few)).invariant.no_reuse

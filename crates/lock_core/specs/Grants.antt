@@ -32,6 +32,6 @@ IsExclusive grants = (a b : ℕ) (g h : Held) → a ≢ b → Holds grants a g �
 abbrev pub IsFree : Grants → ℕ → Held → Type 0
 IsFree grants seat h = (other : ℕ) (g : Held) → other ≢ seat → Holds grants other g → ¬ (Conflicts g h)
 
--- the same of a list of grants with their seats: no two conflict, and no seat has two
+-- a list of grants with their seats excludes: no two conflict, and no seat has two
 abbrev pub AreExclusive : List Grant → Type 0
 AreExclusive grants = (i j : ℕ) (a b : Grant) → i ≢ j → get_elem? grants i ≡ some a → get_elem? grants j ≡ some b → (a.seat ≢ b.seat) × ¬ (Conflicts (held_of a) (held_of b))

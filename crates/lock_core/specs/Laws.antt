@@ -3,7 +3,7 @@
 -- Kogan, Dice and Issa 2020 argue for their list in prose; the barrier before reuse is this project's own profile.
 use Rattle.std.specs.Prelude.{◌≡◌, ℕ, suc, ◌<◌, ◌≤◌, ◌↔◌, List, Some, slice_get}
 use Rattle.lock_core.specs.Range.{Overlaps}
-use Rattle.lock_core.specs.Grants.{IsExclusive}
+use Rattle.lock_core.specs.Grants.{IsExclusive, AreExclusive}
 use Rattle.lock_core.specs.declared.range.Mode.TheVariants.{Reader, Writer}
 use Rattle.lock_core.specs.declared.views.View.{View}
 use Rattle.lock_core.specs.declared.steps.Step.{Step}
@@ -12,7 +12,7 @@ use Rattle.lock_core.specs.Paths.{Reach}
 use Rattle.lock_core.specs.Words.{to}
 use Rattle.lock_core.specs.Nodes.{Listed, listed, times}
 use Rattle.lock_core.specs.Rows.{Plan, Row}
-use Rattle.lock_core.specs.Machine.{Machine, heap, plan, after, run, start, held_by_seat}
+use Rattle.lock_core.specs.Machine.{Machine, heap, plan, after, run, start, held_by_seat, grants_from}
 use Rattle.lock_core.specs.Sizes.{IsSized}
 use Rattle.lock_core.specs.Invariant.{LockInvariant, NoReuse}
 
@@ -57,6 +57,10 @@ LeavesReadyByClearHome =
 -- after any run, however long and however the seats take turns
 abbrev pub RunsAreExclusive : Type 0
 RunsAreExclusive = (seats : ℕ) (steps : List (ℕ × Step)) → 0 < seats → seats ≤ 16 → IsExclusive (held_by_seat (run (start seats) steps))
+
+-- and the same of the held ranges as a list of grants, in which no seat stands twice
+abbrev pub RunsGrantApart : Type 0
+RunsGrantApart = (seats : ℕ) (steps : List (ℕ × Step)) → 0 < seats → seats ≤ 16 → AreExclusive (grants_from 0 (held_by_seat (run (start seats) steps)))
 
 abbrev pub RunsHaveNoReuse : Type 0
 RunsHaveNoReuse = (seats : ℕ) (steps : List (ℕ × Step)) → 0 < seats → seats ≤ 16 → NoReuse (heap (run (start seats) steps)) (run (start seats) steps).views

@@ -1,7 +1,7 @@
 // Where each word of the list lock stands, and the code of next words.
 // The head is the first word; then come the epochs of the seats, then four words for each node, then the words of the layer above. All places differ, so a write of one word leaves every other as it is.
 // This project's own profile; the mark in the low bit of a node's next word follows Harris 2001 and Kogan, Dice and Issa 2020.
-ghost use Rattle.std.specs.Prelude.{◌≡◌, ℕ, suc, Some, ◌+◌, ◌*◌, ◌/◌, ◌%◌, ◌^◌, ◌<◌, ◌≤◌, ◌==◌, IsTrue, ◌↔◌};
+ghost use Rattle.std.specs.Prelude.{◌≡◌, ℕ, suc, Some, None, ◌+◌, ◌*◌, ◌/◌, ◌%◌, ◌^◌, ◌<◌, ◌≤◌, ◌==◌, IsTrue, ◌↔◌};
 ghost use Rattle.lock_core.specs.Words.{cell_of, cell_place, epoch_place, lo_place, hi_place, home_place, client_place, word_count, word_of, node_of};
 ghost use Rattle.lock_core.specs.Places.{PlacesDiffer, CodesReadBack};
 
@@ -124,14 +124,14 @@ pub fn node_word(n: u32, marked: bool) -> u64
     2 * (n as u64 + 1) + marked as u64
 }
 
-/// The node that a next word names, if it names one, and whether the word has the mark. The word is one of a node's or of the end.
+/// The node that a next word names, if it names one, and whether the word has the mark. Nodes have numbers below 2^32, so a word above all their codes names none.
 pub fn read_word(w: u64) -> (Option<u32>, bool)
-    requires { w < 2 ^ 33 + 2 }
-    ensures node { result.0 ≡ node_of w }
+    ensures node { w < 2 ^ 33 + 2 → result.0 ≡ node_of w }
+    ensures none { 2 ^ 33 + 2 ≤ w → result.0 ≡ None }
     ensures mark { result.1 ≡ (w % 2 == 1) }
 {
     let target = w / 2;
-    let node = if target == 0 {
+    let node = if target == 0 || target > 1 << 32 {
         None
     } else {
         Some((target - 1) as u32)
@@ -144,7 +144,7 @@ pub fn places_differ()
     ensures { PlacesDiffer }
 {}
 
-/// A code that is read back gives the node and the mark of which it was made: a law, with nothing to run.
+/// A code that is read back gives the node and the mark of which it was made, and no two nodes and marks have one code: a law, with nothing to run.
 pub fn codes_read_back()
     ensures { CodesReadBack }
 {}

@@ -164,6 +164,7 @@ pub fn apply(state: &mut State, seat: u32, step: Step) -> Result<(), NotEnabled>
     ensures made { OnOk result (after state.old seat step ≡ Some state.new) }
     ensures refused { OnErr result (after state.old seat step ≡ None) }
     ensures unchanged { OnErr result (state.new ≡ state.old) }
+    ensures seats { state.new.seats ≡ state.old.seats }
     ensures named { IfErr result (λ e. (e.seat ≡ seat) × (e.kind ≡ kind_of step)) }
 {
     if seat >= state.seats {

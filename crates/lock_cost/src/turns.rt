@@ -1,6 +1,6 @@
 // Turns that hold a range and give it back at once, with nothing between.
 // A number of turns ends by itself and leaves the seat with no range.
-ghost use Rattle.std.specs.Prelude.{◌≡◌, ◌<◌, None, IfOk, IfErr};
+ghost use Rattle.std.specs.Prelude.{◌≡◌, ◌+◌, ◌<◌, ◌≤◌, None, IfOk, IfErr};
 ghost use Rattle.range_rw.specs.Seats.{IsOpenFault, new_seat};
 
 use lock_core::{FreeGuard, Mode, Range};
@@ -40,6 +40,7 @@ fn hold_counting<L: Ledger, R: Wait>(
     requires free { seat.old.held ≡ None }
     ensures table { seat.new.table ≡ seat.old.table }
     ensures free { seat.new.held ≡ None }
+    ensures made { seat.old.trace.taken + turns ≤ seat.new.trace.taken }
 {
     let mut steps = Steps::<L>::new(blank);
     for _ in 0..turns {
@@ -48,7 +49,7 @@ fn hold_counting<L: Ledger, R: Wait>(
     }
 }
 
-/// Holds the range as a writer and gives it back, so many times.
+/// Holds the range as a writer and gives it back, so many times, each in one step or more.
 pub fn hold_turns<R: Wait>(
     wait: &R,
     table: &RangeTable<FreeGuard>,
@@ -60,6 +61,7 @@ pub fn hold_turns<R: Wait>(
     requires free { seat.old.held ≡ None }
     ensures table { seat.new.table ≡ seat.old.table }
     ensures free { seat.new.held ≡ None }
+    ensures made { seat.old.trace.taken + turns ≤ seat.new.trace.taken }
 {
     hold_counting::<Brand, R>(wait, table, seat, range, turns, Blank::new(1));
 }

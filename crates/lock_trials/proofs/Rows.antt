@@ -1,5 +1,5 @@
 -- Rows of seats read by place, before and after what threads did to each.
-use Rattle.std.proofs.Common.{◌≡◌, ℕ, zero, suc, ◌<◌, List, [], ◌∷◌, get_or, length, sym, refl, ap, ◌∙◌, arith, inr}
+use Rattle.std.proofs.Common.{◌≡◌, ℕ, zero, suc, ◌<◌, List, [], ◌∷◌, get_or, length, sym, refl, ap, ◌∙◌, subst, arith, inr}
 use Rattle.std.specs.Prelude.{remove, false}
 use Rattle.std.proofs.lemmas.Bool.{false≢true}
 use mathlib.Core.Option.{some, some-injective, some-ne-none}
@@ -10,7 +10,7 @@ use Rattle.range_rw.specs.Seats.{Known, IsNewRow, IsIdleRow, new_seat, first_pas
 use Rattle.lock_core.specs.Grants.{Grants}
 use Rattle.lock_trials.specs.declared.turnstile.Visits.{Visits}
 use Rattle.lock_trials.specs.Turnstile.{IsInside, IsCounted}
-use Rattle.lock_trials.specs.Turns.{IsBack}
+use Rattle.lock_trials.specs.Turns.{IsBack, HasMade, HaveMade}
 
 there_below : {A : Type 0} (l : List A) (i : ℕ) (a : A) → get_elem? l i ≡ some a → i < length l
 there_below [] i a e = absurd (some-ne-none a (sym e))
@@ -40,6 +40,14 @@ module _ {P : Type 0} (table : TableId) where
       let now : e.1 ≡ s = e.4 ∙ there_or new k s s at in
       let back = e.3 in
       (sym (ap (λ x. x.table) now) ∙ (back.table ∙ i.0), sym (ap (λ x. x.number) now) ∙ (back.number ∙ i.1), sym (ap (λ x. x.held) now) ∙ back.held)
+
+  -- a row whose seats each made so many steps
+  pub row_made : (n : ℕ) (old new : List (Known P)) → ((k : ℕ) (d : Known P) → k < length old → (a : Known P) × (b : Known P) × (a ≡ get_or old k d) × HasMade n a b × (b ≡ get_or new k d)) → HaveMade n old new
+  row_made n old new each k a b at_a at_b =
+      let e = each k a (there_below old k a at_a) in
+      let was : e.0 ≡ a = e.2 ∙ there_or old k a a at_a in
+      let now : e.1 ≡ b = e.4 ∙ there_or new k b a at_b in
+      subst (λ (z : Known P × Known P). HasMade n z.0 z.1) (λ i. (was i, now i)) e.3
 
   -- the two seats of a new row of two
   pub first_new : (first : ℕ → P) (row : List (Known P)) (s : Known P) → length row ≡ 2 → IsNewRow table first row → s ≡ get_or row 0 s → s ≡ new_seat table first 0

@@ -1,8 +1,8 @@
 // Many threads at one table, one for each seat: all add to one word, or all visit the turnstile.
 // The calls run beside each other as std's `for_each_mut` runs them; a reader may rely on each seat being back after, in its place.
-ghost use Rattle.std.specs.Prelude.{◌≡◌, ◌<◌, length, false, None};
+ghost use Rattle.std.specs.Prelude.{◌≡◌, ◌*◌, ◌<◌, false, None};
 ghost use Rattle.range_rw.specs.Seats.{IsIdleRow};
-ghost use Rattle.lock_trials.specs.Turns.{IsBack, IsOutside};
+ghost use Rattle.lock_trials.specs.Turns.{IsBack, HasMade, HaveMade, IsOutside};
 
 use crate::turns::{add_turns, visit_turns};
 use crate::turnstile::Turnstile;
@@ -23,13 +23,14 @@ pub fn add_all<R: Threads + Wait + Sync>(
     requires word { 0 < table.now.client }
     requires row { IsIdleRow table.now.table seats.old }
     ensures row { IsIdleRow table.now.table seats.new }
+    ensures made { HaveMade (3 * turns) seats.old seats.new }
 {
     let Ok(range) = Range::of(0, 1) else {
         unreachable!()
     };
     let turn = |_: usize, seat: &mut Seat<FreeGuard>|
         requires { (seat.now.table ≡ table.now.table) × (seat.now.held ≡ None) × (0 < table.now.client) }
-        ensures { IsBack seat.entry.now seat.exit.now }
+        ensures { IsBack seat.entry.now seat.exit.now × HasMade (3 * turns) seat.entry.now seat.exit.now }
     { add_turns(rt, table, seat, range, turns) };
     thread::for_each_mut(rt, seats, 16, &turn);
 }
@@ -46,10 +47,11 @@ pub fn visit_all<R: Threads + Wait + Sync>(
     requires word { 0 < table.now.client }
     requires row { IsIdleRow table.now.table seats.old × IsOutside seats.old }
     ensures row { IsIdleRow table.now.table seats.new }
+    ensures made { HaveMade (2 * turns) seats.old seats.new }
 {
     let turn = |i: usize, seat: &mut Seat<Turnstile>|
         requires { (seat.now.table ≡ table.now.table) × (seat.now.held ≡ None) × (seat.now.pass.inside ≡ false) × (0 < table.now.client) }
-        ensures { IsBack seat.entry.now seat.exit.now }
+        ensures { IsBack seat.entry.now seat.exit.now × HasMade (2 * turns) seat.entry.now seat.exit.now }
     { visit_from(rt, table, seat, i, turns, most) };
     thread::for_each_mut(rt, seats, 16, &turn);
 }
@@ -65,7 +67,8 @@ fn visit_from<R: Wait>(
     requires table { seat.old.table ≡ table.now.table }
     requires word { 0 < table.now.client }
     requires free { (seat.old.held ≡ None) × (seat.old.pass.inside ≡ false) }
-    ensures { IsBack seat.old seat.new }
+    ensures back { IsBack seat.old seat.new }
+    ensures made { HasMade (2 * turns) seat.old seat.new }
 {
     let lo = place as u64 % 8;
     let Ok(range) = Range::of(lo, lo + 8) else {

@@ -1,8 +1,8 @@
 // The worked rows of the board, and threads that meet at one table.
 // Each test ends by a stated number of turns; what it expects is reckoned by hand, never taken from the program.
 use crate::{add_all, both, open_free, open_turnstile, release_once, row_of, try_once, visit_all};
-use lock_core::{Mode, Range};
-use range_rw::{NotHeld, OpenFault};
+use lock_core::{FreeGuard, Mode, Range};
+use range_rw::{NotHeld, OpenFault, RangeTable};
 use std::sync::atomic::{AtomicU64, Ordering};
 
 #[test]
@@ -38,7 +38,7 @@ fn tries_on_the_board_answer_as_the_worked_row(rt: HostRuntime) {
 #[test]
 fn a_table_has_from_one_to_sixteen_seats(rt: HostRuntime) {
     for seats in [0, 17] {
-        match open_free(rt.alloc(), seats, 7) {
+        match RangeTable::<FreeGuard>::open(rt.alloc(), seats, &[]) {
             Ok(_) => panic!(rt; "{seats} seats"),
             Err(fault) => assert_eq!(rt; fault, OpenFault::Seats(seats)),
         }

@@ -1,7 +1,7 @@
 // Turns that threads take at one table: each turn waits for its range, makes its steps on client word 0 and gives the range back.
 // A number of turns ends by itself, and leaves its seat as it was but for its pass and its record.
-ghost use Rattle.std.specs.Prelude.{◌≡◌, ◌+◌, ◌<◌, ◌≤◌, length, false, None};
-ghost use Rattle.lock_trials.specs.Turns.{IsBack, HasDoorIn};
+ghost use Rattle.std.specs.Prelude.{◌≡◌, ◌*◌, ◌<◌, false, None};
+ghost use Rattle.lock_trials.specs.Turns.{IsBack, HasMade, HasDoorIn};
 
 use crate::turnstile::Turnstile;
 use crate::visits::{enter, leave, look};
@@ -23,7 +23,8 @@ fn add_one<L: Ledger, R: Wait>(
     requires table { seat.old.table ≡ table.now.table }
     requires word { 0 < table.now.client }
     requires free { seat.old.held ≡ None }
-    ensures { IsBack seat.old seat.new }
+    ensures back { IsBack seat.old seat.new }
+    ensures made { HasMade 3 seat.old seat.new }
 {
     table.acquire(wait, seat, range, Mode::Writer);
     let count = table.load_as::<FreeGuard, L>(seat, 0, steps);
@@ -43,7 +44,8 @@ fn add_counting<L: Ledger, R: Wait>(
     requires table { seat.old.table ≡ table.now.table }
     requires word { 0 < table.now.client }
     requires free { seat.old.held ≡ None }
-    ensures { IsBack seat.old seat.new }
+    ensures back { IsBack seat.old seat.new }
+    ensures made { HasMade (3 * turns) seat.old seat.new }
 {
     let mut steps = Steps::<L>::new(blank);
     for _ in 0..turns {
@@ -51,7 +53,7 @@ fn add_counting<L: Ledger, R: Wait>(
     }
 }
 
-/// Adds 1 to client word 0 so many times, each time by a load and a store under the range as a writer.
+/// Adds 1 to client word 0 so many times, each time by a load and a store under the range as a writer: three steps at least, with the release.
 pub fn add_turns<R: Wait>(
     wait: &R,
     table: &RangeTable<FreeGuard>,
@@ -62,7 +64,8 @@ pub fn add_turns<R: Wait>(
     requires table { seat.old.table ≡ table.now.table }
     requires word { 0 < table.now.client }
     requires free { seat.old.held ≡ None }
-    ensures { IsBack seat.old seat.new }
+    ensures back { IsBack seat.old seat.new }
+    ensures made { HasMade (3 * turns) seat.old seat.new }
 {
     add_counting::<Brand, R>(wait, table, seat, range, turns, Blank::new(1));
 }
@@ -81,6 +84,7 @@ fn visit_once<L: Ledger, R: Wait>(
     requires free { (seat.old.held ≡ None) × (seat.old.pass.inside ≡ false) }
     requires door { HasDoorIn range }
     ensures back { IsBack seat.old seat.new }
+    ensures made { HasMade 2 seat.old seat.new }
     ensures outside { seat.new.pass.inside ≡ false }
     ensures none { result ≡ 0 }
 {
@@ -112,6 +116,7 @@ fn visit_counting<L: Ledger, R: Wait>(
     requires free { (seat.old.held ≡ None) × (seat.old.pass.inside ≡ false) }
     requires door { HasDoorIn range }
     ensures back { IsBack seat.old seat.new }
+    ensures made { HasMade (2 * turns) seat.old seat.new }
     ensures outside { seat.new.pass.inside ≡ false }
     ensures none { result ≡ 0 }
 {
@@ -123,7 +128,7 @@ fn visit_counting<L: Ledger, R: Wait>(
     most
 }
 
-/// So many visits of a writer or looks of a reader. It answers the most writers that were inside at one: none.
+/// So many visits of a writer or looks of a reader, each of two steps at least. It answers the most writers that were inside at one: none.
 pub fn visit_turns<R: Wait>(
     wait: &R,
     table: &RangeTable<Turnstile>,
@@ -137,6 +142,7 @@ pub fn visit_turns<R: Wait>(
     requires free { (seat.old.held ≡ None) × (seat.old.pass.inside ≡ false) }
     requires door { HasDoorIn range }
     ensures back { IsBack seat.old seat.new }
+    ensures made { HasMade (2 * turns) seat.old seat.new }
     ensures outside { seat.new.pass.inside ≡ false }
     ensures none { result ≡ 0 }
 {

@@ -1,21 +1,59 @@
 -- All views are joined into one, which then has each part, so the guard's rule holds of the last words with no grant.
 use Rattle.std.proofs.Common.{◌≡◌, ◌≢◌, ℕ, zero, suc, ◌+◌, ◌<◌, cond, eqb, List, [], ◌∷◌, ◌++◌, map, drop, take, get_or, set, length, replicate, sym, refl, ap, ◌∙◌, subst, arith, eq-eqb, ne_eqb, ⊎_elim}
 use Rattle.std.specs.Prelude.{None, remove}
-use mathlib.Core.Option.{some, some-ne-none}
+use mathlib.Core.Option.{some, some-injective, some-ne-none}
+use mathlib.Core.Logic.{dite}
+use native.Mathlib.Decide.{ℕ_discrete}
 use lib.ListN.{get_elem?}
 use Rattle.atomic_table.specs.Table.{Joins, Final, Seen}
 use Rattle.atomic_table.specs.Seated.{TableId}
-use Rattle.atomic_table.proofs.Lists.{at_set, set_else, at_map}
+use Rattle.atomic_table.proofs.Lists.{at_set, set_here, set_else, at_longer, at_map}
 use Rattle.lock_core.specs.Grants.{Grants}
 use Rattle.range_rw.specs.declared.views.Part.{Part}
 use Rattle.range_rw.specs.declared.views.BoardView.{BoardView}
 use Rattle.range_rw.specs.Board.{lock_words, grants_of}
-use Rattle.range_rw.specs.Running.{core_of, pass_of, view, IsRunning}
+use Rattle.range_rw.specs.Running.{core_of, pass_of, view, Stands, IsRunning}
 use Rattle.range_rw.specs.Seats.{Known, Standing, known_of, known_in, pass_in, IsRowOf, IsIdleRow}
-use Rattle.range_rw.proofs.Lists.{append_at, append_one, map-append, length_map, same_lists, first_of_list, at_removed, at_drop, take_next}
+use Rattle.range_rw.proofs.Lists.{at_below, at_behind, append_at, append_one, map-append, length_map, same_lists, first_of_list, at_removed, at_drop, take_next}
 
 nothing_there : {A : Type 0} (k : ℕ) (a : A) → get_elem? [] k ≡ some a → ⊥
 nothing_there k a e = some-ne-none a (sym e)
+
+-- where a number stands after its view was joined, or another was
+joined_stands : {P : Type 0} (views : List (BoardView P)) (id other own n : ℕ) (v w : BoardView P) → get_elem? views id ≡ some v → other ≢ id → get_elem? views other ≡ some w → Stands views own n
+    → Stands (set (set views id (view (v.parts ++ w.parts))) other (view [])) (cond (eqb own other) id own) n
+joined_stands {P} views id other own n v w at_v differ at_w st =
+    let both : BoardView P = view (v.parts ++ w.parts) in
+    let now : List (BoardView P) = set (set views id both) other (view []) in
+    let here : get_elem? now id ≡ some both = set_else (set views id both) other id (view []) (λ e. differ (sym e)) ∙ set_here views id both (at_below views id v at_v) in
+    dite (ℕ_discrete own other)
+    (λ e. let is : w ≡ st.holder = some-injective _ _ (sym at_w ∙ (ap (get_elem? views) (sym e) ∙ st.at)) in
+    record {
+      holder = both;
+      at = ap (get_elem? now) (ap (λ b. cond b id own) (eq-eqb own other e)) ∙ here;
+      place = length v.parts + st.place;
+      part = st.part;
+      has = at_behind v.parts w.parts st.place ∙ subst (λ (z : BoardView P). get_elem? z.parts st.place ≡ some st.part) (sym is) st.has;
+      number = st.number;
+    })
+    (λ no. let stay : cond (eqb own other) id own ≡ own = ap (λ b. cond b id own) (ne_eqb own other no) in dite (ℕ_discrete own id)
+    (λ e. let is : v ≡ st.holder = some-injective _ _ (sym at_v ∙ (ap (get_elem? views) (sym e) ∙ st.at)) in
+    record {
+      holder = both;
+      at = ap (get_elem? now) (stay ∙ e) ∙ here;
+      place = st.place;
+      part = st.part;
+      has = at_longer v.parts w.parts st.place st.part (subst (λ (z : BoardView P). get_elem? z.parts st.place ≡ some st.part) (sym is) st.has);
+      number = st.number;
+    })
+    (λ neither. record {
+      holder = st.holder;
+      at = ap (get_elem? now) stay ∙ (set_else (set views id both) other own (view []) no ∙ (set_else views id own both neither ∙ st.at));
+      place = st.place;
+      part = st.part;
+      has = st.has;
+      number = st.number;
+    }))
 
 module _ {P : Type 0} (seats clients : ℕ) (holds : Grants → List ℕ → List P → Type 0) where
   -- one seat takes in what belongs to another
@@ -42,6 +80,7 @@ module _ {P : Type 0} (seats clients : ℕ) (holds : Grants → List ℕ → Lis
               (λ u. let o = r.owned id' v' u.1 k p there in (o.0, stays p.number (λ e. t.0 (sym o.1 ∙ e)) ∙ o.1))
               (at_set s.views id id' both v' t.1))
               (at_set (set s.views id both) other id' (view []) v' at');
+          stands = λ n lt. joined_stands s.views id other (owner n) n v w at_v differ at_w (r.stands n lt);
           board = r.board;
           guard = r.guard;
         },

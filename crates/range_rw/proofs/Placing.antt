@@ -2,6 +2,8 @@
 use Rattle.std.proofs.Common.{◌≡◌, ℕ, zero, suc, List, [], ◌∷◌, map, take, drop, set, sym, refl, ap, ◌∙◌, subst, length-set, ⊎_elim}
 use Rattle.std.proofs.lemmas.List.{map-set}
 use mathlib.Core.Option.{some, some-injective, some-ne-none}
+use mathlib.Core.Logic.{dite}
+use native.Mathlib.Decide.{ℕ_discrete}
 use lib.ListN.{get_elem?}
 use Rattle.atomic_table.specs.Table.{State, keeps, stepped}
 use Rattle.atomic_table.proofs.Lists.{at_set, set_here, set_else}
@@ -10,7 +12,7 @@ use Rattle.range_rw.specs.declared.views.Core.{Core}
 use Rattle.range_rw.specs.declared.views.Part.{Part}
 use Rattle.range_rw.specs.declared.views.BoardView.{BoardView}
 use Rattle.range_rw.specs.Board.{lock_words, held_of, grants_of, IsBoard}
-use Rattle.range_rw.specs.Running.{core_of, pass_of, view, IsOwned, Ruled, IsRunning}
+use Rattle.range_rw.specs.Running.{core_of, pass_of, view, IsOwned, Stands, Ruled, IsRunning}
 use Rattle.range_rw.proofs.Lists.{at_below}
 
 only : {A : Type 0} (q x : A) (k : ℕ) → get_elem? (q ∷ []) k ≡ some x → q ≡ x
@@ -31,6 +33,20 @@ module _ {P : Type 0} where
       (set_else parts p.number x.number q (λ e. t.0 (sym r.1 ∙ (ap owner e ∙ here.1))) ∙ r.0, r.1))
       (at_set views id id' (view (q ∷ [])) v at')
 
+  stands_after : (views : List (BoardView P)) (id own n : ℕ) (p q : Part P) → get_elem? views id ≡ some (view (p ∷ [])) → q.number ≡ p.number → Stands views own n → Stands (set views id (view (q ∷ []))) own n
+  stands_after views id own n p q at same st = dite (ℕ_discrete own id)
+      (λ e. let is : view (p ∷ []) ≡ st.holder = some-injective _ _ (sym at ∙ (ap (get_elem? views) (sym e) ∙ st.at)) in
+      let one : p ≡ st.part = only p st.part st.place (subst (λ (z : BoardView P). get_elem? z.parts st.place ≡ some st.part) (sym is) st.has) in
+      record {
+        holder = view (q ∷ []);
+        at = ap (get_elem? (set views id (view (q ∷ [])))) e ∙ set_here views id (view (q ∷ [])) (at_below views id (view (p ∷ [])) at);
+        place = 0;
+        part = q;
+        has = refl;
+        number = same ∙ (ap (λ (x : Part P). x.number) one ∙ st.number);
+      })
+      (λ differ. record { holder = st.holder; at = set_else views id own (view (q ∷ [])) differ ∙ st.at; place = st.place; part = st.part; has = st.has; number = st.number })
+
 module _ {P : Type 0} (seats clients : ℕ) (holds : Grants → List ℕ → List P → Type 0) where
   -- the seat's part is the one of its number
   pub part_here : (s : State (Unit {0}) (BoardView P)) (parts : List (Part P)) (owner : ℕ → ℕ) → Ruled seats clients holds s parts owner → (id : ℕ) (p : Part P) → get_elem? s.views id ≡ some (view (p ∷ [])) → get_elem? parts p.number ≡ some p
@@ -50,6 +66,7 @@ module _ {P : Type 0} (seats clients : ℕ) (holds : Grants → List ℕ → Lis
           count = length-set parts p.number q ∙ r.count;
           wide = length-set s.words i n ∙ r.wide;
           owned = owned_after s.views parts owner id p q r.owned at same;
+          stands = λ m lt. stands_after s.views id (owner m) m p q at same (r.stands m lt);
           board = subst (λ (z : List Core). IsBoard seats (take (lock_words seats) (set s.words i n)) z) cores board;
           guard = subst (λ (z : Grants × List P). holds z.0 (drop (lock_words seats) (set s.words i n)) z.1)
               (λ k. ((sym (map-set held_of (map core_of parts) p.number q.core) ∙ ap grants_of cores) k, sym (map-set pass_of parts p.number q) k)) guard;

@@ -1,6 +1,6 @@
 -- The rule of the running table: the board's own rule, the guard's rule, and that each seat number stands in exactly one view.
 -- The record of a view stands in no part of it. A step on a lock word leaves the client words, and a step on a client word leaves the lock words and the cores, so each kind of step is proved apart.
-use Rattle.std.specs.Prelude.{◌≡◌, ℕ, ◌+◌, List, [], ◌∷◌, map, take, drop, length, Some}
+use Rattle.std.specs.Prelude.{◌≡◌, ℕ, ◌+◌, ◌<◌, List, [], ◌∷◌, map, take, drop, length, Some}
 use mathlib.Core.Option.{some}
 use lib.ListN.{get_elem?}
 use Rattle.atomic_table.specs.Table.{State, Me}
@@ -27,16 +27,26 @@ module _ {P : Type 0} where
   abbrev pub view : List (Part P) → BoardView P
   view parts = record { parts = parts }
 
-  -- each part in a view is that of its number, and each number stands in one view only
+  -- each part in a view is that of its number, and no number stands in two views
   abbrev pub IsOwned : List (BoardView P) → List (Part P) → (ℕ → ℕ) → Type 0
   IsOwned views parts owner = (id : ℕ) (v : BoardView P) → get_elem? views id ≡ some v
       → (k : ℕ) (p : Part P) → get_elem? v.parts k ≡ some p → (get_elem? parts p.number ≡ some p) × (owner p.number ≡ id)
+
+  -- the number stands in that view
+  pub record Stands (views : List (BoardView P)) (id n : ℕ) : Type 0 where
+    pub holder : BoardView P
+    pub at : get_elem? views id ≡ some holder
+    pub place : ℕ
+    pub part : Part P
+    pub has : get_elem? holder.parts place ≡ some part
+    pub number : part.number ≡ n
 
   -- the rule, with the parts by seat number and the view that each number stands in
   pub record Ruled (seats clients : ℕ) (holds : Grants → List ℕ → List P → Type 0) (s : State (Unit {0}) (BoardView P)) (parts : List (Part P)) (owner : ℕ → ℕ) : Type 0 where
     pub count : length parts ≡ seats
     pub wide : length s.words ≡ lock_words seats + clients
     pub owned : IsOwned s.views parts owner
+    pub stands : (n : ℕ) → n < seats → Stands s.views (owner n) n
     pub board : IsBoard seats (take (lock_words seats) s.words) (map core_of parts)
     pub guard : holds (grants_of (map core_of parts)) (drop (lock_words seats) s.words) (map pass_of parts)
 
@@ -44,10 +54,20 @@ module _ {P : Type 0} where
   abbrev pub IsRunning : ℕ → ℕ → (Grants → List ℕ → List P → Type 0) → State (Unit {0}) (BoardView P) → Type 0
   IsRunning seats clients holds s = (parts : List (Part P)) × (owner : ℕ → ℕ) × Ruled seats clients holds s parts owner
 
-  -- the rule gives exclusion and the guard's rule, with one held range at most and one pass for each seat
+  -- a moment between two steps, by seat number: no two held ranges of different seats conflict, the guard's rule holds, and each seat's held range and pass are those of the one view that it stands in
+  pub record IsApart (seats : ℕ) (holds : Grants → List ℕ → List P → Type 0) (words : List ℕ) (views : List (BoardView P)) (grants : Grants) (passes : List P) : Type 0 where
+    pub grant_count : length grants ≡ seats
+    pub pass_count : length passes ≡ seats
+    pub exclusive : IsExclusive grants
+    pub guard : holds grants words passes
+    pub seen : (id : ℕ) (v : BoardView P) → get_elem? views id ≡ some v → (k : ℕ) (p : Part P) → get_elem? v.parts k ≡ some p
+        → (get_elem? grants p.number ≡ some p.core.held) × (get_elem? passes p.number ≡ some p.pass)
+    pub stands : (n : ℕ) → n < seats → (id : ℕ) × Stands views id n
+
+  -- the rule gives such a moment in every state that meets it
   abbrev pub KeepsApart : (Grants → List ℕ → List P → Type 0) → Type 0
   KeepsApart holds = (seats clients : ℕ) (s : State (Unit {0}) (BoardView P)) → IsRunning seats clients holds s
-      → (grants : Grants) × (passes : List P) × (length grants ≡ seats) × (length passes ≡ seats) × IsExclusive grants × holds grants (drop (lock_words seats) s.words) passes
+      → (grants : Grants) × (passes : List P) × IsApart seats holds (drop (lock_words seats) s.words) s.views grants passes
 
   -- a step of the board tells its seat what belongs to it after
   abbrev pub board_play : (P → P) → BoardStep → Me (Unit {0}) (BoardView P) → ℕ → Me (Unit {0}) (BoardView P) → Type 0

@@ -7,17 +7,17 @@ use Rattle.std.proofs.lemmas.List.{get_or-replicate, length-replicate}
 use lib.Seq.{take-append_seam, drop-append_seam}
 use mathlib.Core.Option.{some, some-injective, some-ne-none}
 use mathlib.Core.Logic.{dite}
-use native.Mathlib.Decide.{dec_le}
+use native.Mathlib.Decide.{dec_le, ℕ_discrete}
 use lib.ListN.{get_elem?}
 use Rattle.atomic_table.specs.Table.{Splits, opening}
-use Rattle.atomic_table.proofs.Lists.{at_set}
+use Rattle.atomic_table.proofs.Lists.{at_set, set_here, set_else, at_longer, at_last}
 use Rattle.lock_core.specs.Grants.{Grants, Holds}
 use Rattle.lock_core.specs.declared.range.Held.{Held}
 use Rattle.range_rw.specs.declared.views.Core.{Core}
 use Rattle.range_rw.specs.declared.views.Part.{Part}
 use Rattle.range_rw.specs.declared.views.BoardView.{BoardView}
 use Rattle.range_rw.specs.Board.{lock_words, lo_place, hi_place, held_in, grants_of, IsBoard}
-use Rattle.range_rw.specs.Running.{core_of, pass_of, view, IsOwned, IsRunning}
+use Rattle.range_rw.specs.Running.{core_of, pass_of, view, IsOwned, Stands, IsRunning}
 use Rattle.range_rw.specs.Seats.{idle, fresh, first_passes}
 
 -- what the seat of number n begins with, over all words of the table
@@ -107,6 +107,39 @@ module _ {P : Type 0} (f : ℕ → Part P) where
         (ap (get_elem? parts) num ∙ (m.0 ∙ ap some (sym q.1)), ap owner' num ∙ (above n (omega arith) ∙ (sym (length-set views id (view (f s ∷ []))) ∙ sym new.0))))
         (snoc_at (set views id (view (f s ∷ []))) (view (parts_from f (s + 1) (seats - (s + 1)))) v id' at')
 
+    abbrev views' : List (BoardView P)
+    views' = set views id (view (f s ∷ [])) ++ view (parts_from f (s + 1) (seats - (s + 1))) ∷ []
+
+    -- the view that was cut
+    here : get_elem? views' id ≡ some (view (f s ∷ []))
+    here = at_longer (set views id (view (f s ∷ []))) (view (parts_from f (s + 1) (seats - (s + 1))) ∷ []) id (view (f s ∷ [])) (set_here views id (view (f s ∷ [])) (below views id (view (parts_from f s (seats - s))) at))
+
+    pub cut_stands : (n : ℕ) → n < seats → Stands views (owner n) n → Stands views' (owner' n) n
+    cut_stands n lt st = dite (dec_le n s)
+        (λ le. dite (ℕ_discrete (owner n) id)
+        (λ e.  -- a number of the view that was cut, at most its first
+        let is : view (parts_from f s (seats - s)) ≡ st.holder = some-injective _ _ (sym at ∙ (ap (get_elem? views) (sym e) ∙ st.at)) in
+        let q = parts_at s (seats - s) st.place st.part (subst (λ (z : BoardView P). get_elem? z.parts st.place ≡ some st.part) (sym is) st.has) in
+        let num : s + st.place ≡ n = sym (numbered (s + st.place)) ∙ (ap (λ (x : Part P). x.number) (sym q.1) ∙ st.number) in
+        record { holder = view (f s ∷ []); at = ap (get_elem? views') (kept n le ∙ e) ∙ here; place = 0; part = f s; has = refl; number = let first : s ≡ n = omega arith in numbered s ∙ first })
+        (λ differ. record {
+          holder = st.holder;
+          at = ap (get_elem? views') (kept n le) ∙ at_longer (set views id (view (f s ∷ []))) (view (parts_from f (s + 1) (seats - (s + 1))) ∷ []) (owner n) st.holder (set_else views id (owner n) (view (f s ∷ [])) differ ∙ st.at);
+          place = st.place;
+          part = st.part;
+          has = st.has;
+          number = st.number;
+        }))
+        (λ no. let back : (s + 1) + (n - (s + 1)) ≡ n = omega arith in
+        record {
+          holder = view (parts_from f (s + 1) (seats - (s + 1)));
+          at = ap (get_elem? views') (above n (omega arith)) ∙ at_last (set views id (view (f s ∷ []))) (view (parts_from f (s + 1) (seats - (s + 1)))) (length views) (length-set views id (view (f s ∷ [])));
+          place = n - (s + 1);
+          part = f n;
+          has = at_parts (s + 1) (seats - (s + 1)) (n - (s + 1)) (omega arith) ∙ ap (λ m. some (f m)) back;
+          number = numbered n;
+        })
+
 -- one seat can be cut off
 pub cuts : {P : Type 0} (first : List ℕ → ℕ → P) (holds : Grants → List ℕ → List P → Type 0) (seats clients : ℕ) (words : List ℕ) (s id : ℕ) → s + 1 < seats
     → Splits (IsRunning seats clients holds) id (view (parts_from (begin first seats words) s (seats - s))) (view (begin first seats words s ∷ [])) (view (parts_from (begin first seats words) (s + 1) (seats - (s + 1))))
@@ -117,6 +150,7 @@ cuts first holds seats clients words s id more st running at = let r = running.2
     count = r.count;
     wide = r.wide;
     owned = cut_owned (begin first seats words) (λ n. refl) st.views running.0 running.1 seats s id r.count r.owned more at;
+    stands = λ n lt. cut_stands (begin first seats words) (λ n. refl) st.views running.0 running.1 seats s id r.count r.owned more at n lt (r.stands n lt);
     board = r.board;
     guard = r.guard;
   },
@@ -184,6 +218,8 @@ begins {P} first holds seats zeros client blank h =
         count = length-parts_from f 0 seats;
         wide = omega arith;
         owned = owned_first f seats (λ n. refl);
+        stands = λ n lt. let z : 0 + n ≡ n = omega arith in
+            record { holder = view (parts_from f 0 (seats - 0)); at = refl; place = n; part = f n; has = at_parts f 0 (seats - 0) n (omega arith) ∙ ap (λ m. some (f m)) z; number = refl };
         board = subst (λ (z : List ℕ × List Core). IsBoard seats z.0 z.1) (λ i. (sym front i, sym cores i)) (first_board seats);
         guard = subst (λ (z : Grants × (List ℕ × List P)). holds z.0 z.1.0 z.1.1)
             (λ i. (sym (ap grants_of cores ∙ grants_are seats) i, (sym back i, sym (passes_are (first (drop (lock_words seats) (zeros ++ client))) 0 seats ∙ ap (λ w. first_passes (first w) 0 seats) back) i))) h;

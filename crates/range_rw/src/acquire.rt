@@ -179,7 +179,7 @@ impl<G: Guard> RangeTable<G> {
 
     /// Tries once to hold the range, and waits for nobody. The seat is of this table and holds nothing.
     /// `Busy` names a range of another seat that was in conflict at a step of this call, and `Again` an exchange of this call that found the turn taken. After a refusal the seat holds nothing and its pass is as before.
-    /// At most 2 steps for each seat of the table and 2 more.
+    /// At most 64 steps and 386 for each seat of the table, whatever other seats do. The bound has room for a lock that keeps a list; the board makes at most 2 for each seat and 2 more.
     pub fn try_acquire<L: Ledger>(
         &self,
         seat: &mut Seat<G>,

@@ -4,7 +4,7 @@ ghost use Rattle.range_rw.specs.Running.{KeepsApart};
 
 use lock_core::Guard;
 
-/// Between any two steps no two held ranges of different seats conflict, and the guard's rule holds of the held ranges, the client words and the passes. It does nothing.
+/// Between any two steps no two held ranges of different seats conflict, and the guard's rule holds of the held ranges, the client words and the passes. Held ranges and passes are those that the seats' own views have, each at its seat's number. It does nothing.
 pub fn keeps_apart<G: Guard>()
     ensures { KeepsApart G.holds }
 {}

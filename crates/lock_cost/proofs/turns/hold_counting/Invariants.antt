@@ -1,4 +1,4 @@
-use Rattle.std.proofs.Common.{◌≡◌}
+use Rattle.std.proofs.Common.{◌≡◌, ◌+◌, ◌≤◌}
 use Rattle.std.specs.Prelude.{None}
 use Rattle.lock_cost.proofs.turns.hold_counting.Given as goal
 
@@ -6,4 +6,5 @@ abbrev pub invariant-loop : goal.invariant-loop
 invariant-loop g l = record {
   table : l.seat.table ≡ l.initial.seat.table;
   held : l.seat.held ≡ None;
+  made : l.initial.seat.trace.taken + l.counter ≤ l.seat.trace.taken;
 }

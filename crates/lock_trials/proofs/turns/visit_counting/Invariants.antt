@@ -1,5 +1,6 @@
-use Rattle.std.proofs.Common.{◌≡◌}
+use Rattle.std.proofs.Common.{◌≡◌, ◌*◌}
 use Rattle.std.specs.Prelude.{None, false}
+use Rattle.lock_trials.specs.Turns.{HasMade}
 use Rattle.lock_trials.proofs.turns.visit_counting.Given as goal
 
 abbrev pub invariant-loop : goal.invariant-loop
@@ -7,6 +8,7 @@ invariant-loop g l = record {
   table : l.seat.table ≡ l.initial.seat.table;
   number : l.seat.number ≡ l.initial.seat.number;
   held : l.seat.held ≡ None;
+  made : HasMade (2 * l.counter) l.initial.seat l.seat;
   outside : l.seat.pass.inside ≡ false;
   none : l.most ≡ 0;
 }
