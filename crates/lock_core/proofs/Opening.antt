@@ -92,7 +92,7 @@ start_view_sized seats i h = record {
   notes = length-replicate seats None;
   passed = length-replicate seats false;
   nodes = record { nodes = λ x. let e = start_once i x in omega arith; homes_used = λ x. omega arith };
-  own = nothing_sized h;
+  own = nothing_sized seats h;
   hand = λ x q. absurd (cc);
   cursor = λ c q. absurd (cc);
 }

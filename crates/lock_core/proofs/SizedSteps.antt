@@ -66,7 +66,7 @@ module _ (m : Machine) (s : ℕ) (v : View) (z : IsSized m) (at : slice_get m.vi
 
   -- a state with other words and another view of the seat
   resized : (ws : List ℕ) (w : View) → length ws ≡ length m.words → ((c : ℕ) → c ≤ 16 * m.seats → to (heap_of m.seats ws) c ≤ 16 * m.seats) →
-      ((i : ℕ) (u : View) → i ≢ s → slice_get m.views i ≡ Some u → IsOwnSized (heap_of m.seats ws) u.own) → IsViewSized m.seats (heap_of m.seats ws) s w →
+      ((i : ℕ) (u : View) → i ≢ s → slice_get m.views i ≡ Some u → IsOwnSized m.seats (heap_of m.seats ws) u.own) → IsViewSized m.seats (heap_of m.seats ws) s w →
       IsSized (record { seats = m.seats; words = ws; views = set m.views s w })
   resized ws w e cells others mine = record {
     some = z.some;
@@ -94,8 +94,8 @@ module _ (m : Machine) (s : ℕ) (v : View) (z : IsSized m) (at : slice_get m.vi
   by_store place x w next mine =
       resized (set m.words place x) w (length-set m.words place x)
       (λ c l. let e = ap (λ n. n / 2) (next c) in let o = z.cells c l in omega arith)
-      (λ i u d e. own_same (heap m) (heap_of m.seats (set m.words place x)) u.own (z.each i u e).own next)
-      (record { notes = mine.notes; passed = mine.passed; nodes = mine.nodes; own = own_same (heap m) (heap_of m.seats (set m.words place x)) w.own mine.own next; hand = mine.hand; cursor = mine.cursor })
+      (λ i u d e. own_same m.seats (heap m) (heap_of m.seats (set m.words place x)) u.own (z.each i u e).own next)
+      (record { notes = mine.notes; passed = mine.passed; nodes = mine.nodes; own = own_same m.seats (heap m) (heap_of m.seats (set m.words place x)) w.own mine.own next; hand = mine.hand; cursor = mine.cursor })
 
   cell_there : (p : ℕ) → p ≤ 16 * m.seats → cell_place m.seats p < length m.words
   cell_there zero l = let w = z.words in omega arith
@@ -116,7 +116,7 @@ module _ (m : Machine) (s : ℕ) (v : View) (z : IsSized m) (at : slice_get m.vi
       (λ (q : c ≡ p). let e = ap (λ a. (now p x).next a / 2) q in let i = ap (λ n. n / 2) (wrote p x there).is in omega arith)
       (λ (d : c ≢ p). let e = ap (λ n. n / 2) ((wrote p x there).others c d) in let o = z.cells c l in omega arith)
       (cases_eq c p))
-      (λ i u d e. own_kept (heap m) (now p x) u.own (z.each i u e).own m.seats p x (wrote p x there)
+      (λ i u d e. own_kept m.seats (heap m) (now p x) u.own (z.each i u e).own p x (wrote p x there)
       (λ n q own. ⊎_elim (λ (r : x % 2 ≡ 0). r) (λ (r : n / 16 ≡ s). absurd (d (sym (owner_is i n u e own) ∙ r))) (even n q)))
       mine
 
@@ -126,7 +126,7 @@ module _ (m : Machine) (s : ℕ) (v : View) (z : IsSized m) (at : slice_get m.vi
     notes = old.notes;
     passed = old.passed;
     nodes = old.nodes;
-    own = own_kept (heap m) (now p x) v.own old.own m.seats p x (wrote p x there) (λ n q own. even n q);
+    own = own_kept m.seats (heap m) (now p x) v.own old.own p x (wrote p x there) (λ n q own. even n q);
     hand = old.hand;
     cursor = old.cursor;
   }
@@ -141,9 +141,9 @@ module _ (m : Machine) (s : ℕ) (v : View) (z : IsSized m) (at : slice_get m.vi
   node_there : (c : Cursor) (y : ℕ) → v.cursor ≡ Some c → plain_node_of c.cur ≡ Some y → IsNode m.seats y
   node_there c y e q = let l = (old.cursor c e).cur in let w = plain_is c.cur y q in omega arith
 
-  kept_sized : (own : Own) → IsOwnSized (heap m) own → IsOwnSized (heap m) (kept_own own)
+  kept_sized : (own : Own) → IsOwnSized m.seats (heap m) own → IsOwnSized m.seats (heap m) (kept_own own)
   kept_sized Nothing o = o
-  kept_sized (Filling node lo hi mode aimed) o = nothing_sized (heap m)
+  kept_sized (Filling node lo hi mode aimed) o = nothing_sized m.seats (heap m)
   kept_sized (Linked node range mode todo) o = o
 
   first_there : (n : ℕ) (rest : List ℕ) → v.own ≡ Nothing → v.ready ≡ n ∷ rest → IsNode m.seats n
@@ -232,21 +232,22 @@ module _ (m : Machine) (s : ℕ) (v : View) (z : IsSized m) (at : slice_get m.vi
       let t = filling_there f own in
       by_store (lo_place m.seats f.node) lo _ (wrote_lo m.seats lo m.words f.node (let w = z.words in let l = t.1 in omega arith)).next
       (own_sized m.seats (heap m) s v _ (filling_times f (record f { lo = Some lo; hi = None }) own refl)
-      (filling_sized (heap m) (record f { lo = Some lo; hi = None }) (record { hi = λ h q. absurd (cc); aimed = λ w q. absurd (cc) }) (λ w q. absurd (cc)))
+      (filling_sized m.seats (heap m) (record f { lo = Some lo; hi = None }) (record { hi = λ h q. absurd (cc); aimed = λ w q. absurd (cc) }) (λ w q. absurd (cc)) (λ w q. absurd (cc)))
       old)
   sized_row step p (fill_hi f lo hi mode own low less most aimed cursor) =
       let t = filling_there f own in
       by_store (hi_place m.seats f.node) _ _ (wrote_hi m.seats _ m.words f.node (let w = z.words in let l = t.1 in omega arith)).next
       (own_sized m.seats (heap m) s v _ (filling_times f (record f { hi = Some hi; mode = mode }) own refl)
-      (filling_sized (heap m) (record f { hi = Some hi; mode = mode }) (record { hi = λ h q. let same : hi ≡ h = cc in (lo, low, subst (IsRange lo) same (less, most)); aimed = λ w q. absurd (cc) }) (λ w q. absurd (cc)))
+      (filling_sized m.seats (heap m) (record f { hi = Some hi; mode = mode }) (record { hi = λ h q. let same : hi ≡ h = cc in (lo, low, subst (IsRange lo) same (less, most)); aimed = λ w q. absurd (cc) }) (λ w q. absurd (cc)) (λ w q. absurd (cc)))
       old)
   sized_row step p (aim f lo hi w own low high at) =
       let t = filling_there f own in let a = aim_even v.cursor w refl at in let l : suc f.node ≤ 16 * m.seats = let l = t.1 in omega arith in
       let o = carried (suc f.node) w l (λ n q. a.0) in
       by_cell (suc f.node) w _ l a.1 (λ n q. inl a.0)
       (own_sized m.seats (now (suc f.node) w) s v _ (filling_times f (record f { aimed = Some w }) own refl)
-      (filling_sized (now (suc f.node) w) (record f { aimed = Some w })
+      (filling_sized m.seats (now (suc f.node) w) (record f { aimed = Some w })
       (record { hi = (old.own.filled f own).hi; aimed = λ x q. ((λ r. cc), (λ r. cc)) })
+      (λ x q. let same : w ≡ x = cc in subst (NamesNode m.seats) same a.1)
       (λ x q. ap (λ n. n % 2) (wrote (suc f.node) w l).is ∙ a.0))
       o)
   sized_row step p (clear_home n rest own even ready) =
@@ -255,7 +256,7 @@ module _ (m : Machine) (s : ℕ) (v : View) (z : IsSized m) (at : slice_get m.vi
         notes = old.notes;
         passed = old.passed;
         nodes = taken_nodes s n v.own v.ready rest v.used v.homes own ready old.nodes;
-        own = filling_sized (heap m) (record { node = n; lo = None; hi = None; mode = Writer; aimed = None }) (record { hi = λ h q. absurd (cc); aimed = λ w q. absurd (cc) }) (λ w q. absurd (cc));
+        own = filling_sized m.seats (heap m) (record { node = n; lo = None; hi = None; mode = Writer; aimed = None }) (record { hi = λ h q. absurd (cc); aimed = λ w q. absurd (cc) }) (λ w q. absurd (cc)) (λ w q. absurd (cc));
         hand = old.hand;
         cursor = old.cursor;
       })
@@ -272,7 +273,7 @@ module _ (m : Machine) (s : ℕ) (v : View) (z : IsSized m) (at : slice_get m.vi
       (by_cell (cell_of c.prev) (2 * suc f.node) _ l (let n = t.1 in omega arith) (λ n q. inl (omega arith))
       (dropped_sized m.seats (now (cell_of c.prev) (2 * suc f.node)) s _
       (own_sized m.seats (now (cell_of c.prev) (2 * suc f.node)) s v _ (listed_times f (record { node = f.node; range = record { lo = lo; hi = hi }; mode = f.mode; todo = todo_of f.mode }) own refl)
-      (linked_sized (now (cell_of c.prev) (2 * suc f.node)) (record { node = f.node; range = record { lo = lo; hi = hi }; mode = f.mode; todo = todo_of f.mode })
+      (linked_sized m.seats (now (cell_of c.prev) (2 * suc f.node)) (record { node = f.node; range = record { lo = lo; hi = hi }; mode = f.mode; todo = todo_of f.mode })
       ((carried (cell_of c.prev) (2 * suc f.node) l (λ n q. omega arith)).own.aimed f c.cur own aimed))
       (carried (cell_of c.prev) (2 * suc f.node) l (λ n q. omega arith)))))
       (dropped_sized m.seats (heap m) s v old)
@@ -287,13 +288,13 @@ module _ (m : Machine) (s : ℕ) (v : View) (z : IsSized m) (at : slice_get m.vi
   sized_row step p (mark k own) =
       let t = linked_there k own in let l : suc k.node ≤ 16 * m.seats = let l = t.1 in omega arith in
       by_cell (suc k.node) _ _ l (let c = z.cells (suc k.node) l in let e = old.own.linked k own in omega arith) (λ n q. inr (let i = owner_is s k.node v at t.0 in omega arith))
-      (record { notes = old.notes; passed = old.passed; nodes = used_nodes s v.own k.node v.ready v.used v.homes (λ x. ap (own_times x) own) old.nodes; own = nothing_sized _; hand = old.hand; cursor = old.cursor })
+      (record { notes = old.notes; passed = old.passed; nodes = used_nodes s v.own k.node v.ready v.used v.homes (λ x. ap (own_times x) own) old.nodes; own = nothing_sized m.seats _; hand = old.hand; cursor = old.cursor })
   sized_row step p (quick_link f lo hi own low high aimed even) =
       let t = filling_there f own in
       by_exchange 0 0 (2 * suc f.node + 1) _ _
       (by_cell 0 (2 * suc f.node + 1) _ (omega arith) (let n = t.1 in omega arith) (λ n q. absurd (omega arith))
       (own_sized m.seats (now 0 (2 * suc f.node + 1)) s v _ (listed_times f (record { node = f.node; range = record { lo = lo; hi = hi }; mode = f.mode; todo = Done }) own refl)
-      (linked_sized (now 0 (2 * suc f.node + 1)) (record { node = f.node; range = record { lo = lo; hi = hi }; mode = f.mode; todo = Done })
+      (linked_sized m.seats (now 0 (2 * suc f.node + 1)) (record { node = f.node; range = record { lo = lo; hi = hi }; mode = f.mode; todo = Done })
       ((carried 0 (2 * suc f.node + 1) (omega arith) (λ n q. absurd (omega arith))).own.aimed f 0 own aimed))
       (carried 0 (2 * suc f.node + 1) (omega arith) (λ n q. absurd (omega arith)))))
       old
@@ -301,7 +302,7 @@ module _ (m : Machine) (s : ℕ) (v : View) (z : IsSized m) (at : slice_get m.vi
       let t = linked_there k own in
       by_exchange 0 (2 * suc k.node + 1) 0 _ _
       (by_cell 0 0 _ (omega arith) (omega arith) (λ n q. absurd (omega arith))
-      (record { notes = old.notes; passed = old.passed; nodes = used_nodes s v.own k.node v.ready v.used v.homes (λ x. ap (own_times x) own) old.nodes; own = nothing_sized _; hand = λ x q. let same : k.node ≡ x = cc in subst (IsNode m.seats) same t.1; cursor = old.cursor }))
+      (record { notes = old.notes; passed = old.passed; nodes = used_nodes s v.own k.node v.ready v.used v.homes (λ x. ap (own_times x) own) old.nodes; own = nothing_sized m.seats _; hand = λ x q. let same : k.node ≡ x = cc in subst (IsNode m.seats) same t.1; cursor = old.cursor }))
       old
   sized_row step p (settle c cursor prev low) =
       let there = old.cursor c cursor in

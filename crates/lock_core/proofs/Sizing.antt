@@ -19,19 +19,21 @@ use Rattle.lock_core.proofs.Counts.{times_joined, once_after}
 use Rattle.lock_core.proofs.Words.{WroteCell}
 
 -- own nodes
-module _ (h now : Heap) (own : Own) (o : IsOwnSized h own) where
+module _ (seats : ℕ) (h now : Heap) (own : Own) (o : IsOwnSized seats h own) where
   -- no next word changed
-  pub own_same : ((c : ℕ) → now.next c ≡ h.next c) → IsOwnSized now own
+  pub own_same : ((c : ℕ) → now.next c ≡ h.next c) → IsOwnSized seats now own
   own_same e = record {
     filled = o.filled;
+    aim_there = o.aim_there;
     aimed = λ f w q q'. ap (λ n. n % 2) (e (suc f.node)) ∙ o.aimed f w q q';
     linked = λ k q. ap (λ n. n % 2) (e (suc k.node)) ∙ o.linked k q;
   }
 
   -- one next word changed, and no node's is odd by it
-  pub own_kept : (seats p x : ℕ) → WroteCell seats h now p x → ((n : ℕ) → p ≡ suc n → own_times n own ≡ 1 → x % 2 ≡ 0) → IsOwnSized now own
-  own_kept seats p x wrote even = record {
+  pub own_kept : (p x : ℕ) → WroteCell seats h now p x → ((n : ℕ) → p ≡ suc n → own_times n own ≡ 1 → x % 2 ≡ 0) → IsOwnSized seats now own
+  own_kept p x wrote even = record {
     filled = o.filled;
+    aim_there = o.aim_there;
     aimed = λ f w q q'. stays f.node (ap (own_times f.node) q ∙ ap (λ (b : Bool). if b then 1 else 0) (eq-eqb f.node f.node refl)) (o.aimed f w q q');
     linked = λ k q. stays k.node (ap (own_times k.node) q ∙ ap (λ (b : Bool). if b then 1 else 0) (eq-eqb k.node k.node refl)) (o.linked k q);
   }
@@ -43,13 +45,14 @@ module _ (h now : Heap) (own : Own) (o : IsOwnSized h own) where
           (λ (d : suc n ≢ p). ap (λ w. w % 2) (wrote.others (suc n) d) ∙ e)
           (cases_eq (suc n) p)
 
-pub nothing_sized : (h : Heap) → IsOwnSized h Nothing
-nothing_sized h = record { filled = λ f q. absurd (cc); aimed = λ f w q q'. absurd (cc); linked = λ k q. absurd (cc) }
+pub nothing_sized : (seats : ℕ) (h : Heap) → IsOwnSized seats h Nothing
+nothing_sized seats h = record { filled = λ f q. absurd (cc); aim_there = λ f w q q'. absurd (cc); aimed = λ f w q q'. absurd (cc); linked = λ k q. absurd (cc) }
 
 -- the same node with what is known of it changed
-pub linked_sized : (h : Heap) (k : Listed) → h.next (suc k.node) % 2 ≡ 0 → IsOwnSized h (listed k)
-linked_sized h k e = record {
+pub linked_sized : (seats : ℕ) (h : Heap) (k : Listed) → h.next (suc k.node) % 2 ≡ 0 → IsOwnSized seats h (listed k)
+linked_sized seats h k e = record {
   filled = λ f q. absurd (cc);
+  aim_there = λ f w q q'. absurd (cc);
   aimed = λ f w q q'. absurd (cc);
   linked = λ g q. let same : k.node ≡ g.node = cc in ap (λ n. h.next (suc n) % 2) (sym same) ∙ e;
 }
@@ -57,9 +60,10 @@ linked_sized h k e = record {
 pub same_filled : (f g : Filled) → filling f ≡ filling g → f ≡ g
 same_filled f g q = let some : Some f ≡ Some g = ap filled_of q in cc
 
-pub filling_sized : (h : Heap) (f : Filled) → IsFilledInOrder f → ((w : ℕ) → f.aimed ≡ Some w → h.next (suc f.node) % 2 ≡ 0) → IsOwnSized h (filling f)
-filling_sized h f o e = record {
+pub filling_sized : (seats : ℕ) (h : Heap) (f : Filled) → IsFilledInOrder f → ((w : ℕ) → f.aimed ≡ Some w → NamesNode seats w) → ((w : ℕ) → f.aimed ≡ Some w → h.next (suc f.node) % 2 ≡ 0) → IsOwnSized seats h (filling f)
+filling_sized seats h f o a e = record {
   filled = λ g q. subst IsFilledInOrder (same_filled f g q) o;
+  aim_there = λ g w q q'. subst (λ (b : Filled). (w : ℕ) → b.aimed ≡ Some w → NamesNode seats w) (same_filled f g q) a w q';
   aimed = λ g w q q'. subst (λ (a : Filled). (w : ℕ) → a.aimed ≡ Some w → h.next (suc a.node) % 2 ≡ 0) (same_filled f g q) e w q';
   linked = λ k q. absurd (cc);
 }
@@ -80,20 +84,20 @@ own_at_times (Linked node range mode FromHead) w x = split (w == 2 * suc node)
     split false = refl
 own_at_times (Linked node range mode Done) w x = refl
 
-own_at_sized : (h : Heap) (own : Own) (w : ℕ) → IsOwnSized h own → IsOwnSized h (own_at own w)
-own_at_sized h Nothing w o = o
-own_at_sized h (Filling node lo hi mode aimed) w o = o
-own_at_sized h (Linked node range mode Forward) w o = split (w == 0)
+own_at_sized : (seats : ℕ) (h : Heap) (own : Own) (w : ℕ) → IsOwnSized seats h own → IsOwnSized seats h (own_at own w)
+own_at_sized seats h Nothing w o = o
+own_at_sized seats h (Filling node lo hi mode aimed) w o = o
+own_at_sized seats h (Linked node range mode Forward) w o = split (w == 0)
   where
-    split : (b : Bool) → IsOwnSized h (if b then Linked node range mode Done else Linked node range mode Forward)
-    split true = linked_sized h (record { node = node; range = range; mode = mode; todo = Done }) (o.linked (record { node = node; range = range; mode = mode; todo = Forward }) refl)
+    split : (b : Bool) → IsOwnSized seats h (if b then Linked node range mode Done else Linked node range mode Forward)
+    split true = linked_sized seats h (record { node = node; range = range; mode = mode; todo = Done }) (o.linked (record { node = node; range = range; mode = mode; todo = Forward }) refl)
     split false = o
-own_at_sized h (Linked node range mode FromHead) w o = split (w == 2 * suc node)
+own_at_sized seats h (Linked node range mode FromHead) w o = split (w == 2 * suc node)
   where
-    split : (b : Bool) → IsOwnSized h (if b then Linked node range mode Done else Linked node range mode FromHead)
-    split true = linked_sized h (record { node = node; range = range; mode = mode; todo = Done }) (o.linked (record { node = node; range = range; mode = mode; todo = FromHead }) refl)
+    split : (b : Bool) → IsOwnSized seats h (if b then Linked node range mode Done else Linked node range mode FromHead)
+    split true = linked_sized seats h (record { node = node; range = range; mode = mode; todo = Done }) (o.linked (record { node = node; range = range; mode = mode; todo = FromHead }) refl)
     split false = o
-own_at_sized h (Linked node range mode Done) w o = o
+own_at_sized seats h (Linked node range mode Done) w o = o
 
 own_stopped_times : (own : Own) (x : ℕ) → own_times x (own_stopped own) ≡ own_times x own
 own_stopped_times Nothing x = refl
@@ -102,12 +106,12 @@ own_stopped_times (Linked node range mode Forward) x = refl
 own_stopped_times (Linked node range mode FromHead) x = refl
 own_stopped_times (Linked node range mode Done) x = refl
 
-own_stopped_sized : (h : Heap) (own : Own) → IsOwnSized h own → IsOwnSized h (own_stopped own)
-own_stopped_sized h Nothing o = o
-own_stopped_sized h (Filling node lo hi mode aimed) o = o
-own_stopped_sized h (Linked node range mode Forward) o = linked_sized h (record { node = node; range = range; mode = mode; todo = Done }) (o.linked (record { node = node; range = range; mode = mode; todo = Forward }) refl)
-own_stopped_sized h (Linked node range mode FromHead) o = o
-own_stopped_sized h (Linked node range mode Done) o = o
+own_stopped_sized : (seats : ℕ) (h : Heap) (own : Own) → IsOwnSized seats h own → IsOwnSized seats h (own_stopped own)
+own_stopped_sized seats h Nothing o = o
+own_stopped_sized seats h (Filling node lo hi mode aimed) o = o
+own_stopped_sized seats h (Linked node range mode Forward) o = linked_sized seats h (record { node = node; range = range; mode = mode; todo = Done }) (o.linked (record { node = node; range = range; mode = mode; todo = Forward }) refl)
+own_stopped_sized seats h (Linked node range mode FromHead) o = o
+own_stopped_sized seats h (Linked node range mode Done) o = o
 
 -- the lists of a view
 same_nodes : (i : ℕ) (own own' : Own) (ready used homes : List ℕ) → ((x : ℕ) → own_times x own' ≡ own_times x own) → AreNodesSized i own ready used homes → AreNodesSized i own' ready used homes
@@ -205,7 +209,7 @@ module _ (seats : ℕ) (h : Heap) (i : ℕ) where
     notes = o.notes;
     passed = o.passed;
     nodes = same_nodes i v.own (own_at v.own w) v.ready v.used v.homes (own_at_times v.own w) o.nodes;
-    own = own_at_sized h v.own w o.own;
+    own = own_at_sized seats h v.own w o.own;
     hand = o.hand;
     cursor = λ c q. let same : record { prev = prev; cur = w; next = None; lo = None; seen = seen_after seen w } ≡ c = cc in
         subst (IsCursorThere seats) same (record { prev = p; cur = there; next = λ w q. absurd (cc) });
@@ -223,7 +227,7 @@ module _ (seats : ℕ) (h : Heap) (i : ℕ) where
   }
 
   -- the own node changed, and not which it is
-  pub own_sized : (v : View) (own : Own) → ((x : ℕ) → own_times x own ≡ own_times x v.own) → IsOwnSized h own → IsViewSized seats h i v → IsViewSized seats h i (record v { own = own })
+  pub own_sized : (v : View) (own : Own) → ((x : ℕ) → own_times x own ≡ own_times x v.own) → IsOwnSized seats h own → IsViewSized seats h i v → IsViewSized seats h i (record v { own = own })
   own_sized v own e new o = record {
     notes = o.notes;
     passed = o.passed;
@@ -237,5 +241,5 @@ module _ (seats : ℕ) (h : Heap) (i : ℕ) where
   judged_sized v c y n Past node next there o = came_sized v (Some y) n c.seen (λ m q. let same : y ≡ m = cc in subst (IsNode seats) same node) next o
   judged_sized v c y n Stop node next there o =
       cursor_sized (record v { own = own_stopped v.own }) (record c { next = None }) (record { prev = there.prev; cur = there.cur; next = λ w q. absurd (cc) })
-      (own_sized v (own_stopped v.own) (own_stopped_times v.own) (own_stopped_sized h v.own o.own) o)
+      (own_sized v (own_stopped v.own) (own_stopped_times v.own) (own_stopped_sized seats h v.own o.own) o)
   judged_sized v c y n Conflict node next there o = o

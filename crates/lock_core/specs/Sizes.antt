@@ -37,9 +37,10 @@ pub record AreNodesSized (i : ℕ) (own : Own) (ready used homes : List ℕ) : T
   pub nodes : (x : ℕ) → own_times x own + times x ready + times x used ≤ (if x / 16 == i then 1 else 0)
   pub homes_used : (x : ℕ) → times x homes ≤ times x used
 
--- the next word of an own node that is aimed or linked has no low bit
-pub record IsOwnSized (h : Heap) (own : Own) : Type 0 where
+-- the next word of an own node that is aimed or linked has no low bit, and an aim names a node that is there, or the end
+pub record IsOwnSized (seats : ℕ) (h : Heap) (own : Own) : Type 0 where
   pub filled : (f : Filled) → own ≡ filling f → IsFilledInOrder f
+  pub aim_there : (f : Filled) (w : ℕ) → own ≡ filling f → f.aimed ≡ Some w → NamesNode seats w
   pub aimed : (f : Filled) (w : ℕ) → own ≡ filling f → f.aimed ≡ Some w → h.next (suc f.node) % 2 ≡ 0
   pub linked : (k : Listed) → own ≡ listed k → h.next (suc k.node) % 2 ≡ 0
 
@@ -48,7 +49,7 @@ pub record IsViewSized (seats : ℕ) (h : Heap) (i : ℕ) (v : View) : Type 0 wh
   pub notes : length v.notes ≡ seats
   pub passed : length v.passed ≡ seats
   pub nodes : AreNodesSized i v.own v.ready v.used v.homes
-  pub own : IsOwnSized h v.own
+  pub own : IsOwnSized seats h v.own
   pub hand : (x : ℕ) → v.hand ≡ Some x → IsNode seats x
   pub cursor : (c : Cursor) → v.cursor ≡ Some c → IsCursorThere seats c
 

@@ -53,6 +53,7 @@ pub trait Means<G: Guard> {
 }
 
 /// A guard that allows every step, and means nothing by it.
+#[derive(Clone, Copy, Debug, PartialEq, Eq)]
 pub struct FreeGuard;
 
 impl Guard for FreeGuard {
