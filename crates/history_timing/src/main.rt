@@ -1,5 +1,5 @@
-// Measures how long it takes to judge a history: it plays as many calls as its word says on some three hundred areas,
-// and asks `legal` about the entries. What it prints says nothing of time; docs/PROVING.md has what time(1) said.
+// Measures how long it takes to judge a history: it plays as many calls as its word says on 300 to 600 areas, and
+// asks `legal` about the entries. What it prints says nothing of time; docs/PROVING.md has what time(1) said.
 #![tactic(auto)]
 
 ghost use Rattle.page_types.specs.Named.{IsNamedCall};
@@ -12,7 +12,7 @@ use space_model::{Entry, PlainSpace, Under, have_named_calls, legal};
 use std::alloc::{AllocError, Global};
 use std::env;
 
-/// How many areas there are.
+/// How many areas are mapped; a part of each is changed in turn, so that there are at most twice as many.
 const AREAS: u32 = 300;
 
 fn main(rt: HostRuntime) -> Result<()> {
@@ -42,7 +42,7 @@ fn history(alloc: Global, count: u32) -> Result<Vec<Entry>, AllocError> {
         list.push(Entry {
             number: u64::from(i),
             worker: 0,
-            line: i,
+            line: i + 1,
             call,
             reply,
             under,

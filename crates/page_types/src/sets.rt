@@ -154,7 +154,7 @@ pub enum Access {
 impl Access {
     /// The protection that lets this access through: exactly one bit, since writing doesn't imply reading.
     pub fn needs(self) -> Prot
-        ensures { result.0 ≡ access_bit self }
+        ensures { prot_bits result ≡ access_bit self }
     {
         match self {
             Access::Read => Prot::READ,

@@ -3,9 +3,12 @@ use Rattle.std.proofs.Common.{◌≡◌, ℕ, ◌+◌, List, [], ◌∷◌, ◌+
 use Rattle.page_types.specs.declared.calls.Reply.{Reply}
 use Rattle.space_model.specs.declared.areas.Area.{Area}
 use Rattle.space_model.specs.declared.entries.Entry.{Entry}
+use Rattle.space_model.specs.Areas.{IsAreaList}
 use Rattle.space_model.specs.Answers.{Answers}
+use Rattle.space_model.specs.Laws.{LeavesAreaListAfter}
 use Rattle.space_model.specs.History.{StateAfter, IsLegalFrom, IsLegal}
 use Rattle.space_model.proofs.OneAnswer.{one_answer}
+use Rattle.space_model.proofs.SomeAnswer.{some_answer, leaves_areas}
 
 pub after_more : (A : List Area) (xs : List Entry) (B : List Area) (e : Entry) (r : Reply) (C : List Area) →
     StateAfter A xs B → Answers B e.call r C → StateAfter A (xs ++ e ∷ []) C
@@ -62,6 +65,12 @@ pub split_state : (A : List Area) (xs ys : List Entry) (C : List Area) → State
     (B : List Area) × StateAfter A xs B × StateAfter B ys C
 split_state A [] ys C s = (A, refl, s)
 split_state A (x ∷ xs) ys C (q, D, g, s) = let (B, t, u) = split_state D xs ys C s in (B, (q, D, g, t), u)
+
+pub area_state : (A : List Area) (xs : List Entry) → IsAreaList A → LeavesAreaListAfter A xs
+area_state A [] w = (A, w, refl)
+area_state A (x ∷ xs) w =
+    let (r, C, g) = some_answer A x.call w in
+    let (B, v, s) = area_state C xs (leaves_areas A x.call r C w g) in (B, v, (r, C, g, s))
 
 legal_state_from : (n : ℕ) (A : List Area) (xs : List Entry) → IsLegalFrom n A xs → (B : List Area) × StateAfter A xs B
 legal_state_from n A [] l = (A, refl)

@@ -8,6 +8,7 @@ pub mod Stepping
 pub mod InOrder
 pub mod Simple
 pub mod OneAnswer
+pub mod SomeAnswer
 pub mod TwiceOnce
 pub mod FourWays
 pub mod Histories

@@ -41,7 +41,7 @@ exclusive_not_fixed : (flags : MapFlags) → NoReplace flags → Replaces flags 
 exclusive_not_fixed flags n r = true≢false (sym n ∙ r.may)
 
 -- the lowest page of a sort is one
-some_isnt_none : (o : Option Kind) → IsSome o → o ≡ None → ⊥
+pub some_isnt_none : (o : Option Kind) → IsSome o → o ≡ None → ⊥
 some_isnt_none None s e = cc
 some_isnt_none (Some k) s e = cc
 

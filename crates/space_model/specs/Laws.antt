@@ -1,5 +1,5 @@
--- Laws of the definitions, each proved on a public function with no body: that the definitions say what they are
--- meant to. They follow from the definitions alone.
+-- Laws of the definitions, each proved on a public function with no body: that the definitions hold together, as a
+-- reader expects them to. They follow from the definitions alone.
 use Rattle.std.specs.Prelude.{ℕ, ◌≡◌, ◌≢◌, ◌<◌, ◌≤◌, ◌+◌, ◌⊎◌, ◌↔◌, Some, None, List, ◌++◌, map}
 use Rattle.page_types.specs.declared.calls.Kind.{Kind}
 use Rattle.page_types.specs.declared.calls.Call.{Call}
@@ -20,11 +20,15 @@ use Rattle.space_model.specs.declared.entries.Entry.{Entry}
 use Rattle.space_model.specs.History.{StateAfter, IsLegal}
 use Rattle.space_model.specs.Held.{LiesIn, IsSimpleIn, kind_before}
 
--- a call has one answer, and leaves one area list
+-- a call has at most one answer, and leaves at most one list of areas
 abbrev pub HasOneAnswer : List Area → Call → Type 0
 HasOneAnswer A c = (r s : Reply) (B C : List Area) → Answers A c r B → Answers A c s C → (r ≡ s) × (B ≡ C)
 
--- the call leaves an area list
+-- a call has an answer
+abbrev pub HasSomeAnswer : List Area → Call → Type 0
+HasSomeAnswer A c = (r : Reply) × (B : List Area) × Answers A c r B
+
+-- what a call leaves is an area list
 abbrev pub LeavesAreaList : List Area → Call → Type 0
 LeavesAreaList A c = (r : Reply) (B : List Area) → Answers A c r B → IsAreaList B
 
@@ -58,7 +62,7 @@ SimpleInFourCases A a addr len prot =
     protect_reply addr len ≡ None → LiesIn A a (page_of addr) (end_page addr len) →
     IsSimpleIn A (Protect addr len prot) a ↔ FourCases A a (page_of addr) (end_page addr len) (protected_kind prot a.kind)
 
--- the entries leave one area list
+-- the entries leave at most one list of areas
 abbrev pub LeavesOneList : List Area → List Entry → Type 0
 LeavesOneList A entries = (B C : List Area) → StateAfter A entries B → StateAfter A entries C → B ≡ C
 
@@ -76,6 +80,10 @@ SameCallsSameReplies A entries others =
     IsLegal A entries → IsLegal A others → map (λ e. e.call) entries ≡ map (λ e. e.call) others →
     (map (λ e. e.number) entries ≡ map (λ e. e.number) others) × (map (λ e. e.reply) entries ≡ map (λ e. e.reply) others)
 
--- a legal history leaves an area list
+-- the entries leave an area list
+abbrev pub LeavesAreaListAfter : List Area → List Entry → Type 0
+LeavesAreaListAfter A entries = (B : List Area) × IsAreaList B × StateAfter A entries B
+
+-- a legal history leaves a list of areas
 abbrev pub LegalLeavesList : List Area → List Entry → Type 0
 LegalLeavesList A entries = IsLegal A entries → (B : List Area) × StateAfter A entries B

@@ -1,4 +1,5 @@
-//! Why a list of areas makes no address space.
+//! Why a list of areas makes no address space. A refusal names the first wrong area, so that a caller can point to it;
+//! want of memory is a case of its own, and comes only for a list that is in order. `Explains` in `specs/` says both.
 
 use thiserror::Error;
 

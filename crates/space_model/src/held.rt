@@ -1,5 +1,6 @@
-//! What a Protect has to hold: its area, where the change keeps the number of areas and of gaps, and
-//! otherwise everything.
+//! What a Protect has to hold: its area, where the change keeps the number of areas and of gaps, and otherwise
+//! everything, after the speculative mprotect of Kogan, Dice and Issa, EuroSys 2020. `IsSimple` in `specs/` counts on
+//! the lists before and after; the code looks at the two ends of the span alone, where rows may start or cease.
 
 ghost use Rattle.std.specs.Prelude.{◌≡◌, ◌≢◌, ◌+◌, ◌-◌, ◌<◌, ◌≤◌, ◌↔◌, min, None, Some, IsTrue, MatchOption, length};
 ghost use Rattle.page_types.specs.declared.TheConstants.{LIMIT};

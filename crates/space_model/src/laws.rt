@@ -1,5 +1,6 @@
-//! Laws of the definitions, each the contract of a function that does nothing. They say that the definitions
-//! mean what they are meant to: a wrong place, effect or refusal would break one of them.
+//! Laws of the definitions, each the contract of a function that does nothing. They show that the definitions hold
+//! together: each call has one answer, a fault finds what a Map gave, and what was done twice was done once. Which
+//! place, effect and refusal are the right ones, the definitions alone say; tests compare them with worked cases.
 
 ghost use Rattle.std.specs.Prelude.{ℕ, List, ◌+◌};
 ghost use Rattle.page_types.specs.declared.calls.Call.{Call};
@@ -8,8 +9,8 @@ ghost use Rattle.page_types.specs.declared.sets.MapFlags.{MapFlags};
 ghost use Rattle.page_types.specs.declared.sets.Prot.{Prot};
 ghost use Rattle.space_model.specs.declared.areas.Area.{Area};
 ghost use Rattle.space_model.specs.Areas.{IsAreaList, OnlyOneHasKinds};
-ghost use Rattle.space_model.specs.Laws.{HasOneAnswer, LeavesAreaList, FaultFindsMapped, DoneTwiceIsOnce, AddsTwoRows, SimpleInFourCases};
-ghost use Rattle.space_model.specs.Laws.{LeavesOneList, LegalLeavesList, BeginningsAreLegal, StateAfterBoth, SameCallsSameReplies};
+ghost use Rattle.space_model.specs.Laws.{HasSomeAnswer, HasOneAnswer, LeavesAreaList, FaultFindsMapped, DoneTwiceIsOnce, AddsTwoRows, SimpleInFourCases};
+ghost use Rattle.space_model.specs.Laws.{LeavesAreaListAfter, LeavesOneList, LegalLeavesList, BeginningsAreLegal, StateAfterBoth, SameCallsSameReplies};
 ghost use Rattle.space_model.specs.declared.entries.Entry.{Entry};
 
 /// Only one area list has given kinds.
@@ -17,8 +18,9 @@ pub fn only_one_list_has_kinds()
     ensures { (A B : List Area) → OnlyOneHasKinds A B }
 {}
 
-/// A call on an area list has one answer, and leaves one area list.
+/// Each call on an area list has one answer, and leaves one list, which is an area list.
 pub fn calls_have_one_answer()
+    ensures some { (A : List Area) (c : Call) → IsAreaList A → HasSomeAnswer A c }
     ensures one { (A : List Area) (c : Call) → HasOneAnswer A c }
     ensures list { (A : List Area) (c : Call) → IsAreaList A → LeavesAreaList A c }
 {}
@@ -52,8 +54,9 @@ pub fn simple_protects_are_of_four_kinds()
     ensures { (A : List Area) (a : Area) (addr len : ℕ) (prot : Prot) → IsAreaList A → SimpleInFourCases A a addr len prot }
 {}
 
-/// The entries of a history leave one state, and a legal history leaves one.
+/// Any entries leave one state from an area list, and it is an area list; a legal history leaves one from any list.
 pub fn histories_leave_one_state()
+    ensures every { (A : List Area) (entries : List Entry) → IsAreaList A → LeavesAreaListAfter A entries }
     ensures one { (A : List Area) (entries : List Entry) → LeavesOneList A entries }
     ensures some { (A : List Area) (entries : List Entry) → LegalLeavesList A entries }
 {}

@@ -2,7 +2,7 @@ use crate::{
     Area, AreasFault, Entry, NotAreas, PlainSpace, Under, by_number, have_named_calls,
     have_named_kinds, legal,
 };
-use page_types::{Access, Call, Field, Kind, MapFlags, PAGE, Prot, Reply, Short, Span, Why};
+use page_types::{Access, Call, Field, Kind, LIMIT, MapFlags, PAGE, Prot, Reply, Short, Span, Why};
 use std::alloc::{AllocError, Global};
 use std::process::Abort;
 use std::test::Fail;
@@ -331,6 +331,92 @@ fn a_place_is_the_lowest_conflict_or_the_highest_fit(rt: HostRuntime) -> Result<
         ]
         .as_slice()
     );
+    Ok(())
+}
+
+#[test]
+fn a_place_without_a_fixed_flag_starts_at_page_16_or_above(rt: HostRuntime) -> Result<(), Fail> {
+    let mut space = PlainSpace::new(rt.alloc());
+    let pages = LIMIT - 16;
+    let both = MapFlags::FIXED | MapFlags::FIXED_NOREPLACE;
+    play(
+        &rt,
+        &mut space,
+        &[
+            Row(
+                map(0, (pages + 1) * PAGE, Prot::READ, MapFlags::PRIVATE),
+                Under::Whole,
+                Reply::Refused(Why::Enomem(Short::NoGap(pages + 1))),
+            ),
+            Row(
+                map(0, pages * PAGE, Prot::READ, MapFlags::PRIVATE),
+                Under::Whole,
+                Reply::At(0x10000),
+            ),
+            Row(
+                Call::Unmap {
+                    addr: 0x10000,
+                    len: pages * PAGE,
+                },
+                Under::Whole,
+                Reply::Zero,
+            ),
+            Row(
+                map(0x10fff, 1, Prot::READ, MapFlags::PRIVATE),
+                Under::Whole,
+                Reply::At(0x10000),
+            ),
+            Row(
+                map(0xf000, 4096, Prot::READ, MapFlags::PRIVATE),
+                Under::Whole,
+                Reply::At(0x7fff_ffff_e000),
+            ),
+            Row(
+                map(0x10000, 4096, Prot::READ, MapFlags::PRIVATE | both),
+                Under::Whole,
+                Reply::Refused(Why::Eexist(16)),
+            ),
+        ],
+    )?;
+    Ok(())
+}
+
+#[test]
+fn a_protect_keeps_the_sharing(rt: HostRuntime) -> Result<(), Fail> {
+    let mut space = PlainSpace::new(rt.alloc());
+    let kind = Kind {
+        prot: Prot::READ,
+        shared: true,
+    };
+    play(
+        &rt,
+        &mut space,
+        &[
+            Row(
+                map(
+                    0x20000,
+                    4096,
+                    read_write(),
+                    MapFlags::SHARED | MapFlags::FIXED,
+                ),
+                Under::Whole,
+                Reply::At(0x20000),
+            ),
+            Row(
+                protect(0x20000, 4096, Prot::READ),
+                Under::Area(Span { lo: 31, hi: 34 }),
+                Reply::Zero,
+            ),
+            Row(
+                Call::Fault {
+                    addr: 0x20000,
+                    access: Access::Read,
+                },
+                Under::Reader(Span { lo: 32, hi: 33 }),
+                Reply::Granted(kind),
+            ),
+        ],
+    )?;
     Ok(())
 }
 

@@ -1,5 +1,8 @@
-use Rattle.space_model.proofs.Histories.{one_state, legal_state}
+use Rattle.space_model.proofs.Histories.{area_state, one_state, legal_state}
 use Rattle.space_model.proofs.laws.histories_leave_one_state.Goals as goal
+
+pub returns-clause-every : goal.returns-clause-every
+returns-clause-every c = area_state
 
 pub returns-clause-one : goal.returns-clause-one
 returns-clause-one c = one_state
