@@ -1,6 +1,7 @@
 -- A space at its opening: its words and its callers meet the guard, and the callers come in order.
 use Rattle.std.proofs.Common.{◌≡◌, ℕ, zero, suc, ◌+◌, ◌-◌, ◌<◌, ◌≤◌, List, [], ◌∷◌, ◌++◌, take, length, get_or, replicate, sym, refl, ap, ◌∙◌, subst, arith, length-append}
 use Rattle.std.proofs.lemmas.List.{length-replicate}
+use Rattle.std.proofs.lemmas.List.Elements.{All-nil}
 use Rattle.std.specs.Prelude.{Some, None, remove, slice_index}
 use mathlib.Core.Option.{some, some-injective, some-ne-none}
 use lib.ListN.{get_elem?}
@@ -8,7 +9,9 @@ use lib.Seq.{take-append_seam}
 use Rattle.atomic_table.specs.Seated.{TableId}
 use Rattle.atomic_table.proofs.Lists.{at_index}
 use Rattle.page_types.specs.declared.TheConstants.{ROWS}
+use Rattle.page_types.specs.Named.{IsNamedCall, IsNamedReply}
 use Rattle.space_model.specs.declared.areas.Area.{Area}
+use Rattle.space_model.specs.declared.entries.Entry.{Entry}
 use Rattle.space_model.specs.Areas.{IsAreaList, HasNamedKinds, kind_at, row_count}
 use Rattle.space_model.proofs.AreaKinds.{above_zero}
 use Rattle.lock_core.specs.Grants.{Grants}
@@ -78,7 +81,10 @@ runs_new : (start : List Area) (callers : ℕ) → IsAreaList start → HasNamed
 runs_new start callers areas named few most = record {
   callers = let l = length-passes (new_pass start) 0 callers in omega arith;
   runs = refl;
+  calls = All-nil (λ (e : Entry). IsNamedCall e.call);
+  replies = All-nil (λ (e : Entry). IsNamedReply e.reply);
   in_order = areas;
+  named = named;
   number = refl;
   sequence = refl;
   rows = opens_rows start areas named few;

@@ -32,7 +32,7 @@ length_map : {A B : Type 0} (f : A → B) (l : List A) → length (map f l) ≡ 
 length_map f [] = refl
 length_map f (x ∷ xs) = ap suc (length_map f xs)
 
-elem_at : {A : Type 0} (l : List A) (i : ℕ) → i < length l → (a : A) × (get_elem? l i ≡ some a)
+pub elem_at : {A : Type 0} (l : List A) (i : ℕ) → i < length l → (a : A) × (get_elem? l i ≡ some a)
 elem_at [] i lt = absurd (omega arith)
 elem_at (x ∷ xs) zero lt = (x, refl)
 elem_at (x ∷ xs) (suc i) lt = elem_at xs i (omega arith)
@@ -64,7 +64,7 @@ at_kept (x ∷ xs) [] k v all at = absurd all
 at_kept (x ∷ xs) (y ∷ ys) zero v all at = (x, refl, subst (λ (z : CallerView). x.mine.items ≡ z.seat.pass.mine) (some-injective y v at) all.0)
 at_kept (x ∷ xs) (y ∷ ys) (suc k) v all at = at_kept xs ys k v all.1 at
 
-runs_number : (history : List Entry) (n : ℕ) (A B : List Area) (i : ℕ) (e : Entry) → Runs n A history B → get_elem? history i ≡ some e → e.number ≡ n + i
+pub runs_number : (history : List Entry) (n : ℕ) (A B : List Area) (i : ℕ) (e : Entry) → Runs n A history B → get_elem? history i ≡ some e → e.number ≡ n + i
 runs_number [] n A B i e r at = absurd (some-ne-none e (sym at))
 runs_number (x ∷ xs) n A B zero e r at = let z : n ≡ n + 0 = omega arith in ap (λ (y : Entry). y.number) (sym (some-injective x e at)) ∙ (r.0 ∙ z)
 runs_number (x ∷ xs) n A B (suc i) e r at = let z : n + 1 + i ≡ n + suc i = omega arith in runs_number xs (n + 1) r.2.0 B i e r.2.2 at ∙ z
@@ -76,12 +76,12 @@ own_here worker x xs mine true is rest (suc j) e at = let r = rest j e at in (su
 own_here worker x xs mine false is rest j e at = let r = rest j e at in (suc r.0, r.1, r.2)
 
 -- an entry of a caller stands in the history
-own_at : (worker : ℕ) (history : List Entry) (j : ℕ) (e : Entry) → get_elem? (entries_of worker history) j ≡ some e → (i : ℕ) × (get_elem? history i ≡ some e) × (e.worker ≡ worker)
+pub own_at : (worker : ℕ) (history : List Entry) (j : ℕ) (e : Entry) → get_elem? (entries_of worker history) j ≡ some e → (i : ℕ) × (get_elem? history i ≡ some e) × (e.worker ≡ worker)
 own_at worker [] j e at = absurd (some-ne-none e (sym at))
 own_at worker (x ∷ xs) j e at = own_here worker x xs (entries_of worker xs) (eqb x.worker worker) refl (own_at worker xs) j e at
 
 -- an entry of the history stands among those of its caller
-at_own : (worker : ℕ) (history : List Entry) (i : ℕ) (e : Entry) → get_elem? history i ≡ some e → e.worker ≡ worker → (j : ℕ) × (get_elem? (entries_of worker history) j ≡ some e)
+pub at_own : (worker : ℕ) (history : List Entry) (i : ℕ) (e : Entry) → get_elem? history i ≡ some e → e.worker ≡ worker → (j : ℕ) × (get_elem? (entries_of worker history) j ≡ some e)
 at_own worker [] i e at is = absurd (some-ne-none e (sym at))
 at_own worker (x ∷ xs) zero e at is = (0, ap (λ b. get_elem? (cond b (x ∷ entries_of worker xs) (entries_of worker xs)) 0) (eq-eqb x.worker worker (ap (λ (y : Entry). y.worker) (some-injective x e at) ∙ is)) ∙ at)
 at_own worker (x ∷ xs) (suc i) e at is =
@@ -131,6 +131,10 @@ module _ (start : List Area) (history : List Entry) (state : List Area) (words :
         let s : areas ≡ state = is ∙ areas_back (rows_in words) state r.rows.show r.in_order in
         subst (λ (z : List Entry × List Area). IsWhole callers z.0 z.1) (λ i. (sym e i, sym s i)) (record {
           runs = λ k c at. subst (λ a. Runs 0 a history state) (sym (r.parts k c.seat.pass (map_at pass_of callers k c at)).began) r.runs;
+          calls = r.calls;
+          replies = r.replies;
+          in_order = r.in_order;
+          named = r.named;
           mine = λ k c at. (r.parts k c.seat.pass (map_at pass_of callers k c at)).mine;
           seen = λ k c at. (r.parts k c.seat.pass (map_at pass_of callers k c at)).seen;
           no_other = λ k le. r.no_other k (let l = length_map pass_of callers in omega arith);
@@ -171,7 +175,7 @@ caller_step history kept old new mine n c at is all keeps places before k d lt t
     ]
 
 -- the areas of the rows that are left
-drop_all : {A : Type 0} (l : List A) (i : ℕ) → length l ≤ i → drop i l ≡ []
+pub drop_all : {A : Type 0} (l : List A) (i : ℕ) → length l ≤ i → drop i l ≡ []
 drop_all [] zero le = refl
 drop_all [] (suc i) le = refl
 drop_all (x ∷ xs) zero le = absurd (omega arith)

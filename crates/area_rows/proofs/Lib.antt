@@ -5,3 +5,4 @@ pub mod Reading
 pub mod Beginning
 pub mod Gathering
 pub mod Pairing
+pub mod Storing

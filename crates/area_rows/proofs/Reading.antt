@@ -1,19 +1,23 @@
 -- What the rows that a caller has read show of the history's state.
-use Rattle.std.proofs.Common.{◌≡◌, ◌≢◌, ℕ, zero, suc, ◌+◌, ◌-◌, ◌<◌, ◌≤◌, List, [], ◌∷◌, length, get_or, sym, refl, ap, ◌∙◌, subst, arith, ◌⊎◌, inl, inr, ⊎_elim}
+use Rattle.std.proofs.Common.{◌≡◌, ◌≢◌, ℕ, zero, suc, ◌+◌, ◌-◌, ◌<◌, ◌≤◌, List, [], ◌∷◌, drop, length, get_or, sym, refl, ap, ◌∙◌, subst, arith, ◌⊎◌, inl, inr, ⊎_elim}
 use Rattle.std.specs.Prelude.{Option, Some, slice_index}
 use Rattle.page_types.specs.declared.TheConstants.{LIMIT}
 use Rattle.page_types.specs.declared.calls.Kind.{Kind}
+use mathlib.Core.Option.{some}
+use lib.ListN.{get_elem?}
+use Rattle.space_model.specs.declared.areas.Area.{Area}
 use Rattle.space_model.specs.Areas.{kind_at}
 use Rattle.lock_core.specs.declared.range.Held.{Held}
 use Rattle.range_rw.specs.Seats.{Known}
 use Rattle.area_rows.specs.declared.guard.ReadRow.{ReadRow}
 use Rattle.area_rows.specs.declared.guard.Pass.{Pass}
 use Rattle.area_rows.specs.RowWords.{row_start, row_kind}
-use Rattle.area_rows.specs.Rows.{rows_in, RowsShow}
-use Rattle.area_rows.specs.History.{StillStand, after_row}
-use Rattle.area_rows.specs.Callers.{IsHeldPage, IsHeldBelow, HasRead, RowIs, Shows, IsReading, IsStep}
+use Rattle.area_rows.specs.Rows.{rows_in, start_of, RowsShow}
+use Rattle.area_rows.specs.History.{StillStand, after_count, after_row}
+use Rattle.area_rows.specs.Callers.{IsHeldPage, IsHeldBelow, HasRead, KeepsRead, EndsAt, IsAsRead, RowIs, Shows, IsReading, IsStep}
 use Rattle.area_rows.proofs.RowLists.{row_says}
-use Rattle.area_rows.proofs.Stepping.{length-rows_in, at_row, first_row}
+use Rattle.area_rows.proofs.Stepping.{length-rows_in, at_row, first_row, row_below}
+use Rattle.area_rows.proofs.Gathering.{next_start, drop_all}
 
 -- what the word of a row says, of those that show kinds
 record WordSays (words : List ℕ) (kinds : ℕ → Option Kind) (i : ℕ) : Type 0 where
@@ -29,7 +33,7 @@ word_says words kinds i s lt =
     let r = row_says 0 rows kinds i s.show (omega arith) in
     let here : get_or rows i 0 ≡ slice_index words (3 + i) = at_row words i lt in
     record {
-      below = subst (λ w. row_start w < LIMIT) here r.below;
+      below = row_below words kinds i s lt;
       within = λ p from low next. subst (λ w. kinds p ≡ row_kind w) here (r.within p (subst (λ w. row_start w ≤ p) (sym here) from) low (λ l. subst (λ w. p < row_start w) (sym (at_row words (i + 1) (omega arith))) (next (omega arith))));
       rises = λ l. subst (λ (z : ℕ × ℕ). row_start z.0 < row_start z.1) (λ k. (here k, at_row words (i + 1) l k)) (r.rises (omega arith));
       differs = λ l. subst (λ (z : ℕ × ℕ). row_kind z.0 ≢ row_kind z.1) (λ k. (here k, at_row words (i + 1) l k)) (r.differs (omega arith));
@@ -39,10 +43,6 @@ word_says words kinds i s lt =
 stands : (words : List ℕ) (rows : List ReadRow) (i w : ℕ) → StillStand words rows → HasRead rows i w → slice_index words (3 + i) ≡ w
 stands words [] i w s h = absurd h
 stands words (r ∷ rest) i w s h = ⊎_elim (λ t. ap (λ n. slice_index words (3 + n)) (sym t.0) ∙ (s.0 ∙ t.1)) (λ t. stands words rest i w s.1 t) h
-
--- where a row ends: at the start of the next one, or at LIMIT
-abbrev pub EndsAt : List ReadRow → ℕ → ℕ → ℕ → Type 0
-EndsAt rows count index hi = ((index + 1 < count) × (next : ℕ) × HasRead rows (index + 1) next × (hi ≡ row_start next)) ⊎ ((index + 1 ≡ count) × (hi ≡ LIMIT))
 
 pub below_end : (held : Option Held) (p : ℕ) → IsHeldBelow held LIMIT → IsHeldPage held p → p < LIMIT
 below_end held p below h = let b = below h.0 h.1 in let l = h.3 in omega arith
@@ -83,21 +83,32 @@ module _ (words : List ℕ) (kinds : ℕ → Option Kind) (s : RowsShow words ki
       (word_says words kinds index s (omega arith)).differs (omega arith)
       (ap row_kind is ∙ (sym same ∙ v.within hi (omega arith) (omega arith) (λ l. let r = v.rises l in omega arith)))
 
+-- the row ends where the next one starts, or at the limit
+end_is : (words : List ℕ) (kinds : ℕ → Option Kind) → RowsShow words kinds → (count index hi : ℕ) → slice_index words 2 ≡ count → (index + 1 < count → hi ≡ row_start (slice_index words (3 + (index + 1))))
+    → (index + 1 < count) ⊎ ((index + 1 ≡ count) × (hi ≡ LIMIT)) → start_of (drop (index + 1) (rows_in words)) ≡ hi
+end_is words kinds s count index hi counts next ends =
+    let wide = s.room in let few = s.few in let l = length-rows_in words kinds s in
+    ⊎_elim
+    (λ more. next_start words index (omega arith) (omega arith) ∙ sym (next more))
+    (λ t. let done = t.0 in ap start_of (drop_all (rows_in words) (index + 1) (omega arith)) ∙ sym t.1)
+    ends
+
 row_is : (seat : Known Pass) (held : Option Held) (page count index word hi : ℕ) → IsHeldBelow held LIMIT → seat.pass.count ≡ Some count → HasRead seat.pass.rows index word → index < count → row_start word ≤ page → page < hi
     → EndsAt seat.pass.rows count index hi → Shows seat (RowIs held page (record { index = index; lo = row_start word; hi = hi; kind = row_kind word }))
-row_is seat held page count index word hi below counted read lt from until ends grants words passes pass start history state r granted own same_count same_rows =
-    let part = r.parts seat.number pass own in
-    let counts : slice_index words 2 ≡ count = part.count count (same_count ∙ counted) in
-    let stand : StillStand words seat.pass.rows = subst (StillStand words) same_rows part.rows in
-    let is : slice_index words (3 + index) ≡ word = stands words seat.pass.rows index word stand read in
+row_is seat held page count index word hi below counted read lt from until ends start history state words m =
+    let r = m.running in
+    let part = r.parts seat.number m.pass m.own in
+    let counts : slice_index words 2 ≡ count = part.count count (m.read.count count counted) in
+    let is : slice_index words (3 + index) ≡ word = stands words m.pass.rows index word part.rows (m.read.rows index word read) in
     let kinds = kind_at state in
     let next : index + 1 < count → hi ≡ row_start (slice_index words (3 + (index + 1))) =
-    λ more. ⊎_elim (λ t. t.3 ∙ ap row_start (sym (stands words seat.pass.rows (index + 1) t.1 stand t.2))) (λ t. absurd (let e = t.0 in omega arith)) ends in
+    λ more. ⊎_elim (λ t. t.3 ∙ ap row_start (sym (stands words m.pass.rows (index + 1) t.1 part.rows (m.read.rows (index + 1) t.1 t.2)))) (λ t. absurd (let e = t.0 in omega arith)) ends in
     record {
       index = record { there = omega arith; from = subst (λ w. row_start w ≤ page) (sym is) from; last = λ more. let e = next (omega arith) in omega arith };
       kind = λ p h low high. in_row words kinds r.rows page count index word counts is lt hi p next low high (below_end held p below h);
       next = λ h. let b = below_end held hi below h in ⊎_elim (λ t. after_row_page words kinds r.rows page count index word counts is lt hi t.0 (next t.0)) (λ t. absurd (let e = t.1 in omega arith)) ends;
       previous = λ more h. before_row words kinds r.rows page count index word counts is lt more;
+      ends = λ _. (ap row_start is, end_is words kinds r.rows count index hi counts next (⊎_elim (λ t. inl t.0) (λ t. inr t) ends));
     }
 
 pub shows_row : (seat : Known Pass) (held : Option Held) (page count index word lo hi : ℕ) (kind : Option Kind) → lo ≡ row_start word → kind ≡ row_kind word → IsHeldBelow held LIMIT → seat.pass.count ≡ Some count → HasRead seat.pass.rows index word → index < count → row_start word ≤ page → page < hi
@@ -105,14 +116,48 @@ pub shows_row : (seat : Known Pass) (held : Option Held) (page count index word 
 shows_row seat held page count index word lo hi kind l k below counted read lt from until ends =
     subst (λ (z : ℕ × Option Kind). Shows seat (RowIs held page (record { index = index; lo = z.0; hi = hi; kind = z.1 }))) (λ i. (sym l i, sym k i)) (row_is seat held page count index word hi below counted read lt from until ends)
 
+-- what was read stays read
+pub keeps_on : (a b c : Pass) → KeepsRead a b → KeepsRead b c → KeepsRead a c
+keeps_on a b c f g = record { count = λ n e. g.count n (f.count n e); rows = λ index word h. g.rows index word (f.rows index word h) }
+
 pub reading_on : (a b c : Known Pass) → IsReading a b → IsReading b c → IsReading a c
-reading_on a b c f g = record { table = g.table ∙ f.table; number = g.number ∙ f.number; held = g.held ∙ f.held; start = g.start ∙ f.start; seen = g.seen ∙ f.seen; mine = g.mine ∙ f.mine }
+reading_on a b c f g = record { table = g.table ∙ f.table; number = g.number ∙ f.number; held = g.held ∙ f.held; start = g.start ∙ f.start; seen = g.seen ∙ f.seen; mine = g.mine ∙ f.mine; read = keeps_on a.pass b.pass c.pass f.read g.read }
 
 pub no_reading : (a : Known Pass) → IsReading a a
-no_reading a = record { table = refl; number = refl; held = refl; start = refl; seen = refl; mine = refl }
+no_reading a = record { table = refl; number = refl; held = refl; start = refl; seen = refl; mine = refl; read = record { count = λ n e. e; rows = λ index word h. h } }
 
-pub step_reads : (a b : Known Pass) (p : Pass) → IsStep a p b → p.start ≡ a.pass.start → p.seen ≡ a.pass.seen → p.mine ≡ a.pass.mine → IsReading a b
-step_reads a b p s x y z = record { table = s.table; number = s.number; held = s.held; start = ap (λ (q : Pass). q.start) s.pass ∙ x; seen = ap (λ (q : Pass). q.seen) s.pass ∙ y; mine = ap (λ (q : Pass). q.mine) s.pass ∙ z }
+step_reads : (a b : Known Pass) (p : Pass) → IsStep a p b → p.start ≡ a.pass.start → p.seen ≡ a.pass.seen → p.mine ≡ a.pass.mine → KeepsRead a.pass p → IsReading a b
+step_reads a b p s x y z k = record {
+  table = s.table;
+  number = s.number;
+  held = s.held;
+  start = ap (λ (q : Pass). q.start) s.pass ∙ x;
+  seen = ap (λ (q : Pass). q.seen) s.pass ∙ y;
+  mine = ap (λ (q : Pass). q.mine) s.pass ∙ z;
+  read = subst (KeepsRead a.pass) (sym s.pass) k;
+}
+
+same_some : (n m : ℕ) → n ≡ m → Some n ≡ Some m
+same_some n m e = ap Some e
+
+pub count_reads : (a b : Known Pass) (n : ℕ) → IsStep a (after_count n a.pass) b → ((m : ℕ) → a.pass.count ≡ Some m → n ≡ m) → IsReading a b
+count_reads a b n s again = step_reads a b (after_count n a.pass) s refl refl refl (record { count = λ m e. same_some n m (again m e); rows = λ index word h. h })
+
+pub row_reads : (a b : Known Pass) (index word : ℕ) → IsStep a (after_row index word a.pass) b → IsReading a b
+row_reads a b index word s = step_reads a b (after_row index word a.pass) s refl refl refl (record { count = λ n e. e; rows = λ i w h. inr h })
+
+-- what a range has shown lasts while the caller reads more rows
+pub shows_on : (a b : Known Pass) (what : List ℕ → List Area → Type 0) → IsReading a b → Shows a what → Shows b what
+shows_on a b what r shows start history state words m = shows start history state words (record {
+  grants = m.grants;
+  passes = m.passes;
+  pass = m.pass;
+  running = m.running;
+  exclusive = m.exclusive;
+  granted = ap (get_elem? m.grants) (sym r.number) ∙ (m.granted ∙ ap some r.held);
+  own = ap (get_elem? m.passes) (sym r.number) ∙ m.own;
+  read = keeps_on a.pass b.pass m.pass r.read m.read;
+})
 
 -- the row before one that starts above the page
 pub found_row : (old new : Known Pass) (held : Option Held) (page count index word next lo hi : ℕ) (kind : Option Kind) → IsStep old (after_row (index + 1) next old.pass) new → lo ≡ row_start word → kind ≡ row_kind word → hi ≡ row_start next → IsHeldBelow held LIMIT
@@ -127,3 +172,23 @@ pub last_row : (seat : Known Pass) (held : Option Held) (page count index word l
     → seat.pass.count ≡ Some count → HasRead seat.pass.rows index word → index < count → ¬ (index + 1 < count) → row_start word ≤ page → Shows seat (RowIs held page (record { index = index; lo = lo; hi = LIMIT; kind = kind }))
 last_row seat held page count index word lo kind l k below h counted read lt not_more from =
     shows_row seat held page count index word lo LIMIT kind l k below counted read lt from (below_end held page below h) (inr (omega arith, refl))
+
+-- the ends of a row as they were read
+pub found_read : (old new : Known Pass) (count index word next lo hi : ℕ) (kind : Option Kind) → IsStep old (after_row (index + 1) next old.pass) new → lo ≡ row_start word → kind ≡ row_kind word → hi ≡ row_start next
+    → old.pass.count ≡ Some count → HasRead old.pass.rows index word → index + 1 < count → IsAsRead new.pass (record { index = index; lo = lo; hi = hi; kind = kind })
+found_read old new count index word next lo hi kind step l k h counted read lt =
+    let rows : record { index = index + 1; word = next } ∷ old.pass.rows ≡ new.pass.rows = sym (ap (λ (p : Pass). p.rows) step.pass) in
+    record {
+      count = count;
+      counted = ap (λ (p : Pass). p.count) step.pass ∙ counted;
+      there = omega arith;
+      word = word;
+      read = subst (λ r. HasRead r index word) rows (inr read);
+      lo = l;
+      kind = k;
+      hi = inl (lt, next, subst (λ r. HasRead r (index + 1) next) rows (inl (refl, refl)), h);
+    }
+
+pub last_read : (seat : Known Pass) (count index word lo : ℕ) (kind : Option Kind) → lo ≡ row_start word → kind ≡ row_kind word → seat.pass.count ≡ Some count → HasRead seat.pass.rows index word → index < count → ¬ (index + 1 < count)
+    → IsAsRead seat.pass (record { index = index; lo = lo; hi = LIMIT; kind = kind })
+last_read seat count index word lo kind l k counted read lt not_more = record { count = count; counted = counted; there = lt; word = word; read = read; lo = l; kind = k; hi = inr (omega arith, refl) }

@@ -5,24 +5,25 @@ use Rattle.std.proofs.lemmas.Bool.{false≢true}
 use Rattle.std.specs.Prelude.{Option, Some, None, IsSome, slice_index}
 use mathlib.Core.Option.{some, some-injective}
 use lib.ListN.{get_elem?}
-use Rattle.page_types.specs.declared.TheConstants.{ROWS}
+use Rattle.page_types.specs.declared.TheConstants.{LIMIT, ROWS}
 use Rattle.page_types.specs.declared.calls.Kind.{Kind}
 use Rattle.lock_core.specs.declared.range.Held.{Held}
-use Rattle.lock_core.specs.Grants.{Grants}
+use Rattle.lock_core.specs.Grants.{Grants, IsExclusive}
 use Rattle.lock_core.specs.Client.{loads, adds, Moment, IsAllowed, IsMade}
 use Rattle.range_rw.specs.Seats.{Known, IsClientCall}
 use Rattle.range_rw.specs.declared.views.Record.{Record}
 use Rattle.space_model.specs.declared.areas.Area.{Area}
 use Rattle.space_model.specs.declared.entries.Entry.{Entry}
 use Rattle.space_model.specs.Areas.{kind_at}
-use Rattle.area_rows.specs.Callers.{Shows, IsLook, IsNumbered}
+use Rattle.area_rows.specs.Callers.{HasRead, IsMoment, Shows, IsLook, IsNumbered}
 use Rattle.area_rows.specs.Laws.{no_note}
 use Rattle.area_rows.specs.declared.guard.Note.{Note}
 use Rattle.area_rows.specs.declared.guard.Pass.{Pass}
 use Rattle.area_rows.specs.RowWords.{row_start}
 use Rattle.area_rows.specs.Rows.{rows_in, ShowFrom, RowsShow}
-use Rattle.area_rows.specs.History.{Runs, StartsWith, HasHistory, Allowed, Here, MayLoad, IsFault, IsRight, HoldsFor, entry_of, after_look, after_count, after_row, after_draw}
+use Rattle.area_rows.specs.History.{Runs, StartsWith, IsRunning, HasHistory, Allowed, Here, MayLoad, IsFault, IsRight, HoldsFor, entry_of, after_look, after_count, after_row, after_draw}
 use Rattle.area_rows.specs.History.MayLoad.{number, count, row}
+use Rattle.area_rows.proofs.RowLists.{row_says}
 
 pub held_some : (held : Option Held) → IsSome held → (h : Held) × (held ≡ Some h)
 held_some None s = absurd (false≢true s)
@@ -44,6 +45,10 @@ first_start (w ∷ rest) kinds s l = s.0
 pub first_row : (words : List ℕ) (kinds : ℕ → Option Kind) → RowsShow words kinds → row_start (slice_index words 3) ≡ 0
 first_row words kinds s = let some = s.some in let l = length-rows_in words kinds s in ap row_start (sym (at_row words 0 some)) ∙ first_start (rows_in words) kinds s.show (omega arith)
 
+-- a row starts below the limit
+pub row_below : (words : List ℕ) (kinds : ℕ → Option Kind) (i : ℕ) → RowsShow words kinds → i < slice_index words 2 → row_start (slice_index words (3 + i)) < LIMIT
+row_below words kinds i s lt = let l = length-rows_in words kinds s in subst (λ w. row_start w < LIMIT) (at_row words i lt) (row_says 0 (rows_in words) kinds i s.show (omega arith)).below
+
 -- what a load tells of the pass
 look_tells : (held : Type 0) (words : List ℕ) (history : List Entry) (p after : Pass) → MayLoad held words history 0 p after → after ≡ after_look history p
 look_tells held words history p after (number e is) = is
@@ -63,6 +68,19 @@ row_tells held words history index p after (row i h few e is) = let same : i ≡
 -- the moment of a step
 abbrev here_at : (grants : Grants) (words : List ℕ) (passes : List Pass) (seat : ℕ) (held : Option Held) (pass : Pass) → Moment HasHistory seat held pass grants words passes → Here words passes seat
 here_at grants words passes seat held pass m = record { start = m.met.0; history = m.met.1; state = m.met.2; pass = pass; running = m.met.3; own = m.own }
+
+-- the moment of a step, as its caller's seat has it
+moment_of : (grants : Grants) (words : List ℕ) (passes : List Pass) (seat : ℕ) (here : Here words passes seat) (s : Known Pass) → IsExclusive grants → get_elem? grants seat ≡ some s.held → s.number ≡ seat → here.pass ≡ s.pass → IsMoment s s.pass.start here.history here.state words
+moment_of grants words passes seat here s exclusive granted n same = record {
+  grants = grants;
+  passes = passes;
+  pass = here.pass;
+  running = subst (λ a. IsRunning a here.history here.state words passes) (sym (here.running.parts seat here.pass here.own).began ∙ ap (λ (x : Pass). x.start) same) here.running;
+  exclusive = exclusive;
+  granted = ap (get_elem? grants) n ∙ granted;
+  own = ap (get_elem? passes) n ∙ here.own;
+  read = record { count = λ n e. ap (λ (x : Pass). x.count) same ∙ e; rows = λ index word h. subst (λ (x : Pass). HasRead x.rows index word) (sym same) h };
+}
 
 module _ (note : Note) (seat : ℕ) (held : Option Held) (pass : Pass) where
   pub may_look : IsAllowed HasHistory Allowed note seat held pass (loads 0)
@@ -87,7 +105,7 @@ module _ (note : Note) (seat : ℕ) (held : Option Held) (pass : Pass) where
           here,
           record {
             fault = fault;
-            right = shows grants words passes pass here.start here.history here.state here.running (ap (get_elem? grants) n ∙ (m.grant ∙ ap some (sym h))) (ap (get_elem? passes) n ∙ m.own) (ap (λ (x : Pass). x.count) (sym p)) (ap (λ (x : Pass). x.rows) (sym p));
+            right = shows _ here.history here.state words (moment_of grants words passes seat here s m.exclusive (m.grant ∙ ap some (sym h)) n (sym p));
             held = (held, m.grant, holds);
             few = few;
           },
@@ -96,17 +114,7 @@ module _ (note : Note) (seat : ℕ) (held : Option Held) (pass : Pass) where
       )
 
   module _ (found : ℕ) (after : Pass) where
-    pub looks : IsMade HasHistory Allowed note seat held pass (loads 0) found after → (history : List Entry) × (after ≡ after_look history pass) × StartsWith history pass.seen × (length history ≡ found)
-    looks s =
-        let m = s.3 in let here = s.5.0 in
-        let same : here.pass ≡ pass = some-injective here.pass pass (sym here.own ∙ m.own) in (
-          here.history,
-          look_tells _ s.1 here.history here.pass after s.5.1 ∙ ap (after_look here.history) same,
-          subst (λ (x : Pass). StartsWith here.history x.seen) same (here.running.parts seat here.pass here.own).seen,
-          sym here.running.number ∙ s.4,
-        )
-
-    pub counts : IsMade HasHistory Allowed note seat held pass (loads 2) found after → (after ≡ after_count found pass) × (0 < found) × (found ≤ ROWS)
+    pub counts : IsMade HasHistory Allowed note seat held pass (loads 2) found after → (after ≡ after_count found pass) × (0 < found) × (found ≤ ROWS) × ((n : ℕ) → pass.count ≡ Some n → found ≡ n)
     counts s =
         let m = s.3 in let here = s.5.0 in
         let same : here.pass ≡ pass = some-injective here.pass pass (sym here.own ∙ m.own) in
@@ -114,19 +122,23 @@ module _ (note : Note) (seat : ℕ) (held : Option Held) (pass : Pass) where
           count_tells _ s.1 here.history here.pass after s.5.1 ∙ (λ i. after_count (e i) (same i)),
           omega arith,
           omega arith,
+          λ n counted. sym e ∙ (here.running.parts seat here.pass here.own).count n (ap (λ (x : Pass). x.count) same ∙ counted),
         )
 
-    pub reads : (index : ℕ) → IsMade HasHistory Allowed note seat held pass (loads (3 + index)) found after → (after ≡ after_row index found pass) × (index ≡ 0 → row_start found ≡ 0)
+    pub reads : (index : ℕ) → IsMade HasHistory Allowed note seat held pass (loads (3 + index)) found after → (after ≡ after_row index found pass) × (index ≡ 0 → row_start found ≡ 0) × ((n : ℕ) → pass.count ≡ Some n → index < n → row_start found < LIMIT)
     reads index s =
         let m = s.3 in let here = s.5.0 in
         let same : here.pass ≡ pass = some-injective here.pass pass (sym here.own ∙ m.own) in
         let e = s.4 in (
           row_tells _ s.1 here.history index here.pass after s.5.1 ∙ (λ i. after_row index (e i) (same i)),
           λ none. ap row_start (sym e ∙ ap (λ n. slice_index s.1 (3 + n)) none) ∙ first_row s.1 (kind_at here.state) here.running.rows,
+          λ n counted lt.
+              let c : slice_index s.1 2 ≡ n = (here.running.parts seat here.pass here.own).count n (ap (λ (x : Pass). x.count) same ∙ counted) in
+              subst (λ w. row_start w < LIMIT) e (row_below s.1 (kind_at here.state) index here.running.rows (omega arith)),
         )
 
-    pub draws : (t u : Known Pass) → t.number ≡ seat → t.pass ≡ pass → u.pass ≡ after → u.table ≡ t.table → u.number ≡ t.number → u.held ≡ t.held → IsMade HasHistory Allowed note seat held pass (adds 0 1) found after → IsNumbered t (entry_of found seat note) u
-    draws t u n p q same_table same_number same_held s =
+    pub draws : (t u : Known Pass) → t.number ≡ seat → t.held ≡ held → t.pass ≡ pass → u.pass ≡ after → u.table ≡ t.table → u.number ≡ t.number → u.held ≡ t.held → IsMade HasHistory Allowed note seat held pass (adds 0 1) found after → IsNumbered t t (entry_of found seat note) u
+    draws t u n h p q same_table same_number same_held s =
         let m = s.3 in let here = s.5.2 in let d = s.5.3 in
         let same : here.pass ≡ pass = some-injective here.pass pass (sym here.own ∙ m.own) in
         let is : after ≡ after_draw here.history (entry_of (length here.history) seat note) here.pass = s.5.4 in
@@ -134,9 +146,14 @@ module _ (note : Note) (seat : ℕ) (held : Option Held) (pass : Pass) where
         let part = here.running.parts seat here.pass here.own in
         let old : here.pass ≡ t.pass = same ∙ sym p in
         let new : u.pass ≡ after_draw here.history (entry_of found seat note) t.pass = q ∙ (is ∙ (λ i. after_draw here.history (entry_of (num i) seat note) (old i))) in
+        let granted : get_elem? s.0 seat ≡ some t.held = m.grant ∙ ap some (sym h) in
         record {
           history = here.history;
           state = here.state;
+          words = s.1;
+          same = refl;
+          moment = moment_of s.0 s.1 s.2 seat here t m.exclusive granted n old;
+          holds = subst (λ x. HoldsFor x note.under) (some-injective d.held.0 t.held (sym d.held.1 ∙ granted)) d.held.2;
           more = subst (λ (x : Pass). StartsWith here.history x.seen) old part.seen;
           runs = subst (λ (a : List Area). Runs 0 a here.history here.state) (sym part.began ∙ ap (λ (x : Pass). x.start) old) here.running.runs;
           counted = sym num;
@@ -152,10 +169,15 @@ module _ (note : Note) (seat : ℕ) (held : Option Held) (pass : Pass) where
 
 pub look_is : (s u : Known Pass) (found : ℕ) → IsClientCall s 0 u → IsMade HasHistory Allowed no_note s.number s.held s.pass (loads 0) found u.pass → IsLook s found u
 look_is s u found call made =
-    let l = looks no_note s.number s.held s.pass found u.pass made in
-    let seen : u.pass.seen ≡ l.0 = ap (λ (x : Pass). x.seen) l.1 in
+    let m = made.3 in let here = made.5.0 in
+    let same : here.pass ≡ s.pass = some-injective here.pass s.pass (sym here.own ∙ m.own) in
+    let is : u.pass ≡ after_look here.history s.pass = look_tells _ made.1 here.history here.pass u.pass made.5.1 ∙ ap (after_look here.history) same in
+    let seen : u.pass.seen ≡ here.history = ap (λ (x : Pass). x.seen) is in
     record {
-      step = record { table = call.table; number = call.number; held = call.held; pass = l.1 ∙ ap (λ h. after_look h s.pass) (sym seen); taken = ap (λ (r : Record). r.taken) call.trace };
-      more = subst (λ h. StartsWith h s.pass.seen) (sym seen) l.2;
-      count = ap length seen ∙ l.3;
+      state = here.state;
+      words = made.1;
+      moment = subst (λ h. IsMoment s s.pass.start h here.state made.1) (sym seen) (moment_of made.0 made.1 made.2 s.number here s m.exclusive m.grant refl same);
+      step = record { table = call.table; number = call.number; held = call.held; pass = is ∙ ap (λ h. after_look h s.pass) (sym seen); taken = ap (λ (r : Record). r.taken) call.trace };
+      more = subst (λ h. StartsWith h s.pass.seen) (sym seen) (subst (λ (x : Pass). StartsWith here.history x.seen) same (here.running.parts s.number here.pass here.own).seen);
+      count = ap length seen ∙ (sym here.running.number ∙ made.4);
     }

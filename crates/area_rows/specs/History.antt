@@ -1,6 +1,6 @@
 -- The one history of a running address space: the number word counts it, each caller stores its own entries, and the rows stand for the state after it.
 -- It is stored in the callers' lists, by number, and so isn't some history that exists. It is legal as a sequential history of an object (Herlihy and Wing, TOPLAS 1990), and each entry was numbered under the range that it names.
-use Rattle.std.specs.Prelude.{ℕ, ◌≡◌, ◌<◌, ◌≤◌, ◌+◌, ◌^◌, ◌==◌, Option, Some, None, List, [], ◌∷◌, ◌++◌, filter, length, slice_index}
+use Rattle.std.specs.Prelude.{ℕ, ◌≡◌, ◌<◌, ◌≤◌, ◌+◌, ◌^◌, ◌==◌, All, Option, Some, None, List, [], ◌∷◌, ◌++◌, filter, length, slice_index}
 use mathlib.Core.Option.{some}
 use lib.ListN.{get_elem?}
 use Rattle.page_types.specs.declared.TheConstants.{LIMIT, ROWS}
@@ -11,9 +11,11 @@ use Rattle.space_model.specs.declared.areas.Area.{Area as Areas}
 use Rattle.space_model.specs.declared.entries.Entry.{Entry}
 use Rattle.space_model.specs.declared.entries.Under.{Under}
 use Rattle.space_model.specs.declared.entries.Under.TheVariants.{Nothing, Reader, Area, Whole}
-use Rattle.space_model.specs.Areas.{IsAreaList, kind_at}
+use Rattle.page_types.specs.Named.{IsNamedReply}
+use Rattle.space_model.specs.Areas.{IsAreaList, HasNamedKinds, kind_at}
 use Rattle.space_model.specs.Answers.{Answers}
 use Rattle.space_model.specs.Held.{FitsUnder}
+use Rattle.space_model.specs.History.{HasNamedCalls}
 use Rattle.lock_core.specs.Grants.{Grants, Holds}
 use Rattle.lock_core.specs.Client.{ClientStep, loads, stores, adds, exchanges}
 use Rattle.lock_core.specs.declared.range.Mode.TheVariants.{Reader as Shared, Writer as Alone}
@@ -48,6 +50,10 @@ abbrev pub whole_count : List Entry → ℕ
 whole_count [] = 0
 whole_count (e ∷ rest) = with_whole e.under (whole_count rest)
 
+-- the replies of entries have no bit but the named ones
+abbrev pub HasNamedReplies : List Entry → Type 0
+HasNamedReplies = All (λ e. IsNamedReply e.reply)
+
 -- how many entries the callers have together
 abbrev pub entry_count : List Pass → ℕ
 entry_count [] = 0
@@ -75,7 +81,10 @@ pub record IsPart (start : List Areas) (history : List Entry) (words : List ℕ)
 pub record IsRunning (start : List Areas) (history : List Entry) (state : List Areas) (words : List ℕ) (passes : List Pass) : Type 0 where
   pub callers : length passes ≤ 16
   pub runs : Runs 0 start history state
+  pub calls : HasNamedCalls history
+  pub replies : HasNamedReplies history
   pub in_order : IsAreaList state
+  pub named : HasNamedKinds state
   pub number : slice_index words 0 ≡ length history
   pub sequence : slice_index words 1 ≡ whole_count history
   pub rows : RowsShow words (kind_at state)

@@ -1,23 +1,32 @@
 -- The laws of the guard: its rule lasts over the steps that it allows, and over ranges that are taken and given back.
 -- They stand here, and not among the proofs, since the guard cites them.
-use Rattle.std.specs.Prelude.{MatchOption, Option, Some, None, slice_index}
+use Rattle.std.specs.Prelude.{All, MatchOption, Option, Some, None, nat_le, slice_index}
 use Rattle.std.proofs.Common.{◌≡◌, ◌≢◌, ℕ, zero, suc, ◌+◌, ◌*◌, ◌%◌, ◌^◌, ◌<◌, ◌≤◌, Bool, true, false, cond, eqb, List, [], ◌∷◌, ◌++◌, length, set, sym, refl, ap, ◌∙◌, subst, arith, length-set, length-append, append_assoc, eq-eqb, ne_eqb, ⊎_elim}
+use Rattle.std.proofs.lemmas.List.Elements.{All-cons, All-head, All-tail}
 use mathlib.Core.Option.{some, some-injective, some-ne-none}
 use lib.ListN.{get_elem?}
 use Rattle.atomic_table.proofs.Lists.{at_set}
 use Rattle.page_types.specs.declared.calls.Call.{Call}
 use Rattle.page_types.specs.declared.calls.Call.TheVariants.{Map, Unmap, Protect, Fault}
 use Rattle.page_types.specs.declared.calls.Reply.{Reply}
-use Rattle.page_types.specs.declared.calls.Reply.TheVariants.{Zero}
+use Rattle.page_types.specs.declared.calls.Reply.TheVariants.{Zero, Refused}
 use Rattle.page_types.specs.declared.sets.Access.TheVariants.{Read}
 use Rattle.page_types.specs.declared.calls.Kind.{Kind}
+use Rattle.page_types.specs.declared.TheConstants.{LIMIT}
+use Rattle.page_types.specs.declared.calls.Why.{Why}
+use Rattle.page_types.specs.declared.calls.Why.TheVariants.{MapErr}
+use Rattle.page_types.specs.declared.sets.Access.{Access}
+use Rattle.page_types.specs.Named.{IsNamedCall, IsNamedReply, IsNamedWhy}
+use Rattle.page_types.specs.Pages.{page_of}
 use Rattle.page_types.specs.PlainReply.{plain_reply}
 use Rattle.space_model.specs.declared.areas.Area.{Area as Areas}
 use Rattle.space_model.specs.declared.entries.Entry.{Entry}
 use Rattle.space_model.specs.declared.entries.Under.{Under}
 use Rattle.space_model.specs.declared.entries.Under.TheVariants.{Nothing, Reader, Area, Whole}
-use Rattle.space_model.specs.Areas.{kind_at}
-use Rattle.space_model.specs.Answers.{Answers}
+use Rattle.space_model.specs.Areas.{HasNamedKinds, kind_at}
+use Rattle.space_model.specs.Answers.{Answers, RefusesAccess}
+use Rattle.space_model.specs.Answers.Answers.{by_arguments, refused, granted, done, too_many_rows}
+use Rattle.space_model.proofs.NamedKinds.{IsNamedOption, named_at}
 use Rattle.space_model.specs.Held.{FitsUnder}
 use Rattle.lock_core.specs.Grants.{Grants, Holds, IsFree}
 use Rattle.lock_core.specs.Client.{ClientStep, loads, stores, adds, exchanges, words_after}
@@ -62,6 +71,39 @@ runs_more [] n A B C e r num fits answers =
 runs_more (x ∷ xs) n A B C e r num fits answers =
     let z : n + suc (length xs) ≡ n + 1 + length xs = omega arith in
     (r.0, r.1, (r.2.0, r.2.1, runs_more xs (n + 1) r.2.0 B C e r.2.2 (num ∙ z) fits answers))
+
+-- a fault takes no bits, and where the state's kinds have named bits alone so has its reply
+fault_named : (c : Call) → IsFault c → IsNamedCall c
+fault_named (Map addr len prot flags) f = absurd f
+fault_named (Unmap addr len) f = absurd f
+fault_named (Protect addr len prot) f = absurd f
+fault_named (Fault addr access) f = tt
+
+refusal_named : (kind : Option Kind) (page : ℕ) (access : Access) (why : Why) → IsNamedOption kind → RefusesAccess kind page access why → IsNamedWhy why
+refusal_named None page access why named e = subst IsNamedWhy (sym e) tt
+refusal_named (Some kind) page access why named e = subst IsNamedWhy (sym e.1) named
+
+plain_named : (above : Bool) (page : ℕ) (reply : Reply) → cond above (Some (Refused (MapErr page))) None ≡ Some reply → IsNamedReply reply
+plain_named true page reply e = subst (λ (o : Option Reply). MatchOption o (Unit {0}) IsNamedReply) e tt
+plain_named false page reply e = cc
+
+access_named : (A B : List Areas) (addr : ℕ) (access : Access) (reply : Reply) → HasNamedKinds A → Answers A (Fault addr access) reply B → IsNamedReply reply
+access_named A B addr access reply named (by_arguments decided same) = plain_named (nat_le LIMIT (page_of addr)) (page_of addr) reply decided
+access_named A B addr access reply named (refused why none refuses is same) = subst IsNamedReply (sym is) (refusal_named (kind_at A (page_of addr)) (page_of addr) access why (named_at A (page_of addr) named) refuses)
+access_named A B addr access reply named (granted kind none grants is same) = subst IsNamedReply (sym is) (subst IsNamedOption grants.0 (named_at A (page_of addr) named))
+access_named A B addr access reply named (done lo hi none place kinds few is) = absurd place
+access_named A B addr access reply named (too_many_rows lo hi C none place kinds many is same) = absurd place
+
+pub reply_named : (A B : List Areas) (c : Call) (reply : Reply) → IsFault c → HasNamedKinds A → Answers A c reply B → IsNamedReply reply
+reply_named A B (Map addr len prot flags) reply f named answers = absurd f
+reply_named A B (Unmap addr len) reply f named answers = absurd f
+reply_named A B (Protect addr len prot) reply f named answers = absurd f
+reply_named A B (Fault addr access) reply f named answers = access_named A B addr access reply named answers
+
+-- one more of a list of which all are so
+all_more : (K : Entry → Type 0) (history : List Entry) (e : Entry) → All K history → K e → All K (history ++ e ∷ [])
+all_more K [] e all own = All-cons K e [] own all
+all_more K (x ∷ xs) e all own = All-cons K x (xs ++ e ∷ []) (All-head K x xs all) (all_more K xs e (All-tail K x xs all) own)
 
 no_whole : (o : Option Reply) → MatchOption o ⊥ (λ (r : Reply). Whole ≡ Nothing) → ⊥
 no_whole None m = m
@@ -117,7 +159,10 @@ module _ (start : List Areas) (history : List Entry) (state : List Areas) (words
       record {
         callers = let c = r.callers in omega arith;
         runs = r.runs;
+        calls = r.calls;
+        replies = r.replies;
         in_order = r.in_order;
+        named = r.named;
         number = r.number;
         sequence = r.sequence;
         rows = r.rows;
@@ -187,7 +232,10 @@ drawn start history state word words passes worker p e r at num is fits answers 
     record {
       callers = let c = r.callers in omega arith;
       runs = runs_more history 0 start state state e r.runs (let z : length history ≡ 0 + length history = omega arith in num ∙ z) fits answers;
+      calls = all_more (λ (x : Entry). IsNamedCall x.call) history e r.calls (fault_named e.call fault);
+      replies = all_more (λ (x : Entry). IsNamedReply x.reply) history e r.replies (reply_named state state e.call e.reply fault r.named answers);
       in_order = r.in_order;
+      named = r.named;
       number = let n = r.number in let w = no_wrap start history state (word ∷ words) passes r in omega arith;
       sequence = r.sequence ∙ sym (whole_same history e (λ n. fault_under state e.call e.under n fault fits));
       rows = rows_same word word' words (kind_at state) r.rows;

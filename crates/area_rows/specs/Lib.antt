@@ -4,3 +4,4 @@ pub mod History
 pub mod Laws
 pub mod Callers
 pub mod Closing
+pub mod Stored

@@ -8,6 +8,7 @@ mod close;
 mod collect;
 mod guard;
 mod holding;
+mod laws;
 mod opening;
 mod row;
 mod rows;
@@ -16,7 +17,8 @@ mod steps;
 mod words;
 
 pub use answer::Answer;
-pub use close::{Closed, Kept, SpaceCloseRefused};
+pub use close::{Closed, SpaceCloseRefused};
 pub use guard::{Note, Pass, ReadRow, RowGuard};
+pub use laws::{history_is_stored, runs_are_legal};
 pub use row::Row;
 pub use space::{Caller, Space, SpaceFault, crosses_threads};

@@ -2,8 +2,8 @@
 // The rows are read one after another, each by one atomic step; a reader may rely on what they show of the history's state while the range is held.
 ghost use Rattle.std.specs.Prelude.{◌≡◌, ◌<◌, ◌≤◌, ◌+◌, Some};
 ghost use Rattle.page_types.specs.declared.TheConstants.{LIMIT, ROWS};
-ghost use Rattle.area_rows.specs.RowWords.{row_start};
-ghost use Rattle.area_rows.specs.Callers.{IsHeldPage, IsHeldBelow, IsReading, HasRead, RowIs, Shows};
+ghost use Rattle.area_rows.specs.RowWords.{row_start, IsNamedOption};
+ghost use Rattle.area_rows.specs.Callers.{IsHeldPage, IsHeldBelow, IsReading, IsAsRead, HasRead, RowIs, Shows};
 
 use crate::row::Row;
 use crate::space::{Caller, Space};
@@ -32,6 +32,9 @@ impl Space {
         requires begins { row_start first ≡ 0 }
         ensures from { result.lo ≤ page }
         ensures until { page < result.hi }
+        ensures limit { result.hi ≤ LIMIT }
+        ensures named { IsNamedOption result.kind }
+        ensures read { IsAsRead caller.new.seat.pass result }
         ensures shows { Shows caller.new.seat (RowIs caller.old.seat.held page result) }
         ensures reading { IsReading caller.old.seat caller.new.seat }
         ensures left { caller.new.left ≡ caller.old.left }
@@ -64,11 +67,15 @@ impl Space {
     }
 
     /// The row of a page that the caller holds; the caller is of this space. It is looked for from the first row on, and each row is read by one step.
+    /// `lo` and `hi` are as they were read. Where the caller holds a page past each of them, or up to 0 and `LIMIT`, as a writer, they are the row's own.
     pub fn row_of<L: Ledger>(&self, caller: &mut Caller, page: u64, steps: &mut Steps<L>) -> Row
         requires table { caller.old.seat.table ≡ self.now.table }
         requires held { IsHeldPage caller.old.seat.held page }
         ensures from { result.lo ≤ page }
         ensures until { page < result.hi }
+        ensures limit { result.hi ≤ LIMIT }
+        ensures named { IsNamedOption result.kind }
+        ensures read { IsAsRead caller.new.seat.pass result }
         ensures shows { Shows caller.new.seat (RowIs caller.old.seat.held page result) }
         ensures reading { IsReading caller.old.seat caller.new.seat }
         ensures left { caller.new.left ≡ caller.old.left }

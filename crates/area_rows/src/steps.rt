@@ -1,7 +1,8 @@
 // The four steps that a caller makes on client words: it loads the number word, the row count or a row, or draws a number.
 // Each is one atomic step, made at a moment of the running space; a reader may rely on what it tells being so there.
-ghost use Rattle.std.specs.Prelude.{◌≡◌, ◌<◌, ◌≤◌, ◌+◌, ◌^◌, IsSome, length};
-ghost use Rattle.page_types.specs.declared.TheConstants.{ROWS};
+ghost use Rattle.std.specs.Prelude.{ℕ, ◌≡◌, ◌<◌, ◌≤◌, ◌+◌, ◌^◌, IsSome, Some, length};
+ghost use Rattle.page_types.specs.declared.TheConstants.{LIMIT, ROWS};
+ghost use Rattle.page_types.specs.Named.{IsNamedReply};
 ghost use Rattle.area_rows.specs.RowWords.{row_start};
 ghost use Rattle.area_rows.specs.History.{HoldsFor, IsFault, IsRight, after_count, after_row, note_of};
 ghost use Rattle.area_rows.specs.Callers.{IsStep, IsLook, IsNumbered, Shows};
@@ -24,6 +25,7 @@ impl Space {
         ensures left { caller.new.left ≡ caller.old.left }
         ensures some { 0 < result }
         ensures few { result ≤ ROWS }
+        ensures again { (n : ℕ) → caller.old.seat.pass.count ≡ Some n → result ≡ n }
         ensures counted { steps.new ≡ steps.old + 1 }
     {
         self.table
@@ -43,6 +45,7 @@ impl Space {
         ensures step { IsStep caller.old.seat (after_row index result caller.old.seat.pass) caller.new.seat }
         ensures left { caller.new.left ≡ caller.old.left }
         ensures first { index ≡ 0 → row_start result ≡ 0 }
+        ensures below { (n : ℕ) → caller.old.seat.pass.count ≡ Some n → index < n → row_start result < LIMIT }
         ensures counted { steps.new ≡ steps.old + 1 }
     {
         self.table
@@ -69,7 +72,7 @@ impl Space {
         self.load_number(caller, &mut steps)
     }
 
-    /// Loads the number word: how many entries the history has. The caller then has seen all of them, and what its range has shown still stands.
+    /// Loads the number word: how many entries the history has. The caller then has seen all of them, and what its range has shown is so of the state that they leave.
     pub fn look(&self, caller: &mut Caller) -> u64
         requires table { caller.old.seat.table ≡ self.now.table }
         ensures look { IsLook caller.old.seat result caller.new.seat }
@@ -92,7 +95,7 @@ impl Space {
         requires fault { IsFault draft.now.call }
         requires held { HoldsFor seat.old.held draft.now.under }
         requires right { Shows seat.old (λ _ state. IsRight state draft.now.call draft.now.reply draft.now.under) }
-        ensures numbered { IsNumbered seat.old (record draft.now { number = result }) seat.new }
+        ensures numbered { IsNumbered seat.old seat.old (record draft.now { number = result }) seat.new }
         ensures taken { seat.new.trace.taken ≡ seat.old.trace.taken + 1 }
         ensures counted { steps.new ≡ steps.old + 1 }
     {
@@ -101,7 +104,7 @@ impl Space {
 
     /// Draws the next number for a call of the caller, which is of this space, has a number left, and holds the range that `under` names.
     /// The call is a fault, and at the history's state it fits `under` and has this reply, as what the caller has read shows.
-    /// The entry goes to the caller's own, and is the last one that it has seen. One step.
+    /// The entry goes to the caller's own, and is the last one that it has seen; what its range has shown was so of the state before it. One step.
     pub fn number<L: Ledger>(
         &self,
         caller: &mut Caller,
@@ -120,7 +123,8 @@ impl Space {
         ensures call { result.call ≡ call }
         ensures reply { result.reply ≡ reply }
         ensures under { result.under ≡ under }
-        ensures numbered { IsNumbered caller.old.seat result caller.new.seat }
+        ensures named { IsNamedReply result.reply }
+        ensures numbered { IsNumbered caller.old.seat caller.old.seat result caller.new.seat }
         ensures left { caller.new.left + 1 ≡ caller.old.left }
         ensures taken { caller.new.seat.trace.taken ≡ caller.old.seat.trace.taken + 1 }
         ensures counted { steps.new ≡ steps.old + 1 }

@@ -21,7 +21,7 @@ use Rattle.range_rw.specs.Seats.{Known, IsLockCall, IsRelease}
 use Rattle.area_rows.specs.declared.guard.Pass.{Pass}
 use Rattle.area_rows.specs.declared.row.Row.{Row}
 use Rattle.area_rows.specs.History.{StartsWith, Runs, IsRight, rest_of}
-use Rattle.area_rows.specs.Callers.{IsHeldPage, IsReading, IsNumbered, RowIs, Shows}
+use Rattle.area_rows.specs.Callers.{IsHeldPage, IsReading, IsMoment, IsNumbered, RowIs, Shows}
 
 fits_none : (o : Option Reply) (P : Type 0) (Q : Reply → Type 0) → o ≡ None → P → MatchOption o P Q
 fits_none o P Q e p = subst (λ (x : Option Reply). MatchOption x P Q) (sym e) p
@@ -45,15 +45,19 @@ held_right state addr access kind reply span undecided lo hi is answers = record
 
 pub shows_fault : (seat : Known Pass) (held : Option Held) (row : Row) (addr : ℕ) (access : Access) (reply : Reply) (span : Span) → Shows seat (RowIs held (page_of addr) row) → IsHeldPage held (page_of addr) → row.lo ≤ page_of addr → page_of addr < row.hi
     → plain_reply (Fault addr access) ≡ None → span.lo ≡ page_of addr → span.hi ≡ page_of addr + 1 → AnswersFault row.kind (page_of addr) access reply → Shows seat (λ (words : List ℕ) (state : List Area). IsRight state (Fault addr access) reply (Reader span))
-shows_fault seat held row addr access reply span shows here from until undecided lo hi answers grants words passes pass start history state running granted own same_count same_rows =
-    let r = shows grants words passes pass start history state running granted own same_count same_rows in
+shows_fault seat held row addr access reply span shows here from until undecided lo hi answers start history state words moment =
+    let r = shows start history state words moment in
     held_right state addr access row.kind reply span undecided lo hi (r.kind (page_of addr) here from until) answers
 
 -- reading, numbering and giving back are one numbering
-pub numbered_held : (b r n d : Known Pass) (e : Entry) → IsReading b r → IsNumbered r e n → IsRelease rest_of n d → IsNumbered (record b { held = None }) e d
+pub numbered_held : (b r n d : Known Pass) (e : Entry) → IsReading b r → IsNumbered r r e n → IsRelease rest_of n d → IsNumbered r (record b { held = None }) e d
 numbered_held b r n d e reading num release = record {
   history = num.history;
   state = num.state;
+  words = num.words;
+  same = reading.number;
+  moment = subst (λ (a : List Area). IsMoment r a num.history num.state num.words) reading.start num.moment;
+  holds = num.holds;
   more = subst (StartsWith num.history) reading.seen num.more;
   runs = subst (λ (a : List Area). Runs 0 a num.history num.state) reading.start num.runs;
   counted = num.counted;
@@ -68,10 +72,14 @@ numbered_held b r n d e reading num release = record {
 }
 
 -- what the lock does before leaves the numbering as it is
-pub numbered_from : (a b c : Known Pass) (e : Entry) → a.held ≡ None → IsLockCall a b → IsNumbered (record b { held = None }) e c → IsNumbered a e c
-numbered_from a b c e free call num = record {
+pub numbered_from : (r a b c : Known Pass) (e : Entry) → a.held ≡ None → IsLockCall a b → IsNumbered r (record b { held = None }) e c → IsNumbered r a e c
+numbered_from r a b c e free call num = record {
   history = num.history;
   state = num.state;
+  words = num.words;
+  same = num.same ∙ call.number;
+  moment = subst (λ (p : Pass). IsMoment r p.start num.history num.state num.words) call.pass num.moment;
+  holds = num.holds;
   more = subst (λ (p : Pass). StartsWith num.history p.seen) call.pass num.more;
   runs = subst (λ (p : Pass). Runs 0 p.start num.history num.state) call.pass num.runs;
   counted = num.counted;

@@ -1,15 +1,17 @@
 -- What the two calls for page faults answer, and what each answer says: an access to a page as sigaction(2) has it, made while the page is held as a reader.
--- The entry's number is drawn at a step at which that range was held, since nothing else lets a number be drawn.
+-- An entry carries the caller's seat as it was when the number was drawn: at a moment of the running space it held what the entry names, and the entries before the new one were the history.
 use Rattle.std.specs.Prelude.{ℕ, ◌≡◌, ◌<◌, ◌+◌, None}
 use Rattle.page_types.specs.declared.sets.Access.{Access}
 use Rattle.page_types.specs.declared.calls.Call.TheVariants.{Fault}
+use Rattle.page_types.specs.Named.{IsNamedReply}
 use Rattle.page_types.specs.Pages.{page_of}
 use Rattle.page_types.specs.PlainReply.{plain_reply}
 use Rattle.space_model.specs.declared.entries.Entry.{Entry}
 use Rattle.lock_core.specs.declared.range.Held.{Held}
 use Rattle.lock_core.specs.declared.range.Mode.TheVariants.{Reader}
-use Rattle.range_rw.specs.Seats.{IsLockCall}
+use Rattle.range_rw.specs.Seats.{Known, IsLockCall}
 use Rattle.range_rw.specs.Trying.{IsCause}
+use Rattle.area_rows.specs.declared.guard.Pass.{Pass}
 use Rattle.area_rows.specs.declared.answer.Answer.{Answer}
 use Rattle.area_rows.specs.declared.answer.Answer.TheVariants.{Given, Spent}
 use Rattle.area_rows.specs.Callers.{CallerView, IsNumbered}
@@ -21,11 +23,13 @@ use Rattle.page_fault.specs.declared.faults.TriedFault.TheVariants.{Answered, No
 abbrev pub page_held : ℕ → Held
 page_held addr = record { range = record { lo = page_of addr; hi = page_of addr + 1 }; mode = Reader }
 
--- the fault got one entry, with this line and these arguments, and one number of the caller is used; the caller holds what it held before
+-- the fault got one entry, with this line and these arguments and with named bits alone, and one number of the caller is used; its number was drawn while the caller held what the entry names, and the caller holds what it held before
 pub record IsFaulted (before : CallerView) (line addr : ℕ) (access : Access) (e : Entry) (after : CallerView) : Type 0 where
   pub line_is : e.line ≡ line
   pub call : e.call ≡ Fault addr access
-  pub numbered : IsNumbered before.seat e after.seat
+  pub named : IsNamedReply e.reply
+  pub drawing : Known Pass
+  pub numbered : IsNumbered drawing before.seat e after.seat
   pub left : after.left + 1 ≡ before.left
 
 -- the answer of a fault: an entry where a number is left, and otherwise nothing has changed

@@ -2,8 +2,11 @@
 // A fault that its arguments decide holds nothing. What the answers say stands in `specs/Faults.antt`.
 ghost use Rattle.std.specs.Prelude.{◌≡◌, ◌<◌, ◌+◌, Some, None};
 ghost use Rattle.page_types.specs.declared.calls.Call.TheVariants.{Fault};
+ghost use Rattle.page_types.specs.Named.{IsNamedReply};
 ghost use Rattle.page_types.specs.PlainReply.{plain_reply};
 ghost use Rattle.space_model.specs.Building.{AnswersFault};
+ghost use Rattle.range_rw.specs.Seats.{Known};
+ghost use Rattle.area_rows.specs.declared.guard.Pass.{Pass};
 ghost use Rattle.area_rows.specs.Callers.{IsNumbered};
 ghost use Rattle.page_fault.specs.Faults.{page_held, IsFaulted, IsAnswer, IsTried};
 
@@ -95,7 +98,8 @@ fn number_held<L: Ledger>(
     requires held { caller.old.seat.held ≡ Some (page_held addr) }
     ensures line { result.line ≡ line }
     ensures call { result.call ≡ Fault addr access }
-    ensures numbered { IsNumbered (record caller.old.seat { held = None }) result caller.new.seat }
+    ensures named { IsNamedReply result.reply }
+    ensures numbered { (drawing : Known Pass) × IsNumbered drawing (record caller.old.seat { held = None }) result caller.new.seat }
     ensures left { caller.new.left + 1 ≡ caller.old.left }
     ensures counted { steps.new + caller.old.seat.trace.taken ≡ steps.old + caller.new.seat.trace.taken }
 {

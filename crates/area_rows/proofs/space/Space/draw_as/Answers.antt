@@ -20,4 +20,4 @@ returns-clause-numbered g c =
     let call = c.add_as.ensures.call in
     let note = note_of c.args.draft.now in
     let made = subst (λ (n : Note). IsMade HasHistory Allowed n s.number s.held s.pass (adds 0 1) c.add_as.result u.pass) c.requires.note c.add_as.ensures.made in
-    subst (λ w. IsNumbered s (entry_of c.add_as.result w note) u) c.requires.worker (draws note s.number s.held s.pass c.add_as.result u.pass s u refl refl refl call.table call.number call.held made)
+    subst (λ w. IsNumbered s s (entry_of c.add_as.result w note) u) c.requires.worker (draws note s.number s.held s.pass c.add_as.result u.pass s u refl refl refl refl call.table call.number call.held made)

@@ -1,0 +1,90 @@
+-- A run is legal, and the history of the rule is stored once.
+use Rattle.std.proofs.Common.{◌≡◌, ℕ, zero, suc, ◌+◌, ◌<◌, Bool, true, false, cond, eqb, List, [], ◌∷◌, length, sym, refl, ap, ◌∙◌, arith, inl, inr}
+use Rattle.std.proofs.lemmas.Bool.{cases_lt}
+use mathlib.Core.Option.{some, some-injective, some-ne-none}
+use lib.ListN.{get_elem?}
+use Rattle.space_model.specs.declared.areas.Area.{Area}
+use Rattle.space_model.specs.declared.entries.Entry.{Entry}
+use Rattle.space_model.specs.History.{IsLegalFrom, StateAfter}
+use Rattle.area_rows.specs.declared.guard.Pass.{Pass}
+use Rattle.area_rows.specs.History.{Runs, entries_of, IsRunning}
+use Rattle.area_rows.specs.Stored.{Stores, IsStoredOnce, IsStored, HistoryIsStored, RunsAreLegal}
+use Rattle.area_rows.proofs.Gathering.{elem_at, runs_number, own_at, at_own}
+
+legal_run : (entries : List Entry) (n : ℕ) (A B : List Area) → Runs n A entries B → IsLegalFrom n A entries
+legal_run [] n A B r = tt
+legal_run (e ∷ rest) n A B r = (r.0, (r.2.0, r.2.1, legal_run rest (n + 1) r.2.0 B r.2.2))
+
+state_run : (entries : List Entry) (n : ℕ) (A B : List Area) → Runs n A entries B → StateAfter A entries B
+state_run [] n A B r = r
+state_run (e ∷ rest) n A B r = (e.reply, r.2.0, r.2.1, state_run rest (n + 1) r.2.0 B r.2.2)
+
+pub all_legal : RunsAreLegal
+all_legal A B entries r = (legal_run entries 0 A B r, state_run entries 0 A B r)
+
+-- an entry is not the one before all of these
+not_later : (worker : ℕ) (x e : Entry) (xs : List Entry) (n : ℕ) (A B : List Area) (j : ℕ) → Runs (n + 1) A xs B → x.number ≡ n → x ≡ e → get_elem? (entries_of worker xs) j ≡ some e → ⊥
+not_later worker x e xs n A B j r num same at =
+    let f = own_at worker xs j e at in
+    let later : e.number ≡ n + 1 + f.0 = runs_number xs (n + 1) A B f.0 e r f.1 in
+    let now : e.number ≡ n = ap (λ (y : Entry). y.number) (sym same) ∙ num in
+    omega arith
+
+one_here : (worker : ℕ) (x e : Entry) (xs : List Entry) (n : ℕ) (A B : List Area) (b : Bool) → Runs (n + 1) A xs B → x.number ≡ n
+    → ((i j : ℕ) → get_elem? (entries_of worker xs) i ≡ some e → get_elem? (entries_of worker xs) j ≡ some e → i ≡ j)
+    → (i j : ℕ) → get_elem? (cond b (x ∷ entries_of worker xs) (entries_of worker xs)) i ≡ some e → get_elem? (cond b (x ∷ entries_of worker xs) (entries_of worker xs)) j ≡ some e → i ≡ j
+one_here worker x e xs n A B true r num rest zero zero p q = refl
+one_here worker x e xs n A B true r num rest zero (suc j) p q = absurd (not_later worker x e xs n A B j r num (some-injective x e p) q)
+one_here worker x e xs n A B true r num rest (suc i) zero p q = absurd (not_later worker x e xs n A B i r num (some-injective x e q) p)
+one_here worker x e xs n A B true r num rest (suc i) (suc j) p q = ap suc (rest i j p q)
+one_here worker x e xs n A B false r num rest i j p q = rest i j p q
+
+-- an entry stands at one place among those of its caller
+one_place : (worker : ℕ) (e : Entry) (history : List Entry) (n : ℕ) (A B : List Area) → Runs n A history B → (i j : ℕ) → get_elem? (entries_of worker history) i ≡ some e → get_elem? (entries_of worker history) j ≡ some e → i ≡ j
+one_place worker e [] n A B r i j p q = absurd (some-ne-none e (sym p))
+one_place worker e (x ∷ xs) n A B r i j p q = one_here worker x e xs n r.2.0 B (eqb x.worker worker) r.2.2 r.0 (one_place worker e xs (n + 1) r.2.0 B r.2.2) i j p q
+
+module _ (start : List Area) (history : List Entry) (state : List Area) (words : List ℕ) (passes : List Pass) (r : IsRunning start history state words passes) where
+  number_at : (n : ℕ) (e : Entry) → get_elem? history n ≡ some e → e.number ≡ n
+  number_at n e at = runs_number history 0 start state n e r.runs at ∙ omega arith
+
+  -- what a caller stores stands in the history, and is the caller's
+  stands_in : (worker place : ℕ) (e : Entry) → Stores passes worker place e → (get_elem? history e.number ≡ some e) × (e.worker ≡ worker)
+  stands_in worker place e s =
+      let f = own_at worker history place e (ap (λ l. get_elem? l place) (r.parts worker s.0 s.1).mine ∙ s.2) in
+      (ap (get_elem? history) (number_at f.0 e f.1) ∙ f.1, f.2)
+
+  stored : (n : ℕ) (e : Entry) → get_elem? history n ≡ some e → IsStoredOnce passes e
+  stored n e at =
+      let few : e.worker < length passes = elim (cases_lt e.worker (length passes)) [
+        | inl lt ↦ lt
+        | inr ge ↦ let o = at_own e.worker history n e at refl in absurd (some-ne-none e (sym (ap (λ l. get_elem? l o.0) (sym (r.no_other e.worker ge)) ∙ o.1)))
+      ] in
+      let p = elem_at passes e.worker few in
+      let o = at_own e.worker history n e at refl in
+      record {
+        place = o.0;
+        there = (p.0, p.1, ap (λ l. get_elem? l o.0) (sym (r.parts e.worker p.0 p.1).mine) ∙ o.1);
+        once = λ worker other f s same.
+            let in_it = stands_in worker other f s in
+            let is : f ≡ e = some-injective f e (sym in_it.0 ∙ (ap (get_elem? history) (same ∙ number_at n e at) ∙ at)) in
+            let who : worker ≡ e.worker = sym in_it.1 ∙ ap (λ (y : Entry). y.worker) is in
+            let mine : get_elem? (entries_of e.worker history) other ≡ some e =
+            ap (λ w. get_elem? (entries_of w history) other) (sym who) ∙ (ap (λ l. get_elem? l other) (r.parts worker s.0 s.1).mine ∙ (s.2 ∙ ap some is)) in
+            (who, one_place e.worker e history 0 start state r.runs other o.0 mine o.1, is);
+      }
+
+  is_stored : IsStored words passes history start state
+  is_stored = record {
+    runs = r.runs;
+    rows = r.rows;
+    sequence = r.sequence;
+    count = sym r.number;
+    numbered = number_at;
+    once = stored;
+    no_other = λ worker place e s. (stands_in worker place e s).0;
+    seen = λ worker pass at. (r.parts worker pass at).seen;
+  }
+
+pub all_stored : HistoryIsStored
+all_stored grants words passes h = (h.1, h.0, h.2, is_stored h.0 h.1 h.2 words passes h.3)

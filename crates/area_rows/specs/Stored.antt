@@ -1,0 +1,42 @@
+-- That the history of a running address space is the callers' entries, by number, that the rows show its last state, and that it is legal as the one-thread model has it.
+-- Between two steps a reader may take the entry of a number from the one caller who stores it.
+use Rattle.std.specs.Prelude.{ℕ, ◌≡◌, List, length, slice_index}
+use mathlib.Core.Option.{some}
+use lib.ListN.{get_elem?}
+use Rattle.space_model.specs.declared.areas.Area.{Area}
+use Rattle.space_model.specs.declared.entries.Entry.{Entry}
+use Rattle.space_model.specs.Areas.{kind_at}
+use Rattle.space_model.specs.History.{IsLegal, StateAfter}
+use Rattle.lock_core.specs.Grants.{Grants}
+use Rattle.area_rows.specs.declared.guard.Pass.{Pass}
+use Rattle.area_rows.specs.Rows.{RowsShow}
+use Rattle.area_rows.specs.History.{Runs, StartsWith, whole_count, HasHistory}
+
+-- the caller of that number has the entry at that place among its own
+abbrev pub Stores : List Pass → ℕ → ℕ → Entry → Type 0
+Stores passes worker place e = (pass : Pass) × (get_elem? passes worker ≡ some pass) × (get_elem? pass.mine place ≡ some e)
+
+-- one caller stores the entry at one place, and no other entry of any caller has its number
+pub record IsStoredOnce (passes : List Pass) (e : Entry) : Type 0 where
+  pub place : ℕ
+  pub there : Stores passes e.worker place e
+  pub once : (worker other : ℕ) (f : Entry) → Stores passes worker other f → f.number ≡ e.number → (worker ≡ e.worker) × (other ≡ place) × (f ≡ e)
+
+-- the history has as many entries as the number word says, and runs to the state that the rows show; the entry of each number is stored once, every stored entry is one of them, and each caller has seen a beginning
+pub record IsStored (words : List ℕ) (passes : List Pass) (history : List Entry) (start state : List Area) : Type 0 where
+  pub runs : Runs 0 start history state
+  pub rows : RowsShow words (kind_at state)
+  pub sequence : slice_index words 1 ≡ whole_count history
+  pub count : length history ≡ slice_index words 0
+  pub numbered : (n : ℕ) (e : Entry) → get_elem? history n ≡ some e → e.number ≡ n
+  pub once : (n : ℕ) (e : Entry) → get_elem? history n ≡ some e → IsStoredOnce passes e
+  pub no_other : (worker place : ℕ) (e : Entry) → Stores passes worker place e → get_elem? history e.number ≡ some e
+  pub seen : (worker : ℕ) (pass : Pass) → get_elem? passes worker ≡ some pass → StartsWith history pass.seen
+
+-- the rule of the guard stores one history, and its rows show the last state
+abbrev pub HistoryIsStored : Type 0
+HistoryIsStored = (grants : Grants) (words : List ℕ) (passes : List Pass) → HasHistory grants words passes → (history : List Entry) × (start : List Area) × (state : List Area) × IsStored words passes history start state
+
+-- a run is legal, and leaves its last state
+abbrev pub RunsAreLegal : Type 0
+RunsAreLegal = (A B : List Area) (entries : List Entry) → Runs 0 A entries B → IsLegal A entries × StateAfter A entries B
