@@ -8,7 +8,7 @@ use Rattle.space_model.specs.declared.entries.Entry.{Entry}
 use Rattle.space_model.specs.History.{IsLegalFrom, StateAfter}
 use Rattle.area_rows.specs.declared.guard.Pass.{Pass}
 use Rattle.area_rows.specs.History.{Runs, entries_of, IsRunning}
-use Rattle.area_rows.specs.Stored.{Stores, IsStoredOnce, IsStored, HistoryIsStored, RunsAreLegal}
+use Rattle.area_rows.specs.Stored.{Stores, IsStoredOnce, IsStored, HistoryIsStored, RunsAreLegal, DrawsHold}
 use Rattle.area_rows.proofs.Gathering.{elem_at, runs_number, own_at, at_own}
 
 legal_run : (entries : List Entry) (n : ℕ) (A B : List Area) → Runs n A entries B → IsLegalFrom n A entries
@@ -88,3 +88,6 @@ module _ (start : List Area) (history : List Entry) (state : List Area) (words :
 
 pub all_stored : HistoryIsStored
 all_stored grants words passes h = (h.1, h.0, h.2, is_stored h.0 h.1 h.2 words passes h.3)
+
+pub all_hold : DrawsHold
+all_hold grants words passes worker place by note after may = let d = may.3 in (d.held.0, d.held.1, d.held.2, may.2.history, ap (λ (p : Pass). p.seen) may.4)

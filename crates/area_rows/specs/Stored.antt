@@ -1,6 +1,6 @@
--- That the history of a running address space is the callers' entries, by number, that the rows show its last state, and that it is legal as the one-thread model has it.
+-- That the history of a running address space is the callers' entries, by number, that the rows show its last state, that it is legal as the one-thread model has it, and that each number is drawn under the range that its entry names.
 -- Between two steps a reader may take the entry of a number from the one caller who stores it.
-use Rattle.std.specs.Prelude.{ℕ, ◌≡◌, List, length, slice_index}
+use Rattle.std.specs.Prelude.{ℕ, ◌≡◌, Option, List, [], ◌∷◌, ◌++◌, length, slice_index}
 use mathlib.Core.Option.{some}
 use lib.ListN.{get_elem?}
 use Rattle.space_model.specs.declared.areas.Area.{Area}
@@ -8,9 +8,12 @@ use Rattle.space_model.specs.declared.entries.Entry.{Entry}
 use Rattle.space_model.specs.Areas.{kind_at}
 use Rattle.space_model.specs.History.{IsLegal, StateAfter}
 use Rattle.lock_core.specs.Grants.{Grants}
+use Rattle.lock_core.specs.Client.{adds}
+use Rattle.lock_core.specs.declared.range.Held.{Held}
+use Rattle.area_rows.specs.declared.guard.Note.{Note}
 use Rattle.area_rows.specs.declared.guard.Pass.{Pass}
 use Rattle.area_rows.specs.Rows.{RowsShow}
-use Rattle.area_rows.specs.History.{Runs, StartsWith, whole_count, HasHistory}
+use Rattle.area_rows.specs.History.{Runs, StartsWith, whole_count, HasHistory, HoldsFor, Allowed, entry_of}
 
 -- the caller of that number has the entry at that place among its own
 abbrev pub Stores : List Pass → ℕ → ℕ → Entry → Type 0
@@ -40,3 +43,9 @@ HistoryIsStored = (grants : Grants) (words : List ℕ) (passes : List Pass) → 
 -- a run is legal, and leaves its last state
 abbrev pub RunsAreLegal : Type 0
 RunsAreLegal = (A B : List Area) (entries : List Entry) → Runs 0 A entries B → IsLegal A entries × StateAfter A entries B
+
+-- a step that draws a number is made while its caller holds what the entry names, and the caller sees the entry behind the history
+abbrev pub DrawsHold : Type 0
+DrawsHold = (grants : Grants) (words : List ℕ) (passes : List Pass) (worker place by : ℕ) (note : Note) (after : Pass) → Allowed grants words passes worker (adds place by) note after
+    → (held : Option Held) × (get_elem? grants worker ≡ some held) × HoldsFor held note.under
+    × (history : List Entry) × (after.seen ≡ history ++ entry_of (length history) worker note ∷ [])

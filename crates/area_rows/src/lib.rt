@@ -19,6 +19,6 @@ mod words;
 pub use answer::Answer;
 pub use close::{Closed, SpaceCloseRefused};
 pub use guard::{Note, Pass, ReadRow, RowGuard};
-pub use laws::{history_is_stored, runs_are_legal};
+pub use laws::{draws_hold, history_is_stored, runs_are_legal};
 pub use row::Row;
 pub use space::{Caller, Space, SpaceFault, crosses_threads};
