@@ -14,7 +14,7 @@ use Rattle.space_model.specs.declared.entries.Under.TheVariants.{Nothing, Reader
 use Rattle.space_model.specs.Areas.{kind_at}
 use Rattle.space_model.specs.Answers.Answers.{by_arguments}
 use Rattle.space_model.specs.Held.{FitsByState}
-use Rattle.space_model.specs.Building.{AnswersFault}
+use Rattle.space_model.specs.Answers.{AnswersFault}
 use Rattle.space_model.proofs.Stepping.{fault-answers}
 use Rattle.lock_core.specs.declared.range.Held.{Held}
 use Rattle.range_rw.specs.Seats.{Known, IsLockCall, IsRelease}

@@ -4,7 +4,7 @@ ghost use Rattle.std.specs.Prelude.{◌≡◌, ◌<◌, ◌+◌, Some, None};
 ghost use Rattle.page_types.specs.declared.calls.Call.TheVariants.{Fault};
 ghost use Rattle.page_types.specs.Named.{IsNamedReply};
 ghost use Rattle.page_types.specs.PlainReply.{plain_reply};
-ghost use Rattle.space_model.specs.Building.{AnswersFault};
+ghost use Rattle.space_model.specs.Answers.{AnswersFault};
 ghost use Rattle.range_rw.specs.Seats.{Known};
 ghost use Rattle.area_rows.specs.declared.guard.Pass.{Pass};
 ghost use Rattle.area_rows.specs.Callers.{IsNumbered};

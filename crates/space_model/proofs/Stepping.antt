@@ -14,9 +14,9 @@ use Rattle.page_types.specs.declared.calls.Reply.TheVariants.{At, Zero, Granted,
 use Rattle.page_types.specs.declared.sets.Access.{Access}
 use Rattle.space_model.specs.Areas.{IsAreaList, HasNamedKinds, HasKinds, kind_at, gaps_from, gap_between, row_count}
 use Rattle.space_model.specs.Effect.{effect_of}
-use Rattle.space_model.specs.Answers.{Answers, Refuses, Grants}
+use Rattle.space_model.specs.Answers.{Answers, AnswersFault, Refuses, Grants}
 use Rattle.space_model.specs.Answers.Answers.{refused, granted}
-use Rattle.space_model.specs.Building.{AnswersFault, changed_list}
+use Rattle.space_model.specs.Building.{changed_list}
 use Rattle.space_model.proofs.Changing.{changed_list-kinds}
 use Rattle.space_model.proofs.Counting.{row_count-after}
 use Rattle.space_model.proofs.NamedKinds.{IsNamedOption, named_at}

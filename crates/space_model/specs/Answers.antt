@@ -8,7 +8,7 @@ use Rattle.page_types.specs.declared.calls.Kind.{Kind}
 use Rattle.page_types.specs.declared.calls.Call.{Call}
 use Rattle.page_types.specs.declared.calls.Call.TheVariants.{Map, Unmap, Protect, Fault}
 use Rattle.page_types.specs.declared.calls.Reply.{Reply}
-use Rattle.page_types.specs.declared.calls.Reply.TheVariants.{Granted, Refused}
+use Rattle.page_types.specs.declared.calls.Reply.TheVariants.{At, Zero, Granted, Refused}
 use Rattle.page_types.specs.declared.calls.Why.{Why}
 use Rattle.page_types.specs.declared.calls.Why.TheVariants.{Enomem, Eexist, MapErr, AccErr}
 use Rattle.page_types.specs.declared.calls.Short.TheVariants.{Missing, NoGap, Rows}
@@ -93,6 +93,13 @@ LetsThrough kind access = IsTrue (has_bits (prot_bits kind.prot) (access_bit acc
 abbrev pub RefusesAccess : Option Kind → ℕ → Access → Why → Type 0
 RefusesAccess None page access why = why ≡ MapErr page
 RefusesAccess (Some kind) page access why = ¬ LetsThrough kind access × (why ≡ AccErr page kind)
+
+-- what a fault on a page of this kind answers
+abbrev pub AnswersFault : Option Kind → ℕ → Access → Reply → Type 0
+AnswersFault kind page access (At addr) = ⊥
+AnswersFault kind page access Zero = ⊥
+AnswersFault kind page access (Granted k) = (kind ≡ Some k) × LetsThrough k access
+AnswersFault kind page access (Refused why) = RefusesAccess kind page access why
 
 -- why the area list refuses a call that its arguments don't decide, before the row limit is asked
 abbrev pub Refuses : List Area → Call → Why → Type 0

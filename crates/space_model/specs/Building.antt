@@ -7,10 +7,8 @@ use Rattle.page_types.specs.declared.calls.Kind.{Kind}
 use Rattle.page_types.specs.declared.calls.Call.{Call}
 use Rattle.page_types.specs.declared.calls.Call.TheVariants.{Map, Unmap, Protect, Fault}
 use Rattle.page_types.specs.Sets.{prot_bits}
-use Rattle.page_types.specs.declared.sets.Access.{Access}
 use Rattle.page_types.specs.declared.calls.Reply.{Reply}
-use Rattle.page_types.specs.declared.calls.Reply.TheVariants.{At, Zero, Granted, Refused}
-use Rattle.space_model.specs.Answers.{LetsThrough, RefusesAccess, Answers}
+use Rattle.space_model.specs.Answers.{Answers}
 use Rattle.space_model.specs.declared.entries.Entry.{Entry}
 use Rattle.space_model.specs.declared.areas.Area.{Area}
 use Rattle.space_model.specs.Held.{kind_before}
@@ -110,13 +108,6 @@ pieces_at A (Fault addr access) lo hi = parts lo hi None A
 abbrev pub changed_list : List Area → Call → ℕ → ℕ → List Area
 changed_list A c lo hi =
     join_all (join_all (join_all [] (parts 0 lo None A)) (pieces_at A c lo hi)) (parts hi LIMIT None A)
-
--- what a fault on a page of this kind answers
-abbrev pub AnswersFault : Option Kind → ℕ → Access → Reply → Type 0
-AnswersFault kind page access (At addr) = ⊥
-AnswersFault kind page access Zero = ⊥
-AnswersFault kind page access (Granted k) = (kind ≡ Some k) × LetsThrough k access
-AnswersFault kind page access (Refused why) = RefusesAccess kind page access why
 
 -- the call of an entry leaves area list B, and the test says whether the entry has this number and the call's reply
 abbrev pub IsNextAnswer : List Area → ℕ → Entry → Bool → List Area → Type 0

@@ -7,8 +7,7 @@ ghost use Rattle.page_types.specs.Pages.{page_of, page_count, end_page};
 ghost use Rattle.page_types.specs.PlainReply.{map_reply};
 ghost use Rattle.space_model.specs.Areas.{IsAreaList, kind_at};
 ghost use Rattle.space_model.specs.Effect.{done_reply};
-ghost use Rattle.space_model.specs.Answers.{StartsAt, FitsAt, RefusesMap};
-ghost use Rattle.space_model.specs.Building.{AnswersFault};
+ghost use Rattle.space_model.specs.Answers.{StartsAt, FitsAt, RefusesMap, AnswersFault};
 
 use crate::areas::Area;
 use crate::search::{LOWEST, highest_fit, kind_of, lowest_mapped};

@@ -4,9 +4,8 @@ use Rattle.page_types.specs.Pages.{page_of, page_count}
 use Rattle.page_types.specs.declared.calls.Why.TheVariants.{Enomem}
 use Rattle.page_types.specs.declared.calls.Short.TheVariants.{Missing}
 use Rattle.space_model.specs.Areas.{HasNamedKinds, kind_at}
-use Rattle.space_model.specs.Answers.{Refuses, RefusesMap, IsLowestMissing}
+use Rattle.space_model.specs.Answers.{Refuses, RefusesMap, IsLowestMissing, AnswersFault}
 use Rattle.space_model.specs.Answers.Answers.{refused}
-use Rattle.space_model.specs.Building.{AnswersFault}
 use Rattle.space_model.proofs.Stepping.{fault-answers, fault-named}
 use Rattle.space_model.proofs.space.PlainSpace.step.Goals as goal
 
