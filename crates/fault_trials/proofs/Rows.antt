@@ -1,5 +1,5 @@
 -- Callers in a row read by place, before and after what was done to each.
-use Rattle.std.proofs.Common.{◌≡◌, ℕ, zero, suc, ◌<◌, List, [], ◌∷◌, ◌++◌, ◌≤◌, get_or, set, length, sym, refl, ap, ◌∙◌, subst, arith, length-set, ⊎_elim}
+use Rattle.std.proofs.Common.{◌≡◌, ℕ, zero, suc, ◌<◌, List, [], ◌∷◌, ◌++◌, ◌≤◌, get_or, set, length, drop, ◌+◌, sym, refl, ap, ◌∙◌, subst, arith, length-set, length-append, ⊎_elim}
 use Rattle.std.specs.Prelude.{None}
 use mathlib.Core.Option.{some, some-injective, some-ne-none}
 use lib.ListN.{get_elem?}
@@ -10,8 +10,9 @@ use Rattle.space_model.specs.declared.areas.Area.{Area}
 use Rattle.area_rows.specs.declared.answer.Answer.{Answer}
 use Rattle.area_rows.specs.declared.answer.Answer.TheVariants.{Given, Spent}
 use Rattle.area_rows.specs.Callers.{CallerView, AreIdle, AreNewCallers}
-use Rattle.page_fault.specs.Faults.{IsAnswer}
-use Rattle.fault_trials.specs.Trials.{IsBack, IsCrew}
+use Rattle.page_fault.specs.Faults.{IsAnswer, IsTried}
+use Rattle.page_fault.specs.declared.faults.TriedFault.{TriedFault}
+use Rattle.fault_trials.specs.Trials.{HasCalled, HaveCalled, IsBack, IsCrew, OfCaller}
 
 there_below : {A : Type 0} (l : List A) (i : ℕ) (a : A) → get_elem? l i ≡ some a → i < length l
 there_below [] i a e = absurd (some-ne-none a (sym e))
@@ -96,3 +97,45 @@ two_back table seats [] others x a y b one crew two p q = absurd (omega arith)
 two_back table seats (u ∷ v ∷ rest) others x a y b one crew two p q = absurd (omega arith)
 two_back table seats (u ∷ []) [] x a y b one crew two p q = absurd (let n = crew.count in omega arith)
 two_back table seats (u ∷ []) (v ∷ rest) x a y b one crew two p q = record { count = crew.count; some = crew.some; idle = idle_two table u v rest a b crew.idle p q }
+
+-- the first caller's answer, told by places
+pub first_answer : (callers : List CallerView) (d n : CallerView) (line addr : ℕ) (access : Access) (answer : Answer) → IsAnswer (get_or callers 0 d) line addr access answer n
+    → OfCaller 0 callers (set callers 0 n) (λ before after. IsAnswer before line addr access answer after)
+first_answer [] d n line addr access answer is a b p q = absurd (some-ne-none a (sym p))
+first_answer (x ∷ xs) d n line addr access answer is a b p q =
+    subst (λ (z : CallerView × CallerView). IsAnswer z.0 line addr access answer z.1) (λ i. (some-injective x a p i, some-injective n b q i)) is
+
+-- the others stay
+pub others_stay : (callers : List CallerView) (n : CallerView) → drop 1 (set callers 0 n) ≡ drop 1 callers
+others_stay [] n = refl
+others_stay (x ∷ xs) n = refl
+
+-- the second caller's answer, told by places
+pub second_tried : (first others : List CallerView) (w d n : CallerView) (line addr : ℕ) (access : Access) (answer : TriedFault) → length first ≡ 1 → IsTried (get_or others 0 d) line addr access answer n
+    → OfCaller 1 (first ++ others) (set first 0 w ++ set others 0 n) (λ before after. IsTried before line addr access answer after)
+second_tried [] others w d n line addr access answer one is a b p q = absurd (omega arith)
+second_tried (x ∷ y ∷ rest) others w d n line addr access answer one is a b p q = absurd (omega arith)
+second_tried (x ∷ []) [] w d n line addr access answer one is a b p q = absurd (some-ne-none a (sym p))
+second_tried (x ∷ []) (y ∷ rest) w d n line addr access answer one is a b p q =
+    subst (λ (z : CallerView × CallerView). IsTried z.0 line addr access answer z.1) (λ i. (some-injective y a p i, some-injective n b q i)) is
+
+-- one call more
+pub one_more : (calls : ℕ) (start before after : CallerView) (line addr : ℕ) (access : Access) (answer : Answer) → HasCalled calls start before → IsAnswer before line addr access answer after → HasCalled (calls + 1) start after
+one_more calls start before after line addr access (Given e) h is =
+    let more : length after.seat.pass.mine ≡ length before.seat.pass.mine + 1 = ap length is.1.numbered.mine ∙ length-append before.seat.pass.mine (e ∷ []) in
+    let l = h.left in let k = h.kept in let m = is.1.left in
+    record { left = omega arith; kept = omega arith }
+one_more calls start before after line addr access Spent h is =
+    let same : after.left ≡ before.left = ap (λ (x : CallerView). x.left) is.1 in
+    let mine : length after.seat.pass.mine ≡ length before.seat.pass.mine = ap (λ (x : CallerView). length x.seat.pass.mine) is.1 in
+    let l = h.left in let k = h.kept in let z = is.0 in
+    record { left = omega arith; kept = omega arith }
+
+-- a row whose callers each made so many calls
+pub row_called : (calls : ℕ) (old new : List CallerView)
+    → ((k : ℕ) (d : CallerView) → k < length old → (a : CallerView) × (b : CallerView) × (a ≡ get_or old k d) × HasCalled calls a b × (b ≡ get_or new k d)) → HaveCalled calls old new
+row_called calls old new each k a b at_a at_b =
+    let e = each k a (there_below old k a at_a) in
+    let was : e.0 ≡ a = e.2 ∙ there_or old k a a at_a in
+    let now : e.1 ≡ b = e.4 ∙ (there_or new k b a at_b) in
+    subst (λ (z : CallerView × CallerView). HasCalled calls z.0 z.1) (λ i. (was i, now i)) e.3

@@ -1,5 +1,7 @@
 -- What calls of a trial leave of a caller: it is of the same table and number, and holds nothing.
-use Rattle.std.specs.Prelude.{◌≡◌, ◌<◌, None, List, length, ℕ}
+use Rattle.std.specs.Prelude.{◌≡◌, ◌+◌, ◌-◌, ◌<◌, None, List, length, ℕ}
+use mathlib.Core.Option.{some}
+use lib.ListN.{get_elem?}
 use Rattle.area_rows.specs.Callers.{CallerView, AreIdle}
 use Rattle.atomic_table.specs.Seated.{TableId}
 
@@ -14,3 +16,16 @@ pub record IsCrew (table : TableId) (seats : ℕ) (callers : List CallerView) : 
   pub count : length callers ≡ seats
   pub some : 0 < seats
   pub idle : AreIdle table callers
+
+-- the caller made so many calls, or as many as it could: each one that got a number is an entry more of its own
+pub record HasCalled (calls : ℕ) (before after : CallerView) : Type 0 where
+  pub left : after.left ≡ before.left - calls
+  pub kept : length after.seat.pass.mine + after.left ≡ length before.seat.pass.mine + before.left
+
+-- each caller of a row did
+abbrev pub HaveCalled : ℕ → List CallerView → List CallerView → Type 0
+HaveCalled calls before after = (k : ℕ) (a b : CallerView) → get_elem? before k ≡ some a → get_elem? after k ≡ some b → HasCalled calls a b
+
+-- of the caller at one place of a row it is so, before and after
+abbrev pub OfCaller : ℕ → List CallerView → List CallerView → (CallerView → CallerView → Type 0) → Type 0
+OfCaller k before after what = (a b : CallerView) → get_elem? before k ≡ some a → get_elem? after k ≡ some b → what a b

@@ -1,9 +1,11 @@
 // All callers of one space in a row: one of them faults, or one in one try beside another that holds a span as a writer, or each faults on a thread of its own.
 // A reader may rely on the row being ready for the closing after each of these calls.
-ghost use Rattle.std.specs.Prelude.{◌≡◌, ◌<◌, ◌≤◌, ◌^◌, None, length, IfOk, IfErr};
+ghost use Rattle.std.specs.Prelude.{◌≡◌, ◌<◌, ◌≤◌, ◌^◌, None, drop, length, IfOk, IfErr};
 ghost use Rattle.space_model.specs.Areas.{row_count};
-ghost use Rattle.area_rows.specs.Callers.{AreIdle, IsSpaceFault};
-ghost use Rattle.fault_trials.specs.Trials.{IsBack, IsCrew};
+ghost use Rattle.page_types.specs.declared.sets.Access.TheVariants.{Read};
+ghost use Rattle.area_rows.specs.Callers.{IsSpaceFault};
+ghost use Rattle.page_fault.specs.Faults.{IsAnswer, IsTried};
+ghost use Rattle.fault_trials.specs.Trials.{HasCalled, HaveCalled, IsBack, IsCrew, OfCaller};
 
 use area_rows::{Answer, Caller, Space, SpaceFault};
 use lock_core::Mode;
@@ -32,7 +34,7 @@ pub fn open_crew(
     Space::open(alloc, calls, start)
 }
 
-/// The first caller of the row faults once.
+/// The first caller of the row faults once, and the others are as they were.
 pub fn fault_by<R: Wait>(
     rt: &R,
     space: &Space,
@@ -41,8 +43,10 @@ pub fn fault_by<R: Wait>(
     addr: u64,
     access: Access,
 ) -> Answer
-    requires { IsCrew space.now.table space.now.seats callers.old }
-    ensures { IsCrew space.now.table space.now.seats callers.new }
+    requires crew { IsCrew space.now.table space.now.seats callers.old }
+    ensures crew { IsCrew space.now.table space.now.seats callers.new }
+    ensures answer { OfCaller 0 callers.old callers.new (λ before after. IsAnswer before line addr access result after) }
+    ensures others { drop 1 callers.new ≡ drop 1 callers.old }
 {
     fault(space, rt, &mut callers[0], line, addr, access)
 }
@@ -62,6 +66,7 @@ fn try_counting<L: Ledger, R: Wait>(
     requires caller { (caller.old.seat.table ≡ space.now.table) × (caller.old.seat.held ≡ None) }
     ensures writer { IsBack writer.old writer.new }
     ensures caller { IsBack caller.old caller.new }
+    ensures tried { IsTried caller.old 1 addr Read result caller.new }
 {
     let mut steps = Steps::<L>::new(blank);
     space.acquire(rt, writer, span, Mode::Writer);
@@ -70,7 +75,7 @@ fn try_counting<L: Ledger, R: Wait>(
     answer
 }
 
-/// The second caller of the row reads a byte in one try while the first one holds a span as a writer.
+/// The second caller of the row reads a byte in one try, for line 1, while the first one holds a span as a writer.
 pub fn try_beside<R: Wait>(
     rt: &R,
     space: &Space,
@@ -81,6 +86,7 @@ pub fn try_beside<R: Wait>(
     requires crew { IsCrew space.now.table space.now.seats callers.old }
     requires two { 2 ≤ space.now.seats }
     ensures crew { IsCrew space.now.table space.now.seats callers.new }
+    ensures tried { OfCaller 1 callers.old callers.new (λ before after. IsTried before 1 addr Read result after) }
 {
     let (first, others) = callers.split_at_mut(1);
     try_counting::<Brand, R>(
@@ -94,15 +100,16 @@ pub fn try_beside<R: Wait>(
     )
 }
 
-/// Reads one of four pages from page 16 on, so many times.
+/// Reads one of four pages from page 16 on, so many times, for the lines from 1 on.
 fn fault_turns<R: Wait>(rt: &R, space: &Space, caller: &mut Caller, turns: u32)
     requires table { caller.old.seat.table ≡ space.now.table }
     requires free { caller.old.seat.held ≡ None }
-    ensures { IsBack caller.old caller.new }
+    ensures back { IsBack caller.old caller.new }
+    ensures called { HasCalled turns caller.old caller.new }
 {
     for turn in 0..turns {
         let page = 16 + turn as u64 % 4;
-        fault(space, rt, caller, turn, page * PAGE, Access::Read);
+        fault(space, rt, caller, turn + 1, page * PAGE, Access::Read);
     }
 }
 
@@ -114,11 +121,12 @@ pub fn fault_all<R: Threads + Wait + Sync>(
     turns: u32,
 )
     requires { IsCrew space.now.table space.now.seats callers.old }
-    ensures { IsCrew space.now.table space.now.seats callers.new }
+    ensures crew { IsCrew space.now.table space.now.seats callers.new }
+    ensures called { HaveCalled turns callers.old callers.new }
 {
     let turn = |_: usize, caller: &mut Caller|
         requires { (caller.now.seat.table ≡ space.now.table) × (caller.now.seat.held ≡ None) }
-        ensures { IsBack caller.entry.now caller.exit.now }
+        ensures { IsBack caller.entry.now caller.exit.now × HasCalled turns caller.entry.now caller.exit.now }
     { fault_turns(rt, space, caller, turns) };
     thread::for_each_mut(rt, callers, 16, &turn);
 }

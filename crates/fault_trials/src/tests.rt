@@ -1,4 +1,4 @@
-// The worked rows of faults over a running space, and four threads on shared pages.
+// Worked cases of faults over a running space, and four threads on shared pages.
 // What a test expects is reckoned by hand or by the one-thread model, never taken from the program.
 use crate::{fault_all, fault_by, open_crew, try_beside};
 use area_rows::{Answer, SpaceFault};
@@ -21,7 +21,7 @@ fn a_space_has_from_one_to_sixteen_callers(rt: HostRuntime) {
 }
 
 #[test]
-fn faults_answer_as_the_worked_row(rt: HostRuntime) {
+fn faults_answer_as_worked_by_hand(rt: HostRuntime) {
     let alloc = rt.alloc();
     let kind = Kind {
         prot: Prot::READ,
@@ -96,8 +96,8 @@ fn four_threads_draw_two_thousand_numbers(rt: HostRuntime) {
         assert_eq!(rt; entry.number, i as u64);
         let worker = entry.worker as usize;
         assert!(rt; worker < 4);
-        assert_eq!(rt; entry.line, next[worker]);
         next[worker] = u32::wrapping_add(next[worker], 1);
+        assert_eq!(rt; entry.line, next[worker]);
     }
     assert_eq!(rt; next, [500; 4]);
 }
