@@ -1,4 +1,4 @@
-// The worked rows of the board, and threads that meet at one table.
+// Worked cases of the board, and threads that meet at one table.
 // Each test ends by a stated number of turns; what it expects is reckoned by hand, never taken from the program.
 use crate::{add_all, both, open_free, open_turnstile, release_once, row_of, try_once, visit_all};
 use lock_core::{FreeGuard, Mode, Range};
@@ -6,7 +6,7 @@ use range_rw::{NotHeld, OpenFault, RangeTable};
 use std::sync::atomic::{AtomicU64, Ordering};
 
 #[test]
-fn tries_on_the_board_answer_as_the_worked_row(rt: HostRuntime) {
+fn tries_on_the_board_answer_as_worked_by_hand(rt: HostRuntime) {
     let alloc = rt.alloc();
     let (table, seats) = open_free(alloc, 2, 7).expect(&rt, "memory");
     let (mut a, mut b) = both(&table, seats);
