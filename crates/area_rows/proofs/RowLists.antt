@@ -1,4 +1,5 @@
--- Row words and area lists: the rows of an area list show its kinds, and rows that show kinds are those of one area list.
+-- Row words and area lists: the rows of an area list show its kinds, and rows that show kinds are those of one area
+-- list.
 use Rattle.std.proofs.Common.{◌≡◌, ◌≢◌, ℕ, zero, suc, ◌+◌, ◌<◌, ◌≤◌, List, [], ◌∷◌, ◌++◌, length, get_or, true, false, cond, sym, refl, ap, ◌∙◌, subst, arith, inl, inr, length-append}
 use Rattle.std.proofs.lemmas.Bool.{cases_lt, lt-ltb, le-ltb}
 use Rattle.std.proofs.lemmas.List.Elements.{All-head, All-tail}

@@ -1,5 +1,6 @@
--- What contracts see of a caller and of a space, and what each call tells.
--- What a caller's range has shown of the history is stated as what is so at every moment at which the caller holds that range and has read those rows; so it lasts while the caller keeps both.
+-- What contracts see of a caller and of a space, and what each call tells. What a caller's range has shown of the
+-- history is stated as what is so at every moment at which the caller holds that range and has read those rows; so it
+-- lasts while the caller keeps both.
 use Rattle.std.specs.Prelude.{ℕ, ◌≡◌, ◌≢◌, ◌<◌, ◌≤◌, ◌+◌, ◌-◌, Option, Some, None, List, [], ◌∷◌, ◌++◌, drop, length, min, replicate, slice_index, ◌⊎◌}
 use mathlib.Core.Option.{some}
 use lib.ListN.{get_elem?}
@@ -24,7 +25,8 @@ use Rattle.area_rows.specs.RowWords.{row_start, row_kind}
 use Rattle.area_rows.specs.Rows.{IsRowOf, rows_in, start_of, rows_from}
 use Rattle.area_rows.specs.History.{Runs, StartsWith, entries_of, HasNamedReplies, IsRunning, IsRight, HoldsFor}
 
--- a caller: its seat in the lock's table, whose pass is what it knows of the space, and how many numbers it may still draw
+-- a caller: its seat in the lock's table, whose pass is what it knows of the space, and how many numbers it may still
+-- draw
 pub record CallerView : Type 0 where
   pub seat : Known Pass
   pub left : ℕ
@@ -56,7 +58,8 @@ pub record KeepsRead (old new : Pass) : Type 0 where
   pub count : (n : ℕ) → old.count ≡ Some n → new.count ≡ Some n
   pub rows : (index word : ℕ) → HasRead old.rows index word → HasRead new.rows index word
 
--- a moment of the running space, at which its history is this one and leaves this state: the caller of this seat holds its range there and has read what it has read, or more, and no two held ranges conflict
+-- a moment of the running space, at which its history is this one and leaves this state: the caller of this seat
+-- holds its range there and has read what it has read, or more, and no two held ranges conflict
 pub record IsMoment (seat : Known Pass) (start : List Area) (history : List Entry) (state : List Area) (words : List ℕ) : Type 0 where
   pub grants : Grants
   pub passes : List Pass
@@ -94,7 +97,8 @@ HoldsAround held row = (h : Held) × (held ≡ Some h) × (h.mode ≡ Writer) ×
 abbrev pub HasEnds : List ℕ → Row → Type 0
 HasEnds words row = (row_start (slice_index words (3 + row.index)) ≡ row.lo) × (start_of (drop (row.index + 1) (rows_in words)) ≡ row.hi)
 
--- the row is that of the page; its held pages have its kind at the state, and the held pages next to it have another, a gap counting as a kind; its ends are those of the row words where a page past each of them is held as well
+-- the row is that of the page; its held pages have its kind at the state, and the held pages next to it have another,
+-- a gap counting as a kind; its ends are those of the row words where a page past each of them is held as well
 pub record RowIs (held : Option Held) (page : ℕ) (row : Row) (words : List ℕ) (state : List Area) : Type 0 where
   pub index : IsRowOf words page row.index
   pub kind : (p : ℕ) → IsHeldPage held p → row.lo ≤ p → p < row.hi → kind_at state p ≡ row.kind
@@ -106,7 +110,8 @@ pub record RowIs (held : Option Held) (page : ℕ) (row : Row) (words : List ℕ
 abbrev pub new_pass : List Area → Pass
 new_pass start = record { start = start; seen = []; mine = []; count = None; rows = [] }
 
--- the client words of a space that starts with these areas: no entry, none under everything, the row count, the rows, and room for more
+-- the client words of a space that starts with these areas: no entry, none under everything, the row count, the rows,
+-- and room for more
 abbrev pub opening_words : List Area → List ℕ
 opening_words start = 0 ∷ 0 ∷ row_count start ∷ (rows_from 0 start ++ replicate (ROWS - row_count start) 0)
 
@@ -142,7 +147,8 @@ pub record IsReading (before after : Known Pass) : Type 0 where
   pub mine : after.pass.mine ≡ before.pass.mine
   pub read : KeepsRead before.pass after.pass
 
--- a look at the number word: at a moment of the running space the caller sees the history so far, and it keeps what it has read; so what its range has shown is so of the state that this history leaves
+-- a look at the number word: at a moment of the running space the caller sees the history so far, and it keeps what
+-- it has read; so what its range has shown is so of the state that this history leaves
 pub record IsLook (before : Known Pass) (found : ℕ) (after : Known Pass) : Type 0 where
   pub state : List Area
   pub words : List ℕ
@@ -151,7 +157,9 @@ pub record IsLook (before : Known Pass) (found : ℕ) (after : Known Pass) : Typ
   pub more : StartsWith after.pass.seen before.pass.seen
   pub count : length after.pass.seen ≡ found
 
--- a call got the next number at a moment of the running space at which its caller was the drawing seat, which held what the entry names. The history before the entry begins with what the caller had seen before the call, the entry is right at the state that this history leaves, and the caller sees it at the end and stores it
+-- a call got the next number at a moment of the running space at which its caller was the drawing seat, which held
+-- what the entry names. The history before the entry begins with what the caller had seen before the call, the entry
+-- is right at the state that this history leaves, and the caller sees it at the end and stores it
 pub record IsNumbered (drawing before : Known Pass) (e : Entry) (after : Known Pass) : Type 0 where
   pub history : List Entry
   pub state : List Area
@@ -171,7 +179,9 @@ pub record IsNumbered (drawing before : Known Pass) (e : Entry) (after : Known P
   pub number : after.number ≡ before.number
   pub held : after.held ≡ before.held
 
--- the whole history of callers that have stopped: it runs from what each began with to the areas that are left, which are an area list; calls, replies and areas have named bits alone; each caller's entries stand in it in order, no other ones do, and each has seen a beginning of it
+-- the whole history of callers that have stopped: it runs from what each began with to the areas that are left, which
+-- are an area list; calls, replies and areas have named bits alone; each caller's entries stand in it in order, no
+-- other ones do, and each has seen a beginning of it
 pub record IsWhole (callers : List CallerView) (entries : List Entry) (areas : List Area) : Type 0 where
   pub runs : (k : ℕ) (c : CallerView) → get_elem? callers k ≡ some c → Runs 0 c.seat.pass.start entries areas
   pub calls : HasNamedCalls entries

@@ -1,5 +1,5 @@
--- How the whole history is put together when a space is closed: each caller's entries go to the places of their numbers.
--- Only private functions speak of this; what callers see is `IsWhole`.
+-- How the whole history is put together when a space is closed: each caller's entries go to the places of their
+-- numbers. Only private functions speak of this; what callers see is `IsWhole`.
 use Rattle.std.specs.Prelude.{ℕ, ◌≡◌, ◌+◌, ◌≤◌, ◌<◌, ◌^◌, List, [], ◌∷◌, length, vec_len, vec_capacity}
 use mathlib.Core.Option.{some}
 use lib.ListN.{get_elem?}

@@ -1,5 +1,7 @@
--- The one history of a running address space: the number word counts it, each caller stores its own entries, and the rows stand for the state after it.
--- It is stored in the callers' lists, by number, and so isn't some history that exists. It is legal as a sequential history of an object (Herlihy and Wing, TOPLAS 1990), and each entry was numbered under the range that it names.
+-- The one history of a running address space: the number word counts it, each caller stores its own entries, and the
+-- rows stand for the state after it. It is stored in the callers' lists, by number, and so isn't some history that
+-- exists. It is legal as a sequential history of an object (Herlihy and Wing, TOPLAS 1990), and each entry was
+-- numbered under the range that it names.
 use Rattle.std.specs.Prelude.{ℕ, ◌≡◌, ◌<◌, ◌≤◌, ◌+◌, ◌^◌, ◌==◌, All, Option, Some, None, List, [], ◌∷◌, ◌++◌, filter, length, slice_index}
 use mathlib.Core.Option.{some}
 use lib.ListN.{get_elem?}
@@ -25,7 +27,8 @@ use Rattle.area_rows.specs.declared.guard.Note.{Note}
 use Rattle.area_rows.specs.declared.guard.Pass.{Pass}
 use Rattle.area_rows.specs.Rows.{rows_in, areas_from, RowsShow}
 
--- from one area list the entries are numbered n, n + 1 and so on, each fits what was held and answers what its call answers there, and they leave another
+-- from one area list the entries are numbered n, n + 1 and so on, each fits what was held and answers what its call
+-- answers there, and they leave another
 abbrev pub Runs : ℕ → List Areas → List Entry → List Areas → Type 0
 Runs n A [] B = B ≡ A
 Runs n A (e ∷ rest) B = (e.number ≡ n) × FitsUnder A e.call e.under × ((C : List Areas) × Answers A e.call e.reply C × Runs (n + 1) C rest B)
@@ -68,7 +71,8 @@ abbrev pub StillStand : List ℕ → List ReadRow → Type 0
 StillStand words [] = Unit {0}
 StillStand words (r ∷ rest) = (slice_index words (3 + r.index) ≡ r.word) × StillStand words rest
 
--- one caller's part: it began with the same areas, has seen a beginning of the history, stores just its own entries, below 2^32 of them, and what it has read stands
+-- one caller's part: it began with the same areas, has seen a beginning of the history, stores just its own entries,
+-- below 2^32 of them, and what it has read stands
 pub record IsPart (start : List Areas) (history : List Entry) (words : List ℕ) (worker : ℕ) (pass : Pass) : Type 0 where
   pub began : pass.start ≡ start
   pub seen : StartsWith history pass.seen
@@ -77,7 +81,8 @@ pub record IsPart (start : List Areas) (history : List Entry) (words : List ℕ)
   pub count : StillCounts words pass.count
   pub rows : StillStand words pass.rows
 
--- a running address space: from the start the history leaves the state, and the client words and the callers' passes stand for both
+-- a running address space: from the start the history leaves the state, and the client words and the callers' passes
+-- stand for both
 pub record IsRunning (start : List Areas) (history : List Entry) (state : List Areas) (words : List ℕ) (passes : List Pass) : Type 0 where
   pub callers : length passes ≤ 16
   pub runs : Runs 0 start history state
@@ -119,7 +124,8 @@ IsFault (Unmap addr len) = ⊥
 IsFault (Protect addr len prot) = ⊥
 IsFault (Fault addr access) = Unit {0}
 
--- the call may be numbered at this state with this reply and under this range: it is a fault, it fits, and the reply is right
+-- the call may be numbered at this state with this reply and under this range: it is a fault, it fits, and the reply
+-- is right
 pub record IsRight (state : List Areas) (call : Call) (reply : Reply) (under : Under) : Type 0 where
   pub fits : FitsUnder state call under
   pub answers : Answers state call reply state
@@ -163,7 +169,8 @@ pub data MayLoad (held : Type 0) (words : List ℕ) (history : List Entry) (plac
   count : held → place ≡ 2 → after ≡ after_count (slice_index words 2) p → MayLoad held words history place p after
   row : (index : ℕ) → held → index < ROWS → place ≡ 3 + index → after ≡ after_row index (slice_index words (3 + index)) p → MayLoad held words history place p after
 
--- a draw of a number: the entry is right at the state, the range that it names is held, and the caller has fewer than 2^32 entries with it
+-- a draw of a number: the entry is right at the state, the range that it names is held, and the caller has fewer than
+-- 2^32 entries with it
 pub record MayDraw (grants : Grants) (words : List ℕ) (passes : List Pass) (worker : ℕ) (note : Note) (here : Here words passes worker) : Type 0 where
   pub fault : IsFault note.call
   pub right : IsRight here.state note.call note.reply note.under

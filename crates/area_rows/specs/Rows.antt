@@ -1,5 +1,6 @@
--- What the row words show: the kind of each page. Rows are areas and gaps in order, as the lines of proc_pid_maps(5) and what lies between them.
--- `RowsShow` takes the kinds as a function from pages, so that rows which lag behind the history at some pages are said by another function and not by another definition.
+-- What the row words show: the kind of each page. Rows are areas and gaps in order, as the lines of proc_pid_maps(5)
+-- and what lies between them. `RowsShow` takes the kinds as a function from pages, so that rows which lag behind the
+-- history at some pages are said by another function and not by another definition.
 use Rattle.std.specs.Prelude.{ℕ, ◌≡◌, ◌≢◌, ◌<◌, ◌≤◌, ◌+◌, nat_lt, if◌then◌else◌, Option, Some, None, List, [], ◌∷◌, ◌++◌, length, take, drop, slice_index}
 use Rattle.page_types.specs.declared.TheConstants.{LIMIT, ROWS}
 use Rattle.page_types.specs.declared.calls.Kind.{Kind}

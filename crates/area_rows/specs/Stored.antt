@@ -1,5 +1,6 @@
--- That the history of a running address space is the callers' entries, by number, that the rows show its last state, that it is legal as the one-thread model has it, and that each number is drawn under the range that its entry names.
--- Between two steps a reader may take the entry of a number from the one caller who stores it.
+-- That the history of a running address space is the callers' entries, by number, that the rows show its last state,
+-- that it is legal as the one-thread model has it, and that each number is drawn under the range that its entry
+-- names. Between two steps a reader may take the entry of a number from the one caller who stores it.
 use Rattle.std.specs.Prelude.{ℕ, ◌≡◌, Option, List, [], ◌∷◌, ◌++◌, length, slice_index}
 use mathlib.Core.Option.{some}
 use lib.ListN.{get_elem?}
@@ -25,7 +26,8 @@ pub record IsStoredOnce (passes : List Pass) (e : Entry) : Type 0 where
   pub there : Stores passes e.worker place e
   pub once : (worker other : ℕ) (f : Entry) → Stores passes worker other f → f.number ≡ e.number → (worker ≡ e.worker) × (other ≡ place) × (f ≡ e)
 
--- the history has as many entries as the number word says, and runs to the state that the rows show; the entry of each number is stored once, every stored entry is one of them, and each caller has seen a beginning
+-- the history has as many entries as the number word says, and runs to the state that the rows show; the entry of
+-- each number is stored once, every stored entry is one of them, and each caller has seen a beginning
 pub record IsStored (words : List ℕ) (passes : List Pass) (history : List Entry) (start state : List Area) : Type 0 where
   pub runs : Runs 0 start history state
   pub rows : RowsShow words (kind_at state)
@@ -44,7 +46,8 @@ HistoryIsStored = (grants : Grants) (words : List ℕ) (passes : List Pass) → 
 abbrev pub RunsAreLegal : Type 0
 RunsAreLegal = (A B : List Area) (entries : List Entry) → Runs 0 A entries B → IsLegal A entries × StateAfter A entries B
 
--- a step that draws a number is made while its caller holds what the entry names, and the caller sees the entry behind the history
+-- a step that draws a number is made while its caller holds what the entry names, and the caller sees the entry
+-- behind the history
 abbrev pub DrawsHold : Type 0
 DrawsHold = (grants : Grants) (words : List ℕ) (passes : List Pass) (worker place by : ℕ) (note : Note) (after : Pass) → Allowed grants words passes worker (adds place by) note after
     → (held : Option Held) × (get_elem? grants worker ≡ some held) × HoldsFor held note.under

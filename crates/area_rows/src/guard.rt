@@ -1,5 +1,6 @@
-// The guard of the address space: what its callers know, as plain data of proofs, and the steps on client words that keep its rule.
-// The rule and the steps stand in `specs/History.antt`, and their laws in `specs/Laws.antt`; a reader may rely on the one history that the number word counts being what the callers store.
+//! The guard of the address space: what its callers know, as plain data of proofs, and the steps on client words that
+//! keep its rule. The rule and the steps stand in `specs/History.antt`, and their laws in `specs/Laws.antt`; a reader
+//! may rely on the one history that the number word counts being what the callers store.
 use lock_core::{Guard, Means};
 use page_types::{Call, Reply};
 use space_model::{Area, Entry, Under};

@@ -1,5 +1,5 @@
-// A caller takes a range of pages and gives it back, by the calls of the range lock.
-// A reader may rely on the caller holding the range where `acquire` returns, and on a release keeping what the caller has seen and numbered.
+//! A caller takes a range of pages and gives it back, by the calls of the range lock. A reader may rely on the caller
+//! holding the range where `acquire` returns, and on a release keeping what the caller has seen and numbered.
 ghost use Rattle.std.specs.Prelude.{◌≡◌, ◌≤◌, ◌+◌, ◌*◌, Some, None, IsSome, IfErr, OnOk, OnErr};
 ghost use Rattle.range_rw.specs.Seats.{IsLockCall, IsRelease};
 ghost use Rattle.range_rw.specs.Trying.{IsCause};
@@ -26,7 +26,8 @@ fn range_of(span: Span) -> Range
 }
 
 impl Space {
-    /// Tries until the caller holds the span, and waits for other callers meanwhile. The caller is of this space and holds nothing.
+    /// Tries until the caller holds the span, and waits for other callers meanwhile. The caller is of this space and
+    /// holds nothing.
     pub fn acquire<R: Wait>(&self, wait: &R, caller: &mut Caller, span: Span, mode: Mode)
         requires table { caller.old.seat.table ≡ self.now.table }
         requires free { caller.old.seat.held ≡ None }
@@ -39,7 +40,9 @@ impl Space {
     }
 
     /// Tries once to hold the span, and waits for nobody. The caller is of this space and holds nothing.
-    /// `Busy` names a range of another caller that was in conflict at a step of this call, and `Again` an exchange of this call that found the lock's turn taken. After a refusal the caller is as before, but for the record of its steps.
+    /// `Busy` names a range of another caller that was in conflict at a step of this call, and `Again` an exchange of
+    /// this call that found the lock's turn taken. After a refusal the caller is as before, but for the record of its
+    /// steps.
     pub fn try_acquire<L: Ledger>(
         &self,
         caller: &mut Caller,

@@ -1,6 +1,7 @@
-// The rows of a running address space in atomic words, under the guard of the range lock, and its one history.
-// Callers on many threads read rows and draw numbers, each under the range that it holds; taken by number, their calls are a legal history of the one-thread address space of `space_model`.
-// A reader may rely on the definitions of `specs/History.antt`, which hold between any two steps, and on what `close` gives: that history, whole.
+//! The rows of a running address space in atomic words, under the guard of the range lock, and its one history.
+//! Callers on many threads read rows and draw numbers, each under the range that it holds; taken by number, their
+//! calls are a legal history of the one-thread address space of `space_model`. A reader may rely on the definitions
+//! of `specs/History.antt`, which hold between any two steps, and on what `close` gives: that history, whole.
 #![tactic(auto)]
 
 mod answer;

@@ -1,5 +1,6 @@
-// The row of a page, looked for from the first row on, under a range that holds the page.
-// The rows are read one after another, each by one atomic step; a reader may rely on what they show of the history's state while the range is held.
+//! The row of a page, looked for from the first row on, under a range that holds the page. The rows are read one
+//! after another, each by one atomic step; a reader may rely on what they show of the history's state while the range
+//! is held.
 ghost use Rattle.std.specs.Prelude.{◌≡◌, ◌<◌, ◌≤◌, ◌+◌, Some};
 ghost use Rattle.page_types.specs.declared.TheConstants.{LIMIT, ROWS};
 ghost use Rattle.area_rows.specs.RowWords.{row_start, IsNamedOption};
@@ -13,7 +14,8 @@ use std::sync::ledger::Ledger;
 use word_rows::Steps;
 
 impl Space {
-    /// The row of a page, where the caller has read how many rows there are, from 1 to `ROWS`, and the word of the first one.
+    /// The row of a page, where the caller has read how many rows there are, from 1 to `ROWS`, and the word of the
+    /// first one.
     fn row_from<L: Ledger>(
         &self,
         caller: &mut Caller,
@@ -66,8 +68,10 @@ impl Space {
         }
     }
 
-    /// The row of a page that the caller holds; the caller is of this space. It is looked for from the first row on, and each row is read by one step.
-    /// `lo` and `hi` are as they were read. Where the caller holds a page past each of them, or up to 0 and `LIMIT`, as a writer, they are the row's own.
+    /// The row of a page that the caller holds; the caller is of this space. It is looked for from the first row on,
+    /// and each row is read by one step.
+    /// `lo` and `hi` are as they were read. Where the caller holds a page past each of them, or up to 0 and `LIMIT`,
+    /// as a writer, they are the row's own.
     pub fn row_of<L: Ledger>(&self, caller: &mut Caller, page: u64, steps: &mut Steps<L>) -> Row
         requires table { caller.old.seat.table ≡ self.now.table }
         requires held { IsHeldPage caller.old.seat.held page }

@@ -1,5 +1,6 @@
-// A running address space and its callers: a caller has a seat in the lock's table, stores its own entries, and has room for all that it may have to write.
-// A space may be shared by threads by reference, and a caller may go from one thread to another; all memory is taken when the space is opened and when it is closed.
+//! A running address space and its callers: a caller has a seat in the lock's table, stores its own entries, and has
+//! room for all that it may have to write. A space may be shared by threads by reference, and a caller may go from
+//! one thread to another; all memory is taken when the space is opened and when it is closed.
 ghost use Rattle.std.specs.Prelude.{◌≡◌, ◌≤◌, ◌<◌, ◌+◌, ◌^◌, vec_len, vec_capacity};
 
 use crate::guard::RowGuard;
@@ -79,7 +80,8 @@ impl Caller {
         self.worker
     }
 
-    /// How many numbers the caller may still draw: as many as were asked for it at the opening, less one for each of its entries.
+    /// How many numbers the caller may still draw: as many as were asked for it at the opening, less one for each of
+    /// its entries.
     pub fn left(&self) -> u32
         ensures { result ≡ self.now.left }
     {

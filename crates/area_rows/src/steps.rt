@@ -1,5 +1,6 @@
-// The four steps that a caller makes on client words: it loads the number word, the row count or a row, or draws a number.
-// Each is one atomic step, made at a moment of the running space; a reader may rely on what it tells being so there.
+//! The four steps that a caller makes on client words: it loads the number word, the row count or a row, or draws a
+//! number. Each is one atomic step, made at a moment of the running space; a reader may rely on what it tells being
+//! so there.
 ghost use Rattle.std.specs.Prelude.{ℕ, ◌≡◌, ◌<◌, ◌≤◌, ◌+◌, ◌^◌, IsSome, Some, length};
 ghost use Rattle.page_types.specs.declared.TheConstants.{LIMIT, ROWS};
 ghost use Rattle.page_types.specs.Named.{IsNamedReply};
@@ -72,7 +73,8 @@ impl Space {
         self.load_number(caller, &mut steps)
     }
 
-    /// Loads the number word: how many entries the history has. The caller then has seen all of them, and what its range has shown is so of the state that they leave.
+    /// Loads the number word: how many entries the history has. The caller then has seen all of them, and what its
+    /// range has shown is so of the state that they leave.
     pub fn look(&self, caller: &mut Caller) -> u64
         requires table { caller.old.seat.table ≡ self.now.table }
         ensures look { IsLook caller.old.seat result caller.new.seat }
@@ -81,7 +83,8 @@ impl Space {
         self.look_counting::<Brand>(caller, Blank::new(1))
     }
 
-    /// Draws a number for the entry that the note becomes. The call, with all that the note says of it, is an argument so that the note can be picked from it.
+    /// Draws a number for the entry that the note becomes. The call, with all that the note says of it, is an
+    /// argument so that the note can be picked from it.
     fn draw_as<N: Noted, L: Ledger>(
         &self,
         seat: &mut Seat<RowGuard>,
@@ -102,9 +105,12 @@ impl Space {
         self.table.add_as::<By<N>, L>(seat, 0, 1, steps)
     }
 
-    /// Draws the next number for a call of the caller, which is of this space, has a number left, and holds the range that `under` names.
-    /// The call is a fault, and at the history's state it fits `under` and has this reply, as what the caller has read shows.
-    /// The entry goes to the caller's own, and is the last one that it has seen; what its range has shown was so of the state before it. One step.
+    /// Draws the next number for a call of the caller, which is of this space, has a number left, and holds the range
+    /// that `under` names.
+    /// The call is a fault, and at the history's state it fits `under` and has this reply, as what the caller has
+    /// read shows.
+    /// The entry goes to the caller's own, and is the last one that it has seen; what its range has shown was so of
+    /// the state before it. One step.
     pub fn number<L: Ledger>(
         &self,
         caller: &mut Caller,

@@ -1,5 +1,5 @@
-// The areas that are measured, as a space for faults and as the map of a program that knows no range lock.
-// In the map they stand by their first pages in a `BTreeMap` under one `RwLock`, and a lookup reads under the lock.
+//! The areas that are measured, as a space for faults and as the map of a program that knows no range lock. In the
+//! map they stand by their first pages in a `BTreeMap` under one `RwLock`, and a lookup reads under the lock.
 use page_types::{Kind, Prot};
 use space_model::Area;
 use std::alloc::{AllocError, AllocFailed, Global};

@@ -1,5 +1,7 @@
-// Measures what a page fault costs where no other caller wants the page, beside a lookup of the page in a `BTreeMap` of areas under an `RwLock` of std, in the same run.
-// The times are the least of many rounds, so that other work on the machine counts little. They go to standard error, since they differ from run to run; standard output says only that all rounds were made.
+//! Measures what a page fault costs where no other caller wants the page, beside a lookup of the page in a `BTreeMap`
+//! of areas under an `RwLock` of std, in the same run. The times are the least of many rounds, so that other work on
+//! the machine counts little. They go to standard error, since they differ from run to run; standard output says only
+//! that all rounds were made.
 #![tactic(auto)]
 
 mod areas;

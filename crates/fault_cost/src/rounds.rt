@@ -1,5 +1,5 @@
-// The least time of many rounds of faults or of lookups, in nanoseconds.
-// A round that nothing disturbed is the shortest, so the least is what its turns cost.
+//! The least time of many rounds of faults or of lookups, in nanoseconds. A round that nothing disturbed is the
+//! shortest, so the least is what its turns cost.
 ghost use Rattle.std.specs.Prelude.{◌<◌, ◌≤◌, IfOk};
 ghost use Rattle.fault_cost.specs.Ready.{IsReady};
 
@@ -19,7 +19,8 @@ pub const ROUNDS: u32 = 40;
 /// How many faults or lookups a round has.
 pub const TURNS: u32 = 5_000;
 
-/// A space over this start with so many callers, from 1 to 16, and its caller of number 0, which may draw as many numbers as a round needs.
+/// A space over this start with so many callers, from 1 to 16, and its caller of number 0, which may draw as many
+/// numbers as a round needs.
 fn open_first(
     alloc: Global,
     start: &PlainSpace,
@@ -36,7 +37,8 @@ fn open_first(
     Ok((space, first))
 }
 
-/// The least time of a round in which the byte at `addr` is read at each turn. Each round has a space of its own, so that the entries of each stand in memory that an earlier one has used.
+/// The least time of a round in which the byte at `addr` is read at each turn. Each round has a space of its own, so
+/// that the entries of each stand in memory that an earlier one has used.
 pub fn least_of_faults<R: Wait + Clock>(
     rt: &R,
     alloc: Global,
@@ -68,7 +70,8 @@ fn fault_turns<R: Wait>(wait: &R, space: &Space, caller: &mut Caller, addr: u64)
     }
 }
 
-/// The least time of a round in which the page is looked up in the map at each turn. It is refused where the page has no area that may be read.
+/// The least time of a round in which the page is looked up in the map at each turn. It is refused where the page has
+/// no area that may be read.
 pub fn least_of_lookups<R: Wait + Clock>(rt: &R, map: &AreaMap, page: u64) -> Result<u128> {
     let mut least = u128::MAX;
     let mut granted = 0u32;

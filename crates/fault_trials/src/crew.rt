@@ -1,5 +1,6 @@
-// All callers of one space in a row: one of them faults, or one in one try beside another that holds a span as a writer, or each faults on a thread of its own.
-// A reader may rely on the row being ready for the closing after each of these calls.
+//! All callers of one space in a row: one of them faults, or one in one try beside another that holds a span as a
+//! writer, or each faults on a thread of its own. A reader may rely on the row being ready for the closing after each
+//! of these calls.
 ghost use Rattle.std.specs.Prelude.{◌≡◌, ◌<◌, ◌≤◌, ◌^◌, None, drop, length, IfOk, IfErr};
 ghost use Rattle.space_model.specs.Areas.{row_count};
 ghost use Rattle.page_types.specs.declared.sets.Access.TheVariants.{Read};

@@ -1,5 +1,5 @@
-// Worked cases of faults over a running space, and four threads on shared pages.
-// What a test expects is reckoned by hand or by the one-thread model, never taken from the program.
+//! Worked cases of faults over a running space, and four threads on shared pages. What a test expects is reckoned by
+//! hand or by the one-thread model, never taken from the program.
 use crate::{fault_all, fault_by, open_crew, try_beside};
 use area_rows::{Answer, SpaceFault};
 use lock_core::{Mode, Range};

@@ -1,5 +1,5 @@
-// Measures how long it takes to judge a history: it plays as many calls as its word says on 300 to 600 areas, and
-// asks `legal` about the entries. What it prints says nothing of time; docs/PROVING.md has what time(1) said.
+//! Measures how long it takes to judge a history: it plays as many calls as its word says on 300 to 600 areas, and
+//! asks `legal` about the entries. What it prints says nothing of time; docs/PROVING.md has what time(1) said.
 #![tactic(auto)]
 
 ghost use Rattle.page_types.specs.Named.{IsNamedCall};

@@ -31,7 +31,8 @@ abbrev pub Reads : {A : Type 0} → Part A → (A → List ℕ → Type 0) → L
 Reads part follow text (Ok x) = Took part text x.0 x.1
 Reads part follow text (Err f) = Stuck part follow text f
 
--- Something is taken before all that may follow, and what is taken before one text is taken before each that may follow.
+-- Something is taken before all that may follow, and what is taken before one text is taken before each that may
+-- follow.
 pub record Fine {A : Type 0} (part : Part A) (follow : A → List ℕ → Type 0) : Type 0 where
   pub some : (b : List ℕ) × (w : A) × ((q : List ℕ) → follow w q → part.takes b q w)
   pub before : (a rest q : List ℕ) (v : A) → part.takes a rest v → follow v q → part.takes a q v

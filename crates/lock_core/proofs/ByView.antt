@@ -1,5 +1,5 @@
--- The views after one of them changed.
--- What holds of the changed view, and of each other one as it was, holds of each view after the step; the same for two views.
+-- The views after one of them changed. What holds of the changed view, and of each other one as it was, holds of each
+-- view after the step; the same for two views.
 use Rattle.std.proofs.Common.{◌≡◌, ◌≢◌, ◌⊎◌, ℕ, zero, suc, List, [], ◌∷◌, set, Some, inl, inr, ⊎_elim, refl, sym, ap, subst, arith}
 use Rattle.std.specs.Prelude.{slice_get}
 

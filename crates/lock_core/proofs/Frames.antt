@@ -1,4 +1,5 @@
--- What every step that changes no path leaves as it is: the invariant by views, the words and paths that stay, and where nodes stand.
+-- What every step that changes no path leaves as it is: the invariant by views, the words and paths that stay, and
+-- where nodes stand.
 pub mod Frame
 pub mod Idle
 pub mod Moving

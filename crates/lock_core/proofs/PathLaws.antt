@@ -1,4 +1,5 @@
--- The steps that change paths, whole: from a lock, each where it is enabled, to a lock, whether or not its exchange succeeds.
+-- The steps that change paths, whole: from a lock, each where it is enabled, to a lock, whether or not its exchange
+-- succeeds.
 use Rattle.std.proofs.Common.{◌≡◌, ℕ, suc, ◌+◌, ◌-◌, ◌*◌, ◌<◌, ◌≤◌, Bool, true, false, List, length, set, Some, None, refl, sym, subst, arith, eqb-true}
 use Rattle.std.specs.Prelude.{slice_index, Option, ◌==◌, if◌then◌else◌}
 use Rattle.std.proofs.lemmas.List.{set-get_or}

@@ -1,5 +1,6 @@
--- A step that changes the paths keeps every part of the invariant, where it is known which nodes the paths gain and lose by it.
--- A kind of step says how it changes the paths (`Change`) and what is special to its own view (`PathStep`); all that the other views know follows here, once.
+-- A step that changes the paths keeps every part of the invariant, where it is known which nodes the paths gain and
+-- lose by it. A kind of step says how it changes the paths (`Change`) and what is special to its own view
+-- (`PathStep`); all that the other views know follows here, once.
 use Rattle.std.proofs.Common.{◌≡◌, ◌≢◌, ◌⊎◌, ℕ, zero, suc, ◌+◌, ◌*◌, ◌/◌, ◌%◌, ◌≤◌, true, List, set, Some, None, inl, inr, ⊎_elim, refl, sym, ap, ◌∙◌, subst, arith}
 use Rattle.std.specs.Prelude.{slice_get, Option}
 use Rattle.std.proofs.lemmas.Bool.{cases_eq}

@@ -1,5 +1,6 @@
--- What a write of one next word does to the paths, over the function `to` that gives the target of a cell.
--- A cell that isn't on a path leaves it; a node is put behind a cell; a node is taken out from behind a cell. Each lemma is stated once, for every path and every cell.
+-- What a write of one next word does to the paths, over the function `to` that gives the target of a cell. A cell
+-- that isn't on a path leaves it; a node is put behind a cell; a node is taken out from behind a cell. Each lemma is
+-- stated once, for every path and every cell.
 use Rattle.std.proofs.Common.{◌≡◌, ◌≢◌, ◌⊎◌, ℕ, zero, suc, inl, inr, ⊎_elim, refl, sym, ap, ◌∙◌, subst}
 use Rattle.std.proofs.lemmas.Bool.{cases_eq}
 use Rattle.lock_core.specs.Paths.{Reach, here, there, Ends, end, on}

@@ -1,4 +1,5 @@
--- A list of different numbers of an interval is no longer than the interval; so a list of different nodes of one seat has at most sixteen.
+-- A list of different numbers of an interval is no longer than the interval; so a list of different nodes of one seat
+-- has at most sixteen.
 use Rattle.std.proofs.Common.{◌≡◌, ◌≢◌, ℕ, zero, suc, ◌+◌, ◌*◌, ◌/◌, ◌<◌, ◌≤◌, Bool, true, false, List, [], ◌∷◌, length, ⊎_elim, refl, ap, ◌∙◌, arith, eqb-true, eq-eqb}
 use Rattle.std.specs.Prelude.{◌==◌, if◌then◌else◌}
 use Rattle.std.proofs.lemmas.Bool.{cases_eq}

@@ -1,4 +1,5 @@
--- The computing plan is the table: for every kind of step a plan is the row that the view enables, and a row is the plan.
+-- The computing plan is the table: for every kind of step a plan is the row that the view enables, and a row is the
+-- plan.
 use Rattle.std.proofs.Common.{◌≡◌, ◌≢◌, ℕ, Bool, true, false, List, [], ◌∷◌, Some, None, inl, inr, ⊎_elim, refl, sym, ap, ◌∙◌, subst, arith, eqb-true, eq-eqb}
 use Rattle.std.specs.Prelude.{Option, ◌==◌, ◌&&◌, not, is_some, is_none, if◌then◌else◌}
 use Rattle.std.proofs.lemmas.Bool.{eqb-false, ltb-true, lt-ltb, leb-true, le-leb}

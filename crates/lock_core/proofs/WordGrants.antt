@@ -1,4 +1,5 @@
--- The held ranges after a step that changes no path: a walk gains where its validation comes to its end, and no other step changes a grant.
+-- The held ranges after a step that changes no path: a walk gains where its validation comes to its end, and no other
+-- step changes a grant.
 use Rattle.std.proofs.Common.{◌≡◌, ◌⊎◌, ℕ, suc, ◌*◌, ◌%◌, Bool, true, false, Some, None, inl, inr, ⊎_elim, refl, sym, ap, ◌∙◌}
 use Rattle.std.specs.Prelude.{slice_get, slice_index, Option, ◌==◌, if◌then◌else◌}
 use Rattle.lock_core.specs.declared.range.Mode.{Mode}

@@ -1,5 +1,7 @@
--- Steps on client words, which are the words that the layer above the lock keeps in the lock's table, and the moments at which they are made.
--- The definitions speak of the held ranges, the client words and what each seat knows, and never of how a lock keeps its ranges; so every lock that meets them serves the same layer above. They are this project's own.
+-- Steps on client words, which are the words that the layer above the lock keeps in the lock's table, and the moments
+-- at which they are made. The definitions speak of the held ranges, the client words and what each seat knows, and
+-- never of how a lock keeps its ranges; so every lock that meets them serves the same layer above. They are this
+-- project's own.
 use Rattle.std.specs.Prelude.{◌≡◌, ℕ, ◌+◌, ◌%◌, ◌^◌, ◌<◌, List, length, slice_index, slice_set, ◌==◌, Option}
 use mathlib.Core.Option.{some}
 use lib.ListN.{get_elem?}
@@ -7,7 +9,8 @@ use prog.Atomic.{either}
 use Rattle.lock_core.specs.declared.range.Held.{Held}
 use Rattle.lock_core.specs.Grants.{Grants, IsExclusive}
 
--- one atomic step on the client word of a place: a load, a store of a value, a wrapping addition, or an exchange of an expected value for a new one
+-- one atomic step on the client word of a place: a load, a store of a value, a wrapping addition, or an exchange of
+-- an expected value for a new one
 pub data ClientStep : Type 0 where
   loads : ℕ → ClientStep
   stores : ℕ → ℕ → ClientStep

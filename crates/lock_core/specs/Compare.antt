@@ -1,6 +1,8 @@
--- What a seat makes of an unmarked node that it meets: goes on past it, stops before it, or finds it in conflict.
--- A seat that fills a node compares by the order of the list; a seat whose node is linked validates, a reader forward from its own node and a writer from the head up to its own node; every other seat only passes.
--- The order of ranges and both validations follow Kogan, Dice and Issa 2020; that readers stand by their lower ends is this project's own profile.
+-- What a seat makes of an unmarked node that it meets: goes on past it, stops before it, or finds it in conflict. A
+-- seat that fills a node compares by the order of the list; a seat whose node is linked validates, a reader forward
+-- from its own node and a writer from the head up to its own node; every other seat only passes. The order of ranges
+-- and both validations follow Kogan, Dice and Issa 2020; that readers stand by their lower ends is this project's own
+-- profile.
 use Rattle.std.specs.Prelude.{ℕ, ◌/◌, ◌&&◌, nat_lt, nat_le, Bool, true, false, if◌then◌else◌, Option, Some}
 use Rattle.lock_core.specs.Range.{Interval}
 use Rattle.lock_core.specs.declared.range.Mode.{Mode}
@@ -26,7 +28,8 @@ compared mode lo hi node_lo word =
     else if is_reader mode && is_reader (mode_of word) && nat_le lo node_lo then Stop
     else Conflict
 
--- a reader validates forward: it stops at a node that starts at its end or later, and an overlapping writer is in conflict
+-- a reader validates forward: it stops at a node that starts at its end or later, and an overlapping writer is in
+-- conflict
 abbrev pub forward : Interval → ℕ → ℕ → Verdict
 forward range node_lo word =
     if nat_le range.hi node_lo then Stop

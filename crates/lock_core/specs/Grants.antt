@@ -1,5 +1,6 @@
--- Which held ranges exclude each other, and what it is that none do.
--- Readers may overlap each other and a writer overlaps nobody, as in Kogan, Dice and Issa, EuroSys 2020. The definitions know grants alone, and nothing of the words in which a lock keeps them.
+-- Which held ranges exclude each other, and what it is that none do. Readers may overlap each other and a writer
+-- overlaps nobody, as in Kogan, Dice and Issa, EuroSys 2020. The definitions know grants alone, and nothing of the
+-- words in which a lock keeps them.
 use Rattle.std.specs.Prelude.{◌≡◌, ◌≢◌, ℕ, List, Option, Some, ◌⊎◌}
 use mathlib.Core.Option.{some}
 use lib.ListN.{get_elem?}

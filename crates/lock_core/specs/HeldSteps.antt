@@ -1,6 +1,7 @@
--- What a step makes of the held ranges: at most its own seat's grant is gained or given back, and no other changes.
--- A seat gains the range of its own node alone, and only where it held nothing; the layer above the lock needs just that to keep its own rule.
--- Readers and writers hold their ranges as in Kogan, Dice and Issa 2020; the fast path follows the same paper.
+-- What a step makes of the held ranges: at most its own seat's grant is gained or given back, and no other changes. A
+-- seat gains the range of its own node alone, and only where it held nothing; the layer above the lock needs just
+-- that to keep its own rule. Readers and writers hold their ranges as in Kogan, Dice and Issa 2020; the fast path
+-- follows the same paper.
 use Rattle.std.specs.Prelude.{◌≡◌, ◌⊎◌, ℕ, slice_get, slice_set, Some, None}
 use Rattle.lock_core.specs.declared.range.Held.{Held}
 use Rattle.lock_core.specs.declared.views.View.{View}
@@ -40,7 +41,8 @@ EachStep step does = (m next : Machine) (s : ℕ) → after m s step ≡ Some ne
 abbrev pub ChangesNoGrant : Step → Type 0
 ChangesNoGrant step = EachStep step (λ m next s. HoldsOn m next)
 
--- a step of this kind may gain: a validation may come to its end by it, or an exchange that takes the empty list succeed
+-- a step of this kind may gain: a validation may come to its end by it, or an exchange that takes the empty list
+-- succeed
 abbrev pub MayGain : Step → Type 0
 MayGain step = EachStep step (λ m next s. HoldsOn m next ⊎ Gains m next s)
 

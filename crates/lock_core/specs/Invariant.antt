@@ -1,6 +1,8 @@
--- The invariant of the list lock, in nine parts, over the words as a heap and the views by seat.
--- Every kind of step keeps all parts together, in every interleaving; from them follow exclusion and that no node is used again while a seat may reach it. The parts speak of targets and cells as `specs/Paths.antt` has them, and of places of nodes by counts.
--- The argument for the list is that of Kogan, Dice and Issa 2020; homes, epochs and the barrier are this project's own profile.
+-- The invariant of the list lock, in nine parts, over the words as a heap and the views by seat. Every kind of step
+-- keeps all parts together, in every interleaving; from them follow exclusion and that no node is used again while a
+-- seat may reach it. The parts speak of targets and cells as `specs/Paths.antt` has them, and of places of nodes by
+-- counts. The argument for the list is that of Kogan, Dice and Issa 2020; homes, epochs and the barrier are this
+-- project's own profile.
 use Rattle.std.specs.Prelude.{◌≡◌, ◌≢◌, ◌⊎◌, ℕ, suc, ◌+◌, ◌*◌, ◌/◌, ◌%◌, ◌≤◌, ◌==◌, true, if◌then◌else◌, List, slice_get, Option, Some, None}
 use Rattle.lock_core.specs.Range.{IsRange, Overlaps}
 use Rattle.lock_core.specs.declared.range.Mode.TheVariants.{Reader, Writer}
@@ -47,7 +49,8 @@ pub record Order (h : Heap) (views : List View) : Type 0 where
   pub chain : IsOrdered h (to h 0)
   pub seen : (i : ℕ) (v : View) (c : Cursor) (t : ℕ) → IsViewOf views i v → v.cursor ≡ Some c → Names c t → IsOrdered h t
 
--- The second part, places. Each node is ready, being filled, in the chain, in one hand or at home: a used node is marked in the chain, in a hand, or has home word 1
+-- The second part, places. Each node is ready, being filled, in the chain, in one hand or at home: a used node is
+-- marked in the chain, in a hand, or has home word 1
 pub record InHand (views : List View) (x : ℕ) : Type 0 where
   pub seat : ℕ
   pub view : View
@@ -117,7 +120,8 @@ pub record Fields (h : Heap) (views : List View) : Type 0 where
   pub chain_range : (x : ℕ) → InChain h x → HasRange h x
   pub range : (i x : ℕ) (v : View) (c : Cursor) → IsViewOf views i v → v.cursor ≡ Some c → MayReach h c x → HasRange h x
 
--- The fourth part, fast path. Where the head has the low bit one node stands alone, and a view may reach it only by naming just that node with the low bit
+-- The fourth part, fast path. Where the head has the low bit one node stands alone, and a view may reach it only by
+-- naming just that node with the low bit
 pub record IsHeldBy (views : List View) (x : ℕ) : Type 0 where
   pub seat : ℕ
   pub view : View
@@ -139,14 +143,16 @@ pub record FastPath (h : Heap) (views : List View) : Type 0 where
   pub kept : (i x : ℕ) (v : View) (c : Cursor) → IsViewOf views i v → v.cursor ≡ Some c → MayReach h c x → InChain h x ⊎ (IsMarked h x ⊎ (c.cur ≡ 2 * suc x + 1))
   pub cursor : (i : ℕ) (v : View) (c : Cursor) → IsViewOf views i v → v.cursor ≡ Some c → c.cur % 2 ≡ 1 → (c.prev ≡ None) × (c.next ≡ None) × (c.lo ≡ None)
 
--- The fifth part, way. The cursor of a seat that fills a node has gone past its previous node, and at its place it stops before its node
+-- The fifth part, way. The cursor of a seat that fills a node has gone past its previous node, and at its place it
+-- stops before its node
 pub record Way (h : Heap) (views : List View) : Type 0 where
   pub past : (i : ℕ) (v : View) (c : Cursor) (f : Filled) (lo hi p : ℕ) → IsViewOf views i v → v.cursor ≡ Some c → v.own ≡ filling f → f.lo ≡ Some lo → f.hi ≡ Some hi → c.prev ≡ Some p →
       compared f.mode lo hi (h.lo p) (h.hi p) ≡ Past
   pub stop : (i : ℕ) (v : View) (c : Cursor) (f : Filled) (lo hi y : ℕ) → IsViewOf views i v → v.cursor ≡ Some c → v.own ≡ filling f → f.lo ≡ Some lo → f.hi ≡ Some hi → IsAtPlace c → c.cur / 2 ≡ suc y →
       compared f.mode lo hi (h.lo y) (h.hi y) ≡ Stop
 
--- The seventh part, to see, is used by the sixth. A validation still has node x to see: from where it begins, or from its cursor on
+-- The seventh part, to see, is used by the sixth. A validation still has node x to see: from where it begins, or from
+-- its cursor on
 abbrev pub first_cell_of : Todo → ℕ → ℕ
 first_cell_of Forward n = suc n
 first_cell_of FromHead n = 0
@@ -164,7 +170,8 @@ HasToSee h k (Some c) x = SeesFrom h c.cur c.next x
 abbrev pub ToSee : Heap → List View → Type 0
 ToSee h views = (i : ℕ) (v : View) (k : Listed) → IsViewOf views i v → v.own ≡ listed k → k.todo ≡ FromHead → HasToSee h k v.cursor k.node
 
--- The sixth part, pairs. Of an overlapping reader and writer in the chain one still has the other to see (by order the reader stands before the writer)
+-- The sixth part, pairs. Of an overlapping reader and writer in the chain one still has the other to see (by order
+-- the reader stands before the writer)
 abbrev pub Pairs : Heap → List View → Type 0
 Pairs h views =
     (i j : ℕ) (v u : View) (r w : Listed) → IsViewOf views i v → IsViewOf views j u → v.own ≡ listed r → u.own ≡ listed w → r.mode ≡ Reader → w.mode ≡ Writer → Overlaps r.range w.range →

@@ -1,6 +1,7 @@
--- What is proved of the machine: laws over the definitions alone, each named by the contract of a public function with no body.
--- A lock is a state with the sizes that its type keeps and the invariant. The start is one, every step keeps it, and it gives exclusion and no reuse; so both hold after every run.
--- Kogan, Dice and Issa 2020 argue for their list in prose; the barrier before reuse is this project's own profile.
+-- What is proved of the machine: laws over the definitions alone, each named by the contract of a public function
+-- with no body. A lock is a state with the sizes that its type keeps and the invariant. The start is one, every step
+-- keeps it, and it gives exclusion and no reuse; so both hold after every run. Kogan, Dice and Issa 2020 argue for
+-- their list in prose; the barrier before reuse is this project's own profile.
 use Rattle.std.specs.Prelude.{◌≡◌, ℕ, suc, ◌<◌, ◌≤◌, ◌↔◌, List, Some, slice_get}
 use Rattle.lock_core.specs.Range.{Overlaps}
 use Rattle.lock_core.specs.Grants.{IsExclusive, AreExclusive}

@@ -1,6 +1,6 @@
--- The list lock as a pure machine: its state, and a step of a seat as a function.
--- `plan` computes the row of the table that a view enables; that it is the relation `Row`, for every step, is proved. A state with all its words and views is a `Machine`; `start` is the state before any step.
--- This project's own profile.
+-- The list lock as a pure machine: its state, and a step of a seat as a function. `plan` computes the row of the
+-- table that a view enables; that it is the relation `Row`, for every step, is proved. A state with all its words and
+-- views is a `Machine`; `start` is the state before any step. This project's own profile.
 use Rattle.std.specs.Prelude.{◌≡◌, ℕ, zero, suc, ◌+◌, ◌-◌, ◌*◌, ◌%◌, ◌^◌, ◌==◌, ◌&&◌, nat_lt, nat_le, Bool, true, false, not, if◌then◌else◌, List, [], ◌∷◌, map, replicate, slice_get, slice_index, slice_set, is_some, is_none, unwrap_or, option_map, Option, Some, None, ◌++◌}
 use Rattle.lock_core.specs.declared.range.Held.{Held}
 use Rattle.lock_core.specs.declared.range.Grant.{Grant}
@@ -111,7 +111,8 @@ abbrev pub made : List ℕ → Option Plan → Option (List ℕ × View)
 made words None = None
 made words (Some p) = Some (slice_set words p.place (p.write (slice_index words p.place)), p.view (slice_index words p.place))
 
--- whether a plan was carried out: the words and the view are then as it makes them, and otherwise there is no plan and both stay
+-- whether a plan was carried out: the words and the view are then as it makes them, and otherwise there is no plan
+-- and both stay
 abbrev pub Makes : Option Plan → Bool → List ℕ → View → List ℕ → View → Type 0
 Makes p true words v words_now v_now = made words p ≡ Some (words_now, v_now)
 Makes p false words v words_now v_now = (p ≡ None) × (words_now ≡ words) × (v_now ≡ v)

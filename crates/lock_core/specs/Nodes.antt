@@ -1,6 +1,6 @@
--- Own nodes as records, and how often a node stands in a list.
--- `Own` is an enum of the code; a rule that speaks of a node being filled or linked names its parts by these records. Places of nodes are told by counts: a node that is counted once over several lists is in one of them and nowhere twice.
--- This project's own profile.
+-- Own nodes as records, and how often a node stands in a list. `Own` is an enum of the code; a rule that speaks of a
+-- node being filled or linked names its parts by these records. Places of nodes are told by counts: a node that is
+-- counted once over several lists is in one of them and nowhere twice. This project's own profile.
 use Rattle.std.specs.Prelude.{ℕ, ◌+◌, ◌==◌, if◌then◌else◌, List, [], ◌∷◌, Option, Some, None}
 use Rattle.lock_core.specs.Range.{Interval}
 use Rattle.lock_core.specs.declared.range.Mode.{Mode}

@@ -1,6 +1,6 @@
--- How long a path is that ends.
--- A path is followed over next words until it meets the end; one that ends comes to no node twice, so that it has no more nodes than there are.
--- The list of Kogan, Dice and Issa 2020; the count of nodes is this project's own profile.
+-- How long a path is that ends. A path is followed over next words until it meets the end; one that ends comes to no
+-- node twice, so that it has no more nodes than there are. The list of Kogan, Dice and Issa 2020; the count of nodes
+-- is this project's own profile.
 use Rattle.std.specs.Prelude.{ℕ, suc, ◌*◌, ◌≤◌, List, [], ◌∷◌, length}
 use Rattle.lock_core.specs.Paths.{Ends, end, on}
 use Rattle.lock_core.specs.Words.{to}

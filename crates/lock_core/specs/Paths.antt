@@ -1,6 +1,6 @@
--- Where next words lead, low bits aside.
--- A cell is 0 for the head, and n + 1 for the next word of node n; a target is 0 for the end, and n + 1 for node n. So the head is a cell like any other, and marks stand in no path.
--- The list of Kogan, Dice and Issa 2020, as two inductive families over the function `to` that gives the target of a cell.
+-- Where next words lead, low bits aside. A cell is 0 for the head, and n + 1 for the next word of node n; a target is
+-- 0 for the end, and n + 1 for node n. So the head is a cell like any other, and marks stand in no path. The list of
+-- Kogan, Dice and Issa 2020, as two inductive families over the function `to` that gives the target of a cell.
 use Rattle.std.specs.Prelude.{ℕ}
 use Prim.Native.Nat.{zero, suc}
 

@@ -43,7 +43,8 @@ pub record PlacesDiffer : Type 0 where
   pub differ : (c : Counts) (a b : Word) → IsThere c a → IsThere c b → place_of c a ≡ place_of c b → a ≡ b
   pub within : (c : Counts) (a : Word) → IsThere c a → place_of c a < word_count c.seats + c.client
 
--- the code of a node gives the node and the mark back; a word that names a node is that node's code, with the mark that it has; the other words are 0 and 1, the end without the mark and with it
+-- the code of a node gives the node and the mark back; a word that names a node is that node's code, with the mark
+-- that it has; the other words are 0 and 1, the end without the mark and with it
 pub record CodesReadBack : Type 0 where
   pub node : (n : ℕ) (marked : Bool) → node_of (word_of n marked) ≡ Some n
   pub mark : (n : ℕ) (marked : Bool) → (word_of n marked % 2 == 1) ≡ marked

@@ -1,5 +1,5 @@
--- A range as contracts see it: its two ends, as plain numbers.
--- Every `Range` of the code meets `IsRange`; the definitions speak of ends alone, so that a range read from words can be named before it is known to be one.
+-- A range as contracts see it: its two ends, as plain numbers. Every `Range` of the code meets `IsRange`; the
+-- definitions speak of ends alone, so that a range read from words can be named before it is known to be one.
 use Rattle.std.specs.Prelude.{ℕ, ◌<◌, ◌≤◌, ◌^◌}
 
 -- the whole numbers from lo on and below hi

@@ -1,6 +1,8 @@
--- The table of the list lock's steps: eighteen rows, by the names of `Step`.
--- A row says when a step is enabled in the stepping seat's view, which one word it touches and what that becomes, and the view afterwards by the value that the word had. A step whose premises fail isn't enabled; an exchange that finds another value is a step too.
--- Link, Unlink and Mark follow Kogan, Dice and Issa 2020, and QuickLink, QuickUnlink and Settle their fast path; epochs, homes and the barrier are this project's own profile.
+-- The table of the list lock's steps: eighteen rows, by the names of `Step`. A row says when a step is enabled in the
+-- stepping seat's view, which one word it touches and what that becomes, and the view afterwards by the value that
+-- the word had. A step whose premises fail isn't enabled; an exchange that finds another value is a step too. Link,
+-- Unlink and Mark follow Kogan, Dice and Issa 2020, and QuickLink, QuickUnlink and Settle their fast path; epochs,
+-- homes and the barrier are this project's own profile.
 use Rattle.std.specs.Prelude.{◌≡◌, ◌≢◌, ◌⊎◌, ℕ, suc, ◌+◌, ◌-◌, ◌*◌, ◌%◌, ◌^◌, ◌<◌, ◌≤◌, ◌==◌, if◌then◌else◌, List, [], ◌∷◌, Option, Some, None}
 use Rattle.lock_core.specs.declared.range.Mode.{Mode}
 use Rattle.lock_core.specs.declared.views.View.{View}

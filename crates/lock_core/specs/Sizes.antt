@@ -1,6 +1,6 @@
--- What the type of a state keeps, whatever steps were made: sizes, and that every node and seat that it names is there.
--- It is what a step needs to be safe and to take no memory: lists of different nodes of one seat are no longer than the room that was reserved for them.
--- This project's own profile.
+-- What the type of a state keeps, whatever steps were made: sizes, and that every node and seat that it names is
+-- there. It is what a step needs to be safe and to take no memory: lists of different nodes of one seat are no longer
+-- than the room that was reserved for them. This project's own profile.
 use Rattle.std.specs.Prelude.{◌≡◌, ◌≢◌, ℕ, suc, ◌+◌, ◌*◌, ◌/◌, ◌%◌, ◌<◌, ◌≤◌, ◌==◌, if◌then◌else◌, List, length, slice_get, slice_index, Option, Some, None}
 use Rattle.lock_core.specs.Range.{Interval, IsRange}
 use Rattle.lock_core.specs.declared.range.Mode.{Mode}
@@ -32,12 +32,14 @@ pub record IsFilledInOrder (f : Filled) : Type 0 where
   pub hi : (hi : ℕ) → f.hi ≡ Some hi → (lo : ℕ) × (f.lo ≡ Some lo) × IsRange lo hi
   pub aimed : (w : ℕ) → f.aimed ≡ Some w → (f.lo ≢ None) × (f.hi ≢ None)
 
--- the own node, the ready and the used nodes of seat i are different nodes of this seat, and the homes are different nodes of the used ones
+-- the own node, the ready and the used nodes of seat i are different nodes of this seat, and the homes are different
+-- nodes of the used ones
 pub record AreNodesSized (i : ℕ) (own : Own) (ready used homes : List ℕ) : Type 0 where
   pub nodes : (x : ℕ) → own_times x own + times x ready + times x used ≤ (if x / 16 == i then 1 else 0)
   pub homes_used : (x : ℕ) → times x homes ≤ times x used
 
--- the next word of an own node that is aimed or linked has no low bit, and an aim names a node that is there, or the end
+-- the next word of an own node that is aimed or linked has no low bit, and an aim names a node that is there, or the
+-- end
 pub record IsOwnSized (seats : ℕ) (h : Heap) (own : Own) : Type 0 where
   pub filled : (f : Filled) → own ≡ filling f → IsFilledInOrder f
   pub aim_there : (f : Filled) (w : ℕ) → own ≡ filling f → f.aimed ≡ Some w → NamesNode seats w

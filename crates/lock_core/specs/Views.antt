@@ -1,6 +1,7 @@
--- What each step makes of the stepping seat's view, by the value that its word had.
--- A view changes at its own seat's steps alone. The definitions stand in the order of the steps; the rows of the table and the computing plan both cite them.
--- Cursors follow Kogan, Dice and Issa 2020; epochs, homes, notes and the barrier are this project's own profile.
+-- What each step makes of the stepping seat's view, by the value that its word had. A view changes at its own seat's
+-- steps alone. The definitions stand in the order of the steps; the rows of the table and the computing plan both
+-- cite them. Cursors follow Kogan, Dice and Issa 2020; epochs, homes, notes and the barrier are this project's own
+-- profile.
 use Rattle.std.specs.Prelude.{ℕ, suc, ◌+◌, ◌-◌, ◌*◌, ◌/◌, ◌%◌, ◌^◌, ◌==◌, ◌&&◌, min, Bool, true, false, if◌then◌else◌, List, [], ◌∷◌, ◌++◌, take, drop, replicate, slice_get, slice_set, unwrap_or, option_map, Option, Some, None}
 use Rattle.std.specs.List.{list_all}
 use Rattle.lock_core.specs.declared.range.Mode.{Mode}
@@ -75,7 +76,8 @@ released_if_passed s v = if are_others_passed s v.passed then released v else v
 abbrev pub epoch_read : ℕ → View → ℕ → ℕ → View
 epoch_read s v j w = released_if_passed s (looked_at v j w)
 
--- ReadHome found w: a node found home joins the homes, and the barrier begins anew; with one seat alone it is ready at once
+-- ReadHome found w: a node found home joins the homes, and the barrier begins anew; with one seat alone it is ready
+-- at once
 abbrev pub came_home : ℕ → View → ℕ → View
 came_home seats v n = record v { homes = v.homes ++ n ∷ []; notes = replicate seats None; passed = replicate seats false }
 
@@ -107,7 +109,8 @@ taken v n rest = record v { ready = rest; own = Filling n None None Writer None 
 abbrev pub seen_after : ℕ → ℕ → ℕ
 seen_after seen w = if w / 2 == 0 then seen else min (seen + 1) (2 ^ 32 - 1)
 
--- the own node once the cursor came to this word: a reader that came to the end, and a writer that came to its own node, holds its range
+-- the own node once the cursor came to this word: a reader that came to the end, and a writer that came to its own
+-- node, holds its range
 abbrev pub own_at : Own → ℕ → Own
 own_at Nothing w = Nothing
 own_at (Filling node lo hi mode aimed) w = Filling node lo hi mode aimed

@@ -1,5 +1,6 @@
-// What a seat makes of an unmarked node that it meets on its way through the list.
-// The rules are those of `specs/Compare.antt`: the order of the list for a seat that fills a node, and a validation for one whose node is linked (Kogan, Dice and Issa 2020).
+//! What a seat makes of an unmarked node that it meets on its way through the list. The rules are those of
+//! `specs/Compare.antt`: the order of the list for a seat that fills a node, and a validation for one whose node is
+//! linked (Kogan, Dice and Issa 2020).
 ghost use Rattle.std.specs.Prelude.{◌≡◌};
 ghost use Rattle.lock_core.specs.Words.{mode_of};
 ghost use Rattle.lock_core.specs.Compare.{is_reader, compared, forward, from_head, verdict_of};
@@ -77,7 +78,8 @@ fn validate_from_head(range: Range, node_lo: u64, word: u64) -> Verdict
     }
 }
 
-/// What the owner of this own node makes of an unmarked node with this lo word and this hi word. A node that is being filled and whose ends aren't both known is in conflict with every other.
+/// What the owner of this own node makes of an unmarked node with this lo word and this hi word. A node that is being
+/// filled and whose ends aren't both known is in conflict with every other.
 pub fn judge(own: &Own, node_lo: u64, word: u64) -> Verdict
     ensures { result ≡ verdict_of own.now node_lo word }
 {

@@ -1,6 +1,6 @@
-// The steps that fill the own node before it is linked: FillLo, FillHi, Aim, and ClearHome, which takes it.
-// Nobody else reaches the node meanwhile, so its words are stored plainly; what was stored is known in the view.
-// This project's own profile; the order of filling, aiming and linking follows Kogan, Dice and Issa 2020.
+//! The steps that fill the own node before it is linked: FillLo, FillHi, Aim, and ClearHome, which takes it. Nobody
+//! else reaches the node meanwhile, so its words are stored plainly; what was stored is known in the view. This
+//! project's own profile; the order of filling, aiming and linking follows Kogan, Dice and Issa 2020.
 ghost use Rattle.std.specs.Prelude.{◌≡◌, ◌*◌, ◌^◌, ◌<◌, ◌≤◌};
 ghost use Rattle.lock_core.specs.declared.steps.Step.TheVariants.{FillLo, FillHi, Aim, ClearHome};
 ghost use Rattle.lock_core.specs.Words.{hi_word};

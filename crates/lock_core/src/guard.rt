@@ -1,6 +1,7 @@
-// What the layer above a range lock keeps in client words: a rule over the held ranges, those words and what each seat knows, and the steps that it allows itself.
-// A lock that keeps its own rule keeps a guard's rule too, by the guard's three laws, as a lock of Iris' library keeps the invariant that its user picks.
-// A reader may rely on it that a guard speaks of grants, client words and passes alone, never of how a range is kept.
+//! What the layer above a range lock keeps in client words: a rule over the held ranges, those words and what each
+//! seat knows, and the steps that it allows itself. A lock that keeps its own rule keeps a guard's rule too, by the
+//! guard's three laws, as a lock of Iris' library keeps the invariant that its user picks. A reader may rely on it
+//! that a guard speaks of grants, client words and passes alone, never of how a range is kept.
 ghost use Rattle.std.specs.Prelude.{◌≡◌, ℕ, List, slice_set, Option, Some, None};
 ghost use mathlib.Core.Option.{some};
 ghost use lib.ListN.{get_elem?};
@@ -39,7 +40,8 @@ pub trait Guard {
     ghost gains: { (grants : Grants) (words : List ℕ) (passes : List Self.Pass) (seat : ℕ) (h : Held)
         → holds grants words passes → get_elem? grants seat ≡ some None → IsFree grants seat h → holds (slice_set grants seat (Some h)) words passes };
 
-    /// The law of loss: the rule stays where a grant is given back whose seat's pass is at rest, and that pass becomes `rested` of it.
+    /// The law of loss: the rule stays where a grant is given back whose seat's pass is at rest, and that pass
+    /// becomes `rested` of it.
     ghost loses: { (grants : Grants) (words : List ℕ) (passes : List Self.Pass) (seat : ℕ) (pass : Self.Pass)
         → holds grants words passes → get_elem? passes seat ≡ some pass → is_at_rest pass → holds (slice_set grants seat None) words (slice_set passes seat (rested pass)) };
 

@@ -1,6 +1,9 @@
-// The steps that change none of the list's paths keep the lock: those of a seat's epoch and of its pools, filling and aiming the own node, the walk with both validations, and taking the low bit from the head.
-// Each law is a public function with nothing to run. From every state that meets the invariant this step, of any seat and wherever it is enabled, leads to a state that meets it, also where its exchange fails; and each law says what the step does to the grants.
-// Walks and validations follow Kogan, Dice and Issa 2020; epochs, homes and the barrier before reuse are this project's own profile.
+//! The steps that change none of the list's paths keep the lock: those of a seat's epoch and of its pools, filling
+//! and aiming the own node, the walk with both validations, and taking the low bit from the head. Each law is a
+//! public function with nothing to run. From every state that meets the invariant this step, of any seat and wherever
+//! it is enabled, leads to a state that meets it, also where its exchange fails; and each law says what the step does
+//! to the grants. Walks and validations follow Kogan, Dice and Issa 2020; epochs, homes and the barrier before reuse
+//! are this project's own profile.
 ghost use Rattle.std.specs.Prelude.{ℕ};
 ghost use Rattle.lock_core.specs.Laws.{Keeps};
 ghost use Rattle.lock_core.specs.HeldSteps.{ChangesNoGrant, MayGain};
@@ -62,7 +65,8 @@ pub fn clear_home_keeps()
     ensures grants { (node : ℕ) → ChangesNoGrant (Step.ClearHome node) }
 {}
 
-/// Beginning a walk, and reading the next word of the cursor's node, keeps the lock. The seat may gain the range of its own linked node, where a validation comes to its end as it begins; no other grant changes.
+/// Beginning a walk, and reading the next word of the cursor's node, keeps the lock. The seat may gain the range of
+/// its own linked node, where a validation comes to its end as it begins; no other grant changes.
 pub fn walk_keeps()
     ensures keeps { Keeps Step.Walk }
     ensures grants { MayGain Step.Walk }
@@ -74,7 +78,8 @@ pub fn read_lo_keeps()
     ensures grants { ChangesNoGrant Step.ReadLo }
 {}
 
-/// Reading the higher end of the cursor's node, and judging the node, keeps the lock. The seat may gain the range of its own linked node, where its validation comes to its end by this step; no other grant changes.
+/// Reading the higher end of the cursor's node, and judging the node, keeps the lock. The seat may gain the range of
+/// its own linked node, where its validation comes to its end by this step; no other grant changes.
 pub fn read_hi_keeps()
     ensures keeps { Keeps Step.ReadHi }
     ensures grants { MayGain Step.ReadHi }

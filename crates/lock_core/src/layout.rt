@@ -1,6 +1,7 @@
-// Where each word of the list lock stands, and the code of next words.
-// The head is the first word; then come the epochs of the seats, then four words for each node, then the words of the layer above. All places differ, so a write of one word leaves every other as it is.
-// This project's own profile; the mark in the low bit of a node's next word follows Harris 2001 and Kogan, Dice and Issa 2020.
+//! Where each word of the list lock stands, and the code of next words. The head is the first word; then come the
+//! epochs of the seats, then four words for each node, then the words of the layer above. All places differ, so a
+//! write of one word leaves every other as it is. This project's own profile; the mark in the low bit of a node's
+//! next word follows Harris 2001 and Kogan, Dice and Issa 2020.
 ghost use Rattle.std.specs.Prelude.{◌≡◌, ℕ, suc, Some, None, ◌+◌, ◌*◌, ◌/◌, ◌%◌, ◌^◌, ◌<◌, ◌≤◌, ◌==◌, IsTrue, ◌↔◌};
 ghost use Rattle.lock_core.specs.Words.{cell_of, cell_place, epoch_place, lo_place, hi_place, home_place, client_place, word_count, word_of, node_of};
 ghost use Rattle.lock_core.specs.Places.{PlacesDiffer, CodesReadBack};
@@ -10,7 +11,8 @@ use std::marker::Model;
 /// Nodes of one seat. Node n belongs to seat n / 16.
 pub const NODES: u32 = 16;
 
-/// The places of the words of a lock of 1 to 16 seats with at most 2^20 words of the layer above, its client words. Seats, nodes, client words and places are counted from 0.
+/// The places of the words of a lock of 1 to 16 seats with at most 2^20 words of the layer above, its client words.
+/// Seats, nodes, client words and places are counted from 0.
 #[derive(Clone, Copy, Debug, PartialEq, Eq)]
 pub struct Layout {
     seats: u32,
@@ -124,7 +126,8 @@ pub fn node_word(n: u32, marked: bool) -> u64
     2 * (n as u64 + 1) + marked as u64
 }
 
-/// The node that a next word names, if it names one, and whether the word has the mark. Nodes have numbers below 2^32, so a word above all their codes names none.
+/// The node that a next word names, if it names one, and whether the word has the mark. Nodes have numbers below
+/// 2^32, so a word above all their codes names none.
 pub fn read_word(w: u64) -> (Option<u32>, bool)
     ensures node { w < 2 ^ 33 + 2 → result.0 ≡ node_of w }
     ensures none { 2 ^ 33 + 2 ≤ w → result.0 ≡ None }
@@ -144,7 +147,8 @@ pub fn places_differ()
     ensures { PlacesDiffer }
 {}
 
-/// A code that is read back gives the node and the mark of which it was made, and no two nodes and marks have one code: a law, with nothing to run.
+/// A code that is read back gives the node and the mark of which it was made, and no two nodes and marks have one
+/// code: a law, with nothing to run.
 pub fn codes_read_back()
     ensures { CodesReadBack }
 {}

@@ -1,6 +1,7 @@
-// The exchanges that change the list, and the mark: Link, Unlink and Mark.
-// A node is linked at the cursor's place, unlinked once it is marked, and marked by its owner alone. An exchange that finds another value changes no word and lets the cursor go.
-// Harris 2001 for the mark and the unlinking by whoever passes; Kogan, Dice and Issa 2020 for the list of ranges.
+//! The exchanges that change the list, and the mark: Link, Unlink and Mark. A node is linked at the cursor's place,
+//! unlinked once it is marked, and marked by its owner alone. An exchange that finds another value changes no word
+//! and lets the cursor go. Harris 2001 for the mark and the unlinking by whoever passes; Kogan, Dice and Issa 2020
+//! for the list of ranges.
 ghost use Rattle.std.specs.Prelude.{◌≡◌, ◌+◌, ◌%◌};
 ghost use Rattle.lock_core.specs.declared.steps.Step.TheVariants.{Link, Unlink, Mark};
 ghost use Rattle.lock_core.specs.Views.{todo_of};

@@ -1,6 +1,6 @@
-// The lists of a seat's view: nodes in order, noted epochs by seat, and flags by seat.
-// Each is a small type over a `Vec` whose greatest length is reserved when it is made, so that no step of the machine takes memory; contracts see each as its list.
-// This project's own profile.
+//! The lists of a seat's view: nodes in order, noted epochs by seat, and flags by seat. Each is a small type over a
+//! `Vec` whose greatest length is reserved when it is made, so that no step of the machine takes memory; contracts
+//! see each as its list. This project's own profile.
 ghost use Rattle.std.specs.Prelude.{◌≡◌, ℕ, ◌+◌, ◌*◌, ◌<◌, ◌≤◌, ◌==◌, ◌&&◌, not, Bool, true, false, List, [], ◌∷◌, ◌++◌, length, take, drop, replicate, slice_get, slice_set, unwrap_or, IfOk, None, Some};
 ghost use Rattle.std.specs.List.{list_all};
 ghost use Rattle.lock_core.specs.Nodes.{times, without};

@@ -1,6 +1,6 @@
-// The steps of epochs and pools: Enter, Leave, ReadEpoch, ReadHome and GiveHome.
-// A node that was unlinked comes home to its owner and is used again only when each other seat has been seen outside, or in another operation, since then; so nobody may reach it any more.
-// The barrier of epochs is this project's own profile, after Fraser 2004.
+//! The steps of epochs and pools: Enter, Leave, ReadEpoch, ReadHome and GiveHome. A node that was unlinked comes home
+//! to its owner and is used again only when each other seat has been seen outside, or in another operation, since
+//! then; so nobody may reach it any more. The barrier of epochs is this project's own profile, after Fraser 2004.
 ghost use Rattle.std.specs.Prelude.{◌≡◌, ◌+◌, ◌<◌, ◌≤◌, length};
 ghost use Rattle.lock_core.specs.declared.steps.Step.TheVariants.{Enter, Leave, ReadEpoch, ReadHome, GiveHome};
 ghost use Rattle.lock_core.specs.Views.{released, looked_at, came_home};

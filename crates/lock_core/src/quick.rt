@@ -1,6 +1,6 @@
-// The fast path for an empty list: QuickLink, QuickUnlink and Settle.
-// A node that is alone in the list stands in the head with the low bit, and its range is held at once; whoever walks the list settles the head first, and from then on the node is one like any other.
-// The fast path of Kogan, Dice and Issa 2020.
+//! The fast path for an empty list: QuickLink, QuickUnlink and Settle. A node that is alone in the list stands in the
+//! head with the low bit, and its range is held at once; whoever walks the list settles the head first, and from then
+//! on the node is one like any other. The fast path of Kogan, Dice and Issa 2020.
 ghost use Rattle.std.specs.Prelude.{◌≡◌, ◌+◌, ◌%◌};
 ghost use Rattle.lock_core.specs.declared.steps.Step.TheVariants.{QuickLink, QuickUnlink, Settle};
 ghost use Rattle.lock_core.specs.Sizes.{MayStep};

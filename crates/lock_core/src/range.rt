@@ -1,6 +1,7 @@
-// Ranges of whole numbers, the two modes in which they are held, and the question of which grants exclude each other.
-// Readers share a range and a writer has it alone, as in Kogan, Dice and Issa 2020; the bound 2^62 leaves room for the code of a high end and a mode in one word.
-// A reader may rely on it that every `Range` has a number in it and ends at 2^62 at the latest.
+//! Ranges of whole numbers, the two modes in which they are held, and the question of which grants exclude each
+//! other. Readers share a range and a writer has it alone, as in Kogan, Dice and Issa 2020; the bound 2^62 leaves
+//! room for the code of a high end and a mode in one word. A reader may rely on it that every `Range` has a number in
+//! it and ends at 2^62 at the latest.
 ghost use Rattle.std.specs.Prelude.{◌≡◌, ◌↔◌, ◌<◌, ◌≤◌, IsTrue, IsOk, IfOk, IfErr};
 ghost use Rattle.lock_core.specs.Range.{IsRange};
 ghost use Rattle.lock_core.specs.Grants.{Conflicts, held_of};
@@ -61,7 +62,8 @@ pub struct Grant {
 }
 
 impl Range {
-    /// The range from `lo` on and below `hi`. `BadRange` carries both ends, and comes where `lo` isn't below `hi` or `hi` is above 2^62.
+    /// The range from `lo` on and below `hi`. `BadRange` carries both ends, and comes where `lo` isn't below `hi` or
+    /// `hi` is above 2^62.
     pub fn of(lo: u64, hi: u64) -> Result<Range, BadRange>
         ensures exactly { IsOk result ↔ IsRange lo hi }
         ensures ends { IfOk result (λ r. (r.lo ≡ lo) × (r.hi ≡ hi)) }

@@ -1,9 +1,13 @@
-// What holds after every run of the list lock, in words that speak of its start, its steps and what it promises alone.
-// A run is a list of pairs of a seat and a step, of any length and in any order of the seats, so that every interleaving is one; a step that isn't enabled leaves the state as it is. Every beginning of a run is a run too, so what is said of a run's end holds in each state on the way.
-// The lock of Kogan, Dice and Issa 2020, with this project's own barrier before a node is used again.
+//! What holds after every run of the list lock, in words that speak of its start, its steps and what it promises
+//! alone. A run is a list of pairs of a seat and a step, of any length and in any order of the seats, so that every
+//! interleaving is one; a step that isn't enabled leaves the state as it is. Every beginning of a run is a run too,
+//! so what is said of a run's end holds in each state on the way. The lock of Kogan, Dice and Issa 2020, with this
+//! project's own barrier before a node is used again.
 ghost use Rattle.lock_core.specs.Laws.{RunsAreExclusive, RunsGrantApart, RunsHaveNoReuse};
 
-/// After any run, however long and however its seats take turns, no two conflicting ranges are held: writers exclude each other and readers, and readers share. So in the list that `grants` gives no two conflict, and no seat stands twice.
+/// After any run, however long and however its seats take turns, no two conflicting ranges are held: writers exclude
+/// each other and readers, and readers share. So in the list that `grants` gives no two conflict, and no seat stands
+/// twice.
 pub fn runs_are_exclusive()
     ensures held { RunsAreExclusive }
     ensures listed { RunsGrantApart }

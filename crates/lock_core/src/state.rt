@@ -1,6 +1,7 @@
-// The whole state of the list lock as plain data, and one step of a seat on it.
-// `fresh` makes the state before any step, `apply` makes one step by the table of `specs/Rows.antt` or says that the seat's view doesn't enable it. A running lock makes exactly these steps on atomic words; what is proved of `apply` is proved of it.
-// The list of Kogan, Dice and Issa 2020, with epochs and homes of this project's own profile.
+//! The whole state of the list lock as plain data, and one step of a seat on it. `fresh` makes the state before any
+//! step, `apply` makes one step by the table of `specs/Rows.antt` or says that the seat's view doesn't enable it. A
+//! running lock makes exactly these steps on atomic words; what is proved of `apply` is proved of it. The list of
+//! Kogan, Dice and Issa 2020, with epochs and homes of this project's own profile.
 ghost use Rattle.std.specs.Prelude.{◌≡◌, ◌+◌, ◌*◌, ◌<◌, ◌≤◌, ◌++◌, map, length, Some, None, slice_index, IfOk, OnOk, OnErr, IfErr};
 ghost use Rattle.lock_core.specs.Words.{word_count};
 ghost use Rattle.lock_core.specs.Sizes.{MayStep};
@@ -20,7 +21,8 @@ use std::marker::Model;
 
 /// The words of the lock and the view of each seat.
 ///
-/// It keeps by its type what `specs/Sizes.antt` says: the lengths and the room that `fresh` gave, and that every seat and node that it names is there.
+/// It keeps by its type what `specs/Sizes.antt` says: the lengths and the room that `fresh` gave, and that every seat
+/// and node that it names is there.
 #[derive(Drop)]
 pub struct State {
     seats: u32,
@@ -159,7 +161,8 @@ fn make(seats: u32, seat: u32, words: &mut [u64], view: &mut View, step: Step) -
     }
 }
 
-/// Makes one step of a seat. `NotEnabled` carries the seat and the number of the kind; it comes where the seat isn't there or its view doesn't enable the step, and nothing has changed then. It takes no memory.
+/// Makes one step of a seat. `NotEnabled` carries the seat and the number of the kind; it comes where the seat isn't
+/// there or its view doesn't enable the step, and nothing has changed then. It takes no memory.
 pub fn apply(state: &mut State, seat: u32, step: Step) -> Result<(), NotEnabled>
     ensures made { OnOk result (after state.old seat step ≡ Some state.new) }
     ensures refused { OnErr result (after state.old seat step ≡ None) }

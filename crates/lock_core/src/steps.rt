@@ -1,6 +1,7 @@
-// The eighteen kinds of step of the list lock, by name.
-// Each is one load, store, addition or exchange on one word, with one change of the stepping seat's view; `specs/Rows.antt` says for each kind when it is enabled and what it does.
-// The list with marked nodes follows Kogan, Dice and Issa 2020; epochs, homes and the barrier are this project's own profile.
+//! The eighteen kinds of step of the list lock, by name. Each is one load, store, addition or exchange on one word,
+//! with one change of the stepping seat's view; `specs/Rows.antt` says for each kind when it is enabled and what it
+//! does. The list with marked nodes follows Kogan, Dice and Issa 2020; epochs, homes and the barrier are this
+//! project's own profile.
 
 use crate::range::Mode;
 

@@ -1,6 +1,7 @@
-// What one seat of the list lock knows: its epoch, its nodes by where they are, its own node, its cursor and the node in its hand.
-// A view is plain data; its lists are the small types of `lists.rt`, so that no step takes memory.
-// Lists with marked nodes and cursors follow Kogan, Dice and Issa 2020; the pools with homes and epochs are this project's own profile.
+//! What one seat of the list lock knows: its epoch, its nodes by where they are, its own node, its cursor and the
+//! node in its hand. A view is plain data; its lists are the small types of `lists.rt`, so that no step takes memory.
+//! Lists with marked nodes and cursors follow Kogan, Dice and Issa 2020; the pools with homes and epochs are this
+//! project's own profile.
 
 use crate::lists::{Flags, Nodes, Notes};
 use crate::range::{Mode, Range};

@@ -1,6 +1,6 @@
-// The steps of a cursor along the list: Walk, ReadLo and ReadHi.
-// Each loads one word; a cursor learns of its node the next word, then the lower end, then the higher end, by which the node is judged. A node that is found marked isn't judged but unlinked.
-// Cursors follow Kogan, Dice and Issa 2020.
+//! The steps of a cursor along the list: Walk, ReadLo and ReadHi. Each loads one word; a cursor learns of its node
+//! the next word, then the lower end, then the higher end, by which the node is judged. A node that is found marked
+//! isn't judged but unlinked. Cursors follow Kogan, Dice and Issa 2020.
 ghost use Rattle.std.specs.Prelude.{◌≡◌, ◌+◌, ◌/◌, ◌%◌, ◌^◌, ◌<◌, ◌≤◌, ◌==◌, None};
 ghost use Rattle.lock_core.specs.declared.steps.Step.TheVariants.{Walk, ReadLo, ReadHi};
 ghost use Rattle.lock_core.specs.Words.{plain_node_of};

@@ -1,5 +1,7 @@
-// Measures what holding a range and giving it back costs where nobody else wants one, beside locking and unlocking a `Mutex` of std, in the same run.
-// The times are the least of many rounds, so that other work on the machine counts little. They go to standard error, since they differ from run to run; standard output says only that all turns were made.
+//! Measures what holding a range and giving it back costs where nobody else wants one, beside locking and unlocking a
+//! `Mutex` of std, in the same run. The times are the least of many rounds, so that other work on the machine counts
+//! little. They go to standard error, since they differ from run to run; standard output says only that all turns
+//! were made.
 #![tactic(auto)]
 
 mod rounds;

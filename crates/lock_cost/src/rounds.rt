@@ -1,5 +1,5 @@
-// The least time of many rounds of turns, in nanoseconds.
-// A round of turns that nothing disturbed is the shortest, so the least is what the turns cost.
+//! The least time of many rounds of turns, in nanoseconds. A round of turns that nothing disturbed is the shortest,
+//! so the least is what the turns cost.
 ghost use Rattle.std.specs.Prelude.{◌≡◌, None};
 
 use crate::turns::{TURNS, hold_turns};

@@ -1,5 +1,5 @@
-// Turns that hold a range and give it back at once, with nothing between.
-// A number of turns ends by itself and leaves the seat with no range.
+//! Turns that hold a range and give it back at once, with nothing between. A number of turns ends by itself and
+//! leaves the seat with no range.
 ghost use Rattle.std.specs.Prelude.{◌≡◌, ◌+◌, ◌<◌, ◌≤◌, None, IfOk, IfErr};
 ghost use Rattle.range_rw.specs.Seats.{IsOpenFault, new_seat};
 

@@ -1,5 +1,6 @@
--- The rule of the turnstile: client word 0 counts the writers inside, and who is inside holds a range with the door in it as a writer.
--- No two such ranges are held together, so the count is 0 or 1. The rule and its laws are this project's own; they stand here, since the guard cites them.
+-- The rule of the turnstile: client word 0 counts the writers inside, and who is inside holds a range with the door
+-- in it as a writer. No two such ranges are held together, so the count is 0 or 1. The rule and its laws are this
+-- project's own; they stand here, since the guard cites them.
 use Rattle.std.specs.Prelude.{◌≡◌, ◌≢◌, ℕ, zero, suc, ◌+◌, ◌-◌, ◌%◌, ◌^◌, ◌<◌, ◌≤◌, List, [], ◌∷◌, length, slice_index, slice_set, Option, Some, None, true, false, ◌⊎◌}
 use Rattle.std.proofs.Common.{set, get_or, sym, ap, ◌∙◌, subst, arith, inl, inr, ⊎_elim, length-set, get_or-set_same}
 use Rattle.std.proofs.lemmas.Bool.{false≢true}
@@ -50,7 +51,8 @@ entered v note = record { inside = true; log = note ∷ v.log }
 abbrev pub gone : Visits → Visits
 gone v = record { inside = false; log = v.log }
 
--- the steps of a visit: a look at the count, an addition of 1 by who may enter and isn't inside, and one of -1 by who is inside
+-- the steps of a visit: a look at the count, an addition of 1 by who may enter and isn't inside, and one of -1 by who
+-- is inside
 abbrev pub IsPassage : Grants → List ℕ → List Visits → ℕ → ClientStep → ℕ → Visits → Type 0
 IsPassage grants words passes seat (loads i) note after = get_elem? passes seat ≡ some after
 IsPassage grants words passes seat (stores i value) note after = ⊥

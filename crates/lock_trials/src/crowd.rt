@@ -1,5 +1,6 @@
-// Many threads at one table, one for each seat: all add to one word, or all visit the turnstile.
-// The calls run beside each other as std's `for_each_mut` runs them; a reader may rely on each seat being back after, in its place.
+//! Many threads at one table, one for each seat: all add to one word, or all visit the turnstile. The calls run
+//! beside each other as std's `for_each_mut` runs them; a reader may rely on each seat being back after, in its
+//! place.
 ghost use Rattle.std.specs.Prelude.{◌≡◌, ◌*◌, ◌<◌, false, None};
 ghost use Rattle.range_rw.specs.Seats.{IsIdleRow};
 ghost use Rattle.lock_trials.specs.Turns.{IsBack, HasMade, HaveMade, IsOutside};
@@ -13,7 +14,8 @@ use std::sync::atomic::{AtomicU64, Ordering};
 use std::thread;
 use std::thread::Threads;
 
-/// Each seat adds 1 to client word 0 so many times, under the range from 0 to 1 as a writer, each on a thread of its own.
+/// Each seat adds 1 to client word 0 so many times, under the range from 0 to 1 as a writer, each on a thread of its
+/// own.
 pub fn add_all<R: Threads + Wait + Sync>(
     rt: &R,
     table: &RangeTable<FreeGuard>,
@@ -35,7 +37,8 @@ pub fn add_all<R: Threads + Wait + Sync>(
     thread::for_each_mut(rt, seats, 16, &turn);
 }
 
-/// Each seat visits so many times, each on a thread of its own: those with an even number as writers, the others as readers, under ranges that all have the door in them and else differ.
+/// Each seat visits so many times, each on a thread of its own: those with an even number as writers, the others as
+/// readers, under ranges that all have the door in them and else differ.
 /// The most writers that were inside at any visit are kept in `most`.
 pub fn visit_all<R: Threads + Wait + Sync>(
     rt: &R,

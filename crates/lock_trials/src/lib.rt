@@ -1,5 +1,6 @@
-// Trials of the range lock by threads: a guard with a rule of its own, and worked cases through the public calls.
-// The guard counts the writers that are inside in a client word, and keeps in each pass what its writers came for; a reader may take it as an example of how a layer above the lock is written.
+//! Trials of the range lock by threads: a guard with a rule of its own, and worked cases through the public calls.
+//! The guard counts the writers that are inside in a client word, and keeps in each pass what its writers came for; a
+//! reader may take it as an example of how a layer above the lock is written.
 #![tactic(auto)]
 
 mod crowd;

@@ -1,5 +1,5 @@
-// Tables for the trials: one under no rule, and one with nobody inside its turnstile.
-// A reader may rely on the seats standing in a row, each holding nothing, as the closing takes them.
+//! Tables for the trials: one under no rule, and one with nobody inside its turnstile. A reader may rely on the seats
+//! standing in a row, each holding nothing, as the closing takes them.
 ghost use Rattle.std.specs.Prelude.{◌≡◌, length, IfOk, IfErr};
 ghost use Rattle.range_rw.specs.Seats.{IsIdleRow, IsNewRow, IsOpenFault};
 ghost use Rattle.lock_trials.specs.Turns.{IsOutside};

@@ -1,5 +1,6 @@
-// Two seats of one table in the hands of one thread: taken out of the row of an opening, tried and released by hand, and put back into a row for the closing.
-// The calls hand in a counter of their own, for a caller that counts nothing.
+//! Two seats of one table in the hands of one thread: taken out of the row of an opening, tried and released by hand,
+//! and put back into a row for the closing. The calls hand in a counter of their own, for a caller that counts
+//! nothing.
 ghost use Rattle.std.specs.Prelude.{◌≡◌, ◌<◌, length, IfOk, IfErr, OnOk, OnErr, IsSome, Some, None};
 ghost use Rattle.range_rw.specs.Seats.{IsNewRow, IsLockCall, IsRelease, IsIdleRow, new_seat};
 ghost use Rattle.range_rw.specs.Trying.{IsCause};

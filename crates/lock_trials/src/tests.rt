@@ -1,5 +1,5 @@
-// Worked cases of the board, and threads that meet at one table.
-// Each test ends by a stated number of turns; what it expects is reckoned by hand, never taken from the program.
+//! Worked cases of the board, and threads that meet at one table. Each test ends by a stated number of turns; what it
+//! expects is reckoned by hand, never taken from the program.
 use crate::{add_all, both, open_free, open_turnstile, release_once, row_of, try_once, visit_all};
 use lock_core::{FreeGuard, Mode, Range};
 use range_rw::{NotHeld, OpenFault, RangeTable};

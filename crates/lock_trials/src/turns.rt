@@ -1,5 +1,5 @@
-// Turns that threads take at one table: each turn waits for its range, makes its steps on client word 0 and gives the range back.
-// A number of turns ends by itself, and leaves its seat as it was but for its pass and its record.
+//! Turns that threads take at one table: each turn waits for its range, makes its steps on client word 0 and gives
+//! the range back. A number of turns ends by itself, and leaves its seat as it was but for its pass and its record.
 ghost use Rattle.std.specs.Prelude.{◌≡◌, ◌*◌, ◌<◌, false, None};
 ghost use Rattle.lock_trials.specs.Turns.{IsBack, HasMade, HasDoorIn};
 
@@ -53,7 +53,8 @@ fn add_counting<L: Ledger, R: Wait>(
     }
 }
 
-/// Adds 1 to client word 0 so many times, each time by a load and a store under the range as a writer: three steps at least, with the release.
+/// Adds 1 to client word 0 so many times, each time by a load and a store under the range as a writer: three steps at
+/// least, with the release.
 pub fn add_turns<R: Wait>(
     wait: &R,
     table: &RangeTable<FreeGuard>,
@@ -70,7 +71,8 @@ pub fn add_turns<R: Wait>(
     add_counting::<Brand, R>(wait, table, seat, range, turns, Blank::new(1));
 }
 
-/// One visit of a writer or one look of a reader, under a range with the door in it. It answers how many writers were inside: none.
+/// One visit of a writer or one look of a reader, under a range with the door in it. It answers how many writers were
+/// inside: none.
 fn visit_once<L: Ledger, R: Wait>(
     wait: &R,
     table: &RangeTable<Turnstile>,
@@ -128,7 +130,8 @@ fn visit_counting<L: Ledger, R: Wait>(
     most
 }
 
-/// So many visits of a writer or looks of a reader, each of two steps at least. It answers the most writers that were inside at one: none.
+/// So many visits of a writer or looks of a reader, each of two steps at least. It answers the most writers that were
+/// inside at one: none.
 pub fn visit_turns<R: Wait>(
     wait: &R,
     table: &RangeTable<Turnstile>,

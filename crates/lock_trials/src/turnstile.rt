@@ -1,5 +1,6 @@
-// A guard with a rule: client word 0 is the number of writers inside, which is 0 or 1, and who is inside holds a range with the door in it as a writer.
-// What a caller means by going in is a number of its own, its note, which goes into the log of its pass; so the note is known only when the program runs.
+//! A guard with a rule: client word 0 is the number of writers inside, which is 0 or 1, and who is inside holds a
+//! range with the door in it as a writer. What a caller means by going in is a number of its own, its note, which
+//! goes into the log of its pass; so the note is known only when the program runs.
 use lock_core::Guard;
 use std::collections::LinkedList;
 

@@ -1,5 +1,6 @@
-// Visits under the turnstile: a writer takes a range with the door in it, goes in, goes out and gives the range back, and a reader looks at the count meanwhile.
-// Each call is one guarded step; that the count is 0 before a writer goes in, and for a reader that looks, is proved from the guard's rule over every interleaving.
+//! Visits under the turnstile: a writer takes a range with the door in it, goes in, goes out and gives the range
+//! back, and a reader looks at the count meanwhile. Each call is one guarded step; that the count is 0 before a
+//! writer goes in, and for a reader that looks, is proved from the guard's rule over every interleaving.
 ghost use Rattle.std.specs.Prelude.{◌≡◌, ◌+◌, ◌<◌, false, true};
 ghost use Rattle.lock_trials.specs.Turnstile.{IsIn, IsWriterIn, entered, gone};
 ghost use Rattle.range_rw.specs.Seats.{IsClientCall};
@@ -49,7 +50,8 @@ fn enter_for<N: Noted, L: Ledger>(
     table.add_as::<By<N>, L>(seat, 0, 1, steps)
 }
 
-/// Goes in for an errand, under a range with the door in it that the seat holds as a writer, and answers how many writers were inside: none.
+/// Goes in for an errand, under a range with the door in it that the seat holds as a writer, and answers how many
+/// writers were inside: none.
 pub fn enter<L: Ledger>(
     table: &RangeTable<Turnstile>,
     seat: &mut Seat<Turnstile>,

@@ -1,4 +1,5 @@
--- A fault's reply is right where its arguments decide it, and where the row of its page shows the kind; and the parts of a call make the whole.
+-- A fault's reply is right where its arguments decide it, and where the row of its page shows the kind; and the parts
+-- of a call make the whole.
 use Rattle.std.proofs.Common.{◌≡◌, ℕ, ◌+◌, ◌<◌, ◌≤◌, List, [], ◌∷◌, ◌++◌, sym, refl, ap, ◌∙◌, subst}
 use Rattle.std.specs.Prelude.{Option, Some, None, MatchOption}
 use Rattle.page_types.specs.declared.pages.Span.{Span}

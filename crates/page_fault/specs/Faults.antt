@@ -1,5 +1,6 @@
--- What the two calls for page faults answer, and what each answer says: an access to a page as sigaction(2) has it, made while the page is held as a reader.
--- An entry carries the caller's seat as it was when the number was drawn: at a moment of the running space it held what the entry names, and the entries before the new one were the history.
+-- What the two calls for page faults answer, and what each answer says: an access to a page as sigaction(2) has it,
+-- made while the page is held as a reader. An entry carries the caller's seat as it was when the number was drawn: at
+-- a moment of the running space it held what the entry names, and the entries before the new one were the history.
 use Rattle.std.specs.Prelude.{ℕ, ◌≡◌, ◌<◌, ◌+◌, None}
 use Rattle.page_types.specs.declared.sets.Access.{Access}
 use Rattle.page_types.specs.declared.calls.Call.TheVariants.{Fault}
@@ -23,7 +24,8 @@ use Rattle.page_fault.specs.declared.faults.TriedFault.TheVariants.{Answered, No
 abbrev pub page_held : ℕ → Held
 page_held addr = record { range = record { lo = page_of addr; hi = page_of addr + 1 }; mode = Reader }
 
--- the fault got one entry, with this line and these arguments and with named bits alone, and one number of the caller is used; its number was drawn while the caller held what the entry names, and the caller holds what it held before
+-- the fault got one entry, with this line and these arguments and with named bits alone, and one number of the caller
+-- is used; its number was drawn while the caller held what the entry names, and the caller holds what it held before
 pub record IsFaulted (before : CallerView) (line addr : ℕ) (access : Access) (e : Entry) (after : CallerView) : Type 0 where
   pub line_is : e.line ≡ line
   pub call : e.call ≡ Fault addr access
@@ -37,7 +39,8 @@ abbrev pub IsAnswer : CallerView → ℕ → ℕ → Access → Answer → Calle
 IsAnswer before line addr access (Given e) after = (0 < before.left) × IsFaulted before line addr access e after
 IsAnswer before line addr access Spent after = (before.left ≡ 0) × (after ≡ before)
 
--- the range wasn't got in one try, for this cause: the arguments don't decide the call, and what the caller knows is as before
+-- the range wasn't got in one try, for this cause: the arguments don't decide the call, and what the caller knows is
+-- as before
 pub record IsNotHeld (before : CallerView) (addr : ℕ) (access : Access) (why : Why) (after : CallerView) : Type 0 where
   pub undecided : plain_reply (Fault addr access) ≡ None
   pub call : IsLockCall before.seat after.seat

@@ -1,5 +1,5 @@
-// The two calls for a fault: one waits until the page is held, and one tries once and names the cause where it isn't.
-// A fault that its arguments decide holds nothing. What the answers say stands in `specs/Faults.antt`.
+//! The two calls for a fault: one waits until the page is held, and one tries once and names the cause where it
+//! isn't. A fault that its arguments decide holds nothing. What the answers say stands in `specs/Faults.antt`.
 ghost use Rattle.std.specs.Prelude.{◌≡◌, ◌<◌, ◌+◌, Some, None};
 ghost use Rattle.page_types.specs.declared.calls.Call.TheVariants.{Fault};
 ghost use Rattle.page_types.specs.Named.{IsNamedReply};
@@ -136,8 +136,10 @@ fn fault_counting<L: Ledger, R: Wait>(
     number_held(space, caller, line, addr, access, span, &mut steps)
 }
 
-/// One access to the byte at `addr`, by the caller, which is of this space and holds nothing; `line` is the line of the input that names it, counted from 1.
-/// It waits until the caller holds the byte's page as a reader, and then draws the number; a fault at or above `LIMIT` holds nothing. `Spent` comes exactly where the caller has no number left, and nothing has changed then.
+/// One access to the byte at `addr`, by the caller, which is of this space and holds nothing; `line` is the line of
+/// the input that names it, counted from 1.
+/// It waits until the caller holds the byte's page as a reader, and then draws the number; a fault at or above
+/// `LIMIT` holds nothing. `Spent` comes exactly where the caller has no number left, and nothing has changed then.
 pub fn fault<R: Wait>(
     space: &Space,
     wait: &R,
@@ -159,7 +161,8 @@ pub fn fault<R: Wait>(
 }
 
 /// The same with one try to hold the page, so that it waits for nobody.
-/// `NotHeld` comes only for a fault below `LIMIT`, and then as for a try of the one page as a reader; the caller has seen and numbered what it had.
+/// `NotHeld` comes only for a fault below `LIMIT`, and then as for a try of the one page as a reader; the caller has
+/// seen and numbered what it had.
 pub fn try_fault<L: Ledger>(
     space: &Space,
     caller: &mut Caller,

@@ -1,6 +1,6 @@
--- What becomes of the maps lines with which an input may begin: each is an area or lies past the user addresses, up to
--- the first empty line or the first that ends the run. The form of one line is the reader's, after proc_pid_maps(5); that
--- lines come in order, and the limit on a line, are this project's own profile.
+-- What becomes of the maps lines with which an input may begin: each is an area or lies past the user addresses, up
+-- to the first empty line or the first that ends the run. The form of one line is the reader's, after
+-- proc_pid_maps(5); that lines come in order, and the limit on a line, are this project's own profile.
 use Rattle.std.specs.Prelude.{◌≡◌, ◌≢◌, ◌⊎◌, ℕ, ◌+◌, ◌*◌, ◌<◌, ◌≤◌, Bool, true, false, List, [], ◌∷◌, ◌++◌}
 use Rattle.line_parts.specs.declared.fault.What.TheVariants.{Order}
 use Rattle.space_model.specs.declared.areas.Area.{Area}
@@ -58,7 +58,8 @@ abbrev pub past_with : ℕ → MapsItem → ℕ
 past_with past (Mapped area) = past
 past_with past (Past start stop) = past + 1
 
--- the maps lines from line `number` on, behind a line that ends at this address, have these areas and so many lines past
+-- the maps lines from line `number` on, behind a line that ends at this address, have these areas and so many lines
+-- past
 -- the user addresses; the trace begins at line `next` with the texts that are left
 pub data ReadsMaps : ℕ → ℕ → List (List ℕ) → List Area → ℕ → ℕ → List (List ℕ) → Type 0 where
   over : {number from : ℕ} → ReadsMaps number from [] [] 0 number []

@@ -1,5 +1,5 @@
-// The line on standard error that says why a run did not write its whole report. It takes no memory, so that it can
-// say that there is none.
+//! The line on standard error that says why a run did not write its whole report. It takes no memory, so that it can
+//! say that there is none.
 ghost use Rattle.std.specs.Prelude.{◌≡◌, ◌≤◌, OnOk, OnErr, decimal};
 ghost use Rattle.std.specs.Io.KnownBytes.{Appends};
 ghost use Rattle.byte_ports.specs.Bytes.{AppendsPrefix};

@@ -1,4 +1,4 @@
-// Reading the whole input into memory, up to the program's limit.
+//! Reading the whole input into memory, up to the program's limit.
 ghost use Rattle.std.specs.Prelude.{◌≤◌, length, IfOk, IfErr};
 ghost use Rattle.range_cli.specs.Input.{Drains, StopsInput};
 

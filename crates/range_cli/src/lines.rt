@@ -1,5 +1,6 @@
-// Lines of an input, one after another. A line ends at a newline; what stands behind the last newline is a line too,
-// unless nothing stands there. The definition, `lines_of`, goes from the back of the text and this code from its front.
+//! Lines of an input, one after another. A line ends at a newline; what stands behind the last newline is a line too,
+//! unless nothing stands there. The definition, `lines_of`, goes from the back of the text and this code from its
+//! front.
 ghost use Rattle.std.specs.Prelude.{◌≡◌, ◌∷◌, ◌<◌, ◌≤◌, ◌↔◌, [], length, IsNone, IfSome};
 ghost use Rattle.range_cli.specs.Lines.{lines_of};
 

@@ -1,6 +1,6 @@
-// The program `range_cli` plays a trace of address-space calls, as strace(1) prints them, and prints the areas that are
-// left as proc_pid_maps(5) does. `run` is the whole program over a source and two sinks; this file ties it to the
-// process: its words, its standard streams and its exit status.
+//! The program `range_cli` plays a trace of address-space calls, as strace(1) prints them, and prints the areas that
+//! are left as proc_pid_maps(5) does. `run` is the whole program over a source and two sinks; this file ties it to
+//! the process: its words, its standard streams and its exit status.
 #![tactic(auto)]
 
 mod error_line;

@@ -1,5 +1,5 @@
-// The maps lines with which an input may begin, up to the first empty line: the areas that the address space has before
-// the first call. The form of a line is that of proc_pid_maps(5).
+//! The maps lines with which an input may begin, up to the first empty line: the areas that the address space has
+//! before the first call. The form of a line is that of proc_pid_maps(5).
 ghost use Rattle.std.specs.Prelude.{◌≡◌, ◌≢◌, ◌+◌, ◌^◌, ◌<◌, ◌≤◌, [], true, length, IfOk, IfErr, OnOk};
 ghost use Rattle.space_model.specs.Areas.{HasNamedKinds};
 ghost use Rattle.strace_reader.specs.Maps.{IsNamedMapsItem};

@@ -1,4 +1,4 @@
-// Playing the lines of a trace on the address space of one thread: one entry for each line, numbered from 0.
+//! Playing the lines of a trace on the address space of one thread: one entry for each line, numbered from 0.
 ghost use Rattle.std.specs.Prelude.{◌≤◌, length, All, IfOk};
 ghost use Rattle.range_cli.specs.Play.{IsPlayed, IsStep};
 ghost use Rattle.range_cli.specs.Trace.{IsNamedLine};

@@ -1,4 +1,4 @@
-// The report of a run: the log where it is asked for, the maps that are left, and the summary.
+//! The report of a run: the log where it is asked for, the maps that are left, and the summary.
 ghost use Rattle.std.specs.Prelude.{◌≡◌, ◌≤◌, ◌^◌, ◌<◌, length, OnOk, OnErr};
 ghost use Rattle.std.specs.Io.KnownBytes.{Appends};
 ghost use Rattle.byte_ports.specs.Bytes.{AppendsPrefix};

@@ -1,5 +1,5 @@
-// The whole program over a source and two sinks: words, input, lines, calls, report. What `run` wrote is what the input
-// says; why it ended otherwise is told by its status, and each status has its cause.
+//! The whole program over a source and two sinks: words, input, lines, calls, report. What `run` wrote is what the
+//! input says; why it ended otherwise is told by its status, and each status has its cause.
 ghost use Rattle.std.specs.Prelude.{◌≡◌, map};
 ghost use Rattle.std.specs.String.{string_bytes};
 ghost use Rattle.range_cli.specs.Words.{Refuses};

@@ -1,5 +1,5 @@
-// What an input asks to play: the areas that it begins with, and its lines. The refusals of an input come in the order of
-// its lines, and the limit on the rows of the opening areas comes last.
+//! What an input asks to play: the areas that it begins with, and its lines. The refusals of an input come in the
+//! order of its lines, and the limit on the rows of the opening areas comes last.
 ghost use Rattle.std.specs.Prelude.{◌≤◌, length, All, IfOk, IfErr};
 ghost use Rattle.range_cli.specs.declared.trace.TheConstants.{LINES_LIMIT};
 ghost use Rattle.range_cli.specs.Script.{IsScriptOf, EndsScript, IsReadScript, StopsEarly};

@@ -1,4 +1,4 @@
-// How a run ends. The program's exit status and its line on standard error follow from this value alone.
+//! How a run ends. The program's exit status and its line on standard error follow from this value alone.
 ghost use Rattle.std.specs.Prelude.{◌≡◌};
 
 use strace_reader::What;

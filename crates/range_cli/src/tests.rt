@@ -1,4 +1,4 @@
-// What no clause says: worked runs over ports in memory, with the bytes and the status that the profile gives.
+//! What no clause says: worked runs over ports in memory, with the bytes and the status that the profile gives.
 use crate::run::run;
 use crate::status::{Status, Which};
 use byte_ports::{MemorySink, MemorySource};

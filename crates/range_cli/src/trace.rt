@@ -1,5 +1,5 @@
-// From the lines of an input to the calls that are played, each with the number of its line. `Reads` says line by line
-// what becomes of an input, up to the first line that ends the run.
+//! From the lines of an input to the calls that are played, each with the number of its line. `Reads` says line by
+//! line what becomes of an input, up to the first line that ends the run.
 ghost use Rattle.std.specs.Prelude.{◌≡◌, ◌+◌, ◌<◌, ◌≤◌, length, All, IfOk, IfErr, OnOk};
 ghost use Rattle.range_cli.specs.Lines.{lines_of};
 ghost use Rattle.range_cli.specs.Trace.{Asks, Ends, Reads, StopsBy, lines_with, skipped_with, IsNamedLine, IsNamedStep};

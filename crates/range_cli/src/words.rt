@@ -1,5 +1,5 @@
-// The words of the command line: which of them are accepted, and what they ask for. `Accepts` says it by counting, so
-// that the order of the options is free and none of them may stand twice.
+//! The words of the command line: which of them are accepted, and what they ask for. `Accepts` says it by counting,
+//! so that the order of the options is free and none of them may stand twice.
 ghost use Rattle.std.specs.Prelude.{◌≡◌, map, IfSome, IsNone};
 ghost use Rattle.std.specs.String.{string_bytes};
 ghost use Rattle.range_cli.specs.Words.{Accepts, Refuses, AreOptions, KindOf};

@@ -1,5 +1,5 @@
--- Each kind of step of the board keeps the board's rule, over words and cores alone.
--- A seat that has the turn is the only one, so what others know needs no look where it steps; a release changes a hi word alone, which nobody knows.
+-- Each kind of step of the board keeps the board's rule, over words and cores alone. A seat that has the turn is the
+-- only one, so what others know needs no look where it steps; a release changes a hi word alone, which nobody knows.
 use Rattle.std.proofs.Common.{◌≡◌, ◌≢◌, ℕ, ◌+◌, ◌/◌, ◌<◌, ◌≤◌, true, false, cond, List, [], get_or, set, length, sym, refl, ap, ◌∙◌, subst, arith, eq-eqb, ne_eqb, ◌⊎◌, inl, inr, ⊎_elim}
 use Rattle.std.specs.Prelude.{Option, Some, None, ◌↔◌}
 use Rattle.std.proofs.lemmas.Bool.{false≢true}

@@ -1,4 +1,5 @@
--- Each kind of step of the board keeps the table's rule: the board's own by its step, the guard's by nothing, by its law of gain where a range is held from this step on, or by its law of loss where one is given back.
+-- Each kind of step of the board keeps the table's rule: the board's own by its step, the guard's by nothing, by its
+-- law of gain where a range is held from this step on, or by its law of loss where one is given back.
 use Rattle.std.proofs.Common.{◌≡◌, ◌≢◌, ℕ, zero, suc, ◌+◌, ◌-◌, ◌/◌, ◌<◌, Bool, true, false, cond, List, [], ◌∷◌, map, take, drop, get_or, set, length, sym, refl, ap, ◌∙◌, subst, arith, eq-eqb, ne_eqb}
 use Rattle.std.specs.Prelude.{Option, Some, None}
 use lib.Seq.{take-set-lt}

@@ -1,4 +1,5 @@
--- A step on a client word keeps the table's rule by the guard's law of steps alone: it leaves the lock's words and the cores as they are.
+-- A step on a client word keeps the table's rule by the guard's law of steps alone: it leaves the lock's words and
+-- the cores as they are.
 use Rattle.std.proofs.Common.{◌≡◌, ℕ, zero, suc, ◌+◌, ◌-◌, ◌<◌, List, [], ◌∷◌, map, drop, get_or, set, length, sym, refl, ap, ◌∙◌, subst, arith}
 use Rattle.std.proofs.lemmas.List.{take-set-le, drop-set-add, get_or-drop, length-drop}
 use mathlib.Core.Option.{some}

@@ -1,4 +1,5 @@
--- A step puts one new part at its seat's number and changes one word: what is to be shown for the table's rule to hold after it.
+-- A step puts one new part at its seat's number and changes one word: what is to be shown for the table's rule to
+-- hold after it.
 use Rattle.std.proofs.Common.{◌≡◌, ℕ, zero, suc, List, [], ◌∷◌, map, take, drop, set, sym, refl, ap, ◌∙◌, subst, length-set, ⊎_elim}
 use Rattle.std.proofs.lemmas.List.{map-set}
 use mathlib.Core.Option.{some, some-injective, some-ne-none}

@@ -1,6 +1,8 @@
--- The board: one turn word, a lo and a hi word for each seat, and what its rule says of them between any two steps.
--- A seat takes the turn, looks at the others' ranges, writes its own and gives the turn back; a range is given back without the turn. Since only the seat with the turn may gain a range, what it has read of another's grant can only be given back meanwhile.
--- The board is this project's own stand-in for the list of Kogan, Dice and Issa 2020: the plainest words that keep the same promise.
+-- The board: one turn word, a lo and a hi word for each seat, and what its rule says of them between any two steps. A
+-- seat takes the turn, looks at the others' ranges, writes its own and gives the turn back; a range is given back
+-- without the turn. Since only the seat with the turn may gain a range, what it has read of another's grant can only
+-- be given back meanwhile. The board is this project's own stand-in for the list of Kogan, Dice and Issa 2020: the
+-- plainest words that keep the same promise.
 use Rattle.std.specs.Prelude.{◌≡◌, ◌≢◌, ℕ, ◌+◌, ◌*◌, ◌/◌, ◌%◌, ◌≤◌, List, map, slice_index, ◌==◌, cond, true, Option, Some, None, ◌↔◌}
 use mathlib.Core.Option.{some}
 use lib.ListN.{get_elem?}
@@ -28,7 +30,8 @@ lock_words seats = 1 + 2 * seats
 abbrev pub mode_of : ℕ → Mode
 mode_of word = cond (word % 2 == 0) Reader Writer
 
--- what a seat's lo and hi word say that it holds: nothing where the hi word is 0, and otherwise the range that ends at half of it
+-- what a seat's lo and hi word say that it holds: nothing where the hi word is 0, and otherwise the range that ends
+-- at half of it
 abbrev pub held_in : ℕ → ℕ → Option Held
 held_in lo hi = cond (hi == 0) None (Some (record { range = record { lo = lo; hi = hi / 2 }; mode = mode_of hi }))
 
@@ -51,7 +54,8 @@ grants_of cores = map held_of cores
 abbrev pub IsAmong : List Read → Read → Type 0
 IsAmong seen r = (k : ℕ) × (get_elem? seen k ≡ some r)
 
--- what a seat with the turn knows is so: its own lo word, the last lo word that it loaded, and that a seat whose grant it has read holds nothing else now
+-- what a seat with the turn knows is so: its own lo word, the last lo word that it loaded, and that a seat whose
+-- grant it has read holds nothing else now
 pub record Knows (words : List ℕ) (grants : Grants) (seat : ℕ) (c : Core) : Type 0 where
   pub own : (lo : ℕ) → c.own_lo ≡ Some lo → slice_index words (lo_place seat) ≡ lo
   pub loaded : (l : LoadedLo) → c.loaded ≡ Some l → (l.seat ≢ seat) × (slice_index words (lo_place l.seat) ≡ l.lo)

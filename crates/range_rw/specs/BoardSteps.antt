@@ -1,5 +1,6 @@
--- The seven kinds of step of the board, as data: on which word each is made, what it does to it, when a seat may make it, and what the seat knows after.
--- Each is one load, store or exchange. Their order in a call stands in the code; that each keeps the board's rule whenever it is enabled is proved once, here for any order.
+-- The seven kinds of step of the board, as data: on which word each is made, what it does to it, when a seat may make
+-- it, and what the seat knows after. Each is one load, store or exchange. Their order in a call stands in the code;
+-- that each keeps the board's rule whenever it is enabled is proved once, here for any order.
 use Rattle.std.specs.Prelude.{◌≡◌, ◌≢◌, ℕ, ◌+◌, ◌/◌, ◌<◌, List, [], ◌∷◌, ◌==◌, cond, true, false, Option, Some, None}
 use prog.Atomic.{either}
 use Rattle.lock_core.specs.Range.{IsRange}
@@ -12,7 +13,8 @@ use Rattle.range_rw.specs.declared.views.Record.{Record}
 use Rattle.range_rw.specs.declared.views.Part.{Part}
 use Rattle.range_rw.specs.Board.{lo_place, hi_place, held_in, IsAmong}
 
--- a step of the board; the taking of the turn carries the number of seats, a load of another seat's hi word the lo word that was loaded before, and a store of the own hi word the lo word that was stored before
+-- a step of the board; the taking of the turn carries the number of seats, a load of another seat's hi word the lo
+-- word that was loaded before, and a store of the own hi word the lo word that was stored before
 pub data BoardStep : Type 0 where
   takes_turn : ℕ → BoardStep
   reads_lo : ℕ → BoardStep
@@ -71,7 +73,8 @@ trace_after t releases found = record t { taken = t.taken + 1 }
 abbrev pub IsClear : ℕ → ℕ → List Read → Held → Type 0
 IsClear seats seat seen h = (other : ℕ) → other < seats → other ≢ seat → (r : Read) × IsAmong seen r × (r.seat ≡ other) × ((g : Held) → r.held ≡ Some g → ¬ (Conflicts g h))
 
--- what a step of the seat of that number tells beside: who takes the turn is one of the seats, and a hi word that isn't 0 ends a range
+-- what a step of the seat of that number tells beside: who takes the turn is one of the seats, and a hi word that
+-- isn't 0 ends a range
 abbrev pub Tells : ℕ → BoardStep → ℕ → Type 0
 Tells seat (takes_turn seats) found = seat < seats
 Tells seat (reads_lo other) found = Unit {0}
@@ -82,7 +85,8 @@ Tells seat gives_turn found = Unit {0}
 Tells seat releases found = Unit {0}
 
 module _ {P : Type 0} where
-  -- a seat may make the step: the turn is taken by a seat without it, and the words but for the release are read and written by the seat with it
+  -- a seat may make the step: the turn is taken by a seat without it, and the words but for the release are read and
+  -- written by the seat with it
   abbrev pub IsEnabled : ℕ → (P → Type 0) → Part P → BoardStep → Type 0
   IsEnabled seats is_at_rest p (takes_turn n) = (n ≡ seats) × (p.core.has_turn ≡ false)
   IsEnabled seats is_at_rest p (reads_lo other) = (p.core.has_turn ≡ true) × (other < seats) × (other ≢ p.number)

@@ -1,5 +1,6 @@
--- The rule of the running table: the board's own rule, the guard's rule, and that each seat number stands in exactly one view.
--- The record of a view stands in no part of it. A step on a lock word leaves the client words, and a step on a client word leaves the lock words and the cores, so each kind of step is proved apart.
+-- The rule of the running table: the board's own rule, the guard's rule, and that each seat number stands in exactly
+-- one view. The record of a view stands in no part of it. A step on a lock word leaves the client words, and a step
+-- on a client word leaves the lock words and the cores, so each kind of step is proved apart.
 use Rattle.std.specs.Prelude.{◌≡◌, ℕ, ◌+◌, ◌<◌, List, [], ◌∷◌, map, take, drop, length, Some}
 use mathlib.Core.Option.{some}
 use lib.ListN.{get_elem?}
@@ -54,7 +55,8 @@ module _ {P : Type 0} where
   abbrev pub IsRunning : ℕ → ℕ → (Grants → List ℕ → List P → Type 0) → State (Unit {0}) (BoardView P) → Type 0
   IsRunning seats clients holds s = (parts : List (Part P)) × (owner : ℕ → ℕ) × Ruled seats clients holds s parts owner
 
-  -- a moment between two steps, by seat number: no two held ranges of different seats conflict, the guard's rule holds, and each seat's held range and pass are those of the one view that it stands in
+  -- a moment between two steps, by seat number: no two held ranges of different seats conflict, the guard's rule
+  -- holds, and each seat's held range and pass are those of the one view that it stands in
   pub record IsApart (seats : ℕ) (holds : Grants → List ℕ → List P → Type 0) (words : List ℕ) (views : List (BoardView P)) (grants : Grants) (passes : List P) : Type 0 where
     pub grant_count : length grants ≡ seats
     pub pass_count : length passes ≡ seats
@@ -77,7 +79,8 @@ module _ {P : Type 0} where
   abbrev pub client_part : Part P → ℕ → P → Part P
   client_part p i pass = record { number = p.number; core = p.core; pass = pass; trace = client_trace p.trace i }
 
-  -- a step on a client word tells its seat that it was made at a moment of the running table, with the value found there
+  -- a step on a client word tells its seat that it was made at a moment of the running table, with the value found
+  -- there
   abbrev pub client_play : {N : Type 0} → (Grants → List ℕ → List P → Type 0) → (Grants → List ℕ → List P → ℕ → ClientStep → N → P → Type 0) → N → ClientStep → Me (Unit {0}) (BoardView P) → ℕ → Me (Unit {0}) (BoardView P) → Type 0
   client_play holds allows note step me found me' = (p : Part P) × (pass : P) × (me.0 ≡ view (p ∷ [])) × (me'.1 ≡ me.1) × (me'.0 ≡ view (client_part p (place_of step) pass ∷ []))
       × IsMade holds allows note p.number p.core.held p.pass step found pass

@@ -1,5 +1,6 @@
--- What contracts see of a table and of a seat, and what each call leaves of it.
--- A seat is its table, its number, the range that it holds, the pass of the layer above, and the record of its steps; nothing here says how a range is kept.
+-- What contracts see of a table and of a seat, and what each call leaves of it. A seat is its table, its number, the
+-- range that it holds, the pass of the layer above, and the record of its steps; nothing here says how a range is
+-- kept.
 use Rattle.std.specs.Prelude.{◌≡◌, ℕ, zero, suc, ◌+◌, ◌-◌, ◌^◌, ◌<◌, ◌≤◌, List, [], ◌∷◌, Option, None, false}
 use mathlib.Core.Option.{some}
 use lib.ListN.{get_elem?}

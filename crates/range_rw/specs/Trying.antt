@@ -1,5 +1,6 @@
--- What a try finds, and why it is refused: each answer is tied to a step of the call by the record of the seat's steps.
--- A part of the record with a number not below the number of steps at the call's entry was made in this call, since a step carries how many were made before it.
+-- What a try finds, and why it is refused: each answer is tied to a step of the call by the record of the seat's
+-- steps. A part of the record with a number not below the number of steps at the call's entry was made in this call,
+-- since a step carries how many were made before it.
 use Rattle.std.specs.Prelude.{◌≡◌, ◌≢◌, ℕ, ◌+◌, ◌*◌, ◌<◌, ◌≤◌, Option, Some, None, false}
 use Rattle.lock_core.specs.Grants.{Conflicts}
 use Rattle.lock_core.specs.declared.range.Held.{Held}
@@ -13,7 +14,8 @@ use Rattle.range_rw.specs.Board.{held_in}
 use Rattle.range_rw.specs.BoardSteps.{reads_lo, reads_hi, part_after, IsClear}
 use Rattle.range_rw.specs.Seats.{Known}
 
--- why a try for that range was refused: at a step of this call another seat held a range in conflict, or an exchange of this call found another value than it expected
+-- why a try for that range was refused: at a step of this call another seat held a range in conflict, or an exchange
+-- of this call found another value than it expected
 abbrev pub IsCause : {P : Type 0} → Known P → Known P → Held → NotHeld → Type 0
 IsCause before after asked (Busy owner range mode) = (m : Met) × (after.trace.met ≡ Some m) × (before.trace.taken ≤ m.step) × (m.step < after.trace.taken)
     × (m.owner ≡ owner) × (m.held ≡ record { range = range; mode = mode }) × (owner ≢ before.number) × Conflicts m.held asked

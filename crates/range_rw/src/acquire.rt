@@ -1,6 +1,7 @@
-// Taking a range and giving it back: a try, which waits for nobody and names the cause where it is refused; a call that tries until the range is held; and the release.
-// A try takes the turn, looks at what each other seat holds, and stores its own range where nothing conflicts, in at most two steps for each seat and two more.
-// A reader may rely on a refusal having a cause at a step of the call, shown by the record of the seat's steps.
+//! Taking a range and giving it back: a try, which waits for nobody and names the cause where it is refused; a call
+//! that tries until the range is held; and the release. A try takes the turn, looks at what each other seat holds,
+//! and stores its own range where nothing conflicts, in at most two steps for each seat and two more. A reader may
+//! rely on a refusal having a cause at a step of the call, shown by the record of the seat's steps.
 ghost use Rattle.std.specs.Prelude.{◌≡◌, ◌≢◌, ◌<◌, ◌≤◌, ◌+◌, ◌*◌, ℕ, Some, None, true, false, IsSome, IfOk, IfErr, OnOk, OnErr};
 ghost use Rattle.lock_core.specs.Grants.{held_of};
 ghost use Rattle.range_rw.specs.Board.{hi_of, mode_of};
@@ -25,7 +26,8 @@ pub enum NotHeld {
         range: Range,
         mode: Mode,
     },
-    /// An exchange of this call on the word at `place` found `found` where it expected `expected`: another seat had the turn, which is the word at place 0, and free where it is 0.
+    /// An exchange of this call on the word at `place` found `found` where it expected `expected`: another seat had
+    /// the turn, which is the word at place 0, and free where it is 0.
     Again {
         place: u32,
         expected: u64,
@@ -91,7 +93,8 @@ impl<G: Guard> RangeTable<G> {
         }
     }
 
-    /// Looks at what every other seat holds, by number, and answers the first grant that conflicts with what is asked for.
+    /// Looks at what every other seat holds, by number, and answers the first grant that conflicts with what is asked
+    /// for.
     fn first_conflict<L: Ledger>(
         &self,
         token: &mut Token<G>,
@@ -178,8 +181,10 @@ impl<G: Guard> RangeTable<G> {
     }
 
     /// Tries once to hold the range, and waits for nobody. The seat is of this table and holds nothing.
-    /// `Busy` names a range of another seat that was in conflict at a step of this call, and `Again` an exchange of this call that found the turn taken. After a refusal the seat holds nothing and its pass is as before.
-    /// At most 64 steps and 386 for each seat of the table, whatever other seats do. The bound has room for a lock that keeps a list; the board makes at most 2 for each seat and 2 more.
+    /// `Busy` names a range of another seat that was in conflict at a step of this call, and `Again` an exchange of
+    /// this call that found the turn taken. After a refusal the seat holds nothing and its pass is as before.
+    /// At most 64 steps and 386 for each seat of the table, whatever other seats do. The bound has room for a lock
+    /// that keeps a list; the board makes at most 2 for each seat and 2 more.
     pub fn try_acquire<L: Ledger>(
         &self,
         seat: &mut Seat<G>,
@@ -238,7 +243,8 @@ impl<G: Guard> RangeTable<G> {
         self.acquire_counting::<Brand, R>(wait, seat, range, mode, Blank::new(1));
     }
 
-    /// Gives the held range back, in one step. The seat is of this table, and its pass is at rest; it becomes `rested` of it.
+    /// Gives the held range back, in one step. The seat is of this table, and its pass is at rest; it becomes
+    /// `rested` of it.
     pub fn release<L: Ledger>(&self, seat: &mut Seat<G>, steps: &mut Steps<L>)
         requires table { seat.old.table ≡ self.now.table }
         requires holds { IsSome seat.old.held }

@@ -1,5 +1,6 @@
-// The steps on client words that the layer above makes through a seat: a load, a store, an addition and an exchange.
-// Each is one atomic step, made at a moment of the running table at which the guard allows it; a reader may rely on the value that it answers being that of the word there, and on the pass being one that the guard gives there.
+//! The steps on client words that the layer above makes through a seat: a load, a store, an addition and an exchange.
+//! Each is one atomic step, made at a moment of the running table at which the guard allows it; a reader may rely on
+//! the value that it answers being that of the word there, and on the pass being one that the guard gives there.
 ghost use Rattle.std.specs.Prelude.{◌≡◌, ◌≢◌, ◌<◌, ◌+◌, ℕ, MatchResult};
 ghost use Rattle.lock_core.specs.Client.{loads, stores, adds, exchanges, IsAllowed, IsMade};
 ghost use Rattle.range_rw.specs.Board.{lock_words};
@@ -147,7 +148,8 @@ impl<G: Guard> RangeTable<G> {
             .compare_exchange::<Acts<G, M, C>>(&mut token.seat, word, expected, new)
     }
 
-    /// Puts `new` in place of `expected` in client word `i`, counted from 0. Where the word has another value, it answers that value, and the word stays.
+    /// Puts `new` in place of `expected` in client word `i`, counted from 0. Where the word has another value, it
+    /// answers that value, and the word stays.
     pub fn exchange_as<M: Means<G>, L: Ledger>(
         &self,
         seat: &mut Seat<G>,

@@ -1,5 +1,6 @@
-// What each kind of step tells the seat that makes it, in the words of `atomic_table`: a step of the board, a step on a client word, and the joining of two seats.
-// The step itself is data of `specs/`, which the call picks; a reader may rely on a play naming what belongs to the seat after the step, and nothing that the code could invent.
+//! What each kind of step tells the seat that makes it, in the words of `atomic_table`: a step of the board, a step
+//! on a client word, and the joining of two seats. The step itself is data of `specs/`, which the call picks; a
+//! reader may rely on a play naming what belongs to the seat after the step, and nothing that the code could invent.
 use crate::views::BoardView;
 use atomic_table::{Join, Play};
 use lock_core::{Guard, Means};

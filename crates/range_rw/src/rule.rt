@@ -1,5 +1,6 @@
-// The rule of the board's table, as `atomic_table` and `word_rows` ask for it: what holds between any two steps, and what each seat begins with.
-// The definitions stand in `specs/Running.antt`, `specs/Board.antt` and `specs/Starting.antt`; a reader may rely on the guard's rule standing in it beside the board's own.
+//! The rule of the board's table, as `atomic_table` and `word_rows` ask for it: what holds between any two steps, and
+//! what each seat begins with. The definitions stand in `specs/Running.antt`, `specs/Board.antt` and
+//! `specs/Starting.antt`; a reader may rely on the guard's rule standing in it beside the board's own.
 use crate::views::BoardView;
 use atomic_table::TableRule;
 use lock_core::Guard;

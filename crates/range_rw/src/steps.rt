@@ -1,5 +1,7 @@
-// The seven kinds of step of the board, each one load, store or exchange on one word: taking the turn, loading another seat's lo and hi word, storing the own ones, giving the turn back, and giving a range back.
-// When each is enabled and what the seat knows after stands in `specs/BoardSteps.antt`; a reader may rely on each keeping the table's rule whenever it is enabled, and on the counter rising by one with it.
+//! The seven kinds of step of the board, each one load, store or exchange on one word: taking the turn, loading
+//! another seat's lo and hi word, storing the own ones, giving the turn back, and giving a range back. When each is
+//! enabled and what the seat knows after stands in `specs/BoardSteps.antt`; a reader may rely on each keeping the
+//! table's rule whenever it is enabled, and on the counter rising by one with it.
 ghost use Rattle.std.specs.Prelude.{◌≡◌, ◌+◌, ◌<◌, ℕ};
 ghost use Rattle.range_rw.specs.Board.{lo_place, hi_place};
 ghost use Rattle.range_rw.specs.BoardSteps.{takes_turn, reads_lo, reads_hi, writes_lo, writes_hi, gives_turn, releases, IsEnabled, word_of, effect_of, part_after, Tells};

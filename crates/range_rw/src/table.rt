@@ -1,5 +1,6 @@
-// A table of one range lock: how it is opened with a seat for each number, what a seat holds, and how it is closed.
-// Between the two, seats may go to other threads, and the table is shared by reference; a reader may rely on the guard's rule holding of the client words that come back.
+//! A table of one range lock: how it is opened with a seat for each number, what a seat holds, and how it is closed.
+//! Between the two, seats may go to other threads, and the table is shared by reference; a reader may rely on the
+//! guard's rule holding of the client words that come back.
 ghost use Rattle.std.specs.Prelude.{◌≡◌, ◌<◌, ◌≤◌, ◌+◌, ◌-◌, ◌^◌, ◌↔◌, ℕ, List, [], ◌++◌, IfOk, length, map, drop, replicate, vec_capacity};
 ghost use Rattle.std.specs.Mem.Slots.{IsFull, slots_len, slots_items};
 ghost use Rattle.range_rw.specs.Board.{lock_words};
@@ -80,7 +81,8 @@ fn opening_words(alloc: Global, seats: u32, client: &[u64]) -> Result<Vec<u64>, 
     Ok(words)
 }
 
-/// One seat that has what belongs to all of these, in their order. The seats are of the table, and there is one at least.
+/// One seat that has what belongs to all of these, in their order. The seats are of the table, and there is one at
+/// least.
 fn join_all<G: Guard>(
     shared: &Shared<(), BoardView<G::Pass>, Start, BoardRule<G>>,
     mut seats: Vec<Seat<G>>,
@@ -153,7 +155,8 @@ impl<G: Guard> RangeTable<G> {
         Ok((table, made))
     }
 
-    /// A table of that many seats, from 1 to 16, over these client words, and its seats in order of their numbers, from 0 on.
+    /// A table of that many seats, from 1 to 16, over these client words, and its seats in order of their numbers,
+    /// from 0 on.
     /// At most 2^20 client words, which meet the guard with no grant and the passes of all seats at the opening.
     /// `Seats` comes exactly where the number is 0 or above 16.
     pub fn open(

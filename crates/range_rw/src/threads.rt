@@ -1,5 +1,5 @@
-// A table may be shared by threads by reference, and a seat may go from one thread to another.
-// Nothing is asked of the guard for it, since no value of its types is made when the program runs.
+//! A table may be shared by threads by reference, and a seat may go from one thread to another. Nothing is asked of
+//! the guard for it, since no value of its types is made when the program runs.
 use crate::table::{RangeTable, Seat};
 use lock_core::Guard;
 

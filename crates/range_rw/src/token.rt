@@ -1,5 +1,6 @@
-// A seat of the table while the lock's own calls work with it: whether it has the turn, and what it knows while it has it, stands in its model.
-// The public `Seat` wraps it between calls and hides these; a reader may rely on the token's number being that of its part, and on its words being there.
+//! A seat of the table while the lock's own calls work with it: whether it has the turn, and what it knows while it
+//! has it, stands in its model. The public `Seat` wraps it between calls and hides these; a reader may rely on the
+//! token's number being that of its part, and on its words being there.
 use crate::views::BoardView;
 use lock_core::Guard;
 use std::marker::Model;

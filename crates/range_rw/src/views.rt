@@ -1,6 +1,7 @@
-// What a seat knows, as plain data that exists in proofs alone: no value of these types is made when the program runs.
-// A view has a core, which the lock's own rule ties to the lock's words, the pass of the layer above, and a record of the steps that the seat made.
-// The record stands in no part of the rule; contracts read it, so that an answer can be tied to a step of the call that gives it.
+//! What a seat knows, as plain data that exists in proofs alone: no value of these types is made when the program
+//! runs. A view has a core, which the lock's own rule ties to the lock's words, the pass of the layer above, and a
+//! record of the steps that the seat made. The record stands in no part of the rule; contracts read it, so that an
+//! answer can be tied to a step of the call that gives it.
 use lock_core::Held;
 use std::collections::LinkedList;
 
@@ -52,7 +53,8 @@ pub struct Read {
     pub held: Option<Held>,
 }
 
-/// What the board's rule ties to its words: the range that the seat holds, whether it has the turn, and what it knows while it has it.
+/// What the board's rule ties to its words: the range that the seat holds, whether it has the turn, and what it knows
+/// while it has it.
 pub struct Core {
     pub held: Option<Held>,
     pub has_turn: bool,

@@ -1,4 +1,5 @@
--- Each call has an answer on an area list: of the pages below a bound there is a lowest and a highest of a sort, or none.
+-- Each call has an answer on an area list: of the pages below a bound there is a lowest and a highest of a sort, or
+-- none.
 use Rattle.std.proofs.Common.{◌≡◌, ℕ, zero, suc, ◌+◌, ◌<◌, ◌≤◌, ◌≢◌, ◌⊎◌, inl, inr, Bool, true, false, ◌||◌, IsTrue, IsSome, List, Option, Some, None, sym, ◌∙◌, ap, subst, refl, arith}
 use Rattle.std.proofs.lemmas.Bool.{cases_lt, cases_Bool, true≢false}
 use Rattle.page_types.specs.declared.TheConstants.{LIMIT, ROWS}

@@ -1,5 +1,6 @@
--- What a call answers on an area list, and the area list that it leaves: the profile of mmap(2), munmap(2), mprotect(2)
--- and page faults that this project follows. The place of a Map is told by what no other place has, and not by a search.
+-- What a call answers on an area list, and the area list that it leaves: the profile of mmap(2), munmap(2),
+-- mprotect(2) and page faults that this project follows. The place of a Map is told by what no other place has, and
+-- not by a search.
 use Rattle.std.specs.Prelude.{ℕ, ◌≡◌, ◌<◌, ◌≤◌, ◌+◌, IsTrue, IsFalse, IsSome, Option, Some, None, List}
 use Rattle.page_types.specs.declared.TheConstants.{LIMIT, ROWS}
 use Rattle.page_types.specs.declared.sets.Access.{Access}
@@ -41,7 +42,8 @@ pub record IsLowestMissing (A : List Area) (lo hi page : ℕ) : Type 0 where
   pub missing : kind_at A page ≡ None
   pub mapped_below : IsMapped A lo page
 
--- a place of so many pages that no fixed flag asks for starts at or above page 16 (this project's own bound) and is free
+-- a place of so many pages that no fixed flag asks for starts at or above page 16 (this project's own bound) and is
+-- free
 pub record FitsAt (A : List Area) (pages start : ℕ) : Type 0 where
   pub low : 16 ≤ start
   pub high : start + pages ≤ LIMIT

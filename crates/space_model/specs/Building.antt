@@ -1,5 +1,5 @@
--- How the bodies of this crate put an area list together: areas are appended in order, and one that touches the last and
--- is of its kind lengthens it. Only private functions speak of this; what callers see is the kinds of pages.
+-- How the bodies of this crate put an area list together: areas are appended in order, and one that touches the last
+-- and is of its kind lengthens it. Only private functions speak of this; what callers see is the kinds of pages.
 use Rattle.std.specs.Prelude.{ℕ, ◌+◌, ◌-◌, ◌<◌, slice_index_or, Bool, true, false, ◌&&◌, not, ◌==◌, nat_lt, if◌then◌else◌, min, max, ◌≡◌, ◌↔◌, IsTrue, Option, Some, None, List, [], ◌∷◌}
 use Rattle.page_types.specs.declared.TheConstants.{LIMIT}
 use Rattle.page_types.specs.declared.sets.Prot.{Prot}

@@ -1,5 +1,5 @@
--- Why a list of areas makes no address space: it isn't the list that proc_pid_maps(5) has one line for each area of, and
--- the first wrong area is named, or there is no memory for it.
+-- Why a list of areas makes no address space: it isn't the list that proc_pid_maps(5) has one line for each area of,
+-- and the first wrong area is named, or there is no memory for it.
 use Rattle.std.specs.Prelude.{List}
 use Rattle.space_model.specs.declared.areas.Area.{Area}
 use Rattle.space_model.specs.declared.faults.AreasFault.{AreasFault}

@@ -1,7 +1,7 @@
--- Which range is held when a call draws its number: none for a call that its arguments decide, the page as a reader for
--- a fault, everything for a call that may change the number of rows, and the area with a page on each side for a Protect
--- that doesn't. The last is the speculative mprotect of Kogan, Dice and Issa, EuroSys 2020; the rest is this project's
--- own profile.
+-- Which range is held when a call draws its number: none for a call that its arguments decide, the page as a reader
+-- for a fault, everything for a call that may change the number of rows, and the area with a page on each side for a
+-- Protect that doesn't. The last is the speculative mprotect of Kogan, Dice and Issa, EuroSys 2020; the rest is this
+-- project's own profile.
 use Rattle.std.specs.Prelude.{ℕ, zero, suc, Option, None, ◌≡◌, ◌≤◌, ◌+◌, ◌-◌, ◌⊎◌, min, MatchOption, List, length}
 use Rattle.std.specs.List.{Contains}
 use Rattle.page_types.specs.declared.TheConstants.{LIMIT}

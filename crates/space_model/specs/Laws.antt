@@ -47,7 +47,8 @@ DoneTwiceIsOnce A c = (s : Reply) (B C : List Area) → Answers A c Zero B → A
 abbrev pub AddsTwoRows : List Area → Call → Type 0
 AddsTwoRows A c = (r : Reply) (B : List Area) → Answers A c r B → row_count B ≤ row_count A + 2
 
--- the four ways in which pages of one area get a new kind and the counts stay: nothing changes; the whole area changes and
+-- the four ways in which pages of one area get a new kind and the counts stay: nothing changes; the whole area
+-- changes and
 -- equals no touching neighbour; its first part takes the kind of the touching area on its left; its last part takes the
 -- kind of the touching area on its right
 pub data FourCases (A : List Area) (a : Area) (lo hi : ℕ) (kind : Kind) : Type 0 where

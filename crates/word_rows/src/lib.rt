@@ -1,5 +1,6 @@
-// A table of atomic words, opened with one seat for each number from 0 on, and a counter of steps that costs nothing.
-// It stands on `atomic_table`, whose rule and views it takes over; a reader may rely on each seat beginning with the view that its rule gives to its number.
+//! A table of atomic words, opened with one seat for each number from 0 on, and a counter of steps that costs
+//! nothing. It stands on `atomic_table`, whose rule and views it takes over; a reader may rely on each seat beginning
+//! with the view that its rule gives to its number.
 #![tactic(auto)]
 
 mod open;

@@ -1,5 +1,6 @@
-// Opening a table of words: it is made with one seat, from which the seats of the other numbers are cut off in order.
-// A reader may rely on the seats coming in order of their numbers, each of the one table and with its own starting view.
+//! Opening a table of words: it is made with one seat, from which the seats of the other numbers are cut off in
+//! order. A reader may rely on the seats coming in order of their numbers, each of the one table and with its own
+//! starting view.
 ghost use Rattle.std.specs.Prelude.{◌≡◌, ℕ, ◌+◌, ◌<◌, ◌≤◌, List, [], ◌∷◌, length, IfOk};
 ghost use Rattle.atomic_table.specs.Table.{opening};
 ghost use Rattle.word_rows.specs.Rows.{IsSeated};

@@ -1,12 +1,14 @@
-// The rule of a table whose seats are numbered: with which view each seat begins, and how a view that holds what many seats begin with is cut.
-// `atomic_table` makes a table with one seat, so the seats of the other numbers are cut off from it one after another; three laws make that sound.
+//! The rule of a table whose seats are numbered: with which view each seat begins, and how a view that holds what
+//! many seats begin with is cut. `atomic_table` makes a table with one seat, so the seats of the other numbers are
+//! cut off from it one after another; three laws make that sound.
 ghost use Rattle.std.specs.Prelude.{◌≡◌, ℕ, ◌+◌, ◌<◌, List};
 ghost use Rattle.atomic_table.specs.Table.{Splits};
 ghost use Rattle.word_rows.specs.declared.rule.Start.{Start};
 
 use atomic_table::TableRule;
 
-/// What a table is told when it is made, and its rule may read: the number of seats, the opening words, and numbers that the views may begin with.
+/// What a table is told when it is made, and its rule may read: the number of seats, the opening words, and numbers
+/// that the views may begin with.
 #[derive(Drop)]
 pub struct Start {
     pub seats: u32,
@@ -14,7 +16,8 @@ pub struct Start {
     pub shares: Vec<u32>,
 }
 
-/// The rule of a table whose seats are numbered from 0 on. Both its meanings take the number of seats, the opening words, the shares and a seat's number.
+/// The rule of a table whose seats are numbered from 0 on. Both its meanings take the number of seats, the opening
+/// words, the shares and a seat's number.
 pub trait StartRule: TableRule<(), Self::View, Start> {
     /// What a seat knows.
     type View;

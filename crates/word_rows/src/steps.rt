@@ -1,5 +1,5 @@
-// A counter of steps that takes no bytes and no time, for clauses on how many steps a call makes at most.
-// Its total is a ledger of std, which only `tick` raises; what one tick stands for is said where it is called.
+//! A counter of steps that takes no bytes and no time, for clauses on how many steps a call makes at most. Its total
+//! is a ledger of std, which only `tick` raises; what one tick stands for is said where it is called.
 ghost use Rattle.std.specs.Prelude.{◌≡◌, ℕ, ◌+◌, ◌<◌};
 
 use std::marker::Model;

@@ -1,5 +1,5 @@
--- A seat lets its cursor go, since an exchange failed: no word changes.
--- A reader that validates begins again behind its own node and a writer at the head, and what they have to see is still before them.
+-- A seat lets its cursor go, since an exchange failed: no word changes. A reader that validates begins again behind
+-- its own node and a writer at the head, and what they have to see is still before them.
 use Rattle.std.proofs.Common.{◌≡◌, ◌≢◌, ◌⊎◌, ℕ, suc, ◌+◌, ◌*◌, ◌%◌, List, set, Some, inl, inr, ⊎_elim, refl, sym, ap, ◌∙◌, subst, arith}
 use Rattle.std.proofs.lemmas.Bool.{cases_eq}
 use Rattle.lock_core.specs.declared.views.View.{View}

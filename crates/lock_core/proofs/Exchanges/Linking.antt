@@ -40,7 +40,8 @@ reader_first h r w ordered at at' known known' apart writer over =
     t))
     (in_line (to h) w.node r.node (to h 0) at' at)
 
--- where a cursor's word has no low bit and its previous cell still has that word, that cell is the head or the next word of an unmarked chain node
+-- where a cursor's word has no low bit and its previous cell still has that word, that cell is the head or the next
+-- word of an unmarked chain node
 pub prev_live : (h : Heap) (views : List View) (i : ℕ) (v : View) (c : Cursor) (prev : Option ℕ) → FastPath h views → IsViewOf views i v → v.cursor ≡ Some c → c.prev ≡ prev → c.cur % 2 ≡ 0 → h.next (cell_of prev) % 2 ≡ 0 → IsLive h (cell_of prev)
 prev_live h views i v c None fast at cursor e low even = inl refl
 prev_live h views i v c (Some q) fast at cursor e low even =

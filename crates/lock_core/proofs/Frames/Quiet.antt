@@ -1,4 +1,5 @@
--- Steps that leave the own node and the cursor of the stepping seat as they are, and every word of every node but its home word.
+-- Steps that leave the own node and the cursor of the stepping seat as they are, and every word of every node but its
+-- home word.
 use Rattle.std.proofs.Common.{◌≡◌, ◌≢◌, ◌⊎◌, ℕ, suc, ◌+◌, ◌%◌, ◌≤◌, List, Some, None, inl, inr, refl, sym, ap, ◌∙◌, subst, arith}
 use Rattle.std.specs.Prelude.{Option}
 use Rattle.lock_core.specs.declared.views.View.{View}

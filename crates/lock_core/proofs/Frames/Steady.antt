@@ -35,7 +35,8 @@ pub record Stands (h now : Heap) (views : List View) (s : ℕ) (v u : View) : Ty
   pub hand : (x : ℕ) → u.hand ≡ Some x → v.hand ≡ Some x
   pub hand_on : (x : ℕ) → v.hand ≡ Some x → (u.hand ≡ Some x) ⊎ (now.home x ≡ 1)
 
--- what became of the home words: those of other seats' homes and of used nodes at home stay 1, and 0 stays where a node is in the chain, in a hand or filled by another seat
+-- what became of the home words: those of other seats' homes and of used nodes at home stay 1, and 0 stays where a
+-- node is in the chain, in a hand or filled by another seat
 pub record Homes (h now : Heap) (views after : List View) (s : ℕ) : Type 0 where
   pub home : (i x : ℕ) (w : View) → IsViewOf views i w → times x w.used ≡ 1 → h.home x ≡ 1 → now.home x ≡ 1
   pub chain : (x : ℕ) → InChain h x → h.home x ≡ 0 → now.home x ≡ 0
@@ -152,7 +153,8 @@ module _ (h now : Heap) (views : List View) (s : ℕ) (v u : View) (parts : Part
         linked_now : (i : ℕ) (w : View) (k : Listed) → IsViewOf views i w → w.own ≡ listed k → InChain now k.node × IsUnmarked now k.node
         linked_now i w k e own = let t = p.linked i w k e own in (chain_on h now views s v parts at aside k.node t.0, mark_is h now views s v parts at aside k.node (chain_apart h now views s v parts at aside k.node t.0) ∙ t.1)
 
--- a linked node of another seat and of the other mode that overlaps this one, at a moment when this one still looks for such
+-- a linked node of another seat and of the other mode that overlaps this one, at a moment when this one still looks
+-- for such
 pub record Rival (views : List View) (k g : Listed) : Type 0 where
   pub seat : ℕ
   pub view : View
@@ -161,7 +163,8 @@ pub record Rival (views : List View) (k g : Listed) : Type 0 where
   pub way : ((k.todo ≡ Forward) × (k.mode ≡ Reader) × (g.mode ≡ Writer)) ⊎ ((k.todo ≡ FromHead) × (k.mode ≡ Writer) × (g.mode ≡ Reader))
   pub over : Overlaps k.range g.range
 
--- the linked node of the stepping seat was linked before, and what it had to see it still has, or it sees that nothing is there
+-- the linked node of the stepping seat was linked before, and what it had to see it still has, or it sees that
+-- nothing is there
 pub record Looks (h now : Heap) (views : List View) (v u : View) (k : Listed) : Type 0 where
   pub old : Listed
   pub own : v.own ≡ listed old

@@ -1,4 +1,5 @@
--- Walk and ReadLo: a cursor begins at the head or behind the own node, and reads the next word and the lower end of its node.
+-- Walk and ReadLo: a cursor begins at the head or behind the own node, and reads the next word and the lower end of
+-- its node.
 use Rattle.std.proofs.Common.{◌≡◌, ◌≢◌, ◌⊎◌, ℕ, suc, ◌+◌, ◌*◌, ◌/◌, ◌%◌, List, Some, None, inl, inr, ⊎_elim, refl, sym, ap, ◌∙◌, subst, arith}
 use Rattle.std.specs.Prelude.{Option, slice_set}
 use Rattle.lock_core.specs.declared.range.Mode.TheVariants.{Reader, Writer}

@@ -1,5 +1,6 @@
-// Worked schedules of the list lock, step by step: for each step the value that its word has before it and after it, and at the end the words and the held ranges.
-// The places are those of locks of three and of two seats; `QuickUnlink`, `Link` and the others that fail leave the word as it was found.
+//! Worked schedules of the list lock, step by step: for each step the value that its word has before it and after it,
+//! and at the end the words and the held ranges. The places are those of locks of three and of two seats;
+//! `QuickUnlink`, `Link` and the others that fail leave the word as it was found.
 
 use crate::range::{Grant, Mode, Range};
 use crate::state::{State, apply, fresh, grants};
@@ -303,7 +304,8 @@ fn a_reader_inserts_behind_a_writers_walk(rt: HostRuntime) -> Result<(), Fail> {
     Ok(())
 }
 
-/// Seat 0 holds 0 to 1 as a writer and marks its node while seat 1 stands on it; seat 2 unlinks that node and gives it home before it links its own, with these last steps. Only when seat 1 has left may seat 0 use the node again.
+/// Seat 0 holds 0 to 1 as a writer and marks its node while seat 1 stands on it; seat 2 unlinks that node and gives
+/// it home before it links its own, with these last steps. Only when seat 1 has left may seat 0 use the node again.
 fn comes_home(
     rt: &impl Abort,
     alloc: Global,
