@@ -1,12 +1,14 @@
 //! Measures what holding a range and giving it back costs where nobody else wants one, beside locking and unlocking a
-//! `Mutex` of std, in the same run. The times are the least of many rounds, so that other work on the machine counts
-//! little. They go to standard error, since they differ from run to run; standard output says only that all turns
-//! were made.
+//! `Mutex` of std in the same run, and what a turn costs where 2, 4 and 16 threads want one range. The times are the
+//! least of many rounds, so that other work on the machine counts little. They go to standard error, since they differ
+//! from run to run; standard output says only that all turns were made.
 #![tactic(auto)]
 
+mod crowd;
 mod rounds;
 mod turns;
 
+use crowd::{CROWD_TURNS, least_of_crowd};
 use lock_core::Range;
 use rounds::{ROUNDS, least_of_mutex, least_of_table};
 use std::io;
@@ -28,6 +30,14 @@ fn main(rt: HostRuntime) -> io::Result<()> {
         eprintln!(rt;
             "a table of {seats}: {} ns for each turn, {percent} percent of the Mutex",
             board / turns
+        )?;
+    }
+    for seats in [2u32, 4, 16] {
+        let crowd = least_of_crowd(&rt, rt.alloc(), seats)?;
+        let turns = u128::from(CROWD_TURNS) * u128::from(seats);
+        eprintln!(rt;
+            "{seats} threads at one range: {} ns for each turn",
+            crowd / turns.max(1)
         )?;
     }
     println!(rt; "{ROUNDS} rounds of {TURNS} turns each")

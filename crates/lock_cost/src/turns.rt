@@ -1,15 +1,12 @@
 //! Turns that hold a range and give it back at once, with nothing between. A number of turns ends by itself and
 //! leaves the seat with no range.
 ghost use Rattle.std.specs.Prelude.{◌≡◌, ◌+◌, ◌<◌, ◌≤◌, None, IfOk, IfErr};
-ghost use Rattle.range_rw.specs.Seats.{IsOpenFault, new_seat};
+ghost use Rattle.range_rw.specs.Contract.{IsOpenFault, new_seat};
 
 use lock_core::{FreeGuard, Mode, Range};
 use range_rw::{OpenFault, RangeTable, Seat};
 use std::alloc::Global;
-use std::marker::Brand;
 use std::sync::Wait;
-use std::sync::ledger::{Blank, Ledger};
-use word_rows::Steps;
 
 /// A table of so many seats with no client word, and its seat of number 0.
 pub fn open_one(
@@ -19,35 +16,13 @@ pub fn open_one(
     ensures refused { IfErr result (IsOpenFault seats) }
     ensures seat { IfOk result (λ r. r.1 ≡ new_seat r.0.table (λ _. tt) 0) }
 {
-    let (table, mut row) = RangeTable::open(alloc, seats, &[])?;
-    let seat = row.remove(0);
+    let (table, mut all) = RangeTable::open(alloc, seats, &[])?;
+    let seat = all.remove(0);
     Ok((table, seat))
 }
 
 /// How many turns a round has.
 pub const TURNS: u32 = 5_000;
-
-fn hold_counting<L: Ledger, R: Wait>(
-    wait: &R,
-    table: &RangeTable<FreeGuard>,
-    seat: &mut Seat<FreeGuard>,
-    range: Range,
-    turns: u32,
-    blank: Blank,
-)
-    requires blank { (blank.name ≡ L.name) × (blank.parts ≡ L.parts) × (0 < L.parts) }
-    requires table { seat.old.table ≡ table.now.table }
-    requires free { seat.old.held ≡ None }
-    ensures table { seat.new.table ≡ seat.old.table }
-    ensures free { seat.new.held ≡ None }
-    ensures made { seat.old.trace.taken + turns ≤ seat.new.trace.taken }
-{
-    let mut steps = Steps::<L>::new(blank);
-    for _ in 0..turns {
-        table.acquire(wait, seat, range, Mode::Writer);
-        table.release(seat, &mut steps);
-    }
-}
 
 /// Holds the range as a writer and gives it back, so many times, each in one step or more.
 pub fn hold_turns<R: Wait>(
@@ -63,5 +38,8 @@ pub fn hold_turns<R: Wait>(
     ensures free { seat.new.held ≡ None }
     ensures made { seat.old.trace.taken + turns ≤ seat.new.trace.taken }
 {
-    hold_counting::<Brand, R>(wait, table, seat, range, turns, Blank::new(1));
+    for _ in 0..turns {
+        table.acquire(wait, seat, range, Mode::Writer);
+        table.give_back(seat);
+    }
 }

@@ -1,12 +1,14 @@
 -- The rule of the turnstile: client word 0 counts the writers inside, and who is inside holds a range with the door
 -- in it as a writer. No two such ranges are held together, so the count is 0 or 1. The rule and its laws are this
--- project's own; they stand here, since the guard cites them.
-use Rattle.std.specs.Prelude.{◌≡◌, ◌≢◌, ℕ, zero, suc, ◌+◌, ◌-◌, ◌%◌, ◌^◌, ◌<◌, ◌≤◌, List, [], ◌∷◌, length, slice_index, slice_set, Option, Some, None, true, false, ◌⊎◌}
+-- project's own; they are here, since the guard cites them.
+use Rattle.std.specs.Prelude.{◌≡◌, ◌≢◌, ℕ, ◌+◌, ◌-◌, ◌%◌, ◌^◌, ◌<◌, ◌≤◌, List, ◌∷◌, length, slice_index, slice_set, Option, Some, None, true, false, ◌⊎◌}
 use Rattle.std.proofs.Common.{set, get_or, sym, ap, ◌∙◌, subst, arith, inl, inr, ⊎_elim, length-set, get_or-set_same}
 use Rattle.std.proofs.lemmas.Bool.{false≢true}
-use mathlib.Core.Option.{some, some-injective, some-ne-none}
+use mathlib.Core.Option.{some, some-injective}
 use lib.ListN.{get_elem?}
 use Rattle.atomic_table.proofs.Lists.{at_set, set_here, set_else, set_again}
+use Rattle.lock_core.proofs.ByPlace.{below}
+use Rattle.lock_core.specs.Range.{Interval}
 use Rattle.lock_core.specs.Grants.{Grants, Holds, IsExclusive, IsFree}
 use Rattle.lock_core.specs.Client.{ClientStep, loads, stores, adds, exchanges, words_after}
 use Rattle.lock_core.specs.declared.range.Mode.TheVariants.{Writer}
@@ -18,8 +20,11 @@ abbrev pub door : ℕ
 door = 7
 
 -- a range has the door in it
+abbrev pub HasDoorIn : Interval → Type 0
+HasDoorIn range = (range.lo ≤ door) × (door < range.hi)
+
 abbrev pub HasDoor : Held → Type 0
-HasDoor h = (h.range.lo ≤ door) × (door < h.range.hi)
+HasDoor h = HasDoorIn h.range
 
 -- what a seat holds has the door in it
 abbrev pub IsIn : Option Held → Type 0
@@ -44,12 +49,12 @@ pub record IsCounted (grants : Grants) (words : List ℕ) (passes : List Visits)
   pub count : ((slice_index words 0 ≡ 1) × ((seat : ℕ) × IsInside passes seat)) ⊎ ((slice_index words 0 ≡ 0) × ((seat : ℕ) → ¬ (IsInside passes seat)))
 
 -- the pass of a writer that goes in, with what it came for
-abbrev pub entered : Visits → ℕ → Visits
-entered v note = record { inside = true; log = note ∷ v.log }
+abbrev pub pass_inside : Visits → ℕ → Visits
+pass_inside v note = record { inside = true; log = note ∷ v.log }
 
 -- the pass of a writer that has gone out
-abbrev pub gone : Visits → Visits
-gone v = record { inside = false; log = v.log }
+abbrev pub pass_outside : Visits → Visits
+pass_outside v = record { inside = false; log = v.log }
 
 -- the steps of a visit: a look at the count, an addition of 1 by who may enter and isn't inside, and one of -1 by who
 -- is inside
@@ -57,13 +62,8 @@ abbrev pub IsPassage : Grants → List ℕ → List Visits → ℕ → ClientSte
 IsPassage grants words passes seat (loads i) note after = get_elem? passes seat ≡ some after
 IsPassage grants words passes seat (stores i value) note after = ⊥
 IsPassage grants words passes seat (adds i by) note after = (i ≡ 0) × IsExclusive grants × MayEnter grants seat × ((v : Visits) × (get_elem? passes seat ≡ some v)
-    × (((by ≡ 1) × (v.inside ≡ false) × (after ≡ entered v note)) ⊎ ((by ≡ 2 ^ 64 - 1) × (v.inside ≡ true) × (after ≡ gone v))))
+    × (((by ≡ 1) × (v.inside ≡ false) × (after ≡ pass_inside v note)) ⊎ ((by ≡ 2 ^ 64 - 1) × (v.inside ≡ true) × (after ≡ pass_outside v))))
 IsPassage grants words passes seat (exchanges i expected new) note after = ⊥
-
-below : {A : Type 0} (l : List A) (i : ℕ) (a : A) → get_elem? l i ≡ some a → i < length l
-below [] i a e = absurd (some-ne-none a (sym e))
-below (x ∷ xs) zero a e = omega arith
-below (x ∷ xs) (suc i) a e = let r = below xs i a e in omega arith
 
 -- where a seat holds a range with the door in it and isn't inside, nobody is
 pub nobody_inside : (grants : Grants) (words : List ℕ) (passes : List Visits) (seat : ℕ) (h : Held) (v : Visits) → IsCounted grants words passes → IsExclusive grants → Holds grants seat h → HasDoor h → get_elem? passes seat ≡ some v → v.inside ≡ false

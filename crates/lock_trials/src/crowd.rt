@@ -2,8 +2,8 @@
 //! beside each other as std's `for_each_mut` runs them; a reader may rely on each seat being back after, in its
 //! place.
 ghost use Rattle.std.specs.Prelude.{◌≡◌, ◌*◌, ◌<◌, false, None};
-ghost use Rattle.range_rw.specs.Seats.{IsIdleRow};
-ghost use Rattle.lock_trials.specs.Turns.{IsBack, HasMade, HaveMade, IsOutside};
+ghost use Rattle.range_rw.specs.Contract.{AreIdleSeats, IsGivenBack};
+ghost use Rattle.lock_trials.specs.Turns.{HasMade, HaveMade, IsOutside};
 
 use crate::turns::{add_turns, visit_turns};
 use crate::turnstile::Turnstile;
@@ -23,8 +23,8 @@ pub fn add_all<R: Threads + Wait + Sync>(
     turns: u32,
 )
     requires word { 0 < table.now.client }
-    requires row { IsIdleRow table.now.table seats.old }
-    ensures row { IsIdleRow table.now.table seats.new }
+    requires idle { AreIdleSeats table.now.table seats.old }
+    ensures idle { AreIdleSeats table.now.table seats.new }
     ensures made { HaveMade (3 * turns) seats.old seats.new }
 {
     let Ok(range) = Range::of(0, 1) else {
@@ -32,7 +32,7 @@ pub fn add_all<R: Threads + Wait + Sync>(
     };
     let turn = |_: usize, seat: &mut Seat<FreeGuard>|
         requires { (seat.now.table ≡ table.now.table) × (seat.now.held ≡ None) × (0 < table.now.client) }
-        ensures { IsBack seat.entry.now seat.exit.now × HasMade (3 * turns) seat.entry.now seat.exit.now }
+        ensures { IsGivenBack seat.entry.now seat.exit.now × HasMade (3 * turns) seat.entry.now seat.exit.now }
     { add_turns(rt, table, seat, range, turns) };
     thread::for_each_mut(rt, seats, 16, &turn);
 }
@@ -48,13 +48,13 @@ pub fn visit_all<R: Threads + Wait + Sync>(
     most: &AtomicU64,
 )
     requires word { 0 < table.now.client }
-    requires row { IsIdleRow table.now.table seats.old × IsOutside seats.old }
-    ensures row { IsIdleRow table.now.table seats.new }
+    requires idle { AreIdleSeats table.now.table seats.old × IsOutside seats.old }
+    ensures idle { AreIdleSeats table.now.table seats.new }
     ensures made { HaveMade (2 * turns) seats.old seats.new }
 {
     let turn = |i: usize, seat: &mut Seat<Turnstile>|
         requires { (seat.now.table ≡ table.now.table) × (seat.now.held ≡ None) × (seat.now.pass.inside ≡ false) × (0 < table.now.client) }
-        ensures { IsBack seat.entry.now seat.exit.now × HasMade (2 * turns) seat.entry.now seat.exit.now }
+        ensures { IsGivenBack seat.entry.now seat.exit.now × HasMade (2 * turns) seat.entry.now seat.exit.now }
     { visit_from(rt, table, seat, i, turns, most) };
     thread::for_each_mut(rt, seats, 16, &turn);
 }
@@ -70,7 +70,7 @@ fn visit_from<R: Wait>(
     requires table { seat.old.table ≡ table.now.table }
     requires word { 0 < table.now.client }
     requires free { (seat.old.held ≡ None) × (seat.old.pass.inside ≡ false) }
-    ensures back { IsBack seat.old seat.new }
+    ensures back { IsGivenBack seat.old seat.new }
     ensures made { HasMade (2 * turns) seat.old seat.new }
 {
     let lo = place as u64 % 8;

@@ -14,7 +14,7 @@ mod visits;
 
 pub use crowd::{add_all, visit_all};
 pub use opened::{open_free, open_turnstile};
-pub use pairs::{both, release_once, row_of, try_once};
+pub use pairs::{both, in_order};
 pub use turns::{add_turns, visit_turns};
 pub use turnstile::{Turnstile, Visits};
 pub use visits::{enter, leave, look};

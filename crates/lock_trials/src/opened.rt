@@ -1,7 +1,7 @@
 //! Tables for the trials: one under no rule, and one with nobody inside its turnstile. A reader may rely on the seats
-//! standing in a row, each holding nothing, as the closing takes them.
+//! being in order, each holding nothing, as the closing takes them.
 ghost use Rattle.std.specs.Prelude.{◌≡◌, length, IfOk, IfErr};
-ghost use Rattle.range_rw.specs.Seats.{IsIdleRow, IsNewRow, IsOpenFault};
+ghost use Rattle.range_rw.specs.Contract.{AreIdleSeats, AreNewSeats, IsOpenFault};
 ghost use Rattle.lock_trials.specs.Turns.{IsOutside};
 
 use crate::turnstile::Turnstile;
@@ -17,8 +17,8 @@ pub fn open_free(
 ) -> Result<(RangeTable<FreeGuard>, Vec<Seat<FreeGuard>>), OpenFault>
     ensures refused { IfErr result (IsOpenFault seats) }
     ensures shape { IfOk result (λ r. (r.0.seats ≡ seats) × (r.0.client ≡ 1) × (length r.1.items ≡ seats)) }
-    ensures new { IfOk result (λ r. IsNewRow r.0.table (λ _. tt) r.1.items) }
-    ensures row { IfOk result (λ r. IsIdleRow r.0.table r.1.items) }
+    ensures new { IfOk result (λ r. AreNewSeats r.0.table (λ _. tt) r.1.items) }
+    ensures idle { IfOk result (λ r. AreIdleSeats r.0.table r.1.items) }
 {
     RangeTable::open(alloc, seats, &[word])
 }
@@ -30,7 +30,7 @@ pub fn open_turnstile(
 ) -> Result<(RangeTable<Turnstile>, Vec<Seat<Turnstile>>), OpenFault>
     ensures refused { IfErr result (IsOpenFault seats) }
     ensures shape { IfOk result (λ r. (r.0.seats ≡ seats) × (r.0.client ≡ 1) × (length r.1.items ≡ seats)) }
-    ensures row { IfOk result (λ r. IsIdleRow r.0.table r.1.items × IsOutside r.1.items) }
+    ensures idle { IfOk result (λ r. AreIdleSeats r.0.table r.1.items × IsOutside r.1.items) }
 {
     RangeTable::open(alloc, seats, &[0])
 }

@@ -1,75 +1,11 @@
-//! Two seats of one table in the hands of one thread: taken out of the row of an opening, tried and released by hand,
-//! and put back into a row for the closing. The calls hand in a counter of their own, for a caller that counts
-//! nothing.
-ghost use Rattle.std.specs.Prelude.{◌≡◌, ◌<◌, length, IfOk, IfErr, OnOk, OnErr, IsSome, Some, None};
-ghost use Rattle.range_rw.specs.Seats.{IsNewRow, IsLockCall, IsRelease, IsIdleRow, new_seat};
-ghost use Rattle.range_rw.specs.Trying.{IsCause};
+//! Two seats of one table in the hands of one thread: taken out of the seats of an opening, and put back in order for
+//! the closing.
+ghost use Rattle.std.specs.Prelude.{◌≡◌, length, IfOk, None};
+ghost use Rattle.range_rw.specs.Contract.{AreNewSeats, AreIdleSeats, new_seat};
 
-use lock_core::{FreeGuard, Mode, Range};
-use range_rw::{NotHeld, RangeTable, Seat};
+use lock_core::FreeGuard;
+use range_rw::{RangeTable, Seat};
 use std::alloc::{AllocError, Global};
-use std::marker::Brand;
-use std::sync::ledger::{Blank, Ledger};
-use word_rows::Steps;
-
-fn try_counting<L: Ledger>(
-    table: &RangeTable<FreeGuard>,
-    seat: &mut Seat<FreeGuard>,
-    range: Range,
-    mode: Mode,
-    blank: Blank,
-) -> Result<(), NotHeld>
-    requires blank { (blank.name ≡ L.name) × (blank.parts ≡ L.parts) × (0 < L.parts) }
-    requires table { seat.old.table ≡ table.now.table }
-    requires free { seat.old.held ≡ None }
-    ensures call { IsLockCall seat.old seat.new }
-    ensures held { OnOk result (seat.new.held ≡ Some (record { range = range; mode = mode })) }
-    ensures free { OnErr result (seat.new.held ≡ None) }
-    ensures cause { IfErr result (IsCause seat.old seat.new (record { range = range; mode = mode })) }
-{
-    let mut steps = Steps::<L>::new(blank);
-    table.try_acquire(seat, range, mode, &mut steps)
-}
-
-/// One try, as `RangeTable::try_acquire`.
-pub fn try_once(
-    table: &RangeTable<FreeGuard>,
-    seat: &mut Seat<FreeGuard>,
-    range: Range,
-    mode: Mode,
-) -> Result<(), NotHeld>
-    requires table { seat.old.table ≡ table.now.table }
-    requires free { seat.old.held ≡ None }
-    ensures call { IsLockCall seat.old seat.new }
-    ensures held { OnOk result (seat.new.held ≡ Some (record { range = range; mode = mode })) }
-    ensures free { OnErr result (seat.new.held ≡ None) }
-    ensures cause { IfErr result (IsCause seat.old seat.new (record { range = range; mode = mode })) }
-{
-    try_counting::<Brand>(table, seat, range, mode, Blank::new(1))
-}
-
-fn release_counting<L: Ledger>(
-    table: &RangeTable<FreeGuard>,
-    seat: &mut Seat<FreeGuard>,
-    blank: Blank,
-)
-    requires blank { (blank.name ≡ L.name) × (blank.parts ≡ L.parts) × (0 < L.parts) }
-    requires table { seat.old.table ≡ table.now.table }
-    requires holds { IsSome seat.old.held }
-    ensures { IsRelease (λ p. p) seat.old seat.new }
-{
-    let mut steps = Steps::<L>::new(blank);
-    table.release(seat, &mut steps);
-}
-
-/// Gives the held range back, as `RangeTable::release`.
-pub fn release_once(table: &RangeTable<FreeGuard>, seat: &mut Seat<FreeGuard>)
-    requires table { seat.old.table ≡ table.now.table }
-    requires holds { IsSome seat.old.held }
-    ensures { IsRelease (λ p. p) seat.old seat.new }
-{
-    release_counting::<Brand>(table, seat, Blank::new(1));
-}
 
 /// The two seats of a new table of two.
 pub fn both(
@@ -77,7 +13,7 @@ pub fn both(
     mut seats: Vec<Seat<FreeGuard>>,
 ) -> (Seat<FreeGuard>, Seat<FreeGuard>)
     requires two { length seats.items ≡ 2 }
-    requires row { IsNewRow table.now.table (λ _. tt) seats.items }
+    requires new { AreNewSeats table.now.table (λ _. tt) seats.items }
     ensures first { result.0 ≡ new_seat table.now.table (λ _. tt) 0 }
     ensures second { result.1 ≡ new_seat table.now.table (λ _. tt) 1 }
 {
@@ -86,8 +22,8 @@ pub fn both(
     (first, second)
 }
 
-/// The two seats as the row that a closing takes.
-pub fn row_of(
+/// The two seats in order, as a closing takes them.
+pub fn in_order(
     alloc: Global,
     table: &RangeTable<FreeGuard>,
     first: Seat<FreeGuard>,
@@ -96,7 +32,7 @@ pub fn row_of(
     requires first { (first.table ≡ table.now.table) × (first.number ≡ 0) × (first.held ≡ None) }
     requires second { (second.table ≡ table.now.table) × (second.number ≡ 1) × (second.held ≡ None) }
     ensures two { IfOk result (λ seats. length seats.items ≡ 2) }
-    ensures row { IfOk result (λ seats. IsIdleRow table.now.table seats.items) }
+    ensures idle { IfOk result (λ seats. AreIdleSeats table.now.table seats.items) }
 {
     let mut seats = Vec::with_capacity(alloc, 2)?;
     seats.push_reserved(first);

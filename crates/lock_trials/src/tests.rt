@@ -1,6 +1,6 @@
 //! Worked cases of the board, and threads that meet at one table. Each test ends by a stated number of turns; what it
 //! expects is reckoned by hand, never taken from the program.
-use crate::{add_all, both, open_free, open_turnstile, release_once, row_of, try_once, visit_all};
+use crate::{add_all, both, in_order, open_free, open_turnstile, visit_all};
 use lock_core::{FreeGuard, Mode, Range};
 use range_rw::{NotHeld, OpenFault, RangeTable};
 use std::sync::atomic::{AtomicU64, Ordering};
@@ -13,22 +13,22 @@ fn tries_on_the_board_answer_as_worked_by_hand(rt: HostRuntime) {
     let first = Range::of(0, 10).expect(&rt, "a range");
     let far = Range::of(20, 21).expect(&rt, "a range");
     let inner = Range::of(5, 6).expect(&rt, "a range");
-    assert!(rt; try_once(&table, &mut a, first, Mode::Reader).is_ok());
-    assert!(rt; try_once(&table, &mut b, far, Mode::Writer).is_ok());
+    assert!(rt; table.try_once(&mut a, first, Mode::Reader).is_ok());
+    assert!(rt; table.try_once(&mut b, far, Mode::Writer).is_ok());
     assert_eq!(rt; table.held(&b), Some((far, Mode::Writer)));
-    release_once(&table, &mut b);
+    table.give_back(&mut b);
     let busy = NotHeld::Busy {
         owner: 0,
         range: first,
         mode: Mode::Reader,
     };
-    let refused = try_once(&table, &mut b, inner, Mode::Writer);
+    let refused = table.try_once(&mut b, inner, Mode::Writer);
     assert_eq!(rt; refused, Err(busy));
     assert_eq!(rt; table.held(&b), None);
-    release_once(&table, &mut a);
-    assert!(rt; try_once(&table, &mut b, inner, Mode::Writer).is_ok());
-    release_once(&table, &mut b);
-    let seats = row_of(alloc, &table, a, b).expect(&rt, "memory");
+    table.give_back(&mut a);
+    assert!(rt; table.try_once(&mut b, inner, Mode::Writer).is_ok());
+    table.give_back(&mut b);
+    let seats = in_order(alloc, &table, a, b).expect(&rt, "memory");
     let Ok(words) = table.close(alloc, seats) else {
         panic!(rt; "memory");
     };

@@ -13,9 +13,10 @@ use Rattle.lock_core.specs.Range.{IsRange}
 use Rattle.lock_core.specs.Grants.{Grants, Holds, Conflicts, IsExclusive, IsFree}
 use Rattle.lock_core.specs.declared.range.Held.{Held}
 use Rattle.range_rw.specs.declared.views.Core.{Core}
-use Rattle.range_rw.specs.Board.{lo_place, hi_place, lock_words, held_in, held_of, grants_of, mode_of, Knows, IsBoard}
+use Rattle.range_rw.specs.Board.{board_lo_place, board_hi_place, lock_words, held_in, core_held, grants_of, board_mode_of, Knows, IsBoard}
 use Rattle.range_rw.specs.BoardSteps.{IsClear}
-use Rattle.range_rw.proofs.Lists.{at_below, from_map}
+use Rattle.lock_core.proofs.ByPlace.{below as at_below}
+use Rattle.range_rw.proofs.Lists.{from_map}
 
 same_held : (a b : Held) → Some a ≡ Some b → a ≡ b
 same_held a b e = cc
@@ -28,10 +29,10 @@ conflicts_sym a b t = ((t.0.1, t.0.0), ⊎_elim (λ l. inr l) (λ r. inl r) t.1)
 
 -- a hi word of 0 says that nothing is held, and any other says a range
 pub held_zero : (lo hi : ℕ) → hi ≡ 0 → held_in lo hi ≡ None
-held_zero lo hi e = ap (λ t. cond t None (Some (record { range = record { lo = lo; hi = hi / 2 }; mode = mode_of hi }))) (eq-eqb hi 0 e)
+held_zero lo hi e = ap (λ t. cond t None (Some (record { range = record { lo = lo; hi = hi / 2 }; mode = board_mode_of hi }))) (eq-eqb hi 0 e)
 
-pub held_some : (lo hi : ℕ) → hi ≢ 0 → held_in lo hi ≡ Some (record { range = record { lo = lo; hi = hi / 2 }; mode = mode_of hi })
-held_some lo hi e = ap (λ t. cond t None (Some (record { range = record { lo = lo; hi = hi / 2 }; mode = mode_of hi }))) (ne_eqb hi 0 e)
+pub held_some : (lo hi : ℕ) → hi ≢ 0 → held_in lo hi ≡ Some (record { range = record { lo = lo; hi = hi / 2 }; mode = board_mode_of hi })
+held_some lo hi e = ap (λ t. cond t None (Some (record { range = record { lo = lo; hi = hi / 2 }; mode = board_mode_of hi }))) (ne_eqb hi 0 e)
 
 pub holds_nothing : (lo hi : ℕ) → held_in lo hi ≡ None → hi ≡ 0
 holds_nothing lo hi e = dite (ℕ_discrete hi 0) (λ z. z) (λ nz. absurd (none_some _ (sym e ∙ held_some lo hi nz)))
@@ -39,14 +40,14 @@ holds_nothing lo hi e = dite (ℕ_discrete hi 0) (λ z. z) (λ nz. absurd (none_
 module _ (seats : ℕ) (words : List ℕ) (cores : List Core) (b : IsBoard seats words cores) (wide : length words ≡ lock_words seats) (count : length cores ≡ seats) where
   -- who holds something has a core that says so
   pub core_of_holder : (m : ℕ) (h : Held) → Holds (grants_of cores) m h → (d : Core) × (get_elem? cores m ≡ some d) × (d.held ≡ Some h)
-  core_of_holder m h at = from_map held_of cores m (Some h) at
+  core_of_holder m h at = from_map core_held cores m (Some h) at
 
   -- what a seat's words say is what it holds
-  pub words_of_holder : (m : ℕ) (h : Held) → Holds (grants_of cores) m h → held_in (get_or words (lo_place m) 0) (get_or words (hi_place m) 0) ≡ Some h
+  pub words_of_holder : (m : ℕ) (h : Held) → Holds (grants_of cores) m h → held_in (get_or words (board_lo_place m) 0) (get_or words (board_hi_place m) 0) ≡ Some h
   words_of_holder m h at = let d = core_of_holder m h at in b.words_say m d.0 d.1 ∙ d.2
 
-  pub holder_of_words : (m : ℕ) (d : Core) (h : Held) → get_elem? cores m ≡ some d → held_in (get_or words (lo_place m) 0) (get_or words (hi_place m) 0) ≡ Some h → Holds (grants_of cores) m h
-  holder_of_words m d h at say = at_map held_of cores m d at ∙ ap some (sym (b.words_say m d at) ∙ say)
+  pub holder_of_words : (m : ℕ) (d : Core) (h : Held) → get_elem? cores m ≡ some d → held_in (get_or words (board_lo_place m) 0) (get_or words (board_hi_place m) 0) ≡ Some h → Holds (grants_of cores) m h
+  holder_of_words m d h at say = at_map core_held cores m d at ∙ ap some (sym (b.words_say m d at) ∙ say)
 
   module _ (n : ℕ) (c : Core) (here : get_elem? cores n ≡ some c) where
     below : n < seats
@@ -65,8 +66,8 @@ module _ (seats : ℕ) (words : List ℕ) (cores : List Core) (b : IsBoard seats
       own_turn : (c'.has_turn ≡ true) ↔ (get_or words' 0 0 ≡ n + 1)
       others_turn : (m : ℕ) → m ≢ n → (get_or words' 0 0 ≡ m + 1) ↔ (get_or words 0 0 ≡ m + 1)
       bound : get_or words' 0 0 ≤ seats
-      own_words : held_in (get_or words' (lo_place n) 0) (get_or words' (hi_place n) 0) ≡ c'.held
-      others_words : (m : ℕ) → m ≢ n → (get_or words' (lo_place m) 0 ≡ get_or words (lo_place m) 0) × (get_or words' (hi_place m) 0 ≡ get_or words (hi_place m) 0)
+      own_words : held_in (get_or words' (board_lo_place n) 0) (get_or words' (board_hi_place n) 0) ≡ c'.held
+      others_words : (m : ℕ) → m ≢ n → (get_or words' (board_lo_place m) 0 ≡ get_or words (board_lo_place m) 0) × (get_or words' (board_hi_place m) 0 ≡ get_or words (board_hi_place m) 0)
       ranges : (m : ℕ) (h : Held) → Holds grants' m h → IsRange h.range.lo h.range.hi
       own_knows : c'.has_turn ≡ true → Knows words' grants' n c'
       others_know : (m : ℕ) (d : Core) → m ≢ n → get_elem? cores m ≡ some d → d.has_turn ≡ true → Knows words' grants' m d
@@ -82,7 +83,7 @@ module _ (seats : ℕ) (words : List ℕ) (cores : List Core) (b : IsBoard seats
               (at_set cores n m c' d at);
           turn_bound = t.bound;
           words_say = λ m d at. ⊎_elim
-              (λ own. subst (λ (z : ℕ × Core). held_in (get_or words' (lo_place z.0) 0) (get_or words' (hi_place z.0) 0) ≡ z.1.held) (λ i. (sym own.0 i, own.1 i)) t.own_words)
+              (λ own. subst (λ (z : ℕ × Core). held_in (get_or words' (board_lo_place z.0) 0) (get_or words' (board_hi_place z.0) 0) ≡ z.1.held) (λ i. (sym own.0 i, own.1 i)) t.own_words)
               (λ other. let o = t.others_words m other.0 in (λ i. held_in (o.0 i) (o.1 i)) ∙ b.words_say m d other.1)
               (at_set cores n m c' d at);
           ranges = subst (λ (g : Grants). (m : ℕ) (h : Held) → Holds g m h → IsRange h.range.lo h.range.hi) back t.ranges;
@@ -95,7 +96,7 @@ module _ (seats : ℕ) (words : List ℕ) (cores : List Core) (b : IsBoard seats
 
     -- the grants where the seat holds what it held
     held_still : (c' : Core) → c'.held ≡ c.held → grants_of (set cores n c') ≡ grants_of cores
-    held_still c' e = map-set held_of cores n c' ∙ (ap (λ h. set (grants_of cores) n h) e ∙ set_again (grants_of cores) n c.held (at_map held_of cores n c here))
+    held_still c' e = map-set core_held cores n c' ∙ (ap (λ h. set (grants_of cores) n h) e ∙ set_again (grants_of cores) n c.held (at_map core_held cores n c here))
 
     -- a step that changes no word
     pub looks : (c' : Core) → c'.held ≡ c.held → c'.has_turn ≡ c.has_turn → (c.has_turn ≡ true → Knows words (grants_of cores) n c') → IsBoard seats words (set cores n c')
@@ -118,8 +119,8 @@ module _ (seats : ℕ) (words : List ℕ) (cores : List Core) (b : IsBoard seats
         let lt = below in
         let now : get_or (set words 0 (n + 1)) 0 0 ≡ n + 1 = get_or-set_same words 0 (n + 1) 0 (omega arith) in
         let else : (j : ℕ) → j ≢ 0 → get_or (set words 0 (n + 1)) j 0 ≡ get_or words j 0 = λ j e. get_or-set_other words 0 j (n + 1) 0 e in
-        let lo : (m : ℕ) → get_or (set words 0 (n + 1)) (lo_place m) 0 ≡ get_or words (lo_place m) 0 = λ m. else (lo_place m) (λ e. omega arith) in
-        let hi : (m : ℕ) → get_or (set words 0 (n + 1)) (hi_place m) 0 ≡ get_or words (hi_place m) 0 = λ m. else (hi_place m) (λ e. omega arith) in
+        let lo : (m : ℕ) → get_or (set words 0 (n + 1)) (board_lo_place m) 0 ≡ get_or words (board_lo_place m) 0 = λ m. else (board_lo_place m) (λ e. omega arith) in
+        let hi : (m : ℕ) → get_or (set words 0 (n + 1)) (board_hi_place m) 0 ≡ get_or words (board_hi_place m) 0 = λ m. else (board_hi_place m) (λ e. omega arith) in
         next (set words 0 (n + 1)) c' (grants_of cores) (record {
           same_grants = held_still c' held;
           own_turn = (λ has. now, λ w. turn);
@@ -144,8 +145,8 @@ module _ (seats : ℕ) (words : List ℕ) (cores : List Core) (b : IsBoard seats
         let was = turn_word had in
         let now : get_or (set words 0 0) 0 0 ≡ 0 = get_or-set_same words 0 0 0 (omega arith) in
         let else : (j : ℕ) → j ≢ 0 → get_or (set words 0 0) j 0 ≡ get_or words j 0 = λ j e. get_or-set_other words 0 j 0 0 e in
-        let lo : (m : ℕ) → get_or (set words 0 0) (lo_place m) 0 ≡ get_or words (lo_place m) 0 = λ m. else (lo_place m) (λ e. omega arith) in
-        let hi : (m : ℕ) → get_or (set words 0 0) (hi_place m) 0 ≡ get_or words (hi_place m) 0 = λ m. else (hi_place m) (λ e. omega arith) in
+        let lo : (m : ℕ) → get_or (set words 0 0) (board_lo_place m) 0 ≡ get_or words (board_lo_place m) 0 = λ m. else (board_lo_place m) (λ e. omega arith) in
+        let hi : (m : ℕ) → get_or (set words 0 0) (board_hi_place m) 0 ≡ get_or words (board_hi_place m) 0 = λ m. else (board_hi_place m) (λ e. omega arith) in
         next (set words 0 0) c' (grants_of cores) (record {
           same_grants = held_still c' held;
           own_turn = (λ has. absurd (false≢true (sym turn ∙ has)), λ w. absurd (omega (arith, now, w)));
@@ -161,16 +162,16 @@ module _ (seats : ℕ) (words : List ℕ) (cores : List Core) (b : IsBoard seats
 
     -- the own lo word is written while nothing is held
     pub writes_own_lo : (c' : Core) (v : ℕ) → c'.held ≡ c.held → c'.has_turn ≡ c.has_turn → c.has_turn ≡ true → c.held ≡ None → c'.own_lo ≡ Some v → c'.loaded ≡ c.loaded → c'.seen ≡ c.seen
-        → IsBoard seats (set words (lo_place n) v) (set cores n c')
+        → IsBoard seats (set words (board_lo_place n) v) (set cores n c')
     writes_own_lo c' v held turn had free own loaded seen =
         let lt = below in
-        let words' = set words (lo_place n) v in
-        let now : get_or words' (lo_place n) 0 ≡ v = get_or-set_same words (lo_place n) v 0 (omega arith) in
-        let else : (j : ℕ) → j ≢ lo_place n → get_or words' j 0 ≡ get_or words j 0 = λ j e. get_or-set_other words (lo_place n) j v 0 e in
+        let words' = set words (board_lo_place n) v in
+        let now : get_or words' (board_lo_place n) 0 ≡ v = get_or-set_same words (board_lo_place n) v 0 (omega arith) in
+        let else : (j : ℕ) → j ≢ board_lo_place n → get_or words' j 0 ≡ get_or words j 0 = λ j e. get_or-set_other words (board_lo_place n) j v 0 e in
         let first : get_or words' 0 0 ≡ get_or words 0 0 = else 0 (λ e. omega arith) in
-        let hi : (m : ℕ) → get_or words' (hi_place m) 0 ≡ get_or words (hi_place m) 0 = λ m. else (hi_place m) (λ e. omega arith) in
-        let lo : (m : ℕ) → m ≢ n → get_or words' (lo_place m) 0 ≡ get_or words (lo_place m) 0 = λ m differ. else (lo_place m) (λ e. differ (omega arith)) in
-        let zero_hi : get_or words (hi_place n) 0 ≡ 0 = holds_nothing _ _ (b.words_say n c here ∙ free) in
+        let hi : (m : ℕ) → get_or words' (board_hi_place m) 0 ≡ get_or words (board_hi_place m) 0 = λ m. else (board_hi_place m) (λ e. omega arith) in
+        let lo : (m : ℕ) → m ≢ n → get_or words' (board_lo_place m) 0 ≡ get_or words (board_lo_place m) 0 = λ m differ. else (board_lo_place m) (λ e. differ (omega arith)) in
+        let zero_hi : get_or words (board_hi_place n) 0 ≡ 0 = holds_nothing _ _ (b.words_say n c here ∙ free) in
         let k = b.knows n c here had in
         next words' c' (grants_of cores) (record {
           same_grants = held_still c' held;
@@ -204,20 +205,20 @@ module _ (seats : ℕ) (words : List ℕ) (cores : List Core) (b : IsBoard seats
 
     -- the own hi word is written, by which the range is held
     pub writes_own_hi : (c' : Core) (lo hi : ℕ) (h : Held) → c'.held ≡ held_in lo hi → held_in lo hi ≡ Some h → c'.has_turn ≡ c.has_turn → c.has_turn ≡ true → c.own_lo ≡ Some lo → c'.own_lo ≡ c.own_lo → c'.loaded ≡ c.loaded → c'.seen ≡ c.seen
-        → IsRange h.range.lo h.range.hi → IsClear seats n c.seen h → IsBoard seats (set words (hi_place n) hi) (set cores n c')
+        → IsRange h.range.lo h.range.hi → IsClear seats n c.seen h → IsBoard seats (set words (board_hi_place n) hi) (set cores n c')
     writes_own_hi c' lo hi h held is turn had own own_same loaded seen range clear =
         let lt = below in
-        let words' = set words (hi_place n) hi in
+        let words' = set words (board_hi_place n) hi in
         let grants' = set (grants_of cores) n (Some h) in
-        let now : get_or words' (hi_place n) 0 ≡ hi = get_or-set_same words (hi_place n) hi 0 (omega arith) in
-        let else : (j : ℕ) → j ≢ hi_place n → get_or words' j 0 ≡ get_or words j 0 = λ j e. get_or-set_other words (hi_place n) j hi 0 e in
+        let now : get_or words' (board_hi_place n) 0 ≡ hi = get_or-set_same words (board_hi_place n) hi 0 (omega arith) in
+        let else : (j : ℕ) → j ≢ board_hi_place n → get_or words' j 0 ≡ get_or words j 0 = λ j e. get_or-set_other words (board_hi_place n) j hi 0 e in
         let first : get_or words' 0 0 ≡ get_or words 0 0 = else 0 (λ e. omega arith) in
-        let lo_same : (m : ℕ) → get_or words' (lo_place m) 0 ≡ get_or words (lo_place m) 0 = λ m. else (lo_place m) (λ e. omega arith) in
-        let hi_same : (m : ℕ) → m ≢ n → get_or words' (hi_place m) 0 ≡ get_or words (hi_place m) 0 = λ m differ. else (hi_place m) (λ e. differ (omega arith)) in
+        let lo_same : (m : ℕ) → get_or words' (board_lo_place m) 0 ≡ get_or words (board_lo_place m) 0 = λ m. else (board_lo_place m) (λ e. omega arith) in
+        let hi_same : (m : ℕ) → m ≢ n → get_or words' (board_hi_place m) 0 ≡ get_or words (board_hi_place m) 0 = λ m differ. else (board_hi_place m) (λ e. differ (omega arith)) in
         let k = b.knows n c here had in
         let free = is_free h had clear in
         next words' c' grants' (record {
-          same_grants = map-set held_of cores n c' ∙ ap (λ o. set (grants_of cores) n o) (held ∙ is);
+          same_grants = map-set core_held cores n c' ∙ ap (λ o. set (grants_of cores) n o) (held ∙ is);
           own_turn = let old = b.turn n c here in (λ has. first ∙ old.0 (sym turn ∙ has), λ w. turn ∙ old.1 (sym first ∙ w));
           others_turn = λ m differ. (λ w. sym first ∙ w, λ w. first ∙ w);
           bound = let t = b.turn_bound in omega (arith, first, t);
@@ -246,19 +247,19 @@ module _ (seats : ℕ) (words : List ℕ) (cores : List Core) (b : IsBoard seats
         })
 
     -- the own hi word becomes 0, by which the range is given back
-    pub gives_back : (c' : Core) → c'.held ≡ None → c'.has_turn ≡ c.has_turn → c'.own_lo ≡ c.own_lo → c'.loaded ≡ c.loaded → c'.seen ≡ c.seen → IsBoard seats (set words (hi_place n) 0) (set cores n c')
+    pub gives_back : (c' : Core) → c'.held ≡ None → c'.has_turn ≡ c.has_turn → c'.own_lo ≡ c.own_lo → c'.loaded ≡ c.loaded → c'.seen ≡ c.seen → IsBoard seats (set words (board_hi_place n) 0) (set cores n c')
     gives_back c' held turn own_same loaded seen =
         let lt = below in
-        let words' = set words (hi_place n) 0 in
+        let words' = set words (board_hi_place n) 0 in
         let grants' = set (grants_of cores) n None in
-        let now : get_or words' (hi_place n) 0 ≡ 0 = get_or-set_same words (hi_place n) 0 0 (omega arith) in
-        let else : (j : ℕ) → j ≢ hi_place n → get_or words' j 0 ≡ get_or words j 0 = λ j e. get_or-set_other words (hi_place n) j 0 0 e in
+        let now : get_or words' (board_hi_place n) 0 ≡ 0 = get_or-set_same words (board_hi_place n) 0 0 (omega arith) in
+        let else : (j : ℕ) → j ≢ board_hi_place n → get_or words' j 0 ≡ get_or words j 0 = λ j e. get_or-set_other words (board_hi_place n) j 0 0 e in
         let first : get_or words' 0 0 ≡ get_or words 0 0 = else 0 (λ e. omega arith) in
-        let lo_same : (m : ℕ) → get_or words' (lo_place m) 0 ≡ get_or words (lo_place m) 0 = λ m. else (lo_place m) (λ e. omega arith) in
-        let hi_same : (m : ℕ) → m ≢ n → get_or words' (hi_place m) 0 ≡ get_or words (hi_place m) 0 = λ m differ. else (hi_place m) (λ e. differ (omega arith)) in
+        let lo_same : (m : ℕ) → get_or words' (board_lo_place m) 0 ≡ get_or words (board_lo_place m) 0 = λ m. else (board_lo_place m) (λ e. omega arith) in
+        let hi_same : (m : ℕ) → m ≢ n → get_or words' (board_hi_place m) 0 ≡ get_or words (board_hi_place m) 0 = λ m differ. else (board_hi_place m) (λ e. differ (omega arith)) in
         let still : (m : ℕ) (g : Held) → Holds grants' m g → Holds (grants_of cores) m g = λ m g at. ⊎_elim (λ t. absurd (none_some g t.1)) (λ t. t.1) (holds_after None m g at) in
         next words' c' grants' (record {
-          same_grants = map-set held_of cores n c' ∙ ap (λ o. set (grants_of cores) n o) held;
+          same_grants = map-set core_held cores n c' ∙ ap (λ o. set (grants_of cores) n o) held;
           own_turn = let old = b.turn n c here in (λ has. first ∙ old.0 (sym turn ∙ has), λ w. turn ∙ old.1 (sym first ∙ w));
           others_turn = λ m differ. (λ w. sym first ∙ w, λ w. first ∙ w);
           bound = let t = b.turn_bound in omega (arith, first, t);

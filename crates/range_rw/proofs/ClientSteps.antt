@@ -11,9 +11,9 @@ use Rattle.lock_core.specs.Client.{ClientStep, place_of, words_after, Moment, Is
 use Rattle.range_rw.specs.declared.views.Core.{Core}
 use Rattle.range_rw.specs.declared.views.Part.{Part}
 use Rattle.range_rw.specs.declared.views.BoardView.{BoardView}
-use Rattle.range_rw.specs.Board.{lock_words, held_of, grants_of, IsBoard}
-use Rattle.range_rw.specs.Running.{core_of, pass_of, view, IsRunning, client_part, client_play}
-use Rattle.range_rw.specs.Seats.{Standing, IsTable, part_in}
+use Rattle.range_rw.specs.Board.{lock_words, core_held, grants_of, IsBoard}
+use Rattle.range_rw.specs.Running.{part_core, part_pass, view, IsRunningBoard, client_part, client_play}
+use Rattle.range_rw.specs.Standing.{Standing, IsTable, part_in}
 use Rattle.atomic_table.specs.Seated.{TableId}
 use Rattle.range_rw.proofs.Placing.{part_here, placed}
 
@@ -30,18 +30,18 @@ module _ {P N : Type 0} (seats clients : ℕ) (holds : Grants → List ℕ → L
       → ((words : List ℕ) → words_after words step ≡ set words (place_of step) (f (get_or words (place_of step) 0)))
       → IsAllowed holds allows note p.number p.core.held p.pass step
       → ((found : ℕ) (me' : Me (Unit {0}) (BoardView P)) → client_play holds allows note step me found me' → then found me')
-      → Allows (IsRunning seats clients holds) slots id me word f then
+      → Allows (IsRunningBoard seats clients holds) slots id me word f then
   client_keeps step f slots id me p word then is word_is below changes allowed told s running _ at small =
       let parts = running.0 in let owner = running.1 in let r = running.2 in
       let base = lock_words seats in let i = place_of step in
       let words = drop base s.words in
       let at' : get_elem? s.views id ≡ some (view (p ∷ [])) = at ∙ ap some is in
       let here = part_here seats clients holds s parts owner r id p at' in
-      let cores = map core_of parts in let grants = grants_of cores in let passes = map pass_of parts in
-      let core_here = at_map core_of parts p.number p here in
+      let cores = map part_core parts in let grants = grants_of cores in let passes = map part_pass parts in
+      let core_here = at_map part_core parts p.number p here in
       let y : ℕ = get_or words i 0 in
       let found : get_or s.words word 0 ≡ y = ap (λ k. get_or s.words k 0) word_is ∙ sym (get_or-drop base s.words i 0) in
-      let moment : Moment holds p.number p.core.held p.pass grants words passes = record { met = r.guard; exclusive = r.board.exclusive; grant = at_map held_of cores p.number p.core core_here; own = at_map pass_of parts p.number p here } in
+      let moment : Moment holds p.number p.core.held p.pass grants words passes = record { met = r.guard; exclusive = r.board.exclusive; grant = at_map core_held cores p.number p.core core_here; own = at_map part_pass parts p.number p here } in
       let wide : length words ≡ clients = let w = r.wide in length-drop base s.words ∙ omega arith in
       let small' : y < 18446744073709551616 = subst (λ (n : ℕ). n < 18446744073709551616) found small in
       let t = allowed grants words passes moment (omega arith) small' in
@@ -49,20 +49,20 @@ module _ {P N : Type 0} (seats clients : ℕ) (holds : Grants → List ℕ → L
         view (q ∷ []),
         keeps,
         tt,
-        subst (λ (z : ℕ × ℕ). IsRunning seats clients holds (stepped s z.0 (f z.1) id me.1 (view (q ∷ [])) keeps)) (λ k. (sym word_is k, sym found k))
+        subst (λ (z : ℕ × ℕ). IsRunningBoard seats clients holds (stepped s z.0 (f z.1) id me.1 (view (q ∷ [])) keeps)) (λ k. (sym word_is k, sym found k))
             (placed seats clients holds s parts owner r (base + i) (f y) id me.1 p q at' refl
             (subst (λ (z : List ℕ × List Core). IsBoard seats z.0 z.1) (λ k. (sym (take-set-le base s.words (base + i) (f y) (omega arith)) k, sym (set_again cores p.number p.core core_here) k)) r.board)
-            (subst (λ (z : Grants × List ℕ). holds z.0 z.1 (set passes p.number t.0)) (λ k. (sym (set_again grants p.number p.core.held (at_map held_of cores p.number p.core core_here)) k, (changes words ∙ sym (drop-set-add base s.words i (f y))) k))
+            (subst (λ (z : Grants × List ℕ). holds z.0 z.1 (set passes p.number t.0)) (λ k. (sym (set_again grants p.number p.core.held (at_map core_held cores p.number p.core core_here)) k, (changes words ∙ sym (drop-set-add base s.words i (f y))) k))
             (law grants words passes p.number step note t.0 r.guard t.1))),
         told (get_or s.words word 0) (view (q ∷ []), me.1) (p, t.0, is, refl, refl, (grants, words, passes, moment, sym found, t.1)),
       )
 
-  -- the same for a store, which doesn't tell what it found
+  -- the same for a store, which doesn't say what it found
   pub client_stores : (step : ClientStep) (value slots id : ℕ) (me : Me (Unit {0}) (BoardView P)) (p : Part P) (word : ℕ)
       → me.0 ≡ view (p ∷ []) → word ≡ lock_words seats + place_of step → place_of step < clients
       → ((words : List ℕ) → words_after words step ≡ set words (place_of step) value)
       → IsAllowed holds allows note p.number p.core.held p.pass step
-      → Allows (IsRunning seats clients holds) slots id me word (λ _. value) (λ _ me'. (found : ℕ) × client_play holds allows note step me found me')
+      → Allows (IsRunningBoard seats clients holds) slots id me word (λ _. value) (λ _ me'. (found : ℕ) × client_play holds allows note step me found me')
   client_stores step value slots id me p word is word_is below changes allowed =
       client_keeps step (λ _. value) slots id me p word (λ _ me'. (found : ℕ) × client_play holds allows note step me found me') is word_is below changes allowed (λ found me' told. (found, told))
 
@@ -76,6 +76,6 @@ client_place key_seats key_words words slots seats client t seats' client' i wor
     let now : lock_words seats ≡ lock_words seats' = ap lock_words same_seats in
     (omega arith, at ∙ (λ j. sym (key ∙ now) j + sym is j), omega (arith, ap (λ k. key_words - k) key))
 
--- an answer's view of a token: its one part is the one that contracts see
+-- what a proof sees of a token: its one part is the one that contracts see
 pub one_part : {P : Type 0} (pass : P) (parts : List (Part P)) (id : TableId) (now : Standing P) → parts ≡ part_in pass parts ∷ [] → record { table = id; part = part_in pass parts } ≡ now → view parts ≡ view (now.part ∷ [])
 one_part pass parts id now one is = ap view (one ∙ ap (λ s. s.part ∷ []) is)

@@ -6,3 +6,4 @@ pub mod Lists
 pub mod Opening
 pub mod Placing
 pub mod Searching
+pub mod SeatLists

@@ -10,9 +10,10 @@ use Rattle.atomic_table.specs.declared.shared.Seat.{Seat}
 use Rattle.atomic_table.proofs.Lists.{at_index}
 use Rattle.range_rw.specs.declared.views.BoardView.{BoardView}
 use Rattle.lock_core.specs.Grants.{Grants}
-use Rattle.range_rw.specs.Board.{lock_words, hi_place}
-use Rattle.range_rw.specs.Running.{view, IsRunning}
-use Rattle.range_rw.specs.Seats.{first_passes, fresh}
+use Rattle.range_rw.specs.Board.{lock_words, board_hi_place}
+use Rattle.range_rw.specs.Running.{view, IsRunningBoard}
+use Rattle.range_rw.specs.Contract.{first_passes}
+use Rattle.range_rw.specs.Standing.{fresh}
 use Rattle.range_rw.specs.Starting.{begin, parts_from, begins, back_words}
 use Rattle.range_rw.proofs.Lists.{at_removed}
 
@@ -20,9 +21,9 @@ use Rattle.range_rw.proofs.Lists.{at_removed}
 pub opens : {P : Type 0} (first : List ℕ → ℕ → P) (holds : Grants → List ℕ → List P → Type 0) (seats key_seats : ℕ) (zeros client key_words now : List ℕ)
     → key_seats ≡ seats → key_words ≡ now → now ≡ zeros ++ client → zeros ≡ replicate (lock_words seats) 0
     → holds (replicate seats None) client (first_passes (first client) 0 seats)
-    → IsRunning key_seats (length key_words - lock_words key_seats) holds (opening now [] (view (parts_from (begin first seats now) 0 (seats - 0))))
+    → IsRunningBoard key_seats (length key_words - lock_words key_seats) holds (opening now [] (view (parts_from (begin first seats now) 0 (seats - 0))))
 opens first holds seats key_seats zeros client key_words now e f w z h =
-    subst (λ (k : ℕ × (List ℕ × List ℕ)). IsRunning k.0 (length k.1.0 - lock_words k.0) holds (opening k.1.1 [] (view (parts_from (begin first seats k.1.1) 0 (seats - 0))))) (λ i. (sym e i, (sym (f ∙ w) i, sym w i)))
+    subst (λ (k : ℕ × (List ℕ × List ℕ)). IsRunningBoard k.0 (length k.1.0 - lock_words k.0) holds (opening k.1.1 [] (view (parts_from (begin first seats k.1.1) 0 (seats - 0))))) (λ i. (sym e i, (sym (f ∙ w) i, sym w i)))
     (begins first holds seats zeros client z h)
 
 module _ {P : Type 0} (first : List ℕ → ℕ → P) (table : TableId) (seats : ℕ) (client : List ℕ) where
@@ -47,7 +48,7 @@ module _ {P : Type 0} (first : List ℕ → ℕ → P) (table : TableId) (seats 
       (r.0, r.1 ∙ ap (λ m. (view (begin first seats (replicate (lock_words seats) 0 ++ client) m ∷ []), [])) z)
 
 -- the own words of a seat are there
-pub board_word : (seats n : ℕ) (table : TableId) (client : List ℕ) (id : TableId) → n < seats → id ≡ table → table.words ≡ length (replicate (lock_words seats) 0 ++ client) → hi_place n < id.words
+pub board_word : (seats n : ℕ) (table : TableId) (client : List ℕ) (id : TableId) → n < seats → id ≡ table → table.words ≡ length (replicate (lock_words seats) 0 ++ client) → board_hi_place n < id.words
 board_word seats n table client id lt same wide =
     let all : id.words ≡ lock_words seats + length client = ap (λ (t : TableId). t.words) same ∙ (wide ∙ (length-append (replicate (lock_words seats) 0) client ∙ ap (λ k. k + length client) (length-replicate (lock_words seats) 0))) in
     omega arith

@@ -12,9 +12,9 @@ use Rattle.lock_core.specs.Grants.{Grants}
 use Rattle.range_rw.specs.declared.views.Core.{Core}
 use Rattle.range_rw.specs.declared.views.Part.{Part}
 use Rattle.range_rw.specs.declared.views.BoardView.{BoardView}
-use Rattle.range_rw.specs.Board.{lock_words, held_of, grants_of, IsBoard}
-use Rattle.range_rw.specs.Running.{core_of, pass_of, view, IsOwned, Stands, Ruled, IsRunning}
-use Rattle.range_rw.proofs.Lists.{at_below}
+use Rattle.range_rw.specs.Board.{lock_words, core_held, grants_of, IsBoard}
+use Rattle.range_rw.specs.Running.{part_core, part_pass, view, IsOwned, Stands, Ruled, IsRunningBoard}
+use Rattle.lock_core.proofs.ByPlace.{below as at_below}
 
 only : {A : Type 0} (q x : A) (k : ℕ) → get_elem? (q ∷ []) k ≡ some x → q ≡ x
 only q x zero e = some-injective q x e
@@ -56,11 +56,11 @@ module _ {P : Type 0} (seats clients : ℕ) (holds : Grants → List ℕ → Lis
   -- the rule holds after a step that leaves the part q where p was, if the board's rule and the guard's do
   pub placed : (s : State (Unit {0}) (BoardView P)) (parts : List (Part P)) (owner : ℕ → ℕ) (r : Ruled seats clients holds s parts owner) (i n id : ℕ) (c : List (ℕ × Unit {0})) (p q : Part P)
       → get_elem? s.views id ≡ some (view (p ∷ [])) → q.number ≡ p.number
-      → IsBoard seats (take (lock_words seats) (set s.words i n)) (set (map core_of parts) p.number q.core)
-      → holds (set (grants_of (map core_of parts)) p.number q.core.held) (drop (lock_words seats) (set s.words i n)) (set (map pass_of parts) p.number q.pass)
-      → IsRunning seats clients holds (stepped s i n id c (view (q ∷ [])) keeps)
+      → IsBoard seats (take (lock_words seats) (set s.words i n)) (set (map part_core parts) p.number q.core)
+      → holds (set (grants_of (map part_core parts)) p.number q.core.held) (drop (lock_words seats) (set s.words i n)) (set (map part_pass parts) p.number q.pass)
+      → IsRunningBoard seats clients holds (stepped s i n id c (view (q ∷ [])) keeps)
   placed s parts owner r i n id c p q at same board guard =
-      let cores : set (map core_of parts) p.number q.core ≡ map core_of (set parts p.number q) = sym (map-set core_of parts p.number q) in (
+      let cores : set (map part_core parts) p.number q.core ≡ map part_core (set parts p.number q) = sym (map-set part_core parts p.number q) in (
         set parts p.number q,
         owner,
         record {
@@ -70,6 +70,6 @@ module _ {P : Type 0} (seats clients : ℕ) (holds : Grants → List ℕ → Lis
           stands = λ m lt. stands_after s.views id (owner m) m p q at same (r.stands m lt);
           board = subst (λ (z : List Core). IsBoard seats (take (lock_words seats) (set s.words i n)) z) cores board;
           guard = subst (λ (z : Grants × List P). holds z.0 (drop (lock_words seats) (set s.words i n)) z.1)
-              (λ k. ((sym (map-set held_of (map core_of parts) p.number q.core) ∙ ap grants_of cores) k, sym (map-set pass_of parts p.number q) k)) guard;
+              (λ k. ((sym (map-set core_held (map part_core parts) p.number q.core) ∙ ap grants_of cores) k, sym (map-set part_pass parts p.number q) k)) guard;
         },
       )

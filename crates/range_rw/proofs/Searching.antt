@@ -10,11 +10,12 @@ use Rattle.lock_core.specs.declared.range.Mode.{Mode}
 use Rattle.lock_core.specs.declared.range.Mode.TheVariants.{Reader, Writer}
 use Rattle.lock_core.specs.declared.range.Held.{Held}
 use Rattle.lock_core.specs.declared.range.Grant.{Grant}
-use Rattle.range_rw.specs.declared.views.Record.{Record}
+use Rattle.range_rw.specs.declared.record.Exchange.TheVariants.{TakeTurn}
+use Rattle.range_rw.specs.declared.record.Record.{Record}
 use Rattle.range_rw.specs.declared.views.Part.{Part}
 use Rattle.range_rw.specs.Board.{held_in, bit_of, hi_of}
 use Rattle.range_rw.specs.BoardSteps.{takes_turn, trace_after, met_after, IsClear}
-use Rattle.range_rw.specs.Trying.{IsAnswer, IsLook, IsSearch, IsFound}
+use Rattle.range_rw.specs.Trying.{IsLookResult, IsLookAt, IsSearch, IsFound}
 use Rattle.range_rw.proofs.BoardSteps.{held_some}
 
 -- the seats below `other` have been looked at, and none of them holds a range in conflict
@@ -45,10 +46,10 @@ module _ {P : Type 0} where
   }
 
   -- a look that meets nothing in conflict
-  pub looked : (rested : P → P) (before : Part P) (asked : Held) (other : ℕ) (now next : Part P) (answer : Option Grant) → IsSearching before asked other now → other ≢ now.number → answer ≡ None → IsLook rested now other asked answer next
+  pub looked : (rested : P → P) (before : Part P) (asked : Held) (other : ℕ) (now next : Part P) (answer : Option Grant) → IsSearching before asked other now → other ≢ now.number → answer ≡ None → IsLookAt rested now other asked answer next
       → IsSearching before asked (other + 1) next
   looked rested before asked other now next answer s differ nothing look =
-      let says = subst (IsAnswer asked other (held_in look.lo look.hi)) nothing look.says in
+      let says = subst (IsLookResult asked other (held_in look.lo look.hi)) nothing look.says in
       let taken : next.trace.taken ≡ now.trace.taken + 2 = ap (λ p. p.trace.taken) look.part ∙ (omega arith) in
       let not_own : other ≢ before.number = λ e. differ (e ∙ sym s.number) in
       let high = s.high in let low = s.low in let past = s.past in
@@ -67,7 +68,7 @@ module _ {P : Type 0} where
       }
 
   -- a look that meets a grant in conflict
-  pub met : (rested : P → P) (seats : ℕ) (before : Part P) (asked : Held) (other : ℕ) (now next : Part P) (answer : Option Grant) → IsSearching before asked other now → other ≢ now.number → IsSome answer → IsLook rested now other asked answer next
+  pub met : (rested : P → P) (seats : ℕ) (before : Part P) (asked : Held) (other : ℕ) (now next : Part P) (answer : Option Grant) → IsSearching before asked other now → other ≢ now.number → IsSome answer → IsLookAt rested now other asked answer next
       → IsFound seats before asked answer next
   met rested seats before asked other now next None s differ some_met look = absurd (false≢true some_met)
   met rested seats before asked other now next (Some grant) s differ some_met look =
@@ -101,7 +102,7 @@ pub not_some : (answer : Option Grant) → is_some answer ≡ false → answer �
 not_some None e = refl
 not_some (Some grant) e = absurd (false≢true (sym e))
 
--- a range reads back from the words that stand for it
+-- a range reads back from its words
 reads_back : (range : Interval) (mode : Mode) → 0 < range.hi → held_in range.lo (2 * range.hi + bit_of mode) ≡ Some (record { range = range; mode = mode })
 reads_back range Reader some_hi = let half : (2 * range.hi + 0) / 2 ≡ range.hi = omega arith in let even : (2 * range.hi + 0) % 2 ≡ 0 = omega arith in
     held_some range.lo (2 * range.hi + 0) (λ e. omega arith) ∙ (λ i. Some (record { range = record { lo = range.lo; hi = half i }; mode = cond (eqb (even i) 0) Reader Writer }))
@@ -112,5 +113,5 @@ pub hi_reads_back : (h : Held) → IsRange h.range.lo h.range.hi → held_in h.r
 hi_reads_back h r = reads_back h.range h.mode (let lt = r.0 in omega arith)
 
 -- what a try leaves in the record where it finds the turn taken
-pub lost_turn : (t : Record) (seats found : ℕ) → found ≢ 0 → trace_after t (takes_turn seats) found ≡ record t { taken = t.taken + 1; lost = Some (record { place = 0; expected = 0; found = found; step = t.taken }) }
-lost_turn t seats found taken = ap (λ b. cond b (record t { taken = t.taken + 1 }) (record t { taken = t.taken + 1; lost = Some (record { place = 0; expected = 0; found = found; step = t.taken }) })) (ne_eqb found 0 taken)
+pub lost_turn : (t : Record) (seats found : ℕ) → found ≢ 0 → trace_after t (takes_turn seats) found ≡ record t { taken = t.taken + 1; lost = Some (record { kind = TakeTurn; place = 0; expected = 0; found = found; step = t.taken }) }
+lost_turn t seats found taken = ap (λ b. cond b (record t { taken = t.taken + 1 }) (record t { taken = t.taken + 1; lost = Some (record { kind = TakeTurn; place = 0; expected = 0; found = found; step = t.taken }) })) (ne_eqb found 0 taken)

@@ -1,5 +1,5 @@
 -- The seven kinds of step of the board, as data: on which word each is made, what it does to it, when a seat may make
--- it, and what the seat knows after. Each is one load, store or exchange. Their order in a call stands in the code;
+-- it, and what the seat knows after. Each is one load, store or exchange. Their order in a call is in the code;
 -- that each keeps the board's rule whenever it is enabled is proved once, here for any order.
 use Rattle.std.specs.Prelude.{◌≡◌, ◌≢◌, ℕ, ◌+◌, ◌/◌, ◌<◌, List, [], ◌∷◌, ◌==◌, cond, true, false, Option, Some, None}
 use prog.Atomic.{either}
@@ -8,10 +8,11 @@ use Rattle.lock_core.specs.Grants.{Conflicts}
 use Rattle.lock_core.specs.declared.range.Held.{Held}
 use Rattle.range_rw.specs.declared.views.Core.{Core}
 use Rattle.range_rw.specs.declared.views.Read.{Read}
-use Rattle.range_rw.specs.declared.views.Met.{Met}
-use Rattle.range_rw.specs.declared.views.Record.{Record}
+use Rattle.range_rw.specs.declared.record.Exchange.TheVariants.{TakeTurn}
+use Rattle.range_rw.specs.declared.record.Met.{Met}
+use Rattle.range_rw.specs.declared.record.Record.{Record}
 use Rattle.range_rw.specs.declared.views.Part.{Part}
-use Rattle.range_rw.specs.Board.{lo_place, hi_place, held_in, IsAmong}
+use Rattle.range_rw.specs.Board.{board_lo_place, board_hi_place, held_in, IsAmong}
 
 -- a step of the board; the taking of the turn carries the number of seats, a load of another seat's hi word the lo
 -- word that was loaded before, and a store of the own hi word the lo word that was stored before
@@ -25,24 +26,24 @@ pub data BoardStep : Type 0 where
   releases : BoardStep
 
 -- the place of the word that the seat of that number makes the step on
-abbrev pub word_of : ℕ → BoardStep → ℕ
-word_of seat (takes_turn seats) = 0
-word_of seat (reads_lo other) = lo_place other
-word_of seat (reads_hi other lo) = hi_place other
-word_of seat (writes_lo lo) = lo_place seat
-word_of seat (writes_hi lo hi) = hi_place seat
-word_of seat gives_turn = 0
-word_of seat releases = hi_place seat
+abbrev pub board_word_of : ℕ → BoardStep → ℕ
+board_word_of seat (takes_turn seats) = 0
+board_word_of seat (reads_lo other) = board_lo_place other
+board_word_of seat (reads_hi other lo) = board_hi_place other
+board_word_of seat (writes_lo lo) = board_lo_place seat
+board_word_of seat (writes_hi lo hi) = board_hi_place seat
+board_word_of seat gives_turn = 0
+board_word_of seat releases = board_hi_place seat
 
 -- what the word becomes of what it was
-abbrev pub effect_of : ℕ → BoardStep → ℕ → ℕ
-effect_of seat (takes_turn seats) = λ found. either (found == 0) (seat + 1) found
-effect_of seat (reads_lo other) = λ found. found
-effect_of seat (reads_hi other lo) = λ found. found
-effect_of seat (writes_lo lo) = λ _. lo
-effect_of seat (writes_hi lo hi) = λ _. hi
-effect_of seat gives_turn = λ _. 0
-effect_of seat releases = λ _. 0
+abbrev pub board_effect_of : ℕ → BoardStep → ℕ → ℕ
+board_effect_of seat (takes_turn seats) = λ found. either (found == 0) (seat + 1) found
+board_effect_of seat (reads_lo other) = λ found. found
+board_effect_of seat (reads_hi other lo) = λ found. found
+board_effect_of seat (writes_lo lo) = λ _. lo
+board_effect_of seat (writes_hi lo hi) = λ _. hi
+board_effect_of seat gives_turn = λ _. 0
+board_effect_of seat releases = λ _. 0
 
 -- what the seat's core is after the step, by the value that it found
 abbrev pub core_after : Core → BoardStep → ℕ → Core
@@ -61,7 +62,7 @@ met_after before step owner (Some h) = Some (record { owner = owner; held = h; s
 
 -- what the step leaves in the record
 abbrev pub trace_after : Record → BoardStep → ℕ → Record
-trace_after t (takes_turn seats) found = cond (found == 0) (record t { taken = t.taken + 1 }) (record t { taken = t.taken + 1; lost = Some (record { place = 0; expected = 0; found = found; step = t.taken }) })
+trace_after t (takes_turn seats) found = cond (found == 0) (record t { taken = t.taken + 1 }) (record t { taken = t.taken + 1; lost = Some (record { kind = TakeTurn; place = 0; expected = 0; found = found; step = t.taken }) })
 trace_after t (reads_lo other) found = record t { taken = t.taken + 1 }
 trace_after t (reads_hi other lo) found = record t { taken = t.taken + 1; met = met_after t.met t.taken other (held_in lo found) }
 trace_after t (writes_lo lo) found = record t { taken = t.taken + 1 }
@@ -73,16 +74,16 @@ trace_after t releases found = record t { taken = t.taken + 1 }
 abbrev pub IsClear : ℕ → ℕ → List Read → Held → Type 0
 IsClear seats seat seen h = (other : ℕ) → other < seats → other ≢ seat → (r : Read) × IsAmong seen r × (r.seat ≡ other) × ((g : Held) → r.held ≡ Some g → ¬ (Conflicts g h))
 
--- what a step of the seat of that number tells beside: who takes the turn is one of the seats, and a hi word that
+-- what a step of the seat of that number says beside: who takes the turn is one of the seats, and a hi word that
 -- isn't 0 ends a range
-abbrev pub Tells : ℕ → BoardStep → ℕ → Type 0
-Tells seat (takes_turn seats) found = seat < seats
-Tells seat (reads_lo other) found = Unit {0}
-Tells seat (reads_hi other lo) found = found ≢ 0 → IsRange lo (found / 2)
-Tells seat (writes_lo lo) found = Unit {0}
-Tells seat (writes_hi lo hi) found = Unit {0}
-Tells seat gives_turn found = Unit {0}
-Tells seat releases found = Unit {0}
+abbrev pub SaysFound : ℕ → BoardStep → ℕ → Type 0
+SaysFound seat (takes_turn seats) found = seat < seats
+SaysFound seat (reads_lo other) found = Unit {0}
+SaysFound seat (reads_hi other lo) found = found ≢ 0 → IsRange lo (found / 2)
+SaysFound seat (writes_lo lo) found = Unit {0}
+SaysFound seat (writes_hi lo hi) found = Unit {0}
+SaysFound seat gives_turn found = Unit {0}
+SaysFound seat releases found = Unit {0}
 
 module _ {P : Type 0} where
   -- a seat may make the step: the turn is taken by a seat without it, and the words but for the release are read and

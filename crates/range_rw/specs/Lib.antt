@@ -1,6 +1,7 @@
 pub mod Board
 pub mod BoardSteps
+pub mod Contract
 pub mod Running
-pub mod Seats
+pub mod Standing
 pub mod Starting
 pub mod Trying

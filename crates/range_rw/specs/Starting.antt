@@ -1,7 +1,7 @@
 -- The table at its opening: the first view holds what all seats begin with, and is cut into one view for each number.
--- The lemmas stand here, and not among the proofs, since the laws of the table's rule cite them.
-use Rattle.std.specs.Prelude.{◌≡◌, ℕ, zero, suc, ◌+◌, ◌-◌, ◌<◌, ◌≤◌, List, [], ◌∷◌, ◌++◌, map, take, drop, length, slice_index, replicate, Some, None, cond, refl, ◌⊎◌}
-use Rattle.std.proofs.Common.{set, ltb, sym, ap, ◌∙◌, subst, arith, length-set, length-append, inl, inr, ⊎_elim}
+-- The lemmas are here, and not among the proofs, since the laws of the table's rule cite them.
+use Rattle.std.specs.Prelude.{◌≡◌, ℕ, zero, suc, ◌+◌, ◌-◌, ◌<◌, ◌≤◌, List, [], ◌∷◌, ◌++◌, map, take, drop, length, slice_index, replicate, Some, None, cond, refl}
+use Rattle.std.proofs.Common.{set, ltb, sym, ap, ◌∙◌, subst, arith, length-set, length-append, ⊎_elim}
 use Rattle.std.proofs.lemmas.Bool.{lt-ltb, le-ltb, false≢true}
 use Rattle.std.proofs.lemmas.List.{get_or-replicate, length-replicate}
 use lib.Seq.{take-append_seam, drop-append_seam}
@@ -12,13 +12,15 @@ use lib.ListN.{get_elem?}
 use Rattle.atomic_table.specs.Table.{Splits, opening}
 use Rattle.atomic_table.proofs.Lists.{at_set, set_here, set_else, at_longer, at_last}
 use Rattle.lock_core.specs.Grants.{Grants, Holds}
+use Rattle.lock_core.proofs.ByPlace.{below, snoc_at, at_replicate}
 use Rattle.lock_core.specs.declared.range.Held.{Held}
 use Rattle.range_rw.specs.declared.views.Core.{Core}
 use Rattle.range_rw.specs.declared.views.Part.{Part}
 use Rattle.range_rw.specs.declared.views.BoardView.{BoardView}
-use Rattle.range_rw.specs.Board.{lock_words, lo_place, hi_place, held_in, grants_of, IsBoard}
-use Rattle.range_rw.specs.Running.{core_of, pass_of, view, IsOwned, Stands, IsRunning}
-use Rattle.range_rw.specs.Seats.{idle, fresh, first_passes}
+use Rattle.range_rw.specs.Board.{lock_words, board_lo_place, board_hi_place, held_in, grants_of, IsBoard}
+use Rattle.range_rw.specs.Running.{part_core, part_pass, view, IsOwned, Stands, IsRunningBoard}
+use Rattle.range_rw.specs.Contract.{first_passes}
+use Rattle.range_rw.specs.Standing.{idle, fresh}
 
 -- what the seat of number n begins with, over all words of the table
 abbrev pub begin : {P : Type 0} → (List ℕ → ℕ → P) → ℕ → List ℕ → ℕ → Part P
@@ -28,22 +30,6 @@ begin first seats words n = fresh (first (drop (lock_words seats) words) n) n
 abbrev pub parts_from : {P : Type 0} → (ℕ → Part P) → ℕ → ℕ → List (Part P)
 parts_from f n zero = []
 parts_from f n (suc k) = f n ∷ parts_from f (suc n) k
-
-below : {A : Type 0} (l : List A) (i : ℕ) (a : A) → get_elem? l i ≡ some a → i < length l
-below [] i a e = absurd (some-ne-none a (sym e))
-below (x ∷ xs) zero a e = omega arith
-below (x ∷ xs) (suc i) a e = let r = below xs i a e in omega arith
-
-snoc_at : {A : Type 0} (l : List A) (a b : A) (j : ℕ) → get_elem? (l ++ a ∷ []) j ≡ some b → (get_elem? l j ≡ some b) ⊎ ((j ≡ length l) × (a ≡ b))
-snoc_at [] a b zero e = inr (refl, some-injective a b e)
-snoc_at [] a b (suc j) e = absurd (some-ne-none b (sym e))
-snoc_at (x ∷ xs) a b zero e = inl e
-snoc_at (x ∷ xs) a b (suc j) e = ⊎_elim (λ t. inl t) (λ t. inr (ap suc t.0, t.1)) (snoc_at xs a b j e)
-
-pub at_replicate : {A : Type 0} (n : ℕ) (a b : A) (i : ℕ) → get_elem? (replicate n a) i ≡ some b → a ≡ b
-at_replicate zero a b i e = absurd (some-ne-none b (sym e))
-at_replicate (suc n) a b zero e = some-injective a b e
-at_replicate (suc n) a b (suc i) e = at_replicate n a b i e
 
 module _ {P : Type 0} (f : ℕ → Part P) where
   pub parts_at : (s k i : ℕ) (p : Part P) → get_elem? (parts_from f s k) i ≡ some p → (i < k) × (p ≡ f (s + i))
@@ -65,7 +51,7 @@ module _ {P : Type 0} (f : ℕ → Part P) where
 
   module _ (numbered : (n : ℕ) → (f n).number ≡ n) (views : List (BoardView P)) (parts : List (Part P)) (owner : ℕ → ℕ) (seats s id : ℕ)
       (count : length parts ≡ seats) (o : IsOwned views parts owner) (more : s + 1 < seats) (at : get_elem? views id ≡ some (view (parts_from f s (seats - s)))) where
-    -- every number from s on stands in the view that is cut
+    -- every number from s on is in the view that is cut
     mine : (n : ℕ) → s ≤ n → n < seats → (get_elem? parts n ≡ some (f n)) × (owner n ≡ id)
     mine n le lt = let i = n - s in let back : s + i ≡ n = omega arith in
         let e : get_elem? (parts_from f s (seats - s)) i ≡ some (f n) = at_parts s (seats - s) i (omega arith) ∙ ap (λ m. some (f m)) back in
@@ -142,7 +128,7 @@ module _ {P : Type 0} (f : ℕ → Part P) where
 
 -- one seat can be cut off
 pub cuts : {P : Type 0} (first : List ℕ → ℕ → P) (holds : Grants → List ℕ → List P → Type 0) (seats clients : ℕ) (words : List ℕ) (s id : ℕ) → s + 1 < seats
-    → Splits (IsRunning seats clients holds) id (view (parts_from (begin first seats words) s (seats - s))) (view (begin first seats words s ∷ [])) (view (parts_from (begin first seats words) (s + 1) (seats - (s + 1))))
+    → Splits (IsRunningBoard seats clients holds) id (view (parts_from (begin first seats words) s (seats - s))) (view (begin first seats words s ∷ [])) (view (parts_from (begin first seats words) (s + 1) (seats - (s + 1))))
 cuts first holds seats clients words s id more st running at = let r = running.2 in (
   running.0,
   owner' (begin first seats words) (λ n. refl) st.views running.0 running.1 seats s id r.count r.owned more at,
@@ -156,7 +142,7 @@ cuts first holds seats clients words s id more st running at = let r = running.2
   },
 )
 
-pub cores_are : {P : Type 0} (f : ℕ → P) (s k : ℕ) → map core_of (parts_from (λ n. fresh (f n) n) s k) ≡ replicate k idle
+pub cores_are : {P : Type 0} (f : ℕ → P) (s k : ℕ) → map part_core (parts_from (λ n. fresh (f n) n) s k) ≡ replicate k idle
 cores_are f s zero = refl
 cores_are f s (suc k) = ap (λ l. idle ∷ l) (cores_are f (suc s) k)
 
@@ -164,7 +150,7 @@ pub grants_are : (k : ℕ) → grants_of (replicate k idle) ≡ replicate k None
 grants_are zero = refl
 grants_are (suc k) = ap (λ l. None ∷ l) (grants_are k)
 
-pub passes_are : {P : Type 0} (f : ℕ → P) (s k : ℕ) → map pass_of (parts_from (λ n. fresh (f n) n) s k) ≡ first_passes f s k
+pub passes_are : {P : Type 0} (f : ℕ → P) (s k : ℕ) → map part_pass (parts_from (λ n. fresh (f n) n) s k) ≡ first_passes f s k
 passes_are f s zero = refl
 passes_are f s (suc k) = ap (λ l. f s ∷ l) (passes_are f (suc s) k)
 
@@ -187,7 +173,7 @@ first_board seats =
       turn = λ n c at. let is = here n c at in let z = zeros 0 (omega arith) in (λ has. absurd (false≢true (ap (λ (x : Core). x.has_turn) is.0 ∙ has)), λ w. absurd (omega (arith, w, z)));
       turn_bound = let z = zeros 0 (omega arith) in omega arith;
       words_say = λ n c at. let is = here n c at in let lt = is.1 in
-          subst (λ (z : (ℕ × ℕ) × Core). held_in z.0.0 z.0.1 ≡ z.1.held) (λ i. ((sym (zeros (lo_place n) (omega arith)) i, sym (zeros (hi_place n) (omega arith)) i), is.0 i)) refl;
+          subst (λ (z : (ℕ × ℕ) × Core). held_in z.0.0 z.0.1 ≡ z.1.held) (λ i. ((sym (zeros (board_lo_place n) (omega arith)) i, sym (zeros (board_hi_place n) (omega arith)) i), is.0 i)) refl;
       ranges = λ n h e. absurd (free n h e);
       knows = λ n c at has. absurd (false≢true (ap (λ (x : Core). x.has_turn) (here n c at).0 ∙ has));
       exclusive = λ a b g h differ at_a at_b. absurd (free a g at_a);
@@ -204,14 +190,14 @@ back_words seats client = ap (λ n. drop n (replicate (lock_words seats) 0 ++ cl
 -- the rule holds at the start
 pub begins : {P : Type 0} (first : List ℕ → ℕ → P) (holds : Grants → List ℕ → List P → Type 0) (seats : ℕ) (zeros client : List ℕ) → zeros ≡ replicate (lock_words seats) 0
     → holds (replicate seats None) client (first_passes (first client) 0 seats)
-    → IsRunning seats (length (zeros ++ client) - lock_words seats) holds (opening (zeros ++ client) [] (view (parts_from (begin first seats (zeros ++ client)) 0 (seats - 0))))
+    → IsRunningBoard seats (length (zeros ++ client) - lock_words seats) holds (opening (zeros ++ client) [] (view (parts_from (begin first seats (zeros ++ client)) 0 (seats - 0))))
 begins {P} first holds seats zeros client blank h =
     let f : ℕ → Part P = begin first seats (zeros ++ client) in
     let len : length zeros ≡ lock_words seats = ap length blank ∙ length-replicate (lock_words seats) 0 in
     let all = length-append zeros client in
     let front : take (lock_words seats) (zeros ++ client) ≡ replicate (lock_words seats) 0 = ap (λ n. take n (zeros ++ client)) (sym len) ∙ (take-append_seam zeros client ∙ blank) in
     let back : drop (lock_words seats) (zeros ++ client) ≡ client = ap (λ n. drop n (zeros ++ client)) (sym len) ∙ drop-append_seam zeros client in
-    let cores : map core_of (parts_from f 0 seats) ≡ replicate seats idle = cores_are (first (drop (lock_words seats) (zeros ++ client))) 0 seats in (
+    let cores : map part_core (parts_from f 0 seats) ≡ replicate seats idle = cores_are (first (drop (lock_words seats) (zeros ++ client))) 0 seats in (
       parts_from f 0 seats,
       (λ n. 0),
       record {

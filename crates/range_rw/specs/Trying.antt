@@ -1,38 +1,26 @@
--- What a try finds, and why it is refused: each answer is tied to a step of the call by the record of the seat's
--- steps. A part of the record with a number not below the number of steps at the call's entry was made in this call,
--- since a step carries how many were made before it.
+-- What a try on the board finds in its look round at the other seats, and what it leaves of the seat. The cause of a
+-- refusal, which the contract asks for, follows from these: a grant that a look met is in the record of the seat's
+-- steps, with the number of the step that met it.
 use Rattle.std.specs.Prelude.{◌≡◌, ◌≢◌, ℕ, ◌+◌, ◌*◌, ◌<◌, ◌≤◌, Option, Some, None, false}
 use Rattle.lock_core.specs.Grants.{Conflicts}
 use Rattle.lock_core.specs.declared.range.Held.{Held}
 use Rattle.lock_core.specs.declared.range.Grant.{Grant}
-use Rattle.range_rw.specs.declared.views.Met.{Met}
-use Rattle.range_rw.specs.declared.views.Lost.{Lost}
+use Rattle.range_rw.specs.declared.record.Met.{Met}
 use Rattle.range_rw.specs.declared.views.Part.{Part}
-use Rattle.range_rw.specs.declared.acquire.NotHeld.{NotHeld}
-use Rattle.range_rw.specs.declared.acquire.NotHeld.TheVariants.{Busy, Again}
 use Rattle.range_rw.specs.Board.{held_in}
 use Rattle.range_rw.specs.BoardSteps.{reads_lo, reads_hi, part_after, IsClear}
-use Rattle.range_rw.specs.Seats.{Known}
 
--- why a try for that range was refused: at a step of this call another seat held a range in conflict, or an exchange
--- of this call found another value than it expected
-abbrev pub IsCause : {P : Type 0} → Known P → Known P → Held → NotHeld → Type 0
-IsCause before after asked (Busy owner range mode) = (m : Met) × (after.trace.met ≡ Some m) × (before.trace.taken ≤ m.step) × (m.step < after.trace.taken)
-    × (m.owner ≡ owner) × (m.held ≡ record { range = range; mode = mode }) × (owner ≢ before.number) × Conflicts m.held asked
-IsCause before after asked (Again place expected found) = (l : Lost) × (after.trace.lost ≡ Some l) × (before.trace.taken ≤ l.step) × (l.step < after.trace.taken)
-    × (l.place ≡ place) × (l.expected ≡ expected) × (l.found ≡ found) × (found ≢ expected)
-
--- the answer of a look at one other seat, by what it holds: the grant, where it conflicts with what is asked
-abbrev pub IsAnswer : Held → ℕ → Option Held → Option Grant → Type 0
-IsAnswer asked other held None = (g : Held) → held ≡ Some g → ¬ (Conflicts g asked)
-IsAnswer asked other held (Some grant) = (grant.seat ≡ other) × (held ≡ Some (record { range = grant.range; mode = grant.mode })) × Conflicts (record { range = grant.range; mode = grant.mode }) asked
+-- the result of a look at one other seat, by what it holds: the grant, where it conflicts with what is asked
+abbrev pub IsLookResult : Held → ℕ → Option Held → Option Grant → Type 0
+IsLookResult asked other held None = (g : Held) → held ≡ Some g → ¬ (Conflicts g asked)
+IsLookResult asked other held (Some grant) = (grant.seat ≡ other) × (held ≡ Some (record { range = grant.range; mode = grant.mode })) × Conflicts (record { range = grant.range; mode = grant.mode }) asked
 
 -- one look at another seat: its lo word was loaded and then its hi word
-pub record IsLook {P : Type 0} (rested : P → P) (before : Part P) (other : ℕ) (asked : Held) (answer : Option Grant) (after : Part P) : Type 0 where
+pub record IsLookAt {P : Type 0} (rested : P → P) (before : Part P) (other : ℕ) (asked : Held) (met : Option Grant) (after : Part P) : Type 0 where
   pub lo : ℕ
   pub hi : ℕ
   pub part : after ≡ part_after rested (part_after rested before (reads_lo other) lo) (reads_hi other lo) hi
-  pub says : IsAnswer asked other (held_in lo hi) answer
+  pub says : IsLookResult asked other (held_in lo hi) met
 
 -- what a look round at the other seats leaves
 pub record IsSearch {P : Type 0} (seats : ℕ) (before after : Part P) : Type 0 where
@@ -44,7 +32,7 @@ pub record IsSearch {P : Type 0} (seats : ℕ) (before after : Part P) : Type 0 
   pub low : before.trace.taken ≤ after.trace.taken
   pub high : after.trace.taken + 2 ≤ before.trace.taken + 2 * seats
 
--- the answer of a look round: no other seat holds a range in conflict, or one was met that does
+-- the result of a look round: no other seat holds a range in conflict, or one was met that does
 abbrev pub IsFound : {P : Type 0} → ℕ → Part P → Held → Option Grant → Part P → Type 0
 IsFound seats before asked None after = IsClear seats before.number after.core.seen asked
 IsFound seats before asked (Some grant) after = (m : Met) × (after.trace.met ≡ Some m) × (before.trace.taken ≤ m.step) × (m.step < after.trace.taken)

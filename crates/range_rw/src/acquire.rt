@@ -4,40 +4,24 @@
 //! rely on a refusal having a cause at a step of the call, shown by the record of the seat's steps.
 ghost use Rattle.std.specs.Prelude.{◌≡◌, ◌≢◌, ◌<◌, ◌≤◌, ◌+◌, ◌*◌, ℕ, Some, None, true, false, IsSome, IfOk, IfErr, OnOk, OnErr};
 ghost use Rattle.lock_core.specs.Grants.{held_of};
-ghost use Rattle.range_rw.specs.Board.{hi_of, mode_of};
+ghost use Rattle.range_rw.specs.Board.{hi_of, board_mode_of};
 ghost use Rattle.range_rw.specs.BoardSteps.{IsClear};
-ghost use Rattle.range_rw.specs.Seats.{IsLockCall, IsRelease, known_of};
-ghost use Rattle.range_rw.specs.Trying.{IsCause, IsLook, IsSearch, IsFound, IsGain};
+ghost use Rattle.range_rw.specs.Contract.{IsLockCall, IsRelease, IsCause};
+ghost use Rattle.range_rw.specs.Standing.{known_of};
+ghost use Rattle.range_rw.specs.Trying.{IsLookAt, IsSearch, IsFound, IsGain};
 
+use crate::refusals::NotHeld;
 use crate::table::{RangeTable, Seat};
 use crate::token::Token;
 use lock_core::{Grant, Guard, Held, Mode, Range, conflict};
 use std::marker::Brand;
 use std::sync::Wait;
 use std::sync::ledger::{Blank, Ledger};
-use word_rows::Steps;
-
-/// Why a try was refused.
-#[derive(Debug, Drop, PartialEq, Eq)]
-pub enum NotHeld {
-    /// At a step of this call the seat `owner` held this range, which conflicts with the one that was asked for.
-    Busy {
-        owner: u32,
-        range: Range,
-        mode: Mode,
-    },
-    /// An exchange of this call on the word at `place` found `found` where it expected `expected`: another seat had
-    /// the turn, which is the word at place 0, and free where it is 0.
-    Again {
-        place: u32,
-        expected: u64,
-        found: u64,
-    },
-}
+use word_rows::{Backoff, Steps};
 
 /// The mode that a hi word says.
 fn mode_in(word: u64) -> Mode
-    ensures { result ≡ mode_of word }
+    ensures { result ≡ board_mode_of word }
 {
     if word % 2 == 0 {
         Mode::Reader
@@ -58,7 +42,7 @@ fn hi_word_of(grant: &Grant) -> u64
 }
 
 impl<G: Guard> RangeTable<G> {
-    /// Looks at what one other seat holds, and answers it where it conflicts with what is asked for.
+    /// Looks at what one other seat holds, and returns it where it conflicts with what is asked for.
     fn look_at<L: Ledger>(
         &self,
         token: &mut Token<G>,
@@ -70,7 +54,7 @@ impl<G: Guard> RangeTable<G> {
         requires turn { token.old.part.core.has_turn ≡ true }
         requires other { (other < self.now.seats) × (other ≢ token.old.part.number) }
         ensures table { token.new.table ≡ token.old.table }
-        ensures look { IsLook G.rested token.old.part other (held_of asked.now) result token.new.part }
+        ensures look { IsLookAt G.rested token.old.part other (held_of asked.now) result token.new.part }
         ensures counted { steps.new ≡ steps.old + 2 }
     {
         let lo = self.read_lo::<Brand, L>(token, other, steps);
@@ -93,7 +77,7 @@ impl<G: Guard> RangeTable<G> {
         }
     }
 
-    /// Looks at what every other seat holds, by number, and answers the first grant that conflicts with what is asked
+    /// Looks at what every other seat holds, by number, and returns the first grant that conflicts with what is asked
     /// for.
     fn first_conflict<L: Ledger>(
         &self,
@@ -211,48 +195,88 @@ impl<G: Guard> RangeTable<G> {
         Ok(())
     }
 
-    fn acquire_counting<L: Ledger, R: Wait>(
+    fn try_counting<L: Ledger>(
         &self,
-        wait: &R,
         seat: &mut Seat<G>,
         range: Range,
         mode: Mode,
         blank: Blank,
-    )
+    ) -> Result<(), NotHeld>
         requires blank { (blank.name ≡ L.name) × (blank.parts ≡ L.parts) × (0 < L.parts) }
         requires table { seat.old.table ≡ self.now.table }
         requires free { seat.old.held ≡ None }
         ensures call { IsLockCall seat.old seat.new }
-        ensures held { seat.new.held ≡ Some (record { range = range; mode = mode }) }
+        ensures held { OnOk result (seat.new.held ≡ Some (record { range = range; mode = mode })) }
+        ensures free { OnErr result (seat.new.held ≡ None) }
+        ensures cause { IfErr result (IsCause seat.old seat.new (record { range = range; mode = mode })) }
+        ensures bound { seat.new.trace.taken ≤ seat.old.trace.taken + (64 + 386 * self.now.seats) }
     {
         let mut steps = Steps::<L>::new(blank);
-        for _ in wait.forever() {
-            if self.try_acquire(seat, range, mode, &mut steps).is_ok() {
-                break;
-            }
-        }
+        self.try_acquire(seat, range, mode, &mut steps)
     }
 
-    /// Tries until the range is held, and waits for other seats meanwhile. The seat is of this table and holds nothing.
+    /// Tries once to hold the range, as `try_acquire`, for a caller that counts no steps.
+    pub fn try_once(&self, seat: &mut Seat<G>, range: Range, mode: Mode) -> Result<(), NotHeld>
+        requires table { seat.old.table ≡ self.now.table }
+        requires free { seat.old.held ≡ None }
+        ensures call { IsLockCall seat.old seat.new }
+        ensures held { OnOk result (seat.new.held ≡ Some (record { range = range; mode = mode })) }
+        ensures free { OnErr result (seat.new.held ≡ None) }
+        ensures cause { IfErr result (IsCause seat.old seat.new (record { range = range; mode = mode })) }
+        ensures bound { seat.new.trace.taken ≤ seat.old.trace.taken + (64 + 386 * self.now.seats) }
+    {
+        self.try_counting::<Brand>(seat, range, mode, Blank::new(1))
+    }
+
+    /// Tries until the range is held, and waits for other seats meanwhile: longer after each try, as `Backoff` says.
+    /// The seat is of this table and holds nothing.
     pub fn acquire<R: Wait>(&self, wait: &R, seat: &mut Seat<G>, range: Range, mode: Mode)
         requires table { seat.old.table ≡ self.now.table }
         requires free { seat.old.held ≡ None }
         ensures call { IsLockCall seat.old seat.new }
         ensures held { seat.new.held ≡ Some (record { range = range; mode = mode }) }
     {
-        self.acquire_counting::<Brand, R>(wait, seat, range, mode, Blank::new(1));
+        let mut backoff = Backoff::new();
+        for _ in wait.forever() {
+            if self.try_once(seat, range, mode).is_ok() {
+                break;
+            }
+            backoff.wait();
+        }
     }
 
-    /// Gives the held range back, in one step. The seat is of this table, and its pass is at rest; it becomes
-    /// `rested` of it.
+    /// Gives the held range back, in one step.
+    fn clear(&self, seat: &mut Seat<G>)
+        requires table { seat.old.table ≡ self.now.table }
+        requires holds { IsSome seat.old.held }
+        requires rest { G.is_at_rest seat.old.pass }
+        ensures release { IsRelease G.rested seat.old seat.new }
+        ensures one { seat.new.trace.taken ≡ seat.old.trace.taken + 1 }
+    {
+        self.clear_hi::<Brand>(&mut seat.token);
+        seat.held = None;
+    }
+
+    /// Gives the held range back, as `release`, for a caller that counts no steps.
+    pub fn give_back(&self, seat: &mut Seat<G>)
+        requires table { seat.old.table ≡ self.now.table }
+        requires holds { IsSome seat.old.held }
+        requires rest { G.is_at_rest seat.old.pass }
+        ensures release { IsRelease G.rested seat.old seat.new }
+    {
+        self.clear(seat);
+    }
+
+    /// Gives the held range back. The seat is of this table, and its pass is at rest; it becomes `rested` of it.
+    /// It makes one step or two: the board makes one, and a lock that keeps a list may need a second.
     pub fn release<L: Ledger>(&self, seat: &mut Seat<G>, steps: &mut Steps<L>)
         requires table { seat.old.table ≡ self.now.table }
         requires holds { IsSome seat.old.held }
         requires rest { G.is_at_rest seat.old.pass }
         ensures release { IsRelease G.rested seat.old seat.new }
-        ensures counted { steps.new ≡ steps.old + 1 }
+        ensures counted { steps.new + seat.old.trace.taken ≡ steps.old + seat.new.trace.taken }
     {
-        self.clear_hi::<Brand, L>(&mut seat.token, steps);
-        seat.held = None;
+        steps.tick();
+        self.clear(seat);
     }
 }

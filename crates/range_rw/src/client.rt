@@ -1,12 +1,13 @@
 //! The steps on client words that the layer above makes through a seat: a load, a store, an addition and an exchange.
 //! Each is one atomic step, made at a moment of the running table at which the guard allows it; a reader may rely on
-//! the value that it answers being that of the word there, and on the pass being one that the guard gives there.
+//! the value that it returns being that of the word there, and on the pass being one that the guard gives there.
 ghost use Rattle.std.specs.Prelude.{◌≡◌, ◌≢◌, ◌<◌, ◌+◌, ℕ, MatchResult};
 ghost use Rattle.lock_core.specs.Client.{loads, stores, adds, exchanges, IsAllowed, IsMade};
 ghost use Rattle.range_rw.specs.Board.{lock_words};
 ghost use Rattle.range_rw.specs.Running.{client_part};
-ghost use Rattle.range_rw.specs.Seats.{IsClientCall};
+ghost use Rattle.range_rw.specs.Contract.{IsClientCall};
 
+use crate::places::lock_word_count;
 use crate::plays::{Acting, Acts, Overwrites};
 use crate::table::{RangeTable, Seat};
 use crate::token::Token;
@@ -21,7 +22,7 @@ impl<G: Guard> RangeTable<G> {
         requires { i < self.now.client }
         ensures { result ≡ lock_words self.now.seats + i }
     {
-        (1 + 2 * self.seats + i) as usize
+        (lock_word_count(self.seats) + i) as usize
     }
 
     fn load_client<M: Means<G>, C: Acting>(&self, token: &mut Token<G>, i: u32) -> u64
@@ -39,7 +40,18 @@ impl<G: Guard> RangeTable<G> {
             .load::<Acts<G, M, C>>(&mut token.seat, word)
     }
 
-    /// Loads client word `i`, counted from 0, and answers its value.
+    /// Loads client word `i`, counted from 0, and returns its value.
+    pub fn load<M: Means<G>>(&self, seat: &mut Seat<G>, i: u32) -> u64
+        requires table { seat.old.table ≡ self.now.table }
+        requires place { i < self.now.client }
+        requires allowed { IsAllowed G.holds G.allows M.note seat.old.number seat.old.held seat.old.pass (loads i) }
+        ensures call { IsClientCall seat.old i seat.new }
+        ensures made { IsMade G.holds G.allows M.note seat.old.number seat.old.held seat.old.pass (loads i) result seat.new.pass }
+    {
+        self.load_client::<M, Brand>(&mut seat.token, i)
+    }
+
+    /// The same as `load`, counted by `steps`.
     pub fn load_as<M: Means<G>, L: Ledger>(
         &self,
         seat: &mut Seat<G>,
@@ -53,9 +65,8 @@ impl<G: Guard> RangeTable<G> {
         ensures made { IsMade G.holds G.allows M.note seat.old.number seat.old.held seat.old.pass (loads i) result seat.new.pass }
         ensures counted { steps.new ≡ steps.old + 1 }
     {
-        let found = self.load_client::<M, Brand>(&mut seat.token, i);
         steps.tick();
-        found
+        self.load::<M>(seat, i)
     }
 
     fn store_client<M: Means<G>, C: Acting>(&self, token: &mut Token<G>, i: u32, value: u64)
@@ -74,6 +85,17 @@ impl<G: Guard> RangeTable<G> {
     }
 
     /// Stores a value in client word `i`, counted from 0.
+    pub fn store<M: Means<G>>(&self, seat: &mut Seat<G>, i: u32, value: u64)
+        requires table { seat.old.table ≡ self.now.table }
+        requires place { i < self.now.client }
+        requires allowed { IsAllowed G.holds G.allows M.note seat.old.number seat.old.held seat.old.pass (stores i value) }
+        ensures call { IsClientCall seat.old i seat.new }
+        ensures made { (found : ℕ) × IsMade G.holds G.allows M.note seat.old.number seat.old.held seat.old.pass (stores i value) found seat.new.pass }
+    {
+        self.store_client::<M, Brand>(&mut seat.token, i, value);
+    }
+
+    /// The same as `store`, counted by `steps`.
     pub fn store_as<M: Means<G>, L: Ledger>(
         &self,
         seat: &mut Seat<G>,
@@ -88,8 +110,8 @@ impl<G: Guard> RangeTable<G> {
         ensures made { (found : ℕ) × IsMade G.holds G.allows M.note seat.old.number seat.old.held seat.old.pass (stores i value) found seat.new.pass }
         ensures counted { steps.new ≡ steps.old + 1 }
     {
-        self.store_client::<M, Brand>(&mut seat.token, i, value);
         steps.tick();
+        self.store::<M>(seat, i, value);
     }
 
     fn add_client<M: Means<G>, C: Acting>(&self, token: &mut Token<G>, i: u32, by: u64) -> u64
@@ -107,7 +129,18 @@ impl<G: Guard> RangeTable<G> {
             .fetch_add::<Acts<G, M, C>>(&mut token.seat, word, by)
     }
 
-    /// Adds `by` to client word `i`, counted from 0, modulo 2^64, and answers the value before.
+    /// Adds `by` to client word `i`, counted from 0, modulo 2^64, and returns the value before.
+    pub fn add<M: Means<G>>(&self, seat: &mut Seat<G>, i: u32, by: u64) -> u64
+        requires table { seat.old.table ≡ self.now.table }
+        requires place { i < self.now.client }
+        requires allowed { IsAllowed G.holds G.allows M.note seat.old.number seat.old.held seat.old.pass (adds i by) }
+        ensures call { IsClientCall seat.old i seat.new }
+        ensures made { IsMade G.holds G.allows M.note seat.old.number seat.old.held seat.old.pass (adds i by) result seat.new.pass }
+    {
+        self.add_client::<M, Brand>(&mut seat.token, i, by)
+    }
+
+    /// The same as `add`, counted by `steps`.
     pub fn add_as<M: Means<G>, L: Ledger>(
         &self,
         seat: &mut Seat<G>,
@@ -122,9 +155,8 @@ impl<G: Guard> RangeTable<G> {
         ensures made { IsMade G.holds G.allows M.note seat.old.number seat.old.held seat.old.pass (adds i by) result seat.new.pass }
         ensures counted { steps.new ≡ steps.old + 1 }
     {
-        let found = self.add_client::<M, Brand>(&mut seat.token, i, by);
         steps.tick();
-        found
+        self.add::<M>(seat, i, by)
     }
 
     fn exchange_client<M: Means<G>, C: Acting>(
@@ -149,7 +181,29 @@ impl<G: Guard> RangeTable<G> {
     }
 
     /// Puts `new` in place of `expected` in client word `i`, counted from 0. Where the word has another value, it
-    /// answers that value, and the word stays.
+    /// returns that value, and the word stays.
+    pub fn exchange<M: Means<G>>(
+        &self,
+        seat: &mut Seat<G>,
+        i: u32,
+        expected: u64,
+        new: u64,
+    ) -> Result<(), u64>
+        requires table { seat.old.table ≡ self.now.table }
+        requires place { i < self.now.client }
+        requires allowed { IsAllowed G.holds G.allows M.note seat.old.number seat.old.held seat.old.pass (exchanges i expected new) }
+        ensures call { IsClientCall seat.old i seat.new }
+        ensures made { MatchResult result (λ _. IsMade G.holds G.allows M.note seat.old.number seat.old.held seat.old.pass (exchanges i expected new) expected seat.new.pass) (λ found. (found ≢ expected) × IsMade G.holds G.allows M.note seat.old.number seat.old.held seat.old.pass (exchanges i expected new) found seat.new.pass) }
+    {
+        let found = self.exchange_client::<M, Brand>(&mut seat.token, i, expected, new);
+        if found == expected {
+            Ok(())
+        } else {
+            Err(found)
+        }
+    }
+
+    /// The same as `exchange`, counted by `steps`.
     pub fn exchange_as<M: Means<G>, L: Ledger>(
         &self,
         seat: &mut Seat<G>,
@@ -165,12 +219,7 @@ impl<G: Guard> RangeTable<G> {
         ensures made { MatchResult result (λ _. IsMade G.holds G.allows M.note seat.old.number seat.old.held seat.old.pass (exchanges i expected new) expected seat.new.pass) (λ found. (found ≢ expected) × IsMade G.holds G.allows M.note seat.old.number seat.old.held seat.old.pass (exchanges i expected new) found seat.new.pass) }
         ensures counted { steps.new ≡ steps.old + 1 }
     {
-        let found = self.exchange_client::<M, Brand>(&mut seat.token, i, expected, new);
         steps.tick();
-        if found == expected {
-            Ok(())
-        } else {
-            Err(found)
-        }
+        self.exchange::<M>(seat, i, expected, new)
     }
 }

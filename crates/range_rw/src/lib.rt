@@ -8,7 +8,10 @@
 mod acquire;
 mod client;
 mod laws;
+mod places;
 mod plays;
+mod record;
+mod refusals;
 mod rule;
 mod steps;
 mod table;
@@ -16,8 +19,9 @@ mod threads;
 mod token;
 mod views;
 
-pub use acquire::NotHeld;
 pub use laws::keeps_apart;
-pub use table::{CloseRefused, OpenFault, RangeTable, Seat};
+pub use places::MOST_SEATS;
+pub use record::{Exchange, LastClient, Lost, Met, Record};
+pub use refusals::{NotHeld, OpenFault};
+pub use table::{CloseRefused, RangeTable, Seat};
 pub use threads::crosses_threads;
-pub use views::{LastClient, Lost, Met, Record};

@@ -1,4 +1,4 @@
-//! What each kind of step tells the seat that makes it, in the words of `atomic_table`: a step of the board, a step
+//! What each kind of step says to the seat that makes it, in the words of `atomic_table`: a step of the board, a step
 //! on a client word, and the joining of two seats. The step itself is data of `specs/`, which the call picks; a
 //! reader may rely on a play naming what belongs to the seat after the step, and nothing that the code could invent.
 use crate::views::BoardView;
@@ -19,7 +19,7 @@ impl Acting for Brand {
     ghost acting = { loads 0 };
 }
 
-/// A step on a client word that tells which value it found.
+/// A step on a client word that says which value it found.
 pub(crate) struct Acts<G, M, C> {
     of: PhantomData<(G, M, C)>,
 }
@@ -30,7 +30,7 @@ impl<G: Guard, M: Means<G>, C: Acting> Play<(), BoardView<G::Pass>> for Acts<G, 
     ghost then = { λ _ me found me'. client_play G.holds G.allows M.note C.acting me found me' };
 }
 
-/// A store to a client word, which tells that there was a value and not which.
+/// A store to a client word, which says that there was a value and not which.
 pub(crate) struct Overwrites<G, M, C> {
     of: PhantomData<(G, M, C)>,
 }
@@ -55,7 +55,7 @@ impl Doing for Brand {
     ghost doing = { gives_turn };
 }
 
-/// A step of the board that tells which value it found.
+/// A step of the board that says which value it found.
 pub(crate) struct Does<G, D> {
     of: PhantomData<(G, D)>,
 }
@@ -66,7 +66,7 @@ impl<G: Guard, D: Doing> Play<(), BoardView<G::Pass>> for Does<G, D> {
     ghost then = { λ _ me found me'. board_play G.rested D.doing me found me' };
 }
 
-/// A store on the board, which tells that there was a value and not which.
+/// A store on the board, which says that there was a value and not which.
 pub(crate) struct Puts<G, D> {
     of: PhantomData<(G, D)>,
 }

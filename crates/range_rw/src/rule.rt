@@ -1,5 +1,5 @@
 //! The rule of the board's table, as `atomic_table` and `word_rows` ask for it: what holds between any two steps, and
-//! what each seat begins with. The definitions stand in `specs/Running.antt`, `specs/Board.antt` and
+//! what each seat begins with. The definitions are in `specs/Running.antt`, `specs/Board.antt` and
 //! `specs/Starting.antt`; a reader may rely on the guard's rule standing in it beside the board's own.
 use crate::views::BoardView;
 use atomic_table::TableRule;
@@ -15,10 +15,10 @@ pub struct BoardRule<G: Guard> {
 impl<G: Guard> TableRule<(), BoardView<G::Pass>, Start> for BoardRule<G> {
     ghost use Rattle.std.specs.Prelude.{◌-◌, length};
     ghost use Rattle.range_rw.specs.Board.{lock_words};
-    ghost use Rattle.range_rw.specs.Running.{IsRunning, view};
+    ghost use Rattle.range_rw.specs.Running.{IsRunningBoard, view};
     ghost use Rattle.range_rw.specs.Starting.{begin, parts_from};
 
-    ghost holds = { λ k. IsRunning k.seats (length k.words.items - lock_words k.seats) G.holds };
+    ghost holds = { λ k. IsRunningBoard k.seats (length k.words.items - lock_words k.seats) G.holds };
 
     ghost first = { λ k. view (parts_from (begin G.first k.seats k.words.items) 0 (k.seats - 0)) };
 }

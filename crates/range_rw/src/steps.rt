@@ -1,11 +1,12 @@
 //! The seven kinds of step of the board, each one load, store or exchange on one word: taking the turn, loading
 //! another seat's lo and hi word, storing the own ones, giving the turn back, and giving a range back. When each is
-//! enabled and what the seat knows after stands in `specs/BoardSteps.antt`; a reader may rely on each keeping the
-//! table's rule whenever it is enabled, and on the counter rising by one with it.
+//! enabled and what the seat knows after is in `specs/BoardSteps.antt`; a reader may rely on each keeping the
+//! table's rule whenever it is enabled, and on the counter, where it takes one, rising by one with it.
 ghost use Rattle.std.specs.Prelude.{◌≡◌, ◌+◌, ◌<◌, ℕ};
-ghost use Rattle.range_rw.specs.Board.{lo_place, hi_place};
-ghost use Rattle.range_rw.specs.BoardSteps.{takes_turn, reads_lo, reads_hi, writes_lo, writes_hi, gives_turn, releases, IsEnabled, word_of, effect_of, part_after, Tells};
+ghost use Rattle.range_rw.specs.Board.{board_lo_place, board_hi_place};
+ghost use Rattle.range_rw.specs.BoardSteps.{takes_turn, reads_lo, reads_hi, writes_lo, writes_hi, gives_turn, releases, IsEnabled, board_word_of, board_effect_of, part_after, SaysFound};
 
+use crate::places::{NOBODY, TURN_PLACE, hi_place, lo_place};
 use crate::plays::{Does, Doing, Puts};
 use crate::table::RangeTable;
 use crate::token::Token;
@@ -17,32 +18,32 @@ impl<G: Guard> RangeTable<G> {
     /// The place of the lo word of the seat of a number.
     fn lo_word(&self, seat: u32) -> u32
         requires { seat < self.now.seats }
-        ensures place { result ≡ lo_place seat }
+        ensures place { result ≡ board_lo_place seat }
         ensures there { result < self.now.table.words }
     {
         prove!(seat < self.seats);
-        1 + 2 * seat
+        lo_place(seat)
     }
 
     /// The place of the hi word of the seat of a number.
     fn hi_word(&self, seat: u32) -> u32
         requires { seat < self.now.seats }
-        ensures place { result ≡ hi_place seat }
+        ensures place { result ≡ board_hi_place seat }
         ensures there { result < self.now.table.words }
     {
         prove!(seat < self.seats);
-        2 + 2 * seat
+        hi_place(seat)
     }
 
     /// Loads a word of the board.
     fn load_at<D: Doing>(&self, token: &mut Token<G>, word: u32) -> u64
         requires table { token.old.table ≡ self.now.table }
         requires enabled { IsEnabled self.now.seats G.is_at_rest token.old.part D.doing }
-        requires place { (word ≡ word_of token.old.part.number D.doing) × (word < self.now.table.words) }
-        requires load { effect_of token.old.part.number D.doing ≡ (λ found. found) }
+        requires place { (word ≡ board_word_of token.old.part.number D.doing) × (word < self.now.table.words) }
+        requires load { board_effect_of token.old.part.number D.doing ≡ (λ found. found) }
         ensures table { token.new.table ≡ token.old.table }
         ensures part { token.new.part ≡ part_after G.rested token.old.part D.doing result }
-        ensures tells { Tells token.old.part.number D.doing result }
+        ensures says { SaysFound token.old.part.number D.doing result }
     {
         self.table
             .shared
@@ -53,8 +54,8 @@ impl<G: Guard> RangeTable<G> {
     fn store_at<D: Doing>(&self, token: &mut Token<G>, word: u32, value: u64)
         requires table { token.old.table ≡ self.now.table }
         requires enabled { IsEnabled self.now.seats G.is_at_rest token.old.part D.doing }
-        requires place { (word ≡ word_of token.old.part.number D.doing) × (word < self.now.table.words) }
-        requires store { effect_of token.old.part.number D.doing ≡ (λ _. value) }
+        requires place { (word ≡ board_word_of token.old.part.number D.doing) × (word < self.now.table.words) }
+        requires store { board_effect_of token.old.part.number D.doing ≡ (λ _. value) }
         ensures table { token.new.table ≡ token.old.table }
         ensures part { (found : ℕ) × (token.new.part ≡ part_after G.rested token.old.part D.doing found) }
     {
@@ -63,7 +64,7 @@ impl<G: Guard> RangeTable<G> {
             .store::<Puts<G, D>>(&mut token.seat, word as usize, value);
     }
 
-    /// Takes the turn, if nobody has it, and answers what the turn word was: 0 where the seat has the turn now.
+    /// Takes the turn, if nobody has it, and returns what the turn word was: 0 where the seat has the turn now.
     pub(crate) fn take_turn<D: Doing, L: Ledger>(
         &self,
         token: &mut Token<G>,
@@ -74,14 +75,14 @@ impl<G: Guard> RangeTable<G> {
         requires enabled { IsEnabled self.now.seats G.is_at_rest token.old.part D.doing }
         ensures table { token.new.table ≡ token.old.table }
         ensures part { token.new.part ≡ part_after G.rested token.old.part D.doing result }
-        ensures tells { Tells token.old.part.number D.doing result }
+        ensures says { SaysFound token.old.part.number D.doing result }
         ensures counted { steps.new ≡ steps.old + 1 }
     {
         steps.tick();
         let turn = u64::from(token.number) + 1;
         self.table
             .shared
-            .compare_exchange::<Does<G, D>>(&mut token.seat, 0, 0, turn)
+            .compare_exchange::<Does<G, D>>(&mut token.seat, TURN_PLACE as usize, NOBODY, turn)
     }
 
     /// Loads another seat's lo word.
@@ -118,7 +119,7 @@ impl<G: Guard> RangeTable<G> {
         requires enabled { IsEnabled self.now.seats G.is_at_rest token.old.part D.doing }
         ensures table { token.new.table ≡ token.old.table }
         ensures part { token.new.part ≡ part_after G.rested token.old.part D.doing result }
-        ensures tells { Tells token.old.part.number D.doing result }
+        ensures says { SaysFound token.old.part.number D.doing result }
         ensures counted { steps.new ≡ steps.old + 1 }
     {
         steps.tick();
@@ -176,19 +177,17 @@ impl<G: Guard> RangeTable<G> {
     {
         steps.tick();
         prove!(0 < self.seats);
-        self.store_at::<D>(token, 0, 0);
+        self.store_at::<D>(token, TURN_PLACE, NOBODY);
     }
 
     /// Stores 0 in the seat's own hi word, by which its range is given back. It needs no turn.
-    pub(crate) fn clear_hi<D: Doing, L: Ledger>(&self, token: &mut Token<G>, steps: &mut Steps<L>)
+    pub(crate) fn clear_hi<D: Doing>(&self, token: &mut Token<G>)
         requires doing { D.doing ≡ releases }
         requires table { token.old.table ≡ self.now.table }
         requires enabled { IsEnabled self.now.seats G.is_at_rest token.old.part D.doing }
         ensures table { token.new.table ≡ token.old.table }
         ensures part { (found : ℕ) × (token.new.part ≡ part_after G.rested token.old.part D.doing found) }
-        ensures counted { steps.new ≡ steps.old + 1 }
     {
-        steps.tick();
         let word = token.hi_word();
         self.store_at::<D>(token, word, 0);
     }

@@ -4,9 +4,12 @@
 ghost use Rattle.std.specs.Prelude.{◌≡◌, ◌<◌, ◌≤◌, ◌+◌, ◌-◌, ◌^◌, ◌↔◌, ℕ, List, [], ◌++◌, IfOk, length, map, drop, replicate, vec_capacity};
 ghost use Rattle.std.specs.Mem.Slots.{IsFull, slots_len, slots_items};
 ghost use Rattle.range_rw.specs.Board.{lock_words};
-ghost use Rattle.range_rw.specs.Seats.{known_in, IsRowOf};
+ghost use Rattle.range_rw.specs.Contract.{AreSeatsOf};
+ghost use Rattle.range_rw.specs.Standing.{known_in};
 
+use crate::places::{MOST_SEATS, lock_word_count};
 use crate::plays::Gathers;
+use crate::refusals::OpenFault;
 use crate::rule::BoardRule;
 use crate::token::Token;
 use crate::views::BoardView;
@@ -15,15 +18,6 @@ use lock_core::{Guard, Held, Mode, Range};
 use std::alloc::{AllocError, Global};
 use std::marker::Model;
 use word_rows::{Start, open_words};
-
-/// Why no table was opened.
-#[derive(Debug, Drop, PartialEq, Eq)]
-pub enum OpenFault {
-    /// The number of seats, where it is 0 or above 16.
-    Seats(u32),
-    /// There was no memory.
-    Memory,
-}
 
 /// There was no memory to close the table. Nothing has changed, and all comes back.
 #[derive(Drop)]
@@ -43,7 +37,8 @@ pub struct RangeTable<G: Guard> {
 
 impl<G: Guard> Model for RangeTable<G> {
     ghost use Rattle.std.specs.Prelude.{length};
-    ghost use Rattle.range_rw.specs.Seats.{Shape, IsTable};
+    ghost use Rattle.range_rw.specs.Contract.{Shape};
+    ghost use Rattle.range_rw.specs.Standing.{IsTable};
 
     ghost Value = { Shape };
 
@@ -61,7 +56,8 @@ pub struct Seat<G: Guard> {
 
 impl<G: Guard> Model for Seat<G> {
     ghost use Rattle.std.specs.Prelude.{◌≡◌, false};
-    ghost use Rattle.range_rw.specs.Seats.{Known, known_of};
+    ghost use Rattle.range_rw.specs.Contract.{Known};
+    ghost use Rattle.range_rw.specs.Standing.{known_of};
 
     ghost Value = { Known G.Pass };
 
@@ -76,7 +72,7 @@ fn opening_words(alloc: Global, seats: u32, client: &[u64]) -> Result<Vec<u64>, 
     ensures { IfOk result (λ words. words.items ≡ replicate (lock_words seats) 0 ++ client.now) }
 {
     let mut words = Vec::new(alloc);
-    words.resize(1 + 2 * seats as usize, 0)?;
+    words.resize(lock_word_count(seats) as usize, 0)?;
     words.extend_from_slice(client)?;
     Ok(words)
 }
@@ -89,13 +85,13 @@ fn join_all<G: Guard>(
 ) -> atomic_table::Seat<(), BoardView<G::Pass>>
     requires words { 0 < shared.now.table_id.words }
     requires some { 0 < length seats.items }
-    requires tables { IsRowOf shared.now.table_id seats.items }
+    requires tables { AreSeatsOf shared.now.table_id seats.items }
     ensures table { (result.table_id ≡ shared.now.table_id) × (result.me.1 ≡ []) }
     ensures parts { map (known_in shared.now.table_id) result.me.0.parts ≡ seats.items }
 {
     let Seat { token, .. } = seats.remove(0);
     let Token { seat: mut all, .. } = token;
-    'row: while !seats.is_empty() {
+    'all: while !seats.is_empty() {
         let Seat { token, .. } = seats.remove(0);
         let Token { seat, .. } = token;
         shared.join_seat::<Gathers>(&mut all, seat);
@@ -121,7 +117,7 @@ fn copy_words(closed: &Closed<(), Global>, from: u32, count: u32, out: &mut Vec<
 
 impl<G: Guard> RangeTable<G> {
     ghost use Rattle.std.specs.Prelude.{◌≡◌, ◌<◌, ◌+◌, ◌≤◌, ◌^◌, ◌↔◌, ℕ, Some, None, IsNone, IfSome, IfOk, IfErr, length, map, replicate};
-    ghost use Rattle.range_rw.specs.Seats.{IsSeatCount, IsOpenFault, IsNewRow, IsIdleRow, first_passes, pass_in};
+    ghost use Rattle.range_rw.specs.Contract.{IsSeatCount, IsOpenFault, AreNewSeats, AreIdleSeats, first_passes, pass_in};
 
     fn open_at(
         alloc: Global,
@@ -132,13 +128,13 @@ impl<G: Guard> RangeTable<G> {
         requires clients { length client.now ≤ 2 ^ 20 }
         requires rule { G.holds (replicate seats None) client.now (first_passes (G.first client.now) 0 seats) }
         ensures shape { IfOk result (λ r. (r.0.seats ≡ seats) × (r.0.client ≡ length client.now)) }
-        ensures seats { IfOk result (λ r. (length r.1.items ≡ seats) × IsNewRow r.0.table (G.first client.now) r.1.items) }
+        ensures seats { IfOk result (λ r. (length r.1.items ≡ seats) × AreNewSeats r.0.table (G.first client.now) r.1.items) }
     {
         let words = opening_words(alloc, seats, client)?;
         let mut made = Vec::with_capacity(alloc, seats as usize)?;
         let (table, mut opened) = open_words::<BoardRule<G>>(alloc, seats, words.as_slice(), &[])?;
         let mut number = 0;
-        'row: while !opened.is_empty() {
+        'all: while !opened.is_empty() {
             let seat = opened.remove(0);
             made.push_reserved(Seat {
                 token: Token { seat, number },
@@ -169,9 +165,9 @@ impl<G: Guard> RangeTable<G> {
         ensures count { IfOk result (λ _. IsSeatCount seats) }
         ensures refused { IfErr result (IsOpenFault seats) }
         ensures shape { IfOk result (λ r. (r.0.seats ≡ seats) × (r.0.client ≡ length client.now)) }
-        ensures seats { IfOk result (λ r. (length r.1.items ≡ seats) × IsNewRow r.0.table (G.first client.now) r.1.items) }
+        ensures seats { IfOk result (λ r. (length r.1.items ≡ seats) × AreNewSeats r.0.table (G.first client.now) r.1.items) }
     {
-        if seats == 0 || seats > 16 {
+        if seats == 0 || seats > MOST_SEATS {
             return Err(OpenFault::Seats(seats));
         }
         match RangeTable::open_at(alloc, seats, client) {
@@ -182,10 +178,10 @@ impl<G: Guard> RangeTable<G> {
 
     /// Ends the table and gives its client words, which meet the guard with no grant.
     /// The seats are all those of the opening, in order of their numbers, and none holds a range.
-    /// The one refusal is want of memory: it comes before anything is changed, and hands all back.
+    /// The one refusal is that there is no memory: it comes before anything is changed, and hands all back.
     pub fn close(self, alloc: Global, seats: Vec<Seat<G>>) -> Result<Vec<u64>, CloseRefused<G>>
         requires count { length seats.items ≡ self.seats }
-        requires idle { IsIdleRow self.table seats.items }
+        requires idle { AreIdleSeats self.table seats.items }
         ensures words { IfOk result (λ words. length words.items ≡ self.client) }
         ensures guard { IfOk result (λ words. G.holds (replicate self.seats None) words.items (map pass_in seats.items)) }
         ensures refused { IfErr result (λ r. (r.table ≡ self) × (r.seats.items ≡ seats.items)) }
@@ -200,7 +196,7 @@ impl<G: Guard> RangeTable<G> {
         } = self;
         let all = join_all(&table.shared, seats);
         let closed = table.close_with(all);
-        copy_words(&closed, 1 + 2 * count, client, &mut words);
+        copy_words(&closed, lock_word_count(count), client, &mut words);
         closed.free();
         Ok(words)
     }

@@ -1,4 +1,4 @@
--- One more seat.
+-- One more seat, and what is so of each element of a list with one more.
 use Rattle.std.proofs.Common.{◌≡◌, ℕ, ◌+◌, List, [], ◌∷◌, ◌++◌, length, sym, zero, suc, arith, subst}
 use mathlib.Core.Option.{some, some-injective, some-ne-none}
 use lib.ListN.{get_elem?}
@@ -7,7 +7,7 @@ use Rattle.atomic_table.specs.declared.shared.Seat.{Seat}
 use Rattle.word_rows.specs.Rows.{IsSeated}
 
 module _ {S : Type 0} where
-  snoc_all : (P : ℕ → S → Type 0) (l : List S) (a : S) (n : ℕ) → length l ≡ n → ((k : ℕ) (s : S) → get_elem? l k ≡ some s → P k s) → P n a → (k : ℕ) (s : S) → get_elem? (l ++ a ∷ []) k ≡ some s → P k s
+  pub snoc_all : (P : ℕ → S → Type 0) (l : List S) (a : S) (n : ℕ) → length l ≡ n → ((k : ℕ) (s : S) → get_elem? l k ≡ some s → P k s) → P n a → (k : ℕ) (s : S) → get_elem? (l ++ a ∷ []) k ≡ some s → P k s
   snoc_all P [] a n e all here zero s at = let m : 0 ≡ n = e in subst (λ x. P x s) (sym m) (subst (P n) (some-injective a s at) here)
   snoc_all P [] a n e all here (suc k) s at = absurd (some-ne-none s (sym at))
   snoc_all P (x ∷ xs) a zero e all here k s at = absurd (omega arith)

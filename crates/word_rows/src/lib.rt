@@ -3,10 +3,12 @@
 //! with the view that its rule gives to its number.
 #![tactic(auto)]
 
+mod backoff;
 mod open;
 mod rule;
 mod steps;
 
+pub use backoff::{Backoff, LONGEST_WAIT, SHORTEST_WAIT};
 pub use open::open_words;
 pub use rule::{Start, StartRule};
 pub use steps::Steps;

@@ -62,7 +62,7 @@ fn cut_off<R: StartRule, N: Turn>(
 
 /// One table over these words, and one seat for each number from 0 to `seats - 1`, in order.
 /// From 1 to 16 seats and at least one word; the rule must hold of the words with `rest` of 0 as the only view.
-/// The one refusal is want of memory.
+/// The one refusal is that there is no memory.
 pub fn open_words<R: StartRule>(
     alloc: Global,
     seats: u32,

@@ -1,4 +1,10 @@
+use Rattle.std.proofs.Common.{◌≡◌, ◌+◌, ◌≤◌}
+use Rattle.std.specs.Prelude.{None}
 use Rattle.lock_cost.proofs.turns.hold_turns.Given as goal
 
-abbrev pub ghosts-hold_counting : goal.ghosts-hold_counting
-ghosts-hold_counting g a = record { name = a.blank.name; parts = a.blank.parts }
+abbrev pub invariant-loop : goal.invariant-loop
+invariant-loop g l = record {
+  table : l.seat.table ≡ l.initial.seat.table;
+  held : l.seat.held ≡ None;
+  made : l.initial.seat.trace.taken + l.counter ≤ l.seat.trace.taken;
+}

@@ -1,15 +1,16 @@
 use Rattle.std.proofs.Common.{◌*◌, rules}
 use Rattle.atomic_table.proofs.Lists.{at_index}
-use Rattle.lock_trials.proofs.Rows.{row_back, row_made}
+use Rattle.range_rw.proofs.SeatLists.{seats_back}
+use Rattle.lock_trials.proofs.SeatLists.{seats_made}
 use Rattle.lock_trials.proofs.crowd.visit_all.Goals as goal
 
 pub for_each_mut-requires-clause-accepts : goal.for_each_mut-requires-clause-accepts
-for_each_mut-requires-clause-accepts g c = λ _ _ i p lt e. let at = at_index _ i p.now lt e in let r = c.requires.row.0 i p.now at in (r.0, r.2, c.requires.row.1 i p.now at, c.requires.word)
+for_each_mut-requires-clause-accepts g c = λ _ _ i p lt e. let at = at_index _ i p.now lt e in let r = c.requires.idle.0 i p.now at in (r.0, r.2, c.requires.idle.1 i p.now at, c.requires.word)
 
 pub returns : goal.returns
 returns g c = record {
-  row = row_back c.args.table.now.table c.args.seats.now c.for_each_mut.new.s (search rules) c.requires.row.0
+  idle = seats_back c.args.table.now.table c.args.seats.now c.for_each_mut.new.s (search rules) c.requires.idle.0
       (λ k d lt. let r = c.for_each_mut.ensures k d lt in (r.1.argument.now, r.1.after_call.now, r.1.argument_is, r.1.call.0, r.1.left));
-  made = row_made c.args.table.now.table (2 * c.args.turns) c.args.seats.now c.for_each_mut.new.s
+  made = seats_made c.args.table.now.table (2 * c.args.turns) c.args.seats.now c.for_each_mut.new.s
       (λ k d lt. let r = c.for_each_mut.ensures k d lt in (r.1.argument.now, r.1.after_call.now, r.1.argument_is, r.1.call.1, r.1.left));
 }

@@ -1,5 +1,5 @@
 use Rattle.std.proofs.Common.{refl}
-use Rattle.lock_trials.proofs.Rows.{nobody_yet}
+use Rattle.lock_trials.proofs.SeatLists.{nobody_yet}
 use Rattle.lock_trials.proofs.opened.open_turnstile.Goals as goal
 
 pub open-requires-clause-rule : goal.open-requires-clause-rule

@@ -1,4 +1,12 @@
+use Rattle.std.proofs.Common.{◌≡◌, ◌*◌}
+use Rattle.std.specs.Prelude.{None}
+use Rattle.lock_trials.specs.Turns.{HasMade}
 use Rattle.lock_trials.proofs.turns.add_turns.Given as goal
 
-abbrev pub ghosts-add_counting : goal.ghosts-add_counting
-ghosts-add_counting g a = record { name = a.blank.name; parts = a.blank.parts }
+abbrev pub invariant-loop : goal.invariant-loop
+invariant-loop g l = record {
+  table : l.seat.table ≡ l.initial.seat.table;
+  number : l.seat.number ≡ l.initial.seat.number;
+  held : l.seat.held ≡ None;
+  made : HasMade (3 * l.counter) l.initial.seat l.seat;
+}

@@ -1,4 +1,14 @@
+use Rattle.std.proofs.Common.{◌≡◌, ◌*◌}
+use Rattle.std.specs.Prelude.{None, false}
+use Rattle.lock_trials.specs.Turns.{HasMade}
 use Rattle.lock_trials.proofs.turns.visit_turns.Given as goal
 
-abbrev pub ghosts-visit_counting : goal.ghosts-visit_counting
-ghosts-visit_counting g a = record { name = a.blank.name; parts = a.blank.parts }
+abbrev pub invariant-loop : goal.invariant-loop
+invariant-loop g l = record {
+  table : l.seat.table ≡ l.initial.seat.table;
+  number : l.seat.number ≡ l.initial.seat.number;
+  held : l.seat.held ≡ None;
+  made : HasMade (2 * l.counter) l.initial.seat l.seat;
+  outside : l.seat.pass.inside ≡ false;
+  none : l.most ≡ 0;
+}

@@ -1,4 +1,4 @@
 use Rattle.lock_trials.proofs.visits.enter.Given as goal
 
 abbrev pub ghosts-enter_for : goal.ghosts-enter_for
-ghosts-enter_for g a = record { noted = a.errand }
+ghosts-enter_for a = record { noted = a.errand }

@@ -1,4 +1,9 @@
+use Rattle.std.proofs.Common.{◌≡◌}
+use Rattle.range_rw.specs.Contract.{IsLockCall}
 use Rattle.range_rw.proofs.table.RangeTable.acquire.Given as goal
 
-abbrev pub ghosts-acquire_counting : goal.ghosts-acquire_counting
-ghosts-acquire_counting g a = record { name = a.blank.name; parts = a.blank.parts }
+abbrev pub invariant-loop : goal.invariant-loop
+invariant-loop g l = record {
+  held : l.seat.held ≡ l.initial.seat.held;
+  call : IsLockCall l.initial.seat l.seat;
+}

@@ -1,5 +1,5 @@
 use Rattle.lock_core.specs.Client.{loads}
-use Rattle.range_rw.proofs.table.RangeTable.load_as.Given as goal
+use Rattle.range_rw.proofs.table.RangeTable.load.Given as goal
 
 abbrev pub ghosts-load_client : goal.ghosts-load_client
 ghosts-load_client g a = record { acting = loads a.i }

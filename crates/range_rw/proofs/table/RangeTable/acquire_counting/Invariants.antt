@@ -1,9 +1,0 @@
-use Rattle.std.proofs.Common.{◌≡◌}
-use Rattle.range_rw.specs.Seats.{IsLockCall}
-use Rattle.range_rw.proofs.table.RangeTable.acquire_counting.Given as goal
-
-abbrev pub invariant-loop : goal.invariant-loop
-invariant-loop g l = record {
-  held : l.seat.held ≡ l.initial.seat.held;
-  call : IsLockCall l.initial.seat l.seat;
-}
