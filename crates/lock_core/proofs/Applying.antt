@@ -5,7 +5,7 @@ use Rattle.std.proofs.lemmas.Option.{slice_get-get_or}
 use Rattle.std.proofs.lemmas.Grind.{common_steps}
 use Rattle.lock_core.specs.declared.views.View.{View}
 use Rattle.lock_core.specs.declared.steps.Step.{Step}
-use Rattle.lock_core.specs.Rows.{Plan}
+use Rattle.lock_core.specs.StepTable.{Plan}
 use Rattle.lock_core.specs.Machine.{Machine, plan, made, after, carried_out, given}
 use Rattle.lock_core.specs.Sizes.{IsSized}
 use Rattle.lock_core.proofs.ByView.{set_there}

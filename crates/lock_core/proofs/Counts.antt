@@ -1,20 +1,10 @@
 -- What the counts of a node in a seat's lists say: a node that is counted is of that seat, and stands there once.
-use Rattle.std.proofs.Common.{◌≡◌, ◌≢◌, ◌⊎◌, ℕ, ◌+◌, ◌/◌, ◌≤◌, Bool, true, false, List, [], ◌∷◌, ◌++◌, inl, inr, ⊎_elim, refl, sym, ap, ◌∙◌, subst, arith, eqb-true, eq-eqb}
+use Rattle.std.proofs.Common.{◌≡◌, ◌≢◌, ◌⊎◌, ℕ, ◌+◌, ◌≤◌, Bool, true, false, List, [], ◌∷◌, ◌++◌, inl, inr, ⊎_elim, refl, sym, ap, ◌∙◌, arith, eqb-true, eq-eqb}
 use Rattle.std.specs.Prelude.{◌==◌, if◌then◌else◌}
 use Rattle.std.proofs.lemmas.Bool.{cases_eq}
+use Rattle.view_lists.specs.Counted.{times, without}
 use Rattle.lock_core.specs.declared.views.View.{View}
-use Rattle.lock_core.specs.Words.{Heap}
-use Rattle.lock_core.specs.Nodes.{Filled, Listed, filling, listed, times, own_times, without}
-use Rattle.lock_core.specs.Invariant.{IsViewOf, Places}
-use Rattle.lock_core.proofs.ByView.{same_view}
-
-is_true : (b : Bool) (n : ℕ) → n ≡ (if b then 1 else 0) → 1 ≤ n → b ≡ true
-is_true true n e l = refl
-is_true false n e l = absurd (omega arith)
-
-at_most : (b : Bool) → (if b then 1 else 0) ≤ 1
-at_most true = omega arith
-at_most false = omega arith
+use Rattle.lock_core.specs.Nodes.{Filled, Listed, filling, listed, own_times}
 
 pub own_filling : (v : View) (f : Filled) → v.own ≡ filling f → own_times f.node v.own ≡ 1
 own_filling v f e = ap (own_times f.node) e ∙ ap (λ (b : Bool). if b then 1 else 0) (eq-eqb f.node f.node refl)
@@ -66,27 +56,6 @@ once_after x own one ready homes used e few le =
     (λ (d : times x homes ≢ 0). let a = without_some x homes used (omega arith) in let b = times_joined x ready homes in omega arith)
     (cases_eq (times x homes) 0)
 
-module _ (h : Heap) (views : List View) (places : Places h views) where
-  -- a node in a seat's lists is of that seat
-  pub seat_is : (i x : ℕ) (v : View) → IsViewOf views i v → 1 ≤ own_times x v.own + times x v.ready + times x v.used → x / 16 ≡ i
-  seat_is i x v at l = eqb-true _ _ (is_true (x / 16 == i) (own_times x v.own + times x v.ready + times x v.used) (places.once i x v at) l)
-
-  -- and stands there once
-  pub only_once : (i x : ℕ) (v : View) → IsViewOf views i v → own_times x v.own + times x v.ready + times x v.used ≤ 1
-  only_once i x v at = let e = places.once i x v at in let l = at_most (x / 16 == i) in omega arith
-
-  -- two seats that have one node are one seat
-  pub one_seat : (i j x : ℕ) (v u : View) → IsViewOf views i v → IsViewOf views j u → 1 ≤ own_times x v.own + times x v.ready + times x v.used → 1 ≤ own_times x u.own + times x u.ready + times x u.used → i ≡ j
-  one_seat i j x v u at at' l l' = sym (seat_is i x v at l) ∙ seat_is j x u at' l'
-
-  -- so a node that one seat has as its own isn't any seat's used node
-  pub own_not_used : (i j x : ℕ) (v u : View) → IsViewOf views i v → IsViewOf views j u → own_times x v.own ≡ 1 → 1 ≤ times x u.used → ⊥
-  own_not_used i j x v u at at' own used =
-      let q = one_seat i j x v u at at' (omega arith) (omega arith) in
-      let same : v ≡ u = same_view views i v u at (subst (λ a. IsViewOf views a u) (sym q) at') in
-      let w = ap (λ (z : View). times x z.used) same in
-      let l = only_once i x v at in omega arith
-
 -- the own node is used from now on: it stands there once, and the counts stay
 module _ (v : View) (k : Listed) (own : v.own ≡ listed k) where
   pub counts_moved : (x : ℕ) → 0 + times x (v.used ++ k.node ∷ []) ≡ own_times x v.own + times x v.used
@@ -97,6 +66,3 @@ module _ (v : View) (k : Listed) (own : v.own ≡ listed k) where
 
   pub used_grows : (x : ℕ) → times x v.used ≤ times x (v.used ++ k.node ∷ [])
   used_grows x = let a = times_joined x v.used (k.node ∷ []) in omega arith
-
-  pub own_is_used : (h : Heap) (views : List View) (i : ℕ) → Places h views → IsViewOf views i v → times k.node (v.used ++ k.node ∷ []) ≡ 1
-  own_is_used h views i places at = let a = counts_moved k.node in let b = own_linked v k own in let l = only_once h views places i k.node v at in omega arith

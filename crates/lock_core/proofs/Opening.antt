@@ -4,12 +4,12 @@ use Rattle.std.proofs.lemmas.Bool.{eqb-false, cases_lt}
 use Rattle.std.proofs.lemmas.List.{length-replicate, length-map, map-append, take_more}
 use Rattle.std.proofs.lemmas.Option.{slice_get_within, get_or_from_slice_get}
 use Rattle.std.specs.Prelude.{Option, ◌==◌, if◌then◌else◌, slice_get, slice_index, replicate}
+use Rattle.view_lists.specs.Counted.{times}
 use Rattle.lock_core.specs.declared.range.Held.{Held}
 use Rattle.lock_core.specs.declared.views.View.{View}
-use Rattle.lock_core.specs.Nodes.{times}
-use Rattle.lock_core.specs.Words.{Heap, word_count, cell_place}
+use Rattle.lock_core.specs.Words.{word_count, cell_place}
 use Rattle.lock_core.specs.Machine.{numbers_from, start_view, start, heap, grant_of, grants_from, held_at}
-use Rattle.lock_core.specs.Sizes.{IsViewSized, IsSized}
+use Rattle.lock_core.specs.Sizes.{IsOwnEven, IsViewSized, IsSized}
 use Rattle.lock_core.proofs.Sizing.{nothing_sized}
 
 pub numbers_length : (a k : ℕ) → length (numbers_from a k) ≡ k
@@ -87,12 +87,12 @@ started_from seats a (suc k) (suc i) v e = let n : a + suc i ≡ a + 1 + i = ome
 pub started : (seats i : ℕ) (v : View) → slice_get (start seats).views i ≡ Some v → start_view seats i ≡ v
 started seats i v e = let n : i ≡ 0 + i = omega arith in ap (start_view seats) n ∙ started_from seats 0 seats i v e
 
-start_view_sized : (seats i : ℕ) (h : Heap) → IsViewSized seats h i (start_view seats i)
-start_view_sized seats i h = record {
+start_view_sized : (seats i : ℕ) → IsViewSized seats i (start_view seats i)
+start_view_sized seats i = record {
   notes = length-replicate seats None;
   passed = length-replicate seats false;
   nodes = record { nodes = λ x. let e = start_once i x in omega arith; homes_used = λ x. omega arith };
-  own = nothing_sized seats h;
+  own = nothing_sized seats;
   hand = λ x q. absurd (cc);
   cursor = λ c q. absurd (cc);
 }
@@ -104,7 +104,8 @@ start_sized seats some few = record {
   words = length-replicate (word_count seats) 0;
   views = length-map (numbers_from 0 seats) (start_view seats) ∙ numbers_length 0 seats;
   cells = λ c l. let z = ap (λ n. n / 2) (zeros (word_count seats) (cell_place seats c)) in omega arith;
-  each = λ i v e. subst (IsViewSized seats (heap (start seats)) i) (started seats i v e) (start_view_sized seats i (heap (start seats)));
+  each = λ i v e. subst (IsViewSized seats i) (started seats i v e) (start_view_sized seats i);
+  even = λ i v e. subst (λ (u : View). IsOwnEven (heap (start seats)) u.own) (started seats i v e) (λ n q. absurd (cc));
 }
 
 -- one view more in the list of grants

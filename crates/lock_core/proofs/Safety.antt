@@ -1,12 +1,11 @@
--- What a seat may rely on when it makes a step follows from what the type of a state keeps.
+-- What a seat may rely on when it makes a step follows from what its view keeps.
 use Rattle.std.proofs.Common.{◌≡◌, ℕ, ◌+◌, ◌/◌, ◌<◌, ◌≤◌, Bool, true, false, List, [], ◌∷◌, ◌++◌, length, Some, refl, sym, ap, subst, arith, eqb-true, eq-eqb, length-append}
 use Rattle.std.specs.Prelude.{◌==◌, if◌then◌else◌, slice_get}
-use Rattle.std.proofs.lemmas.Option.{slice_get_within}
+use Rattle.view_lists.specs.Counted.{times}
 use Rattle.lock_core.specs.Range.{IsRange}
 use Rattle.lock_core.specs.declared.views.View.{View}
-use Rattle.lock_core.specs.Nodes.{times, own_times}
-use Rattle.lock_core.specs.Machine.{Machine, heap}
-use Rattle.lock_core.specs.Sizes.{IsNode, IsViewSized, IsSized, MayStep}
+use Rattle.lock_core.specs.Nodes.{own_times}
+use Rattle.lock_core.specs.Sizes.{IsNode, IsViewSized, MayStep}
 use Rattle.lock_core.proofs.Counts.{times_joined}
 use Rattle.lock_core.proofs.Pigeons.{few_of_seat}
 
@@ -22,18 +21,12 @@ first_some : (x : ℕ) (l : List ℕ) → slice_get l 0 ≡ Some x → 1 ≤ tim
 first_some x [] e = absurd (cc)
 first_some x (y ∷ ys) e = let same : y ≡ x = cc in let l = itself (y == x) (eq-eqb y x same) in omega arith
 
-module _ (m : Machine) (s : ℕ) (v : View) (z : IsSized m) (at : slice_get m.views s ≡ Some v) where
-  abbrev old : IsViewSized m.seats (heap m) s v
-  old = z.each s v at
-
-  seat_there : s < m.seats
-  seat_there = let l = slice_get_within m.views s v at in let e = z.views in omega arith
-
+module _ (seats s : ℕ) (v : View) (few : seats ≤ 16) (there : s < seats) (old : IsViewSized seats s v) where
   -- a node that is counted in the lists of a seat is there
-  counted : (x : ℕ) → 1 ≤ own_times x v.own + times x v.ready + times x v.used → IsNode m.seats x
+  counted : (x : ℕ) → 1 ≤ own_times x v.own + times x v.ready + times x v.used → IsNode seats x
   counted x l =
       let e = eqb-true _ _ (some_true (x / 16 == s) (own_times x v.own + times x v.ready + times x v.used) (old.nodes.nodes x) l) in
-      let t = seat_there in omega arith
+      omega arith
 
   -- a list whose nodes are counted no more often has room
   room : (l : List ℕ) → ((x : ℕ) → times x l ≤ own_times x v.own + times x v.ready + times x v.used) → length l ≤ 16
@@ -53,17 +46,15 @@ module _ (m : Machine) (s : ℕ) (v : View) (z : IsSized m) (at : slice_get m.vi
       go true e j l = let q = eqb-true n x e in let a = ap (λ y. times y v.used) q in let b = ap (λ y. times y v.homes) q in omega arith
       go false e j l = omega arith
 
-  pub may_step : MayStep m.seats s m.words v
+  pub may_step : MayStep seats s v
   may_step = record {
-    few = z.few;
-    seat = seat_there;
-    words = z.words;
+    few = few;
+    seat = there;
     filling = λ node lo hi mode aimed e. counted node (let t = ap (own_times node) e in let i = itself (node == node) (eq-eqb node node refl) in omega arith);
     ends = λ node lo hi mode aimed e.
         let o = old.own.filled (record { node = node; lo = Some lo; hi = Some hi; mode = mode; aimed = aimed }) e in
         let r = o.hi hi refl in let same : lo ≡ r.0 = let q = r.1 in cc in subst (λ (l : ℕ). IsRange l hi) (sym same) r.2;
     linked = λ node range mode todo e. counted node (let t = ap (own_times node) e in let i = itself (node == node) (eq-eqb node node refl) in omega arith);
-    even = λ node range mode todo e. old.own.linked (record { node = node; range = range; mode = mode; todo = todo }) e;
     hand = old.hand;
     prev = λ c p e. (old.cursor c e).prev p;
     cur = λ c e. (old.cursor c e).cur;

@@ -1,8 +1,9 @@
--- Every step keeps the sizes of a state: what the type of a state keeps, it keeps after any row of the table.
+-- Every step keeps the sizes of a state: what the type of a state keeps, it keeps after any line of the table.
 use Rattle.std.proofs.Common.{◌≡◌, ◌≢◌, ℕ, suc, ◌+◌, ◌*◌, ◌/◌, ◌%◌, ◌≤◌, Bool, true, false, List, [], ◌∷◌, ◌++◌, length, Some, None, ⊎_elim, refl, sym, ap, ◌∙◌, subst, arith, eqb-true, eq-eqb, length-set}
 use Rattle.std.specs.Prelude.{Option, ◌==◌, if◌then◌else◌}
 use Rattle.std.proofs.lemmas.Bool.{cases_eq}
 use Rattle.std.proofs.lemmas.List.{length-replicate}
+use Rattle.view_lists.specs.Counted.{are_others_passed, times, without}
 use Rattle.lock_core.specs.declared.range.Mode.TheVariants.{Writer}
 use Rattle.lock_core.specs.declared.views.View.{View}
 use Rattle.lock_core.specs.declared.views.Cursor.{Cursor}
@@ -12,61 +13,41 @@ use Rattle.lock_core.specs.declared.views.Own.TheVariants.{Nothing, Filling, Lin
 use Rattle.lock_core.specs.declared.compare.Verdict.{Verdict}
 use Rattle.lock_core.specs.declared.compare.Verdict.TheVariants.{Past, Stop, Conflict}
 use Rattle.lock_core.specs.Words.{Heap}
-use Rattle.lock_core.specs.Nodes.{Filled, Listed, filling, listed, filled_of, times, own_times, without}
-use Rattle.lock_core.specs.Views.{kept_own, ready_left, released, is_passed, note_of, are_others_passed, passes, noted, looked_at, released_if_passed, came_home, home_read, own_at, own_stopped, came_to, seen_after, hi_judged, dropped}
-use Rattle.lock_core.specs.Sizes.{IsNode, NamesNode, IsCursorThere, IsFilledInOrder, AreNodesSized, IsOwnSized, IsViewSized}
+use Rattle.lock_core.specs.Nodes.{Filled, Listed, filling, listed, filled_of, own_times}
+use Rattle.lock_core.specs.Views.{kept_own, ready_left, released, is_passed, note_of, passes, noted, looked_at, released_if_passed, came_home, home_read, own_at, own_stopped, came_to, seen_after, hi_judged, dropped}
+use Rattle.lock_core.specs.Sizes.{IsNode, NamesNode, IsCursorThere, IsFilledInOrder, AreNodesSized, IsOwnSized, IsViewSized, bound_node, IsOwnEven}
 use Rattle.lock_core.proofs.Counts.{times_joined, once_after}
 use Rattle.lock_core.proofs.Words.{WroteCell}
 
 -- own nodes
-module _ (seats : ℕ) (h now : Heap) (own : Own) (o : IsOwnSized seats h own) where
-  -- no next word changed
-  pub own_same : ((c : ℕ) → now.next c ≡ h.next c) → IsOwnSized seats now own
-  own_same e = record {
-    filled = o.filled;
-    aim_there = o.aim_there;
-    aimed = λ f w q q'. ap (λ n. n % 2) (e (suc f.node)) ∙ o.aimed f w q q';
-    linked = λ k q. ap (λ n. n % 2) (e (suc k.node)) ∙ o.linked k q;
-  }
+pub nothing_sized : (seats : ℕ) → IsOwnSized seats Nothing
+nothing_sized seats = record { filled = λ f q. absurd (cc); aim_there = λ f w q q'. absurd (cc) }
 
-  -- one next word changed, and no node's is odd by it
-  pub own_kept : (p x : ℕ) → WroteCell seats h now p x → ((n : ℕ) → p ≡ suc n → own_times n own ≡ 1 → x % 2 ≡ 0) → IsOwnSized seats now own
-  own_kept p x wrote even = record {
-    filled = o.filled;
-    aim_there = o.aim_there;
-    aimed = λ f w q q'. stays f.node (ap (own_times f.node) q ∙ ap (λ (b : Bool). if b then 1 else 0) (eq-eqb f.node f.node refl)) (o.aimed f w q q');
-    linked = λ k q. stays k.node (ap (own_times k.node) q ∙ ap (λ (b : Bool). if b then 1 else 0) (eq-eqb k.node k.node refl)) (o.linked k q);
-  }
-    where
-      stays : (n : ℕ) → own_times n own ≡ 1 → h.next (suc n) % 2 ≡ 0 → now.next (suc n) % 2 ≡ 0
-      stays n mine e =
-          ⊎_elim
-          (λ (q : suc n ≡ p). ap (λ c. now.next c % 2) q ∙ ap (λ w. w % 2) wrote.is ∙ even n (sym q) mine)
-          (λ (d : suc n ≢ p). ap (λ w. w % 2) (wrote.others (suc n) d) ∙ e)
-          (cases_eq (suc n) p)
-
-pub nothing_sized : (seats : ℕ) (h : Heap) → IsOwnSized seats h Nothing
-nothing_sized seats h = record { filled = λ f q. absurd (cc); aim_there = λ f w q q'. absurd (cc); aimed = λ f w q q'. absurd (cc); linked = λ k q. absurd (cc) }
-
--- the same node with what is known of it changed
-pub linked_sized : (seats : ℕ) (h : Heap) (k : Listed) → h.next (suc k.node) % 2 ≡ 0 → IsOwnSized seats h (listed k)
-linked_sized seats h k e = record {
-  filled = λ f q. absurd (cc);
-  aim_there = λ f w q q'. absurd (cc);
-  aimed = λ f w q q'. absurd (cc);
-  linked = λ g q. let same : k.node ≡ g.node = cc in ap (λ n. h.next (suc n) % 2) (sym same) ∙ e;
-}
+pub linked_sized : (seats : ℕ) (k : Listed) → IsOwnSized seats (listed k)
+linked_sized seats k = record { filled = λ f q. absurd (cc); aim_there = λ f w q q'. absurd (cc) }
 
 pub same_filled : (f g : Filled) → filling f ≡ filling g → f ≡ g
 same_filled f g q = let some : Some f ≡ Some g = ap filled_of q in cc
 
-pub filling_sized : (seats : ℕ) (h : Heap) (f : Filled) → IsFilledInOrder f → ((w : ℕ) → f.aimed ≡ Some w → NamesNode seats w) → ((w : ℕ) → f.aimed ≡ Some w → h.next (suc f.node) % 2 ≡ 0) → IsOwnSized seats h (filling f)
-filling_sized seats h f o a e = record {
+pub filling_sized : (seats : ℕ) (f : Filled) → IsFilledInOrder f → ((w : ℕ) → f.aimed ≡ Some w → NamesNode seats w) → IsOwnSized seats (filling f)
+filling_sized seats f o a = record {
   filled = λ g q. subst IsFilledInOrder (same_filled f g q) o;
   aim_there = λ g w q q'. subst (λ (b : Filled). (w : ℕ) → b.aimed ≡ Some w → NamesNode seats w) (same_filled f g q) a w q';
-  aimed = λ g w q q'. subst (λ (a : Filled). (w : ℕ) → a.aimed ≡ Some w → h.next (suc a.node) % 2 ≡ 0) (same_filled f g q) e w q';
-  linked = λ k q. absurd (cc);
 }
+
+-- an own node that is bound is the seat's, and its next word stays even where no node's becomes odd
+bound_mine : (own : Own) (n : ℕ) → bound_node own ≡ Some n → own_times n own ≡ 1
+bound_mine Nothing n e = absurd (cc)
+bound_mine (Filling node lo hi mode None) n e = absurd (cc)
+bound_mine (Filling node lo hi mode (Some w)) n e = let same : node ≡ n = cc in ap (λ (b : Bool). if b then 1 else 0) (eq-eqb node n same)
+bound_mine (Linked node range mode todo) n e = let same : node ≡ n = cc in ap (λ (b : Bool). if b then 1 else 0) (eq-eqb node n same)
+
+pub even_kept : (seats : ℕ) (h now : Heap) (own : Own) (p x : ℕ) → WroteCell seats h now p x → ((n : ℕ) → p ≡ suc n → own_times n own ≡ 1 → x % 2 ≡ 0) → IsOwnEven h own → IsOwnEven now own
+even_kept seats h now own p x wrote even o n q =
+    ⊎_elim
+    (λ (e : suc n ≡ p). ap (λ c. now.next c % 2) e ∙ ap (λ w. w % 2) wrote.is ∙ even n (sym e) (bound_mine own n q))
+    (λ (d : suc n ≢ p). ap (λ w. w % 2) (wrote.others (suc n) d) ∙ o n q)
+    (cases_eq (suc n) p)
 
 -- the own node once a cursor came to a word, or stopped
 own_at_times : (own : Own) (w x : ℕ) → own_times x (own_at own w) ≡ own_times x own
@@ -84,20 +65,35 @@ own_at_times (Linked node range mode FromHead) w x = split (w == 2 * suc node)
     split false = refl
 own_at_times (Linked node range mode Done) w x = refl
 
-own_at_sized : (seats : ℕ) (h : Heap) (own : Own) (w : ℕ) → IsOwnSized seats h own → IsOwnSized seats h (own_at own w)
-own_at_sized seats h Nothing w o = o
-own_at_sized seats h (Filling node lo hi mode aimed) w o = o
-own_at_sized seats h (Linked node range mode Forward) w o = split (w == 0)
+own_at_sized : (seats : ℕ) (own : Own) (w : ℕ) → IsOwnSized seats own → IsOwnSized seats (own_at own w)
+own_at_sized seats Nothing w o = o
+own_at_sized seats (Filling node lo hi mode aimed) w o = o
+own_at_sized seats (Linked node range mode Forward) w o = split (w == 0)
   where
-    split : (b : Bool) → IsOwnSized seats h (if b then Linked node range mode Done else Linked node range mode Forward)
-    split true = linked_sized seats h (record { node = node; range = range; mode = mode; todo = Done }) (o.linked (record { node = node; range = range; mode = mode; todo = Forward }) refl)
+    split : (b : Bool) → IsOwnSized seats (if b then Linked node range mode Done else Linked node range mode Forward)
+    split true = linked_sized seats (record { node = node; range = range; mode = mode; todo = Done })
     split false = o
-own_at_sized seats h (Linked node range mode FromHead) w o = split (w == 2 * suc node)
+own_at_sized seats (Linked node range mode FromHead) w o = split (w == 2 * suc node)
   where
-    split : (b : Bool) → IsOwnSized seats h (if b then Linked node range mode Done else Linked node range mode FromHead)
-    split true = linked_sized seats h (record { node = node; range = range; mode = mode; todo = Done }) (o.linked (record { node = node; range = range; mode = mode; todo = FromHead }) refl)
+    split : (b : Bool) → IsOwnSized seats (if b then Linked node range mode Done else Linked node range mode FromHead)
+    split true = linked_sized seats (record { node = node; range = range; mode = mode; todo = Done })
     split false = o
-own_at_sized seats h (Linked node range mode Done) w o = o
+own_at_sized seats (Linked node range mode Done) w o = o
+
+pub own_at_bound : (own : Own) (w : ℕ) → bound_node (own_at own w) ≡ bound_node own
+own_at_bound Nothing w = refl
+own_at_bound (Filling node lo hi mode aimed) w = refl
+own_at_bound (Linked node range mode Forward) w = split (w == 0)
+  where
+    split : (b : Bool) → bound_node (if b then Linked node range mode Done else Linked node range mode Forward) ≡ Some node
+    split true = refl
+    split false = refl
+own_at_bound (Linked node range mode FromHead) w = split (w == 2 * suc node)
+  where
+    split : (b : Bool) → bound_node (if b then Linked node range mode Done else Linked node range mode FromHead) ≡ Some node
+    split true = refl
+    split false = refl
+own_at_bound (Linked node range mode Done) w = refl
 
 own_stopped_times : (own : Own) (x : ℕ) → own_times x (own_stopped own) ≡ own_times x own
 own_stopped_times Nothing x = refl
@@ -106,12 +102,29 @@ own_stopped_times (Linked node range mode Forward) x = refl
 own_stopped_times (Linked node range mode FromHead) x = refl
 own_stopped_times (Linked node range mode Done) x = refl
 
-own_stopped_sized : (seats : ℕ) (h : Heap) (own : Own) → IsOwnSized seats h own → IsOwnSized seats h (own_stopped own)
-own_stopped_sized seats h Nothing o = o
-own_stopped_sized seats h (Filling node lo hi mode aimed) o = o
-own_stopped_sized seats h (Linked node range mode Forward) o = linked_sized seats h (record { node = node; range = range; mode = mode; todo = Done }) (o.linked (record { node = node; range = range; mode = mode; todo = Forward }) refl)
-own_stopped_sized seats h (Linked node range mode FromHead) o = o
-own_stopped_sized seats h (Linked node range mode Done) o = o
+own_stopped_sized : (seats : ℕ) (own : Own) → IsOwnSized seats own → IsOwnSized seats (own_stopped own)
+own_stopped_sized seats Nothing o = o
+own_stopped_sized seats (Filling node lo hi mode aimed) o = o
+own_stopped_sized seats (Linked node range mode Forward) o = linked_sized seats (record { node = node; range = range; mode = mode; todo = Done })
+own_stopped_sized seats (Linked node range mode FromHead) o = o
+own_stopped_sized seats (Linked node range mode Done) o = o
+
+own_stopped_bound : (own : Own) → bound_node (own_stopped own) ≡ bound_node own
+own_stopped_bound Nothing = refl
+own_stopped_bound (Filling node lo hi mode aimed) = refl
+own_stopped_bound (Linked node range mode Forward) = refl
+own_stopped_bound (Linked node range mode FromHead) = refl
+own_stopped_bound (Linked node range mode Done) = refl
+
+pub left_bound : (own : Own) (n : ℕ) → bound_node (kept_own own) ≡ Some n → bound_node own ≡ Some n
+left_bound Nothing n e = absurd (cc)
+left_bound (Filling node lo hi mode aimed) n e = absurd (cc)
+left_bound (Linked node range mode todo) n e = e
+
+pub judged_bound : (v : View) (c : Cursor) (y n : ℕ) (verdict : Verdict) → bound_node (hi_judged v c y n verdict).own ≡ bound_node v.own
+judged_bound v c y n Past = own_at_bound v.own n
+judged_bound v c y n Stop = own_stopped_bound v.own
+judged_bound v c y n Conflict = refl
 
 -- the lists of a view
 same_nodes : (i : ℕ) (own own' : Own) (ready used homes : List ℕ) → ((x : ℕ) → own_times x own' ≡ own_times x own) → AreNodesSized i own ready used homes → AreNodesSized i own' ready used homes
@@ -160,63 +173,63 @@ taken_nodes i n own ready rest used homes e e' a = record {
 passed_length : (v : View) (j seats : ℕ) → length v.passed ≡ seats → length (passes v j).passed ≡ seats
 passed_length v j seats e = length-set v.passed j true ∙ e
 
-module _ (seats : ℕ) (h : Heap) (i : ℕ) where
-  pub dropped_sized : (v : View) → IsViewSized seats h i v → IsViewSized seats h i (dropped v)
+module _ (seats i : ℕ) where
+  pub dropped_sized : (v : View) → IsViewSized seats i v → IsViewSized seats i (dropped v)
   dropped_sized v o = record { notes = o.notes; passed = o.passed; nodes = o.nodes; own = o.own; hand = o.hand; cursor = λ c q. absurd (cc) }
 
-  passes_sized : (v : View) (j : ℕ) → IsViewSized seats h i v → IsViewSized seats h i (passes v j)
+  passes_sized : (v : View) (j : ℕ) → IsViewSized seats i v → IsViewSized seats i (passes v j)
   passes_sized v j o = record { notes = o.notes; passed = passed_length v j seats o.passed; nodes = o.nodes; own = o.own; hand = o.hand; cursor = o.cursor }
 
-  noted_sized : (v : View) (j w : ℕ) (note : Option ℕ) → IsViewSized seats h i v → IsViewSized seats h i (noted v j w note)
+  noted_sized : (v : View) (j w : ℕ) (note : Option ℕ) → IsViewSized seats i v → IsViewSized seats i (noted v j w note)
   noted_sized v j w None o = record { notes = length-set v.notes j (Some w) ∙ o.notes; passed = o.passed; nodes = o.nodes; own = o.own; hand = o.hand; cursor = o.cursor }
   noted_sized v j w (Some n) o = split (n == w)
     where
-      split : (b : Bool) → IsViewSized seats h i (if b then v else passes v j)
+      split : (b : Bool) → IsViewSized seats i (if b then v else passes v j)
       split true = o
       split false = passes_sized v j o
 
-  pub looked_sized : (v : View) (j w : ℕ) → IsViewSized seats h i v → IsViewSized seats h i (looked_at v j w)
+  pub looked_sized : (v : View) (j w : ℕ) → IsViewSized seats i v → IsViewSized seats i (looked_at v j w)
   looked_sized v j w o = split (is_passed v j) (w % 2 == 0)
     where
-      split : (b d : Bool) → IsViewSized seats h i (if b then v else (if d then passes v j else noted v j w (note_of v j)))
+      split : (b d : Bool) → IsViewSized seats i (if b then v else (if d then passes v j else noted v j w (note_of v j)))
       split true d = o
       split false true = passes_sized v j o
       split false false = noted_sized v j w (note_of v j) o
 
-  released_sized : (v : View) → IsViewSized seats h i v → IsViewSized seats h i (released v)
+  released_sized : (v : View) → IsViewSized seats i v → IsViewSized seats i (released v)
   released_sized v o = record { notes = o.notes; passed = o.passed; nodes = released_nodes i v.own v.ready v.used v.homes o.nodes; own = o.own; hand = o.hand; cursor = o.cursor }
 
-  pub epoch_sized : (s : ℕ) (v : View) → IsViewSized seats h i v → IsViewSized seats h i (released_if_passed s v)
+  pub epoch_sized : (s : ℕ) (v : View) → IsViewSized seats i v → IsViewSized seats i (released_if_passed s v)
   epoch_sized s v o = split (are_others_passed s v.passed)
     where
-      split : (b : Bool) → IsViewSized seats h i (if b then released v else v)
+      split : (b : Bool) → IsViewSized seats i (if b then released v else v)
       split true = released_sized v o
       split false = o
 
-  came_home_sized : (v : View) (n : ℕ) → 1 ≤ times n v.used → times n v.homes ≡ 0 → IsViewSized seats h i v → IsViewSized seats h i (came_home seats v n)
+  came_home_sized : (v : View) (n : ℕ) → 1 ≤ times n v.used → times n v.homes ≡ 0 → IsViewSized seats i v → IsViewSized seats i (came_home seats v n)
   came_home_sized v n used homes o = record { notes = length-replicate seats None; passed = length-replicate seats false; nodes = came_nodes i n v.own v.ready v.used v.homes used homes o.nodes; own = o.own; hand = o.hand; cursor = o.cursor }
 
-  pub home_sized : (v : View) (n w : ℕ) → 1 ≤ times n v.used → times n v.homes ≡ 0 → IsViewSized seats h i v → IsViewSized seats h i (home_read seats v n w)
+  pub home_sized : (v : View) (n w : ℕ) → 1 ≤ times n v.used → times n v.homes ≡ 0 → IsViewSized seats i v → IsViewSized seats i (home_read seats v n w)
   home_sized v n w used homes o = split (w == 1) (seats == 1)
     where
-      split : (b d : Bool) → IsViewSized seats h i (if b then (if d then released (came_home seats v n) else came_home seats v n) else v)
+      split : (b d : Bool) → IsViewSized seats i (if b then (if d then released (came_home seats v n) else came_home seats v n) else v)
       split true true = released_sized (came_home seats v n) (came_home_sized v n used homes o)
       split true false = came_home_sized v n used homes o
       split false d = o
 
-  pub came_sized : (v : View) (prev : Option ℕ) (w seen : ℕ) → ((n : ℕ) → prev ≡ Some n → IsNode seats n) → NamesNode seats w → IsViewSized seats h i v → IsViewSized seats h i (came_to v prev w seen)
+  pub came_sized : (v : View) (prev : Option ℕ) (w seen : ℕ) → ((n : ℕ) → prev ≡ Some n → IsNode seats n) → NamesNode seats w → IsViewSized seats i v → IsViewSized seats i (came_to v prev w seen)
   came_sized v prev w seen p there o = record {
     notes = o.notes;
     passed = o.passed;
     nodes = same_nodes i v.own (own_at v.own w) v.ready v.used v.homes (own_at_times v.own w) o.nodes;
-    own = own_at_sized seats h v.own w o.own;
+    own = own_at_sized seats v.own w o.own;
     hand = o.hand;
     cursor = λ c q. let same : record { prev = prev; cur = w; next = None; lo = None; seen = seen_after seen w } ≡ c = cc in
         subst (IsCursorThere seats) same (record { prev = p; cur = there; next = λ w q. absurd (cc) });
   }
 
   -- only the cursor changed, or went
-  pub cursor_sized : (v : View) (c : Cursor) → IsCursorThere seats c → IsViewSized seats h i v → IsViewSized seats h i (record v { cursor = Some c })
+  pub cursor_sized : (v : View) (c : Cursor) → IsCursorThere seats c → IsViewSized seats i v → IsViewSized seats i (record v { cursor = Some c })
   cursor_sized v c there o = record {
     notes = o.notes;
     passed = o.passed;
@@ -227,7 +240,7 @@ module _ (seats : ℕ) (h : Heap) (i : ℕ) where
   }
 
   -- the own node changed, and not which it is
-  pub own_sized : (v : View) (own : Own) → ((x : ℕ) → own_times x own ≡ own_times x v.own) → IsOwnSized seats h own → IsViewSized seats h i v → IsViewSized seats h i (record v { own = own })
+  pub own_sized : (v : View) (own : Own) → ((x : ℕ) → own_times x own ≡ own_times x v.own) → IsOwnSized seats own → IsViewSized seats i v → IsViewSized seats i (record v { own = own })
   own_sized v own e new o = record {
     notes = o.notes;
     passed = o.passed;
@@ -237,9 +250,9 @@ module _ (seats : ℕ) (h : Heap) (i : ℕ) where
     cursor = o.cursor;
   }
 
-  pub judged_sized : (v : View) (c : Cursor) (y n : ℕ) (verdict : Verdict) → IsNode seats y → NamesNode seats n → IsCursorThere seats c → IsViewSized seats h i v → IsViewSized seats h i (hi_judged v c y n verdict)
+  pub judged_sized : (v : View) (c : Cursor) (y n : ℕ) (verdict : Verdict) → IsNode seats y → NamesNode seats n → IsCursorThere seats c → IsViewSized seats i v → IsViewSized seats i (hi_judged v c y n verdict)
   judged_sized v c y n Past node next there o = came_sized v (Some y) n c.seen (λ m q. let same : y ≡ m = cc in subst (IsNode seats) same node) next o
   judged_sized v c y n Stop node next there o =
       cursor_sized (record v { own = own_stopped v.own }) (record c { next = None }) (record { prev = there.prev; cur = there.cur; next = λ w q. absurd (cc) })
-      (own_sized v (own_stopped v.own) (own_stopped_times v.own) (own_stopped_sized seats h v.own o.own) o)
+      (own_sized v (own_stopped v.own) (own_stopped_times v.own) (own_stopped_sized seats v.own o.own) o)
   judged_sized v c y n Conflict node next there o = o

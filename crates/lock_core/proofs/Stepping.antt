@@ -1,20 +1,20 @@
--- A step that was made: the view that it was made in, its row, and the state that the row's plan gives.
+-- A step that was made: the view that it was made in, its line, and the state that the line's plan gives.
 use Rattle.std.proofs.Common.{◌≡◌, ℕ, Some}
 use Rattle.std.specs.Prelude.{slice_get}
 use Rattle.lock_core.specs.declared.views.View.{View}
 use Rattle.lock_core.specs.declared.steps.Step.{Step}
-use Rattle.lock_core.specs.Rows.{Plan, Row}
+use Rattle.lock_core.specs.StepTable.{Plan, IsLine}
 use Rattle.lock_core.specs.Machine.{Machine, after, carried_out}
-use Rattle.lock_core.proofs.Table.{given-some, row_of_plan}
+use Rattle.lock_core.proofs.Table.{given-some, line_of_plan}
 
 pub record Stepped (m next : Machine) (s : ℕ) (step : Step) : Type 0 where
   pub view : View
   pub at : slice_get m.views s ≡ Some view
   pub plan : Plan
-  pub row : Row m.seats s view step plan
+  pub line : IsLine m.seats s view step plan
   pub is : carried_out m s plan ≡ next
 
 pub stepped : (m next : Machine) (s : ℕ) (step : Step) → after m s step ≡ Some next → Stepped m next s step
 stepped m next s step e =
     let v = given-some _ _ _ e in let p = given-some _ _ _ v.2 in
-    record { view = v.0; at = v.1; plan = p.0; row = row_of_plan m.seats s v.0 step p.0 p.1; is = cc }
+    record { view = v.0; at = v.1; plan = p.0; line = line_of_plan m.seats s v.0 step p.0 p.1; is = cc }

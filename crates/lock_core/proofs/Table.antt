@@ -1,8 +1,9 @@
--- The computing plan is the table: for every kind of step a plan is the row that the view enables, and a row is the
+-- The computing plan is the table: for every kind of step a plan is the line that the view enables, and a line is the
 -- plan.
 use Rattle.std.proofs.Common.{◌≡◌, ◌≢◌, ℕ, Bool, true, false, List, [], ◌∷◌, Some, None, inl, inr, ⊎_elim, refl, sym, ap, ◌∙◌, subst, arith, eqb-true, eq-eqb}
 use Rattle.std.specs.Prelude.{Option, ◌==◌, ◌&&◌, not, is_some, is_none, if◌then◌else◌}
 use Rattle.std.proofs.lemmas.Bool.{eqb-false, ltb-true, lt-ltb, leb-true, le-leb}
+use Rattle.view_lists.specs.Counted.{is_empty, times}
 use Rattle.lock_core.specs.declared.views.View.{View}
 use Rattle.lock_core.specs.declared.views.Cursor.{Cursor}
 use Rattle.lock_core.specs.declared.views.Todo.{Todo}
@@ -11,9 +12,9 @@ use Rattle.lock_core.specs.declared.views.Own.{Own}
 use Rattle.lock_core.specs.declared.views.Own.TheVariants.{Nothing, Filling, Linked}
 use Rattle.lock_core.specs.declared.steps.Step.{Step}
 use Rattle.lock_core.specs.declared.steps.Step.TheVariants.{Enter, Leave, ReadEpoch, ReadHome, GiveHome, FillLo, FillHi, Aim, ClearHome, Walk, ReadLo, ReadHi, Link, Unlink, Mark, QuickLink, QuickUnlink, Settle}
-use Rattle.lock_core.specs.Nodes.{Filled, Listed, filling, listed, filled_of, listed_of, times}
-use Rattle.lock_core.specs.Rows.{Plan, Row, IsAtPlace, Aims, enter, leave, read_epoch, read_home, give_home, fill_lo, fill_hi, aim, clear_home, walk, read_lo, read_hi, link, unlink, mark, quick_link, quick_unlink, settle}
-use Rattle.lock_core.specs.Machine.{given, when, plan, is_done, may_leave, may_judge, is_at_place, aim_of, first_of_list, is_empty, is_nothing}
+use Rattle.lock_core.specs.Nodes.{Filled, Listed, filling, listed, filled_of, listed_of}
+use Rattle.lock_core.specs.StepTable.{Plan, IsLine, IsAtPlace, Aims, enter, leave, read_epoch, read_home, give_home, fill_lo, fill_hi, aim, clear_home, walk, read_lo, read_hi, link, unlink, mark, quick_link, quick_unlink, settle}
+use Rattle.lock_core.specs.Machine.{given, when, plan, is_done, may_leave, may_judge, is_at_place, aim_of, first_of_list, is_nothing}
 
 pub given-some : {A B : Type 0} (o : Option A) (f : A → Option B) (b : B) → given o f ≡ Some b → (a : A) × (o ≡ Some a) × (f a ≡ Some b)
 given-some None f b e = absurd (cc)
@@ -104,14 +105,14 @@ leaving_is Nothing h = refl
 leaving_is (Filling node lo hi mode aimed) h = refl
 leaving_is (Linked node range mode todo) h = ap is_done (h (record { node = node; range = range; mode = mode; todo = todo }) refl)
 
-judging : (own : Own) → may_judge own ≡ true → (f : Filled) → own ≡ filling f → (f.lo ≢ None) × (f.hi ≢ None)
+pub judging : (own : Own) → may_judge own ≡ true → (f : Filled) → own ≡ filling f → (f.lo ≢ None) × (f.hi ≢ None)
 judging Nothing e f is = absurd (cc)
 judging (Filling node lo hi mode aimed) e f is =
     let t = both _ _ e in let l : lo ≡ f.lo = cc in let h : hi ≡ f.hi = cc in
     ((λ q. some lo t.0 (l ∙ q)), (λ q. some hi t.1 (h ∙ q)))
 judging (Linked node range mode todo) e f is = absurd (cc)
 
-judging_is : (own : Own) → ((f : Filled) → own ≡ filling f → (f.lo ≢ None) × (f.hi ≢ None)) → may_judge own ≡ true
+pub judging_is : (own : Own) → ((f : Filled) → own ≡ filling f → (f.lo ≢ None) × (f.hi ≢ None)) → may_judge own ≡ true
 judging_is Nothing h = refl
 judging_is (Filling node lo hi mode aimed) h =
     let t = h (record { node = node; lo = lo; hi = hi; mode = mode; aimed = aimed }) refl in
@@ -147,105 +148,105 @@ first_is : (l : List ℕ) (t : ℕ × List ℕ) → first_of_list l ≡ Some t �
 first_is [] t e = absurd (cc)
 first_is (n ∷ rest) t e = let same : (n, rest) ≡ t = cc in ap (λ (q : ℕ × List ℕ). q.0 ∷ q.1) same
 
--- from the plan to the row
+-- from the plan to the line
 module _ (seats s : ℕ) (v : View) (p : Plan) where
-  row : (step : Step) → plan seats s v step ≡ Some p → Row seats s v step p
-  row Enter e =
+  line : (step : Step) → plan seats s v step ≡ Some p → IsLine seats s v step p
+  line Enter e =
       let t = when-some _ _ _ e in let a = both _ _ t.0 in
-      subst (Row seats s v Enter) t.1 (enter (eqb-true _ _ a.0) (none _ a.1))
-  row Leave e =
+      subst (IsLine seats s v Enter) t.1 (enter (eqb-true _ _ a.0) (none _ a.1))
+  line Leave e =
       let t = when-some _ _ _ e in let a = both _ _ t.0 in let b = both _ _ a.0 in
-      subst (Row seats s v Leave) t.1 (leave (eqb-true _ _ b.0) (none _ b.1) (leaving v.own a.1))
-  row (ReadEpoch j) e =
+      subst (IsLine seats s v Leave) t.1 (leave (eqb-true _ _ b.0) (none _ b.1) (leaving v.own a.1))
+  line (ReadEpoch j) e =
       let t = when-some _ _ _ e in let a = both _ _ t.0 in let b = both _ _ a.0 in let d = both _ _ b.0 in
-      subst (Row seats s v (ReadEpoch j)) t.1 (read_epoch j (eqb-true _ _ d.0) (filled v v.homes d.1) (ltb-true _ _ b.1) (apart j s a.1))
-  row (ReadHome n) e =
+      subst (IsLine seats s v (ReadEpoch j)) t.1 (read_epoch j (eqb-true _ _ d.0) (filled v v.homes d.1) (ltb-true _ _ b.1) (apart j s a.1))
+  line (ReadHome n) e =
       let t = when-some _ _ _ e in let a = both _ _ t.0 in let b = both _ _ a.0 in
       let d = apart (times n v.used) 0 b.1 in
-      subst (Row seats s v (ReadHome n)) t.1 (read_home n (eqb-true _ _ b.0) (omega arith) (eqb-true _ _ a.1))
-  row GiveHome e =
+      subst (IsLine seats s v (ReadHome n)) t.1 (read_home n (eqb-true _ _ b.0) (omega arith) (eqb-true _ _ a.1))
+  line GiveHome e =
       let n = given-some _ _ _ e in
-      subst (Row seats s v GiveHome) (cc) (give_home n.0 n.1)
-  row (FillLo lo) e =
+      subst (IsLine seats s v GiveHome) (cc) (give_home n.0 n.1)
+  line (FillLo lo) e =
       let f = given-some _ _ _ e in let t = when-some _ _ _ f.2 in let a = both _ _ t.0 in
-      subst (Row seats s v (FillLo lo)) t.1 (fill_lo f.0 lo (is_filling v.own f.0 f.1) (none _ a.0) (none _ a.1))
-  row (FillHi hi mode) e =
+      subst (IsLine seats s v (FillLo lo)) t.1 (fill_lo f.0 lo (is_filling v.own f.0 f.1) (none _ a.0) (none _ a.1))
+  line (FillHi hi mode) e =
       let f = given-some _ _ _ e in let lo = given-some _ _ _ f.2 in let t = when-some _ _ _ lo.2 in
       let a = both _ _ t.0 in let b = both _ _ a.0 in let d = both _ _ b.0 in
-      subst (Row seats s v (FillHi hi mode)) t.1 (fill_hi f.0 lo.0 hi mode (is_filling v.own f.0 f.1) lo.1 (ltb-true _ _ d.0) (leb-true _ _ d.1) (none _ b.1) (none _ a.1))
-  row Aim e =
+      subst (IsLine seats s v (FillHi hi mode)) t.1 (fill_hi f.0 lo.0 hi mode (is_filling v.own f.0 f.1) lo.1 (ltb-true _ _ d.0) (leb-true _ _ d.1) (none _ b.1) (none _ a.1))
+  line Aim e =
       let f = given-some _ _ _ e in let lo = given-some _ _ _ f.2 in let hi = given-some _ _ _ lo.2 in let w = given-some _ _ _ hi.2 in
-      subst (Row seats s v Aim) (cc) (aim f.0 lo.0 hi.0 w.0 (is_filling v.own f.0 f.1) lo.1 hi.1 (aiming v.cursor w.0 w.1))
-  row (ClearHome n) e =
+      subst (IsLine seats s v Aim) (cc) (aim f.0 lo.0 hi.0 w.0 (is_filling v.own f.0 f.1) lo.1 hi.1 (aiming v.cursor w.0 w.1))
+  line (ClearHome n) e =
       let l = given-some _ _ _ e in let t = when-some _ _ _ l.2 in
       let a = both _ _ t.0 in let b = both _ _ a.0 in
-      subst (Row seats s v (ClearHome n)) t.1 (clear_home n l.0.1 (nothing v.own b.0) (eqb-true _ _ b.1) (first_is v.ready l.0 l.1 ∙ ap (λ (m : ℕ). m ∷ l.0.1) (eqb-true _ _ a.1)))
-  row Walk e =
+      subst (IsLine seats s v (ClearHome n)) t.1 (clear_home n l.0.1 (nothing v.own b.0) (eqb-true _ _ b.1) (first_is v.ready l.0 l.1 ∙ ap (λ (m : ℕ). m ∷ l.0.1) (eqb-true _ _ a.1)))
+  line Walk e =
       let cell = given-some _ _ _ e in let t = when-some _ _ _ cell.2 in let a = both _ _ t.0 in
-      subst (Row seats s v Walk) t.1 (walk cell.0 (eqb-true _ _ a.0) (none _ a.1) cell.1)
-  row ReadLo e =
+      subst (IsLine seats s v Walk) t.1 (walk cell.0 (eqb-true _ _ a.0) (none _ a.1) cell.1)
+  line ReadLo e =
       let c = given-some _ _ _ e in let y = given-some _ _ _ c.2 in let n = given-some _ _ _ y.2 in let t = when-some _ _ _ n.2 in
-      subst (Row seats s v ReadLo) t.1 (read_lo c.0 y.0 n.0 c.1 y.1 n.1 (eqb-true _ _ t.0))
-  row ReadHi e =
+      subst (IsLine seats s v ReadLo) t.1 (read_lo c.0 y.0 n.0 c.1 y.1 n.1 (eqb-true _ _ t.0))
+  line ReadHi e =
       let c = given-some _ _ _ e in let y = given-some _ _ _ c.2 in let n = given-some _ _ _ y.2 in let lo = given-some _ _ _ n.2 in
       let t = when-some _ _ _ lo.2 in let a = both _ _ t.0 in
-      subst (Row seats s v ReadHi) t.1 (read_hi c.0 y.0 n.0 lo.0 c.1 y.1 n.1 (eqb-true _ _ a.0) lo.1 (judging v.own a.1))
-  row Link e =
+      subst (IsLine seats s v ReadHi) t.1 (read_hi c.0 y.0 n.0 lo.0 c.1 y.1 n.1 (eqb-true _ _ a.0) lo.1 (judging v.own a.1))
+  line Link e =
       let f = given-some _ _ _ e in let c = given-some _ _ _ f.2 in let lo = given-some _ _ _ c.2 in let hi = given-some _ _ _ lo.2 in let w = given-some _ _ _ hi.2 in
       let t = when-some _ _ _ w.2 in let a = both _ _ t.0 in let b = both _ _ a.0 in
-      subst (Row seats s v Link) t.1 (link f.0 c.0 lo.0 hi.0 (is_filling v.own f.0 f.1) c.1 lo.1 hi.1 (w.1 ∙ ap (λ (n : ℕ). Some n) (eqb-true _ _ b.0)) (eqb-true _ _ b.1) (placed c.0 a.1))
-  row Unlink e =
+      subst (IsLine seats s v Link) t.1 (link f.0 c.0 lo.0 hi.0 (is_filling v.own f.0 f.1) c.1 lo.1 hi.1 (w.1 ∙ ap (λ (n : ℕ). Some n) (eqb-true _ _ b.0)) (eqb-true _ _ b.1) (placed c.0 a.1))
+  line Unlink e =
       let c = given-some _ _ _ e in let y = given-some _ _ _ c.2 in let n = given-some _ _ _ y.2 in
       let t = when-some _ _ _ n.2 in let a = both _ _ t.0 in
-      subst (Row seats s v Unlink) t.1 (unlink c.0 y.0 n.0 c.1 y.1 n.1 (eqb-true _ _ a.0) (none _ a.1))
-  row Mark e =
+      subst (IsLine seats s v Unlink) t.1 (unlink c.0 y.0 n.0 c.1 y.1 n.1 (eqb-true _ _ a.0) (none _ a.1))
+  line Mark e =
       let k = given-some _ _ _ e in
-      subst (Row seats s v Mark) (cc) (mark k.0 (is_listed v.own k.0 k.1))
-  row QuickLink e =
+      subst (IsLine seats s v Mark) (cc) (mark k.0 (is_listed v.own k.0 k.1))
+  line QuickLink e =
       let f = given-some _ _ _ e in let lo = given-some _ _ _ f.2 in let hi = given-some _ _ _ lo.2 in let w = given-some _ _ _ hi.2 in
       let t = when-some _ _ _ w.2 in let a = both _ _ t.0 in
-      subst (Row seats s v QuickLink) t.1 (quick_link f.0 lo.0 hi.0 (is_filling v.own f.0 f.1) lo.1 hi.1 (w.1 ∙ ap (λ (n : ℕ). Some n) (eqb-true _ _ a.0)) (eqb-true _ _ a.1))
-  row QuickUnlink e =
+      subst (IsLine seats s v QuickLink) t.1 (quick_link f.0 lo.0 hi.0 (is_filling v.own f.0 f.1) lo.1 hi.1 (w.1 ∙ ap (λ (n : ℕ). Some n) (eqb-true _ _ a.0)) (eqb-true _ _ a.1))
+  line QuickUnlink e =
       let k = given-some _ _ _ e in let t = when-some _ _ _ k.2 in let a = both _ _ t.0 in
-      subst (Row seats s v QuickUnlink) t.1 (quick_unlink k.0 (is_listed v.own k.0 k.1) (done _ a.0) (none _ a.1))
-  row Settle e =
+      subst (IsLine seats s v QuickUnlink) t.1 (quick_unlink k.0 (is_listed v.own k.0 k.1) (done _ a.0) (none _ a.1))
+  line Settle e =
       let c = given-some _ _ _ e in let t = when-some _ _ _ c.2 in let a = both _ _ t.0 in
-      subst (Row seats s v Settle) t.1 (settle c.0 c.1 (none _ a.0) (eqb-true _ _ a.1))
+      subst (IsLine seats s v Settle) t.1 (settle c.0 c.1 (none _ a.0) (eqb-true _ _ a.1))
 
-pub row_of_plan : (seats s : ℕ) (v : View) (step : Step) (p : Plan) → plan seats s v step ≡ Some p → Row seats s v step p
-row_of_plan seats s v step p = row seats s v p step
+pub line_of_plan : (seats s : ℕ) (v : View) (step : Step) (p : Plan) → plan seats s v step ≡ Some p → IsLine seats s v step p
+line_of_plan seats s v step p = line seats s v p step
 
 -- and back
-pub plan_of_row : (seats s : ℕ) (v : View) (step : Step) (p : Plan) → Row seats s v step p → plan seats s v step ≡ Some p
-plan_of_row seats s v step p (enter even hand) = when-is _ _ (together _ _ (eq-eqb _ _ even) (none_is _ hand))
-plan_of_row seats s v step p (leave odd hand own) = when-is _ _ (together _ _ (together _ _ (eq-eqb _ _ odd) (none_is _ hand)) (leaving_is v.own own))
-plan_of_row seats s v step p (read_epoch j even homes less other) =
+pub plan_of_line : (seats s : ℕ) (v : View) (step : Step) (p : Plan) → IsLine seats s v step p → plan seats s v step ≡ Some p
+plan_of_line seats s v step p (enter even hand) = when-is _ _ (together _ _ (eq-eqb _ _ even) (none_is _ hand))
+plan_of_line seats s v step p (leave odd hand own) = when-is _ _ (together _ _ (together _ _ (eq-eqb _ _ odd) (none_is _ hand)) (leaving_is v.own own))
+plan_of_line seats s v step p (read_epoch j even homes less other) =
     when-is _ _ (together _ _ (together _ _ (together _ _ (eq-eqb _ _ even) (filled_is v.homes homes)) (lt-ltb _ _ less)) (apart_is j s other))
-plan_of_row seats s v step p (read_home n even used homes) =
+plan_of_line seats s v step p (read_home n even used homes) =
     when-is _ _ (together _ _ (together _ _ (eq-eqb _ _ even) (apart_is _ _ (λ q. omega arith))) (eq-eqb _ _ homes))
-plan_of_row seats s v step p (give_home n hand) = given-is _ _ n _ hand refl
-plan_of_row seats s v step p (fill_lo f lo own aimed cursor) = given-is _ _ f _ (ap filled_of own) (when-is _ _ (together _ _ (none_is _ aimed) (none_is _ cursor)))
-plan_of_row seats s v step p (fill_hi f lo hi mode own low less most aimed cursor) =
+plan_of_line seats s v step p (give_home n hand) = given-is _ _ n _ hand refl
+plan_of_line seats s v step p (fill_lo f lo own aimed cursor) = given-is _ _ f _ (ap filled_of own) (when-is _ _ (together _ _ (none_is _ aimed) (none_is _ cursor)))
+plan_of_line seats s v step p (fill_hi f lo hi mode own low less most aimed cursor) =
     given-is _ _ f _ (ap filled_of own) (given-is _ _ lo _ low
     (when-is _ _ (together _ _ (together _ _ (together _ _ (lt-ltb _ _ less) (le-leb _ _ most)) (none_is _ aimed)) (none_is _ cursor))))
-plan_of_row seats s v step p (aim f lo hi w own low high at) =
+plan_of_line seats s v step p (aim f lo hi w own low high at) =
     given-is _ _ f _ (ap filled_of own) (given-is _ _ lo _ low (given-is _ _ hi _ high (given-is _ _ w _ (aiming_is v.cursor w at) refl)))
-plan_of_row seats s v step p (clear_home n rest own even ready) =
+plan_of_line seats s v step p (clear_home n rest own even ready) =
     given-is _ _ (n, rest) _ (ap first_of_list ready) (when-is _ _ (together _ _ (together _ _ (ap is_nothing own) (eq-eqb _ _ even)) (eq-eqb _ _ refl)))
-plan_of_row seats s v step p (walk cell odd hand at) = given-is _ _ cell _ at (when-is _ _ (together _ _ (eq-eqb _ _ odd) (none_is _ hand)))
-plan_of_row seats s v step p (read_lo c y n cursor node next plain) =
+plan_of_line seats s v step p (walk cell odd hand at) = given-is _ _ cell _ at (when-is _ _ (together _ _ (eq-eqb _ _ odd) (none_is _ hand)))
+plan_of_line seats s v step p (read_lo c y n cursor node next plain) =
     given-is _ _ c _ cursor (given-is _ _ y _ node (given-is _ _ n _ next (when-is _ _ (eq-eqb _ _ plain))))
-plan_of_row seats s v step p (read_hi c y n lo cursor node next plain low own) =
+plan_of_line seats s v step p (read_hi c y n lo cursor node next plain low own) =
     given-is _ _ c _ cursor (given-is _ _ y _ node (given-is _ _ n _ next (given-is _ _ lo _ low (when-is _ _ (together _ _ (eq-eqb _ _ plain) (judging_is v.own own))))))
-plan_of_row seats s v step p (link f c lo hi own cursor low high aimed plain place) =
+plan_of_line seats s v step p (link f c lo hi own cursor low high aimed plain place) =
     given-is _ _ f _ (ap filled_of own) (given-is _ _ c _ cursor (given-is _ _ lo _ low (given-is _ _ hi _ high (given-is _ _ c.cur _ aimed
     (when-is _ _ (together _ _ (together _ _ (eq-eqb _ _ refl) (eq-eqb _ _ plain)) (placed_is c place)))))))
-plan_of_row seats s v step p (unlink c y n cursor node next marked hand) =
+plan_of_line seats s v step p (unlink c y n cursor node next marked hand) =
     given-is _ _ c _ cursor (given-is _ _ y _ node (given-is _ _ n _ next (when-is _ _ (together _ _ (eq-eqb _ _ marked) (none_is _ hand)))))
-plan_of_row seats s v step p (mark k own) = given-is _ _ k _ (ap listed_of own) refl
-plan_of_row seats s v step p (quick_link f lo hi own low high aimed even) =
+plan_of_line seats s v step p (mark k own) = given-is _ _ k _ (ap listed_of own) refl
+plan_of_line seats s v step p (quick_link f lo hi own low high aimed even) =
     given-is _ _ f _ (ap filled_of own) (given-is _ _ lo _ low (given-is _ _ hi _ high (given-is _ _ 0 _ aimed (when-is _ _ (together _ _ (eq-eqb 0 0 refl) (eq-eqb _ _ even))))))
-plan_of_row seats s v step p (quick_unlink k own todo hand) =
+plan_of_line seats s v step p (quick_unlink k own todo hand) =
     given-is _ _ k _ (ap listed_of own) (when-is _ _ (together _ _ (ap is_done todo) (none_is _ hand)))
-plan_of_row seats s v step p (settle c cursor prev low) =
+plan_of_line seats s v step p (settle c cursor prev low) =
     given-is _ _ c _ cursor (when-is _ _ (together _ _ (none_is _ prev) (eq-eqb _ _ low)))

@@ -1,67 +1,35 @@
--- What is proved of the machine: laws over the definitions alone, each named by the contract of a public function
--- with no body. A lock is a state with the sizes that its type keeps and the invariant. The start is one, every step
--- keeps it, and it gives exclusion and no reuse; so both hold after every run. Kogan, Dice and Issa 2020 argue for
--- their list in prose; the barrier before reuse is this project's own profile.
-use Rattle.std.specs.Prelude.{◌≡◌, ℕ, suc, ◌<◌, ◌≤◌, ◌↔◌, List, Some, slice_get}
-use Rattle.lock_core.specs.Range.{Overlaps}
-use Rattle.lock_core.specs.Grants.{IsExclusive, AreExclusive}
+-- What is proved of the definitions of this crate, each named by the contract of a public function with no body. The
+-- laws of the lock as a whole stand in the crate `lock_laws`. This project's own profile.
+use Rattle.std.specs.Prelude.{◌≡◌, ℕ, ◌/◌, ◌↔◌, Option, Some}
+use Rattle.lock_core.specs.Range.{Interval}
+use Rattle.lock_core.specs.Grants.{Conflicts}
+use Rattle.lock_core.specs.declared.range.Mode.{Mode}
 use Rattle.lock_core.specs.declared.range.Mode.TheVariants.{Reader, Writer}
+use Rattle.lock_core.specs.declared.range.Held.{Held}
+use Rattle.lock_core.specs.declared.views.Todo.TheVariants.{Forward, FromHead}
+use Rattle.lock_core.specs.declared.views.Own.TheVariants.{Filling, Linked}
+use Rattle.lock_core.specs.declared.compare.Verdict.TheVariants.{Conflict}
+use Rattle.lock_core.specs.Words.{mode_of}
+use Rattle.lock_core.specs.Compare.{verdict_of}
 use Rattle.lock_core.specs.declared.views.View.{View}
 use Rattle.lock_core.specs.declared.steps.Step.{Step}
-use Rattle.lock_core.specs.declared.steps.Step.TheVariants.{ClearHome}
-use Rattle.lock_core.specs.Paths.{Reach}
-use Rattle.lock_core.specs.Words.{to}
-use Rattle.lock_core.specs.Nodes.{Listed, listed, times}
-use Rattle.lock_core.specs.Rows.{Plan, Row}
-use Rattle.lock_core.specs.Machine.{Machine, heap, plan, after, run, start, held_by_seat, grants_from}
-use Rattle.lock_core.specs.Sizes.{IsSized}
-use Rattle.lock_core.specs.Invariant.{LockInvariant, NoReuse}
+use Rattle.lock_core.specs.StepTable.{Plan, IsLine}
+use Rattle.lock_core.specs.Machine.{plan}
 
--- a state that the lock may be in between two steps
-pub record IsLock (m : Machine) : Type 0 where
-  pub sized : IsSized m
-  pub invariant : LockInvariant (heap m) m.views
+-- the computing plan is the table: it gives a plan exactly where that is the line of the step
+abbrev pub PlanIsLine : Type 0
+PlanIsLine = (seats s : ℕ) (v : View) (step : Step) (p : Plan) → (plan seats s v step ≡ Some p) ↔ IsLine seats s v step p
 
--- the computing plan is the table: it gives a plan exactly where that is the row of the step
-abbrev pub PlanIsRow : Type 0
-PlanIsRow = (seats s : ℕ) (v : View) (step : Step) (p : Plan) → (plan seats s v step ≡ Some p) ↔ Row seats s v step p
+-- what a node holds whose lo word and hi word these are
+abbrev pub node_held : ℕ → ℕ → Held
+node_held node_lo word = record { range = record { lo = node_lo; hi = word / 2 }; mode = mode_of word }
 
--- before any step the state is a lock, with any number of seats that there may be
-abbrev pub StartIsLock : Type 0
-StartIsLock = (seats : ℕ) → 0 < seats → seats ≤ 16 → IsLock (start seats)
-
--- this step, of any seat and wherever it is enabled, makes a lock of a lock
-abbrev pub Keeps : Step → Type 0
-Keeps step = (m next : Machine) (s : ℕ) → IsLock m → after m s step ≡ Some next → IsLock next
-
--- no two conflicting ranges are held
-abbrev pub LockIsExclusive : Type 0
-LockIsExclusive = (m : Machine) → IsLock m → IsExclusive (held_by_seat m)
-
--- of a linked reader and a linked writer that overlap the reader stands before the writer
-abbrev pub ReaderStandsFirst : Type 0
-ReaderStandsFirst =
-    (m : Machine) (i j : ℕ) (v u : View) (r w : Listed) → IsLock m → slice_get m.views i ≡ Some v → slice_get m.views j ≡ Some u → v.own ≡ listed r → u.own ≡ listed w →
-    r.mode ≡ Reader → w.mode ≡ Writer → Overlaps r.range w.range → Reach (to (heap m)) w.node (to (heap m) (suc r.node))
-
--- no view may reach a node that is ready or being filled
-abbrev pub LockHasNoReuse : Type 0
-LockHasNoReuse = (m : Machine) → IsLock m → NoReuse (heap m) m.views
-
--- a node leaves the ready ones of seat i only by a ClearHome of seat i, which names it
-abbrev pub LeavesReadyByClearHome : Type 0
-LeavesReadyByClearHome =
-    (m next : Machine) (s i x : ℕ) (step : Step) (v u : View) →
-    after m s step ≡ Some next → slice_get m.views i ≡ Some v → slice_get next.views i ≡ Some u → times x u.ready < times x v.ready →
-    (i ≡ s) × (step ≡ ClearHome x)
-
--- after any run, however long and however the seats take turns
-abbrev pub RunsAreExclusive : Type 0
-RunsAreExclusive = (seats : ℕ) (steps : List (ℕ × Step)) → 0 < seats → seats ≤ 16 → IsExclusive (held_by_seat (run (start seats) steps))
-
--- and the same of the held ranges as a list of grants, in which no seat stands twice
-abbrev pub RunsGrantApart : Type 0
-RunsGrantApart = (seats : ℕ) (steps : List (ℕ × Step)) → 0 < seats → seats ≤ 16 → AreExclusive (grants_from 0 (held_by_seat (run (start seats) steps)))
-
-abbrev pub RunsHaveNoReuse : Type 0
-RunsHaveNoReuse = (seats : ℕ) (steps : List (ℕ × Step)) → 0 < seats → seats ≤ 16 → NoReuse (heap (run (start seats) steps)) (run (start seats) steps).views
+-- a node is judged to be in conflict exactly where what it holds conflicts with what the seat is to hold: while the
+-- seat fills a node whose ends are known, while a reader validates forward, and while a writer validates from the head
+pub record JudgesByConflict : Type 0 where
+  pub filling : (node lo hi : ℕ) (mode : Mode) (aimed : Option ℕ) (node_lo word : ℕ) →
+      (verdict_of (Filling node (Some lo) (Some hi) mode aimed) node_lo word ≡ Conflict) ↔ Conflicts (record { range = record { lo = lo; hi = hi }; mode = mode }) (node_held node_lo word)
+  pub reader : (node : ℕ) (range : Interval) (mode : Mode) (node_lo word : ℕ) →
+      (verdict_of (Linked node range mode Forward) node_lo word ≡ Conflict) ↔ Conflicts (record { range = range; mode = Reader }) (node_held node_lo word)
+  pub writer : (node : ℕ) (range : Interval) (mode : Mode) (node_lo word : ℕ) →
+      (verdict_of (Linked node range mode FromHead) node_lo word ≡ Conflict) ↔ Conflicts (record { range = range; mode = Writer }) (node_held node_lo word)

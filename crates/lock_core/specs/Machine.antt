@@ -1,7 +1,8 @@
--- The list lock as a pure machine: its state, and a step of a seat as a function. `plan` computes the row of the
--- table that a view enables; that it is the relation `Row`, for every step, is proved. A state with all its words and
--- views is a `Machine`; `start` is the state before any step. This project's own profile.
+-- The list lock as a pure machine: its state, and a step of a seat as a function. `plan` computes the line of the
+-- table that a view enables; that it is the relation `IsLine`, for every step, is proved. A state with all its words
+-- and views is a `Machine`; `start` is the state before any step. This project's own profile.
 use Rattle.std.specs.Prelude.{◌≡◌, ℕ, zero, suc, ◌+◌, ◌-◌, ◌*◌, ◌%◌, ◌^◌, ◌==◌, ◌&&◌, nat_lt, nat_le, Bool, true, false, not, if◌then◌else◌, List, [], ◌∷◌, map, replicate, slice_get, slice_index, slice_set, is_some, is_none, unwrap_or, option_map, Option, Some, None, ◌++◌}
+use Rattle.view_lists.specs.Counted.{times, is_empty}
 use Rattle.lock_core.specs.declared.range.Held.{Held}
 use Rattle.lock_core.specs.declared.range.Grant.{Grant}
 use Rattle.lock_core.specs.declared.views.View.{View}
@@ -13,9 +14,9 @@ use Rattle.lock_core.specs.declared.views.Own.TheVariants.{Nothing, Filling, Lin
 use Rattle.lock_core.specs.declared.steps.Step.{Step}
 use Rattle.lock_core.specs.declared.steps.Step.TheVariants.{Enter, Leave, ReadEpoch, ReadHome, GiveHome, FillLo, FillHi, Aim, ClearHome, Walk, ReadLo, ReadHi, Link, Unlink, Mark, QuickLink, QuickUnlink, Settle}
 use Rattle.lock_core.specs.Words.{Heap, heap_of, word_count, cell_place, epoch_place, lo_place, hi_place, home_place, hi_word, cell_of, plain_node_of}
-use Rattle.lock_core.specs.Nodes.{filled_of, listed_of, times}
+use Rattle.lock_core.specs.Nodes.{filled_of, listed_of}
 use Rattle.lock_core.specs.Views.{entered, left, epoch_read, home_read, gave_home, lo_filled, hi_filled, aimed_at, taken, walk_cell, walked, lo_read, hi_read, dropped, todo_of, linked, unlinked, marked, quick_linked, quick_unlinked, settled}
-use Rattle.lock_core.specs.Rows.{Plan, loads, stores, adds_one, counts_on, exchanges}
+use Rattle.lock_core.specs.StepTable.{Plan, loads, stores, adds_one, counts_on, exchanges}
 
 -- what follows where there is a value
 abbrev pub given : {A B : Type 0} → Option A → (A → Option B) → Option B
@@ -60,11 +61,7 @@ abbrev pub first_of_list : List ℕ → Option (ℕ × List ℕ)
 first_of_list [] = None
 first_of_list (n ∷ rest) = Some (n, rest)
 
-abbrev pub is_empty : List ℕ → Bool
-is_empty [] = true
-is_empty (n ∷ rest) = false
-
--- the row that the view enables for a step, or none
+-- the line that the view enables for a step, or none
 abbrev pub plan : ℕ → ℕ → View → Step → Option Plan
 plan seats s v Enter = when (v.epoch % 2 == 0 && is_none v.hand) (counts_on (epoch_place s) (entered v))
 plan seats s v Leave = when (v.epoch % 2 == 1 && is_none v.hand && may_leave v.own) (counts_on (epoch_place s) (left v))

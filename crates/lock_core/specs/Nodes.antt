@@ -1,7 +1,7 @@
--- Own nodes as records, and how often a node stands in a list. `Own` is an enum of the code; a rule that speaks of a
--- node being filled or linked names its parts by these records. Places of nodes are told by counts: a node that is
--- counted once over several lists is in one of them and nowhere twice. This project's own profile.
-use Rattle.std.specs.Prelude.{ℕ, ◌+◌, ◌==◌, if◌then◌else◌, List, [], ◌∷◌, Option, Some, None}
+-- Own nodes as records. `Own` is an enum of the code; a rule that speaks of a node being filled or linked names its
+-- parts by these records. An own node is counted beside the lists of a view, so that a node that is counted once over
+-- all of them is at one place and nowhere twice. This project's own profile.
+use Rattle.std.specs.Prelude.{ℕ, ◌==◌, if◌then◌else◌, Option, Some, None}
 use Rattle.lock_core.specs.Range.{Interval}
 use Rattle.lock_core.specs.declared.range.Mode.{Mode}
 use Rattle.lock_core.specs.declared.views.Todo.{Todo}
@@ -39,18 +39,8 @@ listed_of (Linked node range mode todo) = Some (record { node = node; range = ra
 listed_of Nothing = None
 listed_of (Filling node lo hi mode aimed) = None
 
--- how many times x stands in the list
-abbrev pub times : ℕ → List ℕ → ℕ
-times x [] = 0
-times x (y ∷ ys) = (if y == x then 1 else 0) + times x ys
-
 -- once where x is the own node, otherwise 0
 abbrev pub own_times : ℕ → Own → ℕ
 own_times x Nothing = 0
 own_times x (Filling node lo hi mode aimed) = if node == x then 1 else 0
 own_times x (Linked node range mode todo) = if node == x then 1 else 0
-
--- the nodes of the second list that aren't in the first
-abbrev pub without : List ℕ → List ℕ → List ℕ
-without hs [] = []
-without hs (y ∷ ys) = if times y hs == 0 then y ∷ without hs ys else without hs ys

@@ -1,16 +1,18 @@
 -- What the type of a state keeps, whatever steps were made: sizes, and that every node and seat that it names is
 -- there. It is what a step needs to be safe and to take no memory: lists of different nodes of one seat are no longer
 -- than the room that was reserved for them. This project's own profile.
-use Rattle.std.specs.Prelude.{◌≡◌, ◌≢◌, ℕ, suc, ◌+◌, ◌*◌, ◌/◌, ◌%◌, ◌<◌, ◌≤◌, ◌==◌, if◌then◌else◌, List, length, slice_get, slice_index, Option, Some, None}
+use Rattle.std.specs.Prelude.{◌≡◌, ◌≢◌, ℕ, suc, ◌+◌, ◌*◌, ◌/◌, ◌%◌, ◌<◌, ◌≤◌, ◌==◌, if◌then◌else◌, List, length, slice_get, option_map, Option, Some, None}
+use Rattle.view_lists.specs.Counted.{times}
 use Rattle.lock_core.specs.Range.{Interval, IsRange}
 use Rattle.lock_core.specs.declared.range.Mode.{Mode}
 use Rattle.lock_core.specs.declared.views.Todo.{Todo}
+use Rattle.lock_core.specs.declared.views.Todo.TheVariants.{FromHead}
 use Rattle.lock_core.specs.declared.views.Own.{Own}
-use Rattle.lock_core.specs.declared.views.Own.TheVariants.{Filling, Linked}
+use Rattle.lock_core.specs.declared.views.Own.TheVariants.{Nothing, Filling, Linked}
 use Rattle.lock_core.specs.declared.views.View.{View}
 use Rattle.lock_core.specs.declared.views.Cursor.{Cursor}
-use Rattle.lock_core.specs.Words.{Heap, to, word_count, cell_place}
-use Rattle.lock_core.specs.Nodes.{Filled, Listed, filling, listed, times, own_times}
+use Rattle.lock_core.specs.Words.{Heap, to, word_count}
+use Rattle.lock_core.specs.Nodes.{Filled, Listed, filling, listed, own_times}
 use Rattle.lock_core.specs.Machine.{Machine, heap}
 
 -- node n is there
@@ -38,22 +40,30 @@ pub record AreNodesSized (i : ℕ) (own : Own) (ready used homes : List ℕ) : T
   pub nodes : (x : ℕ) → own_times x own + times x ready + times x used ≤ (if x / 16 == i then 1 else 0)
   pub homes_used : (x : ℕ) → times x homes ≤ times x used
 
--- the next word of an own node that is aimed or linked has no low bit, and an aim names a node that is there, or the
+-- of an own node that is being filled what is known is known in order, and its aim names a node that is there, or the
 -- end
-pub record IsOwnSized (seats : ℕ) (h : Heap) (own : Own) : Type 0 where
+pub record IsOwnSized (seats : ℕ) (own : Own) : Type 0 where
   pub filled : (f : Filled) → own ≡ filling f → IsFilledInOrder f
   pub aim_there : (f : Filled) (w : ℕ) → own ≡ filling f → f.aimed ≡ Some w → NamesNode seats w
-  pub aimed : (f : Filled) (w : ℕ) → own ≡ filling f → f.aimed ≡ Some w → h.next (suc f.node) % 2 ≡ 0
-  pub linked : (k : Listed) → own ≡ listed k → h.next (suc k.node) % 2 ≡ 0
 
--- what is kept of the view of seat i
-pub record IsViewSized (seats : ℕ) (h : Heap) (i : ℕ) (v : View) : Type 0 where
+-- what the view of seat i keeps by itself, whatever the words are
+pub record IsViewSized (seats i : ℕ) (v : View) : Type 0 where
   pub notes : length v.notes ≡ seats
   pub passed : length v.passed ≡ seats
   pub nodes : AreNodesSized i v.own v.ready v.used v.homes
-  pub own : IsOwnSized seats h v.own
+  pub own : IsOwnSized seats v.own
   pub hand : (x : ℕ) → v.hand ≡ Some x → IsNode seats x
   pub cursor : (c : Cursor) → v.cursor ≡ Some c → IsCursorThere seats c
+
+-- an own node whose next word is aimed, or that is linked
+abbrev pub bound_node : Own → Option ℕ
+bound_node Nothing = None
+bound_node (Filling node lo hi mode aimed) = option_map (λ _. node) aimed
+bound_node (Linked node range mode todo) = Some node
+
+-- its next word has no low bit
+abbrev pub IsOwnEven : Heap → Own → Type 0
+IsOwnEven h own = (n : ℕ) → bound_node own ≡ Some n → h.next (suc n) % 2 ≡ 0
 
 -- what is kept of the whole state
 pub record IsSized (m : Machine) : Type 0 where
@@ -62,17 +72,29 @@ pub record IsSized (m : Machine) : Type 0 where
   pub words : length m.words ≡ word_count m.seats
   pub views : length m.views ≡ m.seats
   pub cells : (c : ℕ) → c ≤ 16 * m.seats → to (heap m) c ≤ 16 * m.seats
-  pub each : (i : ℕ) (v : View) → slice_get m.views i ≡ Some v → IsViewSized m.seats (heap m) i v
+  pub each : (i : ℕ) (v : View) → slice_get m.views i ≡ Some v → IsViewSized m.seats i v
+  pub even : (i : ℕ) (v : View) → slice_get m.views i ≡ Some v → IsOwnEven (heap m) v.own
+
+-- what a seat may rely on of its own view whatever other seats do, in every state that a lock may be in
+pub record IsViewSound (seats i : ℕ) (v : View) : Type 0 where
+  pub sized : IsViewSized seats i v
+  -- outside an operation there is no cursor
+  pub outside : v.epoch % 2 ≡ 0 → v.cursor ≡ None
+  -- a cursor with the low bit is at the head and knows nothing
+  pub at_head : (c : Cursor) → v.cursor ≡ Some c → c.cur % 2 ≡ 1 → (c.prev ≡ None) × (c.next ≡ None) × (c.lo ≡ None)
+  -- a writer that validates isn't at the end before it comes to its own node
+  pub not_at_end : (k : Listed) (c : Cursor) → v.own ≡ listed k → k.todo ≡ FromHead → v.cursor ≡ Some c → c.cur / 2 ≢ 0
+  -- where its next word or its lower end is known, a cursor is at a node
+  pub next_node : (c : Cursor) (n : ℕ) → v.cursor ≡ Some c → c.next ≡ Some n → c.cur / 2 ≢ 0
+  pub lo_node : (c : Cursor) (lo : ℕ) → v.cursor ≡ Some c → c.lo ≡ Some lo → c.cur / 2 ≢ 0
 
 -- what seat s may rely on when it makes a step: all that it names is there, and there is room in its lists
-pub record MayStep (seats s : ℕ) (ws : List ℕ) (v : View) : Type 0 where
+pub record MayStep (seats s : ℕ) (v : View) : Type 0 where
   pub few : seats ≤ 16
   pub seat : s < seats
-  pub words : length ws ≡ word_count seats
   pub filling : (node : ℕ) (lo hi : Option ℕ) (mode : Mode) (aimed : Option ℕ) → v.own ≡ Filling node lo hi mode aimed → IsNode seats node
   pub ends : (node lo hi : ℕ) (mode : Mode) (aimed : Option ℕ) → v.own ≡ Filling node (Some lo) (Some hi) mode aimed → IsRange lo hi
   pub linked : (node : ℕ) (range : Interval) (mode : Mode) (todo : Todo) → v.own ≡ Linked node range mode todo → IsNode seats node
-  pub even : (node : ℕ) (range : Interval) (mode : Mode) (todo : Todo) → v.own ≡ Linked node range mode todo → slice_index ws (cell_place seats (suc node)) % 2 ≡ 0
   pub hand : (x : ℕ) → v.hand ≡ Some x → IsNode seats x
   pub prev : (c : Cursor) (p : ℕ) → v.cursor ≡ Some c → c.prev ≡ Some p → IsNode seats p
   pub cur : (c : Cursor) → v.cursor ≡ Some c → NamesNode seats c.cur

@@ -1,9 +1,9 @@
 -- What each step makes of the stepping seat's view, by the value that its word had. A view changes at its own seat's
--- steps alone. The definitions stand in the order of the steps; the rows of the table and the computing plan both
+-- steps alone. The definitions stand in the order of the steps; the lines of the table and the computing plan both
 -- cite them. Cursors follow Kogan, Dice and Issa 2020; epochs, homes, notes and the barrier are this project's own
 -- profile.
-use Rattle.std.specs.Prelude.{ℕ, suc, ◌+◌, ◌-◌, ◌*◌, ◌/◌, ◌%◌, ◌^◌, ◌==◌, ◌&&◌, min, Bool, true, false, if◌then◌else◌, List, [], ◌∷◌, ◌++◌, take, drop, replicate, slice_get, slice_set, unwrap_or, option_map, Option, Some, None}
-use Rattle.std.specs.List.{list_all}
+use Rattle.std.specs.Prelude.{ℕ, suc, ◌+◌, ◌-◌, ◌*◌, ◌/◌, ◌%◌, ◌^◌, ◌==◌, min, Bool, true, false, if◌then◌else◌, List, [], ◌∷◌, ◌++◌, replicate, slice_get, slice_set, unwrap_or, option_map, Option, Some, None}
+use Rattle.view_lists.specs.Counted.{without, are_others_passed}
 use Rattle.lock_core.specs.declared.range.Mode.{Mode}
 use Rattle.lock_core.specs.declared.range.Mode.TheVariants.{Reader, Writer}
 use Rattle.lock_core.specs.declared.views.View.{View}
@@ -15,7 +15,7 @@ use Rattle.lock_core.specs.declared.views.Own.TheVariants.{Nothing, Filling, Lin
 use Rattle.lock_core.specs.declared.compare.Verdict.{Verdict}
 use Rattle.lock_core.specs.declared.compare.Verdict.TheVariants.{Past, Stop, Conflict}
 use Rattle.lock_core.specs.Words.{cell_of, plain_node_of}
-use Rattle.lock_core.specs.Nodes.{Filled, without}
+use Rattle.lock_core.specs.Nodes.{Filled}
 use Rattle.lock_core.specs.Compare.{verdict_of}
 
 -- an epoch counts on, and wraps
@@ -49,10 +49,6 @@ is_passed v j = unwrap_or (slice_get v.passed j) false
 
 abbrev pub note_of : View → ℕ → Option ℕ
 note_of v j = unwrap_or (slice_get v.notes j) None
-
--- every seat but seat s is passed
-abbrev pub are_others_passed : ℕ → List Bool → Bool
-are_others_passed s passed = list_all (λ b. b) (take s passed) && list_all (λ b. b) (drop (s + 1) passed)
 
 abbrev pub passes : View → ℕ → View
 passes v j = record v { passed = slice_set v.passed j true }

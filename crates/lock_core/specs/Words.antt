@@ -1,7 +1,7 @@
 -- The words of the list lock by what they are, where each stands, and their codes. A list of words is read as a
 -- `Heap`, functions from cells, nodes and seats to words; the rules of the machine and its invariant speak of heaps,
--- and only the table's rows name places. This project's own profile; the mark in the low bit of a node's next word
--- follows Harris 2001 and Kogan, Dice and Issa 2020.
+-- and only the lines of the step table name places. This project's own profile; the mark in the low bit of a node's
+-- next word follows Harris 2001 and Kogan, Dice and Issa 2020.
 use Rattle.std.specs.Prelude.{◌≡◌, ℕ, zero, suc, ◌+◌, ◌-◌, ◌*◌, ◌/◌, ◌%◌, ◌==◌, Bool, if◌then◌else◌, List, slice_index, Option, Some, None}
 use Rattle.lock_core.specs.declared.range.Mode.{Mode}
 use Rattle.lock_core.specs.declared.range.Mode.TheVariants.{Reader, Writer}
@@ -50,7 +50,7 @@ abbrev pub hi_word : ℕ → Mode → ℕ
 hi_word hi Reader = 2 * hi
 hi_word hi Writer = 2 * hi + 1
 
--- the mode of which a hi word tells
+-- the mode that a hi word says
 abbrev pub mode_of : ℕ → Mode
 mode_of w = if w % 2 == 1 then Writer else Reader
 

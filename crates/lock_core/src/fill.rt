@@ -1,13 +1,15 @@
 //! The steps that fill the own node before it is linked: FillLo, FillHi, Aim, and ClearHome, which takes it. Nobody
 //! else reaches the node meanwhile, so its words are stored plainly; what was stored is known in the view. This
 //! project's own profile; the order of filling, aiming and linking follows Kogan, Dice and Issa 2020.
-ghost use Rattle.std.specs.Prelude.{◌≡◌, ◌*◌, ◌^◌, ◌<◌, ◌≤◌};
+ghost use Rattle.std.specs.Prelude.{◌≡◌, ℕ, ◌*◌, ◌^◌, ◌<◌, ◌≤◌, IfSome};
 ghost use Rattle.lock_core.specs.declared.steps.Step.TheVariants.{FillLo, FillHi, Aim, ClearHome};
-ghost use Rattle.lock_core.specs.Words.{hi_word};
+ghost use Rattle.lock_core.specs.Words.{hi_word, word_count};
 ghost use Rattle.lock_core.specs.Sizes.{MayStep};
-ghost use Rattle.lock_core.specs.Machine.{Makes, plan, aim_of, is_at_place};
+ghost use Rattle.lock_core.specs.Machine.{plan, aim_of, is_at_place};
+ghost use Rattle.lock_core.specs.Operations.{planned, IsEnabled, IsOpOf};
 
 use crate::layout::Layout;
+use crate::ops::{Act, Op};
 use crate::range::{HIGHEST, Mode};
 use crate::views::{Cursor, Own, View};
 
@@ -29,6 +31,7 @@ pub(crate) fn is_in_place(cursor: Cursor) -> bool
     cursor.cur == 0 || (cursor.next.is_none() && cursor.lo.is_some())
 }
 
+/// The word at which an Aim aims: 0 without a cursor, otherwise that of a cursor at its place.
 fn aim_at(cursor: Option<Cursor>) -> Option<u64>
     ensures { result ≡ aim_of cursor }
 {
@@ -44,9 +47,29 @@ fn aim_at(cursor: Option<Cursor>) -> Option<u64>
     }
 }
 
-pub(crate) fn fill_lo(seats: u32, seat: u32, words: &mut [u64], view: &mut View, x: u64) -> bool
-    requires { MayStep seats seat words.old view.old }
-    ensures { Makes (plan seats seat view.old (FillLo x)) result words.old view.old words.new view.new }
+/// FillLo: stores the lower end, while there is no aim and no cursor.
+pub(crate) fn fill_lo_op(seats: u32, seat: u32, view: &View, x: u64) -> Option<Op>
+    requires { MayStep seats seat view.now }
+    ensures op { IsOpOf (FillLo x) (plan seats seat view.now (FillLo x)) result }
+    ensures there { IfSome result (λ op. op.place < word_count seats) }
+{
+    let Own::Filling { node, aimed, .. } = view.own else {
+        return None;
+    };
+    if aimed.is_some() || view.cursor.is_some() {
+        return None;
+    }
+    Some(Op {
+        place: Layout::of(seats, 0).lo(node),
+        act: Act::Store { value: x },
+    })
+}
+
+/// FillLo: the lower end is known, and the higher one isn't.
+pub(crate) fn fill_lo_view(seats: u32, seat: u32, view: &mut View, x: u64)
+    requires may { MayStep seats seat view.old }
+    requires enabled { IsEnabled seats seat view.old (FillLo x) }
+    ensures { (w : ℕ) → view.new ≡ (planned seats seat view.old (FillLo x)).view w }
 {
     let Own::Filling {
         node,
@@ -55,13 +78,8 @@ pub(crate) fn fill_lo(seats: u32, seat: u32, words: &mut [u64], view: &mut View,
         ..
     } = view.own
     else {
-        return false;
+        unreachable!()
     };
-    if aimed.is_some() || view.cursor.is_some() {
-        return false;
-    }
-    let layout = Layout::of(seats, 0);
-    words[layout.lo(node) as usize] = x;
     view.own = Own::Filling {
         node,
         lo: Some(x),
@@ -69,19 +87,13 @@ pub(crate) fn fill_lo(seats: u32, seat: u32, words: &mut [u64], view: &mut View,
         mode,
         aimed,
     };
-    true
 }
 
-pub(crate) fn fill_hi(
-    seats: u32,
-    seat: u32,
-    words: &mut [u64],
-    view: &mut View,
-    x: u64,
-    how: Mode,
-) -> bool
-    requires { MayStep seats seat words.old view.old }
-    ensures { Makes (plan seats seat view.old (FillHi x how)) result words.old view.old words.new view.new }
+/// FillHi: stores the higher end and the mode, above a lower end that is known.
+pub(crate) fn fill_hi_op(seats: u32, seat: u32, view: &View, x: u64, how: Mode) -> Option<Op>
+    requires { MayStep seats seat view.now }
+    ensures op { IsOpOf (FillHi x how) (plan seats seat view.now (FillHi x how)) result }
+    ensures there { IfSome result (λ op. op.place < word_count seats) }
 {
     let Own::Filling {
         node,
@@ -90,16 +102,37 @@ pub(crate) fn fill_hi(
         ..
     } = view.own
     else {
-        return false;
+        return None;
     };
     let Some(low) = lo else {
-        return false;
+        return None;
     };
     if low >= x || x > HIGHEST || aimed.is_some() || view.cursor.is_some() {
-        return false;
+        return None;
     }
-    let layout = Layout::of(seats, 0);
-    words[layout.hi(node) as usize] = end_word(x, how);
+    Some(Op {
+        place: Layout::of(seats, 0).hi(node),
+        act: Act::Store {
+            value: end_word(x, how),
+        },
+    })
+}
+
+/// FillHi: the higher end and the mode are known.
+pub(crate) fn fill_hi_view(seats: u32, seat: u32, view: &mut View, x: u64, how: Mode)
+    requires may { MayStep seats seat view.old }
+    requires enabled { IsEnabled seats seat view.old (FillHi x how) }
+    ensures { (w : ℕ) → view.new ≡ (planned seats seat view.old (FillHi x how)).view w }
+{
+    let Own::Filling {
+        node,
+        lo,
+        aimed,
+        ..
+    } = view.own
+    else {
+        unreachable!()
+    };
     view.own = Own::Filling {
         node,
         lo,
@@ -107,56 +140,81 @@ pub(crate) fn fill_hi(
         mode: how,
         aimed,
     };
-    true
 }
 
-pub(crate) fn aim(seats: u32, seat: u32, words: &mut [u64], view: &mut View) -> bool
-    requires { MayStep seats seat words.old view.old }
-    ensures { Makes (plan seats seat view.old Aim) result words.old view.old words.new view.new }
+/// Aim: stores the cursor's word, or 0, in the own next word.
+pub(crate) fn aim_op(seats: u32, seat: u32, view: &View) -> Option<Op>
+    requires { MayStep seats seat view.now }
+    ensures op { IsOpOf Aim (plan seats seat view.now Aim) result }
+    ensures there { IfSome result (λ op. op.place < word_count seats) }
 {
     let Own::Filling {
         node,
-        lo: Some(lo),
-        hi: Some(hi),
+        lo: Some(_),
+        hi: Some(_),
+        ..
+    } = view.own
+    else {
+        return None;
+    };
+    let Some(word) = aim_at(view.cursor) else {
+        return None;
+    };
+    Some(Op {
+        place: Layout::of(seats, 0).next(node),
+        act: Act::Store { value: word },
+    })
+}
+
+/// Aim: the own next word is known.
+pub(crate) fn aim_view(seats: u32, seat: u32, view: &mut View)
+    requires may { MayStep seats seat view.old }
+    requires enabled { IsEnabled seats seat view.old Aim }
+    ensures { (w : ℕ) → view.new ≡ (planned seats seat view.old Aim).view w }
+{
+    let Own::Filling {
+        node,
+        lo,
+        hi,
         mode,
         ..
     } = view.own
     else {
-        return false;
+        unreachable!()
     };
-    let Some(word) = aim_at(view.cursor) else {
-        return false;
-    };
-    let layout = Layout::of(seats, 0);
-    words[layout.next(node) as usize] = word;
     view.own = Own::Filling {
         node,
-        lo: Some(lo),
-        hi: Some(hi),
+        lo,
+        hi,
         mode,
-        aimed: Some(word),
+        aimed: aim_at(view.cursor),
     };
-    true
 }
 
-pub(crate) fn clear_home(
-    seats: u32,
-    seat: u32,
-    words: &mut [u64],
-    view: &mut View,
-    node: u32,
-) -> bool
-    requires { MayStep seats seat words.old view.old }
-    ensures { Makes (plan seats seat view.old (ClearHome node)) result words.old view.old words.new view.new }
+/// ClearHome: stores 0 in the home word of the first ready node.
+pub(crate) fn clear_home_op(seats: u32, seat: u32, view: &View, node: u32) -> Option<Op>
+    requires { MayStep seats seat view.now }
+    ensures op { IsOpOf (ClearHome node) (plan seats seat view.now (ClearHome node)) result }
+    ensures there { IfSome result (λ op. op.place < word_count seats) }
 {
     let Some(first) = view.ready.first() else {
-        return false;
+        return None;
     };
     if first != node || view.epoch % 2 != 0 || view.own != Own::Nothing {
-        return false;
+        return None;
     }
-    let layout = Layout::of(seats, 0);
-    words[layout.home(node) as usize] = 0;
+    Some(Op {
+        place: Layout::of(seats, 0).home(node),
+        act: Act::Store { value: 0 },
+    })
+}
+
+/// ClearHome: the node is the own one, and nothing is known of its words.
+pub(crate) fn clear_home_view(seats: u32, seat: u32, view: &mut View, node: u32)
+    requires may { MayStep seats seat view.old }
+    requires enabled { IsEnabled seats seat view.old (ClearHome node) }
+    ensures { (w : ℕ) → view.new ≡ (planned seats seat view.old (ClearHome node)).view w }
+{
     view.ready.take_first();
     view.own = Own::Filling {
         node,
@@ -165,5 +223,4 @@ pub(crate) fn clear_home(
         mode: Mode::Writer,
         aimed: None,
     };
-    true
 }

@@ -14,7 +14,7 @@ pub trait Guard {
     /// The plain data that a seat knows.
     type Pass;
 
-    /// The plain data by which a caller tells what it means by a client step.
+    /// The plain data by which a caller says what it means by a client step.
     type Note;
 
     /// The pass with which the seat of a number begins, over the client words of the opening.

@@ -4,7 +4,6 @@
 //! next word follows Harris 2001 and Kogan, Dice and Issa 2020.
 ghost use Rattle.std.specs.Prelude.{◌≡◌, ℕ, suc, Some, None, ◌+◌, ◌*◌, ◌/◌, ◌%◌, ◌^◌, ◌<◌, ◌≤◌, ◌==◌, IsTrue, ◌↔◌};
 ghost use Rattle.lock_core.specs.Words.{cell_of, cell_place, epoch_place, lo_place, hi_place, home_place, client_place, word_count, word_of, node_of};
-ghost use Rattle.lock_core.specs.Places.{PlacesDiffer, CodesReadBack};
 
 use std::marker::Model;
 
@@ -92,6 +91,17 @@ impl Layout {
         self.seats + 4 + 4 * n
     }
 
+    /// The place of the word that names what stands behind a node, or behind the head.
+    pub fn cell(&self, prev: Option<u32>) -> u32
+        requires { (n : ℕ) → prev ≡ Some n → n < 16 * self.now.seats }
+        ensures { result ≡ cell_place self.now.seats (cell_of prev) }
+    {
+        match prev {
+            None => self.head(),
+            Some(n) => self.next(n),
+        }
+    }
+
     /// The place of client word `i`.
     pub fn client(&self, i: u32) -> u32
         requires { i < self.now.client }
@@ -105,17 +115,6 @@ impl Layout {
         ensures { result ≡ word_count self.now.seats + self.now.client }
     {
         1 + 65 * self.seats + self.client
-    }
-}
-
-/// The place of the word that names what stands behind a node, or behind the head.
-pub(crate) fn cell(layout: Layout, prev: Option<u32>) -> usize
-    requires { (n : ℕ) → prev ≡ Some n → n < 16 * layout.seats }
-    ensures { result ≡ cell_place layout.seats (cell_of prev) }
-{
-    match prev {
-        None => layout.head() as usize,
-        Some(n) => layout.next(n) as usize,
     }
 }
 
@@ -141,14 +140,3 @@ pub fn read_word(w: u64) -> (Option<u32>, bool)
     };
     (node, w % 2 == 1)
 }
-
-/// All places of words differ, and lie below the number of words: a law, with nothing to run.
-pub fn places_differ()
-    ensures { PlacesDiffer }
-{}
-
-/// A code that is read back gives the node and the mark of which it was made, and no two nodes and marks have one
-/// code: a law, with nothing to run.
-pub fn codes_read_back()
-    ensures { CodesReadBack }
-{}

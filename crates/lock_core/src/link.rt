@@ -2,14 +2,17 @@
 //! unlinked once it is marked, and marked by its owner alone. An exchange that finds another value changes no word
 //! and lets the cursor go. Harris 2001 for the mark and the unlinking by whoever passes; Kogan, Dice and Issa 2020
 //! for the list of ranges.
-ghost use Rattle.std.specs.Prelude.{◌≡◌, ◌+◌, ◌%◌};
+ghost use Rattle.std.specs.Prelude.{◌≡◌, ℕ, ◌+◌, ◌%◌, ◌<◌, IfSome};
 ghost use Rattle.lock_core.specs.declared.steps.Step.TheVariants.{Link, Unlink, Mark};
+ghost use Rattle.lock_core.specs.Words.{word_count};
 ghost use Rattle.lock_core.specs.Views.{todo_of};
 ghost use Rattle.lock_core.specs.Sizes.{MayStep};
-ghost use Rattle.lock_core.specs.Machine.{Makes, plan};
+ghost use Rattle.lock_core.specs.Machine.{plan};
+ghost use Rattle.lock_core.specs.Operations.{planned, IsEnabled, IsOpOf};
 
 use crate::fill::is_in_place;
-use crate::layout::{Layout, cell, node_word};
+use crate::layout::{Layout, node_word};
+use crate::ops::{Act, Op};
 use crate::range::{Mode, Range};
 use crate::views::{Own, Todo, View};
 use crate::walk::{come_to, plain_node};
@@ -24,9 +27,42 @@ fn todo_after(mode: Mode) -> Todo
     }
 }
 
-pub(crate) fn link(seats: u32, seat: u32, words: &mut [u64], view: &mut View) -> bool
-    requires { MayStep seats seat words.old view.old }
-    ensures { Makes (plan seats seat view.old Link) result words.old view.old words.new view.new }
+/// Link: exchanges the cursor's word for the own node, which is aimed at that word.
+pub(crate) fn link_op(seats: u32, seat: u32, view: &View) -> Option<Op>
+    requires { MayStep seats seat view.now }
+    ensures op { IsOpOf Link (plan seats seat view.now Link) result }
+    ensures there { IfSome result (λ op. op.place < word_count seats) }
+{
+    let Own::Filling {
+        node,
+        lo: Some(_),
+        hi: Some(_),
+        aimed: Some(aimed),
+        ..
+    } = view.own
+    else {
+        return None;
+    };
+    let Some(cursor) = view.cursor else {
+        return None;
+    };
+    if aimed != cursor.cur || cursor.cur % 2 != 0 || !is_in_place(cursor) {
+        return None;
+    }
+    Some(Op {
+        place: Layout::of(seats, 0).cell(cursor.prev),
+        act: Act::Exchange {
+            old: cursor.cur,
+            new: node_word(node, false),
+        },
+    })
+}
+
+/// Link: the own node is linked where the word was found as expected; the cursor goes.
+pub(crate) fn link_view(seats: u32, seat: u32, view: &mut View, found: u64)
+    requires may { MayStep seats seat view.old }
+    requires enabled { IsEnabled seats seat view.old Link }
+    ensures { view.new ≡ (planned seats seat view.old Link).view found }
 {
     let Own::Filling {
         node,
@@ -36,20 +72,12 @@ pub(crate) fn link(seats: u32, seat: u32, words: &mut [u64], view: &mut View) ->
         aimed: Some(aimed),
     } = view.own
     else {
-        return false;
+        unreachable!()
     };
-    let Some(cursor) = view.cursor else {
-        return false;
-    };
-    if aimed != cursor.cur || cursor.cur % 2 != 0 || !is_in_place(cursor) {
-        return false;
-    }
-    let place = cell(Layout::of(seats, 0), cursor.prev);
-    if words[place] == aimed {
+    if found == aimed {
         let Ok(range) = Range::of(lo, hi) else {
             unreachable!()
         };
-        words[place] = node_word(node, false);
         view.own = Own::Linked {
             node,
             range,
@@ -58,54 +86,79 @@ pub(crate) fn link(seats: u32, seat: u32, words: &mut [u64], view: &mut View) ->
         };
     }
     view.cursor = None;
-    true
 }
 
-pub(crate) fn unlink(seats: u32, seat: u32, words: &mut [u64], view: &mut View) -> bool
-    requires { MayStep seats seat words.old view.old }
-    ensures { Makes (plan seats seat view.old Unlink) result words.old view.old words.new view.new }
+/// Unlink: exchanges the cursor's word for the next word of the cursor's node, which is marked, without the mark.
+pub(crate) fn unlink_op(seats: u32, seat: u32, view: &View) -> Option<Op>
+    requires { MayStep seats seat view.now }
+    ensures op { IsOpOf Unlink (plan seats seat view.now Unlink) result }
+    ensures there { IfSome result (λ op. op.place < word_count seats) }
 {
     let Some(cursor) = view.cursor else {
-        return false;
-    };
-    let Some(node) = plain_node(cursor.cur) else {
-        return false;
+        return None;
     };
     let Some(next) = cursor.next else {
-        return false;
+        return None;
     };
-    if next % 2 != 1 || view.hand.is_some() {
-        return false;
+    if plain_node(cursor.cur).is_none() || next % 2 != 1 || view.hand.is_some() {
+        return None;
     }
-    let place = cell(Layout::of(seats, 0), cursor.prev);
-    if words[place] == cursor.cur {
-        words[place] = next - 1;
+    Some(Op {
+        place: Layout::of(seats, 0).cell(cursor.prev),
+        act: Act::Exchange {
+            old: cursor.cur,
+            new: next - 1,
+        },
+    })
+}
+
+/// Unlink: the node is in the hand where the word was found as expected; otherwise the cursor goes.
+pub(crate) fn unlink_view(seats: u32, seat: u32, view: &mut View, found: u64)
+    requires may { MayStep seats seat view.old }
+    requires enabled { IsEnabled seats seat view.old Unlink }
+    ensures { view.new ≡ (planned seats seat view.old Unlink).view found }
+{
+    let Some(cursor) = view.cursor else {
+        unreachable!()
+    };
+    let Some(node) = plain_node(cursor.cur) else {
+        unreachable!()
+    };
+    let Some(next) = cursor.next else {
+        unreachable!()
+    };
+    if found == cursor.cur {
         come_to(view, cursor.prev, next - 1, cursor.seen);
         view.hand = Some(node);
     } else {
         view.cursor = None;
     }
-    true
 }
 
-/// A next word with the mark, which it doesn't have yet.
-fn with_mark(word: u64) -> u64
-    requires { word % 2 ≡ 0 }
-    ensures { result ≡ word + 1 }
-{
-    word + 1
-}
-
-pub(crate) fn mark(seats: u32, seat: u32, words: &mut [u64], view: &mut View) -> bool
-    requires { MayStep seats seat words.old view.old }
-    ensures { Makes (plan seats seat view.old Mark) result words.old view.old words.new view.new }
+/// Mark: adds the mark to the next word of the own node.
+pub(crate) fn mark_op(seats: u32, seat: u32, view: &View) -> Option<Op>
+    requires { MayStep seats seat view.now }
+    ensures op { IsOpOf Mark (plan seats seat view.now Mark) result }
+    ensures there { IfSome result (λ op. op.place < word_count seats) }
 {
     let Own::Linked { node, .. } = view.own else {
-        return false;
+        return None;
     };
-    let place = Layout::of(seats, 0).next(node) as usize;
-    words[place] = with_mark(words[place]);
+    Some(Op {
+        place: Layout::of(seats, 0).next(node),
+        act: Act::Add,
+    })
+}
+
+/// Mark: the own node is a used one, and its range is given back.
+pub(crate) fn mark_view(seats: u32, seat: u32, view: &mut View)
+    requires may { MayStep seats seat view.old }
+    requires enabled { IsEnabled seats seat view.old Mark }
+    ensures { (w : ℕ) → view.new ≡ (planned seats seat view.old Mark).view w }
+{
+    let Own::Linked { node, .. } = view.own else {
+        unreachable!()
+    };
     view.own = Own::Nothing;
     view.used.push(node);
-    true
 }

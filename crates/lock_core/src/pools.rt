@@ -1,27 +1,41 @@
 //! The steps of epochs and pools: Enter, Leave, ReadEpoch, ReadHome and GiveHome. A node that was unlinked comes home
 //! to its owner and is used again only when each other seat has been seen outside, or in another operation, since
 //! then; so nobody may reach it any more. The barrier of epochs is this project's own profile, after Fraser 2004.
-ghost use Rattle.std.specs.Prelude.{◌≡◌, ◌+◌, ◌<◌, ◌≤◌, length};
+ghost use Rattle.std.specs.Prelude.{◌≡◌, ℕ, ◌+◌, ◌<◌, ◌≤◌, length, IfSome};
 ghost use Rattle.lock_core.specs.declared.steps.Step.TheVariants.{Enter, Leave, ReadEpoch, ReadHome, GiveHome};
+ghost use Rattle.lock_core.specs.Words.{word_count};
 ghost use Rattle.lock_core.specs.Views.{released, looked_at, came_home};
 ghost use Rattle.lock_core.specs.Sizes.{MayStep};
-ghost use Rattle.lock_core.specs.Machine.{Makes, plan, may_leave};
+ghost use Rattle.lock_core.specs.Machine.{plan, may_leave};
+ghost use Rattle.lock_core.specs.Operations.{planned, IsEnabled, IsOpOf};
 
 use crate::layout::Layout;
+use crate::ops::{Act, Op};
 use crate::views::{Own, Todo, View};
 
-pub(crate) fn enter(seats: u32, seat: u32, words: &mut [u64], view: &mut View) -> bool
-    requires { MayStep seats seat words.old view.old }
-    ensures { Makes (plan seats seat view.old Enter) result words.old view.old words.new view.new }
+/// Enter: adds 1 to the own epoch, outside an operation and with nothing in the hand.
+pub(crate) fn enter_op(seats: u32, seat: u32, view: &View) -> Option<Op>
+    requires { MayStep seats seat view.now }
+    ensures op { IsOpOf Enter (plan seats seat view.now Enter) result }
+    ensures there { IfSome result (λ op. op.place < word_count seats) }
 {
     if view.epoch % 2 != 0 || view.hand.is_some() {
-        return false;
+        return None;
     }
-    let place = Layout::of(seats, 0).epoch(seat) as usize;
-    words[place] = words[place].wrapping_add(1);
+    Some(Op {
+        place: Layout::of(seats, 0).epoch(seat),
+        act: Act::Add,
+    })
+}
+
+/// Enter: inside an operation from now on, and without a cursor.
+pub(crate) fn enter_view(seats: u32, seat: u32, view: &mut View)
+    requires may { MayStep seats seat view.old }
+    requires enabled { IsEnabled seats seat view.old Enter }
+    ensures { (w : ℕ) → view.new ≡ (planned seats seat view.old Enter).view w }
+{
     view.epoch = view.epoch.wrapping_add(1);
     view.cursor = None;
-    true
 }
 
 /// Whether the own node isn't between its link and the end of its validation.
@@ -35,22 +49,33 @@ fn is_settled(own: Own) -> bool
     }
 }
 
-pub(crate) fn leave(seats: u32, seat: u32, words: &mut [u64], view: &mut View) -> bool
-    requires { MayStep seats seat words.old view.old }
-    ensures { Makes (plan seats seat view.old Leave) result words.old view.old words.new view.new }
+/// Leave: adds 1 to the own epoch, inside an operation.
+pub(crate) fn leave_op(seats: u32, seat: u32, view: &View) -> Option<Op>
+    requires { MayStep seats seat view.now }
+    ensures op { IsOpOf Leave (plan seats seat view.now Leave) result }
+    ensures there { IfSome result (λ op. op.place < word_count seats) }
 {
     if view.epoch % 2 != 1 || view.hand.is_some() || !is_settled(view.own) {
-        return false;
+        return None;
     }
-    let place = Layout::of(seats, 0).epoch(seat) as usize;
-    words[place] = words[place].wrapping_add(1);
+    Some(Op {
+        place: Layout::of(seats, 0).epoch(seat),
+        act: Act::Add,
+    })
+}
+
+/// Leave: outside again; a node that was being filled is the first ready one.
+pub(crate) fn leave_view(seats: u32, seat: u32, view: &mut View)
+    requires may { MayStep seats seat view.old }
+    requires enabled { IsEnabled seats seat view.old Leave }
+    ensures { (w : ℕ) → view.new ≡ (planned seats seat view.old Leave).view w }
+{
     view.epoch = view.epoch.wrapping_add(1);
     view.cursor = None;
     if let Own::Filling { node, .. } = view.own {
         view.ready.put_first(node);
         view.own = Own::Nothing;
     }
-    true
 }
 
 /// Notes the epoch that was read of another seat, or passes that seat.
@@ -87,25 +112,31 @@ fn release(view: &mut View)
     view.homes.clear();
 }
 
-pub(crate) fn read_epoch(
-    seats: u32,
-    seat: u32,
-    words: &mut [u64],
-    view: &mut View,
-    other: u32,
-) -> bool
-    requires { MayStep seats seat words.old view.old }
-    ensures { Makes (plan seats seat view.old (ReadEpoch other)) result words.old view.old words.new view.new }
+/// ReadEpoch: loads the epoch of another seat, while homes wait.
+pub(crate) fn read_epoch_op(seats: u32, seat: u32, view: &View, other: u32) -> Option<Op>
+    requires { MayStep seats seat view.now }
+    ensures op { IsOpOf (ReadEpoch other) (plan seats seat view.now (ReadEpoch other)) result }
+    ensures there { IfSome result (λ op. op.place < word_count seats) }
 {
     if view.epoch % 2 != 0 || view.homes.is_empty() || other >= seats || other == seat {
-        return false;
+        return None;
     }
-    let epoch = words[Layout::of(seats, 0).epoch(other) as usize];
-    look_at(seats, other, view, epoch);
+    Some(Op {
+        place: Layout::of(seats, 0).epoch(other),
+        act: Act::Load,
+    })
+}
+
+/// ReadEpoch: that seat is noted or passed, and once all others are passed the homes become ready.
+pub(crate) fn read_epoch_view(seats: u32, seat: u32, view: &mut View, other: u32, found: u64)
+    requires may { MayStep seats seat view.old }
+    requires enabled { IsEnabled seats seat view.old (ReadEpoch other) }
+    ensures { view.new ≡ (planned seats seat view.old (ReadEpoch other)).view found }
+{
+    look_at(seats, other, view, found);
     if view.passed.all_but(seat) {
         release(view);
     }
-    true
 }
 
 /// Puts a node that came home to the homes, and begins the barrier anew.
@@ -120,38 +151,55 @@ fn come_home(seats: u32, view: &mut View, node: u32)
     view.passed.clear();
 }
 
-pub(crate) fn read_home(
-    seats: u32,
-    seat: u32,
-    words: &mut [u64],
-    view: &mut View,
-    node: u32,
-) -> bool
-    requires { MayStep seats seat words.old view.old }
-    ensures { Makes (plan seats seat view.old (ReadHome node)) result words.old view.old words.new view.new }
+/// ReadHome: loads the home word of a used node that isn't among the homes.
+pub(crate) fn read_home_op(seats: u32, seat: u32, view: &View, node: u32) -> Option<Op>
+    requires { MayStep seats seat view.now }
+    ensures op { IsOpOf (ReadHome node) (plan seats seat view.now (ReadHome node)) result }
+    ensures there { IfSome result (λ op. op.place < word_count seats) }
 {
     if view.epoch % 2 != 0 || !view.used.has(node) || view.homes.has(node) {
-        return false;
+        return None;
     }
-    let place = Layout::of(seats, 0).home(node) as usize;
-    if words[place] == 1 {
+    Some(Op {
+        place: Layout::of(seats, 0).home(node),
+        act: Act::Load,
+    })
+}
+
+/// ReadHome: a node that is at home joins the homes; with one seat alone it is ready at once.
+pub(crate) fn read_home_view(seats: u32, seat: u32, view: &mut View, node: u32, found: u64)
+    requires may { MayStep seats seat view.old }
+    requires enabled { IsEnabled seats seat view.old (ReadHome node) }
+    ensures { view.new ≡ (planned seats seat view.old (ReadHome node)).view found }
+{
+    if found == 1 {
         come_home(seats, view, node);
         if seats == 1 {
             release(view);
         }
     }
-    true
 }
 
-pub(crate) fn give_home(seats: u32, seat: u32, words: &mut [u64], view: &mut View) -> bool
-    requires { MayStep seats seat words.old view.old }
-    ensures { Makes (plan seats seat view.old GiveHome) result words.old view.old words.new view.new }
+/// GiveHome: stores 1 in the home word of the node in the hand.
+pub(crate) fn give_home_op(seats: u32, seat: u32, view: &View) -> Option<Op>
+    requires { MayStep seats seat view.now }
+    ensures op { IsOpOf GiveHome (plan seats seat view.now GiveHome) result }
+    ensures there { IfSome result (λ op. op.place < word_count seats) }
 {
     let Some(node) = view.hand else {
-        return false;
+        return None;
     };
-    let layout = Layout::of(seats, 0);
-    words[layout.home(node) as usize] = 1;
+    Some(Op {
+        place: Layout::of(seats, 0).home(node),
+        act: Act::Store { value: 1 },
+    })
+}
+
+/// GiveHome: the hand is empty.
+pub(crate) fn give_home_view(seats: u32, seat: u32, view: &mut View)
+    requires may { MayStep seats seat view.old }
+    requires enabled { IsEnabled seats seat view.old GiveHome }
+    ensures { (w : ℕ) → view.new ≡ (planned seats seat view.old GiveHome).view w }
+{
     view.hand = None;
-    true
 }

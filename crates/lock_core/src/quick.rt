@@ -1,37 +1,66 @@
 //! The fast path for an empty list: QuickLink, QuickUnlink and Settle. A node that is alone in the list stands in the
 //! head with the low bit, and its range is held at once; whoever walks the list settles the head first, and from then
 //! on the node is one like any other. The fast path of Kogan, Dice and Issa 2020.
-ghost use Rattle.std.specs.Prelude.{◌≡◌, ◌+◌, ◌%◌};
+ghost use Rattle.std.specs.Prelude.{◌≡◌, ℕ, ◌+◌, ◌%◌, ◌<◌, IfSome};
 ghost use Rattle.lock_core.specs.declared.steps.Step.TheVariants.{QuickLink, QuickUnlink, Settle};
+ghost use Rattle.lock_core.specs.Words.{word_count};
 ghost use Rattle.lock_core.specs.Sizes.{MayStep};
-ghost use Rattle.lock_core.specs.Machine.{Makes, plan};
+ghost use Rattle.lock_core.specs.Machine.{plan};
+ghost use Rattle.lock_core.specs.Operations.{planned, IsEnabled, IsOpOf};
 
-use crate::layout::node_word;
+use crate::layout::{Layout, node_word};
+use crate::ops::{Act, Op};
 use crate::range::Range;
 use crate::views::{Cursor, Own, Todo, View};
 
-pub(crate) fn quick_link(seats: u32, seat: u32, words: &mut [u64], view: &mut View) -> bool
-    requires { MayStep seats seat words.old view.old }
-    ensures { Makes (plan seats seat view.old QuickLink) result words.old view.old words.new view.new }
+/// QuickLink: exchanges an empty head for the own node with the low bit, outside an operation.
+pub(crate) fn quick_link_op(seats: u32, seat: u32, view: &View) -> Option<Op>
+    requires { MayStep seats seat view.now }
+    ensures op { IsOpOf QuickLink (plan seats seat view.now QuickLink) result }
+    ensures there { IfSome result (λ op. op.place < word_count seats) }
+{
+    let Own::Filling {
+        node,
+        lo: Some(_),
+        hi: Some(_),
+        aimed: Some(aimed),
+        ..
+    } = view.own
+    else {
+        return None;
+    };
+    if aimed != 0 || view.epoch % 2 != 0 {
+        return None;
+    }
+    Some(Op {
+        place: Layout::of(seats, 0).head(),
+        act: Act::Exchange {
+            old: 0,
+            new: node_word(node, true),
+        },
+    })
+}
+
+/// QuickLink: the range is held where the head was empty.
+pub(crate) fn quick_link_view(seats: u32, seat: u32, view: &mut View, found: u64)
+    requires may { MayStep seats seat view.old }
+    requires enabled { IsEnabled seats seat view.old QuickLink }
+    ensures { view.new ≡ (planned seats seat view.old QuickLink).view found }
 {
     let Own::Filling {
         node,
         lo: Some(lo),
         hi: Some(hi),
         mode,
-        aimed: Some(aimed),
+        ..
     } = view.own
     else {
-        return false;
+        unreachable!()
     };
-    if aimed != 0 || view.epoch % 2 != 0 {
-        return false;
-    }
-    if words[0] == 0 {
+    if found == 0 {
         let Ok(range) = Range::of(lo, hi) else {
             unreachable!()
         };
-        words[0] = node_word(node, true);
         view.own = Own::Linked {
             node,
             range,
@@ -39,40 +68,76 @@ pub(crate) fn quick_link(seats: u32, seat: u32, words: &mut [u64], view: &mut Vi
             todo: Todo::Done,
         };
     }
-    true
 }
 
-pub(crate) fn quick_unlink(seats: u32, seat: u32, words: &mut [u64], view: &mut View) -> bool
-    requires { MayStep seats seat words.old view.old }
-    ensures { Makes (plan seats seat view.old QuickUnlink) result words.old view.old words.new view.new }
+/// QuickUnlink: exchanges the head with the own node and the low bit for an empty head, where the range is held.
+pub(crate) fn quick_unlink_op(seats: u32, seat: u32, view: &View) -> Option<Op>
+    requires { MayStep seats seat view.now }
+    ensures op { IsOpOf QuickUnlink (plan seats seat view.now QuickUnlink) result }
+    ensures there { IfSome result (λ op. op.place < word_count seats) }
 {
     let Own::Linked { node, todo, .. } = view.own else {
-        return false;
+        return None;
     };
     if todo != Todo::Done || view.hand.is_some() {
-        return false;
+        return None;
     }
-    if words[0] == node_word(node, true) {
-        words[0] = 0;
+    Some(Op {
+        place: Layout::of(seats, 0).head(),
+        act: Act::Exchange {
+            old: node_word(node, true),
+            new: 0,
+        },
+    })
+}
+
+/// QuickUnlink: the own node is in the hand where the head was found as expected.
+pub(crate) fn quick_unlink_view(seats: u32, seat: u32, view: &mut View, found: u64)
+    requires may { MayStep seats seat view.old }
+    requires enabled { IsEnabled seats seat view.old QuickUnlink }
+    ensures { view.new ≡ (planned seats seat view.old QuickUnlink).view found }
+{
+    let Own::Linked { node, .. } = view.own else {
+        unreachable!()
+    };
+    if found == node_word(node, true) {
         view.own = Own::Nothing;
         view.used.push(node);
         view.hand = Some(node);
     }
-    true
 }
 
-pub(crate) fn settle(seats: u32, seat: u32, words: &mut [u64], view: &mut View) -> bool
-    requires { MayStep seats seat words.old view.old }
-    ensures { Makes (plan seats seat view.old Settle) result words.old view.old words.new view.new }
+/// Settle: exchanges the head that the cursor found with the low bit for the same without it.
+pub(crate) fn settle_op(seats: u32, seat: u32, view: &View) -> Option<Op>
+    requires { MayStep seats seat view.now }
+    ensures op { IsOpOf Settle (plan seats seat view.now Settle) result }
+    ensures there { IfSome result (λ op. op.place < word_count seats) }
 {
     let Some(cursor) = view.cursor else {
-        return false;
+        return None;
     };
     if cursor.prev.is_some() || cursor.cur % 2 != 1 {
-        return false;
+        return None;
     }
-    if words[0] == cursor.cur {
-        words[0] = cursor.cur - 1;
+    Some(Op {
+        place: Layout::of(seats, 0).head(),
+        act: Act::Exchange {
+            old: cursor.cur,
+            new: cursor.cur - 1,
+        },
+    })
+}
+
+/// Settle: the cursor's word has no low bit where the head was found as expected; otherwise the cursor goes.
+pub(crate) fn settle_view(seats: u32, seat: u32, view: &mut View, found: u64)
+    requires may { MayStep seats seat view.old }
+    requires enabled { IsEnabled seats seat view.old Settle }
+    ensures { view.new ≡ (planned seats seat view.old Settle).view found }
+{
+    let Some(cursor) = view.cursor else {
+        unreachable!()
+    };
+    if found == cursor.cur {
         view.cursor = Some(Cursor {
             cur: cursor.cur - 1,
             ..cursor
@@ -80,5 +145,4 @@ pub(crate) fn settle(seats: u32, seat: u32, words: &mut [u64], view: &mut View) 
     } else {
         view.cursor = None;
     }
-    true
 }

@@ -7,6 +7,7 @@ ghost use Rattle.lock_core.specs.Range.{IsRange};
 ghost use Rattle.lock_core.specs.Grants.{Conflicts, held_of};
 
 use std::marker::Model;
+use thiserror::Error;
 
 /// The highest end that a range may have, 2^62.
 pub const HIGHEST: u64 = 4_611_686_018_427_387_904;
@@ -40,7 +41,8 @@ impl Model for Range {
 }
 
 /// Two ends that bound no range: `lo` isn't below `hi`, or `hi` is above 2^62.
-#[derive(Clone, Copy, Debug, PartialEq, Eq)]
+#[derive(Clone, Copy, Debug, PartialEq, Eq, Error)]
+#[error("no range from {lo} to {hi}")]
 pub struct BadRange {
     pub lo: u64,
     pub hi: u64,

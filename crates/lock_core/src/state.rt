@@ -1,23 +1,20 @@
 //! The whole state of the list lock as plain data, and one step of a seat on it. `fresh` makes the state before any
-//! step, `apply` makes one step by the table of `specs/Rows.antt` or says that the seat's view doesn't enable it. A
-//! running lock makes exactly these steps on atomic words; what is proved of `apply` is proved of it. The list of
-//! Kogan, Dice and Issa 2020, with epochs and homes of this project's own profile.
-ghost use Rattle.std.specs.Prelude.{◌≡◌, ◌+◌, ◌*◌, ◌<◌, ◌≤◌, ◌++◌, map, length, Some, None, slice_index, IfOk, OnOk, OnErr, IfErr};
-ghost use Rattle.lock_core.specs.Words.{word_count};
-ghost use Rattle.lock_core.specs.Sizes.{MayStep};
+//! step; `apply` makes one step by the table of `specs/StepTable.antt`, or says that the seat's view doesn't enable
+//! it. It does so by `enabled_op` and `follow`, which a lock on atomic words calls too. The list is that of Kogan,
+//! Dice and Issa 2020, with epochs and homes of this project's own profile.
+ghost use Rattle.std.specs.Prelude.{◌≡◌, ◌+◌, ◌*◌, ◌<◌, ◌≤◌, ◌^◌, ◌++◌, map, length, Some, None, slice_index, slice_set, IfOk, OnOk, OnErr, IfErr};
+ghost use Rattle.lock_core.specs.Words.{word_count, heap_of};
+ghost use Rattle.lock_core.specs.Sizes.{IsViewSized, IsOwnEven};
+ghost use Rattle.lock_core.specs.Operations.{written};
 ghost use Rattle.lock_core.specs.Machine.{Makes, plan, after, start, start_view, numbers_from, kind_of, held_by_seat, held_at, grant_of, grants_from, ready_of};
 
-use crate::fill::{aim, clear_home, fill_hi, fill_lo};
-use crate::link::{link, mark, unlink};
-use crate::lists::{Flags, Nodes, Notes};
-use crate::pools::{enter, give_home, leave, read_epoch, read_home};
-use crate::quick::{quick_link, quick_unlink, settle};
+use crate::ops::{Op, enabled_op, follow};
 use crate::range::{Grant, Held};
 use crate::steps::{NotEnabled, Step};
 use crate::views::{Own, Todo, View};
-use crate::walk::{read_hi, read_lo, walk};
 use std::alloc::{AllocError, Global};
 use std::marker::Model;
+use view_lists::{Flags, Nodes, Notes};
 
 /// The words of the lock and the view of each seat.
 ///
@@ -42,6 +39,14 @@ impl Model for State {
 }
 
 impl State {
+    /// How many seats there are, from 1 to 16.
+    pub fn seats(&self) -> u32
+        ensures count { result ≡ self.now.seats }
+        ensures few { result ≤ 16 }
+    {
+        self.seats
+    }
+
     /// The word at a place below the number of words.
     pub fn word(&self, place: u32) -> u64
         requires { place < word_count self.now.seats }
@@ -71,8 +76,8 @@ fn nodes_from(alloc: Global, first: u32) -> Result<Nodes, AllocError>
     Ok(nodes)
 }
 
-/// What a seat knows before any step.
-fn first_view(alloc: Global, seats: u32, seat: u32) -> Result<View, AllocError>
+/// What a seat knows before any step. Seats are counted from 0, and there are at most 16.
+pub fn first_view(alloc: Global, seats: u32, seat: u32) -> Result<View, AllocError>
     requires few { seats ≤ 16 }
     requires seat { seat < seats }
     ensures { IfOk result (λ v. v ≡ start_view seats seat) }
@@ -134,31 +139,34 @@ fn kind(step: Step) -> u8
     }
 }
 
-/// Makes one step on the words and the view of a seat, or tells that the view doesn't enable it.
+/// Makes an operation on the word of its place, and returns what the word was.
+fn perform(words: &mut [u64], op: Op) -> u64
+    requires { op.place < length words.old }
+    ensures found { result ≡ slice_index words.old op.place }
+    ensures fits { result < 2 ^ 64 }
+    ensures written { words.new ≡ slice_set words.old op.place (written op.act result) }
+{
+    let place = op.place as usize;
+    let found = words[place];
+    words[place] = op.act.written(found);
+    found
+}
+
+/// Makes one step on the words and the view of a seat, or says that the view doesn't enable it.
 fn make(seats: u32, seat: u32, words: &mut [u64], view: &mut View, step: Step) -> bool
-    requires { MayStep seats seat words.old view.old }
+    requires few { seats ≤ 16 }
+    requires seat { seat < seats }
+    requires words { length words.old ≡ word_count seats }
+    requires sized { IsViewSized seats seat view.old }
+    requires even { IsOwnEven (heap_of seats words.old) view.old.own }
     ensures { Makes (plan seats seat view.old step) result words.old view.old words.new view.new }
 {
-    match step {
-        Step::Enter => enter(seats, seat, words, view),
-        Step::Leave => leave(seats, seat, words, view),
-        Step::ReadEpoch { seat: other } => read_epoch(seats, seat, words, view, other),
-        Step::ReadHome { node } => read_home(seats, seat, words, view, node),
-        Step::GiveHome => give_home(seats, seat, words, view),
-        Step::FillLo { lo } => fill_lo(seats, seat, words, view, lo),
-        Step::FillHi { hi, mode } => fill_hi(seats, seat, words, view, hi, mode),
-        Step::Aim => aim(seats, seat, words, view),
-        Step::ClearHome { node } => clear_home(seats, seat, words, view, node),
-        Step::Walk => walk(seats, seat, words, view),
-        Step::ReadLo => read_lo(seats, seat, words, view),
-        Step::ReadHi => read_hi(seats, seat, words, view),
-        Step::Link => link(seats, seat, words, view),
-        Step::Unlink => unlink(seats, seat, words, view),
-        Step::Mark => mark(seats, seat, words, view),
-        Step::QuickLink => quick_link(seats, seat, words, view),
-        Step::QuickUnlink => quick_unlink(seats, seat, words, view),
-        Step::Settle => settle(seats, seat, words, view),
-    }
+    let Some(op) = enabled_op(seats, seat, view, step) else {
+        return false;
+    };
+    let found = perform(words, op);
+    follow(seats, seat, view, step, found);
+    true
 }
 
 /// Makes one step of a seat. `NotEnabled` carries the seat and the number of the kind; it comes where the seat isn't
@@ -243,6 +251,3 @@ pub fn grants(alloc: Global, state: &State) -> Result<Vec<Grant>, AllocError>
 {
     grants_of(alloc, &state.views)
 }
-
-#[cfg(test)]
-mod tests;

@@ -1,9 +1,10 @@
 //! The eighteen kinds of step of the list lock, by name. Each is one load, store, addition or exchange on one word,
-//! with one change of the stepping seat's view; `specs/Rows.antt` says for each kind when it is enabled and what it
-//! does. The list with marked nodes follows Kogan, Dice and Issa 2020; epochs, homes and the barrier are this
+//! with one change of the stepping seat's view; `specs/StepTable.antt` says for each kind when it is enabled and what
+//! it does. The list with marked nodes follows Kogan, Dice and Issa 2020; epochs, homes and the barrier are this
 //! project's own profile.
 
 use crate::range::Mode;
+use thiserror::Error;
 
 /// One step of a seat.
 #[derive(Clone, Copy, Debug, PartialEq, Eq)]
@@ -47,7 +48,8 @@ pub enum Step {
 }
 
 /// A step that its seat's view doesn't enable, or of a seat that isn't there.
-#[derive(Clone, Copy, Debug, PartialEq, Eq)]
+#[derive(Clone, Copy, Debug, PartialEq, Eq, Error)]
+#[error("seat {seat} may not make a step of kind {kind} now")]
 pub struct NotEnabled {
     /// The seat that was to step.
     pub seat: u32,

@@ -3,8 +3,8 @@
 //! Lists with marked nodes and cursors follow Kogan, Dice and Issa 2020; the pools with homes and epochs are this
 //! project's own profile.
 
-use crate::lists::{Flags, Nodes, Notes};
 use crate::range::{Mode, Range};
+use view_lists::{Flags, Nodes, Notes};
 
 /// What a linked own node still has to do before its range is held.
 #[derive(Clone, Copy, Debug, PartialEq, Eq)]

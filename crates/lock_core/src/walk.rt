@@ -1,19 +1,21 @@
 //! The steps of a cursor along the list: Walk, ReadLo and ReadHi. Each loads one word; a cursor learns of its node
 //! the next word, then the lower end, then the higher end, by which the node is judged. A node that is found marked
 //! isn't judged but unlinked. Cursors follow Kogan, Dice and Issa 2020.
-ghost use Rattle.std.specs.Prelude.{◌≡◌, ◌+◌, ◌/◌, ◌%◌, ◌^◌, ◌<◌, ◌≤◌, ◌==◌, None};
+ghost use Rattle.std.specs.Prelude.{◌≡◌, ℕ, ◌+◌, ◌/◌, ◌%◌, ◌^◌, ◌<◌, ◌≤◌, ◌==◌, None, IfSome};
 ghost use Rattle.lock_core.specs.declared.steps.Step.TheVariants.{Walk, ReadLo, ReadHi};
-ghost use Rattle.lock_core.specs.Words.{plain_node_of};
+ghost use Rattle.lock_core.specs.Words.{plain_node_of, word_count};
 ghost use Rattle.lock_core.specs.Views.{seen_after, own_at, start_of, came_to, own_stopped, walk_cell};
 ghost use Rattle.lock_core.specs.Sizes.{MayStep, NamesNode};
-ghost use Rattle.lock_core.specs.Machine.{Makes, plan, may_judge};
+ghost use Rattle.lock_core.specs.Machine.{plan, may_judge};
+ghost use Rattle.lock_core.specs.Operations.{planned, IsEnabled, IsOpOf};
 
 use crate::compare::{Verdict, judge};
-use crate::layout::{Layout, cell};
+use crate::layout::Layout;
+use crate::ops::{Act, Op};
 use crate::views::{Cursor, Own, Todo, View};
 
 /// The node that a next word without the low bit names. The word is one of a node's or of the end.
-pub(crate) fn plain_node(word: u64) -> Option<u32>
+pub fn plain_node(word: u64) -> Option<u32>
     requires { word / 2 ≤ 256 }
     ensures { result ≡ plain_node_of word }
 {
@@ -121,59 +123,89 @@ pub(crate) fn come_to(view: &mut View, prev: Option<u32>, word: u64, seen: u32)
     view.own = own_after(view.own, word);
 }
 
-pub(crate) fn walk(seats: u32, seat: u32, words: &mut [u64], view: &mut View) -> bool
-    requires { MayStep seats seat words.old view.old }
-    ensures { Makes (plan seats seat view.old Walk) result words.old view.old words.new view.new }
+/// Walk: loads the word at which a cursor begins, or the next word of the cursor's node.
+pub(crate) fn walk_op(seats: u32, seat: u32, view: &View) -> Option<Op>
+    requires { MayStep seats seat view.now }
+    ensures op { IsOpOf Walk (plan seats seat view.now Walk) result }
+    ensures there { IfSome result (λ op. op.place < word_count seats) }
 {
     if view.epoch % 2 != 1 || view.hand.is_some() {
-        return false;
+        return None;
     }
     let layout = Layout::of(seats, 0);
+    let place = match view.cursor {
+        None => layout.cell(start(view.own)),
+        Some(cursor) => {
+            let Some(node) = plain_node(cursor.cur) else {
+                return None;
+            };
+            layout.next(node)
+        }
+    };
+    Some(Op {
+        place,
+        act: Act::Load,
+    })
+}
+
+/// Walk: there is a cursor, or the next word of its node is known.
+pub(crate) fn walk_view(seats: u32, seat: u32, view: &mut View, found: u64)
+    requires may { MayStep seats seat view.old }
+    requires enabled { IsEnabled seats seat view.old Walk }
+    ensures { view.new ≡ (planned seats seat view.old Walk).view found }
+{
     match view.cursor {
         None => {
             let prev = start(view.own);
-            let word = words[cell(layout, prev)];
-            come_to(view, prev, word, 0);
-            true
+            come_to(view, prev, found, 0);
         }
         Some(cursor) => {
-            let Some(node) = plain_node(cursor.cur) else {
-                return false;
-            };
-            let word = words[layout.next(node) as usize];
             view.cursor = Some(Cursor {
-                next: Some(word),
+                next: Some(found),
                 lo: None,
                 ..cursor
             });
-            true
         }
     }
 }
 
-pub(crate) fn read_lo(seats: u32, seat: u32, words: &mut [u64], view: &mut View) -> bool
-    requires { MayStep seats seat words.old view.old }
-    ensures { Makes (plan seats seat view.old ReadLo) result words.old view.old words.new view.new }
+/// ReadLo: loads the lower end of the cursor's node, whose next word has no mark.
+pub(crate) fn read_lo_op(seats: u32, seat: u32, view: &View) -> Option<Op>
+    requires { MayStep seats seat view.now }
+    ensures op { IsOpOf ReadLo (plan seats seat view.now ReadLo) result }
+    ensures there { IfSome result (λ op. op.place < word_count seats) }
 {
     let Some(cursor) = view.cursor else {
-        return false;
+        return None;
     };
     let Some(node) = plain_node(cursor.cur) else {
-        return false;
+        return None;
     };
     let Some(next) = cursor.next else {
-        return false;
+        return None;
     };
     if next % 2 != 0 {
-        return false;
+        return None;
     }
-    let layout = Layout::of(seats, 0);
-    let word = words[layout.lo(node) as usize];
+    Some(Op {
+        place: Layout::of(seats, 0).lo(node),
+        act: Act::Load,
+    })
+}
+
+/// ReadLo: the lower end is known.
+pub(crate) fn read_lo_view(seats: u32, seat: u32, view: &mut View, found: u64)
+    requires may { MayStep seats seat view.old }
+    requires enabled { IsEnabled seats seat view.old ReadLo }
+    ensures { view.new ≡ (planned seats seat view.old ReadLo).view found }
+{
+    let Some(cursor) = view.cursor else {
+        unreachable!()
+    };
     view.cursor = Some(Cursor {
-        lo: Some(word),
+        lo: Some(found),
         ..cursor
     });
-    true
 }
 
 /// Whether a node may be judged: a seat that fills a node knows its ends.
@@ -186,28 +218,47 @@ fn knows_ends(own: Own) -> bool
     }
 }
 
-pub(crate) fn read_hi(seats: u32, seat: u32, words: &mut [u64], view: &mut View) -> bool
-    requires { MayStep seats seat words.old view.old }
-    ensures { Makes (plan seats seat view.old ReadHi) result words.old view.old words.new view.new }
+/// ReadHi: loads the higher end of the cursor's node, whose lower end is known.
+pub(crate) fn read_hi_op(seats: u32, seat: u32, view: &View) -> Option<Op>
+    requires { MayStep seats seat view.now }
+    ensures op { IsOpOf ReadHi (plan seats seat view.now ReadHi) result }
+    ensures there { IfSome result (λ op. op.place < word_count seats) }
 {
     let Some(cursor) = view.cursor else {
-        return false;
+        return None;
     };
     let Some(node) = plain_node(cursor.cur) else {
-        return false;
+        return None;
     };
     let Some(next) = cursor.next else {
-        return false;
+        return None;
     };
-    let Some(lo) = cursor.lo else {
-        return false;
-    };
-    if next % 2 != 0 || !knows_ends(view.own) {
-        return false;
+    if cursor.lo.is_none() || next % 2 != 0 || !knows_ends(view.own) {
+        return None;
     }
-    let layout = Layout::of(seats, 0);
-    let word = words[layout.hi(node) as usize];
-    match judge(&view.own, lo, word) {
+    Some(Op {
+        place: Layout::of(seats, 0).hi(node),
+        act: Act::Load,
+    })
+}
+
+/// ReadHi: the node is judged, and the cursor goes on past it, stops before it, or stays at a conflict.
+pub(crate) fn read_hi_view(seats: u32, seat: u32, view: &mut View, found: u64)
+    requires may { MayStep seats seat view.old }
+    requires enabled { IsEnabled seats seat view.old ReadHi }
+    ensures { view.new ≡ (planned seats seat view.old ReadHi).view found }
+{
+    let Some(cursor) = view.cursor else {
+        unreachable!()
+    };
+    let Some(node) = plain_node(cursor.cur) else {
+        unreachable!()
+    };
+    let Some(next) = cursor.next else {
+        unreachable!()
+    };
+    let Some(lo) = cursor.lo else { unreachable!() };
+    match judge(&view.own, lo, found) {
         Verdict::Past => come_to(view, Some(node), next, cursor.seen),
         Verdict::Stop => {
             view.cursor = Some(Cursor {
@@ -218,5 +269,4 @@ pub(crate) fn read_hi(seats: u32, seat: u32, words: &mut [u64], view: &mut View)
         }
         Verdict::Conflict => {}
     }
-    true
 }

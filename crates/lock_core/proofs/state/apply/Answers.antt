@@ -1,14 +1,18 @@
 use Rattle.std.proofs.Common.{ℕ, Some, List, length, sym, ap, ◌∙◌}
 use Rattle.lock_core.specs.declared.views.View.{View}
-use Rattle.lock_core.proofs.Safety.{may_step}
 use Rattle.lock_core.proofs.SizedSteps.{sized_after}
 use Rattle.lock_core.proofs.Applying.{rewritten, at_seat, after_made, after_none}
 use Rattle.lock_core.proofs.state.apply.Goals as goal
 
-pub make-requires : goal.make-requires
-make-requires c =
+pub make-requires-clause-sized : goal.make-requires-clause-sized
+make-requires-clause-sized c =
     let at = at_seat _ c.args.seat c.index_mut.result.now c.state.invariant c.if-seat-state.false ∙ ap (λ (u : View). Some u) (sym c.index_mut.ensures.value) in
-    rw c.deref_mut.ensures.value (may_step _ c.args.seat c.index_mut.result.now c.state.invariant at)
+    c.state.invariant.each c.args.seat c.index_mut.result.now at
+
+pub make-requires-clause-even : goal.make-requires-clause-even
+make-requires-clause-even c =
+    let at = at_seat _ c.args.seat c.index_mut.result.now c.state.invariant c.if-seat-state.false ∙ ap (λ (u : View). Some u) (sym c.index_mut.ensures.value) in
+    rw c.deref_mut.ensures.value (c.state.invariant.even c.args.seat c.index_mut.result.now at)
 
 pub invariant_of-state : goal.invariant_of-state
 invariant_of-state c =

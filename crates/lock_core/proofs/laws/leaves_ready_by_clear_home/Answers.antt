@@ -1,5 +1,0 @@
-use Rattle.lock_core.proofs.Leaving.{leaves}
-use Rattle.lock_core.proofs.laws.leaves_ready_by_clear_home.Goals as goal
-
-pub returns : goal.returns
-returns c = λ m next s i x step v u. leaves m next s i x step v u

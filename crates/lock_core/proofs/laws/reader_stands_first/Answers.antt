@@ -1,5 +1,0 @@
-use Rattle.lock_core.proofs.Exclusion.{reader_first}
-use Rattle.lock_core.proofs.laws.reader_stands_first.Goals as goal
-
-pub returns : goal.returns
-returns c = λ m i j v u r w l at at' own own' reader writer over. reader_first m i j v u r w l at at' own own' reader writer over

@@ -1,5 +1,0 @@
-use Rattle.lock_core.proofs.Starting.{start_lock}
-use Rattle.lock_core.proofs.laws.start_is_lock.Goals as goal
-
-pub returns : goal.returns
-returns c = λ seats some few. start_lock seats some few

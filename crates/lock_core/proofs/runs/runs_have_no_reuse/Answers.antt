@@ -1,5 +1,0 @@
-use Rattle.lock_core.proofs.Running.{runs_have_no_reuse_law}
-use Rattle.lock_core.proofs.runs.runs_have_no_reuse.Goals as goal
-
-pub returns : goal.returns
-returns c = runs_have_no_reuse_law

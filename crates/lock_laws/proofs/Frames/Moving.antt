@@ -1,0 +1,143 @@
+-- Steps of a walk: only the cursor of the stepping seat moves, and its range may be held from now on.
+use Rattle.std.proofs.Common.{◌≡◌, ◌⊎◌, ℕ, suc, ◌+◌, ◌*◌, ◌%◌, ◌≤◌, List, Some, None, inl, inr, ⊎_elim, refl, sym, ap, ◌∙◌, subst, arith}
+use Rattle.std.specs.Prelude.{slice_set, slice_get}
+use Rattle.lock_core.specs.Counted.{times}
+use Rattle.lock_core.specs.declared.views.View.{View}
+use Rattle.lock_core.specs.declared.views.Cursor.{Cursor}
+use Rattle.lock_core.specs.declared.views.Todo.TheVariants.{FromHead, Done}
+use Rattle.lock_core.specs.Words.{Heap}
+use Rattle.lock_core.specs.Nodes.{Filled, Listed, filling, listed, own_times}
+use Rattle.lock_laws.specs.Invariant.{IsViewOf, InChain, MayReach, IsOut, IsIdle, IsAlone, IsWritten, HasToSee}
+use Rattle.lock_laws.proofs.Coming.{done}
+use Rattle.lock_laws.proofs.PathSteps.{listed_one}
+use Rattle.lock_laws.proofs.Frames.Parts.{Parts, IsCursorKept}
+use Rattle.lock_laws.proofs.Frames.Steady.{Rival, Looks, homes_same, places_now, stays_out, steady}
+use Rattle.lock_laws.proofs.Frames.Quiet.{Calm, aside_of, idle_alone, known_on, written_on}
+
+-- the own node stays, or its range is held from now on
+abbrev pub OwnStays : View → View → Type 0
+OwnStays v u = (u.own ≡ v.own) ⊎ ((k : Listed) × (v.own ≡ listed k) × (u.own ≡ listed (done k)))
+
+pub record Moves (h now : Heap) (views : List View) (s : ℕ) (v u : View) : Type 0 where
+  pub ready : u.ready ≡ v.ready
+  pub used : u.used ≡ v.used
+  pub homes : u.homes ≡ v.homes
+  pub hand : u.hand ≡ v.hand
+  pub notes : u.notes ≡ v.notes
+  pub passed : u.passed ≡ v.passed
+  pub epoch : u.epoch ≡ v.epoch
+  pub own : OwnStays v u
+  pub odd : u.epoch % 2 ≡ 0 → u.cursor ≡ None
+  pub cursor : (d : Cursor) → u.cursor ≡ Some d → IsCursorKept now u.own d
+  pub reach : (d : Cursor) (x : ℕ) → u.cursor ≡ Some d → MayReach now d x → InChain h x ⊎ ((c : Cursor) × (v.cursor ≡ Some c) × MayReach h c x)
+  -- what it had to see it still has, unless nothing is there
+  pub sees : (k g : Listed) → v.own ≡ listed k → Rival views k g → HasToSee h k v.cursor g.node → (u.own ≡ v.own) × HasToSee now k u.cursor g.node
+  pub to_see : (k : Listed) → u.own ≡ listed k → k.todo ≡ FromHead → HasToSee now k u.cursor k.node
+  pub unseen : now.next 0 % 2 ≡ 1 → (a : IsAlone h views) (d : Cursor) → u.cursor ≡ Some d → MayReach now d a.node → d.cur ≡ 2 * suc a.node + 1
+
+module _ (h now : Heap) (views : List View) (s : ℕ) (v u : View) (parts : Parts h views) (at : IsViewOf views s v) (calm : Calm h now) (home : (x : ℕ) → now.home x ≡ h.home x) (epochs : (j : ℕ) (w : View) → IsViewOf views j w → now.epoch j ≡ h.epoch j) (low : now.next 0 % 2 ≡ 1 → h.next 0 % 2 ≡ 1) (moves : Moves h now views s v u) where
+  filling_back : (f : Filled) → u.own ≡ filling f → v.own ≡ filling f
+  filling_back f e = ⊎_elim
+      (λ (q : u.own ≡ v.own). sym q ∙ e)
+      (λ (t : (k : Listed) × (v.own ≡ listed k) × (u.own ≡ listed (done k))). absurd (let a = t.2 in cc))
+      moves.own
+
+  -- the linked node afterwards is the one before, or that with nothing left to do
+  linked_back : (g : Listed) → u.own ≡ listed g → (v.own ≡ listed g) ⊎ ((k : Listed) × (v.own ≡ listed k) × (done k ≡ g))
+  linked_back g e = ⊎_elim
+      (λ (q : u.own ≡ v.own). inl (sym q ∙ e))
+      (λ (t : (k : Listed) × (v.own ≡ listed k) × (u.own ≡ listed (done k))). inr (t.0, t.1, listed_one (done t.0) g (sym t.2 ∙ e)))
+      moves.own
+
+  linked_forth : (k : Listed) → v.own ≡ listed k → (g : Listed) × (u.own ≡ listed g) × (g.node ≡ k.node)
+  linked_forth k e = ⊎_elim
+      (λ (q : u.own ≡ v.own). (k, q ∙ e, refl))
+      (λ (t : (b : Listed) × (v.own ≡ listed b) × (u.own ≡ listed (done b))). (done t.0, t.2, ap (λ (z : Listed). z.node) (listed_one t.0 k (sym t.1 ∙ e))))
+      moves.own
+
+  own_same : (x : ℕ) → own_times x u.own ≡ own_times x v.own
+  own_same x = ⊎_elim
+      (λ (q : u.own ≡ v.own). ap (own_times x) q)
+      (λ (t : (k : Listed) × (v.own ≡ listed k) × (u.own ≡ listed (done k))). ap (own_times x) t.2 ∙ sym (ap (own_times x) t.1))
+      moves.own
+
+  held_forth : (k : Listed) → v.own ≡ listed k → k.todo ≡ Done → u.own ≡ listed k
+  held_forth k e d = ⊎_elim
+      (λ (q : u.own ≡ v.own). q ∙ e)
+      (λ (t : (b : Listed) × (v.own ≡ listed b) × (u.own ≡ listed (done b))).
+      let same = listed_one t.0 k (sym t.1 ∙ e) in t.2 ∙ ap listed (ap done same) ∙ ap (λ a. listed (record k { todo = a })) (sym d))
+      moves.own
+
+  written : (g : Listed) → u.own ≡ listed g → IsWritten now g
+  written g e = ⊎_elim
+      (λ (q : v.own ≡ listed g). written_on h now g calm ((parts.each s v at).linked g q))
+      (λ (t : (k : Listed) × (v.own ≡ listed k) × (done k ≡ g)).
+      let w = written_on h now t.0 calm ((parts.each s v at).linked t.0 t.1) in subst (IsWritten now) t.2 (record { lo = w.lo; hi = w.hi }))
+      (linked_back g e)
+
+  looks : (g : Listed) → u.own ≡ listed g → Looks h now views v u g
+  looks g e = ⊎_elim
+      (λ (q : v.own ≡ listed g). record {
+        old = g;
+        own = q;
+        node = refl;
+        range = refl;
+        mode = refl;
+        sees = λ o r see. (refl, (moves.sees g o q r see).1);
+      })
+      (λ (t : (k : Listed) × (v.own ≡ listed k) × (done k ≡ g)). record {
+        old = t.0;
+        own = t.1;
+        node = ap (λ (z : Listed). z.node) t.2;
+        range = ap (λ (z : Listed). z.range) t.2;
+        mode = ap (λ (z : Listed). z.mode) t.2;
+        sees = λ o r see.
+            let w = moves.sees t.0 o t.1 r see in
+            let same : g ≡ t.0 = listed_one g t.0 (sym e ∙ w.0 ∙ t.1) in
+            (ap (λ (z : Listed). z.todo) same, subst (λ (z : Listed). HasToSee now z u.cursor o.node) (sym same) w.1);
+      })
+      (linked_back g e)
+
+  idle_back : (x : ℕ) → IsIdle u x → IsIdle v x
+  idle_back x (inl r) = inl (subst (λ (l : List ℕ). 1 ≤ times x l) moves.ready r)
+  idle_back x (inr t) = inr (t.0, filling_back t.0 t.1, t.2)
+
+  out_same : (j : ℕ) → IsOut now u j → IsOut now v j
+  out_same j (inl p) = inl (sym (ap (λ l. slice_get l j) moves.passed) ∙ p)
+  out_same j (inr n) = inr (n.0, sym (ap (λ l. slice_get l j) moves.notes) ∙ n.1, n.2)
+
+  pub moves_kept : Parts now (slice_set views s u)
+  moves_kept =
+      let k = parts.each s v at in
+      steady h now views s v u parts at (aside_of h now v calm)
+      (record {
+        kept = record {
+          epoch = moves.epoch ∙ k.epoch ∙ sym (epochs s v at);
+          even = moves.odd;
+          filled = λ f e. known_on h now f calm (k.filled f (filling_back f e));
+          linked = written;
+          cursor = moves.cursor;
+          to_see = moves.to_see;
+        };
+        reach = moves.reach;
+        idle = λ x idle. idle_alone h now views s v u parts at calm x (idle_back x idle);
+        out = λ j x w c same home' out e has m. stays_out h now views s v parts at (λ j w e d. epochs j w e) s j x v w c same at (subst (λ (l : List ℕ). 1 ≤ times x l) moves.homes home') (out_same j out) e has m;
+        looks = looks;
+        held = held_forth;
+        unseen = moves.unseen;
+        low = low;
+        epochs = λ j w e d. epochs j w e;
+        epoch = inl (epochs s v at);
+      })
+      (places_now h now views s v u parts at (aside_of h now v calm) parts.places (record {
+        times_same = λ x. let a = own_same x in let b = ap (times x) moves.ready in let c = ap (times x) moves.used in omega (arith, a, b, c);
+        homes = λ x. let a = ap (times x) moves.homes in let b = ap (times x) moves.used in let l = parts.places.homes s x v at in omega (arith, a, b, l);
+        at_home = λ x l. home x ∙ parts.places.at_home s x v at (subst (λ (q : List ℕ). 1 ≤ times x q) moves.homes l);
+        linked = λ g e. let o = looks g e in (o.old, o.own, o.node);
+        linked_on = linked_forth;
+        used = λ x e. sym (ap (times x) moves.used) ∙ e;
+        used_on = λ x e z. ap (times x) moves.used ∙ e;
+        filling = λ f e. home f.node ∙ parts.places.filling_home s v f at (filling_back f e);
+        hand = λ x e. sym moves.hand ∙ e;
+        hand_on = λ x e. inl (moves.hand ∙ e);
+      }) (homes_same h now views (slice_set views s u) s home))

@@ -1,0 +1,216 @@
+-- What a write of one next word does to the paths, over the function `to` that gives the target of a cell. A cell
+-- that isn't on a path leaves it; a node is put behind a cell; a node is taken out from behind a cell. Each lemma is
+-- stated once, for every path and every cell.
+use Rattle.std.proofs.Common.{◌≡◌, ◌≢◌, ◌⊎◌, ℕ, zero, suc, inl, inr, ⊎_elim, refl, sym, ap, ◌∙◌, subst}
+use Rattle.std.proofs.lemmas.Bool.{cases_eq}
+use Rattle.lock_laws.specs.Paths.{Reach, here, there, PathEnds, end, on}
+
+pub unreach : (to : ℕ → ℕ) (x n : ℕ) → Reach to x (suc n) → (x ≡ n) ⊎ Reach to x (to (suc n))
+unreach to x n here = inl refl
+unreach to x n (there r) = inr r
+
+pub unends : (to : ℕ → ℕ) (n : ℕ) → PathEnds to (suc n) → PathEnds to (to (suc n))
+unends to n (on e) = e
+
+-- what a node reaches is reached where the node is
+pub reach_on : (to : ℕ → ℕ) (x q t : ℕ) → Reach to q t → Reach to x (to (suc q)) → Reach to x t
+reach_on to x q t here far = there far
+reach_on to x q t (there {n = n} r) far = there (reach_on to x q (to (suc n)) r far)
+
+pub nothing_at_end : (to : ℕ → ℕ) (q : ℕ) → Reach to q zero → ⊥
+nothing_at_end to q r = elim r [ ]
+
+-- a node of a path that ends isn't reached from itself
+pub no_cycle : (to : ℕ → ℕ) (q t : ℕ) → PathEnds to t → Reach to q t → Reach to q (to (suc q)) → ⊥
+no_cycle to q t end r c = nothing_at_end to q r
+no_cycle to q t (on {n = n} e) r c = ⊎_elim (λ (s : q ≡ n). no_cycle to q (to (suc n)) e (subst (λ a. Reach to q (to (suc a))) s c) c) (λ s. no_cycle to q (to (suc n)) e s c) (unreach to q n r)
+
+-- the paths of a function that agrees with another one on all cells
+module _ (to now : ℕ → ℕ) (same : (c : ℕ) → now c ≡ to c) where
+  pub reach_same : (x t : ℕ) → Reach to x t → Reach now x t
+  reach_same x t here = here
+  reach_same x t (there {n = n} r) = there (subst (Reach now x) (sym (same (suc n))) (reach_same x (to (suc n)) r))
+
+  pub ends_same : (t : ℕ) → PathEnds to t → PathEnds now t
+  ends_same t end = end
+  ends_same t (on {n = n} r) = on (subst (PathEnds now) (sym (same (suc n))) (ends_same (to (suc n)) r))
+
+-- a node o that is in no path of a target may be written freely
+module _ (to now : ℕ → ℕ) (o : ℕ) (others : (c : ℕ) → c ≢ suc o → now c ≡ to c) where
+  pub free_keeps : (x t : ℕ) → (Reach to o t → ⊥) → Reach to x t → Reach now x t
+  free_keeps x t far here = here
+  free_keeps x t far (there {n = n} r) =
+      let d : suc n ≢ suc o = λ e. far (subst (Reach to o) (sym e) here) in
+      there (subst (Reach now x) (sym (others (suc n) d)) (free_keeps x (to (suc n)) (λ q. far (there q)) r))
+
+  pub free_adds : (x t : ℕ) → Reach now x t → (Reach to o t → ⊥) → Reach to x t
+  free_adds x t here far = here
+  free_adds x t (there {n = n} r) far =
+      let d : suc n ≢ suc o = λ e. far (subst (Reach to o) (sym e) here) in
+      let e = others (suc n) d in
+      there (subst (Reach to x) e (free_adds x (now (suc n)) r (λ q. far (there (subst (Reach to o) e q)))))
+
+  pub free_ends : (t : ℕ) → (Reach to o t → ⊥) → PathEnds to t → PathEnds now t
+  free_ends t far end = end
+  free_ends t far (on {n = n} r) =
+      let d : suc n ≢ suc o = λ e. far (subst (Reach to o) (sym e) here) in
+      on (subst (PathEnds now) (sym (others (suc n) d)) (free_ends (to (suc n)) (λ q. far (there q)) r))
+
+-- node o, whose next word names the target c, is put behind cell p, which named c
+module _ (to now : ℕ → ℕ) (p o : ℕ) (others : (c : ℕ) → c ≢ p → now c ≡ to c) (was : to (suc o) ≡ to p) (is : now p ≡ suc o) (apart : suc o ≢ p) where
+  own : now (suc o) ≡ to p
+  own = others (suc o) apart ∙ was
+
+  -- what was in a path still is
+  pub put_keeps : (x t : ℕ) → Reach to x t → Reach now x t
+  put_keeps x t here = here
+  put_keeps x t (there {n = n} r) =
+      let ih = put_keeps x (to (suc n)) r in
+      ⊎_elim
+      (λ (e : suc n ≡ p). there (subst (Reach now x) (sym (ap now e ∙ is)) (there (subst (Reach now x) (ap to e ∙ sym own) ih))))
+      (λ (d : suc n ≢ p). there (subst (Reach now x) (sym (others (suc n) d)) ih))
+      (cases_eq (suc n) p)
+
+  -- what is in a path is o or was in it
+  pub put_adds : (x t : ℕ) → Reach now x t → (x ≡ o) ⊎ Reach to x t
+  put_adds x t here = inr here
+  put_adds x t (there {n = n} r) =
+      let ih = put_adds x (now (suc n)) r in
+      ⊎_elim inl
+      (λ (old : Reach to x (now (suc n))).
+      ⊎_elim
+      (λ (e : suc n ≡ p). ⊎_elim inl (λ (far : Reach to x (to (suc o))). inr (there (subst (Reach to x) (was ∙ sym (ap to e)) far))) (unreach to x o (subst (Reach to x) (ap now e ∙ is) old)))
+      (λ (d : suc n ≢ p). inr (there (subst (Reach to x) (others (suc n) d) old)))
+      (cases_eq (suc n) p))
+      ih
+
+  pub put_ends : (t : ℕ) → PathEnds to t → PathEnds now t
+  put_ends t end = end
+  put_ends t (on {n = n} r) =
+      let ih = put_ends (to (suc n)) r in
+      ⊎_elim
+      (λ (e : suc n ≡ p). on (subst (PathEnds now) (sym (ap now e ∙ is)) (on (subst (PathEnds now) (ap to e ∙ sym own) ih))))
+      (λ (d : suc n ≢ p). on (subst (PathEnds now) (sym (others (suc n) d)) ih))
+      (cases_eq (suc n) p)
+
+  -- the same from a cell
+  pub put_keeps_from : (x k : ℕ) → Reach to x (to k) → Reach now x (now k)
+  put_keeps_from x k r =
+      let on_p = put_keeps x (to k) r in
+      ⊎_elim
+      (λ (e : k ≡ p). subst (Reach now x) (sym (ap now e ∙ is)) (there (subst (Reach now x) (ap to e ∙ sym own) on_p)))
+      (λ (d : k ≢ p). subst (Reach now x) (sym (others k d)) on_p)
+      (cases_eq k p)
+
+  pub put_adds_from : (x k : ℕ) → Reach now x (now k) → (x ≡ o) ⊎ Reach to x (to k)
+  put_adds_from x k r =
+      ⊎_elim inl
+      (λ (old : Reach to x (now k)).
+      ⊎_elim
+      (λ (e : k ≡ p). ⊎_elim inl (λ (far : Reach to x (to (suc o))). inr (subst (Reach to x) (was ∙ sym (ap to e)) far)) (unreach to x o (subst (Reach to x) (ap now e ∙ is) old)))
+      (λ (d : k ≢ p). inr (subst (Reach to x) (others k d) old))
+      (cases_eq k p))
+      (put_adds x (now k) r)
+
+  pub put_ends_from : (k : ℕ) → PathEnds to (to k) → PathEnds now (now k)
+  put_ends_from k r =
+      ⊎_elim
+      (λ (e : k ≡ p). subst (PathEnds now) (sym (ap now e ∙ is)) (on (subst (PathEnds now) (ap to e ∙ sym own) (put_ends (to k) r))))
+      (λ (d : k ≢ p). subst (PathEnds now) (sym (others k d)) (put_ends (to k) r))
+      (cases_eq k p)
+
+  -- o is reached only through p
+  pub put_via : (t : ℕ) → Reach now o t → Reach to o t ⊎ (q : ℕ) × (p ≡ suc q) × Reach to q t
+  put_via t here = inl here
+  put_via t (there {n = n} r) =
+      let ih = put_via (now (suc n)) r in
+      ⊎_elim
+      (λ (e : suc n ≡ p). inr (n, sym e, here))
+      (λ (d : suc n ≢ p).
+      ⊎_elim
+      (λ (old : Reach to o (now (suc n))). inl (there (subst (Reach to o) (others (suc n) d) old)))
+      (λ (by : (q : ℕ) × (p ≡ suc q) × Reach to q (now (suc n))). inr (by.0, by.1, there (subst (Reach to by.0) (others (suc n) d) by.2)))
+      ih)
+      (cases_eq (suc n) p)
+
+-- node c, which cell p named, is taken out: p names what c names
+module _ (to now : ℕ → ℕ) (p c : ℕ) (others : (k : ℕ) → k ≢ p → now k ≡ to k) (was : to p ≡ suc c) (is : now p ≡ to (suc c)) (apart : suc c ≢ p) where
+  pub cut_keeps : (x t : ℕ) → Reach to x t → (x ≡ c) ⊎ Reach now x t
+  cut_keeps x t here = inr here
+  cut_keeps x t (there {n = n} r) =
+      let ih = cut_keeps x (to (suc n)) r in
+      ⊎_elim inl
+      (λ (new : Reach now x (to (suc n))).
+      ⊎_elim
+      (λ (e : suc n ≡ p). ⊎_elim inl (λ (far : Reach now x (now (suc c))). inr (there (subst (Reach now x) (others (suc c) apart ∙ sym (ap now e ∙ is)) far))) (unreach now x c (subst (Reach now x) (ap to e ∙ was) new)))
+      (λ (d : suc n ≢ p). inr (there (subst (Reach now x) (sym (others (suc n) d)) new)))
+      (cases_eq (suc n) p))
+      ih
+
+  pub cut_adds : (x t : ℕ) → Reach now x t → Reach to x t
+  cut_adds x t here = here
+  cut_adds x t (there {n = n} r) =
+      let ih = cut_adds x (now (suc n)) r in
+      ⊎_elim
+      (λ (e : suc n ≡ p). there (subst (Reach to x) (sym (ap to e ∙ was)) (there (subst (Reach to x) (ap now e ∙ is) ih))))
+      (λ (d : suc n ≢ p). there (subst (Reach to x) (others (suc n) d) ih))
+      (cases_eq (suc n) p)
+
+  pub cut_ends : (t : ℕ) → PathEnds to t → PathEnds now t
+  cut_ends t end = end
+  cut_ends t (on {n = n} r) =
+      let ih = cut_ends (to (suc n)) r in
+      ⊎_elim
+      (λ (e : suc n ≡ p). on (subst (PathEnds now) (others (suc c) apart ∙ sym (ap now e ∙ is)) (unends now c (subst (PathEnds now) (ap to e ∙ was) ih))))
+      (λ (d : suc n ≢ p). on (subst (PathEnds now) (sym (others (suc n) d)) ih))
+      (cases_eq (suc n) p)
+
+  -- the same from a cell
+  pub cut_keeps_from : (x k : ℕ) → Reach to x (to k) → (x ≡ c) ⊎ Reach now x (now k)
+  cut_keeps_from x k r =
+      ⊎_elim inl
+      (λ (new : Reach now x (to k)).
+      ⊎_elim
+      (λ (e : k ≡ p). ⊎_elim inl (λ (far : Reach now x (now (suc c))). inr (subst (Reach now x) (others (suc c) apart ∙ sym (ap now e ∙ is)) far)) (unreach now x c (subst (Reach now x) (ap to e ∙ was) new)))
+      (λ (d : k ≢ p). inr (subst (Reach now x) (sym (others k d)) new))
+      (cases_eq k p))
+      (cut_keeps x (to k) r)
+
+  pub cut_adds_from : (x k : ℕ) → Reach now x (now k) → Reach to x (to k)
+  cut_adds_from x k r =
+      let old = cut_adds x (now k) r in
+      ⊎_elim
+      (λ (e : k ≡ p). subst (Reach to x) (sym (ap to e ∙ was)) (there (subst (Reach to x) (ap now e ∙ is) old)))
+      (λ (d : k ≢ p). subst (Reach to x) (others k d) old)
+      (cases_eq k p)
+
+  pub cut_ends_from : (k : ℕ) → PathEnds to (to k) → PathEnds now (now k)
+  cut_ends_from k r =
+      let new = cut_ends (to k) r in
+      ⊎_elim
+      (λ (e : k ≡ p). subst (PathEnds now) (others (suc c) apart ∙ sym (ap now e ∙ is)) (unends now c (subst (PathEnds now) (ap to e ∙ was) new)))
+      (λ (d : k ≢ p). subst (PathEnds now) (sym (others k d)) new)
+      (cases_eq k p)
+
+  -- c is gone from a path that ends and has p in it
+  pub cut_gone : (q t : ℕ) → p ≡ suc q → PathEnds to t → Reach to q t → Reach now c t → ⊥
+  cut_gone q t e end has r = nothing_at_end to q has
+  cut_gone q t e (on {n = n} e') has r =
+      ⊎_elim
+      (λ (s : c ≡ n).
+      let t' : PathEnds to (suc c) = on (subst (λ a. PathEnds to (to (suc a))) (sym s) e') in
+      let has' : Reach to q (suc c) = subst (λ a. Reach to q (suc a)) (sym s) has in
+      ⊎_elim
+      (λ (s : q ≡ c). apart (ap suc (sym s) ∙ sym e))
+      (λ (s : Reach to q (to (suc c))). no_cycle to c (suc c) t' here (reach_on to c q (to (suc c)) s (subst (Reach to c) (sym (ap to (sym e) ∙ was)) here)))
+      (unreach to q c has'))
+      (λ (far : Reach now c (now (suc n))).
+      ⊎_elim
+      (λ (s : suc n ≡ p). no_cycle to c (suc n) (on e') (there (subst (Reach to c) (sym (ap to s ∙ was)) here)) (cut_adds c (to (suc c)) (subst (Reach now c) (ap now s ∙ is) far)))
+      (λ (d : suc n ≢ p).
+      ⊎_elim
+      (λ (s : q ≡ n). d (ap suc (sym s) ∙ sym e))
+      (λ (s : Reach to q (to (suc n))). cut_gone q (to (suc n)) e e' s (subst (Reach now c) (others (suc n) d) far))
+      (unreach to q n has))
+      (cases_eq (suc n) p))
+      (unreach now c n r)

@@ -1,0 +1,8 @@
+use Rattle.lock_laws.proofs.Sound.{reads_range, finds_other}
+use Rattle.lock_laws.proofs.laws.loads_find.Goals as goal
+
+pub returns-clause-range : goal.returns-clause-range
+returns-clause-range c = λ m i v cursor y lo l at is node low. reads_range m l i v at cursor is y node lo low
+
+pub returns-clause-other : goal.returns-clause-other
+returns-clause-other c = λ m i v cursor y l at is node even. finds_other m l i v at cursor is y node even

@@ -1,0 +1,5 @@
+use Rattle.lock_laws.proofs.Short.{paths_are_short_law}
+use Rattle.lock_laws.proofs.laws.paths_are_short.Goals as goal
+
+pub returns : goal.returns
+returns c = paths_are_short_law

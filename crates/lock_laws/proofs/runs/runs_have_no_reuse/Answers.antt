@@ -1,0 +1,5 @@
+use Rattle.lock_laws.proofs.Running.{runs_have_no_reuse_law}
+use Rattle.lock_laws.proofs.runs.runs_have_no_reuse.Goals as goal
+
+pub returns : goal.returns
+returns c = runs_have_no_reuse_law

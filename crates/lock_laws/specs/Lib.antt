@@ -1,0 +1,5 @@
+pub mod HeldSteps
+pub mod Invariant
+pub mod Laws
+pub mod PathLengths
+pub mod Paths
