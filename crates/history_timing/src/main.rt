@@ -37,8 +37,7 @@ fn history(alloc: Global, count: u32) -> Result<Vec<Entry>, AllocError> {
     let mut list = Vec::new(alloc);
     for i in 0..count {
         let call = call_at(i);
-        let under = space.under(&call);
-        let reply = space.step(&call)?;
+        let (reply, under) = space.step_under(&call)?;
         list.push(Entry {
             number: u64::from(i),
             worker: 0,

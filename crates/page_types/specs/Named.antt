@@ -1,5 +1,6 @@
--- Calls, kinds and replies whose sets of bits have no bit but the named ones. A set of the crate `bitflags` may
--- hold any bits, so this is a condition of the calls that take such sets, and what they answer has it too.
+-- Calls, kinds and replies whose sets of bits have no bit but the named ones. A set of the crate `bitflags` may hold
+-- any bits, so this is a condition of the calls that take such sets; their replies then have named bits alone too.
+use Rattle.std.specs.Prelude.{Option, Some, None}
 use Rattle.page_types.specs.declared.calls.Kind.{Kind}
 use Rattle.page_types.specs.declared.calls.Call.{Call}
 use Rattle.page_types.specs.declared.calls.Call.TheVariants.{Map, Unmap, Protect, Fault}
@@ -13,6 +14,11 @@ use Rattle.page_types.specs.Sets.{IsNamedProt, IsNamedFlags}
 abbrev pub IsNamedKind : Kind → Type 0
 IsNamedKind k = IsNamedProt k.prot
 
+-- the kind, if there is one, has no bit but the named ones
+abbrev pub IsNamedOption : Option Kind → Type 0
+IsNamedOption None = Unit {0}
+IsNamedOption (Some kind) = IsNamedKind kind
+
 -- the sets of bits that a call takes have no bit but the named ones
 abbrev pub IsNamedCall : Call → Type 0
 IsNamedCall (Map addr len prot flags) = IsNamedProt prot × IsNamedFlags flags
@@ -20,7 +26,7 @@ IsNamedCall (Unmap addr len) = Unit {0}
 IsNamedCall (Protect addr len prot) = IsNamedProt prot
 IsNamedCall (Fault addr access) = Unit {0}
 
--- the kind that a refusal tells has no bit but the named ones
+-- the kind that a refusal names has no bit but the named ones
 abbrev pub IsNamedWhy : Why → Type 0
 IsNamedWhy (Einval field) = Unit {0}
 IsNamedWhy (Enomem short) = Unit {0}
@@ -28,7 +34,7 @@ IsNamedWhy (Eexist page) = Unit {0}
 IsNamedWhy (MapErr page) = Unit {0}
 IsNamedWhy (AccErr page kind) = IsNamedKind kind
 
--- the kind that a reply tells has no bit but the named ones
+-- the kind that a reply names has no bit but the named ones
 abbrev pub IsNamedReply : Reply → Type 0
 IsNamedReply (At addr) = Unit {0}
 IsNamedReply Zero = Unit {0}

@@ -1,6 +1,6 @@
--- What a call's arguments alone decide, from mmap(2), munmap(2) and mprotect(2). The checks of a call stand in
--- a list, and the first that applies answers. That a Map with both SHARED and PRIVATE is refused is this
--- project's own choice: on Linux both bits together are MAP_SHARED_VALIDATE.
+-- What a call's arguments alone decide, from mmap(2), munmap(2) and mprotect(2). Each call has a list of checks, and
+-- the first that applies gives the reply. That a Map with both SHARED and PRIVATE is refused is this project's own
+-- choice: on Linux both bits together are MAP_SHARED_VALIDATE.
 use Rattle.std.specs.Prelude.{ℕ, Bool, ◌&&◌, not, ◌==◌, nat_lt, if◌then◌else◌, Option, Some, None, List, [], ◌∷◌, nat_le}
 use Rattle.page_types.specs.declared.TheConstants.{LIMIT}
 use Rattle.page_types.specs.declared.sets.MapFlags.{MapFlags}

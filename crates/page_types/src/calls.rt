@@ -1,7 +1,7 @@
-//! The four calls on an address space, their replies, and the check of a call's arguments, which comes
-//! before any look at the space. The calls and the errors follow mmap(2), munmap(2) and mprotect(2), and
-//! a fault's two errors are the SIGSEGV codes SEGV_MAPERR and SEGV_ACCERR of sigaction(2). `plain_reply`
-//! in `specs/` is the table of the checks, and `plain` is exactly that table.
+//! The four calls on an address space, their replies, and the check of a call's arguments, which comes before any look
+//! at the space. The calls and the errors follow mmap(2), munmap(2) and mprotect(2); a fault's two errors are the
+//! SIGSEGV codes SEGV_MAPERR and SEGV_ACCERR of sigaction(2). `plain_reply` in `specs/` lists the checks in their
+//! order, and `plain` is exactly that list.
 
 ghost use Rattle.std.specs.Prelude.{◌≡◌, ◌↔◌, IsTrue};
 ghost use Rattle.page_types.specs.Sets.{is_fixed, has_one_sharing};
@@ -83,7 +83,7 @@ impl Call {
     }
 }
 
-/// What a call answers.
+/// The reply to a call.
 #[derive(Clone, Copy, PartialEq, Eq, Hash, Debug)]
 pub enum Reply {
     /// The address in bytes at which a Map put its pages.
@@ -118,7 +118,7 @@ pub enum Short {
     Missing(u64),
     /// The page after the span's last one, which is above `LIMIT`.
     PastEnd(u64),
-    /// How many pages were wanted, where no gap has so many.
+    /// How many pages the call asks for, where no gap has so many.
     NoGap(u64),
     /// How many rows the result would have, which is more than `ROWS`.
     Rows(u32),
@@ -126,9 +126,9 @@ pub enum Short {
 
 /// The reply to a call that its arguments alone decide; None exactly where they don't.
 ///
-/// For each call the checks come in the order alignment, length, flags, end, and the first that fails is
-/// the answer. Only the fixed forms of a Map ask for an aligned address and an end at or below `LIMIT`; a
-/// Protect of no bytes is done; a Fault at or above `LIMIT` finds no page.
+/// For each call the checks come in the order alignment, length, flags, end, and the first that fails decides. Only the
+/// fixed forms of a Map ask for an aligned address and an end at or below `LIMIT`; a Protect of no bytes is done; a
+/// Fault at or above `LIMIT` finds no page.
 pub fn plain(call: &Call) -> Option<Reply>
     ensures { result ≡ plain_reply call.now }
 {

@@ -1,4 +1,5 @@
 use crate::{Access, Call, Field, LIMIT, MapFlags, Prot, Reply, Short, Span, Why, plain};
+use std::test::Fail;
 
 fn einval(field: Field) -> Option<Reply> {
     Some(Reply::Refused(Why::Einval(field)))
@@ -113,4 +114,21 @@ fn the_other_calls_are_decided_in_their_own_ways(rt: HostRuntime) {
     ] {
         assert_eq!(rt; plain(&call), wanted);
     }
+}
+
+#[test]
+fn a_refused_argument_is_printed(rt: HostRuntime) -> Result<(), Fail> {
+    for (field, wanted) in [
+        (Field::Addr, "the address is not a multiple of 4096"),
+        (Field::Len, "the length is 0"),
+        (
+            Field::Flags,
+            "the flags do not have exactly one of SHARED and PRIVATE",
+        ),
+        (Field::End, "the end is above page 34359738367"),
+    ] {
+        let text = format!(in rt.alloc(); "{field}")?;
+        assert_eq!(rt; text.as_str(), wanted);
+    }
+    Ok(())
 }

@@ -9,8 +9,8 @@ use Rattle.page_types.specs.declared.calls.Call.{Call}
 use Rattle.page_types.specs.declared.calls.Call.TheVariants.{Map, Unmap, Protect, Fault}
 use Rattle.page_types.specs.declared.sets.Prot.{Prot}
 use Rattle.space_model.specs.declared.areas.Area.{Area}
-use Rattle.space_model.specs.Areas.{IsInRange, IsAreaList, IsInOrder, HasKinds, kind_at}
-use Rattle.space_model.specs.Effect.{new_kind, effect_of, is_within, mapped_kind}
+use Rattle.space_model.specs.Areas.{is_within, IsInRange, IsAreaList, IsInOrder, HasKinds, kind_at}
+use Rattle.space_model.specs.Effect.{new_kind, effect_of, mapped_kind}
 use Rattle.space_model.specs.Building.{painted, part_of, parts, join_all, pieces_at, changed_list}
 use Rattle.space_model.proofs.AreaKinds.{kind_at-here, kind_at-before, kind_at-after, side_of, IsAbove, above_zero, LeadsTo-above}
 use Rattle.space_model.proofs.AreaKinds.Side.{before, inside, after}

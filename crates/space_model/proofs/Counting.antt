@@ -6,9 +6,9 @@ use Rattle.page_types.specs.declared.TheConstants.{LIMIT}
 use Rattle.page_types.specs.declared.calls.Kind.{Kind}
 use Rattle.space_model.specs.declared.areas.Area.{Area}
 use Rattle.page_types.specs.declared.calls.Call.{Call}
-use Rattle.space_model.specs.Areas.{IsAreaList, HasKinds, kind_at, gap_between, gaps_from, gap_count, row_count}
-use Rattle.space_model.specs.Effect.{effect_of, is_within, new_kind}
-use Rattle.space_model.specs.Building.{same_option, count_if}
+use Rattle.space_model.specs.Areas.{is_within, IsAreaList, HasKinds, kind_at, gap_between, gaps_from, gap_count, row_count}
+use Rattle.space_model.specs.Effect.{effect_of, new_kind}
+use Rattle.space_model.specs.Starts.{same_option, count_if, starts, start_count}
 use Rattle.space_model.proofs.AreaKinds.{kind_at-here, kind_at-after, kind_at-below, kind_at-end, IsAbove, above_zero, LeadsTo-above, side_of}
 use Rattle.space_model.proofs.AreaKinds.Side.{before, inside, after}
 use Rattle.space_model.proofs.Joining.{same_kind-true, same_kind-same}
@@ -111,11 +111,6 @@ same_option-same (Some k) = same_kind-same k
 pub same_option-false : (o q : Option Kind) → o ≢ q → same_option o q ≡ false
 same_option-false o q ne =
     elim (cases_Bool (same_option o q)) [ inl t ↦ absurd (ne (same_option-true o q t)) | inr f ↦ f ]
-
--- a row starts at a page: page 0, or a page of another kind than the one before it
-abbrev pub starts : (ℕ → Option Kind) → ℕ → Bool
-starts f zero = true
-starts f (suc p) = not (same_option (f p) (f (suc p)))
 
 -- a row of some sort starts at a page
 abbrev pub row_at : (Option Kind → Bool) → (ℕ → Option Kind) → ℕ → ℕ
@@ -323,3 +318,20 @@ row_count-after_at A B c lo hi limit is w k =
 pub row_count-after : (A B : List Area) (c : Call) (lo hi : ℕ) → IsAreaList A →
     HasKinds (effect_of A c lo hi) B → row_count B ≤ row_count A + 2
 row_count-after A B c lo hi w k = row_count-after_at A B c lo hi LIMIT refl w k
+
+-- the rows of an area list are the pages where one starts
+start_count-sum : (f : ℕ → Option Kind) (n : ℕ) → start_count f n ≡ sum_from 0 n (row_at every f)
+unfolding start_count sum_from
+start_count-sum f zero = refl
+start_count-sum f (suc n) =
+    let rows : ℕ → ℕ = row_at every f in
+    let split : sum_from 0 (suc n) rows ≡ sum_from 0 n rows + sum_from (0 + n) 1 rows = sum_split_to n 0 1 (suc n) rows (omega arith) in
+    let here : rows n ≡ count_if (starts f n) = row_at-every f n (starts f n) refl in
+    let place : sum_from (0 + n) 1 rows ≡ sum_from n 1 rows = ap (λ m. sum_from m 1 rows) (zero-add n) in
+    omega (arith, split, here, place, start_count-sum f n)
+
+rows_start_to : (A : List Area) (limit : ℕ) → limit ≡ LIMIT → IsAreaList A → row_count A ≡ start_count (kind_at A) limit
+rows_start_to A limit is w = sym (every-rows A limit is w) ∙ sym (start_count-sum (kind_at A) limit)
+
+pub rows_start : (A : List Area) → IsAreaList A → row_count A ≡ start_count (kind_at A) LIMIT
+rows_start A w = rows_start_to A LIMIT refl w

@@ -10,8 +10,8 @@ use Rattle.space_model.specs.declared.areas.Area.{Area}
 use Rattle.space_model.specs.Areas.{IsAreaList, kind_at}
 use Rattle.space_model.specs.Effect.{protected_kind}
 use Rattle.space_model.specs.Held.{LiesIn, kind_before}
-use Rattle.space_model.specs.Building.{same_option, count_if, border}
-use Rattle.space_model.specs.Laws.{FourCases, SimpleInFourCases}
+use Rattle.space_model.specs.Starts.{same_option, count_if, border}
+use Rattle.space_model.specs.Laws.{FourCases, SimpleInFourCases, SimpleKeepsRows}
 use Rattle.space_model.specs.Laws.FourCases.{nothing, whole, first_part, last_part}
 use Rattle.space_model.proofs.AreaKinds.{kind_at-here, kind_at-after, kind_at-below, kind_at-end, LeadsTo-above}
 use Rattle.space_model.proofs.Counting.{same_option-true, same_option-same, same_option-false}
@@ -52,7 +52,7 @@ starts_after x rest a w m =
     ]
 
 -- the page after an area isn't of its kind
-after_member : (A : List Area) (a : Area) → IsAreaList A → Contains A a → kind_at A a.hi ≢ Some a.kind
+pub after_member : (A : List Area) (a : Area) → IsAreaList A → Contains A a → kind_at A a.hi ≢ Some a.kind
 after_member [] a w (k, l, e) = absurd (omega arith)
 after_member (x ∷ rest) a w (zero, l, e) =
     subst (λ y. kind_at (x ∷ rest) y.hi ≢ Some y.kind) e
@@ -64,7 +64,7 @@ after_member (x ∷ rest) a w (suc k, l, e) =
     λ s. after_member rest a w.2 m (sym (kind_at-after x rest a.hi (omega arith)) ∙ s)
 
 -- nor is the page before it
-before_member : (A : List Area) (a : Area) (p : ℕ) → IsAreaList A → Contains A a → suc p ≡ a.lo → kind_at A p ≢ Some a.kind
+pub before_member : (A : List Area) (a : Area) (p : ℕ) → IsAreaList A → Contains A a → suc p ≡ a.lo → kind_at A p ≢ Some a.kind
 before_member [] a p w (k, l, e) i = absurd (omega arith)
 before_member (x ∷ rest) a p w (zero, l, e) i =
     λ s.
@@ -198,4 +198,12 @@ four_ways A a addr len prot w undecided lies =
       λ f.
           simple_in A addr len prot (page_of addr) (end_page addr len) a refl refl w lies l h
           (four_to A a (page_of addr) (end_page addr len) w lies l kind f),
+    )
+
+pub keeps_rows : (A : List Area) (a : Area) (addr len : ℕ) (prot : Prot) → IsAreaList A → SimpleKeepsRows A a addr len prot
+keeps_rows A a addr len prot w undecided lies =
+    let l = has_pages addr len (protect-length addr len undecided) in
+    let h = protect-end addr len undecided in (
+      λ s. simple_borders A addr len prot (page_of addr) (end_page addr len) a refl refl w lies l (a, s),
+      λ b. simple_in A addr len prot (page_of addr) (end_page addr len) a refl refl w lies l h b,
     )

@@ -1,101 +1,115 @@
--- Histories of one entry more, and the laws of histories.
-use Rattle.std.proofs.Common.{◌≡◌, ℕ, ◌+◌, List, [], ◌∷◌, ◌++◌, length, map, sym, ◌∙◌, subst, refl, zero-add, arith}
-use Rattle.page_types.specs.declared.calls.Reply.{Reply}
+-- Chains of steps: a step more, a chain in two parts, weaker steps, and steps that lead to one list each. The laws of
+-- histories follow.
+use mathlib.Core.Option.{some, some-injective, some-ne-none}
+use lib.ListN.{get_elem?}
+use Rattle.std.proofs.Common.{◌≡◌, ℕ, zero, suc, ◌+◌, List, [], ◌∷◌, ◌++◌, length, map, sym, ap, ◌∙◌, subst, refl, arith}
 use Rattle.space_model.specs.declared.areas.Area.{Area}
 use Rattle.space_model.specs.declared.entries.Entry.{Entry}
 use Rattle.space_model.specs.Areas.{IsAreaList}
 use Rattle.space_model.specs.Answers.{Answers}
 use Rattle.space_model.specs.Laws.{LeavesAreaListAfter}
-use Rattle.space_model.specs.History.{StateAfter, IsLegalFrom, IsLegal}
+use Rattle.space_model.specs.History.{Chains, CallLeaves, HasRightReply, StateAfter, IsNumberedFrom, IsLegal}
 use Rattle.space_model.proofs.OneAnswer.{one_answer}
 use Rattle.space_model.proofs.SomeAnswer.{some_answer, leaves_areas}
 
-pub after_more : (A : List Area) (xs : List Entry) (B : List Area) (e : Entry) (r : Reply) (C : List Area) →
-    StateAfter A xs B → Answers B e.call r C → StateAfter A (xs ++ e ∷ []) C
-after_more A [] B e r C s h = (r, C, subst (λ X. Answers X e.call r C) s h, refl)
-after_more A (x ∷ xs) B e r C (q, D, g, s) h = (q, D, g, after_more D xs B e r C s h)
+module _ (Step : List Area → Entry → List Area → Type 0) where
+  -- two chains are one
+  pub chains_join : (A : List Area) (xs ys : List Entry) (B C : List Area) → Chains Step A xs B → Chains Step B ys C → Chains Step A (xs ++ ys) C
+  chains_join A [] ys B C s t = subst (λ X. Chains Step X ys C) s t
+  chains_join A (x ∷ xs) ys B C (D, g, s) t = (D, g, chains_join D xs ys B C s t)
 
-legal_more_from : (n : ℕ) (A : List Area) (xs : List Entry) (B : List Area) (e : Entry) (C : List Area) →
-    IsLegalFrom n A xs → StateAfter A xs B → e.number ≡ n + length xs → Answers B e.call e.reply C →
-    IsLegalFrom n A (xs ++ e ∷ [])
-legal_more_from n A [] B e C l s i h = (omega arith, (C, subst (λ X. Answers X e.call e.reply C) s h, tt))
-legal_more_from n A (x ∷ xs) B e C (j, (D, g, l)) (q, E, k, s) i h =
-    let same = (one_answer A x.call x.reply q D E g k).1 in
-    (j, (D, g, legal_more_from (n + 1) D xs B e C l (subst (λ X. StateAfter X xs B) (sym same) s) (omega arith) h))
+  -- one chain is two
+  pub chains_split : (A : List Area) (xs ys : List Entry) (C : List Area) → Chains Step A (xs ++ ys) C → (B : List Area) × Chains Step A xs B × Chains Step B ys C
+  chains_split A [] ys C s = (A, refl, s)
+  chains_split A (x ∷ xs) ys C (D, g, s) = let (B, t, u) = chains_split D xs ys C s in (B, (D, g, t), u)
 
-pub legal_more : (A : List Area) (xs : List Entry) (B : List Area) (e : Entry) (C : List Area) →
-    IsLegal A xs → StateAfter A xs B → e.number ≡ length xs → Answers B e.call e.reply C → IsLegal A (xs ++ e ∷ [])
-legal_more A xs B e C l s i h = legal_more_from 0 A xs B e C l s (i ∙ sym (zero-add (length xs))) h
+  -- a step more
+  pub chains_more : (A : List Area) (xs : List Entry) (B : List Area) (e : Entry) (C : List Area) → Chains Step A xs B → Step B e C → Chains Step A (xs ++ e ∷ []) C
+  chains_more A xs B e C s h = chains_join A xs (e ∷ []) B C s (C, h, refl)
 
--- the last entry of a legal history has its place's number and the right reply
-legal_last_from : (n : ℕ) (A : List Area) (xs : List Entry) (B : List Area) (e : Entry) →
-    IsLegalFrom n A (xs ++ e ∷ []) → StateAfter A xs B →
-    (e.number ≡ n + length xs) × ((C : List Area) × Answers B e.call e.reply C)
-legal_last_from n A [] B e (j, (C, g, l)) s = (omega arith, (C, subst (λ X. Answers X e.call e.reply C) (sym s) g))
-legal_last_from n A (x ∷ xs) B e (j, (D, g, l)) (q, E, k, s) =
-    let same = (one_answer A x.call x.reply q D E g k).1 in
-    let last = legal_last_from (n + 1) D xs B e l (subst (λ X. StateAfter X xs B) (sym same) s) in
-    (omega (arith, last.0), last.1)
+-- each step is one of a weaker kind
+pub chains_weaker : (Step Weaker : List Area → Entry → List Area → Type 0) (weaker : (A : List Area) (e : Entry) (B : List Area) → Step A e B → Weaker A e B)
+    (A : List Area) (xs : List Entry) (B : List Area) → Chains Step A xs B → Chains Weaker A xs B
+chains_weaker Step Weaker weaker A [] B s = s
+chains_weaker Step Weaker weaker A (x ∷ xs) B (D, g, s) = (D, weaker A x D g, chains_weaker Step Weaker weaker D xs B s)
 
-pub legal_last : (A : List Area) (xs : List Entry) (B : List Area) (e : Entry) →
-    IsLegal A (xs ++ e ∷ []) → StateAfter A xs B → (e.number ≡ length xs) × ((C : List Area) × Answers B e.call e.reply C)
-legal_last A xs B e l s =
-    let last = legal_last_from 0 A xs B e l s in (last.0 ∙ zero-add (length xs), last.1)
+pub numbered_more : (n : ℕ) (xs : List Entry) (e : Entry) → IsNumberedFrom n xs → e.number ≡ n + length xs → IsNumberedFrom n (xs ++ e ∷ [])
+numbered_more n [] e l i = (omega arith, tt)
+numbered_more n (x ∷ xs) e (j, l) i = (j, numbered_more (n + 1) xs e l (omega arith))
+
+-- the entry at each place has the place's number
+pub numbered_at : (n : ℕ) (xs : List Entry) (i : ℕ) (e : Entry) → IsNumberedFrom n xs → get_elem? xs i ≡ some e → e.number ≡ n + i
+numbered_at n [] i e l at = absurd (some-ne-none e (sym at))
+numbered_at n (x ∷ xs) zero e l at =
+    let first : x.number ≡ e.number = ap (λ (y : Entry). y.number) (some-injective x e at) in omega (arith, l.0)
+numbered_at n (x ∷ xs) (suc i) e l at = let later = numbered_at (n + 1) xs i e l.1 at in omega arith
+
+numbered_last : (n : ℕ) (xs : List Entry) (e : Entry) → IsNumberedFrom n (xs ++ e ∷ []) → e.number ≡ n + length xs
+numbered_last n [] e (j, l) = omega arith
+numbered_last n (x ∷ xs) e (j, l) = let last = numbered_last (n + 1) xs e l in omega arith
+
+numbered_front : (n : ℕ) (xs ys : List Entry) → IsNumberedFrom n (xs ++ ys) → IsNumberedFrom n xs
+numbered_front n [] ys l = tt
+numbered_front n (x ∷ xs) ys (j, l) = (j, numbered_front (n + 1) xs ys l)
+
+-- the calls leave what right replies leave
+pub replied_state : (A : List Area) (xs : List Entry) (B : List Area) → Chains HasRightReply A xs B → StateAfter A xs B
+replied_state = chains_weaker HasRightReply CallLeaves (λ A e B h. (e.reply, h))
 
 -- the laws
 pub one_state : (A : List Area) (xs : List Entry) (B C : List Area) → StateAfter A xs B → StateAfter A xs C → B ≡ C
 one_state A [] B C s t = s ∙ sym t
-one_state A (x ∷ xs) B C (q, D, g, s) (r, E, h, t) =
+one_state A (x ∷ xs) B C (D, (q, g), s) (E, (r, h), t) =
     let same = (one_answer A x.call q r D E g h).1 in
     one_state E xs B C (subst (λ X. StateAfter X xs B) same s) t
 
-beginnings_from : (n : ℕ) (A : List Area) (xs ys : List Entry) → IsLegalFrom n A (xs ++ ys) → IsLegalFrom n A xs
-beginnings_from n A [] ys l = tt
-beginnings_from n A (x ∷ xs) ys (j, (C, g, l)) = (j, (C, g, beginnings_from (n + 1) C xs ys l))
+pub legal_state : (A : List Area) (xs : List Entry) → IsLegal A xs → (B : List Area) × StateAfter A xs B
+legal_state A xs (l, (B, s)) = (B, replied_state A xs B s)
+
+-- an entry more keeps a history legal where it has its place's number and the right reply
+pub legal_more : (A : List Area) (xs : List Entry) (B : List Area) (e : Entry) (C : List Area) →
+    IsLegal A xs → StateAfter A xs B → e.number ≡ length xs → Answers B e.call e.reply C → IsLegal A (xs ++ e ∷ [])
+legal_more A xs B e C (l, (D, s)) t i h =
+    let same : D ≡ B = one_state A xs D B (replied_state A xs D s) t in (
+      numbered_more 0 xs e l (omega arith),
+      (C, chains_more HasRightReply A xs B e C (subst (λ X. Chains HasRightReply A xs X) same s) h),
+    )
+
+-- the last entry of a legal history has its place's number and the right reply
+pub legal_last : (A : List Area) (xs : List Entry) (B : List Area) (e : Entry) →
+    IsLegal A (xs ++ e ∷ []) → StateAfter A xs B → (e.number ≡ length xs) × ((C : List Area) × Answers B e.call e.reply C)
+legal_last A xs B e (l, (C, s)) t =
+    let (D, front, (E, h, last)) = chains_split HasRightReply A xs (e ∷ []) C s in
+    let same : D ≡ B = one_state A xs D B (replied_state A xs D front) t in
+    let number = numbered_last 0 xs e l in
+    (omega arith, (E, subst (λ X. Answers X e.call e.reply E) same h))
 
 pub beginnings : (A : List Area) (xs ys : List Entry) → IsLegal A (xs ++ ys) → IsLegal A xs
-beginnings A xs ys l = beginnings_from 0 A xs ys l
-
-pub joined_state : (A : List Area) (xs ys : List Entry) (B C : List Area) → StateAfter A xs B → StateAfter B ys C →
-    StateAfter A (xs ++ ys) C
-joined_state A [] ys B C s t = subst (λ X. StateAfter X ys C) s t
-joined_state A (x ∷ xs) ys B C (q, D, g, s) t = (q, D, g, joined_state D xs ys B C s t)
-
-pub split_state : (A : List Area) (xs ys : List Entry) (C : List Area) → StateAfter A (xs ++ ys) C →
-    (B : List Area) × StateAfter A xs B × StateAfter B ys C
-split_state A [] ys C s = (A, refl, s)
-split_state A (x ∷ xs) ys C (q, D, g, s) = let (B, t, u) = split_state D xs ys C s in (B, (q, D, g, t), u)
+beginnings A xs ys (l, (C, s)) =
+    let parts = chains_split HasRightReply A xs ys C s in (numbered_front 0 xs ys l, (parts.0, parts.1))
 
 pub area_state : (A : List Area) (xs : List Entry) → IsAreaList A → LeavesAreaListAfter A xs
 area_state A [] w = (A, w, refl)
 area_state A (x ∷ xs) w =
     let (r, C, g) = some_answer A x.call w in
-    let (B, v, s) = area_state C xs (leaves_areas A x.call r C w g) in (B, v, (r, C, g, s))
-
-legal_state_from : (n : ℕ) (A : List Area) (xs : List Entry) → IsLegalFrom n A xs → (B : List Area) × StateAfter A xs B
-legal_state_from n A [] l = (A, refl)
-legal_state_from n A (x ∷ xs) (j, (C, g, l)) =
-    let rest = legal_state_from (n + 1) C xs l in (rest.0, (x.reply, C, g, rest.1))
-
-pub legal_state : (A : List Area) (xs : List Entry) → IsLegal A xs → (B : List Area) × StateAfter A xs B
-legal_state A xs l = legal_state_from 0 A xs l
+    let (B, v, s) = area_state C xs (leaves_areas A x.call r C w g) in (B, v, (C, (r, g), s))
 
 Agree : List Entry → List Entry → Type 0
 Agree xs ys =
     (map (λ (e : Entry). e.number) xs ≡ map (λ (e : Entry). e.number) ys) ×
     (map (λ (e : Entry). e.reply) xs ≡ map (λ (e : Entry). e.reply) ys)
 
-agree_from : (n : ℕ) (A : List Area) (xs ys : List Entry) → IsLegalFrom n A xs → IsLegalFrom n A ys →
-    map (λ (e : Entry). e.call) xs ≡ map (λ (e : Entry). e.call) ys → Agree xs ys
+agree_from : (n : ℕ) (A : List Area) (xs ys : List Entry) (B D : List Area) → IsNumberedFrom n xs → IsNumberedFrom n ys →
+    Chains HasRightReply A xs B → Chains HasRightReply A ys D → map (λ (e : Entry). e.call) xs ≡ map (λ (e : Entry). e.call) ys → Agree xs ys
 unfolding Agree
-agree_from n A [] [] l m e = (refl, refl)
-agree_from n A [] (y ∷ ys) l m e = cc
-agree_from n A (x ∷ xs) [] l m e = cc
-agree_from n A (x ∷ xs) (y ∷ ys) (j, (C, g, l)) (k, (D, h, m)) e =
+agree_from n A [] [] B D j k s t e = (refl, refl)
+agree_from n A [] (y ∷ ys) B D j k s t e = cc
+agree_from n A (x ∷ xs) [] B D j k s t e = cc
+agree_from n A (x ∷ xs) (y ∷ ys) B D (j, l) (k, m) (E, g, s) (F, h, t) e =
     let calls : x.call ≡ y.call = cc in
     let rest : map (λ (e : Entry). e.call) xs ≡ map (λ (e : Entry). e.call) ys = cc in
-    let same = one_answer A x.call x.reply y.reply C D g (subst (λ c. Answers A c y.reply D) (sym calls) h) in
-    let more = agree_from (n + 1) C xs ys l (subst (λ X. IsLegalFrom (n + 1) X ys) (sym same.1) m) rest in
+    let same = one_answer A x.call x.reply y.reply E F g (subst (λ c. Answers A c y.reply F) (sym calls) h) in
+    let more = agree_from (n + 1) E xs ys B D l m s (subst (λ X. Chains HasRightReply X ys D) (sym same.1) t) rest in
     let numbers : x.number ≡ y.number = j ∙ sym k in
     let replies : x.reply ≡ y.reply = same.0 in
     let a : map (λ (e : Entry). e.number) xs ≡ map (λ (e : Entry). e.number) ys = more.0 in
@@ -107,4 +121,4 @@ pub agree : (A : List Area) (xs ys : List Entry) → IsLegal A xs → IsLegal A 
     (map (λ (e : Entry). e.number) xs ≡ map (λ (e : Entry). e.number) ys) ×
     (map (λ (e : Entry). e.reply) xs ≡ map (λ (e : Entry). e.reply) ys)
 unfolding Agree
-agree A xs ys l m e = agree_from 0 A xs ys l m e
+agree A xs ys (l, (B, s)) (m, (D, t)) e = agree_from 0 A xs ys B D l m s t e

@@ -12,3 +12,5 @@ pub mod SomeAnswer
 pub mod TwiceOnce
 pub mod FourWays
 pub mod Histories
+pub mod MaximalRuns
+pub mod CertainReplies

@@ -5,18 +5,13 @@ use Rattle.std.proofs.lemmas.List.Elements.{All-nil, All-cons, All-head, All-tai
 use Rattle.page_types.specs.declared.calls.Kind.{Kind}
 use Rattle.page_types.specs.declared.calls.Call.{Call}
 use Rattle.page_types.specs.declared.calls.Call.TheVariants.{Map, Unmap, Protect, Fault}
-use Rattle.page_types.specs.Named.{IsNamedKind, IsNamedCall}
+use Rattle.page_types.specs.Named.{IsNamedKind, IsNamedOption, IsNamedCall}
 use Rattle.space_model.specs.declared.areas.Area.{Area}
 use Rattle.space_model.specs.Areas.{IsAreaList, HasKinds, HasNamedKinds, kind_at}
 use Rattle.space_model.specs.Effect.{new_kind, effect_of}
 use Rattle.space_model.proofs.AreaKinds.{kind_at-here, kind_at-before, kind_at-after, kind_at-below, LeadsTo-above, side_of}
 use Rattle.space_model.proofs.AreaKinds.Side.{before, inside, after}
 use Rattle.space_model.proofs.Changing.{within-before, within-inside, within-after}
-
--- the kind, if there is one, has no bit but the named ones
-abbrev pub IsNamedOption : Option Kind → Type 0
-IsNamedOption None = Unit {0}
-IsNamedOption (Some kind) = IsNamedKind kind
 
 pub named_at : (A : List Area) (p : ℕ) → HasNamedKinds A → IsNamedOption (kind_at A p)
 named_at [] p n = tt

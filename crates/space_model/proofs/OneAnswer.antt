@@ -16,7 +16,7 @@ use Rattle.page_types.specs.Sets.{has_bits, flag_bits}
 use Rattle.space_model.specs.declared.areas.Area.{Area}
 use Rattle.space_model.specs.Areas.{HasKinds, kind_at, row_count}
 use Rattle.space_model.specs.Effect.{effect_of, done_reply}
-use Rattle.space_model.specs.Answers.{IsLowestMapped, IsLowestMissing, IsHighestFit, NoReplace, Replaces, Hints, StartsAt, IsPlace, RefusesMap, LetsThrough, RefusesAccess, Refuses, Grants, Answers}
+use Rattle.space_model.specs.Answers.{IsLowestMapped, IsLowestMissing, IsHighestFit, NoReplace, Replaces, Hints, StartsAt, IsPlace, RefusesMap, LetsThrough, RefusesAccess, RefusesByState, GrantsAccess, Answers}
 use Rattle.space_model.specs.Answers.StartsAt.{free, replacing, hinted, highest}
 use Rattle.space_model.specs.Answers.RefusesMap.{exists, no_gap}
 use Rattle.space_model.specs.Answers.Answers.{by_arguments, refused, granted, done, too_many_rows}
@@ -111,7 +111,7 @@ access_one : (o : Option Kind) (page : ℕ) (access : Access) (why because : Why
 access_one None page access why because e d = e ∙ sym d
 access_one (Some k) page access why because e d = e.1 ∙ sym d.1
 
-refusal_one : (A : List Area) (c : Call) (why because : Why) → Refuses A c why → Refuses A c because → why ≡ because
+refusal_one : (A : List Area) (c : Call) (why because : Why) → RefusesByState A c why → RefusesByState A c because → why ≡ because
 refusal_one A (Map addr len prot flags) why because r s = map_refusal_one A (page_of addr) (page_count len) flags why because r s
 refusal_one A (Unmap addr len) why because r s = absurd r
 refusal_one A (Protect addr len prot) why because (p, l, e) (q, m, d) =
@@ -124,26 +124,26 @@ access_refused_or_granted None page access why kind r e l = cc
 access_refused_or_granted (Some k) page access why kind r e l =
     let same : kind ≡ k = cc in r.0 (subst (λ x. LetsThrough x access) same l)
 
-refused_or_granted : (A : List Area) (c : Call) (why : Why) (kind : Kind) → Refuses A c why → Grants A c kind → ⊥
+refused_or_granted : (A : List Area) (c : Call) (why : Why) (kind : Kind) → RefusesByState A c why → GrantsAccess A c kind → ⊥
 refused_or_granted A (Map addr len prot flags) why kind r g = g
 refused_or_granted A (Unmap addr len) why kind r g = g
 refused_or_granted A (Protect addr len prot) why kind r g = g
 refused_or_granted A (Fault addr access) why kind r g =
     access_refused_or_granted (kind_at A (page_of addr)) (page_of addr) access why kind r g.0 g.1
 
-granted_one : (A : List Area) (c : Call) (k m : Kind) → Grants A c k → Grants A c m → k ≡ m
+granted_one : (A : List Area) (c : Call) (k m : Kind) → GrantsAccess A c k → GrantsAccess A c m → k ≡ m
 granted_one A (Map addr len prot flags) k m g h = absurd g
 granted_one A (Unmap addr len) k m g h = absurd g
 granted_one A (Protect addr len prot) k m g h = absurd g
 granted_one A (Fault addr access) k m g h = cc
 
-granted_or_placed : (A : List Area) (c : Call) (kind : Kind) (lo hi : ℕ) → Grants A c kind → IsPlace A c lo hi → ⊥
+granted_or_placed : (A : List Area) (c : Call) (kind : Kind) (lo hi : ℕ) → GrantsAccess A c kind → IsPlace A c lo hi → ⊥
 granted_or_placed A (Map addr len prot flags) kind lo hi g p = g
 granted_or_placed A (Unmap addr len) kind lo hi g p = g
 granted_or_placed A (Protect addr len prot) kind lo hi g p = g
 granted_or_placed A (Fault addr access) kind lo hi g p = p
 
-refused_or_placed : (A : List Area) (c : Call) (why : Why) (lo hi : ℕ) → Refuses A c why → IsPlace A c lo hi → ⊥
+refused_or_placed : (A : List Area) (c : Call) (why : Why) (lo hi : ℕ) → RefusesByState A c why → IsPlace A c lo hi → ⊥
 refused_or_placed A (Map addr len prot flags) why lo hi r p =
     map_refused_or_placed A (page_of addr) (page_count len) flags why lo r p.0
 refused_or_placed A (Unmap addr len) why lo hi r p = r

@@ -6,7 +6,7 @@ use Rattle.page_types.specs.declared.calls.Kind.{Kind}
 use Rattle.space_model.specs.declared.areas.Area.{Area}
 use Rattle.space_model.specs.Areas.{IsAreaList, kind_at}
 use Rattle.space_model.specs.Building.{no_area}
-use Rattle.space_model.specs.Answers.{IsFree, IsMapped, IsLowestMapped, FitsAt, IsHighestFit}
+use Rattle.space_model.specs.Answers.{IsUnmapped, IsMapped, IsLowestMapped, FitsAt, IsHighestFit}
 use Rattle.space_model.proofs.AreaKinds.{kind_at-here, kind_at-after, kind_at-below}
 
 -- the areas from an index on, the first one apart
@@ -57,7 +57,7 @@ lowest_is A a left lo hi r l h =
     }
 
 pub lowest_none : (A : List Area) (a : Area) (left : List Area) (lo hi : ℕ) →
-    Remains A (a ∷ left) lo → hi ≤ max a.lo lo → IsFree A lo hi
+    Remains A (a ∷ left) lo → hi ≤ max a.lo lo → IsUnmapped A lo hi
 lowest_none A a left lo hi r h p low high = free_before A a left lo p r low (omega arith)
 
 -- mapped_end: the pages so far are mapped

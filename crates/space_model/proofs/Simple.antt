@@ -12,11 +12,12 @@ use Rattle.space_model.specs.declared.areas.Area.{Area}
 use Rattle.space_model.specs.Areas.{IsInRange, IsAreaList, HasKinds, kind_at, gap_count}
 use Rattle.space_model.specs.Effect.{effect_of, protected_kind}
 use Rattle.space_model.specs.Held.{LiesIn, KeepsCounts, kind_before, IsSimpleIn, IsSimple}
-use Rattle.space_model.specs.Building.{same_option, same_kind, count_if, border, KeepsBorders, changed_list}
+use Rattle.space_model.specs.Starts.{starts, same_option, same_kind, count_if, border, KeepsRows}
+use Rattle.space_model.specs.Building.{changed_list}
 use Rattle.space_model.proofs.AreaKinds.{kind_at-here, kind_at-after, kind_at-below, LeadsTo-above, side_of}
 use Rattle.space_model.proofs.AreaKinds.Side.{before, inside, after}
 use Rattle.space_model.proofs.Changing.{within-before, within-inside, within-after, changed_list-kinds, kind_at-limit}
-use Rattle.space_model.proofs.Counting.{sum_from, sum-same, sum-add, only_at, only_at-same, only_at-other, sum-only_at, sum-only_past, starts, starts-not, row_at, length-rows, gaps-rows}
+use Rattle.space_model.proofs.Counting.{sum_from, sum-same, sum-add, only_at, only_at-same, only_at-other, sum-only_at, sum-only_past, starts-not, row_at, length-rows, gaps-rows}
 
 -- an area of a list is in range
 pub member_in_range : (A : List Area) (a : Area) → IsAreaList A → Contains A a → IsInRange a
@@ -264,7 +265,7 @@ gaps-after A B addr len prot lo hi w k = gaps_at A B addr len prot lo hi LIMIT r
 
 -- so a Protect within one area keeps the counts exactly where it keeps the rows that start at its ends
 pub keeps_counts : (A : List Area) (addr len : ℕ) (prot : Prot) (lo hi : ℕ) (a : Area) → IsAreaList A → LiesIn A a lo hi →
-    lo < hi → hi ≤ LIMIT → KeepsBorders A a.kind prot lo hi →
+    lo < hi → hi ≤ LIMIT → KeepsRows (kind_before A lo) a.kind (protected_kind prot a.kind) (kind_at A hi) →
     (B : List Area) × KeepsCounts A (Protect addr len prot) lo hi B
 keeps_counts A addr len prot lo hi a w lies l h b =
     let B = changed_list A (Protect addr len prot) lo hi in
@@ -273,13 +274,13 @@ keeps_counts A addr len prot lo hi a w lies l h b =
     (B, record { changed = k; areas = omega (arith, n, b); gaps = gaps-after A B addr len prot lo hi w k })
 
 pub keeps_borders : (A B : List Area) (addr len : ℕ) (prot : Prot) (lo hi : ℕ) (a : Area) → IsAreaList A → LiesIn A a lo hi →
-    lo < hi → KeepsCounts A (Protect addr len prot) lo hi B → KeepsBorders A a.kind prot lo hi
+    lo < hi → KeepsCounts A (Protect addr len prot) lo hi B → KeepsRows (kind_before A lo) a.kind (protected_kind prot a.kind) (kind_at A hi)
 keeps_borders A B addr len prot lo hi a w lies l k =
     omega (arith, length-after A B addr len prot lo hi a w lies l k.changed, k.areas)
 
 -- the same, of the span of the call
 pub simple_in : (A : List Area) (addr len : ℕ) (prot : Prot) (lo hi : ℕ) (a : Area) → lo ≡ page_of addr →
-    hi ≡ end_page addr len → IsAreaList A → LiesIn A a lo hi → lo < hi → hi ≤ LIMIT → KeepsBorders A a.kind prot lo hi →
+    hi ≡ end_page addr len → IsAreaList A → LiesIn A a lo hi → lo < hi → hi ≤ LIMIT → KeepsRows (kind_before A lo) a.kind (protected_kind prot a.kind) (kind_at A hi) →
     IsSimpleIn A (Protect addr len prot) a
 simple_in A addr len prot lo hi a e f w lies l h b =
     let c = Protect addr len prot in
@@ -289,7 +290,7 @@ simple_in A addr len prot lo hi a e f w lies l h b =
 
 pub simple_borders : (A : List Area) (addr len : ℕ) (prot : Prot) (lo hi : ℕ) (a : Area) → lo ≡ page_of addr →
     hi ≡ end_page addr len → IsAreaList A → LiesIn A a lo hi → lo < hi → IsSimple A (Protect addr len prot) →
-    KeepsBorders A a.kind prot lo hi
+    KeepsRows (kind_before A lo) a.kind (protected_kind prot a.kind) (kind_at A hi)
 simple_borders A addr len prot lo hi a e f w lies l (other, (there, (B, k))) =
     let c = Protect addr len prot in
     keeps_borders A B addr len prot lo hi a w lies l

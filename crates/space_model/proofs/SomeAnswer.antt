@@ -22,7 +22,7 @@ use Rattle.space_model.specs.Areas.{IsAreaList, kind_at, row_count}
 use Rattle.space_model.specs.Effect.{done_reply}
 use Rattle.space_model.specs.Building.{changed_list}
 use Rattle.space_model.specs.Laws.{HasSomeAnswer}
-use Rattle.space_model.specs.Answers.{IsFree, IsMapped, IsLowestMapped, IsLowestMissing, FitsAt, Hints, StartsAt, IsPlace, RefusesMap, RefusesAccess, Answers}
+use Rattle.space_model.specs.Answers.{IsUnmapped, IsMapped, IsLowestMapped, IsLowestMissing, FitsAt, Hints, StartsAt, IsPlace, RefusesMap, RefusesAccess, Answers}
 use Rattle.space_model.specs.Answers.StartsAt.{free as unmapped, replacing, hinted, highest}
 use Rattle.space_model.specs.Answers.RefusesMap.{exists, no_gap}
 use Rattle.space_model.specs.Answers.Answers.{by_arguments, refused, granted, done, too_many_rows}
@@ -94,7 +94,7 @@ some_from : (o : Option Kind) → o ≢ None → IsSome o
 some_from None n = absurd (n refl)
 some_from (Some k) n = refl
 
-lowest_mapped : (A : List Area) (lo hi : ℕ) → IsFree A lo hi ⊎ ((page : ℕ) × IsLowestMapped A lo hi page)
+lowest_mapped : (A : List Area) (lo hi : ℕ) → IsUnmapped A lo hi ⊎ ((page : ℕ) × IsLowestMapped A lo hi page)
 lowest_mapped A lo hi =
     elim (lowest_of (λ p. IsSome (kind_at A p)) (λ p. mapped_or_not (kind_at A p)) lo hi) [
       | lowest_is q g l h below ↦

@@ -4,7 +4,7 @@ use Rattle.std.proofs.lemmas.Bool.{cases_lt, lt-ltb, le-ltb}
 use Rattle.page_types.specs.declared.TheConstants.{LIMIT, ROWS}
 use Rattle.space_model.specs.declared.areas.Area.{Area}
 use Rattle.page_types.specs.Pages.{page_of}
-use Rattle.page_types.specs.Named.{IsNamedReply, IsNamedWhy}
+use Rattle.page_types.specs.Named.{IsNamedOption, IsNamedReply, IsNamedWhy}
 use Rattle.page_types.specs.PlainReply.{plain_reply}
 use Rattle.page_types.specs.declared.calls.Kind.{Kind}
 use Rattle.page_types.specs.declared.calls.Call.{Call}
@@ -14,12 +14,12 @@ use Rattle.page_types.specs.declared.calls.Reply.TheVariants.{At, Zero, Granted,
 use Rattle.page_types.specs.declared.sets.Access.{Access}
 use Rattle.space_model.specs.Areas.{IsAreaList, HasNamedKinds, HasKinds, kind_at, gaps_from, gap_between, row_count}
 use Rattle.space_model.specs.Effect.{effect_of}
-use Rattle.space_model.specs.Answers.{Answers, AnswersFault, Refuses, Grants}
+use Rattle.space_model.specs.Answers.{Answers, AnswersFault, RefusesByState, GrantsAccess}
 use Rattle.space_model.specs.Answers.Answers.{refused, granted}
 use Rattle.space_model.specs.Building.{changed_list}
 use Rattle.space_model.proofs.Changing.{changed_list-kinds}
 use Rattle.space_model.proofs.Counting.{row_count-after}
-use Rattle.space_model.proofs.NamedKinds.{IsNamedOption, named_at}
+use Rattle.space_model.proofs.NamedKinds.{named_at}
 
 gap_between-one : (lo hi : ℕ) → lo < hi → gap_between lo hi ≡ 1
 gap_between-one lo hi l = ap (λ b. if b then 1 else 0) (lt-ltb lo hi l)
@@ -72,5 +72,5 @@ pub fault-answers : (A : List Area) (c : Call) (addr : ℕ) (access : Access) (r
     plain_reply c ≡ None → AnswersFault (kind_at A (page_of addr)) (page_of addr) access r → Answers A c r A
 fault-answers A c addr access (At a) e u h = absurd h
 fault-answers A c addr access Zero e u h = absurd h
-fault-answers A c addr access (Granted k) e u h = granted k u (subst (λ x. Grants A x k) (sym e) h) refl refl
-fault-answers A c addr access (Refused why) e u h = refused why u (subst (λ x. Refuses A x why) (sym e) h) refl refl
+fault-answers A c addr access (Granted k) e u h = granted k u (subst (λ x. GrantsAccess A x k) (sym e) h) refl refl
+fault-answers A c addr access (Refused why) e u h = refused why u (subst (λ x. RefusesByState A x why) (sym e) h) refl refl

@@ -1,6 +1,6 @@
--- What a call answers on an area list, and the area list that it leaves: the profile of mmap(2), munmap(2),
--- mprotect(2) and page faults that this project follows. The place of a Map is told by what no other place has, and
--- not by a search.
+-- The reply to a call on an area list, and the area list that the call leaves: the profile of mmap(2), munmap(2),
+-- mprotect(2) and page faults that this project follows. The place of a Map is defined by what no other place has, and
+-- not by a search, so a reader may check it against the manual.
 use Rattle.std.specs.Prelude.{ℕ, ◌≡◌, ◌<◌, ◌≤◌, ◌+◌, IsTrue, IsFalse, IsSome, Option, Some, None, List}
 use Rattle.page_types.specs.declared.TheConstants.{LIMIT, ROWS}
 use Rattle.page_types.specs.declared.sets.Access.{Access}
@@ -21,8 +21,8 @@ use Rattle.space_model.specs.Areas.{kind_at, row_count, HasKinds}
 use Rattle.space_model.specs.Effect.{effect_of, done_reply}
 
 -- no page from lo up to hi is mapped
-abbrev pub IsFree : List Area → ℕ → ℕ → Type 0
-IsFree A lo hi = (page : ℕ) → lo ≤ page → page < hi → kind_at A page ≡ None
+abbrev pub IsUnmapped : List Area → ℕ → ℕ → Type 0
+IsUnmapped A lo hi = (page : ℕ) → lo ≤ page → page < hi → kind_at A page ≡ None
 
 -- every page from lo up to hi is mapped
 abbrev pub IsMapped : List Area → ℕ → ℕ → Type 0
@@ -33,7 +33,7 @@ pub record IsLowestMapped (A : List Area) (lo hi page : ℕ) : Type 0 where
   pub from : lo ≤ page
   pub within : page < hi
   pub mapped : IsSome (kind_at A page)
-  pub free_below : IsFree A lo page
+  pub free_below : IsUnmapped A lo page
 
 -- the lowest page that isn't mapped of those from lo up to hi
 pub record IsLowestMissing (A : List Area) (lo hi page : ℕ) : Type 0 where
@@ -47,7 +47,7 @@ pub record IsLowestMissing (A : List Area) (lo hi page : ℕ) : Type 0 where
 pub record FitsAt (A : List Area) (pages start : ℕ) : Type 0 where
   pub low : 16 ≤ start
   pub high : start + pages ≤ LIMIT
-  pub free : IsFree A start (start + pages)
+  pub free : IsUnmapped A start (start + pages)
 
 -- no place of so many pages starts higher
 pub record IsHighestFit (A : List Area) (pages start : ℕ) : Type 0 where
@@ -70,7 +70,7 @@ Hints flags = IsFalse (is_fixed flags)
 -- the page where a Map of so many pages puts them: at the address where that binds, at the hint where it fits, and
 -- otherwise as high as they fit
 pub data StartsAt (A : List Area) (hint pages : ℕ) (flags : MapFlags) (start : ℕ) : Type 0 where
-  free : NoReplace flags → IsFree A hint (hint + pages) → start ≡ hint → StartsAt A hint pages flags start
+  free : NoReplace flags → IsUnmapped A hint (hint + pages) → start ≡ hint → StartsAt A hint pages flags start
   replacing : Replaces flags → start ≡ hint → StartsAt A hint pages flags start
   hinted : Hints flags → FitsAt A pages hint → start ≡ hint → StartsAt A hint pages flags start
   highest : Hints flags → ¬ FitsAt A pages hint → IsHighestFit A pages start → StartsAt A hint pages flags start
@@ -96,7 +96,7 @@ abbrev pub RefusesAccess : Option Kind → ℕ → Access → Why → Type 0
 RefusesAccess None page access why = why ≡ MapErr page
 RefusesAccess (Some kind) page access why = ¬ LetsThrough kind access × (why ≡ AccErr page kind)
 
--- what a fault on a page of this kind answers
+-- the reply is the one to a fault on a page of this kind, or of none
 abbrev pub AnswersFault : Option Kind → ℕ → Access → Reply → Type 0
 AnswersFault kind page access (At addr) = ⊥
 AnswersFault kind page access Zero = ⊥
@@ -104,26 +104,26 @@ AnswersFault kind page access (Granted k) = (kind ≡ Some k) × LetsThrough k a
 AnswersFault kind page access (Refused why) = RefusesAccess kind page access why
 
 -- why the area list refuses a call that its arguments don't decide, before the row limit is asked
-abbrev pub Refuses : List Area → Call → Why → Type 0
-Refuses A (Map addr len prot flags) why = RefusesMap A (page_of addr) (page_count len) flags why
-Refuses A (Unmap addr len) why = ⊥
-Refuses A (Protect addr len prot) why =
+abbrev pub RefusesByState : List Area → Call → Why → Type 0
+RefusesByState A (Map addr len prot flags) why = RefusesMap A (page_of addr) (page_count len) flags why
+RefusesByState A (Unmap addr len) why = ⊥
+RefusesByState A (Protect addr len prot) why =
     (page : ℕ) × IsLowestMissing A (page_of addr) (end_page addr len) page × (why ≡ Enomem (Missing page))
-Refuses A (Fault addr access) why = RefusesAccess (kind_at A (page_of addr)) (page_of addr) access why
+RefusesByState A (Fault addr access) why = RefusesAccess (kind_at A (page_of addr)) (page_of addr) access why
 
 -- the call is a Fault on a page of this kind, which lets the access through
-abbrev pub Grants : List Area → Call → Kind → Type 0
-Grants A (Map addr len prot flags) kind = ⊥
-Grants A (Unmap addr len) kind = ⊥
-Grants A (Protect addr len prot) kind = ⊥
-Grants A (Fault addr access) kind = (kind_at A (page_of addr) ≡ Some kind) × LetsThrough kind access
+abbrev pub GrantsAccess : List Area → Call → Kind → Type 0
+GrantsAccess A (Map addr len prot flags) kind = ⊥
+GrantsAccess A (Unmap addr len) kind = ⊥
+GrantsAccess A (Protect addr len prot) kind = ⊥
+GrantsAccess A (Fault addr access) kind = (kind_at A (page_of addr) ≡ Some kind) × LetsThrough kind access
 
--- on area list A the call answers this reply and leaves area list B: what its arguments decide, else what the list
+-- on area list A the call has this reply and leaves area list B: what its arguments decide, else what the list
 -- refuses, else what is granted, else the change of its place, unless the result would have more than ROWS rows
 pub data Answers (A : List Area) (c : Call) (reply : Reply) (B : List Area) : Type 0 where
   by_arguments : plain_reply c ≡ Some reply → B ≡ A → Answers A c reply B
-  refused : (why : Why) → plain_reply c ≡ None → Refuses A c why → reply ≡ Refused why → B ≡ A → Answers A c reply B
-  granted : (kind : Kind) → plain_reply c ≡ None → Grants A c kind → reply ≡ Granted kind → B ≡ A → Answers A c reply B
+  refused : (why : Why) → plain_reply c ≡ None → RefusesByState A c why → reply ≡ Refused why → B ≡ A → Answers A c reply B
+  granted : (kind : Kind) → plain_reply c ≡ None → GrantsAccess A c kind → reply ≡ Granted kind → B ≡ A → Answers A c reply B
   done :
       (lo hi : ℕ) → plain_reply c ≡ None → IsPlace A c lo hi → HasKinds (effect_of A c lo hi) B → row_count B ≤ ROWS →
       reply ≡ done_reply c lo → Answers A c reply B

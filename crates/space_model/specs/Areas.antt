@@ -37,14 +37,14 @@ abbrev pub IsInOrder : ℕ → List Area → Type 0
 IsInOrder from [] = Unit {0}
 IsInOrder from (a ∷ rest) = (from ≤ a.lo) × IsInRange a × IsInOrder a.hi rest
 
--- the page lies in the area
-abbrev pub holds : Area → ℕ → Bool
-holds a page = nat_le a.lo page && nat_lt page a.hi
+-- the page is one of those from lo up to hi
+abbrev pub is_within : ℕ → ℕ → ℕ → Bool
+is_within lo hi page = nat_le lo page && nat_lt page hi
 
--- the kind of the area that holds a page, or none
+-- the kind of the area in which the page lies, or none
 abbrev pub kind_at : List Area → ℕ → Option Kind
 kind_at [] page = None
-kind_at (a ∷ rest) page = if holds a page then Some a.kind else kind_at rest page
+kind_at (a ∷ rest) page = if is_within a.lo a.hi page then Some a.kind else kind_at rest page
 
 -- no kind of the list has a bit but the named ones
 abbrev pub HasNamedKinds : List Area → Type 0

@@ -1,21 +1,21 @@
 -- How the bodies of this crate put an area list together: areas are appended in order, and one that touches the last
--- and is of its kind lengthens it. Only private functions speak of this; what callers see is the kinds of pages.
-use Rattle.std.specs.Prelude.{ℕ, ◌+◌, ◌-◌, ◌<◌, slice_index_or, Bool, true, false, ◌&&◌, not, ◌==◌, nat_lt, if◌then◌else◌, min, max, ◌≡◌, ◌↔◌, IsTrue, Option, Some, None, List, [], ◌∷◌}
+-- and is of its kind lengthens it. This is the project's own way; only private functions speak of it, and what callers
+-- see is the kinds of pages.
+use Rattle.std.specs.Prelude.{ℕ, ◌-◌, ◌<◌, slice_index_or, Bool, false, ◌&&◌, ◌==◌, nat_lt, if◌then◌else◌, min, max, ◌≡◌, ◌↔◌, IsTrue, Option, Some, None, List, [], ◌∷◌}
 use Rattle.page_types.specs.declared.TheConstants.{LIMIT}
 use Rattle.page_types.specs.declared.sets.Prot.{Prot}
 use Rattle.page_types.specs.declared.calls.Kind.{Kind}
 use Rattle.page_types.specs.declared.calls.Call.{Call}
 use Rattle.page_types.specs.declared.calls.Call.TheVariants.{Map, Unmap, Protect, Fault}
-use Rattle.page_types.specs.Sets.{prot_bits}
 use Rattle.page_types.specs.declared.calls.Reply.{Reply}
 use Rattle.space_model.specs.Answers.{Answers}
 use Rattle.space_model.specs.declared.entries.Entry.{Entry}
 use Rattle.space_model.specs.declared.areas.Area.{Area}
-use Rattle.space_model.specs.Held.{kind_before}
-use Rattle.space_model.specs.Areas.{IsInRange, MayFollow, kind_at}
+use Rattle.space_model.specs.Starts.{same_kind}
+use Rattle.space_model.specs.Areas.{IsInRange, MayFollow}
 use Rattle.space_model.specs.Effect.{mapped_kind, protected_kind}
 
--- what stands for an area where a list has none
+-- the area that is taken where a list has none
 abbrev pub no_area : Area
 no_area = record { lo = 0; hi = 0; kind = record { prot = record { 0 = 0 }; shared = false } }
 
@@ -27,37 +27,6 @@ area_at list index = slice_index_or list index no_area
 pub record IsRightAt (list : List Area) (index : ℕ) : Type 0 where
   pub in_range : IsInRange (area_at list index)
   pub follows : 0 < index → MayFollow (area_at list (index - 1)) (area_at list index)
-
--- two bools are equal
-abbrev pub same_bool : Bool → Bool → Bool
-same_bool true b = b
-same_bool false b = not b
-
--- two kinds are equal
-abbrev pub same_kind : Kind → Kind → Bool
-same_kind k m = (prot_bits k.prot == prot_bits m.prot) && same_bool k.shared m.shared
-
--- two kinds, or none, are equal
-abbrev pub same_option : Option Kind → Option Kind → Bool
-same_option None None = true
-same_option None (Some m) = false
-same_option (Some k) None = false
-same_option (Some k) (Some m) = same_kind k m
-
--- 1 where it is so
-abbrev pub count_if : Bool → ℕ
-count_if true = 1
-count_if false = 0
-
--- 1 where two neighbouring pages differ in kind, so that a row starts between them
-abbrev pub border : Option Kind → Option Kind → ℕ
-border o q = count_if (not (same_option o q))
-
--- pages of one kind may get a new protection with as many rows starting at the two ends of their span as before
-abbrev pub KeepsBorders : List Area → Kind → Prot → ℕ → ℕ → Type 0
-KeepsBorders A kind prot lo hi =
-    border (kind_before A lo) (Some kind) + border (Some kind) (kind_at A hi) ≡
-    border (kind_before A lo) (Some (protected_kind prot kind)) + border (Some (protected_kind prot kind)) (kind_at A hi)
 
 -- the second area goes on where the first ends, in its kind
 abbrev pub goes_on : Area → Area → Bool

@@ -1,6 +1,6 @@
 -- What an accepted call does, as a function from pages to kinds: mmap(2), munmap(2) and mprotect(2) change the pages of
 -- their place and no other. Nothing here speaks of areas that are cut or joined.
-use Rattle.std.specs.Prelude.{ℕ, Bool, ◌&&◌, nat_le, nat_lt, if◌then◌else◌, ◌*◌, Option, Some, None, List}
+use Rattle.std.specs.Prelude.{ℕ, if◌then◌else◌, ◌*◌, Option, Some, None, List}
 use Rattle.std.specs.Option.{option_map}
 use Rattle.page_types.specs.Sets.{has_bits, flag_bits}
 use Rattle.page_types.specs.declared.sets.Prot.{Prot}
@@ -11,7 +11,7 @@ use Rattle.page_types.specs.declared.calls.Call.TheVariants.{Map, Unmap, Protect
 use Rattle.page_types.specs.declared.calls.Reply.{Reply}
 use Rattle.page_types.specs.declared.calls.Reply.TheVariants.{At, Zero}
 use Rattle.space_model.specs.declared.areas.Area.{Area}
-use Rattle.space_model.specs.Areas.{kind_at}
+use Rattle.space_model.specs.Areas.{is_within, kind_at}
 
 -- the kind that a Map gives: its protection, and shared where SHARED is set
 abbrev pub mapped_kind : Prot → MapFlags → Kind
@@ -27,10 +27,6 @@ new_kind (Map addr len prot flags) kind = Some (mapped_kind prot flags)
 new_kind (Unmap addr len) kind = None
 new_kind (Protect addr len prot) kind = option_map (protected_kind prot) kind
 new_kind (Fault addr access) kind = kind
-
--- the page is one of those from lo up to hi
-abbrev pub is_within : ℕ → ℕ → ℕ → Bool
-is_within lo hi page = nat_le lo page && nat_lt page hi
 
 -- the kinds after a call whose place is the pages from lo up to hi: every page outside keeps its kind
 abbrev pub effect_of : List Area → Call → ℕ → ℕ → ℕ → Option Kind

@@ -5,6 +5,7 @@
 use Rattle.std.specs.Prelude.{ℕ, zero, suc, Option, None, ◌≡◌, ◌≤◌, ◌+◌, ◌-◌, ◌⊎◌, min, MatchOption, List, length}
 use Rattle.std.specs.List.{Contains}
 use Rattle.page_types.specs.declared.TheConstants.{LIMIT}
+use Rattle.page_types.specs.declared.pages.Span.{Span}
 use Rattle.page_types.specs.declared.calls.Kind.{Kind}
 use Rattle.page_types.specs.declared.calls.Call.{Call}
 use Rattle.page_types.specs.declared.calls.Call.TheVariants.{Map, Unmap, Protect, Fault}
@@ -53,11 +54,16 @@ ReadsPage page (Reader span) = (span.lo ≡ page) × (span.hi ≡ page + 1)
 ReadsPage page (Held span) = ⊥
 ReadsPage page Whole = ⊥
 
--- the area is held as a writer, one page wider on each side and clipped to 0 and LIMIT
+-- the pages of the area and one page more on each side, clipped to 0 and LIMIT
+pub record IsWidened (a : Area) (span : Span) : Type 0 where
+  pub first : span.lo ≡ a.lo - 1
+  pub end : span.hi ≡ min (a.hi + 1) LIMIT
+
+-- the area, widened, is held as a writer
 abbrev pub HoldsArea : Area → Under → Type 0
 HoldsArea a Nothing = ⊥
 HoldsArea a (Reader span) = ⊥
-HoldsArea a (Held span) = (span.lo ≡ a.lo - 1) × (span.hi ≡ min (a.hi + 1) LIMIT)
+HoldsArea a (Held span) = IsWidened a span
 HoldsArea a Whole = ⊥
 
 -- an area is held as a writer

@@ -1,6 +1,7 @@
--- Legal histories: calls taken one after another, each numbered by its place and each answering what the address space
--- answers at the state that the calls before it leave. This is the usual meaning of a sequential history of an object
--- (Herlihy and Wing, TOPLAS 1990). Nothing of an entry counts but its number, its call and its reply.
+-- Legal histories: calls taken one after another, each numbered by its place and each with the reply that the address
+-- space gives at the state that the calls before it leave. This is the usual meaning of a sequential history of an
+-- object (Herlihy and Wing, TOPLAS 1990). `Chains` is the one way through a history; what is asked of each entry is its
+-- parameter, so a crate above may ask for more. Of an entry a legal history reads only its number, call and reply.
 use Rattle.std.specs.Prelude.{ℕ, ◌≡◌, ◌<◌, ◌+◌, List, [], ◌∷◌, length, take, All}
 use Rattle.page_types.specs.declared.calls.Reply.{Reply}
 use Rattle.page_types.specs.Named.{IsNamedCall}
@@ -8,19 +9,31 @@ use Rattle.space_model.specs.declared.areas.Area.{Area}
 use Rattle.space_model.specs.declared.entries.Entry.{Entry}
 use Rattle.space_model.specs.Answers.{Answers}
 
+-- the entries, taken in their order, lead from area list A to area list B, each by a step of this kind
+abbrev pub Chains : (List Area → Entry → List Area → Type 0) → List Area → List Entry → List Area → Type 0
+Chains Step A [] B = B ≡ A
+Chains Step A (e ∷ rest) B = (C : List Area) × Step A e C × Chains Step C rest B
+
+-- the entry's call leaves area list B, whatever the entry says of its reply
+abbrev pub CallLeaves : List Area → Entry → List Area → Type 0
+CallLeaves A e B = (reply : Reply) × Answers A e.call reply B
+
+-- the entry's reply is what its call answers, and the call leaves area list B
+abbrev pub HasRightReply : List Area → Entry → List Area → Type 0
+HasRightReply A e B = Answers A e.call e.reply B
+
 -- from area list A the calls leave area list B
 abbrev pub StateAfter : List Area → List Entry → List Area → Type 0
-StateAfter A [] B = B ≡ A
-StateAfter A (e ∷ rest) B = (reply : Reply) × (C : List Area) × Answers A e.call reply C × StateAfter C rest B
+StateAfter A entries B = Chains CallLeaves A entries B
 
--- from area list A the entries are numbered n, n + 1 and so on, and each reply is right at the state before it
-abbrev pub IsLegalFrom : ℕ → List Area → List Entry → Type 0
-IsLegalFrom n A [] = Unit {0}
-IsLegalFrom n A (e ∷ rest) = (e.number ≡ n) × ((C : List Area) × Answers A e.call e.reply C × IsLegalFrom (n + 1) C rest)
+-- the entries are numbered n, n + 1 and so on
+abbrev pub IsNumberedFrom : ℕ → List Entry → Type 0
+IsNumberedFrom n [] = Unit {0}
+IsNumberedFrom n (e ∷ rest) = (e.number ≡ n) × IsNumberedFrom (n + 1) rest
 
--- a legal history from area list A
+-- a legal history from area list A: numbered from 0, and each reply is right at the state before it
 abbrev pub IsLegal : List Area → List Entry → Type 0
-IsLegal A entries = IsLegalFrom 0 A entries
+IsLegal A entries = IsNumberedFrom 0 entries × ((B : List Area) × Chains HasRightReply A entries B)
 
 -- the entries before this index are a legal history, and with the one at the index they aren't
 pub record IsFirstIllegal (A : List Area) (entries : List Entry) (index : ℕ) : Type 0 where

@@ -1,21 +1,25 @@
--- Laws of the definitions, each proved on a public function with no body: that the definitions hold together, as a
--- reader expects them to. They follow from the definitions alone.
-use Rattle.std.specs.Prelude.{ℕ, ◌≡◌, ◌≢◌, ◌<◌, ◌≤◌, ◌+◌, ◌⊎◌, ◌↔◌, Some, None, List, ◌++◌, map}
+-- Laws of the definitions, each proved on a public function that does nothing: that the definitions hold together, as a
+-- reader of mmap(2) and proc_pid_maps(5) expects. They follow from the definitions alone.
+use Rattle.std.specs.Prelude.{ℕ, ◌≡◌, ◌≢◌, ◌<◌, ◌≤◌, ◌+◌, ◌⊎◌, ◌↔◌, Option, Some, None, List, ◌++◌, map}
+use Rattle.std.specs.List.{Contains}
+use Rattle.page_types.specs.declared.TheConstants.{LIMIT, ROWS}
 use Rattle.page_types.specs.declared.calls.Kind.{Kind}
 use Rattle.page_types.specs.declared.calls.Call.{Call}
 use Rattle.page_types.specs.declared.calls.Call.TheVariants.{Map, Protect, Fault}
 use Rattle.page_types.specs.declared.calls.Reply.{Reply}
 use Rattle.page_types.specs.declared.calls.Reply.TheVariants.{At, Zero, Granted, Refused}
-use Rattle.page_types.specs.declared.calls.Why.TheVariants.{AccErr}
+use Rattle.page_types.specs.declared.calls.Why.TheVariants.{Enomem, AccErr}
+use Rattle.page_types.specs.declared.calls.Short.TheVariants.{Rows}
 use Rattle.page_types.specs.declared.sets.Access.{Access}
 use Rattle.page_types.specs.declared.sets.MapFlags.{MapFlags}
 use Rattle.page_types.specs.declared.sets.Prot.{Prot}
 use Rattle.page_types.specs.Pages.{page_of, page_count, end_page}
 use Rattle.page_types.specs.PlainReply.{protect_reply}
 use Rattle.space_model.specs.declared.areas.Area.{Area}
+use Rattle.space_model.specs.Starts.{KeepsRows, start_count}
 use Rattle.space_model.specs.Areas.{IsAreaList, row_count, kind_at}
 use Rattle.space_model.specs.Effect.{mapped_kind, protected_kind}
-use Rattle.space_model.specs.Answers.{Answers}
+use Rattle.space_model.specs.Answers.{LetsThrough, Answers}
 use Rattle.space_model.specs.declared.entries.Entry.{Entry}
 use Rattle.space_model.specs.History.{StateAfter, IsLegal}
 use Rattle.space_model.specs.Held.{LiesIn, IsSimpleIn, kind_before}
@@ -47,10 +51,34 @@ DoneTwiceIsOnce A c = (s : Reply) (B C : List Area) → Answers A c Zero B → A
 abbrev pub AddsTwoRows : List Area → Call → Type 0
 AddsTwoRows A c = (r : Reply) (B : List Area) → Answers A c r B → row_count B ≤ row_count A + 2
 
--- the four ways in which pages of one area get a new kind and the counts stay: nothing changes; the whole area
--- changes and
--- equals no touching neighbour; its first part takes the kind of the touching area on its left; its last part takes the
--- kind of the touching area on its right
+-- a call that is refused for its rows asks for more than ROWS, and for at most two more than there are
+abbrev pub AsksTwoRowsMore : List Area → Call → Type 0
+AsksTwoRowsMore A c = (rows : ℕ) (B : List Area) → Answers A c (Refused (Enomem (Rows rows))) B → (ROWS < rows) × (rows ≤ row_count A + 2)
+
+-- the number of rows is the number of pages where one starts
+abbrev pub RowsAreStarts : List Area → Type 0
+RowsAreStarts A = row_count A ≡ start_count (kind_at A) LIMIT
+
+-- neighbouring pages of one kind, as many as there are
+pub record IsMaximalRun (kinds : ℕ → Option Kind) (a : Area) : Type 0 where
+  pub has_page : a.lo < a.hi
+  pub one_kind : (page : ℕ) → a.lo ≤ page → page < a.hi → kinds page ≡ Some a.kind
+  pub before : (page : ℕ) → page + 1 ≡ a.lo → kinds page ≢ Some a.kind
+  pub behind : kinds a.hi ≢ Some a.kind
+
+-- the areas of a list are exactly its maximal runs of pages of one kind
+abbrev pub AreasAreMaximalRuns : List Area → Type 0
+AreasAreMaximalRuns A = (a : Area) → Contains A a ↔ IsMaximalRun (kind_at A) a
+
+-- a fault is granted exactly where its page has a kind with the access's bit, names that kind, and changes nothing
+abbrev pub GrantsWhatThePageAllows : List Area → ℕ → Access → Type 0
+GrantsWhatThePageAllows A addr access =
+    (kind : Kind) (B : List Area) →
+    Answers A (Fault addr access) (Granted kind) B ↔ ((kind_at A (page_of addr) ≡ Some kind) × LetsThrough kind access × (B ≡ A))
+
+-- the four ways in which pages of one area get a new kind and the counts stay: nothing changes; the whole area changes
+-- and equals no touching neighbour; its first part takes the kind of the touching area on its left; its last part takes
+-- the kind of the touching area on its right
 pub data FourCases (A : List Area) (a : Area) (lo hi : ℕ) (kind : Kind) : Type 0 where
   nothing : kind ≡ a.kind → FourCases A a lo hi kind
   whole : lo ≡ a.lo → hi ≡ a.hi → kind_before A lo ≢ Some kind → kind_at A hi ≢ Some kind → FourCases A a lo hi kind
@@ -62,6 +90,13 @@ abbrev pub SimpleInFourCases : List Area → Area → ℕ → ℕ → Prot → T
 SimpleInFourCases A a addr len prot =
     protect_reply addr len ≡ None → LiesIn A a (page_of addr) (end_page addr len) →
     IsSimpleIn A (Protect addr len prot) a ↔ FourCases A a (page_of addr) (end_page addr len) (protected_kind prot a.kind)
+
+-- a Protect within an area is simple exactly where its change of kinds keeps the rows
+abbrev pub SimpleKeepsRows : List Area → Area → ℕ → ℕ → Prot → Type 0
+SimpleKeepsRows A a addr len prot =
+    protect_reply addr len ≡ None → LiesIn A a (page_of addr) (end_page addr len) →
+    IsSimpleIn A (Protect addr len prot) a ↔
+    KeepsRows (kind_before A (page_of addr)) a.kind (protected_kind prot a.kind) (kind_at A (end_page addr len))
 
 -- the entries leave at most one list of areas
 abbrev pub LeavesOneList : List Area → List Entry → Type 0

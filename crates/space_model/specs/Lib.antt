@@ -1,3 +1,4 @@
+pub mod Starts
 pub mod Areas
 pub mod Effect
 pub mod Answers

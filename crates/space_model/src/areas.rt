@@ -4,7 +4,7 @@
 ghost use Rattle.std.specs.Prelude.{◌↔◌, IsTrue};
 ghost use Rattle.space_model.specs.Areas.{HasNamedKinds};
 
-use page_types::Kind;
+use page_types::{Kind, LIMIT, Span};
 
 /// Neighbouring pages of one kind. In an area list `lo` is below `hi`, and `hi` is at most `LIMIT`.
 #[derive(Clone, Copy, PartialEq, Eq, Hash, Debug)]
@@ -15,6 +15,23 @@ pub struct Area {
     pub hi: u64,
     /// The kind of each page.
     pub kind: Kind,
+}
+
+impl Area {
+    ghost use Rattle.space_model.specs.Areas.{IsInRange};
+    ghost use Rattle.space_model.specs.Held.{IsWidened};
+
+    /// The area's pages and one page more on each side, clipped to 0 and `LIMIT`: what a Protect holds that keeps the
+    /// number of rows.
+    pub fn widened(self) -> Span
+        requires { IsInRange self }
+        ensures { IsWidened self result }
+    {
+        Span {
+            lo: self.lo.saturating_sub(1),
+            hi: (self.hi + 1).min(LIMIT),
+        }
+    }
 }
 
 /// Whether no kind of the list has a bit but READ, WRITE and EXEC.

@@ -1,10 +1,11 @@
-//! Building the list of areas after a change: the parts before the place, what the place gets, and the parts after
-//! it, appended in order. An area that touches the last and is of its kind lengthens it, so the result is the one
-//! area list with the kinds of the change.
+//! Building the list of areas after a change, as mmap(2), munmap(2) and mprotect(2) make it: the parts before the
+//! place, what the place gets, and the parts after it, appended in order. An area that touches the last and is of its
+//! kind lengthens it, so the result is the one area list with the kinds of the change.
 
 ghost use Rattle.std.specs.Prelude.{◌≡◌, ◌≤◌, [], length, OnOk, IfOk};
 ghost use Rattle.space_model.specs.Areas.{IsAreaList};
-ghost use Rattle.space_model.specs.Building.{same_kind, goes_on, joined, join_all, painted, parts, pieces_at, changed_list};
+ghost use Rattle.space_model.specs.Starts.{same_kind};
+ghost use Rattle.space_model.specs.Building.{goes_on, joined, join_all, painted, parts, pieces_at, changed_list};
 ghost use Rattle.space_model.specs.Effect.{mapped_kind};
 
 use crate::areas::Area;

@@ -1,5 +1,6 @@
-//! Counting the rows of a list of areas: the areas and the gaps between 0 and `LIMIT`. The count is this project's
-//! own, since the address space that runs under a lock keeps its gaps as rows too.
+//! Counting the rows of a list of areas: the areas, which proc_pid_maps(5) prints, and the gaps between 0 and `LIMIT`.
+//! The count is this project's own, since the address space that runs under a lock keeps its gaps as rows too. The law
+//! `rows_are_counted_by_their_starts` says it by pages.
 
 ghost use Rattle.std.specs.Prelude.{◌≡◌, ◌<◌, ◌^◌};
 ghost use Rattle.space_model.specs.Areas.{row_count};

@@ -31,7 +31,7 @@ pub struct Entry {
     pub line: u32,
     /// The call.
     pub call: Call,
-    /// What it answered.
+    /// The call's reply.
     pub reply: Reply,
     /// Which range was held when its number was drawn.
     pub under: Under,

@@ -1,21 +1,20 @@
 //! What a Protect has to hold: its area, where the change keeps the number of areas and of gaps, and otherwise
-//! everything, after the speculative mprotect of Kogan, Dice and Issa, EuroSys 2020. `IsSimple` in `specs/` counts on
-//! the lists before and after; the code looks at the two ends of the span alone, where rows may start or cease.
+//! everything, after the speculative mprotect of Kogan, Dice and Issa, EuroSys 2020. `IsSimple` in `specs/` counts the
+//! lists before and after; the code looks at the kinds round the two ends of the span alone, and the law
+//! `simple_protects_keep_rows` says that this is the same.
 
-ghost use Rattle.std.specs.Prelude.{◌≡◌, ◌≢◌, ◌+◌, ◌-◌, ◌<◌, ◌≤◌, ◌↔◌, min, None, Some, IsTrue, MatchOption, length};
-ghost use Rattle.page_types.specs.declared.TheConstants.{LIMIT};
+ghost use Rattle.std.specs.Prelude.{◌≡◌, ◌↔◌, None, IsTrue, MatchOption};
 ghost use Rattle.page_types.specs.PlainReply.{protect_reply};
-ghost use Rattle.space_model.specs.Areas.{IsAreaList, IsInRange, kind_at};
+ghost use Rattle.space_model.specs.Areas.{IsAreaList, kind_at};
 ghost use Rattle.space_model.specs.Effect.{protected_kind};
 ghost use Rattle.space_model.specs.Held.{LiesIn, kind_before, HoldsSomeArea, IsSimple, FitsByState};
-ghost use Rattle.space_model.specs.Building.{border, KeepsBorders};
+ghost use Rattle.space_model.specs.Starts.{border, KeepsRows};
 
 use crate::areas::Area;
 use crate::build::painted;
 use crate::entries::Under;
-use crate::place::span_of;
 use crate::search::kind_of;
-use page_types::{Call, Kind, LIMIT, Prot, Span};
+use page_types::{Call, Kind, Prot, Span};
 
 /// The area that holds all pages from `lo` up to `hi`.
 fn area_around(areas: &[Area], lo: u64, hi: u64) -> Option<Area>
@@ -47,28 +46,24 @@ fn border(left: Option<Kind>, right: Option<Kind>) -> u32
     if left == right { 0 } else { 1 }
 }
 
-/// An area with one page more on each side, clipped to 0 and `LIMIT`.
-fn widened(area: Area) -> Span
-    requires { IsInRange area }
-    ensures lo { result.lo ≡ area.lo - 1 }
-    ensures hi { result.hi ≡ min (area.hi + 1) LIMIT }
+/// Whether neighbouring pages of kind `old` may get kind `new` with as many rows as before, so that only a boundary
+/// moves or a whole row changes. The page before the first one is of kind `before`, and the one behind the last of
+/// kind `after`; None is the kind of a page that isn't mapped or isn't there.
+pub fn keeps_rows(before: Option<Kind>, old: Kind, new: Kind, after: Option<Kind>) -> bool
+    ensures { IsTrue result ↔ KeepsRows before old new after }
 {
-    Span {
-        lo: area.lo.saturating_sub(1),
-        hi: (area.hi + 1).min(LIMIT),
-    }
+    let was = border(before, Some(old)) + border(Some(old), after);
+    was == border(before, Some(new)) + border(Some(new), after)
 }
 
-/// Whether pages of one area may get a new protection with as many rows starting at the two ends of the span as
-/// before, so that only a boundary moves or a whole area changes.
-fn keeps_rows(areas: &[Area], kind: Kind, span: Span, prot: Prot) -> bool
-    ensures { IsTrue result ↔ KeepsBorders areas.now kind prot span.lo span.hi }
+/// Whether a Protect of a span within one area keeps the number of rows.
+fn is_simple_in(areas: &[Area], area: Area, span: Span, prot: Prot) -> bool
+    ensures { IsTrue result ↔
+        KeepsRows (kind_before areas.now span.lo) area.kind (protected_kind prot area.kind) (kind_at areas.now span.hi) }
 {
-    let left = kind_before(areas, span.lo);
-    let right = kind_of(areas, span.hi);
-    let old = Some(kind);
-    let new = Some(painted(kind, Some(prot)));
-    border(left, old) + border(old, right) == border(left, new) + border(new, right)
+    let before = kind_before(areas, span.lo);
+    let after = kind_of(areas, span.hi);
+    keeps_rows(before, area.kind, painted(area.kind, Some(prot)), after)
 }
 
 /// What a Protect that its arguments don't decide has to hold.
@@ -78,11 +73,11 @@ pub fn protect_under(areas: &[Area], addr: u64, len: u64, prot: Prot) -> Under
     ensures fits { FitsByState areas.now (Call.Protect addr len prot) result }
     ensures simple { HoldsSomeArea result ↔ IsSimple areas.now (Call.Protect addr len prot) }
 {
-    let span = span_of(addr, len);
+    let span = Span::of_valid(addr, len);
     match area_around(areas, span.lo, span.hi) {
         Some(area) => {
-            if keeps_rows(areas, area.kind, span, prot) {
-                Under::Area(widened(area))
+            if is_simple_in(areas, area, span, prot) {
+                Under::Area(area.widened())
             } else {
                 Under::Whole
             }

@@ -1,6 +1,6 @@
-//! Legal histories: entries taken by number, each of which answers what the address space answers at the state
-//! that the entries before it leave. `legal` computes exactly what `IsLegal` in `specs/` says, in both
-//! directions, so a test or a log may be judged by it.
+//! Legal histories: entries taken by number, each with the reply that the address space gives at the state that the
+//! entries before it leave, as a sequential history of an object has it (Herlihy and Wing, TOPLAS 1990). `legal`
+//! computes exactly what `IsLegal` in `specs/` says, in both directions, so a test or a log may be judged by it.
 
 ghost use Rattle.std.specs.Prelude.{◌^◌, ◌<◌, ◌≡◌, ◌↔◌, length, IsTrue, IfOk, MatchOption, IsPermutation};
 ghost use Rattle.std.specs.List.Sorted.{IsNonDecreasingBy};
@@ -23,8 +23,8 @@ pub fn by_number(list: &mut Vec<Entry>)
 
 /// The first entry, counted from 0, that isn't as a legal history from `start` has it, or None.
 ///
-/// An entry is right where it has its place's number, counted from 0, and the reply that the address space
-/// gives at the state that the entries before it leave. Nothing else of an entry counts.
+/// An entry is right where it has its place's number, counted from 0, and the reply that the address space gives at the
+/// state that the entries before it leave. Nothing else of an entry counts.
 pub fn legal(alloc: Global, start: &PlainSpace, list: &[Entry]) -> Result<Option<u32>, AllocError>
     requires few { length list.now < 2 ^ 32 }
     requires named { HasNamedCalls list.now }
@@ -40,7 +40,7 @@ pub fn legal(alloc: Global, start: &PlainSpace, list: &[Entry]) -> Result<Option
     Ok(None)
 }
 
-/// Makes the entry's call, and answers whether the entry has this number and the space's reply.
+/// Makes the entry's call, and says whether the entry has this number and the space's reply.
 fn is_next(space: &mut PlainSpace, number: usize, entry: &Entry) -> Result<bool, AllocError>
     requires { IsNamedCall entry.now.call }
     ensures { IfOk result (λ right. IsNextAnswer space.old number entry.now right space.new) }

@@ -1,6 +1,7 @@
 //! Laws of the definitions, each the contract of a function that does nothing. They show that the definitions hold
-//! together: each call has one answer, a fault finds what a Map gave, and what was done twice was done once. Which
-//! place, effect and refusal are the right ones, the definitions alone say; tests compare them with worked cases.
+//! together, as a reader of mmap(2) and proc_pid_maps(5) expects: each call has one answer, an area is a maximal run of
+//! pages of one kind, and a fault finds what a Map gave. Which place, effect and refusal are the right ones, the
+//! definitions alone say; tests compare them with worked cases.
 
 ghost use Rattle.std.specs.Prelude.{ℕ, List, ◌+◌};
 ghost use Rattle.page_types.specs.declared.calls.Call.{Call};
@@ -10,6 +11,7 @@ ghost use Rattle.page_types.specs.declared.sets.Prot.{Prot};
 ghost use Rattle.space_model.specs.declared.areas.Area.{Area};
 ghost use Rattle.space_model.specs.Areas.{IsAreaList, OnlyOneHasKinds};
 ghost use Rattle.space_model.specs.Laws.{HasSomeAnswer, HasOneAnswer, LeavesAreaList, FaultFindsMapped, DoneTwiceIsOnce, AddsTwoRows, SimpleInFourCases};
+ghost use Rattle.space_model.specs.Laws.{AsksTwoRowsMore, RowsAreStarts, AreasAreMaximalRuns, GrantsWhatThePageAllows, SimpleKeepsRows};
 ghost use Rattle.space_model.specs.Laws.{LeavesAreaListAfter, LeavesOneList, LegalLeavesList, BeginningsAreLegal, StateAfterBoth, SameCallsSameReplies};
 ghost use Rattle.space_model.specs.declared.entries.Entry.{Entry};
 
@@ -25,7 +27,7 @@ pub fn calls_have_one_answer()
     ensures list { (A : List Area) (c : Call) → IsAreaList A → LeavesAreaList A c }
 {}
 
-/// A fault on a page that a Map has just placed is granted, or refused for want of a bit, with just the kind that
+/// A fault on a page that a Map has just placed is granted, or refused for a missing bit, with just the kind that
 /// the Map gave.
 pub fn faults_find_what_was_mapped()
     ensures { (A : List Area) (addr len : ℕ) (prot : Prot) (flags : MapFlags) (byte : ℕ) (access : Access) →
@@ -45,6 +47,32 @@ pub fn protect_twice_is_once()
 /// One call makes at most two rows more.
 pub fn calls_add_at_most_two_rows()
     ensures { (A : List Area) (c : Call) → IsAreaList A → AddsTwoRows A c }
+{}
+
+/// A call that is refused for its rows asks for more than `ROWS`, and for at most two more than there are.
+pub fn refused_rows_are_few()
+    ensures { (A : List Area) (c : Call) → IsAreaList A → AsksTwoRowsMore A c }
+{}
+
+/// The number of rows is the number of pages where one starts: page 0, and each page of another kind than the one
+/// before it, where a page that isn't mapped counts as one of a kind of its own.
+pub fn rows_are_counted_by_their_starts()
+    ensures { (A : List Area) → IsAreaList A → RowsAreStarts A }
+{}
+
+/// An area of a list is a maximal run of pages of one kind, and each such run is an area of the list.
+pub fn areas_are_maximal_runs()
+    ensures { (A : List Area) → IsAreaList A → AreasAreMaximalRuns A }
+{}
+
+/// A fault is granted exactly where its page has a kind with the access's bit.
+pub fn faults_are_granted_by_their_page()
+    ensures { (A : List Area) (addr : ℕ) (access : Access) → IsAreaList A → GrantsWhatThePageAllows A addr access }
+{}
+
+/// A Protect within one area is simple exactly where its change of kinds keeps the rows at the two ends of its span.
+pub fn simple_protects_keep_rows()
+    ensures { (A : List Area) (a : Area) (addr len : ℕ) (prot : Prot) → IsAreaList A → SimpleKeepsRows A a addr len prot }
 {}
 
 /// A Protect within one area keeps the number of areas and of gaps in four cases and no other: nothing changes;

@@ -1,5 +1,5 @@
-//! Whether a list of areas is in order: each area in range, none before the end of the one before it, and no
-//! two that touch of one kind.
+//! Whether a list of areas is in order, as proc_pid_maps(5) prints them: each area in range, none before the end of the
+//! one before it, and no two that touch of one kind. `first_wrong` finds the first area where that ends.
 
 ghost use Rattle.std.specs.Prelude.{◌^◌, ◌<◌, ◌↔◌, length, IsTrue, MatchOption};
 ghost use Rattle.space_model.specs.Areas.{IsInRange, MayFollow, IsAreaList, IsFirstWrong};

@@ -1,32 +1,18 @@
-//! Where a call's change takes place, and what a fault answers, after mmap(2): at the address where it binds, at the
-//! hint where it fits, and otherwise as high as the pages fit. How high is this project's own choice.
+//! Where a call's change takes place, after mmap(2): at the address where it binds, at the hint where it fits, and
+//! otherwise as high as the pages fit, which is this project's own choice. Besides, the replies: of an accepted change,
+//! and of a fault by its page's kind, with the codes of sigaction(2).
 
-ghost use Rattle.std.specs.Prelude.{◌≡◌, ◌≢◌, ◌+◌, ◌^◌, ◌<◌, ◌≤◌, ◌↔◌, None, IsTrue, IfOk, IfErr};
+ghost use Rattle.std.specs.Prelude.{◌≡◌, ◌+◌, ◌^◌, ◌<◌, ◌≤◌, ◌↔◌, None, IsTrue, IfOk, IfErr};
 ghost use Rattle.page_types.specs.declared.TheConstants.{LIMIT};
-ghost use Rattle.page_types.specs.Pages.{page_of, page_count, end_page};
+ghost use Rattle.page_types.specs.Pages.{page_of, page_count};
 ghost use Rattle.page_types.specs.PlainReply.{map_reply};
-ghost use Rattle.space_model.specs.Areas.{IsAreaList, kind_at};
+ghost use Rattle.space_model.specs.Areas.{IsAreaList};
 ghost use Rattle.space_model.specs.Effect.{done_reply};
 ghost use Rattle.space_model.specs.Answers.{StartsAt, FitsAt, RefusesMap, AnswersFault};
 
 use crate::areas::Area;
-use crate::search::{LOWEST, highest_fit, kind_of, lowest_mapped};
-use page_types::{
-    Access, Call, LIMIT, MapFlags, PAGE, Reply, Short, Span, Why, end_page, page_count,
-};
-
-/// The span of a call that its arguments don't decide.
-pub fn span_of(addr: u64, len: u64) -> Span
-    requires some { len ≢ 0 }
-    requires in_range { end_page addr len ≤ LIMIT }
-    ensures lo { result.lo ≡ page_of addr }
-    ensures hi { result.hi ≡ end_page addr len }
-{
-    Span {
-        lo: addr / PAGE,
-        hi: end_page(addr, len),
-    }
-}
+use crate::search::{LOWEST, highest_fit, lowest_mapped};
+use page_types::{Access, Call, Kind, LIMIT, MapFlags, PAGE, Reply, Short, Span, Why, page_count};
 
 /// Whether so many free pages start at a page, at or above `LOWEST` and with the end at or below `LIMIT`.
 fn fits_at(areas: &[Area], pages: u64, start: u64) -> bool
@@ -68,11 +54,11 @@ pub fn map_place(areas: &[Area], addr: u64, len: u64, flags: MapFlags) -> Result
     }
 }
 
-/// What a fault on a page answers.
-pub fn fault(areas: &[Area], page: u64, access: Access) -> Reply
-    ensures { AnswersFault (kind_at areas.now page) page access result }
+/// The reply to a fault whose arguments don't decide it, on a page of this kind or of none.
+pub fn access_reply(kind: Option<Kind>, page: u64, access: Access) -> Reply
+    ensures { AnswersFault kind page access result }
 {
-    match kind_of(areas, page) {
+    match kind {
         Some(kind) => {
             if kind.prot.allows(access) {
                 Reply::Granted(kind)

@@ -1,10 +1,11 @@
-//! Looking pages up in a list of areas: each search goes over the list once, in order. What each finds is told by
-//! the kinds of pages, as the lowest or the highest page that has some property.
+//! Looking pages up in a list of areas: each search goes over the list once, in order. Its contract says by the kinds
+//! of pages what it finds, as the lowest or the highest page with some property, after the choices of mmap(2) and this
+//! project's own for the highest place.
 
 ghost use Rattle.std.specs.Prelude.{◌≡◌, ◌+◌, ◌^◌, ◌<◌, ◌≤◌, ℕ, None, MatchOption};
 ghost use Rattle.page_types.specs.declared.TheConstants.{LIMIT};
 ghost use Rattle.space_model.specs.Areas.{IsAreaList, kind_at};
-ghost use Rattle.space_model.specs.Answers.{IsFree, IsMapped, IsLowestMapped, IsLowestMissing, FitsAt, IsHighestFit};
+ghost use Rattle.space_model.specs.Answers.{IsUnmapped, IsMapped, IsLowestMapped, IsLowestMissing, FitsAt, IsHighestFit};
 
 use crate::areas::Area;
 use page_types::{Kind, LIMIT};
@@ -28,7 +29,7 @@ pub fn kind_of(areas: &[Area], page: u64) -> Option<Kind>
 /// The lowest mapped page of those from `lo` up to `hi`.
 pub fn lowest_mapped(areas: &[Area], lo: u64, hi: u64) -> Option<u64>
     requires { IsAreaList areas.now }
-    ensures { MatchOption result (IsFree areas.now lo hi) (IsLowestMapped areas.now lo hi) }
+    ensures { MatchOption result (IsUnmapped areas.now lo hi) (IsLowestMapped areas.now lo hi) }
 {
     for area in areas {
         if lo < area.hi {

@@ -1,6 +1,6 @@
-//! The address space of one thread, plain and right: a list of areas, which each change builds anew, in one go over
-//! the old list. Callers see the list alone; its invariant is that it is an area list whose kinds have only named
-//! bits.
+//! The address space of one thread: a list of areas, as proc_pid_maps(5) prints them, which each change builds anew in
+//! one go over the old list. Callers see the list alone. It is always an area list of fewer than 2^30 areas, whose
+//! kinds have named bits alone.
 
 ghost use Rattle.std.specs.Prelude.{◌≡◌, ◌^◌, ◌<◌, ◌↔◌, [], None, IfOk, IfErr, IsOk, OnErr, length};
 ghost use Rattle.page_types.specs.Named.{IsNamedCall, IsNamedReply};
@@ -8,7 +8,7 @@ ghost use Rattle.space_model.specs.Areas.{IsAreaList, IsInOrder, HasKinds, HasNa
 ghost use Rattle.page_types.specs.PlainReply.{plain_reply};
 ghost use Rattle.space_model.specs.Answers.{Answers, IsPlace};
 ghost use Rattle.space_model.specs.Faults.{Explains};
-ghost use Rattle.space_model.specs.Held.{HoldsSomeArea, IsSimple, FitsUnder};
+ghost use Rattle.space_model.specs.Held.{HoldsSomeArea, IsSimple, FitsByState, FitsUnder};
 
 use crate::areas::Area;
 use crate::build::{changed, joined_pieces};
@@ -17,8 +17,8 @@ use crate::entries::Under;
 use crate::faults::{AreasFault, NotAreas};
 use crate::held::protect_under;
 use crate::order::first_wrong;
-use crate::place::{done, fault, map_place, span_of};
-use crate::search::lowest_missing;
+use crate::place::{access_reply, done, map_place};
+use crate::search::{kind_of, lowest_missing};
 use page_types::{Call, PAGE, ROWS, Reply, Short, Span, Why, plain};
 use std::alloc::{AllocError, Global};
 use std::marker::Model;
@@ -90,6 +90,15 @@ impl PlainSpace {
         if plain(call).is_some() {
             return Under::Nothing;
         }
+        self.undecided_under(call)
+    }
+
+    /// The same for a call that its arguments don't decide.
+    fn undecided_under(&self, call: &Call) -> Under
+        requires { plain_reply call.now ≡ None }
+        ensures fits { FitsByState self.now call.now result }
+        ensures simple { HoldsSomeArea result ↔ IsSimple self.now call.now }
+    {
         match *call {
             Call::Map { .. } | Call::Unmap { .. } => Under::Whole,
             Call::Protect { addr, len, prot } => protect_under(
@@ -98,10 +107,7 @@ impl PlainSpace {
                 len,
                 prot,
             ),
-            Call::Fault { addr, .. } => Under::Reader(Span {
-                lo: addr / PAGE,
-                hi: addr / PAGE + 1,
-            }),
+            Call::Fault { addr, .. } => Under::Reader(Span::of_page(addr / PAGE)),
         }
     }
 
@@ -133,9 +139,9 @@ impl PlainSpace {
         row_count(self.areas.as_slice())
     }
 
-    /// Makes one call: answers it, and changes the space where the answer isn't a refusal.
+    /// Makes one call: gives its reply, and changes the space where that isn't a refusal.
     ///
-    /// After want of memory nothing has changed.
+    /// Where there is no memory nothing has changed.
     pub fn step(&mut self, call: &Call) -> Result<Reply, AllocError>
         requires { IsNamedCall call.now }
         ensures answer { IfOk result (λ reply. Answers self.old call.now reply self.new) }
@@ -145,6 +151,37 @@ impl PlainSpace {
         if let Some(reply) = plain(call) {
             return Ok(reply);
         }
+        self.undecided_step(call)
+    }
+
+    /// Makes one call as `step` does, and gives beside the reply what `under` gives before it, with one check of the
+    /// arguments for both.
+    pub fn step_under(&mut self, call: &Call) -> Result<(Reply, Under), AllocError>
+        requires { IsNamedCall call.now }
+        ensures answer { IfOk result (λ both. Answers self.old call.now both.0 self.new) }
+        ensures named { IfOk result (λ both. IsNamedReply both.0) }
+        ensures fits { IfOk result (λ both. FitsUnder self.old call.now both.1) }
+        ensures simple { IfOk result (λ both. HoldsSomeArea both.1 ↔ ((plain_reply call.now ≡ None) × IsSimple self.old call.now)) }
+        ensures memory { OnErr result (self.new ≡ self.old) }
+    {
+        match plain(call) {
+            Some(reply) => Ok((reply, Under::Nothing)),
+            None => {
+                let under = self.undecided_under(call);
+                let reply = self.undecided_step(call)?;
+                Ok((reply, under))
+            }
+        }
+    }
+
+    /// Makes a call that its arguments don't decide.
+    fn undecided_step(&mut self, call: &Call) -> Result<Reply, AllocError>
+        requires named { IsNamedCall call.now }
+        requires undecided { plain_reply call.now ≡ None }
+        ensures answer { IfOk result (λ reply. Answers self.old call.now reply self.new) }
+        ensures named { IfOk result IsNamedReply }
+        ensures memory { OnErr result (self.new ≡ self.old) }
+    {
         match *call {
             Call::Map {
                 addr,
@@ -155,15 +192,18 @@ impl PlainSpace {
                 Ok(place) => self.change(call, place),
                 Err(why) => Ok(Reply::Refused(why)),
             },
-            Call::Unmap { addr, len } => self.change(call, span_of(addr, len)),
+            Call::Unmap { addr, len } => self.change(call, Span::of_valid(addr, len)),
             Call::Protect { addr, len, .. } => {
-                let span = span_of(addr, len);
+                let span = Span::of_valid(addr, len);
                 match lowest_missing(self.areas.as_slice(), span.lo, span.hi) {
                     Some(page) => Ok(Reply::Refused(Why::Enomem(Short::Missing(page)))),
                     None => self.change(call, span),
                 }
             }
-            Call::Fault { addr, access } => Ok(fault(self.areas.as_slice(), addr / PAGE, access)),
+            Call::Fault { addr, access } => {
+                let page = addr / PAGE;
+                Ok(access_reply(kind_of(self.areas.as_slice(), page), page, access))
+            }
         }
     }
 

@@ -46,14 +46,16 @@ fn step(rt: &impl Abort, space: &mut PlainSpace, call: Call) -> Result<Reply, Al
 
 /// A call, what is held for it, and its reply.
 #[derive(Clone, Copy)]
-struct Row(Call, Under, Reply);
+struct Case(Call, Under, Reply);
 
-/// Plays the rows on a space.
-fn play(rt: &impl Abort, space: &mut PlainSpace, rows: &[Row]) -> Result<(), AllocError> {
-    for row in rows {
-        assert_eq!(rt; space.under(&row.0), row.1);
-        let reply = step(rt, space, row.0)?;
-        assert_eq!(rt; reply, row.2);
+/// Plays the cases on a space.
+fn play(rt: &impl Abort, space: &mut PlainSpace, cases: &[Case]) -> Result<(), AllocError> {
+    for case in cases {
+        assert_eq!(rt; space.under(&case.0), case.1);
+        assert!(rt; case.0.is_named());
+        let (reply, under) = space.step_under(&case.0)?;
+        assert_eq!(rt; reply, case.2);
+        assert_eq!(rt; under, case.1);
     }
     Ok(())
 }
@@ -65,12 +67,12 @@ fn the_middle_page_goes_and_the_others_keep_their_kind(rt: HostRuntime) -> Resul
         &rt,
         &mut space,
         &[
-            Row(
+            Case(
                 map(0x10000, 12288, read_write(), fixed()),
                 Under::Whole,
                 Reply::At(0x10000),
             ),
-            Row(
+            Case(
                 Call::Unmap {
                     addr: 0x11000,
                     len: 4096,
@@ -95,12 +97,12 @@ fn a_whole_area_between_gaps_changes_under_its_area(rt: HostRuntime) -> Result<(
         &rt,
         &mut space,
         &[
-            Row(
+            Case(
                 map(0x10000, 8192, read_write(), fixed()),
                 Under::Whole,
                 Reply::At(0x10000),
             ),
-            Row(
+            Case(
                 protect(0x10000, 8192, Prot::READ),
                 Under::Area(Span { lo: 15, hi: 19 }),
                 Reply::Zero,
@@ -118,17 +120,17 @@ fn a_boundary_moves_under_its_area(rt: HostRuntime) -> Result<(), Fail> {
         &rt,
         &mut space,
         &[
-            Row(
+            Case(
                 map(0x10000, 8192, read_write(), fixed()),
                 Under::Whole,
                 Reply::At(0x10000),
             ),
-            Row(
+            Case(
                 map(0x12000, 8192, Prot::READ, fixed()),
                 Under::Whole,
                 Reply::At(0x12000),
             ),
-            Row(
+            Case(
                 protect(0x11000, 4096, Prot::READ),
                 Under::Area(Span { lo: 15, hi: 19 }),
                 Reply::Zero,
@@ -149,12 +151,12 @@ fn a_split_needs_everything(rt: HostRuntime) -> Result<(), Fail> {
         &rt,
         &mut space,
         &[
-            Row(
+            Case(
                 map(0x10000, 12288, read_write(), fixed()),
                 Under::Whole,
                 Reply::At(0x10000),
             ),
-            Row(
+            Case(
                 protect(0x11000, 4096, Prot::READ),
                 Under::Whole,
                 Reply::Zero,
@@ -178,17 +180,17 @@ fn a_missing_page_refuses_the_whole_protect(rt: HostRuntime) -> Result<(), Fail>
         &rt,
         &mut space,
         &[
-            Row(
+            Case(
                 map(0x10000, 4096, read_write(), fixed()),
                 Under::Whole,
                 Reply::At(0x10000),
             ),
-            Row(
+            Case(
                 map(0x12000, 4096, read_write(), fixed()),
                 Under::Whole,
                 Reply::At(0x12000),
             ),
-            Row(protect(0x10000, 12288, Prot::READ), Under::Whole, missing),
+            Case(protect(0x10000, 12288, Prot::READ), Under::Whole, missing),
         ],
     )?;
     assert_eq!(rt;
@@ -206,10 +208,10 @@ fn arguments_alone_decide_with_nothing_held(rt: HostRuntime) -> Result<(), Fail>
         &rt,
         &mut space,
         &[
-            Row(protect(0x10000, 0, Prot::READ), Under::Nothing, Reply::Zero),
-            Row(protect(0x10001, 4096, Prot::READ), Under::Nothing, addr),
-            Row(protect(0x10001, 0, Prot::READ), Under::Nothing, addr),
-            Row(
+            Case(protect(0x10000, 0, Prot::READ), Under::Nothing, Reply::Zero),
+            Case(protect(0x10001, 4096, Prot::READ), Under::Nothing, addr),
+            Case(protect(0x10001, 0, Prot::READ), Under::Nothing, addr),
+            Case(
                 Call::Unmap {
                     addr: 0x50000,
                     len: 4096,
@@ -217,7 +219,7 @@ fn arguments_alone_decide_with_nothing_held(rt: HostRuntime) -> Result<(), Fail>
                 Under::Whole,
                 Reply::Zero,
             ),
-            Row(
+            Case(
                 Call::Unmap {
                     addr: 0x50000,
                     len: 0,
@@ -225,12 +227,12 @@ fn arguments_alone_decide_with_nothing_held(rt: HostRuntime) -> Result<(), Fail>
                 Under::Nothing,
                 Reply::Refused(Why::Einval(Field::Len)),
             ),
-            Row(
+            Case(
                 map(0x7fff_ffff_e000, 4096, Prot::READ, fixed()),
                 Under::Whole,
                 Reply::At(0x7fff_ffff_e000),
             ),
-            Row(
+            Case(
                 map(0x7fff_ffff_e000, 8192, Prot::READ, fixed()),
                 Under::Nothing,
                 Reply::Refused(Why::Enomem(Short::PastEnd(0x8_0000_0000))),
@@ -251,12 +253,12 @@ fn faults_hold_their_page_and_find_its_kind(rt: HostRuntime) -> Result<(), Fail>
         &rt,
         &mut space,
         &[
-            Row(
+            Case(
                 map(0x10000, 8192, Prot::READ, fixed()),
                 Under::Whole,
                 Reply::At(0x10000),
             ),
-            Row(
+            Case(
                 Call::Fault {
                     addr: 0x10000,
                     access: Access::Read,
@@ -264,7 +266,7 @@ fn faults_hold_their_page_and_find_its_kind(rt: HostRuntime) -> Result<(), Fail>
                 Under::Reader(Span { lo: 16, hi: 17 }),
                 Reply::Granted(kind),
             ),
-            Row(
+            Case(
                 Call::Fault {
                     addr: 0x11fff,
                     access: Access::Read,
@@ -272,7 +274,7 @@ fn faults_hold_their_page_and_find_its_kind(rt: HostRuntime) -> Result<(), Fail>
                 Under::Reader(Span { lo: 17, hi: 18 }),
                 Reply::Granted(kind),
             ),
-            Row(
+            Case(
                 Call::Fault {
                     addr: 0x12000,
                     access: Access::Read,
@@ -280,7 +282,7 @@ fn faults_hold_their_page_and_find_its_kind(rt: HostRuntime) -> Result<(), Fail>
                 Under::Reader(Span { lo: 18, hi: 19 }),
                 Reply::Refused(Why::MapErr(18)),
             ),
-            Row(
+            Case(
                 Call::Fault {
                     addr: 0x10000,
                     access: Access::Write,
@@ -301,22 +303,22 @@ fn a_place_is_the_lowest_conflict_or_the_highest_fit(rt: HostRuntime) -> Result<
         &rt,
         &mut space,
         &[
-            Row(
+            Case(
                 map(0x10000, 8192, Prot::READ, fixed()),
                 Under::Whole,
                 Reply::At(0x10000),
             ),
-            Row(
+            Case(
                 map(0xf000, 16384, Prot::READ, no_replace),
                 Under::Whole,
                 Reply::Refused(Why::Eexist(16)),
             ),
-            Row(
+            Case(
                 map(0, 4096, read_write(), MapFlags::PRIVATE),
                 Under::Whole,
                 Reply::At(0x7fff_ffff_e000),
             ),
-            Row(
+            Case(
                 map(0x7fff_ffff_e000, 4096, read_write(), MapFlags::PRIVATE),
                 Under::Whole,
                 Reply::At(0x7fff_ffff_d000),
@@ -343,17 +345,17 @@ fn a_place_without_a_fixed_flag_starts_at_page_16_or_above(rt: HostRuntime) -> R
         &rt,
         &mut space,
         &[
-            Row(
+            Case(
                 map(0, (pages + 1) * PAGE, Prot::READ, MapFlags::PRIVATE),
                 Under::Whole,
                 Reply::Refused(Why::Enomem(Short::NoGap(pages + 1))),
             ),
-            Row(
+            Case(
                 map(0, pages * PAGE, Prot::READ, MapFlags::PRIVATE),
                 Under::Whole,
                 Reply::At(0x10000),
             ),
-            Row(
+            Case(
                 Call::Unmap {
                     addr: 0x10000,
                     len: pages * PAGE,
@@ -361,17 +363,17 @@ fn a_place_without_a_fixed_flag_starts_at_page_16_or_above(rt: HostRuntime) -> R
                 Under::Whole,
                 Reply::Zero,
             ),
-            Row(
+            Case(
                 map(0x10fff, 1, Prot::READ, MapFlags::PRIVATE),
                 Under::Whole,
                 Reply::At(0x10000),
             ),
-            Row(
+            Case(
                 map(0xf000, 4096, Prot::READ, MapFlags::PRIVATE),
                 Under::Whole,
                 Reply::At(0x7fff_ffff_e000),
             ),
-            Row(
+            Case(
                 map(0x10000, 4096, Prot::READ, MapFlags::PRIVATE | both),
                 Under::Whole,
                 Reply::Refused(Why::Eexist(16)),
@@ -392,7 +394,7 @@ fn a_protect_keeps_the_sharing(rt: HostRuntime) -> Result<(), Fail> {
         &rt,
         &mut space,
         &[
-            Row(
+            Case(
                 map(
                     0x20000,
                     4096,
@@ -402,12 +404,12 @@ fn a_protect_keeps_the_sharing(rt: HostRuntime) -> Result<(), Fail> {
                 Under::Whole,
                 Reply::At(0x20000),
             ),
-            Row(
+            Case(
                 protect(0x20000, 4096, Prot::READ),
                 Under::Area(Span { lo: 31, hi: 34 }),
                 Reply::Zero,
             ),
-            Row(
+            Case(
                 Call::Fault {
                     addr: 0x20000,
                     access: Access::Read,
@@ -447,7 +449,7 @@ fn the_row_limit_refuses_a_split_and_lets_a_simple_protect_through(
     play(
         &rt,
         &mut space,
-        &[Row(
+        &[Case(
             protect(0x100e000, 4096, Prot::READ),
             Under::Whole,
             Reply::Refused(Why::Enomem(Short::Rows(4098))),
@@ -457,7 +459,7 @@ fn the_row_limit_refuses_a_split_and_lets_a_simple_protect_through(
     play(
         &rt,
         &mut space,
-        &[Row(
+        &[Case(
             protect(0x10000, 4096, Prot::READ | Prot::EXEC),
             Under::Area(Span { lo: 15, hi: 18 }),
             Reply::Zero,
@@ -475,7 +477,7 @@ fn touching_equal_areas_are_no_list(rt: HostRuntime) -> Result<(), Fail> {
     Ok(())
 }
 
-/// A fault on page 16, numbered and answered so.
+/// A fault on page 16 with this number and this reply.
 fn fault(number: u64, reply: Reply) -> Entry {
     Entry {
         number,
@@ -524,5 +526,15 @@ fn entries_come_by_number(rt: HostRuntime) -> Result<(), Fail> {
         list.as_slice(),
         [fault(0, missing), fault(1, missing), fault(2, missing)].as_slice()
     );
+    Ok(())
+}
+
+#[test]
+fn a_refused_list_is_printed_with_its_index(rt: HostRuntime) -> Result<(), Fail> {
+    let refusal = AreasFault::NotAreas(NotAreas { index: 3 });
+    let text = format!(in rt.alloc(); "{refusal}")?;
+    assert_eq!(rt; text.as_str(), "the area with index 3 is not in order");
+    let text = format!(in rt.alloc(); "{}", AreasFault::Memory)?;
+    assert_eq!(rt; text.as_str(), "out of memory");
     Ok(())
 }

@@ -1,11 +1,15 @@
 -- The next entry keeps the history legal exactly where it is right.
-use Rattle.std.proofs.Common.{◌≡◌, ◌+◌, [], ◌∷◌, ◌++◌, length, take, ◌∙◌, sym, ap, subst, true≢false, arith}
+use Rattle.std.proofs.Common.{◌≡◌, ℕ, ◌+◌, ◌<◌, List, [], ◌∷◌, ◌++◌, length, get_or, take, ◌∙◌, sym, ap, subst, true≢false, arith}
 use Rattle.std.proofs.lemmas.List.{take_more, length-take-le}
+use Rattle.space_model.specs.declared.entries.Entry.{Entry}
 use Rattle.space_model.specs.Answers.{Answers}
-use Rattle.space_model.specs.History.{IsLegal, StateAfter}
+use Rattle.space_model.specs.History.{CallLeaves, IsLegal, StateAfter}
 use Rattle.space_model.proofs.OneAnswer.{one_answer}
-use Rattle.space_model.proofs.Histories.{legal_more, legal_last, after_more}
+use Rattle.space_model.proofs.Histories.{legal_more, legal_last, chains_more}
 use Rattle.space_model.proofs.history.legal.Goals as goal
+
+one_more : (list : List Entry) (i : ℕ) (e : Entry) → i < length list → e ≡ get_or list i e → take (i + 1) list ≡ take i list ++ e ∷ []
+one_more list i e within is = take_more list i e within ∙ ap (λ x. take i list ++ x ∷ []) (sym is)
 
 pub returns-then-not-right : goal.returns-then-not-right
 returns-then-not-right c =
@@ -14,8 +18,7 @@ returns-then-not-right c =
     let i = c.loop-i.i in
     let e = c.index-list-i.result in
     let front = take i list in
-    let more : take (i + 1) list ≡ front ++ e ∷ [] =
-    take_more list i e c.loop-i-test.true ∙ ap (λ x. front ++ x ∷ []) (sym c.index-list-i.is) in
+    let more = one_more list i e c.loop-i-test.true c.index-list-i.is in
     let count : length front ≡ i = length-take-le i list (omega arith) in
     record {
       within = c.loop-i-test.true;
@@ -34,8 +37,7 @@ loop-i-preserved c =
     let i = c.loop-i.i in
     let e = c.index-list-i.result in
     let front = take i list in
-    let more : take (i + 1) list ≡ front ++ e ∷ [] =
-    take_more list i e c.loop-i-test.true ∙ ap (λ x. front ++ x ∷ []) (sym c.index-list-i.is) in
+    let more = one_more list i e c.loop-i-test.true c.index-list-i.is in
     let count : length front ≡ i = length-take-le i list (omega arith) in
     let (reply, answer, right) = c.in_ok-right.ensures in
     let is_right = right.0 c.if-not-right.false in
@@ -44,5 +46,5 @@ loop-i-preserved c =
       subst (IsLegal A) (sym more)
           (legal_more A front c.loop-i.space e next c.loop-i.invariant.0 c.loop-i.invariant.1 (is_right.0 ∙ sym count) mine),
       subst (λ entries. StateAfter A entries next) (sym more)
-          (after_more A front c.loop-i.space e reply next c.loop-i.invariant.1 answer),
+          (chains_more CallLeaves A front c.loop-i.space e next c.loop-i.invariant.1 (reply, answer)),
     )

@@ -1,7 +1,8 @@
 use Rattle.std.proofs.Common.{arith, sym, subst}
 use Rattle.space_model.specs.Areas.{kind_at, HasKinds}
 use Rattle.space_model.proofs.Joining.{pieces-kinds}
-use Rattle.space_model.proofs.NamedKinds.{IsNamedOption, named_at, named_all}
+use Rattle.page_types.specs.Named.{IsNamedOption}
+use Rattle.space_model.proofs.NamedKinds.{named_at, named_all}
 use Rattle.space_model.proofs.space.PlainSpace.of_pieces.Goals as goal
 
 pub invariant_of-result : goal.invariant_of-result

@@ -1,0 +1,5 @@
+use Rattle.space_model.proofs.MaximalRuns.{maximal_runs}
+use Rattle.space_model.proofs.laws.areas_are_maximal_runs.Goals as goal
+
+pub returns : goal.returns
+returns c = maximal_runs

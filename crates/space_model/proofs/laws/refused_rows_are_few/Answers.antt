@@ -1,0 +1,5 @@
+use Rattle.space_model.proofs.CertainReplies.{two_rows_more}
+use Rattle.space_model.proofs.laws.refused_rows_are_few.Goals as goal
+
+pub returns : goal.returns
+returns c = two_rows_more

@@ -1,0 +1,5 @@
+use Rattle.space_model.proofs.Counting.{rows_start}
+use Rattle.space_model.proofs.laws.rows_are_counted_by_their_starts.Goals as goal
+
+pub returns : goal.returns
+returns c = rows_start
