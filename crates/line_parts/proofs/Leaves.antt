@@ -4,10 +4,10 @@ use Rattle.std.specs.Prelude.{◌⊎◌}
 use Rattle.std.proofs.lemmas.Bool.Decides.{eqb_tells}
 use Rattle.std.proofs.Math.Seq.{take-append_seam}
 use Rattle.std.proofs.lemmas.List.{append-nil, length-append}
-use Rattle.line_parts.specs.declared.fault.What.{What}
+use Rattle.line_parts.specs.declared.refusal.What.{What}
 use Rattle.line_parts.specs.Parts.{Alike, starts, done}
 use Rattle.line_parts.specs.Leaves.{is, AtFirst, byte, letters, EachIs, IsRun, run, is_digit, is_capital, is_word_byte, many_digits, spaces, NoPair, until, end, anything}
-use Rattle.line_parts.specs.Reading.{fault_at, byte_at, letters_at, taken, after_spaces, run_at, digits_end, until_at, end_at}
+use Rattle.line_parts.specs.Reading.{refusal_at, byte_at, letters_at, taken, after_spaces, run_at, digits_end, until_at, end_at}
 use Rattle.line_parts.proofs.Sequence.{Took, Stuck, Reads, Fine, Good, good_then}
 use Rattle.line_parts.proofs.Choices.{starts_front}
 
@@ -32,7 +32,7 @@ same_is b c h = elim (eqb_tells c b) [ inl k ↦ k.1 | inr k ↦ cc ]
 pub not_both : {b : Bool} → b ≡ true → b ≡ false → ⊥
 not_both h k = cc
 
--- a fault at the first byte is the only one there
+-- a refusal at the first byte is the only one there
 pub first_one : (test : ℕ → Bool) (due : What) (text g o r : List ℕ) (w : What) → AtFirst test due g o r w → text ≡ g ++ (o ++ r) → (length (o ++ r) ≡ length text) × (w ≡ due)
 first_one test due text g o r w h e = (sym (ap length (e ∙ ap (λ (x : List ℕ). x ++ (o ++ r)) h.0)), h.2)
 
@@ -47,7 +47,7 @@ first_ends test text whole more none one e alike = not_both one (ap (starts test
 
 -- ---- one byte
 
-byte_stuck : (b : ℕ) (due : What) (text : List ℕ) → starts (is b) text ≡ false → Stuck (byte b due) Any text (fault_at text due)
+byte_stuck : (b : ℕ) (due : What) (text : List ℕ) → starts (is b) text ≡ false → Stuck (byte b due) Any text (refusal_at text due)
 byte_stuck b due text none = record {
   front = [];
   over = [];
@@ -129,7 +129,7 @@ run_same first later rest (b ∷ p) (c ∷ front) q more hp hf hq hr e alike =
     let h : b ≡ c = cc in
     cc
 
-run_stuck : (first later : ℕ → Bool) (due : What) (b : ℕ) (text : List ℕ) → first b ≡ true → starts first text ≡ false → Stuck (run first later due) (λ v q. starts later q ≡ false) text (fault_at text due)
+run_stuck : (first later : ℕ → Bool) (due : What) (b : ℕ) (text : List ℕ) → first b ≡ true → starts first text ≡ false → Stuck (run first later due) (λ v q. starts later q ≡ false) text (refusal_at text due)
 run_stuck first later due b text sample none = record {
   front = [];
   over = [];
@@ -197,7 +197,7 @@ pub run_cut : (first later : ℕ → Bool) (due : What) (text rest : List ℕ) �
 run_cut first later due text rest sub h e =
     rw e (run_is_taken first later due text sub h ∙ ap (λ (x : List ℕ). Ok (x, (taken later text).1)) (sym (taken_front later text)))
 
-pub run_missing : (first later : ℕ → Bool) (due : What) (text : List ℕ) → starts first text ≡ false → run_at first later due text ≡ Err (fault_at text due)
+pub run_missing : (first later : ℕ → Bool) (due : What) (text : List ℕ) → starts first text ≡ false → run_at first later due text ≡ Err (refusal_at text due)
 unfolding run_at
 run_missing first later due [] h = refl
 run_missing first later due (c ∷ rest) h = rw h refl
@@ -319,8 +319,8 @@ body_starts test [] x rest text e h = refl
 body_starts test (b ∷ body) x rest text e h = sym (ap (starts test) e) ∙ h
 
 until_on : (x y : ℕ) (due : What) (c : ℕ) (text : List ℕ) → (c ≡ x → starts (is y) text ≡ false) → until_at x y due (c ∷ text) ≡ until_at x y due text
-    → ((body rest : List ℕ) × Before x y due text body rest) ⊎ (NoPair x y text × (until_at x y due text ≡ Err (fault_at [] due)))
-    → ((body rest : List ℕ) × Before x y due (c ∷ text) body rest) ⊎ (NoPair x y (c ∷ text) × (until_at x y due (c ∷ text) ≡ Err (fault_at [] due)))
+    → ((body rest : List ℕ) × Before x y due text body rest) ⊎ (NoPair x y text × (until_at x y due text ≡ Err (refusal_at [] due)))
+    → ((body rest : List ℕ) × Before x y due (c ∷ text) body rest) ⊎ (NoPair x y (c ∷ text) × (until_at x y due (c ∷ text) ≡ Err (refusal_at [] due)))
 until_on x y due c text none on (inl h) = inl (
   c ∷ h.0,
   h.1,
@@ -333,7 +333,7 @@ until_on x y due c text none on (inl h) = inl (
 )
 until_on x y due c text none on (inr h) = inr ((none, h.0), on ∙ h.1)
 
-until_cases : (x y : ℕ) (due : What) (text : List ℕ) → ((body rest : List ℕ) × Before x y due text body rest) ⊎ (NoPair x y text × (until_at x y due text ≡ Err (fault_at [] due)))
+until_cases : (x y : ℕ) (due : What) (text : List ℕ) → ((body rest : List ℕ) × Before x y due text body rest) ⊎ (NoPair x y text × (until_at x y due text ≡ Err (refusal_at [] due)))
 unfolding until_at
 until_cases x y due [] = inr (tt, refl)
 until_cases x y due (c ∷ text) =
@@ -358,7 +358,7 @@ until_took x y due text body rest apart b = record {
       until_none x y body rest g h.3 b.next (sym b.parts ∙ whole);
 }
 
-until_stuck : (x y : ℕ) (due : What) (text : List ℕ) → NoPair x y text → Stuck (until x y due) (λ v q. starts (is y) q ≡ true) text (fault_at [] due)
+until_stuck : (x y : ℕ) (due : What) (text : List ℕ) → NoPair x y text → Stuck (until x y due) (λ v q. starts (is y) q ≡ true) text (refusal_at [] due)
 until_stuck x y due text none = record {
   front = text;
   over = [];

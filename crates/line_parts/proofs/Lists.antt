@@ -4,13 +4,13 @@ use Rattle.std.proofs.Common.{◌≡◌, ℕ, ◌+◌, ◌<◌, ◌≤◌, zero,
 use Rattle.std.specs.Prelude.{◌⊎◌, if◌then◌else◌}
 use Rattle.std.specs.Int.RustNames.{bit_or}
 use Rattle.std.proofs.lemmas.List.{append-nil, length-append}
-use Rattle.line_parts.specs.declared.fault.Fault.{Fault}
-use Rattle.line_parts.specs.declared.fault.What.{What}
-use Rattle.line_parts.specs.declared.fault.What.TheVariants.{Comma}
+use Rattle.line_parts.specs.declared.refusal.Refusal.{Refusal}
+use Rattle.line_parts.specs.declared.refusal.What.{What}
+use Rattle.line_parts.specs.declared.refusal.What.TheVariants.{Comma}
 use Rattle.line_parts.specs.Parts.{Part, chain, choice, arm, done, starts}
 use Rattle.line_parts.specs.Leaves.{is, byte, worth}
 use Rattle.line_parts.proofs.Numerals.{NoNumeral}
-use Rattle.line_parts.specs.Lists.{with_more, NoBar, Items, ItemFaults, listed}
+use Rattle.line_parts.specs.Lists.{with_more, NoBar, Items, ItemRefuses, listed}
 use Rattle.line_parts.specs.Reading.{◌>>=◌, byte_at, behind_first, list_next, list_at}
 use Rattle.line_parts.proofs.Sequence.{Took, Reads, Fine, Good, Follows, Heads, reads_then, fine_then}
 use Rattle.line_parts.proofs.Choices.{Nonempty, fine_choice, choice_reads}
@@ -21,16 +21,16 @@ use Rattle.line_parts.proofs.Leaves.{Any, byte_good, done_good, same_is}
 pub record Same {A : Type 0} (one other : Part A) : Type 0 where
   pub to : (front rest : List ℕ) (v : A) → one.takes front rest v → other.takes front rest v
   pub back : (front rest : List ℕ) (v : A) → other.takes front rest v → one.takes front rest v
-  pub faults_to : (front over rest : List ℕ) (w : What) → one.faults front over rest w → other.faults front over rest w
-  pub faults_back : (front over rest : List ℕ) (w : What) → other.faults front over rest w → one.faults front over rest w
+  pub refuses_to : (front over rest : List ℕ) (w : What) → one.refuses front over rest w → other.refuses front over rest w
+  pub refuses_back : (front over rest : List ℕ) (w : What) → other.refuses front over rest w → one.refuses front over rest w
 
-pub reads_same : {A : Type 0} (one other : Part A) (follow : A → List ℕ → Type 0) (text : List ℕ) (r : Result (A × List ℕ) Fault) → Same one other → Reads one follow text r → Reads other follow text r
+pub reads_same : {A : Type 0} (one other : Part A) (follow : A → List ℕ → Type 0) (text : List ℕ) (r : Result (A × List ℕ) Refusal) → Same one other → Reads one follow text r → Reads other follow text r
 reads_same one other follow text (Ok x) same t = record {
   front = t.front;
   parts = t.parts;
   takes = same.to t.front x.1 x.0 t.takes;
   only = λ p q more w h e alike. t.only p q more w (same.back p q w h) e alike;
-  clean = λ g o r w h e. t.clean g o r w (same.faults_back g o r w h) e;
+  clean = λ g o r w h e. t.clean g o r w (same.refuses_back g o r w h) e;
 }
 reads_same one other follow text (Err f) same s = record {
   front = s.front;
@@ -38,10 +38,10 @@ reads_same one other follow text (Err f) same s = record {
   rest = s.rest;
   parts = s.parts;
   left = s.left;
-  due = same.faults_to s.front s.over s.rest f.what s.due;
+  due = same.refuses_to s.front s.over s.rest f.what s.due;
   begins = (s.begins.0, s.begins.1, λ q hq. same.to (s.front ++ s.begins.0) q s.begins.1 (s.begins.2 q hq));
   ends = λ p q more w h e alike. s.ends p q more w (same.back p q w h) e alike;
-  one = λ g o r w h e. s.one g o r w (same.faults_back g o r w h) e;
+  one = λ g o r w h e. s.one g o r w (same.refuses_back g o r w h) e;
 }
 
 -- ---- what may follow
@@ -140,35 +140,35 @@ unfold_takes : (item : Part (Option ℕ)) (bits : ℕ) (front rest : List ℕ) (
 unfold_takes item bits front rest v [] h = unfold_last item bits front rest v h.0 h.1 h.2 h.3
 unfold_takes item bits front rest v (n ∷ before) h = (h.0, 124 ∷ h.1, Some n, h.2, h.3, (124 ∷ [], h.1, tt, refl, refl, (before, h.4)))
 
-fold_choice_faults : (item : Part (Option ℕ)) (bits n : ℕ) (a b front over rest : List ℕ) (w : What) (x : Bool) → front ≡ a ++ b → item.takes a (b ++ (over ++ rest)) (Some n) → starts (is 124) (b ++ (over ++ rest)) ≡ x
-    → (arm (chain (byte 124 Comma) (λ u. listed item (bit_or bits n))) (done (Some (bit_or bits n))) x).faults b over rest w → (listed item bits).faults front over rest w
-fold_choice_faults item bits n a b front over rest w true e h bar (inl k) =
+fold_choice_refuses : (item : Part (Option ℕ)) (bits n : ℕ) (a b front over rest : List ℕ) (w : What) (x : Bool) → front ≡ a ++ b → item.takes a (b ++ (over ++ rest)) (Some n) → starts (is 124) (b ++ (over ++ rest)) ≡ x
+    → (arm (chain (byte 124 Comma) (λ u. listed item (bit_or bits n))) (done (Some (bit_or bits n))) x).refuses b over rest w → (listed item bits).refuses front over rest w
+fold_choice_refuses item bits n a b front over rest w true e h bar (inl k) =
     let is_rest : b ++ (over ++ rest) ≡ rest = ap (λ (y : List ℕ). y ++ (over ++ rest)) k.0 ∙ ap (λ (y : List ℕ). y ++ rest) k.1 in
     let none : starts (is 124) (b ++ (over ++ rest)) ≡ false = ap (starts (is 124)) is_rest ∙ k.3 in
     absurd cc
-fold_choice_faults item bits n a b front over rest w true e h bar (inr k) =
+fold_choice_refuses item bits n a b front over rest w true e h bar (inr k) =
     let is_b : b ≡ 124 ∷ k.1 = k.3 ∙ ap (λ (y : List ℕ). y ++ k.1) k.4 in
     (n ∷ k.5.0, (a, k.1, e ∙ ap (λ (y : List ℕ). a ++ y) is_b, subst (λ (y : List ℕ). item.takes a (y ++ (over ++ rest)) (Some n)) is_b h, k.5.1))
-fold_choice_faults item bits n a b front over rest w false e h bar k = absurd k
+fold_choice_refuses item bits n a b front over rest w false e h bar k = absurd k
 
-fold_behind_faults : (item : Part (Option ℕ)) (bits : ℕ) (front over rest : List ℕ) (w : What) (a b : List ℕ) (u : Option ℕ) → front ≡ a ++ b → item.takes a (b ++ (over ++ rest)) u → (behind item bits u).faults b over rest w → (listed item bits).faults front over rest w
-fold_behind_faults item bits front over rest w a b None e h k = absurd k
-fold_behind_faults item bits front over rest w a b (Some n) e h k = fold_choice_faults item bits n a b front over rest w (starts (is 124) (b ++ (over ++ rest))) e h refl k
+fold_behind_refuses : (item : Part (Option ℕ)) (bits : ℕ) (front over rest : List ℕ) (w : What) (a b : List ℕ) (u : Option ℕ) → front ≡ a ++ b → item.takes a (b ++ (over ++ rest)) u → (behind item bits u).refuses b over rest w → (listed item bits).refuses front over rest w
+fold_behind_refuses item bits front over rest w a b None e h k = absurd k
+fold_behind_refuses item bits front over rest w a b (Some n) e h k = fold_choice_refuses item bits n a b front over rest w (starts (is 124) (b ++ (over ++ rest))) e h refl k
 
-fold_faults : (item : Part (Option ℕ)) (bits : ℕ) (front over rest : List ℕ) (w : What) → (unrolled item bits).faults front over rest w → (listed item bits).faults front over rest w
-fold_faults item bits front over rest w (inl h) = ([], h)
-fold_faults item bits front over rest w (inr h) = fold_behind_faults item bits front over rest w h.0 h.1 h.2 h.3 h.4 h.5
+fold_refuses : (item : Part (Option ℕ)) (bits : ℕ) (front over rest : List ℕ) (w : What) → (unrolled item bits).refuses front over rest w → (listed item bits).refuses front over rest w
+fold_refuses item bits front over rest w (inl h) = ([], h)
+fold_refuses item bits front over rest w (inr h) = fold_behind_refuses item bits front over rest w h.0 h.1 h.2 h.3 h.4 h.5
 
-unfold_faults : (item : Part (Option ℕ)) (bits : ℕ) (front over rest : List ℕ) (w : What) (before : List ℕ) → ItemFaults item before front over rest w → (unrolled item bits).faults front over rest w
-unfold_faults item bits front over rest w [] h = inl h
-unfold_faults item bits front over rest w (n ∷ before) h = inr (h.0, 124 ∷ h.1, Some n, h.2, h.3, inr (124 ∷ [], h.1, tt, refl, refl, (before, h.4)))
+unfold_refuses : (item : Part (Option ℕ)) (bits : ℕ) (front over rest : List ℕ) (w : What) (before : List ℕ) → ItemRefuses item before front over rest w → (unrolled item bits).refuses front over rest w
+unfold_refuses item bits front over rest w [] h = inl h
+unfold_refuses item bits front over rest w (n ∷ before) h = inr (h.0, 124 ∷ h.1, Some n, h.2, h.3, inr (124 ∷ [], h.1, tt, refl, refl, (before, h.4)))
 
 unrolled_same : (item : Part (Option ℕ)) (bits : ℕ) → Same (unrolled item bits) (listed item bits)
 unrolled_same item bits = record {
   to = λ front rest v h. fold_takes item bits front rest v h.0 h.1 h.2 h.3 h.4 h.5;
   back = λ front rest v h. unfold_takes item bits front rest v h.0 h.1;
-  faults_to = λ front over rest w h. fold_faults item bits front over rest w h;
-  faults_back = λ front over rest w h. unfold_faults item bits front over rest w h.0 h.1;
+  refuses_to = λ front over rest w h. fold_refuses item bits front over rest w h;
+  refuses_back = λ front over rest w h. unfold_refuses item bits front over rest w h.0 h.1;
 }
 
 items_head : (test : ℕ → Bool) (item : Part (Option ℕ)) (bits : ℕ) → Heads test item → (b q : List ℕ) (w : Option ℕ) (before : List ℕ) → Items item bits before b q w → starts test (b ++ q) ≡ true
@@ -232,25 +232,25 @@ behind_shorter : (rest : List ℕ) → starts (is 124) rest ≡ true → length 
 behind_shorter [] h = cc
 behind_shorter (c ∷ rest) h = omega arith
 
-abbrev ListReads : Part (Option ℕ) → (List ℕ → Result (Option ℕ × List ℕ) Fault) → ℕ → Type 0
+abbrev ListReads : Part (Option ℕ) → (List ℕ → Result (Option ℕ × List ℕ) Refusal) → ℕ → Type 0
 ListReads item read k = (bits : ℕ) (text : List ℕ) → length text < k → Reads (listed item bits) ListEnds text (list_at read k bits text)
 
 -- behind a bar that was read
-bar_behind : (item : Part (Option ℕ)) (bits : ℕ) (rest : List ℕ) (r : Result (Option ℕ × List ℕ) Fault) → Fine item ItemEnds → starts (is 124) rest ≡ true
+bar_behind : (item : Part (Option ℕ)) (bits : ℕ) (rest : List ℕ) (r : Result (Option ℕ × List ℕ) Refusal) → Fine item ItemEnds → starts (is 124) rest ≡ true
     → Reads (listed item bits) ListEnds (behind_first rest) r → Reads (chain (byte 124 Comma) (λ u. listed item bits)) ListEnds rest r
 bar_behind item bits rest r fine bar h =
     reads_then (byte 124 Comma) (λ u. listed item bits) Any ListEnds rest (Ok (tt, behind_first rest)) (λ u. r) (λ v b q w k hq. tt)
     (byte_good 124 Comma).fine (λ u. listed_fine item fine bits) (subst (Reads (byte 124 Comma) Any rest) (byte_taken rest bar) ((byte_good 124 Comma).reads rest))
     (λ x t. let e : behind_first rest ≡ x.1 = ap behind_first (t.parts ∙ ap (λ (y : List ℕ). y ++ x.1) t.takes) in subst (λ (y : List ℕ). Reads (listed item bits) ListEnds y r) e h)
 
-bar_reads : (item : Part (Option ℕ)) (read : List ℕ → Result (Option ℕ × List ℕ) Fault) (k bits n : ℕ) (rest : List ℕ) (x : Bool) → Fine item ItemEnds → ListReads item read k → length rest ≤ k → starts (is 124) rest ≡ x
+bar_reads : (item : Part (Option ℕ)) (read : List ℕ → Result (Option ℕ × List ℕ) Refusal) (k bits n : ℕ) (rest : List ℕ) (x : Bool) → Fine item ItemEnds → ListReads item read k → length rest ≤ k → starts (is 124) rest ≡ x
     → Reads (arm (chain (byte 124 Comma) (λ u. listed item (bit_or bits n))) (done (Some (bit_or bits n))) x) ListEnds rest (if x then list_at read k (bit_or bits n) (behind_first rest) else Ok (Some (bit_or bits n), rest))
 bar_reads item read k bits n rest true fine on le bar =
     let s = behind_shorter rest bar in
     bar_behind item (bit_or bits n) rest (list_at read k (bit_or bits n) (behind_first rest)) fine bar (on (bit_or bits n) (behind_first rest) (omega arith))
 bar_reads item read k bits n rest false fine on le bar = (done_good (Some (bit_or bits n)) ListEnds).reads rest
 
-next_reads : (item : Part (Option ℕ)) (read : List ℕ → Result (Option ℕ × List ℕ) Fault) (k bits : ℕ) (u : Option ℕ) (rest : List ℕ) → Fine item ItemEnds → ListReads item read k → length rest ≤ k → Reads (behind item bits u) ListEnds rest (list_next (list_at read k) bits u rest)
+next_reads : (item : Part (Option ℕ)) (read : List ℕ → Result (Option ℕ × List ℕ) Refusal) (k bits : ℕ) (u : Option ℕ) (rest : List ℕ) → Fine item ItemEnds → ListReads item read k → length rest ≤ k → Reads (behind item bits u) ListEnds rest (list_next (list_at read k) bits u rest)
 next_reads item read k bits None rest fine on le = (done_good None ListEnds).reads rest
 next_reads item read k bits (Some n) rest fine on le =
     choice_reads (is 124) (chain (byte 124 Comma) (λ u. listed item (bit_or bits n))) (done (Some (bit_or bits n))) ListEnds rest (list_next (list_at read k) bits (Some n) rest) (behind_fine item fine bits (Some n))
@@ -259,7 +259,7 @@ next_reads item read k bits (Some n) rest fine on le =
 took_shorter : (item : Part (Option ℕ)) (text : List ℕ) (v : Option ℕ) (rest : List ℕ) (k : ℕ) → Took item text v rest → length text < suc k → length rest ≤ k
 took_shorter item text v rest k t lt = let e = ap length t.parts ∙ length-append t.front rest in omega arith
 
-pub list_reads : (item : Part (Option ℕ)) (read : List ℕ → Result (Option ℕ × List ℕ) Fault) → Good item ItemEnds read → (k : ℕ) → ListReads item read k
+pub list_reads : (item : Part (Option ℕ)) (read : List ℕ → Result (Option ℕ × List ℕ) Refusal) → Good item ItemEnds read → (k : ℕ) → ListReads item read k
 unfolding list_at
 list_reads item read good zero bits text lt = absurd (omega arith)
 list_reads item read good (suc k) bits text lt =
@@ -268,19 +268,19 @@ list_reads item read good (suc k) bits text lt =
     (λ x t. next_reads item read k bits x.0 x.1 good.fine (list_reads item read good k) (took_shorter item text x.0 x.1 k t lt)))
 
 -- a list, of as many items as the text has bytes
-pub listed_good : (item : Part (Option ℕ)) (read : List ℕ → Result (Option ℕ × List ℕ) Fault) → Good item ItemEnds read → (bits : ℕ) → Good (listed item bits) ListEnds (λ text. list_at read (suc (length text)) bits text)
+pub listed_good : (item : Part (Option ℕ)) (read : List ℕ → Result (Option ℕ × List ℕ) Refusal) → Good item ItemEnds read → (bits : ℕ) → Good (listed item bits) ListEnds (λ text. list_at read (suc (length text)) bits text)
 listed_good item read good bits = record {
   fine = listed_fine item good.fine bits;
   reads = λ text. list_reads item read good (suc (length text)) bits text (omega arith);
 }
 
-any_bar : (read : List ℕ → Result (Option ℕ × List ℕ) Fault) (j k bits n : ℕ) (rest : List ℕ) (x : Bool) → ((b : ℕ) (t : List ℕ) → length t < j → length t < k → list_at read j b t ≡ list_at read k b t)
+any_bar : (read : List ℕ → Result (Option ℕ × List ℕ) Refusal) (j k bits n : ℕ) (rest : List ℕ) (x : Bool) → ((b : ℕ) (t : List ℕ) → length t < j → length t < k → list_at read j b t ≡ list_at read k b t)
     → length rest ≤ j → length rest ≤ k → starts (is 124) rest ≡ x
     → (if x then list_at read j (bit_or bits n) (behind_first rest) else Ok (Some (bit_or bits n), rest)) ≡ (if x then list_at read k (bit_or bits n) (behind_first rest) else Ok (Some (bit_or bits n), rest))
 any_bar read j k bits n rest true on lj lk bar = let s = behind_shorter rest bar in on (bit_or bits n) (behind_first rest) (omega arith) (omega arith)
 any_bar read j k bits n rest false on lj lk bar = refl
 
-any_next : (read : List ℕ → Result (Option ℕ × List ℕ) Fault) (j k bits : ℕ) (text : List ℕ) (r : Result (Option ℕ × List ℕ) Fault) → ((b : ℕ) (t : List ℕ) → length t < j → length t < k → list_at read j b t ≡ list_at read k b t)
+any_next : (read : List ℕ → Result (Option ℕ × List ℕ) Refusal) (j k bits : ℕ) (text : List ℕ) (r : Result (Option ℕ × List ℕ) Refusal) → ((b : ℕ) (t : List ℕ) → length t < j → length t < k → list_at read j b t ≡ list_at read k b t)
     → ((v : Option ℕ) (rest : List ℕ) → r ≡ Ok (v, rest) → (length rest ≤ j) × (length rest ≤ k))
     → (r >>= λ x. list_next (list_at read j) bits x.0 x.1) ≡ (r >>= λ x. list_next (list_at read k) bits x.0 x.1)
 any_next read j k bits text (Err f) on short = refl
@@ -288,7 +288,7 @@ any_next read j k bits text (Ok (None, rest)) on short = refl
 any_next read j k bits text (Ok (Some n, rest)) on short = let s = short (Some n) rest refl in any_bar read j k bits n rest (starts (is 124) rest) on s.0 s.1 refl
 
 -- the count of items doesn't matter where it is above the bytes
-pub any_count : (read : List ℕ → Result (Option ℕ × List ℕ) Fault) → ((text rest : List ℕ) (v : Option ℕ) → read text ≡ Ok (v, rest) → length rest ≤ length text)
+pub any_count : (read : List ℕ → Result (Option ℕ × List ℕ) Refusal) → ((text rest : List ℕ) (v : Option ℕ) → read text ≡ Ok (v, rest) → length rest ≤ length text)
     → (j k bits : ℕ) (text : List ℕ) → length text < j → length text < k → list_at read j bits text ≡ list_at read k bits text
 unfolding list_at
 any_count read short zero k bits text lj lk = absurd (omega arith)
@@ -297,27 +297,27 @@ any_count read short (suc j) (suc k) bits text lj lk = any_next read j k bits te
 
 -- ---- a list in a loop, item by item
 
-abbrev pub Shortens : (List ℕ → Result (Option ℕ × List ℕ) Fault) → Type 0
+abbrev pub Shortens : (List ℕ → Result (Option ℕ × List ℕ) Refusal) → Type 0
 Shortens read = (text rest : List ℕ) (v : Option ℕ) → read text ≡ Ok (v, rest) → length rest ≤ length text
 
-pub on_shorter : (read : List ℕ → Result (Option ℕ × List ℕ) Fault) → Shortens read → (left rest : List ℕ) (v : Option ℕ) → read left ≡ Ok (v, rest) → starts (is 124) rest ≡ true → length (behind_first rest) < length left
+pub on_shorter : (read : List ℕ → Result (Option ℕ × List ℕ) Refusal) → Shortens read → (left rest : List ℕ) (v : Option ℕ) → read left ≡ Ok (v, rest) → starts (is 124) rest ≡ true → length (behind_first rest) < length left
 on_shorter read short left rest v e bar = let s = short left rest v e in let t = behind_shorter rest bar in omega arith
 
-pub list_on : (read : List ℕ → Result (Option ℕ × List ℕ) Fault) → Shortens read → (bits more : ℕ) (left rest : List ℕ) → read left ≡ Ok (Some more, rest) → starts (is 124) rest ≡ true
+pub list_on : (read : List ℕ → Result (Option ℕ × List ℕ) Refusal) → Shortens read → (bits more : ℕ) (left rest : List ℕ) → read left ≡ Ok (Some more, rest) → starts (is 124) rest ≡ true
     → list_at read (suc (length left)) bits left ≡ list_at read (suc (length (behind_first rest))) (bit_or bits more) (behind_first rest)
 unfolding list_at
 list_on read short bits more left rest e bar =
     let s = on_shorter read short left rest (Some more) e bar in
     rw e (rw bar (any_count read short (length left) (suc (length (behind_first rest))) (bit_or bits more) (behind_first rest) s (omega arith)))
 
-pub list_last : (read : List ℕ → Result (Option ℕ × List ℕ) Fault) (bits more : ℕ) (left rest : List ℕ) → read left ≡ Ok (Some more, rest) → starts (is 124) rest ≡ false → list_at read (suc (length left)) bits left ≡ Ok (Some (bit_or bits more), rest)
+pub list_last : (read : List ℕ → Result (Option ℕ × List ℕ) Refusal) (bits more : ℕ) (left rest : List ℕ) → read left ≡ Ok (Some more, rest) → starts (is 124) rest ≡ false → list_at read (suc (length left)) bits left ≡ Ok (Some (bit_or bits more), rest)
 unfolding list_at
 list_last read bits more left rest e bar = rw e (rw bar refl)
 
-pub list_left : (read : List ℕ → Result (Option ℕ × List ℕ) Fault) (bits : ℕ) (left rest : List ℕ) → read left ≡ Ok (None, rest) → list_at read (suc (length left)) bits left ≡ Ok (None, rest)
+pub list_left : (read : List ℕ → Result (Option ℕ × List ℕ) Refusal) (bits : ℕ) (left rest : List ℕ) → read left ≡ Ok (None, rest) → list_at read (suc (length left)) bits left ≡ Ok (None, rest)
 unfolding list_at
 list_left read bits left rest e = rw e refl
 
-pub list_fault : (read : List ℕ → Result (Option ℕ × List ℕ) Fault) (bits : ℕ) (left : List ℕ) (f : Fault) → read left ≡ Err f → list_at read (suc (length left)) bits left ≡ Err f
+pub list_refusal : (read : List ℕ → Result (Option ℕ × List ℕ) Refusal) (bits : ℕ) (left : List ℕ) (f : Refusal) → read left ≡ Err f → list_at read (suc (length left)) bits left ≡ Err f
 unfolding list_at
-list_fault read bits left f e = rw e refl
+list_refusal read bits left f e = rw e refl

@@ -1,15 +1,15 @@
--- A number is read as its part says: all the digits that come, in 64 bits, or a fault.
+-- A number is read as its part says: all the digits that come, in 64 bits, or a refusal.
 use Rattle.std.proofs.Common.{◌≡◌, ◌≢◌, ℕ, ◌+◌, ◌*◌, ◌^◌, ◌<◌, ◌≤◌, List, [], ◌∷◌, ◌++◌, length, Result, Ok, Err, true, Some, None, refl, sym, ap, subst, ◌∙◌, inl, inr, arith}
 use Rattle.std.specs.Prelude.{◌⊎◌}
 use Rattle.std.proofs.lemmas.Bool.Decides.{eqb_tells, nat_tests}
 use Rattle.std.proofs.lemmas.Bool.{cases_lt, lt-ltb, le-ltb}
 use Rattle.std.proofs.lemmas.List.{length-append}
-use Rattle.line_parts.specs.declared.fault.Fault.{Fault}
-use Rattle.line_parts.specs.declared.fault.What.{What}
-use Rattle.line_parts.specs.declared.fault.What.TheVariants.{Wide}
+use Rattle.line_parts.specs.declared.refusal.Refusal.{Refusal}
+use Rattle.line_parts.specs.declared.refusal.What.{What}
+use Rattle.line_parts.specs.declared.refusal.What.TheVariants.{Wide}
 use Rattle.line_parts.specs.Parts.{Alike, starts}
 use Rattle.line_parts.specs.Leaves.{number, worth, AllDigits, NoDigit, value, Digits, No0x, Numeral, DueNumber, is_digit}
-use Rattle.line_parts.specs.Reading.{fault_at, digits_of, behind_0x, digits_read, number_at}
+use Rattle.line_parts.specs.Reading.{refusal_at, digits_of, behind_0x, digits_read, number_at}
 use Rattle.line_parts.proofs.Choices.{Full}
 use Rattle.line_parts.proofs.Sequence.{Took, Stuck, Reads, Good, Heads, alike_same}
 
@@ -192,7 +192,7 @@ wide_one : (due : What) (text front rest g o r : List ℕ) (v : ℕ) (w : What) 
 wide_one due text front rest g o r v w parts num (inl h) e = absurd (not_missing due text front rest g o r v parts num h.2 h.1 e)
 wide_one due text front rest g o r v w parts num (inr h) e = (sym (ap length (e ∙ ap (λ (x : List ℕ). x ++ (o ++ r)) h.1)), h.0)
 
-stuck_wide : (due : What) (text front rest : List ℕ) (v : ℕ) → text ≡ front ++ rest → Numeral front rest v → 2 ^ 64 ≤ v → OneNumeral front rest v → Stuck (number due) NumberEnds text (fault_at text Wide)
+stuck_wide : (due : What) (text front rest : List ℕ) (v : ℕ) → text ≡ front ++ rest → Numeral front rest v → 2 ^ 64 ≤ v → OneNumeral front rest v → Stuck (number due) NumberEnds text (refusal_at text Wide)
 stuck_wide due text front rest v parts num le one = record {
   front = [];
   over = front;
@@ -218,7 +218,7 @@ decimal_one due text g o r w none (inr h) e =
     let whole : o ++ r ≡ text = sym (e ∙ ap (λ (x : List ℕ). x ++ (o ++ r)) h.1) in
     absurd (no_numeral o r text text h.2 none h.4 whole (alike_same text))
 
-stuck_decimal : (due : What) (text : List ℕ) → NoDigit 10 text → Stuck (number due) NumberEnds text (fault_at text due)
+stuck_decimal : (due : What) (text : List ℕ) → NoDigit 10 text → Stuck (number due) NumberEnds text (refusal_at text due)
 stuck_decimal due text none = record {
   front = [];
   over = [];
@@ -247,7 +247,7 @@ hex_one due text digits g o r w is none (inr h) e =
     let whole : o ++ r ≡ 48 ∷ 120 ∷ digits = sym (e ∙ ap (λ (x : List ℕ). x ++ (o ++ r)) h.1) ∙ is in
     absurd (hex_ends o r digits digits h.2 none h.4 whole (alike_same digits))
 
-stuck_hex : (due : What) (text digits : List ℕ) → text ≡ 48 ∷ 120 ∷ digits → NoDigit 16 digits → Stuck (number due) NumberEnds text (fault_at digits due)
+stuck_hex : (due : What) (text digits : List ℕ) → text ≡ 48 ∷ 120 ∷ digits → NoDigit 16 digits → Stuck (number due) NumberEnds text (refusal_at digits due)
 stuck_hex due text digits is none = record {
   front = 48 ∷ 120 ∷ [];
   over = [];
@@ -268,10 +268,10 @@ some_taken : (a b c : ℕ) → c ≡ a + b → b ≢ c → 0 < a
 some_taken a b c h k = omega arith
 
 -- What digits_read gives, by its three cases.
-digits_cases : (due : What) (base : ℕ) (text digits : List ℕ) (P : Result (ℕ × List ℕ) Fault → Type 0)
-    → (NoDigit base digits → P (Err (fault_at digits due)))
+digits_cases : (due : What) (base : ℕ) (text digits : List ℕ) (P : Result (ℕ × List ℕ) Refusal → Type 0)
+    → (NoDigit base digits → P (Err (refusal_at digits due)))
     → ((ds rest : List ℕ) (v : ℕ) → digits ≡ ds ++ rest → Digits base ds v → NoDigit base rest → v < 2 ^ 64 → P (Ok (v, rest)))
-    → ((ds rest : List ℕ) (v : ℕ) → digits ≡ ds ++ rest → Digits base ds v → NoDigit base rest → 2 ^ 64 ≤ v → P (Err (fault_at text Wide)))
+    → ((ds rest : List ℕ) (v : ℕ) → digits ≡ ds ++ rest → Digits base ds v → NoDigit base rest → 2 ^ 64 ≤ v → P (Err (refusal_at text Wide)))
     → P (digits_read due text digits (digits_of base 0 digits))
 digits_cases due base text digits P none small wide =
     let r = run_takes base 0 digits in

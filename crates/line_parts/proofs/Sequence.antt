@@ -1,10 +1,10 @@
 -- Two parts that are read one after the other: the one lemma by which every grammar above is put
--- together. A reading of a part keeps three facts: it is a spelling or a fault of the part, it is the
+-- together. A reading of a part keeps three facts: it is a spelling or a refusal of the part, it is the
 -- only one, and nothing that goes on alike is another.
 use Rattle.std.proofs.Common.{◌≡◌, ℕ, List, [], ◌∷◌, ◌++◌, length, Result, Ok, Err, Bool, true, refl, sym, ap, subst, ◌∙◌, append_assoc, inl, inr, ◌≤◌, arith}
 use Rattle.std.proofs.lemmas.List.{append_cancel_left, length-append}
-use Rattle.line_parts.specs.declared.fault.Fault.{Fault}
-use Rattle.line_parts.specs.declared.fault.What.{What}
+use Rattle.line_parts.specs.declared.refusal.Refusal.{Refusal}
+use Rattle.line_parts.specs.declared.refusal.What.{What}
 use Rattle.line_parts.specs.Parts.{Alike, Part, chain, starts}
 use Rattle.line_parts.specs.Reading.{◌>>=◌}
 
@@ -13,21 +13,21 @@ pub record Took {A : Type 0} (part : Part A) (text : List ℕ) (v : A) (rest : L
   pub parts : text ≡ front ++ rest
   pub takes : part.takes front rest v
   pub only : (p q more : List ℕ) (w : A) → part.takes p q w → p ++ q ≡ front ++ more → Alike more rest → (p ≡ front) × (w ≡ v)
-  pub clean : (g o r : List ℕ) (w : What) → part.faults g o r w → text ≡ g ++ (o ++ r) → ⊥
+  pub clean : (g o r : List ℕ) (w : What) → part.refuses g o r w → text ≡ g ++ (o ++ r) → ⊥
 
 -- What follow allows behind a value is what the grammar may put there.
-pub record Stuck {A : Type 0} (part : Part A) (follow : A → List ℕ → Type 0) (text : List ℕ) (f : Fault) : Type 0 where
+pub record Stuck {A : Type 0} (part : Part A) (follow : A → List ℕ → Type 0) (text : List ℕ) (f : Refusal) : Type 0 where
   pub front : List ℕ
   pub over : List ℕ
   pub rest : List ℕ
   pub parts : text ≡ front ++ (over ++ rest)
   pub left : f.left ≡ length (over ++ rest)
-  pub due : part.faults front over rest f.what
+  pub due : part.refuses front over rest f.what
   pub begins : (more : List ℕ) × (w : A) × ((q : List ℕ) → follow w q → part.takes (front ++ more) q w)
   pub ends : (p q more : List ℕ) (v : A) → part.takes p q v → p ++ q ≡ (front ++ over) ++ more → Alike more rest → ⊥
-  pub one : (g o r : List ℕ) (w : What) → part.faults g o r w → text ≡ g ++ (o ++ r) → (length (o ++ r) ≡ f.left) × (w ≡ f.what)
+  pub one : (g o r : List ℕ) (w : What) → part.refuses g o r w → text ≡ g ++ (o ++ r) → (length (o ++ r) ≡ f.left) × (w ≡ f.what)
 
-abbrev pub Reads : {A : Type 0} → Part A → (A → List ℕ → Type 0) → List ℕ → Result (A × List ℕ) Fault → Type 0
+abbrev pub Reads : {A : Type 0} → Part A → (A → List ℕ → Type 0) → List ℕ → Result (A × List ℕ) Refusal → Type 0
 Reads part follow text (Ok x) = Took part text x.0 x.1
 Reads part follow text (Err f) = Stuck part follow text f
 
@@ -74,11 +74,11 @@ took_both {A} first next text rest last v w t u = record {
             let e1 : k.0 ++ (k.1 ++ (o ++ r)) ≡ t.front ++ rest = split_takes g k.0 k.1 (o ++ r) (t.front ++ rest) k.3 (sym e ∙ t.parts) in
             let one = t.only k.0 (k.1 ++ (o ++ r)) rest k.2 k.4 e1 (alike_same rest) in
             let e2 = append_cancel_left t.front (k.1 ++ (o ++ r)) rest (ap (λ (x : List ℕ). x ++ (k.1 ++ (o ++ r))) (sym one.0) ∙ e1) in
-            u.clean k.1 o r w1 (subst (λ (x : A). (next x).faults k.1 o r w1) one.1 k.5) (sym e2)
+            u.clean k.1 o r w1 (subst (λ (x : A). (next x).refuses k.1 o r w1) one.1 k.5) (sym e2)
       ];
 }
 
-stuck_behind : {A B : Type 0} (first : Part A) (next : A → Part B) (follow : A → List ℕ → Type 0) (last : B → List ℕ → Type 0) (text rest : List ℕ) (v : A) (f : Fault)
+stuck_behind : {A B : Type 0} (first : Part A) (next : A → Part B) (follow : A → List ℕ → Type 0) (last : B → List ℕ → Type 0) (text rest : List ℕ) (v : A) (f : Refusal)
     → Follows follow next last → Fine first follow → Took first text v rest → Stuck (next v) last rest f → Stuck (chain first next) last text f
 stuck_behind {A} {B} first next follow last text rest v f follows fine t s =
     let is : rest ≡ (s.front ++ s.over) ++ s.rest = s.parts ∙ sym (append_assoc s.front s.over s.rest) in
@@ -113,11 +113,11 @@ stuck_behind {A} {B} first next follow last text rest v f follows fine t s =
                 let e1 : k.0 ++ (k.1 ++ (o ++ r)) ≡ t.front ++ rest = split_takes g k.0 k.1 (o ++ r) (t.front ++ rest) k.3 (sym e ∙ t.parts) in
                 let one = t.only k.0 (k.1 ++ (o ++ r)) rest k.2 k.4 e1 (alike_same rest) in
                 let e2 = append_cancel_left t.front (k.1 ++ (o ++ r)) rest (ap (λ (x : List ℕ). x ++ (k.1 ++ (o ++ r))) (sym one.0) ∙ e1) in
-                s.one k.1 o r w1 (subst (λ (x : A). (next x).faults k.1 o r w1) one.1 k.5) (sym e2)
+                s.one k.1 o r w1 (subst (λ (x : A). (next x).refuses k.1 o r w1) one.1 k.5) (sym e2)
           ];
     }
 
-stuck_before : {A B : Type 0} (first : Part A) (next : A → Part B) (follow : A → List ℕ → Type 0) (last : B → List ℕ → Type 0) (text : List ℕ) (f : Fault)
+stuck_before : {A B : Type 0} (first : Part A) (next : A → Part B) (follow : A → List ℕ → Type 0) (last : B → List ℕ → Type 0) (text : List ℕ) (f : Refusal)
     → Follows follow next last → ((v : A) → Fine (next v) last) → Stuck first follow text f → Stuck (chain first next) last text f
 stuck_before {A} first next follow last text f follows fine s =
     let v = s.begins.1 in
@@ -146,13 +146,13 @@ stuck_before {A} first next follow last text f follows fine s =
           ];
     }
 
-reads_behind : {A B : Type 0} (first : Part A) (next : A → Part B) (follow : A → List ℕ → Type 0) (last : B → List ℕ → Type 0) (text rest : List ℕ) (v : A) (r : Result (B × List ℕ) Fault)
+reads_behind : {A B : Type 0} (first : Part A) (next : A → Part B) (follow : A → List ℕ → Type 0) (last : B → List ℕ → Type 0) (text rest : List ℕ) (v : A) (r : Result (B × List ℕ) Refusal)
     → Follows follow next last → Fine first follow → Took first text v rest → Reads (next v) last rest r → Reads (chain first next) last text r
 reads_behind first next follow last text rest v (Ok x) follows fine t u = took_both first next text rest x.1 v x.0 t u
 reads_behind first next follow last text rest v (Err f) follows fine t s = stuck_behind first next follow last text rest v f follows fine t s
 
 -- The lemma of composition.
-pub reads_then : {A B : Type 0} (first : Part A) (next : A → Part B) (follow : A → List ℕ → Type 0) (last : B → List ℕ → Type 0) (text : List ℕ) (r : Result (A × List ℕ) Fault) (f : A × List ℕ → Result (B × List ℕ) Fault)
+pub reads_then : {A B : Type 0} (first : Part A) (next : A → Part B) (follow : A → List ℕ → Type 0) (last : B → List ℕ → Type 0) (text : List ℕ) (r : Result (A × List ℕ) Refusal) (f : A × List ℕ → Result (B × List ℕ) Refusal)
     → Follows follow next last → Fine first follow → ((v : A) → Fine (next v) last) → Reads first follow text r → ((x : A × List ℕ) → Took first text x.0 x.1 → Reads (next x.0) last x.1 (f x)) → Reads (chain first next) last text (r >>= f)
 reads_then first next follow last text (Ok x) f follows one fine t others = reads_behind first next follow last text x.1 x.0 (f x) follows one t (others x t)
 reads_then first next follow last text (Err e) f follows one fine s others = stuck_before first next follow last text e follows fine s
@@ -170,11 +170,11 @@ fine_then {A} first next follow last follows one fine =
     }
 
 -- A part that is read by a function on lists.
-pub record Good {A : Type 0} (part : Part A) (follow : A → List ℕ → Type 0) (read : List ℕ → Result (A × List ℕ) Fault) : Type 0 where
+pub record Good {A : Type 0} (part : Part A) (follow : A → List ℕ → Type 0) (read : List ℕ → Result (A × List ℕ) Refusal) : Type 0 where
   pub fine : Fine part follow
   pub reads : (text : List ℕ) → Reads part follow text (read text)
 
-pub good_then : {A B : Type 0} {first : Part A} {next : A → Part B} {follow : A → List ℕ → Type 0} {last : B → List ℕ → Type 0} {r : List ℕ → Result (A × List ℕ) Fault} {f : A → List ℕ → Result (B × List ℕ) Fault}
+pub good_then : {A B : Type 0} {first : Part A} {next : A → Part B} {follow : A → List ℕ → Type 0} {last : B → List ℕ → Type 0} {r : List ℕ → Result (A × List ℕ) Refusal} {f : A → List ℕ → Result (B × List ℕ) Refusal}
     → Good first follow r → ((v : A) → Good (next v) last (f v)) → Follows follow next last → Good (chain first next) last (λ text. r text >>= λ x. f x.0 x.1)
 good_then {A} {B} {first} {next} {follow} {last} {r} {f} one others follows = record {
   fine = fine_then first next follow last follows one.fine (λ v. (others v).fine);
@@ -182,14 +182,14 @@ good_then {A} {B} {first} {next} {follow} {last} {r} {f} one others follows = re
 }
 
 -- What is left behind what was read is not longer than the text.
-pub shorter : {A : Type 0} {part : Part A} {follow : A → List ℕ → Type 0} {read : List ℕ → Result (A × List ℕ) Fault} → Good part follow read → (text rest : List ℕ) (v : A) → read text ≡ Ok (v, rest) → length rest ≤ length text
+pub shorter : {A : Type 0} {part : Part A} {follow : A → List ℕ → Type 0} {read : List ℕ → Result (A × List ℕ) Refusal} → Good part follow read → (text rest : List ℕ) (v : A) → read text ≡ Ok (v, rest) → length rest ≤ length text
 shorter {A} {part} {follow} {read} good text rest v e =
     let t : Took part text v rest = subst (Reads part follow text) e (good.reads text) in
     let k = ap length t.parts ∙ length-append t.front rest in
     omega arith
 
-pub fault_within : {A : Type 0} {part : Part A} {follow : A → List ℕ → Type 0} {read : List ℕ → Result (A × List ℕ) Fault} → Good part follow read → (text : List ℕ) (f : Fault) → read text ≡ Err f → f.left ≤ length text
-fault_within {A} {part} {follow} {read} good text f e =
+pub refusal_within : {A : Type 0} {part : Part A} {follow : A → List ℕ → Type 0} {read : List ℕ → Result (A × List ℕ) Refusal} → Good part follow read → (text : List ℕ) (f : Refusal) → read text ≡ Err f → f.left ≤ length text
+refusal_within {A} {part} {follow} {read} good text f e =
     let s : Stuck part follow text f = subst (Reads part follow text) e (good.reads text) in
     let k = ap length s.parts ∙ length-append s.front (s.over ++ s.rest) in
     let l = s.left in

@@ -1,9 +1,9 @@
--- The smallest parts of a line: a byte, spaces, a run of bytes, a number, bytes up to a pair. The
--- forms are this project's own profile of what strace(1) prints. Each is a relation between the
--- bytes that are taken, the bytes behind them, and a value.
+-- The smallest parts of a line: a byte, spaces, a run of bytes, a number, bytes up to a pair. The forms are this
+-- project's own profile of what strace(1) prints. Each is a relation between the bytes that are taken, the bytes
+-- behind them, and a value.
 use Rattle.std.specs.Prelude.{◌≡◌, ◌≢◌, ◌⊎◌, ℕ, ◌+◌, ◌-◌, ◌*◌, ◌^◌, ◌<◌, ◌≤◌, List, [], ◌∷◌, ◌++◌, length, Bool, true, false, nat_lt, ◌==◌, ◌&&◌, if◌then◌else◌}
-use Rattle.line_parts.specs.declared.fault.What.{What}
-use Rattle.line_parts.specs.declared.fault.What.TheVariants.{Wide}
+use Rattle.line_parts.specs.declared.refusal.What.{What}
+use Rattle.line_parts.specs.declared.refusal.What.TheVariants.{Wide}
 use Rattle.line_parts.specs.Parts.{Part, chain, done, starts}
 
 -- the test for one byte
@@ -18,7 +18,7 @@ AtFirst test due front over rest w = (front ≡ []) × (over ≡ []) × (w ≡ d
 abbrev pub byte : ℕ → What → Part (Unit {0})
 byte b due = record {
   takes = λ front rest u. front ≡ b ∷ [];
-  faults = AtFirst (is b) due;
+  refuses = AtFirst (is b) due;
 }
 
 -- the bytes of a text, one after the other
@@ -39,14 +39,14 @@ IsRun first later (b ∷ text) = (first b ≡ true) × EachIs later text
 abbrev pub run : (ℕ → Bool) → (ℕ → Bool) → What → Part (List ℕ)
 run first later due = record {
   takes = λ front rest v. (v ≡ front) × IsRun first later front × (starts later rest ≡ false);
-  faults = AtFirst first due;
+  refuses = AtFirst first due;
 }
 
 -- all the spaces that come
 abbrev pub spaces : Part (Unit {0})
 spaces = record {
   takes = λ front rest u. EachIs (is 32) front × (starts (is 32) rest ≡ false);
-  faults = λ front over rest w. ⊥;
+  refuses = λ front over rest w. ⊥;
 }
 
 -- a digit from 0 to 9
@@ -96,7 +96,7 @@ DueNumber due front over rest w = ((w ≡ due) × (over ≡ []) × (((front ≡ 
 abbrev pub number : What → Part ℕ
 number due = record {
   takes = λ front rest n. Numeral front rest n × (n < 2 ^ 64);
-  faults = DueNumber due;
+  refuses = DueNumber due;
 }
 
 -- nowhere in the text does y stand behind x
@@ -108,21 +108,21 @@ NoPair x y (b ∷ text) = (b ≡ x → starts (is y) text ≡ false) × NoPair x
 abbrev pub until : ℕ → ℕ → What → Part (Unit {0})
 until x y due = record {
   takes = λ front rest u. (body : List ℕ) × (front ≡ body ++ (x ∷ [])) × NoPair x y body × (starts (is y) rest ≡ true);
-  faults = λ front over rest w. (over ≡ []) × (rest ≡ []) × (w ≡ due) × NoPair x y front;
+  refuses = λ front over rest w. (over ≡ []) × (rest ≡ []) × (w ≡ due) × NoPair x y front;
 }
 
 -- the end of the text
 abbrev pub end : {A : Type 0} → What → A → Part A
 end due value = record {
   takes = λ front rest v. (front ≡ []) × (rest ≡ []) × (v ≡ value);
-  faults = λ front over rest w. (front ≡ []) × (over ≡ []) × (w ≡ due) × (rest ≢ []);
+  refuses = λ front over rest w. (front ≡ []) × (over ≡ []) × (w ≡ due) × (rest ≢ []);
 }
 
 -- All that is left, whatever it is, where it does not go on with a byte that passes the test.
 abbrev pub anything : {A : Type 0} → (ℕ → Bool) → A → Part A
 anything test value = record {
   takes = λ front rest v. (rest ≡ []) × (v ≡ value) × (starts test front ≡ false);
-  faults = λ front over rest w. ⊥;
+  refuses = λ front over rest w. ⊥;
 }
 
 -- no byte passes
@@ -133,7 +133,7 @@ no_byte b = false
 abbrev pub begun : List ℕ → Part (Unit {0})
 begun word = record {
   takes = λ front rest u. front ≡ word;
-  faults = λ front over rest w. ⊥;
+  refuses = λ front over rest w. ⊥;
 }
 
 -- a capital letter

@@ -1,14 +1,14 @@
-//! Bytes, words and what stands between them. Each function takes what is left of a text and gives
-//! what is left behind its part, or the first fault; none takes memory. `specs/Leaves.antt` has the
-//! parts, `specs/Reading.antt` the answers.
+//! Bytes, words and what stands between them, as strace(1) prints them, in this project's own profile. Each function
+//! takes what is left of a text and gives what is left behind its part, or the first refusal. None takes memory.
+//! `specs/Leaves.antt` has the parts, `specs/Reading.antt` what each function gives.
 
 ghost use Rattle.std.specs.Prelude.{◌≡◌};
 ghost use Rattle.line_parts.specs.Parts.{starts};
 ghost use Rattle.line_parts.specs.Leaves.{is, is_digit, is_capital, is_word_byte};
 ghost use Rattle.line_parts.specs.Reading.{Gives, behind_first, byte_at, letters_at, taken, after_spaces, run_at, digits_end, until_at};
-ghost use Rattle.line_parts.specs.declared.fault.What.TheVariants.{Word};
+ghost use Rattle.line_parts.specs.declared.refusal.What.TheVariants.{Word};
 
-use crate::fault::{Fault, What};
+use crate::refusal::{Refusal, What};
 
 /// Whether the text begins with the byte.
 pub fn begins(text: &[u8], byte: u8) -> bool
@@ -66,12 +66,12 @@ pub fn behind_first(text: &[u8]) -> &[u8]
 
 /// What is left behind one byte that is due.
 #[tactic(auto, unfolding(crate::specs::Reading::byte_at))]
-pub fn byte(text: &[u8], due: u8, what: What) -> Result<&[u8], Fault>
+pub fn byte(text: &[u8], due: u8, what: What) -> Result<&[u8], Refusal>
     ensures { Gives (λ rest. (tt, rest.now)) result (byte_at due what text.now) }
 {
     match text {
         [first, rest @ ..] if *first == due => Ok(rest),
-        _ => Err(Fault {
+        _ => Err(Refusal {
             left: text.len(),
             what,
         }),
@@ -80,7 +80,7 @@ pub fn byte(text: &[u8], due: u8, what: What) -> Result<&[u8], Fault>
 
 /// What is left behind the bytes of a word that is due.
 #[tactic(auto, unfolding(crate::specs::Reading::letters_at))]
-pub fn letters<'a>(text: &'a [u8], word: &[u8], what: What) -> Result<&'a [u8], Fault>
+pub fn letters<'a>(text: &'a [u8], word: &[u8], what: What) -> Result<&'a [u8], Refusal>
     ensures { Gives (λ rest. (tt, rest.now)) result (letters_at word.now what text.now) }
 {
     match word {
@@ -147,13 +147,12 @@ fn begins_word_byte(text: &[u8]) -> bool
     }
 }
 
-/// The word at the front, capitals, digits and underscores with a capital first, and what is left
-/// behind it.
-pub fn word(text: &[u8]) -> Result<(&[u8], &[u8]), Fault>
+/// The word at the front, capitals, digits and underscores with a capital first, and what is left behind it.
+pub fn word(text: &[u8]) -> Result<(&[u8], &[u8]), Refusal>
     ensures { Gives (λ x. (x.0.now, x.1.now)) result (run_at is_capital is_word_byte Word text.now) }
 {
     if !begins_capital(text) {
-        return Err(Fault {
+        return Err(Refusal {
             left: text.len(),
             what: What::Word,
         });
@@ -163,11 +162,11 @@ pub fn word(text: &[u8]) -> Result<(&[u8], &[u8]), Fault>
 }
 
 /// The run of capitals, digits and underscores at the front, at least one, and what is left behind it.
-pub fn name(text: &[u8], due: What) -> Result<(&[u8], &[u8]), Fault>
+pub fn name(text: &[u8], due: What) -> Result<(&[u8], &[u8]), Refusal>
     ensures { Gives (λ x. (x.0.now, x.1.now)) result (run_at is_word_byte is_word_byte due text.now) }
 {
     if !begins_word_byte(text) {
-        return Err(Fault {
+        return Err(Refusal {
             left: text.len(),
             what: due,
         });
@@ -178,12 +177,12 @@ pub fn name(text: &[u8], due: What) -> Result<(&[u8], &[u8]), Fault>
 
 /// What is left behind the decimal digits at the front, at least one, as many as there are.
 #[tactic(auto, unfolding(crate::specs::Reading::digits_end, crate::specs::Reading::run_at))]
-pub fn skip_digits(text: &[u8], due: What) -> Result<&[u8], Fault>
+pub fn skip_digits(text: &[u8], due: What) -> Result<&[u8], Refusal>
     ensures { Gives (λ rest. (tt, rest.now)) result (digits_end due text.now) }
 {
     match text {
         [first, after @ ..] if is_digit(*first) => Ok(behind_digits(after)),
-        _ => Err(Fault {
+        _ => Err(Refusal {
             left: text.len(),
             what: due,
         }),
@@ -192,7 +191,7 @@ pub fn skip_digits(text: &[u8], due: What) -> Result<&[u8], Fault>
 
 /// What is left behind the first `x` that a `y` follows; the `y` is left.
 #[tactic(auto, unfolding(crate::specs::Reading::until_at))]
-pub fn until(text: &[u8], x: u8, y: u8, what: What) -> Result<&[u8], Fault>
+pub fn until(text: &[u8], x: u8, y: u8, what: What) -> Result<&[u8], Refusal>
     ensures { Gives (λ rest. (tt, rest.now)) result (until_at x y what text.now) }
 {
     let mut rest = text;
@@ -202,5 +201,5 @@ pub fn until(text: &[u8], x: u8, y: u8, what: What) -> Result<&[u8], Fault>
         }
         rest = after;
     }
-    Err(Fault { left: 0, what })
+    Err(Refusal { left: 0, what })
 }

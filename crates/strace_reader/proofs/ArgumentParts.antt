@@ -3,25 +3,27 @@ use Rattle.std.proofs.Common.{◌≡◌, ℕ, ◌<◌, ◌^◌, List, [], ◌∷
 use Rattle.std.specs.Prelude.{if◌then◌else◌}
 use Rattle.std.proofs.lemmas.List.{append-nil}
 use Rattle.std.proofs.lemmas.Nat.{or_lt}
-use Rattle.line_parts.specs.declared.fault.Fault.{Fault}
-use Rattle.line_parts.specs.declared.fault.What.{What}
-use Rattle.line_parts.specs.declared.fault.What.TheVariants.{Number, Word, Comma}
+use Rattle.line_parts.specs.declared.refusal.Refusal.{Refusal}
+use Rattle.line_parts.specs.declared.refusal.What.{What}
+use Rattle.line_parts.specs.declared.refusal.What.TheVariants.{Number, Word, Comma}
 use Rattle.line_parts.specs.Parts.{Part, chain, arm, done, starts}
 use Rattle.line_parts.specs.Leaves.{is, byte, letters, worth, run, spaces, number, until, anything, no_byte, is_digit, is_capital, is_word_byte, many_digits}
 use Rattle.line_parts.specs.Lists.{Items, with_more}
 use Rattle.std.specs.Int.RustNames.{bit_or}
 use Rattle.std.specs.Str.{bytes_eq}
-use Rattle.line_parts.specs.Reading.{◌>>=◌, fault_at, byte_at}
-use Rattle.line_parts.proofs.Sequence.{Took, Stuck, Reads, Fine, Good, Follows, Heads, reads_then, fine_then, good_then, heads_then, alike_same}
+use Rattle.line_parts.specs.Reading.{◌>>=◌, refusal_at, byte_at}
+use Rattle.line_parts.proofs.Sequence.{Took, Stuck, Reads, Fine, Good, Follows, Heads, reads_then, fine_then, good_then, shorter, heads_then, alike_same}
 use Rattle.line_parts.proofs.Choices.{Nonempty, Full, good_choice, narrower, full_nonempty, full_stays, chain_full, byte_full, letters_full, run_full}
 use Rattle.line_parts.proofs.Leaves.{byte_good, done_good, letters_good, run_good, spaces_good, until_good, digits_good, anything_took, same_is, is_same, run_starts, no_byte_starts}
 use Rattle.line_parts.proofs.Numerals.{NoNumeral, number_good, number_full, zero_number}
-use Rattle.line_parts.proofs.Lists.{is_join, is_close, ItemEnds, ListEnds, listed_good, listed_heads, join_fails, join_no_numeral, close_joins}
+use Rattle.line_parts.proofs.Lists.{is_join, is_close, ItemEnds, ListEnds, Shortens, listed_good, listed_heads, join_fails, join_no_numeral, close_joins}
 use Rattle.page_types.specs.declared.sets.Access.{Access}
 use Rattle.page_types.specs.declared.sets.Access.TheVariants.{Read}
 use Rattle.strace_reader.specs.Words.{prot_of, flag_of, access_of}
+use Rattle.strace_reader.specs.declared.arguments.WordList.{WordList}
+use Rattle.strace_reader.specs.declared.arguments.WordList.TheVariants.{Prot, Flags}
 use Rattle.strace_reader.specs.Calls.{comma, addr, word, known, prot_word, prot, commented, operand, shifted, flag_word, flags, path, descriptor, access}
-use Rattle.strace_reader.specs.Reading.{comma_at, addr_at, word_at, known_at, prot_word_at, prot_at, commented_at, operand_at, shifted_at, flag_word_at, flags_at, path_at, descriptor_at, access_read, access_at}
+use Rattle.strace_reader.specs.Reading.{comma_at, addr_at, word_at, known_at, prot_word_at, prot_at, commented_at, operand_at, shifted_at, flag_word_at, flags_at, listed_word_at, listed_at, path_at, descriptor_at, access_read, access_at}
 
 -- ---- what may follow
 
@@ -158,7 +160,7 @@ prot_word_good =
     (48 ∷ [], None, λ q h. (h, refl, refl))
 
 pub prot_good : Good prot ListEnds prot_at
-unfolding prot_at
+unfolding prot_at listed_at
 prot_good = listed_good prot_word prot_word_at prot_word_good 0
 
 digit_or_word : (one : Part (Option ℕ)) (f : List ℕ → Option ℕ) (b q : List ℕ) (w : Option ℕ) (x : Bool) → starts is_digit (b ++ q) ≡ x → (arm one (chain word (λ w. known (f w))) x).takes b q w → starts not_space (b ++ q) ≡ true
@@ -272,8 +274,13 @@ flag_word_good =
     (65 ∷ [], Some 0, λ q h. (65 ∷ [], [], 65 ∷ [], refl, (refl, (refl, tt), join_fails is_word_byte refl refl refl q h), (refl, refl)))
 
 pub flags_good : Good flags ListEnds flags_at
-unfolding flags_at
+unfolding flags_at listed_at
 flags_good = listed_good flag_word flag_word_at flag_word_good 0
+
+-- a word of either list takes a byte at least
+pub listed_word_shortens : (list : WordList) → Shortens (listed_word_at list)
+listed_word_shortens Prot text rest v e = shorter prot_word_good text rest v e
+listed_word_shortens Flags text rest v e = shorter flag_word_good text rest v e
 
 pub flags_heads : Heads not_space flags
 flags_heads = listed_heads not_space flag_word 0 (λ b q w h. digit_or_word (chain (number Number) (λ n. chain shifted (λ u. done (Some 0)))) flag_of b q w (starts is_digit (b ++ q)) refl h)
@@ -339,7 +346,7 @@ access_word p q v h = (refl, h.0, h.1)
 some_same : {a b : Access} → Some a ≡ Some b → a ≡ b
 some_same e = cc
 
-access_clean : (text w rest : List ℕ) (a : Access) (g o r : List ℕ) (x : What) → access_of w ≡ Some a → Took word text w rest → access.faults g o r x → text ≡ g ++ (o ++ r) → ⊥
+access_clean : (text w rest : List ℕ) (a : Access) (g o r : List ℕ) (x : What) → access_of w ≡ Some a → Took word text w rest → access.refuses g o r x → text ≡ g ++ (o ++ r) → ⊥
 access_clean text w rest a g o r x found t h e =
     elim (h.2) [
       | inl k ↦ t.clean g o r Word (h.0, k.0, refl, k.1) e
@@ -361,7 +368,7 @@ access_took text w rest a found t =
       clean = λ g o r x h e. access_clean text w rest a g o r x found t h e;
     }
 
-access_other : (text w rest : List ℕ) → access_of w ≡ None → Took word text w rest → Stuck access WordEnds text (fault_at text Word)
+access_other : (text w rest : List ℕ) → access_of w ≡ None → Took word text w rest → Stuck access WordEnds text (refusal_at text Word)
 access_other text w rest none t =
     let same : access_of t.front ≡ None = ap access_of (sym t.takes.0) ∙ none in
     record {
@@ -376,7 +383,7 @@ access_other text w rest none t =
       one = λ g o r x h e. (sym (ap length (e ∙ ap (λ (y : List ℕ). y ++ (o ++ r)) h.0)), h.1);
     }
 
-access_none : (text : List ℕ) (f : Fault) → Stuck word WordEnds text f → Stuck access WordEnds text f
+access_none : (text : List ℕ) (f : Refusal) → Stuck word WordEnds text f → Stuck access WordEnds text f
 access_none text f s =
     let all : length text ≡ f.left = ap length (s.parts ∙ ap (λ (y : List ℕ). y ++ (s.over ++ s.rest)) s.due.0) ∙ sym s.left in
     record {
@@ -395,7 +402,7 @@ access_found : (text w rest : List ℕ) (r : Option Access) → access_of w ≡ 
 access_found text w rest None e t = access_other text w rest e t
 access_found text w rest (Some a) e t = access_took text w rest a e t
 
-access_reads : (text : List ℕ) (r : Result (List ℕ × List ℕ) Fault) → Reads word WordEnds text r → Reads access WordEnds text (r >>= λ w. access_read text w.1 (access_of w.0))
+access_reads : (text : List ℕ) (r : Result (List ℕ × List ℕ) Refusal) → Reads word WordEnds text r → Reads access WordEnds text (r >>= λ w. access_read text w.1 (access_of w.0))
 access_reads text (Ok x) t = access_found text x.0 x.1 (access_of x.0) refl t
 access_reads text (Err f) s = access_none text f s
 

@@ -4,3 +4,4 @@ pub mod WholeCalls
 pub mod FormFacts
 pub mod LineAnswers
 pub mod MapsFacts
+pub mod OneOutcome

@@ -4,8 +4,8 @@ use Rattle.std.proofs.Common.{◌≡◌, ◌≢◌, ℕ, ◌+◌, ◌<◌, ◌�
 use Rattle.std.specs.Prelude.{◌⊎◌, IfOk, IfErr, if◌then◌else◌, ◌==◌}
 use Rattle.std.proofs.lemmas.Bool.Decides.{nat_tests, eqb_tells}
 use Rattle.std.proofs.lemmas.List.{length-append}
-use Rattle.line_parts.specs.declared.fault.What.{What}
-use Rattle.line_parts.specs.declared.fault.What.TheVariants.{Later}
+use Rattle.line_parts.specs.declared.refusal.What.{What}
+use Rattle.line_parts.specs.declared.refusal.What.TheVariants.{Later}
 use Rattle.line_parts.specs.Parts.{Refused}
 use Rattle.line_parts.specs.Leaves.{is, is_digit}
 use Rattle.line_parts.proofs.Numerals.{digit_byte}
@@ -14,12 +14,12 @@ use Rattle.strace_reader.specs.declared.item.Item.{Item}
 use Rattle.strace_reader.specs.declared.item.Item.TheVariants.{Played, Other, Blank}
 use Rattle.strace_reader.specs.declared.item.Name.{Name}
 use Rattle.strace_reader.specs.declared.item.Name.TheVariants.{Mmap, Munmap, Mprotect, Fault}
-use Rattle.strace_reader.specs.Words.{opening, resumption}
+use Rattle.strace_reader.specs.Words.{call_head, resumed_head}
 use Rattle.strace_reader.specs.Calls.{call}
 use Rattle.strace_reader.specs.Grammar.{BeginsWith, EndsWith, unfinished, NeverReturned, IsPid, HasPrefix, IsCall, NoForm, IsOther, Spells, IsLater, Refuses, IsNamedItem}
 use Rattle.strace_reader.proofs.ResultParts.{IsSound}
-use Rattle.line_parts.specs.declared.fault.Fault.{Fault as FaultOf}
-use Rattle.line_parts.proofs.Sequence.{fault_within}
+use Rattle.line_parts.specs.declared.refusal.Refusal.{Refusal}
+use Rattle.line_parts.proofs.Sequence.{refusal_within}
 use Rattle.strace_reader.specs.Reading.{arguments_at}
 use Rattle.strace_reader.proofs.WholeCalls.{IsWhole, IsRefused, call_values, call_whole, call_refused, arguments_good}
 use Rattle.strace_reader.proofs.FormFacts.{last_same}
@@ -42,22 +42,22 @@ pub record Answers (text : List ℕ) (r : Result Item BadCall) : Type 0 where
 
 -- ---- the first byte
 
--- 0 at the end, 1 a signal or an exit, 2 a prefix, 3 a resumption, 4 a call
+-- 0 at the end, 1 a signal or an exit, 2 a prefix, 3 a resumed_head, 4 a call
 abbrev kind : List ℕ → ℕ
 kind [] = 0
 kind (c ∷ text) = if is 45 c then 1 else if is 43 c then 1 else if is 60 c then 3 else if is 109 c then 4 else if is 102 c then 4 else if is 91 c then 2 else if is_digit c then 2 else 5
 
-opening_kind : (name : Name) (text : List ℕ) → BeginsWith (opening name) text → kind text ≡ 4
-opening_kind Mmap text h = ap kind h.1
-opening_kind Munmap text h = ap kind h.1
-opening_kind Mprotect text h = ap kind h.1
-opening_kind Fault text h = ap kind h.1
+call_head_kind : (name : Name) (text : List ℕ) → BeginsWith (call_head name) text → kind text ≡ 4
+call_head_kind Mmap text h = ap kind h.1
+call_head_kind Munmap text h = ap kind h.1
+call_head_kind Mprotect text h = ap kind h.1
+call_head_kind Fault text h = ap kind h.1
 
-resumption_kind : (name : Name) (text : List ℕ) → BeginsWith (resumption name) text → kind text ≡ 3
-resumption_kind Mmap text h = ap kind h.1
-resumption_kind Munmap text h = ap kind h.1
-resumption_kind Mprotect text h = ap kind h.1
-resumption_kind Fault text h = ap kind h.1
+resumed_head_kind : (name : Name) (text : List ℕ) → BeginsWith (resumed_head name) text → kind text ≡ 3
+resumed_head_kind Mmap text h = ap kind h.1
+resumed_head_kind Munmap text h = ap kind h.1
+resumed_head_kind Mprotect text h = ap kind h.1
+resumed_head_kind Fault text h = ap kind h.1
 
 digit_kind : (b : ℕ) (text : List ℕ) → is_digit b ≡ true → kind (b ∷ text) ≡ 2
 digit_kind b text h = grind (arith, nat_tests)
@@ -83,11 +83,11 @@ second_of Munmap = 117
 second_of Mprotect = 112
 second_of Fault = 97
 
-opening_second : (name : Name) (text : List ℕ) → BeginsWith (opening name) text → second text ≡ second_of name
-opening_second Mmap text h = ap second h.1
-opening_second Munmap text h = ap second h.1
-opening_second Mprotect text h = ap second h.1
-opening_second Fault text h = ap second h.1
+call_head_second : (name : Name) (text : List ℕ) → BeginsWith (call_head name) text → second text ≡ second_of name
+call_head_second Mmap text h = ap second h.1
+call_head_second Munmap text h = ap second h.1
+call_head_second Mprotect text h = ap second h.1
+call_head_second Fault text h = ap second h.1
 
 by_second : (m n : Name) → second_of m ≡ second_of n → m ≡ n
 by_second Mmap Mmap e = refl
@@ -107,8 +107,8 @@ by_second Fault Munmap e = absurd (omega arith)
 by_second Fault Mprotect e = absurd (omega arith)
 by_second Fault Fault e = refl
 
-one_name : (m n : Name) (text : List ℕ) → BeginsWith (opening m) text → BeginsWith (opening n) text → m ≡ n
-one_name m n text h g = by_second m n (sym (opening_second m text h) ∙ opening_second n text g)
+one_name : (m n : Name) (text : List ℕ) → BeginsWith (call_head m) text → BeginsWith (call_head n) text → m ≡ n
+one_name m n text h g = by_second m n (sym (call_head_second m text h) ∙ call_head_second n text g)
 
 no_same : (a b : ℕ) → a ≡ 63 → b ≡ 62 → a ≡ b → ⊥
 no_same a b h g e = omega arith
@@ -125,21 +125,21 @@ two_ends text h g =
 
 later_kind : (text : List ℕ) → IsLater text → (kind text ≡ 2) ⊎ ((kind text ≡ 3) ⊎ ((kind text ≡ 4) × EndsWith unfinished text))
 later_kind text (inl h) = inl (prefix_kind text h)
-later_kind text (inr (inl h)) = inr (inl (resumption_kind h.0 text h.1))
-later_kind text (inr (inr h)) = inr (inr (opening_kind h.0 text h.1, h.2))
+later_kind text (inr (inl h)) = inr (inl (resumed_head_kind h.0 text h.1))
+later_kind text (inr (inr h)) = inr (inr (call_head_kind h.0 text h.1, h.2))
 
 not_later : (text : List ℕ) (k : ℕ) → kind text ≡ k → k < 2 → IsLater text → ⊥
 not_later text k e lt h = elim (later_kind text h) [ inl a ↦ omega arith | inr b ↦ elim b [ inl a ↦ omega arith | inr a ↦ let z = a.0 in omega arith ] ]
 
 not_call : (text : List ℕ) (k : ℕ) → kind text ≡ k → k < 4 → (name : Name) → IsCall name text → ⊥
-not_call text k e lt name h = let z = opening_kind name text h.names in omega arith
+not_call text k e lt name h = let z = call_head_kind name text h.names in omega arith
 
 blank_only : (text : List ℕ) → text ≡ [] → kind text ≡ 0 → (item : Item) → Spells text item → is_item Blank ≡ is_item item
 unfolding Spells
 blank_only text e k Blank h = refl
 blank_only text e k Other (inl h) = let z = ap kind h.1 in absurd (omega arith)
 blank_only text e k Other (inr (inl h)) = let z = ap kind h.1 in absurd (omega arith)
-blank_only text e k Other (inr (inr (inl h))) = let z = opening_kind h.0 text h.1 in absurd (omega arith)
+blank_only text e k Other (inr (inr (inl h))) = let z = call_head_kind h.0 text h.1 in absurd (omega arith)
 blank_only text e k Other (inr (inr (inr (inl h)))) = absurd (not_call text 0 k (omega arith) h.0 h.1)
 blank_only text e k Other (inr (inr (inr (inr h)))) = absurd (h.some e)
 blank_only text e k (Played pid c r) h = absurd (not_call text 0 k (omega arith) h.0 h.1)
@@ -189,9 +189,9 @@ signal_line text h =
     let k = signal_kind text h in
     other_line text (signal_form text h) (kind_some text 1 k (omega arith)) (λ name c. not_call text 1 k (omega arith) name c) (λ l. not_later text 1 k (omega arith) l)
 
-pub never_line : (name : Name) (text : List ℕ) → BeginsWith (opening name) text → NeverReturned text → Answers text (Ok Other)
+pub never_line : (name : Name) (text : List ℕ) → BeginsWith (call_head name) text → NeverReturned text → Answers text (Ok Other)
 never_line name text h never =
-    let k = opening_kind name text h in
+    let k = call_head_kind name text h in
     other_line text (inr (inr (inl (name, h, never)))) (kind_some text 4 k (omega arith)) (λ n c. c.returned never)
     (λ l. elim (later_kind text l) [ inl a ↦ omega arith | inr b ↦ elim b [ inl a ↦ omega arith | inr a ↦ two_ends text never a.1 ] ])
 
@@ -204,14 +204,14 @@ no_form_line text f =
 
 later_call : (text : List ℕ) → IsLater text → (name : Name) → IsCall name text → ⊥
 later_call text l name c =
-    let k = opening_kind name text c.names in
+    let k = call_head_kind name text c.names in
     elim (later_kind text l) [ inl a ↦ omega arith | inr b ↦ elim b [ inl a ↦ omega arith | inr a ↦ c.whole a.1 ] ]
 
 later_other : (text : List ℕ) → IsLater text → IsOther text → ⊥
 later_other text l (inl h) = not_later text 1 (ap kind h.1) (omega arith) l
 later_other text l (inr (inl h)) = not_later text 1 (ap kind h.1) (omega arith) l
 later_other text l (inr (inr (inl h))) =
-    let k = opening_kind h.0 text h.1 in
+    let k = call_head_kind h.0 text h.1 in
     elim (later_kind text l) [ inl a ↦ omega arith | inr b ↦ elim b [ inl a ↦ omega arith | inr a ↦ two_ends text h.2 a.1 ] ]
 later_other text l (inr (inr (inr (inl h)))) = later_call text l h.0 h.1
 later_other text l (inr (inr (inr (inr f)))) = elim l [ inl a ↦ f.no_prefix a | inr b ↦ elim b [ inl a ↦ f.no_resumption a.0 a.1 | inr a ↦ f.no_call a.0 a.1 ] ]
@@ -239,15 +239,15 @@ later_line text l = record {
 
 -- A call's line is that call alone.
 call_other : (name : Name) (text : List ℕ) → IsCall name text → IsOther text → (call name).takes text [] Other
-call_other name text c (inl h) = let k = opening_kind name text c.names in let z = ap kind h.1 in absurd (omega arith)
-call_other name text c (inr (inl h)) = let k = opening_kind name text c.names in let z = ap kind h.1 in absurd (omega arith)
+call_other name text c (inl h) = let k = call_head_kind name text c.names in let z = ap kind h.1 in absurd (omega arith)
+call_other name text c (inr (inl h)) = let k = call_head_kind name text c.names in let z = ap kind h.1 in absurd (omega arith)
 call_other name text c (inr (inr (inl h))) = absurd (c.returned h.2)
 call_other name text c (inr (inr (inr (inl h)))) = subst (λ (x : Name). (call x).takes text [] Other) (one_name h.0 name text h.1.names c.names) h.2
 call_other name text c (inr (inr (inr (inr f)))) = absurd (f.no_call name c.names)
 
 call_spells : (name : Name) (text : List ℕ) → IsCall name text → (item : Item) → Spells text item → (call name).takes text [] item
 unfolding Spells
-call_spells name text c Blank h = let k = opening_kind name text c.names in let z = ap kind h in absurd (omega arith)
+call_spells name text c Blank h = let k = call_head_kind name text c.names in let z = ap kind h in absurd (omega arith)
 call_spells name text c Other h = call_other name text c h
 call_spells name text c (Played pid done r) h = subst (λ (x : Name). (call x).takes text [] (Played pid done r)) (one_name h.0 name text h.1.names c.names) h.2
 
@@ -297,19 +297,19 @@ empty_line (c ∷ text) h = elim (eqb_tells (length (c ∷ text)) 0) [ inl k ↦
 pub full_line : (text : List ℕ) → (length text == 0) ≡ false → text ≢ []
 full_line text h e = let k : (length text == 0) ≡ true = ap (λ (x : List ℕ). length x == 0) e in cc
 
-pub is_call : (name : Name) (text rest : List ℕ) → text ≡ opening name ++ rest → (NeverReturned text → ⊥) → (EndsWith unfinished text → ⊥) → IsCall name text
+pub is_call : (name : Name) (text rest : List ℕ) → text ≡ call_head name ++ rest → (NeverReturned text → ⊥) → (EndsWith unfinished text → ⊥) → IsCall name text
 is_call name text rest e never first_half = record { names = (rest, e); returned = never; whole = first_half }
 
-pub read_call : (name : Name) (text rest after : List ℕ) (item : Item) → text ≡ opening name ++ rest → IsCall name text → arguments_at name rest ≡ Ok (item, after) → Answers text (Ok item)
+pub read_call : (name : Name) (text rest after : List ℕ) (item : Item) → text ≡ call_head name ++ rest → IsCall name text → arguments_at name rest ≡ Ok (item, after) → Answers text (Ok item)
 read_call name text rest after item e c read = call_line name text item c (subst (λ (x : List ℕ). IsWhole (call name) x item) (sym e) (call_whole name rest after item read))
 
-pub refused_call : (name : Name) (text rest : List ℕ) (f : FaultOf) (column : ℕ) → text ≡ opening name ++ rest → IsCall name text → arguments_at name rest ≡ Err f → column + f.left ≡ length text + 1 → Answers text (Err (record { column = column; what = f.what }))
+pub refused_call : (name : Name) (text rest : List ℕ) (f : Refusal) (column : ℕ) → text ≡ call_head name ++ rest → IsCall name text → arguments_at name rest ≡ Err f → column + f.left ≡ length text + 1 → Answers text (Err (record { column = column; what = f.what }))
 refused_call name text rest f column e c read place =
     refused_line name text column f.what c
     (subst (λ (x : List ℕ). IsRefused (call name) x column f.what) (sym e) (call_refused name rest f column read (subst (λ (x : List ℕ). column + f.left ≡ length x + 1) e place)))
 
-pub left_within : (name : Name) (text rest : List ℕ) (f : FaultOf) → text ≡ opening name ++ rest → arguments_at name rest ≡ Err f → f.left ≤ length text
+pub left_within : (name : Name) (text rest : List ℕ) (f : Refusal) → text ≡ call_head name ++ rest → arguments_at name rest ≡ Err f → f.left ≤ length text
 left_within name text rest f e read =
-    let k = fault_within (arguments_good name) rest f read in
-    let l = ap length e ∙ length-append (opening name) rest in
+    let k = refusal_within (arguments_good name) rest f read in
+    let l = ap length e ∙ length-append (call_head name) rest in
     omega arith

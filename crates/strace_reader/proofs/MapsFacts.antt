@@ -6,7 +6,7 @@ use Rattle.std.proofs.lemmas.Bool.Decides.{eqb_tells}
 use Rattle.std.proofs.lemmas.Bool.{cases_lt, lt-ltb, le-ltb}
 use Rattle.std.proofs.lemmas.List.{length-append, append_cancel_left}
 use Rattle.std.proofs.lemmas.Nat.{or_lt}
-use Rattle.line_parts.specs.declared.fault.What.TheVariants.{Form, Order}
+use Rattle.line_parts.specs.declared.refusal.What.TheVariants.{Form, Order}
 use Rattle.line_parts.specs.Parts.{starts}
 use Rattle.line_parts.specs.Leaves.{is, NoDigit, value, worth}
 use Rattle.line_parts.specs.Reading.{digits_of}
@@ -201,34 +201,34 @@ pub record Third (read write : ℕ) (text : List ℕ) (kind : Kind) : Type 0 whe
   pub exec : ℕ
   pub rest : List ℕ
   pub parts : text ≡ x ∷ rest
-  pub runs : IsMark 120 4 x exec
+  pub exec_mark : IsMark 120 4 x exec
   pub fourth : Fourth read write exec rest kind
 
 third_yes : (read write : ℕ) (text : List ℕ) (kind : Kind) → behind_second read write text ≡ Some kind → Third read write text kind
 third_yes read write text kind h =
     let a = then_yes (mark_at 120 4 text) (λ x. behind_third read write x.0 x.1) kind h in
     let b = mark_yes 120 4 text a.0.1 a.0.0 a.1 in
-    record { x = b.0; exec = a.0.0; rest = a.0.1; parts = b.1; runs = b.2; fourth = fourth_yes read write a.0.0 a.0.1 kind a.2 }
+    record { x = b.0; exec = a.0.0; rest = a.0.1; parts = b.1; exec_mark = b.2; fourth = fourth_yes read write a.0.0 a.0.1 kind a.2 }
 
 pub record Second (read : ℕ) (text : List ℕ) (kind : Kind) : Type 0 where
   pub w : ℕ
   pub write : ℕ
   pub rest : List ℕ
   pub parts : text ≡ w ∷ rest
-  pub writes : IsMark 119 2 w write
+  pub write_mark : IsMark 119 2 w write
   pub third : Third read write rest kind
 
 second_yes : (read : ℕ) (text : List ℕ) (kind : Kind) → behind_first read text ≡ Some kind → Second read text kind
 second_yes read text kind h =
     let a = then_yes (mark_at 119 2 text) (λ w. behind_second read w.0 w.1) kind h in
     let b = mark_yes 119 2 text a.0.1 a.0.0 a.1 in
-    record { w = b.0; write = a.0.0; rest = a.0.1; parts = b.1; writes = b.2; third = third_yes read a.0.0 a.0.1 kind a.2 }
+    record { w = b.0; write = a.0.0; rest = a.0.1; parts = b.1; write_mark = b.2; third = third_yes read a.0.0 a.0.1 kind a.2 }
 
 four_parts : (text one two three tail : List ℕ) (r w x s : ℕ) → text ≡ r ∷ one → one ≡ w ∷ two → two ≡ x ∷ three → three ≡ s ∷ tail → text ≡ (r ∷ w ∷ x ∷ s ∷ []) ++ tail
 four_parts text one two three tail r w x s a b c d = rw (a, b, c, d) refl
 
 kind_is : (text rest : List ℕ) (r read : ℕ) (kind : Kind) → text ≡ r ∷ rest → IsMark 114 1 r read → Second read rest kind → KindFound text kind
-kind_is text rest r read kind parts reads second =
+kind_is text rest r read kind parts read_mark second =
     let third = second.third in
     let fourth = third.fourth in
     record {
@@ -244,9 +244,9 @@ kind_is text rest r read kind parts reads second =
         write = second.write;
         exec = third.exec;
         four = refl;
-        reads = reads;
-        writes = second.writes;
-        runs = third.runs;
+        read_mark = read_mark;
+        write_mark = second.write_mark;
+        exec_mark = third.exec_mark;
         rights = fourth.rights;
         sharing = fourth.sharing;
       };
@@ -264,9 +264,9 @@ kind_no : (chars tail : List ℕ) (kind : Kind) → IsKind chars kind → (tail 
 unfolding kind_at
 kind_no chars tail kind k behind =
     let e : chars ++ tail ≡ k.r ∷ k.w ∷ k.x ∷ k.s ∷ tail = ap (λ (x : List ℕ). x ++ tail) k.four in
-    let p = mark_no 114 1 k.r k.read (k.w ∷ k.x ∷ k.s ∷ tail) (λ z. cc) k.reads in
-    let q = mark_no 119 2 k.w k.write (k.x ∷ k.s ∷ tail) (λ z. cc) k.writes in
-    let r = mark_no 120 4 k.x k.exec (k.s ∷ tail) (λ z. cc) k.runs in
+    let p = mark_no 114 1 k.r k.read (k.w ∷ k.x ∷ k.s ∷ tail) (λ z. cc) k.read_mark in
+    let q = mark_no 119 2 k.w k.write (k.x ∷ k.s ∷ tail) (λ z. cc) k.write_mark in
+    let r = mark_no 120 4 k.x k.exec (k.s ∷ tail) (λ z. cc) k.exec_mark in
     let s = sharing_no k.s kind.shared tail k.sharing in
     let t : record { prot = record { 0 = bit_or (bit_or k.read k.write) k.exec }; shared = kind.shared } ≡ kind = ap (λ (x : Prot). record { prot = x; shared = kind.shared }) (sym k.rights) in
     rw e (rw p (rw q (rw r (rw s (ended_no (record { prot = record { 0 = bit_or (bit_or k.read k.write) k.exec }; shared = kind.shared }) tail behind ∙ ap (λ (x : Kind). Some x) t)))))
@@ -338,8 +338,8 @@ line_is : (text first one two : List ℕ) (start : ℕ) (line : ℕ × ℕ × Ki
 line_is text first one two start line parts is_first dash second =
     let found = second.found in
     record {
-      first = first;
-      second = second.second;
+      start_digits = first;
+      stop_digits = second.second;
       chars = found.chars;
       tail = found.tail;
       parts = line_parts_are text first one two second.second second.rest found.chars found.tail parts dash second.parts found.parts;
@@ -369,10 +369,10 @@ pub maps_no : (text : List ℕ) (start stop : ℕ) (kind : Kind) → IsMapsLine 
 unfolding maps_at
 maps_no text start stop kind m =
     let behind_stop = m.chars ++ m.tail in
-    let behind_start = m.second ++ (32 ∷ behind_stop) in
-    let a = address_no text m.first (45 ∷ behind_start) start m.starts_at (dash_stop behind_start) m.parts in
+    let behind_start = m.stop_digits ++ (32 ∷ behind_stop) in
+    let a = address_no text m.start_digits (45 ∷ behind_start) start m.starts_at (dash_stop behind_start) m.parts in
     let b = behind_no 45 behind_start in
-    let c = address_no behind_start m.second (32 ∷ behind_stop) stop m.stops_at (space_stop behind_stop) refl in
+    let c = address_no behind_start m.stop_digits (32 ∷ behind_stop) stop m.stops_at (space_stop behind_stop) refl in
     let d = behind_no 32 behind_stop in
     let e = kind_no m.chars m.tail kind m.is_kind m.behind in
     rw a (rw b (rw c (rw d (rw e refl))))
@@ -472,8 +472,8 @@ mark_small letter bit char v k (inr h) lt = let e = h.1 in omega arith
 
 kind_named : (chars : List ℕ) (kind : Kind) → IsKind chars kind → kind.prot.0 < 2 ^ 3
 kind_named chars kind k =
-    let both = or_lt 3 k.read k.write (mark_small 114 1 k.r k.read 3 k.reads (omega arith)) (mark_small 119 2 k.w k.write 3 k.writes (omega arith)) in
-    let all = or_lt 3 (bit_or k.read k.write) k.exec both (mark_small 120 4 k.x k.exec 3 k.runs (omega arith)) in
+    let both = or_lt 3 k.read k.write (mark_small 114 1 k.r k.read 3 k.read_mark (omega arith)) (mark_small 119 2 k.w k.write 3 k.write_mark (omega arith)) in
+    let all = or_lt 3 (bit_or k.read k.write) k.exec both (mark_small 120 4 k.x k.exec 3 k.exec_mark (omega arith)) in
     subst (λ (x : Prot). x.0 < 2 ^ 3) (sym k.rights) all
 
 area_found : (text : List ℕ) (a b : ℕ) (k : Kind) → IsMapsLine text a b k → a < b → b ≤ user_end → SpellsMaps text (Area (area_of (a / 4096) (b / 4096) k))

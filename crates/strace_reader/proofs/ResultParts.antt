@@ -1,7 +1,7 @@
 -- The end of a call's line is read as its parts say: the parenthesis, and the result behind it.
 use Rattle.std.proofs.Common.{◌≡◌, ℕ, List, [], ◌∷◌, ◌++◌, codes, Option, Some, None, Bool, true, false, refl, sym, ap, subst, ◌∙◌, inl, inr, arith}
 use Rattle.std.specs.Prelude.{◌⊎◌}
-use Rattle.line_parts.specs.declared.fault.What.TheVariants.{Close, Result as AtResult}
+use Rattle.line_parts.specs.declared.refusal.What.TheVariants.{Close, Result as AtResult}
 use Rattle.line_parts.specs.Parts.{Part, chain, choice, arm, done, starts}
 use Rattle.line_parts.specs.Leaves.{is, byte, letters, worth, run, spaces, number, end, anything, no_byte, is_digit, is_word_byte}
 use Rattle.line_parts.proofs.Sequence.{Good, Heads, good_then, heads_then}

@@ -1,8 +1,8 @@
--- The four calls of a line, from the name to the end, as strace(1) prints them: arguments that commas
--- and spaces part, a closing parenthesis, and a result. This project's own profile; docs/FORMATS.md
--- has it as a table. Each definition is one row of that table.
+-- The four calls of a line, from the name to the end, as strace(1) prints them: arguments that commas and spaces part,
+-- a closing parenthesis, and a result. This project's own profile; docs/FORMATS.md has it as a table, and each
+-- definition here is one row of that table.
 use Rattle.std.specs.Prelude.{◌≡◌, ◌⊎◌, ℕ, List, [], false, codes, Option, Some, None}
-use Rattle.line_parts.specs.declared.fault.What.TheVariants.{Number, Word, Comma, Close, Result as AtResult}
+use Rattle.line_parts.specs.declared.refusal.What.TheVariants.{Number, Word, Comma, Close, Result as AtResult}
 use Rattle.line_parts.specs.Parts.{Part, chain, choice, done, starts}
 use Rattle.line_parts.specs.Leaves.{is, byte, letters, IsRun, run, spaces, number, until, end, anything, begun, no_byte, many_digits, is_digit, is_capital, is_word_byte}
 use Rattle.line_parts.specs.Lists.{listed}
@@ -15,7 +15,7 @@ use Rattle.strace_reader.specs.declared.item.Recorded.{Recorded}
 use Rattle.strace_reader.specs.declared.item.Recorded.TheVariants.{Value, Failed}
 use Rattle.strace_reader.specs.declared.item.Name.{Name}
 use Rattle.strace_reader.specs.declared.item.Name.TheVariants.{Mmap, Munmap, Mprotect, Fault as FaultName}
-use Rattle.strace_reader.specs.Words.{prot_of, flag_of, access_of, errno_of, opening}
+use Rattle.strace_reader.specs.Words.{prot_of, flag_of, access_of, errno_of, call_head}
 
 -- ---- parts of arguments
 
@@ -72,11 +72,11 @@ path = choice (is 60) (chain (byte 60 Comma) (λ u. until 62 44 Comma)) (done tt
 abbrev pub descriptor : Part (Unit {0})
 descriptor = choice (is 45) (chain (letters (codes "-1") Number) (λ u. path)) (chain (many_digits Number) (λ u. path))
 
--- The access of a fault, one of three words. Another word is over.
+-- The access of a page fault, one of three words. Another word is over.
 abbrev pub access : Part Access
 access = record {
   takes = λ front rest v. IsRun is_capital is_word_byte front × (starts is_word_byte rest ≡ false) × (access_of front ≡ Some v);
-  faults = λ front over rest w. (front ≡ []) × (w ≡ Word) × (((over ≡ []) × (starts is_capital rest ≡ false)) ⊎ (IsRun is_capital is_word_byte over × (starts is_word_byte rest ≡ false) × (access_of over ≡ None)));
+  refuses = λ front over rest w. (front ≡ []) × (w ≡ Word) × (((over ≡ []) × (starts is_capital rest ≡ false)) ⊎ (IsRun is_capital is_word_byte over × (starts is_word_byte rest ≡ false) × (access_of over ≡ None)));
 }
 
 -- ---- the result
@@ -112,35 +112,35 @@ abbrev pub munmap_arguments : Part Item
 munmap_arguments = chain addr (λ a. chain comma (λ u. chain (number Number) (λ n. closing (Unmap a n))))
 
 -- behind the protection: nothing, where it took the line to its end, or the end of the line
-abbrev pub protected : ℕ → ℕ → Option ℕ → Part Item
-protected a n None = done Other
-protected a n (Some p) = closing (Protect a n (record { 0 = p }))
+abbrev pub protect_behind_prot : ℕ → ℕ → Option ℕ → Part Item
+protect_behind_prot a n None = done Other
+protect_behind_prot a n (Some p) = closing (Protect a n (record { 0 = p }))
 
 -- mprotect: an address, a length and a protection
 abbrev pub mprotect_arguments : Part Item
-mprotect_arguments = chain addr (λ a. chain comma (λ u. chain (number Number) (λ n. chain comma (λ v. chain prot (protected a n)))))
+mprotect_arguments = chain addr (λ a. chain comma (λ u. chain (number Number) (λ n. chain comma (λ v. chain prot (protect_behind_prot a n)))))
 
--- fault: an address and an access
+-- fault, the page fault: an address and an access
 abbrev pub fault_arguments : Part Item
 fault_arguments = chain addr (λ a. chain comma (λ u. chain access (λ c. closing (Fault a c))))
 
--- the descriptor and the offset are read and dropped
-abbrev pub dropped : Call → Part Item
-dropped call = chain comma (λ u. chain descriptor (λ v. chain comma (λ w. chain (number Number) (λ o. closing call))))
+-- the descriptor and the offset are read and map_tail
+abbrev pub map_tail : Call → Part Item
+map_tail call = chain comma (λ u. chain descriptor (λ v. chain comma (λ w. chain (number Number) (λ o. closing call))))
 
 -- behind the flags: nothing, where they took the line to its end, or what is left of the line
-abbrev pub mapped : ℕ → ℕ → ℕ → Option ℕ → Part Item
-mapped a n p None = done Other
-mapped a n p (Some f) = dropped (Map a n (record { 0 = p }) (record { 0 = f }))
+abbrev pub map_behind_flags : ℕ → ℕ → ℕ → Option ℕ → Part Item
+map_behind_flags a n p None = done Other
+map_behind_flags a n p (Some f) = map_tail (Map a n (record { 0 = p }) (record { 0 = f }))
 
 -- behind the protection: nothing, where it took the line to its end, or the flags
-abbrev pub flagged : ℕ → ℕ → Option ℕ → Part Item
-flagged a n None = done Other
-flagged a n (Some p) = chain comma (λ u. chain flags (mapped a n p))
+abbrev pub map_behind_prot : ℕ → ℕ → Option ℕ → Part Item
+map_behind_prot a n None = done Other
+map_behind_prot a n (Some p) = chain comma (λ u. chain flags (map_behind_flags a n p))
 
 -- mmap: an address, a length, a protection, flags, a descriptor and an offset
 abbrev pub mmap_arguments : Part Item
-mmap_arguments = chain addr (λ a. chain comma (λ u. chain (number Number) (λ n. chain comma (λ v. chain prot (flagged a n)))))
+mmap_arguments = chain addr (λ a. chain comma (λ u. chain (number Number) (λ n. chain comma (λ v. chain prot (map_behind_prot a n)))))
 
 -- the arguments of each call
 abbrev pub arguments : Name → Part Item
@@ -151,4 +151,4 @@ arguments FaultName = fault_arguments
 
 -- a whole line of a call; its value is Other where a word or number of the arguments leaves it unplayed
 unfoldable pub call : Name → Part Item
-call name = chain (begun (opening name)) (λ u. arguments name)
+call name = chain (begun (call_head name)) (λ u. arguments name)

@@ -1,8 +1,8 @@
--- The forms of a line and what each is, in the order in which they are tried. Lines of strace(1), in
--- this project's own profile; docs/FORMATS.md has the forms as a table. `Spells` is the relation that
--- the reader of lines is, and `Refuses` says where a line is refused and why.
+-- The forms of a line and what each is, in the order in which they are tried: lines of strace(1), in this project's own
+-- profile, as the table of docs/FORMATS.md. `Spells` is the relation that the reader of lines is, and `Refuses` says
+-- where a line is refused and why; both speak of whole texts.
 use Rattle.std.specs.Prelude.{◌≡◌, ◌≢◌, ◌⊎◌, ℕ, ◌^◌, ◌<◌, List, [], ◌∷◌, ◌++◌, codes}
-use Rattle.line_parts.specs.declared.fault.What.TheVariants.{Later}
+use Rattle.line_parts.specs.declared.refusal.What.TheVariants.{Later}
 use Rattle.line_parts.specs.Parts.{Refused}
 use Rattle.line_parts.specs.Leaves.{is, EachIs, Digits}
 use Rattle.page_types.specs.Named.{IsNamedCall}
@@ -10,7 +10,7 @@ use Rattle.strace_reader.specs.declared.item.BadCall.{BadCall}
 use Rattle.strace_reader.specs.declared.item.Item.{Item}
 use Rattle.strace_reader.specs.declared.item.Item.TheVariants.{Played, Other, Blank}
 use Rattle.strace_reader.specs.declared.item.Name.{Name}
-use Rattle.strace_reader.specs.Words.{opening, resumption}
+use Rattle.strace_reader.specs.Words.{call_head, resumed_head}
 use Rattle.strace_reader.specs.Calls.{call}
 
 -- the text begins with the word
@@ -43,7 +43,7 @@ HasPrefix text = PidThen (codes " ") text ⊎ ((more after : List ℕ) × EachIs
 
 -- the form of a call, which names it and is neither a half nor a call that never returned
 pub record IsCall (name : Name) (text : List ℕ) : Type 0 where
-  pub names : BeginsWith (opening name) text
+  pub names : BeginsWith (call_head name) text
   pub returned : NeverReturned text → ⊥
   pub whole : EndsWith unfinished text → ⊥
 
@@ -53,12 +53,12 @@ pub record NoForm (text : List ℕ) : Type 0 where
   pub no_signal : BeginsWith (codes "---") text → ⊥
   pub no_exit : BeginsWith (codes "+++") text → ⊥
   pub no_prefix : HasPrefix text → ⊥
-  pub no_resumption : (name : Name) → BeginsWith (resumption name) text → ⊥
-  pub no_call : (name : Name) → BeginsWith (opening name) text → ⊥
+  pub no_resumption : (name : Name) → BeginsWith (resumed_head name) text → ⊥
+  pub no_call : (name : Name) → BeginsWith (call_head name) text → ⊥
 
 -- the forms of a line that is skipped
 abbrev pub IsOther : List ℕ → Type 0
-IsOther text = BeginsWith (codes "---") text ⊎ BeginsWith (codes "+++") text ⊎ ((name : Name) × BeginsWith (opening name) text × NeverReturned text) ⊎ ((name : Name) × IsCall name text × (call name).takes text [] Other) ⊎ NoForm text
+IsOther text = BeginsWith (codes "---") text ⊎ BeginsWith (codes "+++") text ⊎ ((name : Name) × BeginsWith (call_head name) text × NeverReturned text) ⊎ ((name : Name) × IsCall name text × (call name).takes text [] Other) ⊎ NoForm text
 
 -- a whole line and what it is
 unfoldable pub Spells : List ℕ → Item → Type 0
@@ -68,7 +68,7 @@ Spells text (Played pid done recorded) = (name : Name) × IsCall name text × (c
 
 -- the forms that are not read yet: with a prefix, and the two halves of an interrupted line
 abbrev pub IsLater : List ℕ → Type 0
-IsLater text = HasPrefix text ⊎ ((name : Name) × BeginsWith (resumption name) text) ⊎ ((name : Name) × BeginsWith (opening name) text × EndsWith unfinished text)
+IsLater text = HasPrefix text ⊎ ((name : Name) × BeginsWith (resumed_head name) text) ⊎ ((name : Name) × BeginsWith (call_head name) text × EndsWith unfinished text)
 
 -- where a line is refused, and why
 unfoldable pub Refuses : List ℕ → BadCall → Type 0

@@ -4,3 +4,4 @@ pub mod Grammar
 pub mod Maps
 pub mod Reading
 pub mod Playing
+pub mod Laws

@@ -1,9 +1,9 @@
--- The lines of a maps file, as proc_pid_maps(5) shows them: two addresses, four characters, and what
--- follows them, which is not looked at. That the addresses are multiples of a page's bytes and that a line
--- past the user addresses has an answer of its own is this project's own profile.
+-- The lines of a maps file, as proc_pid_maps(5) shows them: two addresses, four characters, and what follows them,
+-- which is not looked at. That the addresses are multiples of a page's bytes and that a line past the user addresses
+-- has an answer of its own is this project's own profile.
 use Rattle.std.specs.Prelude.{◌≡◌, ◌⊎◌, ℕ, ◌*◌, ◌%◌, ◌^◌, ◌<◌, ◌≤◌, List, [], ◌∷◌, ◌++◌, true, false}
 use Rattle.std.specs.Int.RustNames.{bit_or}
-use Rattle.line_parts.specs.declared.fault.What.TheVariants.{Form, Order}
+use Rattle.line_parts.specs.declared.refusal.What.TheVariants.{Form, Order}
 use Rattle.line_parts.specs.Parts.{starts}
 use Rattle.line_parts.specs.Leaves.{is, Digits}
 use Rattle.page_types.specs.declared.calls.Kind.{Kind}
@@ -32,21 +32,21 @@ pub record IsKind (chars : List ℕ) (kind : Kind) : Type 0 where
   pub write : ℕ
   pub exec : ℕ
   pub four : chars ≡ r ∷ w ∷ x ∷ s ∷ []
-  pub reads : IsMark 114 1 r read
-  pub writes : IsMark 119 2 w write
-  pub runs : IsMark 120 4 x exec
+  pub read_mark : IsMark 114 1 r read
+  pub write_mark : IsMark 119 2 w write
+  pub exec_mark : IsMark 120 4 x exec
   pub rights : kind.prot ≡ record { 0 = bit_or (bit_or read write) exec }
   pub sharing : ((s ≡ 115) × (kind.shared ≡ true)) ⊎ ((s ≡ 112) × (kind.shared ≡ false))
 
 -- a whole line, with its addresses in bytes and its kind
 pub record IsMapsLine (text : List ℕ) (start stop : ℕ) (kind : Kind) : Type 0 where
-  pub first : List ℕ
-  pub second : List ℕ
+  pub start_digits : List ℕ
+  pub stop_digits : List ℕ
   pub chars : List ℕ
   pub tail : List ℕ
-  pub parts : text ≡ first ++ (45 ∷ (second ++ (32 ∷ (chars ++ tail))))
-  pub starts_at : IsAddress first start
-  pub stops_at : IsAddress second stop
+  pub parts : text ≡ start_digits ++ (45 ∷ (stop_digits ++ (32 ∷ (chars ++ tail))))
+  pub starts_at : IsAddress start_digits start
+  pub stops_at : IsAddress stop_digits stop
   pub is_kind : IsKind chars kind
   pub behind : (tail ≡ []) ⊎ (starts (is 32) tail ≡ true)
 

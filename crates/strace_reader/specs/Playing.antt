@@ -1,6 +1,6 @@
--- How a line's call is played, and when a reply is what the trace recorded. The words of the results are
--- those of mmap(2), munmap(2) and mprotect(2), and the SIGSEGV codes of sigaction(2) for a fault; that a
--- recorded address is taken as the hint of a Map is this project's own choice.
+-- How a line's call is played, and when a reply is what the trace recorded. The words of the results are those of
+-- mmap(2), munmap(2) and mprotect(2), and the SIGSEGV codes of sigaction(2) for a page fault; that a recorded address
+-- is taken as the hint of a Map is this project's own choice.
 use Rattle.std.specs.Prelude.{◌≡◌, Option, Some, None, if◌then◌else◌}
 use Rattle.page_types.specs.declared.calls.Call.{Call}
 use Rattle.page_types.specs.declared.calls.Call.TheVariants.{Map, Unmap, Protect, Fault}

@@ -1,16 +1,19 @@
--- Reading a line from left to right, with the first fault that is met: what the functions of src/
--- compute, as functions on lists. The definition of what is right is not here but in Calls and Maps.
+-- Reading a line from left to right, up to the first refusal: what the functions of src/ compute, as functions on
+-- lists. What is right is not said here but in Calls and Maps; that these functions read those forms is shown in
+-- proofs/.
 use Rattle.std.specs.Prelude.{ℕ, suc, ◌^◌, ◌%◌, ◌==◌, nat_lt, List, [], ◌∷◌, length, codes, Bool, true, false, Option, Some, None, Result, Ok, Err, if◌then◌else◌}
-use Rattle.line_parts.specs.declared.fault.Fault.{Fault}
-use Rattle.line_parts.specs.declared.fault.What.TheVariants.{Number, Word, Comma, Close, Result as AtResult}
+use Rattle.line_parts.specs.declared.refusal.Refusal.{Refusal}
+use Rattle.line_parts.specs.declared.refusal.What.TheVariants.{Number, Word, Comma, Close, Result as AtResult}
 use Rattle.line_parts.specs.Parts.{starts}
 use Rattle.line_parts.specs.Leaves.{is, is_digit, is_capital, is_word_byte}
-use Rattle.line_parts.specs.Reading.{◌>>=◌, fault_at, byte_at, letters_at, after_spaces, run_at, digits_end, number_at, until_at, end_at, list_at, digits_of}
+use Rattle.line_parts.specs.Reading.{◌>>=◌, refusal_at, byte_at, letters_at, after_spaces, run_at, digits_end, number_at, until_at, end_at, list_at, digits_of}
 use Rattle.std.specs.Int.RustNames.{bit_or}
 use Rattle.page_types.specs.declared.calls.Kind.{Kind}
 use Rattle.page_types.specs.declared.calls.Call.{Call}
 use Rattle.page_types.specs.declared.calls.Call.TheVariants.{Map, Unmap, Protect, Fault as FaultCall}
 use Rattle.page_types.specs.declared.sets.Access.{Access}
+use Rattle.strace_reader.specs.declared.arguments.WordList.{WordList}
+use Rattle.strace_reader.specs.declared.arguments.WordList.TheVariants.{Prot, Flags}
 use Rattle.strace_reader.specs.declared.item.Item.{Item}
 use Rattle.strace_reader.specs.declared.item.Item.TheVariants.{Played, Other}
 use Rattle.strace_reader.specs.declared.item.Recorded.{Recorded}
@@ -20,128 +23,137 @@ use Rattle.strace_reader.specs.declared.item.Name.TheVariants.{Mmap, Munmap, Mpr
 use Rattle.strace_reader.specs.Words.{prot_of, flag_of, access_of, errno_of}
 
 -- a comma and spaces
-unfoldable pub comma_at : List ℕ → Result (Unit {0} × List ℕ) Fault
+unfoldable pub comma_at : List ℕ → Result (Unit {0} × List ℕ) Refusal
 comma_at text = byte_at 44 Comma text >>= λ u. Ok (tt, after_spaces u.1)
 
 -- an address
-unfoldable pub addr_at : List ℕ → Result (ℕ × List ℕ) Fault
+unfoldable pub addr_at : List ℕ → Result (ℕ × List ℕ) Refusal
 addr_at text = if starts (is 78) text then (letters_at (codes "NULL") Number text >>= λ u. Ok (0, u.1)) else number_at Number text
 
 -- a word
-abbrev pub word_at : List ℕ → Result (List ℕ × List ℕ) Fault
+abbrev pub word_at : List ℕ → Result (List ℕ × List ℕ) Refusal
 word_at text = run_at is_capital is_word_byte Word text
 
 -- the bits of a word, or all that is left
-abbrev pub known_at : Option ℕ → List ℕ → Result (Option ℕ × List ℕ) Fault
+abbrev pub known_at : Option ℕ → List ℕ → Result (Option ℕ × List ℕ) Refusal
 known_at None text = Ok (None, [])
 known_at (Some bits) text = Ok (Some bits, text)
 
 -- one word of a protection
-unfoldable pub prot_word_at : List ℕ → Result (Option ℕ × List ℕ) Fault
+unfoldable pub prot_word_at : List ℕ → Result (Option ℕ × List ℕ) Refusal
 prot_word_at text = if starts is_digit text then Ok (None, []) else (word_at text >>= λ w. known_at (prot_of w.0) w.1)
 
--- a protection
-unfoldable pub prot_at : List ℕ → Result (Option ℕ × List ℕ) Fault
-prot_at text = list_at prot_word_at (suc (length text)) 0 text
-
 -- a comment, where one stands
-unfoldable pub commented_at : List ℕ → Result (Unit {0} × List ℕ) Fault
+unfoldable pub commented_at : List ℕ → Result (Unit {0} × List ℕ) Refusal
 commented_at text = if starts (is 32) text then (letters_at (codes " /*") Comma text >>= λ u. until_at 42 47 Comma u.1 >>= λ v. byte_at 47 Comma v.1) else Ok (tt, text)
 
 -- what a number is shifted by
-unfoldable pub operand_at : List ℕ → Result (Unit {0} × List ℕ) Fault
+unfoldable pub operand_at : List ℕ → Result (Unit {0} × List ℕ) Refusal
 operand_at text = if starts is_digit text then (number_at Number text >>= λ n. Ok (tt, n.1)) else (word_at text >>= λ w. Ok (tt, w.1))
 
 -- a shift and a comment
-unfoldable pub shifted_at : List ℕ → Result (Unit {0} × List ℕ) Fault
+unfoldable pub shifted_at : List ℕ → Result (Unit {0} × List ℕ) Refusal
 shifted_at text = if starts (is 60) text then (letters_at (codes "<<") Comma text >>= λ u. operand_at u.1 >>= λ v. commented_at v.1) else commented_at text
 
 -- one of the flags
-unfoldable pub flag_word_at : List ℕ → Result (Option ℕ × List ℕ) Fault
+unfoldable pub flag_word_at : List ℕ → Result (Option ℕ × List ℕ) Refusal
 flag_word_at text = if starts is_digit text then (number_at Number text >>= λ n. shifted_at n.1 >>= λ u. Ok (Some 0, u.1)) else (word_at text >>= λ w. known_at (flag_of w.0) w.1)
 
+-- a word of either list
+abbrev pub listed_word_at : WordList → List ℕ → Result (Option ℕ × List ℕ) Refusal
+listed_word_at Prot = prot_word_at
+listed_word_at Flags = flag_word_at
+
+-- either list, from no bit on
+unfoldable pub listed_at : WordList → List ℕ → Result (Option ℕ × List ℕ) Refusal
+listed_at list text = list_at (listed_word_at list) (suc (length text)) 0 text
+
+-- a protection
+unfoldable pub prot_at : List ℕ → Result (Option ℕ × List ℕ) Refusal
+prot_at text = listed_at Prot text
+
 -- the flags
-unfoldable pub flags_at : List ℕ → Result (Option ℕ × List ℕ) Fault
-flags_at text = list_at flag_word_at (suc (length text)) 0 text
+unfoldable pub flags_at : List ℕ → Result (Option ℕ × List ℕ) Refusal
+flags_at text = listed_at Flags text
 
 -- a descriptor's path
-unfoldable pub path_at : List ℕ → Result (Unit {0} × List ℕ) Fault
+unfoldable pub path_at : List ℕ → Result (Unit {0} × List ℕ) Refusal
 path_at text = if starts (is 60) text then (byte_at 60 Comma text >>= λ u. until_at 62 44 Comma u.1) else Ok (tt, text)
 
 -- a descriptor
-unfoldable pub descriptor_at : List ℕ → Result (Unit {0} × List ℕ) Fault
+unfoldable pub descriptor_at : List ℕ → Result (Unit {0} × List ℕ) Refusal
 descriptor_at text = if starts (is 45) text then (letters_at (codes "-1") Number text >>= λ u. path_at u.1) else (digits_end Number text >>= λ u. path_at u.1)
 
--- an access, or a fault at the first byte of the word
-abbrev pub access_read : List ℕ → List ℕ → Option Access → Result (Access × List ℕ) Fault
-access_read text rest None = Err (fault_at text Word)
+-- an access, or a refusal at the first byte of the word
+abbrev pub access_read : List ℕ → List ℕ → Option Access → Result (Access × List ℕ) Refusal
+access_read text rest None = Err (refusal_at text Word)
 access_read text rest (Some a) = Ok (a, rest)
 
 -- an access
-unfoldable pub access_at : List ℕ → Result (Access × List ℕ) Fault
+unfoldable pub access_at : List ℕ → Result (Access × List ℕ) Refusal
 access_at text = word_at text >>= λ w. access_read text w.1 (access_of w.0)
 
 -- an error's name or a number
-unfoldable pub failed_at : List ℕ → Result (Option Recorded × List ℕ) Fault
+unfoldable pub failed_at : List ℕ → Result (Option Recorded × List ℕ) Refusal
 failed_at text = if starts (is 45) text then (letters_at (codes "-1 ") AtResult text >>= λ u. run_at is_word_byte is_word_byte AtResult u.1 >>= λ w. Ok (Some (Failed (errno_of w.0)), w.1)) else (number_at AtResult text >>= λ n. Ok (Some (Value n.0), n.1))
 
 -- a result
-unfoldable pub recorded_at : List ℕ → Result (Option Recorded × List ℕ) Fault
+unfoldable pub recorded_at : List ℕ → Result (Option Recorded × List ℕ) Refusal
 recorded_at text = if starts (is 63) text then (byte_at 63 AtResult text >>= λ u. Ok (None, u.1)) else failed_at text
 
 -- spaces, an equals sign and spaces
-unfoldable pub equals_at : List ℕ → Result (Unit {0} × List ℕ) Fault
+unfoldable pub equals_at : List ℕ → Result (Unit {0} × List ℕ) Refusal
 equals_at text = byte_at 32 AtResult text >>= λ a. letters_at (codes "= ") AtResult (after_spaces a.1) >>= λ c. Ok (tt, after_spaces c.1)
 
 -- the end of a line
-unfoldable pub tail_at : Item → List ℕ → Result (Item × List ℕ) Fault
+unfoldable pub tail_at : Item → List ℕ → Result (Item × List ℕ) Refusal
 tail_at item text = if starts (is 32) text then Ok (item, []) else end_at AtResult item text
 
 -- what stands behind the parenthesis
-unfoldable pub outcome_at : Call → List ℕ → Result (Item × List ℕ) Fault
+unfoldable pub outcome_at : Call → List ℕ → Result (Item × List ℕ) Refusal
 outcome_at call text = if starts (is 32) text then (equals_at text >>= λ u. recorded_at u.1 >>= λ r. tail_at (Played 0 call r.0) r.1) else end_at AtResult (Played 0 call None) text
 
 -- the parenthesis and what is behind it
-unfoldable pub closing_at : Call → List ℕ → Result (Item × List ℕ) Fault
+unfoldable pub closing_at : Call → List ℕ → Result (Item × List ℕ) Refusal
 closing_at call text = byte_at 41 Close text >>= λ u. outcome_at call u.1
 
 -- munmap
-unfoldable pub munmap_at : List ℕ → Result (Item × List ℕ) Fault
+unfoldable pub munmap_at : List ℕ → Result (Item × List ℕ) Refusal
 munmap_at text = addr_at text >>= λ a. comma_at a.1 >>= λ u. number_at Number u.1 >>= λ n. closing_at (Unmap a.0 n.0) n.1
 
 -- mprotect, behind its protection
-abbrev pub protected_at : ℕ → ℕ → Option ℕ → List ℕ → Result (Item × List ℕ) Fault
-protected_at a n None text = Ok (Other, text)
-protected_at a n (Some p) text = closing_at (Protect a n (record { 0 = p })) text
+abbrev pub protect_behind_prot_at : ℕ → ℕ → Option ℕ → List ℕ → Result (Item × List ℕ) Refusal
+protect_behind_prot_at a n None text = Ok (Other, text)
+protect_behind_prot_at a n (Some p) text = closing_at (Protect a n (record { 0 = p })) text
 
 -- mprotect
-unfoldable pub mprotect_at : List ℕ → Result (Item × List ℕ) Fault
-mprotect_at text = addr_at text >>= λ a. comma_at a.1 >>= λ u. number_at Number u.1 >>= λ n. comma_at n.1 >>= λ v. prot_at v.1 >>= λ p. protected_at a.0 n.0 p.0 p.1
+unfoldable pub mprotect_at : List ℕ → Result (Item × List ℕ) Refusal
+mprotect_at text = addr_at text >>= λ a. comma_at a.1 >>= λ u. number_at Number u.1 >>= λ n. comma_at n.1 >>= λ v. prot_at v.1 >>= λ p. protect_behind_prot_at a.0 n.0 p.0 p.1
 
--- fault
-unfoldable pub fault_call_at : List ℕ → Result (Item × List ℕ) Fault
+-- the page fault
+unfoldable pub fault_call_at : List ℕ → Result (Item × List ℕ) Refusal
 fault_call_at text = addr_at text >>= λ a. comma_at a.1 >>= λ u. access_at u.1 >>= λ c. closing_at (FaultCall a.0 c.0) c.1
 
 -- behind the flags: the descriptor and the offset
-unfoldable pub dropped_at : Call → List ℕ → Result (Item × List ℕ) Fault
-dropped_at call text = comma_at text >>= λ u. descriptor_at u.1 >>= λ v. comma_at v.1 >>= λ w. number_at Number w.1 >>= λ o. closing_at call o.1
+unfoldable pub map_tail_at : Call → List ℕ → Result (Item × List ℕ) Refusal
+map_tail_at call text = comma_at text >>= λ u. descriptor_at u.1 >>= λ v. comma_at v.1 >>= λ w. number_at Number w.1 >>= λ o. closing_at call o.1
 
 -- mmap, behind its flags
-abbrev pub mapped_at : ℕ → ℕ → ℕ → Option ℕ → List ℕ → Result (Item × List ℕ) Fault
-mapped_at a n p None text = Ok (Other, text)
-mapped_at a n p (Some f) text = dropped_at (Map a n (record { 0 = p }) (record { 0 = f })) text
+abbrev pub map_behind_flags_at : ℕ → ℕ → ℕ → Option ℕ → List ℕ → Result (Item × List ℕ) Refusal
+map_behind_flags_at a n p None text = Ok (Other, text)
+map_behind_flags_at a n p (Some f) text = map_tail_at (Map a n (record { 0 = p }) (record { 0 = f })) text
 
 -- mmap, behind its protection
-abbrev pub flagged_at : ℕ → ℕ → Option ℕ → List ℕ → Result (Item × List ℕ) Fault
-flagged_at a n None text = Ok (Other, text)
-flagged_at a n (Some p) text = comma_at text >>= λ u. flags_at u.1 >>= λ f. mapped_at a n p f.0 f.1
+abbrev pub map_behind_prot_at : ℕ → ℕ → Option ℕ → List ℕ → Result (Item × List ℕ) Refusal
+map_behind_prot_at a n None text = Ok (Other, text)
+map_behind_prot_at a n (Some p) text = comma_at text >>= λ u. flags_at u.1 >>= λ f. map_behind_flags_at a n p f.0 f.1
 
 -- mmap
-unfoldable pub mmap_at : List ℕ → Result (Item × List ℕ) Fault
-mmap_at text = addr_at text >>= λ a. comma_at a.1 >>= λ u. number_at Number u.1 >>= λ n. comma_at n.1 >>= λ v. prot_at v.1 >>= λ p. flagged_at a.0 n.0 p.0 p.1
+unfoldable pub mmap_at : List ℕ → Result (Item × List ℕ) Refusal
+mmap_at text = addr_at text >>= λ a. comma_at a.1 >>= λ u. number_at Number u.1 >>= λ n. comma_at n.1 >>= λ v. prot_at v.1 >>= λ p. map_behind_prot_at a.0 n.0 p.0 p.1
 
 -- the arguments of each call, and what comes behind them
-abbrev pub arguments_at : Name → List ℕ → Result (Item × List ℕ) Fault
+abbrev pub arguments_at : Name → List ℕ → Result (Item × List ℕ) Refusal
 arguments_at Mmap text = mmap_at text
 arguments_at Munmap text = munmap_at text
 arguments_at Mprotect text = mprotect_at text

@@ -1,5 +1,5 @@
--- The words of a line and what they stand for: PROT_READ and the others of mmap(2) and mprotect(2),
--- and the error names of a result. Words that are not listed here are told apart by the forms alone.
+-- The words of a line and what they stand for: PROT_READ and the others of mmap(2) and mprotect(2), and the error names
+-- of a result, of errno(3) and sigaction(2). Words that are not listed here are told apart by the forms alone.
 use Rattle.std.specs.Prelude.{ℕ, List, codes, Option, Some, None, if◌then◌else◌}
 use Rattle.std.specs.Str.{bytes_eq}
 use Rattle.page_types.specs.declared.sets.Access.{Access}
@@ -28,7 +28,7 @@ flag_of word =
     else if bytes_eq word (codes "MAP_SHARED_VALIDATE") then None
     else Some 0
 
--- the access of a fault
+-- the access of a page fault
 unfoldable pub access_of : List ℕ → Option Access
 access_of word =
     if bytes_eq word (codes "PROT_READ") then Some Read
@@ -46,16 +46,16 @@ errno_of word =
     else if bytes_eq word (codes "SEGV_ACCERR") then AccErr
     else Other
 
--- how a line of a call begins
-abbrev pub opening : Name → List ℕ
-opening Mmap = codes "mmap("
-opening Munmap = codes "munmap("
-opening Mprotect = codes "mprotect("
-opening Fault = codes "fault("
+-- what a line of a call begins with
+abbrev pub call_head : Name → List ℕ
+call_head Mmap = codes "mmap("
+call_head Munmap = codes "munmap("
+call_head Mprotect = codes "mprotect("
+call_head Fault = codes "fault("
 
--- how the second half of an interrupted line begins
-abbrev pub resumption : Name → List ℕ
-resumption Mmap = codes "<... mmap resumed>"
-resumption Munmap = codes "<... munmap resumed>"
-resumption Mprotect = codes "<... mprotect resumed>"
-resumption Fault = codes "<... fault resumed>"
+-- what the second half of an interrupted line begins with
+abbrev pub resumed_head : Name → List ℕ
+resumed_head Mmap = codes "<... mmap resumed>"
+resumed_head Munmap = codes "<... munmap resumed>"
+resumed_head Mprotect = codes "<... mprotect resumed>"
+resumed_head Fault = codes "<... fault resumed>"

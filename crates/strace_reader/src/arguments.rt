@@ -1,27 +1,34 @@
-//! The arguments of a call, one function for each kind, in the order of a line. Each takes what is left
-//! of the line and gives the value and what is left behind it, or the first fault. The forms stand in
-//! `specs/Calls.antt`; that these functions read them is proved part by part.
+//! The arguments of a call, one function for each kind, in the order of a line of strace(1). Each takes what is left of
+//! the line and gives the value and what is left behind it, or the first refusal. The forms are in `specs/Calls.antt`,
+//! this project's own profile; that these functions read them is proved part by part.
 
 ghost use Rattle.std.specs.Prelude.{◌≡◌};
 ghost use Rattle.line_parts.specs.Reading.{Gives};
-ghost use Rattle.strace_reader.specs.Reading.{comma_at, addr_at, prot_word_at, prot_at, commented_at, operand_at, shifted_at, flag_word_at, flags_at, path_at, descriptor_at, access_at};
+ghost use Rattle.strace_reader.specs.Reading.{comma_at, addr_at, prot_word_at, prot_at, commented_at, operand_at, shifted_at, flag_word_at, flags_at, listed_word_at, listed_at, path_at, descriptor_at, access_at};
 
 use crate::words::{access_named, flag_bits, prot_bits};
 use line_parts::{
-    Fault, What, begins, begins_digit, behind_first, byte, letters, number, skip_digits,
+    Refusal, What, begins, begins_digit, behind_first, byte, letters, number, skip_digits,
     skip_spaces, until, word,
 };
 use page_types::Access;
 
+/// The two lists of words that bars join: the protection and the flags.
+#[derive(Clone, Copy)]
+enum WordList {
+    Prot,
+    Flags,
+}
+
 #[tactic(auto, unfolding(crate::specs::Reading::comma_at))]
-pub(crate) fn comma(text: &[u8]) -> Result<&[u8], Fault>
+pub(crate) fn comma(text: &[u8]) -> Result<&[u8], Refusal>
     ensures { Gives (λ rest. (tt, rest.now)) result (comma_at text.now) }
 {
     Ok(skip_spaces(byte(text, b',', What::Comma)?))
 }
 
 #[tactic(auto, unfolding(crate::specs::Reading::addr_at))]
-pub(crate) fn addr(text: &[u8]) -> Result<(u64, &[u8]), Fault>
+pub(crate) fn addr(text: &[u8]) -> Result<(u64, &[u8]), Refusal>
     ensures { Gives (λ x. (x.0, x.1.now)) result (addr_at text.now) }
 {
     if begins(text, b'N') {
@@ -32,7 +39,7 @@ pub(crate) fn addr(text: &[u8]) -> Result<(u64, &[u8]), Fault>
 }
 
 #[tactic(auto, unfolding(crate::specs::Reading::prot_word_at))]
-fn prot_word(text: &[u8]) -> Result<(Option<u8>, &[u8]), Fault>
+fn prot_word(text: &[u8]) -> Result<(Option<u8>, &[u8]), Refusal>
     ensures { Gives (λ x. (x.0, x.1.now)) result (prot_word_at text.now) }
 {
     if begins_digit(text) {
@@ -45,28 +52,8 @@ fn prot_word(text: &[u8]) -> Result<(Option<u8>, &[u8]), Fault>
     }
 }
 
-/// The bits of a protection. None where a word or a number leaves the line unplayed; nothing is left
-/// of the line then.
-pub(crate) fn prot(text: &[u8]) -> Result<(Option<u8>, &[u8]), Fault>
-    ensures { Gives (λ x. (x.0, x.1.now)) result (prot_at text.now) }
-{
-    let mut bits = 0;
-    let mut left = text;
-    'items: loop {
-        let (more, rest) = prot_word(left)?;
-        let Some(more) = more else {
-            return Ok((None, rest));
-        };
-        bits |= more;
-        if !begins(rest, b'|') {
-            return Ok((Some(bits), rest));
-        }
-        left = behind_first(rest);
-    }
-}
-
 #[tactic(auto, unfolding(crate::specs::Reading::commented_at))]
-fn comment(text: &[u8]) -> Result<&[u8], Fault>
+fn comment(text: &[u8]) -> Result<&[u8], Refusal>
     ensures { Gives (λ rest. (tt, rest.now)) result (commented_at text.now) }
 {
     if !begins(text, b' ') {
@@ -78,7 +65,7 @@ fn comment(text: &[u8]) -> Result<&[u8], Fault>
 }
 
 #[tactic(auto, unfolding(crate::specs::Reading::operand_at))]
-fn operand(text: &[u8]) -> Result<&[u8], Fault>
+fn operand(text: &[u8]) -> Result<&[u8], Refusal>
     ensures { Gives (λ rest. (tt, rest.now)) result (operand_at text.now) }
 {
     if begins_digit(text) {
@@ -90,7 +77,7 @@ fn operand(text: &[u8]) -> Result<&[u8], Fault>
 }
 
 #[tactic(auto, unfolding(crate::specs::Reading::shifted_at))]
-fn shift(text: &[u8]) -> Result<&[u8], Fault>
+fn shift(text: &[u8]) -> Result<&[u8], Refusal>
     ensures { Gives (λ rest. (tt, rest.now)) result (shifted_at text.now) }
 {
     if begins(text, b'<') {
@@ -101,7 +88,7 @@ fn shift(text: &[u8]) -> Result<&[u8], Fault>
 }
 
 #[tactic(auto, unfolding(crate::specs::Reading::flag_word_at))]
-fn flag_word(text: &[u8]) -> Result<(Option<u8>, &[u8]), Fault>
+fn flag_word(text: &[u8]) -> Result<(Option<u8>, &[u8]), Refusal>
     ensures { Gives (λ x. (x.0, x.1.now)) result (flag_word_at text.now) }
 {
     if begins_digit(text) {
@@ -115,14 +102,23 @@ fn flag_word(text: &[u8]) -> Result<(Option<u8>, &[u8]), Fault>
     }
 }
 
-/// The bits of the flags. None where a word leaves the line unplayed; nothing is left of the line then.
-pub(crate) fn flags(text: &[u8]) -> Result<(Option<u8>, &[u8]), Fault>
-    ensures { Gives (λ x. (x.0, x.1.now)) result (flags_at text.now) }
+fn listed_word(list: WordList, text: &[u8]) -> Result<(Option<u8>, &[u8]), Refusal>
+    ensures { Gives (λ x. (x.0, x.1.now)) result (listed_word_at list text.now) }
+{
+    match list {
+        WordList::Prot => prot_word(text),
+        WordList::Flags => flag_word(text),
+    }
+}
+
+/// The bits of the words of a list. None where a word leaves the line unplayed; nothing is left of the line then.
+fn listed(list: WordList, text: &[u8]) -> Result<(Option<u8>, &[u8]), Refusal>
+    ensures { Gives (λ x. (x.0, x.1.now)) result (listed_at list text.now) }
 {
     let mut bits = 0;
     let mut left = text;
     'items: loop {
-        let (more, rest) = flag_word(left)?;
+        let (more, rest) = listed_word(list, left)?;
         let Some(more) = more else {
             return Ok((None, rest));
         };
@@ -134,8 +130,24 @@ pub(crate) fn flags(text: &[u8]) -> Result<(Option<u8>, &[u8]), Fault>
     }
 }
 
+/// The bits of a protection, None where a word or a number leaves the line unplayed.
+#[tactic(auto, unfolding(crate::specs::Reading::prot_at))]
+pub(crate) fn prot(text: &[u8]) -> Result<(Option<u8>, &[u8]), Refusal>
+    ensures { Gives (λ x. (x.0, x.1.now)) result (prot_at text.now) }
+{
+    listed(WordList::Prot, text)
+}
+
+/// The bits of the flags, None where a word leaves the line unplayed.
+#[tactic(auto, unfolding(crate::specs::Reading::flags_at))]
+pub(crate) fn flags(text: &[u8]) -> Result<(Option<u8>, &[u8]), Refusal>
+    ensures { Gives (λ x. (x.0, x.1.now)) result (flags_at text.now) }
+{
+    listed(WordList::Flags, text)
+}
+
 #[tactic(auto, unfolding(crate::specs::Reading::path_at))]
-fn path(text: &[u8]) -> Result<&[u8], Fault>
+fn path(text: &[u8]) -> Result<&[u8], Refusal>
     ensures { Gives (λ rest. (tt, rest.now)) result (path_at text.now) }
 {
     if begins(text, b'<') {
@@ -146,7 +158,7 @@ fn path(text: &[u8]) -> Result<&[u8], Fault>
 }
 
 #[tactic(auto, unfolding(crate::specs::Reading::descriptor_at))]
-pub(crate) fn descriptor(text: &[u8]) -> Result<&[u8], Fault>
+pub(crate) fn descriptor(text: &[u8]) -> Result<&[u8], Refusal>
     ensures { Gives (λ rest. (tt, rest.now)) result (descriptor_at text.now) }
 {
     if begins(text, b'-') {
@@ -157,13 +169,13 @@ pub(crate) fn descriptor(text: &[u8]) -> Result<&[u8], Fault>
 }
 
 #[tactic(auto, unfolding(crate::specs::Reading::access_at))]
-pub(crate) fn access(text: &[u8]) -> Result<(Access, &[u8]), Fault>
+pub(crate) fn access(text: &[u8]) -> Result<(Access, &[u8]), Refusal>
     ensures { Gives (λ x. (x.0, x.1.now)) result (access_at text.now) }
 {
     let (name, rest) = word(text)?;
     match access_named(name) {
         Some(access) => Ok((access, rest)),
-        None => Err(Fault {
+        None => Err(Refusal {
             left: text.len(),
             what: What::Word,
         }),

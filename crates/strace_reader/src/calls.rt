@@ -1,22 +1,22 @@
-//! The four calls of a line, from behind the name to the end of the line. Each function gives the item
-//! that the line is and what is left of it, which is nothing, or the first fault. `specs/Calls.antt` has
-//! the forms; what strace(1) prints between the arguments and behind them is this project's own profile.
+//! The four calls of a line, from behind the name to the end of the line. Each function gives the item that the line is
+//! and what is left of it, which is nothing, or the first refusal. `specs/Calls.antt` has the forms; what strace(1)
+//! prints between the arguments and behind them is taken as this project's own profile says.
 
 ghost use Rattle.std.specs.Prelude.{◌≡◌};
 ghost use Rattle.line_parts.specs.Reading.{Gives, end_at};
-ghost use Rattle.line_parts.specs.declared.fault.What.TheVariants.{Result as AtResult};
+ghost use Rattle.line_parts.specs.declared.refusal.What.TheVariants.{Result as AtResult};
 ghost use Rattle.strace_reader.specs.declared.item.Item.TheVariants.{Played};
-ghost use Rattle.strace_reader.specs.Reading.{failed_at, recorded_at, equals_at, tail_at, outcome_at, closing_at, munmap_at, mprotect_at, fault_call_at, dropped_at, mmap_at, arguments_at};
+ghost use Rattle.strace_reader.specs.Reading.{failed_at, recorded_at, equals_at, tail_at, outcome_at, closing_at, munmap_at, mprotect_at, fault_call_at, map_tail_at, mmap_at, arguments_at};
 
 use crate::arguments::{access, addr, comma, descriptor, flags, prot};
 use crate::item::{Item, Name, Recorded};
 use crate::words::errno_named;
 use bitflags::Flags;
-use line_parts::{Fault, What, begins, byte, letters, name, number, skip_spaces};
+use line_parts::{Refusal, What, begins, byte, letters, name, number, skip_spaces};
 use page_types::{Call, MapFlags, Prot};
 
 #[tactic(auto, unfolding(crate::specs::Reading::failed_at))]
-fn value_or_failed(text: &[u8]) -> Result<(Option<Recorded>, &[u8]), Fault>
+fn value_or_failed(text: &[u8]) -> Result<(Option<Recorded>, &[u8]), Refusal>
     ensures { Gives (λ x. (x.0, x.1.now)) result (failed_at text.now) }
 {
     if begins(text, b'-') {
@@ -30,7 +30,7 @@ fn value_or_failed(text: &[u8]) -> Result<(Option<Recorded>, &[u8]), Fault>
 }
 
 #[tactic(auto, unfolding(crate::specs::Reading::recorded_at))]
-fn recorded(text: &[u8]) -> Result<(Option<Recorded>, &[u8]), Fault>
+fn recorded(text: &[u8]) -> Result<(Option<Recorded>, &[u8]), Refusal>
     ensures { Gives (λ x. (x.0, x.1.now)) result (recorded_at text.now) }
 {
     if begins(text, b'?') {
@@ -41,7 +41,7 @@ fn recorded(text: &[u8]) -> Result<(Option<Recorded>, &[u8]), Fault>
 }
 
 #[tactic(auto, unfolding(crate::specs::Reading::equals_at))]
-fn equals(text: &[u8]) -> Result<&[u8], Fault>
+fn equals(text: &[u8]) -> Result<&[u8], Refusal>
     ensures { Gives (λ rest. (tt, rest.now)) result (equals_at text.now) }
 {
     let rest = skip_spaces(byte(text, b' ', What::Result)?);
@@ -50,7 +50,7 @@ fn equals(text: &[u8]) -> Result<&[u8], Fault>
 
 /// The item, where the text ends or goes on with a space.
 #[tactic(auto, unfolding(crate::specs::Reading::tail_at, line_parts::specs::Reading::end_at))]
-fn tail(item: Item, text: &[u8]) -> Result<(Item, &[u8]), Fault>
+fn tail(item: Item, text: &[u8]) -> Result<(Item, &[u8]), Refusal>
     ensures { Gives (λ x. (x.0, x.1.now)) result (tail_at item text.now) }
 {
     if begins(text, b' ') {
@@ -60,12 +60,12 @@ fn tail(item: Item, text: &[u8]) -> Result<(Item, &[u8]), Fault>
 }
 
 #[tactic(auto, unfolding(line_parts::specs::Reading::end_at))]
-fn end(item: Item, text: &[u8]) -> Result<(Item, &[u8]), Fault>
+fn end(item: Item, text: &[u8]) -> Result<(Item, &[u8]), Refusal>
     ensures { Gives (λ x. (x.0, x.1.now)) result (end_at AtResult item text.now) }
 {
     match text {
         [] => Ok((item, &[])),
-        _ => Err(Fault {
+        _ => Err(Refusal {
             left: text.len(),
             what: What::Result,
         }),
@@ -73,7 +73,7 @@ fn end(item: Item, text: &[u8]) -> Result<(Item, &[u8]), Fault>
 }
 
 #[tactic(auto, unfolding(crate::specs::Reading::outcome_at))]
-fn outcome(call: Call, text: &[u8]) -> Result<(Item, &[u8]), Fault>
+fn outcome(call: Call, text: &[u8]) -> Result<(Item, &[u8]), Refusal>
     ensures { Gives (λ x. (x.0, x.1.now)) result (outcome_at call text.now) }
 {
     if begins(text, b' ') {
@@ -94,14 +94,14 @@ fn played(call: Call, recorded: Option<Recorded>) -> Item
 }
 
 #[tactic(auto, unfolding(crate::specs::Reading::closing_at))]
-fn closing(call: Call, text: &[u8]) -> Result<(Item, &[u8]), Fault>
+fn closing(call: Call, text: &[u8]) -> Result<(Item, &[u8]), Refusal>
     ensures { Gives (λ x. (x.0, x.1.now)) result (closing_at call text.now) }
 {
     outcome(call, byte(text, b')', What::Close)?)
 }
 
 #[tactic(auto, unfolding(crate::specs::Reading::munmap_at))]
-fn munmap(text: &[u8]) -> Result<(Item, &[u8]), Fault>
+fn munmap(text: &[u8]) -> Result<(Item, &[u8]), Refusal>
     ensures { Gives (λ x. (x.0, x.1.now)) result (munmap_at text.now) }
 {
     let (addr, rest) = addr(text)?;
@@ -110,7 +110,7 @@ fn munmap(text: &[u8]) -> Result<(Item, &[u8]), Fault>
 }
 
 #[tactic(auto, unfolding(crate::specs::Reading::mprotect_at))]
-fn mprotect(text: &[u8]) -> Result<(Item, &[u8]), Fault>
+fn mprotect(text: &[u8]) -> Result<(Item, &[u8]), Refusal>
     ensures { Gives (λ x. (x.0, x.1.now)) result (mprotect_at text.now) }
 {
     let (addr, rest) = addr(text)?;
@@ -126,7 +126,7 @@ fn mprotect(text: &[u8]) -> Result<(Item, &[u8]), Fault>
 }
 
 #[tactic(auto, unfolding(crate::specs::Reading::fault_call_at))]
-fn fault(text: &[u8]) -> Result<(Item, &[u8]), Fault>
+fn fault(text: &[u8]) -> Result<(Item, &[u8]), Refusal>
     ensures { Gives (λ x. (x.0, x.1.now)) result (fault_call_at text.now) }
 {
     let (addr, rest) = addr(text)?;
@@ -134,10 +134,10 @@ fn fault(text: &[u8]) -> Result<(Item, &[u8]), Fault>
     closing(Call::Fault { addr, access }, rest)
 }
 
-/// The descriptor and the offset, which are dropped, and the end of the line.
-#[tactic(auto, unfolding(crate::specs::Reading::dropped_at))]
-fn dropped(call: Call, text: &[u8]) -> Result<(Item, &[u8]), Fault>
-    ensures { Gives (λ x. (x.0, x.1.now)) result (dropped_at call text.now) }
+/// The descriptor and the offset, which are read and let go, and the end of the line.
+#[tactic(auto, unfolding(crate::specs::Reading::map_tail_at))]
+fn map_tail(call: Call, text: &[u8]) -> Result<(Item, &[u8]), Refusal>
+    ensures { Gives (λ x. (x.0, x.1.now)) result (map_tail_at call text.now) }
 {
     let rest = descriptor(comma(text)?)?;
     let (_, rest) = number(comma(rest)?, What::Number)?;
@@ -145,7 +145,7 @@ fn dropped(call: Call, text: &[u8]) -> Result<(Item, &[u8]), Fault>
 }
 
 #[tactic(auto, unfolding(crate::specs::Reading::mmap_at))]
-fn mmap(text: &[u8]) -> Result<(Item, &[u8]), Fault>
+fn mmap(text: &[u8]) -> Result<(Item, &[u8]), Refusal>
     ensures { Gives (λ x. (x.0, x.1.now)) result (mmap_at text.now) }
 {
     let (addr, rest) = addr(text)?;
@@ -166,11 +166,11 @@ fn mmap(text: &[u8]) -> Result<(Item, &[u8]), Fault>
         prot,
         flags,
     };
-    dropped(call, rest)
+    map_tail(call, rest)
 }
 
 /// What a line is whose name was read, and what is left of it, which is nothing.
-pub(crate) fn arguments(name: Name, text: &[u8]) -> Result<(Item, &[u8]), Fault>
+pub(crate) fn arguments(name: Name, text: &[u8]) -> Result<(Item, &[u8]), Refusal>
     ensures { Gives (λ x. (x.0, x.1.now)) result (arguments_at name text.now) }
 {
     match name {

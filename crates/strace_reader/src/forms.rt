@@ -1,16 +1,22 @@
-//! The forms of a line: how it begins and how it ends. Each function decides one form of
-//! `specs/Grammar.antt`, and says so in its clause; the reader of lines tries them in their order.
+//! The forms of a line: how it begins and how it ends, in this project's own profile of strace(1). Each function
+//! decides one form of `specs/Grammar.antt`, and says so in its clause; the reader of lines tries them in their
+//! order.
 
 ghost use Rattle.std.specs.Prelude.{◌≡◌, ◌≢◌, ◌++◌, [], ◌∷◌, ℕ, List, MatchOption};
 ghost use Rattle.std.specs.Bool.{Decides};
 ghost use Rattle.line_parts.specs.Leaves.{is, EachIs, NoDigit};
 ghost use Rattle.line_parts.specs.Parts.{starts};
 ghost use Rattle.strace_reader.specs.declared.item.Name.{Name as NameOf};
-ghost use Rattle.strace_reader.specs.Words.{opening, resumption};
+ghost use Rattle.strace_reader.specs.Words.{call_head, resumed_head};
 ghost use Rattle.strace_reader.specs.Grammar.{BeginsWith, EndsWith, NeverReturned, HasPrefix, PidThen};
 
 use crate::item::Name;
 use line_parts::{digits, skip_spaces};
+
+/// The base of a process number, and the first number that is none.
+const DECIMAL: u64 = 10;
+
+const PIDS: u64 = 1 << 32;
 
 pub(crate) fn begins_with(text: &[u8], word: &[u8]) -> bool
     ensures { Decides result (BeginsWith word.now text.now) }
@@ -40,7 +46,7 @@ fn strip_back<'a>(text: &'a [u8], word: &[u8]) -> Option<&'a [u8]>
 
 /// The name of a call that the text begins with, and what is left behind it and its parenthesis.
 pub(crate) fn named(text: &[u8]) -> Option<(Name, &[u8])>
-    ensures { MatchOption result ((name : NameOf) → (rest : List ℕ) → text.now ≢ opening name ++ rest) (λ x. text.now ≡ opening x.0 ++ x.1.now) }
+    ensures { MatchOption result ((name : NameOf) → (rest : List ℕ) → text.now ≢ call_head name ++ rest) (λ x. text.now ≡ call_head x.0 ++ x.1.now) }
 {
     if let Some(rest) = strip_front(text, b"mmap(") {
         return Some((Name::Mmap, rest));
@@ -59,7 +65,7 @@ pub(crate) fn named(text: &[u8]) -> Option<(Name, &[u8])>
 
 /// Whether the text begins as the second half of an interrupted line does.
 pub(crate) fn resumes(text: &[u8]) -> bool
-    ensures { Decides result ((name : NameOf) × BeginsWith (resumption name) text.now) }
+    ensures { Decides result ((name : NameOf) × BeginsWith (resumed_head name) text.now) }
 {
     begins_with(text, b"<... mmap resumed>")
         || begins_with(text, b"<... munmap resumed>")
@@ -72,11 +78,11 @@ fn pid_then(text: &[u8], word: &[u8]) -> bool
     requires { NoDigit 10 word.now × (word.now ≢ []) }
     ensures { Decides result (PidThen word.now text.now) }
 {
-    let (value, rest) = digits(text, 10);
+    let (value, rest) = digits(text, DECIMAL);
     let Some(pid) = value else {
         return false;
     };
-    if pid >= 1 << 32 {
+    if pid >= PIDS {
         return false;
     }
     if rest.len() == text.len() {

@@ -1,9 +1,10 @@
-//! What a line of a trace says: a call with what the trace recorded of it, or nothing that is played.
-//! The error names are those that mmap(2), munmap(2) and mprotect(2) give, and the SIGSEGV codes of
-//! sigaction(2) for a fault. A refusal says where the line stops being one that is read, and why.
+//! What a line of a trace says: a call with what the trace recorded of it, or nothing that is played. The error names
+//! are those that mmap(2), munmap(2) and mprotect(2) give, and the SIGSEGV codes of sigaction(2) for a page fault. A
+//! refusal says where the line stops being one that is read, and why.
 
 use line_parts::What;
 use page_types::Call;
+use thiserror::Error;
 
 /// The four calls by the name that a line begins with.
 #[derive(Clone, Copy, PartialEq, Eq, Debug, Drop)]
@@ -14,11 +15,11 @@ pub enum Name {
     Munmap,
     /// `mprotect`
     Mprotect,
-    /// `fault`
+    /// `fault`, this project's own word for an access of a thread to a page.
     Fault,
 }
 
-/// The error that a trace recorded, by its name.
+/// The error that a trace recorded, by its name in errno(3) or sigaction(2).
 #[derive(Clone, Copy, PartialEq, Eq, Debug, Drop)]
 pub enum Errno {
     /// `EINVAL`
@@ -63,7 +64,8 @@ pub enum Item {
 }
 
 /// Where a line is refused, and why.
-#[derive(Clone, Copy, PartialEq, Eq, Debug, Drop)]
+#[derive(Clone, Copy, PartialEq, Eq, Debug, Drop, Error)]
+#[error("column {column}: {what}")]
 pub struct BadCall {
     /// The byte that cannot go on, counted from 1; behind the last byte where the line ends too early.
     pub column: u32,

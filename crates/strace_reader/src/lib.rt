@@ -1,18 +1,20 @@
-//! Reads the lines of a trace, as strace(1) prints them, and the lines of a maps file, as
-//! proc_pid_maps(5) shows them. The forms are this project's own profile of the two; `specs/` has them
-//! as a relation between whole texts and items, and each reader is exactly that relation.
+//! Reads the lines of a trace, as strace(1) prints them, and the lines of a maps file, as proc_pid_maps(5) shows them.
+//! The forms are this project's own profile of the two; `specs/` has them as relations between whole texts and items.
+//! Each reader is exactly its relation, and a text has one outcome at most.
 #![tactic(auto)]
 
 mod arguments;
 mod calls;
 mod forms;
 mod item;
+mod laws;
 mod lines;
 mod maps;
 mod playing;
 mod words;
 
 pub use item::{BadCall, Errno, Item, Recorded};
+pub use laws::{lines_have_one_outcome, maps_lines_have_one_outcome};
 pub use line_parts::What;
 pub use lines::read_line;
 pub use maps::{MapsItem, read_maps_line};

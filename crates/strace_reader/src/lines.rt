@@ -1,6 +1,6 @@
-//! Reads a line of a trace. The forms are tried in their order, which decides what a line is; a line
-//! that names one of the four calls and is no spelling of it is refused at the first byte that cannot go
-//! on. `Spells` and `Refuses` in `specs/Grammar.antt` are the two relations; the reader is exactly them.
+//! Reads a line of a trace. The forms are tried in their order, which decides what a line is; a line that names one of
+//! the four calls and is no spelling of it is refused at the first byte that cannot go on. `Spells` and `Refuses` in
+//! `specs/Grammar.antt` are the two relations, this project's own profile of strace(1); the reader is exactly them.
 
 ghost use Rattle.std.specs.Prelude.{◌≡◌, ◌≤◌, length, IfOk, IfErr};
 ghost use Rattle.strace_reader.specs.declared.item.BadCall.{BadCall as Bad};
@@ -58,9 +58,9 @@ pub fn read_line(text: &[u8]) -> Result<Item, BadCall>
     }
     match arguments(name, rest) {
         Ok((item, _)) => Ok(item),
-        Err(fault) => Err(BadCall {
-            column: (text.len() - fault.left + 1) as u32,
-            what: fault.what,
+        Err(refusal) => Err(BadCall {
+            column: (text.len() - refusal.left + 1) as u32,
+            what: refusal.what,
         }),
     }
 }

@@ -1,6 +1,6 @@
-//! Reads a line of a maps file, as proc_pid_maps(5) shows them: `start-end`, a space, four characters, and
-//! then the end or a space and any bytes. `SpellsMaps` and `RefusesMaps` in `specs/Maps.antt` are the two
-//! relations; the reader is exactly them. That lines are in order is for the caller to see.
+//! Reads a line of a maps file, as proc_pid_maps(5) shows them: `start-end`, a space, four characters, and then the end
+//! or a space and any bytes. `SpellsMaps` and `RefusesMaps` in `specs/Maps.antt` are the two relations; the reader is
+//! exactly them. That lines are in order is for the caller to see.
 
 ghost use Rattle.std.specs.Prelude.{◌≡◌, IfOk, IfErr, option_map};
 ghost use Rattle.strace_reader.specs.declared.item.BadCall.{BadCall as Bad};
@@ -11,8 +11,17 @@ ghost use Rattle.strace_reader.specs.Reading.{address_at, behind_byte, mark_at, 
 use crate::item::BadCall;
 use bitflags::Flags;
 use line_parts::{What, digits};
-use page_types::{Kind, PAGE, Prot};
+use page_types::{Kind, LIMIT, PAGE, Prot};
 use space_model::Area;
+
+/// The base of an address in a maps file.
+const HEXADECIMAL: u64 = 16;
+
+/// What a dash stands for.
+const NO_BIT: u8 = 0;
+
+/// The first address behind the user addresses.
+const USER_END: u64 = LIMIT * PAGE;
 
 /// What a line of a maps file is.
 #[derive(Clone, Copy, PartialEq, Eq, Debug)]
@@ -32,7 +41,7 @@ pub enum MapsItem {
 fn address(text: &[u8]) -> Option<(u64, &[u8])>
     ensures { option_map (λ x. (x.0, x.1.now)) result ≡ address_at text.now }
 {
-    let (value, rest) = digits(text, 16);
+    let (value, rest) = digits(text, HEXADECIMAL);
     if rest.len() == text.len() {
         return None;
     }
@@ -58,7 +67,7 @@ fn mark(text: &[u8], letter: u8, bit: u8) -> Option<(u8, &[u8])>
 {
     match text {
         [first, rest @ ..] if *first == letter => Some((bit, rest)),
-        [b'-', rest @ ..] => Some((0, rest)),
+        [b'-', rest @ ..] => Some((NO_BIT, rest)),
         _ => None,
     }
 }
@@ -88,9 +97,9 @@ fn ended(kind: Kind, text: &[u8]) -> Option<Kind>
 fn kind(text: &[u8]) -> Option<Kind>
     ensures { result ≡ kind_at text.now }
 {
-    let (read, rest) = mark(text, b'r', 1)?;
-    let (write, rest) = mark(rest, b'w', 2)?;
-    let (exec, rest) = mark(rest, b'x', 4)?;
+    let (read, rest) = mark(text, b'r', Prot::READ.bits())?;
+    let (write, rest) = mark(rest, b'w', Prot::WRITE.bits())?;
+    let (exec, rest) = mark(rest, b'x', Prot::EXEC.bits())?;
     let (shared, rest) = sharing(rest)?;
     let prot = Prot::from_bits_retain(read | write | exec);
     ended(Kind { prot, shared }, rest)
@@ -136,7 +145,7 @@ pub fn read_maps_line(text: &[u8]) -> Result<MapsItem, BadCall>
             what: What::Order,
         });
     }
-    if end > 0x7fff_ffff_f000 {
+    if end > USER_END {
         return Ok(MapsItem::Past { start, end });
     }
     Ok(MapsItem::Area(Area {

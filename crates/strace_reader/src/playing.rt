@@ -1,6 +1,6 @@
-//! How a line's call is played, and whether a reply is what the trace recorded. A trace's addresses are
-//! taken over where mmap(2) leaves the choice to the kernel; a reply agrees with a result by the table of
-//! `Agrees` in `specs/Playing.antt`, which names each refusal's error as errno(3) and sigaction(2) do.
+//! How a line's call is played, and whether a reply is what the trace recorded. A trace's addresses are taken over
+//! where mmap(2) leaves the choice to the kernel. A reply agrees with a result by the table of `Agrees` in
+//! `specs/Playing.antt`, which names the error of each refused call as errno(3) and sigaction(2) do.
 
 ghost use Rattle.std.specs.Prelude.{◌≡◌, ◌↔◌, IsTrue};
 ghost use Rattle.strace_reader.specs.Playing.{as_played, name_of, Differs};

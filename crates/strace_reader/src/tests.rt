@@ -1,4 +1,5 @@
-//! What no clause shows: that the definitions are those of the forms' page, on lines of it.
+//! What no clause shows: that the definitions say what the tables of `docs/FORMATS.md` say, on lines of each form,
+//! after strace(1) and proc_pid_maps(5).
 
 use super::*;
 use bitflags::Flags;

@@ -1,11 +1,16 @@
-//! Words of a line: what each stands for. The names are those of mmap(2), mprotect(2) and errno(3), and
-//! the SIGSEGV codes of sigaction(2); `specs/Words.antt` is the list, and these functions are it.
+//! Words of a line: what each stands for. The names are those of mmap(2), mprotect(2) and errno(3), and the SIGSEGV
+//! codes of sigaction(2); the bits are those of the crate `page_types`. `specs/Words.antt` is the list, and each
+//! function here gives exactly what it says.
 
 ghost use Rattle.std.specs.Prelude.{◌≡◌};
 ghost use Rattle.strace_reader.specs.Words.{prot_of, flag_of, access_of, errno_of};
 
 use crate::item::Errno;
-use page_types::Access;
+use bitflags::Flags;
+use page_types::{Access, MapFlags, Prot};
+
+/// The bits of a word that stands for none.
+const NO_BITS: u8 = 0;
 
 /// The bits of a protection word.
 #[tactic(auto, unfolding(crate::specs::Words::prot_of))]
@@ -13,13 +18,13 @@ pub(crate) fn prot_bits(word: &[u8]) -> Option<u8>
     ensures { result ≡ prot_of word.now }
 {
     if word == b"PROT_READ".as_slice() {
-        Some(1)
+        Some(Prot::READ.bits())
     } else if word == b"PROT_WRITE".as_slice() {
-        Some(2)
+        Some(Prot::WRITE.bits())
     } else if word == b"PROT_EXEC".as_slice() {
-        Some(4)
+        Some(Prot::EXEC.bits())
     } else if word == b"PROT_NONE".as_slice() {
-        Some(0)
+        Some(NO_BITS)
     } else {
         None
     }
@@ -31,17 +36,17 @@ pub(crate) fn flag_bits(word: &[u8]) -> Option<u8>
     ensures { result ≡ flag_of word.now }
 {
     if word == b"MAP_SHARED".as_slice() {
-        Some(1)
+        Some(MapFlags::SHARED.bits())
     } else if word == b"MAP_PRIVATE".as_slice() {
-        Some(2)
+        Some(MapFlags::PRIVATE.bits())
     } else if word == b"MAP_FIXED".as_slice() {
-        Some(4)
+        Some(MapFlags::FIXED.bits())
     } else if word == b"MAP_FIXED_NOREPLACE".as_slice() {
-        Some(8)
+        Some(MapFlags::FIXED_NOREPLACE.bits())
     } else if word == b"MAP_SHARED_VALIDATE".as_slice() {
         None
     } else {
-        Some(0)
+        Some(NO_BITS)
     }
 }
 

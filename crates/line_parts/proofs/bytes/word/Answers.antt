@@ -1,5 +1,5 @@
 use Rattle.std.proofs.Common.{◌∙◌, sym}
-use Rattle.line_parts.specs.declared.fault.What.TheVariants.{Word}
+use Rattle.line_parts.specs.declared.refusal.What.TheVariants.{Word}
 use Rattle.line_parts.specs.Leaves.{is_capital, is_word_byte}
 use Rattle.line_parts.proofs.Leaves.{taken_shorter, run_cut, run_missing, capital_is_word}
 use Rattle.line_parts.proofs.bytes.word.Goals as goal

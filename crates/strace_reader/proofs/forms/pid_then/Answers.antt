@@ -15,8 +15,8 @@ returns-in_default c =
           absurd (omega arith),
     )
 
-pub returns-then-pid : goal.returns-then-pid
-returns-then-pid c =
+pub returns-then-pid-ge-PIDS : goal.returns-then-pid-ge-PIDS
+returns-then-pid-ge-PIDS c =
     let text = c.args.text.now in
     let n = narrow_some (digits_of 10 0 text).0 c.in-Some.pid (sym c.digits-value.ensures.value ∙ c.in-Some.is) in
     (λ h. absurd cc, λ h. let f = pid_no c.args.word.now text c.digits-value.result.1.now c.in-Some.pid n c.digits-value.ensures.rest c.requires.0 c.requires.1 h in let p = f.narrow_pid in absurd (omega arith))
@@ -32,6 +32,6 @@ returns c =
     let text = c.args.text.now in
     let rest = c.digits-value.result.1.now in
     let n = narrow_some (digits_of 10 0 text).0 c.in-Some.pid (sym c.digits-value.ensures.value ∙ c.in-Some.is) in (
-      λ h. pid_yes c.args.word.now text rest c.in-Some.pid n c.digits-value.ensures.rest c.if-pid.false c.if-rest-text.false (c.begins_with.ensures.0 h),
+      λ h. pid_yes c.args.word.now text rest c.in-Some.pid n c.digits-value.ensures.rest c.if-pid-ge-PIDS.false c.if-rest-text.false (c.begins_with.ensures.0 h),
       λ h. c.begins_with.ensures.1 (pid_no c.args.word.now text rest c.in-Some.pid n c.digits-value.ensures.rest c.requires.0 c.requires.1 h).behind,
     )

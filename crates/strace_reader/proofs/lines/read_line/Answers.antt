@@ -1,5 +1,5 @@
 use Rattle.std.proofs.Common.{◌≡◌, ℕ, ◌+◌, ◌-◌, ◌≤◌, length, Ok, Err, sym, ◌∙◌, inl, inr, arith}
-use Rattle.line_parts.specs.declared.fault.What.TheVariants.{Later}
+use Rattle.line_parts.specs.declared.refusal.What.TheVariants.{Later}
 use Rattle.line_parts.proofs.Leaves.{not_both}
 use Rattle.strace_reader.specs.declared.item.Item.TheVariants.{Other}
 use Rattle.strace_reader.proofs.LineAnswers.{Answers, blank_line, signal_line, later_line, never_line, no_form_line, empty_line, full_line, is_call, read_call, refused_call, left_within}
@@ -50,7 +50,7 @@ returns-then-ends_with c =
     record { found = a.found; only = a.only; refused = a.refused; only_there = a.only_there; named = a.named }
 
 pub overflow_sub-result : goal.overflow_sub-result
-overflow_sub-result c = left_within c.in-Some.name c.args.text.now c.in-Some.rest.now c.in-Err.fault c.in-Some.ensures c.in-Err.ensures
+overflow_sub-result c = left_within c.in-Some.name c.args.text.now c.in-Some.rest.now c.in-Err.refusal c.in-Some.ensures c.in-Err.ensures
 
 pub returns-in-Ok : goal.returns-in-Ok
 returns-in-Ok c =
@@ -65,6 +65,6 @@ pub returns-in-Err : goal.returns-in-Err
 returns-in-Err c =
     let text = c.args.text.now in
     let form = is_call c.in-Some.name text c.in-Some.rest.now c.in-Some.ensures (λ h. not_both (c.never_returned.ensures.1 h) c.if-never_returned.false) (λ h. not_both (c.ends_with.ensures.1 h) c.if-ends_with.false) in
-    let within = left_within c.in-Some.name text c.in-Some.rest.now c.in-Err.fault c.in-Some.ensures c.in-Err.ensures in
-    let a = refused_call c.in-Some.name text c.in-Some.rest.now c.in-Err.fault (length text - c.in-Err.fault.left + 1) c.in-Some.ensures form c.in-Err.ensures (place (length text) c.in-Err.fault.left within) in
+    let within = left_within c.in-Some.name text c.in-Some.rest.now c.in-Err.refusal c.in-Some.ensures c.in-Err.ensures in
+    let a = refused_call c.in-Some.name text c.in-Some.rest.now c.in-Err.refusal (length text - c.in-Err.refusal.left + 1) c.in-Some.ensures form c.in-Err.ensures (place (length text) c.in-Err.refusal.left within) in
     record { found = a.found; only = a.only; refused = a.refused; only_there = a.only_there; named = a.named }

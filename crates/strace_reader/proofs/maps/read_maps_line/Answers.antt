@@ -12,12 +12,12 @@ returns-then-start-end c =
     let a = order_line c.args.text.now c.in-Some.start c.in-Some.end c.in-Some.kind (sym c.in-Some.ensures) c.if-start-end.true in
     record { found = a.found; only = a.only; refused = a.refused; only_there = a.only_there; named = a.named }
 
-pub returns-then-end-gt140737488351232 : goal.returns-then-end-gt140737488351232
-returns-then-end-gt140737488351232 c =
-    let a = past_line c.args.text.now c.in-Some.start c.in-Some.end c.in-Some.kind (sym c.in-Some.ensures) c.if-start-end.false c.if-end-gt140737488351232.true in
+pub returns-then-end-gt-USER_END : goal.returns-then-end-gt-USER_END
+returns-then-end-gt-USER_END c =
+    let a = past_line c.args.text.now c.in-Some.start c.in-Some.end c.in-Some.kind (sym c.in-Some.ensures) c.if-start-end.false c.if-end-gt-USER_END.true in
     record { found = a.found; only = a.only; refused = a.refused; only_there = a.only_there; named = a.named }
 
 pub returns : goal.returns
 returns c =
-    let a = area_line c.args.text.now c.in-Some.start c.in-Some.end c.in-Some.kind (sym c.in-Some.ensures) c.if-start-end.false c.if-end-gt140737488351232.false in
+    let a = area_line c.args.text.now c.in-Some.start c.in-Some.end c.in-Some.kind (sym c.in-Some.ensures) c.if-start-end.false c.if-end-gt-USER_END.false in
     record { found = a.found; only = a.only; refused = a.refused; only_there = a.only_there; named = a.named }
