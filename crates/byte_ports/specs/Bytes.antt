@@ -1,11 +1,15 @@
 -- What a sink got of a text when the writing of it stopped early. The words for whole texts and for reads, `Appends`,
--- `Consumes`, `Keeps` and `IsAtEnd`, are std's; all of them say nothing of a port that doesn't tell its bytes.
+-- `Consumes`, `Keeps` and `IsAtEnd`, are std's. All of them say nothing of a port that doesn't say which bytes it has.
 use Rattle.std.specs.Prelude.{◌≡◌, ℕ, List, ◌++◌, Option}
 use Rattle.std.specs.Io.KnownBytes.{Appends}
 
--- known bytes grow by some first part of bs, which may be empty or the whole
-pub record AppendsPrefix (old new : Option (List ℕ)) (bs : List ℕ) : Type 0 where
+-- known bytes grow by all of a text but this rest of it
+pub record AppendsAllBut (old new : Option (List ℕ)) (text rest : List ℕ) : Type 0 where
   pub front : List ℕ
-  pub rest : List ℕ
-  pub whole : bs ≡ front ++ rest
+  pub whole : text ≡ front ++ rest
   pub appended : Appends old new front
+
+-- known bytes grow by some first part of a text, which may be empty or the whole
+pub record AppendsPrefix (old new : Option (List ℕ)) (text : List ℕ) : Type 0 where
+  pub rest : List ℕ
+  pub first : AppendsAllBut old new text rest

@@ -1,9 +1,9 @@
--- A port that fails leaves a trace that no caller can make: its own count of faults. A caller that answers
--- "the port failed" proves it by that count, so it can't give up by itself. The counts and the words on them are this
+-- A port that fails leaves a trace that no caller can make: its own count of failed calls. A caller that says "the
+-- port failed" proves it by that count, so it can't give up by itself. The counts and the words on them are this
 -- project's own profile.
 use Rattle.std.specs.Prelude.{ℕ, ◌+◌, ◌-◌, ◌<◌, ◌^◌, min}
 
--- a count of faults rose where it is greater afterwards, or stands afterwards at its last value
+-- a count of failed calls rose where it is greater afterwards, or is afterwards at its last value
 abbrev pub Rose : ℕ → ℕ → Type 0
 Rose before after = after < 2 ^ 64 - 1 → before < after
 

@@ -1,5 +1,6 @@
--- When the two ports in memory fail: at the calls whose numbers were listed. Calls are counted from 1; a call with no
--- room or nothing to write moves nothing, isn't counted and never fails. These rules are this project's own profile.
+-- When the two ports in memory fail: at the calls whose numbers were listed. Calls are counted from 1. A call with no
+-- room or nothing to write moves nothing, isn't counted and never fails. These rules are this project's own profile, so
+-- that a test can make any call fail.
 use Rattle.std.specs.Prelude.{ℕ, ◌<◌, ◌==◌, List, Contains, if◌then◌else◌}
 use Rattle.byte_ports.specs.Counts.{one_more}
 

@@ -1,7 +1,7 @@
-//! Where bytes come from and where they go. A `Source` gives bytes, a `Sink` takes them, and each tells by contract
-//! which bytes moved and that a failure was its own: it counts its faults, and `Failed` comes only where the count
-//! rose.
-//! Code above is written over the two traits, so that it is proved once, for files, pipes and memory alike.
+//! Where bytes come from and where they go: a `Source` gives bytes and a `Sink` takes them, after std's `Read` and
+//! `Write`. Contracts say which bytes moved, and that a failure was the port's own: a port counts its failed calls,
+//! and `Failed` comes only where that count rose. Code over the two traits is proved once, for pipes, files and memory
+//! alike; what each count is and when it rises is this project's own profile.
 #![tactic(auto)]
 
 mod memory;

@@ -1,5 +1,6 @@
-//! A source and a sink over bytes in memory, which fail exactly at listed calls. With them a test makes any fault at
-//! any moment, and a reader may rely on every answer: the clauses here say which calls fail and what each call moves.
+//! A source and a sink over bytes in memory, which fail exactly at listed calls. With them a test makes any call fail,
+//! at any moment. A reader may rely on every result: the clauses here say which calls fail and how much each call
+//! moves, where those of the traits leave it open. The lists are this project's own profile.
 ghost use Rattle.std.specs.Prelude.{◌≡◌, ◌↔◌, ◌⊎◌, ◌+◌, ◌-◌, ◌<◌, ◌≤◌, ◌^◌, ◌++◌, [], List, length, take, drop, min, Ok, Some, IfOk, OnErr, IsErr, IsTrue, Contains, vec_len, if◌then◌else◌, is_ok};
 ghost use Rattle.std.specs.Io.{ReadsAtMost, WritesAtMost};
 ghost use Rattle.std.specs.Io.KnownBytes.{Appends, Consumes, IsAtEnd, Keeps};
@@ -8,7 +9,7 @@ ghost use Rattle.byte_ports.specs.Memory.{IsListed, calls_after};
 
 use crate::{Failed, Sink, Source};
 
-/// Counts a call that has bytes to move, and answers whether it is listed to fail.
+/// Counts a call that has bytes to move, and returns whether it is listed to fail.
 fn is_listed(fails: &[u32], calls: &mut u32) -> bool
     ensures listed { IsTrue result ↔ Contains fails.now (one_more 32 calls.old) }
     ensures counted { calls.new ≡ one_more 32 calls.old }

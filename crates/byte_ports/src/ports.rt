@@ -1,25 +1,29 @@
-//! The two traits, after std's `Read` and `Write`. What they add is the cause of a failure: a port counts its faults,
-//! and a failed call is one in which the count rose. A reader may rely on each clause here for every port.
+//! The two traits, after std's `Read` and `Write`. What they add is the cause of a failure: a port counts its failed
+//! calls, and a call fails only if the count rises in it. So a caller that says "the port failed" has to show the count
+//! and can't give up by itself. A reader may rely on each clause here for every port.
 ghost use Rattle.std.specs.Prelude.{◌≡◌, ℕ, ◌<◌, ◌≤◌, ◌^◌, List, length, take, Ok, Option, IfOk, OnErr};
 ghost use Rattle.std.specs.Io.{ReadsAtMost, WritesAtMost};
 ghost use Rattle.std.specs.Io.KnownBytes.{Appends, Consumes, IsAtEnd, Keeps};
 ghost use Rattle.byte_ports.specs.Counts.{Rose};
 
-/// A port's call failed and moved nothing. The port's count of faults rose in that call.
-#[derive(Clone, Copy, Debug, PartialEq, Eq)]
+use thiserror::Error;
+
+/// A port's call failed and moved nothing. The port's count of failed calls rose in that call.
+#[derive(Clone, Copy, Debug, PartialEq, Eq, Error)]
+#[error("a read or a write failed")]
 pub struct Failed;
 
 /// Where bytes come from.
 pub trait Source {
-    /// The bytes that are left, where the source tells them.
+    /// The bytes that are left, where the source says which they are.
     ghost remaining: { Self → Option (List ℕ) };
 
-    /// How often the source has failed. The count stays at 2^64 - 1 once it is there.
+    /// How many calls of the source have failed. The count stays at 2^64 - 1 once it is there.
     ghost fault_count: { Self → ℕ };
 
-    /// Moves the next bytes to the start of `buf`, at least one and at most `buf.len()`, and answers how many.
-    /// It answers 0 only for an empty `buf` or at the end of the input. What stands in `buf` after the bytes that
-    /// were moved is not told.
+    /// Moves the next bytes to the start of `buf`, at least one and at most `buf.len()`, and returns how many.
+    /// It returns 0 only for an empty `buf` or at the end of the input. Nothing is said of what is in `buf` behind the
+    /// bytes that were moved.
     ///
     /// `Failed`: the source failed in this call, and no byte was taken from it.
     fn read(&mut self, buf: &mut [u8]) -> Result<usize, Failed>
@@ -39,13 +43,13 @@ pub trait Source {
 
 /// Where bytes go.
 pub trait Sink {
-    /// The bytes that the sink holds, where it tells them.
+    /// The bytes that the sink holds, where it says which they are.
     ghost contents: { Self → Option (List ℕ) };
 
-    /// How often the sink has failed. The count stays at 2^64 - 1 once it is there.
+    /// How many calls of the sink have failed. The count stays at 2^64 - 1 once it is there.
     ghost fault_count: { Self → ℕ };
 
-    /// Appends the first bytes of `bytes`, at least one, and answers how many. It answers 0 only for an empty `bytes`.
+    /// Appends the first bytes of `bytes`, at least one, and returns how many. It returns 0 only for an empty `bytes`.
     ///
     /// `Failed`: the sink failed in this call, and nothing was appended.
     fn write(&mut self, bytes: &[u8]) -> Result<usize, Failed>

@@ -1,12 +1,32 @@
-//! Standard input, output and error as a source and as sinks. This is the trusted edge: no contract says what the
-//! system gives or takes, so these tell nothing of content. A reader may rely on their counts of faults alone.
-ghost use Rattle.std.specs.Prelude.{◌≡◌, ℕ, ◌+◌, ◌<◌, ◌≤◌, ◌^◌, length, take, None, Ok, IfOk, OnErr};
-ghost use Rattle.byte_ports.specs.Counts.{Rose};
+//! Standard input, output and error as a source and as sinks. This is the trusted edge: no contract can say what the
+//! system gives or takes, so the contracts here say nothing of content. A reader may rely on the counts of failed calls
+//! alone; that the right bytes move is tested.
+ghost use Rattle.std.specs.Prelude.{◌≡◌, ℕ, ◌+◌, ◌<◌, ◌≤◌, ◌^◌, length, take, None, Ok, IfOk, OnOk, OnErr, IsErr};
+ghost use Rattle.byte_ports.specs.Counts.{Rose, one_more};
 
 use crate::{Failed, Sink, Source};
+use std::io;
 use std::io::{Read, Stderr, Stdin, Stdout, Write};
 
-/// Standard input as a source. Each error of the system is a fault, also an interrupted call.
+/// What comes of a call of the system that has to move at least so many bytes. An error is a failed call, and so is a
+/// call that moves fewer; it is counted.
+fn counted(moved: io::Result<usize>, least: usize, faults: &mut u64) -> Result<usize, Failed>
+    ensures moved { IfOk moved (λ amount. least ≤ amount → result ≡ Ok amount) }
+    ensures short { IfOk moved (λ amount. amount < least → IsErr result) }
+    ensures failed { OnErr moved (IsErr result) }
+    ensures kept { OnOk result (faults.new ≡ faults.old) }
+    ensures counted { OnErr result (faults.new ≡ one_more 64 faults.old) }
+{
+    match moved {
+        Ok(amount) if amount >= least => Ok(amount),
+        _ => {
+            *faults = faults.saturating_add(1);
+            Err(Failed)
+        }
+    }
+}
+
+/// Standard input as a source. Each error of the system is a failed call, also an interrupted one.
 #[derive(Drop)]
 pub struct StdSource {
     stdin: Stdin,
@@ -15,7 +35,8 @@ pub struct StdSource {
 }
 
 impl StdSource {
-    /// A source over standard input, as `rt.stdin()` gives it in `main`. It has read nothing and has no fault yet.
+    /// A source over standard input, as `rt.stdin()` gives it in `main`. It has read nothing, and no call has
+    /// failed yet.
     pub fn new(stdin: Stdin) -> Self
         ensures { ⟦<StdSource as Source>⟧.fault_count result ≡ 0 }
     {
@@ -34,13 +55,7 @@ impl Source for StdSource {
         if buf.is_empty() {
             return Ok(0);
         }
-        match self.stdin.read(buf) {
-            Ok(amount) => Ok(amount),
-            Err(_) => {
-                self.faults = self.faults.saturating_add(1);
-                Err(Failed)
-            }
-        }
+        counted(self.stdin.read(buf), 0, &mut self.faults)
     }
 }
 
@@ -51,8 +66,8 @@ enum Stream {
     Error(Stderr),
 }
 
-/// Standard output or standard error as a sink. Each error of the system is a fault, also an interrupted call, and so
-/// is a write of something that takes nothing. It has no buffer: each write is a call of the system.
+/// Standard output or standard error as a sink. Each error of the system is a failed call, also an interrupted one, and
+/// so is a write of something that takes nothing. It has no buffer: each write is a call of the system.
 #[derive(Drop)]
 pub struct StdSink {
     stream: Stream,
@@ -61,7 +76,7 @@ pub struct StdSink {
 }
 
 impl StdSink {
-    /// A sink over standard output, as `rt.stdout()` gives it in `main`. It has no fault yet.
+    /// A sink over standard output, as `rt.stdout()` gives it in `main`. No call has failed yet.
     pub fn output(stdout: Stdout) -> Self
         ensures { ⟦<StdSink as Sink>⟧.fault_count result ≡ 0 }
     {
@@ -71,7 +86,7 @@ impl StdSink {
         }
     }
 
-    /// A sink over standard error, as `rt.stderr()` gives it in `main`. It has no fault yet.
+    /// A sink over standard error, as `rt.stderr()` gives it in `main`. No call has failed yet.
     pub fn error(stderr: Stderr) -> Self
         ensures { ⟦<StdSink as Sink>⟧.fault_count result ≡ 0 }
     {
@@ -97,12 +112,6 @@ impl Sink for StdSink {
             Stream::Output(stdout) => stdout.write(bytes),
             Stream::Error(stderr) => stderr.write(bytes),
         };
-        match taken {
-            Ok(amount) if amount > 0 => Ok(amount),
-            _ => {
-                self.faults = self.faults.saturating_add(1);
-                Err(Failed)
-            }
-        }
+        counted(taken, 1, &mut self.faults)
     }
 }

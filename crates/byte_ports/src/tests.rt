@@ -1,4 +1,5 @@
-//! What no clause says of the ports: that their calls succeed with concrete bytes, and each once through its bound.
+//! What no clause says of the ports: that their calls succeed with concrete bytes, each once through its bound, and the
+//! message of a failure.
 use crate::{Failed, MemorySink, MemorySource, Sink, Source, StdSink, StdSource, write_all};
 use std::test::Fail;
 
@@ -27,6 +28,13 @@ fn a_source_fails_at_its_listed_call_and_loses_nothing(rt: HostRuntime) -> Resul
     assert_eq!(rt; buf.as_slice(), b"dec".as_slice());
     assert_eq!(rt; read_some(&mut source, &mut buf), Ok(0));
     assert_eq!(rt; source.calls, 4);
+    Ok(())
+}
+
+#[test]
+fn a_failure_has_a_message(rt: HostRuntime) -> Result<(), Fail> {
+    let text = format!(in rt.alloc(); "{}", Failed)?;
+    assert_eq!(rt; text.as_str(), "a read or a write failed");
     Ok(())
 }
 

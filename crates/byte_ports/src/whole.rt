@@ -1,5 +1,5 @@
-//! Writing a whole text to a sink that may take it in pieces. A reader may rely on the first part that was appended
-//! being a first part of the text, whatever the sink did.
+//! Writing a whole text to a sink that may take it in pieces, as std's `write_all` does. Where the sink fails, a first
+//! part of the text was appended. A reader may rely on that, whatever pieces the sink took.
 ghost use Rattle.std.specs.Prelude.{◌≤◌, OnOk, OnErr};
 ghost use Rattle.std.specs.Io.KnownBytes.{Appends};
 ghost use Rattle.byte_ports.specs.Bytes.{AppendsPrefix};

@@ -7,7 +7,7 @@ use Rattle.maps_printer.specs.Numbers.{hex_digits, page_address}
 abbrev spell : ℕ → ℕ → List ℕ → List ℕ
 spell k n acc = digits_onto k 16 false n acc
 
--- the digits stand before what is there already
+-- the digits come before what is there already
 pub spell-hex : (n : ℕ) → digits_onto 64 16 false n [] ≡ hex_digits n
 unfolding digits
 spell-hex n = refl
@@ -16,7 +16,7 @@ spell-hex n = refl
 pub spell_only : (k n : ℕ) (acc : List ℕ) → n / 16 ≡ 0 → spell (suc k) n acc ≡ digit_glyph false (n % 16) ∷ acc
 spell_only k n acc e = grind arith
 
--- the last digit of a larger number stands behind those of the rest
+-- the last digit of a larger number comes behind those of the rest
 pub spell_more : (k n : ℕ) (acc : List ℕ) → n / 16 ≢ 0 → spell (suc k) n acc ≡ spell k (n / 16) (digit_glyph false (n % 16) ∷ acc)
 spell_more k n acc e = grind arith
 
@@ -35,7 +35,7 @@ length-hex_digits n small =
     let bound = spell_length 64 15 n [] (omega arith) in
     omega (arith, ap length (spell-hex n), bound)
 
--- the digits stand before what is there already
+-- the digits come before what is there already
 spell-append : (k n : ℕ) (acc : List ℕ) → spell k n acc ≡ spell k n [] ++ acc
 spell-append zero n acc = refl
 spell-append (suc k) n acc = ⊎_elim

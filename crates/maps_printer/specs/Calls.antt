@@ -1,5 +1,6 @@
 -- A call and its reply as text, as strace(1) prints a system call and its result: addresses in hexadecimal, lengths in
--- decimal, sets as words. What a refusal says after the error's name is this project's own.
+-- decimal, sets as words. What a refusal says after the error's name is this project's own profile. A text is a
+-- function of what it shows, so equal calls have equal texts.
 use Rattle.std.specs.Prelude.{ℕ, List, ◌++◌, codes, decimal}
 use Rattle.page_types.specs.declared.pages.Field.{Field}
 use Rattle.page_types.specs.declared.pages.Field.TheVariants.{Addr, Len, Flags, End}
@@ -44,7 +45,7 @@ why_text (Eexist page) = codes "-1 EEXIST page " ++ prefixed_hex page
 why_text (MapErr page) = codes "-1 SEGV_MAPERR page " ++ prefixed_hex page
 why_text (AccErr page kind) = codes "-1 SEGV_ACCERR page " ++ prefixed_hex page ++ codes " " ++ kind_text kind
 
--- what a call answered
+-- the reply of a call
 abbrev pub reply_text : Reply → List ℕ
 reply_text (At addr) = prefixed_hex addr
 reply_text Zero = codes "0"

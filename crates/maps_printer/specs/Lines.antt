@@ -1,5 +1,6 @@
--- The texts as functions of what they show: the maps of an address space, as proc_pid_maps(5) has them, and the
--- log of a history and the summary of a run, which are this project's own.
+-- The texts as functions of what they show: the maps of an address space, as proc_pid_maps(5) has them, and the log
+-- of a history and the summary of a run, which are this project's own profile. The text of a list is the texts of its
+-- items one after the other, so a first part of the list has a first part of the text.
 use Rattle.std.specs.Prelude.{ℕ, List, ◌++◌, codes, decimal}
 use Rattle.std.specs.List.{flat_map}
 use Rattle.page_types.specs.declared.pages.Span.{Span}

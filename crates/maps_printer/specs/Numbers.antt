@@ -1,5 +1,6 @@
--- Numbers as text: decimal as std's `decimal` prints them, and lower hexadecimal without leading zeros, after `0x` or
--- padded with zeros as in the addresses of proc_pid_maps(5).
+-- Numbers as text: decimal as std's `decimal` prints them, and lower hexadecimal without leading zeros. An address that
+-- a call takes comes after `0x`, as strace(1) prints it. One of a maps line is padded with zeros, as in
+-- proc_pid_maps(5).
 use Rattle.std.specs.Prelude.{ℕ, ◌-◌, ◌*◌, ◌==◌, false, if◌then◌else◌, List, ◌++◌, length, replicate, codes}
 use Rattle.std.specs.Fmt.{digits}
 

@@ -1,5 +1,5 @@
 -- Protections, flags and kinds as text: the words of mmap(2) and mprotect(2), in the order of their bits and joined by
--- `|`, as strace(1) prints them, and the four characters of proc_pid_maps(5).
+-- `|`, as strace(1) prints them, and the four characters of proc_pid_maps(5). Bits without a word add nothing.
 use Rattle.std.specs.Prelude.{ℕ, Bool, if◌then◌else◌, List, [], ◌∷◌, ◌++◌, codes}
 use Rattle.std.specs.List.{join_with_byte}
 use Rattle.page_types.specs.declared.sets.Prot.{Prot}

@@ -1,10 +1,10 @@
-//! A buffer of fixed size before a sink, so that a text of many small parts costs few writes and no memory. A line is
-//! put together in the buffer with no failure, and only between two lines may the buffer go to the sink.
+//! A buffer of fixed size before a sink, as std's `BufWriter` has one, so that a text of many small parts costs few
+//! writes and no memory. A line is put together in the buffer, which can't fail; only between two lines may the buffer
+//! go to the sink. Each push says by contract what it adds and how much room it needs.
 ghost use Rattle.std.specs.Prelude.{◌≡◌, ◌+◌, ◌≤◌, ◌++◌, [], List, ℕ, length, take, OnOk, OnErr};
 ghost use Rattle.std.specs.Io.KnownBytes.{Appends};
-ghost use Rattle.byte_ports.specs.Bytes.{AppendsPrefix};
+ghost use Rattle.byte_ports.specs.Bytes.{AppendsAllBut, AppendsPrefix};
 ghost use Rattle.byte_ports.specs.Counts.{Rose};
-ghost use Rattle.maps_printer.specs.Pieces.{Waits};
 
 use byte_ports::{Failed, Sink, write_all};
 use std::marker::Model;
@@ -66,7 +66,7 @@ impl Buffer {
 
     /// Makes room for a line: writes all that waits where less than a line's room is left.
     pub(crate) fn make_room<K: Sink>(&mut self, out: &mut K) -> Result<(), Failed>
-        ensures moved { OnOk result (Waits (K.contents out.old) (K.contents out.new) self.old self.new) }
+        ensures moved { OnOk result (AppendsAllBut (K.contents out.old) (K.contents out.new) self.old self.new) }
         ensures room { OnOk result (length self.new + LINE ≤ SIZE) }
         ensures failed_prefix { OnErr result (AppendsPrefix (K.contents out.old) (K.contents out.new) self.old) }
         ensures failed_rose { OnErr result (Rose (K.fault_count out.old) (K.fault_count out.new)) }

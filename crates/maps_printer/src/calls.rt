@@ -1,5 +1,6 @@
 //! A call as text, as strace(1) prints a system call: `mmap`, `munmap` and `mprotect` with their arguments, and this
-//! project's own `fault`. What is written here reads back as the same call.
+//! project's own `fault`. The text is a function of the call, `call_text`. A reader may rely on it to read back as the
+//! same call, which the crate `round_trip` proves.
 ghost use Rattle.std.specs.Prelude.{◌≡◌, ◌+◌, ◌≤◌, ◌++◌, length, codes, decimal, OnOk, OnErr};
 ghost use Rattle.std.specs.Io.KnownBytes.{Appends};
 ghost use Rattle.byte_ports.specs.Bytes.{AppendsPrefix};

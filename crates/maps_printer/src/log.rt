@@ -1,5 +1,6 @@
 //! The log of a history as text, a line for each entry: its number, the worker and the line of the input, the call as
-//! strace(1) prints it, the reply, and which range was held. What follows an error's name is this project's own.
+//! strace(1) prints it, the reply, and which range was held. The form of a line, and what follows an error's name in a
+//! reply, are this project's own profile.
 ghost use Rattle.std.specs.Prelude.{◌≡◌, ◌+◌, ◌≤◌, ◌++◌, length, codes, OnOk, OnErr};
 ghost use Rattle.std.specs.Io.KnownBytes.{Appends};
 ghost use Rattle.byte_ports.specs.Bytes.{AppendsPrefix};

@@ -1,5 +1,6 @@
 //! The maps of an address space and the summary of a run, as text. The maps follow proc_pid_maps(5): a line for each
-//! area, with the addresses of its first byte and of the byte after its last one, and its permissions.
+//! area, with the addresses of its first byte and of the byte after its last one, and its permissions. The summary is
+//! this project's own profile.
 ghost use Rattle.std.specs.Prelude.{◌≡◌, ◌+◌, ◌≤◌, ◌++◌, length, decimal, OnOk, OnErr};
 ghost use Rattle.std.specs.Io.KnownBytes.{Appends};
 ghost use Rattle.byte_ports.specs.Bytes.{AppendsPrefix};

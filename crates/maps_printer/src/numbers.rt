@@ -1,9 +1,19 @@
 //! Numbers as text, put into the buffer: decimal by the crate `itoa`, lower hexadecimal by a loop of the same kind.
+//! Addresses have the forms of strace(1), `NULL` and `0x` with digits, and of proc_pid_maps(5), at least eight digits.
 ghost use Rattle.std.specs.Prelude.{◌≡◌, ◌+◌, ◌<◌, ◌≤◌, ◌++◌, length, drop, decimal, replicate, false};
 ghost use Rattle.std.specs.Fmt.{digit_glyph};
 ghost use Rattle.maps_printer.specs.Numbers.{hex_digits, prefixed_hex, address_text, page_address};
 
 use crate::buffer::{Buffer, SIZE};
+
+/// How many places for digits a number is written into, from the last one on.
+const PLACES: usize = 64;
+
+/// The base of hexadecimal digits.
+const BASE: u64 = 16;
+
+/// How many digits a page has at least in an address, whose last three are zeros.
+const PAGE_DIGITS: usize = 5;
 
 /// Adds a number in decimal: at most 20 bytes.
 pub(crate) fn push_decimal(buffer: &mut Buffer, n: u64)
@@ -14,19 +24,19 @@ pub(crate) fn push_decimal(buffer: &mut Buffer, n: u64)
     buffer.push(itoa::Buffer::new().format(n).as_bytes());
 }
 
-/// The digits of a number in lower hexadecimal, at the end of `digits`; answers where they start.
-fn write_hex(n: u64, digits: &mut [u8; 64]) -> usize
+/// Writes a number in lower hexadecimal at the end of `digits`, and returns where its digits start.
+fn write_hex(n: u64, digits: &mut [u8; PLACES]) -> usize
     ensures within { result ≤ 64 }
     ensures written { drop result digits.new ≡ hex_digits n }
     ensures start { result + length (hex_digits n) ≡ 64 }
     ensures short { length (hex_digits n) ≤ 16 }
 {
-    let mut at = 64;
+    let mut at = PLACES;
     let mut rest = n;
     while at > 0 {
         at -= 1;
-        digits[at] = hex_digit(rest % 16);
-        rest /= 16;
+        digits[at] = hex_digit(rest % BASE);
+        rest /= BASE;
         if rest == 0 {
             break;
         }
@@ -52,7 +62,7 @@ pub(crate) fn push_hex(buffer: &mut Buffer, n: u64)
     ensures text { buffer.new ≡ buffer.old ++ hex_digits n }
     ensures room { length buffer.new ≤ length buffer.old + 16 }
 {
-    let mut digits = [0; 64];
+    let mut digits = [0; PLACES];
     let start = write_hex(n, &mut digits);
     buffer.push(&digits[start..]);
 }
@@ -87,9 +97,9 @@ pub(crate) fn push_page_address(buffer: &mut Buffer, page: u64)
     ensures text { buffer.new ≡ buffer.old ++ page_address page }
     ensures room { length buffer.new ≤ length buffer.old + 19 }
 {
-    let mut digits = [0; 64];
+    let mut digits = [0; PLACES];
     let start = write_hex(page, &mut digits);
-    push_zeros(buffer, 5usize.saturating_sub(64 - start));
+    push_zeros(buffer, PAGE_DIGITS.saturating_sub(PLACES - start));
     buffer.push(&digits[start..]);
     buffer.push(b"000");
 }

@@ -1,5 +1,6 @@
-//! Protections, flags and kinds as text: the words of mmap(2) and mprotect(2) and the four characters of
-//! proc_pid_maps(5). A set's bits that have no word aren't printed.
+//! Protections, flags and kinds as text: the words of mmap(2) and mprotect(2), in the order of their bits as strace(1)
+//! prints them, and the four characters of proc_pid_maps(5). A set's bits that have no word aren't printed, so no call
+//! needs a condition.
 ghost use Rattle.std.specs.Prelude.{◌≡◌, ◌+◌, ◌≤◌, ◌++◌, length};
 ghost use Rattle.maps_printer.specs.Words.{access_text, letter_if, flags_text, kind_text, prot_text};
 

@@ -2,10 +2,10 @@ pub mod LineLemmas
 pub mod Draining
 pub mod WordLemmas
 pub mod TraceLemmas
-pub mod ErrorPieces
 pub mod PlayLemmas
 pub mod ReportPieces
 pub mod RunLemmas
 pub mod OpeningLemmas
 pub mod Differences
 pub mod ScriptLemmas
+pub mod Outcomes

@@ -26,7 +26,7 @@ lines_whole byte (next ∷ text) none =
     lines_on byte (next ∷ text) (none 0 (omega arith))
     ∙ ap (put_first byte) (lines_whole next text (λ k below. none (suc k) (omega arith)))
 
--- what `&text[at..]` holds is what stands behind the first bytes
+-- what `&text[at..]` holds is what comes behind the first bytes
 pub all_behind : (at : ℕ) (text : List ℕ) → take (length text - at) (drop at text) ≡ drop at text
 all_behind at text = rw (← length-drop at text) (take-length (drop at text))
 

@@ -9,13 +9,13 @@ use Rattle.space_model.specs.Areas.{IsInOrder, HasNamedKinds}
 use Rattle.strace_reader.specs.declared.maps.MapsItem.{MapsItem}
 use Rattle.strace_reader.specs.declared.maps.MapsItem.TheVariants.{Area as Mapped, Past}
 use Rattle.strace_reader.specs.Maps.{SpellsMaps, IsNamedMapsItem}
-use Rattle.range_cli.specs.declared.status.Status.{Status}
-use Rattle.range_cli.specs.Opening.{IsNext, EndsMap, Opens, ReadsMaps, EndsMaps, start_of, stop_of, areas_with, past_with}
+use Rattle.range_cli.specs.declared.status.EarlyEnd.{EarlyEnd}
+use Rattle.range_cli.specs.Opening.{IsNext, EndsMap, Opens, ReadsMaps, EndsMaps, map_start, map_stop, areas_with, past_with}
 use Rattle.range_cli.specs.Opening.ReadsMaps.{over, empty, mapped, past_end}
 use Rattle.range_cli.specs.Opening.EndsMaps.{here, later}
 
 -- the addresses of a maps line are in order and have 64 bits; those of an area are user addresses
-pub spells_fit : (text : List ℕ) (item : MapsItem) → SpellsMaps text item → (start_of item < stop_of item) × (stop_of item < 2 ^ 64)
+pub spells_fit : (text : List ℕ) (item : MapsItem) → SpellsMaps text item → (map_start item < map_stop item) × (map_stop item < 2 ^ 64)
 unfolding SpellsMaps
 spells_fit text (Mapped area) h = (omega (arith, h.1), omega (arith, h.2))
 spells_fit text (Past start stop) h = (h.2, h.1.stops_at.fits)
@@ -24,28 +24,28 @@ spells_fit text (Past start stop) h = (h.2, h.1.stops_at.fits)
 -- user addresses; these texts are left
 pub record MapsSoFar (all : List (List ℕ)) (number from : ℕ) (left : List (List ℕ)) (areas : List Area) (past : ℕ) : Type 0 where
   pub reads : (more : List Area) (p next : ℕ) (rest : List (List ℕ)) → ReadsMaps number from left more p next rest → ReadsMaps 1 0 all (areas ++ more) (past + p) next rest
-  pub ends : (status : Status) → EndsMaps number from left status → EndsMaps 1 0 all status
+  pub ends : (end : EarlyEnd) → EndsMaps number from left end → EndsMaps 1 0 all end
 
 pub maps_start : (all : List (List ℕ)) → MapsSoFar all 1 0 all [] 0
 maps_start all = record {
   reads = λ more p next rest h. subst (λ n. ReadsMaps 1 0 all more n next rest) (omega arith) h;
-  ends = λ status h. h;
+  ends = λ end h. h;
 }
 
 pub maps_next : (all : List (List ℕ)) (number from : ℕ) (text : List ℕ) (texts : List (List ℕ)) (areas new_areas : List Area) (past new_past : ℕ)
     (item : MapsItem) → MapsSoFar all number from (text ∷ texts) areas past → IsNext from text item → new_areas ≡ areas_with areas item
-    → new_past ≡ past_with past item → MapsSoFar all (number + 1) (stop_of item) texts new_areas new_past
+    → new_past ≡ past_with past item → MapsSoFar all (number + 1) (map_stop item) texts new_areas new_past
 maps_next all number from text texts areas new_areas past new_past (Mapped area) so_far next is_areas is_past =
     rw (is_areas, is_past) (record {
       reads = λ more p n rest h. rw append_assoc (so_far.reads (area ∷ more) p n rest (mapped next h));
-      ends = λ status h. so_far.ends status (later (Mapped area) next h);
+      ends = λ end h. so_far.ends end (later (Mapped area) next h);
     })
 maps_next all number from text texts areas new_areas past new_past (Past start stop) so_far next is_areas is_past =
     rw (is_areas, is_past) (record {
       reads = λ more p n rest h.
           let one_more : past + (1 + p) ≡ past + 1 + p = omega arith in
           subst (λ k. ReadsMaps 1 0 all (areas ++ more) k n rest) one_more (so_far.reads more (1 + p) n rest (past_end next h));
-      ends = λ status h. so_far.ends status (later (Past start stop) next h);
+      ends = λ end h. so_far.ends end (later (Past start stop) next h);
     })
 
 pub maps_empty : (all : List (List ℕ)) (number from : ℕ) (texts : List (List ℕ)) (areas : List Area) (past : ℕ)
@@ -60,9 +60,9 @@ maps_over all number from areas past so_far =
     let h : ReadsMaps 1 0 all (areas ++ []) (past + 0) number [] = so_far.reads [] 0 number [] over in
     rw (append-nil, add-zero) at h
 
-pub maps_end : (all : List (List ℕ)) (number from : ℕ) (text : List ℕ) (texts : List (List ℕ)) (areas : List Area) (past : ℕ) (status : Status)
-    → MapsSoFar all number from (text ∷ texts) areas past → EndsMap number from text status → EndsMaps 1 0 all status
-maps_end all number from text texts areas past status so_far ends = so_far.ends status (here ends)
+pub maps_end : (all : List (List ℕ)) (number from : ℕ) (text : List ℕ) (texts : List (List ℕ)) (areas : List Area) (past : ℕ) (end : EarlyEnd)
+    → MapsSoFar all number from (text ∷ texts) areas past → EndsMap number from text end → EndsMaps 1 0 all end
+maps_end all number from text texts areas past end so_far ends = so_far.ends end (here ends)
 
 pub past_by_one : (past : ℕ) (item : MapsItem) → past_with past item ≤ past + 1
 past_by_one past (Mapped area) = omega arith

@@ -1,6 +1,6 @@
 -- Lines are read one by one: what becomes of those that are left completes what became of those before them.
 use Rattle.std.proofs.Common.{◌≡◌, ℕ, ◌+◌, ◌≤◌, List, [], ◌∷◌, ◌++◌, length, ap, subst, arith, add-zero, append-nil, append_assoc, length-append}
-use Rattle.range_cli.specs.declared.status.Status.{Status}
+use Rattle.range_cli.specs.declared.status.EarlyEnd.{EarlyEnd}
 use Rattle.range_cli.specs.declared.trace.Line.{Line}
 use Rattle.range_cli.specs.declared.trace.Step.{Step}
 use Rattle.range_cli.specs.declared.trace.Step.TheVariants.{Played, Skipped, Blank}
@@ -11,12 +11,12 @@ use Rattle.range_cli.specs.Trace.EndsAt.{here, later}
 -- before line `number` these lines are played and so many skipped, and these texts are left
 pub record SoFar (first : ℕ) (all : List (List ℕ)) (number : ℕ) (left : List (List ℕ)) (lines : List Line) (skipped : ℕ) : Type 0 where
   pub reads : (more : List Line) (s : ℕ) → Reads number (length lines) left more s → Reads first 0 all (lines ++ more) (skipped + s)
-  pub ends : (status : Status) → EndsAt number (length lines) left status → EndsAt first 0 all status
+  pub ends : (end : EarlyEnd) → EndsAt number (length lines) left end → EndsAt first 0 all end
 
 pub so_far_start : (first : ℕ) (all : List (List ℕ)) → SoFar first all first all [] 0
 so_far_start first all = record {
   reads = λ more s h. subst (λ n. Reads first 0 all more n) (omega arith) h;
-  ends = λ status h. h;
+  ends = λ end h. h;
 }
 
 pub so_far_call : (first : ℕ) (all : List (List ℕ)) (number : ℕ) (text : List ℕ) (texts : List (List ℕ)) (lines : List Line) (skipped : ℕ) (line : Line)
@@ -27,9 +27,9 @@ so_far_call first all number text texts lines skipped line so_far asks =
       reads = λ more s h.
           let h' : Reads (number + 1) (length lines + 1) texts more s = rw longer at h in
           rw append_assoc (so_far.reads (line ∷ more) s (call asks h'));
-      ends = λ status h.
-          let h' : EndsAt (number + 1) (length lines + 1) texts status = rw longer at h in
-          so_far.ends status (later (Played line) asks h');
+      ends = λ end h.
+          let h' : EndsAt (number + 1) (length lines + 1) texts end = rw longer at h in
+          so_far.ends end (later (Played line) asks h');
     }
 
 pub so_far_other : (first : ℕ) (all : List (List ℕ)) (number : ℕ) (text : List ℕ) (texts : List (List ℕ)) (lines : List Line) (skipped : ℕ)
@@ -39,7 +39,7 @@ so_far_other first all number text texts lines skipped so_far asks = record {
   reads = λ more s h.
       let more_by_one : skipped + (1 + s) ≡ skipped + 1 + s = omega arith in
       subst (λ n. Reads first 0 all (lines ++ more) n) more_by_one (so_far.reads more (1 + s) (other asks h));
-  ends = λ status h. so_far.ends status (later Skipped asks (subst (λ n. EndsAt (number + 1) n texts status) (omega arith) h));
+  ends = λ end h. so_far.ends end (later Skipped asks (subst (λ n. EndsAt (number + 1) n texts end) (omega arith) h));
 }
 
 pub so_far_blank : (first : ℕ) (all : List (List ℕ)) (number : ℕ) (text : List ℕ) (texts : List (List ℕ)) (lines : List Line) (skipped : ℕ)
@@ -47,7 +47,7 @@ pub so_far_blank : (first : ℕ) (all : List (List ℕ)) (number : ℕ) (text : 
     → SoFar first all (number + 1) texts lines skipped
 so_far_blank first all number text texts lines skipped so_far asks = record {
   reads = λ more s h. so_far.reads more s (empty asks h);
-  ends = λ status h. so_far.ends status (later Blank asks (subst (λ n. EndsAt (number + 1) n texts status) (omega arith) h));
+  ends = λ end h. so_far.ends end (later Blank asks (subst (λ n. EndsAt (number + 1) n texts end) (omega arith) h));
 }
 
 pub so_far_step : (first : ℕ) (all : List (List ℕ)) (number played : ℕ) (text : List ℕ) (texts : List (List ℕ)) (lines new_lines : List Line)
@@ -67,9 +67,9 @@ so_far_all first all number lines skipped so_far =
     let h : Reads first 0 all (lines ++ []) (skipped + 0) = so_far.reads [] 0 nothing in
     rw (append-nil, add-zero) at h
 
-pub so_far_ends : (first : ℕ) (all : List (List ℕ)) (number played : ℕ) (text : List ℕ) (texts : List (List ℕ)) (lines : List Line) (skipped : ℕ) (status : Status)
-    → SoFar first all number (text ∷ texts) lines skipped → played ≡ length lines → Ends number played text status → EndsAt first 0 all status
-so_far_ends first all number played text texts lines skipped status so_far count ends = so_far.ends status (here (rw count at ends))
+pub so_far_ends : (first : ℕ) (all : List (List ℕ)) (number played : ℕ) (text : List ℕ) (texts : List (List ℕ)) (lines : List Line) (skipped : ℕ) (end : EarlyEnd)
+    → SoFar first all number (text ∷ texts) lines skipped → played ≡ length lines → Ends number played text end → EndsAt first 0 all end
+so_far_ends first all number played text texts lines skipped end so_far count ends = so_far.ends end (here (rw count at ends))
 
 pub skipped_by_one : (skipped : ℕ) (step : Step) → skipped_with skipped step ≤ skipped + 1
 skipped_by_one skipped (Played line) = omega arith

@@ -4,12 +4,12 @@ use Rattle.std.specs.Str.{bytes_eq}
 use Rattle.std.proofs.lemmas.Slice.Eq.{bytes_eq-Decides}
 use Rattle.range_cli.specs.declared.words.Options.{Options}
 use Rattle.range_cli.specs.declared.words.Word.TheVariants.{Opening, Log, Other}
-use Rattle.range_cli.specs.Words.{times, once, AreOptions, KindOf}
+use Rattle.range_cli.specs.Words.{count_of_word, once, AreOptions, KindOf}
 
 -- after the first `read` words these options were asked for, and these words are left
 pub record HasAsked (asked : Options) (read : ℕ) (words left : List (List ℕ)) : Type 0 where
-  pub opening : times (codes "--opening") words ≡ once asked.opening + times (codes "--opening") left
-  pub log : times (codes "--log") words ≡ once asked.log + times (codes "--log") left
+  pub opening : count_of_word (codes "--opening") words ≡ once asked.opening + count_of_word (codes "--opening") left
+  pub log : count_of_word (codes "--log") words ≡ once asked.log + count_of_word (codes "--log") left
   pub all : read ≡ once asked.opening + once asked.log
   pub rest : length words ≡ read + length left
 
@@ -47,7 +47,7 @@ apart word = not_both (bytes_eq (codes "--opening") word) (bytes_eq (codes "--lo
     let b = (bytes_eq-Decides (codes "--log") word).0 second in
     let same : codes "--opening" ≡ codes "--log" = a ∙ sym b in cc)
 
-both_fit : (words : List (List ℕ)) → times (codes "--opening") words + times (codes "--log") words ≤ length words
+both_fit : (words : List (List ℕ)) → count_of_word (codes "--opening") words + count_of_word (codes "--log") words ≤ length words
 both_fit [] = omega arith
 both_fit (word ∷ words) = omega (arith, apart word, both_fit words)
 
@@ -81,7 +81,7 @@ refuses_opening_again asked read words left word so_far kind already options are
     omega (
       arith,
       so_far.opening,
-      are.opening,
+      are.openings,
       at_most_once options.opening,
       one_of (codes "--opening") word kind,
       is_once asked.opening already,
@@ -94,7 +94,7 @@ refuses_log_again asked read words left word so_far kind already options are =
     omega (
       arith,
       so_far.log,
-      are.log,
+      are.logs,
       at_most_once options.log,
       one_of (codes "--log") word kind,
       is_once asked.log already,

@@ -1,8 +1,8 @@
--- The line on standard error, for each way in which a run ends without its whole report. This project's own profile;
--- the texts stand in docs/FORMATS.md too.
+-- The line on standard error, for each way in which a run ends without its whole report. The texts are this project's
+-- own profile, and docs/FORMATS.md lists them too. A run that is done has no line.
 use Rattle.std.specs.Prelude.{ℕ, List, [], ◌++◌, codes, decimal}
-use Rattle.line_parts.specs.declared.fault.What.{What}
-use Rattle.line_parts.specs.declared.fault.What.TheVariants.{Number, Wide, Word, Comma, Close, Result as AtResult, Form, Order, Later}
+use Rattle.line_parts.specs.declared.refusal.What.{What}
+use Rattle.line_parts.specs.declared.refusal.What.TheVariants.{Number, Wide, Word, Comma, Close, Result as AtResult, Form, Order, Later}
 use Rattle.range_cli.specs.declared.status.Status.{Status}
 use Rattle.range_cli.specs.declared.status.Status.TheVariants.{Done, Usage, BadLine, ReadFault, WriteFault, Memory, Limit}
 use Rattle.range_cli.specs.declared.status.Which.{Which}
@@ -27,7 +27,7 @@ which_text Line = codes "limit line: "
 which_text Lines = codes "limit lines: "
 which_text Rows = codes "limit rows: "
 
--- a number in decimal, with what stands before and behind it
+-- a number in decimal, with a text before it and one behind it
 abbrev pub numbered : List ℕ → ℕ → List ℕ → List ℕ
 numbered before number behind = before ++ (decimal number ++ behind)
 

@@ -1,5 +1,5 @@
 -- The report of a run, as one text: the log where it is asked for, the maps of the last areas, and the summary. The
--- texts of its parts are the printer's.
+-- texts of its parts are the printer's. The order of the parts and what is counted are this project's own profile.
 use Rattle.std.specs.Prelude.{◌≡◌, ◌⊎◌, ℕ, ◌+◌, ◌∷◌, Bool, true, false, List, [], ◌++◌, length, count_by, if◌then◌else◌}
 use Rattle.page_types.specs.declared.calls.Reply.{Reply}
 use Rattle.page_types.specs.declared.calls.Reply.TheVariants.{At, Zero, Granted, Refused}

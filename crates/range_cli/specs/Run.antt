@@ -1,12 +1,14 @@
--- What a run of the program tells, and why it ends: the sentence that the whole program is proved to keep. Nothing here
--- speaks of how lines are read or areas are kept.
-use Rattle.std.specs.Prelude.{◌≡◌, ◌⊎◌, ℕ, ◌+◌, List, Option, ⊤}
+-- What a run of the program says, and why it ends: the sentence that the whole program is proved to keep. Nothing here
+-- speaks of how lines are read or areas are kept. The statuses and their order are this project's own profile; the
+-- definitions below are in two directions, what comes only with its cause and what comes wherever its cause is there.
+use Rattle.std.specs.Prelude.{◌≡◌, ◌⊎◌, ℕ, ◌<◌, ◌≤◌, List, length, Option, ⊤}
 use Rattle.std.specs.Io.KnownBytes.{Appends, Keeps}
 use Rattle.byte_ports.specs.Bytes.{AppendsPrefix}
 use Rattle.byte_ports.specs.Counts.{Rose}
 use Rattle.space_model.specs.declared.areas.Area.{Area}
 use Rattle.space_model.specs.declared.entries.Entry.{Entry}
-use Rattle.range_cli.specs.declared.input.TheConstants.{INPUT_LIMIT}
+use Rattle.range_cli.specs.declared.status.EarlyEnd.{EarlyEnd}
+use Rattle.range_cli.specs.declared.status.EarlyEnd.TheVariants.{Refused, Above}
 use Rattle.range_cli.specs.declared.status.Status.{Status}
 use Rattle.range_cli.specs.declared.status.Status.TheVariants.{Done, Usage, BadLine, ReadFault, WriteFault, Memory, Limit}
 use Rattle.range_cli.specs.declared.status.Which.{Which}
@@ -17,19 +19,20 @@ use Rattle.range_cli.specs.ErrorLine.{error_line}
 use Rattle.range_cli.specs.Input.{IsInput, IsTooLong}
 use Rattle.range_cli.specs.Play.{IsPlayed}
 use Rattle.range_cli.specs.Report.{report_text, refused_count, Differing}
-use Rattle.range_cli.specs.Script.{IsScript, EndsInput, PassesRows}
-use Rattle.range_cli.specs.Words.{Accepts, Refuses}
+use Rattle.range_cli.specs.Script.{IsScript, EndsInput}
+use Rattle.range_cli.specs.Status.{status_of}
+use Rattle.range_cli.specs.Words.{Accepts, RefusesWords}
 
--- the report of an input with these options: its lines, played from its opening areas as a legal history with these
--- entries and these last areas
+-- the report of an input with these options: its lines, played from the areas that it starts with as a legal history
+-- with these entries and these last areas
 pub record IsReport (options : Options) (bytes report : List ℕ) : Type 0 where
-  pub opening : List Area
+  pub start : List Area
   pub lines : List Line
   pub skipped : ℕ
-  pub script : IsScript options bytes opening lines skipped
+  pub script : IsScript options bytes start lines skipped
   pub entries : List Entry
   pub last : List Area
-  pub played : IsPlayed opening lines entries last
+  pub played : IsPlayed start lines entries last
   pub differ : ℕ
   pub differs : Differing lines entries differ
   pub text : report ≡ report_text options last entries (record { skipped = skipped; refused = refused_count entries; differ = differ })
@@ -43,13 +46,13 @@ pub record Heard (words : List (List ℕ)) (input_old input_new : Option (List �
   pub holds : P options bytes
 
 -- this is the report of the input
-abbrev pub Tells : List (List ℕ) → Option (List ℕ) → Option (List ℕ) → List ℕ → Type 0
-Tells words input_old input_new report = Heard words input_old input_new (λ options bytes. IsReport options bytes report)
+abbrev pub Reports : List (List ℕ) → Option (List ℕ) → Option (List ℕ) → List ℕ → Type 0
+Reports words input_old input_new report = Heard words input_old input_new (λ options bytes. IsReport options bytes report)
 
 -- what a run wrote: the whole report, or a first part of it where the output failed, else nothing
 abbrev pub Wrote : List (List ℕ) → Option (List ℕ) → Option (List ℕ) → Option (List ℕ) → Option (List ℕ) → Status → Type 0
-Wrote words input_old input_new out_old out_new Done = (report : List ℕ) × Tells words input_old input_new report × Appends out_old out_new report
-Wrote words input_old input_new out_old out_new WriteFault = (report : List ℕ) × Tells words input_old input_new report × AppendsPrefix out_old out_new report
+Wrote words input_old input_new out_old out_new Done = (report : List ℕ) × Reports words input_old input_new report × Appends out_old out_new report
+Wrote words input_old input_new out_old out_new WriteFault = (report : List ℕ) × Reports words input_old input_new report × AppendsPrefix out_old out_new report
 Wrote words input_old input_new out_old out_new Usage = Keeps out_old out_new
 Wrote words input_old input_new out_old out_new (BadLine line column what) = Keeps out_old out_new
 Wrote words input_old input_new out_old out_new ReadFault = Keeps out_old out_new
@@ -66,26 +69,54 @@ IsUnwritten ReadFault = ⊤
 IsUnwritten Memory = ⊤
 IsUnwritten (Limit which value) = ⊤
 
--- the first of the input's lines that ends the run ends it so
-abbrev pub EndsByLine : List (List ℕ) → Option (List ℕ) → Option (List ℕ) → Status → Type 0
-EndsByLine words input_old input_new status = Heard words input_old input_new (λ options bytes. EndsInput options bytes status)
+-- the input ends the run so: by the first of its lines that ends a run, or behind them by the rows that it opens with
+abbrev pub EndsByInput : List (List ℕ) → Option (List ℕ) → Option (List ℕ) → EarlyEnd → Type 0
+EndsByInput words input_old input_new end = Heard words input_old input_new (λ options bytes. EndsInput options bytes end)
 
 -- which limit was passed
 abbrev pub PassedLimit : List (List ℕ) → Option (List ℕ) → Option (List ℕ) → Which → ℕ → Type 0
-PassedLimit words input_old input_new Input value = (value ≡ INPUT_LIMIT + 1) × IsTooLong input_old
-PassedLimit words input_old input_new OfLine value = EndsByLine words input_old input_new (Limit OfLine value)
-PassedLimit words input_old input_new OfLines value = EndsByLine words input_old input_new (Limit OfLines value)
-PassedLimit words input_old input_new Rows value = Heard words input_old input_new (λ options bytes. PassesRows options bytes value)
+PassedLimit words input_old input_new Input value = (value ≡ 67108865) × IsTooLong input_old × ((options : Options) × Accepts words options)
+PassedLimit words input_old input_new OfLine value = EndsByInput words input_old input_new (Above OfLine value)
+PassedLimit words input_old input_new OfLines value = EndsByInput words input_old input_new (Above OfLines value)
+PassedLimit words input_old input_new Rows value = EndsByInput words input_old input_new (Above Rows value)
 
--- the cause of each status: the words, the input's lines, or a count of faults that rose; want of memory has none
+-- the cause of each status: the words, the input, or a count of failed calls that rose; out of memory has none
 abbrev pub HasCause : List (List ℕ) → Option (List ℕ) → Option (List ℕ) → (ℕ × ℕ) → (ℕ × ℕ) → Status → Type 0
-HasCause words input_old input_new input_faults out_faults Done = ⊤
-HasCause words input_old input_new input_faults out_faults Usage = Refuses words
-HasCause words input_old input_new input_faults out_faults (BadLine line column what) = EndsByLine words input_old input_new (BadLine line column what)
-HasCause words input_old input_new input_faults out_faults ReadFault = Rose input_faults.0 input_faults.1
-HasCause words input_old input_new input_faults out_faults WriteFault = Rose out_faults.0 out_faults.1
-HasCause words input_old input_new input_faults out_faults Memory = ⊤
-HasCause words input_old input_new input_faults out_faults (Limit which value) = PassedLimit words input_old input_new which value
+HasCause words input_old input_new input_failures out_failures Done = ⊤
+HasCause words input_old input_new input_failures out_failures Usage = RefusesWords words
+HasCause words input_old input_new input_failures out_failures (BadLine line column what) = EndsByInput words input_old input_new (Refused line column what)
+HasCause words input_old input_new input_failures out_failures ReadFault = Rose input_failures.0 input_failures.1
+HasCause words input_old input_new input_failures out_failures WriteFault = Rose out_failures.0 out_failures.1
+HasCause words input_old input_new input_failures out_failures Memory = ⊤
+HasCause words input_old input_new input_failures out_failures (Limit which value) = PassedLimit words input_old input_new which value
+
+-- the words and an input with these bytes call for this status
+pub data IsOutcome (words : List (List ℕ)) (bytes : List ℕ) : Status → Type 0 where
+  -- the words are not accepted
+  usage : RefusesWords words → IsOutcome words bytes Usage
+  -- the input has more bytes than it may have
+  too_long : {options : Options} → Accepts words options → 67108864 < length bytes → IsOutcome words bytes (Limit Input 67108865)
+  -- one of its lines ends the run, or the rows of the areas that it starts with do
+  early : {options : Options} {end : EarlyEnd} {status : Status} → Accepts words options → length bytes ≤ 67108864 →
+      EndsInput options bytes end → status ≡ status_of end → IsOutcome words bytes status
+  -- every line is readable and all limits are kept
+  done : {options : Options} {start : List Area} {lines : List Line} {skipped : ℕ} → Accepts words options →
+      length bytes ≤ 67108864 → IsScript options bytes start lines skipped → IsOutcome words bytes Done
+
+-- they call for this status and for no other
+pub record IsOnlyOutcome (words : List (List ℕ)) (bytes : List ℕ) (status : Status) : Type 0 where
+  pub called_for : IsOutcome words bytes status
+  pub only : (other : Status) → IsOutcome words bytes other → other ≡ status
+
+-- a run may end so whatever was called for: there was no memory, or a port's count of failed calls rose
+abbrev pub IsHindered : (ℕ × ℕ) → (ℕ × ℕ) → Status → Type 0
+IsHindered input_failures out_failures Done = ⊥
+IsHindered input_failures out_failures Usage = ⊥
+IsHindered input_failures out_failures (BadLine line column what) = ⊥
+IsHindered input_failures out_failures ReadFault = Rose input_failures.0 input_failures.1
+IsHindered input_failures out_failures WriteFault = Rose out_failures.0 out_failures.1
+IsHindered input_failures out_failures Memory = ⊤
+IsHindered input_failures out_failures (Limit which value) = ⊥
 
 -- the status's line was written, or a first part of it where that output failed
 abbrev pub Complains : Option (List ℕ) → Option (List ℕ) → ℕ → ℕ → Status → Type 0

@@ -1,7 +1,21 @@
--- The exit status of the program, this project's own profile.
-use Rattle.std.specs.Prelude.{ℕ}
+-- How an early end becomes the status of a run, and the exit status of each; both are this project's own profile. Out
+-- of memory is the one early end that has no cause to show. That it may come anywhere is said in one place, `OrMemory`.
+use Rattle.std.specs.Prelude.{◌≡◌, ◌⊎◌, ℕ}
+use Rattle.range_cli.specs.declared.status.EarlyEnd.{EarlyEnd}
+use Rattle.range_cli.specs.declared.status.EarlyEnd.TheVariants.{Refused, Failed, NoMemory, Above}
 use Rattle.range_cli.specs.declared.status.Status.{Status}
 use Rattle.range_cli.specs.declared.status.Status.TheVariants.{Done, Usage, BadLine, ReadFault, WriteFault, Memory, Limit}
+
+-- the status of a run that ends so before anything is played
+abbrev pub status_of : EarlyEnd → Status
+status_of (Refused line column what) = BadLine line column what
+status_of Failed = ReadFault
+status_of NoMemory = Memory
+status_of (Above which value) = Limit which value
+
+-- an end of this kind, or out of memory
+abbrev pub OrMemory : (EarlyEnd → Type 0) → EarlyEnd → Type 0
+OrMemory Ends end = (end ≡ NoMemory) ⊎ Ends end
 
 -- the exit status
 abbrev pub exit_code : Status → ℕ

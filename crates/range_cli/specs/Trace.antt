@@ -1,13 +1,12 @@
 -- What becomes of the lines of an input, from the first on: each is played, passed over or blank, up to the first that
--- ends the run. The grammar of one line is the reader's; the limits and the order of refusals stand here, and are this
--- project's own profile.
-use Rattle.std.specs.Prelude.{◌≡◌, ◌⊎◌, ℕ, ◌+◌, ◌<◌, ◌≤◌, List, [], ◌∷◌, ◌++◌, length}
+-- ends the run. The grammar of one line is the reader's, after strace(1). The limits, 65,535 bytes of a line and
+-- 1,048,576 played lines, and the order of refusals are this project's own profile.
+use Rattle.std.specs.Prelude.{◌≡◌, ℕ, ◌+◌, ◌<◌, ◌≤◌, List, [], ◌∷◌, ◌++◌, length}
 use Rattle.page_types.specs.Named.{IsNamedCall}
 use Rattle.strace_reader.specs.declared.item.Item.TheVariants.{Played as Call, Other, Blank as Empty}
 use Rattle.strace_reader.specs.Grammar.{Spells, Refuses}
-use Rattle.range_cli.specs.declared.trace.TheConstants.{LINE_LIMIT, LINES_LIMIT}
-use Rattle.range_cli.specs.declared.status.Status.{Status}
-use Rattle.range_cli.specs.declared.status.Status.TheVariants.{Done, Usage, BadLine, ReadFault, WriteFault, Memory, Limit}
+use Rattle.range_cli.specs.declared.status.EarlyEnd.{EarlyEnd}
+use Rattle.range_cli.specs.declared.status.EarlyEnd.TheVariants.{Refused, Failed, NoMemory, Above}
 use Rattle.range_cli.specs.declared.status.Which.{Which}
 use Rattle.range_cli.specs.declared.status.Which.TheVariants.{Input, Line as OfLine, Lines as OfLines, Rows}
 use Rattle.range_cli.specs.declared.trace.Line.{Line}
@@ -16,19 +15,19 @@ use Rattle.range_cli.specs.declared.trace.Step.TheVariants.{Played, Skipped, Bla
 
 -- the line is short enough to be looked at
 abbrev pub IsShort : List ℕ → Type 0
-IsShort text = length text ≤ LINE_LIMIT
+IsShort text = length text ≤ 65535
 
 -- the line is too long; the value is the first length above the limit
 abbrev pub IsTooLongLine : List ℕ → ℕ → Type 0
-IsTooLongLine text value = (LINE_LIMIT < length text) × (value ≡ LINE_LIMIT + 1)
+IsTooLongLine text value = (65535 < length text) × (value ≡ 65536)
 
 -- the line is a call of some process with this result
-abbrev pub IsCall : List ℕ → Line → Type 0
-IsCall text line = (pid : ℕ) × Spells text (Call pid line.call line.recorded)
+abbrev pub SpellsCall : List ℕ → Line → Type 0
+SpellsCall text line = (pid : ℕ) × Spells text (Call pid line.call line.recorded)
 
 -- what line `number`, with so many lines played before it, asks for
 abbrev pub Asks : ℕ → ℕ → List ℕ → Step → Type 0
-Asks number played text (Played line) = IsShort text × (played < LINES_LIMIT) × IsCall text line × (line.number ≡ number)
+Asks number played text (Played line) = IsShort text × (played < 1048576) × SpellsCall text line × (line.number ≡ number)
 Asks number played text Skipped = IsShort text × Spells text Other
 Asks number played text Blank = IsShort text × Spells text Empty
 
@@ -36,18 +35,15 @@ Asks number played text Blank = IsShort text × Spells text Empty
 abbrev pub Passes : ℕ → List ℕ → Which → ℕ → Type 0
 Passes played text Input value = ⊥
 Passes played text OfLine value = IsTooLongLine text value
-Passes played text OfLines value = IsShort text × (LINES_LIMIT ≤ played) × (value ≡ LINES_LIMIT + 1) × ((line : Line) × IsCall text line)
+Passes played text OfLines value = IsShort text × (1048576 ≤ played) × (value ≡ 1048577) × ((line : Line) × SpellsCall text line)
 Passes played text Rows value = ⊥
 
 -- the line ends the run so
-abbrev pub Ends : ℕ → ℕ → List ℕ → Status → Type 0
-Ends number played text Done = ⊥
-Ends number played text Usage = ⊥
-Ends number played text (BadLine line column what) = IsShort text × Refuses text (record { column = column; what = what }) × (line ≡ number)
-Ends number played text ReadFault = ⊥
-Ends number played text WriteFault = ⊥
-Ends number played text Memory = ⊥
-Ends number played text (Limit which value) = Passes played text which value
+abbrev pub Ends : ℕ → ℕ → List ℕ → EarlyEnd → Type 0
+Ends number played text (Refused line column what) = IsShort text × Refuses text (record { column = column; what = what }) × (line ≡ number)
+Ends number played text Failed = ⊥
+Ends number played text NoMemory = ⊥
+Ends number played text (Above which value) = Passes played text which value
 
 -- the sets of bits of a line's call have no bit but the named ones
 abbrev pub IsNamedLine : Line → Type 0
@@ -90,12 +86,8 @@ pub data Reads : ℕ → ℕ → List (List ℕ) → List Line → ℕ → Type 
       Reads number played (text ∷ texts) lines skipped
 
 -- the first of the lines, from line `number` on, that ends the run ends it so
-pub data EndsAt : ℕ → ℕ → List (List ℕ) → Status → Type 0 where
-  here : {number played : ℕ} {text : List ℕ} {texts : List (List ℕ)} {status : Status} → Ends number played text status →
-      EndsAt number played (text ∷ texts) status
-  later : {number played : ℕ} {text : List ℕ} {texts : List (List ℕ)} {status : Status} → (step : Step) → Asks number played text step →
-      EndsAt (number + 1) (played + played_by step) texts status → EndsAt number played (text ∷ texts) status
-
--- the lines from line `number` on end the run so, unless there was no memory
-abbrev pub StopsBy : ℕ → List (List ℕ) → Status → Type 0
-StopsBy number texts status = (status ≡ Memory) ⊎ EndsAt number 0 texts status
+pub data EndsAt : ℕ → ℕ → List (List ℕ) → EarlyEnd → Type 0 where
+  here : {number played : ℕ} {text : List ℕ} {texts : List (List ℕ)} {end : EarlyEnd} → Ends number played text end →
+      EndsAt number played (text ∷ texts) end
+  later : {number played : ℕ} {text : List ℕ} {texts : List (List ℕ)} {end : EarlyEnd} → (step : Step) → Asks number played text step →
+      EndsAt (number + 1) (played + played_by step) texts end → EndsAt number played (text ∷ texts) end

@@ -1,5 +1,6 @@
 //! The line on standard error that says why a run did not write its whole report. It takes no memory, so that it can
-//! say that there is none.
+//! say that there is none. The texts are this project's own profile; a reader may rely on one line for each status but
+//! Done, which has none.
 ghost use Rattle.std.specs.Prelude.{◌≡◌, ◌≤◌, OnOk, OnErr, decimal};
 ghost use Rattle.std.specs.Io.KnownBytes.{Appends};
 ghost use Rattle.byte_ports.specs.Bytes.{AppendsPrefix};
@@ -49,7 +50,7 @@ fn write_bad_line<K: Sink>(err: &mut K, line: u32, column: u32, what: What) -> R
     write_numbered(err, b"", column as u64, due(what))
 }
 
-/// Writes a number in decimal, and what stands before and behind it.
+/// Writes a number in decimal, with a text before it and one behind it.
 fn write_numbered<K: Sink>(
     err: &mut K,
     before: &[u8],

@@ -1,6 +1,6 @@
-//! Lines of an input, one after another. A line ends at a newline; what stands behind the last newline is a line too,
-//! unless nothing stands there. The definition, `lines_of`, goes from the back of the text and this code from its
-//! front.
+//! Lines of an input, one after another, as grep(1) sees them. A line ends at a newline; what comes behind the last
+//! newline is a line too, unless nothing comes there. The definition, `lines_of`, goes from the back of the text and
+//! this code from its front; a reader may rely on both giving the same lines.
 ghost use Rattle.std.specs.Prelude.{◌≡◌, ◌∷◌, ◌<◌, ◌≤◌, ◌↔◌, [], length, IsNone, IfSome};
 ghost use Rattle.range_cli.specs.Lines.{lines_of};
 

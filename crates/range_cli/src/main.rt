@@ -1,6 +1,6 @@
 //! The program `range_cli` plays a trace of address-space calls, as strace(1) prints them, and prints the areas that
-//! are left as proc_pid_maps(5) does. `run` is the whole program over a source and two sinks; this file ties it to
-//! the process: its words, its standard streams and its exit status.
+//! are left as proc_pid_maps(5) does. `run` is the whole program over a source and two sinks, and all that is proved is
+//! said on it. This file ties it to the process: its words, its standard streams and its exit status.
 #![tactic(auto)]
 
 mod error_line;
@@ -17,6 +17,7 @@ mod tests;
 mod trace;
 mod words;
 
+use crate::error_line::write_error;
 use crate::run::run;
 use crate::status::Status;
 use byte_ports::{StdSink, StdSource};
@@ -25,9 +26,11 @@ use std::{env, io};
 
 /// Runs the program on the process's own streams.
 fn main(rt: HostRuntime) -> ExitCode {
+    let mut err = StdSink::error(rt.stderr());
     let words = match words_after_name(&rt) {
         Ok(words) => words,
         Err(error) if error.kind() == io::ErrorKind::OutOfMemory => {
+            let _ = write_error(&mut err, &Status::Memory);
             return ExitCode::from(Status::Memory.code());
         }
         // A word that is no UTF-8 is no accepted word; neither are no words at all.
@@ -35,7 +38,6 @@ fn main(rt: HostRuntime) -> ExitCode {
     };
     let mut input = StdSource::new(rt.stdin());
     let mut out = StdSink::output(rt.stdout());
-    let mut err = StdSink::error(rt.stderr());
     let status = run(rt.alloc(), &words, &mut input, &mut out, &mut err);
     ExitCode::from(status.code())
 }

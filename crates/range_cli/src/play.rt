@@ -1,7 +1,10 @@
-//! Playing the lines of a trace on the address space of one thread: one entry for each line, numbered from 0.
+//! Playing the lines of a trace on the address space of one thread: one entry for each line, numbered from 0. The
+//! entries are a legal history in the sense of Herlihy and Wing (TOPLAS 1990). A reader may rely on each entry being
+//! right at the areas that the entries before it leave.
 ghost use Rattle.std.specs.Prelude.{◌≤◌, length, All, IfOk};
-ghost use Rattle.range_cli.specs.Play.{IsPlayed, IsStep};
+ghost use Rattle.range_cli.specs.Play.{IsPlayed, IsPlayedAs};
 ghost use Rattle.range_cli.specs.Trace.{IsNamedLine};
+ghost use Rattle.range_cli.specs.declared.trace.TheConstants.{LINES_LIMIT};
 
 use crate::trace::Line;
 use space_model::{Entry, PlainSpace};
@@ -20,7 +23,7 @@ pub struct Played {
 /// Plays the lines on a space, in their order, as worker 0.
 pub fn play(alloc: Global, opening: PlainSpace, lines: &[Line]) -> Result<Played, AllocError>
     requires named { All IsNamedLine lines.now }
-    requires few { length lines.now ≤ 1048576 }
+    requires few { length lines.now ≤ LINES_LIMIT }
     ensures { IfOk result (λ played. IsPlayed opening lines.now played.entries.items played.space) }
 {
     let mut space = opening;
@@ -35,7 +38,7 @@ pub fn play(alloc: Global, opening: PlainSpace, lines: &[Line]) -> Result<Played
 /// Plays one line, as the entry of a number.
 fn play_line(space: &mut PlainSpace, line: &Line, number: u64) -> Result<Entry, AllocError>
     requires { IsNamedLine line.now }
-    ensures { IfOk result (λ entry. IsStep number space.old line.now entry space.new) }
+    ensures { IfOk result (λ entry. IsPlayedAs number space.old line.now entry space.new) }
 {
     let call = as_played(&line.call, line.recorded);
     let under = space.under(&call);

@@ -1,4 +1,6 @@
-//! The report of a run: the log where it is asked for, the maps that are left, and the summary.
+//! The report of a run: the log where it is asked for, the maps that are left, and the summary. The texts of the parts
+//! are those of the crate `maps_printer`. A reader may rely on the output being the whole report, or a first part of it
+//! where the sink failed.
 ghost use Rattle.std.specs.Prelude.{◌≡◌, ◌≤◌, ◌^◌, ◌<◌, length, OnOk, OnErr};
 ghost use Rattle.std.specs.Io.KnownBytes.{Appends};
 ghost use Rattle.byte_ports.specs.Bytes.{AppendsPrefix};

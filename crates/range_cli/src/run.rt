@@ -1,9 +1,10 @@
 //! The whole program over a source and two sinks: words, input, lines, calls, report. What `run` wrote is what the
-//! input says; why it ended otherwise is told by its status, and each status has its cause.
-ghost use Rattle.std.specs.Prelude.{◌≡◌, map};
+//! input says; why it ended otherwise is said by its status. Each status comes only with its cause, and the run ends
+//! with the one status that the words and the input call for, unless there was no memory or a port failed.
+ghost use Rattle.std.specs.Prelude.{◌≡◌, ◌⊎◌, ℕ, List, Some, map};
 ghost use Rattle.std.specs.String.{string_bytes};
-ghost use Rattle.range_cli.specs.Words.{Refuses};
-ghost use Rattle.range_cli.specs.Run.{Wrote, IsUnwritten, HasCause, Complains};
+ghost use Rattle.range_cli.specs.Words.{RefusesWords};
+ghost use Rattle.range_cli.specs.Run.{Wrote, IsUnwritten, HasCause, IsOnlyOutcome, IsHindered, Complains};
 
 use crate::error_line::write_error;
 use crate::play::play;
@@ -28,7 +29,14 @@ pub fn run<S: Source, K: Sink>(
     ensures cause { HasCause (map string_bytes words.now) (S.remaining input.old)
         (S.remaining input.new) (S.fault_count input.old, S.fault_count input.new)
         (K.fault_count out.old, K.fault_count out.new) result }
-    ensures usage { Refuses (map string_bytes words.now) → result ≡ Status.Usage }
+    // The run ends with the one status that the words and the bytes of the input call for, unless there was no memory
+    // or
+    // a port failed. So with accepted words, readable lines and all limits kept it is done.
+    ensures complete { (bytes : List ℕ) → S.remaining input.old ≡ Some bytes
+        → IsOnlyOutcome (map string_bytes words.now) bytes result
+        ⊎ IsHindered (S.fault_count input.old, S.fault_count input.new)
+        (K.fault_count out.old, K.fault_count out.new) result }
+    ensures usage { RefusesWords (map string_bytes words.now) → result ≡ Status.Usage }
     ensures nothing_read { result ≡ Status.Usage → input.new ≡ input.old }
     ensures nothing_written { IsUnwritten result → out.new ≡ out.old }
     ensures err { Complains (K.contents err.old) (K.contents err.new)
@@ -47,7 +55,7 @@ fn report<S: Source, K: Sink>(alloc: Global, words: &[String], input: &mut S, ou
     ensures cause { HasCause (map string_bytes words.now) (S.remaining input.old)
         (S.remaining input.new) (S.fault_count input.old, S.fault_count input.new)
         (K.fault_count out.old, K.fault_count out.new) result }
-    ensures usage { Refuses (map string_bytes words.now) → result ≡ Status.Usage }
+    ensures usage { RefusesWords (map string_bytes words.now) → result ≡ Status.Usage }
     ensures nothing_read { result ≡ Status.Usage → input.new ≡ input.old }
     ensures nothing_written { IsUnwritten result → out.new ≡ out.old }
 {
@@ -56,7 +64,7 @@ fn report<S: Source, K: Sink>(alloc: Global, words: &[String], input: &mut S, ou
     };
     let script = match read_script(alloc, options, input) {
         Ok(script) => script,
-        Err(status) => return status,
+        Err(end) => return end.status(),
     };
     let Ok(played) = play(alloc, script.opening, &script.lines) else {
         return Status::Memory;

@@ -1,13 +1,16 @@
 //! What an input asks to play: the areas that it begins with, and its lines. The refusals of an input come in the
-//! order of its lines, and the limit on the rows of the opening areas comes last.
+//! order of its lines, and the limit on the rows of the opening areas comes last; this order is this project's own
+//! profile. A reader may rely on the first line that ends the run being the one that is named.
 ghost use Rattle.std.specs.Prelude.{◌≤◌, length, All, IfOk, IfErr};
 ghost use Rattle.range_cli.specs.declared.trace.TheConstants.{LINES_LIMIT};
-ghost use Rattle.range_cli.specs.Script.{IsScriptOf, EndsScript, IsReadScript, StopsEarly};
+ghost use Rattle.range_cli.specs.Script.{IsScriptOf, EndsInput, IsReadScript, EndsEarly};
+ghost use Rattle.range_cli.specs.Status.{OrMemory};
+ghost use Rattle.range_cli.specs.declared.input.TheConstants.{INPUT_LIMIT};
 ghost use Rattle.range_cli.specs.Trace.{IsNamedLine};
 
 use crate::input::read_input;
 use crate::opening::read_opening;
-use crate::status::{Status, Which};
+use crate::status::{EarlyEnd, Which};
 use crate::trace::{Line, read_lines};
 use crate::words::Options;
 use byte_ports::Source;
@@ -28,17 +31,17 @@ pub struct Script {
 
 /// Reads the whole input, and what it asks to play.
 ///
-/// `Err`: the run ends with this status.
+/// `Err`: the run ends so.
 pub fn read_script<S: Source>(
     alloc: Global,
     options: Options,
     input: &mut S,
-) -> Result<Script, Status>
+) -> Result<Script, EarlyEnd>
     ensures read { IfOk result (IsReadScript options (S.remaining input.old) (S.remaining input.new)) }
     ensures named { IfOk result (λ script. All IsNamedLine script.lines.items) }
     ensures few { IfOk result (λ script. length script.lines.items ≤ LINES_LIMIT) }
-    ensures stopped { IfErr result (StopsEarly options (S.remaining input.old) (S.remaining input.new)
-        (S.fault_count input.old) (S.fault_count input.new)) }
+    ensures stopped { IfErr result (OrMemory (EndsEarly options (S.remaining input.old) (S.remaining input.new)
+        (S.fault_count input.old) (S.fault_count input.new))) }
 {
     let bytes = read_input(alloc, input)?;
     script_of(alloc, options, &bytes)
@@ -46,22 +49,22 @@ pub fn read_script<S: Source>(
 
 /// What the bytes of an input ask to play.
 ///
-/// `Err`: the run ends with this status.
-fn script_of(alloc: Global, options: Options, bytes: &[u8]) -> Result<Script, Status>
-    requires { length bytes.now ≤ 67108864 }
+/// `Err`: the run ends so.
+fn script_of(alloc: Global, options: Options, bytes: &[u8]) -> Result<Script, EarlyEnd>
+    requires { length bytes.now ≤ INPUT_LIMIT }
     ensures script { IfOk result (IsScriptOf options bytes.now) }
     ensures named { IfOk result (λ script. All IsNamedLine script.lines.items) }
     ensures few { IfOk result (λ script. length script.lines.items ≤ LINES_LIMIT) }
-    ensures stopped { IfErr result (EndsScript options bytes.now) }
+    ensures stopped { IfErr result (OrMemory (EndsInput options bytes.now)) }
 {
     let (opening, rest) = read_opening(alloc, bytes, options.opening)?;
     let trace = read_lines(alloc, rest, opening.next)?;
     let Ok(space) = PlainSpace::of_pieces(alloc, &opening.areas) else {
-        return Err(Status::Memory);
+        return Err(EarlyEnd::NoMemory);
     };
     let rows = space.rows();
     if rows as usize > ROWS {
-        return Err(Status::Limit {
+        return Err(EarlyEnd::Above {
             which: Which::Rows,
             value: rows as u64,
         });

@@ -1,4 +1,6 @@
-//! How a run ends. The program's exit status and its line on standard error follow from this value alone.
+//! How a run ends, and how the reading of an input ends before anything is played. The program's exit status and its
+//! line on standard error follow from the run's status alone. An early end becomes a status in one place, here, so the
+//! code that reads can't say that a run is done. The statuses and their numbers are this project's own profile.
 ghost use Rattle.std.specs.Prelude.{◌≡◌};
 
 use strace_reader::What;
@@ -14,6 +16,35 @@ pub enum Which {
     Lines,
     /// The rows of the opening maps.
     Rows,
+}
+
+/// Why the reading of an input ends before anything is played.
+#[derive(Clone, Copy, Debug, PartialEq, Eq)]
+pub enum EarlyEnd {
+    /// A line is refused: its number, counted from 1, its column in bytes, counted from 1, and what was due there.
+    Refused { line: u32, column: u32, what: What },
+    /// The input failed.
+    Failed,
+    /// There was no memory.
+    NoMemory,
+    /// A limit is passed; the value is the first number above it, or the count of rows.
+    Above { which: Which, value: u64 },
+}
+
+impl EarlyEnd {
+    ghost use Rattle.range_cli.specs.Status.{status_of};
+
+    /// The status of a run that ends so.
+    pub fn status(self) -> Status
+        ensures { result ≡ status_of self }
+    {
+        match self {
+            EarlyEnd::Refused { line, column, what } => Status::BadLine { line, column, what },
+            EarlyEnd::Failed => Status::ReadFault,
+            EarlyEnd::NoMemory => Status::Memory,
+            EarlyEnd::Above { which, value } => Status::Limit { which, value },
+        }
+    }
 }
 
 /// How a run ends.

@@ -1,8 +1,8 @@
-//! The words of the command line: which of them are accepted, and what they ask for. `Accepts` says it by counting,
-//! so that the order of the options is free and none of them may stand twice.
+//! The words of the command line: which of them are accepted, and what they ask for. `Accepts` says it by counting, so
+//! that the order of the options is free and none of them may come twice. The words are this project's own profile.
 ghost use Rattle.std.specs.Prelude.{◌≡◌, map, IfSome, IsNone};
 ghost use Rattle.std.specs.String.{string_bytes};
-ghost use Rattle.range_cli.specs.Words.{Accepts, Refuses, AreOptions, KindOf};
+ghost use Rattle.range_cli.specs.Words.{Accepts, RefusesWords, AreOptions, KindOf};
 ghost use Rattle.range_cli.specs.declared.words.Options.{Options};
 
 /// What the words after `play` ask for.
@@ -25,7 +25,7 @@ enum Word {
 /// What the words ask for, or `None` where they are not accepted.
 pub fn options_of(words: &[String]) -> Option<Options>
     ensures accepted { IfSome result (Accepts (map string_bytes words.now)) }
-    ensures refused { IsNone result → Refuses (map string_bytes words.now) }
+    ensures refused { IsNone result → RefusesWords (map string_bytes words.now) }
 {
     let (first, rest) = words.split_first()?;
     if first.as_str() != "play" {

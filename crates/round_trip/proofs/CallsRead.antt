@@ -5,8 +5,8 @@ use Rattle.std.proofs.lemmas.Bool.Decides.{nat_tests}
 use Rattle.std.proofs.lemmas.Fmt.{length-decimal-le}
 use Rattle.maps_printer.proofs.Hex.{length-hex_digits}
 use Rattle.std.proofs.Math.Seq.{get_or-append_seam}
-use Rattle.line_parts.specs.declared.fault.What.{What}
-use Rattle.line_parts.specs.declared.fault.What.TheVariants.{Number}
+use Rattle.line_parts.specs.declared.refusal.What.{What}
+use Rattle.line_parts.specs.declared.refusal.What.TheVariants.{Number}
 use Rattle.line_parts.specs.Parts.{Part, chain, starts}
 use Rattle.line_parts.specs.Leaves.{is, letters, number, worth}
 use Rattle.line_parts.proofs.Numerals.{NoNumeral, zero_number}
@@ -18,8 +18,8 @@ use Rattle.page_types.specs.Named.{IsNamedCall}
 use Rattle.strace_reader.specs.declared.item.Item.TheVariants.{Played}
 use Rattle.strace_reader.specs.declared.item.Name.{Name}
 use Rattle.strace_reader.specs.declared.item.Name.TheVariants.{Mmap, Munmap, Mprotect, Fault as FaultName}
-use Rattle.strace_reader.specs.Words.{opening, access_of}
-use Rattle.strace_reader.specs.Calls.{call, arguments, addr, comma, access, closing, dropped, descriptor, prot, flags, protected, flagged, mapped, munmap_arguments, mprotect_arguments, fault_arguments, mmap_arguments}
+use Rattle.strace_reader.specs.Words.{call_head, access_of}
+use Rattle.strace_reader.specs.Calls.{call, arguments, addr, comma, access, closing, map_tail, descriptor, prot, flags, protect_behind_prot, map_behind_prot, map_behind_flags, munmap_arguments, mprotect_arguments, fault_arguments, mmap_arguments}
 use Rattle.strace_reader.specs.Grammar.{Spells, NeverReturned, EndsWith, unfinished}
 use Rattle.maps_printer.specs.Calls.{call_text}
 use Rattle.maps_printer.specs.Numbers.{address_text, prefixed_hex}
@@ -91,9 +91,9 @@ then_prot next bits more w small ends h =
 mprotect_takes : (a n p : ℕ) → a < 2 ^ 64 → n < 2 ^ 64 → p < 8
     → mprotect_arguments.takes (address_text a ++ (codes ", " ++ (decimal n ++ (codes ", " ++ (prot_text (record { 0 = p }) ++ codes ")"))))) [] (Played 0 (Protect a n (record { 0 = p })) None)
 mprotect_takes a n p small_a small_n small_p =
-    then_addr (λ a. chain comma (λ u. chain (number Number) (λ n. chain comma (λ v. chain prot (protected a n))))) a _ _ small_a (comma_ends_number [])
-    (then_length (λ n. chain comma (λ v. chain prot (protected a n))) n _ _ small_n (comma_ends_number [])
-    (then_prot (protected a n) p (codes ")") _ small_p close_ends (closing_takes (Protect a n (record { 0 = p })))))
+    then_addr (λ a. chain comma (λ u. chain (number Number) (λ n. chain comma (λ v. chain prot (protect_behind_prot a n))))) a _ _ small_a (comma_ends_number [])
+    (then_length (λ n. chain comma (λ v. chain prot (protect_behind_prot a n))) n _ _ small_n (comma_ends_number [])
+    (then_prot (protect_behind_prot a n) p (codes ")") _ small_p close_ends (closing_takes (Protect a n (record { 0 = p })))))
 
 access_takes : (which : Access) → access.takes (access_text which) (codes ")") which
 unfolding access_of
@@ -119,7 +119,7 @@ fault_takes a which small =
     (access_text which, codes ")", which, refl, access_takes which, closing_takes (Fault a which)))
 
 -- the descriptor -1 and the offset 0
-dropped_takes : (c : Call) → (dropped c).takes (codes ", -1, 0)") [] (Played 0 c None)
+dropped_takes : (c : Call) → (map_tail c).takes (codes ", -1, 0)") [] (Played 0 c None)
 dropped_takes c =
     then_comma (chain descriptor (λ v. chain comma (λ w. chain (number Number) (λ o. closing c)))) (codes "-1, 0)") _ refl
     (codes "-1", codes ", 0)", tt, refl, (codes "-1", [], tt, refl, letters_take (codes "-1") (codes ", 0)") Number, (refl, refl)), (then_comma (chain (number Number) (λ o. closing c)) (codes "0)") _ refl (codes "0", codes ")", 0, refl, zero_number (codes ")") close_ends_number, closing_takes c)))
@@ -131,10 +131,10 @@ mmap_takes a n p f small_a small_n small_p small_f =
     let c = Map a n (record { 0 = p }) (record { 0 = f }) in
     let read = flags_takes f (codes " -1, 0)") small_f in
     let text = flags_text (record { 0 = f }) in
-    then_addr (λ a. chain comma (λ u. chain (number Number) (λ n. chain comma (λ v. chain prot (flagged a n))))) a _ _ small_a (comma_ends_number [])
-    (then_length (λ n. chain comma (λ v. chain prot (flagged a n))) n _ _ small_n (comma_ends_number [])
-    (then_prot (flagged a n) p _ _ small_p (comma_ends _)
-    (then_comma (chain flags (mapped a n p)) (text ++ codes ", -1, 0)") _ (rw append_assoc read.1) (text, codes ", -1, 0)", Some f, refl, read.0, dropped_takes c))))
+    then_addr (λ a. chain comma (λ u. chain (number Number) (λ n. chain comma (λ v. chain prot (map_behind_prot a n))))) a _ _ small_a (comma_ends_number [])
+    (then_length (λ n. chain comma (λ v. chain prot (map_behind_prot a n))) n _ _ small_n (comma_ends_number [])
+    (then_prot (map_behind_prot a n) p _ _ small_p (comma_ends _)
+    (then_comma (chain flags (map_behind_flags a n p)) (text ++ codes ", -1, 0)") _ (rw append_assoc read.1) (text, codes ", -1, 0)", Some f, refl, read.0, dropped_takes c))))
 
 -- ---- the whole line
 
@@ -157,7 +157,7 @@ did_return text body e h =
     last_differs body before 41 63 (sym e ∙ h.3 ∙ simp append_assoc) (λ x. omega arith)
 
 -- a line of the name and arguments that are read
-spelled : (name : Name) (args text body : List ℕ) (c : Call) → (arguments name).takes args [] (Played 0 c None) → text ≡ opening name ++ args → text ≡ body ++ codes ")" → Spells text (Played 0 c None)
+spelled : (name : Name) (args text body : List ℕ) (c : Call) → (arguments name).takes args [] (Played 0 c None) → text ≡ call_head name ++ args → text ≡ body ++ codes ")" → Spells text (Played 0 c None)
 unfolding Spells call
 spelled name args text body c h e ends = (
   name,
@@ -166,7 +166,7 @@ spelled name args text body c h e ends = (
     returned = did_return text body ends;
     whole = no_half text body ends;
   },
-  (opening name, args, tt, e, refl, h),
+  (call_head name, args, tt, e, refl, h),
 )
 
 -- the numbers of a call fit in 64 bits

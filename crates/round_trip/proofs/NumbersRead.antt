@@ -4,7 +4,7 @@ use Rattle.std.proofs.lemmas.Fmt.{digits_is_IsNumeral, decimal_is_IsNumeral}
 use Rattle.std.proofs.lemmas.Bool.Decides.{nat_tests}
 use Rattle.std.specs.Char.{digit_value}
 use Rattle.std.specs.Str.Parse.{AllDigits as StdDigits, digits_value_after}
-use Rattle.line_parts.specs.declared.fault.What.{What}
+use Rattle.line_parts.specs.declared.refusal.What.{What}
 use Rattle.line_parts.specs.Parts.{starts}
 use Rattle.line_parts.specs.Leaves.{is, number, worth, AllDigits, NoDigit, value, Digits, No0x}
 use Rattle.line_parts.proofs.Numerals.{NoNumeral}

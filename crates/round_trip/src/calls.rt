@@ -1,5 +1,6 @@
-//! The law between the text of a call and the line that spells one. A reader may rely on it for every call: to write
-//! a call down and to read it again changes nothing.
+//! The law between the text of a call and the lines that spell it. A reader may rely on it for every call whose sets
+//! have named bits alone: to write the call down and to read it again changes nothing. The law is the contract of a
+//! function, so that code above has it by a call.
 ghost use Rattle.std.specs.Prelude.{◌≡◌, ◌<◌, ◌≤◌, ◌^◌, length};
 ghost use Rattle.page_types.specs.Named.{IsNamedCall};
 ghost use Rattle.maps_printer.specs.Calls.{call_text};
@@ -35,13 +36,13 @@ pub fn reads_back(call: Call)
     }
 }
 
-/// Two numbers of 64 bits are below 2^64. It does nothing: it tells the law above what the type of a number says.
+/// Two numbers of 64 bits are below 2^64. It does nothing: it gives the law above what the type of a number says.
 fn in_range(one: u64, other: u64)
     ensures one { one < 2 ^ 64 }
     ensures other { other < 2 ^ 64 }
 {}
 
-/// Reads a line that `write_call` wrote of this call: the answer is the call, of process 0 and with no recorded
+/// Reads a line that `write_call` wrote of this call: the result is the call, of process 0 and with no recorded
 /// result, and never a refusal.
 pub fn read_written(line: &[u8], call: Call) -> Result<Item, BadCall>
     requires named { IsNamedCall call }

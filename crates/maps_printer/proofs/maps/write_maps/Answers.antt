@@ -1,7 +1,8 @@
 use Rattle.std.proofs.Common.{arith}
 use Rattle.std.proofs.lemmas.Result.{on_err_weaker}
 use Rattle.maps_printer.specs.Lines.{area_line}
-use Rattle.maps_printer.proofs.Waiting.{Waits-flush_failed, lines_go_on, lines_done, lines_stop, OnErr-anyway}
+use Rattle.byte_ports.proofs.Pieces.{on_err}
+use Rattle.maps_printer.proofs.Waiting.{AppendsAllBut-flush_failed, lines_go_on, lines_done, lines_stop}
 use Rattle.maps_printer.proofs.maps.write_maps.Goals as goal
 
 pub loop-area-preserved : goal.loop-area-preserved
@@ -14,9 +15,9 @@ loop-area-preserved g c = (
 pub returns-in_err-make_room-clause-failed_prefix :
     goal.returns-in_err-make_room-clause-failed_prefix
 returns-in_err-make_room-clause-failed_prefix g c =
-    OnErr-anyway _
+    on_err _
     (lines_stop area_line _ _ _ _ _ _ _ _ c.loop-area-test.true c.loop-area.invariant.0 c.push_area.ensures.text c.in_err-make_room.ensures.failed_prefix)
 
 pub returns-clause-failed_prefix : goal.returns-clause-failed_prefix
 returns-clause-failed_prefix g c =
-    on_err_weaker c.flush.result (Waits-flush_failed _ (lines_done area_line _ _ _ _ _ c.loop-area-test.false c.loop-area.invariant.0)) c.flush.ensures.failed_prefix
+    on_err_weaker c.flush.result (AppendsAllBut-flush_failed _ (lines_done area_line _ _ _ _ _ c.loop-area-test.false c.loop-area.invariant.0)) c.flush.ensures.failed_prefix

@@ -1,6 +1,5 @@
 use Rattle.std.proofs.lemmas.Result.{on_err_weaker}
-use Rattle.byte_ports.proofs.Pieces.{AppendsPrefix-more, AppendsPrefix-after}
-use Rattle.range_cli.proofs.ErrorPieces.{on_err}
+use Rattle.byte_ports.proofs.Pieces.{AppendsPrefix-more, AppendsPrefix-after, on_err}
 use Rattle.range_cli.proofs.error_line.write_bad_line.Goals as goal
 
 pub returns-in_err-write_numbered-clause-failed_prefix : goal.returns-in_err-write_numbered-clause-failed_prefix

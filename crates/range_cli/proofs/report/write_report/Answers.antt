@@ -1,5 +1,4 @@
-use Rattle.byte_ports.proofs.Pieces.{AppendsPrefix-more, AppendsPrefix-after}
-use Rattle.range_cli.proofs.ErrorPieces.{on_err}
+use Rattle.byte_ports.proofs.Pieces.{AppendsPrefix-more, AppendsPrefix-after, on_err}
 use Rattle.range_cli.proofs.ReportPieces.{report_all, report_prefix}
 use Rattle.range_cli.proofs.report.write_report.Goals as goal
 

@@ -6,13 +6,13 @@ pub returns-in_default-clause-cause : goal.returns-in_default-clause-cause
 returns-in_default-clause-cause g c = c.in_default.ensures.refused refl
 
 pub returns-in-Err-clause-out : goal.returns-in-Err-clause-out
-returns-in-Err-clause-out g c = wrote_nothing _ _ _ _ _ _ _ _ c.in-Err.ensures.stopped
+returns-in-Err-clause-out g c = rw c.status.ensures (wrote_nothing _ _ _ _ c.in-Err.end)
 
 pub returns-in-Err-clause-cause : goal.returns-in-Err-clause-cause
-returns-in-Err-clause-cause g c = has_cause _ _ _ _ _ _ _ _ c.in-Some.ensures.accepted c.in-Err.ensures.stopped
+returns-in-Err-clause-cause g c = rw c.status.ensures (has_cause _ _ _ _ _ _ _ _ c.in-Some.ensures.accepted c.in-Err.ensures.stopped)
 
 pub returns-in-Err-clause-nothing_read : goal.returns-in-Err-clause-nothing_read
-returns-in-Err-clause-nothing_read g c = λ is. absurd (never_usage _ _ _ _ _ _ c.in-Err.ensures.stopped is)
+returns-in-Err-clause-nothing_read g c = λ is. absurd (never_usage c.in-Err.end (rw c.status.ensures at is))
 
 pub refused_count-requires : goal.refused_count-requires
 refused_count-requires g c =

@@ -1,19 +1,19 @@
 use Rattle.std.proofs.Common.{refl, sym, ap, ◌∙◌, inr, arith, length}
 use Rattle.std.proofs.lemmas.Result.{err_from_is_err_and}
 use Rattle.range_cli.proofs.OpeningLemmas.{spells_fit, maps_next, maps_empty, maps_over, maps_end, past_by_one, areas_by_one, named_with, nil}
-use Rattle.range_cli.proofs.opening.read_maps.Goals as goal
+use Rattle.range_cli.proofs.opening.read_opening.Goals as goal
 
 pub returns-then-is_empty-clause-opens : goal.returns-then-is_empty-clause-opens
 returns-then-is_empty-clause-opens c =
     let left = rw c.in-Some.ensures.line at c.maps.invariant.0 in
     let none = nil c.in-Some.line.now (sym c.is_empty.ensures ∙ c.if-is_empty.true) in
-    maps_empty _ _ _ _ _ _ (rw none at left)
+    rw (c.if-not-has_maps.false) (maps_empty _ _ _ _ _ _ (rw none at left))
 
 pub returns-in_err-item-clause-stopped : goal.returns-in_err-item-clause-stopped
 returns-in_err-item-clause-stopped c =
     let p = err_from_is_err_and c.from_residual.result c.from_residual.ensures.1 in
     let left = rw c.in-Some.ensures.line at c.maps.invariant.0 in
-    rw (p.1, p.2) (inr (maps_end _ _ _ _ _ _ _ _ left c.in_err-item.ensures.stopped))
+    rw (p.1, p.2, c.if-not-has_maps.false) (inr (maps_end _ _ _ _ _ _ _ _ left c.in_err-item.ensures.stopped))
 
 pub take-requires-clause-fits : goal.take-requires-clause-fits
 take-requires-clause-fits c = (spells_fit _ _ c.in_ok-item.ensures.next.spells).1
@@ -33,4 +33,4 @@ maps-preserved c =
 pub returns-clause-opens : goal.returns-clause-opens
 returns-clause-opens c =
     let none = c.in_default.ensures.none.0 refl in
-    rw none (maps_over _ _ _ _ _ (rw none at c.maps.invariant.0))
+    rw (none, c.if-not-has_maps.false) (maps_over _ _ _ _ _ (rw none at c.maps.invariant.0))

@@ -2,7 +2,7 @@ use Rattle.std.proofs.Common.{◌+◌, ◌<◌, ◌≤◌, length}
 use Rattle.space_model.specs.Areas.{HasNamedKinds}
 use Rattle.range_cli.specs.Lines.{lines_of}
 use Rattle.range_cli.proofs.OpeningLemmas.{MapsSoFar}
-use Rattle.range_cli.proofs.opening.read_maps.Given as goal
+use Rattle.range_cli.proofs.opening.read_opening.Given as goal
 
 abbrev pub invariant-maps : goal.invariant-maps
 invariant-maps l =

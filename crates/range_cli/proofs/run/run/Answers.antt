@@ -1,0 +1,6 @@
+use Rattle.range_cli.proofs.Outcomes.{complete}
+use Rattle.range_cli.proofs.run.run.Goals as goal
+
+pub returns-clause-complete : goal.returns-clause-complete
+returns-clause-complete g c = λ bytes known.
+    complete _ bytes _ _ _ _ _ _ (rw known at c.report-status.ensures.out) (rw known at c.report-status.ensures.cause)
