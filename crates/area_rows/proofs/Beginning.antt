@@ -1,8 +1,9 @@
 -- A space at its opening: its words and its callers meet the guard, and the callers come in order.
 use Rattle.std.proofs.Common.{◌≡◌, ℕ, zero, suc, ◌+◌, ◌-◌, ◌<◌, ◌≤◌, List, [], ◌∷◌, ◌++◌, take, length, get_or, replicate, sym, refl, ap, ◌∙◌, subst, arith, length-append}
-use Rattle.std.proofs.lemmas.List.{length-replicate}
+use Rattle.std.proofs.lemmas.List.{length-replicate, take_all}
 use Rattle.std.proofs.lemmas.List.Elements.{All-nil}
-use Rattle.std.specs.Prelude.{Some, None, remove, slice_index}
+use Rattle.std.proofs.lemmas.List.Sums.{sum_by-cons}
+use Rattle.std.specs.Prelude.{All, remove, slice_index}
 use mathlib.Core.Option.{some, some-injective, some-ne-none}
 use lib.ListN.{get_elem?}
 use lib.Seq.{take-append_seam}
@@ -15,25 +16,21 @@ use Rattle.space_model.specs.declared.entries.Entry.{Entry}
 use Rattle.space_model.specs.Areas.{IsAreaList, HasNamedKinds, kind_at, row_count}
 use Rattle.space_model.proofs.AreaKinds.{above_zero}
 use Rattle.lock_core.specs.Grants.{Grants}
-use Rattle.range_rw.specs.Seats.{Known, new_seat, first_passes}
-use Rattle.range_rw.proofs.Lists.{at_removed, pushed_all}
+use Rattle.range_rw.specs.Contract.{Known, new_seat, first_passes}
+use Rattle.range_rw.proofs.Lists.{at_removed}
+use Rattle.word_rows.proofs.Rowing.{snoc_all as pushed_all}
 use Rattle.area_rows.specs.declared.guard.Pass.{Pass}
-use Rattle.area_rows.specs.Rows.{rows_in, rows_from, areas_from, ShowFrom, RowsShow}
-use Rattle.area_rows.specs.History.{IsPart, IsRunning, HasHistory, entry_count, newcomer}
+use Rattle.area_rows.specs.Keeping.{none_is}
+use Rattle.area_rows.specs.Rows.{rows_in, rows_from, areas_from, ShowFrom, RowsShow, IsBareGap}
+use Rattle.area_rows.specs.History.{IsPart, IsRunningSpace, HasHistory, own_count, entry_count, newcomer}
 use Rattle.area_rows.specs.Callers.{CallerView, AreNewCallers, new_pass, opening_words}
-use Rattle.area_rows.proofs.RowLists.{length-rows, shows_from, areas_back}
+use Rattle.area_rows.proofs.RowLists.{length-rows, shows_from, areas_back, bare_from}
 
 -- the words so far, with zeros up to the end
-take_whole : {A : Type 0} (n : ℕ) (l : List A) → length l ≤ n → take n l ≡ l
-take_whole zero [] le = refl
-take_whole zero (x ∷ xs) le = absurd (omega arith)
-take_whole (suc n) [] le = refl
-take_whole (suc n) (x ∷ xs) le = ap (λ l. x ∷ l) (take_whole n xs (omega arith))
-
 pub padded : (start : List Area) (all : ℕ) (words : List ℕ) (wide : ℕ) → all ≡ 3 + ROWS → words ≡ 0 ∷ 0 ∷ row_count start ∷ rows_from 0 start → wide ≡ length words → row_count start ≤ ROWS → take all words ++ replicate (all - wide) 0 ≡ opening_words start
 padded start all words wide e is w few =
     let l : length words ≡ 3 + row_count start = ap length is ∙ (let r = length-rows start in omega arith) in
-    (λ i. take_whole all words (omega arith) i ++ replicate (all - wide) 0) ∙ (λ i. is i ++ replicate ((let z : all - wide ≡ ROWS - row_count start = omega arith in z) i) 0)
+    (λ i. take_all all words (omega arith) i ++ replicate (all - wide) 0) ∙ (λ i. is i ++ replicate ((let z : all - wide ≡ ROWS - row_count start = omega arith in z) i) 0)
 
 rows_back : (start : List Area) → rows_in (opening_words start) ≡ rows_from 0 start
 rows_back start = ap (λ n. take n (rows_from 0 start ++ replicate (ROWS - row_count start) 0)) (sym (length-rows start)) ∙ take-append_seam (rows_from 0 start) (replicate (ROWS - row_count start) 0)
@@ -55,6 +52,7 @@ opens_rows start areas named few =
       some = omega arith;
       few = few;
       show = subst (λ rows. ShowFrom 0 rows (kind_at start)) (sym (rows_back start)) s;
+      gaps = subst (All IsBareGap) (sym (rows_back start)) (bare_from 0 start named);
     }
 
 pub began : (start : List Area) → IsAreaList start → HasNamedKinds start → newcomer (opening_words start) ≡ new_pass start
@@ -72,15 +70,13 @@ module _ (p : Pass) where
 
 no_entries : (start : List Area) (s k : ℕ) → entry_count (first_passes (λ (_ : ℕ). new_pass start) s k) ≡ 0
 no_entries start s zero = refl
-no_entries start s (suc k) = let r = no_entries start (suc s) k in omega arith
+no_entries start s (suc k) =
+    let r = no_entries start (suc s) k in let c = sum_by-cons own_count (new_pass start) (first_passes (λ (_ : ℕ). new_pass start) (suc s) k) in omega arith
 
-pub none_some : {A : Type 0} (a : A) → None ≡ Some a → ⊥
-none_some a e = cc
-
-runs_new : (start : List Area) (callers : ℕ) → IsAreaList start → HasNamedKinds start → row_count start ≤ ROWS → callers ≤ 16 → IsRunning start [] start (opening_words start) (first_passes (λ (_ : ℕ). new_pass start) 0 callers)
+runs_new : (start : List Area) (callers : ℕ) → IsAreaList start → HasNamedKinds start → row_count start ≤ ROWS → callers ≤ 16 → IsRunningSpace start [] start (opening_words start) (first_passes (λ (_ : ℕ). new_pass start) 0 callers)
 runs_new start callers areas named few most = record {
   callers = let l = length-passes (new_pass start) 0 callers in omega arith;
-  runs = refl;
+  runs = (tt, refl);
   calls = All-nil (λ (e : Entry). IsNamedCall e.call);
   replies = All-nil (λ (e : Entry). IsNamedReply e.reply);
   in_order = areas;
@@ -89,7 +85,7 @@ runs_new start callers areas named few most = record {
   sequence = refl;
   rows = opens_rows start areas named few;
   parts = λ worker pass at. subst (λ (q : Pass). IsPart start [] (opening_words start) worker q) (passes_at (new_pass start) 0 callers worker pass at)
-      (record { began = refl; seen = ([], refl); mine = refl; few = omega arith; count = λ n e. absurd (none_some n e); rows = tt });
+      (record { began = refl; seen = ([], refl); mine = refl; few = omega arith; count = λ n e. absurd (none_is n e); rows = tt });
   no_other = λ worker le. refl;
   total = sym (no_entries start 0 callers);
 }
@@ -98,7 +94,7 @@ runs_new start callers areas named few most = record {
 pub opens : (grants : Grants) (start : List Area) (callers : ℕ) (words : List ℕ) → words ≡ opening_words start → IsAreaList start → HasNamedKinds start → row_count start ≤ ROWS → callers ≤ 16 → HasHistory grants words (first_passes (λ (_ : ℕ). newcomer words) 0 callers)
 opens grants start callers words is areas named few most =
     subst (λ (w : List ℕ). HasHistory grants w (first_passes (λ (_ : ℕ). newcomer w) 0 callers)) (sym is)
-    (start, [], start, subst (λ (p : Pass). IsRunning start [] start (opening_words start) (first_passes (λ (_ : ℕ). p) 0 callers)) (sym (began start areas named)) (runs_new start callers areas named few most))
+    (start, [], start, subst (λ (p : Pass). IsRunningSpace start [] start (opening_words start) (first_passes (λ (_ : ℕ). p) 0 callers)) (sym (began start areas named)) (runs_new start callers areas named few most))
 
 -- the seat that is next
 pub next_seat : (table : TableId) (p : Pass) (worker : ℕ) (seats : List (Known Pass)) (s : Known Pass) → ((k : ℕ) (x : Known Pass) → get_elem? seats k ≡ some x → x ≡ new_seat table (λ (_ : ℕ). p) (worker + k)) → 0 < length seats → s ≡ get_or seats 0 s → s ≡ new_seat table (λ (_ : ℕ). p) worker

@@ -6,50 +6,23 @@ use mathlib.Core.Logic.{dite}
 use mathlib.Core.Option.{some, some-injective, some-ne-none}
 use native.Mathlib.Decide.{ℕ_discrete}
 use lib.ListN.{get_elem?}
-use Rattle.atomic_table.proofs.Lists.{set_here, set_else}
+use Rattle.atomic_table.proofs.Lists.{at_map, set_here, set_else}
 use Rattle.space_model.specs.declared.areas.Area.{Area}
 use Rattle.space_model.specs.declared.entries.Entry.{Entry}
-use Rattle.range_rw.proofs.Lists.{at_below}
+use Rattle.lock_core.proofs.ByPlace.{below, there, same_lists}
 use Rattle.area_rows.specs.declared.guard.Pass.{Pass}
 use Rattle.area_rows.specs.declared.close.Kept.{Kept}
-use Rattle.area_rows.specs.Rows.{rows_in, areas_from, start_of, with_row}
-use Rattle.area_rows.specs.History.{Runs, entries_of, entry_count, IsRunning, HasHistory}
+use Rattle.area_rows.specs.Rows.{rows_in, areas_from, rows_start, with_row}
+use Rattle.space_model.proofs.Histories.{numbered_at}
+use Rattle.area_rows.specs.History.{Runs, entries_of, IsRunningSpace, HasHistory}
 use Rattle.area_rows.specs.Callers.{CallerView, IsWhole}
-use Rattle.area_rows.specs.Closing.{AllStand, Agrees, ArePlaced, AreBelow, AreKept, mine_count, pass_of}
+use Rattle.area_rows.specs.Closing.{AllStand, AgreesAt, ArePlaced, AreBelow, AreKept, callers_count, caller_pass}
 use Rattle.page_types.specs.declared.TheConstants.{ROWS}
 use Rattle.page_types.specs.declared.calls.Kind.{Kind}
-use Rattle.std.proofs.lemmas.List.{length-take-le, length-drop}
+use Rattle.std.proofs.lemmas.List.{append-nil, length-map, length-take-le, length-drop, drop_all}
 use Rattle.area_rows.specs.RowWords.{row_start, row_kind}
 use Rattle.area_rows.proofs.RowLists.{areas_back}
 use Rattle.area_rows.proofs.Stepping.{at_row}
-
-pub map_at : {A B : Type 0} (f : A → B) (l : List A) (k : ℕ) (a : A) → get_elem? l k ≡ some a → get_elem? (map f l) k ≡ some (f a)
-map_at f [] k a at = absurd (some-ne-none a (sym at))
-map_at f (x ∷ xs) zero a at = ap (λ y. some (f y)) (some-injective x a at)
-map_at f (x ∷ xs) (suc k) a at = map_at f xs k a at
-
-length_map : {A B : Type 0} (f : A → B) (l : List A) → length (map f l) ≡ length l
-length_map f [] = refl
-length_map f (x ∷ xs) = ap suc (length_map f xs)
-
-pub elem_at : {A : Type 0} (l : List A) (i : ℕ) → i < length l → (a : A) × (get_elem? l i ≡ some a)
-elem_at [] i lt = absurd (omega arith)
-elem_at (x ∷ xs) zero lt = (x, refl)
-elem_at (x ∷ xs) (suc i) lt = elem_at xs i (omega arith)
-
-same_lists : {A : Type 0} (a b : List A) → length a ≡ length b → ((i : ℕ) → i < length b → get_elem? a i ≡ get_elem? b i) → a ≡ b
-same_lists [] [] l all = refl
-same_lists [] (y ∷ ys) l all = absurd (omega arith)
-same_lists (x ∷ xs) [] l all = absurd (omega arith)
-same_lists (x ∷ xs) (y ∷ ys) l all =
-    let first : x ≡ y = some-injective x y (all 0 (omega arith)) in
-    let rest : xs ≡ ys = same_lists xs ys (omega arith) (λ i lt. all (suc i) (omega arith)) in
-    λ i. first i ∷ rest i
-
--- the callers' entries together
-pub mine_total : (callers : List CallerView) → entry_count (map pass_of callers) ≡ mine_count callers
-mine_total [] = refl
-mine_total (c ∷ rest) = ap (λ n. length c.seat.pass.mine + n) (mine_total rest)
 
 kept_at : (kept : List Kept) (callers : List CallerView) (k : ℕ) (c : Kept) → AreKept kept callers → get_elem? kept k ≡ some c → (v : CallerView) × (get_elem? callers k ≡ some v) × (c.mine.items ≡ v.seat.pass.mine)
 kept_at [] callers k c all at = absurd (some-ne-none c (sym at))
@@ -65,9 +38,7 @@ at_kept (x ∷ xs) (y ∷ ys) zero v all at = (x, refl, subst (λ (z : CallerVie
 at_kept (x ∷ xs) (y ∷ ys) (suc k) v all at = at_kept xs ys k v all.1 at
 
 pub runs_number : (history : List Entry) (n : ℕ) (A B : List Area) (i : ℕ) (e : Entry) → Runs n A history B → get_elem? history i ≡ some e → e.number ≡ n + i
-runs_number [] n A B i e r at = absurd (some-ne-none e (sym at))
-runs_number (x ∷ xs) n A B zero e r at = let z : n ≡ n + 0 = omega arith in ap (λ (y : Entry). y.number) (sym (some-injective x e at)) ∙ (r.0 ∙ z)
-runs_number (x ∷ xs) n A B (suc i) e r at = let z : n + 1 + i ≡ n + suc i = omega arith in runs_number xs (n + 1) r.2.0 B i e r.2.2 at ∙ z
+runs_number history n A B i e r at = numbered_at n history i e r.0 at
 
 own_here : (worker : ℕ) (x : Entry) (xs mine : List Entry) (b : Bool) → eqb x.worker worker ≡ b → ((j : ℕ) (e : Entry) → get_elem? mine j ≡ some e → (i : ℕ) × (get_elem? xs i ≡ some e) × (e.worker ≡ worker))
     → (j : ℕ) (e : Entry) → get_elem? (cond b (x ∷ mine) mine) j ≡ some e → (i : ℕ) × (get_elem? (x ∷ xs) i ≡ some e) × (e.worker ≡ worker)
@@ -88,11 +59,11 @@ at_own worker (x ∷ xs) (suc i) e at is =
     let r = at_own worker xs i e at is in
     elim (eqb x.worker worker) as (λ b. (j : ℕ) × (get_elem? (cond b (x ∷ entries_of worker xs) (entries_of worker xs)) j ≡ some e)) [ true ↦ (suc r.0, r.1) | false ↦ r ]
 
-module _ (start : List Area) (history : List Entry) (state : List Area) (words : List ℕ) (callers : List CallerView) (r : IsRunning start history state words (map pass_of callers)) where
+module _ (start : List Area) (history : List Entry) (state : List Area) (words : List ℕ) (callers : List CallerView) (r : IsRunningSpace start history state words (map caller_pass callers)) where
   -- each caller's entries stand at the places of their numbers
   own_stand : (k : ℕ) (c : CallerView) → get_elem? callers k ≡ some c → AllStand history c.seat.pass.mine
   own_stand k c at j e there =
-      let part = r.parts k c.seat.pass (map_at pass_of callers k c at) in
+      let part = r.parts k c.seat.pass (at_map caller_pass callers k c at) in
       let f = own_at k history j e (ap (λ l. get_elem? l j) part.mine ∙ there) in
       let n : e.number ≡ f.0 = runs_number history 0 start state f.0 e r.runs f.1 ∙ omega arith in
       ap (get_elem? history) n ∙ f.1
@@ -102,7 +73,7 @@ module _ (start : List Area) (history : List Entry) (state : List Area) (words :
   its_caller i e at = elim (cases_lt e.worker (length callers)) [
     | inl lt ↦ lt
     | inr ge ↦
-        let none = r.no_other e.worker (let l = length_map pass_of callers in omega arith) in
+        let none = r.no_other e.worker (let l = length-map callers caller_pass in omega arith) in
         let o = at_own e.worker history i e at refl in
         absurd (some-ne-none e (sym (ap (λ l. get_elem? l o.0) (sym none) ∙ o.1)))
   ]
@@ -111,58 +82,57 @@ module _ (start : List Area) (history : List Entry) (state : List Area) (words :
     pub kept_stand : (k : ℕ) (c : Kept) → get_elem? kept k ≡ some c → AllStand history c.mine.items
     kept_stand k c at = let f = kept_at kept callers k c all at in subst (AllStand history) (sym f.2) (own_stand k f.0 f.1)
 
-    pub kept_below : (bound : ℕ) → bound ≡ mine_count callers → (k : ℕ) (c : Kept) → get_elem? kept k ≡ some c → AreBelow bound c.mine.items
-    kept_below bound b k c at j e there = let t = r.total in let m = mine_total callers in let l = at_below history e.number e (kept_stand k c at j e there) in omega arith
+    pub kept_below : (bound : ℕ) → bound ≡ callers_count callers → (k : ℕ) (c : Kept) → get_elem? kept k ≡ some c → AreBelow bound c.mine.items
+    kept_below bound b k c at j e there = let t = r.total in let l = below history e.number e (kept_stand k c at j e there) in omega arith
 
     history_is : (out : List Entry) → length out ≡ length history → ((k : ℕ) (c : Kept) → get_elem? kept k ≡ some c → ArePlaced history c.mine.items out) → out ≡ history
-    history_is out wide placed = same_lists out history wide (λ i lt.
-        let f = elem_at history i lt in let e = f.0 in
-        let v = elem_at callers e.worker (its_caller i e f.1) in
+    history_is out wide placed = same_lists out history wide (λ i e at.
+        let v = there callers e.worker (its_caller i e at) in
         let c = at_kept kept callers e.worker v.0 all v.1 in
-        let o = at_own e.worker history i e f.1 refl in
-        let part = r.parts e.worker v.0.seat.pass (map_at pass_of callers e.worker v.0 v.1) in
-        let n : e.number ≡ i = runs_number history 0 start state i e r.runs f.1 ∙ omega arith in
-        subst (Agrees history out) n (placed e.worker c.0 c.1 o.0 e (ap (λ l. get_elem? l o.0) (c.2 ∙ sym part.mine) ∙ o.1)))
+        let o = at_own e.worker history i e at refl in
+        let part = r.parts e.worker v.0.seat.pass (at_map caller_pass callers e.worker v.0 v.1) in
+        let n : e.number ≡ i = runs_number history 0 start state i e r.runs at ∙ omega arith in
+        subst (AgreesAt history out) n (placed e.worker c.0 c.1 o.0 e (ap (λ l. get_elem? l o.0) (c.2 ∙ sym part.mine) ∙ o.1)) ∙ at)
 
     -- the whole history, and the state that the rows stand for
-    pub whole : (out : List Entry) (areas : List Area) → length out ≡ mine_count callers → ((k : ℕ) (c : Kept) → get_elem? kept k ≡ some c → ArePlaced history c.mine.items out) → areas ≡ areas_from (rows_in words) → IsWhole callers out areas
+    pub whole : (out : List Entry) (areas : List Area) → length out ≡ callers_count callers → ((k : ℕ) (c : Kept) → get_elem? kept k ≡ some c → ArePlaced history c.mine.items out) → areas ≡ areas_from (rows_in words) → IsWhole callers out areas
     whole out areas wide placed is =
-        let e : out ≡ history = history_is out (wide ∙ (sym (mine_total callers) ∙ sym r.total)) placed in
+        let e : out ≡ history = history_is out (wide ∙ sym r.total) placed in
         let s : areas ≡ state = is ∙ areas_back (rows_in words) state r.rows.show r.in_order in
         subst (λ (z : List Entry × List Area). IsWhole callers z.0 z.1) (λ i. (sym e i, sym s i)) (record {
-          runs = λ k c at. subst (λ a. Runs 0 a history state) (sym (r.parts k c.seat.pass (map_at pass_of callers k c at)).began) r.runs;
+          runs = λ k c at. subst (λ a. Runs 0 a history state) (sym (r.parts k c.seat.pass (at_map caller_pass callers k c at)).began) r.runs;
           calls = r.calls;
           replies = r.replies;
           in_order = r.in_order;
           named = r.named;
-          mine = λ k c at. (r.parts k c.seat.pass (map_at pass_of callers k c at)).mine;
-          seen = λ k c at. (r.parts k c.seat.pass (map_at pass_of callers k c at)).seen;
-          no_other = λ k le. r.no_other k (let l = length_map pass_of callers in omega arith);
+          mine = λ k c at. (r.parts k c.seat.pass (at_map caller_pass callers k c at)).mine;
+          seen = λ k c at. (r.parts k c.seat.pass (at_map caller_pass callers k c at)).seen;
+          no_other = λ k le. r.no_other k (let l = length-map callers caller_pass in omega arith);
         })
 
 -- one entry more at its place
-pub place_keeps : (history out : List Entry) (e : Entry) (i : ℕ) → get_elem? history e.number ≡ some e → e.number < length out → Agrees history out i → Agrees history (set out e.number e) i
+pub place_keeps : (history out : List Entry) (e : Entry) (i : ℕ) → get_elem? history e.number ≡ some e → e.number < length out → AgreesAt history out i → AgreesAt history (set out e.number e) i
 place_keeps history out e i stands lt old = dite (ℕ_discrete i e.number)
     (λ same. ap (get_elem? (set out e.number e)) same ∙ (set_here out e.number e lt ∙ (sym stands ∙ ap (get_elem? history) (sym same))))
     (λ other. set_else out e.number i e other ∙ old)
 
-pub place_there : (history out : List Entry) (e : Entry) → get_elem? history e.number ≡ some e → e.number < length out → Agrees history (set out e.number e) e.number
+pub place_there : (history out : List Entry) (e : Entry) → get_elem? history e.number ≡ some e → e.number < length out → AgreesAt history (set out e.number e) e.number
 place_there history out e stands lt = set_here out e.number e lt ∙ sym stands
 
 -- each entry so far is at its place, and now one more
-pub place_step : (history mine out : List Entry) (j : ℕ) (e : Entry) → get_elem? mine j ≡ some e → AllStand history mine → e.number < length out → ((k : ℕ) (f : Entry) → k < j → get_elem? mine k ≡ some f → Agrees history out f.number)
-    → (k : ℕ) (f : Entry) → k < j + 1 → get_elem? mine k ≡ some f → Agrees history (set out e.number e) f.number
+pub place_step : (history mine out : List Entry) (j : ℕ) (e : Entry) → get_elem? mine j ≡ some e → AllStand history mine → e.number < length out → ((k : ℕ) (f : Entry) → k < j → get_elem? mine k ≡ some f → AgreesAt history out f.number)
+    → (k : ℕ) (f : Entry) → k < j + 1 → get_elem? mine k ≡ some f → AgreesAt history (set out e.number e) f.number
 place_step history mine out j e at all lt before k f le there = elim (cases_lt k j) [
   | inl less ↦ place_keeps history out e f.number (all j e at) lt (before k f less there)
   | inr ge ↦
       let same : k ≡ j = omega arith in
       let is : e ≡ f = some-injective e f (sym at ∙ (ap (get_elem? mine) (sym same) ∙ there)) in
-      subst (λ (x : Entry). Agrees history (set out e.number e) x.number) is (place_there history out e (all j e at) lt)
+      subst (λ (x : Entry). AgreesAt history (set out e.number e) x.number) is (place_there history out e (all j e at) lt)
 ]
 
 -- each caller's entries so far are at their places, and now those of one more
 pub caller_step : (history : List Entry) (kept : List Kept) (old new mine : List Entry) (n : ℕ) (c : Kept) → get_elem? kept n ≡ some c → mine ≡ c.mine.items → ((k : ℕ) (d : Kept) → get_elem? kept k ≡ some d → AllStand history d.mine.items)
-    → ((history : List Entry) (i : ℕ) → AllStand history mine → Agrees history old i → Agrees history new i) → ((history : List Entry) → AllStand history mine → ArePlaced history mine new)
+    → ((history : List Entry) (i : ℕ) → AllStand history mine → AgreesAt history old i → AgreesAt history new i) → ((history : List Entry) → AllStand history mine → ArePlaced history mine new)
     → ((k : ℕ) (d : Kept) → k < n → get_elem? kept k ≡ some d → ArePlaced history d.mine.items old) → (k : ℕ) (d : Kept) → k < n + 1 → get_elem? kept k ≡ some d → ArePlaced history d.mine.items new
 caller_step history kept old new mine n c at is all keeps places before k d lt there j e inside =
     let stand : AllStand history mine = subst (AllStand history) (sym is) (all n c at) in
@@ -175,18 +145,8 @@ caller_step history kept old new mine n c at is all keeps places before k d lt t
     ]
 
 -- the areas of the rows that are left
-pub drop_all : {A : Type 0} (l : List A) (i : ℕ) → length l ≤ i → drop i l ≡ []
-drop_all [] zero le = refl
-drop_all [] (suc i) le = refl
-drop_all (x ∷ xs) zero le = absurd (omega arith)
-drop_all (x ∷ xs) (suc i) le = drop_all xs i (omega arith)
-
 drop_next : (l : List ℕ) (i : ℕ) → i < length l → drop i l ≡ get_or l i 0 ∷ drop (i + 1) l
 drop_next l i lt = rw (add-one, drop-cons l i 0) refl
-
-append_none : {A : Type 0} (l : List A) → l ++ [] ≡ l
-append_none [] = refl
-append_none (x ∷ xs) = ap (λ l. x ∷ l) (append_none xs)
 
 length-rows : (words : List ℕ) → length words ≡ 3 + ROWS → slice_index words 2 ≤ ROWS → length (rows_in words) ≡ slice_index words 2
 length-rows words wide few = let d = length-drop 3 words in length-take-le (slice_index words 2) (drop 3 words) (omega arith)
@@ -195,7 +155,7 @@ row_apart : (lo : ℕ) (kind : Option Kind) (hi : ℕ) (rest : List Area) → wi
 row_apart lo None hi rest = refl
 row_apart lo (Some kind) hi rest = refl
 
-pub row_step : (words : List ℕ) (i lo hi : ℕ) (kind : Option Kind) (out new all : List Area) → length words ≡ 3 + ROWS → slice_index words 2 ≤ ROWS → i < slice_index words 2 → lo ≡ row_start (slice_index words (3 + i)) → kind ≡ row_kind (slice_index words (3 + i)) → hi ≡ start_of (drop (i + 1) (rows_in words))
+pub row_step : (words : List ℕ) (i lo hi : ℕ) (kind : Option Kind) (out new all : List Area) → length words ≡ 3 + ROWS → slice_index words 2 ≤ ROWS → i < slice_index words 2 → lo ≡ row_start (slice_index words (3 + i)) → kind ≡ row_kind (slice_index words (3 + i)) → hi ≡ rows_start (drop (i + 1) (rows_in words))
     → new ≡ out ++ with_row lo kind hi [] → out ++ areas_from (drop i (rows_in words)) ≡ all → new ++ areas_from (drop (i + 1) (rows_in words)) ≡ all
 row_step words i lo hi kind out new all wide few lt l k h is before =
     let rows = rows_in words in
@@ -208,16 +168,16 @@ row_step words i lo hi kind out new all wide few lt l k h is before =
 
 pub rows_done : (words : List ℕ) (i : ℕ) (out all : List Area) → length words ≡ 3 + ROWS → slice_index words 2 ≤ ROWS → ¬ (i < slice_index words 2) → out ++ areas_from (drop i (rows_in words)) ≡ all → out ≡ all
 rows_done words i out all wide few not_more before =
-    sym (append_none out) ∙ (ap (λ l. out ++ areas_from l) (sym (drop_all (rows_in words) i (let n = length-rows words wide few in omega arith))) ∙ before)
+    sym (append-nil out) ∙ (ap (λ l. out ++ areas_from l) (sym (drop_all i (rows_in words) (let n = length-rows words wide few in omega arith))) ∙ before)
 
-pub next_start : (words : List ℕ) (i : ℕ) → 3 + slice_index words 2 ≤ length words → i + 1 < slice_index words 2 → start_of (drop (i + 1) (rows_in words)) ≡ row_start (slice_index words (3 + (i + 1)))
+pub next_start : (words : List ℕ) (i : ℕ) → 3 + slice_index words 2 ≤ length words → i + 1 < slice_index words 2 → rows_start (drop (i + 1) (rows_in words)) ≡ row_start (slice_index words (3 + (i + 1)))
 next_start words i wide lt =
     let d = length-drop 3 words in
     let n = length-take-le (slice_index words 2) (drop 3 words) (omega arith) in
-    ap start_of (drop_next (rows_in words) (i + 1) (omega arith)) ∙ ap row_start (at_row words (i + 1) lt)
+    ap rows_start (drop_next (rows_in words) (i + 1) (omega arith)) ∙ ap row_start (at_row words (i + 1) lt)
 
 -- the numbers of what was kept are below the number of all entries
-pub closes_below : (words : List ℕ) (callers : List CallerView) (kept : List Kept) (passes : List Pass) (bound : ℕ) → passes ≡ map pass_of callers → HasHistory [] words passes → AreKept kept callers → bound ≡ mine_count callers → (k : ℕ) (c : Kept) → get_elem? kept k ≡ some c → AreBelow bound c.mine.items
+pub closes_below : (words : List ℕ) (callers : List CallerView) (kept : List Kept) (passes : List Pass) (bound : ℕ) → passes ≡ map caller_pass callers → HasHistory [] words passes → AreKept kept callers → bound ≡ callers_count callers → (k : ℕ) (c : Kept) → get_elem? kept k ≡ some c → AreBelow bound c.mine.items
 closes_below words callers kept passes bound is h all b =
     let r = subst (λ (ps : List Pass). HasHistory [] words ps) is h in
     kept_below r.0 r.1 r.2 words callers r.3 kept all bound b

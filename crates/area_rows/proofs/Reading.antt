@@ -1,5 +1,6 @@
 -- What the rows that a caller has read show of the history's state.
 use Rattle.std.proofs.Common.{◌≡◌, ◌≢◌, ℕ, zero, suc, ◌+◌, ◌-◌, ◌<◌, ◌≤◌, List, [], ◌∷◌, drop, length, get_or, sym, refl, ap, ◌∙◌, subst, arith, ◌⊎◌, inl, inr, ⊎_elim}
+use Rattle.std.proofs.lemmas.List.{drop_all}
 use Rattle.std.specs.Prelude.{Option, Some, slice_index}
 use Rattle.page_types.specs.declared.TheConstants.{LIMIT}
 use Rattle.page_types.specs.declared.calls.Kind.{Kind}
@@ -8,16 +9,17 @@ use lib.ListN.{get_elem?}
 use Rattle.space_model.specs.declared.areas.Area.{Area}
 use Rattle.space_model.specs.Areas.{kind_at}
 use Rattle.lock_core.specs.declared.range.Held.{Held}
-use Rattle.range_rw.specs.Seats.{Known}
+use Rattle.range_rw.specs.Contract.{Known}
+use Rattle.range_rw.specs.declared.record.Record.{Record}
 use Rattle.area_rows.specs.declared.guard.ReadRow.{ReadRow}
 use Rattle.area_rows.specs.declared.guard.Pass.{Pass}
 use Rattle.area_rows.specs.RowWords.{row_start, row_kind}
-use Rattle.area_rows.specs.Rows.{rows_in, start_of, RowsShow}
+use Rattle.area_rows.specs.Rows.{rows_in, rows_start, RowsShow}
 use Rattle.area_rows.specs.History.{StillStand, after_count, after_row}
-use Rattle.area_rows.specs.Callers.{IsHeldPage, IsHeldBelow, HasRead, KeepsRead, EndsAt, IsAsRead, RowIs, Shows, IsReading, IsStep}
+use Rattle.area_rows.specs.Callers.{IsHeldPage, IsHeldBelow, HasRead, KeepsRead, IsRowEnd, IsAsRead, RowIs, Shows, IsReading, IsClientStep}
 use Rattle.area_rows.proofs.RowLists.{row_says}
 use Rattle.area_rows.proofs.Stepping.{length-rows_in, at_row, first_row, row_below}
-use Rattle.area_rows.proofs.Gathering.{next_start, drop_all}
+use Rattle.area_rows.proofs.Gathering.{next_start}
 
 -- what the word of a row says, of those that show kinds
 record WordSays (words : List ℕ) (kinds : ℕ → Option Kind) (i : ℕ) : Type 0 where
@@ -85,16 +87,16 @@ module _ (words : List ℕ) (kinds : ℕ → Option Kind) (s : RowsShow words ki
 
 -- the row ends where the next one starts, or at the limit
 end_is : (words : List ℕ) (kinds : ℕ → Option Kind) → RowsShow words kinds → (count index hi : ℕ) → slice_index words 2 ≡ count → (index + 1 < count → hi ≡ row_start (slice_index words (3 + (index + 1))))
-    → (index + 1 < count) ⊎ ((index + 1 ≡ count) × (hi ≡ LIMIT)) → start_of (drop (index + 1) (rows_in words)) ≡ hi
+    → (index + 1 < count) ⊎ ((index + 1 ≡ count) × (hi ≡ LIMIT)) → rows_start (drop (index + 1) (rows_in words)) ≡ hi
 end_is words kinds s count index hi counts next ends =
     let wide = s.room in let few = s.few in let l = length-rows_in words kinds s in
     ⊎_elim
     (λ more. next_start words index (omega arith) (omega arith) ∙ sym (next more))
-    (λ t. let done = t.0 in ap start_of (drop_all (rows_in words) (index + 1) (omega arith)) ∙ sym t.1)
+    (λ t. let done = t.0 in ap rows_start (drop_all (index + 1) (rows_in words) (omega arith)) ∙ sym t.1)
     ends
 
 row_is : (seat : Known Pass) (held : Option Held) (page count index word hi : ℕ) → IsHeldBelow held LIMIT → seat.pass.count ≡ Some count → HasRead seat.pass.rows index word → index < count → row_start word ≤ page → page < hi
-    → EndsAt seat.pass.rows count index hi → Shows seat (RowIs held page (record { index = index; lo = row_start word; hi = hi; kind = row_kind word }))
+    → IsRowEnd seat.pass.rows count index hi → Shows seat (RowIs held page (record { index = index; lo = row_start word; hi = hi; kind = row_kind word }))
 row_is seat held page count index word hi below counted read lt from until ends start history state words m =
     let r = m.running in
     let part = r.parts seat.number m.pass m.own in
@@ -112,7 +114,7 @@ row_is seat held page count index word hi below counted read lt from until ends 
     }
 
 pub shows_row : (seat : Known Pass) (held : Option Held) (page count index word lo hi : ℕ) (kind : Option Kind) → lo ≡ row_start word → kind ≡ row_kind word → IsHeldBelow held LIMIT → seat.pass.count ≡ Some count → HasRead seat.pass.rows index word → index < count → row_start word ≤ page → page < hi
-    → EndsAt seat.pass.rows count index hi → Shows seat (RowIs held page (record { index = index; lo = lo; hi = hi; kind = kind }))
+    → IsRowEnd seat.pass.rows count index hi → Shows seat (RowIs held page (record { index = index; lo = lo; hi = hi; kind = kind }))
 shows_row seat held page count index word lo hi kind l k below counted read lt from until ends =
     subst (λ (z : ℕ × Option Kind). Shows seat (RowIs held page (record { index = index; lo = z.0; hi = hi; kind = z.1 }))) (λ i. (sym l i, sym k i)) (row_is seat held page count index word hi below counted read lt from until ends)
 
@@ -121,30 +123,34 @@ pub keeps_on : (a b c : Pass) → KeepsRead a b → KeepsRead b c → KeepsRead 
 keeps_on a b c f g = record { count = λ n e. g.count n (f.count n e); rows = λ index word h. g.rows index word (f.rows index word h) }
 
 pub reading_on : (a b c : Known Pass) → IsReading a b → IsReading b c → IsReading a c
-reading_on a b c f g = record { table = g.table ∙ f.table; number = g.number ∙ f.number; held = g.held ∙ f.held; start = g.start ∙ f.start; seen = g.seen ∙ f.seen; mine = g.mine ∙ f.mine; read = keeps_on a.pass b.pass c.pass f.read g.read }
+reading_on a b c f g = record { table = g.table ∙ f.table; number = g.number ∙ f.number; held = g.held ∙ f.held; start = g.start ∙ f.start; seen = g.seen ∙ f.seen; mine = g.mine ∙ f.mine; taken = let l = f.taken in let m = g.taken in omega arith; read = keeps_on a.pass b.pass c.pass f.read g.read }
 
 pub no_reading : (a : Known Pass) → IsReading a a
-no_reading a = record { table = refl; number = refl; held = refl; start = refl; seen = refl; mine = refl; read = record { count = λ n e. e; rows = λ index word h. h } }
+no_reading a = record { table = refl; number = refl; held = refl; start = refl; seen = refl; mine = refl; taken = omega arith; read = record { count = λ n e. e; rows = λ index word h. h } }
 
-step_reads : (a b : Known Pass) (p : Pass) → IsStep a p b → p.start ≡ a.pass.start → p.seen ≡ a.pass.seen → p.mine ≡ a.pass.mine → KeepsRead a.pass p → IsReading a b
-step_reads a b p s x y z k = record {
+pub step_taken : (a b : Known Pass) (place : ℕ) (p : Pass) → IsClientStep a place p b → b.trace.taken ≡ a.trace.taken + 1
+step_taken a b place p s = ap (λ (r : Record). r.taken) s.trace
+
+step_reads : (a b : Known Pass) (place : ℕ) (p : Pass) → IsClientStep a place p b → p.start ≡ a.pass.start → p.seen ≡ a.pass.seen → p.mine ≡ a.pass.mine → KeepsRead a.pass p → IsReading a b
+step_reads a b place p s x y z k = record {
   table = s.table;
   number = s.number;
   held = s.held;
   start = ap (λ (q : Pass). q.start) s.pass ∙ x;
   seen = ap (λ (q : Pass). q.seen) s.pass ∙ y;
   mine = ap (λ (q : Pass). q.mine) s.pass ∙ z;
+  taken = let t = step_taken a b place p s in omega arith;
   read = subst (KeepsRead a.pass) (sym s.pass) k;
 }
 
 same_some : (n m : ℕ) → n ≡ m → Some n ≡ Some m
 same_some n m e = ap Some e
 
-pub count_reads : (a b : Known Pass) (n : ℕ) → IsStep a (after_count n a.pass) b → ((m : ℕ) → a.pass.count ≡ Some m → n ≡ m) → IsReading a b
-count_reads a b n s again = step_reads a b (after_count n a.pass) s refl refl refl (record { count = λ m e. same_some n m (again m e); rows = λ index word h. h })
+pub count_reads : (a b : Known Pass) (n : ℕ) → IsClientStep a 2 (after_count n a.pass) b → ((m : ℕ) → a.pass.count ≡ Some m → n ≡ m) → IsReading a b
+count_reads a b n s again = step_reads a b 2 (after_count n a.pass) s refl refl refl (record { count = λ m e. same_some n m (again m e); rows = λ index word h. h })
 
-pub row_reads : (a b : Known Pass) (index word : ℕ) → IsStep a (after_row index word a.pass) b → IsReading a b
-row_reads a b index word s = step_reads a b (after_row index word a.pass) s refl refl refl (record { count = λ n e. e; rows = λ i w h. inr h })
+pub row_reads : (a b : Known Pass) (index word : ℕ) → IsClientStep a (3 + index) (after_row index word a.pass) b → IsReading a b
+row_reads a b index word s = step_reads a b (3 + index) (after_row index word a.pass) s refl refl refl (record { count = λ n e. e; rows = λ i w h. inr h })
 
 -- what a range has shown lasts while the caller reads more rows
 pub shows_on : (a b : Known Pass) (what : List ℕ → List Area → Type 0) → IsReading a b → Shows a what → Shows b what
@@ -160,7 +166,7 @@ shows_on a b what r shows start history state words m = shows start history stat
 })
 
 -- the row before one that starts above the page
-pub found_row : (old new : Known Pass) (held : Option Held) (page count index word next lo hi : ℕ) (kind : Option Kind) → IsStep old (after_row (index + 1) next old.pass) new → lo ≡ row_start word → kind ≡ row_kind word → hi ≡ row_start next → IsHeldBelow held LIMIT
+pub found_row : (old new : Known Pass) (held : Option Held) (page count index word next lo hi : ℕ) (kind : Option Kind) → IsClientStep old (3 + (index + 1)) (after_row (index + 1) next old.pass) new → lo ≡ row_start word → kind ≡ row_kind word → hi ≡ row_start next → IsHeldBelow held LIMIT
     → old.pass.count ≡ Some count → HasRead old.pass.rows index word → index + 1 < count → row_start word ≤ page → page < hi → Shows new (RowIs held page (record { index = index; lo = lo; hi = hi; kind = kind }))
 found_row old new held page count index word next lo hi kind step l k h below counted read lt from until =
     let rows : record { index = index + 1; word = next } ∷ old.pass.rows ≡ new.pass.rows = sym (ap (λ (p : Pass). p.rows) step.pass) in
@@ -174,7 +180,7 @@ last_row seat held page count index word lo kind l k below h counted read lt not
     shows_row seat held page count index word lo LIMIT kind l k below counted read lt from (below_end held page below h) (inr (omega arith, refl))
 
 -- the ends of a row as they were read
-pub found_read : (old new : Known Pass) (count index word next lo hi : ℕ) (kind : Option Kind) → IsStep old (after_row (index + 1) next old.pass) new → lo ≡ row_start word → kind ≡ row_kind word → hi ≡ row_start next
+pub found_read : (old new : Known Pass) (count index word next lo hi : ℕ) (kind : Option Kind) → IsClientStep old (3 + (index + 1)) (after_row (index + 1) next old.pass) new → lo ≡ row_start word → kind ≡ row_kind word → hi ≡ row_start next
     → old.pass.count ≡ Some count → HasRead old.pass.rows index word → index + 1 < count → IsAsRead new.pass (record { index = index; lo = lo; hi = hi; kind = kind })
 found_read old new count index word next lo hi kind step l k h counted read lt =
     let rows : record { index = index + 1; word = next } ∷ old.pass.rows ≡ new.pass.rows = sym (ap (λ (p : Pass). p.rows) step.pass) in

@@ -2,8 +2,8 @@
 -- list.
 use Rattle.std.proofs.Common.{◌≡◌, ◌≢◌, ℕ, zero, suc, ◌+◌, ◌<◌, ◌≤◌, List, [], ◌∷◌, ◌++◌, length, get_or, true, false, cond, sym, refl, ap, ◌∙◌, subst, arith, inl, inr, length-append}
 use Rattle.std.proofs.lemmas.Bool.{cases_lt, lt-ltb, le-ltb}
-use Rattle.std.proofs.lemmas.List.Elements.{All-head, All-tail}
-use Rattle.std.specs.Prelude.{Option, Some, None, nat_lt}
+use Rattle.std.proofs.lemmas.List.Elements.{All-nil, All-cons, All-append, All-head, All-tail}
+use Rattle.std.specs.Prelude.{All, Option, Some, None, nat_lt}
 use Rattle.page_types.specs.declared.TheConstants.{LIMIT}
 use Rattle.page_types.specs.declared.calls.Kind.{Kind}
 use Rattle.page_types.specs.Named.{IsNamedKind}
@@ -12,8 +12,11 @@ use Rattle.space_model.specs.Areas.{IsAreaList, LeadsTo, HasNamedKinds, kind_at,
 use Rattle.space_model.proofs.AreaKinds.{kind_at-here, kind_at-before, kind_at-after, kind_at-below, IsAbove, LeadsTo-above, only_one}
 use Rattle.space_model.proofs.Changing.{kind_at-limit}
 use Rattle.area_rows.specs.RowWords.{row_start, row_kind, row_word}
-use Rattle.area_rows.specs.Rows.{start_of, DiffersFrom, ShowFrom, with_row, areas_from, gap_rows, rows_from}
+use Rattle.area_rows.specs.Rows.{rows_start, DiffersFrom, ShowFrom, with_row, areas_from, gap_rows, rows_from, IsBareGap}
 use Rattle.area_rows.proofs.ReadBack.{start_back, kind_back}
+
+some_none : (k : Kind) (o : Option Kind) → o ≡ None → o ≡ Some k → ⊥
+some_none k o n e = cc
 
 gap_there : (lo hi : ℕ) → lo < hi → gap_rows lo hi ≡ row_word lo None ∷ []
 gap_there lo hi l = ap (λ b. cond b (row_word lo None ∷ []) []) (lt-ltb lo hi l)
@@ -34,7 +37,7 @@ pub length-rows : (A : List Area) → length (rows_from 0 A) ≡ row_count A
 length-rows A = length-from 0 A
 
 -- a gap, and then rows that show on
-with_gap : (lo hi : ℕ) (rest : List ℕ) (kinds : ℕ → Option Kind) → lo < hi → start_of rest ≡ hi → ((p : ℕ) → lo ≤ p → p < hi → kinds p ≡ None) → DiffersFrom (row_word lo None) rest → ShowFrom hi rest kinds → ShowFrom lo (row_word lo None ∷ rest) kinds
+with_gap : (lo hi : ℕ) (rest : List ℕ) (kinds : ℕ → Option Kind) → lo < hi → rows_start rest ≡ hi → ((p : ℕ) → lo ≤ p → p < hi → kinds p ≡ None) → DiffersFrom (row_word lo None) rest → ShowFrom hi rest kinds → ShowFrom lo (row_word lo None ∷ rest) kinds
 with_gap lo hi rest kinds l s free differs show = (
   start_back lo None tt,
   omega (arith, l, s),
@@ -44,14 +47,14 @@ with_gap lo hi rest kinds l s free differs show = (
 )
 
 -- where the rows of an area list start
-start_from : (page : ℕ) (A : List Area) → page ≤ LIMIT → IsAbove page A → HasNamedKinds A → start_of (rows_from page A) ≡ page
+start_from : (page : ℕ) (A : List Area) → page ≤ LIMIT → IsAbove page A → HasNamedKinds A → rows_start (rows_from page A) ≡ page
 start_from page [] le above named = elim (cases_lt page LIMIT) [
-  | inl lt ↦ ap start_of (gap_there page LIMIT lt) ∙ start_back page None tt
-  | inr ge ↦ ap start_of (no_gap page LIMIT ge) ∙ omega arith
+  | inl lt ↦ ap rows_start (gap_there page LIMIT lt) ∙ start_back page None tt
+  | inr ge ↦ ap rows_start (no_gap page LIMIT ge) ∙ omega arith
 ]
 start_from page (a ∷ rest) le above named = elim (cases_lt page a.lo) [
-  | inl lt ↦ ap (λ l. start_of (l ++ row_word a.lo (Some a.kind) ∷ rows_from a.hi rest)) (gap_there page a.lo lt) ∙ start_back page None tt
-  | inr ge ↦ ap (λ l. start_of (l ++ row_word a.lo (Some a.kind) ∷ rows_from a.hi rest)) (no_gap page a.lo ge) ∙ (start_back a.lo (Some a.kind) (All-head (λ x. IsNamedKind x.kind) a rest named) ∙ omega arith)
+  | inl lt ↦ ap (λ l. rows_start (l ++ row_word a.lo (Some a.kind) ∷ rows_from a.hi rest)) (gap_there page a.lo lt) ∙ start_back page None tt
+  | inr ge ↦ ap (λ l. rows_start (l ++ row_word a.lo (Some a.kind) ∷ rows_from a.hi rest)) (no_gap page a.lo ge) ∙ (start_back a.lo (Some a.kind) (All-head (λ x. IsNamedKind x.kind) a rest named) ∙ omega arith)
 ]
 
 not_none : (word : ℕ) (k : Kind) → row_kind word ≡ Some k → (lo : ℕ) → row_kind word ≢ row_kind (row_word lo None)
@@ -80,7 +83,7 @@ shows_from page (a ∷ rest) kinds le areas above named same =
     let fits : a.hi ≤ LIMIT = areas.0.below_limit in
     let kind : IsNamedKind a.kind = All-head (λ x. IsNamedKind x.kind) a rest named in
     let others : HasNamedKinds rest = All-tail (λ x. IsNamedKind x.kind) a rest named in
-    let next : start_of (rows_from a.hi rest) ≡ a.hi = start_from a.hi rest fits (LeadsTo-above a rest areas.1) others in
+    let next : rows_start (rows_from a.hi rest) ≡ a.hi = start_from a.hi rest fits (LeadsTo-above a rest areas.1) others in
     let word = row_word a.lo (Some a.kind) in
     let says : row_kind word ≡ Some a.kind = kind_back a.lo (Some a.kind) kind in
     let tail : ShowFrom a.lo (word ∷ rows_from a.hi rest) kinds = (
@@ -98,6 +101,20 @@ shows_from page (a ∷ rest) kinds le areas above named same =
       | inr ge ↦ subst (λ l. ShowFrom page (l ++ word ∷ rows_from a.hi rest) kinds) (sym (no_gap page a.lo ge))
           (let e : a.lo ≡ page = omega arith in subst (λ x. ShowFrom x (word ∷ rows_from a.hi rest) kinds) e tail)
     ]
+
+-- a gap's word has its last five bits 0, and an area's word is no gap's
+bare_gap : (lo hi : ℕ) → All IsBareGap (gap_rows lo hi)
+bare_gap lo hi = elim (nat_lt lo hi) as (λ b. All IsBareGap (cond b (row_word lo None ∷ []) [])) [
+  | true ↦ All-cons IsBareGap (row_word lo None) [] (λ _. omega arith) (All-nil IsBareGap)
+  | false ↦ All-nil IsBareGap
+]
+
+pub bare_from : (page : ℕ) (A : List Area) → HasNamedKinds A → All IsBareGap (rows_from page A)
+bare_from page [] named = bare_gap page LIMIT
+bare_from page (a ∷ rest) named =
+    let says : row_kind (row_word a.lo (Some a.kind)) ≡ Some a.kind = kind_back a.lo (Some a.kind) (All-head (λ x. IsNamedKind x.kind) a rest named) in
+    All-append IsBareGap (gap_rows page a.lo) (row_word a.lo (Some a.kind) ∷ rows_from a.hi rest) (bare_gap page a.lo)
+    (All-cons IsBareGap (row_word a.lo (Some a.kind)) (rows_from a.hi rest) (λ none. absurd (some_none a.kind (row_kind (row_word a.lo (Some a.kind))) none says)) (bare_from a.hi rest (All-tail (λ x. IsNamedKind x.kind) a rest named)))
 
 -- what the areas of rows are
 record AreNext (page : ℕ) (rows : List ℕ) (kinds : ℕ → Option Kind) (A : List Area) : Type 0 where
@@ -125,33 +142,30 @@ starts_low : (page : ℕ) (rows : List ℕ) (kinds : ℕ → Option Kind) → Sh
 starts_low page [] kinds show = omega arith
 starts_low page (w ∷ rest) kinds show = let l = below_limit page w rest kinds show in omega arith
 
-some_none : (k : Kind) (o : Option Kind) → o ≡ None → o ≡ Some k → ⊥
-some_none k o n e = cc
-
 -- the kind at the start of the rows after one isn't that one's
-next_differs : (word : ℕ) (rest : List ℕ) (kinds : ℕ → Option Kind) (A : List Area) (k : Kind) → row_kind word ≡ Some k → DiffersFrom word rest → ShowFrom (start_of rest) rest kinds → AreNext (start_of rest) rest kinds A → kind_at A (start_of rest) ≢ Some k
+next_differs : (word : ℕ) (rest : List ℕ) (kinds : ℕ → Option Kind) (A : List Area) (k : Kind) → row_kind word ≡ Some k → DiffersFrom word rest → ShowFrom (rows_start rest) rest kinds → AreNext (rows_start rest) rest kinds A → kind_at A (rows_start rest) ≢ Some k
 next_differs word [] kinds A k is differs show next e = some_none k (kind_at A LIMIT) (kind_at-limit A next.areas LIMIT (omega arith)) e
 next_differs word (v ∷ rest) kinds A k is differs show next e =
     differs (is ∙ (sym e ∙ (next.same (row_start v) (omega arith) (below_limit (row_start v) v rest kinds show) ∙ show.3 (row_start v) (omega arith) show.1)))
 
-one_more : (page word : ℕ) (rest : List ℕ) (kinds : ℕ → Option Kind) (A : List Area) (o : Option Kind) → row_kind word ≡ o → ShowFrom page (word ∷ rest) kinds → AreNext (start_of rest) rest kinds A → AreNext page (word ∷ rest) kinds (with_row (row_start word) o (start_of rest) A)
+one_more : (page word : ℕ) (rest : List ℕ) (kinds : ℕ → Option Kind) (A : List Area) (o : Option Kind) → row_kind word ≡ o → ShowFrom page (word ∷ rest) kinds → AreNext (rows_start rest) rest kinds A → AreNext page (word ∷ rest) kinds (with_row (row_start word) o (rows_start rest) A)
 one_more page word rest kinds A None is show next = let l = show.1 in record {
   areas = next.areas;
-  above = above_less page (start_of rest) A (omega arith) next.above;
-  same = λ p from below. elim (cases_lt p (start_of rest)) [
-    | inl lt ↦ kind_at-below A (start_of rest) p next.areas next.above lt ∙ sym (show.3 p from lt ∙ is)
+  above = above_less page (rows_start rest) A (omega arith) next.above;
+  same = λ p from below. elim (cases_lt p (rows_start rest)) [
+    | inl lt ↦ kind_at-below A (rows_start rest) p next.areas next.above lt ∙ sym (show.3 p from lt ∙ is)
     | inr ge ↦ next.same p ge below
   ];
 }
 one_more page word rest kinds A (Some k) is show next =
     let l = show.1 in
     let s = show.0 in
-    let low = starts_low (start_of rest) rest kinds show.4 in
-    let a : Area = record { lo = row_start word; hi = start_of rest; kind = k } in
+    let low = starts_low (rows_start rest) rest kinds show.4 in
+    let a : Area = record { lo = row_start word; hi = rows_start rest; kind = k } in
     record {
       areas = (record { has_page = omega arith; below_limit = low }, leads_to a A next.areas next.above (next_differs word rest kinds A k is show.2 show.4 next), next.areas);
       above = omega arith;
-      same = λ p from below. elim (cases_lt p (start_of rest)) [
+      same = λ p from below. elim (cases_lt p (rows_start rest)) [
         | inl lt ↦ kind_at-here a A p (omega arith) lt ∙ sym (show.3 p from lt ∙ is)
         | inr ge ↦ kind_at-after a A p ge ∙ next.same p ge below
       ];
@@ -159,7 +173,7 @@ one_more page word rest kinds A (Some k) is show next =
 
 are_next : (page : ℕ) (rows : List ℕ) (kinds : ℕ → Option Kind) → ShowFrom page rows kinds → AreNext page rows kinds (areas_from rows)
 are_next page [] kinds show = record { areas = tt; above = tt; same = λ p from below. absurd (omega arith) }
-are_next page (word ∷ rest) kinds show = one_more page word rest kinds (areas_from rest) (row_kind word) refl show (are_next (start_of rest) rest kinds show.4)
+are_next page (word ∷ rest) kinds show = one_more page word rest kinds (areas_from rest) (row_kind word) refl show (are_next (rows_start rest) rest kinds show.4)
 
 -- rows that show an area list's kinds are those of that list
 pub areas_back : (rows : List ℕ) (A : List Area) → ShowFrom 0 rows (kind_at A) → IsAreaList A → areas_from rows ≡ A
@@ -194,7 +208,7 @@ row_says page (w ∷ v ∷ rest) kinds zero show more = let s = show.0 in record
 row_says page (w ∷ rest) kinds (suc i) show more =
     let e : i + 1 ≡ suc i = omega arith in
     let f : suc i + 1 ≡ suc (i + 1) = omega arith in
-    let r = row_says (start_of rest) rest kinds i show.4 (omega arith) in
+    let r = row_says (rows_start rest) rest kinds i show.4 (omega arith) in
     let g : get_or (w ∷ rest) (suc i + 1) 0 ≡ get_or rest (i + 1) 0 = ap (λ n. get_or (w ∷ rest) n 0) f in
     record {
       below = r.below;

@@ -10,24 +10,24 @@ use Rattle.page_types.specs.declared.calls.Kind.{Kind}
 use Rattle.lock_core.specs.declared.range.Held.{Held}
 use Rattle.lock_core.specs.Grants.{Grants, IsExclusive}
 use Rattle.lock_core.specs.Client.{loads, adds, Moment, IsAllowed, IsMade}
-use Rattle.range_rw.specs.Seats.{Known, IsClientCall}
-use Rattle.range_rw.specs.declared.views.Record.{Record}
+use Rattle.range_rw.specs.Contract.{Known, IsClientCall}
+use Rattle.range_rw.specs.declared.record.Record.{Record}
 use Rattle.space_model.specs.declared.areas.Area.{Area}
 use Rattle.space_model.specs.declared.entries.Entry.{Entry}
 use Rattle.space_model.specs.Areas.{kind_at}
-use Rattle.area_rows.specs.Callers.{HasRead, IsMoment, Shows, IsLook, IsNumbered}
-use Rattle.area_rows.specs.Laws.{no_note}
+use Rattle.area_rows.specs.Callers.{HasPage, HasRead, IsMoment, Shows, IsLook, IsNumbered, IsDrawn}
+use Rattle.area_rows.specs.Keeping.{no_note}
 use Rattle.area_rows.specs.declared.guard.Note.{Note}
 use Rattle.area_rows.specs.declared.guard.Pass.{Pass}
 use Rattle.area_rows.specs.RowWords.{row_start}
 use Rattle.area_rows.specs.Rows.{rows_in, ShowFrom, RowsShow}
-use Rattle.area_rows.specs.History.{Runs, StartsWith, IsRunning, HasHistory, Allowed, Here, MayLoad, IsFault, IsRight, HoldsFor, entry_of, after_look, after_count, after_row, after_draw}
+use Rattle.area_rows.specs.History.{Runs, StartsWith, IsRunningSpace, HasHistory, Allowed, Here, MayLoad, IsFault, IsRight, HoldsFor, entry_of, after_look, after_count, after_row, after_draw}
 use Rattle.area_rows.specs.History.MayLoad.{number, count, row}
 use Rattle.area_rows.proofs.RowLists.{row_says}
 
-pub held_some : (held : Option Held) → IsSome held → (h : Held) × (held ≡ Some h)
-held_some None s = absurd (false≢true s)
-held_some (Some h) s = (h, refl)
+held_some : (held : Option Held) → IsSome held → HasPage held → (h : Held) × (held ≡ Some h) × (h.range.lo < h.range.hi)
+held_some None s pages = absurd (false≢true s)
+held_some (Some h) s pages = (h, refl, pages h refl)
 
 -- the row words among the client words
 pub length-rows_in : (words : List ℕ) (kinds : ℕ → Option Kind) → RowsShow words kinds → length (rows_in words) ≡ slice_index words 2
@@ -75,7 +75,7 @@ moment_of grants words passes seat here s exclusive granted n same = record {
   grants = grants;
   passes = passes;
   pass = here.pass;
-  running = subst (λ a. IsRunning a here.history here.state words passes) (sym (here.running.parts seat here.pass here.own).began ∙ ap (λ (x : Pass). x.start) same) here.running;
+  running = subst (λ a. IsRunningSpace a here.history here.state words passes) (sym (here.running.parts seat here.pass here.own).began ∙ ap (λ (x : Pass). x.start) same) here.running;
   exclusive = exclusive;
   granted = ap (get_elem? grants) n ∙ granted;
   own = ap (get_elem? passes) n ∙ here.own;
@@ -86,19 +86,19 @@ module _ (note : Note) (seat : ℕ) (held : Option Held) (pass : Pass) where
   pub may_look : IsAllowed HasHistory Allowed note seat held pass (loads 0)
   may_look grants words passes m lt small = (after_look m.met.1 pass, (here_at grants words passes seat held pass m, number refl refl))
 
-  pub may_count : IsSome held → IsAllowed HasHistory Allowed note seat held pass (loads 2)
-  may_count some_held grants words passes m lt small = let h = held_some held some_held in
-      (after_count (slice_index words 2) pass, (here_at grants words passes seat held pass m, count (h.0, m.grant ∙ ap some h.1) refl refl))
+  pub may_count : IsSome held → HasPage held → IsAllowed HasHistory Allowed note seat held pass (loads 2)
+  may_count some_held pages grants words passes m lt small = let h = held_some held some_held pages in
+      (after_count (slice_index words 2) pass, (here_at grants words passes seat held pass m, count (h.0, m.grant ∙ ap some h.1, h.2) refl refl))
 
-  pub may_row : (index : ℕ) → index < ROWS → IsSome held → IsAllowed HasHistory Allowed note seat held pass (loads (3 + index))
-  may_row index few some_held grants words passes m lt small = let h = held_some held some_held in
-      (after_row index (slice_index words (3 + index)) pass, (here_at grants words passes seat held pass m, row index (h.0, m.grant ∙ ap some h.1) few refl refl))
+  pub may_row : (index : ℕ) → index < ROWS → IsSome held → HasPage held → IsAllowed HasHistory Allowed note seat held pass (loads (3 + index))
+  may_row index few some_held pages grants words passes m lt small = let h = held_some held some_held pages in
+      (after_row index (slice_index words (3 + index)) pass, (here_at grants words passes seat held pass m, row index (h.0, m.grant ∙ ap some h.1, h.2) few refl refl))
 
   pub may_draw : (s : Known Pass) → s.number ≡ seat → s.held ≡ held → s.pass ≡ pass → length pass.mine + 1 < 2 ^ 32 → IsFault note.call → HoldsFor held note.under
       → Shows s (λ (words : List ℕ) (state : List Area). IsRight state note.call note.reply note.under) → IsAllowed HasHistory Allowed note seat held pass (adds 0 1)
   may_draw s n h p few fault holds shows grants words passes m lt small =
       let here = here_at grants words passes seat held pass m in (
-        after_draw here.history (entry_of (length here.history) seat note) pass,
+        after_draw here.history (entry_of (length here.history) seat note) held pass,
         (
           refl,
           refl,
@@ -137,23 +137,21 @@ module _ (note : Note) (seat : ℕ) (held : Option Held) (pass : Pass) where
               subst (λ w. row_start w < LIMIT) e (row_below s.1 (kind_at here.state) index here.running.rows (omega arith)),
         )
 
-    pub draws : (t u : Known Pass) → t.number ≡ seat → t.held ≡ held → t.pass ≡ pass → u.pass ≡ after → u.table ≡ t.table → u.number ≡ t.number → u.held ≡ t.held → IsMade HasHistory Allowed note seat held pass (adds 0 1) found after → IsNumbered t t (entry_of found seat note) u
-    draws t u n h p q same_table same_number same_held s =
+    pub draws : (t u : Known Pass) → t.number ≡ seat → t.held ≡ held → t.pass ≡ pass → u.pass ≡ after → IsClientCall t 0 u → IsMade HasHistory Allowed note seat held pass (adds 0 1) found after → IsDrawn t (entry_of found seat note) u
+    draws t u n h p q call s =
         let m = s.3 in let here = s.5.2 in let d = s.5.3 in
         let same : here.pass ≡ pass = some-injective here.pass pass (sym here.own ∙ m.own) in
-        let is : after ≡ after_draw here.history (entry_of (length here.history) seat note) here.pass = s.5.4 in
+        let is : after ≡ after_draw here.history (entry_of (length here.history) seat note) d.held.0 here.pass = s.5.4 in
         let num : length here.history ≡ found = sym here.running.number ∙ s.4 in
         let part = here.running.parts seat here.pass here.own in
         let old : here.pass ≡ t.pass = same ∙ sym p in
-        let new : u.pass ≡ after_draw here.history (entry_of found seat note) t.pass = q ∙ (is ∙ (λ i. after_draw here.history (entry_of (num i) seat note) (old i))) in
+        let new : u.pass ≡ after_draw here.history (entry_of found seat note) d.held.0 t.pass = q ∙ (is ∙ (λ i. after_draw here.history (entry_of (num i) seat note) d.held.0 (old i))) in
         let granted : get_elem? s.0 seat ≡ some t.held = m.grant ∙ ap some (sym h) in
-        record {
+        let drew : u.pass.drew ≡ d.held.0 = ap (λ (x : Pass). x.drew) new in
+        let held_then : d.held.0 ≡ t.held = some-injective d.held.0 t.held (sym d.held.1 ∙ granted) in
+        let num_is : IsNumbered t (entry_of found seat note) u = record {
           history = here.history;
           state = here.state;
-          words = s.1;
-          same = refl;
-          moment = moment_of s.0 s.1 s.2 seat here t m.exclusive granted n old;
-          holds = subst (λ x. HoldsFor x note.under) (some-injective d.held.0 t.held (sym d.held.1 ∙ granted)) d.held.2;
           more = subst (λ (x : Pass). StartsWith here.history x.seen) old part.seen;
           runs = subst (λ (a : List Area). Runs 0 a here.history here.state) (sym part.began ∙ ap (λ (x : Pass). x.start) old) here.running.runs;
           counted = sym num;
@@ -161,10 +159,22 @@ module _ (note : Note) (seat : ℕ) (held : Option Held) (pass : Pass) where
           right = d.right;
           seen = ap (λ (x : Pass). x.seen) new;
           mine = ap (λ (x : Pass). x.mine) new;
+          drew = subst (λ x. HoldsFor x note.under) (sym drew) d.held.2;
+          step = t.trace.taken;
+          client = ap (λ (r : Record). r.client) call.trace;
+          since = omega arith;
+          until = let l : u.trace.taken ≡ t.trace.taken + 1 = ap (λ (r : Record). r.taken) call.trace in omega arith;
           start = ap (λ (x : Pass). x.start) new;
-          table = same_table;
-          number = same_number;
-          held = same_held;
+          table = call.table;
+          number = call.number;
+          held = call.held;
+        } in
+        record {
+          numbered = num_is;
+          words = s.1;
+          moment = moment_of s.0 s.1 s.2 seat here t m.exclusive granted n old;
+          drew = drew ∙ held_then;
+          trace = call.trace;
         }
 
 pub look_is : (s u : Known Pass) (found : ℕ) → IsClientCall s 0 u → IsMade HasHistory Allowed no_note s.number s.held s.pass (loads 0) found u.pass → IsLook s found u
@@ -177,7 +187,7 @@ look_is s u found call made =
       state = here.state;
       words = made.1;
       moment = subst (λ h. IsMoment s s.pass.start h here.state made.1) (sym seen) (moment_of made.0 made.1 made.2 s.number here s m.exclusive m.grant refl same);
-      step = record { table = call.table; number = call.number; held = call.held; pass = is ∙ ap (λ h. after_look h s.pass) (sym seen); taken = ap (λ (r : Record). r.taken) call.trace };
+      step = record { table = call.table; number = call.number; held = call.held; pass = is ∙ ap (λ h. after_look h s.pass) (sym seen); trace = call.trace };
       more = subst (λ h. StartsWith h s.pass.seen) (sym seen) (subst (λ (x : Pass). StartsWith here.history x.seen) same (here.running.parts s.number here.pass here.own).seen);
       count = ap length seen ∙ (sym here.running.number ∙ made.4);
     }

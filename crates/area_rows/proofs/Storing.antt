@@ -1,50 +1,47 @@
 -- A run is legal, and the history of the rule is stored once.
-use Rattle.std.proofs.Common.{◌≡◌, ℕ, zero, suc, ◌+◌, ◌<◌, Bool, true, false, cond, eqb, List, [], ◌∷◌, length, sym, refl, ap, ◌∙◌, arith, inl, inr}
+use Rattle.std.proofs.Common.{◌≡◌, ℕ, zero, suc, ◌+◌, ◌<◌, Bool, true, false, cond, eqb, List, [], ◌∷◌, length, sym, refl, ap, ◌∙◌, subst, arith, inl, inr}
 use Rattle.std.proofs.lemmas.Bool.{cases_lt}
 use mathlib.Core.Option.{some, some-injective, some-ne-none}
 use lib.ListN.{get_elem?}
 use Rattle.space_model.specs.declared.areas.Area.{Area}
 use Rattle.space_model.specs.declared.entries.Entry.{Entry}
-use Rattle.space_model.specs.History.{IsLegalFrom, StateAfter}
+use Rattle.space_model.specs.History.{HasRightReply, IsNumberedFrom}
+use Rattle.space_model.proofs.Histories.{chains_weaker, numbered_at, replied_state}
 use Rattle.area_rows.specs.declared.guard.Pass.{Pass}
-use Rattle.area_rows.specs.History.{Runs, entries_of, IsRunning}
-use Rattle.area_rows.specs.Stored.{Stores, IsStoredOnce, IsStored, HistoryIsStored, RunsAreLegal, DrawsHold}
-use Rattle.area_rows.proofs.Gathering.{elem_at, runs_number, own_at, at_own}
-
-legal_run : (entries : List Entry) (n : ℕ) (A B : List Area) → Runs n A entries B → IsLegalFrom n A entries
-legal_run [] n A B r = tt
-legal_run (e ∷ rest) n A B r = (r.0, (r.2.0, r.2.1, legal_run rest (n + 1) r.2.0 B r.2.2))
-
-state_run : (entries : List Entry) (n : ℕ) (A B : List Area) → Runs n A entries B → StateAfter A entries B
-state_run [] n A B r = r
-state_run (e ∷ rest) n A B r = (e.reply, r.2.0, r.2.1, state_run rest (n + 1) r.2.0 B r.2.2)
+use Rattle.area_rows.specs.History.{FitsAndReplies, entries_of, IsRunningSpace, MayLoad}
+use Rattle.area_rows.specs.History.MayLoad.{number, count, row}
+use Rattle.area_rows.specs.Stored.{Stores, IsStoredOnce, IsStored, HistoryIsStored, RunsAreLegal, DrawsHold, KeepsDraw, LastDrawIsKept}
+use Rattle.lock_core.proofs.ByPlace.{there}
+use Rattle.area_rows.proofs.Gathering.{runs_number, own_at, at_own}
 
 pub all_legal : RunsAreLegal
-all_legal A B entries r = (legal_run entries 0 A B r, state_run entries 0 A B r)
+all_legal A B entries r =
+    let replied = chains_weaker FitsAndReplies HasRightReply (λ C e D h. h.1) A entries B r.1 in
+    ((r.0, (B, replied)), replied_state A entries B replied)
 
 -- an entry is not the one before all of these
-not_later : (worker : ℕ) (x e : Entry) (xs : List Entry) (n : ℕ) (A B : List Area) (j : ℕ) → Runs (n + 1) A xs B → x.number ≡ n → x ≡ e → get_elem? (entries_of worker xs) j ≡ some e → ⊥
-not_later worker x e xs n A B j r num same at =
+not_later : (worker : ℕ) (x e : Entry) (xs : List Entry) (n j : ℕ) → IsNumberedFrom (n + 1) xs → x.number ≡ n → x ≡ e → get_elem? (entries_of worker xs) j ≡ some e → ⊥
+not_later worker x e xs n j r num same at =
     let f = own_at worker xs j e at in
-    let later : e.number ≡ n + 1 + f.0 = runs_number xs (n + 1) A B f.0 e r f.1 in
+    let later : e.number ≡ n + 1 + f.0 = numbered_at (n + 1) xs f.0 e r f.1 in
     let now : e.number ≡ n = ap (λ (y : Entry). y.number) (sym same) ∙ num in
     omega arith
 
-one_here : (worker : ℕ) (x e : Entry) (xs : List Entry) (n : ℕ) (A B : List Area) (b : Bool) → Runs (n + 1) A xs B → x.number ≡ n
+one_here : (worker : ℕ) (x e : Entry) (xs : List Entry) (n : ℕ) (b : Bool) → IsNumberedFrom (n + 1) xs → x.number ≡ n
     → ((i j : ℕ) → get_elem? (entries_of worker xs) i ≡ some e → get_elem? (entries_of worker xs) j ≡ some e → i ≡ j)
     → (i j : ℕ) → get_elem? (cond b (x ∷ entries_of worker xs) (entries_of worker xs)) i ≡ some e → get_elem? (cond b (x ∷ entries_of worker xs) (entries_of worker xs)) j ≡ some e → i ≡ j
-one_here worker x e xs n A B true r num rest zero zero p q = refl
-one_here worker x e xs n A B true r num rest zero (suc j) p q = absurd (not_later worker x e xs n A B j r num (some-injective x e p) q)
-one_here worker x e xs n A B true r num rest (suc i) zero p q = absurd (not_later worker x e xs n A B i r num (some-injective x e q) p)
-one_here worker x e xs n A B true r num rest (suc i) (suc j) p q = ap suc (rest i j p q)
-one_here worker x e xs n A B false r num rest i j p q = rest i j p q
+one_here worker x e xs n true r num rest zero zero p q = refl
+one_here worker x e xs n true r num rest zero (suc j) p q = absurd (not_later worker x e xs n j r num (some-injective x e p) q)
+one_here worker x e xs n true r num rest (suc i) zero p q = absurd (not_later worker x e xs n i r num (some-injective x e q) p)
+one_here worker x e xs n true r num rest (suc i) (suc j) p q = ap suc (rest i j p q)
+one_here worker x e xs n false r num rest i j p q = rest i j p q
 
 -- an entry stands at one place among those of its caller
-one_place : (worker : ℕ) (e : Entry) (history : List Entry) (n : ℕ) (A B : List Area) → Runs n A history B → (i j : ℕ) → get_elem? (entries_of worker history) i ≡ some e → get_elem? (entries_of worker history) j ≡ some e → i ≡ j
-one_place worker e [] n A B r i j p q = absurd (some-ne-none e (sym p))
-one_place worker e (x ∷ xs) n A B r i j p q = one_here worker x e xs n r.2.0 B (eqb x.worker worker) r.2.2 r.0 (one_place worker e xs (n + 1) r.2.0 B r.2.2) i j p q
+one_place : (worker : ℕ) (e : Entry) (history : List Entry) (n : ℕ) → IsNumberedFrom n history → (i j : ℕ) → get_elem? (entries_of worker history) i ≡ some e → get_elem? (entries_of worker history) j ≡ some e → i ≡ j
+one_place worker e [] n r i j p q = absurd (some-ne-none e (sym p))
+one_place worker e (x ∷ xs) n r i j p q = one_here worker x e xs n (eqb x.worker worker) r.1 r.0 (one_place worker e xs (n + 1) r.1) i j p q
 
-module _ (start : List Area) (history : List Entry) (state : List Area) (words : List ℕ) (passes : List Pass) (r : IsRunning start history state words passes) where
+module _ (start : List Area) (history : List Entry) (state : List Area) (words : List ℕ) (passes : List Pass) (r : IsRunningSpace start history state words passes) where
   number_at : (n : ℕ) (e : Entry) → get_elem? history n ≡ some e → e.number ≡ n
   number_at n e at = runs_number history 0 start state n e r.runs at ∙ omega arith
 
@@ -60,7 +57,7 @@ module _ (start : List Area) (history : List Entry) (state : List Area) (words :
         | inl lt ↦ lt
         | inr ge ↦ let o = at_own e.worker history n e at refl in absurd (some-ne-none e (sym (ap (λ l. get_elem? l o.0) (sym (r.no_other e.worker ge)) ∙ o.1)))
       ] in
-      let p = elem_at passes e.worker few in
+      let p = there passes e.worker few in
       let o = at_own e.worker history n e at refl in
       record {
         place = o.0;
@@ -71,12 +68,13 @@ module _ (start : List Area) (history : List Entry) (state : List Area) (words :
             let who : worker ≡ e.worker = sym in_it.1 ∙ ap (λ (y : Entry). y.worker) is in
             let mine : get_elem? (entries_of e.worker history) other ≡ some e =
             ap (λ w. get_elem? (entries_of w history) other) (sym who) ∙ (ap (λ l. get_elem? l other) (r.parts worker s.0 s.1).mine ∙ (s.2 ∙ ap some is)) in
-            (who, one_place e.worker e history 0 start state r.runs other o.0 mine o.1, is);
+            (who, one_place e.worker e history 0 r.runs.0 other o.0 mine o.1, is);
       }
 
   is_stored : IsStored words passes history start state
   is_stored = record {
     runs = r.runs;
+    began = λ worker pass at. (r.parts worker pass at).began;
     rows = r.rows;
     sequence = r.sequence;
     count = sym r.number;
@@ -90,4 +88,15 @@ pub all_stored : HistoryIsStored
 all_stored grants words passes h = (h.1, h.0, h.2, is_stored h.0 h.1 h.2 words passes h.3)
 
 pub all_hold : DrawsHold
-all_hold grants words passes worker place by note after may = let d = may.3 in (d.held.0, d.held.1, d.held.2, may.2.history, ap (λ (p : Pass). p.seen) may.4)
+all_hold grants words passes worker place by note after may = let d = may.3 in (d.held.0, d.held.1, d.held.2, ap (λ (p : Pass). p.drew) may.4, may.2.history, ap (λ (p : Pass). p.seen) may.4)
+
+keeps_draw : (held : Type 0) (words : List ℕ) (history : List Entry) (place : ℕ) (p after : Pass) → MayLoad held words history place p after → KeepsDraw p after
+keeps_draw held words history place p after (number e is) = record { mine = ap (λ (x : Pass). x.mine) is; drew = ap (λ (x : Pass). x.drew) is }
+keeps_draw held words history place p after (count h e is) = record { mine = ap (λ (x : Pass). x.mine) is; drew = ap (λ (x : Pass). x.drew) is }
+keeps_draw held words history place p after (row i h few e is) = record { mine = ap (λ (x : Pass). x.mine) is; drew = ap (λ (x : Pass). x.drew) is }
+
+pub draw_kept : LastDrawIsKept
+draw_kept grants words passes worker place note pass after own may =
+    let here = may.0 in
+    let same : here.pass ≡ pass = some-injective here.pass pass (sym here.own ∙ own) in
+    (subst (λ (x : Pass). KeepsDraw x after) same (keeps_draw _ words here.history place here.pass after may.1), record { mine = refl; drew = refl })

@@ -1,6 +1,6 @@
--- What contracts see of a caller and of a space, and what each call tells. What a caller's range has shown of the
+-- What contracts see of a caller and of a space, and what each call says. What a caller's range has shown of the
 -- history is stated as what is so at every moment at which the caller holds that range and has read those rows; so it
--- lasts while the caller keeps both.
+-- lasts while the caller keeps both. The definitions are this project's own.
 use Rattle.std.specs.Prelude.{ℕ, ◌≡◌, ◌≢◌, ◌<◌, ◌≤◌, ◌+◌, ◌-◌, Option, Some, None, List, [], ◌∷◌, ◌++◌, drop, length, min, replicate, slice_index, ◌⊎◌}
 use mathlib.Core.Option.{some}
 use lib.ListN.{get_elem?}
@@ -15,15 +15,16 @@ use Rattle.lock_core.specs.declared.range.Held.{Held}
 use Rattle.lock_core.specs.declared.range.Mode.{Mode}
 use Rattle.lock_core.specs.declared.range.Mode.TheVariants.{Writer}
 use Rattle.page_types.specs.declared.pages.Span.{Span}
-use Rattle.range_rw.specs.Seats.{Known, IsSeatCount, new_seat}
+use Rattle.range_rw.specs.Contract.{Known, IsSeatCount, new_seat}
+use Rattle.range_rw.specs.Contract.{client_trace}
 use Rattle.area_rows.specs.declared.guard.ReadRow.{ReadRow}
 use Rattle.area_rows.specs.declared.guard.Pass.{Pass}
 use Rattle.area_rows.specs.declared.row.Row.{Row}
 use Rattle.area_rows.specs.declared.space.SpaceFault.{SpaceFault}
 use Rattle.area_rows.specs.declared.space.SpaceFault.TheVariants.{Callers, Rows, Memory}
 use Rattle.area_rows.specs.RowWords.{row_start, row_kind}
-use Rattle.area_rows.specs.Rows.{IsRowOf, rows_in, start_of, rows_from}
-use Rattle.area_rows.specs.History.{Runs, StartsWith, entries_of, HasNamedReplies, IsRunning, IsRight, HoldsFor}
+use Rattle.area_rows.specs.Rows.{IsRowOf, rows_in, rows_start, rows_from}
+use Rattle.area_rows.specs.History.{Runs, StartsWith, entries_of, HasNamedReplies, IsRunningSpace, IsRight, HoldsFor}
 
 -- a caller: its seat in the lock's table, whose pass is what it knows of the space, and how many numbers it may still
 -- draw
@@ -48,6 +49,10 @@ held_span span mode = record { range = record { lo = span.lo; hi = span.hi }; mo
 abbrev pub IsHeldBelow : Option Held → ℕ → Type 0
 IsHeldBelow held limit = (h : Held) → held ≡ Some h → h.range.hi ≤ limit
 
+-- a held range has a page
+abbrev pub HasPage : Option Held → Type 0
+HasPage held = (h : Held) → held ≡ Some h → h.range.lo < h.range.hi
+
 -- a row was read like that, among others
 abbrev pub HasRead : List ReadRow → ℕ → ℕ → Type 0
 HasRead [] index word = ⊥
@@ -64,7 +69,7 @@ pub record IsMoment (seat : Known Pass) (start : List Area) (history : List Entr
   pub grants : Grants
   pub passes : List Pass
   pub pass : Pass
-  pub running : IsRunning start history state words passes
+  pub running : IsRunningSpace start history state words passes
   pub exclusive : IsExclusive grants
   pub granted : get_elem? grants seat.number ≡ some seat.held
   pub own : get_elem? passes seat.number ≡ some pass
@@ -75,8 +80,8 @@ abbrev pub Shows : Known Pass → (List ℕ → List Area → Type 0) → Type 0
 Shows seat what = (start : List Area) (history : List Entry) (state : List Area) (words : List ℕ) → IsMoment seat start history state words → what words state
 
 -- where a row ends, by what was read: where the next one starts, or at LIMIT
-abbrev pub EndsAt : List ReadRow → ℕ → ℕ → ℕ → Type 0
-EndsAt rows count index hi = ((index + 1 < count) × (next : ℕ) × HasRead rows (index + 1) next × (hi ≡ row_start next)) ⊎ ((index + 1 ≡ count) × (hi ≡ LIMIT))
+abbrev pub IsRowEnd : List ReadRow → ℕ → ℕ → ℕ → Type 0
+IsRowEnd rows count index hi = ((index + 1 < count) × (next : ℕ) × HasRead rows (index + 1) next × (hi ≡ row_start next)) ⊎ ((index + 1 ≡ count) × (hi ≡ LIMIT))
 
 -- the ends and the kind of the row are as the caller has read them under its range
 pub record IsAsRead (pass : Pass) (row : Row) : Type 0 where
@@ -87,7 +92,7 @@ pub record IsAsRead (pass : Pass) (row : Row) : Type 0 where
   pub read : HasRead pass.rows row.index word
   pub lo : row.lo ≡ row_start word
   pub kind : row.kind ≡ row_kind word
-  pub hi : EndsAt pass.rows count row.index row.hi
+  pub hi : IsRowEnd pass.rows count row.index row.hi
 
 -- a page past each end of the row is held as well, by a writer, or there is none
 abbrev pub HoldsAround : Option Held → Row → Type 0
@@ -95,7 +100,7 @@ HoldsAround held row = (h : Held) × (held ≡ Some h) × (h.mode ≡ Writer) ×
 
 -- the row word of that number starts at lo, and the next one at hi, or LIMIT is there
 abbrev pub HasEnds : List ℕ → Row → Type 0
-HasEnds words row = (row_start (slice_index words (3 + row.index)) ≡ row.lo) × (start_of (drop (row.index + 1) (rows_in words)) ≡ row.hi)
+HasEnds words row = (row_start (slice_index words (3 + row.index)) ≡ row.lo) × (rows_start (drop (row.index + 1) (rows_in words)) ≡ row.hi)
 
 -- the row is that of the page; its held pages have its kind at the state, and the held pages next to it have another,
 -- a gap counting as a kind; its ends are those of the row words where a page past each of them is held as well
@@ -108,7 +113,7 @@ pub record RowIs (held : Option Held) (page : ℕ) (row : Row) (words : List ℕ
 
 -- a new pass over these areas
 abbrev pub new_pass : List Area → Pass
-new_pass start = record { start = start; seen = []; mine = []; count = None; rows = [] }
+new_pass start = record { start = start; seen = []; mine = []; count = None; rows = []; drew = None }
 
 -- the client words of a space that starts with these areas: no entry, none under everything, the row count, the rows,
 -- and room for more
@@ -129,13 +134,13 @@ IsSpaceFault callers rows Memory = IsSeatCount callers × (rows ≤ ROWS)
 abbrev pub AreIdle : TableId → List CallerView → Type 0
 AreIdle table callers = (k : ℕ) (c : CallerView) → get_elem? callers k ≡ some c → (c.seat.table ≡ table) × (c.seat.number ≡ k) × (c.seat.held ≡ None)
 
--- one step that left this pass: the seat holds what it held
-pub record IsStep (before : Known Pass) (left_pass : Pass) (after : Known Pass) : Type 0 where
+-- one step on the client word of that place, which left this pass: the seat holds what it held
+pub record IsClientStep (before : Known Pass) (place : ℕ) (left_pass : Pass) (after : Known Pass) : Type 0 where
   pub table : after.table ≡ before.table
   pub number : after.number ≡ before.number
   pub held : after.held ≡ before.held
   pub pass : after.pass ≡ left_pass
-  pub taken : after.trace.taken ≡ before.trace.taken + 1
+  pub trace : after.trace ≡ client_trace before.trace place
 
 -- steps that read rows: the seat holds what it held, has seen and numbered what it had, and keeps what it had read
 pub record IsReading (before after : Known Pass) : Type 0 where
@@ -145,6 +150,7 @@ pub record IsReading (before after : Known Pass) : Type 0 where
   pub start : after.pass.start ≡ before.pass.start
   pub seen : after.pass.seen ≡ before.pass.seen
   pub mine : after.pass.mine ≡ before.pass.mine
+  pub taken : before.trace.taken ≤ after.trace.taken
   pub read : KeepsRead before.pass after.pass
 
 -- a look at the number word: at a moment of the running space the caller sees the history so far, and it keeps what
@@ -153,20 +159,17 @@ pub record IsLook (before : Known Pass) (found : ℕ) (after : Known Pass) : Typ
   pub state : List Area
   pub words : List ℕ
   pub moment : IsMoment before before.pass.start after.pass.seen state words
-  pub step : IsStep before (record before.pass { seen = after.pass.seen }) after
+  pub step : IsClientStep before 0 (record before.pass { seen = after.pass.seen }) after
   pub more : StartsWith after.pass.seen before.pass.seen
   pub count : length after.pass.seen ≡ found
 
--- a call got the next number at a moment of the running space at which its caller was the drawing seat, which held
--- what the entry names. The history before the entry begins with what the caller had seen before the call, the entry
--- is right at the state that this history leaves, and the caller sees it at the end and stores it
-pub record IsNumbered (drawing before : Known Pass) (e : Entry) (after : Known Pass) : Type 0 where
+-- a call got the next number. The history before the entry begins with what the caller had seen before the call, the
+-- entry is right at the state that this history leaves, and the caller sees it at the end and stores it. At the step
+-- that drew its last number, which is this one, the caller held what the entry names. It was a step of this call on
+-- the number word, since it has a number not below that of the steps at the call's entry
+pub record IsNumbered (before : Known Pass) (e : Entry) (after : Known Pass) : Type 0 where
   pub history : List Entry
   pub state : List Area
-  pub words : List ℕ
-  pub same : drawing.number ≡ before.number
-  pub moment : IsMoment drawing before.pass.start history state words
-  pub holds : HoldsFor drawing.held e.under
   pub more : StartsWith history before.pass.seen
   pub runs : Runs 0 before.pass.start history state
   pub counted : e.number ≡ length history
@@ -174,10 +177,25 @@ pub record IsNumbered (drawing before : Known Pass) (e : Entry) (after : Known P
   pub right : IsRight state e.call e.reply e.under
   pub seen : after.pass.seen ≡ history ++ e ∷ []
   pub mine : after.pass.mine ≡ before.pass.mine ++ e ∷ []
+  pub drew : HoldsFor after.pass.drew e.under
+  pub step : ℕ
+  pub client : after.trace.client ≡ Some (record { place = 0; step = step })
+  pub since : before.trace.taken ≤ step
+  pub until : step < after.trace.taken
   pub start : after.pass.start ≡ before.pass.start
   pub table : after.table ≡ before.table
   pub number : after.number ≡ before.number
   pub held : after.held ≡ before.held
+
+-- the same by one step on the number word, made at a moment of the running space whose history is the one before the
+-- entry; so what the caller's range has shown is so of the state that this history leaves. What was held at the draw
+-- is what the caller holds
+pub record IsDrawn (before : Known Pass) (e : Entry) (after : Known Pass) : Type 0 where
+  pub numbered : IsNumbered before e after
+  pub words : List ℕ
+  pub moment : IsMoment before before.pass.start numbered.history numbered.state words
+  pub drew : after.pass.drew ≡ before.held
+  pub trace : after.trace ≡ client_trace before.trace 0
 
 -- the whole history of callers that have stopped: it runs from what each began with to the areas that are left, which
 -- are an area list; calls, replies and areas have named bits alone; each caller's entries stand in it in order, no

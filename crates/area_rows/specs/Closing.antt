@@ -1,39 +1,39 @@
 -- How the whole history is put together when a space is closed: each caller's entries go to the places of their
 -- numbers. Only private functions speak of this; what callers see is `IsWhole`.
-use Rattle.std.specs.Prelude.{ℕ, ◌≡◌, ◌+◌, ◌≤◌, ◌<◌, ◌^◌, List, [], ◌∷◌, length, vec_len, vec_capacity}
+use Rattle.std.specs.Prelude.{ℕ, ◌≡◌, ◌+◌, ◌≤◌, ◌<◌, ◌^◌, List, [], ◌∷◌, map, vec_len, vec_capacity}
 use mathlib.Core.Option.{some}
 use lib.ListN.{get_elem?}
 use Rattle.page_types.specs.declared.TheConstants.{LIMIT, ROWS}
 use Rattle.space_model.specs.declared.entries.Entry.{Entry}
-use Rattle.range_rw.specs.Seats.{Known}
+use Rattle.range_rw.specs.Contract.{Known}
 use Rattle.area_rows.specs.declared.guard.Pass.{Pass}
 use Rattle.area_rows.specs.declared.close.Kept.{Kept}
-use Rattle.area_rows.specs.Callers.{CallerView, IsHeldBelow}
+use Rattle.area_rows.specs.History.{entry_count}
+use Rattle.area_rows.specs.Callers.{CallerView, HasPage, IsHeldBelow}
 
 -- each of these entries stands in the history at the place of its number
 abbrev pub AllStand : List Entry → List Entry → Type 0
 AllStand history mine = (j : ℕ) (e : Entry) → get_elem? mine j ≡ some e → get_elem? history e.number ≡ some e
 
 -- at this place the entries are those of the history
-abbrev pub Agrees : List Entry → List Entry → ℕ → Type 0
-Agrees history out i = get_elem? out i ≡ get_elem? history i
+abbrev pub AgreesAt : List Entry → List Entry → ℕ → Type 0
+AgreesAt history out i = get_elem? out i ≡ get_elem? history i
 
 -- at the places of these entries' numbers the entries are those of the history
 abbrev pub ArePlaced : List Entry → List Entry → List Entry → Type 0
-ArePlaced history mine out = (j : ℕ) (e : Entry) → get_elem? mine j ≡ some e → Agrees history out e.number
+ArePlaced history mine out = (j : ℕ) (e : Entry) → get_elem? mine j ≡ some e → AgreesAt history out e.number
 
 -- the numbers of these entries are below a bound
 abbrev pub AreBelow : ℕ → List Entry → Type 0
 AreBelow bound mine = (j : ℕ) (e : Entry) → get_elem? mine j ≡ some e → e.number < bound
 
--- how many entries the callers have together
-abbrev pub mine_count : List CallerView → ℕ
-mine_count [] = 0
-mine_count (c ∷ rest) = length c.seat.pass.mine + mine_count rest
-
 -- a caller's pass
-abbrev pub pass_of : CallerView → Pass
-pass_of c = c.seat.pass
+abbrev pub caller_pass : CallerView → Pass
+caller_pass c = c.seat.pass
+
+-- how many entries the callers have together
+abbrev pub callers_count : List CallerView → ℕ
+callers_count callers = entry_count (map caller_pass callers)
 
 -- a caller from its seat and what it has besides
 abbrev pub caller_of : Known Pass → Kept → CallerView
@@ -48,6 +48,7 @@ pub record IsPair (s : Known Pass) (k : Kept) (c : CallerView) : Type 0 where
   pub few : vec_len k.mine + k.left < 2 ^ 32
   pub plan : ROWS + 2 ≤ vec_capacity k.plan
   pub below : IsHeldBelow s.held LIMIT
+  pub pages : HasPage s.held
 
 -- the same of lists of them
 abbrev pub ArePairs : List (Known Pass) → List Kept → List CallerView → Type 0

@@ -1,8 +1,8 @@
 -- The one history of a running address space: the number word counts it, each caller stores its own entries, and the
--- rows stand for the state after it. It is stored in the callers' lists, by number, and so isn't some history that
+-- rows stand for the state after it. It is stored in the callers' lists, by number, so it isn't just some history that
 -- exists. It is legal as a sequential history of an object (Herlihy and Wing, TOPLAS 1990), and each entry was
 -- numbered under the range that it names.
-use Rattle.std.specs.Prelude.{ℕ, ◌≡◌, ◌<◌, ◌≤◌, ◌+◌, ◌^◌, ◌==◌, All, Option, Some, None, List, [], ◌∷◌, ◌++◌, filter, length, slice_index}
+use Rattle.std.specs.Prelude.{ℕ, ◌≡◌, ◌<◌, ◌≤◌, ◌+◌, ◌^◌, ◌==◌, All, Option, Some, None, List, [], ◌∷◌, ◌++◌, filter, length, slice_index, sum_by}
 use mathlib.Core.Option.{some}
 use lib.ListN.{get_elem?}
 use Rattle.page_types.specs.declared.TheConstants.{LIMIT, ROWS}
@@ -17,7 +17,7 @@ use Rattle.page_types.specs.Named.{IsNamedReply}
 use Rattle.space_model.specs.Areas.{IsAreaList, HasNamedKinds, kind_at}
 use Rattle.space_model.specs.Answers.{Answers}
 use Rattle.space_model.specs.Held.{FitsUnder}
-use Rattle.space_model.specs.History.{HasNamedCalls}
+use Rattle.space_model.specs.History.{Chains, HasRightReply, IsNumberedFrom, HasNamedCalls}
 use Rattle.lock_core.specs.Grants.{Grants, Holds}
 use Rattle.lock_core.specs.Client.{ClientStep, loads, stores, adds, exchanges}
 use Rattle.lock_core.specs.declared.range.Mode.TheVariants.{Reader as Shared, Writer as Alone}
@@ -27,11 +27,14 @@ use Rattle.area_rows.specs.declared.guard.Note.{Note}
 use Rattle.area_rows.specs.declared.guard.Pass.{Pass}
 use Rattle.area_rows.specs.Rows.{rows_in, areas_from, RowsShow}
 
--- from one area list the entries are numbered n, n + 1 and so on, each fits what was held and answers what its call
--- answers there, and they leave another
+-- the entry fits what was held and answers what its call answers, which leaves area list B
+abbrev pub FitsAndReplies : List Areas → Entry → List Areas → Type 0
+FitsAndReplies A e B = FitsUnder A e.call e.under × HasRightReply A e B
+
+-- from one area list the entries are numbered n, n + 1 and so on, each fits what was held and has the reply that its
+-- call has there, and they leave another
 abbrev pub Runs : ℕ → List Areas → List Entry → List Areas → Type 0
-Runs n A [] B = B ≡ A
-Runs n A (e ∷ rest) B = (e.number ≡ n) × FitsUnder A e.call e.under × ((C : List Areas) × Answers A e.call e.reply C × Runs (n + 1) C rest B)
+Runs n A entries B = IsNumberedFrom n entries × Chains FitsAndReplies A entries B
 
 -- a history begins with these entries
 abbrev pub StartsWith : List Entry → List Entry → Type 0
@@ -57,10 +60,13 @@ whole_count (e ∷ rest) = with_whole e.under (whole_count rest)
 abbrev pub HasNamedReplies : List Entry → Type 0
 HasNamedReplies = All (λ e. IsNamedReply e.reply)
 
+-- how many entries a caller has
+abbrev pub own_count : Pass → ℕ
+own_count pass = length pass.mine
+
 -- how many entries the callers have together
 abbrev pub entry_count : List Pass → ℕ
-entry_count [] = 0
-entry_count (p ∷ rest) = length p.mine + entry_count rest
+entry_count passes = sum_by own_count passes
 
 -- what a caller has read of the row count under its range is so
 abbrev pub StillCounts : List ℕ → Option ℕ → Type 0
@@ -72,7 +78,7 @@ StillStand words [] = Unit {0}
 StillStand words (r ∷ rest) = (slice_index words (3 + r.index) ≡ r.word) × StillStand words rest
 
 -- one caller's part: it began with the same areas, has seen a beginning of the history, stores just its own entries,
--- below 2^32 of them, and what it has read stands
+-- below 2^32 of them, and what it has read is still so
 pub record IsPart (start : List Areas) (history : List Entry) (words : List ℕ) (worker : ℕ) (pass : Pass) : Type 0 where
   pub began : pass.start ≡ start
   pub seen : StartsWith history pass.seen
@@ -83,7 +89,7 @@ pub record IsPart (start : List Areas) (history : List Entry) (words : List ℕ)
 
 -- a running address space: from the start the history leaves the state, and the client words and the callers' passes
 -- stand for both
-pub record IsRunning (start : List Areas) (history : List Entry) (state : List Areas) (words : List ℕ) (passes : List Pass) : Type 0 where
+pub record IsRunningSpace (start : List Areas) (history : List Entry) (state : List Areas) (words : List ℕ) (passes : List Pass) : Type 0 where
   pub callers : length passes ≤ 16
   pub runs : Runs 0 start history state
   pub calls : HasNamedCalls history
@@ -100,11 +106,11 @@ pub record IsRunning (start : List Areas) (history : List Entry) (state : List A
 
 -- the rule of the guard
 abbrev pub HasHistory : Grants → List ℕ → List Pass → Type 0
-HasHistory grants words passes = (start : List Areas) × (history : List Entry) × (state : List Areas) × IsRunning start history state words passes
+HasHistory grants words passes = (start : List Areas) × (history : List Entry) × (state : List Areas) × IsRunningSpace start history state words passes
 
 -- the pass of a new caller, over the client words of the opening
 abbrev pub newcomer : List ℕ → Pass
-newcomer words = record { start = areas_from (rows_in words); seen = []; mine = []; count = None; rows = [] }
+newcomer words = record { start = areas_from (rows_in words); seen = []; mine = []; count = None; rows = []; drew = None }
 
 -- a pass when its range is given back: what was read under it may change from now on
 abbrev pub rest_of : Pass → Pass
@@ -135,8 +141,8 @@ abbrev pub entry_of : ℕ → ℕ → Note → Entry
 entry_of number worker note = record { number = number; worker = worker; line = note.line; call = note.call; reply = note.reply; under = note.under }
 
 -- what an entry says beside its number and its worker
-abbrev pub note_of : Entry → Note
-note_of e = record { line = e.line; call = e.call; reply = e.reply; under = e.under }
+abbrev pub entry_note : Entry → Note
+entry_note e = record { line = e.line; call = e.call; reply = e.reply; under = e.under }
 
 -- a moment of the running space, and one caller's pass there
 pub record Here (words : List ℕ) (passes : List Pass) (worker : ℕ) : Type 0 where
@@ -144,7 +150,7 @@ pub record Here (words : List ℕ) (passes : List Pass) (worker : ℕ) : Type 0 
   pub history : List Entry
   pub state : List Areas
   pub pass : Pass
-  pub running : IsRunning start history state words passes
+  pub running : IsRunningSpace start history state words passes
   pub own : get_elem? passes worker ≡ some pass
 
 -- the pass after a load of the number word, by which the caller sees the history so far
@@ -160,10 +166,14 @@ abbrev pub after_row : ℕ → ℕ → Pass → Pass
 after_row index word p = record p { rows = record { index = index; word = word } ∷ p.rows }
 
 -- the pass after an entry was numbered
-abbrev pub after_draw : List Entry → Entry → Pass → Pass
-after_draw history e p = record { start = p.start; seen = history ++ e ∷ []; mine = p.mine ++ e ∷ []; count = None; rows = [] }
+abbrev pub after_draw : List Entry → Entry → Option Held → Pass → Pass
+after_draw history e held p = record { start = p.start; seen = history ++ e ∷ []; mine = p.mine ++ e ∷ []; count = None; rows = []; drew = held }
 
--- the loads that a caller may make: the number word at any time, the row count and a row under a held range
+-- the caller of that number holds a range that has a page. One that has none would conflict with no other
+abbrev pub HoldsPages : Grants → ℕ → Type 0
+HoldsPages grants worker = (h : Held) × Holds grants worker h × (h.range.lo < h.range.hi)
+
+-- the loads that a caller may make: the number word at any time, the row count and a row under a held range with a page
 pub data MayLoad (held : Type 0) (words : List ℕ) (history : List Entry) (place : ℕ) (p after : Pass) : Type 0 where
   number : place ≡ 0 → after ≡ after_look history p → MayLoad held words history place p after
   count : held → place ≡ 2 → after ≡ after_count (slice_index words 2) p → MayLoad held words history place p after
@@ -180,9 +190,9 @@ pub record MayDraw (grants : Grants) (words : List ℕ) (passes : List Pass) (wo
 -- the steps on client words that the guard allows
 abbrev pub Allowed : Grants → List ℕ → List Pass → ℕ → ClientStep → Note → Pass → Type 0
 Allowed grants words passes worker (loads i) note after =
-    (here : Here words passes worker) × MayLoad ((h : Held) × Holds grants worker h) words here.history i here.pass after
+    (here : Here words passes worker) × MayLoad (HoldsPages grants worker) words here.history i here.pass after
 Allowed grants words passes worker (stores i value) note after = ⊥
 Allowed grants words passes worker (exchanges i expected new) note after = ⊥
 Allowed grants words passes worker (adds i by) note after =
-    (i ≡ 0) × (by ≡ 1) × (here : Here words passes worker) × MayDraw grants words passes worker note here ×
-    (after ≡ after_draw here.history (entry_of (length here.history) worker note) here.pass)
+    (i ≡ 0) × (by ≡ 1) × (here : Here words passes worker) × (may : MayDraw grants words passes worker note here) ×
+    (after ≡ after_draw here.history (entry_of (length here.history) worker note) may.held.0 here.pass)

@@ -1,7 +1,7 @@
 pub mod RowWords
 pub mod Rows
 pub mod History
-pub mod Laws
+pub mod Keeping
 pub mod Callers
 pub mod Closing
 pub mod Stored

@@ -1,7 +1,7 @@
 -- What the row words show: the kind of each page. Rows are areas and gaps in order, as the lines of proc_pid_maps(5)
 -- and what lies between them. `RowsShow` takes the kinds as a function from pages, so that rows which lag behind the
 -- history at some pages are said by another function and not by another definition.
-use Rattle.std.specs.Prelude.{ℕ, ◌≡◌, ◌≢◌, ◌<◌, ◌≤◌, ◌+◌, nat_lt, if◌then◌else◌, Option, Some, None, List, [], ◌∷◌, ◌++◌, length, take, drop, slice_index}
+use Rattle.std.specs.Prelude.{ℕ, ◌≡◌, ◌≢◌, ◌<◌, ◌≤◌, ◌+◌, ◌%◌, nat_lt, if◌then◌else◌, All, Option, Some, None, List, [], ◌∷◌, ◌++◌, length, take, drop, slice_index}
 use Rattle.page_types.specs.declared.TheConstants.{LIMIT, ROWS}
 use Rattle.page_types.specs.declared.calls.Kind.{Kind}
 use Rattle.space_model.specs.declared.areas.Area.{Area}
@@ -12,9 +12,9 @@ abbrev pub rows_in : List ℕ → List ℕ
 rows_in words = take (slice_index words 2) (drop 3 words)
 
 -- the page where these rows start, or LIMIT where there is none
-abbrev pub start_of : List ℕ → ℕ
-start_of [] = LIMIT
-start_of (word ∷ rest) = row_start word
+abbrev pub rows_start : List ℕ → ℕ
+rows_start [] = LIMIT
+rows_start (word ∷ rest) = row_start word
 
 -- the next row isn't of the same kind, a gap counting as a kind
 abbrev pub DiffersFrom : ℕ → List ℕ → Type 0
@@ -25,8 +25,12 @@ DiffersFrom word (next ∷ rest) = row_kind word ≢ row_kind next
 abbrev pub ShowFrom : ℕ → List ℕ → (ℕ → Option Kind) → Type 0
 ShowFrom page [] kinds = page ≡ LIMIT
 ShowFrom page (word ∷ rest) kinds =
-    (row_start word ≡ page) × (page < start_of rest) × DiffersFrom word rest ×
-    ((p : ℕ) → page ≤ p → p < start_of rest → kinds p ≡ row_kind word) × ShowFrom (start_of rest) rest kinds
+    (row_start word ≡ page) × (page < rows_start rest) × DiffersFrom word rest ×
+    ((p : ℕ) → page ≤ p → p < rows_start rest → kinds p ≡ row_kind word) × ShowFrom (rows_start rest) rest kinds
+
+-- a gap's word has its last five bits 0, so there is one word for each row
+abbrev pub IsBareGap : ℕ → Type 0
+IsBareGap word = row_kind word ≡ None → word % 32 ≡ 0
 
 -- the row words show these kinds of the pages below LIMIT; there is room for ROWS of them
 pub record RowsShow (words : List ℕ) (kinds : ℕ → Option Kind) : Type 0 where
@@ -34,6 +38,7 @@ pub record RowsShow (words : List ℕ) (kinds : ℕ → Option Kind) : Type 0 wh
   pub some : 0 < slice_index words 2
   pub few : slice_index words 2 ≤ ROWS
   pub show : ShowFrom 0 (rows_in words) kinds
+  pub gaps : All IsBareGap (rows_in words)
 
 -- the row of a page, counted from 0, is the last one that starts at or before it
 pub record IsRowOf (words : List ℕ) (page index : ℕ) : Type 0 where
@@ -49,7 +54,7 @@ with_row lo (Some kind) hi rest = record { lo = lo; hi = hi; kind = kind } ∷ r
 -- the areas that rows stand for
 abbrev pub areas_from : List ℕ → List Area
 areas_from [] = []
-areas_from (word ∷ rest) = with_row (row_start word) (row_kind word) (start_of rest) (areas_from rest)
+areas_from (word ∷ rest) = with_row (row_start word) (row_kind word) (rows_start rest) (areas_from rest)
 
 -- a gap between two pages, if there is one
 abbrev pub gap_rows : ℕ → ℕ → List ℕ

@@ -9,12 +9,12 @@ use Rattle.space_model.specs.declared.entries.Entry.{Entry}
 use Rattle.space_model.specs.Areas.{kind_at}
 use Rattle.space_model.specs.History.{IsLegal, StateAfter}
 use Rattle.lock_core.specs.Grants.{Grants}
-use Rattle.lock_core.specs.Client.{adds}
+use Rattle.lock_core.specs.Client.{loads, adds}
 use Rattle.lock_core.specs.declared.range.Held.{Held}
 use Rattle.area_rows.specs.declared.guard.Note.{Note}
 use Rattle.area_rows.specs.declared.guard.Pass.{Pass}
 use Rattle.area_rows.specs.Rows.{RowsShow}
-use Rattle.area_rows.specs.History.{Runs, StartsWith, whole_count, HasHistory, HoldsFor, Allowed, entry_of}
+use Rattle.area_rows.specs.History.{Runs, StartsWith, whole_count, HasHistory, HoldsFor, Allowed, entry_of, rest_of}
 
 -- the caller of that number has the entry at that place among its own
 abbrev pub Stores : List Pass → ℕ → ℕ → Entry → Type 0
@@ -26,10 +26,12 @@ pub record IsStoredOnce (passes : List Pass) (e : Entry) : Type 0 where
   pub there : Stores passes e.worker place e
   pub once : (worker other : ℕ) (f : Entry) → Stores passes worker other f → f.number ≡ e.number → (worker ≡ e.worker) × (other ≡ place) × (f ≡ e)
 
--- the history has as many entries as the number word says, and runs to the state that the rows show; the entry of
--- each number is stored once, every stored entry is one of them, and each caller has seen a beginning
+-- the history has as many entries as the number word says, and runs from the start with which each caller began to
+-- the state that the rows show; the entry of each number is stored once, every stored entry is one of them, and each
+-- caller has seen a beginning
 pub record IsStored (words : List ℕ) (passes : List Pass) (history : List Entry) (start state : List Area) : Type 0 where
   pub runs : Runs 0 start history state
+  pub began : (worker : ℕ) (pass : Pass) → get_elem? passes worker ≡ some pass → pass.start ≡ start
   pub rows : RowsShow words (kind_at state)
   pub sequence : slice_index words 1 ≡ whole_count history
   pub count : length history ≡ slice_index words 0
@@ -46,9 +48,19 @@ HistoryIsStored = (grants : Grants) (words : List ℕ) (passes : List Pass) → 
 abbrev pub RunsAreLegal : Type 0
 RunsAreLegal = (A B : List Area) (entries : List Entry) → Runs 0 A entries B → IsLegal A entries × StateAfter A entries B
 
--- a step that draws a number is made while its caller holds what the entry names, and the caller sees the entry
--- behind the history
+-- a caller's own entries are as before, and what was held at the last draw
+pub record KeepsDraw (before after : Pass) : Type 0 where
+  pub mine : after.mine ≡ before.mine
+  pub drew : after.drew ≡ before.drew
+
+-- a step that draws a number is made while its caller holds what the entry names. The pass keeps what was held then,
+-- and the caller sees the entry behind the history
 abbrev pub DrawsHold : Type 0
 DrawsHold = (grants : Grants) (words : List ℕ) (passes : List Pass) (worker place by : ℕ) (note : Note) (after : Pass) → Allowed grants words passes worker (adds place by) note after
-    → (held : Option Held) × (get_elem? grants worker ≡ some held) × HoldsFor held note.under
+    → (held : Option Held) × (get_elem? grants worker ≡ some held) × HoldsFor held note.under × (after.drew ≡ held)
     × (history : List Entry) × (after.seen ≡ history ++ entry_of (length history) worker note ∷ [])
+
+-- every other step of a caller, and giving its range back, keep what was held at its last draw, and its own entries
+abbrev pub LastDrawIsKept : Type 0
+LastDrawIsKept = (grants : Grants) (words : List ℕ) (passes : List Pass) (worker place : ℕ) (note : Note) (pass after : Pass) → get_elem? passes worker ≡ some pass → Allowed grants words passes worker (loads place) note after
+    → KeepsDraw pass after × KeepsDraw pass (rest_of pass)

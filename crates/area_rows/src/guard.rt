@@ -1,7 +1,7 @@
 //! The guard of the address space: what its callers know, as plain data of proofs, and the steps on client words that
-//! keep its rule. The rule and the steps stand in `specs/History.antt`, and their laws in `specs/Laws.antt`; a reader
-//! may rely on the one history that the number word counts being what the callers store.
-use lock_core::{Guard, Means};
+//! keep its rule. The rule and the steps are in `specs/History.antt`, and the proofs that they keep it in
+//! `specs/Keeping.antt`. A reader may rely on the one history that the number word counts being what the callers store.
+use lock_core::{Guard, Held, Means};
 use page_types::{Call, Reply};
 use space_model::{Area, Entry, Under};
 use std::collections::LinkedList;
@@ -34,6 +34,8 @@ pub struct Pass {
     pub count: Option<u64>,
     /// The rows that the caller has read under the range that it holds.
     pub rows: LinkedList<ReadRow>,
+    /// What the caller held at the step that drew its last number.
+    pub drew: Option<Held>,
 }
 
 /// The guard of the address space.
@@ -41,7 +43,7 @@ pub struct RowGuard;
 
 impl Guard for RowGuard {
     ghost use Rattle.area_rows.specs.History.{HasHistory, Allowed, newcomer, rest_of};
-    ghost use Rattle.area_rows.specs.Laws.{steps_keep, gains_keep, losses_keep};
+    ghost use Rattle.area_rows.specs.Keeping.{steps_keep, gains_keep, losses_keep};
 
     type Pass = Pass;
 
@@ -74,7 +76,7 @@ pub(crate) trait Noted {
 }
 
 impl Noted for Brand {
-    ghost use Rattle.area_rows.specs.Laws.{no_note};
+    ghost use Rattle.area_rows.specs.Keeping.{no_note};
 
     ghost noted = { no_note };
 }

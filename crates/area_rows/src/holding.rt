@@ -1,8 +1,7 @@
 //! A caller takes a range of pages and gives it back, by the calls of the range lock. A reader may rely on the caller
 //! holding the range where `acquire` returns, and on a release keeping what the caller has seen and numbered.
 ghost use Rattle.std.specs.Prelude.{◌≡◌, ◌≤◌, ◌+◌, ◌*◌, Some, None, IsSome, IfErr, OnOk, OnErr};
-ghost use Rattle.range_rw.specs.Seats.{IsLockCall, IsRelease};
-ghost use Rattle.range_rw.specs.Trying.{IsCause};
+ghost use Rattle.range_rw.specs.Contract.{IsLockCall, IsRelease, IsCause};
 ghost use Rattle.area_rows.specs.History.{rest_of};
 ghost use Rattle.area_rows.specs.Callers.{held_span};
 
@@ -64,13 +63,13 @@ impl Space {
             .try_acquire(&mut caller.seat, range_of(span), mode, steps)
     }
 
-    /// Gives the held range back, in one step. The caller is of this space; what it has seen and numbered stays.
+    /// Gives the held range back, in one step or two. The caller is of this space; what it has seen and numbered stays.
     pub fn release<L: Ledger>(&self, caller: &mut Caller, steps: &mut Steps<L>)
         requires table { caller.old.seat.table ≡ self.now.table }
         requires holds { IsSome caller.old.seat.held }
         ensures release { IsRelease rest_of caller.old.seat caller.new.seat }
         ensures left { caller.new.left ≡ caller.old.left }
-        ensures counted { steps.new ≡ steps.old + 1 }
+        ensures counted { steps.new + caller.old.seat.trace.taken ≡ steps.old + caller.new.seat.trace.taken }
     {
         self.table.release(&mut caller.seat, steps);
     }

@@ -3,7 +3,8 @@
 //! is held.
 ghost use Rattle.std.specs.Prelude.{◌≡◌, ◌<◌, ◌≤◌, ◌+◌, Some};
 ghost use Rattle.page_types.specs.declared.TheConstants.{LIMIT, ROWS};
-ghost use Rattle.area_rows.specs.RowWords.{row_start, IsNamedOption};
+ghost use Rattle.page_types.specs.Named.{IsNamedOption};
+ghost use Rattle.area_rows.specs.RowWords.{row_start};
 ghost use Rattle.area_rows.specs.Callers.{IsHeldPage, IsHeldBelow, IsReading, IsAsRead, HasRead, RowIs, Shows};
 
 use crate::row::Row;
@@ -40,6 +41,7 @@ impl Space {
         ensures shows { Shows caller.new.seat (RowIs caller.old.seat.held page result) }
         ensures reading { IsReading caller.old.seat caller.new.seat }
         ensures left { caller.new.left ≡ caller.old.left }
+        ensures bound { caller.new.seat.trace.taken < caller.old.seat.trace.taken + count }
         ensures counted { steps.new + caller.old.seat.trace.taken ≡ steps.old + caller.new.seat.trace.taken }
     {
         let mut index = 0;
@@ -69,7 +71,7 @@ impl Space {
     }
 
     /// The row of a page that the caller holds; the caller is of this space. It is looked for from the first row on,
-    /// and each row is read by one step.
+    /// and each row is read by one step, after one that reads how many there are.
     /// `lo` and `hi` are as they were read. Where the caller holds a page past each of them, or up to 0 and `LIMIT`,
     /// as a writer, they are the row's own.
     pub fn row_of<L: Ledger>(&self, caller: &mut Caller, page: u64, steps: &mut Steps<L>) -> Row
@@ -83,6 +85,7 @@ impl Space {
         ensures shows { Shows caller.new.seat (RowIs caller.old.seat.held page result) }
         ensures reading { IsReading caller.old.seat caller.new.seat }
         ensures left { caller.new.left ≡ caller.old.left }
+        ensures bound { caller.new.seat.trace.taken ≤ caller.old.seat.trace.taken + (1 + ROWS) }
         ensures counted { steps.new + caller.old.seat.trace.taken ≡ steps.old + caller.new.seat.trace.taken }
     {
         caller.holds_pages();

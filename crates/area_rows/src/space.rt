@@ -8,15 +8,19 @@ use page_types::{LIMIT, ROWS};
 use range_rw::{RangeTable, Seat};
 use space_model::Entry;
 use std::marker::Model;
+use thiserror::Error;
 
 /// Why no space was opened.
-#[derive(Debug, Drop, PartialEq, Eq)]
+#[derive(Debug, Drop, PartialEq, Eq, Error)]
 pub enum SpaceFault {
     /// The number of callers, where it is 0 or above 16.
+    #[error("{0} callers, where 1 to 16 may be")]
     Callers(u32),
     /// The number of rows of the start, where it is above `ROWS`.
+    #[error("{0} rows, where at most 4096 may be")]
     Rows(u32),
     /// There was no memory.
+    #[error("out of memory")]
     Memory,
 }
 
@@ -29,7 +33,7 @@ pub struct Space {
 impl Model for Space {
     ghost use Rattle.std.specs.Prelude.{◌≡◌, ◌+◌};
     ghost use Rattle.page_types.specs.declared.TheConstants.{ROWS};
-    ghost use Rattle.range_rw.specs.Seats.{Shape};
+    ghost use Rattle.range_rw.specs.Contract.{Shape};
 
     ghost Value = { Shape };
 
@@ -52,13 +56,13 @@ pub struct Caller {
 impl Model for Caller {
     ghost use Rattle.std.specs.Prelude.{◌≡◌, ◌+◌, ◌≤◌, ◌<◌, ◌^◌, vec_len, vec_capacity};
     ghost use Rattle.page_types.specs.declared.TheConstants.{LIMIT, ROWS};
-    ghost use Rattle.area_rows.specs.Callers.{CallerView, IsHeldBelow};
+    ghost use Rattle.area_rows.specs.Callers.{CallerView, HasPage, IsHeldBelow};
 
     ghost Value = { CallerView };
 
     ghost view = { λ c. record { seat = c.seat; left = c.left } };
 
-    ghost invariant = { λ c. (c.seat.number ≡ c.worker) × (c.mine.items ≡ c.seat.pass.mine) × (vec_len c.mine + c.left ≤ vec_capacity c.mine) × (vec_len c.mine + c.left < 2 ^ 32) × (ROWS + 2 ≤ vec_capacity c.plan) × IsHeldBelow c.seat.held LIMIT };
+    ghost invariant = { λ c. (c.seat.number ≡ c.worker) × (c.mine.items ≡ c.seat.pass.mine) × (vec_len c.mine + c.left ≤ vec_capacity c.mine) × (vec_len c.mine + c.left < 2 ^ 32) × (ROWS + 2 ≤ vec_capacity c.plan) × IsHeldBelow c.seat.held LIMIT × HasPage c.seat.held };
 }
 
 impl Caller {

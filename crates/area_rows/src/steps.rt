@@ -1,15 +1,16 @@
 //! The four steps that a caller makes on client words: it loads the number word, the row count or a row, or draws a
-//! number. Each is one atomic step, made at a moment of the running space; a reader may rely on what it tells being
-//! so there.
+//! number. Each is one atomic step, made at a moment of the running space, and a reader may rely on what it says being
+//! so at that moment. Which steps may be made is this project's own: `Allowed` of `specs/History.antt`.
 ghost use Rattle.std.specs.Prelude.{ℕ, ◌≡◌, ◌<◌, ◌≤◌, ◌+◌, ◌^◌, IsSome, Some, length};
 ghost use Rattle.page_types.specs.declared.TheConstants.{LIMIT, ROWS};
 ghost use Rattle.page_types.specs.Named.{IsNamedReply};
 ghost use Rattle.area_rows.specs.RowWords.{row_start};
-ghost use Rattle.area_rows.specs.History.{HoldsFor, IsFault, IsRight, after_count, after_row, note_of};
-ghost use Rattle.area_rows.specs.Callers.{IsStep, IsLook, IsNumbered, Shows};
+ghost use Rattle.area_rows.specs.History.{HoldsFor, IsFault, IsRight, after_count, after_row, entry_note};
+ghost use Rattle.area_rows.specs.Callers.{IsClientStep, IsLook, IsDrawn, Shows};
 
 use crate::guard::{By, Noted, RowGuard};
 use crate::space::{Caller, Space};
+use crate::words::{FIRST_ROW, NUMBER, ROW_COUNT};
 use page_types::{Call, Reply};
 use range_rw::Seat;
 use space_model::{Entry, Under};
@@ -22,7 +23,7 @@ impl Space {
     pub(crate) fn load_count<L: Ledger>(&self, caller: &mut Caller, steps: &mut Steps<L>) -> u64
         requires table { caller.old.seat.table ≡ self.now.table }
         requires held { IsSome caller.old.seat.held }
-        ensures step { IsStep caller.old.seat (after_count result caller.old.seat.pass) caller.new.seat }
+        ensures step { IsClientStep caller.old.seat 2 (after_count result caller.old.seat.pass) caller.new.seat }
         ensures left { caller.new.left ≡ caller.old.left }
         ensures some { 0 < result }
         ensures few { result ≤ ROWS }
@@ -30,7 +31,7 @@ impl Space {
         ensures counted { steps.new ≡ steps.old + 1 }
     {
         self.table
-            .load_as::<By<Brand>, L>(&mut caller.seat, 2, steps)
+            .load_as::<By<Brand>, L>(&mut caller.seat, ROW_COUNT, steps)
     }
 
     /// Loads the word of a row, counted from 0. The caller is of this space and holds a range.
@@ -43,14 +44,14 @@ impl Space {
         requires table { caller.old.seat.table ≡ self.now.table }
         requires held { IsSome caller.old.seat.held }
         requires index { index < ROWS }
-        ensures step { IsStep caller.old.seat (after_row index result caller.old.seat.pass) caller.new.seat }
+        ensures step { IsClientStep caller.old.seat (3 + index) (after_row index result caller.old.seat.pass) caller.new.seat }
         ensures left { caller.new.left ≡ caller.old.left }
         ensures first { index ≡ 0 → row_start result ≡ 0 }
         ensures below { (n : ℕ) → caller.old.seat.pass.count ≡ Some n → index < n → row_start result < LIMIT }
         ensures counted { steps.new ≡ steps.old + 1 }
     {
         self.table
-            .load_as::<By<Brand>, L>(&mut caller.seat, 3 + index, steps)
+            .load_as::<By<Brand>, L>(&mut caller.seat, FIRST_ROW + index, steps)
     }
 
     /// Loads the number word. The caller is of this space.
@@ -60,7 +61,7 @@ impl Space {
         ensures left { caller.new.left ≡ caller.old.left }
     {
         self.table
-            .load_as::<By<Brand>, L>(&mut caller.seat, 0, steps)
+            .load_as::<By<Brand>, L>(&mut caller.seat, NUMBER, steps)
     }
 
     fn look_counting<L: Ledger>(&self, caller: &mut Caller, blank: Blank) -> u64
@@ -91,18 +92,18 @@ impl Space {
         draft: &Entry,
         steps: &mut Steps<L>,
     ) -> u64
-        requires note { N.noted ≡ note_of draft.now }
+        requires note { N.noted ≡ entry_note draft.now }
         requires table { seat.old.table ≡ self.now.table }
         requires worker { seat.old.number ≡ draft.now.worker }
         requires few { length seat.old.pass.mine + 1 < 2 ^ 32 }
         requires fault { IsFault draft.now.call }
         requires held { HoldsFor seat.old.held draft.now.under }
         requires right { Shows seat.old (λ _ state. IsRight state draft.now.call draft.now.reply draft.now.under) }
-        ensures numbered { IsNumbered seat.old seat.old (record draft.now { number = result }) seat.new }
+        ensures drawn { IsDrawn seat.old (record draft.now { number = result }) seat.new }
         ensures taken { seat.new.trace.taken ≡ seat.old.trace.taken + 1 }
         ensures counted { steps.new ≡ steps.old + 1 }
     {
-        self.table.add_as::<By<N>, L>(seat, 0, 1, steps)
+        self.table.add_as::<By<N>, L>(seat, NUMBER, 1, steps)
     }
 
     /// Draws the next number for a call of the caller, which is of this space, has a number left, and holds the range
@@ -130,7 +131,7 @@ impl Space {
         ensures reply { result.reply ≡ reply }
         ensures under { result.under ≡ under }
         ensures named { IsNamedReply result.reply }
-        ensures numbered { IsNumbered caller.old.seat caller.old.seat result caller.new.seat }
+        ensures drawn { IsDrawn caller.old.seat result caller.new.seat }
         ensures left { caller.new.left + 1 ≡ caller.old.left }
         ensures taken { caller.new.seat.trace.taken ≡ caller.old.seat.trace.taken + 1 }
         ensures counted { steps.new ≡ steps.old + 1 }

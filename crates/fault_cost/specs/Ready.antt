@@ -1,6 +1,6 @@
 -- A caller that may fault: it is of the space and holds nothing.
 use Rattle.std.specs.Prelude.{◌≡◌, None}
-use Rattle.range_rw.specs.Seats.{Shape}
+use Rattle.range_rw.specs.Contract.{Shape}
 use Rattle.area_rows.specs.Callers.{CallerView}
 
 -- the caller may make its next call

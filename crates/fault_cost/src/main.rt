@@ -1,44 +1,92 @@
-//! Measures what a page fault costs where no other caller wants the page, beside a lookup of the page in a `BTreeMap`
-//! of areas under an `RwLock` of std, in the same run. The times are the least of many rounds, so that other work on
-//! the machine counts little. They go to standard error, since they differ from run to run; standard output says only
-//! that all rounds were made.
+//! Measures what a page fault costs: by one caller that nobody hinders, beside a lookup of the page in a `BTreeMap` of
+//! areas under an `RwLock` of std in the same run, and by callers on threads that fault on the same four pages. Each
+//! figure is the least of many rounds, so that other work on the machine counts little. Beside it is that of the
+//! first round: a space reserves memory for its entries without touching it, so the first faults pay for it. Figures
+//! go to standard error, since they differ from run to run; standard output says only how much was measured. With the
+//! word `full` that is many rounds, otherwise a few.
 #![tactic(auto)]
 
 mod areas;
+mod crowd;
 mod rounds;
+mod size;
 
 use anyhow::{Result, bail, ensure};
 use areas::{AreaMap, single_pages};
+use crowd::times_of_crowd;
 use page_types::PAGE;
-use rounds::{ROUNDS, TURNS, least_of_faults, least_of_lookups};
+use rounds::{least_of_lookups, times_of_faults};
+use size::Size;
 use space_model::{PlainSpace, have_named_kinds};
+use std::alloc::Global;
+use std::env;
+use std::io::Eprint;
+use std::sync::Wait;
+use std::thread::Threads;
+use std::time::Clock;
 
 fn main(rt: HostRuntime) -> Result<()> {
-    let alloc = rt.alloc();
-    let turns = u128::from(TURNS);
+    let size = match env::args(&rt)?.nth(1) {
+        Some(word) if word.as_str() == "full" => Size::FULL,
+        Some(_) => bail!("usage: fault_cost [full]"),
+        None => Size::SMALL,
+    };
     for count in [1u32, 64] {
-        let list = single_pages(alloc, count)?;
-        let Some(last) = list.last() else {
-            bail!("no areas");
-        };
-        let page = last.lo;
-        let map = AreaMap::of(alloc, &list)?;
-        let lookup = least_of_lookups(&rt, &map, page)?;
-        eprintln!(rt; "areas {count}: a lookup takes {} ns", lookup / turns)?;
-        ensure!(
-            have_named_kinds(&list) && list.len() < 1 << 30,
-            "no area list"
-        );
-        let start = PlainSpace::of_areas(alloc, &list)?;
-        for callers in [1usize, 2, 4, 16] {
-            let fault = least_of_faults(&rt, alloc, &start, callers, page.saturating_mul(PAGE))?;
-            let percent = fault.saturating_mul(100) / lookup.max(1);
-            eprintln!(rt;
-                "areas {count}, callers {callers}: a fault takes {} ns, {percent} percent of the lookup",
-                fault / turns
-            )?;
-        }
+        measure_alone(&rt, rt.alloc(), size, count)?;
     }
-    println!(rt; "{ROUNDS} rounds of {TURNS} turns each")?;
+    measure_crowds(&rt, rt.alloc(), size)?;
+    println!(rt; "{} rounds of {} turns each", size.rounds, size.turns)?;
+    Ok(())
+}
+
+/// A lookup, and faults of one caller beside idle ones, over so many areas.
+fn measure_alone<R: Wait + Clock + Eprint>(
+    rt: &R,
+    alloc: Global,
+    size: Size,
+    count: u32,
+) -> Result<()> {
+    let list = single_pages(alloc, count)?;
+    let Some(last) = list.last() else {
+        bail!("no areas");
+    };
+    let page = last.lo;
+    let map = AreaMap::of(alloc, &list)?;
+    let lookup = least_of_lookups(rt, size, &map, page)?;
+    eprintln!(rt; "areas {count}: a lookup takes {} ns", size.each(lookup))?;
+    ensure!(
+        have_named_kinds(&list) && list.len() < 1 << 30,
+        "no area list"
+    );
+    let start = PlainSpace::of_areas(alloc, &list)?;
+    for callers in [1usize, 2, 4, 16] {
+        let addr = page.saturating_mul(PAGE);
+        let times = times_of_faults(rt, size, alloc, &start, callers, addr)?;
+        let percent = times.least.saturating_mul(100) / lookup.max(1);
+        eprintln!(rt;
+            "areas {count}, callers {callers}: a fault takes {} ns, {percent} percent of the lookup; in the first round {} ns",
+            size.each(times.least),
+            size.each(times.first)
+        )?;
+    }
+    Ok(())
+}
+
+/// Faults of callers on threads, all on the same four pages.
+fn measure_crowds<R: Threads + Wait + Sync + Clock + Eprint>(
+    rt: &R,
+    alloc: Global,
+    size: Size,
+) -> Result<()> {
+    let start = PlainSpace::new(alloc);
+    for callers in [1usize, 2, 4, 16] {
+        let times = times_of_crowd(rt, size, alloc, &start, callers)?;
+        let crew = callers as u128;
+        eprintln!(rt;
+            "callers {callers} beside each other: a fault takes {} ns; in the first round {} ns",
+            size.each(times.least) / crew.max(1),
+            size.each(times.first) / crew.max(1)
+        )?;
+    }
     Ok(())
 }

@@ -1,9 +1,10 @@
-//! The least time of many rounds of faults or of lookups, in nanoseconds. A round that nothing disturbed is the
-//! shortest, so the least is what its turns cost.
+//! Rounds of faults of one caller, and of lookups. A round that nothing disturbed is the shortest, so the least is
+//! what its turns cost.
 ghost use Rattle.std.specs.Prelude.{◌<◌, ◌≤◌, IfOk};
 ghost use Rattle.fault_cost.specs.Ready.{IsReady};
 
 use crate::areas::AreaMap;
+use crate::size::{Size, Times};
 use anyhow::{Result, bail, ensure};
 use area_rows::{Caller, Space, SpaceFault};
 use page_fault::fault;
@@ -13,84 +14,88 @@ use std::alloc::Global;
 use std::sync::Wait;
 use std::time::{Clock, Instant};
 
-/// How many rounds are measured.
-pub const ROUNDS: u32 = 40;
-
-/// How many faults or lookups a round has.
-pub const TURNS: u32 = 5_000;
-
-/// A space over this start with so many callers, from 1 to 16, and its caller of number 0, which may draw as many
-/// numbers as a round needs.
+/// A space over this start with so many callers, from 1 to 16, and its caller of number 0, which may draw so many
+/// numbers.
 fn open_first(
     alloc: Global,
     start: &PlainSpace,
     callers: usize,
+    turns: u32,
 ) -> Result<(Space, Caller), SpaceFault>
     requires some { 0 < callers }
     requires few { callers ≤ 16 }
     ensures ready { IfOk result (λ r. IsReady r.0 r.1) }
 {
     let mut calls = [0u32; 16];
-    calls[0] = TURNS;
+    calls[0] = turns;
     let (space, mut opened) = Space::open(alloc, &calls[..callers], start)?;
     let first = opened.remove(0);
     Ok((space, first))
 }
 
-/// The least time of a round in which the byte at `addr` is read at each turn. Each round has a space of its own, so
-/// that the entries of each stand in memory that an earlier one has used.
-pub fn least_of_faults<R: Wait + Clock>(
+/// What rounds take in which one caller of so many reads the byte at `addr` at each turn. Each round has a space of
+/// its own, whose entries stand in memory that the round before has given back.
+pub fn times_of_faults<R: Wait + Clock>(
     rt: &R,
+    size: Size,
     alloc: Global,
     start: &PlainSpace,
     callers: usize,
     addr: u64,
-) -> Result<u128>
+) -> Result<Times>
     requires some { 0 < callers }
     requires few { callers ≤ 16 }
 {
-    let mut least = u128::MAX;
-    for _ in 0..ROUNDS {
-        let Ok((space, mut caller)) = open_first(alloc, start, callers) else {
+    let mut times = Times::none();
+    for round in 0..size.rounds {
+        let Ok((space, mut caller)) = open_first(alloc, start, callers, size.turns) else {
             bail!("no memory for a space");
         };
         let begin = Instant::now(rt)?;
-        fault_turns(rt, &space, &mut caller, addr);
-        least = least.min(begin.elapsed(rt)?.as_nanos());
+        fault_turns(rt, &space, &mut caller, addr, size.turns);
+        times = times.with(round, begin.elapsed(rt)?.as_nanos());
     }
-    Ok(least)
+    Ok(times)
 }
 
-fn fault_turns<R: Wait>(wait: &R, space: &Space, caller: &mut Caller, addr: u64)
+fn fault_turns<R: Wait>(wait: &R, space: &Space, caller: &mut Caller, addr: u64, turns: u32)
     requires ready { IsReady space.now caller.old }
     ensures ready { IsReady space.now caller.new }
 {
-    for turn in 0..TURNS {
+    for turn in 0..turns {
         fault(space, wait, caller, turn, addr, Access::Read);
     }
 }
 
 /// The least time of a round in which the page is looked up in the map at each turn. It is refused where the page has
 /// no area that may be read.
-pub fn least_of_lookups<R: Wait + Clock>(rt: &R, map: &AreaMap, page: u64) -> Result<u128> {
+pub fn least_of_lookups<R: Wait + Clock>(
+    rt: &R,
+    size: Size,
+    map: &AreaMap,
+    page: u64,
+) -> Result<u128> {
     let mut least = u128::MAX;
-    let mut granted = 0u32;
-    for _ in 0..ROUNDS {
+    let mut granted = 0u64;
+    for _ in 0..size.rounds {
         let begin = Instant::now(rt)?;
-        granted = u32::wrapping_add(granted, lookup_turns(rt, map, page));
+        granted = u64::wrapping_add(granted, lookup_turns(rt, map, page, size.turns));
         least = least.min(begin.elapsed(rt)?.as_nanos());
     }
-    ensure!(granted == ROUNDS * TURNS, "no readable page");
+    ensure!(
+        granted == u64::from(size.rounds) * u64::from(size.turns),
+        "no readable page"
+    );
     Ok(least)
 }
 
 /// How many of a round's lookups found a page that may be read.
-fn lookup_turns<R: Wait>(wait: &R, map: &AreaMap, page: u64) -> u32 {
-    let mut granted = 0u32;
-    for _ in 0..TURNS {
+fn lookup_turns<R: Wait>(wait: &R, map: &AreaMap, page: u64, turns: u32) -> u64 {
+    let mut granted = 0u64;
+    for _ in 0..turns {
         if let Some(kind) = map.kind_of(wait, page) {
             if kind.prot.allows(Access::Read) {
-                granted = u32::wrapping_add(granted, 1);
+                granted = u64::wrapping_add(granted, 1);
             }
         }
     }

@@ -1,12 +1,12 @@
-//! All callers of one space in a row: one of them faults, or one in one try beside another that holds a span as a
-//! writer, or each faults on a thread of its own. A reader may rely on the row being ready for the closing after each
-//! of these calls.
+//! A crew: all callers of one space in order of their numbers. One of them faults, or one tries once beside another
+//! that holds a span as a writer, or each faults on a thread of its own. After each of these calls the crew may go on
+//! or be closed.
 ghost use Rattle.std.specs.Prelude.{◌≡◌, ◌<◌, ◌≤◌, ◌^◌, None, drop, length, IfOk, IfErr};
 ghost use Rattle.space_model.specs.Areas.{row_count};
 ghost use Rattle.page_types.specs.declared.sets.Access.TheVariants.{Read};
 ghost use Rattle.area_rows.specs.Callers.{IsSpaceFault};
 ghost use Rattle.page_fault.specs.Faults.{IsAnswer, IsTried};
-ghost use Rattle.fault_trials.specs.Trials.{HasCalled, HaveCalled, IsBack, IsCrew, OfCaller};
+ghost use Rattle.fault_trials.specs.Trials.{HasCalled, HaveCalled, IsIdleAgain, IsCrew, OfCaller};
 
 use area_rows::{Answer, Caller, Space, SpaceFault};
 use lock_core::Mode;
@@ -21,7 +21,7 @@ use std::thread;
 use std::thread::Threads;
 use word_rows::Steps;
 
-/// A space over a start, and its callers in a row.
+/// A space over a start, and its crew.
 pub fn open_crew(
     alloc: Global,
     calls: &[u32],
@@ -35,7 +35,7 @@ pub fn open_crew(
     Space::open(alloc, calls, start)
 }
 
-/// The first caller of the row faults once, and the others are as they were.
+/// The first caller of the crew faults once, and the others are as they were.
 pub fn fault_by<R: Wait>(
     rt: &R,
     space: &Space,
@@ -65,8 +65,8 @@ fn try_counting<L: Ledger, R: Wait>(
     requires blank { (blank.name ≡ L.name) × (blank.parts ≡ L.parts) × (0 < L.parts) }
     requires writer { (writer.old.seat.table ≡ space.now.table) × (writer.old.seat.held ≡ None) }
     requires caller { (caller.old.seat.table ≡ space.now.table) × (caller.old.seat.held ≡ None) }
-    ensures writer { IsBack writer.old writer.new }
-    ensures caller { IsBack caller.old caller.new }
+    ensures writer { IsIdleAgain writer.old writer.new }
+    ensures caller { IsIdleAgain caller.old caller.new }
     ensures tried { IsTried caller.old 1 addr Read result caller.new }
 {
     let mut steps = Steps::<L>::new(blank);
@@ -76,7 +76,7 @@ fn try_counting<L: Ledger, R: Wait>(
     answer
 }
 
-/// The second caller of the row reads a byte in one try, for line 1, while the first one holds a span as a writer.
+/// The second caller of the crew reads a byte in one try, for line 1, while the first one holds a span as a writer.
 pub fn try_beside<R: Wait>(
     rt: &R,
     space: &Space,
@@ -105,7 +105,7 @@ pub fn try_beside<R: Wait>(
 fn fault_turns<R: Wait>(rt: &R, space: &Space, caller: &mut Caller, turns: u32)
     requires table { caller.old.seat.table ≡ space.now.table }
     requires free { caller.old.seat.held ≡ None }
-    ensures back { IsBack caller.old caller.new }
+    ensures back { IsIdleAgain caller.old caller.new }
     ensures called { HasCalled turns caller.old caller.new }
 {
     for turn in 0..turns {
@@ -127,7 +127,7 @@ pub fn fault_all<R: Threads + Wait + Sync>(
 {
     let turn = |_: usize, caller: &mut Caller|
         requires { (caller.now.seat.table ≡ space.now.table) × (caller.now.seat.held ≡ None) }
-        ensures { IsBack caller.entry.now caller.exit.now × HasCalled turns caller.entry.now caller.exit.now }
+        ensures { IsIdleAgain caller.entry.now caller.exit.now × HasCalled turns caller.entry.now caller.exit.now }
     { fault_turns(rt, space, caller, turns) };
     thread::for_each_mut(rt, callers, 16, &turn);
 }

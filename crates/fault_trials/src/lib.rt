@@ -1,6 +1,6 @@
-//! Trials of faults by threads over one running address space, and worked cases through the public calls. A reader
-//! may take it as an example of how a layer above uses the space: callers in a row, each on a thread, and a closing
-//! that gives the whole history.
+//! Trials of faults by threads over one running address space, and worked cases through the public calls. They show
+//! how a layer above uses the space: it opens a crew of callers, gives each to a thread, and closes the space, which
+//! gives the whole history. Each call's contract says what it leaves of the crew.
 #![tactic(auto)]
 
 mod crew;

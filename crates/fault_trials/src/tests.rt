@@ -8,6 +8,26 @@ use page_types::{Access, Kind, PAGE, Prot, Reply, Span, Why};
 use range_rw::NotHeld;
 use space_model::{Area, PlainSpace, Under, have_named_calls, have_named_kinds, legal};
 
+/// The pages 16 and 17, which may be read.
+const PRIVATE: Area = Area {
+    lo: 16,
+    hi: 18,
+    kind: Kind {
+        prot: Prot::READ,
+        shared: false,
+    },
+};
+
+/// The same pages, shared.
+const SHARED: Area = Area {
+    lo: 16,
+    hi: 18,
+    kind: Kind {
+        prot: Prot::READ,
+        shared: true,
+    },
+};
+
 #[test]
 fn a_space_has_from_one_to_sixteen_callers(rt: HostRuntime) {
     let start = PlainSpace::new(rt.alloc());
@@ -15,24 +35,18 @@ fn a_space_has_from_one_to_sixteen_callers(rt: HostRuntime) {
         let calls = [1; 17];
         match open_crew(rt.alloc(), &calls[..count as usize], &start) {
             Ok(_) => panic!(rt; "{count} callers"),
-            Err(fault) => assert_eq!(rt; fault, SpaceFault::Callers(count)),
+            Err(refusal) => assert_eq!(rt; refusal, SpaceFault::Callers(count)),
         }
     }
+    let text = format!(in rt.alloc(); "{}", SpaceFault::Callers(17)).expect(&rt, "memory");
+    assert_eq!(rt; text.as_str(), "17 callers, where 1 to 16 may be");
 }
 
 #[test]
 fn faults_answer_as_worked_by_hand(rt: HostRuntime) {
     let alloc = rt.alloc();
-    let kind = Kind {
-        prot: Prot::READ,
-        shared: false,
-    };
-    let area = Area {
-        lo: 16,
-        hi: 18,
-        kind,
-    };
-    let start = PlainSpace::of_areas(alloc, &[area]).expect(&rt, "an area list");
+    let start = PlainSpace::of_areas(alloc, &[PRIVATE]).expect(&rt, "an area list");
+    let kind = PRIVATE.kind;
     let (space, mut callers) = open_crew(alloc, &[4], &start).expect(&rt, "memory");
     let cases = [
         (0x10000, Access::Read, Reply::Granted(kind), 16),
@@ -64,23 +78,14 @@ fn faults_answer_as_worked_by_hand(rt: HostRuntime) {
     let Ok(closed) = space.close(alloc, callers) else {
         panic!(rt; "memory");
     };
-    assert_eq!(rt; closed.areas(), [area].as_slice());
+    assert_eq!(rt; closed.areas(), [PRIVATE].as_slice());
     assert_eq!(rt; closed.entries().len(), 4);
 }
 
 #[test]
 fn four_threads_draw_two_thousand_numbers(rt: HostRuntime) {
     let alloc = rt.alloc();
-    let kind = Kind {
-        prot: Prot::READ,
-        shared: true,
-    };
-    let area = Area {
-        lo: 16,
-        hi: 18,
-        kind,
-    };
-    let start = PlainSpace::of_areas(alloc, &[area]).expect(&rt, "an area list");
+    let start = PlainSpace::of_areas(alloc, &[SHARED]).expect(&rt, "an area list");
     let (space, mut callers) = open_crew(alloc, &[500; 4], &start).expect(&rt, "memory");
     fault_all(&rt, &space, callers.as_mut_slice(), 500);
     let Ok(closed) = space.close(alloc, callers) else {
@@ -126,7 +131,7 @@ fn a_start_of_4097_rows_is_too_large(rt: HostRuntime) {
     let start = PlainSpace::of_areas(alloc, &areas).expect(&rt, "an area list");
     match open_crew(alloc, &[1], &start) {
         Ok(_) => panic!(rt; "a space of 4097 rows"),
-        Err(fault) => assert_eq!(rt; fault, SpaceFault::Rows(4097)),
+        Err(refusal) => assert_eq!(rt; refusal, SpaceFault::Rows(4097)),
     }
 }
 
@@ -178,16 +183,8 @@ fn a_caller_with_one_number_faults_once(rt: HostRuntime) {
 #[test]
 fn a_try_beside_a_writer_is_answered_at_other_pages(rt: HostRuntime) {
     let alloc = rt.alloc();
-    let kind = Kind {
-        prot: Prot::READ,
-        shared: true,
-    };
-    let area = Area {
-        lo: 16,
-        hi: 18,
-        kind,
-    };
-    let start = PlainSpace::of_areas(alloc, &[area]).expect(&rt, "an area list");
+    let start = PlainSpace::of_areas(alloc, &[SHARED]).expect(&rt, "an area list");
+    let kind = SHARED.kind;
     let (space, mut callers) = open_crew(alloc, &[0, 3], &start).expect(&rt, "memory");
     let Ok(span) = Span::of(17 * PAGE, PAGE) else {
         panic!(rt; "a page");

@@ -1,6 +1,6 @@
 -- A fault's reply is right where its arguments decide it, and where the row of its page shows the kind; and the parts
 -- of a call make the whole.
-use Rattle.std.proofs.Common.{◌≡◌, ℕ, ◌+◌, ◌<◌, ◌≤◌, List, [], ◌∷◌, ◌++◌, sym, refl, ap, ◌∙◌, subst}
+use Rattle.std.proofs.Common.{◌≡◌, ℕ, ◌+◌, ◌<◌, ◌≤◌, List, [], ◌∷◌, ◌++◌, sym, refl, ap, ◌∙◌, subst, arith}
 use Rattle.std.specs.Prelude.{Option, Some, None, MatchOption}
 use Rattle.page_types.specs.declared.pages.Span.{Span}
 use Rattle.page_types.specs.declared.sets.Access.{Access}
@@ -18,11 +18,11 @@ use Rattle.space_model.specs.Held.{FitsByState}
 use Rattle.space_model.specs.Answers.{AnswersFault}
 use Rattle.space_model.proofs.Stepping.{fault-answers}
 use Rattle.lock_core.specs.declared.range.Held.{Held}
-use Rattle.range_rw.specs.Seats.{Known, IsLockCall, IsRelease}
+use Rattle.range_rw.specs.Contract.{Known, IsLockCall, IsRelease}
 use Rattle.area_rows.specs.declared.guard.Pass.{Pass}
 use Rattle.area_rows.specs.declared.row.Row.{Row}
-use Rattle.area_rows.specs.History.{StartsWith, Runs, IsRight, rest_of}
-use Rattle.area_rows.specs.Callers.{IsHeldPage, IsReading, IsMoment, IsNumbered, RowIs, Shows}
+use Rattle.area_rows.specs.History.{StartsWith, Runs, IsRight, HoldsFor, rest_of}
+use Rattle.area_rows.specs.Callers.{IsHeldPage, IsReading, IsNumbered, RowIs, Shows}
 
 fits_none : (o : Option Reply) (P : Type 0) (Q : Reply → Type 0) → o ≡ None → P → MatchOption o P Q
 fits_none o P Q e p = subst (λ (x : Option Reply). MatchOption x P Q) (sym e) p
@@ -51,14 +51,10 @@ shows_fault seat held row addr access reply span shows here from until undecided
     held_right state addr access row.kind reply span undecided lo hi (r.kind (page_of addr) here from until) answers
 
 -- reading, numbering and giving back are one numbering
-pub numbered_held : (b r n d : Known Pass) (e : Entry) → IsReading b r → IsNumbered r r e n → IsRelease rest_of n d → IsNumbered r (record b { held = None }) e d
+pub numbered_held : (b r n d : Known Pass) (e : Entry) → IsReading b r → IsNumbered r e n → IsRelease rest_of n d → IsNumbered (record b { held = None }) e d
 numbered_held b r n d e reading num release = record {
   history = num.history;
   state = num.state;
-  words = num.words;
-  same = reading.number;
-  moment = subst (λ (a : List Area). IsMoment r a num.history num.state num.words) reading.start num.moment;
-  holds = num.holds;
   more = subst (StartsWith num.history) reading.seen num.more;
   runs = subst (λ (a : List Area). Runs 0 a num.history num.state) reading.start num.runs;
   counted = num.counted;
@@ -66,6 +62,11 @@ numbered_held b r n d e reading num release = record {
   right = num.right;
   seen = ap (λ (p : Pass). p.seen) release.pass ∙ num.seen;
   mine = ap (λ (p : Pass). p.mine) release.pass ∙ (num.mine ∙ ap (λ m. m ++ e ∷ []) reading.mine);
+  drew = subst (λ (p : Pass). HoldsFor p.drew e.under) (sym release.pass) num.drew;
+  step = num.step;
+  client = release.client ∙ num.client;
+  since = let l = reading.taken in let m = num.since in omega arith;
+  until = let l = num.until in let m = release.least in omega arith;
   start = ap (λ (p : Pass). p.start) release.pass ∙ (num.start ∙ reading.start);
   table = release.table ∙ (num.table ∙ reading.table);
   number = release.number ∙ (num.number ∙ reading.number);
@@ -73,14 +74,10 @@ numbered_held b r n d e reading num release = record {
 }
 
 -- what the lock does before leaves the numbering as it is
-pub numbered_from : (r a b c : Known Pass) (e : Entry) → a.held ≡ None → IsLockCall a b → IsNumbered r (record b { held = None }) e c → IsNumbered r a e c
-numbered_from r a b c e free call num = record {
+pub numbered_from : (a b c : Known Pass) (e : Entry) → a.held ≡ None → IsLockCall a b → IsNumbered (record b { held = None }) e c → IsNumbered a e c
+numbered_from a b c e free call num = record {
   history = num.history;
   state = num.state;
-  words = num.words;
-  same = num.same ∙ call.number;
-  moment = subst (λ (p : Pass). IsMoment r p.start num.history num.state num.words) call.pass num.moment;
-  holds = num.holds;
   more = subst (λ (p : Pass). StartsWith num.history p.seen) call.pass num.more;
   runs = subst (λ (p : Pass). Runs 0 p.start num.history num.state) call.pass num.runs;
   counted = num.counted;
@@ -88,6 +85,11 @@ numbered_from r a b c e free call num = record {
   right = num.right;
   seen = num.seen;
   mine = num.mine ∙ ap (λ (p : Pass). p.mine ++ e ∷ []) call.pass;
+  drew = num.drew;
+  step = num.step;
+  client = num.client;
+  since = let l = call.taken in let m = num.since in omega arith;
+  until = num.until;
   start = num.start ∙ ap (λ (p : Pass). p.start) call.pass;
   table = num.table ∙ call.table;
   number = num.number ∙ call.number;

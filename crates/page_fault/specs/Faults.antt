@@ -1,6 +1,6 @@
--- What the two calls for page faults answer, and what each answer says: an access to a page as sigaction(2) has it,
--- made while the page is held as a reader. An entry carries the caller's seat as it was when the number was drawn: at
--- a moment of the running space it held what the entry names, and the entries before the new one were the history.
+-- What the two calls for page faults answer, and what each answer says: an access to a page as sigaction(2) has it. An
+-- entry is right at its place in the one history, and at the step that drew its number its caller held the range that
+-- the entry names: the page as a reader, or nothing where the arguments decide. The caller's pass keeps that range.
 use Rattle.std.specs.Prelude.{ℕ, ◌≡◌, ◌<◌, ◌+◌, None}
 use Rattle.page_types.specs.declared.sets.Access.{Access}
 use Rattle.page_types.specs.declared.calls.Call.TheVariants.{Fault}
@@ -10,13 +10,11 @@ use Rattle.page_types.specs.PlainReply.{plain_reply}
 use Rattle.space_model.specs.declared.entries.Entry.{Entry}
 use Rattle.lock_core.specs.declared.range.Held.{Held}
 use Rattle.lock_core.specs.declared.range.Mode.TheVariants.{Reader}
-use Rattle.range_rw.specs.Seats.{Known, IsLockCall}
-use Rattle.range_rw.specs.Trying.{IsCause}
-use Rattle.area_rows.specs.declared.guard.Pass.{Pass}
+use Rattle.range_rw.specs.Contract.{IsLockCall, IsCause}
 use Rattle.area_rows.specs.declared.answer.Answer.{Answer}
 use Rattle.area_rows.specs.declared.answer.Answer.TheVariants.{Given, Spent}
 use Rattle.area_rows.specs.Callers.{CallerView, IsNumbered}
-use Rattle.range_rw.specs.declared.acquire.NotHeld.{NotHeld as Why}
+use Rattle.range_rw.specs.declared.refusals.NotHeld.{NotHeld as Why}
 use Rattle.page_fault.specs.declared.faults.TriedFault.{TriedFault}
 use Rattle.page_fault.specs.declared.faults.TriedFault.TheVariants.{Answered, NotHeld, Spent as NoneLeft}
 
@@ -25,13 +23,13 @@ abbrev pub page_held : ℕ → Held
 page_held addr = record { range = record { lo = page_of addr; hi = page_of addr + 1 }; mode = Reader }
 
 -- the fault got one entry, with this line and these arguments and with named bits alone, and one number of the caller
--- is used; its number was drawn while the caller held what the entry names, and the caller holds what it held before
+-- is used. The entry got the next number, which was drawn while the caller held what the entry names; the caller
+-- holds what it held before
 pub record IsFaulted (before : CallerView) (line addr : ℕ) (access : Access) (e : Entry) (after : CallerView) : Type 0 where
   pub line_is : e.line ≡ line
   pub call : e.call ≡ Fault addr access
   pub named : IsNamedReply e.reply
-  pub drawing : Known Pass
-  pub numbered : IsNumbered drawing before.seat e after.seat
+  pub numbered : IsNumbered before.seat e after.seat
   pub left : after.left + 1 ≡ before.left
 
 -- the answer of a fault: an entry where a number is left, and otherwise nothing has changed

@@ -1,20 +1,19 @@
 //! The two calls for a fault: one waits until the page is held, and one tries once and names the cause where it
-//! isn't. A fault that its arguments decide holds nothing. What the answers say stands in `specs/Faults.antt`.
-ghost use Rattle.std.specs.Prelude.{◌≡◌, ◌<◌, ◌+◌, Some, None};
+//! isn't. A fault that its arguments decide holds nothing. What a reader may rely on is said by `IsAnswer` and
+//! `IsTried` (`specs/Faults.antt`); the replies are those of sigaction(2).
+ghost use Rattle.std.specs.Prelude.{◌≡◌, ◌<◌, ◌≤◌, ◌+◌, ◌*◌, Some, None};
+ghost use Rattle.page_types.specs.declared.TheConstants.{ROWS};
 ghost use Rattle.page_types.specs.declared.calls.Call.TheVariants.{Fault};
 ghost use Rattle.page_types.specs.Named.{IsNamedReply};
 ghost use Rattle.page_types.specs.PlainReply.{plain_reply};
-ghost use Rattle.space_model.specs.Answers.{AnswersFault};
-ghost use Rattle.range_rw.specs.Seats.{Known};
-ghost use Rattle.area_rows.specs.declared.guard.Pass.{Pass};
 ghost use Rattle.area_rows.specs.Callers.{IsNumbered};
 ghost use Rattle.page_fault.specs.Faults.{page_held, IsFaulted, IsAnswer, IsTried};
 
 use area_rows::{Answer, Caller, Space};
 use lock_core::Mode;
-use page_types::{Access, Call, Kind, PAGE, Reply, Span, Why, plain};
+use page_types::{Access, Call, PAGE, Reply, Span, plain};
 use range_rw::NotHeld;
-use space_model::{Entry, Under};
+use space_model::{Entry, Under, access_reply};
 use std::marker::Brand;
 use std::sync::Wait;
 use std::sync::ledger::{Blank, Ledger};
@@ -44,22 +43,6 @@ fn page_span(addr: u64, access: Access) -> Span
     }
 }
 
-/// What an access to a page of this kind, or of none, answers.
-fn reply_of(kind: Option<Kind>, page: u64, access: Access) -> Reply
-    ensures { AnswersFault kind page access result }
-{
-    match kind {
-        Some(kind) => {
-            if kind.prot.allows(access) {
-                Reply::Granted(kind)
-            } else {
-                Reply::Refused(Why::AccErr(page, kind))
-            }
-        }
-        None => Reply::Refused(Why::MapErr(page)),
-    }
-}
-
 /// A fault that its arguments decide: it draws its number and holds nothing.
 fn number_plain<L: Ledger>(
     space: &Space,
@@ -74,6 +57,7 @@ fn number_plain<L: Ledger>(
     requires left { 0 < caller.old.left }
     requires decided { plain_reply (Fault addr access) ≡ Some reply }
     ensures faulted { IsFaulted caller.old line addr access result caller.new }
+    ensures bound { caller.new.seat.trace.taken ≤ caller.old.seat.trace.taken + 1 }
     ensures counted { steps.new + caller.old.seat.trace.taken ≡ steps.old + caller.new.seat.trace.taken }
 {
     let call = Call::Fault { addr, access };
@@ -99,13 +83,14 @@ fn number_held<L: Ledger>(
     ensures line { result.line ≡ line }
     ensures call { result.call ≡ Fault addr access }
     ensures named { IsNamedReply result.reply }
-    ensures numbered { (drawing : Known Pass) × IsNumbered drawing (record caller.old.seat { held = None }) result caller.new.seat }
+    ensures numbered { IsNumbered (record caller.old.seat { held = None }) result caller.new.seat }
     ensures left { caller.new.left + 1 ≡ caller.old.left }
+    ensures bound { caller.new.seat.trace.taken ≤ caller.old.seat.trace.taken + (4 + ROWS) }
     ensures counted { steps.new + caller.old.seat.trace.taken ≡ steps.old + caller.new.seat.trace.taken }
 {
     let page = addr / PAGE;
     let row = space.row_of(caller, page, steps);
-    let reply = reply_of(row.kind, page, access);
+    let reply = access_reply(row.kind, page, access);
     let call = Call::Fault { addr, access };
     let entry = space.number(caller, line, call, reply, Under::Reader(span), steps);
     space.release(caller, steps);
@@ -162,7 +147,7 @@ pub fn fault<R: Wait>(
 
 /// The same with one try to hold the page, so that it waits for nobody.
 /// `NotHeld` comes only for a fault below `LIMIT`, and then as for a try of the one page as a reader; the caller has
-/// seen and numbered what it had.
+/// seen and numbered what it had. The bound on its steps is that of the try, one for each row and four more.
 pub fn try_fault<L: Ledger>(
     space: &Space,
     caller: &mut Caller,
@@ -174,6 +159,7 @@ pub fn try_fault<L: Ledger>(
     requires table { caller.old.seat.table ≡ space.now.table }
     requires free { caller.old.seat.held ≡ None }
     ensures answer { IsTried caller.old line addr access result caller.new }
+    ensures bound { caller.new.seat.trace.taken ≤ caller.old.seat.trace.taken + (68 + 386 * space.now.seats + ROWS) }
     ensures counted { steps.new + caller.old.seat.trace.taken ≡ steps.old + caller.new.seat.trace.taken }
 {
     if caller.left() == 0 {

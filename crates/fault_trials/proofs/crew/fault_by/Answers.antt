@@ -1,8 +1,8 @@
 use Rattle.std.proofs.Common.{rules, ◌≡◌, slice_index_or, sym, subst}
 use Rattle.std.specs.Prelude.{None}
-use Rattle.fault_trials.specs.Trials.{IsBack}
+use Rattle.fault_trials.specs.Trials.{IsIdleAgain}
 use Rattle.area_rows.specs.Callers.{CallerView}
-use Rattle.fault_trials.proofs.Rows.{first_of, first_back, answer_back, first_answer, others_stay}
+use Rattle.fault_trials.proofs.Crews.{first_of, first_back, answer_back, first_answer, others_stay}
 use Rattle.fault_trials.proofs.crew.fault_by.Goals as goal
 
 pub fault-requires-clause-table : goal.fault-requires-clause-table
@@ -27,7 +27,7 @@ returns g c =
     let free = subst (λ (v : CallerView). v.seat.held ≡ None) is f.2 in
     let back = answer_back (slice_index_or c.args.callers.now 0 d) c.fault.new.caller c.args.line c.args.addr c.args.access c.fault.result free c.fault.ensures.answer in
     record {
-      crew = first_back c.args.space.now.table c.args.space.now.seats c.args.callers.now d c.fault.new.caller c.requires.crew is (subst (λ (v : CallerView). IsBack v c.fault.new.caller) (sym is) back);
+      crew = first_back c.args.space.now.table c.args.space.now.seats c.args.callers.now d c.fault.new.caller c.requires.crew is (subst (λ (v : CallerView). IsIdleAgain v c.fault.new.caller) (sym is) back);
       answer = first_answer c.args.callers.now d c.fault.new.caller c.args.line c.args.addr c.args.access c.fault.result c.fault.ensures.answer;
       others = others_stay c.args.callers.now c.fault.new.caller;
     }

@@ -4,21 +4,19 @@ use Rattle.area_rows.specs.Callers.{CallerView}
 use Rattle.page_types.specs.declared.sets.Access.TheVariants.{Read}
 use Rattle.page_fault.specs.Faults.{IsTried}
 use Rattle.fault_trials.specs.Trials.{IsCrew, OfCaller}
-use Rattle.fault_trials.proofs.Rows.{two_of, two_back, second_tried}
+use Rattle.fault_trials.proofs.Crews.{two_of, two_back, second_tried}
 use Rattle.fault_trials.proofs.crew.try_beside.Goals as goal
 
 pub try_counting-requires-clause-writer : goal.try_counting-requires-clause-writer
 try_counting-requires-clause-writer g c =
     let s = c.split_at_mut-first in
-    let crew = subst (λ (l : List CallerView). IsCrew c.args.space.now.table c.args.space.now.seats l) s.ensures.value c.requires.crew in
-    let t = two_of _ _ s.result.0.now s.result.1.now c.index-first-0.result c.index-others-0.result s.ensures.front_len crew c.requires.two in
+    let t = two_of _ _ c.args.callers.now s.result.0.now s.result.1.now c.index-first-0.result c.index-others-0.result s.ensures.value s.ensures.front_len c.requires.crew c.requires.two in
     (t.0, t.1)
 
 pub try_counting-requires-clause-caller : goal.try_counting-requires-clause-caller
 try_counting-requires-clause-caller g c =
     let s = c.split_at_mut-first in
-    let crew = subst (λ (l : List CallerView). IsCrew c.args.space.now.table c.args.space.now.seats l) s.ensures.value c.requires.crew in
-    let t = two_of _ _ s.result.0.now s.result.1.now c.index-first-0.result c.index-others-0.result s.ensures.front_len crew c.requires.two in
+    let t = two_of _ _ c.args.callers.now s.result.0.now s.result.1.now c.index-first-0.result c.index-others-0.result s.ensures.value s.ensures.front_len c.requires.crew c.requires.two in
     (t.2, t.3)
 
 pub returns : goal.returns

@@ -7,7 +7,6 @@ returns-clause-faulted g c =
       line_is = f.line;
       call = f.call;
       named = f.named;
-      drawing = c.args.caller.now.seat;
-      numbered = f.numbered;
+      numbered = f.drawn.numbered;
       left = f.left;
     }

@@ -1,10 +1,10 @@
 use Rattle.std.proofs.Common.{ℕ, List, [], map, length, sym, ap, ◌∙◌, subst, arith}
-use Rattle.range_rw.specs.Seats.{pass_in}
+use Rattle.range_rw.specs.Contract.{pass_in}
 use Rattle.area_rows.specs.declared.guard.Pass.{Pass}
 use Rattle.area_rows.specs.declared.close.Kept.{Kept}
 use Rattle.area_rows.specs.History.{HasHistory}
 use Rattle.area_rows.specs.Callers.{AreIdle}
-use Rattle.area_rows.specs.Closing.{AreKept, mine_count, pass_of}
+use Rattle.area_rows.specs.Closing.{AreKept, callers_count, caller_pass}
 use Rattle.area_rows.proofs.Gathering.{closes_below}
 use Rattle.area_rows.proofs.Pairing.{pairs_length, pairs_passes, pairs_kept, seats_idle, join_ready}
 use Rattle.area_rows.proofs.space.Space.close.Goals as goal
@@ -20,15 +20,15 @@ collect-requires-clause-below c =
     let pairs = c.part-callers.ensures.pairs in
     let callers = c.args.callers.items in
     let kept : AreKept c.as_slice-in-Ok-close-2.result.now callers = subst (λ (l : List Kept). AreKept l callers) (sym c.as_slice-in-Ok-close-2.ensures.value) (pairs_kept _ _ callers pairs) in
-    closes_below c.in-Ok-close.words.items callers c.as_slice-in-Ok-close-2.result.now (map pass_in c.part-callers.result.1.items) _ (pairs_passes _ _ callers pairs) c.in-Ok-close.ensures.guard kept (c.in-Ok.ensures.entries ∙ ap mine_count c.as_slice.ensures.value)
+    closes_below c.in-Ok-close.words.items callers c.as_slice-in-Ok-close-2.result.now (map pass_in c.part-callers.result.1.items) _ (pairs_passes _ _ callers pairs) c.in-Ok-close.ensures.guard kept (c.in-Ok.ensures.entries ∙ ap callers_count c.as_slice.ensures.value)
 
 pub returns-in-Ok-close-clause-whole : goal.returns-in-Ok-close-clause-whole
 returns-in-Ok-close-clause-whole c =
     let pairs = c.part-callers.ensures.pairs in
     let callers = c.args.callers.items in
     let kept : AreKept c.as_slice-in-Ok-close-2.result.now callers = subst (λ (l : List Kept). AreKept l callers) (sym c.as_slice-in-Ok-close-2.ensures.value) (pairs_kept _ _ callers pairs) in
-    let history : HasHistory [] c.as_slice-in-Ok-close.result.now (map pass_of callers) = subst (λ (z : List ℕ × List Pass). HasHistory [] z.0 z.1) (λ i. (sym c.as_slice-in-Ok-close.ensures.value i, pairs_passes _ _ callers pairs i)) c.in-Ok-close.ensures.guard in
-    c.collect.ensures callers history kept (c.in-Ok.ensures.entries ∙ ap mine_count c.as_slice.ensures.value)
+    let history : HasHistory [] c.as_slice-in-Ok-close.result.now (map caller_pass callers) = subst (λ (z : List ℕ × List Pass). HasHistory [] z.0 z.1) (λ i. (sym c.as_slice-in-Ok-close.ensures.value i, pairs_passes _ _ callers pairs i)) c.in-Ok-close.ensures.guard in
+    c.collect.ensures callers history kept (c.in-Ok.ensures.entries ∙ ap callers_count c.as_slice.ensures.value)
 
 pub join-requires : goal.join-requires
 join-requires c =

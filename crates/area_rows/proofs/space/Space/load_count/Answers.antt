@@ -1,11 +1,11 @@
 use Rattle.std.proofs.Common.{rules, ap, ◌∙◌}
-use Rattle.area_rows.specs.Laws.{no_note}
+use Rattle.area_rows.specs.Keeping.{no_note}
 use Rattle.area_rows.specs.Callers.{CallerView}
 use Rattle.area_rows.proofs.Stepping.{may_count, counts}
 use Rattle.area_rows.proofs.space.Space.load_count.Goals as goal
 
 pub load_as-requires-clause-allowed : goal.load_as-requires-clause-allowed
-load_as-requires-clause-allowed g c = may_count no_note _ _ _ (search rules)
+load_as-requires-clause-allowed g c = may_count no_note _ _ _ (search rules) c.caller.invariant.6
 
 pub returns-clause-again : goal.returns-clause-again
 returns-clause-again g c = λ n counted.

@@ -1,11 +1,11 @@
 use Rattle.std.proofs.Common.{rules, ap, ◌∙◌}
-use Rattle.area_rows.specs.Laws.{no_note}
+use Rattle.area_rows.specs.Keeping.{no_note}
 use Rattle.area_rows.specs.Callers.{CallerView}
 use Rattle.area_rows.proofs.Stepping.{may_row, reads}
 use Rattle.area_rows.proofs.space.Space.load_row.Goals as goal
 
 pub load_as-requires-clause-allowed : goal.load_as-requires-clause-allowed
-load_as-requires-clause-allowed g c = may_row no_note _ _ _ c.args.index c.requires.index (search rules)
+load_as-requires-clause-allowed g c = may_row no_note _ _ _ c.args.index c.requires.index (search rules) c.caller.invariant.6
 
 pub returns-clause-below : goal.returns-clause-below
 returns-clause-below g c = λ n counted lt.

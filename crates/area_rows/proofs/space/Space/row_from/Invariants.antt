@@ -13,6 +13,7 @@ invariant-rows g l = record {
   read : HasRead l.caller.seat.pass.rows l.index l.word;
   low : row_start l.word ≤ l.page;
   there : l.index < l.count;
+  steps : l.caller.seat.trace.taken ≤ l.initial.caller.seat.trace.taken + l.index;
 }
 
 abbrev pub decreases-rows : goal.decreases-rows

@@ -1,10 +1,11 @@
--- Callers in a row read by place, before and after what was done to each.
+-- A crew read by place, before and after what was done to each caller.
 use Rattle.std.proofs.Common.{◌≡◌, ℕ, zero, suc, ◌<◌, List, [], ◌∷◌, ◌++◌, ◌≤◌, get_or, set, length, drop, ◌+◌, sym, refl, ap, ◌∙◌, subst, arith, length-set, length-append, ⊎_elim}
 use Rattle.std.specs.Prelude.{None}
 use mathlib.Core.Option.{some, some-injective, some-ne-none}
 use lib.ListN.{get_elem?}
 use Rattle.atomic_table.specs.Seated.{TableId}
 use Rattle.atomic_table.proofs.Lists.{at_index, at_set}
+use Rattle.lock_core.proofs.ByPlace.{below, at_or, same_or}
 use Rattle.page_types.specs.declared.sets.Access.{Access}
 use Rattle.space_model.specs.declared.areas.Area.{Area}
 use Rattle.area_rows.specs.declared.answer.Answer.{Answer}
@@ -12,25 +13,10 @@ use Rattle.area_rows.specs.declared.answer.Answer.TheVariants.{Given, Spent}
 use Rattle.area_rows.specs.Callers.{CallerView, AreIdle, AreNewCallers}
 use Rattle.page_fault.specs.Faults.{IsAnswer, IsTried}
 use Rattle.page_fault.specs.declared.faults.TriedFault.{TriedFault}
-use Rattle.fault_trials.specs.Trials.{HasCalled, HaveCalled, IsBack, IsCrew, OfCaller}
-
-there_below : {A : Type 0} (l : List A) (i : ℕ) (a : A) → get_elem? l i ≡ some a → i < length l
-there_below [] i a e = absurd (some-ne-none a (sym e))
-there_below (x ∷ xs) zero a e = omega arith
-there_below (x ∷ xs) (suc i) a e = let r = there_below xs i a e in omega arith
-
-there_or : {A : Type 0} (l : List A) (i : ℕ) (a d : A) → get_elem? l i ≡ some a → get_or l i d ≡ a
-there_or [] i a d e = absurd (some-ne-none a (sym e))
-there_or (x ∷ xs) zero a d e = some-injective x a e
-there_or (x ∷ xs) (suc i) a d e = there_or xs i a d e
-
-there_same : {A : Type 0} (l : List A) (i : ℕ) (d e : A) → i < length l → get_or l i d ≡ get_or l i e
-there_same [] i d e lt = absurd (omega arith)
-there_same (x ∷ xs) zero d e lt = refl
-there_same (x ∷ xs) (suc i) d e lt = there_same xs i d e (omega arith)
+use Rattle.fault_trials.specs.Trials.{HasCalled, HaveCalled, IsIdleAgain, IsCrew, OfCaller}
 
 -- what is back is idle
-back_idle : (table : TableId) (k : ℕ) (a b : CallerView) → IsBack a b → (a.seat.table ≡ table) × (a.seat.number ≡ k) × (a.seat.held ≡ None) → (b.seat.table ≡ table) × (b.seat.number ≡ k) × (b.seat.held ≡ None)
+back_idle : (table : TableId) (k : ℕ) (a b : CallerView) → IsIdleAgain a b → (a.seat.table ≡ table) × (a.seat.number ≡ k) × (a.seat.held ≡ None) → (b.seat.table ≡ table) × (b.seat.number ≡ k) × (b.seat.held ≡ None)
 back_idle table k a b back i = (back.table ∙ i.0, back.number ∙ i.1, back.held)
 
 -- new callers are a crew
@@ -43,20 +29,20 @@ new_crew table seats start calls callers count more new = record {
 
 -- a crew whose callers are each back is a crew
 pub crew_back : (table : TableId) (seats : ℕ) (old new : List CallerView) → length new ≡ length old → IsCrew table seats old
-    → ((k : ℕ) (d : CallerView) → k < length old → (a : CallerView) × (b : CallerView) × (a ≡ get_or old k d) × IsBack a b × (b ≡ get_or new k d)) → IsCrew table seats new
+    → ((k : ℕ) (d : CallerView) → k < length old → (a : CallerView) × (b : CallerView) × (a ≡ get_or old k d) × IsIdleAgain a b × (b ≡ get_or new k d)) → IsCrew table seats new
 crew_back table seats old new same crew each = record {
   count = same ∙ crew.count;
   some = crew.some;
   idle = λ k c at.
-      let lt = there_below new k c at in
+      let lt = below new k c at in
       let e = each k c (omega arith) in
-      let was : get_elem? old k ≡ some e.0 = at_index old k e.0 (omega arith) (e.2 ∙ there_same old k c e.0 (omega arith)) in
-      let now : e.1 ≡ c = e.4 ∙ there_or new k c c at in
+      let was : get_elem? old k ≡ some e.0 = at_index old k e.0 (omega arith) (e.2 ∙ same_or old k c e.0 (omega arith)) in
+      let now : e.1 ≡ c = e.4 ∙ at_or new k c c at in
       subst (λ (x : CallerView). (x.seat.table ≡ table) × (x.seat.number ≡ k) × (x.seat.held ≡ None)) now (back_idle table k e.0 e.1 e.3 (crew.idle k e.0 was));
 }
 
 -- an answered caller is back
-pub answer_back : (before after : CallerView) (line addr : ℕ) (access : Access) (answer : Answer) → before.seat.held ≡ None → IsAnswer before line addr access answer after → IsBack before after
+pub answer_back : (before after : CallerView) (line addr : ℕ) (access : Access) (answer : Answer) → before.seat.held ≡ None → IsAnswer before line addr access answer after → IsIdleAgain before after
 answer_back before after line addr access (Given e) free is = let n = is.1.numbered in record { table = n.table; number = n.number; held = n.held ∙ free }
 answer_back before after line addr access Spent free is = record { table = ap (λ (x : CallerView). x.seat.table) is.1; number = ap (λ (x : CallerView). x.seat.number) is.1; held = ap (λ (x : CallerView). x.seat.held) is.1 ∙ free }
 
@@ -65,7 +51,7 @@ pub first_of : (table : TableId) (seats : ℕ) (callers : List CallerView) (c : 
 first_of table seats callers c crew is = crew.idle 0 c (at_index callers 0 c (let n = crew.count in let m = crew.some in omega arith) is)
 
 -- a crew whose first caller is back
-pub first_back : (table : TableId) (seats : ℕ) (callers : List CallerView) (before after : CallerView) → IsCrew table seats callers → before ≡ get_or callers 0 before → IsBack before after → IsCrew table seats (set callers 0 after)
+pub first_back : (table : TableId) (seats : ℕ) (callers : List CallerView) (before after : CallerView) → IsCrew table seats callers → before ≡ get_or callers 0 before → IsIdleAgain before after → IsCrew table seats (set callers 0 after)
 first_back table seats callers before after crew is back = record {
   count = length-set callers 0 after ∙ crew.count;
   some = crew.some;
@@ -76,23 +62,27 @@ first_back table seats callers before after crew is back = record {
 }
 
 -- two callers at the head that are each back
-idle_two : (table : TableId) (x y : CallerView) (rest : List CallerView) (a b : CallerView) → AreIdle table (x ∷ y ∷ rest) → IsBack x a → IsBack y b
+idle_two : (table : TableId) (x y : CallerView) (rest : List CallerView) (a b : CallerView) → AreIdle table (x ∷ y ∷ rest) → IsIdleAgain x a → IsIdleAgain y b
     → (k : ℕ) (c : CallerView) → get_elem? (a ∷ b ∷ rest) k ≡ some c → (c.seat.table ≡ table) × (c.seat.number ≡ k) × (c.seat.held ≡ None)
 idle_two table x y rest a b idle p q zero c at = subst (λ (v : CallerView). (v.seat.table ≡ table) × (v.seat.number ≡ 0) × (v.seat.held ≡ None)) (some-injective a c at) (back_idle table 0 x a p (idle 0 x refl))
 idle_two table x y rest a b idle p q (suc zero) c at = subst (λ (v : CallerView). (v.seat.table ≡ table) × (v.seat.number ≡ 1) × (v.seat.held ≡ None)) (some-injective b c at) (back_idle table 1 y b q (idle 1 y refl))
 idle_two table x y rest a b idle p q (suc (suc k)) c at = idle (suc (suc k)) c at
 
--- the one caller of a first part, and the first of the others, of a crew of two or more
-pub two_of : (table : TableId) (seats : ℕ) (first others : List CallerView) (a b : CallerView) → length first ≡ 1 → IsCrew table seats (first ++ others) → 2 ≤ seats
+two_split : (table : TableId) (seats : ℕ) (first others : List CallerView) (a b : CallerView) → length first ≡ 1 → IsCrew table seats (first ++ others) → 2 ≤ seats
     → ((get_or first 0 a).seat.table ≡ table) × ((get_or first 0 a).seat.held ≡ None) × ((get_or others 0 b).seat.table ≡ table) × ((get_or others 0 b).seat.held ≡ None)
-two_of table seats [] others a b one crew two = absurd (omega arith)
-two_of table seats (x ∷ y ∷ rest) others a b one crew two = absurd (omega arith)
-two_of table seats (x ∷ []) [] a b one crew two = absurd (let n = crew.count in omega arith)
-two_of table seats (x ∷ []) (y ∷ rest) a b one crew two = let i = crew.idle 0 x refl in let j = crew.idle 1 y refl in (i.0, i.2, j.0, j.2)
+two_split table seats [] others a b one crew two = absurd (omega arith)
+two_split table seats (x ∷ y ∷ rest) others a b one crew two = absurd (omega arith)
+two_split table seats (x ∷ []) [] a b one crew two = absurd (let n = crew.count in omega arith)
+two_split table seats (x ∷ []) (y ∷ rest) a b one crew two = let i = crew.idle 0 x refl in let j = crew.idle 1 y refl in (i.0, i.2, j.0, j.2)
+
+-- the one caller of a first part, and the first of the others, of a crew of two or more
+pub two_of : (table : TableId) (seats : ℕ) (callers first others : List CallerView) (a b : CallerView) → callers ≡ first ++ others → length first ≡ 1 → IsCrew table seats callers → 2 ≤ seats
+    → ((get_or first 0 a).seat.table ≡ table) × ((get_or first 0 a).seat.held ≡ None) × ((get_or others 0 b).seat.table ≡ table) × ((get_or others 0 b).seat.held ≡ None)
+two_of table seats callers first others a b parts one crew two = two_split table seats first others a b one (subst (IsCrew table seats) parts crew) two
 
 -- a crew of two or more whose first two callers are each back
 pub two_back : (table : TableId) (seats : ℕ) (first others : List CallerView) (x a y b : CallerView) → length first ≡ 1 → IsCrew table seats (first ++ others) → 2 ≤ seats
-    → IsBack (get_or first 0 x) a → IsBack (get_or others 0 y) b → IsCrew table seats (set first 0 a ++ set others 0 b)
+    → IsIdleAgain (get_or first 0 x) a → IsIdleAgain (get_or others 0 y) b → IsCrew table seats (set first 0 a ++ set others 0 b)
 two_back table seats [] others x a y b one crew two p q = absurd (omega arith)
 two_back table seats (u ∷ v ∷ rest) others x a y b one crew two p q = absurd (omega arith)
 two_back table seats (u ∷ []) [] x a y b one crew two p q = absurd (let n = crew.count in omega arith)
@@ -131,11 +121,11 @@ one_more calls start before after line addr access Spent h is =
     let l = h.left in let k = h.kept in let z = is.0 in
     record { left = omega arith; kept = omega arith }
 
--- a row whose callers each made so many calls
-pub row_called : (calls : ℕ) (old new : List CallerView)
+-- a crew whose callers each made so many calls
+pub crew_called : (calls : ℕ) (old new : List CallerView)
     → ((k : ℕ) (d : CallerView) → k < length old → (a : CallerView) × (b : CallerView) × (a ≡ get_or old k d) × HasCalled calls a b × (b ≡ get_or new k d)) → HaveCalled calls old new
-row_called calls old new each k a b at_a at_b =
-    let e = each k a (there_below old k a at_a) in
-    let was : e.0 ≡ a = e.2 ∙ there_or old k a a at_a in
-    let now : e.1 ≡ b = e.4 ∙ (there_or new k b a at_b) in
+crew_called calls old new each k a b at_a at_b =
+    let e = each k a (below old k a at_a) in
+    let was : e.0 ≡ a = e.2 ∙ at_or old k a a at_a in
+    let now : e.1 ≡ b = e.4 ∙ (at_or new k b a at_b) in
     subst (λ (z : CallerView × CallerView). HasCalled calls z.0 z.1) (λ i. (was i, now i)) e.3

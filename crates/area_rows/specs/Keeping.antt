@@ -1,11 +1,15 @@
--- The laws of the guard: its rule lasts over the steps that it allows, and over ranges that are taken and given back.
--- They stand here, and not among the proofs, since the guard cites them.
+-- That the guard keeps its rule: over the steps that it allows, and over ranges that are taken and given back. These
+-- are the proofs that `Guard` of `lock_core` asks for. They stand here, and not among the proofs, since the guard cites
+-- them; a reader who trusts the check may pass them over.
 use Rattle.std.specs.Prelude.{All, MatchOption, Option, Some, None, nat_le, slice_index}
-use Rattle.std.proofs.Common.{◌≡◌, ◌≢◌, ℕ, zero, suc, ◌+◌, ◌*◌, ◌%◌, ◌^◌, ◌<◌, ◌≤◌, Bool, true, false, cond, eqb, List, [], ◌∷◌, ◌++◌, length, set, sym, refl, ap, ◌∙◌, subst, arith, length-set, length-append, append_assoc, eq-eqb, ne_eqb, ⊎_elim}
+use Rattle.std.proofs.Common.{◌≡◌, ◌≢◌, ℕ, suc, ◌+◌, ◌*◌, ◌%◌, ◌^◌, ◌<◌, ◌≤◌, Bool, true, false, cond, eqb, List, [], ◌∷◌, ◌++◌, length, set, sym, refl, ap, ◌∙◌, subst, arith, length-set, length-append, append_assoc, eq-eqb, ne_eqb, ⊎_elim}
+use Rattle.std.proofs.lemmas.List.{append-nil}
 use Rattle.std.proofs.lemmas.List.Elements.{All-cons, All-head, All-tail}
-use mathlib.Core.Option.{some, some-injective, some-ne-none}
+use Rattle.std.proofs.lemmas.List.Sums.{sum_by-cons, sum_by-set}
+use mathlib.Core.Option.{some}
 use lib.ListN.{get_elem?}
 use Rattle.atomic_table.proofs.Lists.{at_set}
+use Rattle.lock_core.proofs.ByPlace.{below, at_or}
 use Rattle.page_types.specs.declared.calls.Call.{Call}
 use Rattle.page_types.specs.declared.calls.Call.TheVariants.{Map, Unmap, Protect, Fault}
 use Rattle.page_types.specs.declared.calls.Reply.{Reply}
@@ -16,7 +20,7 @@ use Rattle.page_types.specs.declared.TheConstants.{LIMIT}
 use Rattle.page_types.specs.declared.calls.Why.{Why}
 use Rattle.page_types.specs.declared.calls.Why.TheVariants.{MapErr}
 use Rattle.page_types.specs.declared.sets.Access.{Access}
-use Rattle.page_types.specs.Named.{IsNamedCall, IsNamedReply, IsNamedWhy}
+use Rattle.page_types.specs.Named.{IsNamedOption, IsNamedCall, IsNamedReply, IsNamedWhy}
 use Rattle.page_types.specs.Pages.{page_of}
 use Rattle.page_types.specs.PlainReply.{plain_reply}
 use Rattle.space_model.specs.declared.areas.Area.{Area as Areas}
@@ -26,30 +30,22 @@ use Rattle.space_model.specs.declared.entries.Under.TheVariants.{Nothing, Reader
 use Rattle.space_model.specs.Areas.{HasNamedKinds, kind_at}
 use Rattle.space_model.specs.Answers.{Answers, RefusesAccess}
 use Rattle.space_model.specs.Answers.Answers.{by_arguments, refused, granted, done, too_many_rows}
-use Rattle.space_model.proofs.NamedKinds.{IsNamedOption, named_at}
+use Rattle.space_model.proofs.NamedKinds.{named_at}
 use Rattle.space_model.specs.Held.{FitsUnder}
-use Rattle.lock_core.specs.Grants.{Grants, Holds, IsFree}
+use Rattle.space_model.proofs.Histories.{numbered_more, chains_more}
+use Rattle.lock_core.specs.Grants.{Grants, IsFree}
 use Rattle.lock_core.specs.Client.{ClientStep, loads, stores, adds, exchanges, words_after}
 use Rattle.lock_core.specs.declared.range.Held.{Held}
 use Rattle.area_rows.specs.declared.guard.Note.{Note}
 use Rattle.area_rows.specs.declared.guard.ReadRow.{ReadRow}
 use Rattle.area_rows.specs.declared.guard.Pass.{Pass}
 use Rattle.area_rows.specs.Rows.{RowsShow}
-use Rattle.area_rows.specs.History.{Runs, entries_of, with_whole, whole_count, entry_count, StillCounts, StillStand, IsPart, IsRunning, HasHistory, rest_of, IsFault, entry_of, after_look, after_count, after_row, after_draw, MayLoad, Allowed}
+use Rattle.area_rows.specs.History.{FitsAndReplies, Runs, entries_of, with_whole, whole_count, own_count, entry_count, StillCounts, StillStand, IsPart, IsRunningSpace, HasHistory, rest_of, IsFault, entry_of, after_look, after_count, after_row, after_draw, MayLoad, Allowed, HoldsPages}
 use Rattle.area_rows.specs.History.MayLoad.{number, count, row}
 
 -- a note of no call
 abbrev pub no_note : Note
 no_note = record { line = 0; call = Fault 0 Read; reply = Zero; under = Nothing }
-
-below : {A : Type 0} (l : List A) (i : ℕ) (a : A) → get_elem? l i ≡ some a → i < length l
-below [] i a e = absurd (some-ne-none a (sym e))
-below (x ∷ xs) zero a e = omega arith
-below (x ∷ xs) (suc i) a e = let r = below xs i a e in omega arith
-
-append_none : {A : Type 0} (l : List A) → l ++ [] ≡ l
-append_none [] = refl
-append_none (x ∷ xs) = ap (λ l. x ∷ l) (append_none xs)
 
 keep_end : {A : Type 0} (b : Bool) (x : A) (xs ys zs : List A) → ys ≡ xs ++ zs → cond b (x ∷ ys) ys ≡ cond b (x ∷ xs) xs ++ zs
 keep_end true x xs ys zs e = ap (λ l. x ∷ l) e
@@ -61,16 +57,11 @@ own_more worker (x ∷ xs) e is = keep_end (eqb x.worker worker) x (entries_of w
 
 own_same : (worker : ℕ) (history : List Entry) (e : Entry) → e.worker ≢ worker → entries_of worker (history ++ e ∷ []) ≡ entries_of worker history
 own_same worker [] e not = ap (λ b. cond b (e ∷ []) []) (ne_eqb e.worker worker not)
-own_same worker (x ∷ xs) e not = keep_end (eqb x.worker worker) x (entries_of worker xs) (entries_of worker (xs ++ e ∷ [])) [] (own_same worker xs e not ∙ sym (append_none (entries_of worker xs))) ∙ append_none (cond (eqb x.worker worker) (x ∷ entries_of worker xs) (entries_of worker xs))
+own_same worker (x ∷ xs) e not = keep_end (eqb x.worker worker) x (entries_of worker xs) (entries_of worker (xs ++ e ∷ [])) [] (own_same worker xs e not ∙ sym (append-nil (entries_of worker xs))) ∙ append-nil (cond (eqb x.worker worker) (x ∷ entries_of worker xs) (entries_of worker xs))
 
 -- one entry more
 pub runs_more : (history : List Entry) (n : ℕ) (A B C : List Areas) (e : Entry) → Runs n A history B → e.number ≡ n + length history → FitsUnder B e.call e.under → Answers B e.call e.reply C → Runs n A (history ++ e ∷ []) C
-runs_more [] n A B C e r num fits answers =
-    let z : n + 0 ≡ n = omega arith in
-    (num ∙ z, subst (λ (S : List Areas). FitsUnder S e.call e.under) r fits, (C, subst (λ (S : List Areas). Answers S e.call e.reply C) r answers, refl))
-runs_more (x ∷ xs) n A B C e r num fits answers =
-    let z : n + suc (length xs) ≡ n + 1 + length xs = omega arith in
-    (r.0, r.1, (r.2.0, r.2.1, runs_more xs (n + 1) r.2.0 B C e r.2.2 (num ∙ z) fits answers))
+runs_more history n A B C e r num fits answers = (numbered_more n history e r.0 num, chains_more FitsAndReplies A history B e C r.1 (fits, answers))
 
 -- a fault takes no bits, and where the state's kinds have named bits alone so has its reply
 fault_named : (c : Call) → IsFault c → IsNamedCall c
@@ -125,23 +116,24 @@ whole_same (x ∷ xs) e same = ap (with_whole x.under) (whole_same xs e same)
 
 -- the callers' entries together, after one caller's list has grown
 count_set : (passes : List Pass) (worker : ℕ) (p q : Pass) (k : ℕ) → get_elem? passes worker ≡ some p → length q.mine ≡ length p.mine + k → entry_count (set passes worker q) ≡ entry_count passes + k
-count_set [] worker p q k at e = absurd (some-ne-none p (sym at))
-count_set (x ∷ xs) zero p q k at e = let s = ap (λ (z : Pass). length z.mine) (some-injective x p at) in omega arith
-count_set (x ∷ xs) (suc i) p q k at e = let r = count_set xs i p q k at e in omega arith
+count_set passes worker p q k at e =
+    let s = sum_by-set own_count passes worker q p (below passes worker p at) in
+    let same = ap own_count (at_or passes worker p p at) in
+    omega arith
 
 count_bound : (passes : List Pass) → ((worker : ℕ) (p : Pass) → get_elem? passes worker ≡ some p → length p.mine < 2 ^ 32) → entry_count passes ≤ length passes * 2 ^ 32
 count_bound [] all = omega arith
-count_bound (x ∷ xs) all = let h = all 0 x refl in let r = count_bound xs (λ i p at. all (suc i) p at) in omega arith
+count_bound (x ∷ xs) all = let h = all 0 x refl in let r = count_bound xs (λ i p at. all (suc i) p at) in let s = sum_by-cons own_count x xs in omega arith
 
 some_is : {A : Type 0} (a b : A) → Some a ≡ Some b → a ≡ b
 some_is a b e = cc
 
-none_is : {A : Type 0} (a : A) → None ≡ Some a → ⊥
+pub none_is : {A : Type 0} (a : A) → None ≡ Some a → ⊥
 none_is a e = cc
 
 module _ (start : List Areas) (history : List Entry) (state : List Areas) (words : List ℕ) (worker : ℕ) (p : Pass) (own : IsPart start history words worker p) where
   looked : IsPart start history words worker (after_look history p)
-  looked = record { began = own.began; seen = ([], sym (append_none history)); mine = own.mine; few = own.few; count = own.count; rows = own.rows }
+  looked = record { began = own.began; seen = ([], sym (append-nil history)); mine = own.mine; few = own.few; count = own.count; rows = own.rows }
 
   counted : IsPart start history words worker (after_count (slice_index words 2) p)
   counted = record { began = own.began; seen = own.seen; mine = own.mine; few = own.few; count = λ n e. some_is (slice_index words 2) n e; rows = own.rows }
@@ -153,7 +145,7 @@ module _ (start : List Areas) (history : List Entry) (state : List Areas) (words
   rested = record { began = own.began; seen = own.seen; mine = own.mine; few = own.few; count = λ n e. absurd (none_is n e); rows = tt }
 
   -- another pass of this caller with as many entries
-  replaced : (passes : List Pass) (q : Pass) → IsRunning start history state words passes → get_elem? passes worker ≡ some p → IsPart start history words worker q → length q.mine ≡ length p.mine → IsRunning start history state words (set passes worker q)
+  replaced : (passes : List Pass) (q : Pass) → IsRunningSpace start history state words passes → get_elem? passes worker ≡ some p → IsPart start history words worker q → length q.mine ≡ length p.mine → IsRunningSpace start history state words (set passes worker q)
   replaced passes q r at part same =
       let wide : length (set passes worker q) ≡ length passes = length-set passes worker q in
       record {
@@ -174,14 +166,14 @@ module _ (start : List Areas) (history : List Entry) (state : List Areas) (words
         total = r.total ∙ (let s = count_set passes worker p q 0 at (omega arith) in omega arith);
       }
 
-loads_keep : (held : Type 0) (start : List Areas) (history : List Entry) (state : List Areas) (words : List ℕ) (passes : List Pass) (worker place : ℕ) (p after : Pass) → IsRunning start history state words passes → get_elem? passes worker ≡ some p
-    → MayLoad held words history place p after → IsRunning start history state words (set passes worker after)
+loads_keep : (held : Type 0) (start : List Areas) (history : List Entry) (state : List Areas) (words : List ℕ) (passes : List Pass) (worker place : ℕ) (p after : Pass) → IsRunningSpace start history state words passes → get_elem? passes worker ≡ some p
+    → MayLoad held words history place p after → IsRunningSpace start history state words (set passes worker after)
 loads_keep held start history state words passes worker place p after r at (number e is) =
-    subst (λ (q : Pass). IsRunning start history state words (set passes worker q)) (sym is) (replaced start history state words worker p (r.parts worker p at) passes (after_look history p) r at (looked start history state words worker p (r.parts worker p at)) refl)
+    subst (λ (q : Pass). IsRunningSpace start history state words (set passes worker q)) (sym is) (replaced start history state words worker p (r.parts worker p at) passes (after_look history p) r at (looked start history state words worker p (r.parts worker p at)) refl)
 loads_keep held start history state words passes worker place p after r at (count h e is) =
-    subst (λ (q : Pass). IsRunning start history state words (set passes worker q)) (sym is) (replaced start history state words worker p (r.parts worker p at) passes (after_count (slice_index words 2) p) r at (counted start history state words worker p (r.parts worker p at)) refl)
+    subst (λ (q : Pass). IsRunningSpace start history state words (set passes worker q)) (sym is) (replaced start history state words worker p (r.parts worker p at) passes (after_count (slice_index words 2) p) r at (counted start history state words worker p (r.parts worker p at)) refl)
 loads_keep held start history state words passes worker place p after r at (row index h few e is) =
-    subst (λ (q : Pass). IsRunning start history state words (set passes worker q)) (sym is) (replaced start history state words worker p (r.parts worker p at) passes (after_row index (slice_index words (3 + index)) p) r at (read start history state words worker p (r.parts worker p at) index) refl)
+    subst (λ (q : Pass). IsRunningSpace start history state words (set passes worker q)) (sym is) (replaced start history state words worker p (r.parts worker p at) passes (after_row index (slice_index words (3 + index)) p) r at (read start history state words worker p (r.parts worker p at) index) refl)
 
 still_counts : (word other : ℕ) (words : List ℕ) (n : Option ℕ) → StillCounts (word ∷ words) n → StillCounts (other ∷ words) n
 still_counts word other words n s m e = s m e
@@ -193,7 +185,7 @@ still_stand word other words (r ∷ rest) s =
     (ap (slice_index (other ∷ words)) e ∙ (ap (slice_index (word ∷ words)) (sym e) ∙ s.0), still_stand word other words rest s.1)
 
 rows_same : (word other : ℕ) (words : List ℕ) (kinds : ℕ → Option Kind) → RowsShow (word ∷ words) kinds → RowsShow (other ∷ words) kinds
-rows_same word other words kinds s = record { room = s.room; some = s.some; few = s.few; show = s.show }
+rows_same word other words kinds s = record { room = s.room; some = s.some; few = s.few; show = s.show; gaps = s.gaps }
 
 -- another caller's part, or the caller's own
 others_part : (start : List Areas) (history : List Entry) (word other : ℕ) (words : List ℕ) (worker : ℕ) (p : Pass) (e : Entry) → e.worker ≢ worker → IsPart start history (word ∷ words) worker p → IsPart start (history ++ e ∷ []) (other ∷ words) worker p
@@ -206,10 +198,10 @@ others_part start history word other words worker p e not own = record {
   rows = still_stand word other words p.rows own.rows;
 }
 
-own_part : (start : List Areas) (history : List Entry) (word other : ℕ) (words : List ℕ) (worker : ℕ) (p : Pass) (e : Entry) → e.worker ≡ worker → length p.mine + 1 < 2 ^ 32 → IsPart start history (word ∷ words) worker p → IsPart start (history ++ e ∷ []) (other ∷ words) worker (after_draw history e p)
-own_part start history word other words worker p e is few own = record {
+own_part : (start : List Areas) (history : List Entry) (word other : ℕ) (words : List ℕ) (worker : ℕ) (p : Pass) (e : Entry) (held : Option Held) → e.worker ≡ worker → length p.mine + 1 < 2 ^ 32 → IsPart start history (word ∷ words) worker p → IsPart start (history ++ e ∷ []) (other ∷ words) worker (after_draw history e held p)
+own_part start history word other words worker p e held is few own = record {
   began = own.began;
-  seen = ([], sym (append_none (history ++ e ∷ [])));
+  seen = ([], sym (append-nil (history ++ e ∷ [])));
   mine = own_more worker history e is ∙ ap (λ l. l ++ e ∷ []) own.mine;
   few = let l = length-append p.mine (e ∷ []) in omega arith;
   count = λ n none. absurd (none_is n none);
@@ -217,15 +209,15 @@ own_part start history word other words worker p e is few own = record {
 }
 
 -- the number word doesn't wrap: 16 callers have below 2^32 entries each
-no_wrap : (start : List Areas) (history : List Entry) (state : List Areas) (words : List ℕ) (passes : List Pass) → IsRunning start history state words passes → length history + 1 < 2 ^ 64
+no_wrap : (start : List Areas) (history : List Entry) (state : List Areas) (words : List ℕ) (passes : List Pass) → IsRunningSpace start history state words passes → length history + 1 < 2 ^ 64
 no_wrap start history state words passes r =
     let b = count_bound passes (λ i p at. (r.parts i p at).few) in let t = r.total in let c = r.callers in omega arith
 
-drawn : (start : List Areas) (history : List Entry) (state : List Areas) (word : ℕ) (words : List ℕ) (passes : List Pass) (worker : ℕ) (p : Pass) (e : Entry) → IsRunning start history state (word ∷ words) passes → get_elem? passes worker ≡ some p
+drawn : (start : List Areas) (history : List Entry) (state : List Areas) (word : ℕ) (words : List ℕ) (passes : List Pass) (worker : ℕ) (p : Pass) (e : Entry) (held : Option Held) → IsRunningSpace start history state (word ∷ words) passes → get_elem? passes worker ≡ some p
     → e.number ≡ length history → e.worker ≡ worker → FitsUnder state e.call e.under → Answers state e.call e.reply state → IsFault e.call → length p.mine + 1 < 2 ^ 32
-    → IsRunning start (history ++ e ∷ []) state ((word + 1) % 2 ^ 64 ∷ words) (set passes worker (after_draw history e p))
-drawn start history state word words passes worker p e r at num is fits answers fault few =
-    let q : Pass = after_draw history e p in
+    → IsRunningSpace start (history ++ e ∷ []) state ((word + 1) % 2 ^ 64 ∷ words) (set passes worker (after_draw history e held p))
+drawn start history state word words passes worker p e held r at num is fits answers fault few =
+    let q : Pass = after_draw history e held p in
     let word' = (word + 1) % 2 ^ 64 in
     let wide : length (set passes worker q) ≡ length passes = length-set passes worker q in
     let more : length (history ++ e ∷ []) ≡ length history + 1 = length-append history (e ∷ []) in
@@ -240,23 +232,23 @@ drawn start history state word words passes worker p e r at num is fits answers 
       sequence = r.sequence ∙ sym (whole_same history e (λ n. fault_under state e.call e.under n fault fits));
       rows = rows_same word word' words (kind_at state) r.rows;
       parts = λ other x there. ⊎_elim
-          (λ t. subst (λ (z : ℕ × Pass). IsPart start (history ++ e ∷ []) (word' ∷ words) z.0 z.1) (λ i. (sym t.0 i, t.1 i)) (own_part start history word word' words worker p e is few (r.parts worker p at)))
+          (λ t. subst (λ (z : ℕ × Pass). IsPart start (history ++ e ∷ []) (word' ∷ words) z.0 z.1) (λ i. (sym t.0 i, t.1 i)) (own_part start history word word' words worker p e held is few (r.parts worker p at)))
           (λ t. others_part start history word word' words other x e (λ w. t.0 (sym w ∙ is)) (r.parts other x t.1))
           (at_set passes worker other q x there);
       no_other = λ other le. let b = below passes worker p at in own_same other history e (λ w. omega arith) ∙ r.no_other other (omega arith);
       total = let s = count_set passes worker p q 1 at (length-append p.mine (e ∷ [])) in let t = r.total in omega arith;
     }
 
-draws_keep : (start : List Areas) (history : List Entry) (state : List Areas) (words : List ℕ) (passes : List Pass) (worker : ℕ) (p : Pass) (e : Entry) → IsRunning start history state words passes → get_elem? passes worker ≡ some p
+draws_keep : (start : List Areas) (history : List Entry) (state : List Areas) (words : List ℕ) (passes : List Pass) (worker : ℕ) (p : Pass) (e : Entry) (held : Option Held) → IsRunningSpace start history state words passes → get_elem? passes worker ≡ some p
     → e.number ≡ length history → e.worker ≡ worker → FitsUnder state e.call e.under → Answers state e.call e.reply state → IsFault e.call → length p.mine + 1 < 2 ^ 32
-    → IsRunning start (history ++ e ∷ []) state (words_after words (adds 0 1)) (set passes worker (after_draw history e p))
-draws_keep start history state [] passes worker p e r at num is fits answers fault few = let z = r.rows.room in absurd (omega arith)
-draws_keep start history state (word ∷ words) passes worker p e r at num is fits answers fault few = drawn start history state word words passes worker p e r at num is fits answers fault few
+    → IsRunningSpace start (history ++ e ∷ []) state (words_after words (adds 0 1)) (set passes worker (after_draw history e held p))
+draws_keep start history state [] passes worker p e held r at num is fits answers fault few = let z = r.rows.room in absurd (omega arith)
+draws_keep start history state (word ∷ words) passes worker p e held r at num is fits answers fault few = drawn start history state word words passes worker p e held r at num is fits answers fault few
 
 -- the law of steps
 pub steps_keep : (grants : Grants) (words : List ℕ) (passes : List Pass) (worker : ℕ) (step : ClientStep) (note : Note) (after : Pass) → HasHistory grants words passes → Allowed grants words passes worker step note after → HasHistory grants (words_after words step) (set passes worker after)
 steps_keep grants words passes worker (loads i) note after kept may =
-    let h = may.0 in (h.start, h.history, h.state, loads_keep ((g : Held) × Holds grants worker g) h.start h.history h.state words passes worker i h.pass after h.running h.own may.1)
+    let h = may.0 in (h.start, h.history, h.state, loads_keep (HoldsPages grants worker) h.start h.history h.state words passes worker i h.pass after h.running h.own may.1)
 steps_keep grants words passes worker (stores i value) note after kept may = absurd may
 steps_keep grants words passes worker (exchanges i expected new) note after kept may = absurd may
 steps_keep grants words passes worker (adds i by) note after kept may =
@@ -264,8 +256,8 @@ steps_keep grants words passes worker (adds i by) note after kept may =
       h.start,
       h.history ++ e ∷ [],
       h.state,
-      subst (λ (z : (ℕ × ℕ) × Pass). IsRunning h.start (h.history ++ e ∷ []) h.state (words_after words (adds z.0.0 z.0.1)) (set passes worker z.1)) (λ i. ((sym may.0 i, sym may.1 i), sym may.4 i))
-          (draws_keep h.start h.history h.state words passes worker h.pass e h.running h.own refl refl d.right.fits d.right.answers d.fault d.few),
+      subst (λ (z : (ℕ × ℕ) × Pass). IsRunningSpace h.start (h.history ++ e ∷ []) h.state (words_after words (adds z.0.0 z.0.1)) (set passes worker z.1)) (λ i. ((sym may.0 i, sym may.1 i), sym may.4 i))
+          (draws_keep h.start h.history h.state words passes worker h.pass e d.held.0 h.running h.own refl refl d.right.fits d.right.answers d.fault d.few),
     )
 
 -- the law of gain: the rule speaks of no grant

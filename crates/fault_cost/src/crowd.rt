@@ -1,0 +1,36 @@
+//! Rounds in which all callers of a space fault beside each other, each on a thread of its own. The pages are four, so
+//! that callers share them; they hold them as readers, so none waits for another's page. A round's time has the start
+//! and the end of its threads in it.
+ghost use Rattle.std.specs.Prelude.{◌≤◌};
+
+use crate::size::{Size, Times};
+use anyhow::{Result, bail};
+use fault_trials::{fault_all, open_crew};
+use space_model::PlainSpace;
+use std::alloc::Global;
+use std::sync::Wait;
+use std::thread::Threads;
+use std::time::{Clock, Instant};
+
+/// What rounds take in which so many callers, at most 16, each fault at each turn.
+pub fn times_of_crowd<R: Threads + Wait + Sync + Clock>(
+    rt: &R,
+    size: Size,
+    alloc: Global,
+    start: &PlainSpace,
+    callers: usize,
+) -> Result<Times>
+    requires few { callers ≤ 16 }
+{
+    let mut times = Times::none();
+    let calls = [size.turns; 16];
+    for round in 0..size.rounds {
+        let Ok((space, mut crew)) = open_crew(alloc, &calls[..callers], start) else {
+            bail!("no memory for a space");
+        };
+        let begin = Instant::now(rt)?;
+        fault_all(rt, &space, crew.as_mut_slice(), size.turns);
+        times = times.with(round, begin.elapsed(rt)?.as_nanos());
+    }
+    Ok(times)
+}
