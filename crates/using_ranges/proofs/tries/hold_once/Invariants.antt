@@ -1,0 +1,4 @@
+use Rattle.using_ranges.proofs.tries.hold_once.Given as goal
+
+abbrev pub ghosts-hold_with : goal.ghosts-hold_with
+ghosts-hold_with a = record { name = a.blank.name; parts = a.blank.parts }
