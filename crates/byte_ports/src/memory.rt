@@ -1,7 +1,7 @@
 //! A source and a sink over bytes in memory, which fail exactly at listed calls. With them a test makes any call fail,
 //! at any moment. A reader may rely on every result: the clauses here say which calls fail and how much each call
 //! moves, where those of the traits leave it open. The lists are this project's own profile.
-ghost use Rattle.std.specs.Prelude.{◌≡◌, ◌↔◌, ◌⊎◌, ◌+◌, ◌-◌, ◌<◌, ◌≤◌, ◌^◌, ◌++◌, [], List, length, take, drop, min, Ok, Some, IfOk, OnErr, IsErr, IsTrue, Contains, vec_len, if◌then◌else◌, is_ok};
+ghost use Rattle.std.specs.Prelude.{◌≡◌, ◌↔◌, ◌⊎◌, ◌+◌, ◌-◌, ◌<◌, ◌≤◌, ◌^◌, ◌++◌, [], List, length, take, drop, min, Ok, Some, IfOk, OnOk, OnErr, IsErr, IsTrue, Contains, vec_len, if◌then◌else◌, is_ok};
 ghost use Rattle.std.specs.Io.{ReadsAtMost, WritesAtMost};
 ghost use Rattle.std.specs.Io.KnownBytes.{Appends, Consumes, IsAtEnd, Keeps};
 ghost use Rattle.byte_ports.specs.Counts.{Rose, one_more};
@@ -69,6 +69,7 @@ impl Source for MemorySource {
         ensures end { IfOk result (λ n.
             n ≡ 0 → 0 < length buf.old → IsAtEnd (Some (drop self.old.at self.old.bytes.items))) }
         ensures empty { length buf.old ≡ 0 → result ≡ Ok 0 }
+        ensures kept { OnOk result (self.new.faults ≡ self.old.faults) }
         ensures failed_moves_nothing { OnErr result (Keeps (Some (drop self.old.at self.old.bytes.items))
             (Some (drop self.new.at self.new.bytes.items))) }
         ensures failed_rose { OnErr result (Rose self.old.faults self.new.faults) }
@@ -160,6 +161,7 @@ impl Sink for MemorySink {
             (Some (take self.new.used self.new.store.items)) (take n bytes.now)) }
         ensures some { IfOk result (λ n. 0 < length bytes.now → 0 < n) }
         ensures empty { length bytes.now ≡ 0 → result ≡ Ok 0 }
+        ensures kept { OnOk result (self.new.faults ≡ self.old.faults) }
         ensures failed_appends_nothing { OnErr result (Keeps (Some (take self.old.used self.old.store.items))
             (Some (take self.new.used self.new.store.items))) }
         ensures failed_rose { OnErr result (Rose self.old.faults self.new.faults) }

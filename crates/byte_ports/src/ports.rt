@@ -1,7 +1,8 @@
 //! The two traits, after std's `Read` and `Write`. What they add is the cause of a failure: a port counts its failed
-//! calls, and a call fails only if the count rises in it. So a caller that says "the port failed" has to show the count
-//! and can't give up by itself. A reader may rely on each clause here for every port.
-ghost use Rattle.std.specs.Prelude.{◌≡◌, ℕ, ◌<◌, ◌≤◌, ◌^◌, List, length, take, Ok, Option, IfOk, OnErr};
+//! calls, and the count rises in a call that fails and in no other. So a caller that says "the port failed" has to show
+//! the count and can't give up by itself, and one whose count stands has passed no failure over. A reader may rely on
+//! each clause here for every port.
+ghost use Rattle.std.specs.Prelude.{◌≡◌, ℕ, ◌<◌, ◌≤◌, ◌^◌, List, length, take, Ok, Option, IfOk, OnOk, OnErr};
 ghost use Rattle.std.specs.Io.{ReadsAtMost, WritesAtMost};
 ghost use Rattle.std.specs.Io.KnownBytes.{Appends, Consumes, IsAtEnd, Keeps};
 ghost use Rattle.byte_ports.specs.Counts.{Rose};
@@ -33,6 +34,7 @@ pub trait Source {
         ensures end { IfOk result (λ n.
             n ≡ 0 → 0 < length buf.old → IsAtEnd (remaining self.old)) }
         ensures empty { length buf.old ≡ 0 → result ≡ Ok 0 }
+        ensures kept { OnOk result (fault_count self.new ≡ fault_count self.old) }
 
         ensures failed_moves_nothing { OnErr result (Keeps (remaining self.old) (remaining self.new)) }
         ensures failed_rose { OnErr result (Rose (fault_count self.old) (fault_count self.new)) }
@@ -58,6 +60,7 @@ pub trait Sink {
             Appends (contents self.old) (contents self.new) (take n bytes.now)) }
         ensures some { IfOk result (λ n. 0 < length bytes.now → 0 < n) }
         ensures empty { length bytes.now ≡ 0 → result ≡ Ok 0 }
+        ensures kept { OnOk result (fault_count self.new ≡ fault_count self.old) }
 
         ensures failed_appends_nothing { OnErr result (Keeps (contents self.old) (contents self.new)) }
         ensures failed_rose { OnErr result (Rose (fault_count self.old) (fault_count self.new)) }

@@ -19,7 +19,7 @@ use Rattle.range_rw.specs.declared.views.Read.{Read}
 use Rattle.range_rw.specs.declared.views.Part.{Part}
 use Rattle.range_rw.specs.declared.views.BoardView.{BoardView}
 use Rattle.range_rw.specs.Board.{board_lo_place, board_hi_place, lock_words, held_in, grants_of, board_mode_of, IsBoard}
-use Rattle.range_rw.specs.BoardSteps.{BoardStep, takes_turn, reads_lo, reads_hi, writes_lo, writes_hi, gives_turn, releases, board_word_of, board_effect_of, core_after, pass_after, part_after, SaysFound, IsEnabled}
+use Rattle.range_rw.specs.BoardSteps.{BoardStep, takes_turn, reads_lo, reads_hi, writes_lo, writes_hi, gives_turn, releases, board_word_of, board_effect_of, core_after, pass_after, part_after, SaysFound, IsBoardEnabled}
 use Rattle.range_rw.specs.Running.{part_core, part_pass, view, IsRunningBoard, board_play}
 use Rattle.range_rw.specs.Standing.{IsTable}
 use Rattle.lock_core.proofs.ByPlace.{below as at_below, there}
@@ -82,7 +82,7 @@ module _ {P : Type 0} (seats : ℕ) (holds : Grants → List ℕ → List P → 
           says = own_below;
         })
 
-    lo_read : (other : ℕ) → IsEnabled seats is_at_rest p (reads_lo other) → Outcome (reads_lo other) (get_or words (board_lo_place other) 0)
+    lo_read : (other : ℕ) → IsBoardEnabled seats is_at_rest p (reads_lo other) → Outcome (reads_lo other) (get_or words (board_lo_place other) 0)
     lo_read other may =
         let k = b.knows p.number p.core core_at may.0 in
         let found : ℕ = get_or words (board_lo_place other) 0 in
@@ -103,7 +103,7 @@ module _ {P : Type 0} (seats : ℕ) (holds : Grants → List ℕ → List P → 
     one_more seen new Q old here r zero e = subst Q (some-injective new r e) here
     one_more seen new Q old here r (suc k) e = old r k e
 
-    hi_read : (other lo : ℕ) → IsEnabled seats is_at_rest p (reads_hi other lo) → Outcome (reads_hi other lo) (get_or words (board_hi_place other) 0)
+    hi_read : (other lo : ℕ) → IsBoardEnabled seats is_at_rest p (reads_hi other lo) → Outcome (reads_hi other lo) (get_or words (board_hi_place other) 0)
     hi_read other lo may =
         let k = b.knows p.number p.core core_at may.0 in
         let found : ℕ = get_or words (board_hi_place other) 0 in
@@ -123,7 +123,7 @@ module _ {P : Type 0} (seats : ℕ) (holds : Grants → List ℕ → List P → 
               (holder_of_words seats words cores b wide same_count other d.0 _ d.1 ((λ i. held_in (l.1 i) found) ∙ held_some lo found some_there));
         }
 
-    hi_written : (lo hi : ℕ) → IsEnabled seats is_at_rest p (writes_hi lo hi) → Outcome (writes_hi lo hi) (get_or words (board_hi_place p.number) 0)
+    hi_written : (lo hi : ℕ) → IsBoardEnabled seats is_at_rest p (writes_hi lo hi) → Outcome (writes_hi lo hi) (get_or words (board_hi_place p.number) 0)
     hi_written lo hi may =
         let h : Held = may.3.0 in let is : held_in lo hi ≡ Some h = may.3.1 in
         let after : Core = record p.core { held = held_in lo hi } in
@@ -135,7 +135,7 @@ module _ {P : Type 0} (seats : ℕ) (holds : Grants → List ℕ → List P → 
         }
 
     -- each kind of step that is enabled, by what it finds on its word
-    pub outcome : (st : BoardStep) → IsEnabled seats is_at_rest p st → Outcome st (get_or words (board_word_of p.number st) 0)
+    pub outcome : (st : BoardStep) → IsBoardEnabled seats is_at_rest p st → Outcome st (get_or words (board_word_of p.number st) 0)
     outcome (takes_turn n) may = subst (λ (k : ℕ). Outcome (takes_turn k) (get_or words 0 0)) (sym may.0) turn_taken
     outcome (reads_lo other) may = lo_read other may
     outcome (reads_hi other lo) may = hi_read other lo may
@@ -157,7 +157,7 @@ module _ {P : Type 0} (seats : ℕ) (holds : Grants → List ℕ → List P → 
     }
 
     -- the step's word is one of the lock's
-    pub lock_word : (st : BoardStep) → IsEnabled seats is_at_rest p st → board_word_of p.number st < lock_words seats
+    pub lock_word : (st : BoardStep) → IsBoardEnabled seats is_at_rest p st → board_word_of p.number st < lock_words seats
     lock_word (takes_turn n) may = omega arith
     lock_word (reads_lo other) may = let lt = may.1 in omega arith
     lock_word (reads_hi other lo) may = let lt = may.1 in omega arith
@@ -167,7 +167,7 @@ module _ {P : Type 0} (seats : ℕ) (holds : Grants → List ℕ → List P → 
     lock_word releases may = let lt = own_below in omega arith
 
   -- the table allows each step that is enabled, and the seat is told what belongs to it after
-  pub board_keeps : (clients : ℕ) (st : BoardStep) (slots id : ℕ) (me : Me (Unit {0}) (BoardView P)) (p : Part P) → me.0 ≡ view (p ∷ []) → IsEnabled seats is_at_rest p st
+  pub board_keeps : (clients : ℕ) (st : BoardStep) (slots id : ℕ) (me : Me (Unit {0}) (BoardView P)) (p : Part P) → me.0 ≡ view (p ∷ []) → IsBoardEnabled seats is_at_rest p st
       → Allows (IsRunningBoard seats clients holds) slots id me (board_word_of p.number st) (board_effect_of p.number st) (board_play rested st me)
   board_keeps clients st slots id me p is may s running _ at small =
       let parts = running.0 in let owner = running.1 in let r = running.2 in
@@ -194,7 +194,7 @@ module _ {P : Type 0} (seats : ℕ) (holds : Grants → List ℕ → List P → 
 
   -- the same for the call that makes the step, with the names that it has for the table and the word
   pub board_allows : (key_seats key_words words slots seats' client : ℕ) → IsTable key_seats key_words words slots seats' client → seats' ≡ seats
-      → (st : BoardStep) (id word : ℕ) (f : ℕ → ℕ) (me : Me (Unit {0}) (BoardView P)) (p : Part P) → me.0 ≡ view (p ∷ []) → IsEnabled seats is_at_rest p st → word ≡ board_word_of p.number st → board_effect_of p.number st ≡ f
+      → (st : BoardStep) (id word : ℕ) (f : ℕ → ℕ) (me : Me (Unit {0}) (BoardView P)) (p : Part P) → me.0 ≡ view (p ∷ []) → IsBoardEnabled seats is_at_rest p st → word ≡ board_word_of p.number st → board_effect_of p.number st ≡ f
       → Allows (IsRunningBoard key_seats (key_words - lock_words key_seats) holds) slots id me word f (board_play rested st me)
   board_allows key_seats key_words words slots seats' client t same st id word f me p is may at effect =
       subst (λ (z : (ℕ × ℕ) × (ℕ → ℕ)). Allows (IsRunningBoard z.0.0 (key_words - lock_words key_seats) holds) slots id me z.0.1 z.1 (board_play rested st me)) (λ i. ((sym (t.same_seats ∙ same) i, sym at i), effect i))
@@ -202,7 +202,7 @@ module _ {P : Type 0} (seats : ℕ) (holds : Grants → List ℕ → List P → 
 
   -- the same for a store, which doesn't say what it found
   pub board_puts : (key_seats key_words words slots seats' client : ℕ) → IsTable key_seats key_words words slots seats' client → seats' ≡ seats
-      → (st : BoardStep) (id word value : ℕ) (me : Me (Unit {0}) (BoardView P)) (p : Part P) → me.0 ≡ view (p ∷ []) → IsEnabled seats is_at_rest p st → word ≡ board_word_of p.number st → board_effect_of p.number st ≡ (λ _. value)
+      → (st : BoardStep) (id word value : ℕ) (me : Me (Unit {0}) (BoardView P)) (p : Part P) → me.0 ≡ view (p ∷ []) → IsBoardEnabled seats is_at_rest p st → word ≡ board_word_of p.number st → board_effect_of p.number st ≡ (λ _. value)
       → Allows (IsRunningBoard key_seats (key_words - lock_words key_seats) holds) slots id me word (λ _. value) (λ _ me'. (found : ℕ) × board_play rested st me found me')
   board_puts key_seats key_words words slots seats' client t same st id word value me p is may at effect s running l there small =
       let r = board_allows key_seats key_words words slots seats' client t same st id word (λ _. value) me p is may at effect s running l there small in

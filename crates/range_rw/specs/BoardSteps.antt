@@ -88,15 +88,15 @@ SaysFound seat releases found = Unit {0}
 module _ {P : Type 0} where
   -- a seat may make the step: the turn is taken by a seat without it, and the words but for the release are read and
   -- written by the seat with it
-  abbrev pub IsEnabled : ℕ → (P → Type 0) → Part P → BoardStep → Type 0
-  IsEnabled seats is_at_rest p (takes_turn n) = (n ≡ seats) × (p.core.has_turn ≡ false)
-  IsEnabled seats is_at_rest p (reads_lo other) = (p.core.has_turn ≡ true) × (other < seats) × (other ≢ p.number)
-  IsEnabled seats is_at_rest p (reads_hi other lo) = (p.core.has_turn ≡ true) × (other < seats) × (p.core.loaded ≡ Some (record { seat = other; lo = lo }))
-  IsEnabled seats is_at_rest p (writes_lo lo) = (p.core.has_turn ≡ true) × (p.core.held ≡ None)
-  IsEnabled seats is_at_rest p (writes_hi lo hi) = (p.core.has_turn ≡ true) × (p.core.held ≡ None) × (p.core.own_lo ≡ Some lo)
+  abbrev pub IsBoardEnabled : ℕ → (P → Type 0) → Part P → BoardStep → Type 0
+  IsBoardEnabled seats is_at_rest p (takes_turn n) = (n ≡ seats) × (p.core.has_turn ≡ false)
+  IsBoardEnabled seats is_at_rest p (reads_lo other) = (p.core.has_turn ≡ true) × (other < seats) × (other ≢ p.number)
+  IsBoardEnabled seats is_at_rest p (reads_hi other lo) = (p.core.has_turn ≡ true) × (other < seats) × (p.core.loaded ≡ Some (record { seat = other; lo = lo }))
+  IsBoardEnabled seats is_at_rest p (writes_lo lo) = (p.core.has_turn ≡ true) × (p.core.held ≡ None)
+  IsBoardEnabled seats is_at_rest p (writes_hi lo hi) = (p.core.has_turn ≡ true) × (p.core.held ≡ None) × (p.core.own_lo ≡ Some lo)
       × ((h : Held) × (held_in lo hi ≡ Some h) × IsRange h.range.lo h.range.hi × IsClear seats p.number p.core.seen h)
-  IsEnabled seats is_at_rest p gives_turn = p.core.has_turn ≡ true
-  IsEnabled seats is_at_rest p releases = ((h : Held) × (p.core.held ≡ Some h)) × is_at_rest p.pass
+  IsBoardEnabled seats is_at_rest p gives_turn = p.core.has_turn ≡ true
+  IsBoardEnabled seats is_at_rest p releases = ((h : Held) × (p.core.held ≡ Some h)) × is_at_rest p.pass
 
   -- the pass after the step: rested where a range is given back
   abbrev pub pass_after : (P → P) → P → BoardStep → P

@@ -5,3 +5,8 @@ pub mod Running
 pub mod Standing
 pub mod Starting
 pub mod Trying
+pub use Rattle.atomic_table.specs.Seated
+pub use Rattle.atomic_table.specs.Table
+pub use Rattle.lock_core.specs.Client
+pub use Rattle.lock_core.specs.Grants
+pub use Rattle.lock_core.specs.Range

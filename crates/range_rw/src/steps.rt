@@ -4,7 +4,7 @@
 //! table's rule whenever it is enabled, and on the counter, where it takes one, rising by one with it.
 ghost use Rattle.std.specs.Prelude.{◌≡◌, ◌+◌, ◌<◌, ℕ};
 ghost use Rattle.range_rw.specs.Board.{board_lo_place, board_hi_place};
-ghost use Rattle.range_rw.specs.BoardSteps.{takes_turn, reads_lo, reads_hi, writes_lo, writes_hi, gives_turn, releases, IsEnabled, board_word_of, board_effect_of, part_after, SaysFound};
+ghost use Rattle.range_rw.specs.BoardSteps.{takes_turn, reads_lo, reads_hi, writes_lo, writes_hi, gives_turn, releases, IsBoardEnabled, board_word_of, board_effect_of, part_after, SaysFound};
 
 use crate::places::{NOBODY, TURN_PLACE, hi_place, lo_place};
 use crate::plays::{Does, Doing, Puts};
@@ -38,7 +38,7 @@ impl<G: Guard> RangeTable<G> {
     /// Loads a word of the board.
     fn load_at<D: Doing>(&self, token: &mut Token<G>, word: u32) -> u64
         requires table { token.old.table ≡ self.now.table }
-        requires enabled { IsEnabled self.now.seats G.is_at_rest token.old.part D.doing }
+        requires enabled { IsBoardEnabled self.now.seats G.is_at_rest token.old.part D.doing }
         requires place { (word ≡ board_word_of token.old.part.number D.doing) × (word < self.now.table.words) }
         requires load { board_effect_of token.old.part.number D.doing ≡ (λ found. found) }
         ensures table { token.new.table ≡ token.old.table }
@@ -53,7 +53,7 @@ impl<G: Guard> RangeTable<G> {
     /// Stores a value in a word of the board.
     fn store_at<D: Doing>(&self, token: &mut Token<G>, word: u32, value: u64)
         requires table { token.old.table ≡ self.now.table }
-        requires enabled { IsEnabled self.now.seats G.is_at_rest token.old.part D.doing }
+        requires enabled { IsBoardEnabled self.now.seats G.is_at_rest token.old.part D.doing }
         requires place { (word ≡ board_word_of token.old.part.number D.doing) × (word < self.now.table.words) }
         requires store { board_effect_of token.old.part.number D.doing ≡ (λ _. value) }
         ensures table { token.new.table ≡ token.old.table }
@@ -72,7 +72,7 @@ impl<G: Guard> RangeTable<G> {
     ) -> u64
         requires doing { D.doing ≡ takes_turn self.now.seats }
         requires table { token.old.table ≡ self.now.table }
-        requires enabled { IsEnabled self.now.seats G.is_at_rest token.old.part D.doing }
+        requires enabled { IsBoardEnabled self.now.seats G.is_at_rest token.old.part D.doing }
         ensures table { token.new.table ≡ token.old.table }
         ensures part { token.new.part ≡ part_after G.rested token.old.part D.doing result }
         ensures says { SaysFound token.old.part.number D.doing result }
@@ -95,7 +95,7 @@ impl<G: Guard> RangeTable<G> {
         requires doing { D.doing ≡ reads_lo other }
         requires other { other < self.now.seats }
         requires table { token.old.table ≡ self.now.table }
-        requires enabled { IsEnabled self.now.seats G.is_at_rest token.old.part D.doing }
+        requires enabled { IsBoardEnabled self.now.seats G.is_at_rest token.old.part D.doing }
         ensures table { token.new.table ≡ token.old.table }
         ensures part { token.new.part ≡ part_after G.rested token.old.part D.doing result }
         ensures counted { steps.new ≡ steps.old + 1 }
@@ -116,7 +116,7 @@ impl<G: Guard> RangeTable<G> {
         requires doing { D.doing ≡ reads_hi other lo }
         requires other { other < self.now.seats }
         requires table { token.old.table ≡ self.now.table }
-        requires enabled { IsEnabled self.now.seats G.is_at_rest token.old.part D.doing }
+        requires enabled { IsBoardEnabled self.now.seats G.is_at_rest token.old.part D.doing }
         ensures table { token.new.table ≡ token.old.table }
         ensures part { token.new.part ≡ part_after G.rested token.old.part D.doing result }
         ensures says { SaysFound token.old.part.number D.doing result }
@@ -136,7 +136,7 @@ impl<G: Guard> RangeTable<G> {
     )
         requires doing { D.doing ≡ writes_lo lo }
         requires table { token.old.table ≡ self.now.table }
-        requires enabled { IsEnabled self.now.seats G.is_at_rest token.old.part D.doing }
+        requires enabled { IsBoardEnabled self.now.seats G.is_at_rest token.old.part D.doing }
         ensures table { token.new.table ≡ token.old.table }
         ensures part { (found : ℕ) × (token.new.part ≡ part_after G.rested token.old.part D.doing found) }
         ensures counted { steps.new ≡ steps.old + 1 }
@@ -156,7 +156,7 @@ impl<G: Guard> RangeTable<G> {
     )
         requires doing { D.doing ≡ writes_hi lo hi }
         requires table { token.old.table ≡ self.now.table }
-        requires enabled { IsEnabled self.now.seats G.is_at_rest token.old.part D.doing }
+        requires enabled { IsBoardEnabled self.now.seats G.is_at_rest token.old.part D.doing }
         ensures table { token.new.table ≡ token.old.table }
         ensures part { (found : ℕ) × (token.new.part ≡ part_after G.rested token.old.part D.doing found) }
         ensures counted { steps.new ≡ steps.old + 1 }
@@ -170,7 +170,7 @@ impl<G: Guard> RangeTable<G> {
     pub(crate) fn give_turn<D: Doing, L: Ledger>(&self, token: &mut Token<G>, steps: &mut Steps<L>)
         requires doing { D.doing ≡ gives_turn }
         requires table { token.old.table ≡ self.now.table }
-        requires enabled { IsEnabled self.now.seats G.is_at_rest token.old.part D.doing }
+        requires enabled { IsBoardEnabled self.now.seats G.is_at_rest token.old.part D.doing }
         ensures table { token.new.table ≡ token.old.table }
         ensures part { (found : ℕ) × (token.new.part ≡ part_after G.rested token.old.part D.doing found) }
         ensures counted { steps.new ≡ steps.old + 1 }
@@ -184,7 +184,7 @@ impl<G: Guard> RangeTable<G> {
     pub(crate) fn clear_hi<D: Doing>(&self, token: &mut Token<G>)
         requires doing { D.doing ≡ releases }
         requires table { token.old.table ≡ self.now.table }
-        requires enabled { IsEnabled self.now.seats G.is_at_rest token.old.part D.doing }
+        requires enabled { IsBoardEnabled self.now.seats G.is_at_rest token.old.part D.doing }
         ensures table { token.new.table ≡ token.old.table }
         ensures part { (found : ℕ) × (token.new.part ≡ part_after G.rested token.old.part D.doing found) }
     {
