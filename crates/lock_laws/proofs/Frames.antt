@@ -8,4 +8,3 @@ pub mod Parts
 pub mod Quiet
 pub mod Seeing
 pub mod Steady
-pub mod Untouched

@@ -7,7 +7,6 @@ use Rattle.std.proofs.lemmas.Option.{slice_get_within}
 use Rattle.lock_core.specs.Counted.{times}
 use Rattle.lock_core.specs.declared.views.View.{View}
 use Rattle.lock_core.specs.declared.views.Cursor.{Cursor}
-use Rattle.lock_core.specs.declared.steps.Step.{Step}
 use Rattle.lock_core.specs.declared.steps.Step.TheVariants.{Link, Unlink, Mark, QuickLink, QuickUnlink}
 use Rattle.lock_core.specs.Words.{Heap, cell_of, cell_place}
 use Rattle.lock_core.specs.Nodes.{Listed, listed, own_times}
@@ -16,14 +15,12 @@ use Rattle.lock_core.specs.StepTable.{Plan, IsLine, exchanges, link, unlink, mar
 use Rattle.lock_core.specs.Machine.{Machine, heap, carried_out}
 use Rattle.lock_core.specs.Sizes.{IsNode, IsSized}
 use Rattle.lock_laws.specs.Invariant.{IsViewOf, LockInvariant}
-use Rattle.lock_laws.specs.Laws.{IsLock, Keeps}
+use Rattle.lock_laws.specs.Laws.{IsLock}
 use Rattle.lock_core.proofs.ByView.{set_there}
 use Rattle.lock_core.proofs.Counts.{own_linked}
 use Rattle.lock_laws.proofs.Seats.{seat_is}
 use Rattle.lock_core.proofs.Words.{wrote_cell}
 use Rattle.lock_laws.proofs.PathSteps.{invariant_now}
-use Rattle.lock_core.proofs.Stepping.{stepped}
-use Rattle.lock_core.proofs.SizedSteps.{sized_after}
 use Rattle.lock_laws.proofs.Exchanges.Dropping as D
 use Rattle.lock_laws.proofs.Exchanges.Linking as L
 use Rattle.lock_laws.proofs.Exchanges.Unlinking as U
@@ -162,25 +159,3 @@ module _ (m : Machine) (s : ℕ) (v : View) (l : IsLock m) (at : IsViewOf m.view
         wrote = wrote_cell m.seats 0 m.words 0 head_there;
       })))
       (same_holds m s v l at)
-
--- a law from what each line gives, since every step keeps the sizes
-pub by_line : (step : Step) → ((m : Machine) (s : ℕ) (v : View) → IsLock m → IsViewOf m.views s v → (p : Plan) → IsLine m.seats s v step p → Holds (carried_out m s p)) → Keeps step
-by_line step lines m next s l e = let t = stepped m next s step e in record {
-  sized = sized_after m next s step l.sized e;
-  invariant = subst Holds t.is (lines m s t.view l t.at t.plan t.line);
-}
-
-pub link_law : Keeps Link
-link_law = by_line Link link_holds
-
-pub unlink_law : Keeps Unlink
-unlink_law = by_line Unlink unlink_holds
-
-pub mark_law : Keeps Mark
-mark_law = by_line Mark mark_holds
-
-pub quick_link_law : Keeps QuickLink
-quick_link_law = by_line QuickLink quick_link_holds
-
-pub quick_unlink_law : Keeps QuickUnlink
-quick_unlink_law = by_line QuickUnlink quick_unlink_holds

@@ -80,11 +80,7 @@ pub record PathStep (h now : Heap) (views : List View) (s : ℕ) (v w : View) (G
   pub lost_seen : (j x : ℕ) (u : View) (d : Cursor) → IsViewOf views j u → u.cursor ≡ Some d → MayReach h d x → Lost x → IsMarked now x ⊎ (d.cur ≡ 2 * suc x + 1)
   pub apart : (j : ℕ) (u : View) (g : Listed) → j ≢ s → IsViewOf views j u → u.own ≡ listed g → Lost g.node ⊎ Marked g.node → ⊥
   pub alone : now.next 0 % 2 ≡ 1 → IsAlone now (set views s w)
-  pub epoch : w.epoch ≡ v.epoch
-  pub ready : w.ready ≡ v.ready
-  pub homes : w.homes ≡ v.homes
-  pub notes : w.notes ≡ v.notes
-  pub passed : w.passed ≡ v.passed
+  pub rest : w ≡ record v { own = w.own; cursor = w.cursor; used = w.used; hand = w.hand }
   pub once : (x : ℕ) → own_times x w.own + times x w.used ≡ own_times x v.own + times x v.used
   pub used : (x : ℕ) → times x w.used ≡ 1 → (times x v.used ≡ 1) ⊎ ((InChain now x × IsMarked now x) ⊎ Lost x)
   pub used_more : (x : ℕ) → times x v.used ≤ times x w.used
@@ -110,6 +106,9 @@ module _ (h now : Heap) (views : List View) (s : ℕ) (v w : View) (Gained Lost 
   may_adds : (d : Cursor) (x : ℕ) → MayReach now d x → Gained x ⊎ MayReach h d x
   may_adds d x m = ⊎_elim inl (λ r. inr (record { target = m.target; named = m.named; reach = r })) (k.change.adds x m.target m.reach)
 
+  ready_same : w.ready ≡ v.ready
+  ready_same = ap (λ (z : View). z.ready) k.rest
+
   -- a gained node is the own node of seat s alone
   gained_own : (x : ℕ) → Gained x → own_times x v.own ≡ 1
   gained_own x g = let n = k.gained x g in subst (λ a. own_times a v.own ≡ 1) n.filled_node (own_filling v n.filled n.was)
@@ -125,7 +124,7 @@ module _ (h now : Heap) (views : List View) (s : ℕ) (v w : View) (Gained Lost 
 
   own_not_idle : (x : ℕ) → Gained x → IsIdle w x → ⊥
   own_not_idle x g (inl r) =
-      let o = gained_own x g in let l = only_once h views places s x v k.at in let e = ap (times x) k.ready in omega arith
+      let o = gained_own x g in let l = only_once h views places s x v k.at in let e = ap (times x) ready_same in omega arith
   own_not_idle x g (inr f) = let n = k.gained x g in let a = n.is in let b = f.1 in absurd (cc)
 
   -- where a cursor after the step comes from
@@ -153,7 +152,7 @@ module _ (h now : Heap) (views : List View) (s : ℕ) (v w : View) (Gained Lost 
     from : (d : Cursor) → u.cursor ≡ Some d → From view d
 
   was_idle : (x : ℕ) → IsIdle w x → IsIdle v x
-  was_idle x (inl r) = inl (subst (λ l. 1 ≤ times x l) k.ready r)
+  was_idle x (inl r) = inl (subst (λ l. 1 ≤ times x l) ready_same r)
   was_idle x (inr f) = inr (f.0, k.fills f.0 f.1, f.2)
 
   names_of : (c d : Cursor) → (c ≡ d) ⊎ Fresh c d → (t : ℕ) → Names d t → Names c t
@@ -165,11 +164,11 @@ module _ (h now : Heap) (views : List View) (s : ℕ) (v w : View) (Gained Lost 
       (record {
         view = v;
         at = k.at;
-        epoch = k.epoch;
-        ready = k.ready;
-        homes = k.homes;
-        notes = k.notes;
-        passed = k.passed;
+        epoch = ap (λ (z : View). z.epoch) k.rest;
+        ready = ready_same;
+        homes = ap (λ (z : View). z.homes) k.rest;
+        notes = ap (λ (z : View). z.notes) k.rest;
+        passed = ap (λ (z : View). z.passed) k.rest;
         once = k.once;
         used = k.used;
         used_more = k.used_more;

@@ -1,6 +1,6 @@
--- What a write of one next word does to the paths, over the function `to` that gives the target of a cell. A cell
--- that isn't on a path leaves it; a node is put behind a cell; a node is taken out from behind a cell. Each lemma is
--- stated once, for every path and every cell.
+-- What a write of one next word does to the paths, over the function `to` that gives the target of a cell. Nodes that
+-- aren't on a path leave it; a node is put behind a cell; a node is taken out from behind a cell, which is a node put
+-- there, read backwards. Each lemma is stated once, for every path and every cell.
 use Rattle.std.proofs.Common.{◌≡◌, ◌≢◌, ◌⊎◌, ℕ, zero, suc, inl, inr, ⊎_elim, refl, sym, ap, ◌∙◌, subst}
 use Rattle.std.proofs.lemmas.Bool.{cases_eq}
 use Rattle.lock_laws.specs.Paths.{Reach, here, there, PathEnds, end, on}
@@ -25,36 +25,29 @@ pub no_cycle : (to : ℕ → ℕ) (q t : ℕ) → PathEnds to t → Reach to q t
 no_cycle to q t end r c = nothing_at_end to q r
 no_cycle to q t (on {n = n} e) r c = ⊎_elim (λ (s : q ≡ n). no_cycle to q (to (suc n)) e (subst (λ a. Reach to q (to (suc a))) s c) c) (λ s. no_cycle to q (to (suc n)) e s c) (unreach to q n r)
 
--- the paths of a function that agrees with another one on all cells
+-- paths that meet none of the nodes of which T says that their next words change stay as they are
+module _ (to now : ℕ → ℕ) (T : ℕ → Type 0) (others : (n : ℕ) → (T n → ⊥) → now (suc n) ≡ to (suc n)) where
+  pub keeps_reach : (x t : ℕ) → ((y : ℕ) → T y → Reach to y t → ⊥) → Reach to x t → Reach now x t
+  keeps_reach x t far here = here
+  keeps_reach x t far (there {n = n} r) = there (subst (Reach now x) (sym (others n (λ q. far n q here))) (keeps_reach x (to (suc n)) (λ y q s. far y q (there s)) r))
+
+  pub adds_reach : (x t : ℕ) → Reach now x t → ((y : ℕ) → T y → Reach to y t → ⊥) → Reach to x t
+  adds_reach x t here far = here
+  adds_reach x t (there {n = n} r) far =
+      let e = others n (λ q. far n q here) in
+      there (subst (Reach to x) e (adds_reach x (now (suc n)) r (λ y q s. far y q (there (subst (Reach to y) e s)))))
+
+  pub keeps_ends : (t : ℕ) → ((y : ℕ) → T y → Reach to y t → ⊥) → PathEnds to t → PathEnds now t
+  keeps_ends t far end = end
+  keeps_ends t far (on {n = n} r) = on (subst (PathEnds now) (sym (others n (λ q. far n q here))) (keeps_ends (to (suc n)) (λ y q s. far y q (there s)) r))
+
+-- all paths do where no target changes
 module _ (to now : ℕ → ℕ) (same : (c : ℕ) → now c ≡ to c) where
   pub reach_same : (x t : ℕ) → Reach to x t → Reach now x t
-  reach_same x t here = here
-  reach_same x t (there {n = n} r) = there (subst (Reach now x) (sym (same (suc n))) (reach_same x (to (suc n)) r))
+  reach_same x t r = keeps_reach to now (λ _. ⊥) (λ n d. same (suc n)) x t (λ y never. absurd never) r
 
   pub ends_same : (t : ℕ) → PathEnds to t → PathEnds now t
-  ends_same t end = end
-  ends_same t (on {n = n} r) = on (subst (PathEnds now) (sym (same (suc n))) (ends_same (to (suc n)) r))
-
--- a node o that is in no path of a target may be written freely
-module _ (to now : ℕ → ℕ) (o : ℕ) (others : (c : ℕ) → c ≢ suc o → now c ≡ to c) where
-  pub free_keeps : (x t : ℕ) → (Reach to o t → ⊥) → Reach to x t → Reach now x t
-  free_keeps x t far here = here
-  free_keeps x t far (there {n = n} r) =
-      let d : suc n ≢ suc o = λ e. far (subst (Reach to o) (sym e) here) in
-      there (subst (Reach now x) (sym (others (suc n) d)) (free_keeps x (to (suc n)) (λ q. far (there q)) r))
-
-  pub free_adds : (x t : ℕ) → Reach now x t → (Reach to o t → ⊥) → Reach to x t
-  free_adds x t here far = here
-  free_adds x t (there {n = n} r) far =
-      let d : suc n ≢ suc o = λ e. far (subst (Reach to o) (sym e) here) in
-      let e = others (suc n) d in
-      there (subst (Reach to x) e (free_adds x (now (suc n)) r (λ q. far (there (subst (Reach to o) e q)))))
-
-  pub free_ends : (t : ℕ) → (Reach to o t → ⊥) → PathEnds to t → PathEnds now t
-  free_ends t far end = end
-  free_ends t far (on {n = n} r) =
-      let d : suc n ≢ suc o = λ e. far (subst (Reach to o) (sym e) here) in
-      on (subst (PathEnds now) (sym (others (suc n) d)) (free_ends (to (suc n)) (λ q. far (there q)) r))
+  ends_same t e = keeps_ends to now (λ _. ⊥) (λ n d. same (suc n)) t (λ y never. absurd never) e
 
 -- node o, whose next word names the target c, is put behind cell p, which named c
 module _ (to now : ℕ → ℕ) (p o : ℕ) (others : (c : ℕ) → c ≢ p → now c ≡ to c) (was : to (suc o) ≡ to p) (is : now p ≡ suc o) (apart : suc o ≢ p) where
@@ -133,28 +126,25 @@ module _ (to now : ℕ → ℕ) (p o : ℕ) (others : (c : ℕ) → c ≢ p → 
       ih)
       (cases_eq (suc n) p)
 
--- node c, which cell p named, is taken out: p names what c names
+-- node c, which cell p named, is taken out: p names what c names. Read backwards, c is put behind p
 module _ (to now : ℕ → ℕ) (p c : ℕ) (others : (k : ℕ) → k ≢ p → now k ≡ to k) (was : to p ≡ suc c) (is : now p ≡ to (suc c)) (apart : suc c ≢ p) where
+  back : (k : ℕ) → k ≢ p → to k ≡ now k
+  back k d = sym (others k d)
+
+  next : now (suc c) ≡ now p
+  next = others (suc c) apart ∙ sym is
+
   pub cut_keeps : (x t : ℕ) → Reach to x t → (x ≡ c) ⊎ Reach now x t
-  cut_keeps x t here = inr here
-  cut_keeps x t (there {n = n} r) =
-      let ih = cut_keeps x (to (suc n)) r in
-      ⊎_elim inl
-      (λ (new : Reach now x (to (suc n))).
-      ⊎_elim
-      (λ (e : suc n ≡ p). ⊎_elim inl (λ (far : Reach now x (now (suc c))). inr (there (subst (Reach now x) (others (suc c) apart ∙ sym (ap now e ∙ is)) far))) (unreach now x c (subst (Reach now x) (ap to e ∙ was) new)))
-      (λ (d : suc n ≢ p). inr (there (subst (Reach now x) (sym (others (suc n) d)) new)))
-      (cases_eq (suc n) p))
-      ih
+  cut_keeps = put_adds now to p c back next was apart
 
   pub cut_adds : (x t : ℕ) → Reach now x t → Reach to x t
-  cut_adds x t here = here
-  cut_adds x t (there {n = n} r) =
-      let ih = cut_adds x (now (suc n)) r in
-      ⊎_elim
-      (λ (e : suc n ≡ p). there (subst (Reach to x) (sym (ap to e ∙ was)) (there (subst (Reach to x) (ap now e ∙ is) ih))))
-      (λ (d : suc n ≢ p). there (subst (Reach to x) (others (suc n) d) ih))
-      (cases_eq (suc n) p)
+  cut_adds = put_keeps now to p c back next was apart
+
+  pub cut_keeps_from : (x k : ℕ) → Reach to x (to k) → (x ≡ c) ⊎ Reach now x (now k)
+  cut_keeps_from = put_adds_from now to p c back next was apart
+
+  pub cut_adds_from : (x k : ℕ) → Reach now x (now k) → Reach to x (to k)
+  cut_adds_from = put_keeps_from now to p c back next was apart
 
   pub cut_ends : (t : ℕ) → PathEnds to t → PathEnds now t
   cut_ends t end = end
@@ -166,24 +156,6 @@ module _ (to now : ℕ → ℕ) (p c : ℕ) (others : (k : ℕ) → k ≢ p → 
       (cases_eq (suc n) p)
 
   -- the same from a cell
-  pub cut_keeps_from : (x k : ℕ) → Reach to x (to k) → (x ≡ c) ⊎ Reach now x (now k)
-  cut_keeps_from x k r =
-      ⊎_elim inl
-      (λ (new : Reach now x (to k)).
-      ⊎_elim
-      (λ (e : k ≡ p). ⊎_elim inl (λ (far : Reach now x (now (suc c))). inr (subst (Reach now x) (others (suc c) apart ∙ sym (ap now e ∙ is)) far)) (unreach now x c (subst (Reach now x) (ap to e ∙ was) new)))
-      (λ (d : k ≢ p). inr (subst (Reach now x) (sym (others k d)) new))
-      (cases_eq k p))
-      (cut_keeps x (to k) r)
-
-  pub cut_adds_from : (x k : ℕ) → Reach now x (now k) → Reach to x (to k)
-  cut_adds_from x k r =
-      let old = cut_adds x (now k) r in
-      ⊎_elim
-      (λ (e : k ≡ p). subst (Reach to x) (sym (ap to e ∙ was)) (there (subst (Reach to x) (ap now e ∙ is) old)))
-      (λ (d : k ≢ p). subst (Reach to x) (others k d) old)
-      (cases_eq k p)
-
   pub cut_ends_from : (k : ℕ) → PathEnds to (to k) → PathEnds now (now k)
   cut_ends_from k r =
       let new = cut_ends (to k) r in

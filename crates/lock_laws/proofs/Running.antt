@@ -1,35 +1,48 @@
 -- A run of a lock is a lock: every kind of step keeps one, and a step that isn't enabled leaves the state as it is.
-use Rattle.std.proofs.Common.{◌≡◌, ℕ, List, [], ◌∷◌, refl}
+use Rattle.std.proofs.Common.{◌≡◌, ℕ, List, [], ◌∷◌, refl, subst}
 use Rattle.std.specs.Prelude.{Option, Some, None, unwrap_or}
 use Rattle.lock_core.specs.declared.steps.Step.{Step}
 use Rattle.lock_core.specs.declared.steps.Step.TheVariants.{Enter, Leave, ReadEpoch, ReadHome, GiveHome, FillLo, FillHi, Aim, ClearHome, Walk, ReadLo, ReadHi, Link, Unlink, Mark, QuickLink, QuickUnlink, Settle}
-use Rattle.lock_core.specs.Machine.{Machine, after, after_or_same, run, start, held_by_seat}
+use Rattle.lock_core.specs.declared.views.View.{View}
+use Rattle.lock_core.specs.StepTable.{Plan, IsLine}
+use Rattle.lock_core.specs.Machine.{Machine, carried_out, after, after_or_same, run, start, held_by_seat}
+use Rattle.lock_core.proofs.Stepping.{stepped}
+use Rattle.lock_core.proofs.SizedSteps.{sized_after}
+use Rattle.lock_laws.specs.Invariant.{IsViewOf}
 use Rattle.lock_laws.specs.Laws.{IsLock, Keeps, RunsAreExclusive, RunsGrantApart, RunsHaveNoReuse}
 use Rattle.lock_laws.proofs.Exclusion.{exclusive}
 use Rattle.lock_laws.proofs.Listing.{listed_apart}
-use Rattle.lock_laws.proofs.PathLaws.{link_law, unlink_law, mark_law, quick_link_law, quick_unlink_law}
+use Rattle.lock_laws.proofs.PathLaws.{Holds, link_holds, unlink_holds, mark_holds, quick_link_holds, quick_unlink_holds}
 use Rattle.lock_laws.proofs.Starting.{start_lock}
-use Rattle.lock_laws.proofs.WordLaws.{enter_law, leave_law, read_epoch_law, read_home_law, give_home_law, fill_lo_law, fill_hi_law, aim_law, clear_home_law, walk_law, read_lo_law, read_hi_law, settle_law}
+use Rattle.lock_laws.proofs.WordLaws.{enter_holds, leave_holds, read_epoch_holds, read_home_holds, give_home_holds, fill_lo_holds, fill_hi_holds, aim_holds, clear_home_holds, walk_holds, read_lo_holds, read_hi_holds, settle_holds}
 
+-- each line of the step table leads from a lock to the invariant
+line_holds : (step : Step) (m : Machine) (s : ℕ) (v : View) → IsLock m → IsViewOf m.views s v → (p : Plan) → IsLine m.seats s v step p → Holds (carried_out m s p)
+line_holds Enter m s v l at = enter_holds m s v l at
+line_holds Leave m s v l at = leave_holds m s v l at
+line_holds (ReadEpoch j) m s v l at = read_epoch_holds m s v l at j
+line_holds (ReadHome n) m s v l at = read_home_holds m s v l at n
+line_holds GiveHome m s v l at = give_home_holds m s v l at
+line_holds (FillLo lo) m s v l at = fill_lo_holds m s v l at lo
+line_holds (FillHi hi mode) m s v l at = fill_hi_holds m s v l at hi mode
+line_holds Aim m s v l at = aim_holds m s v l at
+line_holds (ClearHome n) m s v l at = clear_home_holds m s v l at n
+line_holds Walk m s v l at = walk_holds m s v l at
+line_holds ReadLo m s v l at = read_lo_holds m s v l at
+line_holds ReadHi m s v l at = read_hi_holds m s v l at
+line_holds Link m s v l at = link_holds m s v l at
+line_holds Unlink m s v l at = unlink_holds m s v l at
+line_holds Mark m s v l at = mark_holds m s v l at
+line_holds QuickLink m s v l at = quick_link_holds m s v l at
+line_holds QuickUnlink m s v l at = quick_unlink_holds m s v l at
+line_holds Settle m s v l at = settle_holds m s v l at
+
+-- and every step keeps the sizes
 pub every_step_keeps : (step : Step) → Keeps step
-every_step_keeps Enter = enter_law
-every_step_keeps Leave = leave_law
-every_step_keeps (ReadEpoch seat) = read_epoch_law seat
-every_step_keeps (ReadHome node) = read_home_law node
-every_step_keeps GiveHome = give_home_law
-every_step_keeps (FillLo lo) = fill_lo_law lo
-every_step_keeps (FillHi hi mode) = fill_hi_law hi mode
-every_step_keeps Aim = aim_law
-every_step_keeps (ClearHome node) = clear_home_law node
-every_step_keeps Walk = walk_law
-every_step_keeps ReadLo = read_lo_law
-every_step_keeps ReadHi = read_hi_law
-every_step_keeps Link = link_law
-every_step_keeps Unlink = unlink_law
-every_step_keeps Mark = mark_law
-every_step_keeps QuickLink = quick_link_law
-every_step_keeps QuickUnlink = quick_unlink_law
-every_step_keeps Settle = settle_law
+every_step_keeps step m next s l e = let t = stepped m next s step e in record {
+  sized = sized_after m next s step l.sized e;
+  invariant = subst Holds t.is (line_holds step m s t.view l t.at t.plan t.line);
+}
 
 pub step_or_same : (m : Machine) (s : ℕ) (step : Step) → IsLock m → IsLock (after_or_same m s step)
 step_or_same m s step l = by_answer (after m s step) refl

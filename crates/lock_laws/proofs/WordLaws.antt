@@ -15,7 +15,7 @@ use Rattle.lock_core.specs.StepTable.{Plan, IsLine, loads, enter, leave, read_ep
 use Rattle.lock_core.specs.Machine.{Machine, heap, carried_out}
 use Rattle.lock_core.specs.Sizes.{IsNode}
 use Rattle.lock_laws.specs.Invariant.{IsViewOf}
-use Rattle.lock_laws.specs.Laws.{IsLock, Keeps}
+use Rattle.lock_laws.specs.Laws.{IsLock}
 use Rattle.lock_core.proofs.Counts.{own_filling}
 use Rattle.lock_laws.proofs.Frames.Owns.{same_some}
 use Rattle.lock_core.proofs.Words.{wrote_cell, wrote_lo, wrote_hi, wrote_home, wrote_epoch}
@@ -29,7 +29,7 @@ use Rattle.lock_laws.proofs.WordSteps.FillSteps.{fills_lo, fills_hi, aims_at}
 use Rattle.lock_laws.proofs.WordSteps.Walking.{begins}
 use Rattle.lock_laws.proofs.WordSteps.Reading.{loads_next, reads_lo}
 use Rattle.lock_laws.proofs.WordSteps.Judged.{judges}
-use Rattle.lock_laws.proofs.PathLaws.{Holds, dropped_holds, node_there, by_line}
+use Rattle.lock_laws.proofs.PathLaws.{Holds, dropped_holds, node_there}
 use Rattle.lock_laws.proofs.WordSteps.Settling.{settles}
 
 -- a word without low bit that names a node
@@ -77,32 +77,32 @@ module _ (m : Machine) (s : ℕ) (v : View) (l : IsLock m) (at : IsViewOf m.view
   cell_there : (x : ℕ) → IsNode m.seats x → cell_place m.seats (suc x) < length m.words
   cell_there x n = let b = l.sized.words in omega (arith, n, b)
 
-  enter_holds : (p : Plan) → IsLine m.seats s v Enter p → Holds (carried_out m s p)
+  pub enter_holds : (p : Plan) → IsLine m.seats s v Enter p → Holds (carried_out m s p)
   enter_holds p (enter even hand) =
       by_parts p
       (enters h _ m.views s v parts at even (wrote_epoch m.seats (next_epoch (h.epoch s)) m.words s seat_there epoch_there))
 
-  leave_holds : (p : Plan) → IsLine m.seats s v Leave p → Holds (carried_out m s p)
+  pub leave_holds : (p : Plan) → IsLine m.seats s v Leave p → Holds (carried_out m s p)
   leave_holds p (leave odd hand done) =
       by_parts p
       (leaves h _ m.views s v parts at done (wrote_epoch m.seats (next_epoch (h.epoch s)) m.words s seat_there epoch_there))
 
-  read_epoch_holds : (j : ℕ) (p : Plan) → IsLine m.seats s v (ReadEpoch j) p → Holds (carried_out m s p)
+  pub read_epoch_holds : (j : ℕ) (p : Plan) → IsLine m.seats s v (ReadEpoch j) p → Holds (carried_out m s p)
   read_epoch_holds _ p (read_epoch j even homes less other) =
       by_load (epoch_place j) (epoch_read s v j)
       (reads_epoch h m.views s j v parts at even ((looked_sized m.seats s v j (h.epoch j) (l.sized.each s v at)).passed ∙ sym l.sized.views))
 
-  read_home_holds : (n : ℕ) (p : Plan) → IsLine m.seats s v (ReadHome n) p → Holds (carried_out m s p)
+  pub read_home_holds : (n : ℕ) (p : Plan) → IsLine m.seats s v (ReadHome n) p → Holds (carried_out m s p)
   read_home_holds _ p (read_home n even used homes) =
       by_load (home_place m.seats n) (home_read m.seats v n)
       (reads_home h m.views s n m.seats v parts at even used homes l.sized.views)
 
-  give_home_holds : (p : Plan) → IsLine m.seats s v GiveHome p → Holds (carried_out m s p)
+  pub give_home_holds : (p : Plan) → IsLine m.seats s v GiveHome p → Holds (carried_out m s p)
   give_home_holds p (give_home n hand) =
       by_parts p
       (gives_home m.seats h _ m.views s n v seats parts at hand (wrote_home m.seats 1 m.words n (home_there n ((l.sized.each s v at).hand n hand))))
 
-  clear_home_holds : (n : ℕ) (p : Plan) → IsLine m.seats s v (ClearHome n) p → Holds (carried_out m s p)
+  pub clear_home_holds : (n : ℕ) (p : Plan) → IsLine m.seats s v (ClearHome n) p → Holds (carried_out m s p)
   clear_home_holds _ p (clear_home n rest own even ready) =
       by_parts p
       (clears_home m.seats h _ m.views s n rest v seats parts at own even ready (wrote_home m.seats 0 m.words n (home_there n (node_there m s n v l at first))))
@@ -110,22 +110,22 @@ module _ (m : Machine) (s : ℕ) (v : View) (l : IsLock m) (at : IsViewOf m.view
       first : 1 ≤ own_times n v.own + times n v.ready + times n v.used
       first = let a = ap (times n) ready in let b = ap (λ (t : Bool). (if t then 1 else 0) + times n rest) (eq-eqb n n refl) in omega (arith, a, b)
 
-  fill_lo_holds : (lo : ℕ) (p : Plan) → IsLine m.seats s v (FillLo lo) p → Holds (carried_out m s p)
+  pub fill_lo_holds : (lo : ℕ) (p : Plan) → IsLine m.seats s v (FillLo lo) p → Holds (carried_out m s p)
   fill_lo_holds _ p (fill_lo f lo own aimed cursor) =
       by_parts p
       (fills_lo m.seats h _ m.views s lo v f seats parts at own aimed cursor (wrote_lo m.seats lo m.words f.node (lo_there f.node (filled_there f own))))
 
-  fill_hi_holds : (hi : ℕ) (mode : Mode) (p : Plan) → IsLine m.seats s v (FillHi hi mode) p → Holds (carried_out m s p)
+  pub fill_hi_holds : (hi : ℕ) (mode : Mode) (p : Plan) → IsLine m.seats s v (FillHi hi mode) p → Holds (carried_out m s p)
   fill_hi_holds _ _ p (fill_hi f lo hi mode own low less most aimed cursor) =
       by_parts p
       (fills_hi m.seats h _ m.views s lo hi mode v f seats parts at own low less most aimed cursor (wrote_hi m.seats _ m.words f.node (hi_there f.node (filled_there f own))))
 
-  aim_holds : (p : Plan) → IsLine m.seats s v Aim p → Holds (carried_out m s p)
+  pub aim_holds : (p : Plan) → IsLine m.seats s v Aim p → Holds (carried_out m s p)
   aim_holds p (aim f lo hi w own low high place) =
       by_parts p
       (aims_at m.seats h _ m.views s lo hi w v f seats parts at own low high (wrote_cell m.seats w m.words (suc f.node) (cell_there f.node (filled_there f own))))
 
-  walk_holds : (p : Plan) → IsLine m.seats s v Walk p → Holds (carried_out m s p)
+  pub walk_holds : (p : Plan) → IsLine m.seats s v Walk p → Holds (carried_out m s p)
   walk_holds p (walk cell odd hand there) =
       by_load (cell_place m.seats cell) (walked v v.cursor) (by_cursor v.cursor refl)
     where
@@ -141,59 +141,20 @@ module _ (m : Machine) (s : ℕ) (v : View) (l : IsLock m) (at : IsViewOf m.view
               let t = plain_parts c.cur y q in
               subst (λ a. Parts h (slice_set m.views s (walked v (Some c) (h.next a)))) (same_some (suc y) cell r) (loads_next h m.views s v c y parts at e t.0 t.1)
 
-  read_lo_holds : (p : Plan) → IsLine m.seats s v ReadLo p → Holds (carried_out m s p)
+  pub read_lo_holds : (p : Plan) → IsLine m.seats s v ReadLo p → Holds (carried_out m s p)
   read_lo_holds p (read_lo c y n cursor node next plain) =
       let t = plain_parts c.cur y node in
       by_load (lo_place m.seats y) (lo_read v c) (reads_lo h m.views s v c y parts at cursor t.0 t.1 n next)
 
-  read_hi_holds : (p : Plan) → IsLine m.seats s v ReadHi p → Holds (carried_out m s p)
+  pub read_hi_holds : (p : Plan) → IsLine m.seats s v ReadHi p → Holds (carried_out m s p)
   read_hi_holds p (read_hi c y n lo cursor node next plain low ends) =
       let t = plain_parts c.cur y node in
       by_load (hi_place m.seats y) (hi_read v c y n lo) (judges h m.views s v c y n lo parts at cursor t.0 t.1 next plain low)
 
-  settle_holds : (p : Plan) → IsLine m.seats s v Settle p → Holds (carried_out m s p)
+  pub settle_holds : (p : Plan) → IsLine m.seats s v Settle p → Holds (carried_out m s p)
   settle_holds p (settle c cursor prev odd) =
       by_parts p (by_found (h.next 0 == c.cur) refl)
     where
       by_found : (t : Bool) → h.next 0 == c.cur ≡ t → Parts (heap_of m.seats (slice_set m.words 0 (if t then c.cur - 1 else h.next 0))) (slice_set m.views s (if t then settled v c else dropped v))
       by_found true e = settles m.seats h _ m.views s v c seats parts at cursor prev odd (eqb-true (h.next 0) c.cur e) (wrote_cell m.seats (c.cur - 1) m.words 0 (let b = l.sized.words in omega (arith, b)))
       by_found false e = subst (λ (ws : List ℕ). Parts (heap_of m.seats ws) (slice_set m.views s (dropped v))) (sym (set-get_or m.words 0 0)) (parts_of h (slice_set m.views s (dropped v)) (dropped_holds m s v l at))
-
-pub enter_law : Keeps Enter
-enter_law = by_line Enter enter_holds
-
-pub leave_law : Keeps Leave
-leave_law = by_line Leave leave_holds
-
-pub read_epoch_law : (j : ℕ) → Keeps (ReadEpoch j)
-read_epoch_law j = by_line (ReadEpoch j) (λ m s v l at p line. read_epoch_holds m s v l at j p line)
-
-pub read_home_law : (n : ℕ) → Keeps (ReadHome n)
-read_home_law n = by_line (ReadHome n) (λ m s v l at p line. read_home_holds m s v l at n p line)
-
-pub give_home_law : Keeps GiveHome
-give_home_law = by_line GiveHome give_home_holds
-
-pub clear_home_law : (n : ℕ) → Keeps (ClearHome n)
-clear_home_law n = by_line (ClearHome n) (λ m s v l at p line. clear_home_holds m s v l at n p line)
-
-pub fill_lo_law : (lo : ℕ) → Keeps (FillLo lo)
-fill_lo_law lo = by_line (FillLo lo) (λ m s v l at p line. fill_lo_holds m s v l at lo p line)
-
-pub fill_hi_law : (hi : ℕ) (mode : Mode) → Keeps (FillHi hi mode)
-fill_hi_law hi mode = by_line (FillHi hi mode) (λ m s v l at p line. fill_hi_holds m s v l at hi mode p line)
-
-pub aim_law : Keeps Aim
-aim_law = by_line Aim aim_holds
-
-pub walk_law : Keeps Walk
-walk_law = by_line Walk walk_holds
-
-pub read_lo_law : Keeps ReadLo
-read_lo_law = by_line ReadLo read_lo_holds
-
-pub read_hi_law : Keeps ReadHi
-read_hi_law = by_line ReadHi read_hi_holds
-
-pub settle_law : Keeps Settle
-settle_law = by_line Settle settle_holds

@@ -3,3 +3,12 @@ pub mod Invariant
 pub mod Laws
 pub mod PathLengths
 pub mod Paths
+pub use Rattle.lock_core.specs.Compare
+pub use Rattle.lock_core.specs.Counted
+pub use Rattle.lock_core.specs.Grants
+pub use Rattle.lock_core.specs.Machine
+pub use Rattle.lock_core.specs.Nodes
+pub use Rattle.lock_core.specs.Range
+pub use Rattle.lock_core.specs.Sizes
+pub use Rattle.lock_core.specs.StepTable
+pub use Rattle.lock_core.specs.Words

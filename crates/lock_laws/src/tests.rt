@@ -2,6 +2,8 @@
 //! and at the end the words and the held ranges. The places are those of locks of three and of two seats;
 //! `QuickUnlink`, `Link` and the others that fail leave the word as it was found.
 
+ghost use Rattle.std.specs.Prelude.{◌<◌};
+
 use lock_core::{Grant, Mode, NotEnabled, Range, State, Step, apply, fresh, grants};
 use std::alloc::Global;
 use std::process::Abort;
@@ -21,6 +23,31 @@ fn play(rt: &impl Abort, state: &mut State, turns: &[Turn]) {
         assert!(rt; *place < 1 + 65 * state.seats(), "place of step {i}");
         assert_eq!(rt; state.word(*place), *left, "left by step {i}");
     }
+}
+
+/// The steps by which a seat takes a node and fills its range and mode. The words are the node's home, lo and hi word,
+/// and the last one is left holding this value.
+fn fills(
+    seat: u32,
+    node: u32,
+    words: [u32; 3],
+    ends: (u64, u64),
+    mode: Mode,
+    value: u64,
+) -> [Turn; 3] {
+    [
+        Turn(seat, Step::ClearHome { node }, words[0], 0, 0),
+        Turn(seat, Step::FillLo { lo: ends.0 }, words[1], 0, ends.0),
+        Turn(seat, Step::FillHi { hi: ends.1, mode }, words[2], 0, value),
+    ]
+}
+
+/// The same by a seat of three, with its first node.
+fn fills_of_three(seat: usize, ends: (u64, u64), mode: Mode, value: u64) -> [Turn; 3]
+    requires { seat < 3 }
+{
+    let words = [three::HOMES[seat], three::LOS[seat], three::HIS[seat]];
+    fills(seat as u32, 16 * seat as u32, words, ends, mode, value)
 }
 
 fn reads(rt: &impl Abort, state: &State, words: &[(u32, u64)]) {
@@ -56,20 +83,8 @@ mod two {
     pub const HOMES: [u32; 2] = [6, 70];
 }
 
-/// Seat 2 holds 4 to 5 as a reader.
-const READER_HOLDS: [Turn; 9] = [
-    Turn(2, Step::ClearHome { node: 32 }, three::HOMES[2], 0, 0),
-    Turn(2, Step::FillLo { lo: 4 }, three::LOS[2], 0, 4),
-    Turn(
-        2,
-        Step::FillHi {
-            hi: 5,
-            mode: Mode::Reader,
-        },
-        three::HIS[2],
-        0,
-        10,
-    ),
+/// Seat 2 links its node as a reader's and holds its range.
+const READER_HOLDS: [Turn; 6] = [
     Turn(2, Step::Enter, three::EPOCHS[2], 0, 1),
     Turn(2, Step::Walk, HEAD, 0, 0),
     Turn(2, Step::Aim, three::NEXTS[2], 0, 0),
@@ -78,20 +93,8 @@ const READER_HOLDS: [Turn; 9] = [
     Turn(2, Step::Leave, three::EPOCHS[2], 1, 2),
 ];
 
-/// Seat 1 walks for 10 to 11 as a writer, to the end.
-const WRITER_WALKS: [Turn; 9] = [
-    Turn(1, Step::ClearHome { node: 16 }, three::HOMES[1], 0, 0),
-    Turn(1, Step::FillLo { lo: 10 }, three::LOS[1], 0, 10),
-    Turn(
-        1,
-        Step::FillHi {
-            hi: 11,
-            mode: Mode::Writer,
-        },
-        three::HIS[1],
-        0,
-        23,
-    ),
+/// Seat 1 walks with the writer range 10 to 11, to the end.
+const WRITER_WALKS: [Turn; 6] = [
     Turn(1, Step::Enter, three::EPOCHS[1], 0, 1),
     Turn(1, Step::Walk, HEAD, 66, 66),
     Turn(1, Step::Walk, three::NEXTS[2], 0, 0),
@@ -100,20 +103,8 @@ const WRITER_WALKS: [Turn; 9] = [
     Turn(1, Step::Aim, three::NEXTS[1], 0, 0),
 ];
 
-/// Seat 0 inserts 2 to 15 as a reader, before the node of seat 2.
-const READER_INSERTS: [Turn; 15] = [
-    Turn(0, Step::ClearHome { node: 0 }, three::HOMES[0], 0, 0),
-    Turn(0, Step::FillLo { lo: 2 }, three::LOS[0], 0, 2),
-    Turn(
-        0,
-        Step::FillHi {
-            hi: 15,
-            mode: Mode::Reader,
-        },
-        three::HIS[0],
-        0,
-        30,
-    ),
+/// Seat 0 inserts the reader range 2 to 15 before the node of seat 2.
+const READER_INSERTS: [Turn; 12] = [
     Turn(0, Step::Enter, three::EPOCHS[0], 0, 1),
     Turn(0, Step::Walk, HEAD, 66, 66),
     Turn(0, Step::Walk, three::NEXTS[2], 0, 0),
@@ -156,20 +147,8 @@ const THIRD_UNLINKS: [Turn; 7] = [
     Turn(2, Step::Link, HEAD, 0, 66),
 ];
 
-/// Seat 0 holds 0 to 1 as a writer.
-const FIRST_HOLDS: [Turn; 9] = [
-    Turn(0, Step::ClearHome { node: 0 }, three::HOMES[0], 0, 0),
-    Turn(0, Step::FillLo { lo: 0 }, three::LOS[0], 0, 0),
-    Turn(
-        0,
-        Step::FillHi {
-            hi: 1,
-            mode: Mode::Writer,
-        },
-        three::HIS[0],
-        0,
-        3,
-    ),
+/// Seat 0 links its node as a writer's and holds its range.
+const FIRST_HOLDS: [Turn; 6] = [
     Turn(0, Step::Enter, three::EPOCHS[0], 0, 1),
     Turn(0, Step::Walk, HEAD, 0, 0),
     Turn(0, Step::Aim, three::NEXTS[0], 0, 0),
@@ -178,20 +157,8 @@ const FIRST_HOLDS: [Turn; 9] = [
     Turn(0, Step::Leave, three::EPOCHS[0], 1, 2),
 ];
 
-/// Seat 1 walks for 10 to 11 as a writer past the node of seat 0, which is marked then.
-const SECOND_STANDS: [Turn; 10] = [
-    Turn(1, Step::ClearHome { node: 16 }, three::HOMES[1], 0, 0),
-    Turn(1, Step::FillLo { lo: 10 }, three::LOS[1], 0, 10),
-    Turn(
-        1,
-        Step::FillHi {
-            hi: 11,
-            mode: Mode::Writer,
-        },
-        three::HIS[1],
-        0,
-        23,
-    ),
+/// Seat 1 walks with the writer range 10 to 11 past the node of seat 0, which is marked then.
+const SECOND_STANDS: [Turn; 7] = [
     Turn(1, Step::Enter, three::EPOCHS[1], 0, 1),
     Turn(1, Step::Walk, HEAD, 2, 2),
     Turn(1, Step::Walk, three::NEXTS[0], 0, 0),
@@ -271,8 +238,14 @@ const SECOND_SETTLES: [Turn; 14] = [
 #[test]
 fn a_reader_inserts_behind_a_writers_walk(rt: HostRuntime) -> Result<(), Fail> {
     let mut state = fresh(rt.alloc(), 3)?;
+    let filled = fills_of_three(2, (4, 5), Mode::Reader, 10);
+    play(&rt, &mut state, &filled);
     play(&rt, &mut state, &READER_HOLDS);
+    let filled = fills_of_three(1, (10, 11), Mode::Writer, 23);
+    play(&rt, &mut state, &filled);
     play(&rt, &mut state, &WRITER_WALKS);
+    let filled = fills_of_three(0, (2, 15), Mode::Reader, 30);
+    play(&rt, &mut state, &filled);
     play(&rt, &mut state, &READER_INSERTS);
     play(&rt, &mut state, &WRITER_GIVES_WAY);
     reads(
@@ -312,7 +285,11 @@ fn comes_home(
     last: &[Turn],
 ) -> Result<(), Fail> {
     let mut state = fresh(alloc, 3)?;
+    let filled = fills_of_three(0, (0, 1), Mode::Writer, 3);
+    play(rt, &mut state, &filled);
     play(rt, &mut state, &FIRST_HOLDS);
+    let filled = fills_of_three(1, (10, 11), Mode::Writer, 23);
+    play(rt, &mut state, &filled);
     play(rt, &mut state, &SECOND_STANDS);
     play(rt, &mut state, &THIRD_TAKES);
     play(
@@ -354,38 +331,20 @@ fn a_node_is_not_used_again_under_a_traversal(rt: HostRuntime) -> Result<(), Fai
     comes_home(&rt, rt.alloc(), Mode::Writer, 43, &writer)
 }
 
-/// Seat 1 takes its node and fills it with the writer range 10 to 11.
-const FILLS_SECOND: [Turn; 4] = [
-    Turn(1, Step::ClearHome { node: 16 }, two::HOMES[1], 0, 0),
-    Turn(1, Step::FillLo { lo: 10 }, two::LOS[1], 0, 10),
-    Turn(
-        1,
-        Step::FillHi {
-            hi: 11,
-            mode: Mode::Writer,
-        },
-        two::HIS[1],
-        0,
-        23,
-    ),
-    Turn(1, Step::Enter, two::EPOCHS[1], 0, 1),
-];
+/// Seat 0 of two fills its node with the writer range 0 to 1.
+fn first_fills() -> [Turn; 3] {
+    let words = [two::HOMES[0], two::LOS[0], two::HIS[0]];
+    fills(0, 0, words, (0, 1), Mode::Writer, 3)
+}
 
-/// Seat 0 takes its node and fills it with the writer range 0 to 1.
-const FILLS_FIRST: [Turn; 3] = [
-    Turn(0, Step::ClearHome { node: 0 }, two::HOMES[0], 0, 0),
-    Turn(0, Step::FillLo { lo: 0 }, two::LOS[0], 0, 0),
-    Turn(
-        0,
-        Step::FillHi {
-            hi: 1,
-            mode: Mode::Writer,
-        },
-        two::HIS[0],
-        0,
-        3,
-    ),
-];
+/// Seat 1 of two fills its node with the writer range 10 to 11.
+fn second_fills() -> [Turn; 3] {
+    let words = [two::HOMES[1], two::LOS[1], two::HIS[1]];
+    fills(1, 16, words, (10, 11), Mode::Writer, 23)
+}
+
+/// Seat 1 of two begins its operation.
+const SECOND_ENTERS: [Turn; 1] = [Turn(1, Step::Enter, two::EPOCHS[1], 0, 1)];
 
 /// The one held range is the writer's from 10 to 11 of seat 1.
 fn second_holds(rt: &impl Abort, alloc: Global, state: &State) -> Result<(), Fail> {
@@ -402,9 +361,10 @@ fn second_holds(rt: &impl Abort, alloc: Global, state: &State) -> Result<(), Fai
 #[test]
 fn a_link_behind_a_marked_node_fails(rt: HostRuntime) -> Result<(), Fail> {
     let mut state = fresh(rt.alloc(), 2)?;
-    play(&rt, &mut state, &FILLS_FIRST);
+    play(&rt, &mut state, &first_fills());
     play(&rt, &mut state, &FIRST_LINKS);
-    play(&rt, &mut state, &FILLS_SECOND);
+    play(&rt, &mut state, &second_fills());
+    play(&rt, &mut state, &SECOND_ENTERS);
     play(&rt, &mut state, &SECOND_LINKS);
     reads(
         &rt,
@@ -417,9 +377,10 @@ fn a_link_behind_a_marked_node_fails(rt: HostRuntime) -> Result<(), Fail> {
 #[test]
 fn a_settled_head_is_not_unlinked_at_once(rt: HostRuntime) -> Result<(), Fail> {
     let mut state = fresh(rt.alloc(), 2)?;
-    play(&rt, &mut state, &FILLS_FIRST);
+    play(&rt, &mut state, &first_fills());
     play(&rt, &mut state, &FIRST_QUICK);
-    play(&rt, &mut state, &FILLS_SECOND);
+    play(&rt, &mut state, &second_fills());
+    play(&rt, &mut state, &SECOND_ENTERS);
     play(&rt, &mut state, &SECOND_SETTLES);
     reads(
         &rt,

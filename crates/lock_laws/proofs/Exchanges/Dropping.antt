@@ -74,11 +74,7 @@ module _ (h : Heap) (views : List View) (s : ℕ) (v : View) (inv : LockInvarian
     lost_seen = λ j x u d e q m l. absurd l;
     apart = λ j u b d e own l. ⊎_elim (λ z. z) (λ z. z) l;
     alone = alone;
-    epoch = refl;
-    ready = refl;
-    homes = refl;
-    notes = refl;
-    passed = refl;
+    rest = refl;
     once = λ x. refl;
     used = λ x e. inl e;
     used_more = λ x. omega arith;

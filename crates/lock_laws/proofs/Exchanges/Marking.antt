@@ -111,11 +111,7 @@ module _ (seats : ℕ) (h now : Heap) (views : List View) (s : ℕ) (v : View) (
     lost_seen = λ j x u d e q m l. absurd l;
     apart = λ j u b d e own l. ⊎_elim (λ z. z) (own_apart h views j s u v b.node g.node k.invariant.places e k.at (own_linked u b own) (own_linked v g k.own) d) l;
     alone = alone;
-    epoch = refl;
-    ready = refl;
-    homes = refl;
-    notes = refl;
-    passed = refl;
+    rest = refl;
     once = counts_moved v g k.own;
     used = λ x e. ⊎_elim (λ (q : x ≡ g.node). inr (inl (subst (λ a. InChain now a × IsMarked now a) (sym q) (now_from g.node 0 mine.0, is_marked)))) inl (used_or_own v g k.own x e);
     used_more = used_grows v g k.own;

@@ -133,11 +133,7 @@ module _ (seats : ℕ) (h now : Heap) (views : List View) (s : ℕ) (v : View) (
     lost_seen = λ j x u d e q m l. absurd l;
     apart = λ j u g d e q l. ⊎_elim (λ z. z) (λ z. z) l;
     alone = λ odd. alone;
-    epoch = refl;
-    ready = refl;
-    homes = refl;
-    notes = refl;
-    passed = refl;
+    rest = refl;
     once = λ x. ap (λ o. own_times x o + times x v.used) (sym k.own);
     used = λ x e. inl e;
     used_more = λ x. omega arith;

@@ -65,11 +65,7 @@ module _ (seats : ℕ) (h now : Heap) (views : List View) (s : ℕ) (v : View) (
     lost_seen = λ j x u d e q m l. inr (let same : x ≡ alone.node = l ∙ sym is_mine in alone.unseen j u d e q (subst (MayReach h d) same m) ∙ ap (λ a. 2 * suc a + 1) (sym same));
     apart = λ j u b d e own l. ⊎_elim (own_apart h views j s u v b.node g.node k.invariant.places e k.at (own_linked u b own) (own_linked v g k.own) d) (λ z. z) l;
     alone = λ odd. absurd (let e = k.wrote.is in omega arith);
-    epoch = refl;
-    ready = refl;
-    homes = refl;
-    notes = refl;
-    passed = refl;
+    rest = refl;
     once = counts_moved v g k.own;
     used = λ x e. ⊎_elim (λ (q : x ≡ g.node). inr (inr q)) inl (used_or_own v g k.own x e);
     used_more = used_grows v g k.own;

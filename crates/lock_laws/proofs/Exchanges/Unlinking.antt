@@ -230,11 +230,7 @@ module _ (seats : ℕ) (h now : Heap) (views : List View) (s : ℕ) (v : View) (
     lost_seen = λ j x u d e q m l. inl (subst (IsMarked now) (sym l) y_marked_now);
     apart = λ j u g d e own l. ⊎_elim (not_y j u g e own) (λ z. z) l;
     alone = λ odd. absurd (head_low odd);
-    epoch = refl;
-    ready = refl;
-    homes = refl;
-    notes = refl;
-    passed = refl;
+    rest = refl;
     once = λ x. ap (λ a. a + times x v.used) (own_counts x v.own (n - 1));
     used = λ x e. inl e;
     used_more = λ x. omega arith;

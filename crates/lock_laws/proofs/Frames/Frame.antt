@@ -14,8 +14,7 @@ use Rattle.lock_core.specs.Compare.{compared}
 use Rattle.lock_laws.specs.Invariant.{IsViewOf, InChain, Names, MayReach, IsOrdered, HasRange, IsRead, IsIdle, HasToSee, SeesFrom, first_cell_of}
 use Rattle.lock_laws.proofs.Frames.Parts.{Parts, IsCursorKept, IsViewKept, IsChainKept}
 use Rattle.lock_laws.proofs.Frames.Idle.{idle_not_chain, idle_seat}
-use Rattle.lock_laws.proofs.Frames.Untouched.{keeps_reach, adds_reach, keeps_ends}
-use Rattle.lock_laws.proofs.Paths.{reach_on}
+use Rattle.lock_laws.proofs.Paths.{keeps_reach, adds_reach, keeps_ends, reach_on}
 
 -- the words after a step: those of nodes that aren't idle in view v stay, and the head names what it named
 pub record Aside (h now : Heap) (v : View) : Type 0 where
@@ -23,9 +22,6 @@ pub record Aside (h now : Heap) (v : View) : Type 0 where
   pub next : (x : ℕ) → (IsIdle v x → ⊥) → now.next (suc x) ≡ h.next (suc x)
   pub lo : (x : ℕ) → (IsIdle v x → ⊥) → now.lo x ≡ h.lo x
   pub hi : (x : ℕ) → (IsIdle v x → ⊥) → now.hi x ≡ h.hi x
-
-pub aside_same : (h : Heap) (v : View) → Aside h h v
-aside_same h v = record { head = refl; next = λ x d. refl; lo = λ x d. refl; hi = λ x d. refl }
 
 -- no idle node of the view is in the path of a target
 abbrev pub IsClear : Heap → View → ℕ → Type 0

@@ -19,13 +19,7 @@ abbrev pub OwnStays : View → View → Type 0
 OwnStays v u = (u.own ≡ v.own) ⊎ ((k : Listed) × (v.own ≡ listed k) × (u.own ≡ listed (done k)))
 
 pub record Moves (h now : Heap) (views : List View) (s : ℕ) (v u : View) : Type 0 where
-  pub ready : u.ready ≡ v.ready
-  pub used : u.used ≡ v.used
-  pub homes : u.homes ≡ v.homes
-  pub hand : u.hand ≡ v.hand
-  pub notes : u.notes ≡ v.notes
-  pub passed : u.passed ≡ v.passed
-  pub epoch : u.epoch ≡ v.epoch
+  pub rest : u ≡ record v { own = u.own; cursor = u.cursor }
   pub own : OwnStays v u
   pub odd : u.epoch % 2 ≡ 0 → u.cursor ≡ None
   pub cursor : (d : Cursor) → u.cursor ≡ Some d → IsCursorKept now u.own d
@@ -36,6 +30,18 @@ pub record Moves (h now : Heap) (views : List View) (s : ℕ) (v u : View) : Typ
   pub unseen : now.next 0 % 2 ≡ 1 → (a : IsAlone h views) (d : Cursor) → u.cursor ≡ Some d → MayReach now d a.node → d.cur ≡ 2 * suc a.node + 1
 
 module _ (h now : Heap) (views : List View) (s : ℕ) (v u : View) (parts : Parts h views) (at : IsViewOf views s v) (calm : Calm h now) (home : (x : ℕ) → now.home x ≡ h.home x) (epochs : (j : ℕ) (w : View) → IsViewOf views j w → now.epoch j ≡ h.epoch j) (low : now.next 0 % 2 ≡ 1 → h.next 0 % 2 ≡ 1) (moves : Moves h now views s v u) where
+  ready : u.ready ≡ v.ready
+  ready = ap (λ (z : View). z.ready) moves.rest
+
+  used : u.used ≡ v.used
+  used = ap (λ (z : View). z.used) moves.rest
+
+  homes : u.homes ≡ v.homes
+  homes = ap (λ (z : View). z.homes) moves.rest
+
+  hand : u.hand ≡ v.hand
+  hand = ap (λ (z : View). z.hand) moves.rest
+
   filling_back : (f : Filled) → u.own ≡ filling f → v.own ≡ filling f
   filling_back f e = ⊎_elim
       (λ (q : u.own ≡ v.own). sym q ∙ e)
@@ -99,12 +105,12 @@ module _ (h now : Heap) (views : List View) (s : ℕ) (v u : View) (parts : Part
       (linked_back g e)
 
   idle_back : (x : ℕ) → IsIdle u x → IsIdle v x
-  idle_back x (inl r) = inl (subst (λ (l : List ℕ). 1 ≤ times x l) moves.ready r)
+  idle_back x (inl r) = inl (subst (λ (l : List ℕ). 1 ≤ times x l) ready r)
   idle_back x (inr t) = inr (t.0, filling_back t.0 t.1, t.2)
 
   out_same : (j : ℕ) → IsOut now u j → IsOut now v j
-  out_same j (inl p) = inl (sym (ap (λ l. slice_get l j) moves.passed) ∙ p)
-  out_same j (inr n) = inr (n.0, sym (ap (λ l. slice_get l j) moves.notes) ∙ n.1, n.2)
+  out_same j (inl p) = inl (sym (ap (λ (z : View). slice_get z.passed j) moves.rest) ∙ p)
+  out_same j (inr n) = inr (n.0, sym (ap (λ (z : View). slice_get z.notes j) moves.rest) ∙ n.1, n.2)
 
   pub moves_kept : Parts now (slice_set views s u)
   moves_kept =
@@ -112,7 +118,7 @@ module _ (h now : Heap) (views : List View) (s : ℕ) (v u : View) (parts : Part
       steady h now views s v u parts at (aside_of h now v calm)
       (record {
         kept = record {
-          epoch = moves.epoch ∙ k.epoch ∙ sym (epochs s v at);
+          epoch = ap (λ (z : View). z.epoch) moves.rest ∙ k.epoch ∙ sym (epochs s v at);
           even = moves.odd;
           filled = λ f e. known_on h now f calm (k.filled f (filling_back f e));
           linked = written;
@@ -121,7 +127,7 @@ module _ (h now : Heap) (views : List View) (s : ℕ) (v u : View) (parts : Part
         };
         reach = moves.reach;
         idle = λ x idle. idle_alone h now views s v u parts at calm x (idle_back x idle);
-        out = λ j x w c same home' out e has m. stays_out h now views s v parts at (λ j w e d. epochs j w e) s j x v w c same at (subst (λ (l : List ℕ). 1 ≤ times x l) moves.homes home') (out_same j out) e has m;
+        out = λ j x w c same home' out e has m. stays_out h now views s v parts at (λ j w e d. epochs j w e) s j x v w c same at (subst (λ (l : List ℕ). 1 ≤ times x l) homes home') (out_same j out) e has m;
         looks = looks;
         held = held_forth;
         unseen = moves.unseen;
@@ -130,14 +136,14 @@ module _ (h now : Heap) (views : List View) (s : ℕ) (v u : View) (parts : Part
         epoch = inl (epochs s v at);
       })
       (places_now h now views s v u parts at (aside_of h now v calm) parts.places (record {
-        times_same = λ x. let a = own_same x in let b = ap (times x) moves.ready in let c = ap (times x) moves.used in omega (arith, a, b, c);
-        homes = λ x. let a = ap (times x) moves.homes in let b = ap (times x) moves.used in let l = parts.places.homes s x v at in omega (arith, a, b, l);
-        at_home = λ x l. home x ∙ parts.places.at_home s x v at (subst (λ (q : List ℕ). 1 ≤ times x q) moves.homes l);
+        times_same = λ x. let a = own_same x in let b = ap (times x) ready in let c = ap (times x) used in omega (arith, a, b, c);
+        homes = λ x. let a = ap (times x) homes in let b = ap (times x) used in let l = parts.places.homes s x v at in omega (arith, a, b, l);
+        at_home = λ x l. home x ∙ parts.places.at_home s x v at (subst (λ (q : List ℕ). 1 ≤ times x q) homes l);
         linked = λ g e. let o = looks g e in (o.old, o.own, o.node);
         linked_on = linked_forth;
-        used = λ x e. sym (ap (times x) moves.used) ∙ e;
-        used_on = λ x e z. ap (times x) moves.used ∙ e;
+        used = λ x e. sym (ap (times x) used) ∙ e;
+        used_on = λ x e z. ap (times x) used ∙ e;
         filling = λ f e. home f.node ∙ parts.places.filling_home s v f at (filling_back f e);
-        hand = λ x e. sym moves.hand ∙ e;
-        hand_on = λ x e. inl (moves.hand ∙ e);
+        hand = λ x e. sym hand ∙ e;
+        hand_on = λ x e. inl (hand ∙ e);
       }) (homes_same h now views (slice_set views s u) s home))

@@ -171,8 +171,11 @@ passed_out h v j i (inr n) = inr (inr n)
 looked_waits : (h : Heap) (views : List View) (s j : ℕ) (v : View) → Parts h views → IsViewOf views s v → Waits h views v (looked_at v j (h.epoch j))
 looked_waits h views s j v parts at = by_flag (is_passed v j) refl
   where
-    same : Waits h views v v
-    same = record {
+    -- with other notes and flags, where no view reaches a home by a seat that it then takes to be out
+    with_others : (notes : List (Option ℕ)) (passed : List Bool) →
+        ((i x : ℕ) (b : View) (c : Cursor) → 1 ≤ times x v.homes → IsOut h (record v { notes = notes; passed = passed }) i → IsViewOf views i b → b.cursor ≡ Some c → MayReach h c x → ⊥) →
+        Waits h views v (record v { notes = notes; passed = passed })
+    with_others notes passed out = record {
       own = refl;
       cursor = refl;
       epoch = refl;
@@ -181,40 +184,23 @@ looked_waits h views s j v parts at = by_flag (is_passed v j) refl
       hand = refl;
       homes = λ x. parts.places.homes s x v at;
       at_home = λ x l. parts.places.at_home s x v at l;
-      out = λ i x b c home out e has m. parts.barrier s i x v b c at e has home out m;
+      out = out;
     }
+
+    same : Waits h views v v
+    same = with_others v.notes v.passed (λ i x b c home out e has m. parts.barrier s i x v b c at e has home out m)
 
     -- a seat that is passed now left its operation
     passing : ((b : View) (c : Cursor) (x : ℕ) → IsViewOf views j b → b.cursor ≡ Some c → 1 ≤ times x v.homes → MayReach h c x → ⊥) → Waits h views v (passes v j)
-    passing far = record {
-      own = refl;
-      cursor = refl;
-      epoch = refl;
-      ready = refl;
-      used = refl;
-      hand = refl;
-      homes = λ x. parts.places.homes s x v at;
-      at_home = λ x l. parts.places.at_home s x v at l;
-      out = λ i x b c home out e has m.
-          ⊎_elim
-          (λ (q : i ≡ j). far b c x (subst (λ a. IsViewOf views a b) q e) has home m)
-          (λ (o : IsOut h v i). parts.barrier s i x v b c at e has home o m)
-          (passed_out h v j i out);
-    }
+    passing far = with_others v.notes (slice_set v.passed j true) (λ i x b c home out e has m.
+        ⊎_elim
+        (λ (q : i ≡ j). far b c x (subst (λ a. IsViewOf views a b) q e) has home m)
+        (λ (o : IsOut h v i). parts.barrier s i x v b c at e has home o m)
+        (passed_out h v j i out))
 
     -- a note of the epoch that seat j has now tells nothing
     noting : Waits h views v (record v { notes = slice_set v.notes j (Some (h.epoch j)) })
-    noting = record {
-      own = refl;
-      cursor = refl;
-      epoch = refl;
-      ready = refl;
-      used = refl;
-      hand = refl;
-      homes = λ x. parts.places.homes s x v at;
-      at_home = λ x l. parts.places.at_home s x v at l;
-      out = λ i x b c home out e has m. out_note i x b c home out e has m;
-    }
+    noting = with_others (slice_set v.notes j (Some (h.epoch j))) v.passed out_note
       where
         out_note : (i x : ℕ) (b : View) (c : Cursor) → 1 ≤ times x v.homes → IsOut h (record v { notes = slice_set v.notes j (Some (h.epoch j)) }) i → IsViewOf views i b → b.cursor ≡ Some c → MayReach h c x → ⊥
         out_note i x b c home (inl p) e has m = parts.barrier s i x v b c at e has home (inl p) m

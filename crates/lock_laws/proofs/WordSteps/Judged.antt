@@ -187,13 +187,7 @@ module _ (h : Heap) (views : List View) (s : ℕ) (v : View) (c : Cursor) (y n l
 
   goes_past : verdict_of v.own lo (h.hi y) ≡ Past → Parts h (slice_set views s (came_to v (Some y) n c.seen))
   goes_past past = moves_kept h h views s v (came_to v (Some y) n c.seen) parts at (calm_same h) (λ x. refl) (λ j w e. refl) (λ l. l) (record {
-    ready = refl;
-    used = refl;
-    homes = refl;
-    hand = refl;
-    notes = refl;
-    passed = refl;
-    epoch = refl;
+    rest = refl;
     own = own_stays v (came_to v (Some y) n c.seen) n refl;
     odd = λ e. absurd (odd e);
     cursor = λ b e. subst (IsCursorKept h (own_at v.own n)) (same_some d b e) (kept_past past);
@@ -272,13 +266,7 @@ module _ (h : Heap) (views : List View) (s : ℕ) (v : View) (c : Cursor) (y n l
 
   stops : verdict_of v.own lo (h.hi y) ≡ Stop → Parts h (slice_set views s (hi_judged v c y n Stop))
   stops stop = moves_kept h h views s v (hi_judged v c y n Stop) parts at (calm_same h) (λ x. refl) (λ j w e. refl) (λ l. l) (record {
-    ready = refl;
-    used = refl;
-    homes = refl;
-    hand = refl;
-    notes = refl;
-    passed = refl;
-    epoch = refl;
+    rest = refl;
     own = own_stop stop;
     odd = λ e. absurd (odd e);
     cursor = λ b e. subst (IsCursorKept h (own_stopped v.own)) (same_some stopped b e) (kept_stop stop);

@@ -91,13 +91,7 @@ module _ (h : Heap) (views : List View) (s : ℕ) (v : View) (c : Cursor) (y : �
 
   pub loads_next : Parts h (slice_set views s (walked v (Some c) w))
   loads_next = moves_kept h h views s v (walked v (Some c) w) parts at (calm_same h) (λ x. refl) (λ j w e. refl) (λ l. l) (record {
-    ready = refl;
-    used = refl;
-    homes = refl;
-    hand = refl;
-    notes = refl;
-    passed = refl;
-    epoch = refl;
+    rest = refl;
     own = inl refl;
     odd = λ e. absurd (odd e);
     cursor = λ b e. subst (IsCursorKept h v.own) (same_some d b e) kept_next;
@@ -111,13 +105,7 @@ module _ (h : Heap) (views : List View) (s : ℕ) (v : View) (c : Cursor) (y : �
 
   pub reads_lo : (n : ℕ) → c.next ≡ Some n → Parts h (slice_set views s (lo_read v c (h.lo y)))
   reads_lo n next = moves_kept h h views s v (lo_read v c (h.lo y)) parts at (calm_same h) (λ x. refl) (λ j w e. refl) (λ l. l) (record {
-    ready = refl;
-    used = refl;
-    homes = refl;
-    hand = refl;
-    notes = refl;
-    passed = refl;
-    epoch = refl;
+    rest = refl;
     own = inl refl;
     odd = λ e. absurd (odd e);
     cursor = λ b e. subst (IsCursorKept h v.own) (same_some (record c { lo = Some (h.lo y) }) b e) (record {

@@ -89,13 +89,7 @@ module _ (seats : ℕ) (h now : Heap) (views : List View) (s : ℕ) (v : View) (
 
   pub settles : Parts now (slice_set views s (settled v c))
   settles = moves_kept h now views s v (settled v c) parts at calm wrote.home (λ j w e. wrote.epoch j (few j w e)) (λ l. absurd (let w = wrote.is in omega (arith, w, odd, l))) (record {
-    ready = refl;
-    used = refl;
-    homes = refl;
-    hand = refl;
-    notes = refl;
-    passed = refl;
-    epoch = refl;
+    rest = refl;
     own = inl refl;
     odd = λ e. absurd (let n = (parts.each s v at).even e in cc);
     cursor = λ b e. subst (IsCursorKept now v.own) (same_some d b e) kept_now;

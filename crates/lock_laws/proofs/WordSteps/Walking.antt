@@ -232,13 +232,7 @@ module _ (h : Heap) (views : List View) (s : ℕ) (v : View) (parts : Parts h vi
 
   pub begins : Parts h (slice_set views s there_at)
   begins = moves_kept h h views s v there_at parts at (calm_same h) (λ x. refl) (λ j w e. refl) (λ l. l) (record {
-    ready = refl;
-    used = refl;
-    homes = refl;
-    hand = refl;
-    notes = refl;
-    passed = refl;
-    epoch = refl;
+    rest = refl;
     own = own_stays v there_at word refl;
     odd = λ e. absurd (omega (arith, odd, e));
     cursor = λ c e. subst (IsCursorKept h (own_at v.own word)) (same_some d c e) kept;
