@@ -1,2 +1,3 @@
 pub mod SeatLists
+pub mod Tallying
 pub mod Visiting

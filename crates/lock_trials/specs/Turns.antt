@@ -1,9 +1,12 @@
--- What a number of turns leaves of a seat beside that it is back: how many steps it made, and nobody inside. The words
--- are this project's own.
-use Rattle.std.specs.Prelude.{◌≡◌, ℕ, ◌+◌, ◌≤◌, List, false}
+-- What a number of turns leaves of a seat beside that it is back: how many steps it made, how much it has brought in,
+-- how often its writers were inside, and that nobody is inside now. The words are this project's own.
+use Rattle.std.specs.Prelude.{◌≡◌, ℕ, ◌+◌, ◌%◌, ◌==◌, ◌≤◌, if◌then◌else◌, List, ◌++◌, replicate, false}
 use mathlib.Core.Option.{some}
 use lib.ListN.{get_elem?}
+use Rattle.lock_core.specs.declared.range.Mode.{Mode}
+use Rattle.lock_core.specs.declared.range.Mode.TheVariants.{Reader, Writer}
 use Rattle.range_rw.specs.Contract.{Known}
+use Rattle.lock_trials.specs.declared.tally.Brought.{Brought}
 use Rattle.lock_trials.specs.declared.turnstile.Visits.{Visits}
 
 -- a seat made so many steps or more in between
@@ -13,6 +16,32 @@ HasMade n before after = before.trace.taken + n ≤ after.trace.taken
 -- each seat of a list did
 abbrev pub HaveMade : {P : Type 0} → ℕ → List (Known P) → List (Known P) → Type 0
 HaveMade {P} n before after = (k : ℕ) (a b : Known P) → get_elem? before k ≡ some a → get_elem? after k ≡ some b → HasMade n a b
+
+-- a seat has brought in so much in between
+abbrev pub HasAdded : ℕ → Known Brought → Known Brought → Type 0
+HasAdded n before after = after.pass.amount ≡ before.pass.amount + n
+
+-- each seat of a list has
+abbrev pub HaveAdded : ℕ → List (Known Brought) → List (Known Brought) → Type 0
+HaveAdded n before after = (k : ℕ) (a b : Known Brought) → get_elem? before k ≡ some a → get_elem? after k ≡ some b → HasAdded n a b
+
+-- the log of a pass after so many visits for errand 1 as a writer, or so many looks as a reader, which leave it as it
+-- was
+abbrev pub log_after : Mode → ℕ → List ℕ → List ℕ
+log_after Writer n log = replicate n 1 ++ log
+log_after Reader n log = log
+
+-- a seat has made so many visits or looks in between
+abbrev pub HasVisited : Mode → ℕ → Known Visits → Known Visits → Type 0
+HasVisited mode n before after = after.pass.log ≡ log_after mode n before.pass.log
+
+-- the seats with an even number visit as writers, the others as readers
+abbrev pub mode_at : ℕ → Mode
+mode_at k = if k % 2 == 0 then Writer else Reader
+
+-- each seat of a list has, in its place's mode
+abbrev pub HaveVisited : ℕ → List (Known Visits) → List (Known Visits) → Type 0
+HaveVisited n before after = (k : ℕ) (a b : Known Visits) → get_elem? before k ≡ some a → get_elem? after k ≡ some b → HasVisited (mode_at k) n a b
 
 -- no writer of these seats is inside
 abbrev pub IsOutside : List (Known Visits) → Type 0

@@ -124,8 +124,8 @@ keeps_count grants words passes seat (adds i by) note after counted may = ⊎_el
     may.3.2
 
 -- the law of gain
-pub gains_range : (grants : Grants) (words : List ℕ) (passes : List Visits) (seat : ℕ) (h : Held) → IsCounted grants words passes → get_elem? grants seat ≡ some None → IsFree grants seat h → IsCounted (slice_set grants seat (Some h)) words passes
-gains_range grants words passes seat h counted nothing free = record {
+pub gains_count : (grants : Grants) (words : List ℕ) (passes : List Visits) (seat : ℕ) (h : Held) → IsCounted grants words passes → get_elem? grants seat ≡ some None → IsFree grants seat h → IsCounted (slice_set grants seat (Some h)) words passes
+gains_count grants words passes seat h counted nothing free = record {
   word = counted.word;
   inside = λ n inside. let may = counted.inside n inside in
       let differ : n ≢ seat = λ e. let z : Some may.0 ≡ None = some-injective _ _ (sym may.1 ∙ (ap (get_elem? grants) e ∙ nothing)) in cc in
@@ -134,8 +134,8 @@ gains_range grants words passes seat h counted nothing free = record {
 }
 
 -- the law of loss
-pub loses_range : (grants : Grants) (words : List ℕ) (passes : List Visits) (seat : ℕ) (pass : Visits) → IsCounted grants words passes → get_elem? passes seat ≡ some pass → pass.inside ≡ false → IsCounted (slice_set grants seat None) words (slice_set passes seat pass)
-loses_range grants words passes seat pass counted own outside = subst (IsCounted (set grants seat None) words) (sym (set_again passes seat pass own)) (record {
+pub loses_count : (grants : Grants) (words : List ℕ) (passes : List Visits) (seat : ℕ) (pass : Visits) → IsCounted grants words passes → get_elem? passes seat ≡ some pass → pass.inside ≡ false → IsCounted (slice_set grants seat None) words (slice_set passes seat pass)
+loses_count grants words passes seat pass counted own outside = subst (IsCounted (set grants seat None) words) (sym (set_again passes seat pass own)) (record {
   word = counted.word;
   inside = λ n inside. let may = counted.inside n inside in
       let differ : n ≢ seat = λ e. let same : inside.0 ≡ pass = some-injective _ _ (sym inside.1 ∙ (ap (get_elem? passes) e ∙ own)) in absurd (false≢true (sym outside ∙ (ap (λ (x : Visits). x.inside) (sym same) ∙ inside.2))) in

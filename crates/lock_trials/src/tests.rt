@@ -1,6 +1,6 @@
 //! Worked cases of the board, and threads that meet at one table. Each test ends by a stated number of turns; what it
 //! expects is reckoned by hand, never taken from the program.
-use crate::{add_all, both, in_order, open_free, open_turnstile, visit_all};
+use crate::{both, in_order, open_tally, open_turnstile, tally_of, visit_all};
 use lock_core::{FreeGuard, Mode, Range};
 use range_rw::{NotHeld, OpenFault, RangeTable};
 use std::sync::atomic::{AtomicU64, Ordering};
@@ -8,7 +8,7 @@ use std::sync::atomic::{AtomicU64, Ordering};
 #[test]
 fn tries_on_the_board_answer_as_worked_by_hand(rt: HostRuntime) {
     let alloc = rt.alloc();
-    let (table, seats) = open_free(alloc, 2, 7).expect(&rt, "memory");
+    let (table, seats) = RangeTable::<FreeGuard>::open(alloc, 2, &[7]).expect(&rt, "memory");
     let (mut a, mut b) = both(&table, seats);
     let first = Range::of(0, 10).expect(&rt, "a range");
     let far = Range::of(20, 21).expect(&rt, "a range");
@@ -43,18 +43,14 @@ fn a_table_has_from_one_to_sixteen_seats(rt: HostRuntime) {
             Err(fault) => assert_eq!(rt; fault, OpenFault::Seats(seats)),
         }
     }
-    assert!(rt; open_free(rt.alloc(), 16, 7).is_ok());
+    assert!(rt; open_tally(rt.alloc(), 16, 7).is_ok());
 }
 
 #[test]
 fn two_threads_add_four_thousand(rt: HostRuntime) {
     let alloc = rt.alloc();
-    let (table, mut seats) = open_free(alloc, 2, 0).expect(&rt, "memory");
-    add_all(&rt, &table, seats.as_mut_slice(), 2000);
-    let Ok(words) = table.close(alloc, seats) else {
-        panic!(rt; "memory");
-    };
-    assert_eq!(rt; words.as_slice(), [4000].as_slice());
+    assert_eq!(rt; tally_of(&rt, alloc, 2, 0, 2000), Some(4000));
+    assert_eq!(rt; tally_of(&rt, alloc, 3, u64::MAX, 1), Some(2));
 }
 
 #[test]

@@ -15,7 +15,7 @@ pub struct Turnstile;
 
 impl Guard for Turnstile {
     ghost use Rattle.std.specs.Prelude.{◌≡◌, false, []};
-    ghost use Rattle.lock_trials.specs.Turnstile.{IsCounted, IsPassage, keeps_count, gains_range, loses_range};
+    ghost use Rattle.lock_trials.specs.Turnstile.{IsCounted, IsPassage, keeps_count, gains_count, loses_count};
 
     type Pass = Visits;
 
@@ -33,9 +33,9 @@ impl Guard for Turnstile {
 
     ghost keeps = { keeps_count };
 
-    ghost gains = { gains_range };
+    ghost gains = { gains_count };
 
-    ghost loses = { loses_range };
+    ghost loses = { loses_count };
 
     ghost stays_at_rest = { λ _ rest. rest };
 }

@@ -1,13 +1,14 @@
 -- What a seat may do by its range, and what it knows after, at every moment at which it holds that range.
-use Rattle.std.proofs.Common.{◌≡◌, ℕ, zero, suc, ◌≤◌, [], ◌∷◌, slice_index, sym, refl, ap, ◌∙◌, arith}
+use Rattle.std.proofs.Common.{◌≡◌, ℕ, ◌≤◌, [], ◌∷◌, slice_index, sym, refl, ap, ◌∙◌, arith}
 use Rattle.std.specs.Prelude.{Option, true, false}
 use Rattle.std.proofs.lemmas.Bool.{false≢true}
-use mathlib.Core.Option.{some, some-injective, some-ne-none}
+use mathlib.Core.Option.{some}
 use lib.ListN.{get_elem?}
 use Rattle.lock_core.specs.Grants.{Grants}
 use Rattle.lock_core.specs.Client.{loads, stores, IsAllowed, IsMade}
 use Rattle.lock_core.specs.declared.range.Held.{Held}
 use Rattle.range_rw.specs.Contract.{first_passes}
+use Rattle.range_rw.proofs.SeatLists.{at_firsts}
 use Rattle.using_ranges.specs.declared.high_water.Reading.{Reading}
 use Rattle.using_ranges.specs.HighWater.{MayRead, MayRaise, IsHighWater, IsMarkStep}
 
@@ -24,11 +25,6 @@ module _ (seat : ℕ) (held : Option Held) (pass : Reading) where
 
   pub was_raised : (to found : ℕ) (after : Reading) → IsMade IsHighWater IsMarkStep tt seat held pass (stores 0 to) found after → after ≡ record { seen = to; sure = true }
   was_raised to found after made = made.5.4
-
-at_firsts : (first : ℕ → Reading) (n k i : ℕ) (p : Reading) → get_elem? (first_passes first n k) i ≡ some p → (m : ℕ) × (p ≡ first m)
-at_firsts first n zero i p e = absurd (some-ne-none p (sym e))
-at_firsts first n (suc k) zero p e = (n, sym (some-injective (first n) p e))
-at_firsts first n (suc k) (suc i) p e = at_firsts first (suc n) k i p e
 
 -- the rule holds where no seat has read anything
 pub nothing_read : (first : ℕ → Reading) (grants : Grants) (seats : ℕ) → ((k : ℕ) → (first k).seen ≡ 0) → ((k : ℕ) → (first k).sure ≡ false) → IsHighWater grants (0 ∷ []) (first_passes first 0 seats)

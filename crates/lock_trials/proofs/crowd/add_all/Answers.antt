@@ -1,7 +1,7 @@
 use Rattle.std.proofs.Common.{◌*◌, rules}
 use Rattle.atomic_table.proofs.Lists.{at_index}
-use Rattle.range_rw.proofs.SeatLists.{seats_back}
-use Rattle.lock_trials.proofs.SeatLists.{seats_made}
+use Rattle.range_rw.proofs.SeatLists.{seats_back, seats_each}
+use Rattle.lock_trials.specs.Turns.{HasAdded, HasMade}
 use Rattle.lock_trials.proofs.crowd.add_all.Goals as goal
 
 pub for_each_mut-requires-clause-accepts : goal.for_each_mut-requires-clause-accepts
@@ -11,6 +11,8 @@ pub returns : goal.returns
 returns g c = record {
   idle = seats_back c.args.table.now.table c.args.seats.now c.for_each_mut.new.s (search rules) c.requires.idle
       (λ k d lt. let r = c.for_each_mut.ensures k d lt in (r.1.argument.now, r.1.after_call.now, r.1.argument_is, r.1.call.0, r.1.left));
-  made = seats_made c.args.table.now.table (3 * c.args.turns) c.args.seats.now c.for_each_mut.new.s
+  made = seats_each (λ k. HasMade (3 * c.args.turns)) c.args.seats.now c.for_each_mut.new.s
       (λ k d lt. let r = c.for_each_mut.ensures k d lt in (r.1.argument.now, r.1.after_call.now, r.1.argument_is, r.1.call.1, r.1.left));
+  added = seats_each (λ k. HasAdded c.args.turns) c.args.seats.now c.for_each_mut.new.s
+      (λ k d lt. let r = c.for_each_mut.ensures k d lt in (r.1.argument.now, r.1.after_call.now, r.1.argument_is, r.1.call.2, r.1.left));
 }

@@ -1,6 +1,6 @@
 use Rattle.std.proofs.Common.{◌≡◌, ◌*◌}
 use Rattle.std.specs.Prelude.{None, false}
-use Rattle.lock_trials.specs.Turns.{HasMade}
+use Rattle.lock_trials.specs.Turns.{HasMade, HasVisited}
 use Rattle.lock_trials.proofs.turns.visit_turns.Given as goal
 
 abbrev pub invariant-loop : goal.invariant-loop
@@ -10,5 +10,6 @@ invariant-loop g l = record {
   held : l.seat.held ≡ None;
   made : HasMade (2 * l.counter) l.initial.seat l.seat;
   outside : l.seat.pass.inside ≡ false;
+  visited : HasVisited l.mode l.counter l.initial.seat l.seat;
   none : l.most ≡ 0;
 }

@@ -1,7 +1,7 @@
 use Rattle.std.proofs.Common.{◌≡◌, ◌*◌}
 use Rattle.std.specs.Prelude.{None}
-use Rattle.lock_trials.specs.Turns.{HasMade}
-use Rattle.lock_trials.proofs.turns.add_turns.Given as goal
+use Rattle.lock_trials.specs.Turns.{HasAdded, HasMade}
+use Rattle.lock_trials.proofs.adds.add_turns.Given as goal
 
 abbrev pub invariant-loop : goal.invariant-loop
 invariant-loop g l = record {
@@ -9,4 +9,5 @@ invariant-loop g l = record {
   number : l.seat.number ≡ l.initial.seat.number;
   held : l.seat.held ≡ None;
   made : HasMade (3 * l.counter) l.initial.seat l.seat;
+  added : HasAdded l.counter l.initial.seat l.seat;
 }
