@@ -14,7 +14,7 @@ use Rattle.space_model.specs.Effect.{new_kind, effect_of, mapped_kind}
 use Rattle.space_model.specs.Building.{painted, part_of, parts, join_all, pieces_at, changed_list}
 use Rattle.space_model.proofs.AreaKinds.{kind_at-here, kind_at-before, kind_at-after, side_of, IsAbove, above_zero, LeadsTo-above}
 use Rattle.space_model.proofs.AreaKinds.Side.{before, inside, after}
-use Rattle.space_model.proofs.Joining.{first_of, IsFreeFrom, join_all-kinds}
+use Rattle.space_model.proofs.Joining.{first_of, first_of-none, IsFreeFrom, join_all-kinds}
 
 parts-some : (from to : ℕ) (prot : Option Prot) (a : Area) (rest : List Area) → max a.lo from < min a.hi to →
     parts from to prot (a ∷ rest) ≡ part_of from to prot a ∷ parts from to prot rest
@@ -142,10 +142,6 @@ first_of-nones : (o : Option Kind) → first_of (first_of o None) None ≡ o
 first_of-nones None = refl
 first_of-nones (Some k) = refl
 
-first_of-none_last : (o : Option Kind) → first_of o None ≡ o
-first_of-none_last None = refl
-first_of-none_last (Some k) = refl
-
 whole : (A : List Area) (c : Call) (lo hi : ℕ) → IsAreaList A → lo < hi → hi ≤ LIMIT → PiecesAt A c lo hi → (p : ℕ) →
     first_of (first_of (kind_at (parts 0 lo None A) p) (kind_at (pieces_at A c lo hi) p)) (kind_at (parts hi LIMIT None A) p)
     ≡ effect_of A c lo hi p
@@ -166,7 +162,7 @@ whole A c lo hi w l h at p =
           (parts-outside 0 lo None A p (inr low))
           (at.inside_are p low high)
           (parts-outside hi LIMIT None A p (inl high)) ∙
-          first_of-none_last (new_kind c (kind_at A p)) ∙
+          first_of-none (new_kind c (kind_at A p)) ∙
           sym (within-inside lo hi p (new_kind c (kind_at A p)) (kind_at A p) low high)
       | after above ↦
           three_parts front middle back None None (kind_at A p)

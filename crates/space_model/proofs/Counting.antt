@@ -8,7 +8,7 @@ use Rattle.space_model.specs.declared.areas.Area.{Area}
 use Rattle.page_types.specs.declared.calls.Call.{Call}
 use Rattle.space_model.specs.Areas.{is_within, IsAreaList, HasKinds, kind_at, gap_between, gaps_from, gap_count, row_count}
 use Rattle.space_model.specs.Effect.{effect_of, new_kind}
-use Rattle.space_model.specs.Starts.{same_option, count_if, starts, start_count}
+use Rattle.space_model.specs.Starts.{same_option, count_if, starts_row, start_count}
 use Rattle.space_model.proofs.AreaKinds.{kind_at-here, kind_at-after, kind_at-below, kind_at-end, IsAbove, above_zero, LeadsTo-above, side_of}
 use Rattle.space_model.proofs.AreaKinds.Side.{before, inside, after}
 use Rattle.space_model.proofs.Joining.{same_kind-true, same_kind-same}
@@ -114,30 +114,30 @@ same_option-false o q ne =
 
 -- a row of some sort starts at a page
 abbrev pub row_at : (Option Kind → Bool) → (ℕ → Option Kind) → ℕ → ℕ
-row_at sort f p = count_if (starts f p && sort (f p))
+row_at sort f p = count_if (starts_row f p && sort (f p))
 
 before_suc : (p : ℕ) → suc p - 1 ≡ p
 before_suc p = omega arith
 
-pub starts-not : (f : ℕ → Option Kind) (p : ℕ) → 0 < p → f (p - 1) ≡ f p → starts f p ≡ false
-starts-not f zero l e = absurd (omega arith)
-starts-not f (suc p) l e =
+pub starts_row-not : (f : ℕ → Option Kind) (p : ℕ) → 0 < p → f (p - 1) ≡ f p → starts_row f p ≡ false
+starts_row-not f zero l e = absurd (omega arith)
+starts_row-not f (suc p) l e =
     let a : f p ≡ f (suc p) = ap f (sym (before_suc p)) ∙ e in
     ap not (ap (same_option (f p)) (sym a) ∙ same_option-same (f p))
 
-pub starts-if : (f : ℕ → Option Kind) (p : ℕ) → (0 < p → f (p - 1) ≢ f p) → starts f p ≡ true
-starts-if f zero h = refl
-starts-if f (suc p) h =
+pub starts_row-if : (f : ℕ → Option Kind) (p : ℕ) → (0 < p → f (p - 1) ≢ f p) → starts_row f p ≡ true
+starts_row-if f zero h = refl
+starts_row-if f (suc p) h =
     let a : f p ≢ f (suc p) = λ e. h (omega arith) (ap f (before_suc p) ∙ e) in
     ap not (same_option-false (f p) (f (suc p)) a)
 
 -- one row of pages of one kind
-one_row : (sort : Option Kind → Bool) (f : ℕ → Option Kind) (s n : ℕ) (v : Option Kind) → 0 < n → starts f s ≡ true →
+one_row : (sort : Option Kind → Bool) (f : ℕ → Option Kind) (s n : ℕ) (v : Option Kind) → 0 < n → starts_row f s ≡ true →
     ((p : ℕ) → s ≤ p → p < s + n → f p ≡ v) → sum_from s n (row_at sort f) ≡ count_if (sort v)
 one_row sort f s n v l start same =
     sum_first n s (row_at sort f) l
     (λ p g t. ap (λ b. count_if (b && sort (f p)))
-    (starts-not f p (omega arith) (same (p - 1) (omega arith) (omega arith) ∙ sym (same p (omega arith) t)))) ∙
+    (starts_row-not f p (omega arith) (same (p - 1) (omega arith) (omega arith) ∙ sym (same p (omega arith) t)))) ∙
     ap (λ b. count_if (b && sort (f s))) start ∙
     ap (λ o. count_if (sort o)) (same s (omega arith) (omega arith))
 
@@ -150,7 +150,7 @@ abbrev pub rows_by : (Option Kind → Bool) → ℕ → List Area → ℕ
 rows_by sort e [] = gap_by sort e LIMIT
 rows_by sort e (a ∷ rest) = gap_by sort e a.lo + (count_if (sort (Some a.kind)) + rows_by sort a.hi rest)
 
-gap_row : (sort : Option Kind → Bool) (f : ℕ → Option Kind) (lo hi : ℕ) → lo ≤ hi → (lo < hi → starts f lo ≡ true) →
+gap_row : (sort : Option Kind → Bool) (f : ℕ → Option Kind) (lo hi : ℕ) → lo ≤ hi → (lo < hi → starts_row f lo ≡ true) →
     ((p : ℕ) → lo ≤ p → p < hi → f p ≡ None) → sum_from lo (hi - lo) (row_at sort f) ≡ gap_by sort lo hi
 gap_row sort f lo hi l start none =
     elim (cases_lt lo hi) [
@@ -166,7 +166,7 @@ differ : (o q : Option Kind) (k : Kind) → o ≡ None → o ≡ q → q ≡ Som
 differ o q k a b c = cc
 
 pub rows_from : (sort : Option Kind → Bool) (f : ℕ → Option Kind) (A : List Area) (e limit : ℕ) → limit ≡ LIMIT →
-    IsAreaList A → IsAbove e A → e ≤ limit → (e < limit → starts f e ≡ true) → ((p : ℕ) → e ≤ p → f p ≡ kind_at A p) →
+    IsAreaList A → IsAbove e A → e ≤ limit → (e < limit → starts_row f e ≡ true) → ((p : ℕ) → e ≤ p → f p ≡ kind_at A p) →
     sum_from e (limit - e) (row_at sort f) ≡ rows_by sort e A
 rows_from sort f [] e limit is w above l start same =
     gap_row sort f e limit l start (λ p g t. same p g) ∙ ap (gap_by sort e) is
@@ -179,13 +179,13 @@ rows_from sort f (a ∷ rest) e limit is w above l start same =
     λ p g t. same p (omega arith) ∙ kind_at-here a rest p g t in
     let later : (p : ℕ) → a.hi ≤ p → f p ≡ kind_at rest p =
     λ p g. same p (omega arith) ∙ kind_at-after a rest p g in
-    let area_start : starts f a.lo ≡ true =
+    let area_start : starts_row f a.lo ≡ true =
     elim (cases_lt e a.lo) [
-      | inl lt ↦ starts-if f a.lo (λ g same'. differ (f (a.lo - 1)) (f a.lo) a.kind (none (a.lo - 1) (omega arith) (omega arith)) same' (some a.lo (omega arith) n))
-      | inr ge ↦ let e_is : e ≡ a.lo = omega (arith, above) in subst (λ x. starts f x ≡ true) e_is (start (omega arith))
+      | inl lt ↦ starts_row-if f a.lo (λ g same'. differ (f (a.lo - 1)) (f a.lo) a.kind (none (a.lo - 1) (omega arith) (omega arith)) same' (some a.lo (omega arith) n))
+      | inr ge ↦ let e_is : e ≡ a.lo = omega (arith, above) in subst (λ x. starts_row f x ≡ true) e_is (start (omega arith))
     ] in
-    let next_start : starts f a.hi ≡ true =
-    starts-if f a.hi (λ g same'.
+    let next_start : starts_row f a.hi ≡ true =
+    starts_row-if f a.hi (λ g same'.
     kind_at-end a rest w.1 w.2
     (sym (later a.hi (omega arith)) ∙ sym same' ∙ some (a.hi - 1) (omega arith) (omega arith))) in
     let one' = gap_row sort f e a.lo above (λ lt. start (omega arith)) none in
@@ -243,9 +243,9 @@ pub every-rows : (A : List Area) (limit : ℕ) → limit ≡ LIMIT → IsAreaLis
     sum_from 0 limit (row_at every (kind_at A)) ≡ row_count A
 every-rows A limit is w = all_rows every A limit is w ∙ rows_by-every 0 A
 
-pub starts-false : (f : ℕ → Option Kind) (p : ℕ) → starts f p ≡ false → (0 < p) × (f (p - 1) ≡ f p)
-starts-false f zero e = cc
-starts-false f (suc p) e =
+pub starts_row-false : (f : ℕ → Option Kind) (p : ℕ) → starts_row f p ≡ false → (0 < p) × (f (p - 1) ≡ f p)
+starts_row-false f zero e = cc
+starts_row-false f (suc p) e =
     (omega arith, ap f (before_suc p) ∙ same_option-true (f p) (f (suc p)) (not-false _ e))
 
 within_inside : (lo hi p : ℕ) → lo ≤ p → p < hi → is_within lo hi p ≡ true
@@ -274,7 +274,7 @@ one-le : (b : Bool) → count_if b ≤ 1
 one-le true = omega arith
 one-le false = omega arith
 
-row_at-every : (f : ℕ → Option Kind) (p : ℕ) (b : Bool) → starts f p ≡ b → row_at every f p ≡ count_if b
+row_at-every : (f : ℕ → Option Kind) (p : ℕ) (b : Bool) → starts_row f p ≡ b → row_at every f p ≡ count_if b
 row_at-every f p true e = ap (λ x. count_if (x && true)) e
 row_at-every f p false e = ap (λ x. count_if (x && true)) e
 
@@ -282,7 +282,7 @@ row_at-every f p false e = ap (λ x. count_if (x && true)) e
 row-after : (A B : List Area) (c : Call) (lo hi p : ℕ) → HasKinds (effect_of A c lo hi) B →
     row_at every (kind_at B) p ≤ row_at every (kind_at A) p + (only_at lo 1 p + only_at hi 1 p)
 row-after A B c lo hi p k =
-    let most : row_at every (kind_at B) p ≤ 1 = one-le (starts (kind_at B) p && every (kind_at B p)) in
+    let most : row_at every (kind_at B) p ≤ 1 = one-le (starts_row (kind_at B) p && every (kind_at B p)) in
     elim (cases_eq p lo) [
       | inl e ↦
           let a : only_at lo 1 p ≡ 1 = ap (only_at lo 1) e ∙ only_at-same lo 1 in omega (arith, most, a)
@@ -290,14 +290,14 @@ row-after A B c lo hi p k =
           elim (cases_eq p hi) [
             | inl e ↦ let a : only_at hi 1 p ≡ 1 = ap (only_at hi 1) e ∙ only_at-same hi 1 in omega (arith, most, a)
             | inr m ↦
-                elim (cases_Bool (starts (kind_at A) p)) [
+                elim (cases_Bool (starts_row (kind_at A) p)) [
                   | inl t ↦
                       let a : row_at every (kind_at A) p ≡ 1 = row_at-every (kind_at A) p true t in omega (arith, most, a)
                   | inr f ↦
-                      let was = starts-false (kind_at A) p f in
+                      let was = starts_row-false (kind_at A) p f in
                       let same : kind_at B (p - 1) ≡ kind_at B p =
                       k.kinds_are (p - 1) ∙ effect-same A c lo hi p n m was.0 was.1 ∙ sym (k.kinds_are p) in
-                      let a : row_at every (kind_at B) p ≡ 0 = row_at-every (kind_at B) p false (starts-not (kind_at B) p was.0 same) in
+                      let a : row_at every (kind_at B) p ≡ 0 = row_at-every (kind_at B) p false (starts_row-not (kind_at B) p was.0 same) in
                       omega (arith, a)
                 ]
           ]
@@ -326,7 +326,7 @@ start_count-sum f zero = refl
 start_count-sum f (suc n) =
     let rows : ℕ → ℕ = row_at every f in
     let split : sum_from 0 (suc n) rows ≡ sum_from 0 n rows + sum_from (0 + n) 1 rows = sum_split_to n 0 1 (suc n) rows (omega arith) in
-    let here : rows n ≡ count_if (starts f n) = row_at-every f n (starts f n) refl in
+    let here : rows n ≡ count_if (starts_row f n) = row_at-every f n (starts_row f n) refl in
     let place : sum_from (0 + n) 1 rows ≡ sum_from n 1 rows = ap (λ m. sum_from m 1 rows) (zero-add n) in
     omega (arith, split, here, place, start_count-sum f n)
 

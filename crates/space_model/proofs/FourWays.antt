@@ -41,7 +41,7 @@ border-le o q =
     ]
 
 -- an area of a list starts at or after the end of the first
-starts_after : (x : Area) (rest : List Area) (a : Area) → IsAreaList (x ∷ rest) → Contains rest a → x.hi ≤ a.lo
+pub starts_after : (x : Area) (rest : List Area) (a : Area) → IsAreaList (x ∷ rest) → Contains rest a → x.hi ≤ a.lo
 starts_after x rest a w m =
     let r : a.lo < a.hi = (member_in_range rest a w.2 m).has_page in
     let some : kind_at rest a.lo ≡ Some a.kind = kind_at-member rest a a.lo w.2 m (omega arith) r in

@@ -42,7 +42,7 @@ abbrev pub first_of : Option Kind → Option Kind → Option Kind
 first_of (Some k) other = Some k
 first_of None other = other
 
-first_of-none : (o : Option Kind) → first_of o None ≡ o
+pub first_of-none : (o : Option Kind) → first_of o None ≡ o
 first_of-none (Some k) = refl
 first_of-none None = refl
 

@@ -14,3 +14,6 @@ pub mod FourWays
 pub mod Histories
 pub mod MaximalRuns
 pub mod CertainReplies
+pub mod Halving
+pub mod Highest
+pub mod Splicing

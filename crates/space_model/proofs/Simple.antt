@@ -12,12 +12,12 @@ use Rattle.space_model.specs.declared.areas.Area.{Area}
 use Rattle.space_model.specs.Areas.{IsInRange, IsAreaList, HasKinds, kind_at, gap_count}
 use Rattle.space_model.specs.Effect.{effect_of, protected_kind}
 use Rattle.space_model.specs.Held.{LiesIn, KeepsCounts, kind_before, IsSimpleIn, IsSimple}
-use Rattle.space_model.specs.Starts.{starts, same_option, same_kind, count_if, border, KeepsRows}
+use Rattle.space_model.specs.Starts.{starts_row, same_option, same_kind, count_if, border, KeepsRows}
 use Rattle.space_model.specs.Building.{changed_list}
 use Rattle.space_model.proofs.AreaKinds.{kind_at-here, kind_at-after, kind_at-below, LeadsTo-above, side_of}
 use Rattle.space_model.proofs.AreaKinds.Side.{before, inside, after}
 use Rattle.space_model.proofs.Changing.{within-before, within-inside, within-after, changed_list-kinds, kind_at-limit}
-use Rattle.space_model.proofs.Counting.{sum_from, sum-same, sum-add, only_at, only_at-same, only_at-other, sum-only_at, sum-only_past, starts-not, row_at, length-rows, gaps-rows}
+use Rattle.space_model.proofs.Counting.{sum_from, sum-same, sum-add, only_at, only_at-same, only_at-other, sum-only_at, sum-only_past, starts_row-not, row_at, length-rows, gaps-rows}
 
 -- an area of a list is in range
 pub member_in_range : (A : List Area) (a : Area) → IsAreaList A → Contains A a → IsInRange a
@@ -50,7 +50,7 @@ row_same sort f g (suc q) e h =
     ap (λ o. count_if (not (same_option o (g (suc q))) && sort (g (suc q)))) d ∙
     ap (λ o. count_if (not (same_option (f q) o) && sort o)) e
 
-row_none : (sort : Option Kind → Bool) (f : ℕ → Option Kind) (p : ℕ) → starts f p ≡ false → row_at sort f p ≡ 0
+row_none : (sort : Option Kind → Bool) (f : ℕ → Option Kind) (p : ℕ) → starts_row f p ≡ false → row_at sort f p ≡ 0
 row_none sort f p e = ap (λ b. count_if (b && sort (f p))) e
 
 and_true : (b : Bool) → count_if (b && true) ≡ count_if b
@@ -109,9 +109,9 @@ module _ (A B : List Area) (addr len : ℕ) (prot : Prot) (lo hi : ℕ) (a : Are
         | before b ↦ row_same sort (kind_at A) (kind_at B) p (kept_below p b) (λ _. kept_below (p - 1) (omega arith))
         | inside low high ↦
             row_none sort (kind_at B) p
-            (starts-not (kind_at B) p (omega arith) (is_new (p - 1) (omega arith) (omega arith) ∙ sym (is_new p low high))) ∙
+            (starts_row-not (kind_at B) p (omega arith) (is_new (p - 1) (omega arith) (omega arith) ∙ sym (is_new p low high))) ∙
             sym (row_none sort (kind_at A) p
-            (starts-not (kind_at A) p (omega arith) (was (p - 1) (omega arith) (omega arith) ∙ sym (was p low high))))
+            (starts_row-not (kind_at A) p (omega arith) (was (p - 1) (omega arith) (omega arith) ∙ sym (was p low high))))
         | after b ↦ row_same sort (kind_at A) (kind_at B) p (kept_above p b) (λ _. kept_above (p - 1) (omega arith))
       ]
 

@@ -5,5 +5,10 @@ pub mod Answers
 pub mod Held
 pub mod History
 pub mod Building
+pub mod Cutting
 pub mod Faults
 pub mod Laws
+pub use Rattle.page_types.specs.Named
+pub use Rattle.page_types.specs.Pages
+pub use Rattle.page_types.specs.PlainReply
+pub use Rattle.page_types.specs.Sets

@@ -36,11 +36,11 @@ abbrev pub KeepsRows : Option Kind → Kind → Kind → Option Kind → Type 0
 KeepsRows before old new after = border before (Some old) + border (Some old) after ≡ border before (Some new) + border (Some new) after
 
 -- a row starts at a page: page 0, or a page of another kind than the one before it
-abbrev pub starts : (ℕ → Option Kind) → ℕ → Bool
-starts kinds zero = true
-starts kinds (suc page) = not (same_option (kinds page) (kinds (suc page)))
+abbrev pub starts_row : (ℕ → Option Kind) → ℕ → Bool
+starts_row kinds zero = true
+starts_row kinds (suc page) = not (same_option (kinds page) (kinds (suc page)))
 
 -- how many of so many pages, counted from page 0 on, start a row
 unfoldable pub start_count : (ℕ → Option Kind) → ℕ → ℕ
 start_count kinds zero = 0
-start_count kinds (suc page) = start_count kinds page + count_if (starts kinds page)
+start_count kinds (suc page) = start_count kinds page + count_if (starts_row kinds page)

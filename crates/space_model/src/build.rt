@@ -93,22 +93,22 @@ fn join_parts(
     Ok(())
 }
 
-/// The areas after a call whose place is `span`.
+/// Puts into `list` the areas after a call whose place is `span`.
 pub fn changed(
-    alloc: Global,
+    list: &mut Vec<Area>,
     areas: &[Area],
     call: &Call,
     span: Span,
-) -> Result<Vec<Area>, AllocError>
-    ensures { IfOk result (λ list. list.items ≡ changed_list areas.now call.now span.lo span.hi) }
+) -> Result<(), AllocError>
+    ensures { OnOk result (list.new.items ≡ changed_list areas.now call.now span.lo span.hi) }
 {
-    let mut list = Vec::new(alloc);
-    join_parts(&mut list, areas, 0, span.lo, None)?;
+    list.clear();
+    join_parts(list, areas, 0, span.lo, None)?;
     match *call {
         Call::Map { prot, flags, .. } => {
             let kind = mapped_kind(prot, flags);
             join(
-                &mut list,
+                list,
                 Area {
                     lo: span.lo,
                     hi: span.hi,
@@ -117,11 +117,10 @@ pub fn changed(
             )?;
         }
         Call::Unmap { .. } => {}
-        Call::Protect { prot, .. } => join_parts(&mut list, areas, span.lo, span.hi, Some(prot))?,
-        Call::Fault { .. } => join_parts(&mut list, areas, span.lo, span.hi, None)?,
+        Call::Protect { prot, .. } => join_parts(list, areas, span.lo, span.hi, Some(prot))?,
+        Call::Fault { .. } => join_parts(list, areas, span.lo, span.hi, None)?,
     }
-    join_parts(&mut list, areas, span.hi, LIMIT, None)?;
-    Ok(list)
+    join_parts(list, areas, span.hi, LIMIT, None)
 }
 
 /// The areas of pieces in order, where two that touch and are of one kind become one.

@@ -4,6 +4,7 @@
 
 ghost use Rattle.std.specs.Prelude.{◌≡◌, ◌<◌, ◌^◌};
 ghost use Rattle.space_model.specs.Areas.{row_count};
+ghost use Rattle.space_model.specs.Cutting.{rows_between};
 
 use crate::areas::Area;
 use page_types::LIMIT;
@@ -13,8 +14,16 @@ pub fn row_count(areas: &[Area]) -> u32
     requires { row_count areas.now < 2 ^ 32 }
     ensures { result ≡ row_count areas.now }
 {
+    rows_between(0, areas, LIMIT)
+}
+
+/// The number of areas, and of gaps between the page `from`, the areas and the page `to`.
+pub fn rows_between(from: u64, areas: &[Area], to: u64) -> u32
+    requires { rows_between from areas.now to < 2 ^ 32 }
+    ensures { result ≡ rows_between from areas.now to }
+{
     let mut rows = 0u32;
-    let mut at = 0;
+    let mut at = from;
     for area in areas {
         if at < area.lo {
             rows += 1;
@@ -22,7 +31,7 @@ pub fn row_count(areas: &[Area]) -> u32
         rows += 1;
         at = area.hi;
     }
-    if at < LIMIT {
+    if at < to {
         rows += 1;
     }
     rows

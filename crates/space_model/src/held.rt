@@ -3,7 +3,7 @@
 //! lists before and after; the code looks at the kinds round the two ends of the span alone, and the law
 //! `simple_protects_keep_rows` says that this is the same.
 
-ghost use Rattle.std.specs.Prelude.{◌≡◌, ◌↔◌, None, IsTrue, MatchOption};
+ghost use Rattle.std.specs.Prelude.{◌≡◌, ◌<◌, ◌↔◌, None, IsTrue, MatchOption};
 ghost use Rattle.page_types.specs.PlainReply.{protect_reply};
 ghost use Rattle.space_model.specs.Areas.{IsAreaList, kind_at};
 ghost use Rattle.space_model.specs.Effect.{protected_kind};
@@ -13,23 +13,30 @@ ghost use Rattle.space_model.specs.Starts.{border, KeepsRows};
 use crate::areas::Area;
 use crate::build::painted;
 use crate::entries::Under;
-use crate::search::kind_of;
+use crate::search::{first_above, kind_of};
 use page_types::{Call, Kind, Prot, Span};
 
 /// The area that holds all pages from `lo` up to `hi`.
 fn area_around(areas: &[Area], lo: u64, hi: u64) -> Option<Area>
+    requires in_order { IsAreaList areas.now }
+    requires some { lo < hi }
     ensures { MatchOption result ((area : Area) → ¬ LiesIn areas.now area lo hi) (λ area. LiesIn areas.now area lo hi) }
 {
-    for area in areas {
-        if area.lo <= lo && hi <= area.hi {
-            return Some(*area);
+    match first_above(areas, lo) {
+        Some(area) => {
+            if area.lo <= lo && hi <= area.hi {
+                Some(area)
+            } else {
+                None
+            }
         }
+        None => None,
     }
-    None
 }
 
 /// The kind of the page before `page`, or None before page 0.
 fn kind_before(areas: &[Area], page: u64) -> Option<Kind>
+    requires { IsAreaList areas.now }
     ensures { result ≡ kind_before areas.now page }
 {
     if page == 0 {
@@ -58,6 +65,7 @@ pub fn keeps_rows(before: Option<Kind>, old: Kind, new: Kind, after: Option<Kind
 
 /// Whether a Protect of a span within one area keeps the number of rows.
 fn is_simple_in(areas: &[Area], area: Area, span: Span, prot: Prot) -> bool
+    requires { IsAreaList areas.now }
     ensures { IsTrue result ↔
         KeepsRows (kind_before areas.now span.lo) area.kind (protected_kind prot area.kind) (kind_at areas.now span.hi) }
 {

@@ -16,8 +16,10 @@ mod order;
 mod place;
 mod search;
 mod space;
+mod splice;
 
 pub use areas::{Area, have_named_kinds};
+pub use build::mapped_kind;
 pub use entries::{Entry, Under, have_named_calls};
 pub use faults::{AreasFault, NotAreas};
 pub use held::keeps_rows;
@@ -30,7 +32,8 @@ pub use laws::{
     simple_protects_are_of_four_kinds, simple_protects_keep_rows, states_follow_one_another,
     unmap_twice_is_once,
 };
-pub use place::access_reply;
+pub use place::{access_reply, done_reply};
+pub use search::LOWEST;
 pub use space::PlainSpace;
 
 #[cfg(test)]

@@ -71,7 +71,7 @@ pub fn access_reply(kind: Option<Kind>, page: u64, access: Access) -> Reply
 }
 
 /// The reply to an accepted change whose place starts at a page.
-pub fn done(call: &Call, page: u64) -> Reply
+pub fn done_reply(call: &Call, page: u64) -> Reply
     requires { page < LIMIT }
     ensures { result ≡ done_reply call.now page }
 {

@@ -1,6 +1,6 @@
-//! The address space of one thread: a list of areas, as proc_pid_maps(5) prints them, which each change builds anew in
-//! one go over the old list. Callers see the list alone. It is always an area list of fewer than 2^30 areas, whose
-//! kinds have named bits alone.
+//! The address space of one thread: a list of areas, as proc_pid_maps(5) prints them. A page is found in it by halving,
+//! and a change builds only the areas anew that it touches. Callers see the list alone. It is always an area list of
+//! fewer than 2^30 areas, whose kinds have named bits alone.
 
 ghost use Rattle.std.specs.Prelude.{◌≡◌, ◌^◌, ◌<◌, ◌↔◌, [], None, IfOk, IfErr, IsOk, OnErr, length};
 ghost use Rattle.page_types.specs.Named.{IsNamedCall, IsNamedReply};
@@ -11,14 +11,15 @@ ghost use Rattle.space_model.specs.Faults.{Explains};
 ghost use Rattle.space_model.specs.Held.{HoldsSomeArea, IsSimple, FitsByState, FitsUnder};
 
 use crate::areas::Area;
-use crate::build::{changed, joined_pieces};
+use crate::build::joined_pieces;
 use crate::counts::row_count;
 use crate::entries::Under;
 use crate::faults::{AreasFault, NotAreas};
 use crate::held::protect_under;
 use crate::order::first_wrong;
-use crate::place::{access_reply, done, map_place};
+use crate::place::{access_reply, done_reply, map_place};
 use crate::search::{kind_of, lowest_missing};
+use crate::splice::{planned, replace};
 use page_types::{Call, PAGE, ROWS, Reply, Short, Span, Why, plain};
 use std::alloc::{AllocError, Global};
 use std::marker::Model;
@@ -27,18 +28,22 @@ use std::marker::Model;
 #[derive(Drop, Debug)]
 pub struct PlainSpace {
     areas: Vec<Area>,
+    /// Room for the areas that a change puts into the list; what is in it doesn't count.
+    spare: Vec<Area>,
+    /// The number of rows of `areas`.
+    row_total: u32,
 }
 
 impl Model for PlainSpace {
-    ghost use Rattle.std.specs.Prelude.{List, ◌<◌, ◌^◌, length};
+    ghost use Rattle.std.specs.Prelude.{List, ◌≡◌, ◌<◌, ◌^◌, length};
     ghost use Rattle.space_model.specs.declared.areas.Area.{Area};
-    ghost use Rattle.space_model.specs.Areas.{IsAreaList, HasNamedKinds};
+    ghost use Rattle.space_model.specs.Areas.{IsAreaList, HasNamedKinds, row_count};
 
     ghost Value = { List Area };
 
     ghost view = { λ s. s.areas.items };
 
-    ghost invariant = { λ s. IsAreaList s.areas.items × HasNamedKinds s.areas.items × (length s.areas.items < 2 ^ 30) };
+    ghost invariant = { λ s. IsAreaList s.areas.items × HasNamedKinds s.areas.items × (length s.areas.items < 2 ^ 30) × (s.row_total ≡ row_count s.areas.items) };
 }
 
 impl PlainSpace {
@@ -48,6 +53,8 @@ impl PlainSpace {
     {
         PlainSpace {
             areas: Vec::new(alloc),
+            spare: Vec::new(alloc),
+            row_total: 1,
         }
     }
 
@@ -66,7 +73,11 @@ impl PlainSpace {
             return Err(AreasFault::NotAreas(NotAreas { index }));
         }
         match Vec::from_slice(alloc, list) {
-            Ok(areas) => Ok(PlainSpace { areas }),
+            Ok(areas) => Ok(PlainSpace {
+                areas,
+                spare: Vec::new(alloc),
+                row_total: row_count(list),
+            }),
             Err(_) => Err(AreasFault::Memory),
         }
     }
@@ -76,7 +87,11 @@ impl PlainSpace {
         ensures { IfOk result (λ space. space ≡ self.now) }
     {
         let areas = Vec::from_slice(alloc, self.areas.as_slice())?;
-        Ok(PlainSpace { areas })
+        Ok(PlainSpace {
+            areas,
+            spare: Vec::new(alloc),
+            row_total: self.row_total,
+        })
     }
 
     /// The range that has to be held when a call draws its number on this space.
@@ -120,7 +135,12 @@ impl PlainSpace {
         ensures { IfOk result (HasKinds (kind_at pieces.now)) }
     {
         let areas = joined_pieces(alloc, pieces)?;
-        Ok(PlainSpace { areas })
+        let row_total = row_count(areas.as_slice());
+        Ok(PlainSpace {
+            areas,
+            spare: Vec::new(alloc),
+            row_total,
+        })
     }
 
     /// The areas, in order.
@@ -136,7 +156,7 @@ impl PlainSpace {
     pub fn rows(&self) -> u32
         ensures { result ≡ row_count self.now }
     {
-        row_count(self.areas.as_slice())
+        self.row_total
     }
 
     /// Makes one call: gives its reply, and changes the space where that isn't a refusal.
@@ -216,13 +236,14 @@ impl PlainSpace {
         ensures named { IfOk result IsNamedReply }
         ensures memory { OnErr result (self.new ≡ self.old) }
     {
-        let alloc = *self.areas.allocator();
-        let list = changed(alloc, self.areas.as_slice(), call, place)?;
-        let rows = row_count(list.as_slice());
+        let areas = self.areas.as_slice();
+        let plan = planned(&mut self.spare, areas, self.row_total, call, place)?;
+        let rows = plan.rows;
         if rows as usize > ROWS {
             return Ok(Reply::Refused(Why::Enomem(Short::Rows(rows))));
         }
-        self.areas = list;
-        Ok(done(call, place.lo))
+        replace(&mut self.areas, plan.first, plan.end, &mut self.spare)?;
+        self.row_total = rows;
+        Ok(done_reply(call, place.lo))
     }
 }

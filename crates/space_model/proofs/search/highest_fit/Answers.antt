@@ -1,27 +1,31 @@
--- Each area ends one gap, and the last gap ends at LIMIT.
-use Rattle.std.proofs.Common.{◌+◌, sym, subst, drop}
-use Rattle.space_model.proofs.Searching.{BestSoFar, best_at, best_found, best_kept, last_kept}
+-- The first gap from above that is long enough has the highest place.
+use Rattle.std.proofs.Common.{◌≡◌, ◌-◌, subst, refl, arith}
+use Rattle.space_model.proofs.Highest.{NoneAbove, none_above_all, none_above_next, highest_here, highest_below, no_fit}
 use Rattle.space_model.proofs.search.highest_fit.Goals as goal
-use Rattle.space_model.proofs.search.highest_fit.Goals.{then-from-pages, else-from-pages}
 
-pub loop-area-preserved : goal.loop-area-preserved
-loop-area-preserved c =
-    let A = c.args.areas.now in
-    let pages = c.args.pages in
-    let from = c.loop-area.from in
-    let i = c.loop-area.area-index in
-    let at = best_at A i pages from c.loop-area.best c.loop-area-test.true c.loop-area.invariant in
-    subst (λ to. BestSoFar A (drop (i + 1) A) pages to c.if-from-pages.best) (sym c.max-from.ensures)
-    (elim c.if-from-pages.branch [
-      | then-from-pages w ↦
-          subst (BestSoFar A (drop (i + 1) A) pages _) (sym w.best-is)
-          (best_found A _ _ pages from c.loop-area.best at c.requires.some w.if-from-pages.true)
-      | else-from-pages w ↦
-          subst (BestSoFar A (drop (i + 1) A) pages _) (sym w.best-is)
-          (best_kept A _ _ pages from c.loop-area.best at c.requires.some w.if-from-pages.false)
-    ])
+pub loop-i-init : goal.loop-i-init
+loop-i-init c = none_above_all c.args.areas.now c.args.pages
 
-pub returns-else-from-pages-le-LIMIT : goal.returns-else-from-pages-le-LIMIT
-returns-else-from-pages-le-LIMIT c =
-    last_kept c.args.areas.now c.args.pages c.loop-area.from c.loop-area.best c.loop-area.invariant.best_is
-    c.if-from-pages-le-LIMIT.false
+pub loop-i-preserved : goal.loop-i-preserved
+loop-i-preserved c =
+    none_above_next c.args.areas.now c.args.pages c.loop-i.i (c.loop-i.i - 1) c.loop-i.to _ (omega arith) c.requires.in_order
+    (omega arith) c.requires.some c.loop-i.invariant refl
+    (omega (arith, c.max-from.ensures, c.saturating_sub.ensures, c.if-pages-saturating_sub.false))
+
+pub returns-then-pages-saturating_sub : goal.returns-then-pages-saturating_sub
+returns-then-pages-saturating_sub c =
+    highest_here c.args.areas.now c.args.pages c.loop-i.i (c.loop-i.i - 1) c.loop-i.to _ (omega arith) c.requires.in_order
+    (omega arith) c.requires.some c.loop-i.invariant refl
+    (omega (arith, c.max-from.ensures, c.saturating_sub.ensures, c.if-pages-saturating_sub.true))
+
+pub returns-then-pages-saturating_sub-2 : goal.returns-then-pages-saturating_sub-2
+returns-then-pages-saturating_sub-2 c =
+    let first : c.loop-i.i ≡ 0 = omega arith in
+    highest_below c.args.areas.now c.args.pages c.loop-i.to c.requires.in_order
+    (subst (λ n. NoneAbove c.args.areas.now c.args.pages n c.loop-i.to) first c.loop-i.invariant) (omega arith)
+
+pub returns-else-pages-saturating_sub-2 : goal.returns-else-pages-saturating_sub-2
+returns-else-pages-saturating_sub-2 c =
+    let first : c.loop-i.i ≡ 0 = omega arith in
+    no_fit c.args.areas.now c.args.pages c.loop-i.to
+    (subst (λ n. NoneAbove c.args.areas.now c.args.pages n c.loop-i.to) first c.loop-i.invariant) (omega arith)

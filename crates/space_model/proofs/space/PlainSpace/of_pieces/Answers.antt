@@ -1,9 +1,15 @@
-use Rattle.std.proofs.Common.{arith, sym, subst}
-use Rattle.space_model.specs.Areas.{kind_at, HasKinds}
+use Rattle.std.proofs.Common.{◌^◌, ◌<◌, ◌∙◌, arith, sym, ap, subst}
+use Rattle.space_model.specs.Areas.{kind_at, row_count, HasKinds}
 use Rattle.space_model.proofs.Joining.{pieces-kinds}
 use Rattle.page_types.specs.Named.{IsNamedOption}
 use Rattle.space_model.proofs.NamedKinds.{named_at, named_all}
+use Rattle.space_model.proofs.Stepping.{row_count-le}
 use Rattle.space_model.proofs.space.PlainSpace.of_pieces.Goals as goal
+
+pub row_count-row_total-requires : goal.row_count-row_total-requires
+row_count-row_total-requires c =
+    subst (λ A. row_count A < 2 ^ 32) (sym c.as_slice.ensures.value)
+    (omega (arith, row_count-le c.in_ok-areas.areas.items, c.in_ok-areas.ensures.few, c.requires.few))
 
 pub invariant_of-result : goal.invariant_of-result
 invariant_of-result c =
@@ -12,6 +18,7 @@ invariant_of-result c =
       kinds.areas,
       named_all _ kinds.areas (λ p. subst IsNamedOption (sym (kinds.kinds_are p)) (named_at c.args.pieces.now p c.requires.named)),
       omega (arith, c.in_ok-areas.ensures.few, c.requires.few),
+      c.row_count-row_total.ensures ∙ ap row_count c.as_slice.ensures.value,
     )
 
 pub returns : goal.returns

@@ -1,0 +1,289 @@
+-- Areas that a change doesn't touch stay: the list with only the middle built anew has the kinds of the effect, and its
+-- rows are those before, counted anew between the two cuts.
+use Rattle.std.proofs.Common.{◌≡◌, ◌≢◌, ℕ, zero, suc, ◌+◌, ◌-◌, ◌<◌, ◌≤◌, inl, inr, if◌then◌else◌, List, [], ◌∷◌, ◌++◌, length, length-append, append_assoc, take, drop, get_or, slice_get, Option, Some, None, MatchOption, All, sym, ◌∙◌, ap, subst, refl, arith}
+use Rattle.std.specs.List.{splice}
+use Rattle.std.proofs.lemmas.Bool.{cases_lt}
+use Rattle.std.proofs.lemmas.List.{append-nil, take_at, drop_at}
+use Rattle.std.proofs.lemmas.Option.{slice_get-get_or}
+use Rattle.std.proofs.lemmas.List.Elements.{All-head, All-tail}
+use Rattle.page_types.specs.declared.TheConstants.{LIMIT}
+use Rattle.page_types.specs.declared.calls.Kind.{Kind}
+use Rattle.page_types.specs.declared.calls.Call.{Call}
+use Rattle.space_model.specs.declared.areas.Area.{Area}
+use Rattle.space_model.specs.Areas.{is_within, MayFollow, LeadsTo, IsAreaList, HasKinds, kind_at, gap_between, gaps_from, row_count}
+use Rattle.space_model.specs.Effect.{new_kind, effect_of}
+use Rattle.space_model.specs.Building.{no_area, changed_list}
+use Rattle.space_model.specs.Cutting.{IsCutBy, IsPlan, end_of, start_of, gaps_between, rows_between}
+use Rattle.space_model.proofs.AreaKinds.{kind_at-here, kind_at-before, kind_at-after, kind_at-below, kind_at-end, IsAbove, LeadsTo-above, side_of}
+use Rattle.space_model.proofs.AreaKinds.Side.{before, inside, after}
+use Rattle.space_model.proofs.Joining.{first_of, first_of-none, kind_at-append, IsFreeFrom, ends_below}
+use Rattle.space_model.proofs.Changing.{within-before, within-inside, within-after, changed_list-kinds}
+use Rattle.space_model.proofs.FourWays.{starts_after, before_member}
+use Rattle.space_model.proofs.Highest.{member_between}
+
+pub areas_right : (A B : List Area) → IsAreaList (A ++ B) → IsAreaList B
+areas_right [] B w = w
+areas_right (a ∷ A) B w = areas_right A B w.2
+
+areas_left : (A B : List Area) → IsAreaList (A ++ B) → IsAreaList A
+areas_left [] B w = tt
+areas_left (a ∷ []) B w = (w.0, tt, tt)
+areas_left (a ∷ b ∷ A) B w = (w.0, w.1, areas_left (b ∷ A) B w.2)
+
+-- the areas before one are free from its first page on
+free_from_next : (A : List Area) (b : Area) (B : List Area) → IsAreaList (A ++ b ∷ B) → IsFreeFrom A b.lo
+free_from_next [] b B w p l = refl
+free_from_next (a ∷ A) b B w p l =
+    kind_at-after a A p (omega (arith, starts_after a (A ++ b ∷ B) b w (member_between A b B))) ∙ free_from_next A b B w.2 p l
+
+-- two area lists are one where the first ends in time, and the kinds differ where they touch
+append_areas : (A : List Area) (b : Area) (B : List Area) → IsAreaList A → IsAreaList (b ∷ B) → IsFreeFrom A b.lo →
+    ((p : ℕ) → suc p ≡ b.lo → kind_at A p ≢ Some b.kind) → IsAreaList (A ++ b ∷ B)
+append_areas [] b B v w free differs = w
+append_areas (a ∷ []) b B v w free differs =
+    let n : a.lo < a.hi = v.0.has_page in
+    let follows : MayFollow a b =
+    record {
+      after = ends_below a [] b.lo v.0 free;
+      differs = λ touch same.
+          differs (a.hi - 1) (omega arith)
+          (kind_at-here a [] (a.hi - 1) (omega arith) (omega arith) ∙ ap (λ k. Some k) same);
+    } in
+    (v.0, follows, w)
+append_areas (a ∷ c ∷ A) b B v w free differs =
+    let end : a.hi ≤ b.lo = ends_below a (c ∷ A) b.lo v.0 free in
+    let more : (p : ℕ) → suc p ≡ b.lo → kind_at (c ∷ A) p ≢ Some b.kind =
+    λ p e s. elim (cases_lt p a.hi) [
+      | inl lt ↦ let none = kind_at-below (c ∷ A) a.hi p v.2 (LeadsTo-above a (c ∷ A) v.1) lt in cc
+      | inr ge ↦ differs p e (kind_at-after a (c ∷ A) p ge ∙ s)
+    ] in
+    (v.0, v.1, append_areas (c ∷ A) b B v.2 w (λ p l. sym (kind_at-after a (c ∷ A) p (omega arith)) ∙ free p l) more)
+
+-- areas that give a page no kind may be left out
+kind_at-without : (A B : List Area) (p : ℕ) → kind_at B p ≡ None → kind_at (A ++ B) p ≡ kind_at A p
+kind_at-without A B p none =
+    kind_at-append A B p ∙ ap (first_of (kind_at A p)) none ∙ first_of-none (kind_at A p)
+
+all_above : (B : List Area) (page : ℕ) → All (λ b. page < b.lo) B → IsAbove page B
+all_above [] page all = tt
+all_above (b ∷ B) page all = omega (arith, All-head (λ x. page < x.lo) b B all)
+
+module _ (A N : List Area) (c : Call) (lo hi : ℕ) (l : lo < hi) (k : HasKinds (effect_of A c lo hi) N) where
+  outside : (p : ℕ) → hi ≤ p → kind_at N p ≡ kind_at A p
+  outside p h = k.kinds_are p ∙ within-after lo hi p (new_kind c (kind_at A p)) (kind_at A p) h
+
+  -- areas above the place stay behind what the place became
+  back_areas : (B : List Area) → IsAreaList (A ++ B) → All (λ b. hi < b.lo) B → IsAreaList (N ++ B)
+  back_areas [] w all = subst IsAreaList (sym (append-nil N)) k.areas
+  back_areas (b ∷ B) w all =
+      let h : hi < b.lo = All-head (λ x. hi < x.lo) b B all in
+      append_areas N b B k.areas (areas_right A (b ∷ B) w)
+      (λ p g. outside p (omega arith) ∙ free_from_next A b B w p g)
+      (λ p e s.
+      before_member (A ++ b ∷ B) b p w (member_between A b B) e
+      (kind_at-append A (b ∷ B) p ∙
+      ap (λ o. first_of o (kind_at (b ∷ B) p)) (sym (outside p (omega arith)) ∙ s)))
+
+  back_kind : (B : List Area) (p : ℕ) → IsAreaList (A ++ B) → All (λ b. hi < b.lo) B →
+      kind_at (N ++ B) p ≡ effect_of (A ++ B) c lo hi p
+  back_kind B p w all =
+      let old : Option Kind = kind_at (A ++ B) p in
+      elim (side_of lo hi p) [
+        | before t ↦
+            kind_at-append N B p ∙
+            ap (λ o. first_of o (kind_at B p))
+            (k.kinds_are p ∙ within-before lo hi p (new_kind c (kind_at A p)) (kind_at A p) t) ∙
+            sym (kind_at-append A B p) ∙
+            sym (within-before lo hi p (new_kind c old) old t)
+        | inside g t ↦
+            let none : kind_at B p ≡ None = kind_at-below B hi p (areas_right A B w) (all_above B hi all) t in
+            kind_at-without N B p none ∙ k.kinds_are p ∙
+            within-inside lo hi p (new_kind c (kind_at A p)) (kind_at A p) g t ∙
+            ap (new_kind c) (sym (kind_at-without A B p none)) ∙
+            sym (within-inside lo hi p (new_kind c old) old g t)
+        | after t ↦
+            kind_at-append N B p ∙
+            ap (λ o. first_of o (kind_at B p)) (outside p t) ∙
+            sym (kind_at-append A B p) ∙
+            sym (within-after lo hi p (new_kind c old) old t)
+      ]
+
+  back_kinds : (B : List Area) → IsAreaList (A ++ B) → All (λ b. hi < b.lo) B → HasKinds (effect_of (A ++ B) c lo hi) (N ++ B)
+  back_kinds B w all = record { areas = back_areas B w all; kinds_are = λ p. back_kind B p w all }
+
+-- what follows an area may follow it still, where the pages up to a later one have the same kinds
+leads_still : (a : Area) (A N : List Area) (lo : ℕ) → IsAreaList (a ∷ A) → a.hi < lo → IsAreaList N →
+    ((p : ℕ) → p < lo → kind_at N p ≡ kind_at A p) → LeadsTo a N
+leads_still a A [] lo w l v same = tt
+leads_still a A (n ∷ N) lo w l v same =
+    let s : n.lo < n.hi = v.0.has_page in
+    record {
+      after =
+          elim (cases_lt n.lo a.hi) [
+            | inl lt ↦
+                let some : kind_at (n ∷ N) n.lo ≡ Some n.kind = kind_at-here n N n.lo (omega arith) s in
+                let is = same n.lo (omega arith) in
+                let none = kind_at-below A a.hi n.lo w.2 (LeadsTo-above a A w.1) lt in cc
+            | inr ge ↦ ge
+          ];
+      differs = λ touch kinds.
+          kind_at-end a A w.1 w.2
+          (sym (same a.hi l) ∙ kind_at-here n N a.hi (omega arith) (omega arith) ∙ ap (λ k. Some k) (sym kinds));
+    }
+
+-- an area below the place stays before what the place became
+front_area : (a : Area) (A N : List Area) (c : Call) (lo hi : ℕ) → IsAreaList (a ∷ A) → a.hi < lo →
+    HasKinds (effect_of A c lo hi) N → HasKinds (effect_of (a ∷ A) c lo hi) (a ∷ N)
+front_area a A N c lo hi w l k =
+    let below : (p : ℕ) → p < lo → kind_at N p ≡ kind_at A p =
+    λ p h. k.kinds_are p ∙ within-before lo hi p (new_kind c (kind_at A p)) (kind_at A p) h in
+    let first : (p : ℕ) → p < a.hi → kind_at (a ∷ N) p ≡ kind_at (a ∷ A) p → kind_at (a ∷ N) p ≡ effect_of (a ∷ A) c lo hi p =
+    λ p h e. e ∙ sym (within-before lo hi p (new_kind c (kind_at (a ∷ A) p)) (kind_at (a ∷ A) p) (omega arith)) in
+    record {
+      areas = (w.0, leads_still a A N lo w l k.areas below, k.areas);
+      kinds_are = λ p.
+          elim (side_of a.lo a.hi p) [
+            | before h ↦
+                first p (omega (arith, w.0.has_page))
+                (kind_at-before a N p h ∙ below p (omega (arith, w.0.has_page)) ∙ sym (kind_at-before a A p h))
+            | inside g h ↦ first p h (kind_at-here a N p g h ∙ sym (kind_at-here a A p g h))
+            | after h ↦
+                kind_at-after a N p h ∙ k.kinds_are p ∙
+                ap (λ o. if is_within lo hi p then new_kind c o else o) (sym (kind_at-after a A p h))
+          ];
+    }
+
+front_kinds : (front A N : List Area) (c : Call) (lo hi : ℕ) → IsAreaList (front ++ A) → All (λ a. a.hi ≤ lo - 1) front →
+    HasKinds (effect_of A c lo hi) N → HasKinds (effect_of (front ++ A) c lo hi) (front ++ N)
+front_kinds [] A N c lo hi w all k = k
+front_kinds (a ∷ front) A N c lo hi w all k =
+    front_area a (front ++ A) (front ++ N) c lo hi w
+    (omega (arith, w.0.has_page, All-head (λ b. b.hi ≤ lo - 1) a front all))
+    (front_kinds front A N c lo hi w.2 (All-tail (λ b. b.hi ≤ lo - 1) a front all) k)
+
+-- the list with the middle built anew
+pub spliced : (A front rest middle back N : List Area) (c : Call) (lo hi page : ℕ) → page ≡ lo - 1 → IsAreaList A → lo < hi → hi ≤ LIMIT →
+    IsCutBy (λ a. a.hi) A page front rest → IsCutBy (λ a. a.lo) rest hi middle back → N ≡ changed_list middle c lo hi →
+    HasKinds (effect_of A c lo hi) (front ++ (N ++ back))
+spliced A front rest middle back N c lo hi page e w l h low high is =
+    let whole : IsAreaList (front ++ rest) = subst IsAreaList low.whole w in
+    let parts : IsAreaList (middle ++ back) = subst IsAreaList high.whole (areas_right front rest whole) in
+    let new : HasKinds (effect_of middle c lo hi) N =
+    subst (HasKinds (effect_of middle c lo hi)) (sym is)
+    (changed_list-kinds middle c lo hi (areas_left middle back parts) l h) in
+    let upper : HasKinds (effect_of rest c lo hi) (N ++ back) =
+    subst (λ X. HasKinds (effect_of X c lo hi) (N ++ back)) (sym high.whole)
+    (back_kinds middle N c lo hi l new back parts high.above) in
+    subst (λ X. HasKinds (effect_of X c lo hi) (front ++ (N ++ back))) (sym low.whole)
+    (front_kinds front rest (N ++ back) c lo hi whole (subst (λ p. All (λ a. a.hi ≤ p) front) e low.upto) upper)
+
+-- the gaps before, in and behind the middle
+front_gaps : ℕ → List Area → ℕ
+front_gaps page [] = 0
+front_gaps page (a ∷ rest) = gap_between page a.lo + front_gaps a.hi rest
+
+back_gaps : List Area → ℕ
+back_gaps [] = 0
+back_gaps (a ∷ rest) = gaps_from a.hi rest
+
+gaps_front : (page : ℕ) (front A : List Area) → gaps_from page (front ++ A) ≡ front_gaps page front + gaps_from (end_of page front) A
+unfolding front_gaps
+gaps_front page [] A = omega arith
+gaps_front page (a ∷ front) A = omega (arith, gaps_front a.hi front A)
+
+gaps_back : (page : ℕ) (A back : List Area) → gaps_from page (A ++ back) ≡ gaps_between page A (start_of back) + back_gaps back
+unfolding back_gaps
+gaps_back page [] [] = omega arith
+gaps_back page [] (b ∷ back) = refl
+gaps_back page (a ∷ A) back = omega (arith, gaps_back a.hi A back)
+
+rows_outside : List Area → List Area → ℕ
+rows_outside front back = (length front + length back) + (front_gaps 0 front + back_gaps back)
+
+-- the rows of a list are those between the cuts and those outside, which don't depend on the middle
+rows_parted : (front A back : List Area) →
+    row_count (front ++ (A ++ back)) ≡ rows_outside front back + rows_between (end_of 0 front) A (start_of back)
+unfolding rows_outside
+rows_parted front A back =
+    omega (
+      arith,
+      length-append front (A ++ back),
+      length-append A back,
+      gaps_front 0 front (A ++ back),
+      gaps_back (end_of 0 front) A back,
+    )
+
+pub rows_fewer : (front A back : List Area) (from to : ℕ) → from ≡ end_of 0 front → to ≡ start_of back →
+    rows_between from A to ≤ row_count (front ++ (A ++ back))
+rows_fewer front A back from to f t =
+    subst (λ x. rows_between x A to ≤ row_count (front ++ (A ++ back))) (sym f)
+    (subst (λ y. rows_between (end_of 0 front) A y ≤ row_count (front ++ (A ++ back))) (sym t)
+    (omega (arith, rows_parted front A back)))
+
+pub rows_changed : (front A B back : List Area) (from to : ℕ) → from ≡ end_of 0 front → to ≡ start_of back →
+    row_count (front ++ (A ++ back)) + rows_between from B to ≡ row_count (front ++ (B ++ back)) + rows_between from A to
+rows_changed front A B back from to f t =
+    let both : ℕ → ℕ → Type 0 =
+    λ x y. row_count (front ++ (A ++ back)) + rows_between x B y ≡ row_count (front ++ (B ++ back)) + rows_between x A y in
+    subst (λ x. both x to) (sym f)
+    (subst (λ y. both (end_of 0 front) y) (sym t) (omega (arith, rows_parted front A back, rows_parted front B back)))
+
+-- the rows of a whole list
+pub rows_all : (page : ℕ) (A : List Area) → gaps_between page A LIMIT ≡ gaps_from page A
+rows_all page [] = refl
+rows_all page (a ∷ rest) = omega (arith, rows_all a.hi rest)
+
+end_of-at : (page : ℕ) (A : List Area) (i : ℕ) → i + 1 ≡ length A → end_of page A ≡ (get_or A i no_area).hi
+end_of-at page [] i l = absurd (omega arith)
+end_of-at page (a ∷ []) zero l = refl
+end_of-at page (a ∷ []) (suc i) l = absurd (omega arith)
+end_of-at page (a ∷ b ∷ rest) zero l = absurd (omega arith)
+end_of-at page (a ∷ b ∷ rest) (suc i) l = end_of-at a.hi (b ∷ rest) i (omega arith)
+
+-- where a list ends is where its last area ends
+pub end_of-last : (A : List Area) (o : Option Area) → o ≡ slice_get A (length A - 1) →
+    MatchOption o (end_of 0 A ≡ 0) (λ a. end_of 0 A ≡ a.hi)
+end_of-last [] o e = subst (λ x. MatchOption x (end_of 0 [] ≡ 0) (λ a. end_of 0 [] ≡ a.hi)) (sym e) refl
+end_of-last (a ∷ rest) o e =
+    let i : ℕ = length (a ∷ rest) - 1 in
+    let at : slice_get (a ∷ rest) i ≡ Some (get_or (a ∷ rest) i no_area) = slice_get-get_or (a ∷ rest) i no_area (omega arith) in
+    subst (λ x. MatchOption x (end_of 0 (a ∷ rest) ≡ 0) (λ b. end_of 0 (a ∷ rest) ≡ b.hi)) (sym (e ∙ at))
+    (end_of-at 0 (a ∷ rest) i (omega arith))
+
+-- and it starts where its first area starts
+pub start_of-first : (A : List Area) (o : Option Area) → o ≡ slice_get A 0 →
+    MatchOption o (start_of A ≡ LIMIT) (λ a. start_of A ≡ a.lo)
+start_of-first [] o e = subst (λ x. MatchOption x (start_of [] ≡ LIMIT) (λ a. start_of [] ≡ a.lo)) (sym e) refl
+start_of-first (a ∷ rest) o e =
+    subst (λ x. MatchOption x (start_of (a ∷ rest) ≡ LIMIT) (λ b. start_of (a ∷ rest) ≡ b.lo)) (sym e) refl
+
+-- the list with the middle built anew is a splice of the old one
+splice_is : (A front touched back N : List Area) (first end : ℕ) → A ≡ front ++ (touched ++ back) → first ≡ length front →
+    end ≡ length front + length touched → splice A first end N ≡ front ++ (N ++ back)
+splice_is A front touched back N first end whole f e =
+    let behind : drop end A ≡ back =
+    ap (drop end) (whole ∙ sym (append_assoc front touched back)) ∙
+    drop_at (front ++ touched) back end (length-append front touched ∙ sym e) in
+    ap (λ x. take first x ++ (N ++ drop end A)) whole ∙
+    ap (λ x. x ++ (N ++ drop end A)) (take_at front (touched ++ back) first (sym f)) ∙
+    ap (λ x. front ++ (N ++ x)) behind
+
+pub plan_of : (A front rest touched back N : List Area) (c : Call) (lo hi page first end rows : ℕ) → page ≡ lo - 1 → IsAreaList A →
+    lo < hi → hi ≤ LIMIT → IsCutBy (λ a. a.hi) A page front rest →
+    IsCutBy (λ a. a.lo) rest hi touched back → N ≡ changed_list touched c lo hi →
+    first ≡ length front → end ≡ length front + length touched → rows ≡ row_count (front ++ (N ++ back)) →
+    IsPlan A c lo hi first end rows N
+plan_of A front rest touched back N c lo hi page first end rows p w l h low high is f e r =
+    let whole : A ≡ front ++ (touched ++ back) = low.whole ∙ ap (λ x. front ++ x) high.whole in
+    let same : splice A first end N ≡ front ++ (N ++ back) = splice_is A front touched back N first end whole f e in
+    record {
+      ordered = omega arith;
+      within = omega (arith, ap length whole, length-append front (touched ++ back), length-append touched back);
+      list = subst (HasKinds (effect_of A c lo hi)) (sym same) (spliced A front rest touched back N c lo hi page p w l h low high is);
+      counted = r ∙ ap row_count (sym same);
+    }
+
+-- and it is that of the same list
+pub plan_for : (A B : List Area) (c : Call) (lo hi first end rows : ℕ) (middle : List Area) → A ≡ B →
+    IsPlan A c lo hi first end rows middle → IsPlan B c lo hi first end rows middle
+plan_for A B c lo hi first end rows middle same plan = subst (λ X. IsPlan X c lo hi first end rows middle) same plan

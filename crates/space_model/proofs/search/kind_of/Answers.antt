@@ -1,0 +1,15 @@
+-- The first area that ends above the page decides.
+use Rattle.std.proofs.Common.{sym, arith}
+use Rattle.space_model.proofs.Halving.{first_kind, first_none, free_past}
+use Rattle.space_model.proofs.search.kind_of.Goals as goal
+
+pub returns-then-area-page : goal.returns-then-area-page
+returns-then-area-page c =
+    sym (first_kind c.args.areas.now c.args.page c.in-Some.area c.requires c.in-Some.ensures c.if-area-page.true)
+
+pub returns-else-area-page : goal.returns-else-area-page
+returns-else-area-page c =
+    sym (first_none c.args.areas.now c.args.page c.in-Some.area c.requires c.in-Some.ensures c.if-area-page.false)
+
+pub returns-in-None : goal.returns-in-None
+returns-in-None c = sym (free_past c.args.areas.now c.args.page c.args.page c.in-None.ensures (omega arith))

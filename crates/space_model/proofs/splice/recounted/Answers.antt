@@ -1,0 +1,53 @@
+-- What lies outside the two cuts is counted once.
+use Rattle.std.proofs.Common.{arith}
+use Rattle.space_model.proofs.Splicing.{rows_fewer, rows_changed}
+use Rattle.space_model.proofs.splice.recounted.Goals as goal
+
+pub rows_between-requires : goal.rows_between-requires
+rows_between-requires c =
+    omega (
+      arith,
+      rows_fewer c.args.front.now c.args.old.now c.args.back.now _ _ c.end_of-from.ensures c.start_of-to.ensures,
+      c.requires.counted,
+      c.ranges.rows.fits,
+    )
+
+pub overflow_sub-outside : goal.overflow_sub-outside
+overflow_sub-outside c =
+    omega (
+      arith,
+      rows_fewer c.args.front.now c.args.old.now c.args.back.now _ _ c.end_of-from.ensures c.start_of-to.ensures,
+      c.requires.counted,
+      c.rows_between.ensures,
+    )
+
+pub rows_between-requires-2 : goal.rows_between-requires-2
+rows_between-requires-2 c =
+    omega (
+      arith,
+      rows_fewer c.args.front.now c.args.new.now c.args.back.now _ _ c.end_of-from.ensures c.start_of-to.ensures,
+      c.requires.fits,
+    )
+
+pub overflow_add-result : goal.overflow_add-result
+overflow_add-result c =
+    omega (
+      arith,
+      rows_fewer c.args.front.now c.args.old.now c.args.back.now _ _ c.end_of-from.ensures c.start_of-to.ensures,
+      rows_changed c.args.front.now c.args.old.now c.args.new.now c.args.back.now _ _ c.end_of-from.ensures c.start_of-to.ensures,
+      c.requires.counted,
+      c.requires.fits,
+      c.rows_between.ensures,
+      c.rows_between-2.ensures,
+    )
+
+pub returns : goal.returns
+returns c =
+    omega (
+      arith,
+      rows_fewer c.args.front.now c.args.old.now c.args.back.now _ _ c.end_of-from.ensures c.start_of-to.ensures,
+      rows_changed c.args.front.now c.args.old.now c.args.new.now c.args.back.now _ _ c.end_of-from.ensures c.start_of-to.ensures,
+      c.requires.counted,
+      c.rows_between.ensures,
+      c.rows_between-2.ensures,
+    )
