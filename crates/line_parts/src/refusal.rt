@@ -30,9 +30,6 @@ pub enum What {
     /// A maps line's start is not below its end, or the lines are out of order.
     #[error("maps out of order")]
     Order,
-    /// The line has a form that is not read yet.
-    #[error("form not read yet")]
-    Later,
 }
 
 /// The first refusal from the left: what was due, and how many bytes are left from its place on.

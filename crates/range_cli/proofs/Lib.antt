@@ -9,3 +9,4 @@ pub mod OpeningLemmas
 pub mod Differences
 pub mod ScriptLemmas
 pub mod Outcomes
+pub mod ProcessLemmas

@@ -6,18 +6,17 @@ use Rattle.space_model.specs.declared.areas.Area.{Area}
 use Rattle.space_model.specs.Areas.{HasKinds, kind_at, row_count}
 use Rattle.space_model.proofs.AreaKinds.{only_one}
 use Rattle.strace_reader.specs.declared.item.BadCall.{BadCall}
-use Rattle.strace_reader.specs.declared.item.Item.TheVariants.{Played as Call, Other, Blank as Empty}
 use Rattle.strace_reader.specs.declared.maps.MapsItem.{MapsItem}
 use Rattle.strace_reader.specs.declared.maps.MapsItem.TheVariants.{Area as Mapped, Past}
-use Rattle.strace_reader.proofs.OneOutcome.{one_outcome, one_maps_outcome}
+use Rattle.strace_reader.proofs.OneFeed.{one_answer}
+use Rattle.strace_reader.proofs.OneOutcome.{one_maps_outcome}
+use Rattle.strace_reader.specs.declared.joiner.Fed.{Fed}
 use Rattle.range_cli.specs.declared.status.EarlyEnd.{EarlyEnd}
 use Rattle.range_cli.specs.declared.status.EarlyEnd.TheVariants.{Refused, Failed, NoMemory, Above}
 use Rattle.range_cli.specs.declared.status.Status.{Status}
 use Rattle.range_cli.specs.declared.status.Status.TheVariants.{Done, Usage, BadLine, ReadFault, WriteFault, Memory, Limit}
 use Rattle.range_cli.specs.declared.status.Which.TheVariants.{Input, Line as OfLine, Lines as OfLines, Rows}
 use Rattle.range_cli.specs.declared.trace.Line.{Line}
-use Rattle.range_cli.specs.declared.trace.Step.{Step}
-use Rattle.range_cli.specs.declared.trace.Step.TheVariants.{Played, Skipped, Blank}
 use Rattle.range_cli.specs.declared.words.Options.{Options}
 use Rattle.range_cli.specs.Lines.{lines_of}
 use Rattle.range_cli.specs.Opening.{IsNext, IsRefused, EndsMap, ReadsMaps, EndsMaps, Opens, EndsOpening, map_start, map_stop}
@@ -27,92 +26,71 @@ use Rattle.range_cli.specs.Run.{Heard, Wrote, HasCause, IsOutcome, IsOnlyOutcome
 use Rattle.range_cli.specs.Run.IsOutcome.{usage, too_long, early, done}
 use Rattle.range_cli.specs.Script.{IsScript, EndsTrace, EndsInput}
 use Rattle.range_cli.specs.Status.{status_of}
-use Rattle.range_cli.specs.Trace.{Asks, Ends, Reads, EndsAt, played_by}
-use Rattle.range_cli.specs.Trace.Reads.{nothing, call, other, empty}
+use Rattle.range_cli.specs.Trace.{Standing, start_at, after, Asks, Ends, Reads, EndsAt, played_by}
+use Rattle.range_cli.specs.Trace.Reads.{nothing, line}
 use Rattle.range_cli.specs.Trace.EndsAt.{here, later}
 use Rattle.range_cli.specs.Words.{Accepts, once, count_of_word}
 
 -- a line that asks for something ends no run
-asks_ends : (number played : ℕ) (text : List ℕ) (step : Step) (end : EarlyEnd) → Asks number played text step → Ends number played text end → ⊥
-asks_ends number played text (Played line) (Refused l k w) a e = (one_outcome text).never_both _ _ a.2.1 e.1
-asks_ends number played text Skipped (Refused l k w) a e = (one_outcome text).never_both _ _ a.1 e.1
-asks_ends number played text Blank (Refused l k w) a e = (one_outcome text).never_both _ _ a.1 e.1
-asks_ends number played text step Failed a e = e
-asks_ends number played text step NoMemory a e = e
-asks_ends number played text step (Above Input v) a e = e
-asks_ends number played text (Played line) (Above OfLine v) a e = omega (arith, a.0, e.0)
-asks_ends number played text Skipped (Above OfLine v) a e = omega (arith, a.0, e.0)
-asks_ends number played text Blank (Above OfLine v) a e = omega (arith, a.0, e.0)
-asks_ends number played text (Played line) (Above OfLines v) a e = omega (arith, a.1, e.1)
-asks_ends number played text Skipped (Above OfLines v) a e =
-    let same : Other ≡ Call e.3.1.0 e.3.0.call e.3.0.recorded = (one_outcome text).item _ _ a.1 e.3.1.1 in cc
-asks_ends number played text Blank (Above OfLines v) a e =
-    let same : Empty ≡ Call e.3.1.0 e.3.0.call e.3.0.recorded = (one_outcome text).item _ _ a.1 e.3.1.1 in cc
-asks_ends number played text step (Above Rows v) a e = e
+asks_ends : (stand : Standing) (text : List ℕ) (answer : Fed) (end : EarlyEnd) → Asks stand text answer → Ends stand text end → ⊥
+asks_ends stand text answer (Refused l k w) a e = (one_answer stand.fed text).never_both _ _ a.1 e.1
+asks_ends stand text answer Failed a e = e
+asks_ends stand text answer NoMemory a e = e
+asks_ends stand text answer (Above Input v) a e = e
+asks_ends stand text answer (Above OfLine v) a e = omega (arith, a.0, e.0)
+asks_ends stand text answer (Above OfLines v) a e =
+    let same : answer ≡ e.2.0 = (one_answer stand.fed text).item _ _ a.1 e.2.1 in omega (arith, a.2, e.2.2, ap played_by same)
+asks_ends stand text answer (Above Rows v) a e = e
 
--- what a line asks for adds the same number of played lines
-asks_same : (number played : ℕ) (text : List ℕ) (s t : Step) → Asks number played text s → Asks number played text t → played_by s ≡ played_by t
-asks_same number played text (Played l) (Played m) a b = refl
-asks_same number played text (Played l) Skipped a b = let same : Other ≡ Call a.2.0 l.call l.recorded = (one_outcome text).item _ _ b.1 a.2.1 in cc
-asks_same number played text (Played l) Blank a b = let same : Empty ≡ Call a.2.0 l.call l.recorded = (one_outcome text).item _ _ b.1 a.2.1 in cc
-asks_same number played text Skipped (Played m) a b = let same : Other ≡ Call b.2.0 m.call m.recorded = (one_outcome text).item _ _ a.1 b.2.1 in cc
-asks_same number played text Skipped Skipped a b = refl
-asks_same number played text Skipped Blank a b = refl
-asks_same number played text Blank (Played m) a b = let same : Empty ≡ Call b.2.0 m.call m.recorded = (one_outcome text).item _ _ a.1 b.2.1 in cc
-asks_same number played text Blank Skipped a b = refl
-asks_same number played text Blank Blank a b = refl
+-- a line has one answer
+asks_same : (stand : Standing) (text : List ℕ) (a b : Fed) → Asks stand text a → Asks stand text b → a ≡ b
+asks_same stand text a b x y = (one_answer stand.fed text).item a b x.1 y.1
 
 -- lines that are all read end no run
-reads_ends : {number played skipped : ℕ} {texts : List (List ℕ)} {lines : List Line} {end : EarlyEnd}
-    → Reads number played texts lines skipped → EndsAt number played texts end → ⊥
-reads_ends nothing h = elim h [ ]
-reads_ends (call {number = n} {played = p} {text = t} {line = l} a r) (here {end = s} e) = asks_ends n p t (Played l) s a e
-reads_ends (call {number = n} {played = p} {text = t} {texts = ts} {line = l} a r) (later {end = s} step b e) =
-    reads_ends r (subst (λ k. EndsAt (n + 1) (p + k) ts s) (asks_same n p t step (Played l) b a) e)
-reads_ends (other {number = n} {played = p} {text = t} a r) (here {end = s} e) = asks_ends n p t Skipped s a e
-reads_ends (other {number = n} {played = p} {text = t} {texts = ts} a r) (later {end = s} step b e) =
-    reads_ends r (subst (λ k. EndsAt (n + 1) k ts s) (omega (arith, asks_same n p t step Skipped b a)) e)
-reads_ends (empty {number = n} {played = p} {text = t} a r) (here {end = s} e) = asks_ends n p t Blank s a e
-reads_ends (empty {number = n} {played = p} {text = t} {texts = ts} a r) (later {end = s} step b e) =
-    reads_ends r (subst (λ k. EndsAt (n + 1) k ts s) (omega (arith, asks_same n p t step Blank b a)) e)
+reads_ends : {stand : Standing} {skipped : ℕ} {texts : List (List ℕ)} {lines : List Line} {end : EarlyEnd}
+    → Reads stand texts lines skipped → EndsAt stand texts end → ⊥
+reads_ends (nothing left) h = elim h [ ]
+reads_ends (line {stand = s} {text = t} answer a r) (here {end = u} e) = asks_ends s t answer u a e
+reads_ends (line {stand = s} {text = t} {texts = ts} answer a r) (later {end = u} other b e) =
+    reads_ends r (subst (λ x. EndsAt (after s t x) ts u) (asks_same s t other answer b a) e)
 
 -- a line ends a run in one way
-ends_one : (number played : ℕ) (text : List ℕ) (s u : EarlyEnd) → Ends number played text s → Ends number played text u → s ≡ u
-ends_one number played text (Refused a1 a2 a3) (Refused b1 b2 b3) e h =
-    let same = (one_outcome text).refusal (record { column = a2; what = a3 }) (record { column = b2; what = b3 }) e.1 h.1 in
+ends_one : (stand : Standing) (text : List ℕ) (s u : EarlyEnd) → Ends stand text s → Ends stand text u → s ≡ u
+ends_one stand text (Refused a1 a2 a3) (Refused b1 b2 b3) e h =
+    let same = (one_answer stand.fed text).refusal (record { column = a2; what = a3 }) (record { column = b2; what = b3 }) e.1 h.1 in
     let k : a2 ≡ b2 = ap (λ x. x.column) same in let w : a3 ≡ b3 = ap (λ x. x.what) same in rw (e.2, h.2, k, w) refl
-ends_one number played text (Refused a1 a2 a3) Failed e h = absurd h
-ends_one number played text (Refused a1 a2 a3) NoMemory e h = absurd h
-ends_one number played text (Refused a1 a2 a3) (Above Input b) e h = absurd h
-ends_one number played text (Refused a1 a2 a3) (Above OfLine b) e h = absurd (omega (arith, e.0, h.0))
-ends_one number played text (Refused a1 a2 a3) (Above OfLines b) e h = absurd ((one_outcome text).never_both _ _ h.3.1.1 e.1)
-ends_one number played text (Refused a1 a2 a3) (Above Rows b) e h = absurd h
-ends_one number played text Failed u e h = absurd e
-ends_one number played text NoMemory u e h = absurd e
-ends_one number played text (Above Input a) u e h = absurd e
-ends_one number played text (Above OfLine a) (Refused b1 b2 b3) e h = absurd (omega (arith, e.0, h.0))
-ends_one number played text (Above OfLine a) Failed e h = absurd h
-ends_one number played text (Above OfLine a) NoMemory e h = absurd h
-ends_one number played text (Above OfLine a) (Above Input b) e h = absurd h
-ends_one number played text (Above OfLine a) (Above OfLine b) e h = rw (e.1, h.1) refl
-ends_one number played text (Above OfLine a) (Above OfLines b) e h = absurd (omega (arith, e.0, h.0))
-ends_one number played text (Above OfLine a) (Above Rows b) e h = absurd h
-ends_one number played text (Above OfLines a) (Refused b1 b2 b3) e h = absurd ((one_outcome text).never_both _ _ e.3.1.1 h.1)
-ends_one number played text (Above OfLines a) Failed e h = absurd h
-ends_one number played text (Above OfLines a) NoMemory e h = absurd h
-ends_one number played text (Above OfLines a) (Above Input b) e h = absurd h
-ends_one number played text (Above OfLines a) (Above OfLine b) e h = absurd (omega (arith, e.0, h.0))
-ends_one number played text (Above OfLines a) (Above OfLines b) e h = rw (e.2, h.2) refl
-ends_one number played text (Above OfLines a) (Above Rows b) e h = absurd h
-ends_one number played text (Above Rows a) u e h = absurd e
+ends_one stand text (Refused a1 a2 a3) Failed e h = absurd h
+ends_one stand text (Refused a1 a2 a3) NoMemory e h = absurd h
+ends_one stand text (Refused a1 a2 a3) (Above Input b) e h = absurd h
+ends_one stand text (Refused a1 a2 a3) (Above OfLine b) e h = absurd (omega (arith, e.0, h.0))
+ends_one stand text (Refused a1 a2 a3) (Above OfLines b) e h = absurd ((one_answer stand.fed text).never_both _ _ h.2.1 e.1)
+ends_one stand text (Refused a1 a2 a3) (Above Rows b) e h = absurd h
+ends_one stand text Failed u e h = absurd e
+ends_one stand text NoMemory u e h = absurd e
+ends_one stand text (Above Input a) u e h = absurd e
+ends_one stand text (Above OfLine a) (Refused b1 b2 b3) e h = absurd (omega (arith, e.0, h.0))
+ends_one stand text (Above OfLine a) Failed e h = absurd h
+ends_one stand text (Above OfLine a) NoMemory e h = absurd h
+ends_one stand text (Above OfLine a) (Above Input b) e h = absurd h
+ends_one stand text (Above OfLine a) (Above OfLine b) e h = rw (e.1, h.1) refl
+ends_one stand text (Above OfLine a) (Above OfLines b) e h = absurd (omega (arith, e.0, h.0))
+ends_one stand text (Above OfLine a) (Above Rows b) e h = absurd h
+ends_one stand text (Above OfLines a) (Refused b1 b2 b3) e h = absurd ((one_answer stand.fed text).never_both _ _ e.2.1 h.1)
+ends_one stand text (Above OfLines a) Failed e h = absurd h
+ends_one stand text (Above OfLines a) NoMemory e h = absurd h
+ends_one stand text (Above OfLines a) (Above Input b) e h = absurd h
+ends_one stand text (Above OfLines a) (Above OfLine b) e h = absurd (omega (arith, e.0, h.0))
+ends_one stand text (Above OfLines a) (Above OfLines b) e h = rw (e.1, h.1) refl
+ends_one stand text (Above OfLines a) (Above Rows b) e h = absurd h
+ends_one stand text (Above Rows a) u e h = absurd e
 
 -- so do lines
-ends_same : {number played : ℕ} {texts : List (List ℕ)} {s u : EarlyEnd} → EndsAt number played texts s → EndsAt number played texts u → s ≡ u
-ends_same (here {number = n} {played = p} {text = t} {end = s} e) (here {end = u} h) = ends_one n p t s u e h
-ends_same (here {number = n} {played = p} {text = t} {end = s} e) (later step b h) = absurd (asks_ends n p t step s b e)
-ends_same (later {number = n} {played = p} {text = t} step b h) (here {end = s} e) = absurd (asks_ends n p t step s b e)
-ends_same (later {number = n} {played = p} {text = t} {texts = ts} step b h) (later {end = u} other_step c k) =
-    ends_same h (subst (λ i. EndsAt (n + 1) (p + i) ts u) (asks_same n p t other_step step c b) k)
+ends_same : {stand : Standing} {texts : List (List ℕ)} {s u : EarlyEnd} → EndsAt stand texts s → EndsAt stand texts u → s ≡ u
+ends_same (here {stand = p} {text = t} {end = s} e) (here {end = u} h) = ends_one p t s u e h
+ends_same (here {stand = p} {text = t} {end = s} e) (later answer b h) = absurd (asks_ends p t answer s b e)
+ends_same (later {stand = p} {text = t} answer b h) (here {end = s} e) = absurd (asks_ends p t answer s b e)
+ends_same (later {stand = p} {text = t} {texts = ts} answer b h) (later {end = u} other c k) =
+    ends_same h (subst (λ x. EndsAt (after p t x) ts u) (asks_same p t other answer c b) k)
 
 next_same : (from : ℕ) (text : List ℕ) (s t : MapsItem) → IsNext from text s → IsNext from text t → s ≡ t
 next_same from text s t a b = (one_maps_outcome text).item s t a.spells b.spells
@@ -239,7 +217,7 @@ same_list : (kinds : ℕ → Option Kind) (A B : List Area) → HasKinds kinds A
 same_list kinds A B a b = only_one A B a.areas b.areas (λ page. a.kinds_are page ∙ sym (b.kinds_are page))
 
 trace_ends : (options : Options) (bytes : List ℕ) (lines : List Line) (passed past next : ℕ) (left : List (List ℕ)) (areas : List Area) (end : EarlyEnd)
-    → Opens options.opening (lines_of bytes) areas past next left → Reads next 0 left lines passed → EndsTrace options bytes end → ⊥
+    → Opens options.opening (lines_of bytes) areas past next left → Reads (start_at next) left lines passed → EndsTrace options bytes end → ⊥
 trace_ends options bytes lines passed past next left areas end opens reads e =
     let s = same_opens options.opening (lines_of bytes) _ _ _ _ _ _ _ _ e.head.opens opens in
     reads_ends reads (rw (s.next, s.left) at e.ends)

@@ -14,7 +14,7 @@ use Rattle.range_cli.specs.Opening.EndsMaps.{here as here_map, later as later_ma
 use Rattle.range_cli.specs.Play.{IsCollected}
 use Rattle.range_cli.specs.Script.{EndsInput, EndsEarly}
 use Rattle.range_cli.specs.Status.{status_of, OrMemory}
-use Rattle.range_cli.specs.Trace.{Ends, EndsAt}
+use Rattle.range_cli.specs.Trace.{Standing, Ends, EndsAt}
 use Rattle.range_cli.specs.Trace.EndsAt.{here, later}
 use Rattle.range_cli.specs.Words.{Accepts}
 use Rattle.range_cli.specs.Run.{Wrote, HasCause, EndsByInput}
@@ -29,18 +29,18 @@ IsOfBytes (Above OfLine value) = Unit {0}
 IsOfBytes (Above OfLines value) = Unit {0}
 IsOfBytes (Above Rows value) = Unit {0}
 
-of_line : (number played : ℕ) (text : List ℕ) (end : EarlyEnd) → Ends number played text end → IsOfBytes end
-of_line number played text (Refused line column what) h = tt
-of_line number played text Failed h = h
-of_line number played text NoMemory h = h
-of_line number played text (Above Input value) h = h
-of_line number played text (Above OfLine value) h = tt
-of_line number played text (Above OfLines value) h = tt
-of_line number played text (Above Rows value) h = tt
+of_line : (stand : Standing) (text : List ℕ) (end : EarlyEnd) → Ends stand text end → IsOfBytes end
+of_line stand text (Refused line column what) h = tt
+of_line stand text Failed h = h
+of_line stand text NoMemory h = h
+of_line stand text (Above Input value) h = h
+of_line stand text (Above OfLine value) h = tt
+of_line stand text (Above OfLines value) h = tt
+of_line stand text (Above Rows value) h = absurd h
 
-of_lines : {number played : ℕ} {texts : List (List ℕ)} {end : EarlyEnd} → EndsAt number played texts end → IsOfBytes end
-of_lines (here {number = n} {played = p} {text = t} {end = e} h) = of_line n p t e h
-of_lines (later step asks h) = of_lines h
+of_lines : {stand : Standing} {texts : List (List ℕ)} {end : EarlyEnd} → EndsAt stand texts end → IsOfBytes end
+of_lines (here {stand = s} {text = t} {end = e} h) = of_line s t e h
+of_lines (later answer asks h) = of_lines h
 
 of_map : (number from : ℕ) (text : List ℕ) (end : EarlyEnd) → EndsMap number from text end → IsOfBytes end
 of_map number from text (Refused line column what) h = tt

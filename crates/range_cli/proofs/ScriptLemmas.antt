@@ -7,14 +7,14 @@ use Rattle.range_cli.specs.Lines.{lines_of}
 use Rattle.range_cli.specs.Opening.{Opens}
 use Rattle.range_cli.specs.Script.{Begins, EndsInput}
 use Rattle.range_cli.specs.Status.{OrMemory}
-use Rattle.range_cli.specs.Trace.{EndsAt}
+use Rattle.range_cli.specs.Trace.{EndsAt, start_at}
 
 abbrev pub head_of : (options : Options) (bytes : List ℕ) (areas : List Area) (past next : ℕ) (left : List (List ℕ))
     → Opens options.opening (lines_of bytes) areas past next left → Begins options bytes
 head_of options bytes areas past next left h = record { areas = areas; past = past; next = next; left = left; opens = h }
 
 pub ends_by_trace : (options : Options) (bytes : List ℕ) (areas : List Area) (past next : ℕ) (left : List (List ℕ)) (end : EarlyEnd)
-    → Opens options.opening (lines_of bytes) areas past next left → OrMemory (EndsAt next 0 left) end → OrMemory (EndsInput options bytes) end
+    → Opens options.opening (lines_of bytes) areas past next left → OrMemory (EndsAt (start_at next) left) end → OrMemory (EndsInput options bytes) end
 ends_by_trace options bytes areas past next left end h (inl memory) = inl memory
 ends_by_trace options bytes areas past next left end h (inr ends) =
     inr (inr (inl (record { head = head_of options bytes areas past next left h; ends = ends })))

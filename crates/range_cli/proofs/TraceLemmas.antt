@@ -1,85 +1,131 @@
 -- Lines are read one by one: what becomes of those that are left completes what became of those before them.
-use Rattle.std.proofs.Common.{◌≡◌, ℕ, ◌+◌, ◌≤◌, List, [], ◌∷◌, ◌++◌, length, ap, subst, arith, add-zero, append-nil, append_assoc, length-append}
+use Rattle.std.proofs.Common.{◌≡◌, ℕ, ◌+◌, ◌≤◌, List, [], ◌∷◌, ◌++◌, length, Result, Ok, Err, ap, subst, sym, refl, ◌∙◌, inl, inr, arith, append-nil, append_assoc}
+use Rattle.std.specs.Prelude.{OnOk}
+use Rattle.strace_reader.specs.declared.joiner.Fed.{Fed}
+use Rattle.strace_reader.specs.declared.joiner.Fed.TheVariants.{Played, Kept, Skipped, Blank}
+use Rattle.strace_reader.specs.declared.joiner.Joiner.{Joiner}
+use Rattle.strace_reader.specs.Joiner.{IsFed}
+use Rattle.strace_reader.specs.Joining.{CountsKept, Drops, IsAnswer}
+use Rattle.strace_reader.proofs.KeptCounts.{few_kept}
+use Rattle.strace_reader.proofs.NamedCalls.{named_answer}
 use Rattle.range_cli.specs.declared.status.EarlyEnd.{EarlyEnd}
 use Rattle.range_cli.specs.declared.trace.Line.{Line}
-use Rattle.range_cli.specs.declared.trace.Step.{Step}
-use Rattle.range_cli.specs.declared.trace.Step.TheVariants.{Played, Skipped, Blank}
-use Rattle.range_cli.specs.Trace.{Asks, Ends, Reads, EndsAt, lines_with, skipped_with}
-use Rattle.range_cli.specs.Trace.Reads.{nothing, call, other, empty}
+use Rattle.range_cli.specs.declared.trace.TraceReader.{TraceReader}
+use Rattle.range_cli.specs.Status.{OrMemory}
+use Rattle.range_cli.specs.Trace.{Standing, start_at, after, lines_by, played_by, skipped_by, seen_by, IsShort, Ends, IsNamedAnswer, Reads, EndsAt}
+use Rattle.range_cli.specs.Trace.Reads.{nothing, line}
 use Rattle.range_cli.specs.Trace.EndsAt.{here, later}
+use Rattle.range_cli.specs.TraceReader.{IsIndexed, IsFull, StandsAt, Takes}
 
--- before line `number` these lines are played and so many skipped, and these texts are left
-pub record SoFar (first : ℕ) (all : List (List ℕ)) (number : ℕ) (left : List (List ℕ)) (lines : List Line) (skipped : ℕ) : Type 0 where
-  pub reads : (more : List Line) (s : ℕ) → Reads number (length lines) left more s → Reads first 0 all (lines ++ more) (skipped + s)
-  pub ends : (end : EarlyEnd) → EndsAt number (length lines) left end → EndsAt first 0 all end
+-- ---- one line
 
-pub so_far_start : (first : ℕ) (all : List (List ℕ)) → SoFar first all first all [] 0
-so_far_start first all = record {
-  reads = λ more s h. subst (λ n. Reads first 0 all more n) (omega arith) h;
+drops_few : (fed : List (List ℕ)) (pid count : ℕ) → Drops fed pid count → count ≤ 2
+drops_few fed pid count (inl h) = omega (arith, h.3)
+drops_few fed pid count (inr h) = omega (arith, h.1)
+
+passes_few : (fed : List (List ℕ)) (text : List ℕ) (count : ℕ) → IsAnswer fed text (Skipped count) → count ≤ 2
+passes_few fed text count (inl h) = omega (arith, h.1)
+passes_few fed text count (inr (inl h)) = omega (arith, h.1)
+passes_few fed text count (inr (inr (inl h))) = omega (arith, h.1)
+passes_few fed text count (inr (inr (inr (inl h)))) = omega (arith, h.4)
+passes_few fed text count (inr (inr (inr (inr h)))) = omega (arith, h.4)
+
+-- a line passes over two lines at most
+pub skips_few : (fed : List (List ℕ)) (text : List ℕ) (answer : Fed) → IsAnswer fed text answer → skipped_by answer ≤ 2
+skips_few fed text (Played pid call recorded count) (inl h) = drops_few fed pid count h.1
+skips_few fed text (Played pid call recorded count) (inr h) = omega (arith, h.3)
+skips_few fed text (Kept count) h = drops_few fed h.0 count h.5
+skips_few fed text (Skipped count) h = passes_few fed text count h
+skips_few fed text Blank h = omega arith
+
+pub is_named : (fed : List (List ℕ)) (text : List ℕ) (answer : Fed) → IsAnswer fed text answer → IsNamedAnswer answer
+is_named fed text (Played pid call recorded count) h = named_answer fed text pid call recorded count h
+is_named fed text (Kept count) h = tt
+is_named fed text (Skipped count) h = tt
+is_named fed text Blank h = tt
+
+-- the reader that was fed the text, and added its answer, took it
+pub takes_by : (stand : Standing) (text : List ℕ) (old new : TraceReader) (answer : Fed) → IsShort text → StandsAt old stand → IsAnswer stand.fed text answer → IsFed new.joiner (text ∷ stand.fed)
+    → new.lines.items ≡ old.lines.items ++ lines_by stand answer → IsIndexed new.processes (seen_by stand.seen answer) → length new.lines.items ≡ length old.lines.items + played_by answer
+    → length new.lines.items ≤ 1048576 → new.skipped ≡ old.skipped + skipped_by answer → Takes stand text old new
+takes_by stand text old new answer short at is fed lines indexed len few skipped =
+    let played = at.played in record {
+      answer = answer;
+      asks = (short, is, omega (arith, played, len, few));
+      stands = record { fed = fed; indexed = indexed; played = omega (arith, played, len) };
+      lines = lines;
+      skipped = skipped;
+    }
+
+-- so it did where adding the answer succeeded
+pub takes_on : {X : Type 0} (r : Result X EarlyEnd) (text : List ℕ) (number : ℕ) (old new : TraceReader) (joiner : Joiner) (answer : Fed) → IsShort text
+    → ((fed : List (List ℕ)) → IsFed old.joiner fed → IsAnswer fed text answer) → ((fed : List (List ℕ)) → IsFed old.joiner fed → IsFed joiner (text ∷ fed)) → OnOk r (new.joiner ≡ joiner)
+    → OnOk r ((stand : Standing) → stand.number ≡ number → IsIndexed old.processes stand.seen → new.lines.items ≡ old.lines.items ++ lines_by stand answer)
+    → OnOk r ((seen : List ℕ) → IsIndexed old.processes seen → IsIndexed new.processes (seen_by seen answer)) → OnOk r (length new.lines.items ≡ length old.lines.items + played_by answer)
+    → OnOk r (length new.lines.items ≤ 1048576) → OnOk r (new.skipped ≡ old.skipped + skipped_by answer) → OnOk r ((stand : Standing) → StandsAt old stand → stand.number ≡ number → Takes stand text old new)
+takes_on (Ok x) text number old new joiner answer short answers next same lines seen len few skipped = λ stand at is.
+    takes_by stand text old new answer short at (answers stand.fed at.fed) (subst (λ (j : Joiner). IsFed j (text ∷ stand.fed)) (sym same) (next stand.fed at.fed)) (lines stand is at.indexed)
+    (seen stand.seen at.indexed) len few skipped
+takes_on (Err e) text number old new joiner answer short answers next same lines seen len few skipped = tt
+
+-- an answer that is not taken ends the run
+pub full_ends : (stand : Standing) (text : List ℕ) (reader : TraceReader) (answer : Fed) (end : EarlyEnd) → IsShort text → StandsAt reader stand → IsAnswer stand.fed text answer
+    → IsFull (length reader.lines.items) answer end → OrMemory (Ends stand text) end
+full_ends stand text reader answer end short at is (inl h) = inl h
+full_ends stand text reader answer end short at is (inr h) =
+    let played = at.played in
+    inr (subst (Ends stand text) (sym h.0) (short, refl, (answer, is, omega (arith, played, h.1))))
+
+-- ---- all lines
+
+-- before line `number` the reader stands somewhere, and these texts are left
+pub record SoFar (first : ℕ) (all : List (List ℕ)) (number : ℕ) (left : List (List ℕ)) (reader : TraceReader) : Type 0 where
+  pub stand : Standing
+  pub stands : StandsAt reader stand
+  pub numbered : stand.number ≡ number
+  pub counted : length stand.fed + first ≡ number
+  pub reads : (more : List Line) (s : ℕ) → Reads stand left more s → Reads (start_at first) all (reader.lines.items ++ more) (reader.skipped + s)
+  pub ends : (end : EarlyEnd) → EndsAt stand left end → EndsAt (start_at first) all end
+
+pub so_far_start : (first : ℕ) (all : List (List ℕ)) (reader : TraceReader) → StandsAt reader (start_at first) → reader.lines.items ≡ [] → reader.skipped ≡ 0 → SoFar first all first all reader
+so_far_start first all reader at none zero = record {
+  stand = start_at first;
+  stands = at;
+  numbered = refl;
+  counted = omega arith;
+  reads = λ more s h. subst (λ (x : List Line). Reads (start_at first) all (x ++ more) (reader.skipped + s)) (sym none) (subst (λ (n : ℕ). Reads (start_at first) all more n) (omega (arith, zero)) h);
   ends = λ end h. h;
 }
 
-pub so_far_call : (first : ℕ) (all : List (List ℕ)) (number : ℕ) (text : List ℕ) (texts : List (List ℕ)) (lines : List Line) (skipped : ℕ) (line : Line)
-    → SoFar first all number (text ∷ texts) lines skipped → Asks number (length lines) text (Played line)
-    → SoFar first all (number + 1) texts (lines ++ line ∷ []) skipped
-so_far_call first all number text texts lines skipped line so_far asks =
-    let longer : length (lines ++ line ∷ []) ≡ length lines + 1 = omega (arith, length-append lines (line ∷ [])) in record {
+pub so_far_step : (first : ℕ) (all : List (List ℕ)) (number : ℕ) (text : List ℕ) (texts : List (List ℕ)) (old new : TraceReader) (so_far : SoFar first all number (text ∷ texts) old) → Takes so_far.stand text old new
+    → SoFar first all (number + 1) texts new
+so_far_step first all number text texts old new so_far takes =
+    let stand = so_far.stand in
+    let counted = so_far.counted in
+    let is_lines = takes.lines in
+    let is_skipped = takes.skipped in
+    record {
+      stand = after stand text takes.answer;
+      stands = takes.stands;
+      numbered = ap (λ (n : ℕ). n + 1) so_far.numbered;
+      counted = omega (arith, counted);
       reads = λ more s h.
-          let h' : Reads (number + 1) (length lines + 1) texts more s = rw longer at h in
-          rw append_assoc (so_far.reads (line ∷ more) s (call asks h'));
-      ends = λ end h.
-          let h' : EndsAt (number + 1) (length lines + 1) texts end = rw longer at h in
-          so_far.ends end (later (Played line) asks h');
+          let g = so_far.reads (lines_by stand takes.answer ++ more) (skipped_by takes.answer + s) (line takes.answer takes.asks h) in
+          let lines : old.lines.items ++ (lines_by stand takes.answer ++ more) ≡ new.lines.items ++ more = sym (append_assoc old.lines.items (lines_by stand takes.answer) more) ∙ ap (λ (x : List Line). x ++ more) (sym is_lines) in
+          let skipped : old.skipped + (skipped_by takes.answer + s) ≡ new.skipped + s = omega (arith, is_skipped) in
+          subst (λ (n : ℕ). Reads (start_at first) all (new.lines.items ++ more) n) skipped (subst (λ (x : List Line). Reads (start_at first) all x (old.skipped + (skipped_by takes.answer + s))) lines g);
+      ends = λ end h. so_far.ends end (later takes.answer takes.asks h);
     }
 
-pub so_far_other : (first : ℕ) (all : List (List ℕ)) (number : ℕ) (text : List ℕ) (texts : List (List ℕ)) (lines : List Line) (skipped : ℕ)
-    → SoFar first all number (text ∷ texts) lines skipped → Asks number (length lines) text Skipped
-    → SoFar first all (number + 1) texts lines (skipped + 1)
-so_far_other first all number text texts lines skipped so_far asks = record {
-  reads = λ more s h.
-      let more_by_one : skipped + (1 + s) ≡ skipped + 1 + s = omega arith in
-      subst (λ n. Reads first 0 all (lines ++ more) n) more_by_one (so_far.reads more (1 + s) (other asks h));
-  ends = λ end h. so_far.ends end (later Skipped asks (subst (λ n. EndsAt (number + 1) n texts end) (omega arith) h));
-}
+pub so_far_all : (first : ℕ) (all : List (List ℕ)) (number left : ℕ) (reader : TraceReader) (so_far : SoFar first all number [] reader) → CountsKept so_far.stand.fed left → Reads (start_at first) all reader.lines.items (reader.skipped + left)
+so_far_all first all number left reader so_far kept = subst (λ (x : List Line). Reads (start_at first) all x (reader.skipped + left)) (append-nil reader.lines.items) (so_far.reads [] left (nothing kept))
 
-pub so_far_blank : (first : ℕ) (all : List (List ℕ)) (number : ℕ) (text : List ℕ) (texts : List (List ℕ)) (lines : List Line) (skipped : ℕ)
-    → SoFar first all number (text ∷ texts) lines skipped → Asks number (length lines) text Blank
-    → SoFar first all (number + 1) texts lines skipped
-so_far_blank first all number text texts lines skipped so_far asks = record {
-  reads = λ more s h. so_far.reads more s (empty asks h);
-  ends = λ end h. so_far.ends end (later Blank asks (subst (λ n. EndsAt (number + 1) n texts end) (omega arith) h));
-}
+pub so_far_ends : (first : ℕ) (all : List (List ℕ)) (number : ℕ) (text : List ℕ) (texts : List (List ℕ)) (reader : TraceReader) (end : EarlyEnd) (so_far : SoFar first all number (text ∷ texts) reader)
+    → OrMemory (Ends so_far.stand text) end → OrMemory (EndsAt (start_at first) all) end
+so_far_ends first all number text texts reader end so_far (inl h) = inl h
+so_far_ends first all number text texts reader end so_far (inr h) = inr (so_far.ends end (here h))
 
-pub so_far_step : (first : ℕ) (all : List (List ℕ)) (number played : ℕ) (text : List ℕ) (texts : List (List ℕ)) (lines new_lines : List Line)
-    (skipped new_skipped : ℕ) (step : Step) → SoFar first all number (text ∷ texts) lines skipped → played ≡ length lines
-    → Asks number played text step → new_lines ≡ lines_with lines step → new_skipped ≡ skipped_with skipped step
-    → SoFar first all (number + 1) texts new_lines new_skipped
-so_far_step first all number played text texts lines new_lines skipped new_skipped (Played line) so_far count asks is_lines is_skipped =
-    rw (is_lines, is_skipped) (so_far_call first all number text texts lines skipped line so_far (rw count at asks))
-so_far_step first all number played text texts lines new_lines skipped new_skipped Skipped so_far count asks is_lines is_skipped =
-    rw (is_lines, is_skipped) (so_far_other first all number text texts lines skipped so_far asks)
-so_far_step first all number played text texts lines new_lines skipped new_skipped Blank so_far count asks is_lines is_skipped =
-    rw (is_lines, is_skipped) (so_far_blank first all number text texts lines skipped so_far asks)
-
-pub so_far_all : (first : ℕ) (all : List (List ℕ)) (number : ℕ) (lines : List Line) (skipped : ℕ) → SoFar first all number [] lines skipped
-    → Reads first 0 all lines skipped
-so_far_all first all number lines skipped so_far =
-    let h : Reads first 0 all (lines ++ []) (skipped + 0) = so_far.reads [] 0 nothing in
-    rw (append-nil, add-zero) at h
-
-pub so_far_ends : (first : ℕ) (all : List (List ℕ)) (number played : ℕ) (text : List ℕ) (texts : List (List ℕ)) (lines : List Line) (skipped : ℕ) (end : EarlyEnd)
-    → SoFar first all number (text ∷ texts) lines skipped → played ≡ length lines → Ends number played text end → EndsAt first 0 all end
-so_far_ends first all number played text texts lines skipped end so_far count ends = so_far.ends end (here (rw count at ends))
-
-pub skipped_by_one : (skipped : ℕ) (step : Step) → skipped_with skipped step ≤ skipped + 1
-skipped_by_one skipped (Played line) = omega arith
-skipped_by_one skipped Skipped = omega arith
-skipped_by_one skipped Blank = omega arith
-
--- no more lines are played than may be
-pub few_with : (number played : ℕ) (text : List ℕ) (lines new_lines : List Line) (step : Step) → played ≡ length lines
-    → Asks number played text step → new_lines ≡ lines_with lines step → length lines ≤ 1048576 → length new_lines ≤ 1048576
-few_with number played text lines new_lines (Played line) count asks is few =
-    omega (arith, asks.1, ap length is, length-append lines (line ∷ []))
-few_with number played text lines new_lines Skipped count asks is few = omega (arith, ap length is)
-few_with number played text lines new_lines Blank count asks is few = omega (arith, ap length is)
+-- no more halves are left than lines were read
+pub left_few : (first : ℕ) (all : List (List ℕ)) (number : ℕ) (left : List (List ℕ)) (reader : TraceReader) (count : ℕ) (so_far : SoFar first all number left reader) → CountsKept so_far.stand.fed count
+    → count + first ≤ number
+left_few first all number left reader count so_far kept = let counted = so_far.counted in omega (arith, counted, few_kept so_far.stand.fed count kept)

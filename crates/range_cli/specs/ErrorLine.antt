@@ -2,7 +2,7 @@
 -- own profile, and docs/FORMATS.md lists them too. A run that is done has no line.
 use Rattle.std.specs.Prelude.{ℕ, List, [], ◌++◌, codes, decimal}
 use Rattle.line_parts.specs.declared.refusal.What.{What}
-use Rattle.line_parts.specs.declared.refusal.What.TheVariants.{Number, Wide, Word, Comma, Close, Result as AtResult, Form, Order, Later}
+use Rattle.line_parts.specs.declared.refusal.What.TheVariants.{Number, Wide, Word, Comma, Close, Result as AtResult, Form, Order}
 use Rattle.range_cli.specs.declared.status.Status.{Status}
 use Rattle.range_cli.specs.declared.status.Status.TheVariants.{Done, Usage, BadLine, ReadFault, WriteFault, Memory, Limit}
 use Rattle.range_cli.specs.declared.status.Which.{Which}
@@ -18,7 +18,6 @@ what_text Close = codes ": closing parenthesis expected\n"
 what_text AtResult = codes ": result expected\n"
 what_text Form = codes ": no maps line\n"
 what_text Order = codes ": maps out of order\n"
-what_text Later = codes ": form not read yet\n"
 
 -- which limit
 abbrev pub which_text : Which → List ℕ

@@ -3,6 +3,7 @@ pub mod Input
 pub mod Words
 pub mod Status
 pub mod Trace
+pub mod TraceReader
 pub mod ErrorLine
 pub mod Play
 pub mod Report

@@ -13,7 +13,7 @@ use Rattle.range_cli.specs.declared.words.Options.{Options}
 use Rattle.range_cli.specs.Input.{IsInput, EndsReading}
 use Rattle.range_cli.specs.Lines.{lines_of}
 use Rattle.range_cli.specs.Opening.{Opens, EndsOpening}
-use Rattle.range_cli.specs.Trace.{Reads, EndsAt}
+use Rattle.range_cli.specs.Trace.{Reads, EndsAt, start_at}
 
 -- the input begins with these areas, of which so many more lie past the user addresses, and its trace begins at line
 -- `next` with the texts that are left
@@ -29,7 +29,7 @@ pub record Begins (options : Options) (bytes : List ℕ) : Type 0 where
 pub record IsScript (options : Options) (bytes : List ℕ) (start : List Area) (lines : List Line) (skipped : ℕ) : Type 0 where
   pub head : Begins options bytes
   pub passed : ℕ
-  pub reads : Reads head.next 0 head.left lines passed
+  pub reads : Reads (start_at head.next) head.left lines passed
   pub kinds : HasKinds (kind_at head.areas) start
   pub few_rows : row_count start ≤ 4096
   pub counted : skipped ≡ head.past + passed
@@ -40,14 +40,14 @@ IsScriptOf options bytes script = IsScript options bytes script.opening script.l
 -- a line of the trace ends the run so
 pub record EndsTrace (options : Options) (bytes : List ℕ) (end : EarlyEnd) : Type 0 where
   pub head : Begins options bytes
-  pub ends : EndsAt head.next 0 head.left end
+  pub ends : EndsAt (start_at head.next) head.left end
 
 -- all lines are read, and the areas that the input starts with have more rows than there may be
 pub record EndsByRows (options : Options) (bytes : List ℕ) (end : EarlyEnd) : Type 0 where
   pub head : Begins options bytes
   pub lines : List Line
   pub passed : ℕ
-  pub reads : Reads head.next 0 head.left lines passed
+  pub reads : Reads (start_at head.next) head.left lines passed
   pub start : List Area
   pub kinds : HasKinds (kind_at head.areas) start
   pub many_rows : 4096 < row_count start

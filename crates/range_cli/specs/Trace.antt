@@ -1,17 +1,96 @@
--- What becomes of the lines of an input, from the first on: each is played, passed over or blank, up to the first that
--- ends the run. The grammar of one line is the reader's, after strace(1). The limits, 65,535 bytes of a line and
--- 1,048,576 played lines, and the order of refusals are this project's own profile.
-use Rattle.std.specs.Prelude.{◌≡◌, ℕ, ◌+◌, ◌<◌, ◌≤◌, List, [], ◌∷◌, ◌++◌, length}
+-- What becomes of the lines of a trace, from the first on: each is played, kept as the first half of a call, passed
+-- over or blank, up to the first that ends the run. What a line answers behind those before it is the joiner's, after
+-- strace(1). The limits, 65,535 bytes of a line and 1,048,576 played lines, and the order of refusals are this
+-- project's own profile.
+use Rattle.std.specs.Prelude.{◌≡◌, ℕ, ◌+◌, ◌<◌, ◌≤◌, ◌==◌, List, [], ◌∷◌, ◌++◌, length, Option, None, Some, if◌then◌else◌}
 use Rattle.page_types.specs.Named.{IsNamedCall}
-use Rattle.strace_reader.specs.declared.item.Item.TheVariants.{Played as Call, Other, Blank as Empty}
-use Rattle.strace_reader.specs.Grammar.{Spells, Refuses}
+use Rattle.strace_reader.specs.declared.joiner.Fed.{Fed}
+use Rattle.strace_reader.specs.declared.joiner.Fed.TheVariants.{Played, Kept, Skipped, Blank}
+use Rattle.strace_reader.specs.Joining.{CountsKept, IsAnswer, RefusesFed}
 use Rattle.range_cli.specs.declared.status.EarlyEnd.{EarlyEnd}
 use Rattle.range_cli.specs.declared.status.EarlyEnd.TheVariants.{Refused, Failed, NoMemory, Above}
 use Rattle.range_cli.specs.declared.status.Which.{Which}
 use Rattle.range_cli.specs.declared.status.Which.TheVariants.{Input, Line as OfLine, Lines as OfLines, Rows}
 use Rattle.range_cli.specs.declared.trace.Line.{Line}
-use Rattle.range_cli.specs.declared.trace.Step.{Step}
-use Rattle.range_cli.specs.declared.trace.Step.TheVariants.{Played, Skipped, Blank}
+
+-- ---- the index of a process
+
+-- the place before it, counted on by one
+abbrev pub one_on : Option ℕ → Option ℕ
+one_on None = None
+one_on (Some place) = Some (place + 1)
+
+-- where a process is among those that were seen, from 0 on
+abbrev pub place_among : List ℕ → ℕ → Option ℕ
+place_among [] pid = None
+place_among (first ∷ seen) pid = if first == pid then Some 0 else one_on (place_among seen pid)
+
+-- the place, or the next one where there is none
+abbrev pub place_or : Option ℕ → ℕ → ℕ
+place_or None next = next
+place_or (Some place) next = place
+
+-- a process's index: 0, 1, 2 and so on, as processes first appear
+abbrev pub index_among : List ℕ → ℕ → ℕ
+index_among seen pid = place_or (place_among seen pid) (length seen)
+
+-- those that were seen, with a new one behind them
+abbrev pub with_new : Option ℕ → List ℕ → ℕ → List ℕ
+with_new None seen pid = seen ++ pid ∷ []
+with_new (Some place) seen pid = seen
+
+-- those that were seen, with this one
+abbrev pub seen_with : List ℕ → ℕ → List ℕ
+seen_with seen pid = with_new (place_among seen pid) seen pid
+
+-- ---- where a reading stands
+
+-- Where the reading of a trace stands: the number of the next line, how many lines are played so far, the texts that
+-- were fed to the joiner, the last one first, and the processes of the played calls, each once, the first one first.
+pub record Standing : Type 0 where
+  pub number : ℕ
+  pub played : ℕ
+  pub fed : List (List ℕ)
+  pub seen : List ℕ
+
+-- before the first line of a trace, which has this number
+abbrev pub start_at : ℕ → Standing
+start_at number = record { number = number; played = 0; fed = []; seen = [] }
+
+-- how many lines more are played
+abbrev pub played_by : Fed → ℕ
+played_by (Played pid call recorded skipped) = 1
+played_by (Kept skipped) = 0
+played_by (Skipped skipped) = 0
+played_by Blank = 0
+
+-- how many lines are passed over
+abbrev pub skipped_by : Fed → ℕ
+skipped_by (Played pid call recorded skipped) = skipped
+skipped_by (Kept skipped) = skipped
+skipped_by (Skipped skipped) = skipped
+skipped_by Blank = 0
+
+-- the processes of the played calls, with that of an answer
+abbrev pub seen_by : List ℕ → Fed → List ℕ
+seen_by seen (Played pid call recorded skipped) = seen_with seen pid
+seen_by seen (Kept skipped) = seen
+seen_by seen (Skipped skipped) = seen
+seen_by seen Blank = seen
+
+-- The line that is played where the next text answers so. It has that text's number, also where the text is a second
+-- half.
+abbrev pub lines_by : Standing → Fed → List Line
+lines_by stand (Played pid call recorded skipped) = record { number = stand.number; process = index_among stand.seen pid; call = call; recorded = recorded } ∷ []
+lines_by stand (Kept skipped) = []
+lines_by stand (Skipped skipped) = []
+lines_by stand Blank = []
+
+-- where the reading stands behind a text that answered so
+abbrev pub after : Standing → List ℕ → Fed → Standing
+after stand text answer = record { number = stand.number + 1; played = stand.played + played_by answer; fed = text ∷ stand.fed; seen = seen_by stand.seen answer }
+
+-- ---- one line
 
 -- the line is short enough to be looked at
 abbrev pub IsShort : List ℕ → Type 0
@@ -21,73 +100,47 @@ IsShort text = length text ≤ 65535
 abbrev pub IsTooLongLine : List ℕ → ℕ → Type 0
 IsTooLongLine text value = (65535 < length text) × (value ≡ 65536)
 
--- the line is a call of some process with this result
-abbrev pub SpellsCall : List ℕ → Line → Type 0
-SpellsCall text line = (pid : ℕ) × Spells text (Call pid line.call line.recorded)
+-- the next line answers so, and the limits are kept
+abbrev pub Asks : Standing → List ℕ → Fed → Type 0
+Asks stand text answer = IsShort text × IsAnswer stand.fed text answer × (stand.played + played_by answer ≤ 1048576)
 
--- what line `number`, with so many lines played before it, asks for
-abbrev pub Asks : ℕ → ℕ → List ℕ → Step → Type 0
-Asks number played text (Played line) = IsShort text × (played < 1048576) × SpellsCall text line × (line.number ≡ number)
-Asks number played text Skipped = IsShort text × Spells text Other
-Asks number played text Blank = IsShort text × Spells text Empty
+-- which limit the next line passes
+abbrev pub Passes : Standing → List ℕ → Which → ℕ → Type 0
+Passes stand text Input value = ⊥
+Passes stand text OfLine value = IsTooLongLine text value
+Passes stand text OfLines value = IsShort text × (value ≡ 1048577) × ((answer : Fed) × IsAnswer stand.fed text answer × (1048576 < stand.played + played_by answer))
+Passes stand text Rows value = ⊥
 
--- which limit the line passes
-abbrev pub Passes : ℕ → List ℕ → Which → ℕ → Type 0
-Passes played text Input value = ⊥
-Passes played text OfLine value = IsTooLongLine text value
-Passes played text OfLines value = IsShort text × (1048576 ≤ played) × (value ≡ 1048577) × ((line : Line) × SpellsCall text line)
-Passes played text Rows value = ⊥
-
--- the line ends the run so
-abbrev pub Ends : ℕ → ℕ → List ℕ → EarlyEnd → Type 0
-Ends number played text (Refused line column what) = IsShort text × Refuses text (record { column = column; what = what }) × (line ≡ number)
-Ends number played text Failed = ⊥
-Ends number played text NoMemory = ⊥
-Ends number played text (Above which value) = Passes played text which value
+-- The next line ends the run so. Halves that are refused together have the number of the second, and a column in both.
+abbrev pub Ends : Standing → List ℕ → EarlyEnd → Type 0
+Ends stand text (Refused line column what) = IsShort text × RefusesFed stand.fed text (record { column = column; what = what }) × (line ≡ stand.number)
+Ends stand text Failed = ⊥
+Ends stand text NoMemory = ⊥
+Ends stand text (Above which value) = Passes stand text which value
 
 -- the sets of bits of a line's call have no bit but the named ones
 abbrev pub IsNamedLine : Line → Type 0
 IsNamedLine line = IsNamedCall line.call
 
-abbrev pub IsNamedStep : Step → Type 0
-IsNamedStep (Played line) = IsNamedLine line
-IsNamedStep Skipped = Unit {0}
-IsNamedStep Blank = Unit {0}
+abbrev pub IsNamedAnswer : Fed → Type 0
+IsNamedAnswer (Played pid call recorded skipped) = IsNamedCall call
+IsNamedAnswer (Kept skipped) = Unit {0}
+IsNamedAnswer (Skipped skipped) = Unit {0}
+IsNamedAnswer Blank = Unit {0}
 
--- how many lines more are played
-abbrev pub played_by : Step → ℕ
-played_by (Played line) = 1
-played_by Skipped = 0
-played_by Blank = 0
+-- ---- all lines
 
--- the played lines with what a line asks for
-abbrev pub lines_with : List Line → Step → List Line
-lines_with lines (Played line) = lines ++ line ∷ []
-lines_with lines Skipped = lines
-lines_with lines Blank = lines
+-- From where the reading stands, all these lines are read: these are played and so many are skipped. First halves that
+-- are left at the end are skipped too.
+pub data Reads : Standing → List (List ℕ) → List Line → ℕ → Type 0 where
+  nothing : {stand : Standing} {left : ℕ} → CountsKept stand.fed left → Reads stand [] [] left
+  line : {stand : Standing} {text : List ℕ} {texts : List (List ℕ)} {lines : List Line} {skipped : ℕ} → (answer : Fed) →
+      Asks stand text answer → Reads (after stand text answer) texts lines skipped →
+      Reads stand (text ∷ texts) (lines_by stand answer ++ lines) (skipped_by answer + skipped)
 
--- the skipped lines with what a line asks for
-abbrev pub skipped_with : ℕ → Step → ℕ
-skipped_with skipped (Played line) = skipped
-skipped_with skipped Skipped = skipped + 1
-skipped_with skipped Blank = skipped
-
--- the lines from line `number` on, with so many lines played before them, are played as these, and so many are skipped
-pub data Reads : ℕ → ℕ → List (List ℕ) → List Line → ℕ → Type 0 where
-  nothing : {number played : ℕ} → Reads number played [] [] 0
-  call : {number played : ℕ} {text : List ℕ} {texts : List (List ℕ)} {line : Line} {lines : List Line} {skipped : ℕ} →
-      Asks number played text (Played line) → Reads (number + 1) (played + 1) texts lines skipped →
-      Reads number played (text ∷ texts) (line ∷ lines) skipped
-  other : {number played : ℕ} {text : List ℕ} {texts : List (List ℕ)} {lines : List Line} {skipped : ℕ} →
-      Asks number played text Skipped → Reads (number + 1) played texts lines skipped →
-      Reads number played (text ∷ texts) lines (1 + skipped)
-  empty : {number played : ℕ} {text : List ℕ} {texts : List (List ℕ)} {lines : List Line} {skipped : ℕ} →
-      Asks number played text Blank → Reads (number + 1) played texts lines skipped →
-      Reads number played (text ∷ texts) lines skipped
-
--- the first of the lines, from line `number` on, that ends the run ends it so
-pub data EndsAt : ℕ → ℕ → List (List ℕ) → EarlyEnd → Type 0 where
-  here : {number played : ℕ} {text : List ℕ} {texts : List (List ℕ)} {end : EarlyEnd} → Ends number played text end →
-      EndsAt number played (text ∷ texts) end
-  later : {number played : ℕ} {text : List ℕ} {texts : List (List ℕ)} {end : EarlyEnd} → (step : Step) → Asks number played text step →
-      EndsAt (number + 1) (played + played_by step) texts end → EndsAt number played (text ∷ texts) end
+-- the first of the lines that ends the run ends it so
+pub data EndsAt : Standing → List (List ℕ) → EarlyEnd → Type 0 where
+  here : {stand : Standing} {text : List ℕ} {texts : List (List ℕ)} {end : EarlyEnd} → Ends stand text end →
+      EndsAt stand (text ∷ texts) end
+  later : {stand : Standing} {text : List ℕ} {texts : List (List ℕ)} {end : EarlyEnd} → (answer : Fed) →
+      Asks stand text answer → EndsAt (after stand text answer) texts end → EndsAt stand (text ∷ texts) end

@@ -95,7 +95,6 @@ fn due(what: What) -> &'static [u8]
         What::Result => b": result expected\n",
         What::Form => b": no maps line\n",
         What::Order => b": maps out of order\n",
-        What::Later => b": form not read yet\n",
     }
 }
 

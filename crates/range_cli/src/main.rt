@@ -8,6 +8,7 @@ mod input;
 mod lines;
 mod opening;
 mod play;
+mod processes;
 mod report;
 mod run;
 mod script;

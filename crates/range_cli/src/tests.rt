@@ -395,21 +395,141 @@ fn an_unaligned_fixed_address_is_refused(rt: HostRuntime) -> Result<(), Fail> {
 }
 
 #[test]
-fn a_line_with_a_process_number_is_not_read_yet(rt: HostRuntime) -> Result<(), Fail> {
-    let input = b"brk(NULL) = 0x1000\n[pid     7] munmap(0x10000, 4096) = 0\n";
-    let left = run_with(rt.alloc(), &["play"], input, &[], &[])?;
-    let status = Status::BadLine {
-        line: 2,
-        column: 1,
-        what: What::Later,
-    };
-    expect(
+fn the_halves_of_a_call_are_played_at_the_second(rt: HostRuntime) -> Result<(), Fail> {
+    let input =
+        "[pid     7] mmap(0x10000, 4096, PROT_READ, MAP_PRIVATE|MAP_FIXED, -1, 0 <unfinished ...>\n\
+        [pid     8] mmap(0x20000, 4096, PROT_READ, MAP_PRIVATE|MAP_FIXED, -1, 0) = 0x20000\n\
+        [pid     7] <... mmap resumed>) = 0x10000\n\
+        [pid     7] munmap(0x10000, 4096) = 0\n";
+    plays(
         &rt,
-        &left,
-        status,
-        "",
-        "line 2 column 1: form not read yet\n",
-    );
+        rt.alloc(),
+        &["play"],
+        input,
+        "00020000-00021000 r--p 00000000 00:00 0\n\
+        played 3 skipped 0 refused 0 differ 0\n",
+    )?;
+    plays(
+        &rt,
+        rt.alloc(),
+        &["play", "--log"],
+        input,
+        "0 0 2 mmap(0x20000, 4096, PROT_READ, MAP_PRIVATE|MAP_FIXED, -1, 0) = 0x20000 under whole\n\
+        1 0 3 mmap(0x10000, 4096, PROT_READ, MAP_PRIVATE|MAP_FIXED, -1, 0) = 0x10000 under whole\n\
+        2 0 4 munmap(0x10000, 4096) = 0 under whole\n\
+        00020000-00021000 r--p 00000000 00:00 0\n\
+        played 3 skipped 0 refused 0 differ 0\n",
+    )
+}
+
+#[test]
+fn halves_that_make_no_call_are_counted(rt: HostRuntime) -> Result<(), Fail> {
+    let cases: [(&str, &str); 16] = [
+        // A first half that never ends, and one without a process number.
+        ("7 munmap(0x10000 <unfinished ...>", "played 0 skipped 1"),
+        ("munmap(0x10000 <unfinished ...>", "played 0 skipped 1"),
+        // A second half alone, of another process, and of another name.
+        ("7 <... munmap resumed>) = 0", "played 0 skipped 1"),
+        (
+            "7 munmap(0x10000, 1 <unfinished ...>\n8 <... munmap resumed>) = 0",
+            "played 0 skipped 2",
+        ),
+        (
+            "7 munmap(0x10000, 1 <unfinished ...>\n7 <... mmap resumed>) = 0",
+            "played 0 skipped 2",
+        ),
+        // A first half behind a first half, and a call behind one; what is kept is gone behind both.
+        (
+            "7 munmap(0x10000 <unfinished ...>\n7 munmap(0x20000, 1 <unfinished ...>\n7 <... munmap resumed>) = 0",
+            "played 1 skipped 1",
+        ),
+        (
+            "7 munmap(0x10000, 1 <unfinished ...>\n7 munmap(0x20000, 1) = 0\n7 <... munmap resumed>) = 0",
+            "played 1 skipped 2",
+        ),
+        // A call of another process, a line that is passed over and an empty line leave what is kept.
+        (
+            "7 munmap(0x10000, 1 <unfinished ...>\n8 munmap(0x20000, 1) = 0\n7 <... munmap resumed>) = 0",
+            "played 2 skipped 0",
+        ),
+        (
+            "7 munmap(0x10000, 1 <unfinished ...>\n7 brk(NULL) = 0\n\n7 <... munmap resumed>) = 0",
+            "played 1 skipped 1",
+        ),
+        // Both ways to write a process number name one process, and 0 is the process of a line without one.
+        (
+            "[pid  7] munmap(0x10000, 1 <unfinished ...>\n7 <... munmap resumed>) = 0",
+            "played 1 skipped 0",
+        ),
+        (
+            "munmap(0x10000, 1 <unfinished ...>\n0 <... munmap resumed>) = 0",
+            "played 1 skipped 0",
+        ),
+        // A number of 32 bits, and one of more, which makes a line that is passed over.
+        ("4294967295 munmap(0x10000, 1) = 0", "played 1 skipped 0"),
+        ("4294967296 munmap(0x10000, 1) = 0", "played 0 skipped 1"),
+        // Two halves that are passed over together, and two that are a first half again.
+        (
+            "7 mprotect(0, 1, <unfinished ...>\n7 <... mprotect resumed> PROT_SEM) = 0",
+            "played 0 skipped 1",
+        ),
+        (
+            "7 munmap(0x10000, 1 <unfinished ...>\n7 <... munmap resumed> <unfinished ...>",
+            "played 0 skipped 2",
+        ),
+        // A call that never returned.
+        (
+            "7 munmap(0x10000, 1 <unfinished ...>) = ?",
+            "played 0 skipped 1",
+        ),
+    ];
+    for (input, counts) in cases {
+        let mut out = String::from_str(rt.alloc(), counts)?;
+        out.push_str(" refused 0 differ 0\n")?;
+        plays(&rt, rt.alloc(), &["play"], input, out.as_str())?;
+    }
+    Ok(())
+}
+
+#[test]
+fn a_refused_call_in_two_halves_says_where(rt: HostRuntime) -> Result<(), Fail> {
+    let cases: [(&str, u32, u32, What, &str); 4] = [
+        (
+            "[pid     7] munmap(0x10000; 1)",
+            1,
+            27,
+            What::Comma,
+            "line 1 column 27: comma expected\n",
+        ),
+        // The column counts in what the halves make, without the process number.
+        (
+            "7 munmap(0x10000 <unfinished ...>\n\n7 <... munmap resumed> 4096) = 0\n",
+            3,
+            19,
+            What::Comma,
+            "line 3 column 19: comma expected\n",
+        ),
+        (
+            "[pid  7] munmap(0x10000, <unfinished ...>\n8 munmap(0x20000, 1)\n[pid  7] <... munmap resumed>) = 0",
+            3,
+            16,
+            What::Number,
+            "line 3 column 16: number expected\n",
+        ),
+        // Nothing is played behind a line that is refused, and no later line is named.
+        (
+            "7 munmap(0x10000, 1 <unfinished ...>\n7 <... munmap resumed>\n7 <... munmap resumed>",
+            2,
+            18,
+            What::Close,
+            "line 2 column 18: closing parenthesis expected\n",
+        ),
+    ];
+    for (input, line, column, what, err) in cases {
+        let left = run_with(rt.alloc(), &["play"], input.as_bytes(), &[], &[])?;
+        let status = Status::BadLine { line, column, what };
+        expect(&rt, &left, status, "", err);
+    }
     Ok(())
 }
 

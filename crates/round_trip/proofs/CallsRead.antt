@@ -19,8 +19,9 @@ use Rattle.strace_reader.specs.declared.item.Item.TheVariants.{Played}
 use Rattle.strace_reader.specs.declared.item.Name.{Name}
 use Rattle.strace_reader.specs.declared.item.Name.TheVariants.{Mmap, Munmap, Mprotect, Fault as FaultName}
 use Rattle.strace_reader.specs.Words.{call_head, access_of}
-use Rattle.strace_reader.specs.Calls.{call, arguments, addr, comma, access, closing, map_tail, descriptor, prot, flags, protect_behind_prot, map_behind_prot, map_behind_flags, munmap_arguments, mprotect_arguments, fault_arguments, mmap_arguments}
-use Rattle.strace_reader.specs.Grammar.{Spells, NeverReturned, EndsWith, unfinished}
+use Rattle.strace_reader.specs.Calls.{call, arguments, unrecorded, addr, comma, access, closing, map_tail, descriptor, prot, flags, protect_behind_prot, map_behind_prot, map_behind_flags, munmap_arguments, mprotect_arguments, fault_arguments, mmap_arguments}
+use Rattle.strace_reader.specs.Grammar.{Spells, IsBody, NeverReturned, EndsWith, unfinished}
+use Rattle.strace_reader.proofs.BodyAnswers.{call_cut}
 use Rattle.maps_printer.specs.Calls.{call_text}
 use Rattle.maps_printer.specs.Numbers.{address_text, prefixed_hex}
 use Rattle.maps_printer.specs.Words.{prot_text, flags_text, access_text}
@@ -42,7 +43,7 @@ comma_takes : (rest : List ℕ) → starts (is 32) rest ≡ false → comma.take
 comma_takes rest next = (44 ∷ [], 32 ∷ [], tt, refl, refl, ((refl, tt), next))
 
 -- behind the closing parenthesis the line ends
-closing_takes : (c : Call) → (closing c).takes (codes ")") [] (Played 0 c None)
+closing_takes : (c : Call) → (closing c).takes (codes ")") [] (unrecorded c)
 closing_takes c = (41 ∷ [], [], tt, refl, refl, (refl, refl, refl))
 
 close_ends : Ends (41 ∷ [])
@@ -75,7 +76,7 @@ then_length next n more w small ends h =
 -- ---- the arguments of each call
 
 munmap_takes : (a n : ℕ) → a < 2 ^ 64 → n < 2 ^ 64
-    → munmap_arguments.takes (address_text a ++ (codes ", " ++ (decimal n ++ codes ")"))) [] (Played 0 (Unmap a n) None)
+    → munmap_arguments.takes (address_text a ++ (codes ", " ++ (decimal n ++ codes ")"))) [] (unrecorded (Unmap a n))
 munmap_takes a n small_a small_n =
     then_addr (λ a. chain comma (λ u. chain (number Number) (λ n. closing (Unmap a n)))) a (codes ", " ++ (decimal n ++ codes ")")) _ small_a (comma_ends_number [])
     (then_length (λ n. closing (Unmap a n)) n (codes ")") _ small_n close_ends_number (closing_takes (Unmap a n)))
@@ -89,7 +90,7 @@ then_prot next bits more w small ends h =
     then_comma (chain prot next) (text ++ more) w (rw append_assoc read.1) (text, more, Some bits, refl, read.0, h)
 
 mprotect_takes : (a n p : ℕ) → a < 2 ^ 64 → n < 2 ^ 64 → p < 8
-    → mprotect_arguments.takes (address_text a ++ (codes ", " ++ (decimal n ++ (codes ", " ++ (prot_text (record { 0 = p }) ++ codes ")"))))) [] (Played 0 (Protect a n (record { 0 = p })) None)
+    → mprotect_arguments.takes (address_text a ++ (codes ", " ++ (decimal n ++ (codes ", " ++ (prot_text (record { 0 = p }) ++ codes ")"))))) [] (unrecorded (Protect a n (record { 0 = p })))
 mprotect_takes a n p small_a small_n small_p =
     then_addr (λ a. chain comma (λ u. chain (number Number) (λ n. chain comma (λ v. chain prot (protect_behind_prot a n))))) a _ _ small_a (comma_ends_number [])
     (then_length (λ n. chain comma (λ v. chain prot (protect_behind_prot a n))) n _ _ small_n (comma_ends_number [])
@@ -112,21 +113,21 @@ access_length Write = omega arith
 access_length Exec = omega arith
 
 fault_takes : (a : ℕ) (which : Access) → a < 2 ^ 64
-    → fault_arguments.takes (address_text a ++ (codes ", " ++ (access_text which ++ codes ")"))) [] (Played 0 (Fault a which) None)
+    → fault_arguments.takes (address_text a ++ (codes ", " ++ (access_text which ++ codes ")"))) [] (unrecorded (Fault a which))
 fault_takes a which small =
     then_addr (λ a. chain comma (λ u. chain access (λ c. closing (Fault a c)))) a _ _ small (comma_ends_number [])
     (then_comma (chain access (λ c. closing (Fault a c))) (access_text which ++ codes ")") _ (rw append_assoc (access_starts which _))
     (access_text which, codes ")", which, refl, access_takes which, closing_takes (Fault a which)))
 
 -- the descriptor -1 and the offset 0
-dropped_takes : (c : Call) → (map_tail c).takes (codes ", -1, 0)") [] (Played 0 c None)
+dropped_takes : (c : Call) → (map_tail c).takes (codes ", -1, 0)") [] (unrecorded c)
 dropped_takes c =
     then_comma (chain descriptor (λ v. chain comma (λ w. chain (number Number) (λ o. closing c)))) (codes "-1, 0)") _ refl
     (codes "-1", codes ", 0)", tt, refl, (codes "-1", [], tt, refl, letters_take (codes "-1") (codes ", 0)") Number, (refl, refl)), (then_comma (chain (number Number) (λ o. closing c)) (codes "0)") _ refl (codes "0", codes ")", 0, refl, zero_number (codes ")") close_ends_number, closing_takes c)))
 
 mmap_takes : (a n p f : ℕ) → a < 2 ^ 64 → n < 2 ^ 64 → p < 8 → f < 16
     → mmap_arguments.takes (address_text a ++ (codes ", " ++ (decimal n ++ (codes ", " ++ (prot_text (record { 0 = p }) ++ (codes ", " ++ (flags_text (record { 0 = f }) ++ codes ", -1, 0)"))))))) []
-    (Played 0 (Map a n (record { 0 = p }) (record { 0 = f })) None)
+    (unrecorded (Map a n (record { 0 = p }) (record { 0 = f })))
 mmap_takes a n p f small_a small_n small_p small_f =
     let c = Map a n (record { 0 = p }) (record { 0 = f }) in
     let read = flags_takes f (codes " -1, 0)") small_f in
@@ -157,16 +158,20 @@ did_return text body e h =
     last_differs body before 41 63 (sym e ∙ h.3 ∙ simp append_assoc) (λ x. omega arith)
 
 -- a line of the name and arguments that are read
-spelled : (name : Name) (args text body : List ℕ) (c : Call) → (arguments name).takes args [] (Played 0 c None) → text ≡ call_head name ++ args → text ≡ body ++ codes ")" → Spells text (Played 0 c None)
-unfolding Spells call
+spelled : (name : Name) (args text body : List ℕ) (c : Call) → (arguments name).takes args [] (unrecorded c) → text ≡ call_head name ++ args → text ≡ body ++ codes ")" → Spells text (Played 0 c None)
+unfolding Spells IsBody call
 spelled name args text body c h e ends = (
-  name,
-  record {
-    names = (args, e);
-    returned = did_return text body ends;
-    whole = no_half text body ends;
-  },
-  (call_head name, args, tt, e, refl, h),
+  text,
+  call_cut name text (args, e),
+  (
+    name,
+    record {
+      names = (args, e);
+      returned = did_return text body ends;
+      whole = no_half text body ends;
+    },
+    (call_head name, args, tt, e, refl, h),
+  ),
 )
 
 -- the numbers of a call fit in 64 bits

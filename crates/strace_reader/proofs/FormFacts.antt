@@ -1,5 +1,6 @@
 -- How a line begins and ends: each form is found where it stands, and nowhere else.
-use Rattle.std.proofs.Common.{◌≡◌, ◌≢◌, ℕ, ◌^◌, ◌<◌, ◌≤◌, List, [], ◌∷◌, ◌++◌, length, codes, Some, None, Bool, true, false, refl, sym, ap, subst, ◌∙◌, append_assoc, inl, inr, arith}
+use Rattle.std.proofs.Common.{◌≡◌, ◌≢◌, ℕ, ◌^◌, ◌<◌, ◌≤◌, List, [], ◌∷◌, ◌++◌, length, codes, Option, Some, None, Bool, true, false, refl, sym, ap, subst, ◌∙◌, append_assoc, inl, inr, arith}
+use Rattle.std.specs.Prelude.{MatchOption}
 use Rattle.std.proofs.lemmas.Bool.{cases_lt, lt-ltb, le-ltb}
 use Rattle.std.proofs.lemmas.List.{append-nil, length-append, append_cancel_left, append_cancel_right}
 use Rattle.line_parts.specs.Parts.{starts}
@@ -8,7 +9,7 @@ use Rattle.line_parts.specs.Reading.{digits_of, narrow, taken, after_spaces}
 use Rattle.line_parts.proofs.Sequence.{alike_same}
 use Rattle.line_parts.proofs.Leaves.{same_run, taken_is, same_is}
 use Rattle.line_parts.proofs.Numerals.{run_takes, same_digits}
-use Rattle.strace_reader.specs.Grammar.{BeginsWith, EndsWith, NeverReturned, IsPid, PidThen, HasPrefix}
+use Rattle.strace_reader.specs.Grammar.{EndsWith, NeverReturned, IsPid, PidThen, IsBracketed, IsPrefixed, IsBehindSpaces, IsCut, IsHalf, unfinished}
 
 -- ---- process numbers
 
@@ -28,77 +29,157 @@ narrow_none n h =
       | inr le ↦ le
     ]
 
-pub pid_yes : (word text rest : List ℕ) (n : ℕ) → n ≡ (digits_of 10 0 text).0 → rest ≡ (digits_of 10 0 text).1 → n < 2 ^ 32 → length rest ≢ length text → BeginsWith word rest → PidThen word text
-pid_yes word text rest n en er lt long w =
+pub pid_found : (word text behind rest : List ℕ) (pid : ℕ) → pid ≡ (digits_of 10 0 text).0 → behind ≡ (digits_of 10 0 text).1 → pid < 2 ^ 32 → length behind ≢ length text → behind ≡ word ++ rest → PidThen word text pid rest
+pid_found word text behind rest pid en er lt long w =
     let r = run_takes 10 0 text in
     let ds = r.0 in
-    let is_n : n ≡ value 10 0 ds = en ∙ ap (λ (x : ℕ × List ℕ). x.0) r.2.is_read in
-    let is_rest : rest ≡ r.1 = er ∙ ap (λ (x : ℕ × List ℕ). x.1) r.2.is_read in
+    let is_n : pid ≡ value 10 0 ds = en ∙ ap (λ (x : ℕ × List ℕ). x.0) r.2.is_read in
+    let is_rest : behind ≡ r.1 = er ∙ ap (λ (x : ℕ × List ℕ). x.1) r.2.is_read in
     let k = ap length r.2.parts ∙ length-append ds r.1 in
     let l = ap length is_rest in
     let some : 0 < length ds = omega arith in
-    (ds, w.0, (n, (some, r.2.all, is_n), lt), r.2.parts ∙ ap (λ (x : List ℕ). ds ++ x) (sym is_rest ∙ w.1))
+    (ds, ((some, r.2.all, is_n), lt), r.2.parts ∙ ap (λ (x : List ℕ). ds ++ x) (sym is_rest ∙ w))
 
 word_no_digit : (word rest : List ℕ) → NoDigit 10 word → word ≢ [] → NoDigit 10 (word ++ rest)
 word_no_digit [] rest h some = absurd (some refl)
 word_no_digit (b ∷ word) rest h some = h
 
-pub record PidFound (word text rest : List ℕ) (n : ℕ) : Type 0 where
+-- what the digits that a text begins with are, where a process number and a word stand there
+pub record PidRead (word text behind : List ℕ) (n pid : ℕ) (rest : List ℕ) : Type 0 where
+  pub same : pid ≡ n
   pub narrow_pid : n < 2 ^ 32
-  pub long : length rest < length text
-  pub behind : BeginsWith word rest
+  pub long : length behind < length text
+  pub is : behind ≡ word ++ rest
 
-pub pid_no : (word text rest : List ℕ) (n : ℕ) → n ≡ (digits_of 10 0 text).0 → rest ≡ (digits_of 10 0 text).1 → NoDigit 10 word → word ≢ [] → PidThen word text → PidFound word text rest n
-pid_no word text rest n en er none some h =
+pub pid_read : (word text behind : List ℕ) (n pid : ℕ) (rest : List ℕ) → n ≡ (digits_of 10 0 text).0 → behind ≡ (digits_of 10 0 text).1 → NoDigit 10 word → word ≢ [] → PidThen word text pid rest → PidRead word text behind n pid rest
+pid_read word text behind n pid rest en er none some h =
     let r = run_takes 10 0 text in
     let ds = r.0 in
     let is_n : n ≡ value 10 0 ds = en ∙ ap (λ (x : ℕ × List ℕ). x.0) r.2.is_read in
-    let is_rest : rest ≡ r.1 = er ∙ ap (λ (x : ℕ × List ℕ). x.1) r.2.is_read in
-    let behind = word ++ h.1 in
-    let stop = word_no_digit word h.1 none some in
-    let e : ds ++ r.1 ≡ h.0 ++ behind = sym r.2.parts ∙ h.3 in
-    let s = same_digits 10 behind ds h.0 r.1 behind r.2.all h.2.1.1 r.2.ended stop e (alike_same behind) in
-    let after : r.1 ≡ behind = append_cancel_left ds r.1 behind (e ∙ ap (λ (x : List ℕ). x ++ behind) (sym s)) in
-    let same : value 10 0 ds ≡ h.2.0 = ap (value 10 0) s ∙ sym h.2.1.2 in
-    let bound = h.2.2 in
-    let digits = h.2.1.0 in
+    let is_rest : behind ≡ r.1 = er ∙ ap (λ (x : ℕ × List ℕ). x.1) r.2.is_read in
+    let after = word ++ rest in
+    let stop = word_no_digit word rest none some in
+    let e : ds ++ r.1 ≡ h.0 ++ after = sym r.2.parts ∙ h.2 in
+    let s = same_digits 10 after ds h.0 r.1 after r.2.all h.1.0.1 r.2.ended stop e (alike_same after) in
+    let is_after : r.1 ≡ after = append_cancel_left ds r.1 after (e ∙ ap (λ (x : List ℕ). x ++ after) (sym s)) in
+    let same : pid ≡ n = h.1.0.2 ∙ sym (ap (value 10 0) s) ∙ sym is_n in
+    let bound = h.1.1 in
+    let digits = h.1.0.0 in
     let k = ap length r.2.parts ∙ length-append ds r.1 in
     let l = ap length is_rest in
     let m = ap length s in
-    record { narrow_pid = omega arith; long = omega arith; behind = (h.1, is_rest ∙ after) }
+    record { same = same; narrow_pid = omega arith; long = omega arith; is = is_rest ∙ is_after }
+
+-- a text has one process number before a word
+pub pid_same : (word text : List ℕ) (p q : ℕ) (r s : List ℕ) → NoDigit 10 word → word ≢ [] → PidThen word text p r → PidThen word text q s → (p ≡ q) × (r ≡ s)
+pid_same word text p q r s none some h g =
+    let a = pid_read word text (digits_of 10 0 text).1 (digits_of 10 0 text).0 p r refl refl none some h in
+    let b = pid_read word text (digits_of 10 0 text).1 (digits_of 10 0 text).0 q s refl refl none some g in
+    (a.same ∙ sym b.same, append_cancel_left word r s (sym a.is ∙ b.is))
+
+-- what is said of an option, weakened on either side
+pub either_way : {A : Type 0} (r : Option A) (M N : Type 0) (P Q : A → Type 0) → (M → N) → ((x : A) → P x → Q x) → MatchOption r M P → MatchOption r N Q
+either_way None M N P Q f g h = f h
+either_way (Some x) M N P Q f g h = g x h
 
 -- ---- prefixes
 
-pub bracket_yes : (text rest : List ℕ) → text ≡ codes "[pid " ++ rest → PidThen (codes "] ") (after_spaces rest) → HasPrefix text
+-- ---- spaces
+
+-- what the code skips to is what is behind the spaces
+pub behind_spaces : (text : List ℕ) → IsBehindSpaces text (after_spaces text)
 unfolding after_spaces
-bracket_yes text rest e h =
-    let r = taken_is (is 32) rest in
-    inr ((taken (is 32) rest).0, (taken (is 32) rest).1, r.0, e ∙ ap (λ (x : List ℕ). codes "[pid " ++ x) r.1, h)
+behind_spaces text =
+    let r = taken_is (is 32) text in
+    ((taken (is 32) text).0, r.0, r.1, r.2)
+
+-- there is one text behind all the spaces
+pub behind_same : (text a b : List ℕ) → IsBehindSpaces text a → IsBehindSpaces text b → a ≡ b
+behind_same text a b h g =
+    let e : h.0 ++ a ≡ g.0 ++ b = sym h.2 ∙ g.2 in
+    let s = same_run (is 32) b h.0 g.0 a b h.1 g.1 h.3 g.3 e (alike_same b) in
+    append_cancel_left h.0 a b (e ∙ ap (λ (x : List ℕ). x ++ b) (sym s))
+
+-- ---- prefixes
+
+pub bracket_yes : (text rest : List ℕ) (pid : ℕ) (after : List ℕ) → text ≡ codes "[pid " ++ rest → PidThen (codes "] ") (after_spaces rest) pid after → IsBracketed text pid after
+bracket_yes text rest pid after e h =
+    let b = behind_spaces rest in
+    (b.0, after_spaces rest, b.1, e ∙ ap (λ (x : List ℕ). codes "[pid " ++ x) b.2, h)
 
 no_space_digit : (b : ℕ) (x : Bool) → is 32 b ≡ x → worth b < 10 → x ≡ false
 unfolding worth
 no_space_digit b true e h = let k = ap worth (same_is 32 b e) in absurd (omega arith)
 no_space_digit b false e h = refl
 
-pid_no_space : (digits rest : List ℕ) → IsPid digits → starts (is 32) (digits ++ rest) ≡ false
+pid_no_space : (digits rest : List ℕ) (pid : ℕ) → IsPid digits pid → starts (is 32) (digits ++ rest) ≡ false
 unfolding worth
-pid_no_space [] rest h = absurd (omega (arith, h.1.0))
-pid_no_space (b ∷ digits) rest h = no_space_digit b (is 32 b) refl h.1.1.0
+pid_no_space [] rest pid h = absurd (omega (arith, h.0.0))
+pid_no_space (b ∷ digits) rest pid h = no_space_digit b (is 32 b) refl h.0.1.0
 
-digits_no_space : (word text : List ℕ) → PidThen word text → starts (is 32) text ≡ false
-digits_no_space word text h = ap (starts (is 32)) h.3 ∙ pid_no_space h.0 (word ++ h.1) h.2
+digits_no_space : (word text : List ℕ) (pid : ℕ) (rest : List ℕ) → PidThen word text pid rest → starts (is 32) text ≡ false
+digits_no_space word text pid rest h = ap (starts (is 32)) h.2 ∙ pid_no_space h.0 (word ++ rest) pid h.1
 
-pub bracket_no : (text rest : List ℕ) → text ≡ codes "[pid " ++ rest → (more after : List ℕ) → EachIs (is 32) more → text ≡ codes "[pid " ++ (more ++ after) → PidThen (codes "] ") after → PidThen (codes "] ") (after_spaces rest)
-unfolding after_spaces
-bracket_no text rest e more after each whole h =
-    let r = taken_is (is 32) rest in
-    let spaces = (taken (is 32) rest).0 in
-    let behind = (taken (is 32) rest).1 in
+pub bracket_no : (text rest : List ℕ) (pid : ℕ) (behind : List ℕ) → text ≡ codes "[pid " ++ rest → (more after : List ℕ) → EachIs (is 32) more → text ≡ codes "[pid " ++ (more ++ after) → PidThen (codes "] ") after pid behind → PidThen (codes "] ") (after_spaces rest) pid behind
+bracket_no text rest pid behind e more after each whole h =
     let same : rest ≡ more ++ after = append_cancel_left (codes "[pid ") rest (more ++ after) (sym e ∙ whole) in
-    let e1 : spaces ++ behind ≡ more ++ after = sym r.1 ∙ same in
-    let s = same_run (is 32) after spaces more behind after r.0 each r.2 (digits_no_space (codes "] ") after h) e1 (alike_same after) in
-    let e2 : behind ≡ after = append_cancel_left spaces behind after (e1 ∙ ap (λ (x : List ℕ). x ++ after) (sym s)) in
-    subst (PidThen (codes "] ")) (sym e2) h
+    let k : after_spaces rest ≡ after = behind_same rest (after_spaces rest) after (behind_spaces rest) (more, each, same, digits_no_space (codes "] ") after pid behind h) in
+    subst (λ (x : List ℕ). PidThen (codes "] ") x pid behind) (sym k) h
+
+pub space_no_digit : NoDigit 10 (codes " ")
+unfolding worth
+space_no_digit = omega arith
+
+pub bracket_no_digit : NoDigit 10 (codes "] ")
+unfolding worth
+bracket_no_digit = omega arith
+
+-- A bracket is no digit.
+digit_no_bracket : (digits rest other : List ℕ) (pid : ℕ) → IsPid digits pid → digits ++ rest ≡ 91 ∷ other → ⊥
+unfolding worth
+digit_no_bracket [] rest other pid h e = omega (arith, h.0.0)
+digit_no_bracket (b ∷ digits) rest other pid h e = let k : b ≡ 91 = cc in let d = h.0.1.0 in let w = ap worth k in omega arith
+
+-- a text has one prefix
+pub prefix_same : (text : List ℕ) (p q : ℕ) (r s : List ℕ) → IsPrefixed text p r → IsPrefixed text q s → (p ≡ q) × (r ≡ s)
+prefix_same text p q r s (inl h) (inl g) = pid_same (codes " ") text p q r s space_no_digit (λ e. cc) h g
+prefix_same text p q r s (inl h) (inr g) = absurd (digit_no_bracket h.0 (codes " " ++ r) (codes "pid " ++ (g.0 ++ g.1)) p h.1 (sym h.2 ∙ g.3))
+prefix_same text p q r s (inr h) (inl g) = absurd (digit_no_bracket g.0 (codes " " ++ s) (codes "pid " ++ (h.0 ++ h.1)) q g.1 (sym g.2 ∙ h.3))
+prefix_same text p q r s (inr h) (inr g) =
+    let b = bracket_no text (h.0 ++ h.1) q s h.3 g.0 g.1 g.2 g.3 g.4 in
+    let a = bracket_no text (h.0 ++ h.1) p r h.3 h.0 h.1 h.2 h.3 h.4 in
+    pid_same (codes "] ") (after_spaces (h.0 ++ h.1)) p q r s bracket_no_digit (λ e. cc) a b
+
+-- a text has one process and one body
+pub cut_same : (text : List ℕ) (p q : ℕ) (a b : List ℕ) → IsCut text p a → IsCut text q b → (p ≡ q) × (a ≡ b)
+cut_same text p q a b (inl h) (inl g) =
+    let k = prefix_same text p q h.0 g.0 h.1 g.1 in
+    (k.0, behind_same g.0 a b (subst (λ (x : List ℕ). IsBehindSpaces x a) k.1 h.2) g.2)
+cut_same text p q a b (inl h) (inr g) = absurd (g.2 p h.0 h.1)
+cut_same text p q a b (inr h) (inl g) = absurd (h.2 q g.0 g.1)
+cut_same text p q a b (inr h) (inr g) = (h.0 ∙ sym g.0, h.1 ∙ sym g.1)
+
+pid_length : (word text : List ℕ) (pid : ℕ) (rest : List ℕ) → PidThen word text pid rest → length rest ≤ length text
+pid_length word text pid rest h =
+    let k = ap length h.2 ∙ length-append h.0 (word ++ rest) in
+    let l = length-append word rest in
+    omega arith
+
+prefix_length : (text : List ℕ) (pid : ℕ) (rest : List ℕ) → IsPrefixed text pid rest → length rest ≤ length text
+prefix_length text pid rest (inl h) = pid_length (codes " ") text pid rest h
+prefix_length text pid rest (inr h) =
+    let k = ap length h.3 ∙ length-append (codes "[pid ") (h.0 ++ h.1) in
+    let l = length-append h.0 h.1 in
+    let m = pid_length (codes "] ") h.1 pid rest h.4 in
+    omega arith
+
+pub behind_length : (text rest : List ℕ) → IsBehindSpaces text rest → length rest ≤ length text
+behind_length text rest h = let k = ap length h.2 ∙ length-append h.0 rest in omega arith
+
+-- a body is no longer than its line
+pub cut_length : (text : List ℕ) (pid : ℕ) (body : List ℕ) → IsCut text pid body → length body ≤ length text
+cut_length text pid body (inl h) = let k = prefix_length text pid h.0 h.1 in let l = behind_length h.0 body h.2 in omega arith
+cut_length text pid body (inr h) = let k = ap length h.1 in omega arith
 
 -- ---- endings
 
@@ -170,3 +251,23 @@ pub never_three : (text one two three spaces : List ℕ) → text ≡ one ++ not
 never_three text one two three spaces e1 e2 e3 each none h =
     let k : two ≡ (h.0 ++ cut) ++ h.1 = append_cancel_right two ((h.0 ++ cut) ++ h.1) (32 ∷ []) (sym e2 ∙ never_spaced text one e1 h) in
     (h.0, trailing three (h.0 ++ cut) spaces h.1 each h.2 none (cut_end h.0) (sym e3 ∙ k))
+
+-- ---- halves
+
+pub half_yes : (text front half spaces : List ℕ) → text ≡ front ++ unfinished → front ≡ half ++ spaces → EachIs (is 32) spaces → ((f : List ℕ) → half ≢ f ++ (32 ∷ [])) → IsHalf text half
+half_yes text front half spaces e k each ended = record { spaces = spaces; only_spaces = each; parts = e ∙ ap (λ (x : List ℕ). x ++ unfinished) k ∙ append_assoc half spaces unfinished; ended = ended }
+
+half_front : (text half : List ℕ) → (h : IsHalf text half) → text ≡ (half ++ h.spaces) ++ unfinished
+half_front text half h = h.parts ∙ sym (append_assoc half h.spaces unfinished)
+
+-- a text is one first half at most
+pub half_same : (text a b : List ℕ) → IsHalf text a → IsHalf text b → a ≡ b
+half_same text a b h g =
+    let e : a ++ h.spaces ≡ b ++ g.spaces = append_cancel_right (a ++ h.spaces) (b ++ g.spaces) unfinished (sym (half_front text a h) ∙ half_front text b g) in
+    trailing a b h.spaces g.spaces h.only_spaces g.only_spaces h.ended g.ended e
+
+pub half_ends : (text half : List ℕ) → IsHalf text half → EndsWith unfinished text
+half_ends text half h = (half ++ h.spaces, half_front text half h)
+
+pub half_length : (text half : List ℕ) → IsHalf text half → length half ≤ length text
+half_length text half h = let k = ap length h.parts ∙ length-append half (h.spaces ++ unfinished) in omega arith

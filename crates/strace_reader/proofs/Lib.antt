@@ -2,6 +2,11 @@ pub mod ArgumentParts
 pub mod ResultParts
 pub mod WholeCalls
 pub mod FormFacts
-pub mod LineAnswers
+pub mod BodyAnswers
 pub mod MapsFacts
+pub mod LineAnswers
 pub mod OneOutcome
+pub mod JoinFacts
+pub mod OneFeed
+pub mod NamedCalls
+pub mod KeptCounts

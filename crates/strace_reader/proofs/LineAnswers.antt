@@ -1,294 +1,188 @@
--- What the reader of lines owes at each of its returns: the forms exclude each other, since a line's
--- first byte tells most of them apart, and a call has one name.
-use Rattle.std.proofs.Common.{◌≡◌, ◌≢◌, ℕ, ◌+◌, ◌<◌, ◌≤◌, List, [], ◌∷◌, ◌++◌, length, codes, Result, Ok, Err, true, false, refl, sym, ap, subst, ◌∙◌, append_assoc, inl, inr, arith}
-use Rattle.std.specs.Prelude.{◌⊎◌, IfOk, IfErr, if◌then◌else◌, ◌==◌}
-use Rattle.std.proofs.lemmas.Bool.Decides.{nat_tests, eqb_tells}
-use Rattle.std.proofs.lemmas.List.{length-append}
-use Rattle.line_parts.specs.declared.refusal.What.{What}
-use Rattle.line_parts.specs.declared.refusal.What.TheVariants.{Later}
-use Rattle.line_parts.specs.Parts.{Refused}
-use Rattle.line_parts.specs.Leaves.{is, is_digit}
-use Rattle.line_parts.proofs.Numerals.{digit_byte}
-use Rattle.strace_reader.specs.declared.item.BadCall.{BadCall}
-use Rattle.strace_reader.specs.declared.item.Item.{Item}
-use Rattle.strace_reader.specs.declared.item.Item.TheVariants.{Played, Other, Blank}
-use Rattle.strace_reader.specs.declared.item.Name.{Name}
-use Rattle.strace_reader.specs.declared.item.Name.TheVariants.{Mmap, Munmap, Mprotect, Fault}
-use Rattle.strace_reader.specs.Words.{call_head, resumed_head}
-use Rattle.strace_reader.specs.Calls.{call}
-use Rattle.strace_reader.specs.Grammar.{BeginsWith, EndsWith, unfinished, NeverReturned, IsPid, HasPrefix, IsCall, NoForm, IsOther, Spells, IsLater, Refuses, IsNamedItem}
-use Rattle.strace_reader.proofs.ResultParts.{IsSound}
+-- A line is its body behind its prefix: what the reader of bodies answers fixes what the reader of lines does.
+use Rattle.std.proofs.Common.{◌≡◌, ◌≢◌, ℕ, ◌+◌, ◌-◌, ◌≤◌, List, [], length, Result, Ok, Err, refl, sym, ap, subst, ◌∙◌, inl, inr, arith}
+use Rattle.std.specs.Prelude.{IfOk, IfErr, ◌==◌, true, false, ◌∷◌}
+use Rattle.std.proofs.lemmas.Bool.Decides.{eqb_tells}
 use Rattle.line_parts.specs.declared.refusal.Refusal.{Refusal}
-use Rattle.line_parts.proofs.Sequence.{refusal_within}
-use Rattle.strace_reader.specs.Reading.{arguments_at}
-use Rattle.strace_reader.proofs.WholeCalls.{IsWhole, IsRefused, call_values, call_whole, call_refused, arguments_good}
-use Rattle.strace_reader.proofs.FormFacts.{last_same}
+use Rattle.line_parts.specs.declared.refusal.What.{What}
+use Rattle.strace_reader.specs.declared.item.BadCall.{BadCall}
+use Rattle.strace_reader.specs.declared.item.Body.{Body}
+use Rattle.strace_reader.specs.declared.item.Body.TheVariants.{Called, FirstHalf, SecondHalf, Other}
+use Rattle.strace_reader.specs.declared.item.Item.{Item}
+use Rattle.strace_reader.specs.declared.item.Item.TheVariants.{Played, Unfinished, Resumed, Other as Skipped, Blank}
+use Rattle.strace_reader.specs.Grammar.{IsCut, IsBody, RefusesBody, IsNamedBody, Spells, Refuses, IsNamedItem}
+use Rattle.strace_reader.specs.Reading.{item_of, FitsBody}
+use Rattle.strace_reader.proofs.FormFacts.{cut_same, cut_length, half_length}
+use Rattle.strace_reader.proofs.BodyAnswers.{BodyAnswers, some_call, some_head, some_resumption, resumed_length}
 
-abbrev pub is_item : Item → Result Item BadCall
-is_item item = Ok item
-
-abbrev pub is_bad : ℕ → What → Result Item BadCall
-is_bad k w = Err (record { column = k; what = w })
-
-abbrev pub is_err : BadCall → Result Item BadCall
-is_err bad = Err bad
-
-pub record Answers (text : List ℕ) (r : Result Item BadCall) : Type 0 where
+-- all that the reader of lines says of its result
+pub record LineAnswers (text : List ℕ) (r : Result Item BadCall) : Type 0 where
   pub found : IfOk r (λ item. Spells text item)
   pub only : (item : Item) → Spells text item → r ≡ Ok item
   pub refused : IfErr r (Refuses text)
   pub only_there : (bad : BadCall) → Refuses text bad → r ≡ Err bad
   pub named : IfOk r (λ item. IsNamedItem item)
 
--- ---- the first byte
+abbrev is_item : Item → Result Item BadCall
+is_item item = Ok item
 
--- 0 at the end, 1 a signal or an exit, 2 a prefix, 3 a resumed_head, 4 a call
-abbrev kind : List ℕ → ℕ
-kind [] = 0
-kind (c ∷ text) = if is 45 c then 1 else if is 43 c then 1 else if is 60 c then 3 else if is 109 c then 4 else if is 102 c then 4 else if is 91 c then 2 else if is_digit c then 2 else 5
+abbrev is_bad : ℕ → What → Result Item BadCall
+is_bad column w = Err (record { column = column; what = w })
 
-call_head_kind : (name : Name) (text : List ℕ) → BeginsWith (call_head name) text → kind text ≡ 4
-call_head_kind Mmap text h = ap kind h.1
-call_head_kind Munmap text h = ap kind h.1
-call_head_kind Mprotect text h = ap kind h.1
-call_head_kind Fault text h = ap kind h.1
+-- what a body says of its own places
+pub body_fits : (text : List ℕ) (b : Body) → IsBody text b → FitsBody (length text) b
+unfolding IsBody
+body_fits text (Called c r) h = tt
+body_fits text (FirstHalf name len) h = let k = half_length text h.0 h.2 in let e = h.3 in omega arith
+body_fits text (SecondHalf name left) h = let k = resumed_length name text h.0 h.1 in let e = h.2 in omega arith
+body_fits text Other h = tt
 
-resumed_head_kind : (name : Name) (text : List ℕ) → BeginsWith (resumed_head name) text → kind text ≡ 3
-resumed_head_kind Mmap text h = ap kind h.1
-resumed_head_kind Munmap text h = ap kind h.1
-resumed_head_kind Mprotect text h = ap kind h.1
-resumed_head_kind Fault text h = ap kind h.1
+-- the empty line
 
-digit_kind : (b : ℕ) (text : List ℕ) → is_digit b ≡ true → kind (b ∷ text) ≡ 2
-digit_kind b text h = grind (arith, nat_tests)
+nothing_spelled : (text : List ℕ) → text ≡ [] → (q : ℕ) (body : List ℕ) → IsCut text q body → length body ≡ 0
+nothing_spelled text e q body c = let k = cut_length text q body c in let l = ap length e in omega arith
 
-digits_kind : (digits rest : List ℕ) → IsPid digits → kind (digits ++ rest) ≡ 2
-digits_kind [] rest h = absurd (omega (arith, h.1.0))
-digits_kind (b ∷ digits) rest h = digit_kind b (digits ++ rest) (digit_byte b h.1.1.0)
+blank_only : (text : List ℕ) → text ≡ [] → (item : Item) → Spells text item → is_item Blank ≡ is_item item
+unfolding Spells IsBody
+blank_only text e (Played q c r) h = absurd (let k = nothing_spelled text e q h.0 h.1 in let l = some_call h.2.0 h.0 h.2.1 in omega arith)
+blank_only text e (Unfinished q name from to) h = absurd (let k = nothing_spelled text e q h.0 h.2 in let l = some_head name h.0 h.3.1 in omega arith)
+blank_only text e (Resumed q name from) h = absurd (let k = nothing_spelled text e q h.0 h.2 in let l = some_resumption name h.0 h.3.0 h.3.1 in omega arith)
+blank_only text e Skipped h = absurd (h.0 e)
+blank_only text e Blank h = refl
 
-prefix_kind : (text : List ℕ) → HasPrefix text → kind text ≡ 2
-prefix_kind text (inl h) = ap kind h.3 ∙ digits_kind h.0 (codes " " ++ h.1) h.2
-prefix_kind text (inr h) = ap kind h.3
+blank_bad : (text : List ℕ) → text ≡ [] → (bad : BadCall) → Refuses text bad → ⊥
+unfolding Refuses RefusesBody
+blank_bad text e bad h = let k = nothing_spelled text e h.0 h.1 h.3 in let l = some_call h.4.0 h.1 h.4.2 in omega arith
 
--- ---- a call has one name
-
-abbrev second : List ℕ → ℕ
-second [] = 0
-second (a ∷ []) = 0
-second (a ∷ b ∷ text) = b
-
-abbrev second_of : Name → ℕ
-second_of Mmap = 109
-second_of Munmap = 117
-second_of Mprotect = 112
-second_of Fault = 97
-
-call_head_second : (name : Name) (text : List ℕ) → BeginsWith (call_head name) text → second text ≡ second_of name
-call_head_second Mmap text h = ap second h.1
-call_head_second Munmap text h = ap second h.1
-call_head_second Mprotect text h = ap second h.1
-call_head_second Fault text h = ap second h.1
-
-by_second : (m n : Name) → second_of m ≡ second_of n → m ≡ n
-by_second Mmap Mmap e = refl
-by_second Mmap Munmap e = absurd (omega arith)
-by_second Mmap Mprotect e = absurd (omega arith)
-by_second Mmap Fault e = absurd (omega arith)
-by_second Munmap Mmap e = absurd (omega arith)
-by_second Munmap Munmap e = refl
-by_second Munmap Mprotect e = absurd (omega arith)
-by_second Munmap Fault e = absurd (omega arith)
-by_second Mprotect Mmap e = absurd (omega arith)
-by_second Mprotect Munmap e = absurd (omega arith)
-by_second Mprotect Mprotect e = refl
-by_second Mprotect Fault e = absurd (omega arith)
-by_second Fault Mmap e = absurd (omega arith)
-by_second Fault Munmap e = absurd (omega arith)
-by_second Fault Mprotect e = absurd (omega arith)
-by_second Fault Fault e = refl
-
-one_name : (m n : Name) (text : List ℕ) → BeginsWith (call_head m) text → BeginsWith (call_head n) text → m ≡ n
-one_name m n text h g = by_second m n (sym (call_head_second m text h) ∙ call_head_second n text g)
-
-no_same : (a b : ℕ) → a ≡ 63 → b ≡ 62 → a ≡ b → ⊥
-no_same a b h g e = omega arith
-
--- no line both ends as a first half does and as that of a call that never returned
-two_ends : (text : List ℕ) → NeverReturned text → EndsWith unfinished text → ⊥
-two_ends text h g =
-    let one : List ℕ = h.0 ++ (codes "<unfinished ...>)" ++ ((32 ∷ h.1) ++ codes "= ")) in
-    let e1 : text ≡ one ++ (63 ∷ []) = h.3 ∙ ap (λ (x : List ℕ). h.0 ++ (codes "<unfinished ...>)" ++ x)) (sym (append_assoc (32 ∷ h.1) (codes "= ") (63 ∷ []))) ∙ sym (append_assoc h.0 (codes "<unfinished ...>)" ++ ((32 ∷ h.1) ++ codes "= ")) (63 ∷ [])) in
-    let e2 : text ≡ (g.0 ++ codes "<unfinished ...") ++ (62 ∷ []) = g.1 ∙ sym (append_assoc g.0 (codes "<unfinished ...") (62 ∷ [])) in
-    no_same 63 62 refl refl (last_same one (g.0 ++ codes "<unfinished ...") 63 62 (sym e1 ∙ e2))
-
--- ---- the answers
-
-later_kind : (text : List ℕ) → IsLater text → (kind text ≡ 2) ⊎ ((kind text ≡ 3) ⊎ ((kind text ≡ 4) × EndsWith unfinished text))
-later_kind text (inl h) = inl (prefix_kind text h)
-later_kind text (inr (inl h)) = inr (inl (resumed_head_kind h.0 text h.1))
-later_kind text (inr (inr h)) = inr (inr (call_head_kind h.0 text h.1, h.2))
-
-not_later : (text : List ℕ) (k : ℕ) → kind text ≡ k → k < 2 → IsLater text → ⊥
-not_later text k e lt h = elim (later_kind text h) [ inl a ↦ omega arith | inr b ↦ elim b [ inl a ↦ omega arith | inr a ↦ let z = a.0 in omega arith ] ]
-
-not_call : (text : List ℕ) (k : ℕ) → kind text ≡ k → k < 4 → (name : Name) → IsCall name text → ⊥
-not_call text k e lt name h = let z = call_head_kind name text h.names in omega arith
-
-blank_only : (text : List ℕ) → text ≡ [] → kind text ≡ 0 → (item : Item) → Spells text item → is_item Blank ≡ is_item item
+pub blank_line : (text : List ℕ) → text ≡ [] → LineAnswers text (Ok Blank)
 unfolding Spells
-blank_only text e k Blank h = refl
-blank_only text e k Other (inl h) = let z = ap kind h.1 in absurd (omega arith)
-blank_only text e k Other (inr (inl h)) = let z = ap kind h.1 in absurd (omega arith)
-blank_only text e k Other (inr (inr (inl h))) = let z = call_head_kind h.0 text h.1 in absurd (omega arith)
-blank_only text e k Other (inr (inr (inr (inl h)))) = absurd (not_call text 0 k (omega arith) h.0 h.1)
-blank_only text e k Other (inr (inr (inr (inr h)))) = absurd (h.some e)
-blank_only text e k (Played pid c r) h = absurd (not_call text 0 k (omega arith) h.0 h.1)
+blank_line text e = record {
+  found = e;
+  only = blank_only text e;
+  refused = tt;
+  only_there = λ bad h. absurd (blank_bad text e bad h);
+  named = tt;
+}
 
-pub blank_line : (text : List ℕ) → text ≡ [] → Answers text (Ok Blank)
-unfolding Spells Refuses
-blank_line text e =
-    let k : kind text ≡ 0 = ap kind e in
+-- ---- other lines
+
+-- the body that a line's item is of
+pub record OfBody (text : List ℕ) (item : Item) : Type 0 where
+  pub pid : ℕ
+  pub body : List ℕ
+  pub it : Body
+  pub cut : IsCut text pid body
+  pub is : IsBody body it
+  pub same : item ≡ item_of (length text) pid (length body) it
+
+from_is : (n m from : ℕ) → from + m ≡ n → from ≡ n - m
+from_is n m from h = omega arith
+
+pub of_body : (text : List ℕ) → text ≢ [] → (item : Item) → Spells text item → OfBody text item
+unfolding Spells
+of_body text some (Played q c r) h = record { pid = q; body = h.0; it = Called c r; cut = h.1; is = h.2; same = refl }
+of_body text some (Unfinished q name from to) h =
+    let e = from_is (length text) (length h.0) from h.4 in
+    record { pid = q; body = h.0; it = FirstHalf name h.1; cut = h.2; is = h.3; same = rw (h.5, e) refl }
+of_body text some (Resumed q name from) h =
+    let e = from_is (length text) h.1 from h.4 in
+    record { pid = q; body = h.0; it = SecondHalf name h.1; cut = h.2; is = h.3; same = rw e refl }
+of_body text some Skipped h = record { pid = h.1; body = h.2; it = Other; cut = h.3; is = h.4; same = refl }
+of_body text some Blank h = absurd (some h)
+
+back : (n m : ℕ) → m ≤ n → n - m + m ≡ n
+back n m h = omega arith
+
+pub spelled : (text body : List ℕ) (pid : ℕ) (b : Body) → text ≢ [] → IsCut text pid body → IsBody body b → Spells text (item_of (length text) pid (length body) b)
+unfolding Spells
+spelled text body pid (Called c r) some cut is = (body, cut, is)
+spelled text body pid (FirstHalf name len) some cut is = (body, len, cut, is, back (length text) (length body) (cut_length text pid body cut), refl)
+spelled text body pid (SecondHalf name left) some cut is =
+    let k = body_fits body (SecondHalf name left) is in
+    let l = cut_length text pid body cut in
+    (body, left, cut, is, back (length text) left (omega arith))
+spelled text body pid Other some cut is = (some, pid, body, cut, is)
+
+abbrev as_ok : Body → Result Body Refusal
+as_ok b = Ok b
+
+abbrev as_err : Refusal → Result Body Refusal
+as_err f = Err f
+
+same_ok : (a b : Body) → as_ok a ≡ as_ok b → a ≡ b
+same_ok a b e = cc
+
+ok_no_err : (a : Body) (b : Refusal) → as_ok a ≡ as_err b → ⊥
+ok_no_err a b e = cc
+
+same_err : (a b : Refusal) → as_err a ≡ as_err b → a ≡ b
+same_err a b e = cc
+
+-- another item of the line is of the same body
+line_only : (text body : List ℕ) (pid : ℕ) (b : Body) → text ≢ [] → IsCut text pid body → BodyAnswers body (Ok b) → (item : Item) → Spells text item → is_item (item_of (length text) pid (length body) b) ≡ is_item item
+line_only text body pid b some cut a item h =
+    let o = of_body text some item h in
+    let k = cut_same text pid o.pid body o.body cut o.cut in
+    let e : b ≡ o.it = same_ok b o.it (a.only o.it (subst (λ (x : List ℕ). IsBody x o.it) (sym k.1) o.is)) in
+    ap is_item (ap (λ (x : Body). item_of (length text) pid (length body) x) e ∙ ap (λ (x : ℕ). item_of (length text) x (length body) o.it) k.0 ∙ ap (λ (x : List ℕ). item_of (length text) o.pid (length x) o.it) k.1 ∙ sym o.same)
+
+named_item : (n pid m : ℕ) (b : Body) → IsNamedBody b → IsNamedItem (item_of n pid m b)
+named_item n pid m (Called c r) h = h
+named_item n pid m (FirstHalf name len) h = tt
+named_item n pid m (SecondHalf name left) h = tt
+named_item n pid m Other h = tt
+
+line_bad : (text body : List ℕ) (pid : ℕ) (b : Body) → IsCut text pid body → BodyAnswers body (Ok b) → (bad : BadCall) → Refuses text bad → ⊥
+unfolding Refuses
+line_bad text body pid b cut a bad h =
+    let k = cut_same text pid h.0 body h.1 cut h.3 in
+    ok_no_err b h.2 (a.only_there h.2 (subst (λ (x : List ℕ). RefusesBody x h.2) (sym k.1) h.4))
+
+pub read_body_line : (text body : List ℕ) (pid : ℕ) (b : Body) → text ≢ [] → IsCut text pid body → BodyAnswers body (Ok b) → LineAnswers text (Ok (item_of (length text) pid (length body) b))
+read_body_line text body pid b some cut a = record {
+  found = spelled text body pid b some cut a.found;
+  only = line_only text body pid b some cut a;
+  refused = tt;
+  only_there = λ bad h. absurd (line_bad text body pid b cut a bad h);
+  named = named_item (length text) pid (length body) b a.named;
+}
+
+column_back : (n left : ℕ) → left ≤ n → (n - left + 1) + left ≡ n + 1
+column_back n left h = omega arith
+
+column_is : (n left column : ℕ) → column + left ≡ n + 1 → left ≤ n → n - left + 1 ≡ column
+column_is n left column h le = omega arith
+
+refused_only : (text body : List ℕ) (pid : ℕ) (f : Refusal) → text ≢ [] → IsCut text pid body → BodyAnswers body (Err f) → (item : Item) → Spells text item → ⊥
+refused_only text body pid f some cut a item h =
+    let o = of_body text some item h in
+    let k = cut_same text pid o.pid body o.body cut o.cut in
+    ok_no_err o.it f (sym (a.only o.it (subst (λ (x : List ℕ). IsBody x o.it) (sym k.1) o.is)))
+
+bad_is : (a b : ℕ) (w v : What) → a ≡ b → w ≡ v → is_bad a w ≡ is_bad b v
+bad_is a b w v e f = ap (λ (x : ℕ). is_bad x w) e ∙ ap (λ (x : What). is_bad b x) f
+
+refused_there : (text body : List ℕ) (pid : ℕ) (f : Refusal) → IsCut text pid body → BodyAnswers body (Err f) → f.left ≤ length text → (bad : BadCall) → Refuses text bad → is_bad (length text - f.left + 1) f.what ≡ is_bad bad.column bad.what
+unfolding Refuses
+refused_there text body pid f cut a le bad h =
+    let k = cut_same text pid h.0 body h.1 cut h.3 in
+    let e : f ≡ h.2 = same_err f h.2 (a.only_there h.2 (subst (λ (x : List ℕ). RefusesBody x h.2) (sym k.1) h.4)) in
+    let l : f.left ≡ h.2.left = ap (λ (x : Refusal). x.left) e in
+    let place = h.5 in
+    bad_is (length text - f.left + 1) bad.column f.what bad.what (column_is (length text) f.left bad.column (ap (λ (x : ℕ). bad.column + x) l ∙ place) le) (ap (λ (x : Refusal). x.what) e ∙ sym h.6)
+
+pub refused_body_line : (text body : List ℕ) (pid : ℕ) (f : Refusal) → text ≢ [] → IsCut text pid body → BodyAnswers body (Err f) → LineAnswers text (Err (record { column = length text - f.left + 1; what = f.what }))
+unfolding Refuses
+refused_body_line text body pid f some cut a =
+    let m = cut_length text pid body cut in
+    let w = a.within in
+    let le : f.left ≤ length text = omega arith in
     record {
-      found = e;
-      only = blank_only text e k;
-      refused = tt;
-      only_there = λ bad h. elim h [ inl a ↦ absurd (not_later text 0 k (omega arith) a.0) | inr a ↦ absurd (not_call text 0 k (omega arith) a.0 a.1) ];
+      found = tt;
+      only = λ item h. absurd (refused_only text body pid f some cut a item h);
+      refused = (pid, body, f, cut, a.refused, column_back (length text) f.left le, refl);
+      only_there = refused_there text body pid f cut a le;
       named = tt;
     }
-
-signal_kind : (text : List ℕ) → BeginsWith (codes "---") text ⊎ BeginsWith (codes "+++") text → kind text ≡ 1
-signal_kind text (inl h) = ap kind h.1
-signal_kind text (inr h) = ap kind h.1
-
-signal_form : (text : List ℕ) → BeginsWith (codes "---") text ⊎ BeginsWith (codes "+++") text → IsOther text
-signal_form text (inl h) = inl h
-signal_form text (inr h) = inr (inl h)
-
--- A line that is Other and no call, no form of a later time and not empty is Other alone.
-other_only : (text : List ℕ) → text ≢ [] → ((name : Name) → IsCall name text → ⊥) → (item : Item) → Spells text item → is_item Other ≡ is_item item
-unfolding Spells
-other_only text some none Blank h = absurd (some h)
-other_only text some none Other h = refl
-other_only text some none (Played pid c r) h = absurd (none h.0 h.1)
-
-other_line : (text : List ℕ) → IsOther text → text ≢ [] → ((name : Name) → IsCall name text → ⊥) → (IsLater text → ⊥) → Answers text (Ok Other)
-unfolding Spells Refuses
-other_line text form some none later = record {
-  found = form;
-  only = other_only text some none;
-  refused = tt;
-  only_there = λ bad h. elim h [ inl a ↦ absurd (later a.0) | inr a ↦ absurd (none a.0 a.1) ];
-  named = tt;
-}
-
-kind_some : (text : List ℕ) (k : ℕ) → kind text ≡ k → 0 < k → text ≢ []
-kind_some text k e lt empty_ = let z = ap kind empty_ in omega arith
-
-pub signal_line : (text : List ℕ) → BeginsWith (codes "---") text ⊎ BeginsWith (codes "+++") text → Answers text (Ok Other)
-signal_line text h =
-    let k = signal_kind text h in
-    other_line text (signal_form text h) (kind_some text 1 k (omega arith)) (λ name c. not_call text 1 k (omega arith) name c) (λ l. not_later text 1 k (omega arith) l)
-
-pub never_line : (name : Name) (text : List ℕ) → BeginsWith (call_head name) text → NeverReturned text → Answers text (Ok Other)
-never_line name text h never =
-    let k = call_head_kind name text h in
-    other_line text (inr (inr (inl (name, h, never)))) (kind_some text 4 k (omega arith)) (λ n c. c.returned never)
-    (λ l. elim (later_kind text l) [ inl a ↦ omega arith | inr b ↦ elim b [ inl a ↦ omega arith | inr a ↦ two_ends text never a.1 ] ])
-
-pub no_form_line : (text : List ℕ) → NoForm text → Answers text (Ok Other)
-no_form_line text f =
-    other_line text (inr (inr (inr (inr f)))) f.some (λ n c. f.no_call n c.names)
-    (λ l. elim l [ inl a ↦ f.no_prefix a | inr b ↦ elim b [ inl a ↦ f.no_resumption a.0 a.1 | inr a ↦ f.no_call a.0 a.1 ] ])
-
--- ---- lines of a later time
-
-later_call : (text : List ℕ) → IsLater text → (name : Name) → IsCall name text → ⊥
-later_call text l name c =
-    let k = call_head_kind name text c.names in
-    elim (later_kind text l) [ inl a ↦ omega arith | inr b ↦ elim b [ inl a ↦ omega arith | inr a ↦ c.whole a.1 ] ]
-
-later_other : (text : List ℕ) → IsLater text → IsOther text → ⊥
-later_other text l (inl h) = not_later text 1 (ap kind h.1) (omega arith) l
-later_other text l (inr (inl h)) = not_later text 1 (ap kind h.1) (omega arith) l
-later_other text l (inr (inr (inl h))) =
-    let k = call_head_kind h.0 text h.1 in
-    elim (later_kind text l) [ inl a ↦ omega arith | inr b ↦ elim b [ inl a ↦ omega arith | inr a ↦ two_ends text h.2 a.1 ] ]
-later_other text l (inr (inr (inr (inl h)))) = later_call text l h.0 h.1
-later_other text l (inr (inr (inr (inr f)))) = elim l [ inl a ↦ f.no_prefix a | inr b ↦ elim b [ inl a ↦ f.no_resumption a.0 a.1 | inr a ↦ f.no_call a.0 a.1 ] ]
-
-later_spells : (text : List ℕ) → IsLater text → (item : Item) → Spells text item → ⊥
-unfolding Spells
-later_spells text l Blank h = not_later text 0 (ap kind h) (omega arith) l
-later_spells text l Other h = later_other text l h
-later_spells text l (Played pid c r) h = later_call text l h.0 h.1
-
-bad_same : (a b : ℕ) (w v : What) → a ≡ b → w ≡ v → is_bad b v ≡ is_bad a w
-bad_same a b w v e f = ap (λ (x : ℕ). is_bad x v) (sym e) ∙ ap (λ (x : What). is_bad a x) (sym f)
-
-pub later_line : (text : List ℕ) → IsLater text → Answers text (Err (record { column = 1; what = Later }))
-unfolding Refuses
-later_line text l = record {
-  found = tt;
-  only = λ item h. absurd (later_spells text l item h);
-  refused = inl (l, refl);
-  only_there = λ bad h. elim h [ inl a ↦ ap (λ (x : BadCall). is_err x) (sym a.1) | inr a ↦ absurd (later_call text l a.0 a.1) ];
-  named = tt;
-}
-
--- ---- lines of a call
-
--- A call's line is that call alone.
-call_other : (name : Name) (text : List ℕ) → IsCall name text → IsOther text → (call name).takes text [] Other
-call_other name text c (inl h) = let k = call_head_kind name text c.names in let z = ap kind h.1 in absurd (omega arith)
-call_other name text c (inr (inl h)) = let k = call_head_kind name text c.names in let z = ap kind h.1 in absurd (omega arith)
-call_other name text c (inr (inr (inl h))) = absurd (c.returned h.2)
-call_other name text c (inr (inr (inr (inl h)))) = subst (λ (x : Name). (call x).takes text [] Other) (one_name h.0 name text h.1.names c.names) h.2
-call_other name text c (inr (inr (inr (inr f)))) = absurd (f.no_call name c.names)
-
-call_spells : (name : Name) (text : List ℕ) → IsCall name text → (item : Item) → Spells text item → (call name).takes text [] item
-unfolding Spells
-call_spells name text c Blank h = let k = call_head_kind name text c.names in let z = ap kind h in absurd (omega arith)
-call_spells name text c Other h = call_other name text c h
-call_spells name text c (Played pid done r) h = subst (λ (x : Name). (call x).takes text [] (Played pid done r)) (one_name h.0 name text h.1.names c.names) h.2
-
-spelled_call : (name : Name) (text : List ℕ) → IsCall name text → (item : Item) → (call name).takes text [] item → IsSound item → Spells text item
-unfolding Spells
-spelled_call name text c Blank h s = absurd s
-spelled_call name text c Other h s = inr (inr (inr (inl (name, c, h))))
-spelled_call name text c (Played pid done r) h s = (name, c, h)
-
-sound_named : (item : Item) → IsSound item → IsNamedItem item
-sound_named Blank s = tt
-sound_named Other s = tt
-sound_named (Played pid c r) s = s
-
-call_refused_line : (name : Name) (text : List ℕ) (bad : BadCall) → IsCall name text → Refuses text bad → Refused (call name) text bad.column bad.what
-unfolding Refuses
-call_refused_line name text bad c (inl h) = absurd (later_call text h.0 name c)
-call_refused_line name text bad c (inr h) = subst (λ (x : Name). Refused (call x) text bad.column bad.what) (one_name h.0 name text h.1.names c.names) h.2
-
-pub call_line : (name : Name) (text : List ℕ) (item : Item) → IsCall name text → IsWhole (call name) text item → Answers text (Ok item)
-call_line name text item c w =
-    let s = call_values name text [] item w.spelled in
-    record {
-      found = spelled_call name text c item w.spelled s;
-      only = λ other h. ap (λ (x : Item). is_item x) (sym (w.only other (call_spells name text c other h)));
-      refused = tt;
-      only_there = λ bad h. absurd (w.clean bad.column bad.what (call_refused_line name text bad c h));
-      named = sound_named item s;
-    }
-
-pub refused_line : (name : Name) (text : List ℕ) (column : ℕ) (what : What) → IsCall name text → IsRefused (call name) text column what → Answers text (Err (record { column = column; what = what }))
-unfolding Refuses
-refused_line name text column what c r = record {
-  found = tt;
-  only = λ item h. absurd (r.none item (call_spells name text c item h));
-  refused = inr (name, c, r.refused);
-  only_there = λ bad h. let e = r.one bad.column bad.what (call_refused_line name text bad c h) in bad_same bad.column column bad.what what e.0 e.1;
-  named = tt;
-}
-
--- ---- a line of a call, as it is read
 
 pub empty_line : (text : List ℕ) → (length text == 0) ≡ true → text ≡ []
 empty_line [] h = refl
@@ -296,20 +190,3 @@ empty_line (c ∷ text) h = elim (eqb_tells (length (c ∷ text)) 0) [ inl k ↦
 
 pub full_line : (text : List ℕ) → (length text == 0) ≡ false → text ≢ []
 full_line text h e = let k : (length text == 0) ≡ true = ap (λ (x : List ℕ). length x == 0) e in cc
-
-pub is_call : (name : Name) (text rest : List ℕ) → text ≡ call_head name ++ rest → (NeverReturned text → ⊥) → (EndsWith unfinished text → ⊥) → IsCall name text
-is_call name text rest e never first_half = record { names = (rest, e); returned = never; whole = first_half }
-
-pub read_call : (name : Name) (text rest after : List ℕ) (item : Item) → text ≡ call_head name ++ rest → IsCall name text → arguments_at name rest ≡ Ok (item, after) → Answers text (Ok item)
-read_call name text rest after item e c read = call_line name text item c (subst (λ (x : List ℕ). IsWhole (call name) x item) (sym e) (call_whole name rest after item read))
-
-pub refused_call : (name : Name) (text rest : List ℕ) (f : Refusal) (column : ℕ) → text ≡ call_head name ++ rest → IsCall name text → arguments_at name rest ≡ Err f → column + f.left ≡ length text + 1 → Answers text (Err (record { column = column; what = f.what }))
-refused_call name text rest f column e c read place =
-    refused_line name text column f.what c
-    (subst (λ (x : List ℕ). IsRefused (call name) x column f.what) (sym e) (call_refused name rest f column read (subst (λ (x : List ℕ). column + f.left ≡ length x + 1) e place)))
-
-pub left_within : (name : Name) (text rest : List ℕ) (f : Refusal) → text ≡ call_head name ++ rest → arguments_at name rest ≡ Err f → f.left ≤ length text
-left_within name text rest f e read =
-    let k = refusal_within (arguments_good name) rest f read in
-    let l = ap length e ∙ length-append (call_head name) rest in
-    omega arith

@@ -1,20 +1,22 @@
 -- A text has one outcome. What spells an item, and what refuses a text, each fix what a reader has to give; and one
 -- result has room for one outcome.
-use Rattle.std.proofs.Common.{◌≡◌, ℕ, ◌+◌, ◌-◌, ◌≤◌, List, ◌++◌, length, Result, Ok, Err, Option, Some, None, refl, sym, ◌∙◌, inl, inr, arith}
+use Rattle.std.proofs.Common.{◌≡◌, ◌≢◌, ℕ, List, [], ◌∷◌, ◌++◌, length, Result, Ok, Err, Option, Some, None, refl, sym, ◌∙◌, inl, inr}
 use Rattle.std.proofs.lemmas.Bool.{cases_lt}
 use Rattle.page_types.specs.declared.calls.Kind.{Kind}
 use Rattle.line_parts.specs.declared.refusal.Refusal.{Refusal}
 use Rattle.strace_reader.specs.declared.item.BadCall.{BadCall}
+use Rattle.strace_reader.specs.declared.item.Body.{Body}
+use Rattle.strace_reader.specs.declared.item.Body.TheVariants.{Called, FirstHalf, SecondHalf, Other}
 use Rattle.strace_reader.specs.declared.item.Item.{Item}
-use Rattle.strace_reader.specs.declared.item.Item.TheVariants.{Played, Other, Blank}
 use Rattle.strace_reader.specs.declared.item.Name.{Name}
 use Rattle.strace_reader.specs.declared.maps.MapsItem.{MapsItem}
 use Rattle.strace_reader.specs.Words.{call_head}
-use Rattle.strace_reader.specs.Grammar.{IsCall, IsOther, Spells, Refuses}
+use Rattle.strace_reader.specs.Grammar.{IsCut, IsCall, IsOther, IsBody, RefusesBody, Spells, Refuses}
 use Rattle.strace_reader.specs.Maps.{SpellsMaps, RefusesMaps, user_end}
 use Rattle.strace_reader.specs.Reading.{arguments_at, maps_at}
 use Rattle.strace_reader.specs.Laws.{HasOneOutcome}
-use Rattle.strace_reader.proofs.LineAnswers.{Answers, blank_line, signal_line, never_line, no_form_line, later_line, read_call, refused_call, left_within}
+use Rattle.strace_reader.proofs.BodyAnswers.{BodyAnswers, signal_body, never_body, no_form_body, first_body, second_body, read_call, refused_call}
+use Rattle.strace_reader.proofs.LineAnswers.{LineAnswers, of_body, blank_line, read_body_line, refused_body_line}
 use Rattle.strace_reader.proofs.MapsFacts.{MapsAnswers, form_line, order_line, past_line, area_line}
 
 -- ---- one result, one outcome
@@ -51,45 +53,63 @@ one_of {A} spells refuses by_item by_refusal = record {
 
 -- ---- lines of a trace
 
+-- the body is read in one way
+abbrev pub BodyIsRead : List ℕ → Type 0
+BodyIsRead body = (r : Result Body Refusal) × BodyAnswers body r
+
+read_fixed : (name : Name) (body rest : List ℕ) (r : Result (Body × List ℕ) Refusal) → body ≡ call_head name ++ rest → IsCall name body → arguments_at name rest ≡ r → BodyIsRead body
+read_fixed name body rest (Ok x) e form read = (Ok x.0, read_call name body rest x.1 x.0 e form read)
+read_fixed name body rest (Err f) e form read = (Err f, refused_call name body rest f e form read)
+
+call_fixed : (name : Name) (body : List ℕ) → IsCall name body → BodyIsRead body
+call_fixed name body form = read_fixed name body form.names.0 (arguments_at name form.names.0) form.names.1 form refl
+
+other_fixed : (body : List ℕ) → IsOther body → BodyIsRead body
+other_fixed body (inl h) = (Ok Other, signal_body body (inl h))
+other_fixed body (inr (inl h)) = (Ok Other, signal_body body (inr h))
+other_fixed body (inr (inr (inl h))) = (Ok Other, never_body h.0 body h.1 h.2)
+other_fixed body (inr (inr (inr (inl h)))) = call_fixed h.0 body h.1
+other_fixed body (inr (inr (inr (inr f)))) = (Ok Other, no_form_body body f)
+
+pub body_fixed : (body : List ℕ) (b : Body) → IsBody body b → BodyIsRead body
+unfolding IsBody
+body_fixed body (Called c r) h = call_fixed h.0 body h.1
+body_fixed body (FirstHalf name len) h = (Ok (FirstHalf name (length h.0)), first_body name body h.0 h.1 h.2)
+body_fixed body (SecondHalf name left) h = (Ok (SecondHalf name (length h.0)), second_body name body h.0 h.1)
+body_fixed body Other h = other_fixed body h
+
+refused_fixed : (body : List ℕ) (f : Refusal) → RefusesBody body f → BodyIsRead body
+unfolding RefusesBody
+refused_fixed body f h = call_fixed h.0 body h.2
+
 abbrev LineIsFixed : List ℕ → Type 0
 LineIsFixed text = IsFixed (Spells text) (Refuses text)
 
-fixed_line : {text : List ℕ} (r : Result Item BadCall) → Answers text r → LineIsFixed text
+fixed_line : {text : List ℕ} (r : Result Item BadCall) → LineAnswers text r → LineIsFixed text
 fixed_line r a = record { result = r; only = a.only; only_there = a.only_there }
 
-column_of : (n left : ℕ) → left ≤ n → (n - left + 1) + left ≡ n + 1
-column_of n left h = omega arith
+line_of : (text body : List ℕ) (pid : ℕ) (r : Result Body Refusal) → text ≢ [] → IsCut text pid body → BodyAnswers body r → LineIsFixed text
+line_of text body pid (Ok b) some cut a = fixed_line _ (read_body_line text body pid b some cut a)
+line_of text body pid (Err f) some cut a = fixed_line _ (refused_body_line text body pid f some cut a)
 
-read_fixed : (name : Name) (text rest : List ℕ) (r : Result (Item × List ℕ) Refusal) → text ≡ call_head name ++ rest → IsCall name text → arguments_at name rest ≡ r → LineIsFixed text
-read_fixed name text rest (Ok x) e form read = fixed_line (Ok x.0) (read_call name text rest x.1 x.0 e form read)
-read_fixed name text rest (Err f) e form read =
-    let within = left_within name text rest f e read in
-    fixed_line (Err (record { column = length text - f.left + 1; what = f.what })) (refused_call name text rest f (length text - f.left + 1) e form read (column_of (length text) f.left within))
+spelled_line : (text : List ℕ) (item : Item) → Spells text item → LineIsFixed text
+spelled_line [] item h = fixed_line _ (blank_line [] refl)
+spelled_line (c ∷ text) item h =
+    let some : c ∷ text ≢ [] = λ e. cc in
+    let o = of_body (c ∷ text) some item h in
+    let r = body_fixed o.body o.it o.is in
+    line_of (c ∷ text) o.body o.pid r.0 some o.cut r.1
 
-call_fixed : (name : Name) (text : List ℕ) → IsCall name text → LineIsFixed text
-call_fixed name text form = read_fixed name text form.names.0 (arguments_at name form.names.0) form.names.1 form refl
-
-other_fixed : (text : List ℕ) → IsOther text → LineIsFixed text
-other_fixed text (inl h) = fixed_line (Ok Other) (signal_line text (inl h))
-other_fixed text (inr (inl h)) = fixed_line (Ok Other) (signal_line text (inr h))
-other_fixed text (inr (inr (inl h))) = fixed_line (Ok Other) (never_line h.0 text h.1 h.2)
-other_fixed text (inr (inr (inr (inl h)))) = call_fixed h.0 text h.1
-other_fixed text (inr (inr (inr (inr f)))) = fixed_line (Ok Other) (no_form_line text f)
-
-spelled_fixed : (text : List ℕ) (item : Item) → Spells text item → LineIsFixed text
-unfolding Spells
-spelled_fixed text Blank h = fixed_line (Ok Blank) (blank_line text h)
-spelled_fixed text Other h = other_fixed text h
-spelled_fixed text (Played pid c r) h = call_fixed h.0 text h.1
-
-refused_fixed : (text : List ℕ) (bad : BadCall) → Refuses text bad → LineIsFixed text
+refused_line : (text : List ℕ) (bad : BadCall) → Refuses text bad → LineIsFixed text
 unfolding Refuses
-refused_fixed text bad (inl h) = fixed_line _ (later_line text h.0)
-refused_fixed text bad (inr h) = call_fixed h.0 text h.1
+refused_line [] bad h = fixed_line _ (blank_line [] refl)
+refused_line (c ∷ text) bad h =
+    let r = refused_fixed h.1 h.2 h.4 in
+    line_of (c ∷ text) h.1 h.0 r.0 (λ e. cc) h.3 r.1
 
 -- each line of a trace has one outcome
 pub one_outcome : (text : List ℕ) → HasOneOutcome (Spells text) (Refuses text)
-one_outcome text = one_of (Spells text) (Refuses text) (spelled_fixed text) (refused_fixed text)
+one_outcome text = one_of (Spells text) (Refuses text) (spelled_line text) (refused_line text)
 
 -- ---- lines of a maps file
 

@@ -9,8 +9,8 @@ use Rattle.line_parts.proofs.Choices.{Full, good_choice, full_nonempty, full_sta
 use Rattle.line_parts.proofs.Leaves.{Last, byte_good, done_good, letters_good, run_good, spaces_good, end_good, anything_good, same_is}
 use Rattle.line_parts.proofs.Numerals.{NoNumeral, number_good, number_full, number_heads, zero_number}
 use Rattle.page_types.specs.declared.calls.Call.{Call}
-use Rattle.strace_reader.specs.declared.item.Item.{Item}
-use Rattle.strace_reader.specs.declared.item.Item.TheVariants.{Played, Other, Blank}
+use Rattle.strace_reader.specs.declared.item.Body.{Body}
+use Rattle.strace_reader.specs.declared.item.Body.TheVariants.{Called, FirstHalf, SecondHalf, Other}
 use Rattle.page_types.specs.Named.{IsNamedCall}
 use Rattle.strace_reader.specs.declared.item.Recorded.{Recorded}
 use Rattle.strace_reader.specs.declared.item.Recorded.TheVariants.{Value, Failed}
@@ -97,32 +97,32 @@ recorded_starts b q v false e h = failed_starts b q v (starts (is 45) (b ++ q)) 
 stays_end : {A : Type 0} (q : List ℕ) (v : A) → Last v q → starts (is 32) q ≡ false
 stays_end q v h = ap (starts (is 32)) h
 
-last_end : (one : Part Item) (item : Item) (q : List ℕ) → q ≡ [] → (choice (is 32) one (end AtResult item)).takes [] q item
+last_end : (one : Part Body) (item : Body) (q : List ℕ) → q ≡ [] → (choice (is 32) one (end AtResult item)).takes [] q item
 last_end one item [] h = (refl, refl, refl)
 last_end one item (c ∷ q) h = absurd cc
 
-tail_good : (item : Item) → Good (tail item) Last (tail_at item)
+tail_good : (item : Body) → Good (tail item) Last (tail_at item)
 unfolding tail_at
 tail_good item =
     good_choice (is 32) (anything_good item) (end_good AtResult item) (rest_nonempty (is 32) item) (λ rest q v h hq. stays_end q v hq) ([], item, λ q h. last_end (anything no_byte item) item q h)
 
-tail_starts : (item : Item) (b q : List ℕ) (w : Item) (x : Bool) → starts (is 32) (b ++ q) ≡ x → (arm (anything no_byte item) (end AtResult item) x).takes b q w → (b ++ q ≡ []) ⊎ (starts (is 32) (b ++ q) ≡ true)
+tail_starts : (item : Body) (b q : List ℕ) (w : Body) (x : Bool) → starts (is 32) (b ++ q) ≡ x → (arm (anything no_byte item) (end AtResult item) x).takes b q w → (b ++ q ≡ []) ⊎ (starts (is 32) (b ++ q) ≡ true)
 tail_starts item b q w true e h = inr e
 tail_starts item b q w false e h = inl (ap (λ (y : List ℕ). y ++ q) h.0 ∙ h.1)
 
-abbrev resulted : Call → Part Item
-resulted call = chain equals (λ u. chain recorded (λ r. tail (Played 0 call r)))
+abbrev resulted : Call → Part Body
+resulted call = chain equals (λ u. chain recorded (λ r. tail (Called call r)))
 
 resulted_full : (call : Call) → Full (resulted call)
-resulted_full call = chain_full equals (λ u. chain recorded (λ r. tail (Played 0 call r))) (chain_full (byte 32 AtResult) (λ a. chain spaces (λ b. chain (letters (codes "= ") AtResult) (λ c. spaces))) (byte_full 32 AtResult))
+resulted_full call = chain_full equals (λ u. chain recorded (λ r. tail (Called call r))) (chain_full (byte 32 AtResult) (λ a. chain spaces (λ b. chain (letters (codes "= ") AtResult) (λ c. spaces))) (byte_full 32 AtResult))
 
 outcome_good : (call : Call) → Good (outcome call) Last (outcome_at call)
 unfolding outcome_at
 outcome_good call =
     good_choice (is 32)
-    (good_then equals_good (λ u. good_then recorded_good (λ r. tail_good (Played 0 call r)) (λ v b q w h hq. tail_starts (Played 0 call v) b q w (starts (is 32) (b ++ q)) refl h))
-    (λ v b q w h hq. not_space_ends (b ++ q) (heads_then not_space recorded (λ r. tail (Played 0 call r)) (λ a t x k. recorded_starts a t x (starts (is 63) (a ++ t)) refl k) b q w h)))
-    (end_good AtResult (Played 0 call None)) (full_nonempty (is 32) (resulted call) (resulted_full call)) (λ rest q v h hq. stays_end q v hq) ([], Played 0 call None, λ q h. last_end (resulted call) (Played 0 call None) q h)
+    (good_then equals_good (λ u. good_then recorded_good (λ r. tail_good (Called call r)) (λ v b q w h hq. tail_starts (Called call v) b q w (starts (is 32) (b ++ q)) refl h))
+    (λ v b q w h hq. not_space_ends (b ++ q) (heads_then not_space recorded (λ r. tail (Called call r)) (λ a t x k. recorded_starts a t x (starts (is 63) (a ++ t)) refl k) b q w h)))
+    (end_good AtResult (Called call None)) (full_nonempty (is 32) (resulted call) (resulted_full call)) (λ rest q v h hq. stays_end q v hq) ([], Called call None, λ q h. last_end (resulted call) (Called call None) q h)
 
 pub closing_good : (call : Call) → Good (closing call) Last (closing_at call)
 unfolding closing_at
@@ -139,12 +139,12 @@ Ends {A} part = (p q : List ℕ) (v : A) → part.takes p q v → q ≡ []
 pub chain_ends : {A B : Type 0} (first : Part A) (next : A → Part B) → ((v : A) → Ends (next v)) → Ends (chain first next)
 chain_ends first next ends p q w h = ends h.2 h.1 q w h.5
 
-tail_end : (item : Item) (p q : List ℕ) (v : Item) (x : Bool) → (arm (anything no_byte item) (end AtResult item) x).takes p q v → q ≡ []
+tail_end : (item : Body) (p q : List ℕ) (v : Body) (x : Bool) → (arm (anything no_byte item) (end AtResult item) x).takes p q v → q ≡ []
 tail_end item p q v true h = h.0
 tail_end item p q v false h = h.1
 
-outcome_end : (call : Call) (p q : List ℕ) (v : Item) (x : Bool) → (arm (resulted call) (end AtResult (Played 0 call None)) x).takes p q v → q ≡ []
-outcome_end call p q v true h = chain_ends equals (λ u. chain recorded (λ r. tail (Played 0 call r))) (λ u. chain_ends recorded (λ r. tail (Played 0 call r)) (λ r p q v h. tail_end (Played 0 call r) p q v (starts (is 32) (p ++ q)) h)) p q v h
+outcome_end : (call : Call) (p q : List ℕ) (v : Body) (x : Bool) → (arm (resulted call) (end AtResult (Called call None)) x).takes p q v → q ≡ []
+outcome_end call p q v true h = chain_ends equals (λ u. chain recorded (λ r. tail (Called call r))) (λ u. chain_ends recorded (λ r. tail (Called call r)) (λ r p q v h. tail_end (Called call r) p q v (starts (is 32) (p ++ q)) h)) p q v h
 outcome_end call p q v false h = h.1
 
 pub closing_ends : (call : Call) → Ends (closing call)
@@ -159,18 +159,19 @@ pub chain_values : {A B : Type 0} (P : B → Type 0) (first : Part A) (next : A 
 chain_values P first next values p q w h = values h.2 h.1 q w h.5
 
 -- a call that is played has no bit but the named ones
-abbrev pub IsSound : Item → Type 0
-IsSound Blank = ⊥
+abbrev pub IsSound : Body → Type 0
+IsSound (FirstHalf name len) = ⊥
+IsSound (SecondHalf name left) = ⊥
 IsSound Other = Unit {0}
-IsSound (Played pid c r) = IsNamedCall c
+IsSound (Called c r) = IsNamedCall c
 
-tail_value : (item : Item) (p q : List ℕ) (v : Item) (x : Bool) → (arm (anything no_byte item) (end AtResult item) x).takes p q v → v ≡ item
+tail_value : (item : Body) (p q : List ℕ) (v : Body) (x : Bool) → (arm (anything no_byte item) (end AtResult item) x).takes p q v → v ≡ item
 tail_value item p q v true h = h.1
 tail_value item p q v false h = h.2
 
-outcome_value : (call : Call) → IsNamedCall call → (p q : List ℕ) (v : Item) (x : Bool) → (arm (resulted call) (end AtResult (Played 0 call None)) x).takes p q v → IsSound v
+outcome_value : (call : Call) → IsNamedCall call → (p q : List ℕ) (v : Body) (x : Bool) → (arm (resulted call) (end AtResult (Called call None)) x).takes p q v → IsSound v
 outcome_value call named p q v true h =
-    chain_values IsSound equals (λ u. chain recorded (λ r. tail (Played 0 call r))) (λ u. chain_values IsSound recorded (λ r. tail (Played 0 call r)) (λ r p q v h. subst IsSound (sym (tail_value (Played 0 call r) p q v (starts (is 32) (p ++ q)) h)) named)) p q v h
+    chain_values IsSound equals (λ u. chain recorded (λ r. tail (Called call r))) (λ u. chain_values IsSound recorded (λ r. tail (Called call r)) (λ r p q v h. subst IsSound (sym (tail_value (Called call r) p q v (starts (is 32) (p ++ q)) h)) named)) p q v h
 outcome_value call named p q v false h = subst IsSound (sym h.2) named
 
 pub closing_values : (call : Call) → IsNamedCall call → Values IsSound (closing call)

@@ -15,8 +15,8 @@ use Rattle.line_parts.proofs.Lists.{is_close, ListEnds, join_no_numeral, close_j
 use Rattle.page_types.specs.Named.{IsNamedCall}
 use Rattle.page_types.specs.declared.calls.Call.{Call}
 use Rattle.page_types.specs.declared.calls.Call.TheVariants.{Map, Unmap, Protect, Fault as FaultCall}
-use Rattle.strace_reader.specs.declared.item.Item.{Item}
-use Rattle.strace_reader.specs.declared.item.Item.TheVariants.{Other}
+use Rattle.strace_reader.specs.declared.item.Body.{Body}
+use Rattle.strace_reader.specs.declared.item.Body.TheVariants.{Other}
 use Rattle.strace_reader.specs.declared.item.Name.{Name}
 use Rattle.strace_reader.specs.declared.item.Name.TheVariants.{Mmap, Munmap, Mprotect, Fault as FaultName}
 use Rattle.strace_reader.specs.Words.{call_head}
@@ -153,7 +153,7 @@ behind_nothing : (b q : List ℕ) → b ≡ [] → b ++ q ≡ [] → q ≡ []
 behind_nothing [] q e h = h
 behind_nothing (c ∷ b) q e h = absurd cc
 
-protect_behind_prot_ends : (a n : ℕ) (p : Option ℕ) (f q : List ℕ) (v : Item) (b : List ℕ) → prot.takes f (b ++ q) p → (protect_behind_prot a n p).takes b q v → q ≡ []
+protect_behind_prot_ends : (a n : ℕ) (p : Option ℕ) (f q : List ℕ) (v : Body) (b : List ℕ) → prot.takes f (b ++ q) p → (protect_behind_prot a n p).takes b q v → q ≡ []
 protect_behind_prot_ends a n None f q v b h k = behind_nothing b q k.0 (prot_end f (b ++ q) None h refl)
 protect_behind_prot_ends a n (Some p) f q v b h k = closing_ends (Protect a n (record { 0 = p })) b q v k
 
@@ -161,11 +161,11 @@ map_tail_ends : (c : Call) → Ends (map_tail c)
 map_tail_ends c = chain_ends comma (λ u. chain descriptor (λ v. chain comma (λ w. chain (number Number) (λ o. closing c))))
     (λ u. chain_ends descriptor (λ v. chain comma (λ w. chain (number Number) (λ o. closing c))) (λ v. chain_ends comma (λ w. chain (number Number) (λ o. closing c)) (λ w. chain_ends (number Number) (λ o. closing c) (λ o. closing_ends c))))
 
-map_behind_flags_ends : (a n p : ℕ) (x : Option ℕ) (f q : List ℕ) (v : Item) (b : List ℕ) → flags.takes f (b ++ q) x → (map_behind_flags a n p x).takes b q v → q ≡ []
+map_behind_flags_ends : (a n p : ℕ) (x : Option ℕ) (f q : List ℕ) (v : Body) (b : List ℕ) → flags.takes f (b ++ q) x → (map_behind_flags a n p x).takes b q v → q ≡ []
 map_behind_flags_ends a n p None f q v b h k = behind_nothing b q k.0 (flags_end f (b ++ q) None h refl)
 map_behind_flags_ends a n p (Some x) f q v b h k = map_tail_ends (Map a n (record { 0 = p }) (record { 0 = x })) b q v k
 
-map_behind_prot_ends : (a n : ℕ) (p : Option ℕ) (f q : List ℕ) (v : Item) (b : List ℕ) → prot.takes f (b ++ q) p → (map_behind_prot a n p).takes b q v → q ≡ []
+map_behind_prot_ends : (a n : ℕ) (p : Option ℕ) (f q : List ℕ) (v : Body) (b : List ℕ) → prot.takes f (b ++ q) p → (map_behind_prot a n p).takes b q v → q ≡ []
 map_behind_prot_ends a n None f q v b h k = behind_nothing b q k.0 (prot_end f (b ++ q) None h refl)
 map_behind_prot_ends a n (Some p) f q v b h k = chain_ends comma (λ u. chain flags (map_behind_flags a n p)) (λ u c q w m. map_behind_flags_ends a n p m.2 m.0 q w m.1 m.4 m.5) b q v k
 
@@ -227,7 +227,7 @@ refused_of {A} part text f column place s =
           (omega arith, e.1);
     }
 
-pub call_whole : (name : Name) (rest after : List ℕ) (item : Item) → arguments_at name rest ≡ Ok (item, after) → IsWhole (call name) (call_head name ++ rest) item
+pub call_whole : (name : Name) (rest after : List ℕ) (item : Body) → arguments_at name rest ≡ Ok (item, after) → IsWhole (call name) (call_head name ++ rest) item
 call_whole name rest after item e = whole_of (call name) (call_head name ++ rest) after item (call_ends name) (subst (Reads (call name) Last (call_head name ++ rest)) e (call_reads name rest))
 
 pub call_refused : (name : Name) (rest : List ℕ) (f : Refusal) (column : ℕ) → arguments_at name rest ≡ Err f → column + f.left ≡ length (call_head name ++ rest) + 1 → IsRefused (call name) (call_head name ++ rest) column f.what

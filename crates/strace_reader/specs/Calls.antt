@@ -9,8 +9,8 @@ use Rattle.line_parts.specs.Lists.{listed}
 use Rattle.page_types.specs.declared.calls.Call.{Call}
 use Rattle.page_types.specs.declared.calls.Call.TheVariants.{Map, Unmap, Protect, Fault}
 use Rattle.page_types.specs.declared.sets.Access.{Access}
-use Rattle.strace_reader.specs.declared.item.Item.{Item}
-use Rattle.strace_reader.specs.declared.item.Item.TheVariants.{Played, Other}
+use Rattle.strace_reader.specs.declared.item.Body.{Body}
+use Rattle.strace_reader.specs.declared.item.Body.TheVariants.{Called, Other}
 use Rattle.strace_reader.specs.declared.item.Recorded.{Recorded}
 use Rattle.strace_reader.specs.declared.item.Recorded.TheVariants.{Value, Failed}
 use Rattle.strace_reader.specs.declared.item.Name.{Name}
@@ -94,61 +94,65 @@ abbrev pub equals : Part (Unit {0})
 equals = chain (byte 32 AtResult) (λ a. chain spaces (λ b. chain (letters (codes "= ") AtResult) (λ c. spaces)))
 
 -- behind the result: the end, or a space and any bytes
-abbrev pub tail : Item → Part Item
-tail item = choice (is 32) (anything no_byte item) (end AtResult item)
+abbrev pub tail : Body → Part Body
+tail body = choice (is 32) (anything no_byte body) (end AtResult body)
 
 -- behind the parenthesis: the end, or a result
-abbrev pub outcome : Call → Part Item
-outcome call = choice (is 32) (chain equals (λ u. chain recorded (λ r. tail (Played 0 call r)))) (end AtResult (Played 0 call None))
+abbrev pub outcome : Call → Part Body
+outcome call = choice (is 32) (chain equals (λ u. chain recorded (λ r. tail (Called call r)))) (end AtResult (Called call None))
+
+-- the body of a call of which nothing is recorded
+abbrev pub unrecorded : Call → Body
+unrecorded call = Called call None
 
 -- the parenthesis, and what is behind it
-abbrev pub closing : Call → Part Item
+abbrev pub closing : Call → Part Body
 closing call = chain (byte 41 Close) (λ u. outcome call)
 
 -- ---- the arguments of each call
 
 -- munmap: an address and a length
-abbrev pub munmap_arguments : Part Item
+abbrev pub munmap_arguments : Part Body
 munmap_arguments = chain addr (λ a. chain comma (λ u. chain (number Number) (λ n. closing (Unmap a n))))
 
 -- behind the protection: nothing, where it took the line to its end, or the end of the line
-abbrev pub protect_behind_prot : ℕ → ℕ → Option ℕ → Part Item
+abbrev pub protect_behind_prot : ℕ → ℕ → Option ℕ → Part Body
 protect_behind_prot a n None = done Other
 protect_behind_prot a n (Some p) = closing (Protect a n (record { 0 = p }))
 
 -- mprotect: an address, a length and a protection
-abbrev pub mprotect_arguments : Part Item
+abbrev pub mprotect_arguments : Part Body
 mprotect_arguments = chain addr (λ a. chain comma (λ u. chain (number Number) (λ n. chain comma (λ v. chain prot (protect_behind_prot a n)))))
 
 -- fault, the page fault: an address and an access
-abbrev pub fault_arguments : Part Item
+abbrev pub fault_arguments : Part Body
 fault_arguments = chain addr (λ a. chain comma (λ u. chain access (λ c. closing (Fault a c))))
 
--- the descriptor and the offset are read and map_tail
-abbrev pub map_tail : Call → Part Item
+-- the descriptor and the offset, which are read and let go, and what is left of the line
+abbrev pub map_tail : Call → Part Body
 map_tail call = chain comma (λ u. chain descriptor (λ v. chain comma (λ w. chain (number Number) (λ o. closing call))))
 
 -- behind the flags: nothing, where they took the line to its end, or what is left of the line
-abbrev pub map_behind_flags : ℕ → ℕ → ℕ → Option ℕ → Part Item
+abbrev pub map_behind_flags : ℕ → ℕ → ℕ → Option ℕ → Part Body
 map_behind_flags a n p None = done Other
 map_behind_flags a n p (Some f) = map_tail (Map a n (record { 0 = p }) (record { 0 = f }))
 
 -- behind the protection: nothing, where it took the line to its end, or the flags
-abbrev pub map_behind_prot : ℕ → ℕ → Option ℕ → Part Item
+abbrev pub map_behind_prot : ℕ → ℕ → Option ℕ → Part Body
 map_behind_prot a n None = done Other
 map_behind_prot a n (Some p) = chain comma (λ u. chain flags (map_behind_flags a n p))
 
 -- mmap: an address, a length, a protection, flags, a descriptor and an offset
-abbrev pub mmap_arguments : Part Item
+abbrev pub mmap_arguments : Part Body
 mmap_arguments = chain addr (λ a. chain comma (λ u. chain (number Number) (λ n. chain comma (λ v. chain prot (map_behind_prot a n)))))
 
 -- the arguments of each call
-abbrev pub arguments : Name → Part Item
+abbrev pub arguments : Name → Part Body
 arguments Mmap = mmap_arguments
 arguments Munmap = munmap_arguments
 arguments Mprotect = mprotect_arguments
 arguments FaultName = fault_arguments
 
--- a whole line of a call; its value is Other where a word or number of the arguments leaves it unplayed
-unfoldable pub call : Name → Part Item
+-- the whole body of a call; its value is Other where a word or number of the arguments leaves it unplayed
+unfoldable pub call : Name → Part Body
 call name = chain (begun (call_head name)) (λ u. arguments name)

@@ -5,3 +5,10 @@ pub mod Maps
 pub mod Reading
 pub mod Playing
 pub mod Laws
+pub mod Joining
+pub mod Joiner
+pub use Rattle.line_parts.specs.Leaves
+pub use Rattle.line_parts.specs.Lists
+pub use Rattle.line_parts.specs.Parts
+pub use Rattle.page_types.specs.Named
+pub use Rattle.page_types.specs.Sets

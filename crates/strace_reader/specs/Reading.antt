@@ -1,7 +1,7 @@
 -- Reading a line from left to right, up to the first refusal: what the functions of src/ compute, as functions on
 -- lists. What is right is not said here but in Calls and Maps; that these functions read those forms is shown in
 -- proofs/.
-use Rattle.std.specs.Prelude.{ℕ, suc, ◌^◌, ◌%◌, ◌==◌, nat_lt, List, [], ◌∷◌, length, codes, Bool, true, false, Option, Some, None, Result, Ok, Err, if◌then◌else◌}
+use Rattle.std.specs.Prelude.{ℕ, suc, ◌+◌, ◌-◌, ◌≤◌, ◌^◌, ◌%◌, ◌==◌, nat_lt, List, [], ◌∷◌, length, codes, Bool, true, false, Option, Some, None, Result, Ok, Err, if◌then◌else◌}
 use Rattle.line_parts.specs.declared.refusal.Refusal.{Refusal}
 use Rattle.line_parts.specs.declared.refusal.What.TheVariants.{Number, Word, Comma, Close, Result as AtResult}
 use Rattle.line_parts.specs.Parts.{starts}
@@ -14,8 +14,10 @@ use Rattle.page_types.specs.declared.calls.Call.TheVariants.{Map, Unmap, Protect
 use Rattle.page_types.specs.declared.sets.Access.{Access}
 use Rattle.strace_reader.specs.declared.arguments.WordList.{WordList}
 use Rattle.strace_reader.specs.declared.arguments.WordList.TheVariants.{Prot, Flags}
+use Rattle.strace_reader.specs.declared.item.Body.{Body}
+use Rattle.strace_reader.specs.declared.item.Body.TheVariants.{Called, FirstHalf, SecondHalf, Other}
 use Rattle.strace_reader.specs.declared.item.Item.{Item}
-use Rattle.strace_reader.specs.declared.item.Item.TheVariants.{Played, Other}
+use Rattle.strace_reader.specs.declared.item.Item.TheVariants.{Played, Unfinished, Resumed, Other as Skipped}
 use Rattle.strace_reader.specs.declared.item.Recorded.{Recorded}
 use Rattle.strace_reader.specs.declared.item.Recorded.TheVariants.{Value, Failed}
 use Rattle.strace_reader.specs.declared.item.Name.{Name}
@@ -106,54 +108,54 @@ unfoldable pub equals_at : List ℕ → Result (Unit {0} × List ℕ) Refusal
 equals_at text = byte_at 32 AtResult text >>= λ a. letters_at (codes "= ") AtResult (after_spaces a.1) >>= λ c. Ok (tt, after_spaces c.1)
 
 -- the end of a line
-unfoldable pub tail_at : Item → List ℕ → Result (Item × List ℕ) Refusal
-tail_at item text = if starts (is 32) text then Ok (item, []) else end_at AtResult item text
+unfoldable pub tail_at : Body → List ℕ → Result (Body × List ℕ) Refusal
+tail_at body text = if starts (is 32) text then Ok (body, []) else end_at AtResult body text
 
 -- what stands behind the parenthesis
-unfoldable pub outcome_at : Call → List ℕ → Result (Item × List ℕ) Refusal
-outcome_at call text = if starts (is 32) text then (equals_at text >>= λ u. recorded_at u.1 >>= λ r. tail_at (Played 0 call r.0) r.1) else end_at AtResult (Played 0 call None) text
+unfoldable pub outcome_at : Call → List ℕ → Result (Body × List ℕ) Refusal
+outcome_at call text = if starts (is 32) text then (equals_at text >>= λ u. recorded_at u.1 >>= λ r. tail_at (Called call r.0) r.1) else end_at AtResult (Called call None) text
 
 -- the parenthesis and what is behind it
-unfoldable pub closing_at : Call → List ℕ → Result (Item × List ℕ) Refusal
+unfoldable pub closing_at : Call → List ℕ → Result (Body × List ℕ) Refusal
 closing_at call text = byte_at 41 Close text >>= λ u. outcome_at call u.1
 
 -- munmap
-unfoldable pub munmap_at : List ℕ → Result (Item × List ℕ) Refusal
+unfoldable pub munmap_at : List ℕ → Result (Body × List ℕ) Refusal
 munmap_at text = addr_at text >>= λ a. comma_at a.1 >>= λ u. number_at Number u.1 >>= λ n. closing_at (Unmap a.0 n.0) n.1
 
 -- mprotect, behind its protection
-abbrev pub protect_behind_prot_at : ℕ → ℕ → Option ℕ → List ℕ → Result (Item × List ℕ) Refusal
+abbrev pub protect_behind_prot_at : ℕ → ℕ → Option ℕ → List ℕ → Result (Body × List ℕ) Refusal
 protect_behind_prot_at a n None text = Ok (Other, text)
 protect_behind_prot_at a n (Some p) text = closing_at (Protect a n (record { 0 = p })) text
 
 -- mprotect
-unfoldable pub mprotect_at : List ℕ → Result (Item × List ℕ) Refusal
+unfoldable pub mprotect_at : List ℕ → Result (Body × List ℕ) Refusal
 mprotect_at text = addr_at text >>= λ a. comma_at a.1 >>= λ u. number_at Number u.1 >>= λ n. comma_at n.1 >>= λ v. prot_at v.1 >>= λ p. protect_behind_prot_at a.0 n.0 p.0 p.1
 
 -- the page fault
-unfoldable pub fault_call_at : List ℕ → Result (Item × List ℕ) Refusal
+unfoldable pub fault_call_at : List ℕ → Result (Body × List ℕ) Refusal
 fault_call_at text = addr_at text >>= λ a. comma_at a.1 >>= λ u. access_at u.1 >>= λ c. closing_at (FaultCall a.0 c.0) c.1
 
 -- behind the flags: the descriptor and the offset
-unfoldable pub map_tail_at : Call → List ℕ → Result (Item × List ℕ) Refusal
+unfoldable pub map_tail_at : Call → List ℕ → Result (Body × List ℕ) Refusal
 map_tail_at call text = comma_at text >>= λ u. descriptor_at u.1 >>= λ v. comma_at v.1 >>= λ w. number_at Number w.1 >>= λ o. closing_at call o.1
 
 -- mmap, behind its flags
-abbrev pub map_behind_flags_at : ℕ → ℕ → ℕ → Option ℕ → List ℕ → Result (Item × List ℕ) Refusal
+abbrev pub map_behind_flags_at : ℕ → ℕ → ℕ → Option ℕ → List ℕ → Result (Body × List ℕ) Refusal
 map_behind_flags_at a n p None text = Ok (Other, text)
 map_behind_flags_at a n p (Some f) text = map_tail_at (Map a n (record { 0 = p }) (record { 0 = f })) text
 
 -- mmap, behind its protection
-abbrev pub map_behind_prot_at : ℕ → ℕ → Option ℕ → List ℕ → Result (Item × List ℕ) Refusal
+abbrev pub map_behind_prot_at : ℕ → ℕ → Option ℕ → List ℕ → Result (Body × List ℕ) Refusal
 map_behind_prot_at a n None text = Ok (Other, text)
 map_behind_prot_at a n (Some p) text = comma_at text >>= λ u. flags_at u.1 >>= λ f. map_behind_flags_at a n p f.0 f.1
 
 -- mmap
-unfoldable pub mmap_at : List ℕ → Result (Item × List ℕ) Refusal
+unfoldable pub mmap_at : List ℕ → Result (Body × List ℕ) Refusal
 mmap_at text = addr_at text >>= λ a. comma_at a.1 >>= λ u. number_at Number u.1 >>= λ n. comma_at n.1 >>= λ v. prot_at v.1 >>= λ p. map_behind_prot_at a.0 n.0 p.0 p.1
 
 -- the arguments of each call, and what comes behind them
-abbrev pub arguments_at : Name → List ℕ → Result (Item × List ℕ) Refusal
+abbrev pub arguments_at : Name → List ℕ → Result (Body × List ℕ) Refusal
 arguments_at Mmap text = mmap_at text
 arguments_at Munmap text = munmap_at text
 arguments_at Mprotect text = mprotect_at text
@@ -201,3 +203,19 @@ kind_at text = then_some (mark_at 114 1 text) (λ r. then_some (mark_at 119 2 r.
 -- a maps line
 unfoldable pub maps_at : List ℕ → Option (ℕ × ℕ × Kind)
 maps_at text = then_some (address_at text) (λ a. then_some (behind_byte 45 a.1) (λ u. then_some (address_at u) (λ b. then_some (behind_byte 32 b.1) (λ v. then_some (kind_at v) (λ k. Some (a.0, b.0, k))))))
+
+-- ---- whole lines
+
+-- the item of a line of n bytes, of a process, whose body has m bytes
+abbrev pub item_of : ℕ → ℕ → ℕ → Body → Item
+item_of n pid m (Called done recorded) = Played pid done recorded
+item_of n pid m (FirstHalf name len) = Unfinished pid name (n - m) (n - m + len)
+item_of n pid m (SecondHalf name left) = Resumed pid name (n - left)
+item_of n pid m Other = Skipped
+
+-- what is kept of a body is no longer than its m bytes
+abbrev pub FitsBody : ℕ → Body → Type 0
+FitsBody m (Called done recorded) = Unit {0}
+FitsBody m (FirstHalf name len) = len ≤ m
+FitsBody m (SecondHalf name left) = left ≤ m
+FitsBody m Other = Unit {0}

@@ -1,15 +1,15 @@
-//! The four calls of a line, from behind the name to the end of the line. Each function gives the item that the line is
-//! and what is left of it, which is nothing, or the first refusal. `specs/Calls.antt` has the forms; what strace(1)
-//! prints between the arguments and behind them is taken as this project's own profile says.
+//! The four calls of a line, from behind the name to the end of the line. Each function gives the body that the line
+//! has and what is left of it, which is nothing, or the first refusal. `specs/Calls.antt` has the forms; what
+//! strace(1) prints between the arguments and behind them is taken as this project's own profile says.
 
 ghost use Rattle.std.specs.Prelude.{◌≡◌};
 ghost use Rattle.line_parts.specs.Reading.{Gives, end_at};
 ghost use Rattle.line_parts.specs.declared.refusal.What.TheVariants.{Result as AtResult};
-ghost use Rattle.strace_reader.specs.declared.item.Item.TheVariants.{Played};
+ghost use Rattle.strace_reader.specs.declared.item.Body.TheVariants.{Called};
 ghost use Rattle.strace_reader.specs.Reading.{failed_at, recorded_at, equals_at, tail_at, outcome_at, closing_at, munmap_at, mprotect_at, fault_call_at, map_tail_at, mmap_at, arguments_at};
 
 use crate::arguments::{access, addr, comma, descriptor, flags, prot};
-use crate::item::{Item, Name, Recorded};
+use crate::item::{Body, Name, Recorded};
 use crate::words::errno_named;
 use bitflags::Flags;
 use line_parts::{Refusal, What, begins, byte, letters, name, number, skip_spaces};
@@ -48,23 +48,23 @@ fn equals(text: &[u8]) -> Result<&[u8], Refusal>
     Ok(skip_spaces(letters(rest, b"= ", What::Result)?))
 }
 
-/// The item, where the text ends or goes on with a space.
+/// The body, where the text ends or goes on with a space.
 #[tactic(auto, unfolding(crate::specs::Reading::tail_at, line_parts::specs::Reading::end_at))]
-fn tail(item: Item, text: &[u8]) -> Result<(Item, &[u8]), Refusal>
-    ensures { Gives (λ x. (x.0, x.1.now)) result (tail_at item text.now) }
+fn tail(body: Body, text: &[u8]) -> Result<(Body, &[u8]), Refusal>
+    ensures { Gives (λ x. (x.0, x.1.now)) result (tail_at body text.now) }
 {
     if begins(text, b' ') {
-        return Ok((item, &[]));
+        return Ok((body, &[]));
     }
-    end(item, text)
+    end(body, text)
 }
 
 #[tactic(auto, unfolding(line_parts::specs::Reading::end_at))]
-fn end(item: Item, text: &[u8]) -> Result<(Item, &[u8]), Refusal>
-    ensures { Gives (λ x. (x.0, x.1.now)) result (end_at AtResult item text.now) }
+fn end(body: Body, text: &[u8]) -> Result<(Body, &[u8]), Refusal>
+    ensures { Gives (λ x. (x.0, x.1.now)) result (end_at AtResult body text.now) }
 {
     match text {
-        [] => Ok((item, &[])),
+        [] => Ok((body, &[])),
         _ => Err(Refusal {
             left: text.len(),
             what: What::Result,
@@ -73,35 +73,31 @@ fn end(item: Item, text: &[u8]) -> Result<(Item, &[u8]), Refusal>
 }
 
 #[tactic(auto, unfolding(crate::specs::Reading::outcome_at))]
-fn outcome(call: Call, text: &[u8]) -> Result<(Item, &[u8]), Refusal>
+fn outcome(call: Call, text: &[u8]) -> Result<(Body, &[u8]), Refusal>
     ensures { Gives (λ x. (x.0, x.1.now)) result (outcome_at call text.now) }
 {
     if begins(text, b' ') {
         let (recorded, rest) = recorded(equals(text)?)?;
-        return tail(played(call, recorded), rest);
+        return tail(called(call, recorded), rest);
     }
-    end(played(call, None), text)
+    end(called(call, None), text)
 }
 
-fn played(call: Call, recorded: Option<Recorded>) -> Item
-    ensures { result ≡ Played 0 call recorded }
+fn called(call: Call, recorded: Option<Recorded>) -> Body
+    ensures { result ≡ Called call recorded }
 {
-    Item::Played {
-        pid: 0,
-        call,
-        recorded,
-    }
+    Body::Called { call, recorded }
 }
 
 #[tactic(auto, unfolding(crate::specs::Reading::closing_at))]
-fn closing(call: Call, text: &[u8]) -> Result<(Item, &[u8]), Refusal>
+fn closing(call: Call, text: &[u8]) -> Result<(Body, &[u8]), Refusal>
     ensures { Gives (λ x. (x.0, x.1.now)) result (closing_at call text.now) }
 {
     outcome(call, byte(text, b')', What::Close)?)
 }
 
 #[tactic(auto, unfolding(crate::specs::Reading::munmap_at))]
-fn munmap(text: &[u8]) -> Result<(Item, &[u8]), Refusal>
+fn munmap(text: &[u8]) -> Result<(Body, &[u8]), Refusal>
     ensures { Gives (λ x. (x.0, x.1.now)) result (munmap_at text.now) }
 {
     let (addr, rest) = addr(text)?;
@@ -110,14 +106,14 @@ fn munmap(text: &[u8]) -> Result<(Item, &[u8]), Refusal>
 }
 
 #[tactic(auto, unfolding(crate::specs::Reading::mprotect_at))]
-fn mprotect(text: &[u8]) -> Result<(Item, &[u8]), Refusal>
+fn mprotect(text: &[u8]) -> Result<(Body, &[u8]), Refusal>
     ensures { Gives (λ x. (x.0, x.1.now)) result (mprotect_at text.now) }
 {
     let (addr, rest) = addr(text)?;
     let (len, rest) = number(comma(rest)?, What::Number)?;
     let (bits, rest) = prot(comma(rest)?)?;
     match bits {
-        None => Ok((Item::Other, rest)),
+        None => Ok((Body::Other, rest)),
         Some(bits) => {
             let prot = Prot::from_bits_retain(bits);
             closing(Call::Protect { addr, len, prot }, rest)
@@ -126,7 +122,7 @@ fn mprotect(text: &[u8]) -> Result<(Item, &[u8]), Refusal>
 }
 
 #[tactic(auto, unfolding(crate::specs::Reading::fault_call_at))]
-fn fault(text: &[u8]) -> Result<(Item, &[u8]), Refusal>
+fn fault(text: &[u8]) -> Result<(Body, &[u8]), Refusal>
     ensures { Gives (λ x. (x.0, x.1.now)) result (fault_call_at text.now) }
 {
     let (addr, rest) = addr(text)?;
@@ -136,7 +132,7 @@ fn fault(text: &[u8]) -> Result<(Item, &[u8]), Refusal>
 
 /// The descriptor and the offset, which are read and let go, and the end of the line.
 #[tactic(auto, unfolding(crate::specs::Reading::map_tail_at))]
-fn map_tail(call: Call, text: &[u8]) -> Result<(Item, &[u8]), Refusal>
+fn map_tail(call: Call, text: &[u8]) -> Result<(Body, &[u8]), Refusal>
     ensures { Gives (λ x. (x.0, x.1.now)) result (map_tail_at call text.now) }
 {
     let rest = descriptor(comma(text)?)?;
@@ -145,18 +141,18 @@ fn map_tail(call: Call, text: &[u8]) -> Result<(Item, &[u8]), Refusal>
 }
 
 #[tactic(auto, unfolding(crate::specs::Reading::mmap_at))]
-fn mmap(text: &[u8]) -> Result<(Item, &[u8]), Refusal>
+fn mmap(text: &[u8]) -> Result<(Body, &[u8]), Refusal>
     ensures { Gives (λ x. (x.0, x.1.now)) result (mmap_at text.now) }
 {
     let (addr, rest) = addr(text)?;
     let (len, rest) = number(comma(rest)?, What::Number)?;
     let (prot_bits, rest) = prot(comma(rest)?)?;
     let Some(prot_bits) = prot_bits else {
-        return Ok((Item::Other, rest));
+        return Ok((Body::Other, rest));
     };
     let (flag_bits, rest) = flags(comma(rest)?)?;
     let Some(flag_bits) = flag_bits else {
-        return Ok((Item::Other, rest));
+        return Ok((Body::Other, rest));
     };
     let prot = Prot::from_bits_retain(prot_bits);
     let flags = MapFlags::from_bits_retain(flag_bits);
@@ -170,7 +166,7 @@ fn mmap(text: &[u8]) -> Result<(Item, &[u8]), Refusal>
 }
 
 /// What a line is whose name was read, and what is left of it, which is nothing.
-pub(crate) fn arguments(name: Name, text: &[u8]) -> Result<(Item, &[u8]), Refusal>
+pub(crate) fn arguments(name: Name, text: &[u8]) -> Result<(Body, &[u8]), Refusal>
     ensures { Gives (λ x. (x.0, x.1.now)) result (arguments_at name text.now) }
 {
     match name {

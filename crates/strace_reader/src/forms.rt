@@ -2,13 +2,12 @@
 //! decides one form of `specs/Grammar.antt`, and says so in its clause; the reader of lines tries them in their
 //! order.
 
-ghost use Rattle.std.specs.Prelude.{◌≡◌, ◌≢◌, ◌++◌, [], ◌∷◌, ℕ, List, MatchOption};
+ghost use Rattle.std.specs.Prelude.{◌≡◌, ◌≢◌, ◌++◌, [], ◌∷◌, ℕ, List, MatchOption, length};
 ghost use Rattle.std.specs.Bool.{Decides};
 ghost use Rattle.line_parts.specs.Leaves.{is, EachIs, NoDigit};
-ghost use Rattle.line_parts.specs.Parts.{starts};
 ghost use Rattle.strace_reader.specs.declared.item.Name.{Name as NameOf};
 ghost use Rattle.strace_reader.specs.Words.{call_head, resumed_head};
-ghost use Rattle.strace_reader.specs.Grammar.{BeginsWith, EndsWith, NeverReturned, HasPrefix, PidThen};
+ghost use Rattle.strace_reader.specs.Grammar.{BeginsWith, EndsWith, unfinished, NeverReturned, IsBracketed, IsPrefixed, IsCut, IsHalf, PidThen};
 
 use crate::item::Name;
 use line_parts::{digits, skip_spaces};
@@ -63,44 +62,73 @@ pub(crate) fn named(text: &[u8]) -> Option<(Name, &[u8])>
     None
 }
 
-/// Whether the text begins as the second half of an interrupted line does.
-pub(crate) fn resumes(text: &[u8]) -> bool
-    ensures { Decides result ((name : NameOf) × BeginsWith (resumed_head name) text.now) }
+/// The name of a call whose second half the text begins as, and what is left behind that beginning.
+pub(crate) fn resumed(text: &[u8]) -> Option<(Name, &[u8])>
+    ensures { MatchOption result ((name : NameOf) → (rest : List ℕ) → text.now ≢ resumed_head name ++ rest) (λ x. text.now ≡ resumed_head x.0 ++ x.1.now) }
 {
-    begins_with(text, b"<... mmap resumed>")
-        || begins_with(text, b"<... munmap resumed>")
-        || begins_with(text, b"<... mprotect resumed>")
-        || begins_with(text, b"<... fault resumed>")
+    if let Some(rest) = strip_front(text, b"<... mmap resumed>") {
+        return Some((Name::Mmap, rest));
+    }
+    if let Some(rest) = strip_front(text, b"<... munmap resumed>") {
+        return Some((Name::Munmap, rest));
+    }
+    if let Some(rest) = strip_front(text, b"<... mprotect resumed>") {
+        return Some((Name::Mprotect, rest));
+    }
+    if let Some(rest) = strip_front(text, b"<... fault resumed>") {
+        return Some((Name::Fault, rest));
+    }
+    None
 }
 
-/// Whether the text begins with a process number and then this word, which begins with no digit.
-fn pid_then(text: &[u8], word: &[u8]) -> bool
+/// The process number that the text begins with, and what is left behind it and this word, which begins with no digit.
+fn pid_then<'a>(text: &'a [u8], word: &[u8]) -> Option<(u32, &'a [u8])>
     requires { NoDigit 10 word.now × (word.now ≢ []) }
-    ensures { Decides result (PidThen word.now text.now) }
+    ensures { MatchOption result ((pid : ℕ) → (rest : List ℕ) → ¬ PidThen word.now text.now pid rest) (λ x. PidThen word.now text.now x.0 x.1.now) }
 {
-    let (value, rest) = digits(text, DECIMAL);
-    let Some(pid) = value else {
-        return false;
+    let (value, behind) = digits(text, DECIMAL);
+    let Some(number) = value else {
+        return None;
     };
-    if pid >= PIDS {
-        return false;
+    if number >= PIDS {
+        return None;
     }
-    if rest.len() == text.len() {
-        return false;
+    if behind.len() == text.len() {
+        return None;
     }
-    begins_with(rest, word)
+    match strip_front(behind, word) {
+        Some(rest) => Some((number as u32, rest)),
+        None => None,
+    }
 }
 
-/// Whether the text begins with the prefix of a process.
-pub(crate) fn has_prefix(text: &[u8]) -> bool
-    ensures { Decides result (HasPrefix text.now) }
+/// The process number that the text begins with in brackets, and what is left behind those and a space.
+fn bracketed(text: &[u8]) -> Option<(u32, &[u8])>
+    ensures { MatchOption result ((pid : ℕ) → (rest : List ℕ) → ¬ IsBracketed text.now pid rest) (λ x. IsBracketed text.now x.0 x.1.now) }
 {
-    if pid_then(text, b" ") {
-        return true;
-    }
     match strip_front(text, b"[pid ") {
         Some(rest) => pid_then(skip_spaces(rest), b"] "),
-        None => false,
+        None => None,
+    }
+}
+
+/// The process that the text's prefix names, and what is left behind that prefix but for more spaces.
+fn prefix(text: &[u8]) -> Option<(u32, &[u8])>
+    ensures { MatchOption result ((pid : ℕ) → (rest : List ℕ) → ¬ IsPrefixed text.now pid rest) (λ x. IsPrefixed text.now x.0 x.1.now) }
+{
+    match pid_then(text, b" ") {
+        Some(x) => Some(x),
+        None => bracketed(text),
+    }
+}
+
+/// The process of a line, 0 where it has no prefix, and what is left behind the prefix and all its spaces.
+pub(crate) fn cut(text: &[u8]) -> (u32, &[u8])
+    ensures { IsCut text.now result.0 result.1.now }
+{
+    match prefix(text) {
+        Some((pid, rest)) => (pid, skip_spaces(rest)),
+        None => (0, text),
     }
 }
 
@@ -125,5 +153,15 @@ pub(crate) fn never_returned(text: &[u8]) -> bool
             None => false,
         },
         None => false,
+    }
+}
+
+/// How many bytes of the first half of a call are kept: those before the spaces and the ending.
+pub(crate) fn first_half(text: &[u8]) -> Option<usize>
+    ensures { MatchOption result (¬ EndsWith unfinished text.now) (λ len. (half : List ℕ) × IsHalf text.now half × (len ≡ length half)) }
+{
+    match strip_back(text, b"<unfinished ...>") {
+        Some(front) => Some(trim(front).len()),
+        None => None,
     }
 }

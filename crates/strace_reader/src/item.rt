@@ -57,10 +57,59 @@ pub enum Item {
         /// What was recorded; None where the line has no result, or `?`.
         recorded: Option<Recorded>,
     },
+    /// The first half of a call that another process interrupted. Its bytes from `from` up to and without `to` are
+    /// kept.
+    Unfinished {
+        /// The process that made the call; 0 where the line names none.
+        pid: u32,
+        /// The call's name.
+        name: Name,
+        /// The first byte of the name, counted from 0.
+        from: u32,
+        /// The byte behind the last one that is kept: the spaces before the ending are not.
+        to: u32,
+    },
+    /// The second half of a call. Its bytes from `from` on are kept.
+    Resumed {
+        /// The process that made the call; 0 where the line names none.
+        pid: u32,
+        /// The call's name.
+        name: Name,
+        /// The first byte behind the name and its spaces, counted from 0.
+        from: u32,
+    },
     /// A line that is skipped.
     Other,
     /// An empty line.
     Blank,
+}
+
+/// What a line is behind its prefix, which alone names a process.
+#[derive(Clone, Copy, PartialEq, Eq, Debug, Drop)]
+pub(crate) enum Body {
+    /// A call.
+    Called {
+        /// The call.
+        call: Call,
+        /// What was recorded; None where the line has no result, or `?`.
+        recorded: Option<Recorded>,
+    },
+    /// The first half of a call.
+    FirstHalf {
+        /// The call's name.
+        name: Name,
+        /// How many bytes are kept, from the first on.
+        len: usize,
+    },
+    /// The second half of a call.
+    SecondHalf {
+        /// The call's name.
+        name: Name,
+        /// How many bytes are kept, up to the last.
+        left: usize,
+    },
+    /// Nothing that is played.
+    Other,
 }
 
 /// Where a line is refused, and why.

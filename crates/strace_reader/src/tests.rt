@@ -33,7 +33,7 @@ fn refusal(line: &[u8]) -> Option<BadCall> {
 
 #[test]
 fn refusals_have_their_column_and_cause(rt: HostRuntime) {
-    let cases: [(&[u8], u32, What); 51] = [
+    let cases: [(&[u8], u32, What); 49] = [
         (b"munmap(x, 1)", 8, What::Number),
         (b"munmap(0x, 1)", 10, What::Number),
         (b"munmap(NUX, 1)", 10, What::Number),
@@ -85,10 +85,8 @@ fn refusals_have_their_column_and_cause(rt: HostRuntime) {
         (b"munmap(1, 2) = -1 EINVAL(", 25, What::Result),
         (b"munmap(1, 2) = 0;", 17, What::Result),
         (b"munmap(1, 2) = ??", 17, What::Result),
-        (b"[pid     7] munmap(0x10000, 4096) = 0", 1, What::Later),
-        (b"7 fault(1, PROT_READ)", 1, What::Later),
-        (b"<... mmap resumed>) = 0x10000", 1, What::Later),
-        (b"munmap(0x10000, 4096 <unfinished ...>", 1, What::Later),
+        (b"[pid     7] munmap(0x10000 4096) = 0", 27, What::Comma),
+        (b"7  fault(1, PROT_READ, 0)", 22, What::Close),
     ];
     for (line, column, what) in cases {
         assert!(rt; refusal(line) == Some(BadCall { column, what }));
@@ -97,7 +95,7 @@ fn refusals_have_their_column_and_cause(rt: HostRuntime) {
 
 #[test]
 fn other_lines_are_skipped(rt: HostRuntime) -> Result<(), Fail> {
-    let lines: [&[u8]; 14] = [
+    let lines: [&[u8]; 17] = [
         b"--- SIGSEGV {si_signo=SIGSEGV} ---",
         b"+++ exited with 0 +++",
         b"execve(\"/bin/true\", [\"true\"], 0x7ffc1001f000 /* 3 vars */) = 0",
@@ -112,6 +110,9 @@ fn other_lines_are_skipped(rt: HostRuntime) -> Result<(), Fail> {
         b"munmap",
         b"[pid 4294967296] munmap(1, 2",
         b"[pid 7]",
+        b"7 ",
+        b"7 +++ exited with 0 +++",
+        b"[pid 7] munmap(0x1000 <unfinished ...>) = ?",
     ];
     for line in lines {
         assert!(rt; read_line(line) == Ok(Item::Other));
@@ -124,6 +125,38 @@ fn other_lines_are_skipped(rt: HostRuntime) -> Result<(), Fail> {
     assert!(rt; long.len() <= 131_072);
     assert!(rt; read_line(long.as_slice()) == Ok(Item::Other));
     Ok(())
+}
+
+#[test]
+fn halves_and_processes_are_read(rt: HostRuntime) {
+    let call = Call::Unmap {
+        addr: 0x10000,
+        len: 4096,
+    };
+    let read = Ok(Item::Played {
+        pid: 7,
+        call,
+        recorded: Some(Recorded::Value(0)),
+    });
+    let line: &[u8] = b"[pid     7]  munmap(0x10000, 4096) = 0";
+    assert!(rt; read_line(line) == read);
+    let line: &[u8] = b"7 munmap(0x10000, 4096) = 0";
+    assert!(rt; read_line(line) == read);
+    let line: &[u8] = b"4294967295 munmap(0x10000,  <unfinished ...>";
+    let half = Ok(Item::Unfinished {
+        pid: u32::MAX,
+        name: Name::Munmap,
+        from: 11,
+        to: 26,
+    });
+    assert!(rt; read_line(line) == half);
+    let line: &[u8] = b"<... fault resumed>  PROT_READ)";
+    let rest = Ok(Item::Resumed {
+        pid: 0,
+        name: Name::Fault,
+        from: 21,
+    });
+    assert!(rt; read_line(line) == rest);
 }
 
 #[test]
@@ -262,4 +295,74 @@ fn recorded_results_are_hints_and_answers(rt: HostRuntime) {
     let einval = Reply::Refused(Why::Einval(Field::Len));
     assert!(rt; !differs(&einval, Some(Recorded::Failed(Errno::Einval))));
     assert!(rt; differs(&einval, Some(Recorded::Failed(Errno::Enomem))));
+}
+
+#[test]
+fn halves_are_joined_by_process(rt: HostRuntime) -> Result<(), Fail> {
+    let call = Call::Unmap {
+        addr: 0x10000,
+        len: 4096,
+    };
+    let played = |pid: u32, skipped: u32| Fed::Played {
+        pid,
+        call,
+        recorded: Some(Recorded::Value(0)),
+        skipped,
+    };
+    let lines: [(&[u8], Fed); 17] = [
+        (
+            b"7 munmap(0x10000 <unfinished ...>",
+            Fed::Kept { skipped: 0 },
+        ),
+        (b"8 munmap(0x10000, 4096) = 0", played(8, 0)),
+        (b"7 <... munmap resumed>, 4096) = 0", played(7, 0)),
+        (b"7 <... munmap resumed>, 4096) = 0", Fed::Skipped(1)),
+        (
+            b"7 munmap(0x10000 <unfinished ...>",
+            Fed::Kept { skipped: 0 },
+        ),
+        (b"7 brk(NULL) = 0", Fed::Skipped(1)),
+        (b"", Fed::Blank),
+        (
+            b"7 munmap(0x10000 <unfinished ...>",
+            Fed::Kept { skipped: 1 },
+        ),
+        (b"7 <... mmap resumed>) = 0", Fed::Skipped(2)),
+        (
+            b"7 munmap(0x10000 <unfinished ...>",
+            Fed::Kept { skipped: 0 },
+        ),
+        (b"7 munmap(0x10000, 4096) = 0", played(7, 1)),
+        (
+            b"7 munmap(0x10000 <unfinished ...>",
+            Fed::Kept { skipped: 0 },
+        ),
+        (b"7 <... munmap resumed> <unfinished ...>", Fed::Skipped(2)),
+        (
+            b"7 mprotect(0x10000, 1, <unfinished ...>",
+            Fed::Kept { skipped: 0 },
+        ),
+        (b"7 <... mprotect resumed> PROT_SEM) = 0", Fed::Skipped(1)),
+        (
+            b"8 munmap(0x10000 <unfinished ...>",
+            Fed::Kept { skipped: 0 },
+        ),
+        (b"munmap(0x10000 <unfinished ...>", Fed::Kept { skipped: 0 }),
+    ];
+    let mut joiner = Joiner::new(rt.alloc());
+    for (line, fed) in lines {
+        if line.len() <= 65_535 {
+            assert!(rt; joiner.feed(line) == Ok(fed));
+        }
+    }
+    let line: &[u8] = b"8 <... munmap resumed> 4096) = 0";
+    let bad = BadCall {
+        column: 19,
+        what: What::Comma,
+    };
+    assert!(rt; joiner.feed(line) == Err(FeedFault::Bad(bad)));
+    let line: &[u8] = b"8 <... munmap resumed>, 4096) = 0";
+    assert!(rt; joiner.feed(line) == Ok(played(8, 0)));
+    assert!(rt; joiner.end() == 1);
+    Ok(())
 }

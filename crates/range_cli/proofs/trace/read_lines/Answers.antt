@@ -1,27 +1,51 @@
-use Rattle.std.proofs.Common.{◌≡◌, length, refl, inr, arith}
+use Rattle.std.proofs.Common.{ℕ, List, length, refl, ap, subst, arith}
 use Rattle.std.proofs.lemmas.Result.{err_from_is_err_and}
-use Rattle.range_cli.proofs.TraceLemmas.{so_far_step, so_far_all, so_far_ends, skipped_by_one, few_with}
+use Rattle.range_cli.specs.Lines.{lines_of}
+use Rattle.range_cli.proofs.TraceLemmas.{SoFar, so_far_start, so_far_step, so_far_all, so_far_ends, left_few}
 use Rattle.range_cli.proofs.trace.read_lines.Goals as goal
 
-pub returns-in_err-step-clause-stopped : goal.returns-in_err-step-clause-stopped
-returns-in_err-step-clause-stopped c =
+pub lines-init : goal.lines-init
+lines-init c =
+    let len = ap length c.new-reader.ensures.lines in (
+      so_far_start c.args.first (lines_of c.args.text.now) c.new-reader.result (c.new-reader.ensures.start c.args.first) c.new-reader.ensures.lines c.new-reader.ensures.skipped,
+      omega arith,
+      omega (arith, c.new-reader.ensures.skipped),
+      λ k d l. absurd (omega (arith, len, l)),
+      omega (arith, len),
+      omega (arith, c.new-reader.ensures.count),
+      omega arith,
+    )
+
+pub returns-in_err-take-clause-stopped : goal.returns-in_err-take-clause-stopped
+returns-in_err-take-clause-stopped c =
     let p = err_from_is_err_and c.from_residual.result c.from_residual.ensures.1 in
-    let left = rw c.in-Some.ensures.line at c.lines.invariant.0 in
-    let count : c.len.result ≡ length c.lines.trace.lines.items = omega (arith, c.len.ensures, c.lines.trace.lines.ok.0) in
-    rw (p.1, p.2) (inr (so_far_ends _ _ _ _ _ _ _ _ _ left count c.in_err-step.ensures.stopped))
+    let so_far = subst (λ (x : List (List ℕ)). SoFar c.args.first (lines_of c.args.text.now) c.lines.number x c.lines.reader) c.in-Some.ensures.line c.lines.invariant.0 in
+    rw (p.1, p.2) (so_far_ends _ _ _ _ _ _ _ so_far (c.in_err-take.ensures.stopped so_far.stand so_far.stands so_far.numbered))
 
 pub lines-preserved : goal.lines-preserved
 lines-preserved c =
-    let left = rw c.in-Some.ensures.line at c.lines.invariant.0 in
-    let count : c.len.result ≡ length c.lines.trace.lines.items = omega (arith, c.len.ensures, c.lines.trace.lines.ok.0) in (
-      so_far_step _ _ _ _ _ _ _ _ _ _ _ left count c.in_ok-step.ensures.step c.in_ok-take.ensures.lines c.in_ok-take.ensures.skipped,
+    let so_far = subst (λ (x : List (List ℕ)). SoFar c.args.first (lines_of c.args.text.now) c.lines.number x c.lines.reader) c.in-Some.ensures.line c.lines.invariant.0 in (
+      so_far_step _ _ _ _ _ _ _ so_far (c.in_ok-take.ensures.takes so_far.stand so_far.stands so_far.numbered),
       omega (arith, c.in-Some.ensures.shorter),
-      omega (arith, c.in_ok-take.ensures.skipped, skipped_by_one c.lines.trace.skipped c.in_ok-step.step),
+      omega (arith, c.in_ok-take.ensures.skipped),
       c.in_ok-take.ensures.named c.lines.invariant.3,
-      few_with _ _ _ _ _ _ count c.in_ok-step.ensures.step c.in_ok-take.ensures.lines c.lines.invariant.4,
+      c.in_ok-take.ensures.few,
+      c.in_ok-take.ensures.processes,
+      omega arith,
     )
+
+pub overflow_add-result : goal.overflow_add-result
+overflow_add-result c =
+    let so_far = c.lines.invariant.0 in
+    omega (arith, left_few _ _ _ _ _ _ so_far (c.end-left.ensures so_far.stand.fed so_far.stands.fed))
 
 pub returns-clause-read : goal.returns-clause-read
 returns-clause-read c =
     let none = c.in_default.ensures.none.0 refl in
-    so_far_all _ _ c.lines.number _ _ (rw none at c.lines.invariant.0)
+    let so_far = subst (λ (x : List ℕ). SoFar c.args.first (lines_of c.args.text.now) c.lines.number (lines_of x) c.lines.reader) none c.lines.invariant.0 in
+    so_far_all c.args.first (lines_of c.args.text.now) c.lines.number c.end-left.result c.lines.reader so_far (c.end-left.ensures so_far.stand.fed so_far.stands.fed)
+
+pub returns-clause-counted : goal.returns-clause-counted
+returns-clause-counted c =
+    let so_far = c.lines.invariant.0 in
+    omega (arith, left_few _ _ _ _ _ _ so_far (c.end-left.ensures so_far.stand.fed so_far.stands.fed))

@@ -1,4 +1,4 @@
-use Rattle.std.proofs.Common.{◌+◌, ◌≤◌, length}
+use Rattle.std.proofs.Common.{◌+◌, ◌*◌, ◌≤◌, length}
 use Rattle.std.specs.Prelude.{All}
 use Rattle.range_cli.specs.Lines.{lines_of}
 use Rattle.range_cli.specs.Trace.{IsNamedLine}
@@ -7,11 +7,13 @@ use Rattle.range_cli.proofs.trace.read_lines.Given as goal
 
 abbrev pub invariant-lines : goal.invariant-lines
 invariant-lines l =
-    SoFar l.fn.first (lines_of l.fn.text) l.number (lines_of l.rest) l.trace.lines.items l.trace.skipped
+    SoFar l.fn.first (lines_of l.fn.text) l.number (lines_of l.rest) l.reader
     × (l.number + length l.rest ≤ l.fn.first + length l.fn.text)
-    × (l.trace.skipped + l.fn.first ≤ l.number)
-    × All IsNamedLine l.trace.lines.items
-    × (length l.trace.lines.items ≤ 1048576)
+    × (l.reader.skipped + 2 * l.fn.first ≤ 2 * l.number)
+    × All IsNamedLine l.reader.lines.items
+    × (length l.reader.lines.items ≤ 1048576)
+    × (l.reader.processes.count ≤ length l.reader.lines.items)
+    × (l.fn.first ≤ l.number)
 
 abbrev pub decreases-lines : goal.decreases-lines
 decreases-lines l = length l.rest

@@ -1,37 +1,35 @@
 use Rattle.std.proofs.Common.{refl, sym, ◌∙◌, arith}
 use Rattle.line_parts.specs.Reading.{digits_of}
-use Rattle.strace_reader.proofs.FormFacts.{narrow_some, narrow_none, pid_yes, pid_no}
+use Rattle.strace_reader.proofs.FormFacts.{narrow_some, narrow_none, pid_found, pid_read}
 use Rattle.strace_reader.proofs.forms.pid_then.Goals as goal
 
 pub returns-in_default : goal.returns-in_default
-returns-in_default c =
-    let text = c.args.text.now in
-    let n = (digits_of 10 0 text).0 in (
-      λ h. absurd cc,
-      λ h.
-          let f = pid_no c.args.word.now text c.digits-value.result.1.now n refl c.digits-value.ensures.rest c.requires.0 c.requires.1 h in
-          let w = narrow_none n (sym c.digits-value.ensures.value ∙ c.in_default.is) in
-          let p = f.narrow_pid in
-          absurd (omega arith),
-    )
+returns-in_default c = λ pid rest h.
+    let f = pid_read c.args.word.now c.args.text.now c.digits-value.result.1.now (digits_of 10 0 c.args.text.now).0 pid rest refl c.digits-value.ensures.rest c.requires.0 c.requires.1 h in
+    let w = narrow_none (digits_of 10 0 c.args.text.now).0 (sym c.digits-value.ensures.value ∙ c.in_default.is) in
+    let p = f.narrow_pid in
+    omega arith
 
-pub returns-then-pid-ge-PIDS : goal.returns-then-pid-ge-PIDS
-returns-then-pid-ge-PIDS c =
-    let text = c.args.text.now in
-    let n = narrow_some (digits_of 10 0 text).0 c.in-Some.pid (sym c.digits-value.ensures.value ∙ c.in-Some.is) in
-    (λ h. absurd cc, λ h. let f = pid_no c.args.word.now text c.digits-value.result.1.now c.in-Some.pid n c.digits-value.ensures.rest c.requires.0 c.requires.1 h in let p = f.narrow_pid in absurd (omega arith))
+pub returns-then-number-ge-PIDS : goal.returns-then-number-ge-PIDS
+returns-then-number-ge-PIDS c = λ pid rest h.
+    let n = narrow_some (digits_of 10 0 c.args.text.now).0 c.in-Some.number (sym c.digits-value.ensures.value ∙ c.in-Some.is) in
+    let f = pid_read c.args.word.now c.args.text.now c.digits-value.result.1.now c.in-Some.number pid rest n c.digits-value.ensures.rest c.requires.0 c.requires.1 h in
+    let p = f.narrow_pid in
+    omega arith
 
-pub returns-then-rest-text : goal.returns-then-rest-text
-returns-then-rest-text c =
-    let text = c.args.text.now in
-    let n = narrow_some (digits_of 10 0 text).0 c.in-Some.pid (sym c.digits-value.ensures.value ∙ c.in-Some.is) in
-    (λ h. absurd cc, λ h. let f = pid_no c.args.word.now text c.digits-value.result.1.now c.in-Some.pid n c.digits-value.ensures.rest c.requires.0 c.requires.1 h in let p = f.long in absurd (omega arith))
+pub returns-then-behind-text : goal.returns-then-behind-text
+returns-then-behind-text c = λ pid rest h.
+    let n = narrow_some (digits_of 10 0 c.args.text.now).0 c.in-Some.number (sym c.digits-value.ensures.value ∙ c.in-Some.is) in
+    let f = pid_read c.args.word.now c.args.text.now c.digits-value.result.1.now c.in-Some.number pid rest n c.digits-value.ensures.rest c.requires.0 c.requires.1 h in
+    let p = f.long in
+    omega arith
 
-pub returns : goal.returns
-returns c =
-    let text = c.args.text.now in
-    let rest = c.digits-value.result.1.now in
-    let n = narrow_some (digits_of 10 0 text).0 c.in-Some.pid (sym c.digits-value.ensures.value ∙ c.in-Some.is) in (
-      λ h. pid_yes c.args.word.now text rest c.in-Some.pid n c.digits-value.ensures.rest c.if-pid-ge-PIDS.false c.if-rest-text.false (c.begins_with.ensures.0 h),
-      λ h. c.begins_with.ensures.1 (pid_no c.args.word.now text rest c.in-Some.pid n c.digits-value.ensures.rest c.requires.0 c.requires.1 h).behind,
-    )
+pub returns-in-Some-strip_front : goal.returns-in-Some-strip_front
+returns-in-Some-strip_front c =
+    let n = narrow_some (digits_of 10 0 c.args.text.now).0 c.in-Some.number (sym c.digits-value.ensures.value ∙ c.in-Some.is) in
+    pid_found c.args.word.now c.args.text.now c.digits-value.result.1.now c.in-Some-strip_front.rest.now c.in-Some.number n c.digits-value.ensures.rest c.if-number-ge-PIDS.false c.if-behind-text.false c.in-Some-strip_front.ensures
+
+pub returns-in-None : goal.returns-in-None
+returns-in-None c = λ pid rest h.
+    let n = narrow_some (digits_of 10 0 c.args.text.now).0 c.in-Some.number (sym c.digits-value.ensures.value ∙ c.in-Some.is) in
+    c.in-None.ensures rest (pid_read c.args.word.now c.args.text.now c.digits-value.result.1.now c.in-Some.number pid rest n c.digits-value.ensures.rest c.requires.0 c.requires.1 h).is

@@ -1,0 +1,64 @@
+-- A process that is new gets the next place, and each other keeps its own.
+use Rattle.std.proofs.Common.{◌≡◌, ◌≢◌, ℕ, ◌+◌, Bool, true, false, List, [], ◌∷◌, ◌++◌, length, Option, None, Some, ap, subst, sym, refl, ◌∙◌, arith, inl, inr, length-append}
+use Rattle.std.specs.Prelude.{◌==◌, if◌then◌else◌}
+use Rattle.std.proofs.lemmas.Bool.{cases_eq}
+use Rattle.std.proofs.lemmas.Bool.Decides.{eqb_tells}
+use Rattle.std.specs.BTreeMap.{get}
+use Rattle.std.specs.Ordering.{nat_cmp}
+use Rattle.range_cli.specs.declared.processes.Processes.{Processes}
+use Rattle.range_cli.specs.Trace.{one_on, place_among, place_or, index_among, with_new, seen_with}
+use Rattle.range_cli.specs.TraceReader.{IsIndexed}
+
+pub index_found : (seen : List ℕ) (pid place : ℕ) → place_among seen pid ≡ Some place → place ≡ index_among seen pid
+index_found seen pid place e = sym (ap (λ (o : Option ℕ). place_or o (length seen)) e)
+
+pub index_new : (seen : List ℕ) (pid : ℕ) → place_among seen pid ≡ None → length seen ≡ index_among seen pid
+index_new seen pid e = sym (ap (λ (o : Option ℕ). place_or o (length seen)) e)
+
+seen_found : (seen : List ℕ) (pid place : ℕ) → place_among seen pid ≡ Some place → seen ≡ seen_with seen pid
+seen_found seen pid place e = sym (ap (λ (o : Option ℕ). with_new o seen pid) e)
+
+seen_new : (seen : List ℕ) (pid : ℕ) → place_among seen pid ≡ None → seen ++ pid ∷ [] ≡ seen_with seen pid
+seen_new seen pid e = sym (ap (λ (o : Option ℕ). with_new o seen pid) e)
+
+-- where a process is, by whether it is the first
+abbrev found_at : Bool → Option ℕ → Option ℕ
+found_at first behind = if first then Some 0 else one_on behind
+
+other_byte : (a b : ℕ) → b ≢ a → (a == b) ≡ false
+other_byte a b apart = elim (eqb_tells a b) [ inl h ↦ absurd (apart (sym h.1)) | inr h ↦ h.0 ]
+
+place_other : (seen : List ℕ) (pid q : ℕ) → q ≢ pid → place_among (seen ++ pid ∷ []) q ≡ place_among seen q
+place_other [] pid q apart = ap (λ (b : Bool). found_at b None) (other_byte pid q apart)
+place_other (first ∷ seen) pid q apart = ap (found_at (first == q)) (place_other seen pid q apart)
+
+one_on_none : (o : Option ℕ) → one_on o ≡ None → o ≡ None
+one_on_none None e = refl
+one_on_none (Some place) e = absurd cc
+
+behind_none : (b : Bool) (o : Option ℕ) → found_at b o ≡ None → (b ≡ false) × (o ≡ None)
+behind_none true o e = absurd cc
+behind_none false o e = (refl, one_on_none o e)
+
+place_new : (seen : List ℕ) (pid : ℕ) → place_among seen pid ≡ None → place_among (seen ++ pid ∷ []) pid ≡ Some (length seen)
+place_new [] pid e = elim (eqb_tells pid pid) [ inl h ↦ ap (λ (b : Bool). found_at b None) h.0 | inr h ↦ absurd (h.1 refl) ]
+place_new (first ∷ seen) pid e =
+    let k = behind_none (first == pid) (place_among seen pid) e in
+    ap (λ (b : Bool). found_at b (place_among (seen ++ pid ∷ []) pid)) k.0 ∙ ap one_on (place_new seen pid k.1) ∙ ap Some (omega arith)
+
+-- a process that has its index keeps it
+pub indexed_found : (processes : Processes) (seen : List ℕ) (pid place : ℕ) → get nat_cmp processes.indexes pid ≡ Some place → IsIndexed processes seen → IsIndexed processes (seen_with seen pid)
+indexed_found processes seen pid place e h = subst (IsIndexed processes) (seen_found seen pid place (sym (h.places pid) ∙ e)) h
+
+-- a new one has the next
+pub indexed_new : (old new : Processes) (seen : List ℕ) (pid : ℕ) → get nat_cmp old.indexes pid ≡ None → get nat_cmp new.indexes pid ≡ Some old.count
+    → ((q : ℕ) → q ≢ pid → get nat_cmp new.indexes q ≡ get nat_cmp old.indexes q) → new.count ≡ old.count + 1 → IsIndexed old seen → IsIndexed new (seen_with seen pid)
+indexed_new old new seen pid none some others more h =
+    let at_none = sym (h.places pid) ∙ none in
+    subst (IsIndexed new) (seen_new seen pid at_none) (record {
+      places = λ q. elim (cases_eq q pid) [
+        | inl e ↦ ap (get nat_cmp new.indexes) e ∙ some ∙ ap Some h.next ∙ sym (place_new seen pid at_none) ∙ ap (place_among (seen ++ pid ∷ [])) (sym e)
+        | inr apart ↦ others q apart ∙ h.places q ∙ sym (place_other seen pid q apart)
+      ];
+      next = let next = h.next in omega (arith, more, next, length-append seen (pid ∷ []));
+    })

@@ -1,0 +1,15 @@
+use Rattle.std.proofs.Common.{◌≡◌, ◌≢◌, ℕ, List, ◌++◌}
+use Rattle.strace_reader.specs.declared.item.Name.{Name}
+use Rattle.strace_reader.specs.declared.item.Name.TheVariants.{Mmap, Munmap, Mprotect, Fault}
+use Rattle.strace_reader.specs.Words.{resumed_head}
+use Rattle.strace_reader.proofs.forms.resumed.Goals as goal
+
+none_of : (text : List ℕ) → ((rest : List ℕ) → text ≢ resumed_head Mmap ++ rest) → ((rest : List ℕ) → text ≢ resumed_head Munmap ++ rest) → ((rest : List ℕ) → text ≢ resumed_head Mprotect ++ rest) → ((rest : List ℕ) → text ≢ resumed_head Fault ++ rest)
+    → (name : Name) (rest : List ℕ) → text ≡ resumed_head name ++ rest → ⊥
+none_of text a b c d Mmap rest e = a rest e
+none_of text a b c d Munmap rest e = b rest e
+none_of text a b c d Mprotect rest e = c rest e
+none_of text a b c d Fault rest e = d rest e
+
+pub returns : goal.returns
+returns c = none_of c.args.text.now c.in_default.ensures c.in_default-strip_front.ensures c.in_default-strip_front-2.ensures c.in_default-strip_front-3.ensures

@@ -1,0 +1,5 @@
+use Rattle.strace_reader.proofs.NamedCalls.{named_answer}
+use Rattle.strace_reader.proofs.laws.fed_calls_are_named.Goals as goal
+
+pub returns : goal.returns
+returns c = named_answer

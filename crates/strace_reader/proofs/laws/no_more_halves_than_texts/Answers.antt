@@ -1,0 +1,5 @@
+use Rattle.strace_reader.proofs.KeptCounts.{few_kept}
+use Rattle.strace_reader.proofs.laws.no_more_halves_than_texts.Goals as goal
+
+pub returns : goal.returns
+returns c = few_kept
