@@ -1,5 +1,5 @@
 -- A space at its opening: its words and its callers meet the guard, and the callers come in order.
-use Rattle.std.proofs.Common.{◌≡◌, ℕ, zero, suc, ◌+◌, ◌-◌, ◌<◌, ◌≤◌, List, [], ◌∷◌, ◌++◌, take, length, get_or, replicate, sym, refl, ap, ◌∙◌, subst, arith, length-append}
+use Rattle.std.proofs.Common.{◌≡◌, ℕ, zero, suc, ◌+◌, ◌-◌, ◌<◌, ◌≤◌, List, [], ◌∷◌, ◌++◌, take, length, get_or, replicate, sym, refl, ap, ◌∙◌, subst, arith, inl, length-append}
 use Rattle.std.proofs.lemmas.List.{length-replicate, take_all}
 use Rattle.std.proofs.lemmas.List.Elements.{All-nil}
 use Rattle.std.proofs.lemmas.List.Sums.{sum_by-cons}
@@ -20,9 +20,11 @@ use Rattle.range_rw.specs.Contract.{Known, new_seat, first_passes}
 use Rattle.range_rw.proofs.Lists.{at_removed}
 use Rattle.word_rows.proofs.Rowing.{snoc_all as pushed_all}
 use Rattle.area_rows.specs.declared.guard.Pass.{Pass}
-use Rattle.area_rows.specs.Keeping.{none_is}
+use Rattle.area_rows.specs.Parts.{none_is}
+use Rattle.area_rows.specs.Reads.{StillStands}
 use Rattle.area_rows.specs.Rows.{rows_in, rows_from, areas_from, ShowFrom, RowsShow, IsBareGap}
-use Rattle.area_rows.specs.History.{IsPart, IsRunningSpace, HasHistory, own_count, entry_count, newcomer}
+use Rattle.area_rows.specs.History.{IsPart, own_planned, planned_count, ShowsBefore, IsShown, IsRunningSpace, IsBacked, AreBacked, HasHistory, own_count, entry_count, newcomer}
+use Rattle.area_rows.specs.Plans.{planned_rows}
 use Rattle.area_rows.specs.Callers.{CallerView, AreNewCallers, new_pass, opening_words}
 use Rattle.area_rows.proofs.RowLists.{length-rows, shows_from, areas_back, bare_from}
 
@@ -73,6 +75,18 @@ no_entries start s zero = refl
 no_entries start s (suc k) =
     let r = no_entries start (suc s) k in let c = sum_by-cons own_count (new_pass start) (first_passes (λ (_ : ℕ). new_pass start) (suc s) k) in omega arith
 
+no_plans : (start : List Area) (s k : ℕ) → planned_count (first_passes (λ (_ : ℕ). new_pass start) s k) ≡ 0
+no_plans start s zero = refl
+no_plans start s (suc k) =
+    let r = no_plans start (suc s) k in let c = sum_by-cons own_planned (new_pass start) (first_passes (λ (_ : ℕ). new_pass start) (suc s) k) in omega arith
+
+-- nothing lags behind at the opening
+shown_new : (start : List Area) (callers : ℕ) → IsShown start (first_passes (λ (_ : ℕ). new_pass start) 0 callers) (kind_at start)
+shown_new start callers = record {
+  lagging = λ worker pass at. subst (λ (q : Pass). ShowsBefore q.pending (kind_at start)) (passes_at (new_pass start) 0 callers worker pass at) tt;
+  elsewhere = λ page free. refl;
+}
+
 runs_new : (start : List Area) (callers : ℕ) → IsAreaList start → HasNamedKinds start → row_count start ≤ ROWS → callers ≤ 16 → IsRunningSpace start [] start (opening_words start) (first_passes (λ (_ : ℕ). new_pass start) 0 callers)
 runs_new start callers areas named few most = record {
   callers = let l = length-passes (new_pass start) 0 callers in omega arith;
@@ -82,19 +96,29 @@ runs_new start callers areas named few most = record {
   in_order = areas;
   named = named;
   number = refl;
-  sequence = refl;
-  rows = opens_rows start areas named few;
+  sequence = let z = no_plans start 0 callers in omega arith;
+  room = (opens_rows start areas named few).room;
+  rows = λ none. (kind_at start, shown_new start callers, opens_rows start areas named few);
   parts = λ worker pass at. subst (λ (q : Pass). IsPart start [] (opening_words start) worker q) (passes_at (new_pass start) 0 callers worker pass at)
-      (record { began = refl; seen = ([], refl); mine = refl; few = omega arith; count = λ n e. absurd (none_is n e); rows = tt });
+      (record { began = refl; seen = ([], refl); mine = refl; few = omega arith; count = λ n e. absurd (none_is n e); sequence = λ n e. absurd (none_is n e) });
   no_other = λ worker le. refl;
   total = sym (no_entries start 0 callers);
 }
+
+backs_new : (grants : Grants) (words : List ℕ) (start : List Area) (callers : ℕ) → AreBacked grants words start (first_passes (λ (_ : ℕ). new_pass start) 0 callers)
+backs_new grants words start callers worker pass at =
+    subst (λ (q : Pass). IsBacked grants words start worker q) (passes_at (new_pass start) 0 callers worker pass at) (record { reads = inl (refl, refl, refl); rows = λ held has. All-nil (StillStands held words); pending = tt })
 
 -- the words of an opening meet the guard
 pub opens : (grants : Grants) (start : List Area) (callers : ℕ) (words : List ℕ) → words ≡ opening_words start → IsAreaList start → HasNamedKinds start → row_count start ≤ ROWS → callers ≤ 16 → HasHistory grants words (first_passes (λ (_ : ℕ). newcomer words) 0 callers)
 opens grants start callers words is areas named few most =
     subst (λ (w : List ℕ). HasHistory grants w (first_passes (λ (_ : ℕ). newcomer w) 0 callers)) (sym is)
-    (start, [], start, subst (λ (p : Pass). IsRunningSpace start [] start (opening_words start) (first_passes (λ (_ : ℕ). p) 0 callers)) (sym (began start areas named)) (runs_new start callers areas named few most))
+    (let both = subst (λ (p : Pass). IsRunningSpace start [] start (opening_words start) (first_passes (λ (_ : ℕ). p) 0 callers) × AreBacked grants (opening_words start) start (first_passes (λ (_ : ℕ). p) 0 callers)) (sym (began start areas named))
+    (runs_new start callers areas named few most, backs_new grants (opening_words start) start callers) in
+    (start, [], start, both.0, both.1))
+
+abbrev pub caller_with : Known Pass → ℕ → List ℕ → List ℕ → CallerView
+caller_with s left read plan = record { seat = s; left = left; read = read; plan = planned_rows read plan }
 
 -- the seat that is next
 pub next_seat : (table : TableId) (p : Pass) (worker : ℕ) (seats : List (Known Pass)) (s : Known Pass) → ((k : ℕ) (x : Known Pass) → get_elem? seats k ≡ some x → x ≡ new_seat table (λ (_ : ℕ). p) (worker + k)) → 0 < length seats → s ≡ get_or seats 0 s → s ≡ new_seat table (λ (_ : ℕ). p) worker
@@ -105,5 +129,9 @@ seats_on table p worker seats left rest is k x at =
     let z : worker + suc k ≡ worker + 1 + k = omega arith in
     rest (suc k) x (sym (at_removed seats k) ∙ (ap (λ l. get_elem? l k) (sym is) ∙ at)) ∙ ap (new_seat table (λ (_ : ℕ). p)) z
 
-pub one_caller : (table : TableId) (start : List Area) (calls : List ℕ) (made : List CallerView) (c : CallerView) (n : ℕ) → length made ≡ n → AreNewCallers table start calls made → c ≡ record { seat = new_seat table (λ (_ : ℕ). new_pass start) n; left = slice_index calls n } → AreNewCallers table start calls (made ++ c ∷ [])
-one_caller table start calls made c n e all is = pushed_all (λ k x. x ≡ record { seat = new_seat table (λ (_ : ℕ). new_pass start) k; left = slice_index calls k }) made c n e all is
+-- a caller with a new seat and empty lists
+pub new_caller : (s t : Known Pass) (left : ℕ) (read plan : List ℕ) → s ≡ t → read ≡ [] → plan ≡ [] → caller_with s left read plan ≡ caller_with t left [] []
+new_caller s t left read plan e r p = λ k. caller_with (e k) left (r k) (p k)
+
+pub one_caller : (table : TableId) (start : List Area) (calls : List ℕ) (made : List CallerView) (c : CallerView) (n : ℕ) → length made ≡ n → AreNewCallers table start calls made → c ≡ record { seat = new_seat table (λ (_ : ℕ). new_pass start) n; left = slice_index calls n; read = []; plan = [] } → AreNewCallers table start calls (made ++ c ∷ [])
+one_caller table start calls made c n e all is = pushed_all (λ k x. x ≡ record { seat = new_seat table (λ (_ : ℕ). new_pass start) k; left = slice_index calls k; read = []; plan = [] }) made c n e all is

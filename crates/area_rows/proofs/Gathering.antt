@@ -1,7 +1,7 @@
 -- The history is what the callers stored, each entry at the place of its number.
 use Rattle.std.proofs.Common.{◌≡◌, ℕ, zero, suc, ◌+◌, ◌<◌, ◌≤◌, Bool, true, false, cond, eqb, List, [], ◌∷◌, ◌++◌, drop, length, map, get_or, set, sym, refl, ap, ◌∙◌, subst, arith, eq-eqb, add-one, drop-cons, append_assoc, inl, inr}
 use Rattle.std.proofs.lemmas.Bool.{cases_lt, eqb-true}
-use Rattle.std.specs.Prelude.{Option, Some, None, slice_index}
+use Rattle.std.specs.Prelude.{Option, Some, None, replicate, slice_index}
 use mathlib.Core.Logic.{dite}
 use mathlib.Core.Option.{some, some-injective, some-ne-none}
 use native.Mathlib.Decide.{ℕ_discrete}
@@ -9,12 +9,18 @@ use lib.ListN.{get_elem?}
 use Rattle.atomic_table.proofs.Lists.{at_map, set_here, set_else}
 use Rattle.space_model.specs.declared.areas.Area.{Area}
 use Rattle.space_model.specs.declared.entries.Entry.{Entry}
-use Rattle.lock_core.proofs.ByPlace.{below, there, same_lists}
+use Rattle.lock_core.proofs.ByPlace.{below, there, same_lists, at_replicate}
+use Rattle.lock_core.specs.declared.range.Held.{Held}
+use Rattle.space_model.specs.Areas.{kind_at}
 use Rattle.area_rows.specs.declared.guard.Pass.{Pass}
+use Rattle.area_rows.specs.declared.guard.Pending.{Pending}
+use Rattle.area_rows.specs.declared.guard.Pending.TheVariants.{AtRest, Planned}
 use Rattle.area_rows.specs.declared.close.Kept.{Kept}
-use Rattle.area_rows.specs.Rows.{rows_in, areas_from, rows_start, with_row}
+use Rattle.area_rows.specs.Rows.{rows_in, areas_from, rows_start, with_row, RowsShow}
+use Rattle.area_rows.specs.Reads.{everything}
 use Rattle.space_model.proofs.Histories.{numbered_at}
-use Rattle.area_rows.specs.History.{Runs, entries_of, IsRunningSpace, HasHistory}
+use Rattle.area_rows.specs.History.{Runs, entries_of, planned_calls, LagsAt, RowsStandFor, IsRunningSpace, Backs, AreBacked, HasHistory}
+use Rattle.area_rows.specs.Parts.{none_is}
 use Rattle.area_rows.specs.Callers.{CallerView, IsWhole}
 use Rattle.area_rows.specs.Closing.{AllStand, AgreesAt, ArePlaced, AreBelow, AreKept, callers_count, caller_pass}
 use Rattle.page_types.specs.declared.TheConstants.{ROWS}
@@ -22,7 +28,7 @@ use Rattle.page_types.specs.declared.calls.Kind.{Kind}
 use Rattle.std.proofs.lemmas.List.{append-nil, length-map, length-take-le, length-drop, drop_all}
 use Rattle.area_rows.specs.RowWords.{row_start, row_kind}
 use Rattle.area_rows.proofs.RowLists.{areas_back}
-use Rattle.area_rows.proofs.Stepping.{at_row}
+use Rattle.area_rows.proofs.Moments.{at_row, none_planned, rows_agree}
 
 kept_at : (kept : List Kept) (callers : List CallerView) (k : ℕ) (c : Kept) → AreKept kept callers → get_elem? kept k ≡ some c → (v : CallerView) × (get_elem? callers k ≡ some v) × (c.mine.items ≡ v.seat.pass.mine)
 kept_at [] callers k c all at = absurd (some-ne-none c (sym at))
@@ -36,6 +42,25 @@ at_kept [] (y ∷ ys) k v all at = absurd all
 at_kept (x ∷ xs) [] k v all at = absurd all
 at_kept (x ∷ xs) (y ∷ ys) zero v all at = (x, refl, subst (λ (z : CallerView). x.mine.items ≡ z.seat.pass.mine) (some-injective y v at) all.0)
 at_kept (x ∷ xs) (y ∷ ys) (suc k) v all at = at_kept xs ys k v all.1 at
+
+-- where nobody holds anything nothing is to be written
+nobody_holds : (n worker : ℕ) (h : Held) → get_elem? (replicate {A = Option Held} n None) worker ≡ some (Some h) → ⊥
+nobody_holds n worker h at = none_is h (at_replicate n None (Some h) worker at)
+
+idle_rest : (n : ℕ) (state : List Area) (worker : ℕ) (pending : Pending) → Backs (replicate n None) state worker pending → planned_calls pending ≡ 0
+idle_rest n state worker AtRest b = refl
+idle_rest n state worker (Planned rows) b = absurd (nobody_holds n worker everything b.0)
+
+idle_shown : (n : ℕ) (state : List Area) (worker page : ℕ) (pending : Pending) → Backs (replicate n None) state worker pending → LagsAt pending page → ⊥
+idle_shown n state worker page AtRest b lags = lags
+idle_shown n state worker page (Planned rows) b lags = lags
+
+-- and the rows show the state
+pub idle_rows : (n : ℕ) (start : List Area) (history : List Entry) (state : List Area) (words : List ℕ) (passes : List Pass) → IsRunningSpace start history state words passes → AreBacked (replicate n None) words state passes → RowsShow words (kind_at state)
+idle_rows n start history state words passes r backed =
+    let none = none_planned passes (λ other x at. idle_rest n state other x.pending (backed other x at).pending) in
+    let s : RowsStandFor state passes words = r.rows none in
+    rows_agree words s.0 (kind_at state) (λ page low. sym (s.1.elsewhere page (λ other x at lags. idle_shown n state other page x.pending (backed other x at).pending lags))) s.2
 
 pub runs_number : (history : List Entry) (n : ℕ) (A B : List Area) (i : ℕ) (e : Entry) → Runs n A history B → get_elem? history i ≡ some e → e.number ≡ n + i
 runs_number history n A B i e r at = numbered_at n history i e r.0 at
@@ -95,10 +120,10 @@ module _ (start : List Area) (history : List Entry) (state : List Area) (words :
         subst (AgreesAt history out) n (placed e.worker c.0 c.1 o.0 e (ap (λ l. get_elem? l o.0) (c.2 ∙ sym part.mine) ∙ o.1)) ∙ at)
 
     -- the whole history, and the state that the rows stand for
-    pub whole : (out : List Entry) (areas : List Area) → length out ≡ callers_count callers → ((k : ℕ) (c : Kept) → get_elem? kept k ≡ some c → ArePlaced history c.mine.items out) → areas ≡ areas_from (rows_in words) → IsWhole callers out areas
-    whole out areas wide placed is =
+    pub whole : RowsShow words (kind_at state) → (out : List Entry) (areas : List Area) → length out ≡ callers_count callers → ((k : ℕ) (c : Kept) → get_elem? kept k ≡ some c → ArePlaced history c.mine.items out) → areas ≡ areas_from (rows_in words) → IsWhole callers out areas
+    whole rows out areas wide placed is =
         let e : out ≡ history = history_is out (wide ∙ sym r.total) placed in
-        let s : areas ≡ state = is ∙ areas_back (rows_in words) state r.rows.show r.in_order in
+        let s : areas ≡ state = is ∙ areas_back (rows_in words) state rows.show r.in_order in
         subst (λ (z : List Entry × List Area). IsWhole callers z.0 z.1) (λ i. (sym e i, sym s i)) (record {
           runs = λ k c at. subst (λ a. Runs 0 a history state) (sym (r.parts k c.seat.pass (at_map caller_pass callers k c at)).began) r.runs;
           calls = r.calls;
@@ -177,7 +202,7 @@ next_start words i wide lt =
     ap rows_start (drop_next (rows_in words) (i + 1) (omega arith)) ∙ ap row_start (at_row words (i + 1) lt)
 
 -- the numbers of what was kept are below the number of all entries
-pub closes_below : (words : List ℕ) (callers : List CallerView) (kept : List Kept) (passes : List Pass) (bound : ℕ) → passes ≡ map caller_pass callers → HasHistory [] words passes → AreKept kept callers → bound ≡ callers_count callers → (k : ℕ) (c : Kept) → get_elem? kept k ≡ some c → AreBelow bound c.mine.items
-closes_below words callers kept passes bound is h all b =
-    let r = subst (λ (ps : List Pass). HasHistory [] words ps) is h in
+pub closes_below : (n : ℕ) (words : List ℕ) (callers : List CallerView) (kept : List Kept) (passes : List Pass) (bound : ℕ) → passes ≡ map caller_pass callers → HasHistory (replicate n None) words passes → AreKept kept callers → bound ≡ callers_count callers → (k : ℕ) (c : Kept) → get_elem? kept k ≡ some c → AreBelow bound c.mine.items
+closes_below n words callers kept passes bound is h all b =
+    let r = subst (λ (ps : List Pass). HasHistory (replicate n None) words ps) is h in
     kept_below r.0 r.1 r.2 words callers r.3 kept all bound b

@@ -1,7 +1,8 @@
--- What the rows that a caller has read show of the history's state.
-use Rattle.std.proofs.Common.{◌≡◌, ◌≢◌, ℕ, zero, suc, ◌+◌, ◌-◌, ◌<◌, ◌≤◌, List, [], ◌∷◌, drop, length, get_or, sym, refl, ap, ◌∙◌, subst, arith, ◌⊎◌, inl, inr, ⊎_elim}
+-- What the rows that a caller has read show of the history's state, also while others move boundaries beside its range.
+use Rattle.std.proofs.Common.{◌≡◌, ◌≢◌, ℕ, zero, suc, ◌+◌, ◌-◌, ◌<◌, ◌≤◌, List, ◌∷◌, drop, length, get_or, sym, refl, ap, ◌∙◌, subst, arith, ◌⊎◌, inl, inr, ⊎_elim}
+use Rattle.std.proofs.lemmas.Bool.{cases_lt}
 use Rattle.std.proofs.lemmas.List.{drop_all}
-use Rattle.std.specs.Prelude.{Option, Some, slice_index}
+use Rattle.std.specs.Prelude.{All, Option, Some, slice_index}
 use Rattle.page_types.specs.declared.TheConstants.{LIMIT}
 use Rattle.page_types.specs.declared.calls.Kind.{Kind}
 use mathlib.Core.Option.{some}
@@ -11,14 +12,14 @@ use Rattle.space_model.specs.Areas.{kind_at}
 use Rattle.lock_core.specs.declared.range.Held.{Held}
 use Rattle.range_rw.specs.Contract.{Known}
 use Rattle.range_rw.specs.declared.record.Record.{Record}
-use Rattle.area_rows.specs.declared.guard.ReadRow.{ReadRow}
 use Rattle.area_rows.specs.declared.guard.Pass.{Pass}
 use Rattle.area_rows.specs.RowWords.{row_start, row_kind}
-use Rattle.area_rows.specs.Rows.{rows_in, rows_start, RowsShow}
-use Rattle.area_rows.specs.History.{StillStand, after_count, after_row}
-use Rattle.area_rows.specs.Callers.{IsHeldPage, IsHeldBelow, HasRead, KeepsRead, IsRowEnd, IsAsRead, RowIs, Shows, IsReading, IsClientStep}
+use Rattle.area_rows.specs.Rows.{rows_in, rows_start, RowsShow, IsRowOf}
+use Rattle.area_rows.specs.Reads.{IsHeldPage, HasRead, StillStands}
+use Rattle.area_rows.specs.History.{RowsStandFor, HoldsPages, IsAtRest, after_count, after_row}
+use Rattle.area_rows.specs.Callers.{IsHeldPages, KeepsRead, IsRowEnd, IsAsRead, RowIs, Shows, IsReading, IsClientStep}
 use Rattle.area_rows.proofs.RowLists.{row_says}
-use Rattle.area_rows.proofs.Stepping.{length-rows_in, at_row, first_row, row_below}
+use Rattle.area_rows.proofs.Moments.{length-rows_in, at_row, first_row, row_below, stands, nobody_plans, shows_held}
 use Rattle.area_rows.proofs.Gathering.{next_start}
 
 -- what the word of a row says, of those that show kinds
@@ -41,13 +42,9 @@ word_says words kinds i s lt =
       differs = λ l. subst (λ (z : ℕ × ℕ). row_kind z.0 ≢ row_kind z.1) (λ k. (here k, at_row words (i + 1) l k)) (r.differs (omega arith));
     }
 
--- a row that was read still stands
-stands : (words : List ℕ) (rows : List ReadRow) (i w : ℕ) → StillStand words rows → HasRead rows i w → slice_index words (3 + i) ≡ w
-stands words [] i w s h = absurd h
-stands words (r ∷ rest) i w s h = ⊎_elim (λ t. ap (λ n. slice_index words (3 + n)) (sym t.0) ∙ (s.0 ∙ t.1)) (λ t. stands words rest i w s.1 t) h
-
-pub below_end : (held : Option Held) (p : ℕ) → IsHeldBelow held LIMIT → IsHeldPage held p → p < LIMIT
-below_end held p below h = let b = below h.0 h.1 in let l = h.3 in omega arith
+-- a held page is below the limit
+pub below_end : (held : Option Held) (p : ℕ) → IsHeldPages held → IsHeldPage held p → p < LIMIT
+below_end held p pages h = let b = (pages h.0 h.1).1 in let l = h.3 in omega arith
 
 zero_or_more : (n : ℕ) → (n ≡ 0) ⊎ (0 < n)
 zero_or_more zero = inl refl
@@ -95,43 +92,86 @@ end_is words kinds s count index hi counts next ends =
     (λ t. let done = t.0 in ap rows_start (drop_all (index + 1) (rows_in words) (omega arith)) ∙ sym t.1)
     ends
 
-row_is : (seat : Known Pass) (held : Option Held) (page count index word hi : ℕ) → IsHeldBelow held LIMIT → seat.pass.count ≡ Some count → HasRead seat.pass.rows index word → index < count → row_start word ≤ page → page < hi
-    → IsRowEnd seat.pass.rows count index hi → Shows seat (RowIs held page (record { index = index; lo = row_start word; hi = hi; kind = row_kind word }))
-row_is seat held page count index word hi below counted read lt from until ends start history state words m =
-    let r = m.running in
-    let part = r.parts seat.number m.pass m.own in
-    let counts : slice_index words 2 ≡ count = part.count count (m.read.count count counted) in
-    let is : slice_index words (3 + index) ≡ word = stands words m.pass.rows index word part.rows (m.read.rows index word read) in
-    let kinds = kind_at state in
-    let next : index + 1 < count → hi ≡ row_start (slice_index words (3 + (index + 1))) =
-    λ more. ⊎_elim (λ t. t.3 ∙ ap row_start (sym (stands words m.pass.rows (index + 1) t.1 part.rows (m.read.rows (index + 1) t.1 t.2)))) (λ t. absurd (let e = t.0 in omega arith)) ends in
-    record {
-      index = record { there = omega arith; from = subst (λ w. row_start w ≤ page) (sym is) from; last = λ more. let e = next (omega arith) in omega arith };
-      kind = λ p h low high. in_row words kinds r.rows page count index word counts is lt hi p next low high (below_end held p below h);
-      next = λ h. let b = below_end held hi below h in ⊎_elim (λ t. after_row_page words kinds r.rows page count index word counts is lt hi t.0 (next t.0)) (λ t. absurd (let e = t.1 in omega arith)) ends;
-      previous = λ more h. before_row words kinds r.rows page count index word counts is lt more;
-      ends = λ _. (ap row_start is, end_is words kinds r.rows count index hi counts next (⊎_elim (λ t. inl t.0) (λ t. inr t) ends));
-    }
+-- what a row that was read says, from what still stands of it and of the next one
+module _ (held : Option Held) (words : List ℕ) (kinds : ℕ → Option Kind) (s : RowsShow words kinds) (page count index word hi : ℕ)
+    (counts : slice_index words 2 ≡ count) (lt : index < count) (here : IsHeldPage held page) (from : row_start word ≤ page) (until : page < hi) (limit : hi ≤ LIMIT)
+    (pages : IsHeldPages held)
+    (still : StillStands held words (record { index = index; word = word }))
+    (ends : ((index + 1 < count) × (next : ℕ) × (hi ≡ row_start next) × StillStands held words (record { index = index + 1; word = next })) ⊎ ((index + 1 ≡ count) × (hi ≡ LIMIT))) where
+  -- a held page between the ends as they were read is in this row still
+  row_of_page : (p : ℕ) → IsHeldPage held p → row_start word ≤ p → p < hi → IsRowOf words p index
+  row_of_page p h low high = record {
+    there = omega arith;
+    from = (still.side p h).0 low;
+    last = λ more. ⊎_elim
+        (λ t. elim (cases_lt p (row_start (slice_index words (3 + (index + 1))))) [
+          | inl less ↦ less
+          | inr ge ↦ let back : row_start t.1 ≤ p = (t.3.side p h).1 ge in let e = t.2 in absurd (omega arith)
+        ])
+        (λ t. absurd (let e = t.0 in omega arith)) ends;
+  }
 
-pub shows_row : (seat : Known Pass) (held : Option Held) (page count index word lo hi : ℕ) (kind : Option Kind) → lo ≡ row_start word → kind ≡ row_kind word → IsHeldBelow held LIMIT → seat.pass.count ≡ Some count → HasRead seat.pass.rows index word → index < count → row_start word ≤ page → page < hi
-    → IsRowEnd seat.pass.rows count index hi → Shows seat (RowIs held page (record { index = index; lo = lo; hi = hi; kind = kind }))
-shows_row seat held page count index word lo hi kind l k below counted read lt from until ends =
-    subst (λ (z : ℕ × Option Kind). Shows seat (RowIs held page (record { index = index; lo = z.0; hi = hi; kind = z.1 }))) (λ i. (sym l i, sym k i)) (row_is seat held page count index word hi below counted read lt from until ends)
+  kind_now : row_kind (slice_index words (3 + index)) ≡ row_kind word
+  kind_now = still.kind page here (row_of_page page here from until)
+
+  row_is_still : (state : List Area) → ((p : ℕ) → IsHeldPage held p → kinds p ≡ kind_at state p) → RowIs held page (record { index = index; lo = row_start word; hi = hi; kind = row_kind word }) words state
+  row_is_still state same = record {
+    index = row_of_page page here from until;
+    kind = λ p h low high. let r = row_of_page p h low high in sym (same p h) ∙ ((word_says words kinds index s (omega arith)).within p r.from (below_end held p pages h) r.last ∙ kind_now);
+    next = λ h e. ⊎_elim
+        (λ t. let at : row_start (slice_index words (3 + (index + 1))) ≡ row_start t.1 = t.3.start hi h (inl t.2) in
+        after_row_page words kinds s page count index (slice_index words (3 + index)) counts refl lt hi t.0 (t.2 ∙ sym at) (same hi h ∙ (e ∙ sym kind_now)))
+        (λ t. absurd (let e = t.1 in let b = below_end held hi pages h in omega arith)) ends;
+    previous = λ more h e.
+        let at : row_start (slice_index words (3 + index)) ≡ row_start word = still.start (row_start word - 1) h (inr (omega arith)) in
+        before_row words kinds s page count index (slice_index words (3 + index)) counts refl lt (omega arith)
+        (ap (λ n. kinds (n - 1)) at ∙ (same (row_start word - 1) h ∙ (e ∙ sym kind_now)));
+    ends = λ a.
+        let h = a.0 in
+        let left = a.3 in
+        let right = a.4 in
+        let first : IsHeldPage held (row_start word) = (h, a.1, omega arith, omega arith) in
+        let last : IsHeldPage held (hi - 1) = (h, a.1, omega arith, omega arith) in (
+          still.start (row_start word) first (inl refl),
+          end_is words kinds s count index hi counts
+              (λ more. ⊎_elim (λ t. t.2 ∙ sym (t.3.start (hi - 1) last (inr (let e = t.2 in omega arith)))) (λ t. absurd (let e = t.0 in omega arith)) ends)
+              (⊎_elim (λ t. inl t.0) (λ t. inr t) ends),
+        );
+  }
+
+row_is : (seat : Known Pass) (held : Option Held) (page count index word hi : ℕ) → seat.held ≡ held → IsHeldPages held → IsAtRest seat.pass → seat.pass.count ≡ Some count → HasRead seat.pass.rows index word → index < count → IsHeldPage held page → row_start word ≤ page → page < hi → hi ≤ LIMIT
+    → IsRowEnd seat.pass.rows count index hi → Shows seat (RowIs held page (record { index = index; lo = row_start word; hi = hi; kind = row_kind word }))
+row_is seat held page count index word hi same pages rest counted read lt here from until limit ends start history state words m =
+    let part = m.running.parts seat.number m.pass m.own in
+    let granted : get_elem? m.grants seat.number ≡ some held = m.granted ∙ ap some same in
+    let holds : HoldsPages m.grants seat.number = (here.0, granted ∙ ap some here.1, pages here.0 here.1) in
+    let rested : IsAtRest m.pass = m.read.pending ∙ rest in
+    let rows : RowsStandFor state m.passes words = m.running.rows (nobody_plans m.grants words state m.passes seat.number m.pass m.exclusive m.backed m.own rested holds) in
+    let stood : All (StillStands held words) m.pass.rows = (m.backed seat.number m.pass m.own).rows held granted in
+    row_is_still held words rows.0 rows.2 page count index word hi (part.count count (m.read.count count counted)) lt here from until limit pages
+    (stands held words m.pass.rows index word stood (m.read.rows index word read))
+    (⊎_elim (λ t. inl (t.0, t.1, t.3, stands held words m.pass.rows (index + 1) t.1 stood (m.read.rows (index + 1) t.1 t.2))) (λ t. inr t) ends)
+    state (shows_held m.grants words state m.passes seat.number m.pass m.exclusive m.backed m.own rested held granted rows.0 rows.1)
+
+shows_row : (seat : Known Pass) (held : Option Held) (page count index word lo hi : ℕ) (kind : Option Kind) → lo ≡ row_start word → kind ≡ row_kind word → seat.held ≡ held → IsHeldPages held → IsAtRest seat.pass → seat.pass.count ≡ Some count → HasRead seat.pass.rows index word → index < count
+    → IsHeldPage held page → row_start word ≤ page → page < hi → hi ≤ LIMIT → IsRowEnd seat.pass.rows count index hi → Shows seat (RowIs held page (record { index = index; lo = lo; hi = hi; kind = kind }))
+shows_row seat held page count index word lo hi kind l k same pages rest counted read lt here from until limit ends =
+    subst (λ (z : ℕ × Option Kind). Shows seat (RowIs held page (record { index = index; lo = z.0; hi = hi; kind = z.1 }))) (λ i. (sym l i, sym k i)) (row_is seat held page count index word hi same pages rest counted read lt here from until limit ends)
 
 -- what was read stays read
 pub keeps_on : (a b c : Pass) → KeepsRead a b → KeepsRead b c → KeepsRead a c
-keeps_on a b c f g = record { count = λ n e. g.count n (f.count n e); rows = λ index word h. g.rows index word (f.rows index word h) }
+keeps_on a b c f g = record { count = λ n e. g.count n (f.count n e); rows = λ index word h. g.rows index word (f.rows index word h); sequence = λ n e. g.sequence n (f.sequence n e); pending = g.pending ∙ f.pending }
 
 pub reading_on : (a b c : Known Pass) → IsReading a b → IsReading b c → IsReading a c
 reading_on a b c f g = record { table = g.table ∙ f.table; number = g.number ∙ f.number; held = g.held ∙ f.held; start = g.start ∙ f.start; seen = g.seen ∙ f.seen; mine = g.mine ∙ f.mine; taken = let l = f.taken in let m = g.taken in omega arith; read = keeps_on a.pass b.pass c.pass f.read g.read }
 
 pub no_reading : (a : Known Pass) → IsReading a a
-no_reading a = record { table = refl; number = refl; held = refl; start = refl; seen = refl; mine = refl; taken = omega arith; read = record { count = λ n e. e; rows = λ index word h. h } }
+no_reading a = record { table = refl; number = refl; held = refl; start = refl; seen = refl; mine = refl; taken = omega arith; read = record { count = λ n e. e; rows = λ index word h. h; sequence = λ n e. e; pending = refl } }
 
 pub step_taken : (a b : Known Pass) (place : ℕ) (p : Pass) → IsClientStep a place p b → b.trace.taken ≡ a.trace.taken + 1
 step_taken a b place p s = ap (λ (r : Record). r.taken) s.trace
 
-step_reads : (a b : Known Pass) (place : ℕ) (p : Pass) → IsClientStep a place p b → p.start ≡ a.pass.start → p.seen ≡ a.pass.seen → p.mine ≡ a.pass.mine → KeepsRead a.pass p → IsReading a b
+pub step_reads : (a b : Known Pass) (place : ℕ) (p : Pass) → IsClientStep a place p b → p.start ≡ a.pass.start → p.seen ≡ a.pass.seen → p.mine ≡ a.pass.mine → KeepsRead a.pass p → IsReading a b
 step_reads a b place p s x y z k = record {
   table = s.table;
   number = s.number;
@@ -147,10 +187,10 @@ same_some : (n m : ℕ) → n ≡ m → Some n ≡ Some m
 same_some n m e = ap Some e
 
 pub count_reads : (a b : Known Pass) (n : ℕ) → IsClientStep a 2 (after_count n a.pass) b → ((m : ℕ) → a.pass.count ≡ Some m → n ≡ m) → IsReading a b
-count_reads a b n s again = step_reads a b 2 (after_count n a.pass) s refl refl refl (record { count = λ m e. same_some n m (again m e); rows = λ index word h. h })
+count_reads a b n s again = step_reads a b 2 (after_count n a.pass) s refl refl refl (record { count = λ m e. same_some n m (again m e); rows = λ index word h. h; sequence = λ m e. e; pending = refl })
 
 pub row_reads : (a b : Known Pass) (index word : ℕ) → IsClientStep a (3 + index) (after_row index word a.pass) b → IsReading a b
-row_reads a b index word s = step_reads a b (3 + index) (after_row index word a.pass) s refl refl refl (record { count = λ n e. e; rows = λ i w h. inr h })
+row_reads a b index word s = step_reads a b (3 + index) (after_row index word a.pass) s refl refl refl (record { count = λ n e. e; rows = λ i w h. inr h; sequence = λ n e. e; pending = refl })
 
 -- what a range has shown lasts while the caller reads more rows
 pub shows_on : (a b : Known Pass) (what : List ℕ → List Area → Type 0) → IsReading a b → Shows a what → Shows b what
@@ -159,6 +199,7 @@ shows_on a b what r shows start history state words m = shows start history stat
   passes = m.passes;
   pass = m.pass;
   running = m.running;
+  backed = m.backed;
   exclusive = m.exclusive;
   granted = ap (get_elem? m.grants) (sym r.number) ∙ (m.granted ∙ ap some r.held);
   own = ap (get_elem? m.passes) (sym r.number) ∙ m.own;
@@ -166,18 +207,18 @@ shows_on a b what r shows start history state words m = shows start history stat
 })
 
 -- the row before one that starts above the page
-pub found_row : (old new : Known Pass) (held : Option Held) (page count index word next lo hi : ℕ) (kind : Option Kind) → IsClientStep old (3 + (index + 1)) (after_row (index + 1) next old.pass) new → lo ≡ row_start word → kind ≡ row_kind word → hi ≡ row_start next → IsHeldBelow held LIMIT
-    → old.pass.count ≡ Some count → HasRead old.pass.rows index word → index + 1 < count → row_start word ≤ page → page < hi → Shows new (RowIs held page (record { index = index; lo = lo; hi = hi; kind = kind }))
-found_row old new held page count index word next lo hi kind step l k h below counted read lt from until =
+pub found_row : (old new : Known Pass) (held : Option Held) (page count index word next lo hi : ℕ) (kind : Option Kind) → IsClientStep old (3 + (index + 1)) (after_row (index + 1) next old.pass) new → lo ≡ row_start word → kind ≡ row_kind word → hi ≡ row_start next → new.held ≡ held → IsHeldPages held
+    → IsAtRest old.pass → old.pass.count ≡ Some count → HasRead old.pass.rows index word → index + 1 < count → IsHeldPage held page → row_start word ≤ page → page < hi → hi ≤ LIMIT → Shows new (RowIs held page (record { index = index; lo = lo; hi = hi; kind = kind }))
+found_row old new held page count index word next lo hi kind step l k h same pages rest counted read lt here from until limit =
     let rows : record { index = index + 1; word = next } ∷ old.pass.rows ≡ new.pass.rows = sym (ap (λ (p : Pass). p.rows) step.pass) in
-    shows_row new held page count index word lo hi kind l k below (ap (λ (p : Pass). p.count) step.pass ∙ counted) (subst (λ r. HasRead r index word) rows (inr read)) (omega arith) from until
+    shows_row new held page count index word lo hi kind l k same pages (ap (λ (p : Pass). p.pending) step.pass ∙ rest) (ap (λ (p : Pass). p.count) step.pass ∙ counted) (subst (λ r. HasRead r index word) rows (inr read)) (omega arith) here from until limit
     (inl (lt, next, subst (λ r. HasRead r (index + 1) next) rows (inl (refl, refl)), h))
 
 -- the last row
-pub last_row : (seat : Known Pass) (held : Option Held) (page count index word lo : ℕ) (kind : Option Kind) → lo ≡ row_start word → kind ≡ row_kind word → IsHeldBelow held LIMIT → IsHeldPage held page
+pub last_row : (seat : Known Pass) (held : Option Held) (page count index word lo : ℕ) (kind : Option Kind) → lo ≡ row_start word → kind ≡ row_kind word → seat.held ≡ held → IsHeldPages held → IsAtRest seat.pass → IsHeldPage held page
     → seat.pass.count ≡ Some count → HasRead seat.pass.rows index word → index < count → ¬ (index + 1 < count) → row_start word ≤ page → Shows seat (RowIs held page (record { index = index; lo = lo; hi = LIMIT; kind = kind }))
-last_row seat held page count index word lo kind l k below h counted read lt not_more from =
-    shows_row seat held page count index word lo LIMIT kind l k below counted read lt from (below_end held page below h) (inr (omega arith, refl))
+last_row seat held page count index word lo kind l k same pages rest h counted read lt not_more from =
+    shows_row seat held page count index word lo LIMIT kind l k same pages rest counted read lt h from (below_end held page pages h) (omega arith) (inr (omega arith, refl))
 
 -- the ends of a row as they were read
 pub found_read : (old new : Known Pass) (count index word next lo hi : ℕ) (kind : Option Kind) → IsClientStep old (3 + (index + 1)) (after_row (index + 1) next old.pass) new → lo ≡ row_start word → kind ≡ row_kind word → hi ≡ row_start next

@@ -117,10 +117,10 @@ bare_from page (a ∷ rest) named =
     (All-cons IsBareGap (row_word a.lo (Some a.kind)) (rows_from a.hi rest) (λ none. absurd (some_none a.kind (row_kind (row_word a.lo (Some a.kind))) none says)) (bare_from a.hi rest (All-tail (λ x. IsNamedKind x.kind) a rest named)))
 
 -- what the areas of rows are
-record AreNext (page : ℕ) (rows : List ℕ) (kinds : ℕ → Option Kind) (A : List Area) : Type 0 where
-  areas : IsAreaList A
-  above : IsAbove page A
-  same : (p : ℕ) → page ≤ p → p < LIMIT → kind_at A p ≡ kinds p
+pub record AreNext (page : ℕ) (rows : List ℕ) (kinds : ℕ → Option Kind) (A : List Area) : Type 0 where
+  pub areas : IsAreaList A
+  pub above : IsAbove page A
+  pub same : (p : ℕ) → page ≤ p → p < LIMIT → kind_at A p ≡ kinds p
 
 leads_to : (a : Area) (A : List Area) → IsAreaList A → IsAbove a.hi A → kind_at A a.hi ≢ Some a.kind → LeadsTo a A
 leads_to a [] areas above not = tt
@@ -138,7 +138,7 @@ below_limit : (page word : ℕ) (rest : List ℕ) (kinds : ℕ → Option Kind) 
 below_limit page word [] kinds show = show.1
 below_limit page word (v ∷ rest) kinds show = let r = below_limit (row_start v) v rest kinds show.4 in let h = show.1 in omega arith
 
-starts_low : (page : ℕ) (rows : List ℕ) (kinds : ℕ → Option Kind) → ShowFrom page rows kinds → page ≤ LIMIT
+pub starts_low : (page : ℕ) (rows : List ℕ) (kinds : ℕ → Option Kind) → ShowFrom page rows kinds → page ≤ LIMIT
 starts_low page [] kinds show = omega arith
 starts_low page (w ∷ rest) kinds show = let l = below_limit page w rest kinds show in omega arith
 
@@ -171,7 +171,7 @@ one_more page word rest kinds A (Some k) is show next =
       ];
     }
 
-are_next : (page : ℕ) (rows : List ℕ) (kinds : ℕ → Option Kind) → ShowFrom page rows kinds → AreNext page rows kinds (areas_from rows)
+pub are_next : (page : ℕ) (rows : List ℕ) (kinds : ℕ → Option Kind) → ShowFrom page rows kinds → AreNext page rows kinds (areas_from rows)
 are_next page [] kinds show = record { areas = tt; above = tt; same = λ p from below. absurd (omega arith) }
 are_next page (word ∷ rest) kinds show = one_more page word rest kinds (areas_from rest) (row_kind word) refl show (are_next (rows_start rest) rest kinds show.4)
 

@@ -1,170 +1,173 @@
--- The guard allows the client steps of the calls, and what each tells.
-use Rattle.std.proofs.Common.{◌≡◌, ℕ, ◌+◌, ◌<◌, ◌≤◌, ◌^◌, List, [], ◌∷◌, drop, length, get_or, sym, refl, ap, ◌∙◌, subst, arith}
-use Rattle.std.proofs.lemmas.List.{get_or-take, get_or-drop, length-take-le, length-drop}
-use Rattle.std.proofs.lemmas.Bool.{false≢true}
-use Rattle.std.specs.Prelude.{Option, Some, None, IsSome, slice_index}
+-- The guard allows the steps by which a caller reads words and draws a number, and what each tells.
+use Rattle.std.proofs.Common.{◌≡◌, ℕ, ⊎_elim, inl, inr, ◌⊎◌, ◌+◌, ◌<◌, ◌≤◌, ◌^◌, List, length, sym, refl, ap, ◌∙◌, subst, arith}
+use Rattle.std.specs.Prelude.{All, Option, Some, None, IsSome, slice_index}
 use mathlib.Core.Option.{some, some-injective}
 use lib.ListN.{get_elem?}
 use Rattle.page_types.specs.declared.TheConstants.{LIMIT, ROWS}
-use Rattle.page_types.specs.declared.calls.Kind.{Kind}
+use Rattle.page_types.specs.Named.{IsNamedCall}
 use Rattle.lock_core.specs.declared.range.Held.{Held}
-use Rattle.lock_core.specs.Grants.{Grants, IsExclusive}
-use Rattle.lock_core.specs.Client.{loads, adds, Moment, IsAllowed, IsMade}
+use Rattle.lock_core.specs.Grants.{Grants}
+use Rattle.lock_core.specs.Client.{loads, adds, IsAllowed, IsMade}
 use Rattle.range_rw.specs.Contract.{Known, IsClientCall}
-use Rattle.range_rw.specs.declared.record.Record.{Record}
 use Rattle.space_model.specs.declared.areas.Area.{Area}
 use Rattle.space_model.specs.declared.entries.Entry.{Entry}
-use Rattle.space_model.specs.Areas.{kind_at}
-use Rattle.area_rows.specs.Callers.{HasPage, HasRead, IsMoment, Shows, IsLook, IsNumbered, IsDrawn}
-use Rattle.area_rows.specs.Keeping.{no_note}
+use Rattle.space_model.specs.declared.entries.Under.{Under}
+use Rattle.space_model.specs.declared.entries.Under.TheVariants.{Whole}
 use Rattle.area_rows.specs.declared.guard.Note.{Note}
 use Rattle.area_rows.specs.declared.guard.Pass.{Pass}
+use Rattle.area_rows.specs.declared.guard.Pending.{Pending}
+use Rattle.area_rows.specs.declared.guard.Pending.TheVariants.{AtRest, Planned}
 use Rattle.area_rows.specs.RowWords.{row_start}
-use Rattle.area_rows.specs.Rows.{rows_in, ShowFrom, RowsShow}
-use Rattle.area_rows.specs.History.{Runs, StartsWith, IsRunningSpace, HasHistory, Allowed, Here, MayLoad, IsFault, IsRight, HoldsFor, entry_of, after_look, after_count, after_row, after_draw}
-use Rattle.area_rows.specs.History.MayLoad.{number, count, row}
-use Rattle.area_rows.proofs.RowLists.{row_says}
+use Rattle.area_rows.specs.Plans.{IsRowList}
+use Rattle.area_rows.specs.Reads.{everything, HasRead, HasRows, StillStands}
+use Rattle.area_rows.specs.History.{Runs, StartsWith, planned_calls, RowsStandFor, HasHistory, Allowed, Here, MayLoad, MayAdd, IsAtRest, IsRight, Leaves, HoldsFor, pending_of, entry_of, after_look, after_count, after_sequence, after_row, after_draw}
+use Rattle.area_rows.specs.History.MayLoad.{number, glance, sequence, count, row}
+use Rattle.area_rows.specs.History.MayAdd.{draw, raise}
+use Rattle.area_rows.specs.Callers.{CallerView, HasToWrite, IsHeldPages, IsMoment, Shows, KeepsRead, KeepsRows, CountsWhole, IsReading, IsLook, IsNumbered, IsDrawn}
+use Rattle.area_rows.specs.Draws.{draw_pending, draw_mine, draw_seen, draw_start, draw_drew}
+use Rattle.area_rows.specs.Keeping.{no_note}
+use Rattle.area_rows.specs.Parts.{none_is}
+use Rattle.area_rows.proofs.Reading.{step_reads}
+use Rattle.area_rows.proofs.Moments.{held_some, held_pages, first_row, row_below, row_list, stands, only_own_plan, nobody_plans, rows_are, here_at, moment_of}
 
-held_some : (held : Option Held) → IsSome held → HasPage held → (h : Held) × (held ≡ Some h) × (h.range.lo < h.range.hi)
-held_some None s pages = absurd (false≢true s)
-held_some (Some h) s pages = (h, refl, pages h refl)
+module _ (free held : Type 0) (words : List ℕ) (history : List Entry) (p after : Pass) where
+  -- what a load tells of the pass
+  look_tells : MayLoad free held words history 0 p after → after ≡ after_look history p
+  look_tells (number e is) = is
+  look_tells (glance f e is) = absurd (omega arith)
+  look_tells (sequence h e is) = absurd (omega arith)
+  look_tells (count h e is) = absurd (omega arith)
+  look_tells (row i h few e is) = absurd (omega arith)
 
--- the row words among the client words
-pub length-rows_in : (words : List ℕ) (kinds : ℕ → Option Kind) → RowsShow words kinds → length (rows_in words) ≡ slice_index words 2
-length-rows_in words kinds s =
-    let r = s.room in let f = s.few in let d = length-drop 3 words in
-    length-take-le (slice_index words 2) (drop 3 words) (omega arith)
+  sequence_tells : MayLoad free held words history 1 p after → (free × (after ≡ p)) ⊎ (after ≡ after_sequence (slice_index words 1) p)
+  sequence_tells (number e is) = absurd (omega arith)
+  sequence_tells (glance f e is) = inl (f, is)
+  sequence_tells (sequence h e is) = inr is
+  sequence_tells (count h e is) = absurd (omega arith)
+  sequence_tells (row i h few e is) = absurd (omega arith)
 
-pub at_row : (words : List ℕ) (i : ℕ) → i < slice_index words 2 → get_or (rows_in words) i 0 ≡ slice_index words (3 + i)
-at_row words i l = get_or-take (slice_index words 2) (drop 3 words) i 0 l ∙ get_or-drop 3 words i 0
+  count_tells : MayLoad free held words history 2 p after → after ≡ after_count (slice_index words 2) p
+  count_tells (number e is) = absurd (omega arith)
+  count_tells (glance f e is) = absurd (omega arith)
+  count_tells (sequence h e is) = absurd (omega arith)
+  count_tells (count h e is) = is
+  count_tells (row i h few e is) = absurd (omega arith)
 
-first_start : (rows : List ℕ) (kinds : ℕ → Option Kind) → ShowFrom 0 rows kinds → 0 < length rows → row_start (get_or rows 0 0) ≡ 0
-first_start [] kinds s l = absurd (omega arith)
-first_start (w ∷ rest) kinds s l = s.0
+  row_tells : (index : ℕ) → MayLoad free held words history (3 + index) p after → after ≡ after_row index (slice_index words (3 + index)) p
+  row_tells index (number e is) = absurd (omega arith)
+  row_tells index (glance f e is) = absurd (omega arith)
+  row_tells index (sequence h e is) = absurd (omega arith)
+  row_tells index (count h e is) = absurd (omega arith)
+  row_tells index (row i h few e is) = let same : i ≡ index = omega arith in is ∙ (λ k. after_row (same k) (slice_index words (3 + same k)) p)
 
-pub first_row : (words : List ℕ) (kinds : ℕ → Option Kind) → RowsShow words kinds → row_start (slice_index words 3) ≡ 0
-first_row words kinds s = let some = s.some in let l = length-rows_in words kinds s in ap row_start (sym (at_row words 0 some)) ∙ first_start (rows_in words) kinds s.show (omega arith)
+draw_keeps : (history : List Entry) (e : Entry) (pending : Pending) (held : Option Held) (p : Pass) → KeepsRows pending p (after_draw history e pending held p)
+draw_keeps history e AtRest held p = tt
+draw_keeps history e (Planned rows) held p = (refl, refl)
 
--- a row starts below the limit
-pub row_below : (words : List ℕ) (kinds : ℕ → Option Kind) (i : ℕ) → RowsShow words kinds → i < slice_index words 2 → row_start (slice_index words (3 + i)) < LIMIT
-row_below words kinds i s lt = let l = length-rows_in words kinds s in subst (λ w. row_start w < LIMIT) (at_row words i lt) (row_says 0 (rows_in words) kinds i s.show (omega arith)).below
-
--- what a load tells of the pass
-look_tells : (held : Type 0) (words : List ℕ) (history : List Entry) (p after : Pass) → MayLoad held words history 0 p after → after ≡ after_look history p
-look_tells held words history p after (number e is) = is
-look_tells held words history p after (count h e is) = absurd (omega arith)
-look_tells held words history p after (row i h few e is) = absurd (omega arith)
-
-count_tells : (held : Type 0) (words : List ℕ) (history : List Entry) (p after : Pass) → MayLoad held words history 2 p after → after ≡ after_count (slice_index words 2) p
-count_tells held words history p after (number e is) = absurd (omega arith)
-count_tells held words history p after (count h e is) = is
-count_tells held words history p after (row i h few e is) = absurd (omega arith)
-
-row_tells : (held : Type 0) (words : List ℕ) (history : List Entry) (index : ℕ) (p after : Pass) → MayLoad held words history (3 + index) p after → after ≡ after_row index (slice_index words (3 + index)) p
-row_tells held words history index p after (number e is) = absurd (omega arith)
-row_tells held words history index p after (count h e is) = absurd (omega arith)
-row_tells held words history index p after (row i h few e is) = let same : i ≡ index = omega arith in is ∙ (λ k. after_row (same k) (slice_index words (3 + same k)) p)
-
--- the moment of a step
-abbrev here_at : (grants : Grants) (words : List ℕ) (passes : List Pass) (seat : ℕ) (held : Option Held) (pass : Pass) → Moment HasHistory seat held pass grants words passes → Here words passes seat
-here_at grants words passes seat held pass m = record { start = m.met.0; history = m.met.1; state = m.met.2; pass = pass; running = m.met.3; own = m.own }
-
--- the moment of a step, as its caller's seat has it
-moment_of : (grants : Grants) (words : List ℕ) (passes : List Pass) (seat : ℕ) (here : Here words passes seat) (s : Known Pass) → IsExclusive grants → get_elem? grants seat ≡ some s.held → s.number ≡ seat → here.pass ≡ s.pass → IsMoment s s.pass.start here.history here.state words
-moment_of grants words passes seat here s exclusive granted n same = record {
-  grants = grants;
-  passes = passes;
-  pass = here.pass;
-  running = subst (λ a. IsRunningSpace a here.history here.state words passes) (sym (here.running.parts seat here.pass here.own).began ∙ ap (λ (x : Pass). x.start) same) here.running;
-  exclusive = exclusive;
-  granted = ap (get_elem? grants) n ∙ granted;
-  own = ap (get_elem? passes) n ∙ here.own;
-  read = record { count = λ n e. ap (λ (x : Pass). x.count) same ∙ e; rows = λ index word h. subst (λ (x : Pass). HasRead x.rows index word) (sym same) h };
-}
+-- a caller that holds a range remembers the sequence word
+pub may_sequence : (note : Note) (seat : ℕ) (held : Option Held) (pass : Pass) → IsHeldPages held → IsAllowed HasHistory Allowed note seat held pass (loads 1)
+may_sequence note seat None pass pages grants words passes m lt small = (pass, (here_at grants words passes seat None pass m, glance m.grant refl refl))
+may_sequence note seat (Some h) pass pages grants words passes m lt small = (after_sequence (slice_index words 1) pass, (here_at grants words passes seat (Some h) pass m, sequence (h, m.grant, pages h refl) refl refl))
 
 module _ (note : Note) (seat : ℕ) (held : Option Held) (pass : Pass) where
   pub may_look : IsAllowed HasHistory Allowed note seat held pass (loads 0)
   may_look grants words passes m lt small = (after_look m.met.1 pass, (here_at grants words passes seat held pass m, number refl refl))
 
-  pub may_count : IsSome held → HasPage held → IsAllowed HasHistory Allowed note seat held pass (loads 2)
-  may_count some_held pages grants words passes m lt small = let h = held_some held some_held pages in
-      (after_count (slice_index words 2) pass, (here_at grants words passes seat held pass m, count (h.0, m.grant ∙ ap some h.1, h.2) refl refl))
+  pub may_count : IsSome held → IsHeldPages held → IsAllowed HasHistory Allowed note seat held pass (loads 2)
+  may_count some_held pages grants words passes m lt small =
+      (after_count (slice_index words 2) pass, (here_at grants words passes seat held pass m, count (held_pages grants seat held m.grant some_held pages) refl refl))
 
-  pub may_row : (index : ℕ) → index < ROWS → IsSome held → HasPage held → IsAllowed HasHistory Allowed note seat held pass (loads (3 + index))
-  may_row index few some_held pages grants words passes m lt small = let h = held_some held some_held pages in
-      (after_row index (slice_index words (3 + index)) pass, (here_at grants words passes seat held pass m, row index (h.0, m.grant ∙ ap some h.1, h.2) few refl refl))
+  pub may_row : (index : ℕ) → index < ROWS → IsSome held → IsHeldPages held → IsAllowed HasHistory Allowed note seat held pass (loads (3 + index))
+  may_row index few some_held pages grants words passes m lt small =
+      (after_row index (slice_index words (3 + index)) pass, (here_at grants words passes seat held pass m, row index (held_pages grants seat held m.grant some_held pages) few refl refl))
 
-  pub may_draw : (s : Known Pass) → s.number ≡ seat → s.held ≡ held → s.pass ≡ pass → length pass.mine + 1 < 2 ^ 32 → IsFault note.call → HoldsFor held note.under
-      → Shows s (λ (words : List ℕ) (state : List Area). IsRight state note.call note.reply note.under) → IsAllowed HasHistory Allowed note seat held pass (adds 0 1)
-  may_draw s n h p few fault holds shows grants words passes m lt small =
-      let here = here_at grants words passes seat held pass m in (
-        after_draw here.history (entry_of (length here.history) seat note) held pass,
+  pub may_draw : (s : Known Pass) → s.number ≡ seat → s.held ≡ held → s.pass ≡ pass → length pass.mine + 1 < 2 ^ 32 → IsNamedCall note.call → IsAtRest pass → HoldsFor held note.under
+      → Shows s (λ (words : List ℕ) (state : List Area). (left : List Area) × IsRight state note.call note.reply note.under left × Leaves state note.under note.pending left) → IsAllowed HasHistory Allowed note seat held pass (adds 0 1)
+  may_draw s n h p few named rest holds shows grants words passes m lt small =
+      let here = here_at grants words passes seat held pass m in
+      let right = shows _ here.history here.state words (moment_of grants words passes seat here s (m.grant ∙ ap some (sym h)) n (sym p)) in (
+        after_draw here.history (entry_of (length here.history) seat note) note.pending held pass,
         (
           refl,
-          refl,
           here,
-          record {
-            fault = fault;
-            right = shows _ here.history here.state words (moment_of grants words passes seat here s m.exclusive (m.grant ∙ ap some (sym h)) n (sym p));
-            held = (held, m.grant, holds);
-            few = few;
-          },
-          refl,
+          draw refl (record { left = right.0; named = named; right = right.1; leaves = right.2; rest = rest; held = (held, m.grant, holds); few = few }) refl,
         ),
       )
 
+  -- at a moment at which a caller at rest holds pages the rows show kinds
+  rows_here : (grants : Grants) (words : List ℕ) (passes : List Pass) (here : Here grants words passes seat) → IsSome held → IsHeldPages held → get_elem? grants seat ≡ some held → IsAtRest here.pass → RowsStandFor here.state passes words
+  rows_here grants words passes here some_held pages at rest =
+      here.running.rows (nobody_plans grants words here.state passes seat here.pass here.exclusive here.backed here.own rest (held_pages grants seat held at some_held pages))
+
   module _ (found : ℕ) (after : Pass) where
-    pub counts : IsMade HasHistory Allowed note seat held pass (loads 2) found after → (after ≡ after_count found pass) × (0 < found) × (found ≤ ROWS) × ((n : ℕ) → pass.count ≡ Some n → found ≡ n)
-    counts s =
+    pub counts : IsSome held → IsHeldPages held → IsAtRest pass → IsMade HasHistory Allowed note seat held pass (loads 2) found after → (after ≡ after_count found pass) × (0 < found) × (found ≤ ROWS) × ((n : ℕ) → pass.count ≡ Some n → found ≡ n)
+    counts some_held pages rest s =
         let m = s.3 in let here = s.5.0 in
         let same : here.pass ≡ pass = some-injective here.pass pass (sym here.own ∙ m.own) in
-        let some_rows = here.running.rows.some in let few = here.running.rows.few in let e = s.4 in (
-          count_tells _ s.1 here.history here.pass after s.5.1 ∙ (λ i. after_count (e i) (same i)),
+        let rows : RowsStandFor here.state s.2 s.1 = rows_here s.0 s.1 s.2 here some_held pages m.grant (ap (λ (x : Pass). x.pending) same ∙ rest) in
+        let some_rows = rows.2.some in let few = rows.2.few in let e = s.4 in (
+          count_tells _ _ s.1 here.history here.pass after s.5.1 ∙ (λ i. after_count (e i) (same i)),
           omega arith,
           omega arith,
           λ n counted. sym e ∙ (here.running.parts seat here.pass here.own).count n (ap (λ (x : Pass). x.count) same ∙ counted),
         )
 
-    pub reads : (index : ℕ) → IsMade HasHistory Allowed note seat held pass (loads (3 + index)) found after → (after ≡ after_row index found pass) × (index ≡ 0 → row_start found ≡ 0) × ((n : ℕ) → pass.count ≡ Some n → index < n → row_start found < LIMIT)
-    reads index s =
+    pub reads : (index : ℕ) → IsSome held → IsHeldPages held → IsAtRest pass → IsMade HasHistory Allowed note seat held pass (loads (3 + index)) found after → (after ≡ after_row index found pass) × (index ≡ 0 → row_start found ≡ 0) × ((n : ℕ) → pass.count ≡ Some n → index < n → row_start found < LIMIT)
+    reads index some_held pages rest s =
         let m = s.3 in let here = s.5.0 in
         let same : here.pass ≡ pass = some-injective here.pass pass (sym here.own ∙ m.own) in
+        let rows : RowsStandFor here.state s.2 s.1 = rows_here s.0 s.1 s.2 here some_held pages m.grant (ap (λ (x : Pass). x.pending) same ∙ rest) in
         let e = s.4 in (
-          row_tells _ s.1 here.history index here.pass after s.5.1 ∙ (λ i. after_row index (e i) (same i)),
-          λ none. ap row_start (sym e ∙ ap (λ n. slice_index s.1 (3 + n)) none) ∙ first_row s.1 (kind_at here.state) here.running.rows,
+          row_tells _ _ s.1 here.history here.pass after index s.5.1 ∙ (λ i. after_row index (e i) (same i)),
+          λ none. ap row_start (sym e ∙ ap (λ n. slice_index s.1 (3 + n)) none) ∙ first_row s.1 rows.0 rows.2,
           λ n counted lt.
               let c : slice_index s.1 2 ≡ n = (here.running.parts seat here.pass here.own).count n (ap (λ (x : Pass). x.count) same ∙ counted) in
-              subst (λ w. row_start w < LIMIT) e (row_below s.1 (kind_at here.state) index here.running.rows (omega arith)),
+              subst (λ w. row_start w < LIMIT) e (row_below s.1 rows.0 index rows.2 (omega arith)),
         )
 
-    pub draws : (t u : Known Pass) → t.number ≡ seat → t.held ≡ held → t.pass ≡ pass → u.pass ≡ after → IsClientCall t 0 u → IsMade HasHistory Allowed note seat held pass (adds 0 1) found after → IsDrawn t (entry_of found seat note) u
-    draws t u n h p q call s =
-        let m = s.3 in let here = s.5.2 in let d = s.5.3 in
+    -- where everything is held and all rows are read, with this one, they are a row list
+    pub reads_all : (index : ℕ) → held ≡ Some everything → IsAtRest pass → IsMade HasHistory Allowed note seat held pass (loads (3 + index)) found after → (new : Pass) → new ≡ after → (rows : List ℕ) → HasRows new rows → IsRowList rows
+    reads_all index all rest s new new_is rows has =
+        let m = s.3 in let here = s.5.0 in
         let same : here.pass ≡ pass = some-injective here.pass pass (sym here.own ∙ m.own) in
-        let is : after ≡ after_draw here.history (entry_of (length here.history) seat note) d.held.0 here.pass = s.5.4 in
+        let is : new ≡ after_row index found here.pass = new_is ∙ (row_tells _ _ s.1 here.history here.pass after index s.5.1 ∙ (λ i. after_row index (s.4 i) here.pass)) in
+        let holds : get_elem? s.0 seat ≡ some (Some everything) = m.grant ∙ ap some all in
+        let stood : All (StillStands (Some everything) s.1) here.pass.rows = (here.backed seat here.pass here.own).rows (Some everything) holds in
+        let part = here.running.parts seat here.pass here.own in
+        let counted : slice_index s.1 2 ≡ length rows = part.count (length rows) (sym (ap (λ (x : Pass). x.count) is) ∙ has.0) in
+        let word : (i : ℕ) → i < length rows → slice_index s.1 (3 + i) ≡ slice_index rows i = λ i lt. ⊎_elim
+        (λ t. ap (λ n. slice_index s.1 (3 + n)) (sym t.0) ∙ (s.4 ∙ t.1))
+        (λ t. (stands (Some everything) s.1 here.pass.rows i (slice_index rows i) stood t).word refl)
+        (subst (λ (x : Pass). HasRead x.rows i (slice_index rows i)) is (has.1 i lt)) in
+        let are = rows_are s.0 here.start here.history here.state s.1 s.2 seat here.pass rows here.running here.backed here.exclusive here.own holds (ap (λ (x : Pass). x.pending) same ∙ rest) counted word in
+        row_list rows here.state are.0 are.1
+
+    drawn_as : (t u : Known Pass) → t.number ≡ seat → t.held ≡ held → t.pass ≡ pass → u.pass ≡ after → IsClientCall t 0 u → (s : IsMade HasHistory Allowed note seat held pass (adds 0 1) found after) → MayAdd s.0 s.1 s.2 seat note s.5.1 0 after → IsDrawn t (entry_of found seat note) note.pending u
+    drawn_as t u n h p q call s (raise rows e pends written is) = absurd (omega arith)
+    drawn_as t u n h p q call s (draw e d is) =
+        let m = s.3 in let here = s.5.1 in
+        let same : here.pass ≡ pass = some-injective here.pass pass (sym here.own ∙ m.own) in
         let num : length here.history ≡ found = sym here.running.number ∙ s.4 in
         let part = here.running.parts seat here.pass here.own in
         let old : here.pass ≡ t.pass = same ∙ sym p in
-        let new : u.pass ≡ after_draw here.history (entry_of found seat note) d.held.0 t.pass = q ∙ (is ∙ (λ i. after_draw here.history (entry_of (num i) seat note) d.held.0 (old i))) in
+        let f : Entry = entry_of found seat note in
+        let new : u.pass ≡ after_draw here.history f note.pending d.held.0 t.pass = q ∙ (is ∙ (λ i. after_draw here.history (entry_of (num i) seat note) note.pending d.held.0 (old i))) in
         let granted : get_elem? s.0 seat ≡ some t.held = m.grant ∙ ap some (sym h) in
-        let drew : u.pass.drew ≡ d.held.0 = ap (λ (x : Pass). x.drew) new in
+        let drew : u.pass.drew ≡ d.held.0 = ap (λ (x : Pass). x.drew) new ∙ draw_drew here.history f d.held.0 t.pass note.pending in
         let held_then : d.held.0 ≡ t.held = some-injective d.held.0 t.held (sym d.held.1 ∙ granted) in
-        let num_is : IsNumbered t (entry_of found seat note) u = record {
+        let num_is : IsNumbered t f u = record {
           history = here.history;
           state = here.state;
           more = subst (λ (x : Pass). StartsWith here.history x.seen) old part.seen;
           runs = subst (λ (a : List Area). Runs 0 a here.history here.state) (sym part.began ∙ ap (λ (x : Pass). x.start) old) here.running.runs;
           counted = sym num;
           worker = sym n;
+          left = d.left;
           right = d.right;
-          seen = ap (λ (x : Pass). x.seen) new;
-          mine = ap (λ (x : Pass). x.mine) new;
+          seen = ap (λ (x : Pass). x.seen) new ∙ draw_seen here.history f d.held.0 t.pass note.pending;
+          mine = ap (λ (x : Pass). x.mine) new ∙ draw_mine here.history f d.held.0 t.pass note.pending;
           drew = subst (λ x. HoldsFor x note.under) (sym drew) d.held.2;
-          step = t.trace.taken;
-          client = ap (λ (r : Record). r.client) call.trace;
-          since = omega arith;
-          until = let l : u.trace.taken ≡ t.trace.taken + 1 = ap (λ (r : Record). r.taken) call.trace in omega arith;
-          start = ap (λ (x : Pass). x.start) new;
+          start = ap (λ (x : Pass). x.start) new ∙ draw_start here.history f d.held.0 t.pass note.pending;
           table = call.table;
           number = call.number;
           held = call.held;
@@ -172,22 +175,74 @@ module _ (note : Note) (seat : ℕ) (held : Option Held) (pass : Pass) where
         record {
           numbered = num_is;
           words = s.1;
-          moment = moment_of s.0 s.1 s.2 seat here t m.exclusive granted n old;
+          moment = moment_of s.0 s.1 s.2 seat here t granted n old;
           drew = drew ∙ held_then;
+          writes = ap (λ (x : Pass). x.pending) new ∙ draw_pending here.history f d.held.0 t.pass note.pending;
+          keeps = subst (λ (x : Pass). KeepsRows note.pending t.pass x) (sym new) (draw_keeps here.history f note.pending d.held.0 t.pass);
           trace = call.trace;
         }
+
+    pub draws : (t u : Known Pass) → t.number ≡ seat → t.held ≡ held → t.pass ≡ pass → u.pass ≡ after → IsClientCall t 0 u → IsMade HasHistory Allowed note seat held pass (adds 0 1) found after → IsDrawn t (entry_of found seat note) note.pending u
+    draws t u n h p q call s = drawn_as t u n h p q call s s.5.2
 
 pub look_is : (s u : Known Pass) (found : ℕ) → IsClientCall s 0 u → IsMade HasHistory Allowed no_note s.number s.held s.pass (loads 0) found u.pass → IsLook s found u
 look_is s u found call made =
     let m = made.3 in let here = made.5.0 in
     let same : here.pass ≡ s.pass = some-injective here.pass s.pass (sym here.own ∙ m.own) in
-    let is : u.pass ≡ after_look here.history s.pass = look_tells _ made.1 here.history here.pass u.pass made.5.1 ∙ ap (after_look here.history) same in
+    let is : u.pass ≡ after_look here.history s.pass = look_tells _ _ made.1 here.history here.pass u.pass made.5.1 ∙ ap (after_look here.history) same in
     let seen : u.pass.seen ≡ here.history = ap (λ (x : Pass). x.seen) is in
     record {
       state = here.state;
       words = made.1;
-      moment = subst (λ h. IsMoment s s.pass.start h here.state made.1) (sym seen) (moment_of made.0 made.1 made.2 s.number here s m.exclusive m.grant refl same);
+      moment = subst (λ h. IsMoment s s.pass.start h here.state made.1) (sym seen) (moment_of made.0 made.1 made.2 s.number here s m.grant refl same);
       step = record { table = call.table; number = call.number; held = call.held; pass = is ∙ ap (λ h. after_look h s.pass) (sym seen); trace = call.trace };
       more = subst (λ h. StartsWith h s.pass.seen) (sym seen) (subst (λ (x : Pass). StartsWith here.history x.seen) same (here.running.parts s.number here.pass here.own).seen);
       count = ap length seen ∙ (sym here.running.number ∙ made.4);
+    }
+
+-- a pass that remembers the sequence word still has what it had read
+remembers : (p : Pass) (n : ℕ) → ((k : ℕ) → p.sequence ≡ Some k → n ≡ k) → KeepsRead p (after_sequence n p)
+remembers p n again = record { count = λ k e. e; rows = λ index word h. h; sequence = λ k e. ap Some (again k e); pending = refl }
+
+keeps_all : (p : Pass) → KeepsRead p p
+keeps_all p = record { count = λ k e. e; rows = λ index word h. h; sequence = λ k e. e; pending = refl }
+
+-- how many entries are under everything, by the sequence word that a caller remembers
+counts_whole : (u : Known Pass) (found : ℕ) → u.pass.sequence ≡ Some found → IsSome u.held → IsHeldPages u.held → CountsWhole u found
+counts_whole u found known some_held pages start history state words m =
+    let part = m.running.parts u.number m.pass m.own in
+    let word : slice_index words 1 ≡ found = part.sequence found (m.read.sequence found known) in
+    let only = only_own_plan m.grants words state m.passes u.number m.pass m.exclusive m.backed m.own (held_pages m.grants u.number u.held m.granted some_held pages) in
+    let mine : planned_calls m.pass.pending ≡ planned_calls u.pass.pending = ap planned_calls m.read.pending in
+    let s = m.running.sequence in
+    omega arith
+
+pub sequence_is : (s u : Known Pass) (found : ℕ) → IsHeldPages s.held → IsClientCall s 1 u → IsMade HasHistory Allowed no_note s.number s.held s.pass (loads 1) found u.pass → IsReading s u × (IsSome s.held → CountsWhole u found)
+sequence_is s u found pages call made =
+    let m = made.3 in let here = made.5.0 in
+    let same : here.pass ≡ s.pass = some-injective here.pass s.pass (sym here.own ∙ m.own) in
+    let part = here.running.parts s.number here.pass here.own in
+    let again : (k : ℕ) → s.pass.sequence ≡ Some k → found ≡ k = λ k e. sym made.4 ∙ part.sequence k (ap (λ (x : Pass). x.sequence) same ∙ e) in
+    ⊎_elim
+    (λ t.
+    let is : u.pass ≡ s.pass = t.1 ∙ same in
+    let free : s.held ≡ None = some-injective s.held None (sym m.grant ∙ t.0) in (
+      step_reads s u 1 s.pass (record { table = call.table; number = call.number; held = call.held; pass = is; trace = call.trace }) refl refl refl (keeps_all s.pass),
+      λ some_held. let h = held_some s.held some_held in absurd (none_is h.0 (sym free ∙ h.1)),
+    ))
+    (λ is_then.
+    let is : u.pass ≡ after_sequence found s.pass = is_then ∙ (λ i. after_sequence (made.4 i) (same i)) in (
+      step_reads s u 1 (after_sequence found s.pass) (record { table = call.table; number = call.number; held = call.held; pass = is; trace = call.trace }) refl refl refl (remembers s.pass found again),
+      λ some_held. counts_whole u found (ap (λ (x : Pass). x.sequence) is) (subst IsSome (sym call.held) some_held) (subst IsHeldPages (sym call.held) pages),
+    ))
+    (sequence_tells _ _ made.1 here.history here.pass u.pass made.5.1)
+
+-- a caller that has drawn a number under everything has its plan to write
+pub writes_plan : (before after : CallerView) (e : Entry) (under : Under) → after.read ≡ before.read → after.plan ≡ before.plan → IsDrawn before.seat e (pending_of under before.plan) after.seat → under ≡ Whole → HasRows before.seat.pass before.read → HasToWrite after
+writes_plan before after e under read plan d whole has =
+    let is : pending_of under before.plan ≡ Planned after.plan = ap (λ (w : Under). pending_of w before.plan) whole ∙ ap Planned (sym plan) in
+    let k : KeepsRows (Planned after.plan) before.seat.pass after.seat.pass = subst (λ (q : Pending). KeepsRows q before.seat.pass after.seat.pass) is d.keeps in
+    record {
+      pending = d.writes ∙ is;
+      read = subst (HasRows after.seat.pass) (sym read) (k.0 ∙ has.0, λ i lt. subst (λ r. HasRead r i (slice_index before.read i)) (sym k.1) (has.1 i lt));
     }

@@ -1,5 +1,5 @@
 -- A run is legal, and the history of the rule is stored once.
-use Rattle.std.proofs.Common.{◌≡◌, ℕ, zero, suc, ◌+◌, ◌<◌, Bool, true, false, cond, eqb, List, [], ◌∷◌, length, sym, refl, ap, ◌∙◌, subst, arith, inl, inr}
+use Rattle.std.proofs.Common.{◌≡◌, ℕ, zero, suc, ◌+◌, ◌<◌, Bool, true, false, cond, eqb, List, [], ◌∷◌, ◌++◌, length, sym, refl, ap, ◌∙◌, subst, arith, inl, inr}
 use Rattle.std.proofs.lemmas.Bool.{cases_lt}
 use mathlib.Core.Option.{some, some-injective, some-ne-none}
 use lib.ListN.{get_elem?}
@@ -8,9 +8,19 @@ use Rattle.space_model.specs.declared.entries.Entry.{Entry}
 use Rattle.space_model.specs.History.{HasRightReply, IsNumberedFrom}
 use Rattle.space_model.proofs.Histories.{chains_weaker, numbered_at, replied_state}
 use Rattle.area_rows.specs.declared.guard.Pass.{Pass}
-use Rattle.area_rows.specs.History.{FitsAndReplies, entries_of, IsRunningSpace, MayLoad}
-use Rattle.area_rows.specs.History.MayLoad.{number, count, row}
-use Rattle.area_rows.specs.Stored.{Stores, IsStoredOnce, IsStored, HistoryIsStored, RunsAreLegal, DrawsHold, KeepsDraw, LastDrawIsKept}
+use Rattle.area_rows.specs.declared.guard.Note.{Note}
+use Rattle.area_rows.specs.declared.guard.Pending.{Pending}
+use Rattle.area_rows.specs.declared.guard.Pending.TheVariants.{AtRest, Planned}
+use Rattle.area_rows.specs.History.{FitsAndReplies, entries_of, entry_of, HoldsFor, IsRunningSpace, AreBacked, Here, Allowed, MayLoad, MayStore, MayWrite, MayAdd}
+use Rattle.area_rows.specs.History.MayLoad.{number, glance, sequence, count, row}
+use Rattle.area_rows.specs.History.MayStore.{store_row, store_count}
+use Rattle.area_rows.specs.History.MayAdd.{draw, raise}
+use Rattle.area_rows.specs.Draws.{draw_seen, draw_drew}
+use Rattle.lock_core.specs.Grants.{Grants}
+use Rattle.lock_core.specs.Client.{ClientStep, loads, stores, adds, exchanges}
+use Rattle.lock_core.specs.declared.range.Held.{Held}
+use Rattle.std.specs.Prelude.{Option}
+use Rattle.area_rows.specs.Stored.{Stores, IsStoredOnce, IsStored, HistoryIsStored, RunsAreLegal, DrawsHold, KeepsDraw, IsNoDraw, LastDrawIsKept}
 use Rattle.lock_core.proofs.ByPlace.{there}
 use Rattle.area_rows.proofs.Gathering.{runs_number, own_at, at_own}
 
@@ -41,7 +51,7 @@ one_place : (worker : ℕ) (e : Entry) (history : List Entry) (n : ℕ) → IsNu
 one_place worker e [] n r i j p q = absurd (some-ne-none e (sym p))
 one_place worker e (x ∷ xs) n r i j p q = one_here worker x e xs n (eqb x.worker worker) r.1 r.0 (one_place worker e xs (n + 1) r.1) i j p q
 
-module _ (start : List Area) (history : List Entry) (state : List Area) (words : List ℕ) (passes : List Pass) (r : IsRunningSpace start history state words passes) where
+module _ (grants : Grants) (start : List Area) (history : List Entry) (state : List Area) (words : List ℕ) (passes : List Pass) (r : IsRunningSpace start history state words passes) (backed : AreBacked grants words state passes) where
   number_at : (n : ℕ) (e : Entry) → get_elem? history n ≡ some e → e.number ≡ n
   number_at n e at = runs_number history 0 start state n e r.runs at ∙ omega arith
 
@@ -71,11 +81,12 @@ module _ (start : List Area) (history : List Entry) (state : List Area) (words :
             (who, one_place e.worker e history 0 r.runs.0 other o.0 mine o.1, is);
       }
 
-  is_stored : IsStored words passes history start state
+  is_stored : IsStored grants words passes history start state
   is_stored = record {
     runs = r.runs;
     began = λ worker pass at. (r.parts worker pass at).began;
     rows = r.rows;
+    pending = λ worker pass at. (backed worker pass at).pending;
     sequence = r.sequence;
     count = sym r.number;
     numbered = number_at;
@@ -85,18 +96,56 @@ module _ (start : List Area) (history : List Entry) (state : List Area) (words :
   }
 
 pub all_stored : HistoryIsStored
-all_stored grants words passes h = (h.1, h.0, h.2, is_stored h.0 h.1 h.2 words passes h.3)
+all_stored grants words passes h = (h.1, h.0, h.2, is_stored grants h.0 h.1 h.2 words passes h.3 h.4)
+
+hold_of : (grants : Grants) (words : List ℕ) (passes : List Pass) (worker : ℕ) (note : Note) (here : Here grants words passes worker) (after : Pass) → MayAdd grants words passes worker note here 0 after
+    → (held : Option Held) × (get_elem? grants worker ≡ some held) × HoldsFor held note.under × (after.drew ≡ held) × (history : List Entry) × (after.seen ≡ history ++ entry_of (length history) worker note ∷ [])
+hold_of grants words passes worker note here after (raise rows e pends written is) = absurd (omega arith)
+hold_of grants words passes worker note here after (draw e d is) =
+    let f = entry_of (length here.history) worker note in (
+      d.held.0,
+      d.held.1,
+      d.held.2,
+      ap (λ (p : Pass). p.drew) is ∙ draw_drew here.history f d.held.0 here.pass note.pending,
+      here.history,
+      ap (λ (p : Pass). p.seen) is ∙ draw_seen here.history f d.held.0 here.pass note.pending,
+    )
 
 pub all_hold : DrawsHold
-all_hold grants words passes worker place by note after may = let d = may.3 in (d.held.0, d.held.1, d.held.2, ap (λ (p : Pass). p.drew) may.4, may.2.history, ap (λ (p : Pass). p.seen) may.4)
+all_hold grants words passes worker by note after may = hold_of grants words passes worker note may.1 after may.2
 
-keeps_draw : (held : Type 0) (words : List ℕ) (history : List Entry) (place : ℕ) (p after : Pass) → MayLoad held words history place p after → KeepsDraw p after
-keeps_draw held words history place p after (number e is) = record { mine = ap (λ (x : Pass). x.mine) is; drew = ap (λ (x : Pass). x.drew) is }
-keeps_draw held words history place p after (count h e is) = record { mine = ap (λ (x : Pass). x.mine) is; drew = ap (λ (x : Pass). x.drew) is }
-keeps_draw held words history place p after (row i h few e is) = record { mine = ap (λ (x : Pass). x.mine) is; drew = ap (λ (x : Pass). x.drew) is }
+-- a pass that has become another one with the same entries and the same last draw
+same_draw : (p q after : Pass) → after ≡ q → q.mine ≡ p.mine → q.drew ≡ p.drew → KeepsDraw p after
+same_draw p q after is m d = record { mine = ap (λ (x : Pass). x.mine) is ∙ m; drew = ap (λ (x : Pass). x.drew) is ∙ d }
+
+load_keeps : (free held : Type 0) (words : List ℕ) (history : List Entry) (place : ℕ) (p after : Pass) → MayLoad free held words history place p after → KeepsDraw p after
+load_keeps free held words history place p after (number e is) = same_draw p _ after is refl refl
+load_keeps free held words history place p after (glance f e is) = same_draw p _ after is refl refl
+load_keeps free held words history place p after (sequence h e is) = same_draw p _ after is refl refl
+load_keeps free held words history place p after (count h e is) = same_draw p _ after is refl refl
+load_keeps free held words history place p after (row i h few e is) = same_draw p _ after is refl refl
+
+store_keeps : (rows : List ℕ) (place value : ℕ) (p after : Pass) → MayStore rows place value p after → KeepsDraw p after
+store_keeps rows place value p after (store_row i lt e v is) = same_draw p _ after is refl refl
+store_keeps rows place value p after (store_count e v is) = same_draw p _ after is refl refl
+
+write_keeps : (pending : Pending) (place value : ℕ) (p after : Pass) → MayWrite pending place value p after → KeepsDraw p after
+write_keeps AtRest place value p after may = absurd may
+write_keeps (Planned rows) place value p after may = store_keeps rows place value p after may
+
+raise_keeps : (grants : Grants) (words : List ℕ) (passes : List Pass) (worker place : ℕ) (note : Note) (here : Here grants words passes worker) (after : Pass) → (place ≡ 0 → ⊥) → MayAdd grants words passes worker note here place after → KeepsDraw here.pass after
+raise_keeps grants words passes worker place note here after differ (draw e d is) = absurd (differ e)
+raise_keeps grants words passes worker place note here after differ (raise rows e pends written is) = same_draw here.pass _ after is refl refl
+
+-- a step of a caller at a moment, from the pass that it has there
+step_keeps : (grants : Grants) (words : List ℕ) (passes : List Pass) (worker : ℕ) (step : ClientStep) (note : Note) (after : Pass) → IsNoDraw step → Allowed grants words passes worker step note after → (here : Here grants words passes worker) × KeepsDraw here.pass after
+step_keeps grants words passes worker (loads i) note after other may = (may.0, load_keeps _ _ words may.0.history i may.0.pass after may.1)
+step_keeps grants words passes worker (stores i value) note after other may = (may.0, write_keeps may.0.pass.pending i value may.0.pass after may.1)
+step_keeps grants words passes worker (adds i by) note after other may = (may.1, raise_keeps grants words passes worker i note may.1 after other may.2)
+step_keeps grants words passes worker (exchanges i expected new) note after other may = absurd may
 
 pub draw_kept : LastDrawIsKept
-draw_kept grants words passes worker place note pass after own may =
-    let here = may.0 in
-    let same : here.pass ≡ pass = some-injective here.pass pass (sym here.own ∙ own) in
-    (subst (λ (x : Pass). KeepsDraw x after) same (keeps_draw _ words here.history place here.pass after may.1), record { mine = refl; drew = refl })
+draw_kept grants words passes worker step note pass after own other may =
+    let k = step_keeps grants words passes worker step note after other may in
+    let same : k.0.pass ≡ pass = some-injective k.0.pass pass (sym k.0.own ∙ own) in
+    (subst (λ (x : Pass). KeepsDraw x after) same k.1, record { mine = refl; drew = refl })

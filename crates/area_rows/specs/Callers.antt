@@ -7,6 +7,7 @@ use lib.ListN.{get_elem?}
 use Rattle.page_types.specs.declared.TheConstants.{LIMIT, ROWS}
 use Rattle.space_model.specs.declared.areas.Area.{Area}
 use Rattle.space_model.specs.declared.entries.Entry.{Entry}
+use Rattle.space_model.specs.declared.entries.Under.{Under}
 use Rattle.space_model.specs.Areas.{IsAreaList, HasNamedKinds, kind_at, row_count}
 use Rattle.space_model.specs.History.{HasNamedCalls}
 use Rattle.atomic_table.specs.Seated.{TableId}
@@ -14,32 +15,41 @@ use Rattle.lock_core.specs.Grants.{Grants, IsExclusive}
 use Rattle.lock_core.specs.declared.range.Held.{Held}
 use Rattle.lock_core.specs.declared.range.Mode.{Mode}
 use Rattle.lock_core.specs.declared.range.Mode.TheVariants.{Writer}
+use Rattle.page_types.specs.declared.calls.Call.{Call}
+use Rattle.page_types.specs.declared.calls.Reply.{Reply}
 use Rattle.page_types.specs.declared.pages.Span.{Span}
 use Rattle.range_rw.specs.Contract.{Known, IsSeatCount, new_seat}
 use Rattle.range_rw.specs.Contract.{client_trace}
 use Rattle.area_rows.specs.declared.guard.ReadRow.{ReadRow}
 use Rattle.area_rows.specs.declared.guard.Pass.{Pass}
+use Rattle.area_rows.specs.declared.guard.Pending.{Pending}
+use Rattle.area_rows.specs.declared.guard.Pending.TheVariants.{AtRest, Planned}
 use Rattle.area_rows.specs.declared.row.Row.{Row}
 use Rattle.area_rows.specs.declared.space.SpaceFault.{SpaceFault}
 use Rattle.area_rows.specs.declared.space.SpaceFault.TheVariants.{Callers, Rows, Memory}
 use Rattle.area_rows.specs.RowWords.{row_start, row_kind}
 use Rattle.area_rows.specs.Rows.{IsRowOf, rows_in, rows_start, rows_from}
-use Rattle.area_rows.specs.History.{Runs, StartsWith, entries_of, HasNamedReplies, IsRunningSpace, IsRight, HoldsFor}
+use Rattle.area_rows.specs.Plans.{IsPlan}
+use Rattle.area_rows.specs.Reads.{IsHeldPage, HasRead, HasRows}
+use Rattle.area_rows.specs.History.{Runs, StartsWith, entries_of, HasNamedReplies, whole_count, planned_calls, IsRunningSpace, AreBacked, HasPages, IsAtRest, IsRight, Leaves, pending_of, HoldsFor}
 
--- a caller: its seat in the lock's table, whose pass is what it knows of the space, and how many numbers it may still
--- draw
+-- a caller: its seat in the lock's table, whose pass is what it knows of the space; how many numbers it may still draw;
+-- and the row words that it read for its last plan, and those that this plan leaves
 pub record CallerView : Type 0 where
   pub seat : Known Pass
   pub left : ℕ
+  pub read : List ℕ
+  pub plan : List ℕ
+
+-- the rows of a caller's last plan are as they were
+pub record HasSameRows (before after : CallerView) : Type 0 where
+  pub read : after.read ≡ before.read
+  pub plan : after.plan ≡ before.plan
 
 -- a closed space: the areas that are left and the whole history
 pub record ClosedView : Type 0 where
   pub areas : List Area
   pub entries : List Entry
-
--- a page lies in a held range
-abbrev pub IsHeldPage : Option Held → ℕ → Type 0
-IsHeldPage held page = (h : Held) × (held ≡ Some h) × (h.range.lo ≤ page) × (page < h.range.hi)
 
 -- a span that is held in a mode
 abbrev pub held_span : Span → Mode → Held
@@ -49,19 +59,16 @@ held_span span mode = record { range = record { lo = span.lo; hi = span.hi }; mo
 abbrev pub IsHeldBelow : Option Held → ℕ → Type 0
 IsHeldBelow held limit = (h : Held) → held ≡ Some h → h.range.hi ≤ limit
 
--- a held range has a page
-abbrev pub HasPage : Option Held → Type 0
-HasPage held = (h : Held) → held ≡ Some h → h.range.lo < h.range.hi
+-- a held range has a page, and pages alone
+abbrev pub IsHeldPages : Option Held → Type 0
+IsHeldPages held = (h : Held) → held ≡ Some h → HasPages h
 
--- a row was read like that, among others
-abbrev pub HasRead : List ReadRow → ℕ → ℕ → Type 0
-HasRead [] index word = ⊥
-HasRead (r ∷ rest) index word = ((r.index ≡ index) × (r.word ≡ word)) ⊎ HasRead rest index word
-
--- a pass still has what another has read: the row count and the rows
+-- a pass still has what another has read: the row count, the rows and the sequence word; and it has as much to write
 pub record KeepsRead (old new : Pass) : Type 0 where
   pub count : (n : ℕ) → old.count ≡ Some n → new.count ≡ Some n
   pub rows : (index word : ℕ) → HasRead old.rows index word → HasRead new.rows index word
+  pub sequence : (n : ℕ) → old.sequence ≡ Some n → new.sequence ≡ Some n
+  pub pending : new.pending ≡ old.pending
 
 -- a moment of the running space, at which its history is this one and leaves this state: the caller of this seat
 -- holds its range there and has read what it has read, or more, and no two held ranges conflict
@@ -70,6 +77,7 @@ pub record IsMoment (seat : Known Pass) (start : List Area) (history : List Entr
   pub passes : List Pass
   pub pass : Pass
   pub running : IsRunningSpace start history state words passes
+  pub backed : AreBacked grants words state passes
   pub exclusive : IsExclusive grants
   pub granted : get_elem? grants seat.number ≡ some seat.held
   pub own : get_elem? passes seat.number ≡ some pass
@@ -78,6 +86,27 @@ pub record IsMoment (seat : Known Pass) (start : List Area) (history : List Entr
 -- it is so at every moment at which the caller of this seat holds its range and has read what it has read
 abbrev pub Shows : Known Pass → (List ℕ → List Area → Type 0) → Type 0
 Shows seat what = (start : List Area) (history : List Entry) (state : List Area) (words : List ℕ) → IsMoment seat start history state words → what words state
+
+-- so many entries of the history were numbered under everything, the caller's own aside where it isn't written yet, at
+-- every moment at which the caller of this seat holds its range and has read what it has read
+abbrev pub CountsWhole : Known Pass → ℕ → Type 0
+CountsWhole seat n = (start : List Area) (history : List Entry) (state : List Area) (words : List ℕ) → IsMoment seat start history state words → n + planned_calls seat.pass.pending ≡ whole_count history
+
+-- a caller may number a call with this reply under this range: at every moment at which it holds its range and has read
+-- what it has read the entry is right, and under everything its plan is of the rows that the call leaves
+abbrev pub MayNumber : CallerView → Call → Reply → Under → Type 0
+MayNumber c call reply under = Shows c.seat (λ _ state. (left : List Area) × IsRight state call reply under left × Leaves state under (pending_of under c.plan) left)
+
+-- a caller's plan is of this call: under everything, at every moment at which it still holds it and has read those
+-- rows, the call has this reply and leaves so many rows, and the plan has their words; the caller has read all rows
+pub record HasPlanned (call : Call) (reply : Reply) (count : ℕ) (c : CallerView) : Type 0 where
+  pub shows : Shows c.seat (λ _ state. IsPlan call reply count c.plan state)
+  pub read : HasRows c.seat.pass c.read
+
+-- a caller has its plan to write: it has numbered the call, and has read or stored the rows that stand there
+pub record HasToWrite (c : CallerView) : Type 0 where
+  pub pending : c.seat.pass.pending ≡ Planned c.plan
+  pub read : HasRows c.seat.pass c.read
 
 -- where a row ends, by what was read: where the next one starts, or at LIMIT
 abbrev pub IsRowEnd : List ReadRow → ℕ → ℕ → ℕ → Type 0
@@ -113,7 +142,7 @@ pub record RowIs (held : Option Held) (page : ℕ) (row : Row) (words : List ℕ
 
 -- a new pass over these areas
 abbrev pub new_pass : List Area → Pass
-new_pass start = record { start = start; seen = []; mine = []; count = None; rows = []; drew = None }
+new_pass start = record { start = start; seen = []; mine = []; count = None; rows = []; sequence = None; pending = AtRest; drew = None }
 
 -- the client words of a space that starts with these areas: no entry, none under everything, the row count, the rows,
 -- and room for more
@@ -122,7 +151,7 @@ opening_words start = 0 ∷ 0 ∷ row_count start ∷ (rows_from 0 start ++ repl
 
 -- the callers of a new space, in order of their numbers, each with as many numbers to draw as was asked
 abbrev pub AreNewCallers : TableId → List Area → List ℕ → List CallerView → Type 0
-AreNewCallers table start calls callers = (k : ℕ) (c : CallerView) → get_elem? callers k ≡ some c → c ≡ record { seat = new_seat table (λ _. new_pass start) k; left = slice_index calls k }
+AreNewCallers table start calls callers = (k : ℕ) (c : CallerView) → get_elem? callers k ≡ some c → c ≡ record { seat = new_seat table (λ _. new_pass start) k; left = slice_index calls k; read = []; plan = [] }
 
 -- why no space is opened for so many callers over so many rows
 abbrev pub IsSpaceFault : ℕ → ℕ → SpaceFault → Type 0
@@ -142,7 +171,7 @@ pub record IsClientStep (before : Known Pass) (place : ℕ) (left_pass : Pass) (
   pub pass : after.pass ≡ left_pass
   pub trace : after.trace ≡ client_trace before.trace place
 
--- steps that read rows: the seat holds what it held, has seen and numbered what it had, and keeps what it had read
+-- steps that read words: the seat holds what it held, has seen and numbered what it had, and keeps what it had read
 pub record IsReading (before after : Known Pass) : Type 0 where
   pub table : after.table ≡ before.table
   pub number : after.number ≡ before.number
@@ -165,8 +194,7 @@ pub record IsLook (before : Known Pass) (found : ℕ) (after : Known Pass) : Typ
 
 -- a call got the next number. The history before the entry begins with what the caller had seen before the call, the
 -- entry is right at the state that this history leaves, and the caller sees it at the end and stores it. At the step
--- that drew its last number, which is this one, the caller held what the entry names. It was a step of this call on
--- the number word, since it has a number not below that of the steps at the call's entry
+-- that drew its last number, which is this one, the caller held what the entry names
 pub record IsNumbered (before : Known Pass) (e : Entry) (after : Known Pass) : Type 0 where
   pub history : List Entry
   pub state : List Area
@@ -174,28 +202,48 @@ pub record IsNumbered (before : Known Pass) (e : Entry) (after : Known Pass) : T
   pub runs : Runs 0 before.pass.start history state
   pub counted : e.number ≡ length history
   pub worker : e.worker ≡ before.number
-  pub right : IsRight state e.call e.reply e.under
+  pub left : List Area
+  pub right : IsRight state e.call e.reply e.under left
   pub seen : after.pass.seen ≡ history ++ e ∷ []
   pub mine : after.pass.mine ≡ before.pass.mine ++ e ∷ []
   pub drew : HoldsFor after.pass.drew e.under
-  pub step : ℕ
-  pub client : after.trace.client ≡ Some (record { place = 0; step = step })
-  pub since : before.trace.taken ≤ step
-  pub until : step < after.trace.taken
   pub start : after.pass.start ≡ before.pass.start
   pub table : after.table ≡ before.table
   pub number : after.number ≡ before.number
   pub held : after.held ≡ before.held
 
+-- a caller that has rows to write still has what it has read of the old ones
+abbrev pub KeepsRows : Pending → Pass → Pass → Type 0
+KeepsRows AtRest old new = Unit {0}
+KeepsRows (Planned rows) old new = (new.count ≡ old.count) × (new.rows ≡ old.rows)
+
 -- the same by one step on the number word, made at a moment of the running space whose history is the one before the
 -- entry; so what the caller's range has shown is so of the state that this history leaves. What was held at the draw
--- is what the caller holds
-pub record IsDrawn (before : Known Pass) (e : Entry) (after : Known Pass) : Type 0 where
+-- is what the caller holds, and this is to be written
+pub record IsDrawn (before : Known Pass) (e : Entry) (pending : Pending) (after : Known Pass) : Type 0 where
   pub numbered : IsNumbered before e after
   pub words : List ℕ
   pub moment : IsMoment before before.pass.start numbered.history numbered.state words
   pub drew : after.pass.drew ≡ before.held
+  pub writes : after.pass.pending ≡ pending
+  pub keeps : KeepsRows pending before.pass after.pass
   pub trace : after.trace ≡ client_trace before.trace 0
+
+-- all that a call under everything left is written, and the last step on a client word raised the sequence word, in
+-- this call; what the caller holds, has seen and has numbered is as before
+pub record IsWritten (before after : Known Pass) : Type 0 where
+  pub rest : IsAtRest after.pass
+  pub step : ℕ
+  pub client : after.trace.client ≡ Some (record { place = 1; step = step })
+  pub since : before.trace.taken ≤ step
+  pub until : step < after.trace.taken
+  pub start : after.pass.start ≡ before.pass.start
+  pub seen : after.pass.seen ≡ before.pass.seen
+  pub mine : after.pass.mine ≡ before.pass.mine
+  pub drew : after.pass.drew ≡ before.pass.drew
+  pub table : after.table ≡ before.table
+  pub number : after.number ≡ before.number
+  pub held : after.held ≡ before.held
 
 -- the whole history of callers that have stopped: it runs from what each began with to the areas that are left, which
 -- are an area list; calls, replies and areas have named bits alone; each caller's entries stand in it in order, no

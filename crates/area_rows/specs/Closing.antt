@@ -1,15 +1,16 @@
 -- How the whole history is put together when a space is closed: each caller's entries go to the places of their
 -- numbers. Only private functions speak of this; what callers see is `IsWhole`.
-use Rattle.std.specs.Prelude.{ℕ, ◌≡◌, ◌+◌, ◌≤◌, ◌<◌, ◌^◌, List, [], ◌∷◌, map, vec_len, vec_capacity}
+use Rattle.std.specs.Prelude.{ℕ, ◌≡◌, ◌+◌, ◌≤◌, ◌<◌, ◌^◌, None, List, [], ◌∷◌, map, vec_len, vec_capacity}
 use mathlib.Core.Option.{some}
 use lib.ListN.{get_elem?}
-use Rattle.page_types.specs.declared.TheConstants.{LIMIT, ROWS}
+use Rattle.page_types.specs.declared.TheConstants.{ROWS}
 use Rattle.space_model.specs.declared.entries.Entry.{Entry}
 use Rattle.range_rw.specs.Contract.{Known}
 use Rattle.area_rows.specs.declared.guard.Pass.{Pass}
 use Rattle.area_rows.specs.declared.close.Kept.{Kept}
-use Rattle.area_rows.specs.History.{entry_count}
-use Rattle.area_rows.specs.Callers.{CallerView, HasPage, IsHeldBelow}
+use Rattle.area_rows.specs.History.{entry_count, IsAtRest}
+use Rattle.area_rows.specs.Plans.{planned_rows}
+use Rattle.area_rows.specs.Callers.{CallerView, IsHeldPages}
 
 -- each of these entries stands in the history at the place of its number
 abbrev pub AllStand : List Entry → List Entry → Type 0
@@ -37,7 +38,7 @@ callers_count callers = entry_count (map caller_pass callers)
 
 -- a caller from its seat and what it has besides
 abbrev pub caller_of : Known Pass → Kept → CallerView
-caller_of s k = record { seat = s; left = k.left }
+caller_of s k = record { seat = s; left = k.left; read = k.read.items; plan = planned_rows k.read.items k.plan.items }
 
 -- a seat and the rest of a caller belong together
 pub record IsPair (s : Known Pass) (k : Kept) (c : CallerView) : Type 0 where
@@ -46,9 +47,11 @@ pub record IsPair (s : Known Pass) (k : Kept) (c : CallerView) : Type 0 where
   pub mine : k.mine.items ≡ s.pass.mine
   pub room : vec_len k.mine + k.left ≤ vec_capacity k.mine
   pub few : vec_len k.mine + k.left < 2 ^ 32
+  pub read : ROWS ≤ vec_capacity k.read
   pub plan : ROWS + 2 ≤ vec_capacity k.plan
-  pub below : IsHeldBelow s.held LIMIT
-  pub pages : HasPage s.held
+  pub planned : vec_len k.plan ≤ ROWS
+  pub pages : IsHeldPages s.held
+  pub rest : s.held ≡ None → IsAtRest s.pass
 
 -- the same of lists of them
 abbrev pub ArePairs : List (Known Pass) → List Kept → List CallerView → Type 0

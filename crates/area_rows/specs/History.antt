@@ -2,30 +2,35 @@
 -- rows stand for the state after it. It is stored in the callers' lists, by number, so it isn't just some history that
 -- exists. It is legal as a sequential history of an object (Herlihy and Wing, TOPLAS 1990), and each entry was
 -- numbered under the range that it names.
-use Rattle.std.specs.Prelude.{ℕ, ◌≡◌, ◌<◌, ◌≤◌, ◌+◌, ◌^◌, ◌==◌, All, Option, Some, None, List, [], ◌∷◌, ◌++◌, filter, length, slice_index, sum_by}
+use Rattle.std.specs.Prelude.{ℕ, ◌≡◌, ◌<◌, ◌≤◌, ◌+◌, ◌^◌, ◌==◌, ◌⊎◌, All, Option, Some, None, List, [], ◌∷◌, ◌++◌, not, filter, length, slice_index, sum_by}
 use mathlib.Core.Option.{some}
 use lib.ListN.{get_elem?}
 use Rattle.page_types.specs.declared.TheConstants.{LIMIT, ROWS}
 use Rattle.page_types.specs.declared.calls.Call.{Call}
+use Rattle.page_types.specs.declared.calls.Kind.{Kind}
 use Rattle.page_types.specs.declared.calls.Reply.{Reply}
 use Rattle.page_types.specs.declared.calls.Call.TheVariants.{Map, Unmap, Protect, Fault}
 use Rattle.space_model.specs.declared.areas.Area.{Area as Areas}
 use Rattle.space_model.specs.declared.entries.Entry.{Entry}
 use Rattle.space_model.specs.declared.entries.Under.{Under}
 use Rattle.space_model.specs.declared.entries.Under.TheVariants.{Nothing, Reader, Area, Whole}
-use Rattle.page_types.specs.Named.{IsNamedReply}
+use Rattle.page_types.specs.Named.{IsNamedCall, IsNamedReply}
 use Rattle.space_model.specs.Areas.{IsAreaList, HasNamedKinds, kind_at}
 use Rattle.space_model.specs.Answers.{Answers}
 use Rattle.space_model.specs.Held.{FitsUnder}
 use Rattle.space_model.specs.History.{Chains, HasRightReply, IsNumberedFrom, HasNamedCalls}
-use Rattle.lock_core.specs.Grants.{Grants, Holds}
+use Rattle.lock_core.specs.Grants.{Grants, Holds, IsExclusive}
 use Rattle.lock_core.specs.Client.{ClientStep, loads, stores, adds, exchanges}
 use Rattle.lock_core.specs.declared.range.Mode.TheVariants.{Reader as Shared, Writer as Alone}
 use Rattle.lock_core.specs.declared.range.Held.{Held}
 use Rattle.area_rows.specs.declared.guard.ReadRow.{ReadRow}
 use Rattle.area_rows.specs.declared.guard.Note.{Note}
 use Rattle.area_rows.specs.declared.guard.Pass.{Pass}
+use Rattle.area_rows.specs.declared.guard.Pending.{Pending}
+use Rattle.area_rows.specs.declared.guard.Pending.TheVariants.{AtRest, Planned}
 use Rattle.area_rows.specs.Rows.{rows_in, areas_from, RowsShow}
+use Rattle.area_rows.specs.Plans.{PlanShows}
+use Rattle.area_rows.specs.Reads.{everything, StillStands}
 
 -- the entry fits what was held and answers what its call answers, which leaves area list B
 abbrev pub FitsAndReplies : List Areas → Entry → List Areas → Type 0
@@ -72,23 +77,56 @@ entry_count passes = sum_by own_count passes
 abbrev pub StillCounts : List ℕ → Option ℕ → Type 0
 StillCounts words count = (n : ℕ) → count ≡ Some n → slice_index words 2 ≡ n
 
--- the rows that a caller has read under its range stand as it read them
-abbrev pub StillStand : List ℕ → List ReadRow → Type 0
-StillStand words [] = Unit {0}
-StillStand words (r ∷ rest) = (slice_index words (3 + r.index) ≡ r.word) × StillStand words rest
+-- what a caller has read of the sequence word under its range is so
+abbrev pub StillRaised : List ℕ → Option ℕ → Type 0
+StillRaised words sequence = (n : ℕ) → sequence ≡ Some n → slice_index words 1 ≡ n
 
 -- one caller's part: it began with the same areas, has seen a beginning of the history, stores just its own entries,
--- below 2^32 of them, and what it has read is still so
+-- below 2^32 of them, and what it has read of the row count and the sequence word is still so
 pub record IsPart (start : List Areas) (history : List Entry) (words : List ℕ) (worker : ℕ) (pass : Pass) : Type 0 where
   pub began : pass.start ≡ start
   pub seen : StartsWith history pass.seen
   pub mine : entries_of worker history ≡ pass.mine
   pub few : length pass.mine < 2 ^ 32
   pub count : StillCounts words pass.count
-  pub rows : StillStand words pass.rows
+  pub sequence : StillRaised words pass.sequence
+
+-- 1 where a call under everything has its number and isn't written yet
+abbrev pub planned_calls : Pending → ℕ
+planned_calls AtRest = 0
+planned_calls (Planned rows) = 1
+
+-- how many calls under everything a caller has to write
+abbrev pub own_planned : Pass → ℕ
+own_planned pass = planned_calls pass.pending
+
+-- how many the callers have together; two exclude each other, so it is 0 or 1
+abbrev pub planned_count : List Pass → ℕ
+planned_count passes = sum_by own_planned passes
+
+-- the pages whose row may lag behind the state while this is to be written. There are none where a caller is at rest,
+-- and while a plan is to be written nothing is said of any row
+abbrev pub LagsAt : Pending → ℕ → Type 0
+LagsAt AtRest page = ⊥
+LagsAt (Planned rows) page = ⊥
+
+-- what the rows show of those pages
+abbrev pub ShowsBefore : Pending → (ℕ → Option Kind) → Type 0
+ShowsBefore AtRest kinds = Unit {0}
+ShowsBefore (Planned rows) kinds = Unit {0}
+
+-- the kinds that the rows show: those of the state, but at pages whose row may lag
+pub record IsShown (state : List Areas) (passes : List Pass) (kinds : ℕ → Option Kind) : Type 0 where
+  pub lagging : (worker : ℕ) (pass : Pass) → get_elem? passes worker ≡ some pass → ShowsBefore pass.pending kinds
+  pub elsewhere : (page : ℕ) → ((worker : ℕ) (pass : Pass) → get_elem? passes worker ≡ some pass → ¬ LagsAt pass.pending page) → kinds page ≡ kind_at state page
+
+-- the row words show the state as far as it is written
+abbrev pub RowsStandFor : List Areas → List Pass → List ℕ → Type 0
+RowsStandFor state passes words = (kinds : ℕ → Option Kind) × IsShown state passes kinds × RowsShow words kinds
 
 -- a running address space: from the start the history leaves the state, and the client words and the callers' passes
--- stand for both
+-- stand for both. A call under everything that isn't written yet leaves the sequence word one behind, and meanwhile the
+-- row words may be anything
 pub record IsRunningSpace (start : List Areas) (history : List Entry) (state : List Areas) (words : List ℕ) (passes : List Pass) : Type 0 where
   pub callers : length passes ≤ 16
   pub runs : Runs 0 start history state
@@ -97,31 +135,64 @@ pub record IsRunningSpace (start : List Areas) (history : List Entry) (state : L
   pub in_order : IsAreaList state
   pub named : HasNamedKinds state
   pub number : slice_index words 0 ≡ length history
-  pub sequence : slice_index words 1 ≡ whole_count history
-  pub rows : RowsShow words (kind_at state)
+  pub sequence : slice_index words 1 + planned_count passes ≡ whole_count history
+  pub room : length words ≡ 3 + ROWS
+  pub rows : planned_count passes ≡ 0 → RowsStandFor state passes words
   pub parts : (worker : ℕ) (pass : Pass) → get_elem? passes worker ≡ some pass → IsPart start history words worker pass
   -- no entry is of another caller
   pub no_other : (worker : ℕ) → length passes ≤ worker → entries_of worker history ≡ []
   pub total : length history ≡ entry_count passes
 
+-- a range that has a page, and pages alone. One without a page would conflict with no other
+abbrev pub HasPages : Held → Type 0
+HasPages h = (h.range.lo < h.range.hi) × (h.range.hi ≤ LIMIT)
+
+-- the caller of that number holds pages
+abbrev pub HoldsPages : Grants → ℕ → Type 0
+HoldsPages grants worker = (h : Held) × Holds grants worker h × HasPages h
+
+-- a pass that has read nothing of what others may change
+abbrev pub HasReadNothing : Pass → Type 0
+HasReadNothing pass = (pass.count ≡ None) × (pass.rows ≡ []) × (pass.sequence ≡ None)
+
+-- what is to be written is right for the last state, and its caller holds what its entry names
+abbrev pub Backs : Grants → List Areas → ℕ → Pending → Type 0
+Backs grants state worker AtRest = Unit {0}
+Backs grants state worker (Planned rows) = Holds grants worker everything × PlanShows rows (kind_at state)
+
+-- what a caller has read was read under pages that it still holds, the rows stand still as far as these tell, and the
+-- caller holds what it needs for what it has to write
+pub record IsBacked (grants : Grants) (words : List ℕ) (state : List Areas) (worker : ℕ) (pass : Pass) : Type 0 where
+  pub reads : HasReadNothing pass ⊎ HoldsPages grants worker
+  pub rows : (held : Option Held) → get_elem? grants worker ≡ some held → All (StillStands held words) pass.rows
+  pub pending : Backs grants state worker pass.pending
+
+-- the same of all callers
+abbrev pub AreBacked : Grants → List ℕ → List Areas → List Pass → Type 0
+AreBacked grants words state passes = (worker : ℕ) (pass : Pass) → get_elem? passes worker ≡ some pass → IsBacked grants words state worker pass
+
 -- the rule of the guard
 abbrev pub HasHistory : Grants → List ℕ → List Pass → Type 0
-HasHistory grants words passes = (start : List Areas) × (history : List Entry) × (state : List Areas) × IsRunningSpace start history state words passes
+HasHistory grants words passes = (start : List Areas) × (history : List Entry) × (state : List Areas) × IsRunningSpace start history state words passes × AreBacked grants words state passes
 
 -- the pass of a new caller, over the client words of the opening
 abbrev pub newcomer : List ℕ → Pass
-newcomer words = record { start = areas_from (rows_in words); seen = []; mine = []; count = None; rows = []; drew = None }
+newcomer words = record { start = areas_from (rows_in words); seen = []; mine = []; count = None; rows = []; sequence = None; pending = AtRest; drew = None }
 
 -- a pass when its range is given back: what was read under it may change from now on
 abbrev pub rest_of : Pass → Pass
-rest_of p = record p { count = None; rows = [] }
+rest_of p = record p { count = None; rows = []; sequence = None }
+
+-- nothing is left to be written
+abbrev pub IsAtRest : Pass → Type 0
+IsAtRest p = p.pending ≡ AtRest
 
 -- the caller of a number holds what its entry names
 abbrev pub HoldsFor : Option Held → Under → Type 0
 HoldsFor held Nothing = Unit {0}
 HoldsFor held (Reader span) = held ≡ Some (record { range = record { lo = span.lo; hi = span.hi }; mode = Shared })
 HoldsFor held (Area span) = held ≡ Some (record { range = record { lo = span.lo; hi = span.hi }; mode = Alone })
-HoldsFor held Whole = held ≡ Some (record { range = record { lo = 0; hi = LIMIT }; mode = Alone })
+HoldsFor held Whole = held ≡ Some everything
 
 -- the call is a fault
 abbrev pub IsFault : Call → Type 0
@@ -130,34 +201,59 @@ IsFault (Unmap addr len) = ⊥
 IsFault (Protect addr len prot) = ⊥
 IsFault (Fault addr access) = Unit {0}
 
--- the call may be numbered at this state with this reply and under this range: it is a fault, it fits, and the reply
--- is right
-pub record IsRight (state : List Areas) (call : Call) (reply : Reply) (under : Under) : Type 0 where
+-- the call may be numbered at this state with this reply and under this range, and leaves another: it fits, and the
+-- reply is right
+pub record IsRight (state : List Areas) (call : Call) (reply : Reply) (under : Under) (left : List Areas) : Type 0 where
   pub fits : FitsUnder state call under
-  pub answers : Answers state call reply state
+  pub answers : Answers state call reply left
+
+-- what a call that is numbered under this has to write: under everything the rows that it planned
+abbrev pub pending_of : Under → List ℕ → Pending
+pending_of Nothing rows = AtRest
+pending_of (Reader span) rows = AtRest
+pending_of (Area span) rows = AtRest
+pending_of Whole rows = Planned rows
+
+-- what is to be written after a draw is what the call leaves: under everything a plan that shows it, otherwise nothing,
+-- and then nothing has changed. A call over one area isn't numbered yet
+abbrev pub Leaves : List Areas → Under → Pending → List Areas → Type 0
+Leaves state Nothing AtRest left = left ≡ state
+Leaves state (Reader span) AtRest left = left ≡ state
+Leaves state (Area span) AtRest left = ⊥
+Leaves state Whole AtRest left = ⊥
+Leaves state Nothing (Planned rows) left = ⊥
+Leaves state (Reader span) (Planned rows) left = ⊥
+Leaves state (Area span) (Planned rows) left = ⊥
+Leaves state Whole (Planned rows) left = PlanShows rows (kind_at left)
 
 -- the entry that a note becomes
 abbrev pub entry_of : ℕ → ℕ → Note → Entry
 entry_of number worker note = record { number = number; worker = worker; line = note.line; call = note.call; reply = note.reply; under = note.under }
 
--- what an entry says beside its number and its worker
-abbrev pub entry_note : Entry → Note
-entry_note e = record { line = e.line; call = e.call; reply = e.reply; under = e.under }
+-- what an entry says beside its number and its worker, and what is to be written when it has its number
+abbrev pub entry_note : Entry → Pending → Note
+entry_note e pending = record { line = e.line; call = e.call; reply = e.reply; under = e.under; pending = pending }
 
 -- a moment of the running space, and one caller's pass there
-pub record Here (words : List ℕ) (passes : List Pass) (worker : ℕ) : Type 0 where
+pub record Here (grants : Grants) (words : List ℕ) (passes : List Pass) (worker : ℕ) : Type 0 where
   pub start : List Areas
   pub history : List Entry
   pub state : List Areas
   pub pass : Pass
   pub running : IsRunningSpace start history state words passes
+  pub backed : AreBacked grants words state passes
+  pub exclusive : IsExclusive grants
   pub own : get_elem? passes worker ≡ some pass
 
 -- the pass after a load of the number word, by which the caller sees the history so far
 abbrev pub after_look : List Entry → Pass → Pass
 after_look history p = record p { seen = history }
 
--- the pass after a load of the row count
+-- the pass after a load of the sequence word
+abbrev pub after_sequence : ℕ → Pass → Pass
+after_sequence n p = record p { sequence = Some n }
+
+-- the pass after a load of the row count, or a store of it
 abbrev pub after_count : ℕ → Pass → Pass
 after_count n p = record p { count = Some n }
 
@@ -165,34 +261,70 @@ after_count n p = record p { count = Some n }
 abbrev pub after_row : ℕ → ℕ → Pass → Pass
 after_row index word p = record p { rows = record { index = index; word = word } ∷ p.rows }
 
--- the pass after an entry was numbered
-abbrev pub after_draw : List Entry → Entry → Option Held → Pass → Pass
-after_draw history e held p = record { start = p.start; seen = history ++ e ∷ []; mine = p.mine ++ e ∷ []; count = None; rows = []; drew = held }
+-- the rows that were read, but one
+abbrev pub without : ℕ → List ReadRow → List ReadRow
+without index rows = filter (λ r. not (r.index == index)) rows
 
--- the caller of that number holds a range that has a page. One that has none would conflict with no other
-abbrev pub HoldsPages : Grants → ℕ → Type 0
-HoldsPages grants worker = (h : Held) × Holds grants worker h × (h.range.lo < h.range.hi)
+-- the pass after a store of a row
+abbrev pub after_store : ℕ → ℕ → Pass → Pass
+after_store index word p = record p { rows = record { index = index; word = word } ∷ without index p.rows }
 
--- the loads that a caller may make: the number word at any time, the row count and a row under a held range with a page
-pub data MayLoad (held : Type 0) (words : List ℕ) (history : List Entry) (place : ℕ) (p after : Pass) : Type 0 where
-  number : place ≡ 0 → after ≡ after_look history p → MayLoad held words history place p after
-  count : held → place ≡ 2 → after ≡ after_count (slice_index words 2) p → MayLoad held words history place p after
-  row : (index : ℕ) → held → index < ROWS → place ≡ 3 + index → after ≡ after_row index (slice_index words (3 + index)) p → MayLoad held words history place p after
+-- the pass after an entry was numbered. A caller that has a plan to write keeps what it has read of rows, which only
+-- itself may change until then
+abbrev pub after_draw : List Entry → Entry → Pending → Option Held → Pass → Pass
+after_draw history e AtRest held p = record { start = p.start; seen = history ++ e ∷ []; mine = p.mine ++ e ∷ []; count = None; rows = []; sequence = None; pending = AtRest; drew = held }
+after_draw history e (Planned rows) held p = record { start = p.start; seen = history ++ e ∷ []; mine = p.mine ++ e ∷ []; count = p.count; rows = p.rows; sequence = p.sequence; pending = Planned rows; drew = held }
 
--- a draw of a number: the entry is right at the state, the range that it names is held, and the caller has fewer than
--- 2^32 entries with it
-pub record MayDraw (grants : Grants) (words : List ℕ) (passes : List Pass) (worker : ℕ) (note : Note) (here : Here words passes worker) : Type 0 where
-  pub fault : IsFault note.call
-  pub right : IsRight here.state note.call note.reply note.under
+-- the pass after the sequence word was raised: all is written
+abbrev pub after_raise : Pass → Pass
+after_raise p = record p { sequence = None; pending = AtRest }
+
+-- the loads that a caller may make: the number word and the sequence word at any time. What it has read of the sequence
+-- word, of the row count and of a row it remembers, and it reads the last two only while it holds pages
+pub data MayLoad (free held : Type 0) (words : List ℕ) (history : List Entry) (place : ℕ) (p after : Pass) : Type 0 where
+  number : place ≡ 0 → after ≡ after_look history p → MayLoad free held words history place p after
+  glance : free → place ≡ 1 → after ≡ p → MayLoad free held words history place p after
+  sequence : held → place ≡ 1 → after ≡ after_sequence (slice_index words 1) p → MayLoad free held words history place p after
+  count : held → place ≡ 2 → after ≡ after_count (slice_index words 2) p → MayLoad free held words history place p after
+  row : (index : ℕ) → held → index < ROWS → place ≡ 3 + index → after ≡ after_row index (slice_index words (3 + index)) p → MayLoad free held words history place p after
+
+-- the caller of that number holds nothing
+abbrev pub HoldsNothing : Grants → ℕ → Type 0
+HoldsNothing grants worker = get_elem? grants worker ≡ some None
+
+-- a draw of a number: the entry is right at the state, and what its call leaves is to be written; the range that it
+-- names is held, nothing else is to be written, and the caller has fewer than 2^32 entries with it
+pub record MayDraw (grants : Grants) (words : List ℕ) (passes : List Pass) (worker : ℕ) (note : Note) (here : Here grants words passes worker) : Type 0 where
+  pub left : List Areas
+  pub named : IsNamedCall note.call
+  pub right : IsRight here.state note.call note.reply note.under left
+  pub leaves : Leaves here.state note.under note.pending left
+  pub rest : IsAtRest here.pass
   pub held : (h : Option Held) × (get_elem? grants worker ≡ some h) × HoldsFor h note.under
   pub few : length here.pass.mine + 1 < 2 ^ 32
+
+-- the stores of a call under everything: a row of its plan, or the count of its rows
+pub data MayStore (rows : List ℕ) (place value : ℕ) (p after : Pass) : Type 0 where
+  store_row : (index : ℕ) → index < length rows → place ≡ 3 + index → value ≡ slice_index rows index → after ≡ after_store index value p → MayStore rows place value p after
+  store_count : place ≡ 2 → value ≡ length rows → after ≡ after_count value p → MayStore rows place value p after
+
+-- what a caller that has something to write may store
+abbrev pub MayWrite : Pending → ℕ → ℕ → Pass → Pass → Type 0
+MayWrite AtRest place value p after = ⊥
+MayWrite (Planned rows) place value p after = MayStore rows place value p after
+
+-- the additions: a draw of a number, and the raising of the sequence word where the rows show what a call under
+-- everything has left
+pub data MayAdd (grants : Grants) (words : List ℕ) (passes : List Pass) (worker : ℕ) (note : Note) (here : Here grants words passes worker) (place : ℕ) (after : Pass) : Type 0 where
+  draw : place ≡ 0 → (may : MayDraw grants words passes worker note here) → after ≡ after_draw here.history (entry_of (length here.history) worker note) note.pending may.held.0 here.pass → MayAdd grants words passes worker note here place after
+  raise : (rows : List ℕ) → place ≡ 1 → here.pass.pending ≡ Planned rows → RowsShow words (kind_at here.state) → after ≡ after_raise here.pass → MayAdd grants words passes worker note here place after
 
 -- the steps on client words that the guard allows
 abbrev pub Allowed : Grants → List ℕ → List Pass → ℕ → ClientStep → Note → Pass → Type 0
 Allowed grants words passes worker (loads i) note after =
-    (here : Here words passes worker) × MayLoad (HoldsPages grants worker) words here.history i here.pass after
-Allowed grants words passes worker (stores i value) note after = ⊥
+    (here : Here grants words passes worker) × MayLoad (HoldsNothing grants worker) (HoldsPages grants worker) words here.history i here.pass after
+Allowed grants words passes worker (stores i value) note after =
+    (here : Here grants words passes worker) × MayWrite here.pass.pending i value here.pass after
 Allowed grants words passes worker (exchanges i expected new) note after = ⊥
 Allowed grants words passes worker (adds i by) note after =
-    (i ≡ 0) × (by ≡ 1) × (here : Here words passes worker) × (may : MayDraw grants words passes worker note here) ×
-    (after ≡ after_draw here.history (entry_of (length here.history) worker note) may.held.0 here.pass)
+    (by ≡ 1) × (here : Here grants words passes worker) × MayAdd grants words passes worker note here i after

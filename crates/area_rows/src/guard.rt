@@ -1,6 +1,8 @@
 //! The guard of the address space: what its callers know, as plain data of proofs, and the steps on client words that
 //! keep its rule. The rule and the steps are in `specs/History.antt`, and the proofs that they keep it in
-//! `specs/Keeping.antt`. A reader may rely on the one history that the number word counts being what the callers store.
+//! `specs/Keeping.antt`. A call that changes the rows is drawn first and written then; what it has to write is in its
+//! caller's pass meanwhile. A reader may rely on the one history that the number word counts being what the callers
+//! store.
 use lock_core::{Guard, Held, Means};
 use page_types::{Call, Reply};
 use space_model::{Area, Entry, Under};
@@ -14,12 +16,21 @@ pub struct ReadRow {
     pub word: u64,
 }
 
-/// An entry without its number and its worker.
+/// What a call that has its number still has to write.
+pub enum Pending {
+    /// Nothing.
+    AtRest,
+    /// The row words that it leaves, their count, and the sequence word: a call under everything.
+    Planned(LinkedList<u64>),
+}
+
+/// An entry without its number and its worker, and what is to be written when it has its number.
 pub struct Note {
     pub line: u32,
     pub call: Call,
     pub reply: Reply,
     pub under: Under,
+    pub pending: Pending,
 }
 
 /// What a caller knows. No value of it is made.
@@ -32,8 +43,12 @@ pub struct Pass {
     pub mine: LinkedList<Entry>,
     /// The row count, where the caller has read it under the range that it holds.
     pub count: Option<u64>,
-    /// The rows that the caller has read under the range that it holds.
+    /// The rows that the caller has read, or stored, under the range that it holds.
     pub rows: LinkedList<ReadRow>,
+    /// The sequence word, where the caller has read it under the range that it holds.
+    pub sequence: Option<u64>,
+    /// What the caller's last call still has to write.
+    pub pending: Pending,
     /// What the caller held at the step that drew its last number.
     pub drew: Option<Held>,
 }
@@ -42,8 +57,8 @@ pub struct Pass {
 pub struct RowGuard;
 
 impl Guard for RowGuard {
-    ghost use Rattle.area_rows.specs.History.{HasHistory, Allowed, newcomer, rest_of};
-    ghost use Rattle.area_rows.specs.Keeping.{steps_keep, gains_keep, losses_keep};
+    ghost use Rattle.area_rows.specs.History.{HasHistory, Allowed, newcomer, rest_of, IsAtRest};
+    ghost use Rattle.area_rows.specs.Keeping.{steps_keep, gains_keep, losses_keep, stays_resting};
 
     type Pass = Pass;
 
@@ -57,15 +72,15 @@ impl Guard for RowGuard {
 
     ghost rested = { rest_of };
 
-    ghost is_at_rest = { λ _. Unit {0} };
+    ghost is_at_rest = { IsAtRest };
 
     ghost keeps = { steps_keep };
 
     ghost gains = { gains_keep };
 
-    ghost loses = { λ grants words passes seat pass kept own rest. losses_keep grants words passes seat pass kept own };
+    ghost loses = { losses_keep };
 
-    ghost stays_at_rest = { λ _ _. tt };
+    ghost stays_at_rest = { stays_resting };
 }
 
 /// What a call means by its step. Each call picks it.

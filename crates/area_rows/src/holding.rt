@@ -2,7 +2,7 @@
 //! holding the range where `acquire` returns, and on a release keeping what the caller has seen and numbered.
 ghost use Rattle.std.specs.Prelude.{◌≡◌, ◌≤◌, ◌+◌, ◌*◌, Some, None, IsSome, IfErr, OnOk, OnErr};
 ghost use Rattle.range_rw.specs.Contract.{IsLockCall, IsRelease, IsCause};
-ghost use Rattle.area_rows.specs.History.{rest_of};
+ghost use Rattle.area_rows.specs.History.{rest_of, IsAtRest};
 ghost use Rattle.area_rows.specs.Callers.{held_span};
 
 use crate::space::{Caller, Space};
@@ -26,12 +26,13 @@ fn range_of(span: Span) -> Range
 
 impl Space {
     /// Tries until the caller holds the span, and waits for other callers meanwhile. The caller is of this space and
-    /// holds nothing.
+    /// holds nothing, so it has written what it has numbered.
     pub fn acquire<R: Wait>(&self, wait: &R, caller: &mut Caller, span: Span, mode: Mode)
         requires table { caller.old.seat.table ≡ self.now.table }
         requires free { caller.old.seat.held ≡ None }
         ensures call { IsLockCall caller.old.seat caller.new.seat }
         ensures held { caller.new.seat.held ≡ Some (held_span span mode) }
+        ensures rest { IsAtRest caller.new.seat.pass }
         ensures left { caller.new.left ≡ caller.old.left }
     {
         self.table
@@ -54,6 +55,7 @@ impl Space {
         ensures call { IsLockCall caller.old.seat caller.new.seat }
         ensures held { OnOk result (caller.new.seat.held ≡ Some (held_span span mode)) }
         ensures free { OnErr result (caller.new.seat.held ≡ None) }
+        ensures rest { IsAtRest caller.new.seat.pass }
         ensures cause { IfErr result (IsCause caller.old.seat caller.new.seat (held_span span mode)) }
         ensures left { caller.new.left ≡ caller.old.left }
         ensures bound { caller.new.seat.trace.taken ≤ caller.old.seat.trace.taken + (64 + 386 * self.now.seats) }
@@ -63,10 +65,23 @@ impl Space {
             .try_acquire(&mut caller.seat, range_of(span), mode, steps)
     }
 
-    /// Gives the held range back, in one step or two. The caller is of this space; what it has seen and numbered stays.
+    /// The same as `release`, without a counter of steps.
+    pub(crate) fn give_back(&self, caller: &mut Caller)
+        requires table { caller.old.seat.table ≡ self.now.table }
+        requires holds { IsSome caller.old.seat.held }
+        requires rest { IsAtRest caller.old.seat.pass }
+        ensures release { IsRelease rest_of caller.old.seat caller.new.seat }
+        ensures left { caller.new.left ≡ caller.old.left }
+    {
+        self.table.give_back(&mut caller.seat);
+    }
+
+    /// Gives the held range back, in one step or two. The caller is of this space and has written what it has numbered;
+    /// what it has seen and numbered stays.
     pub fn release<L: Ledger>(&self, caller: &mut Caller, steps: &mut Steps<L>)
         requires table { caller.old.seat.table ≡ self.now.table }
         requires holds { IsSome caller.old.seat.held }
+        requires rest { IsAtRest caller.old.seat.pass }
         ensures release { IsRelease rest_of caller.old.seat caller.new.seat }
         ensures left { caller.new.left ≡ caller.old.left }
         ensures counted { steps.new + caller.old.seat.trace.taken ≡ steps.old + caller.new.seat.trace.taken }

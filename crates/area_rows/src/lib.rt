@@ -1,7 +1,8 @@
 //! The rows of a running address space in atomic words, under the guard of the range lock, and its one history.
-//! Callers on many threads read rows and draw numbers, each under the range that it holds; taken by number, their
-//! calls are a legal history of the one-thread address space of `space_model`. A reader may rely on the definitions
-//! of `specs/History.antt`, which hold between any two steps, and on what `close` gives: that history, whole.
+//! Callers on many threads read rows, draw numbers and change rows, each under the range that it holds; taken by
+//! number, their calls are a legal history of the one-thread address space of `space_model`. A reader may rely on the
+//! definitions of `specs/History.antt`, which hold between any two steps, and on what `close` gives: that history,
+//! whole.
 #![tactic(auto)]
 
 mod answer;
@@ -11,15 +12,21 @@ mod guard;
 mod holding;
 mod laws;
 mod opening;
+mod places;
+mod plan;
+mod planning;
 mod row;
 mod rows;
 mod space;
 mod steps;
+mod whole;
 mod words;
+mod writing;
 
 pub use answer::Answer;
 pub use close::{Closed, SpaceCloseRefused};
-pub use guard::{Note, Pass, ReadRow, RowGuard};
+pub use guard::{Note, Pass, Pending, ReadRow, RowGuard};
 pub use laws::{draws_hold, history_is_stored, runs_are_legal};
+pub use plan::Planned;
 pub use row::Row;
 pub use space::{Caller, Space, SpaceFault, crosses_threads};

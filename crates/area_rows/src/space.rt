@@ -49,30 +49,38 @@ pub struct Caller {
     pub(crate) worker: u32,
     pub(crate) mine: Vec<Entry>,
     pub(crate) left: u32,
-    /// Room for the rows of one change of the whole space.
+    /// The row words that the last plan read, with room for `ROWS` of them.
+    pub(crate) read: Vec<u64>,
+    /// The row words that the last plan put together, or none where those that it read stay; with room for `ROWS + 2`.
     pub(crate) plan: Vec<u64>,
 }
 
 impl Model for Caller {
-    ghost use Rattle.std.specs.Prelude.{◌≡◌, ◌+◌, ◌≤◌, ◌<◌, ◌^◌, vec_len, vec_capacity};
-    ghost use Rattle.page_types.specs.declared.TheConstants.{LIMIT, ROWS};
-    ghost use Rattle.area_rows.specs.Callers.{CallerView, HasPage, IsHeldBelow};
+    ghost use Rattle.std.specs.Prelude.{◌≡◌, ◌+◌, ◌≤◌, ◌<◌, ◌^◌, None, vec_len, vec_capacity};
+    ghost use Rattle.page_types.specs.declared.TheConstants.{ROWS};
+    ghost use Rattle.area_rows.specs.Plans.{planned_rows};
+    ghost use Rattle.area_rows.specs.History.{IsAtRest};
+    ghost use Rattle.area_rows.specs.Callers.{CallerView, IsHeldPages};
 
     ghost Value = { CallerView };
 
-    ghost view = { λ c. record { seat = c.seat; left = c.left } };
+    ghost view = { λ c. record { seat = c.seat; left = c.left; read = c.read.items; plan = planned_rows c.read.items c.plan.items } };
 
-    ghost invariant = { λ c. (c.seat.number ≡ c.worker) × (c.mine.items ≡ c.seat.pass.mine) × (vec_len c.mine + c.left ≤ vec_capacity c.mine) × (vec_len c.mine + c.left < 2 ^ 32) × (ROWS + 2 ≤ vec_capacity c.plan) × IsHeldBelow c.seat.held LIMIT × HasPage c.seat.held };
+    ghost invariant = { λ c. (c.seat.number ≡ c.worker) × (c.mine.items ≡ c.seat.pass.mine) × (vec_len c.mine + c.left ≤ vec_capacity c.mine) × (vec_len c.mine + c.left < 2 ^ 32) × (ROWS ≤ vec_capacity c.read) × (ROWS + 2 ≤ vec_capacity c.plan) × (vec_len c.plan ≤ ROWS) × IsHeldPages c.seat.held × (c.seat.held ≡ None → IsAtRest c.seat.pass) };
 }
 
 impl Caller {
-    ghost use Rattle.std.specs.Prelude.{◌≡◌};
+    ghost use Rattle.std.specs.Prelude.{◌≡◌, None};
     ghost use Rattle.page_types.specs.declared.TheConstants.{LIMIT};
-    ghost use Rattle.area_rows.specs.Callers.{IsHeldBelow};
+    ghost use Rattle.area_rows.specs.History.{IsAtRest};
+    ghost use Rattle.area_rows.specs.Callers.{IsHeldBelow, IsHeldPages};
 
-    /// That a range which the caller holds has pages alone. It does nothing.
+    /// That a range which the caller holds has a page, and pages alone, and that a caller which holds nothing has
+    /// written what it has numbered. It does nothing.
     pub fn holds_pages(&self)
-        ensures { IsHeldBelow self.now.seat.held LIMIT }
+        ensures below { IsHeldBelow self.now.seat.held LIMIT }
+        ensures pages { IsHeldPages self.now.seat.held }
+        ensures rest { self.now.seat.held ≡ None → IsAtRest self.now.seat.pass }
     {
         let _worker = self.worker;
     }

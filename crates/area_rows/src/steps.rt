@@ -1,77 +1,62 @@
-//! The four steps that a caller makes on client words: it loads the number word, the row count or a row, or draws a
-//! number. Each is one atomic step, made at a moment of the running space, and a reader may rely on what it says being
-//! so at that moment. Which steps may be made is this project's own: `Allowed` of `specs/History.antt`.
-ghost use Rattle.std.specs.Prelude.{ℕ, ◌≡◌, ◌<◌, ◌≤◌, ◌+◌, ◌^◌, IsSome, Some, length};
+//! The steps by which a caller reads client words and draws a number: it loads the number word, the sequence word, the
+//! row count or a row, or adds 1 to the number word. Each is one atomic step, made at a moment of the running space,
+//! and a reader may rely on what it says being so at that moment. Which steps may be made is this project's own:
+//! `Allowed` of `specs/History.antt`.
+ghost use Rattle.std.specs.Prelude.{ℕ, List, ◌≡◌, ◌<◌, ◌≤◌, ◌+◌, ◌^◌, IsSome, Some, length};
 ghost use Rattle.page_types.specs.declared.TheConstants.{LIMIT, ROWS};
-ghost use Rattle.page_types.specs.Named.{IsNamedReply};
+ghost use Rattle.page_types.specs.Named.{IsNamedCall, IsNamedReply};
+ghost use Rattle.space_model.specs.declared.areas.Area.{Area};
+ghost use Rattle.space_model.specs.declared.entries.Under.TheVariants.{Whole};
 ghost use Rattle.area_rows.specs.RowWords.{row_start};
-ghost use Rattle.area_rows.specs.History.{HoldsFor, IsFault, IsRight, after_count, after_row, entry_note};
-ghost use Rattle.area_rows.specs.Callers.{IsClientStep, IsLook, IsDrawn, Shows};
+ghost use Rattle.area_rows.specs.Plans.{IsRowList, planned_rows};
+ghost use Rattle.area_rows.specs.Reads.{everything, HasRows};
+ghost use Rattle.area_rows.specs.History.{HoldsFor, IsAtRest, IsRight, Leaves, pending_of, after_count, after_row, entry_note};
+ghost use Rattle.area_rows.specs.Callers.{HasSameRows, HasToWrite, CountsWhole, IsReading, IsClientStep, IsLook, IsDrawn, MayNumber, Shows};
 
 use crate::guard::{By, Noted, RowGuard};
 use crate::space::{Caller, Space};
-use crate::words::{FIRST_ROW, NUMBER, ROW_COUNT};
+use crate::words::{FIRST_ROW, NUMBER, ROW_COUNT, SEQUENCE};
 use page_types::{Call, Reply};
 use range_rw::Seat;
 use space_model::{Entry, Under};
 use std::marker::Brand;
-use std::sync::ledger::{Blank, Ledger};
+use std::sync::ledger::Ledger;
 use word_rows::Steps;
 
 impl Space {
-    /// Loads the row count, from 1 to `ROWS`. The caller is of this space and holds a range.
-    pub(crate) fn load_count<L: Ledger>(&self, caller: &mut Caller, steps: &mut Steps<L>) -> u64
+    /// Loads the row count, from 1 to `ROWS`. The caller is of this space, holds a range, and has written what it has
+    /// numbered.
+    pub(crate) fn load_count(&self, caller: &mut Caller) -> u64
         requires table { caller.old.seat.table ≡ self.now.table }
         requires held { IsSome caller.old.seat.held }
+        requires rest { IsAtRest caller.old.seat.pass }
         ensures step { IsClientStep caller.old.seat 2 (after_count result caller.old.seat.pass) caller.new.seat }
         ensures left { caller.new.left ≡ caller.old.left }
+        ensures rows { HasSameRows caller.old caller.new }
         ensures some { 0 < result }
         ensures few { result ≤ ROWS }
         ensures again { (n : ℕ) → caller.old.seat.pass.count ≡ Some n → result ≡ n }
-        ensures counted { steps.new ≡ steps.old + 1 }
     {
-        self.table
-            .load_as::<By<Brand>, L>(&mut caller.seat, ROW_COUNT, steps)
+        self.table.load::<By<Brand>>(&mut caller.seat, ROW_COUNT)
     }
 
-    /// Loads the word of a row, counted from 0. The caller is of this space and holds a range.
-    pub(crate) fn load_row<L: Ledger>(
-        &self,
-        caller: &mut Caller,
-        index: u32,
-        steps: &mut Steps<L>,
-    ) -> u64
+    /// Loads the word of a row, counted from 0. The caller is of this space, holds a range, and has written what it has
+    /// numbered. Where it holds everything, all rows that it has read, with this one, are a row list once there is no
+    /// other.
+    pub(crate) fn load_row(&self, caller: &mut Caller, index: u32) -> u64
         requires table { caller.old.seat.table ≡ self.now.table }
         requires held { IsSome caller.old.seat.held }
+        requires rest { IsAtRest caller.old.seat.pass }
         requires index { index < ROWS }
         ensures step { IsClientStep caller.old.seat (3 + index) (after_row index result caller.old.seat.pass) caller.new.seat }
         ensures left { caller.new.left ≡ caller.old.left }
+        ensures rows { HasSameRows caller.old caller.new }
         ensures first { index ≡ 0 → row_start result ≡ 0 }
         ensures below { (n : ℕ) → caller.old.seat.pass.count ≡ Some n → index < n → row_start result < LIMIT }
-        ensures counted { steps.new ≡ steps.old + 1 }
+        ensures whole { caller.old.seat.held ≡ Some everything → (rows : List ℕ) → HasRows caller.new.seat.pass rows → IsRowList rows }
     {
         self.table
-            .load_as::<By<Brand>, L>(&mut caller.seat, FIRST_ROW + index, steps)
-    }
-
-    /// Loads the number word. The caller is of this space.
-    fn load_number<L: Ledger>(&self, caller: &mut Caller, steps: &mut Steps<L>) -> u64
-        requires table { caller.old.seat.table ≡ self.now.table }
-        ensures look { IsLook caller.old.seat result caller.new.seat }
-        ensures left { caller.new.left ≡ caller.old.left }
-    {
-        self.table
-            .load_as::<By<Brand>, L>(&mut caller.seat, NUMBER, steps)
-    }
-
-    fn look_counting<L: Ledger>(&self, caller: &mut Caller, blank: Blank) -> u64
-        requires blank { (blank.name ≡ L.name) × (blank.parts ≡ L.parts) × (0 < L.parts) }
-        requires table { caller.old.seat.table ≡ self.now.table }
-        ensures look { IsLook caller.old.seat result caller.new.seat }
-        ensures left { caller.new.left ≡ caller.old.left }
-    {
-        let mut steps = Steps::<L>::new(blank);
-        self.load_number(caller, &mut steps)
+            .load::<By<Brand>>(&mut caller.seat, FIRST_ROW + index)
     }
 
     /// Loads the number word: how many entries the history has. The caller then has seen all of them, and what its
@@ -80,36 +65,97 @@ impl Space {
         requires table { caller.old.seat.table ≡ self.now.table }
         ensures look { IsLook caller.old.seat result caller.new.seat }
         ensures left { caller.new.left ≡ caller.old.left }
+        ensures rows { HasSameRows caller.old caller.new }
     {
-        self.look_counting::<Brand>(caller, Blank::new(1))
+        self.table.load::<By<Brand>>(&mut caller.seat, NUMBER)
     }
 
-    /// Draws a number for the entry that the note becomes. The call, with all that the note says of it, is an
-    /// argument so that the note can be picked from it.
-    fn draw_as<N: Noted, L: Ledger>(
+    /// Loads the sequence word. Where the caller, which is of this space, holds a range, it is the number of the
+    /// history's entries under everything, the caller's own aside where it isn't written yet; and it stays so until the
+    /// caller draws a number or gives the range back.
+    pub fn sequence(&self, caller: &mut Caller) -> u64
+        requires table { caller.old.seat.table ≡ self.now.table }
+        ensures counts { IsSome caller.old.seat.held → CountsWhole caller.new.seat result }
+        ensures reading { IsReading caller.old.seat caller.new.seat }
+        ensures left { caller.new.left ≡ caller.old.left }
+        ensures rows { HasSameRows caller.old caller.new }
+    {
+        self.table.load::<By<Brand>>(&mut caller.seat, SEQUENCE)
+    }
+
+    /// Draws a number for the entry that the note becomes, where a call under everything has these rows to write. The
+    /// call, with all that the note says of it, is an argument so that the note can be picked from it.
+    fn draw_as<N: Noted>(
         &self,
         seat: &mut Seat<RowGuard>,
         draft: &Entry,
-        steps: &mut Steps<L>,
+        read: &[u64],
+        plan: &[u64],
     ) -> u64
-        requires note { N.noted ≡ entry_note draft.now }
+        requires note { N.noted ≡ entry_note draft.now (pending_of draft.now.under (planned_rows read.now plan.now)) }
         requires table { seat.old.table ≡ self.now.table }
         requires worker { seat.old.number ≡ draft.now.worker }
         requires few { length seat.old.pass.mine + 1 < 2 ^ 32 }
-        requires fault { IsFault draft.now.call }
+        requires named { IsNamedCall draft.now.call }
+        requires rest { IsAtRest seat.old.pass }
         requires held { HoldsFor seat.old.held draft.now.under }
-        requires right { Shows seat.old (λ _ state. IsRight state draft.now.call draft.now.reply draft.now.under) }
-        ensures drawn { IsDrawn seat.old (record draft.now { number = result }) seat.new }
+        requires right { Shows seat.old (λ _ state. (left : List Area) × IsRight state draft.now.call draft.now.reply draft.now.under left × Leaves state draft.now.under (pending_of draft.now.under (planned_rows read.now plan.now)) left) }
+        ensures drawn { IsDrawn seat.old (record draft.now { number = result }) (pending_of draft.now.under (planned_rows read.now plan.now)) seat.new }
         ensures taken { seat.new.trace.taken ≡ seat.old.trace.taken + 1 }
-        ensures counted { steps.new ≡ steps.old + 1 }
     {
-        self.table.add_as::<By<N>, L>(seat, NUMBER, 1, steps)
+        self.table.add::<By<N>>(seat, NUMBER, 1)
     }
 
-    /// Draws the next number for a call of the caller, which is of this space, has a number left, and holds the range
-    /// that `under` names.
-    /// The call is a fault, and at the history's state it fits `under` and has this reply, as what the caller has
-    /// read shows.
+    /// The same as `number`, without a counter of steps.
+    pub(crate) fn draw(
+        &self,
+        caller: &mut Caller,
+        line: u32,
+        call: Call,
+        reply: Reply,
+        under: Under,
+    ) -> Entry
+        requires table { caller.old.seat.table ≡ self.now.table }
+        requires left { 0 < caller.old.left }
+        requires named { IsNamedCall call }
+        requires rest { IsAtRest caller.old.seat.pass }
+        requires held { HoldsFor caller.old.seat.held under }
+        requires right { MayNumber caller.old call reply under }
+        ensures line { result.line ≡ line }
+        ensures call { result.call ≡ call }
+        ensures reply { result.reply ≡ reply }
+        ensures under { result.under ≡ under }
+        ensures named { IsNamedReply result.reply }
+        ensures drawn { IsDrawn caller.old.seat result (pending_of under caller.old.plan) caller.new.seat }
+        ensures left { caller.new.left + 1 ≡ caller.old.left }
+        ensures rows { HasSameRows caller.old caller.new }
+        ensures write { under ≡ Whole → HasRows caller.old.seat.pass caller.old.read → HasToWrite caller.new }
+        ensures taken { caller.new.seat.trace.taken ≡ caller.old.seat.trace.taken + 1 }
+    {
+        let mut entry = Entry {
+            number: 0,
+            worker: caller.worker,
+            line,
+            call,
+            reply,
+            under,
+        };
+        entry.number = self.draw_as::<Brand>(
+            &mut caller.seat,
+            &entry,
+            caller.read.as_slice(),
+            caller.plan.as_slice(),
+        );
+        caller.mine.push_reserved(entry);
+        caller.left -= 1;
+        entry
+    }
+
+    /// Draws the next number for a call of the caller, which is of this space, has a number left, has written what it
+    /// has numbered, and holds the range that `under` names.
+    /// At the history's state the call fits `under` and has this reply, as what the caller has read shows. Under
+    /// everything the caller's last plan is of this call, was made under this held range, and nothing was numbered
+    /// since; `write_plan` is to follow.
     /// The entry goes to the caller's own, and is the last one that it has seen; what its range has shown was so of
     /// the state before it. One step.
     pub fn number<L: Ledger>(
@@ -123,30 +169,23 @@ impl Space {
     ) -> Entry
         requires table { caller.old.seat.table ≡ self.now.table }
         requires left { 0 < caller.old.left }
-        requires fault { IsFault call }
+        requires named { IsNamedCall call }
+        requires rest { IsAtRest caller.old.seat.pass }
         requires held { HoldsFor caller.old.seat.held under }
-        requires right { Shows caller.old.seat (λ _ state. IsRight state call reply under) }
+        requires right { MayNumber caller.old call reply under }
         ensures line { result.line ≡ line }
         ensures call { result.call ≡ call }
         ensures reply { result.reply ≡ reply }
         ensures under { result.under ≡ under }
         ensures named { IsNamedReply result.reply }
-        ensures drawn { IsDrawn caller.old.seat result caller.new.seat }
+        ensures drawn { IsDrawn caller.old.seat result (pending_of under caller.old.plan) caller.new.seat }
         ensures left { caller.new.left + 1 ≡ caller.old.left }
+        ensures rows { HasSameRows caller.old caller.new }
+        ensures write { under ≡ Whole → HasRows caller.old.seat.pass caller.old.read → HasToWrite caller.new }
         ensures taken { caller.new.seat.trace.taken ≡ caller.old.seat.trace.taken + 1 }
         ensures counted { steps.new ≡ steps.old + 1 }
     {
-        let mut entry = Entry {
-            number: 0,
-            worker: caller.worker,
-            line,
-            call,
-            reply,
-            under,
-        };
-        entry.number = self.draw_as::<Brand, L>(&mut caller.seat, &entry, steps);
-        caller.mine.push_reserved(entry);
-        caller.left -= 1;
-        entry
+        steps.tick();
+        self.draw(caller, line, call, reply, under)
     }
 }

@@ -4,7 +4,6 @@
 use Rattle.std.specs.Prelude.{ℕ, ◌≡◌, ◌<◌, ◌+◌, None}
 use Rattle.page_types.specs.declared.sets.Access.{Access}
 use Rattle.page_types.specs.declared.calls.Call.TheVariants.{Fault}
-use Rattle.page_types.specs.Named.{IsNamedReply}
 use Rattle.page_types.specs.Pages.{page_of}
 use Rattle.page_types.specs.PlainReply.{plain_reply}
 use Rattle.space_model.specs.declared.entries.Entry.{Entry}
@@ -12,8 +11,8 @@ use Rattle.lock_core.specs.declared.range.Held.{Held}
 use Rattle.lock_core.specs.declared.range.Mode.TheVariants.{Reader}
 use Rattle.range_rw.specs.Contract.{IsLockCall, IsCause}
 use Rattle.area_rows.specs.declared.answer.Answer.{Answer}
-use Rattle.area_rows.specs.declared.answer.Answer.TheVariants.{Given, Spent}
-use Rattle.area_rows.specs.Callers.{CallerView, IsNumbered}
+use Rattle.area_rows.specs.Callers.{CallerView}
+use Rattle.area_rows.specs.Called.{IsCalled, IsAnswered}
 use Rattle.range_rw.specs.declared.refusals.NotHeld.{NotHeld as Why}
 use Rattle.page_fault.specs.declared.faults.TriedFault.{TriedFault}
 use Rattle.page_fault.specs.declared.faults.TriedFault.TheVariants.{Answered, NotHeld, Spent as NoneLeft}
@@ -22,20 +21,14 @@ use Rattle.page_fault.specs.declared.faults.TriedFault.TheVariants.{Answered, No
 abbrev pub page_held : ℕ → Held
 page_held addr = record { range = record { lo = page_of addr; hi = page_of addr + 1 }; mode = Reader }
 
--- the fault got one entry, with this line and these arguments and with named bits alone, and one number of the caller
--- is used. The entry got the next number, which was drawn while the caller held what the entry names; the caller
--- holds what it held before
-pub record IsFaulted (before : CallerView) (line addr : ℕ) (access : Access) (e : Entry) (after : CallerView) : Type 0 where
-  pub line_is : e.line ≡ line
-  pub call : e.call ≡ Fault addr access
-  pub named : IsNamedReply e.reply
-  pub numbered : IsNumbered before.seat e after.seat
-  pub left : after.left + 1 ≡ before.left
+-- the fault got one entry, as each call that gives one: with this line and these arguments, and with the next number,
+-- which was drawn while the caller held what the entry names; the caller holds what it held before
+abbrev pub IsFaulted : CallerView → ℕ → ℕ → Access → Entry → CallerView → Type 0
+IsFaulted before line addr access e after = IsCalled before line (Fault addr access) e after
 
 -- the answer of a fault: an entry where a number is left, and otherwise nothing has changed
 abbrev pub IsAnswer : CallerView → ℕ → ℕ → Access → Answer → CallerView → Type 0
-IsAnswer before line addr access (Given e) after = (0 < before.left) × IsFaulted before line addr access e after
-IsAnswer before line addr access Spent after = (before.left ≡ 0) × (after ≡ before)
+IsAnswer before line addr access answer after = IsAnswered before line (Fault addr access) answer after
 
 -- the range wasn't got in one try, for this cause: the arguments don't decide the call, and what the caller knows is
 -- as before

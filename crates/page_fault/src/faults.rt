@@ -4,9 +4,9 @@
 ghost use Rattle.std.specs.Prelude.{◌≡◌, ◌<◌, ◌≤◌, ◌+◌, ◌*◌, Some, None};
 ghost use Rattle.page_types.specs.declared.TheConstants.{ROWS};
 ghost use Rattle.page_types.specs.declared.calls.Call.TheVariants.{Fault};
-ghost use Rattle.page_types.specs.Named.{IsNamedReply};
 ghost use Rattle.page_types.specs.PlainReply.{plain_reply};
-ghost use Rattle.area_rows.specs.Callers.{IsNumbered};
+ghost use Rattle.area_rows.specs.History.{IsAtRest};
+ghost use Rattle.area_rows.specs.Called.{IsCalled};
 ghost use Rattle.page_fault.specs.Faults.{page_held, IsFaulted, IsAnswer, IsTried};
 
 use area_rows::{Answer, Caller, Space};
@@ -54,14 +54,15 @@ fn number_plain<L: Ledger>(
     steps: &mut Steps<L>,
 ) -> Entry
     requires table { caller.old.seat.table ≡ space.now.table }
+    requires free { caller.old.seat.held ≡ None }
     requires left { 0 < caller.old.left }
     requires decided { plain_reply (Fault addr access) ≡ Some reply }
     ensures faulted { IsFaulted caller.old line addr access result caller.new }
     ensures bound { caller.new.seat.trace.taken ≤ caller.old.seat.trace.taken + 1 }
     ensures counted { steps.new + caller.old.seat.trace.taken ≡ steps.old + caller.new.seat.trace.taken }
 {
-    let call = Call::Fault { addr, access };
-    space.number(caller, line, call, reply, Under::Nothing, steps)
+    steps.tick();
+    space.call_plain(caller, line, Call::Fault { addr, access }, reply)
 }
 
 /// A fault whose page the caller holds: it reads the page's row, draws its number, and gives the page back.
@@ -80,11 +81,8 @@ fn number_held<L: Ledger>(
     requires lo { span.lo ≡ (page_held addr).range.lo }
     requires hi { span.hi ≡ (page_held addr).range.hi }
     requires held { caller.old.seat.held ≡ Some (page_held addr) }
-    ensures line { result.line ≡ line }
-    ensures call { result.call ≡ Fault addr access }
-    ensures named { IsNamedReply result.reply }
-    ensures numbered { IsNumbered (record caller.old.seat { held = None }) result caller.new.seat }
-    ensures left { caller.new.left + 1 ≡ caller.old.left }
+    requires rest { IsAtRest caller.old.seat.pass }
+    ensures called { IsCalled (record caller.old { seat = record caller.old.seat { held = None } }) line (Fault addr access) result caller.new }
     ensures bound { caller.new.seat.trace.taken ≤ caller.old.seat.trace.taken + (4 + ROWS) }
     ensures counted { steps.new + caller.old.seat.trace.taken ≡ steps.old + caller.new.seat.trace.taken }
 {

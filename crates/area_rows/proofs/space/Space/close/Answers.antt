@@ -1,11 +1,13 @@
-use Rattle.std.proofs.Common.{ℕ, List, [], map, length, sym, ap, ◌∙◌, subst, arith}
+use Rattle.std.specs.Prelude.{None, slice_index}
+use Rattle.std.proofs.Common.{replicate, ◌≤◌, ℕ, List, map, length, sym, ap, ◌∙◌, subst, arith}
+use Rattle.page_types.specs.declared.TheConstants.{ROWS}
 use Rattle.range_rw.specs.Contract.{pass_in}
 use Rattle.area_rows.specs.declared.guard.Pass.{Pass}
 use Rattle.area_rows.specs.declared.close.Kept.{Kept}
 use Rattle.area_rows.specs.History.{HasHistory}
 use Rattle.area_rows.specs.Callers.{AreIdle}
 use Rattle.area_rows.specs.Closing.{AreKept, callers_count, caller_pass}
-use Rattle.area_rows.proofs.Gathering.{closes_below}
+use Rattle.area_rows.proofs.Gathering.{closes_below, idle_rows}
 use Rattle.area_rows.proofs.Pairing.{pairs_length, pairs_passes, pairs_kept, seats_idle, join_ready}
 use Rattle.area_rows.proofs.space.Space.close.Goals as goal
 
@@ -20,14 +22,16 @@ collect-requires-clause-below c =
     let pairs = c.part-callers.ensures.pairs in
     let callers = c.args.callers.items in
     let kept : AreKept c.as_slice-in-Ok-close-2.result.now callers = subst (λ (l : List Kept). AreKept l callers) (sym c.as_slice-in-Ok-close-2.ensures.value) (pairs_kept _ _ callers pairs) in
-    closes_below c.in-Ok-close.words.items callers c.as_slice-in-Ok-close-2.result.now (map pass_in c.part-callers.result.1.items) _ (pairs_passes _ _ callers pairs) c.in-Ok-close.ensures.guard kept (c.in-Ok.ensures.entries ∙ ap callers_count c.as_slice.ensures.value)
+    closes_below _ c.in-Ok-close.words.items callers c.as_slice-in-Ok-close-2.result.now (map pass_in c.part-callers.result.1.items) _ (pairs_passes _ _ callers pairs) c.in-Ok-close.ensures.guard kept (c.in-Ok.ensures.entries ∙ ap callers_count c.as_slice.ensures.value)
 
 pub returns-in-Ok-close-clause-whole : goal.returns-in-Ok-close-clause-whole
 returns-in-Ok-close-clause-whole c =
     let pairs = c.part-callers.ensures.pairs in
     let callers = c.args.callers.items in
     let kept : AreKept c.as_slice-in-Ok-close-2.result.now callers = subst (λ (l : List Kept). AreKept l callers) (sym c.as_slice-in-Ok-close-2.ensures.value) (pairs_kept _ _ callers pairs) in
-    let history : HasHistory [] c.as_slice-in-Ok-close.result.now (map caller_pass callers) = subst (λ (z : List ℕ × List Pass). HasHistory [] z.0 z.1) (λ i. (sym c.as_slice-in-Ok-close.ensures.value i, pairs_passes _ _ callers pairs i)) c.in-Ok-close.ensures.guard in
+    let history : HasHistory (replicate (length callers) None) c.as_slice-in-Ok-close.result.now (map caller_pass callers) =
+    subst (λ (z : List ℕ × List Pass). HasHistory (replicate (length callers) None) z.0 z.1) (λ i. (sym c.as_slice-in-Ok-close.ensures.value i, pairs_passes _ _ callers pairs i))
+    (subst (λ (n : ℕ). HasHistory (replicate n None) c.in-Ok-close.words.items (map pass_in c.part-callers.result.1.items)) (sym (c.requires.count ∙ sym (ap (λ t. t.seats) c.self.view_is))) c.in-Ok-close.ensures.guard) in
     c.collect.ensures callers history kept (c.in-Ok.ensures.entries ∙ ap callers_count c.as_slice.ensures.value)
 
 pub join-requires : goal.join-requires
@@ -41,3 +45,8 @@ pub returns-in-Err-clause-refused : goal.returns-in-Err-clause-refused
 returns-in-Err-clause-refused c =
     let r = join_ready _ c.in-Err.field-0.seats.items _ c.args.callers.items c.in-Err.ensures.refused.1 c.part-callers.ensures.pairs in
     (c.in-Err.ensures.refused.0 ∙ c.self.view_is, c.join.ensures ∙ r.1)
+
+pub collect-requires-clause-few : goal.collect-requires-clause-few
+collect-requires-clause-few c =
+    let h = c.in-Ok-close.ensures.guard in
+    subst (λ (w : List ℕ). slice_index w 2 ≤ ROWS) (sym c.as_slice-in-Ok-close.ensures.value) (idle_rows _ h.0 h.1 h.2 c.in-Ok-close.words.items (map pass_in c.part-callers.result.1.items) h.3 h.4).few

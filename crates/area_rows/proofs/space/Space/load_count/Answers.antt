@@ -4,11 +4,21 @@ use Rattle.area_rows.specs.Callers.{CallerView}
 use Rattle.area_rows.proofs.Stepping.{may_count, counts}
 use Rattle.area_rows.proofs.space.Space.load_count.Goals as goal
 
-pub load_as-requires-clause-allowed : goal.load_as-requires-clause-allowed
-load_as-requires-clause-allowed g c = may_count no_note _ _ _ (search rules) c.caller.invariant.6
+pub load-requires-clause-allowed : goal.load-requires-clause-allowed
+load-requires-clause-allowed c = may_count no_note _ _ _ (search rules) c.caller.invariant.7
+
+pub returns-clause-some : goal.returns-clause-some
+returns-clause-some c =
+    let s = c.caller.inside.seat in
+    (counts no_note s.number s.held s.pass c.load.result c.load.new.seat.pass (search rules) c.caller.invariant.7 (search rules) c.load.ensures.made).1
+
+pub returns-clause-few : goal.returns-clause-few
+returns-clause-few c =
+    let s = c.caller.inside.seat in
+    (counts no_note s.number s.held s.pass c.load.result c.load.new.seat.pass (search rules) c.caller.invariant.7 (search rules) c.load.ensures.made).2
 
 pub returns-clause-again : goal.returns-clause-again
-returns-clause-again g c = λ n counted.
+returns-clause-again c = λ n counted.
     let s = c.caller.inside.seat in
-    let r = counts no_note s.number s.held s.pass c.load_as.result c.load_as.new.seat.pass c.load_as.ensures.made in
+    let r = counts no_note s.number s.held s.pass c.load.result c.load.new.seat.pass (search rules) c.caller.invariant.7 (search rules) c.load.ensures.made in
     r.3 n (ap (λ (v : CallerView). v.seat.pass.count) c.caller.view_is ∙ counted)

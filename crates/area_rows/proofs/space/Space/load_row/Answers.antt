@@ -1,14 +1,24 @@
-use Rattle.std.proofs.Common.{rules, ap, ◌∙◌}
+use Rattle.std.proofs.Common.{rules, ap, ◌∙◌, refl}
 use Rattle.area_rows.specs.Keeping.{no_note}
 use Rattle.area_rows.specs.Callers.{CallerView}
-use Rattle.area_rows.proofs.Stepping.{may_row, reads}
+use Rattle.area_rows.proofs.Stepping.{may_row, reads, reads_all}
 use Rattle.area_rows.proofs.space.Space.load_row.Goals as goal
 
-pub load_as-requires-clause-allowed : goal.load_as-requires-clause-allowed
-load_as-requires-clause-allowed g c = may_row no_note _ _ _ c.args.index c.requires.index (search rules) c.caller.invariant.6
+pub load-requires-clause-allowed : goal.load-requires-clause-allowed
+load-requires-clause-allowed c = may_row no_note _ _ _ c.args.index c.requires.index (search rules) c.caller.invariant.7
 
 pub returns-clause-below : goal.returns-clause-below
-returns-clause-below g c = λ n counted lt.
+returns-clause-below c = λ n counted lt.
     let s = c.caller.inside.seat in
-    let r = reads no_note s.number s.held s.pass c.load_as.result c.load_as.new.seat.pass c.args.index c.load_as.ensures.made in
+    let r = reads no_note s.number s.held s.pass c.load.result c.load.new.seat.pass c.args.index (search rules) c.caller.invariant.7 (search rules) c.load.ensures.made in
     r.2 n (ap (λ (v : CallerView). v.seat.pass.count) c.caller.view_is ∙ counted) lt
+
+pub returns-clause-first : goal.returns-clause-first
+returns-clause-first c =
+    let s = c.caller.inside.seat in
+    (reads no_note s.number s.held s.pass c.load.result c.load.new.seat.pass c.args.index (search rules) c.caller.invariant.7 (search rules) c.load.ensures.made).1
+
+pub returns-clause-whole : goal.returns-clause-whole
+returns-clause-whole c = λ all rows has.
+    let s = c.caller.inside.seat in
+    reads_all no_note s.number s.held s.pass c.load.result c.load.new.seat.pass c.args.index (ap (λ (v : CallerView). v.seat.held) c.caller.view_is ∙ all) (search rules) c.load.ensures.made c.load.new.seat.pass refl rows has

@@ -3,9 +3,9 @@ use Rattle.std.specs.Prelude.{slice_index}
 use Rattle.range_rw.specs.Contract.{Known}
 use Rattle.std.proofs.lemmas.List.Edits.{length-remove}
 use Rattle.area_rows.specs.declared.guard.Pass.{Pass}
-use Rattle.area_rows.specs.Callers.{CallerView, new_pass}
-use Rattle.area_rows.proofs.Beginning.{next_seat, seats_on, one_caller}
-use Rattle.area_rows.specs.Keeping.{none_is}
+use Rattle.area_rows.specs.Callers.{new_pass}
+use Rattle.area_rows.proofs.Beginning.{next_seat, seats_on, one_caller, new_caller}
+use Rattle.area_rows.specs.Parts.{none_is}
 use Rattle.area_rows.proofs.space.Space.seat_callers.Goals as goal
 
 pub invariant_of-push_reserved : goal.invariant_of-push_reserved
@@ -17,8 +17,10 @@ invariant_of-push_reserved c =
       search rules,
       search rules,
       search rules,
+      search rules,
+      search rules,
       λ h e. absurd (none_is h (sym (ap (λ (x : Known Pass). x.held) s) ∙ e)),
-      λ h e. absurd (none_is h (sym (ap (λ (x : Known Pass). x.held) s) ∙ e)),
+      λ _. ap (λ (x : Known Pass). x.pass.pending) s,
     )
 
 pub seats-preserved : goal.seats-preserved
@@ -32,6 +34,9 @@ seats-preserved c =
       room = search rules;
       count = search rules;
       sum = let left = length-remove c.seats.seats.items 0 some_left in let e = ap length c.remove-seat.ensures.items in let t = i.sum in omega arith;
-      new = rw c.push_reserved.ensures.items (one_caller table start c.args.calls.now c.seats.made.items _ c.seats.worker i.count i.new (ap (λ (x : Known Pass). let v : CallerView = record { seat = x; left = slice_index c.args.calls.now c.seats.worker } in v) s));
+      new =
+          let r = c.in_ok-read.ensures.items in
+          let p = c.in_ok-plan.ensures.items in
+          rw c.push_reserved.ensures.items (one_caller table start c.args.calls.now c.seats.made.items _ c.seats.worker i.count i.new (new_caller _ _ (slice_index c.args.calls.now c.seats.worker) _ _ s r p));
       rest = seats_on table (new_pass start) c.seats.worker c.seats.seats.items c.remove-seat.new.self.items i.rest c.remove-seat.ensures.items;
     }

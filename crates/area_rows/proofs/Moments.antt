@@ -1,0 +1,173 @@
+-- What is so at a moment of the running space of a caller that holds pages: nobody else has a plan to write, and the
+-- rows show the state at each held page.
+use Rattle.std.proofs.Common.{◌≡◌, ℕ, suc, ◌+◌, ◌<◌, ◌≤◌, List, [], ◌∷◌, drop, length, get_or, set, sym, refl, ap, ◌∙◌, subst, arith, ⊎_elim}
+use Rattle.std.proofs.lemmas.Bool.{false≢true}
+use Rattle.std.proofs.lemmas.List.{get_or-take, get_or-drop, length-take-le, length-drop}
+use Rattle.std.proofs.lemmas.List.Elements.{All-head, All-tail}
+use Rattle.std.proofs.lemmas.List.Sums.{sum_by-cons}
+use Rattle.std.specs.Prelude.{All, Option, Some, None, IsSome, slice_index}
+use mathlib.Core.Option.{some}
+use lib.ListN.{get_elem?}
+use Rattle.atomic_table.proofs.Lists.{at_set}
+use Rattle.page_types.specs.declared.TheConstants.{LIMIT, ROWS}
+use Rattle.page_types.specs.declared.calls.Kind.{Kind}
+use Rattle.lock_core.specs.declared.range.Held.{Held}
+use Rattle.lock_core.specs.Grants.{Grants, Holds, IsExclusive}
+use Rattle.lock_core.specs.Client.{Moment}
+use Rattle.range_rw.specs.Contract.{Known}
+use Rattle.space_model.specs.declared.areas.Area.{Area}
+use Rattle.space_model.specs.declared.entries.Entry.{Entry}
+use Rattle.space_model.specs.Areas.{kind_at}
+use Rattle.area_rows.specs.declared.guard.ReadRow.{ReadRow}
+use Rattle.area_rows.specs.declared.guard.Pass.{Pass}
+use Rattle.area_rows.specs.declared.guard.Pending.{Pending}
+use Rattle.area_rows.specs.declared.guard.Pending.TheVariants.{AtRest, Planned}
+use Rattle.area_rows.specs.RowWords.{row_start}
+use Rattle.area_rows.specs.Rows.{rows_in, rows_start, ShowFrom, RowsShow, IsBareGap, areas_from}
+use Rattle.area_rows.specs.Plans.{PlanShows, IsRowList}
+use Rattle.area_rows.specs.Reads.{everything, IsHeldPage, HasRead, StillStands}
+use Rattle.area_rows.specs.History.{planned_calls, own_planned, planned_count, LagsAt, IsShown, RowsStandFor, IsRunningSpace, HasHistory, HoldsPages, Backs, AreBacked, IsAtRest, Here}
+use Rattle.area_rows.specs.Callers.{IsHeldPages, IsMoment}
+use Rattle.area_rows.specs.Parts.{planned_set}
+use Rattle.area_rows.specs.Writes.{everything_pages, clash}
+use Rattle.area_rows.proofs.RowLists.{row_says, starts_low, areas_back}
+
+pub held_some : (held : Option Held) → IsSome held → (h : Held) × (held ≡ Some h)
+held_some None s = absurd (false≢true s)
+held_some (Some h) s = (h, refl)
+
+-- a range that is known to be held has pages
+pub held_pages : (grants : Grants) (seat : ℕ) (held : Option Held) → get_elem? grants seat ≡ some held → IsSome held → IsHeldPages held → HoldsPages grants seat
+held_pages grants seat held at some_held pages = let h = held_some held some_held in (h.0, at ∙ ap some h.1, pages h.0 h.1)
+
+-- the row words among the client words
+pub length-rows_in : (words : List ℕ) (kinds : ℕ → Option Kind) → RowsShow words kinds → length (rows_in words) ≡ slice_index words 2
+length-rows_in words kinds s =
+    let r = s.room in let f = s.few in let d = length-drop 3 words in
+    length-take-le (slice_index words 2) (drop 3 words) (omega arith)
+
+pub at_row : (words : List ℕ) (i : ℕ) → i < slice_index words 2 → get_or (rows_in words) i 0 ≡ slice_index words (3 + i)
+at_row words i l = get_or-take (slice_index words 2) (drop 3 words) i 0 l ∙ get_or-drop 3 words i 0
+
+first_start : (rows : List ℕ) (kinds : ℕ → Option Kind) → ShowFrom 0 rows kinds → 0 < length rows → row_start (get_or rows 0 0) ≡ 0
+first_start [] kinds s l = absurd (omega arith)
+first_start (w ∷ rest) kinds s l = s.0
+
+pub first_row : (words : List ℕ) (kinds : ℕ → Option Kind) → RowsShow words kinds → row_start (slice_index words 3) ≡ 0
+first_row words kinds s = let some = s.some in let l = length-rows_in words kinds s in ap row_start (sym (at_row words 0 some)) ∙ first_start (rows_in words) kinds s.show (omega arith)
+
+-- a row starts below the limit
+pub row_below : (words : List ℕ) (kinds : ℕ → Option Kind) (i : ℕ) → RowsShow words kinds → i < slice_index words 2 → row_start (slice_index words (3 + i)) < LIMIT
+row_below words kinds i s lt = let l = length-rows_in words kinds s in subst (λ w. row_start w < LIMIT) (at_row words i lt) (row_says 0 (rows_in words) kinds i s.show (omega arith)).below
+
+-- lists that agree at each place
+pub same_by : (a b : List ℕ) → length a ≡ length b → ((i : ℕ) → i < length b → get_or a i 0 ≡ get_or b i 0) → a ≡ b
+same_by [] [] l all = refl
+same_by [] (y ∷ ys) l all = absurd (omega arith)
+same_by (x ∷ xs) [] l all = absurd (omega arith)
+same_by (x ∷ xs) (y ∷ ys) l all =
+    let first : x ≡ y = all 0 (omega arith) in
+    let rest : xs ≡ ys = same_by xs ys (omega arith) (λ i lt. all (suc i) (omega arith)) in
+    λ i. first i ∷ rest i
+
+-- row words that are known one by one are all the rows that there are
+pub rows_known : (words rows : List ℕ) → length words ≡ 3 + ROWS → length rows ≤ ROWS → slice_index words 2 ≡ length rows → ((i : ℕ) → i < length rows → slice_index words (3 + i) ≡ slice_index rows i) → rows_in words ≡ rows
+rows_known words rows room few count all = same_by (rows_in words) rows
+    (length-take-le (slice_index words 2) (drop 3 words) (let d = length-drop 3 words in omega arith) ∙ count)
+    (λ i lt. at_row words i (omega arith) ∙ all i lt)
+
+-- rows that show kinds show others that are the same below the limit
+shows_agree : (page : ℕ) (rows : List ℕ) (kinds other : ℕ → Option Kind) → ((p : ℕ) → p < LIMIT → other p ≡ kinds p) → ShowFrom page rows kinds → ShowFrom page rows other
+shows_agree page [] kinds other same s = s
+shows_agree page (w ∷ rest) kinds other same s =
+    let l = starts_low (rows_start rest) rest kinds s.4 in
+    (s.0, s.1, s.2, λ p from below. same p (omega arith) ∙ s.3 p from below, shows_agree (rows_start rest) rest kinds other same s.4)
+
+pub rows_agree : (words : List ℕ) (kinds other : ℕ → Option Kind) → ((p : ℕ) → p < LIMIT → other p ≡ kinds p) → RowsShow words kinds → RowsShow words other
+rows_agree words kinds other same s = record { room = s.room; some = s.some; few = s.few; show = shows_agree 0 (rows_in words) kinds other same s.show; gaps = s.gaps }
+
+-- rows that show the kinds of an area list are that list's
+pub row_list : (rows : List ℕ) (A : List Area) → PlanShows rows (kind_at A) → areas_from rows ≡ A → IsRowList rows
+row_list rows A shows is = subst (λ (B : List Area). PlanShows rows (kind_at B)) (sym is) shows
+
+-- a row that was read stands still
+pub stands : (held : Option Held) (words : List ℕ) (rows : List ReadRow) (i w : ℕ) → All (StillStands held words) rows → HasRead rows i w → StillStands held words (record { index = i; word = w })
+stands held words [] i w all h = absurd h
+stands held words (r ∷ rest) i w all h = ⊎_elim
+    (λ t. subst (λ (z : ℕ × ℕ). StillStands held words (record { index = z.0; word = z.1 })) (λ k. (t.0 k, t.1 k)) (All-head (StillStands held words) r rest all))
+    (λ t. stands held words rest i w (All-tail (StillStands held words) r rest all) t) h
+
+pub none_planned : (passes : List Pass) → ((other : ℕ) (x : Pass) → get_elem? passes other ≡ some x → planned_calls x.pending ≡ 0) → planned_count passes ≡ 0
+none_planned [] all = refl
+none_planned (x ∷ xs) all = let a = all 0 x refl in let r = none_planned xs (λ other y at. all (suc other) y at) in let s = sum_by-cons own_planned x xs in omega arith
+
+rest_of_other : (grants : Grants) (state : List Area) (worker other : ℕ) (pending : Pending) → IsExclusive grants → (other ≡ worker → ⊥) → HoldsPages grants worker → Backs grants state other pending → planned_calls pending ≡ 0
+rest_of_other grants state worker other AtRest exclusive differ h b = refl
+rest_of_other grants state worker other (Planned rows) exclusive differ h b = absurd (clash grants other worker exclusive (λ e. differ (sym e)) b.0 h)
+
+module _ (grants : Grants) (words : List ℕ) (state : List Area) (passes : List Pass) (worker : ℕ) (p : Pass)
+    (exclusive : IsExclusive grants) (backed : AreBacked grants words state passes) (at : get_elem? passes worker ≡ some p) where
+  -- while a caller holds pages no other has a plan to write
+  pub only_own_plan : HoldsPages grants worker → planned_count passes ≡ planned_calls p.pending
+  only_own_plan h =
+      let rests : Pass = record p { pending = AtRest } in
+      let all : (other : ℕ) (x : Pass) → get_elem? (set passes worker rests) other ≡ some x → planned_calls x.pending ≡ 0 = λ other x there. ⊎_elim
+      (λ t. ap (λ (z : Pass). planned_calls z.pending) (sym t.1))
+      (λ t. rest_of_other grants state worker other x.pending exclusive t.0 h (backed other x t.1).pending)
+      (at_set passes worker other rests x there) in
+      let none = none_planned (set passes worker rests) all in
+      let s : planned_count (set passes worker rests) + planned_calls p.pending ≡ planned_count passes + 0 = planned_set passes worker p rests at in
+      omega arith
+
+  pub nobody_plans : IsAtRest p → HoldsPages grants worker → planned_count passes ≡ 0
+  nobody_plans rest h = only_own_plan h ∙ ap planned_calls rest
+
+  -- no row lags behind at a page that a caller at rest holds
+  pub keeps_off : IsAtRest p → (held : Option Held) → get_elem? grants worker ≡ some held → (page : ℕ) → IsHeldPage held page → (other : ℕ) (pending : Pending) → Backs grants state other pending → LagsAt pending page → ⊥
+  keeps_off rest held has page here other AtRest b lags = lags
+  keeps_off rest held has page here other (Planned rows) b lags = lags
+
+  -- so the rows show the state there
+  pub shows_held : IsAtRest p → (held : Option Held) → get_elem? grants worker ≡ some held → (kinds : ℕ → Option Kind) → IsShown state passes kinds → (page : ℕ) → IsHeldPage held page → kinds page ≡ kind_at state page
+  shows_held rest held has kinds shown page here = shown.elsewhere page (λ other x there lags. keeps_off rest held has page here other x.pending (backed other x there).pending lags)
+
+-- every page is held where everything is
+in_everything : (page : ℕ) → page < LIMIT → IsHeldPage (Some everything) page
+in_everything page low = (everything, refl, omega arith, low)
+
+-- where a caller at rest holds everything and knows all row words, they show the state
+pub rows_are : (grants : Grants) (start : List Area) (history : List Entry) (state : List Area) (words : List ℕ) (passes : List Pass) (worker : ℕ) (p : Pass) (rows : List ℕ) → IsRunningSpace start history state words passes → AreBacked grants words state passes → IsExclusive grants → get_elem? passes worker ≡ some p
+    → Holds grants worker everything → IsAtRest p → slice_index words 2 ≡ length rows → ((i : ℕ) → i < length rows → slice_index words (3 + i) ≡ slice_index rows i) → PlanShows rows (kind_at state) × (areas_from rows ≡ state)
+rows_are grants start history state words passes worker p rows r backed exclusive at held rest count all =
+    let pages : HoldsPages grants worker = (everything, held, everything_pages) in
+    let s : RowsStandFor state passes words = r.rows (nobody_plans grants words state passes worker p exclusive backed at rest pages) in
+    let few = s.2.few in
+    let some_row = s.2.some in
+    let is : rows_in words ≡ rows = rows_known words rows r.room (omega arith) count all in
+    let agree : (page : ℕ) → page < LIMIT → kind_at state page ≡ s.0 page = λ page low. sym (shows_held grants words state passes worker p exclusive backed at rest (Some everything) held s.0 s.1 page (in_everything page low)) in
+    let show : ShowFrom 0 rows (kind_at state) = shows_agree 0 rows s.0 (kind_at state) agree (subst (λ (l : List ℕ). ShowFrom 0 l s.0) is s.2.show) in
+    let gaps : All IsBareGap rows = subst (All IsBareGap) is s.2.gaps in
+    (record { some = omega arith; few = omega arith; show = show; gaps = gaps }, areas_back rows state show r.in_order)
+
+-- the moment of a step
+abbrev pub here_at : (grants : Grants) (words : List ℕ) (passes : List Pass) (seat : ℕ) (held : Option Held) (pass : Pass) → Moment HasHistory seat held pass grants words passes → Here grants words passes seat
+here_at grants words passes seat held pass m = record { start = m.met.0; history = m.met.1; state = m.met.2; pass = pass; running = m.met.3; backed = m.met.4; exclusive = m.exclusive; own = m.own }
+
+-- the moment of a step, as its caller's seat has it
+pub moment_of : (grants : Grants) (words : List ℕ) (passes : List Pass) (seat : ℕ) (here : Here grants words passes seat) (s : Known Pass) → get_elem? grants seat ≡ some s.held → s.number ≡ seat → here.pass ≡ s.pass → IsMoment s s.pass.start here.history here.state words
+moment_of grants words passes seat here s granted n same = record {
+  grants = grants;
+  passes = passes;
+  pass = here.pass;
+  running = subst (λ a. IsRunningSpace a here.history here.state words passes) (sym (here.running.parts seat here.pass here.own).began ∙ ap (λ (x : Pass). x.start) same) here.running;
+  backed = here.backed;
+  exclusive = here.exclusive;
+  granted = ap (get_elem? grants) n ∙ granted;
+  own = ap (get_elem? passes) n ∙ here.own;
+  read = record {
+    count = λ k e. ap (λ (x : Pass). x.count) same ∙ e;
+    rows = λ index word h. subst (λ (x : Pass). HasRead x.rows index word) (sym same) h;
+    sequence = λ k e. ap (λ (x : Pass). x.sequence) same ∙ e;
+    pending = ap (λ (x : Pass). x.pending) same;
+  };
+}

@@ -1,0 +1,21 @@
+use Rattle.std.proofs.Common.{sym, subst}
+use Rattle.space_model.specs.declared.entries.Under.{Under}
+use Rattle.area_rows.specs.Called.{IsLastStep}
+use Rattle.area_rows.proofs.Wholes.{plain_right, last_drawn}
+use Rattle.area_rows.proofs.space.Space.call_plain.Goals as goal
+
+pub draw-requires-clause-right : goal.draw-requires-clause-right
+draw-requires-clause-right c = plain_right c.args.caller.now c.args.call c.args.reply c.requires.decided
+
+pub returns-clause-called : goal.returns-clause-called
+returns-clause-called c =
+    let f = c.draw.ensures in
+    record {
+      line_is = f.line;
+      call_is = f.call;
+      named = f.named;
+      numbered = f.drawn.numbered;
+      last = subst (λ (u : Under). IsLastStep c.args.caller.now.seat u c.draw.new.caller.seat) (sym f.under) (last_drawn _ _ _ _ f.drawn);
+      written = f.drawn.writes;
+      left = f.left;
+    }

@@ -1,0 +1,14 @@
+use Rattle.std.proofs.Common.{subst}
+use Rattle.area_rows.specs.Keeping.{no_note}
+use Rattle.area_rows.specs.Callers.{CallerView, IsLook}
+use Rattle.area_rows.proofs.Stepping.{may_look, look_is}
+use Rattle.area_rows.proofs.space.Space.look.Goals as goal
+
+pub load-requires-clause-allowed : goal.load-requires-clause-allowed
+load-requires-clause-allowed c = may_look no_note _ _ _
+
+pub returns-clause-look : goal.returns-clause-look
+returns-clause-look c =
+    let s = c.caller.inside.seat in
+    let u = c.load.new.seat in
+    subst (λ (v : CallerView). IsLook v.seat c.load.result u) c.caller.view_is (look_is s u c.load.result c.load.ensures.call c.load.ensures.made)

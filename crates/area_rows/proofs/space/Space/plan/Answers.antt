@@ -1,0 +1,19 @@
+use Rattle.std.proofs.Common.{ℕ, List, ◌∙◌, ap, sym, subst}
+use Rattle.range_rw.specs.Contract.{Known}
+use Rattle.area_rows.specs.declared.guard.Pass.{Pass}
+use Rattle.area_rows.specs.Rows.{areas_from}
+use Rattle.area_rows.specs.Plans.{IsPlan}
+use Rattle.area_rows.specs.Reads.{HasRows}
+use Rattle.area_rows.proofs.Wholes.{plan_shows}
+use Rattle.area_rows.proofs.space.Space.plan.Goals as goal
+
+pub returns-clause-planned : goal.returns-clause-planned
+returns-clause-planned c =
+    let r = c.read_rows.ensures in
+    let e = c.plan_call.ensures in
+    let p = c.plan_call.result in
+    plan_shows c.plan_call.new.self c.args.call.now p.reply p.rows
+    (ap (λ (k : Known Pass). k.held) e.seat ∙ (r.reading.held ∙ c.requires.held))
+    (ap (λ (k : Known Pass). k.pass.pending) e.seat ∙ (r.reading.read.pending ∙ c.requires.rest))
+    (subst (λ (z : Known Pass × List ℕ). HasRows z.0.pass z.1) (λ i. (sym e.seat i, sym e.read i)) r.rows)
+    (subst (λ (l : List ℕ). IsPlan c.args.call.now p.reply p.rows c.plan_call.new.self.plan (areas_from l)) (sym e.read) e.plan)

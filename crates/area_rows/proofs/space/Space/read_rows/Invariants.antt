@@ -1,0 +1,14 @@
+use Rattle.std.proofs.Common.{◌-◌, ◌≡◌}
+use Rattle.std.specs.Prelude.{Some}
+use Rattle.area_rows.specs.Reads.{everything}
+use Rattle.area_rows.proofs.Wholes.{IsReadSoFar}
+use Rattle.area_rows.proofs.space.Space.read_rows.Given as goal
+
+abbrev pub invariant-rows : goal.invariant-rows
+invariant-rows l = record {
+  so_far : IsReadSoFar l.initial.caller l.caller l.count l.index;
+  held : l.caller.seat.held ≡ Some everything;
+}
+
+abbrev pub decreases-rows : goal.decreases-rows
+decreases-rows l = l.count - l.index

@@ -1,0 +1,21 @@
+use Rattle.std.proofs.Common.{subst}
+use Rattle.std.specs.Prelude.{IsSome}
+use Rattle.area_rows.specs.Keeping.{no_note}
+use Rattle.area_rows.specs.Callers.{CallerView, IsReading, CountsWhole}
+use Rattle.area_rows.proofs.Stepping.{may_sequence, sequence_is}
+use Rattle.area_rows.proofs.space.Space.sequence.Goals as goal
+
+pub load-requires-clause-allowed : goal.load-requires-clause-allowed
+load-requires-clause-allowed c = may_sequence no_note _ _ _ c.caller.invariant.7
+
+pub returns-clause-reading : goal.returns-clause-reading
+returns-clause-reading c =
+    let s = c.caller.inside.seat in
+    let u = c.load.new.seat in
+    subst (λ (v : CallerView). IsReading v.seat u) c.caller.view_is (sequence_is s u c.load.result c.caller.invariant.7 c.load.ensures.call c.load.ensures.made).0
+
+pub returns-clause-counts : goal.returns-clause-counts
+returns-clause-counts c =
+    let s = c.caller.inside.seat in
+    let u = c.load.new.seat in
+    subst (λ (v : CallerView). IsSome v.seat.held → CountsWhole u c.load.result) c.caller.view_is (sequence_is s u c.load.result c.caller.invariant.7 c.load.ensures.call c.load.ensures.made).1

@@ -1,0 +1,193 @@
+-- That a draw of a number keeps the rule: the history grows by the entry, and what its call leaves is to be written.
+-- These are parts of the proofs in `Keeping`; a reader who trusts the check may pass them over.
+use Rattle.std.specs.Prelude.{Option, slice_index}
+use Rattle.std.proofs.Common.{◌≡◌, ◌≢◌, ℕ, ◌+◌, ◌%◌, ◌^◌, ◌<◌, inl, inr, List, [], ◌∷◌, ◌++◌, length, set, sym, refl, ap, ◌∙◌, subst, arith, length-set, length-append, append_assoc, ⊎_elim}
+use Rattle.std.proofs.lemmas.List.{append-nil, get_or-set_same, get_or-set_other}
+use Rattle.std.proofs.lemmas.List.Elements.{All-nil}
+use mathlib.Core.Option.{some}
+use lib.ListN.{get_elem?}
+use Rattle.atomic_table.proofs.Lists.{at_set}
+use Rattle.lock_core.proofs.ByPlace.{below}
+use Rattle.page_types.specs.Named.{IsNamedCall, IsNamedReply}
+use Rattle.space_model.specs.declared.areas.Area.{Area as Areas}
+use Rattle.space_model.specs.declared.entries.Entry.{Entry}
+use Rattle.space_model.specs.declared.entries.Under.{Under}
+use Rattle.space_model.specs.declared.entries.Under.TheVariants.{Nothing, Reader, Area, Whole}
+use Rattle.space_model.specs.Areas.{kind_at}
+use Rattle.space_model.specs.Answers.{Answers}
+use Rattle.space_model.specs.Held.{FitsUnder}
+use Rattle.space_model.proofs.Histories.{numbered_more, chains_more}
+use Rattle.space_model.proofs.SomeAnswer.{leaves_areas}
+use Rattle.lock_core.specs.Grants.{Grants, Holds, IsExclusive}
+use Rattle.lock_core.specs.Client.{adds, words_after}
+use Rattle.lock_core.specs.declared.range.Held.{Held}
+use Rattle.area_rows.specs.declared.guard.Pass.{Pass}
+use Rattle.area_rows.specs.declared.guard.Pending.{Pending}
+use Rattle.area_rows.specs.declared.guard.Pending.TheVariants.{AtRest, Planned}
+use Rattle.area_rows.specs.Plans.{PlanShows}
+use Rattle.area_rows.specs.Reads.{everything, StillStands}
+use Rattle.area_rows.specs.History.{FitsAndReplies, Runs, with_whole, IsPart, planned_calls, planned_count, IsShown, RowsStandFor, IsRunningSpace, Backs, IsBacked, AreBacked, HoldsFor, Leaves, after_draw}
+use Rattle.area_rows.specs.Replies.{all_more, reply_named, left_named}
+use Rattle.area_rows.specs.Stands.{all_stand, same_low, low_rows, shown_set}
+use Rattle.area_rows.specs.Parts.{own_more, own_same, count_set, no_wrap, whole_more, planned_set, resting_of, none_is}
+use Rattle.area_rows.specs.Writes.{everything_pages, clash}
+
+-- one entry more
+pub runs_more : (history : List Entry) (n : ℕ) (A B C : List Areas) (e : Entry) → Runs n A history B → e.number ≡ n + length history → FitsUnder B e.call e.under → Answers B e.call e.reply C → Runs n A (history ++ e ∷ []) C
+runs_more history n A B C e r num fits answers = (numbered_more n history e r.0 num, chains_more FitsAndReplies A history B e C r.1 (fits, answers))
+
+-- what is to be written goes with what is held
+leaves_counts : (state left : List Areas) (under : Under) (pending : Pending) → Leaves state under pending left → with_whole under 0 ≡ planned_calls pending
+leaves_counts state left Nothing AtRest l = refl
+leaves_counts state left (Reader span) AtRest l = refl
+leaves_counts state left (Area span) AtRest l = absurd l
+leaves_counts state left Whole AtRest l = absurd l
+leaves_counts state left Nothing (Planned rows) l = absurd l
+leaves_counts state left (Reader span) (Planned rows) l = absurd l
+leaves_counts state left (Area span) (Planned rows) l = absurd l
+leaves_counts state left Whole (Planned rows) l = refl
+
+-- where nothing is to be written nothing has changed
+leaves_same : (state left : List Areas) (under : Under) → Leaves state under AtRest left → left ≡ state
+leaves_same state left Nothing l = l
+leaves_same state left (Reader span) l = l
+leaves_same state left (Area span) l = absurd l
+leaves_same state left Whole l = absurd l
+
+-- a plan is of a call under everything
+leaves_plan : (state left : List Areas) (under : Under) (rows : List ℕ) → Leaves state under (Planned rows) left → (under ≡ Whole) × PlanShows rows (kind_at left)
+leaves_plan state left Nothing rows l = absurd l
+leaves_plan state left (Reader span) rows l = absurd l
+leaves_plan state left (Area span) rows l = absurd l
+leaves_plan state left Whole rows l = (refl, l)
+
+module _ (history : List Entry) (e : Entry) (held : Option Held) (p : Pass) where
+  pub draw_pending : (pending : Pending) → (after_draw history e pending held p).pending ≡ pending
+  draw_pending AtRest = refl
+  draw_pending (Planned rows) = refl
+
+  pub draw_mine : (pending : Pending) → (after_draw history e pending held p).mine ≡ p.mine ++ e ∷ []
+  draw_mine AtRest = refl
+  draw_mine (Planned rows) = refl
+
+  pub draw_seen : (pending : Pending) → (after_draw history e pending held p).seen ≡ history ++ e ∷ []
+  draw_seen AtRest = refl
+  draw_seen (Planned rows) = refl
+
+  pub draw_start : (pending : Pending) → (after_draw history e pending held p).start ≡ p.start
+  draw_start AtRest = refl
+  draw_start (Planned rows) = refl
+
+  pub draw_drew : (pending : Pending) → (after_draw history e pending held p).drew ≡ held
+  draw_drew AtRest = refl
+  draw_drew (Planned rows) = refl
+
+-- another caller's part, or the caller's own
+others_part : (start : List Areas) (history : List Entry) (words : List ℕ) (value worker : ℕ) (p : Pass) (e : Entry) → e.worker ≢ worker → IsPart start history words worker p → IsPart start (history ++ e ∷ []) (set words 0 value) worker p
+others_part start history words value worker p e differ own = record {
+  began = own.began;
+  seen = (own.seen.0 ++ e ∷ [], ap (λ l. l ++ e ∷ []) own.seen.1 ∙ append_assoc p.seen own.seen.0 (e ∷ []));
+  mine = own_same worker history e differ ∙ own.mine;
+  few = own.few;
+  count = λ n c. get_or-set_other words 0 2 value 0 (λ same. omega arith) ∙ own.count n c;
+  sequence = λ n c. get_or-set_other words 0 1 value 0 (λ same. omega arith) ∙ own.sequence n c;
+}
+
+own_part : (start : List Areas) (history : List Entry) (words : List ℕ) (value worker : ℕ) (p : Pass) (e : Entry) (pending : Pending) (held : Option Held) → e.worker ≡ worker → length p.mine + 1 < 2 ^ 32 → IsPart start history words worker p → IsPart start (history ++ e ∷ []) (set words 0 value) worker (after_draw history e pending held p)
+own_part start history words value worker p e AtRest held is few own = record {
+  began = own.began;
+  seen = ([], sym (append-nil (history ++ e ∷ [])));
+  mine = own_more worker history e is ∙ ap (λ l. l ++ e ∷ []) own.mine;
+  few = let l = length-append p.mine (e ∷ []) in omega arith;
+  count = λ n none. absurd (none_is n none);
+  sequence = λ n none. absurd (none_is n none);
+}
+own_part start history words value worker p e (Planned rows) held is few own = record {
+  began = own.began;
+  seen = ([], sym (append-nil (history ++ e ∷ [])));
+  mine = own_more worker history e is ∙ ap (λ l. l ++ e ∷ []) own.mine;
+  few = let l = length-append p.mine (e ∷ []) in omega arith;
+  count = λ n c. get_or-set_other words 0 2 value 0 (λ same. omega arith) ∙ own.count n c;
+  sequence = λ n c. get_or-set_other words 0 1 value 0 (λ same. omega arith) ∙ own.sequence n c;
+}
+
+-- what the rows show after a draw, where no plan is to be written
+shown_drawn : (history : List Entry) (state left : List Areas) (words : List ℕ) (passes : List Pass) (worker value : ℕ) (p : Pass) (e : Entry) (pending : Pending) (held : Option Held) → get_elem? passes worker ≡ some p → p.pending ≡ AtRest → Leaves state e.under pending left
+    → planned_calls pending ≡ 0 → RowsStandFor state passes words → RowsStandFor left (set passes worker (after_draw history e pending held p)) (set words 0 value)
+shown_drawn history state left words passes worker value p e AtRest held at rest leaves none s =
+    let q : Pass = after_draw history e AtRest held p in (
+      s.0,
+      subst (λ (A : List Areas). IsShown A (set passes worker q) s.0) (sym (leaves_same state left e.under leaves)) (shown_set state passes worker p q s.0 at (sym rest) s.1),
+      low_rows words 0 value s.0 (omega arith) s.2,
+    )
+shown_drawn history state left words passes worker value p e (Planned rows) held at rest leaves none s = absurd (omega arith)
+
+-- a draw of a number
+module _ (grants : Grants) (start : List Areas) (history : List Entry) (state left : List Areas) (words : List ℕ) (passes : List Pass) (worker : ℕ) (p : Pass) (e : Entry) (pending : Pending) (held : Option Held)
+    (r : IsRunningSpace start history state words passes) (at : get_elem? passes worker ≡ some p) (num : e.number ≡ length history) (is : e.worker ≡ worker)
+    (leaves : Leaves state e.under pending left) (rest : p.pending ≡ AtRest) where
+  pub drawn : IsNamedCall e.call → FitsUnder state e.call e.under → Answers state e.call e.reply left → length p.mine + 1 < 2 ^ 32 → IsRunningSpace start (history ++ e ∷ []) left (words_after words (adds 0 1)) (set passes worker (after_draw history e pending held p))
+  drawn call fits answers few =
+      let q : Pass = after_draw history e pending held p in
+      let value = (slice_index words 0 + 1) % 2 ^ 64 in
+      let wide : length (set passes worker q) ≡ length passes = length-set passes worker q in
+      let more : length (history ++ e ∷ []) ≡ length history + 1 = length-append history (e ∷ []) in
+      let pends : planned_count (set passes worker q) ≡ planned_count passes + planned_calls pending = let s = planned_set passes worker p q at in let z = resting_of p.pending rest in let c = ap planned_calls (draw_pending history e held p pending) in omega arith in
+      let grown : length q.mine ≡ length p.mine + 1 = ap length (draw_mine history e held p pending) ∙ length-append p.mine (e ∷ []) in
+      let room = r.room in
+      let there : 0 < length words = omega arith in
+      record {
+        callers = let c = r.callers in omega arith;
+        runs = runs_more history 0 start state left e r.runs (let z : length history ≡ 0 + length history = omega arith in num ∙ z) fits answers;
+        calls = all_more (λ (x : Entry). IsNamedCall x.call) history e r.calls call;
+        replies = all_more (λ (x : Entry). IsNamedReply x.reply) history e r.replies (reply_named state left e.call e.reply r.named answers);
+        in_order = leaves_areas state e.call e.reply left r.in_order answers;
+        named = left_named state left e.call e.reply r.named call answers;
+        number = let g : slice_index (set words 0 value) 0 ≡ value = get_or-set_same words 0 value 0 there in let n = r.number in let w = no_wrap start history state words passes r in omega arith;
+        sequence = let g : slice_index (set words 0 value) 1 ≡ slice_index words 1 = get_or-set_other words 0 1 value 0 (λ same. omega arith) in let s = r.sequence in let m = whole_more history e in let c = leaves_counts state left e.under pending leaves in omega arith;
+        room = length-set words 0 value ∙ r.room;
+        rows = λ none. shown_drawn history state left words passes worker value p e pending held at rest leaves (omega arith) (r.rows (omega arith));
+        parts = λ other x there. ⊎_elim
+            (λ t. subst (λ (z : ℕ × Pass). IsPart start (history ++ e ∷ []) (set words 0 value) z.0 z.1) (λ i. (sym t.0 i, t.1 i)) (own_part start history words value worker p e pending held is few (r.parts worker p at)))
+            (λ t. others_part start history words value other x e (λ w. t.0 (sym w ∙ is)) (r.parts other x t.1))
+            (at_set passes worker other q x there);
+        no_other = λ other le. let b = below passes worker p at in own_same other history e (λ w. omega arith) ∙ r.no_other other (omega arith);
+        total = let s = count_set passes worker p q 1 at grown in let t = r.total in omega arith;
+      }
+
+-- the rule's part on grants, after a draw
+module _ (grants : Grants) (state left : List Areas) (words : List ℕ) (value : ℕ) where
+  -- a caller that makes no step
+  other_backed : (worker : ℕ) (x : Pass) → Backs grants left worker x.pending → IsBacked grants words state worker x → IsBacked grants (set words 0 value) left worker x
+  other_backed worker x backs b = record {
+    reads = b.reads;
+    rows = λ held has. all_stand held words (set words 0 value) (same_low words 0 value (omega arith)) x.rows (b.rows held has);
+    pending = backs;
+  }
+
+  -- nobody else has a plan where one caller holds everything
+  others_rest : (worker other : ℕ) (pending : Pending) → IsExclusive grants → other ≢ worker → Holds grants worker everything → Backs grants state other pending → Backs grants left other pending
+  others_rest worker other AtRest exclusive differ held b = tt
+  others_rest worker other (Planned rows) exclusive differ held b = absurd (clash grants worker other exclusive differ held (everything, b.0, everything_pages))
+
+  held_whole : (worker : ℕ) (h : Option Held) (under : Under) → under ≡ Whole → get_elem? grants worker ≡ some h → HoldsFor h under → Holds grants worker everything
+  held_whole worker h under whole at holds = let is : HoldsFor h Whole = subst (HoldsFor h) whole holds in at ∙ ap some is
+
+  pub drawn_backed : (history : List Entry) (passes : List Pass) (worker : ℕ) (p : Pass) (e : Entry) (under : Under) (pending : Pending) (h : Option Held) → AreBacked grants words state passes → IsExclusive grants → get_elem? passes worker ≡ some p
+      → get_elem? grants worker ≡ some h → HoldsFor h under → Leaves state under pending left → AreBacked grants (set words 0 value) left (set passes worker (after_draw history e pending h p))
+  drawn_backed history passes worker p e under AtRest h all exclusive at has holds leaves other x there =
+      ⊎_elim
+      (λ t. subst (λ (z : ℕ × Pass). IsBacked grants (set words 0 value) left z.0 z.1) (λ i. (sym t.0 i, t.1 i)) (record { reads = inl (refl, refl, refl); rows = λ held own. All-nil (StillStands held (set words 0 value)); pending = tt }))
+      (λ t. other_backed other x (subst (λ (A : List Areas). Backs grants A other x.pending) (sym (leaves_same state left under leaves)) (all other x t.1).pending) (all other x t.1))
+      (at_set passes worker other (after_draw history e AtRest h p) x there)
+  drawn_backed history passes worker p e under (Planned rows) h all exclusive at has holds leaves other x there =
+      let plan = leaves_plan state left under rows leaves in
+      let own = held_whole worker h under plan.0 has holds in
+      ⊎_elim
+      (λ t. subst (λ (z : ℕ × Pass). IsBacked grants (set words 0 value) left z.0 z.1) (λ i. (sym t.0 i, t.1 i)) (record {
+        reads = inr (everything, own, everything_pages);
+        rows = λ held mine. all_stand held words (set words 0 value) (same_low words 0 value (omega arith)) p.rows ((all worker p at).rows held mine);
+        pending = (own, plan.1);
+      }))
+      (λ t. other_backed other x (others_rest worker other x.pending exclusive t.0 own (all other x t.1).pending) (all other x t.1))
+      (at_set passes worker other (after_draw history e (Planned rows) h p) x there)

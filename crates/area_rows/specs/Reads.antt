@@ -1,0 +1,38 @@
+-- What a caller has read of rows under its range, and what is so of it while others change rows beside that range. A
+-- row's boundary may move there, but never over a held page: so a row that was read stays on its side of each page that
+-- is held, and is as it was read where such a page touches it. The definitions are this project's own; the range lock
+-- is that of Kogan, Dice and Issa, EuroSys 2020.
+use Rattle.std.specs.Prelude.{ℕ, ◌≡◌, ◌<◌, ◌≤◌, ◌+◌, ◌⊎◌, ◌↔◌, Option, Some, List, [], ◌∷◌, length, slice_index}
+use Rattle.page_types.specs.declared.TheConstants.{LIMIT}
+use Rattle.lock_core.specs.declared.range.Mode.TheVariants.{Writer}
+use Rattle.lock_core.specs.declared.range.Held.{Held}
+use Rattle.area_rows.specs.declared.guard.ReadRow.{ReadRow}
+use Rattle.area_rows.specs.declared.guard.Pass.{Pass}
+use Rattle.area_rows.specs.RowWords.{row_start, row_kind}
+use Rattle.area_rows.specs.Rows.{IsRowOf}
+
+-- all pages, held as a writer
+abbrev pub everything : Held
+everything = record { range = record { lo = 0; hi = LIMIT }; mode = Writer }
+
+-- a page lies in a held range
+abbrev pub IsHeldPage : Option Held → ℕ → Type 0
+IsHeldPage held page = (h : Held) × (held ≡ Some h) × (h.range.lo ≤ page) × (page < h.range.hi)
+
+-- a row was read like that, among others
+abbrev pub HasRead : List ReadRow → ℕ → ℕ → Type 0
+HasRead [] index word = ⊥
+HasRead (r ∷ rest) index word = ((r.index ≡ index) × (r.word ≡ word)) ⊎ HasRead rest index word
+
+-- the caller has read, or stored, these row words and their count: they are all there are
+abbrev pub HasRows : Pass → List ℕ → Type 0
+HasRows pass rows = (pass.count ≡ Some (length rows)) × ((i : ℕ) → i < length rows → HasRead pass.rows i (slice_index rows i))
+
+-- a row that was read stands still, as far as held pages tell: it starts on the same side of each of them; where it
+-- starts at one or right behind one, it starts there; where one lies in it, it has its kind; and where everything is
+-- held, its word is the same
+pub record StillStands (held : Option Held) (words : List ℕ) (r : ReadRow) : Type 0 where
+  pub side : (page : ℕ) → IsHeldPage held page → (row_start r.word ≤ page) ↔ (row_start (slice_index words (3 + r.index)) ≤ page)
+  pub start : (page : ℕ) → IsHeldPage held page → (page ≡ row_start r.word) ⊎ (page + 1 ≡ row_start r.word) → row_start (slice_index words (3 + r.index)) ≡ row_start r.word
+  pub kind : (page : ℕ) → IsHeldPage held page → IsRowOf words page r.index → row_kind (slice_index words (3 + r.index)) ≡ row_kind r.word
+  pub word : held ≡ Some everything → slice_index words (3 + r.index) ≡ r.word
