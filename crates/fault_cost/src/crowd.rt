@@ -5,7 +5,7 @@ ghost use Rattle.std.specs.Prelude.{◌≤◌};
 
 use crate::size::{Size, Times};
 use anyhow::{Result, bail};
-use fault_trials::{fault_all, open_crew};
+use fault_trials::{Work, open_crew, work_all};
 use space_model::PlainSpace;
 use std::alloc::Global;
 use std::sync::Wait;
@@ -29,7 +29,14 @@ pub fn times_of_crowd<R: Threads + Wait + Sync + Clock>(
             bail!("no memory for a space");
         };
         let begin = Instant::now(rt)?;
-        fault_all(rt, &space, crew.as_mut_slice(), size.turns);
+        work_all(
+            rt,
+            &space,
+            crew.as_mut_slice(),
+            Work::FourPages,
+            callers,
+            size.turns,
+        );
         times = times.with(round, begin.elapsed(rt)?.as_nanos());
     }
     Ok(times)

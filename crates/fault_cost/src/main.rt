@@ -1,20 +1,27 @@
 //! Measures what a page fault costs: by one caller that nobody hinders, beside a lookup of the page in a `BTreeMap` of
-//! areas under an `RwLock` of std in the same run, and by callers on threads that fault on the same four pages. Each
-//! figure is the least of many rounds, so that other work on the machine counts little. Beside it is that of the
-//! first round: a space reserves memory for its entries without touching it, so the first faults pay for it. Figures
-//! go to standard error, since they differ from run to run; standard output says only how much was measured. With the
-//! word `full` that is many rounds, otherwise a few.
+//! areas under an `RwLock` of std in the same run, and by callers on threads that fault on the same four pages. And
+//! what a map, an unmap and a protect under everything cost, beside the same change of a `BTreeMap` under a `Mutex`.
+//! Each figure is the least of many rounds, so that other work on the machine counts little. Beside that of a fault is
+//! that of the first round: a space reserves memory for its entries without touching it, so the first faults pay for
+//! it. Figures go to standard error, since they differ from run to run; standard output says only how much was
+//! measured. With the word `full` that is many rounds, otherwise a few.
 #![tactic(auto)]
 
 mod areas;
+mod changes;
 mod crowd;
+mod locked;
+mod plans;
 mod rounds;
 mod size;
 
 use anyhow::{Result, bail, ensure};
-use areas::{AreaMap, single_pages};
+use areas::{AreaMap, single_pages, spaced_areas};
+use changes::{Sums, least_of_clock, least_of_map, least_of_space};
 use crowd::times_of_crowd;
+use locked::LockedMap;
 use page_types::PAGE;
+use plans::least_of_plans;
 use rounds::{least_of_lookups, times_of_faults};
 use size::Size;
 use space_model::{PlainSpace, have_named_kinds};
@@ -35,6 +42,9 @@ fn main(rt: HostRuntime) -> Result<()> {
         measure_alone(&rt, rt.alloc(), size, count)?;
     }
     measure_crowds(&rt, rt.alloc(), size)?;
+    for rows in [33u32, 127, 4000] {
+        measure_changes(&rt, rt.alloc(), size, rows)?;
+    }
     println!(rt; "{} rounds of {} turns each", size.rounds, size.turns)?;
     Ok(())
 }
@@ -86,6 +96,60 @@ fn measure_crowds<R: Threads + Wait + Sync + Clock + Eprint>(
             "callers {callers} beside each other: a fault takes {} ns; in the first round {} ns",
             size.each(times.least) / crew.max(1),
             size.each(times.first) / crew.max(1)
+        )?;
+    }
+    Ok(())
+}
+
+/// Changes and plans of one caller over so many rows, and the same changes of a map.
+fn measure_changes<R: Wait + Clock + Eprint>(
+    rt: &R,
+    alloc: Global,
+    size: Size,
+    rows: u32,
+) -> Result<()> {
+    let (list, lo) = spaced_areas(alloc, rows)?;
+    ensure!(
+        have_named_kinds(&list) && list.len() < 1 << 30,
+        "no area list"
+    );
+    let start = PlainSpace::of_areas(alloc, &list)?;
+    ensure!(start.rows() == rows, "not so many rows");
+    let map = LockedMap::of(alloc, &list)?;
+    let clock = least_of_clock(rt, size)?;
+    let space = least_of_space(rt, size, alloc, &start, lo)?;
+    let locked = least_of_map(rt, size, &map, lo)?;
+    print_changes(rt, size, rows, clock, space, locked)?;
+    let plan = least_of_plans(rt, size, alloc, &start, lo)?;
+    eprintln!(rt; "rows {rows}: a plan takes {} ns", size.each(plan))?;
+    Ok(())
+}
+
+/// A line for each kind of change, with what the clock takes taken off.
+fn print_changes<R: Eprint>(
+    rt: &R,
+    size: Size,
+    rows: u32,
+    clock: u128,
+    space: Sums,
+    locked: Sums,
+) -> Result<()> {
+    for (i, name) in [
+        "an unmap",
+        "a map",
+        "a protect that splits",
+        "a protect that joins",
+    ]
+    .iter()
+    .enumerate()
+    {
+        let ours = space[i].saturating_sub(clock);
+        let others = locked[i].saturating_sub(clock);
+        let percent = ours.saturating_mul(100) / others.max(1);
+        eprintln!(rt;
+            "rows {rows}: {name} takes {} ns, {percent} percent of the same change of a BTreeMap ({} ns)",
+            size.each(ours),
+            size.each(others)
         )?;
     }
     Ok(())

@@ -16,7 +16,7 @@ use std::time::{Clock, Instant};
 
 /// A space over this start with so many callers, from 1 to 16, and its caller of number 0, which may draw so many
 /// numbers.
-fn open_first(
+pub fn open_first(
     alloc: Global,
     start: &PlainSpace,
     callers: usize,

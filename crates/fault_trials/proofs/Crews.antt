@@ -7,11 +7,13 @@ use Rattle.atomic_table.specs.Seated.{TableId}
 use Rattle.atomic_table.proofs.Lists.{at_index, at_set}
 use Rattle.lock_core.proofs.ByPlace.{below, at_or, same_or}
 use Rattle.page_types.specs.declared.sets.Access.{Access}
+use Rattle.page_types.specs.declared.calls.Call.{Call}
 use Rattle.space_model.specs.declared.areas.Area.{Area}
 use Rattle.area_rows.specs.declared.answer.Answer.{Answer}
 use Rattle.area_rows.specs.declared.answer.Answer.TheVariants.{Given, Spent}
 use Rattle.area_rows.specs.Callers.{CallerView, AreIdle, AreNewCallers}
-use Rattle.page_fault.specs.Faults.{IsAnswer, IsTried}
+use Rattle.area_rows.specs.Called.{IsAnswered}
+use Rattle.page_fault.specs.Faults.{IsTried}
 use Rattle.page_fault.specs.declared.faults.TriedFault.{TriedFault}
 use Rattle.fault_trials.specs.Trials.{HasCalled, HaveCalled, IsIdleAgain, IsCrew, OfCaller}
 
@@ -42,9 +44,9 @@ crew_back table seats old new same crew each = record {
 }
 
 -- an answered caller is back
-pub answer_back : (before after : CallerView) (line addr : ℕ) (access : Access) (answer : Answer) → before.seat.held ≡ None → IsAnswer before line addr access answer after → IsIdleAgain before after
-answer_back before after line addr access (Given e) free is = let n = is.1.numbered in record { table = n.table; number = n.number; held = n.held ∙ free }
-answer_back before after line addr access Spent free is = record { table = ap (λ (x : CallerView). x.seat.table) is.1; number = ap (λ (x : CallerView). x.seat.number) is.1; held = ap (λ (x : CallerView). x.seat.held) is.1 ∙ free }
+pub answer_back : (before after : CallerView) (line : ℕ) (call : Call) (answer : Answer) → before.seat.held ≡ None → IsAnswered before line call answer after → IsIdleAgain before after
+answer_back before after line call (Given e) free is = let n = is.1.numbered in record { table = n.table; number = n.number; held = n.held ∙ free }
+answer_back before after line call Spent free is = record { table = ap (λ (x : CallerView). x.seat.table) is.1; number = ap (λ (x : CallerView). x.seat.number) is.1; held = ap (λ (x : CallerView). x.seat.held) is.1 ∙ free }
 
 -- the first caller of a crew
 pub first_of : (table : TableId) (seats : ℕ) (callers : List CallerView) (c : CallerView) → IsCrew table seats callers → c ≡ get_or callers 0 c → (c.seat.table ≡ table) × (c.seat.number ≡ 0) × (c.seat.held ≡ None)
@@ -89,11 +91,11 @@ two_back table seats (u ∷ []) [] x a y b one crew two p q = absurd (let n = cr
 two_back table seats (u ∷ []) (v ∷ rest) x a y b one crew two p q = record { count = crew.count; some = crew.some; idle = idle_two table u v rest a b crew.idle p q }
 
 -- the first caller's answer, told by places
-pub first_answer : (callers : List CallerView) (d n : CallerView) (line addr : ℕ) (access : Access) (answer : Answer) → IsAnswer (get_or callers 0 d) line addr access answer n
-    → OfCaller 0 callers (set callers 0 n) (λ before after. IsAnswer before line addr access answer after)
-first_answer [] d n line addr access answer is a b p q = absurd (some-ne-none a (sym p))
-first_answer (x ∷ xs) d n line addr access answer is a b p q =
-    subst (λ (z : CallerView × CallerView). IsAnswer z.0 line addr access answer z.1) (λ i. (some-injective x a p i, some-injective n b q i)) is
+pub first_answer : (callers : List CallerView) (d n : CallerView) (line : ℕ) (call : Call) (answer : Answer) → IsAnswered (get_or callers 0 d) line call answer n
+    → OfCaller 0 callers (set callers 0 n) (λ before after. IsAnswered before line call answer after)
+first_answer [] d n line call answer is a b p q = absurd (some-ne-none a (sym p))
+first_answer (x ∷ xs) d n line call answer is a b p q =
+    subst (λ (z : CallerView × CallerView). IsAnswered z.0 line call answer z.1) (λ i. (some-injective x a p i, some-injective n b q i)) is
 
 -- the others stay
 pub others_stay : (callers : List CallerView) (n : CallerView) → drop 1 (set callers 0 n) ≡ drop 1 callers
@@ -110,12 +112,12 @@ second_tried (x ∷ []) (y ∷ rest) w d n line addr access answer one is a b p 
     subst (λ (z : CallerView × CallerView). IsTried z.0 line addr access answer z.1) (λ i. (some-injective y a p i, some-injective n b q i)) is
 
 -- one call more
-pub one_more : (calls : ℕ) (start before after : CallerView) (line addr : ℕ) (access : Access) (answer : Answer) → HasCalled calls start before → IsAnswer before line addr access answer after → HasCalled (calls + 1) start after
-one_more calls start before after line addr access (Given e) h is =
+pub one_more : (calls : ℕ) (start before after : CallerView) (line : ℕ) (call : Call) (answer : Answer) → HasCalled calls start before → IsAnswered before line call answer after → HasCalled (calls + 1) start after
+one_more calls start before after line call (Given e) h is =
     let more : length after.seat.pass.mine ≡ length before.seat.pass.mine + 1 = ap length is.1.numbered.mine ∙ length-append before.seat.pass.mine (e ∷ []) in
     let l = h.left in let k = h.kept in let m = is.1.left in
     record { left = omega arith; kept = omega arith }
-one_more calls start before after line addr access Spent h is =
+one_more calls start before after line call Spent h is =
     let same : after.left ≡ before.left = ap (λ (x : CallerView). x.left) is.1 in
     let mine : length after.seat.pass.mine ≡ length before.seat.pass.mine = ap (λ (x : CallerView). length x.seat.pass.mine) is.1 in
     let l = h.left in let k = h.kept in let z = is.0 in

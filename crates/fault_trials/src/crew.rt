@@ -1,17 +1,21 @@
-//! A crew: all callers of one space in order of their numbers. One of them faults, or one tries once beside another
-//! that holds a span as a writer, or each faults on a thread of its own. After each of these calls the crew may go on
-//! or be closed.
+//! A crew: all callers of one space in order of their numbers. One of them makes a call, or one tries once beside
+//! another that holds a span as a writer, or each makes calls on a thread of its own. After each of these the crew may
+//! go on or be closed.
 ghost use Rattle.std.specs.Prelude.{◌≡◌, ◌<◌, ◌≤◌, ◌^◌, None, drop, length, IfOk, IfErr};
 ghost use Rattle.space_model.specs.Areas.{row_count};
 ghost use Rattle.page_types.specs.declared.sets.Access.TheVariants.{Read};
+ghost use Rattle.page_types.specs.Named.{IsNamedCall};
 ghost use Rattle.area_rows.specs.Callers.{IsSpaceFault};
-ghost use Rattle.page_fault.specs.Faults.{IsAnswer, IsTried};
+ghost use Rattle.area_rows.specs.Called.{IsAnswered};
+ghost use Rattle.page_fault.specs.Faults.{IsTried};
 ghost use Rattle.fault_trials.specs.Trials.{HasCalled, HaveCalled, IsIdleAgain, IsCrew, OfCaller};
 
+use crate::calls::make_call;
+use crate::work::{Work, work_turns};
 use area_rows::{Answer, Caller, Space, SpaceFault};
 use lock_core::Mode;
-use page_fault::{TriedFault, fault, try_fault};
-use page_types::{Access, PAGE, Span};
+use page_fault::{TriedFault, try_fault};
+use page_types::{Access, Call, Span};
 use space_model::PlainSpace;
 use std::alloc::Global;
 use std::marker::Brand;
@@ -35,21 +39,21 @@ pub fn open_crew(
     Space::open(alloc, calls, start)
 }
 
-/// The first caller of the crew faults once, and the others are as they were.
-pub fn fault_by<R: Wait>(
+/// The first caller of the crew makes a call, whose sets have named bits alone, and the others are as they were.
+pub fn call_by<R: Wait>(
     rt: &R,
     space: &Space,
     callers: &mut [Caller],
     line: u32,
-    addr: u64,
-    access: Access,
+    call: Call,
 ) -> Answer
     requires crew { IsCrew space.now.table space.now.seats callers.old }
+    requires named { IsNamedCall call }
     ensures crew { IsCrew space.now.table space.now.seats callers.new }
-    ensures answer { OfCaller 0 callers.old callers.new (λ before after. IsAnswer before line addr access result after) }
+    ensures answer { OfCaller 0 callers.old callers.new (λ before after. IsAnswered before line call result after) }
     ensures others { drop 1 callers.new ≡ drop 1 callers.old }
 {
-    fault(space, rt, &mut callers[0], line, addr, access)
+    make_call(rt, space, &mut callers[0], line, call)
 }
 
 /// One caller faults in one try while another one holds a span as a writer.
@@ -101,33 +105,22 @@ pub fn try_beside<R: Wait>(
     )
 }
 
-/// Reads one of four pages from page 16 on, so many times, for the lines from 1 on.
-fn fault_turns<R: Wait>(rt: &R, space: &Space, caller: &mut Caller, turns: u32)
-    requires table { caller.old.seat.table ≡ space.now.table }
-    requires free { caller.old.seat.held ≡ None }
-    ensures back { IsIdleAgain caller.old caller.new }
-    ensures called { HasCalled turns caller.old caller.new }
-{
-    for turn in 0..turns {
-        let page = 16 + turn as u64 % 4;
-        fault(space, rt, caller, turn + 1, page * PAGE, Access::Read);
-    }
-}
-
-/// Each caller faults so many times, on a thread of its own.
-pub fn fault_all<R: Threads + Wait + Sync>(
+/// Each caller makes so many calls, on a thread of its own: the first `changing` ones do the work, and the others read.
+pub fn work_all<R: Threads + Wait + Sync>(
     rt: &R,
     space: &Space,
     callers: &mut [Caller],
+    work: Work,
+    changing: usize,
     turns: u32,
 )
     requires { IsCrew space.now.table space.now.seats callers.old }
     ensures crew { IsCrew space.now.table space.now.seats callers.new }
     ensures called { HaveCalled turns callers.old callers.new }
 {
-    let turn = |_: usize, caller: &mut Caller|
+    let turn = |index: usize, caller: &mut Caller|
         requires { (caller.now.seat.table ≡ space.now.table) × (caller.now.seat.held ≡ None) }
         ensures { IsIdleAgain caller.entry.now caller.exit.now × HasCalled turns caller.entry.now caller.exit.now }
-    { fault_turns(rt, space, caller, turns) };
+    { work_turns(rt, space, caller, work.of(index < changing), turns) };
     thread::for_each_mut(rt, callers, 16, &turn);
 }

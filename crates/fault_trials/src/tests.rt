@@ -1,12 +1,16 @@
 //! Worked cases of faults over a running space, and four threads on shared pages. What a test expects is reckoned by
 //! hand or by the one-thread model, never taken from the program.
-use crate::{fault_all, fault_by, open_crew, try_beside};
-use area_rows::{Answer, SpaceFault};
+ghost use Rattle.page_types.specs.Named.{IsNamedCall};
+ghost use Rattle.fault_trials.specs.Trials.{IsCrew};
+
+use crate::{Work, call_by, open_crew, try_beside, work_all};
+use area_rows::{Answer, Caller, Space, SpaceFault};
 use lock_core::{Mode, Range};
 use page_fault::TriedFault;
-use page_types::{Access, Kind, PAGE, Prot, Reply, Span, Why};
+use page_types::{Access, Call, Kind, PAGE, Prot, Reply, Span, Why};
 use range_rw::NotHeld;
 use space_model::{Area, PlainSpace, Under, have_named_calls, have_named_kinds, legal};
+use std::sync::Wait;
 
 /// The pages 16 and 17, which may be read.
 const PRIVATE: Area = Area {
@@ -60,8 +64,8 @@ fn faults_answer_as_worked_by_hand(rt: HostRuntime) {
         ),
     ];
     for (addr, access, reply, page) in cases {
-        let Answer::Given(entry) = fault_by(&rt, &space, callers.as_mut_slice(), 7, addr, access)
-        else {
+        let call = Call::Fault { addr, access };
+        let Answer::Given(entry) = call_by(&rt, &space, callers.as_mut_slice(), 7, call) else {
             panic!(rt; "no number left");
         };
         assert_eq!(rt; entry.reply, reply);
@@ -71,8 +75,12 @@ fn faults_answer_as_worked_by_hand(rt: HostRuntime) {
             _ => panic!(rt; "the page wasn't held"),
         }
     }
+    let call = Call::Fault {
+        addr: 0,
+        access: Access::Read,
+    };
     assert_eq!(rt;
-        fault_by(&rt, &space, callers.as_mut_slice(), 7, 0, Access::Read),
+        call_by(&rt, &space, callers.as_mut_slice(), 7, call),
         Answer::Spent
     );
     let Ok(closed) = space.close(alloc, callers) else {
@@ -87,7 +95,7 @@ fn four_threads_draw_two_thousand_numbers(rt: HostRuntime) {
     let alloc = rt.alloc();
     let start = PlainSpace::of_areas(alloc, &[SHARED]).expect(&rt, "an area list");
     let (space, mut callers) = open_crew(alloc, &[500; 4], &start).expect(&rt, "memory");
-    fault_all(&rt, &space, callers.as_mut_slice(), 500);
+    work_all(&rt, &space, callers.as_mut_slice(), Work::FourPages, 4, 500);
     let Ok(closed) = space.close(alloc, callers) else {
         panic!(rt; "memory");
     };
@@ -135,31 +143,36 @@ fn a_start_of_4097_rows_is_too_large(rt: HostRuntime) {
     }
 }
 
+/// The first caller's two answers to a call on line 1 and the same call on line 2.
+fn call_twice<R: Wait>(
+    rt: &R,
+    space: &Space,
+    callers: &mut [Caller],
+    call: Call,
+) -> (Answer, Answer)
+    requires crew { IsCrew space.now.table space.now.seats callers.old }
+    requires named { IsNamedCall call }
+    ensures crew { IsCrew space.now.table space.now.seats callers.new }
+{
+    let first = call_by(rt, space, callers, 1, call);
+    let second = call_by(rt, space, callers, 2, call);
+    (first, second)
+}
+
 #[test]
 fn a_caller_with_one_number_faults_once(rt: HostRuntime) {
     let alloc = rt.alloc();
     let start = PlainSpace::new(alloc);
     let (space, mut callers) = open_crew(alloc, &[1], &start).expect(&rt, "memory");
-    let first = fault_by(
-        &rt,
-        &space,
-        callers.as_mut_slice(),
-        1,
-        0x10000,
-        Access::Read,
-    );
+    let call = Call::Fault {
+        addr: 0x10000,
+        access: Access::Read,
+    };
+    let (first, second) = call_twice(&rt, &space, callers.as_mut_slice(), call);
     let Answer::Given(entry) = first else {
         panic!(rt; "no number left");
     };
     assert_eq!(rt; entry.reply, Reply::Refused(Why::MapErr(16)));
-    let second = fault_by(
-        &rt,
-        &space,
-        callers.as_mut_slice(),
-        2,
-        0x10000,
-        Access::Read,
-    );
     assert_eq!(rt; second, Answer::Spent);
     let Ok(closed) = space.close(alloc, callers) else {
         panic!(rt; "memory");

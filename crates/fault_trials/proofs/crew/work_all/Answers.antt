@@ -1,7 +1,7 @@
 use Rattle.std.proofs.Common.{rules}
 use Rattle.atomic_table.proofs.Lists.{at_index}
 use Rattle.fault_trials.proofs.Crews.{crew_back, crew_called}
-use Rattle.fault_trials.proofs.crew.fault_all.Goals as goal
+use Rattle.fault_trials.proofs.crew.work_all.Goals as goal
 
 pub for_each_mut-requires-clause-accepts : goal.for_each_mut-requires-clause-accepts
 for_each_mut-requires-clause-accepts g c = λ _ _ i p lt e. let r = c.requires.idle i p.now (at_index _ i p.now lt e) in (r.0, r.2)

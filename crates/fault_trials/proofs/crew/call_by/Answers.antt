@@ -3,17 +3,17 @@ use Rattle.std.specs.Prelude.{None}
 use Rattle.fault_trials.specs.Trials.{IsIdleAgain}
 use Rattle.area_rows.specs.Callers.{CallerView}
 use Rattle.fault_trials.proofs.Crews.{first_of, first_back, answer_back, first_answer, others_stay}
-use Rattle.fault_trials.proofs.crew.fault_by.Goals as goal
+use Rattle.fault_trials.proofs.crew.call_by.Goals as goal
 
-pub fault-requires-clause-table : goal.fault-requires-clause-table
-fault-requires-clause-table g c =
+pub make_call-requires-clause-table : goal.make_call-requires-clause-table
+make_call-requires-clause-table g c =
     let d = c.index-callers-0.result in
     let is : d ≡ slice_index_or c.args.callers.now 0 d = search rules in
     let f = first_of c.args.space.now.table c.args.space.now.seats c.args.callers.now d c.requires.crew is in
     subst (λ (v : CallerView). v.seat.table ≡ c.args.space.now.table) is f.0
 
-pub fault-requires-clause-free : goal.fault-requires-clause-free
-fault-requires-clause-free g c =
+pub make_call-requires-clause-free : goal.make_call-requires-clause-free
+make_call-requires-clause-free g c =
     let d = c.index-callers-0.result in
     let is : d ≡ slice_index_or c.args.callers.now 0 d = search rules in
     let f = first_of c.args.space.now.table c.args.space.now.seats c.args.callers.now d c.requires.crew is in
@@ -25,9 +25,9 @@ returns g c =
     let is : d ≡ slice_index_or c.args.callers.now 0 d = search rules in
     let f = first_of c.args.space.now.table c.args.space.now.seats c.args.callers.now d c.requires.crew is in
     let free = subst (λ (v : CallerView). v.seat.held ≡ None) is f.2 in
-    let back = answer_back (slice_index_or c.args.callers.now 0 d) c.fault.new.caller c.args.line c.args.addr c.args.access c.fault.result free c.fault.ensures.answer in
+    let back = answer_back (slice_index_or c.args.callers.now 0 d) c.make_call.new.caller c.args.line c.args.call c.make_call.result free c.make_call.ensures.answer in
     record {
-      crew = first_back c.args.space.now.table c.args.space.now.seats c.args.callers.now d c.fault.new.caller c.requires.crew is (subst (λ (v : CallerView). IsIdleAgain v c.fault.new.caller) (sym is) back);
-      answer = first_answer c.args.callers.now d c.fault.new.caller c.args.line c.args.addr c.args.access c.fault.result c.fault.ensures.answer;
-      others = others_stay c.args.callers.now c.fault.new.caller;
+      crew = first_back c.args.space.now.table c.args.space.now.seats c.args.callers.now d c.make_call.new.caller c.requires.crew is (subst (λ (v : CallerView). IsIdleAgain v c.make_call.new.caller) (sym is) back);
+      answer = first_answer c.args.callers.now d c.make_call.new.caller c.args.line c.args.call c.make_call.result c.make_call.ensures.answer;
+      others = others_stay c.args.callers.now c.make_call.new.caller;
     }

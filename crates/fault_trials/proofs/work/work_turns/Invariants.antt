@@ -1,7 +1,7 @@
 use Rattle.std.proofs.Common.{◌≡◌}
 use Rattle.std.specs.Prelude.{None}
 use Rattle.fault_trials.specs.Trials.{HasCalled}
-use Rattle.fault_trials.proofs.crew.fault_turns.Given as goal
+use Rattle.fault_trials.proofs.work.work_turns.Given as goal
 
 abbrev pub invariant-loop-turn : goal.invariant-loop-turn
 invariant-loop-turn g l = record {

@@ -1,0 +1,5 @@
+use Rattle.fault_trials.specs.Trials.{IsCrew}
+use Rattle.fault_trials.proofs.map_tests.plays.Given as goal
+
+abbrev pub invariant-loop-case : goal.invariant-loop-case
+invariant-loop-case g l = IsCrew l.space.table l.space.seats l.callers.items

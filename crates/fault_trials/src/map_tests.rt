@@ -1,0 +1,317 @@
+//! Worked cases of maps and unmaps over a running space, both sides of the limit on rows, and threads that map, unmap
+//! and fault on shared pages. What a test expects is reckoned by hand or by the one-thread model, never taken from the
+//! program.
+ghost use Rattle.std.specs.Prelude.{◌≡◌};
+ghost use Rattle.fault_trials.specs.Trials.{IsCrew};
+
+use crate::{Work, call_at, call_by, not_replacing, open_crew, replacing, work_all};
+use area_rows::{Answer, Caller, Closed, Space};
+use page_types::{Call, Field, Kind, LIMIT, MapFlags, PAGE, Prot, Reply, Short, Why};
+use space_model::{Area, PlainSpace, Under, have_named_calls, have_named_kinds, legal};
+use std::alloc::Global;
+use std::process::Abort;
+use std::sync::Wait;
+use std::test::Fail;
+use std::thread::Threads;
+
+/// A call, and what it answers under what.
+#[derive(Clone, Copy)]
+struct Case {
+    call: Call,
+    reply: Reply,
+    under: Under,
+}
+
+fn read_write() -> Prot {
+    Prot::READ | Prot::WRITE
+}
+
+fn area(lo: u64, hi: u64, prot: Prot) -> Area {
+    Area {
+        lo,
+        hi,
+        kind: Kind {
+            prot,
+            shared: false,
+        },
+    }
+}
+
+fn map(addr: u64, len: u64, prot: Prot, flags: MapFlags, reply: Reply) -> Case {
+    Case {
+        call: Call::Map {
+            addr,
+            len,
+            prot,
+            flags,
+        },
+        reply,
+        under: Under::Whole,
+    }
+}
+
+fn unmap(addr: u64, len: u64, reply: Reply) -> Case {
+    Case {
+        call: Call::Unmap { addr, len },
+        reply,
+        under: Under::Whole,
+    }
+}
+
+fn protect(addr: u64, len: u64, prot: Prot, reply: Reply) -> Case {
+    Case {
+        call: Call::Protect { addr, len, prot },
+        reply,
+        under: Under::Whole,
+    }
+}
+
+/// A refusal for want of pages or of room.
+fn short(why: Short) -> Reply {
+    Reply::Refused(Why::Enomem(why))
+}
+
+impl Case {
+    /// The same, decided by the arguments alone.
+    fn plain(self) -> Case {
+        Case {
+            under: Under::Nothing,
+            ..self
+        }
+    }
+}
+
+/// Closes a space. Its history is legal from the start, as many entries long as it should be, and its areas are those
+/// that the one-thread model has after it.
+fn closed_right(
+    rt: &impl Abort,
+    alloc: Global,
+    space: Space,
+    callers: Vec<Caller>,
+    start: &PlainSpace,
+    count: usize,
+) -> Result<Closed, Fail>
+    requires { IsCrew space.table space.seats callers.items }
+{
+    let Ok(closed) = space.close(alloc, callers) else {
+        panic!(rt; "memory");
+    };
+    let entries = closed.entries();
+    assert!(rt; entries.len() == count && count < 1 << 30 && have_named_calls(entries));
+    assert_eq!(rt; legal(alloc, start, entries)?, None);
+    let mut model = start.copied(alloc)?;
+    for entry in entries {
+        assert!(rt; entry.call.is_named());
+        assert_eq!(rt; model.step(&entry.call)?, entry.reply);
+    }
+    assert_eq!(rt; model.areas(), closed.areas());
+    Ok(closed)
+}
+
+/// Makes the calls one after another on a space that starts with the first areas; the last ones are left.
+fn plays<R: Abort + Wait>(
+    rt: &R,
+    alloc: Global,
+    before: &[Area],
+    cases: &[Case],
+    after: &[Area],
+) -> Result<(), Fail> {
+    assert!(rt; have_named_kinds(before) && before.len() < 1 << 30);
+    let start = PlainSpace::of_areas(alloc, before)?;
+    let Ok((space, mut callers)) = open_crew(alloc, &[8], &start) else {
+        panic!(rt; "no space");
+    };
+    for case in cases {
+        assert!(rt; case.call.is_named());
+        let Answer::Given(entry) = call_by(rt, &space, callers.as_mut_slice(), 7, case.call) else {
+            panic!(rt; "no number left");
+        };
+        assert_eq!(rt; entry.line, 7);
+        assert_eq!(rt; entry.call, case.call);
+        assert_eq!(rt; entry.reply, case.reply);
+        assert_eq!(rt; entry.under, case.under);
+    }
+    let closed = closed_right(rt, alloc, space, callers, &start, cases.len())?;
+    assert_eq!(rt; closed.areas(), after);
+    Ok(())
+}
+
+#[test]
+fn an_unmap_of_the_middle_page_leaves_the_others(rt: HostRuntime) -> Result<(), Fail> {
+    let cases = [
+        map(
+            0x10000,
+            12288,
+            read_write(),
+            replacing(),
+            Reply::At(0x10000),
+        ),
+        unmap(0x11000, 4096, Reply::Zero),
+    ];
+    let left = [area(16, 17, read_write()), area(18, 19, read_write())];
+    plays(&rt, rt.alloc(), &[], &cases, &left)
+}
+
+#[test]
+fn an_unmap_of_no_page_is_done_and_one_of_no_bytes_is_refused(rt: HostRuntime) -> Result<(), Fail> {
+    let cases = [
+        unmap(0x50000, 4096, Reply::Zero),
+        unmap(0x50000, 0, Reply::Refused(Why::Einval(Field::Len))).plain(),
+        unmap(0x50001, 4096, Reply::Refused(Why::Einval(Field::Addr))).plain(),
+    ];
+    plays(&rt, rt.alloc(), &[], &cases, &[])
+}
+
+#[test]
+fn a_map_may_end_at_the_limit_and_not_past_it(rt: HostRuntime) -> Result<(), Fail> {
+    let addr = 0x7fffffffe000;
+    let cases = [
+        map(addr, 4096, Prot::READ, replacing(), Reply::At(addr)),
+        map(
+            addr,
+            8192,
+            Prot::READ,
+            replacing(),
+            short(Short::PastEnd(0x800000000)),
+        )
+        .plain(),
+    ];
+    plays(
+        &rt,
+        rt.alloc(),
+        &[],
+        &cases,
+        &[area(LIMIT - 1, LIMIT, Prot::READ)],
+    )
+}
+
+#[test]
+fn a_map_that_replaces_nothing_is_refused_at_the_lowest_mapped_page(
+    rt: HostRuntime,
+) -> Result<(), Fail> {
+    let areas = [area(16, 18, read_write())];
+    let refused = Reply::Refused(Why::Eexist(16));
+    let cases = [map(0xf000, 16384, Prot::READ, not_replacing(), refused)];
+    plays(&rt, rt.alloc(), &areas, &cases, &areas)
+}
+
+#[test]
+fn a_map_goes_as_high_as_it_fits_and_joins_the_area_there(rt: HostRuntime) -> Result<(), Fail> {
+    let high = 0x7fffffffe000;
+    let cases = [
+        map(0, 4096, read_write(), MapFlags::PRIVATE, Reply::At(high)),
+        map(
+            high,
+            4096,
+            read_write(),
+            MapFlags::PRIVATE,
+            Reply::At(high - 4096),
+        ),
+    ];
+    plays(
+        &rt,
+        rt.alloc(),
+        &[],
+        &cases,
+        &[area(LIMIT - 2, LIMIT, read_write())],
+    )
+}
+
+#[test]
+fn a_protect_under_everything_splits_an_area_or_names_the_missing_page(
+    rt: HostRuntime,
+) -> Result<(), Fail> {
+    let before = [area(16, 19, read_write()), area(20, 21, read_write())];
+    let cases = [
+        protect(0x10000, 5 * PAGE, Prot::READ, short(Short::Missing(19))),
+        protect(0x11000, PAGE, Prot::READ, Reply::Zero),
+        protect(0x10000, 0, Prot::READ, Reply::Zero).plain(),
+    ];
+    let after = [
+        area(16, 17, read_write()),
+        area(17, 18, Prot::READ),
+        area(18, 19, read_write()),
+        area(20, 21, read_write()),
+    ];
+    plays(&rt, rt.alloc(), &before, &cases, &after)
+}
+
+/// The pages from 16 up to 4109 of two kinds in turn, and then an area of three pages: 4096 rows.
+fn full(alloc: Global) -> Result<Vec<Area>, Fail> {
+    let mut list = Vec::new(alloc);
+    for page in 16..4109u64 {
+        let prot = if page % 2 == 0 {
+            Prot::READ
+        } else {
+            read_write()
+        };
+        list.push(area(page, page + 1, prot))?;
+    }
+    list.push(area(4109, 4112, read_write()))?;
+    Ok(list)
+}
+
+#[test]
+fn a_change_may_leave_4096_rows_and_no_more(rt: HostRuntime) -> Result<(), Fail> {
+    let areas = full(rt.alloc())?;
+    let page = 4109 * PAGE;
+    let end = 4112 * PAGE;
+    let cases = [
+        unmap(page + PAGE, PAGE, short(Short::Rows(4098))),
+        unmap(page, PAGE, short(Short::Rows(4097))),
+        map(
+            page + PAGE,
+            PAGE,
+            Prot::READ,
+            replacing(),
+            short(Short::Rows(4098)),
+        ),
+        map(end, PAGE, Prot::READ, replacing(), short(Short::Rows(4097))),
+        protect(page + PAGE, PAGE, Prot::READ, short(Short::Rows(4098))),
+        map(end, PAGE, read_write(), replacing(), Reply::At(end)),
+        unmap(end, PAGE, Reply::Zero),
+    ];
+    plays(&rt, rt.alloc(), &areas, &cases, &areas)
+}
+
+/// Callers with 500 calls each, of which the first ones do the work and the others read, each on a thread of its own.
+/// Each caller's entries are those of its turns, in their order.
+fn works<R: Abort + Threads + Wait + Sync>(
+    rt: &R,
+    alloc: Global,
+    work: Work,
+    changing: usize,
+    callers: usize,
+) -> Result<(), Fail> {
+    assert!(rt; callers <= 16);
+    let start = PlainSpace::new(alloc);
+    let calls = [500; 16];
+    let Ok((space, mut crew)) = open_crew(alloc, &calls[..callers], &start) else {
+        panic!(rt; "no space");
+    };
+    work_all(rt, &space, crew.as_mut_slice(), work, changing, 500);
+    let closed = closed_right(rt, alloc, space, crew, &start, 500 * callers)?;
+    let mut turns = [0u32; 16];
+    for entry in closed.entries() {
+        let worker = entry.worker as usize;
+        assert!(rt; worker < callers && turns[worker] < 500);
+        let turn = turns[worker];
+        assert_eq!(rt; entry.line, turn + 1);
+        assert_eq!(rt;
+            entry.call,
+            call_at(work.of(worker < changing), entry.worker, turn)
+        );
+        turns[worker] = turn + 1;
+    }
+    Ok(())
+}
+
+#[test]
+fn two_threads_map_and_unmap_one_page(rt: HostRuntime) -> Result<(), Fail> {
+    works(&rt, rt.alloc(), Work::OnePage, 2, 2)
+}
+
+#[test]
+fn four_threads_change_64_pages_beside_two_that_fault(rt: HostRuntime) -> Result<(), Fail> {
+    works(&rt, rt.alloc(), Work::Mixed, 4, 6)
+}

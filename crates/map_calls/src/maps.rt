@@ -1,0 +1,78 @@
+//! The two calls: `map` is mmap(2), and `unmap` is munmap(2). Both are answered in one way, which is the whole of this
+//! crate: nothing where the caller has no number left, the reply of the arguments where these decide, and otherwise the
+//! one call of `area_rows` that may change the number of rows. What a reader may rely on is `IsAnswered` of
+//! `area_rows`, one clause for all calls that give an entry.
+ghost use Rattle.std.specs.Prelude.{◌≡◌, None};
+ghost use Rattle.page_types.specs.declared.calls.Call.TheVariants.{Map, Unmap};
+ghost use Rattle.page_types.specs.Named.{IsNamedCall};
+ghost use Rattle.area_rows.specs.History.{IsFault};
+ghost use Rattle.area_rows.specs.Called.{IsAnswered};
+
+use area_rows::{Answer, Caller, Space};
+use page_types::{Call, MapFlags, Prot, plain};
+use std::sync::Wait;
+
+/// A call that is no fault: its entry, if the caller has a number left.
+fn answer<R: Wait>(space: &Space, wait: &R, caller: &mut Caller, line: u32, call: Call) -> Answer
+    requires table { caller.old.seat.table ≡ space.now.table }
+    requires free { caller.old.seat.held ≡ None }
+    requires call { ¬ IsFault call }
+    requires named { IsNamedCall call }
+    ensures answer { IsAnswered caller.old line call result caller.new }
+{
+    if caller.left() == 0 {
+        return Answer::Spent;
+    }
+    match plain(&call) {
+        Some(reply) => Answer::Given(space.call_plain(caller, line, call, reply)),
+        None => Answer::Given(space.call_whole(wait, caller, line, call)),
+    }
+}
+
+/// Maps the `len` bytes from `addr` on, rounded up to whole pages, as mmap(2) does; where no fixed flag binds it `addr`
+/// is a hint, and the pages go as high as they fit. The caller is of this space and holds nothing, and `prot` and
+/// `flags` have named bits alone; `line` is the line of the input that names the call, counted from 1.
+/// It waits until the caller holds all pages; a call that its arguments decide holds nothing. `Spent` comes exactly
+/// where the caller has no number left, and nothing has changed then.
+pub fn map<R: Wait>(
+    space: &Space,
+    wait: &R,
+    caller: &mut Caller,
+    line: u32,
+    addr: u64,
+    len: u64,
+    prot: Prot,
+    flags: MapFlags,
+) -> Answer
+    requires table { caller.old.seat.table ≡ space.now.table }
+    requires free { caller.old.seat.held ≡ None }
+    requires named { IsNamedCall (Map addr len prot flags) }
+    ensures answer { IsAnswered caller.old line (Map addr len prot flags) result caller.new }
+{
+    let call = Call::Map {
+        addr,
+        len,
+        prot,
+        flags,
+    };
+    answer(space, wait, caller, line, call)
+}
+
+/// Takes the pages of the `len` bytes from `addr` on away, as munmap(2) does; pages that aren't mapped are no error.
+/// The caller is of this space and holds nothing; `line` is the line of the input that names the call, counted from 1.
+/// It waits until the caller holds all pages; a call that its arguments decide holds nothing. `Spent` comes exactly
+/// where the caller has no number left, and nothing has changed then.
+pub fn unmap<R: Wait>(
+    space: &Space,
+    wait: &R,
+    caller: &mut Caller,
+    line: u32,
+    addr: u64,
+    len: u64,
+) -> Answer
+    requires table { caller.old.seat.table ≡ space.now.table }
+    requires free { caller.old.seat.held ≡ None }
+    ensures answer { IsAnswered caller.old line (Unmap addr len) result caller.new }
+{
+    answer(space, wait, caller, line, Call::Unmap { addr, len })
+}
