@@ -1,6 +1,6 @@
 //! The least time of many rounds in which each seat of a table has a thread, and all of them want the one range. What a
 //! turn costs then is mostly waiting: for the range, and for the cache line of the turn word.
-use lock_trials::{add_all, open_free};
+use lock_trials::{add_all, open_tally};
 use std::alloc::Global;
 use std::io;
 use std::sync::Wait;
@@ -21,7 +21,7 @@ pub fn least_of_crowd<R: Threads + Wait + Clock + Sync>(
 ) -> io::Result<u128> {
     let mut least = u128::MAX;
     for _ in 0..CROWD_ROUNDS {
-        let Ok((table, mut all)) = open_free(alloc, seats, 0) else {
+        let Ok((table, mut all)) = open_tally(alloc, seats, 0) else {
             return Err(io::Error::from(io::ErrorKind::OutOfMemory));
         };
         let start = Instant::now(rt)?;

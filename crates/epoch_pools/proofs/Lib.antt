@@ -1,0 +1,11 @@
+pub mod Apart
+pub mod ClientSteps
+pub mod Granting
+pub mod Joining
+pub mod Lists
+pub mod LockSteps
+pub mod Opening
+pub mod Placing
+pub mod Pools
+pub mod Stepping
+pub mod Taking

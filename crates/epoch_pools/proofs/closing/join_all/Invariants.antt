@@ -1,0 +1,14 @@
+use Rattle.std.proofs.Common.{◌≡◌, [], ◌++◌, map, length}
+use Rattle.epoch_pools.specs.Hands.{AreHandsOf, hand_with}
+use Rattle.epoch_pools.proofs.closing.join_all.Given as goal
+
+abbrev pub invariant-all : goal.invariant-all
+invariant-all g l = record {
+  table : l.all.table_id ≡ l.shared.table_id;
+  slots : l.all.me.1 ≡ [];
+  parts : map (hand_with l.shared.table_id) l.all.me.0.parts ++ l.hands.items ≡ l.fn.hands.items;
+  rest : AreHandsOf l.shared.table_id l.hands.items;
+}
+
+abbrev pub decreases-all : goal.decreases-all
+decreases-all g l = length l.hands.items

@@ -1,0 +1,18 @@
+use Rattle.std.proofs.Common.{◌≡◌, ◌+◌, ◌-◌, map, length, vec_capacity}
+use Rattle.lock_core.specs.Machine.{numbers_from, start_view}
+use Rattle.epoch_pools.specs.Hands.{AreNewHands}
+use Rattle.epoch_pools.proofs.Opening.{Waiting}
+use Rattle.epoch_pools.proofs.list.open.Given as goal
+
+abbrev pub invariant-all : goal.invariant-all
+invariant-all g l = record {
+  room : vec_capacity l.made ≡ vec_capacity l.initial.made;
+  count : length l.made.items ≡ l.number;
+  sum : l.number + length l.opened.items ≡ l.seats;
+  views : l.views.items ≡ map (start_view l.seats) (numbers_from l.number (l.seats - l.number));
+  new : AreNewHands l.table.shared.table_id (g.G.Guard.first l.client) l.seats l.made.items;
+  rest : Waiting g.G.Guard.first l.table.shared.table_id l.seats l.client l.number l.opened.items;
+}
+
+abbrev pub decreases-all : goal.decreases-all
+decreases-all g l = length l.opened.items

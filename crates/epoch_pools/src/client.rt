@@ -1,0 +1,151 @@
+//! The steps on client words that the layer above makes through a hand: a load, a store, an addition and an exchange.
+//! Each is one atomic step, made at a moment of the running list at which the guard allows it; a reader may rely on
+//! the value that it returns being that of the word there, and on the pass being one that the guard gives there.
+ghost use Rattle.std.specs.Prelude.{◌≡◌, ◌≢◌, ◌<◌, ◌+◌, ℕ, MatchResult};
+ghost use Rattle.lock_core.specs.Client.{loads, stores, adds, exchanges, IsAllowed, IsMade};
+ghost use Rattle.lock_core.specs.Machine.{held_at};
+ghost use Rattle.lock_core.specs.Words.{word_count};
+ghost use Rattle.epoch_pools.specs.Running.{client_part};
+
+use crate::hand::Hand;
+use crate::list::{List, lock_word_count};
+use crate::plays::{Acting, Acts, Overwrites};
+use crate::token::Token;
+use lock_core::{Guard, Means};
+use std::marker::Brand;
+
+impl<G: Guard> List<G> {
+    /// The place of a client word in the table.
+    fn client_word(&self, i: u32) -> usize
+        requires { i < self.now.client }
+        ensures { result ≡ word_count self.now.seats + i }
+    {
+        (lock_word_count(self.seats) + i) as usize
+    }
+
+    fn load_at_client<M: Means<G>, C: Acting>(&self, token: &mut Token<G>, i: u32) -> u64
+        requires acting { C.acting ≡ loads i }
+        requires table { token.old.table ≡ self.now.table }
+        requires place { i < self.now.client }
+        requires allowed { IsAllowed G.holds G.allows M.note token.old.part.number (held_at token.old.part.core.own) token.old.part.pass C.acting }
+        ensures table { token.new.table ≡ token.old.table }
+        ensures part { token.new.part ≡ client_part token.old.part i token.new.part.pass }
+        ensures made { IsMade G.holds G.allows M.note token.old.part.number (held_at token.old.part.core.own) token.old.part.pass C.acting result token.new.part.pass }
+    {
+        let word = self.client_word(i);
+        self.table
+            .shared
+            .load::<Acts<G, M, C>>(&mut token.seat, word)
+    }
+
+    fn store_at_client<M: Means<G>, C: Acting>(&self, token: &mut Token<G>, i: u32, value: u64)
+        requires acting { C.acting ≡ stores i value }
+        requires table { token.old.table ≡ self.now.table }
+        requires place { i < self.now.client }
+        requires allowed { IsAllowed G.holds G.allows M.note token.old.part.number (held_at token.old.part.core.own) token.old.part.pass C.acting }
+        ensures table { token.new.table ≡ token.old.table }
+        ensures part { token.new.part ≡ client_part token.old.part i token.new.part.pass }
+        ensures made { (found : ℕ) × IsMade G.holds G.allows M.note token.old.part.number (held_at token.old.part.core.own) token.old.part.pass C.acting found token.new.part.pass }
+    {
+        let word = self.client_word(i);
+        self.table
+            .shared
+            .store::<Overwrites<G, M, C>>(&mut token.seat, word, value);
+    }
+
+    fn add_at_client<M: Means<G>, C: Acting>(&self, token: &mut Token<G>, i: u32, by: u64) -> u64
+        requires acting { C.acting ≡ adds i by }
+        requires table { token.old.table ≡ self.now.table }
+        requires place { i < self.now.client }
+        requires allowed { IsAllowed G.holds G.allows M.note token.old.part.number (held_at token.old.part.core.own) token.old.part.pass C.acting }
+        ensures table { token.new.table ≡ token.old.table }
+        ensures part { token.new.part ≡ client_part token.old.part i token.new.part.pass }
+        ensures made { IsMade G.holds G.allows M.note token.old.part.number (held_at token.old.part.core.own) token.old.part.pass C.acting result token.new.part.pass }
+    {
+        let word = self.client_word(i);
+        self.table
+            .shared
+            .fetch_add::<Acts<G, M, C>>(&mut token.seat, word, by)
+    }
+
+    fn exchange_at_client<M: Means<G>, C: Acting>(
+        &self,
+        token: &mut Token<G>,
+        i: u32,
+        expected: u64,
+        new: u64,
+    ) -> u64
+        requires acting { C.acting ≡ exchanges i expected new }
+        requires table { token.old.table ≡ self.now.table }
+        requires place { i < self.now.client }
+        requires allowed { IsAllowed G.holds G.allows M.note token.old.part.number (held_at token.old.part.core.own) token.old.part.pass C.acting }
+        ensures table { token.new.table ≡ token.old.table }
+        ensures part { token.new.part ≡ client_part token.old.part i token.new.part.pass }
+        ensures made { IsMade G.holds G.allows M.note token.old.part.number (held_at token.old.part.core.own) token.old.part.pass C.acting result token.new.part.pass }
+    {
+        let word = self.client_word(i);
+        self.table
+            .shared
+            .compare_exchange::<Acts<G, M, C>>(&mut token.seat, word, expected, new)
+    }
+}
+
+/// Loads client word `i`, counted from 0, and returns its value.
+pub fn client_load<G: Guard, M: Means<G>>(list: &List<G>, hand: &mut Hand<G>, i: u32) -> u64
+    requires table { hand.old.table ≡ list.now.table }
+    requires place { i < list.now.client }
+    requires allowed { IsAllowed G.holds G.allows M.note hand.old.part.number (held_at hand.old.part.core.own) hand.old.part.pass (loads i) }
+    ensures table { hand.new.table ≡ hand.old.table }
+    ensures part { hand.new.part ≡ client_part hand.old.part i hand.new.part.pass }
+    ensures made { IsMade G.holds G.allows M.note hand.old.part.number (held_at hand.old.part.core.own) hand.old.part.pass (loads i) result hand.new.part.pass }
+{
+    list.load_at_client::<M, Brand>(&mut hand.token, i)
+}
+
+/// Stores a value in client word `i`, counted from 0.
+pub fn client_store<G: Guard, M: Means<G>>(list: &List<G>, hand: &mut Hand<G>, i: u32, value: u64)
+    requires table { hand.old.table ≡ list.now.table }
+    requires place { i < list.now.client }
+    requires allowed { IsAllowed G.holds G.allows M.note hand.old.part.number (held_at hand.old.part.core.own) hand.old.part.pass (stores i value) }
+    ensures table { hand.new.table ≡ hand.old.table }
+    ensures part { hand.new.part ≡ client_part hand.old.part i hand.new.part.pass }
+    ensures made { (found : ℕ) × IsMade G.holds G.allows M.note hand.old.part.number (held_at hand.old.part.core.own) hand.old.part.pass (stores i value) found hand.new.part.pass }
+{
+    list.store_at_client::<M, Brand>(&mut hand.token, i, value);
+}
+
+/// Adds `by` to client word `i`, counted from 0, modulo 2^64, and returns the value before.
+pub fn client_add<G: Guard, M: Means<G>>(list: &List<G>, hand: &mut Hand<G>, i: u32, by: u64) -> u64
+    requires table { hand.old.table ≡ list.now.table }
+    requires place { i < list.now.client }
+    requires allowed { IsAllowed G.holds G.allows M.note hand.old.part.number (held_at hand.old.part.core.own) hand.old.part.pass (adds i by) }
+    ensures table { hand.new.table ≡ hand.old.table }
+    ensures part { hand.new.part ≡ client_part hand.old.part i hand.new.part.pass }
+    ensures made { IsMade G.holds G.allows M.note hand.old.part.number (held_at hand.old.part.core.own) hand.old.part.pass (adds i by) result hand.new.part.pass }
+{
+    list.add_at_client::<M, Brand>(&mut hand.token, i, by)
+}
+
+/// Puts `new` in place of `expected` in client word `i`, counted from 0. Where the word has another value, it returns
+/// that value, and the word stays.
+pub fn client_exchange<G: Guard, M: Means<G>>(
+    list: &List<G>,
+    hand: &mut Hand<G>,
+    i: u32,
+    expected: u64,
+    new: u64,
+) -> Result<(), u64>
+    requires table { hand.old.table ≡ list.now.table }
+    requires place { i < list.now.client }
+    requires allowed { IsAllowed G.holds G.allows M.note hand.old.part.number (held_at hand.old.part.core.own) hand.old.part.pass (exchanges i expected new) }
+    ensures table { hand.new.table ≡ hand.old.table }
+    ensures part { hand.new.part ≡ client_part hand.old.part i hand.new.part.pass }
+    ensures made { MatchResult result (λ _. IsMade G.holds G.allows M.note hand.old.part.number (held_at hand.old.part.core.own) hand.old.part.pass (exchanges i expected new) expected hand.new.part.pass) (λ found. (found ≢ expected) × IsMade G.holds G.allows M.note hand.old.part.number (held_at hand.old.part.core.own) hand.old.part.pass (exchanges i expected new) found hand.new.part.pass) }
+{
+    let found = list.exchange_at_client::<M, Brand>(&mut hand.token, i, expected, new);
+    if found == expected {
+        Ok(())
+    } else {
+        Err(found)
+    }
+}

@@ -1,0 +1,25 @@
+//! What the table's rule comes to between any two steps of any threads, each a law stated once for every guard. The
+//! rule holds there, since `atomic_table` lets no step be made that breaks it; so does what follows from it here. The
+//! functions have nothing to run; a reader may rely on their contracts as on any.
+ghost use Rattle.epoch_pools.specs.Apart.{KeepsLock, KeepsApart, KeepsNoReuse};
+
+use lock_core::Guard;
+
+/// Between any two steps the words of the lock and the seats' views, by number, are a state of the machine that meets
+/// the lock's invariant.
+pub fn keeps_lock<G: Guard>()
+    ensures { KeepsLock G.holds }
+{}
+
+/// Between any two steps no two held ranges of different seats conflict, and the guard's rule holds of the held
+/// ranges, the client words and the passes. Held ranges and passes are those that the seats' own views have, each at
+/// its seat's number.
+pub fn keeps_apart<G: Guard>()
+    ensures { KeepsApart G.holds }
+{}
+
+/// Between any two steps nobody may reach a node that is ready or that its hand has taken and not linked, so that its
+/// words may be written anew.
+pub fn keeps_no_reuse<G: Guard>()
+    ensures { KeepsNoReuse G.holds }
+{}

@@ -1,0 +1,109 @@
+//! A list lock's table, and how it is opened with a hand for each number. Between opening and closing, hands may go to
+//! other threads, and the list is shared by reference. A reader may rely on a new hand having its own sixteen nodes
+//! ready, and on no call but `open` and `close` taking memory: a hand's lists have their room from here on.
+ghost use Rattle.std.specs.Prelude.{◌≡◌, ◌<◌, ◌≤◌, ◌^◌, ℕ, List, ◌++◌, IfOk, None, length, map, replicate};
+ghost use Rattle.lock_core.specs.Machine.{numbers_from, start_view};
+ghost use Rattle.lock_core.specs.Words.{word_count};
+ghost use Rattle.epoch_pools.specs.Hands.{first_passes, IsSeatCount, AreNewHands};
+
+use crate::hand::Hand;
+use crate::rule::ListRule;
+use crate::token::Token;
+use crate::views::ListView;
+use atomic_table::Table;
+use lock_core::{Guard, Layout, View, first_view};
+use std::alloc::{AllocError, Global};
+use std::marker::Model;
+use word_rows::{Start, open_words};
+
+/// The list lock's words for up to 16 seats, and client words under the rule of a guard.
+#[derive(Drop)]
+pub struct List<G: Guard> {
+    pub(crate) table: Table<(), ListView<G::Pass>, Start, ListRule<G>, Global>,
+    pub(crate) seats: u32,
+    pub(crate) client: u32,
+}
+
+impl<G: Guard> Model for List<G> {
+    ghost use Rattle.std.specs.Prelude.{length};
+    ghost use Rattle.epoch_pools.specs.Hands.{Shape, IsTable};
+
+    ghost Value = { Shape };
+
+    ghost view = { λ t. record { table = t.table.shared.table_id; seats = t.seats; client = t.client } };
+
+    ghost invariant = { λ t. IsTable t.table.shared.key.seats (length t.table.shared.key.words.items) t.table.shared.table_id.words t.table.shared.table_id.slots t.seats t.client };
+}
+
+/// How many words the lock has. The client words follow them.
+pub(crate) fn lock_word_count(seats: u32) -> u32
+    requires some { 0 < seats }
+    requires few { seats ≤ 16 }
+    ensures { result ≡ word_count seats }
+{
+    Layout::of(seats, 0).words()
+}
+
+/// The words of a new table: those of the lock, all 0, and then the client words.
+fn opening_words(alloc: Global, seats: u32, client: &[u64]) -> Result<Vec<u64>, AllocError>
+    requires { IsSeatCount seats }
+    ensures { IfOk result (λ words. words.items ≡ replicate (word_count seats) 0 ++ client.now) }
+{
+    let mut words = Vec::new(alloc);
+    words.resize(lock_word_count(seats) as usize, 0)?;
+    words.extend_from_slice(client)?;
+    Ok(words)
+}
+
+/// The first view of every seat, in order.
+fn first_views(alloc: Global, seats: u32) -> Result<Vec<View>, AllocError>
+    requires { seats ≤ 16 }
+    ensures { IfOk result (λ views. views.items ≡ map (start_view seats) (numbers_from 0 seats)) }
+{
+    let mut views = Vec::with_capacity(alloc, seats as usize)?;
+    for seat in 0..seats {
+        views.push(first_view(alloc, seats, seat)?)?;
+    }
+    Ok(views)
+}
+
+/// A list of that many seats, from 1 to 16, over these client words, and its hands in order of their numbers, from 0
+/// on. At most 2^20 client words, which meet the guard with no grant and the passes of all seats at the opening.
+/// The one refusal is that there is no memory.
+pub fn open<G: Guard>(
+    alloc: Global,
+    seats: u32,
+    client: &[u64],
+) -> Result<(List<G>, Vec<Hand<G>>), AllocError>
+    requires seats { IsSeatCount seats }
+    requires clients { length client.now ≤ 2 ^ 20 }
+    requires rule { G.holds (replicate seats None) client.now (first_passes (G.first client.now) 0 seats) }
+    ensures shape { IfOk result (λ r. (r.0.seats ≡ seats) × (r.0.client ≡ length client.now)) }
+    ensures hands { IfOk result (λ r. (length r.1.items ≡ seats) × AreNewHands r.0.table (G.first client.now) seats r.1.items) }
+{
+    let words = opening_words(alloc, seats, client)?;
+    let mut made = Vec::with_capacity(alloc, seats as usize)?;
+    let mut views = first_views(alloc, seats)?;
+    let (table, mut opened) = open_words::<ListRule<G>>(alloc, seats, words.as_slice(), &[])?;
+    let mut number = 0;
+    'all: while !opened.is_empty() {
+        let seat = opened.remove(0);
+        let view = views.remove(0);
+        made.push_reserved(Hand {
+            token: Token {
+                seat,
+                number,
+                seats,
+            },
+            view,
+        });
+        number += 1;
+    }
+    let client = client.len() as u32;
+    let list = List {
+        table,
+        seats,
+        client,
+    };
+    Ok((list, made))
+}

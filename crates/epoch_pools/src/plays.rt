@@ -1,0 +1,96 @@
+//! What each kind of step says to the seat that makes it, in the words of `atomic_table`: a step of the lock, a step on
+//! a client word, and the joining of two seats. The step itself is data, which the call picks; a reader may rely on a
+//! play naming what belongs to the seat after the step, and nothing that the code could invent.
+use crate::views::ListView;
+use atomic_table::{Join, Play};
+use lock_core::{Guard, Means};
+use std::marker::{Brand, PhantomData};
+
+/// Which step is made on a client word. Each call picks it.
+pub trait Acting {
+    ghost use Rattle.lock_core.specs.Client.{ClientStep};
+
+    ghost acting: { ClientStep };
+}
+
+impl Acting for Brand {
+    ghost use Rattle.lock_core.specs.Client.{loads};
+
+    ghost acting = { loads 0 };
+}
+
+/// A step on a client word that says which value it found.
+pub(crate) struct Acts<G, M, C> {
+    of: PhantomData<(G, M, C)>,
+}
+
+impl<G: Guard, M: Means<G>, C: Acting> Play<(), ListView<G::Pass>> for Acts<G, M, C> {
+    ghost use Rattle.epoch_pools.specs.Running.{client_play};
+
+    ghost then = { λ _ me found me'. client_play G.holds G.allows M.note C.acting me found me' };
+}
+
+/// A store to a client word, which says that there was a value and not which.
+pub(crate) struct Overwrites<G, M, C> {
+    of: PhantomData<(G, M, C)>,
+}
+
+impl<G: Guard, M: Means<G>, C: Acting> Play<(), ListView<G::Pass>> for Overwrites<G, M, C> {
+    ghost use Rattle.std.specs.Prelude.{ℕ};
+    ghost use Rattle.epoch_pools.specs.Running.{client_play};
+
+    ghost then = { λ _ me _ me'. (found : ℕ) × client_play G.holds G.allows M.note C.acting me found me' };
+}
+
+/// Which step of the lock is made, and in a table of how many seats. Each call picks it.
+pub trait Doing {
+    ghost use Rattle.std.specs.Prelude.{ℕ};
+    ghost use Rattle.lock_core.specs.declared.steps.Step.{Step};
+
+    ghost doing: { Step };
+
+    ghost seats: { ℕ };
+}
+
+impl Doing for Brand {
+    ghost use Rattle.lock_core.specs.declared.steps.Step.TheVariants.{Walk};
+
+    ghost doing = { Walk };
+
+    ghost seats = { 0 };
+}
+
+/// A step of the lock that says which value it found.
+pub(crate) struct Does<G, D> {
+    of: PhantomData<(G, D)>,
+}
+
+impl<G: Guard, D: Doing> Play<(), ListView<G::Pass>> for Does<G, D> {
+    ghost use Rattle.epoch_pools.specs.Running.{lock_play};
+
+    ghost then = { λ _ me found me'. lock_play G.rested D.seats D.doing me found me' };
+}
+
+/// A store on a word of the lock, which says that there was a value and not which.
+pub(crate) struct Puts<G, D> {
+    of: PhantomData<(G, D)>,
+}
+
+impl<G: Guard, D: Doing> Play<(), ListView<G::Pass>> for Puts<G, D> {
+    ghost use Rattle.std.specs.Prelude.{ℕ};
+    ghost use Rattle.epoch_pools.specs.Running.{lock_play};
+
+    ghost then = { λ _ me _ me'. (found : ℕ) × lock_play G.rested D.seats D.doing me found me' };
+}
+
+/// The seat that stays takes in what belongs to the other.
+pub(crate) struct Gathers;
+
+impl<P> Join<ListView<P>> for Gathers {
+    ghost use Rattle.std.specs.Prelude.{[], ◌++◌};
+    ghost use Rattle.epoch_pools.specs.Running.{view};
+
+    ghost both = { λ v w. view (v.parts ++ w.parts) };
+
+    ghost spent = { view [] };
+}

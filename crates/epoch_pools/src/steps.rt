@@ -1,0 +1,83 @@
+//! One step of the lock with a hand, for all eighteen kinds: its operation from the hand's view, one atomic operation
+//! on one word, and the view afterwards. A reader may rely on the view after being that of the step's line in the step
+//! table, and on a range that is given back leaving the guard's pass rested.
+ghost use Rattle.std.specs.Prelude.{◌≡◌, ◌+◌, ◌<◌, ℕ};
+ghost use Rattle.lock_core.specs.Operations.{IsStoring};
+ghost use Rattle.epoch_pools.specs.Running.{Enables, MayRest, part_after, Told};
+ghost use Rattle.epoch_pools.specs.Hands.{IsListStep};
+
+use crate::hand::Hand;
+use crate::list::List;
+use crate::plays::Doing;
+use lock_core::{Guard, Step, follow, op_of};
+use std::marker::Brand;
+use std::sync::ledger::Ledger;
+use word_rows::Steps;
+
+impl<G: Guard> Hand<G> {
+    #[inline(always)]
+    fn make_at<D: Doing>(&mut self, list: &List<G>, step: Step) -> u64
+        requires doing { D.doing ≡ step }
+        requires seats { D.seats ≡ list.now.seats }
+        requires table { self.old.table ≡ list.now.table }
+        requires enabled { Enables self.old.part step }
+        requires rest { MayRest G.is_at_rest self.old.part step }
+        ensures table { self.new.table ≡ self.old.table }
+        ensures made { self.new.part ≡ part_after G.rested self.old.part step result }
+        ensures told { Told D.seats self.old.part step result }
+        ensures store { IsStoring step → result ≡ 0 }
+    {
+        let seats = self.seats();
+        let number = self.number();
+        let op = op_of(seats, number, &self.view, step);
+        let found = list.perform::<D>(&mut self.token, op);
+        follow(seats, number, &mut self.view, step, found);
+        found
+    }
+
+    /// Makes one step of the lock, which the hand's view enables, and returns what its word was, or 0 for a store.
+    #[inline(always)]
+    pub(crate) fn make<L: Ledger>(
+        &mut self,
+        list: &List<G>,
+        step: Step,
+        steps: &mut Steps<L>,
+    ) -> u64
+        requires table { self.old.table ≡ list.now.table }
+        requires enabled { Enables self.old.part step }
+        requires rest { MayRest G.is_at_rest self.old.part step }
+        ensures table { self.new.table ≡ self.old.table }
+        ensures made { self.new.part ≡ part_after G.rested self.old.part step result }
+        ensures told { Told list.now.seats self.old.part step result }
+        ensures store { IsStoring step → result ≡ 0 }
+        ensures counted { steps.new ≡ steps.old + 1 }
+    {
+        let found = self.make_at::<Brand>(list, step);
+        steps.tick();
+        found
+    }
+}
+
+/// Makes one step on a node or the list: of the kinds FillLo, FillHi, Aim, and Walk to Settle. The hand is of this
+/// list, and its view enables the step. Where a Mark or a QuickUnlink may give a held range back, the pass is at rest,
+/// and it becomes `rested` where the range is given back. The view after is that of the step's line. It returns what
+/// the word was, or 0 for a store. The other kinds have calls of their own.
+#[inline(always)]
+pub fn step<G: Guard, L: Ledger>(
+    list: &List<G>,
+    hand: &mut Hand<G>,
+    step: Step,
+    steps: &mut Steps<L>,
+) -> u64
+    requires table { hand.old.table ≡ list.now.table }
+    requires kind { IsListStep step }
+    requires enabled { Enables hand.old.part step }
+    requires rest { MayRest G.is_at_rest hand.old.part step }
+    ensures table { hand.new.table ≡ hand.old.table }
+    ensures made { hand.new.part ≡ part_after G.rested hand.old.part step result }
+    ensures told { Told list.now.seats hand.old.part step result }
+    ensures store { IsStoring step → result ≡ 0 }
+    ensures counted { steps.new ≡ steps.old + 1 }
+{
+    hand.make(list, step, steps)
+}

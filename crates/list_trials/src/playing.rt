@@ -1,0 +1,220 @@
+//! Single steps of a hand, and rows of steps with what each finds. A step is made where the hand's view enables it; a
+//! row of a schedule that was worked by hand is a list of such steps, and playing it says whether all went as worked.
+ghost use Rattle.std.specs.Prelude.{◌≡◌, ◌<◌, ◌≢◌, length};
+ghost use Rattle.std.specs.Bool.{OnTrue};
+ghost use Rattle.epoch_pools.specs.Hands.{IsListStep};
+ghost use Rattle.list_trials.specs.Trials.{IsSameHand, AreInOrder};
+
+use epoch_pools::{Hand, List, Taken, enter, give_home, inside, leave, step, take};
+use lock_core::{FreeGuard, Own, Step, is_enabled};
+use std::marker::Brand;
+use std::sync::ledger::{Blank, Ledger};
+use word_rows::Steps;
+
+/// Whether the step is one of those on nodes and the list.
+fn is_list_step(step: Step) -> bool
+    ensures { OnTrue result (IsListStep step) }
+{
+    match step {
+        Step::Enter => false,
+        Step::Leave => false,
+        Step::ReadEpoch { .. } => false,
+        Step::ReadHome { .. } => false,
+        Step::GiveHome => false,
+        Step::ClearHome { .. } => false,
+        Step::FillLo { .. } => true,
+        Step::FillHi { .. } => true,
+        Step::Aim => true,
+        Step::Walk => true,
+        Step::ReadLo => true,
+        Step::ReadHi => true,
+        Step::Link => true,
+        Step::Unlink => true,
+        Step::Mark => true,
+        Step::QuickLink => true,
+        Step::QuickUnlink => true,
+        Step::Settle => true,
+    }
+}
+
+/// Takes a node, if the hand is outside and has none of its own.
+fn take_free<L: Ledger>(
+    list: &List<FreeGuard>,
+    hand: &mut Hand<FreeGuard>,
+    steps: &mut Steps<L>,
+) -> Option<Taken>
+    requires table { hand.old.table ≡ list.now.table }
+    ensures same { IsSameHand hand.old hand.new }
+{
+    if inside(hand) {
+        return None;
+    }
+    match hand.view().own {
+        Own::Nothing => Some(take(list, hand, steps)),
+        _ => None,
+    }
+}
+
+/// Enters the epoch, if the hand may.
+fn go_in<L: Ledger>(
+    list: &List<FreeGuard>,
+    hand: &mut Hand<FreeGuard>,
+    steps: &mut Steps<L>,
+) -> Option<u64>
+    requires table { hand.old.table ≡ list.now.table }
+    ensures same { IsSameHand hand.old hand.new }
+{
+    if inside(hand) || hand.view().hand.is_some() {
+        return None;
+    }
+    enter(list, hand, steps);
+    Some(0)
+}
+
+/// Leaves the epoch, if the hand may.
+fn go_out<L: Ledger>(
+    list: &List<FreeGuard>,
+    hand: &mut Hand<FreeGuard>,
+    steps: &mut Steps<L>,
+) -> Option<u64>
+    requires table { hand.old.table ≡ list.now.table }
+    ensures same { IsSameHand hand.old hand.new }
+{
+    if !is_enabled(hand.seats(), hand.number(), hand.view(), Step::Leave) {
+        return None;
+    }
+    leave(list, hand, steps);
+    Some(0)
+}
+
+/// Gives the node in the hand home, if there is one.
+fn put_home<L: Ledger>(
+    list: &List<FreeGuard>,
+    hand: &mut Hand<FreeGuard>,
+    steps: &mut Steps<L>,
+) -> Option<u64>
+    requires table { hand.old.table ≡ list.now.table }
+    ensures same { IsSameHand hand.old hand.new }
+{
+    let Some(node) = hand.view().hand else {
+        return None;
+    };
+    give_home(list, hand, node, steps);
+    Some(0)
+}
+
+/// Makes a step on a node or the list, if the hand's view enables it.
+fn step_on<L: Ledger>(
+    list: &List<FreeGuard>,
+    hand: &mut Hand<FreeGuard>,
+    kind: Step,
+    steps: &mut Steps<L>,
+) -> Option<u64>
+    requires table { hand.old.table ≡ list.now.table }
+    ensures same { IsSameHand hand.old hand.new }
+{
+    if !is_list_step(kind) || !is_enabled(hand.seats(), hand.number(), hand.view(), kind) {
+        return None;
+    }
+    Some(step(list, hand, kind, steps))
+}
+
+fn make_counting<L: Ledger>(
+    list: &List<FreeGuard>,
+    hand: &mut Hand<FreeGuard>,
+    kind: Step,
+    blank: Blank,
+) -> Option<u64>
+    requires blank { (blank.name ≡ L.name) × (blank.parts ≡ L.parts) × (0 < L.parts) }
+    requires table { hand.old.table ≡ list.now.table }
+    ensures same { IsSameHand hand.old hand.new }
+{
+    let mut steps = Steps::<L>::new(blank);
+    match kind {
+        Step::Enter => go_in(list, hand, &mut steps),
+        Step::Leave => go_out(list, hand, &mut steps),
+        Step::GiveHome => put_home(list, hand, &mut steps),
+        Step::ClearHome { node } => {
+            if take_free(list, hand, &mut steps) == Some(Taken::Node(node)) {
+                Some(0)
+            } else {
+                None
+            }
+        }
+        _ => step_on(list, hand, kind, &mut steps),
+    }
+}
+
+/// Makes one step and returns what its word was, or 0 for a store, an Enter and a Leave. A ClearHome is made by `take`,
+/// which has to give that node; the steps of the barrier are made by `take` alone. It returns None where the hand's
+/// view doesn't enable the step, or `take` gave another answer.
+pub fn make(list: &List<FreeGuard>, hand: &mut Hand<FreeGuard>, kind: Step) -> Option<u64>
+    requires table { hand.old.table ≡ list.now.table }
+    ensures same { IsSameHand hand.old hand.new }
+{
+    make_counting::<Brand>(list, hand, kind, Blank::new(1))
+}
+
+fn take_counting<L: Ledger>(
+    list: &List<FreeGuard>,
+    hand: &mut Hand<FreeGuard>,
+    blank: Blank,
+) -> Option<Taken>
+    requires blank { (blank.name ≡ L.name) × (blank.parts ≡ L.parts) × (0 < L.parts) }
+    requires table { hand.old.table ≡ list.now.table }
+    ensures same { IsSameHand hand.old hand.new }
+{
+    let mut steps = Steps::<L>::new(blank);
+    take_free(list, hand, &mut steps)
+}
+
+/// Takes a node for the hand, if there is one for it.
+pub(crate) fn take_one(list: &List<FreeGuard>, hand: &mut Hand<FreeGuard>) -> bool
+    requires table { hand.old.table ≡ list.now.table }
+    ensures same { IsSameHand hand.old hand.new }
+{
+    match take_counting::<Brand>(list, hand, Blank::new(1)) {
+        Some(Taken::Node(_)) => true,
+        _ => false,
+    }
+}
+
+/// What `take` says to the hand of that number, if it is outside and has no node of its own.
+pub fn take_now(
+    list: &List<FreeGuard>,
+    hands: &mut [Hand<FreeGuard>],
+    number: usize,
+) -> Option<Taken>
+    requires there { number < length hands.old }
+    requires order { AreInOrder list.now.table hands.old }
+    ensures order { AreInOrder list.now.table hands.new }
+{
+    take_counting::<Brand>(list, &mut hands[number], Blank::new(1))
+}
+
+fn play_hand(list: &List<FreeGuard>, hand: &mut Hand<FreeGuard>, row: &[(Step, u64)]) -> bool
+    requires table { hand.old.table ≡ list.now.table }
+    ensures same { IsSameHand hand.old hand.new }
+{
+    'row: for (kind, found) in row {
+        if make(list, hand, *kind) != Some(*found) {
+            return false;
+        }
+    }
+    true
+}
+
+/// Plays a row of steps with the hand of that number, each with what it finds. It says whether all were enabled and
+/// found that, and stops at the first that didn't.
+pub fn play(
+    list: &List<FreeGuard>,
+    hands: &mut [Hand<FreeGuard>],
+    number: usize,
+    row: &[(Step, u64)],
+) -> bool
+    requires there { number < length hands.old }
+    requires order { AreInOrder list.now.table hands.old }
+    ensures order { AreInOrder list.now.table hands.new }
+{
+    play_hand(list, &mut hands[number], row)
+}
