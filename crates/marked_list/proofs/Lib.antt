@@ -1,0 +1,9 @@
+pub mod Following
+pub mod Judging
+pub mod Lines
+pub mod Moments
+pub mod Owning
+pub mod Setting
+pub mod Stepping
+pub mod Swept
+pub mod Unlinking

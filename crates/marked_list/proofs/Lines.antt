@@ -1,0 +1,97 @@
+-- A step of a hand by the line that its view enables, and what every step leaves of the part and of the record.
+use Rattle.std.proofs.Common.{◌≡◌, ℕ, ◌+◌, true, Bool, refl, sym, ap, ◌∙◌, subst, arith}
+use Rattle.std.specs.Prelude.{Option, Some, None, is_some, unwrap_or}
+use Rattle.lock_core.specs.declared.range.Held.{Held}
+use Rattle.lock_core.specs.declared.views.View.{View}
+use Rattle.lock_core.specs.declared.views.Cursor.{Cursor}
+use Rattle.lock_core.specs.declared.steps.Step.{Step}
+use Rattle.lock_core.specs.StepTable.{Plan, IsLine, loads}
+use Rattle.lock_core.specs.Machine.{held_at}
+use Rattle.lock_core.proofs.Table.{plan_of_line}
+use Rattle.epoch_pools.specs.declared.record.Looked.{Looked}
+use Rattle.epoch_pools.specs.declared.record.Record.{Record}
+use Rattle.epoch_pools.specs.declared.views.Part.{Part}
+use Rattle.epoch_pools.specs.Record.{met_after, lost_by, expected_by, looked_with, looked_on, walked_at, is_judging, gained_by}
+use Rattle.epoch_pools.specs.Running.{Enables, line_for, part_after, pass_kept}
+use Rattle.marked_list.specs.Leaves.{IsSamePools, IsOn, IsCall, IsSameWalk}
+
+pub enables : {P : Type 0} (p : Part P) (step : Step) (plan : Plan) → IsLine p.seats p.number p.core step plan → Enables p step
+enables p step plan line = ap is_some (plan_of_line p.seats p.number p.core step plan line)
+
+pub line_is : {P : Type 0} (p : Part P) (step : Step) (plan : Plan) → IsLine p.seats p.number p.core step plan → line_for p step ≡ plan
+line_is p step plan line = ap (λ (o : Option Plan). unwrap_or o (loads 0 (λ _. p.core))) (plan_of_line p.seats p.number p.core step plan line)
+
+-- what a step with that plan, which found that value, leaves
+pub record Made {P : Type 0} (rested : P → P) (p q : Part P) (step : Step) (plan : Plan) (found : ℕ) : Type 0 where
+  pub number : q.number ≡ p.number
+  pub seats : q.seats ≡ p.seats
+  pub core : q.core ≡ plan.view found
+  pub pass : q.pass ≡ pass_kept rested (held_at p.core.own) (held_at (plan.view found).own) p.pass
+  pub client : q.trace.client ≡ p.trace.client
+  pub taken : q.trace.taken ≡ p.trace.taken + 1
+  pub walked : q.trace.walked ≡ walked_at p.trace step
+  pub met : q.trace.met ≡ met_after p.trace p.core step found
+  pub lost : q.trace.lost ≡ lost_by p.trace step plan.place (expected_by p.core step) found
+  pub looked : q.trace.looked ≡ looked_with p.trace p.core.cursor (plan.view found).cursor (is_judging step) (gained_by p.core (plan.view found))
+
+pub made_by : {P : Type 0} (rested : P → P) (p q : Part P) (step : Step) (plan : Plan) (found : ℕ) → IsLine p.seats p.number p.core step plan → q ≡ part_after rested p step found → Made rested p q step plan found
+made_by {P} rested p q step plan found line made = subst (λ (x : Plan). Made rested p q step x found) (line_is p step plan line) (subst (λ (x : Part P). Made rested p x step (line_for p step) found) (sym made)
+    (record { number = refl; seats = refl; core = refl; pass = refl; client = refl; taken = refl; walked = refl; met = refl; lost = refl; looked = refl }))
+
+-- where nothing was held the pass stays
+pub pass_stays : {P : Type 0} (rested : P → P) (before now : Option Held) (pass : P) → before ≡ None → pass_kept rested before now pass ≡ pass
+pass_stays rested before now pass e = ap (λ (o : Option Held). pass_kept rested o now pass) e
+
+-- what a cursor has looked at stays with it
+pub same_looked : (t : Record) (b now : Option Cursor) (j g : Bool) → is_some b ≡ true → (l : Looked) → t.looked ≡ Some l → (m : Looked) × (looked_with t b now j g ≡ Some m) × (m.step ≡ l.step)
+same_looked t None now j g e l is = absurd (cc)
+same_looked t (Some b) None j g e l is = (l, is, refl)
+same_looked t (Some b) (Some c) j g e l is = by_looked t.looked is
+  where
+    by_looked : (o : Option Looked) → o ≡ Some l → (m : Looked) × (looked_on o c j g ≡ Some m) × (m.step ≡ l.step)
+    by_looked None e' = absurd (cc)
+    by_looked (Some k) e' = let same : k ≡ l = cc in (_, refl, ap (λ (x : Looked). x.step) same)
+
+module _ {P : Type 0} (rested : P → P) (p q : Part P) (step : Step) (plan : Plan) (found : ℕ) (m : Made rested p q step plan found) where
+  pub same_walk : is_some p.core.cursor ≡ true → IsSameWalk p q
+  same_walk there l is = let r = same_looked p.trace p.core.cursor (plan.view found).cursor (is_judging step) (gained_by p.core (plan.view found)) there l is in (r.0, m.looked ∙ r.1, r.2)
+
+  pub on_made : held_at p.core.own ≡ None → (plan.view found).epoch ≡ p.core.epoch → IsSamePools p.core (plan.view found) → (plan.view found).hand ≡ None → IsOn p q
+  on_made free epoch pools hand = record {
+    number = m.number;
+    seats = m.seats;
+    pass = m.pass ∙ pass_stays rested (held_at p.core.own) (held_at (plan.view found).own) p.pass free;
+    client = m.client;
+    epoch = ap (λ (v : View). v.epoch) m.core ∙ epoch;
+    pools = subst (IsSamePools p.core) (sym m.core) pools;
+    hand = ap (λ (v : View). v.hand) m.core ∙ hand;
+    taken = let t = m.taken in omega arith;
+  }
+
+  pub call_made : held_at p.core.own ≡ None → IsCall 1 p q
+  call_made free = record {
+    number = m.number;
+    seats = m.seats;
+    pass = m.pass ∙ pass_stays rested (held_at p.core.own) (held_at (plan.view found).own) p.pass free;
+    client = m.client;
+    taken = let t = m.taken in omega arith;
+  }
+
+-- one call after another
+pub on_on : {P : Type 0} (p q r : Part P) → IsOn p q → IsOn q r → IsOn p r
+on_on p q r a b = record {
+  number = b.number ∙ a.number;
+  seats = b.seats ∙ a.seats;
+  pass = b.pass ∙ a.pass;
+  client = b.client ∙ a.client;
+  epoch = b.epoch ∙ a.epoch;
+  pools = pools_on p.core q.core r.core a.pools b.pools;
+  hand = b.hand;
+  taken = let x = a.taken in let y = b.taken in omega arith;
+}
+  where
+    pools_on : (u v w : View) → IsSamePools u v → IsSamePools v w → IsSamePools u w
+    pools_on u v w a b = record { ready = b.ready ∙ a.ready; used = b.used ∙ a.used; homes = b.homes ∙ a.homes; notes = b.notes ∙ a.notes; passed = b.passed ∙ a.passed }
+
+pub walk_on_walk : {P : Type 0} (p q r : Part P) → IsSameWalk p q → IsSameWalk q r → IsSameWalk p r
+walk_on_walk p q r a b l is = let s = a l is in let t = b s.0 s.1 in (t.0, t.1, t.2 ∙ s.2)

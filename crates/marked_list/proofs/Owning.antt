@@ -1,0 +1,246 @@
+-- The own node on its way: filled, aimed, linked, marked, and by the fast path.
+use Rattle.std.proofs.Common.{◌≡◌, ◌≢◌, ◌⊎◌, ℕ, suc, ◌+◌, ◌*◌, ◌%◌, ◌^◌, ◌≤◌, ◌<◌, Bool, ⊎_elim, refl, sym, ap, ◌∙◌, subst, arith, eq-eqb, ne_eqb}
+use Rattle.std.specs.Prelude.{Option, Some, None, unwrap_or, if◌then◌else◌}
+use Rattle.lock_core.specs.declared.range.Held.{Held}
+use Rattle.lock_core.specs.declared.range.Mode.{Mode}
+use Rattle.lock_core.specs.declared.views.View.{View}
+use Rattle.lock_core.specs.declared.views.Cursor.{Cursor}
+use Rattle.lock_core.specs.declared.views.Own.{Own}
+use Rattle.lock_core.specs.declared.views.Own.TheVariants.{Filling, Linked}
+use Rattle.lock_core.specs.declared.views.Todo.{Todo}
+use Rattle.lock_core.specs.declared.views.Todo.TheVariants.{Done}
+use Rattle.lock_core.specs.declared.steps.Step.TheVariants.{FillLo, FillHi, Aim, Link, QuickLink, QuickUnlink}
+use Rattle.lock_core.specs.Words.{cell_place, lo_place, hi_place, hi_word, cell_of}
+use Rattle.lock_core.specs.Nodes.{Filled, Listed, filling, listed, listed_of}
+use Rattle.lock_core.specs.Views.{lo_filled, hi_filled, aimed_at, linked, dropped, todo_of, quick_linked, quick_unlinked}
+use Rattle.lock_core.specs.StepTable.{Plan, IsLine, Aims, stores, exchanges, fill_lo, fill_hi, aim, link, quick_link, quick_unlink}
+use Rattle.lock_core.specs.Machine.{held_at}
+use Rattle.epoch_pools.specs.declared.views.Part.{Part}
+use Rattle.epoch_pools.specs.Record.{cursor_word, own_word}
+use Rattle.epoch_pools.specs.Running.{Enables, part_after, pass_kept}
+use Rattle.marked_list.specs.declared.answers.Lost.{Lost}
+use Rattle.marked_list.specs.Order.{HasEnds, StandsAtPlace, MayFill, MayAim, MayLink, MayQuickUnlink}
+use Rattle.marked_list.specs.Leaves.{IsCall}
+use Rattle.marked_list.specs.Causes.{IsLost}
+use Rattle.marked_list.specs.Answers.{aimed_own, linked_own, IsAimed, IsQuickCall}
+use Rattle.marked_list.proofs.Lines.{enables, Made, made_by, call_made}
+use Rattle.marked_list.proofs.Following.{lost_from}
+use Rattle.marked_list.proofs.Unlinking.{lost_made}
+
+pub call_on : {P : Type 0} (p q r : Part P) → IsCall 1 p q → IsCall 1 q r → IsCall 2 p r
+call_on p q r a b = record {
+  number = b.number ∙ a.number;
+  seats = b.seats ∙ a.seats;
+  pass = b.pass ∙ a.pass;
+  client = b.client ∙ a.client;
+  taken = let x = a.taken in let y = b.taken in omega arith;
+}
+
+module _ {P : Type 0} (p : Part P) (n lo : ℕ) (may : MayFill p.core n) where
+  abbrev lo_plan : Plan
+  lo_plan = stores (lo_place p.seats may.own.node) lo (lo_filled p.core may.own lo)
+
+  lo_line : IsLine p.seats p.number p.core (FillLo lo) lo_plan
+  lo_line = fill_lo may.own lo may.is may.aimed may.cursor
+
+  pub may_fill_lo : Enables p (FillLo lo)
+  may_fill_lo = enables p (FillLo lo) lo_plan lo_line
+
+  module _ (rested : P → P) (q : Part P) (w hi : ℕ) (mode : Mode) (made : q ≡ part_after rested p (FillLo lo) w) (less : lo < hi) (most : hi ≤ 2 ^ 62) where
+    lo_made : Made rested p q (FillLo lo) lo_plan w
+    lo_made = made_by rested p q (FillLo lo) lo_plan w lo_line made
+
+    abbrev half : Filled
+    half = record { node = may.own.node; lo = Some lo; hi = None; mode = may.own.mode; aimed = may.own.aimed }
+
+    core_lo : q.core ≡ record p.core { own = filling half }
+    core_lo = lo_made.core
+
+    abbrev hi_plan : Plan
+    hi_plan = stores (hi_place q.seats half.node) (hi_word hi mode) (hi_filled q.core half hi mode)
+
+    hi_line : IsLine q.seats q.number q.core (FillHi hi mode) hi_plan
+    hi_line = fill_hi half lo hi mode (ap (λ (v : View). v.own) core_lo) refl less most may.aimed (ap (λ (v : View). v.cursor) core_lo ∙ may.cursor)
+
+    pub may_fill_hi : Enables q (FillHi hi mode)
+    may_fill_hi = enables q (FillHi hi mode) hi_plan hi_line
+
+    module _ (r : Part P) (u : ℕ) (last : r ≡ part_after rested q (FillHi hi mode) u) where
+      hi_made : Made rested q r (FillHi hi mode) hi_plan u
+      hi_made = made_by rested q r (FillHi hi mode) hi_plan u hi_line last
+
+      pub filled_core : r.core ≡ record p.core { own = Filling n (Some lo) (Some hi) mode None }
+      filled_core =
+          hi_made.core ∙ (ap (λ (v : View). record v { own = Filling half.node (Some lo) (Some hi) mode half.aimed }) core_lo
+          ∙ (λ i. record p.core { own = Filling (may.node i) (Some lo) (Some hi) mode (may.aimed i) }))
+
+      pub filled_call : IsCall 2 p r
+      filled_call = call_on p q r (call_made rested p q (FillLo lo) lo_plan w lo_made (ap held_at may.is))
+          (call_made rested q r (FillHi hi mode) hi_plan u hi_made (ap (λ (v : View). held_at v.own) core_lo))
+
+aims : (o : Option Cursor) → (o ≡ None) ⊎ StandsAtPlace o → Aims o (cursor_word o)
+aims o place = ⊎_elim (λ e. subst (λ (x : Option Cursor). Aims x (cursor_word x)) (sym e) refl)
+    (λ (s : StandsAtPlace o). subst (λ (x : Option Cursor). Aims x (cursor_word x)) (sym s.is) (refl, s.even, s.place)) place
+
+module _ {P : Type 0} (p : Part P) (may : MayAim p.core) where
+  abbrev aim_plan : Plan
+  aim_plan = stores (cell_place p.seats (suc may.own.node.node)) (cursor_word p.core.cursor) (aimed_at p.core may.own.node (cursor_word p.core.cursor))
+
+  aim_line : IsLine p.seats p.number p.core Aim aim_plan
+  aim_line = aim may.own.node may.own.lo may.own.hi (cursor_word p.core.cursor) may.own.is may.own.low may.own.high (aims p.core.cursor may.place)
+
+  pub may_aim : Enables p Aim
+  may_aim = enables p Aim aim_plan aim_line
+
+  pub aimed_is : (rested : P → P) (q : Part P) (w : ℕ) → q ≡ part_after rested p Aim w → IsAimed p q
+  aimed_is rested q w made =
+      let m = made_by rested p q Aim aim_plan w aim_line made in
+      record {
+        call = call_made rested p q Aim aim_plan w m (ap held_at may.own.is);
+        core = m.core ∙ ap (λ (o : Own). record p.core { own = aimed_own (cursor_word p.core.cursor) o }) (sym may.own.is);
+      }
+
+-- the own node that was linked
+linked_is : (todo : Mode → Todo) (own : Own) (e : HasEnds own) → Linked e.node.node (record { lo = e.lo; hi = e.hi }) e.node.mode (todo e.node.mode) ≡ linked_own todo own
+linked_is todo own e =
+    (λ i. Linked e.node.node (record { lo = unwrap_or (sym e.low i) 0; hi = unwrap_or (sym e.high i) 0 }) e.node.mode (todo e.node.mode)) ∙ ap (linked_own todo) (sym e.is)
+
+module _ {P : Type 0} (p q : Part P) (a : IsAimed p q) where
+  module _ (may : MayLink p.core) where
+    abbrev full : Filled
+    full = record may.own.node { aimed = Some may.place.cursor.cur }
+
+    own_link : q.core.own ≡ filling full
+    own_link = ap (λ (v : View). v.own) a.core ∙ (λ i. aimed_own (cursor_word (may.place.is i)) (may.own.is i))
+
+    cursor_link : q.core.cursor ≡ Some may.place.cursor
+    cursor_link = ap (λ (v : View). v.cursor) a.core ∙ may.place.is
+
+    abbrev link_plan : Plan
+    link_plan = exchanges (cell_place q.seats (cell_of may.place.cursor.prev)) may.place.cursor.cur (2 * suc full.node) (linked q.core full.node may.own.lo may.own.hi full.mode (todo_of full.mode)) (dropped q.core)
+
+    link_line : IsLine q.seats q.number q.core Link link_plan
+    link_line = link full may.place.cursor may.own.lo may.own.hi own_link cursor_link may.own.low may.own.high refl may.place.even may.place.place
+
+    pub may_link : Enables q Link
+    may_link = enables q Link link_plan link_line
+
+    module _ (rested : P → P) (r : Part P) (w : ℕ) (made : r ≡ part_after rested q Link w) where
+      link_made : Made rested q r Link link_plan w
+      link_made = made_by rested q r Link link_plan w link_line made
+
+      abbrev linked_by : Bool → View
+      linked_by b = if b then linked q.core full.node may.own.lo may.own.hi full.mode (todo_of full.mode) else dropped q.core
+
+      pub link_call : IsCall 2 p r
+      link_call = call_on p q r a.call (call_made rested q r Link link_plan w link_made (ap held_at own_link))
+
+      module _ (d : Cursor) (is : q.core.cursor ≡ Some d) where
+        same_place : d ≡ may.place.cursor
+        same_place = let e : ◌≡◌ {A = Option Cursor} (Some d) (Some may.place.cursor) = sym is ∙ cursor_link in cc
+
+        pub link_done : w ≡ d.cur → r.core ≡ record p.core { own = linked_own todo_of p.core.own; cursor = None }
+        link_done e =
+            link_made.core ∙ (ap linked_by (eq-eqb _ _ (e ∙ ap (λ (x : Cursor). x.cur) same_place))
+            ∙ (ap (λ (v : View). record v { own = Linked full.node (record { lo = may.own.lo; hi = may.own.hi }) full.mode (todo_of full.mode); cursor = None }) a.core
+            ∙ ap (λ (o : Own). record p.core { own = o; cursor = None }) (linked_is todo_of p.core.own may.own)))
+
+        pub link_lost : w ≢ d.cur → (s : ℕ) → s ≡ r.seats → (l : Lost) → l.place ≡ cell_place s (cell_of d.prev) → l.expected ≡ d.cur → l.found ≡ w
+            → IsLost p.trace.taken r (λ kind. kind ≡ Link) l.place l.expected l.found × (r.core ≡ record p.core { own = aimed_own (cursor_word p.core.cursor) p.core.own; cursor = None })
+        link_lost far s seats l placed wanted had =
+            let apart = ne_eqb w may.place.cursor.cur (λ z. far (z ∙ ap (λ (x : Cursor). x.cur) (sym same_place))) in
+            let many : s ≡ q.seats = seats ∙ link_made.seats in (
+              lost_from p.trace.taken q.trace.taken r (λ kind. kind ≡ Link) l.place l.expected l.found (let t = a.call.taken in omega arith)
+                  (lost_made rested q r Link link_plan w may.place.cursor.cur link_made (λ kind. kind ≡ Link) refl (ap (λ (o : Option Cursor). Some (cursor_word o)) cursor_link) apart
+                  l.place l.expected l.found (placed ∙ (λ i. cell_place (many i) (cell_of (same_place i).prev))) (wanted ∙ ap (λ (x : Cursor). x.cur) same_place) had),
+              link_made.core ∙ (ap linked_by apart ∙ ap (λ (v : View). record v { cursor = None }) a.core),
+            )
+
+  module _ (own : HasEnds p.core.own) (none : p.core.cursor ≡ None) (even : p.core.epoch % 2 ≡ 0) where
+    abbrev ended : Filled
+    ended = record own.node { aimed = Some 0 }
+
+    own_quick : q.core.own ≡ filling ended
+    own_quick = ap (λ (v : View). v.own) a.core ∙ (λ i. aimed_own (cursor_word (none i)) (own.is i))
+
+    abbrev quick_plan : Plan
+    quick_plan = exchanges 0 0 (2 * suc ended.node + 1) (quick_linked q.core ended.node own.lo own.hi ended.mode) q.core
+
+    quick_line : IsLine q.seats q.number q.core QuickLink quick_plan
+    quick_line = quick_link ended own.lo own.hi own_quick own.low own.high refl (ap (λ (v : View). v.epoch % 2) a.core ∙ even)
+
+    pub may_quick_link : Enables q QuickLink
+    may_quick_link = enables q QuickLink quick_plan quick_line
+
+    module _ (rested : P → P) (r : Part P) (w : ℕ) (made : r ≡ part_after rested q QuickLink w) where
+      quick_made : Made rested q r QuickLink quick_plan w
+      quick_made = made_by rested q r QuickLink quick_plan w quick_line made
+
+      abbrev quick_by : Bool → View
+      quick_by b = if b then quick_linked q.core ended.node own.lo own.hi ended.mode else q.core
+
+      pub quick_call : IsCall 2 p r
+      quick_call = call_on p q r a.call (call_made rested q r QuickLink quick_plan w quick_made (ap held_at own_quick))
+
+      pub quick_done : w ≡ 0 → r.core ≡ record p.core { own = linked_own (λ _. Done) p.core.own }
+      quick_done e =
+          quick_made.core ∙ (ap quick_by (eq-eqb _ _ e)
+          ∙ (ap (λ (v : View). record v { own = Linked ended.node (record { lo = own.lo; hi = own.hi }) ended.mode Done }) a.core
+          ∙ ap (λ (o : Own). record p.core { own = o }) (linked_is (λ _. Done) p.core.own own)))
+
+      pub quick_lost : w ≢ 0 → (l : Lost) → l.place ≡ 0 → l.expected ≡ 0 → l.found ≡ w
+          → IsLost p.trace.taken r (λ kind. kind ≡ QuickLink) l.place l.expected l.found × (r.core ≡ record p.core { own = aimed_own 0 p.core.own })
+      quick_lost far l placed wanted had = (
+        lost_from p.trace.taken q.trace.taken r (λ kind. kind ≡ QuickLink) l.place l.expected l.found (let t = a.call.taken in omega arith)
+            (lost_made rested q r QuickLink quick_plan w 0 quick_made (λ kind. kind ≡ QuickLink) refl refl (ne_eqb _ _ far) l.place l.expected l.found placed wanted had),
+        quick_made.core ∙ (ap quick_by (ne_eqb _ _ far) ∙ (a.core ∙ ap (λ (o : Option Cursor). record p.core { own = aimed_own (cursor_word o) p.core.own }) none)),
+      )
+
+-- the pass stays where the same is held
+kept_same : {P : Type 0} (rested : P → P) (o : Option Held) (pass : P) → pass_kept rested o o pass ≡ pass
+kept_same rested None pass = refl
+kept_same rested (Some h) pass = refl
+
+module _ {P : Type 0} (is_at_rest : P → Type 0) (p : Part P) (may : MayQuickUnlink is_at_rest p) where
+  abbrev back_plan : Plan
+  back_plan = exchanges 0 (2 * suc may.node.node + 1) 0 (quick_unlinked p.core may.node.node) p.core
+
+  back_line : IsLine p.seats p.number p.core QuickUnlink back_plan
+  back_line = quick_unlink may.node may.is may.held may.hand
+
+  pub may_quick_unlink : Enables p QuickUnlink
+  may_quick_unlink = enables p QuickUnlink back_plan back_line
+
+  module _ (rested : P → P) (q : Part P) (w : ℕ) (made : q ≡ part_after rested p QuickUnlink w) where
+    back_made : Made rested p q QuickUnlink back_plan w
+    back_made = made_by rested p q QuickUnlink back_plan w back_line made
+
+    abbrev back_by : Bool → View
+    back_by b = if b then quick_unlinked p.core may.node.node else p.core
+
+    back_call : IsQuickCall p q
+    back_call = record { number = back_made.number; seats = back_made.seats; client = back_made.client; taken = back_made.taken }
+
+    held_own : held_at p.core.own ≡ Some (record { range = may.node.range; mode = may.node.mode })
+    held_own = ap held_at may.is ∙ ap (λ t. held_at (Linked may.node.node may.node.range may.node.mode t)) may.held
+
+    module _ (n : ℕ) (is_node : n ≡ may.node.node) where
+      pub back_done : w ≡ 2 * suc n + 1 → IsQuickCall p q × ((k : Listed) → p.core.own ≡ listed k → q.core ≡ quick_unlinked p.core k.node) × (q.pass ≡ rested p.pass)
+      back_done e =
+          let won : back_plan.view w ≡ quick_unlinked p.core may.node.node = ap back_by (eq-eqb _ _ (e ∙ ap (λ a. 2 * suc a + 1) is_node)) in (
+            back_call,
+            (λ k is. let same : listed may.node ≡ listed k = sym may.is ∙ is in let node : may.node.node ≡ k.node = cc in back_made.core ∙ (won ∙ ap (quick_unlinked p.core) node)),
+            back_made.pass ∙ (λ i. pass_kept rested (held_own i) (held_at (won i).own) p.pass),
+          )
+
+      pub back_lost : w ≢ 2 * suc n + 1 → (l : Lost) → l.place ≡ 0 → l.expected ≡ 2 * suc n + 1 → l.found ≡ w
+          → IsQuickCall p q × IsLost p.trace.taken q (λ kind. kind ≡ QuickUnlink) l.place l.expected l.found × (q.core ≡ p.core) × (q.pass ≡ p.pass)
+      back_lost far l placed wanted had =
+          let apart = ne_eqb w (2 * suc may.node.node + 1) (λ z. far (z ∙ ap (λ a. 2 * suc a + 1) (sym is_node))) in
+          let still : back_plan.view w ≡ p.core = ap back_by apart in (
+            back_call,
+            lost_made rested p q QuickUnlink back_plan w (2 * suc may.node.node + 1) back_made (λ kind. kind ≡ QuickUnlink) refl (ap (λ (o : Own). Some (own_word (listed_of o))) may.is) apart
+                l.place l.expected l.found placed (wanted ∙ ap (λ a. 2 * suc a + 1) is_node) had,
+            back_made.core ∙ still,
+            back_made.pass ∙ (ap (λ (v : View). pass_kept rested (held_at p.core.own) (held_at v.own) p.pass) still ∙ kept_same rested (held_at p.core.own) p.pass),
+          )

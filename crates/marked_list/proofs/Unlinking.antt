@@ -1,0 +1,167 @@
+-- The unlinking of a cursor's node that was found marked, and its giving home; and any exchange of the cursor's word
+-- that found another value.
+use Rattle.std.proofs.Common.{◌≡◌, ℕ, ◌+◌, ◌-◌, ◌%◌, true, false, Bool, inl, refl, sym, ap, ◌∙◌, subst, arith}
+use Rattle.std.proofs.lemmas.Bool.{eqb-false}
+use Rattle.std.specs.Prelude.{Option, Some, None, is_some, ◌==◌, if◌then◌else◌}
+use Rattle.lock_core.specs.declared.views.View.{View}
+use Rattle.lock_core.specs.declared.views.Cursor.{Cursor}
+use Rattle.lock_core.specs.declared.steps.Step.{Step}
+use Rattle.lock_core.specs.declared.steps.Step.TheVariants.{Unlink, GiveHome}
+use Rattle.lock_core.specs.Words.{cell_place, cell_of}
+use Rattle.lock_core.specs.Views.{gave_home, unlinked, dropped, seen_after}
+use Rattle.lock_core.specs.StepTable.{Plan, IsLine, exchanges, unlink}
+use Rattle.lock_core.specs.Machine.{held_at}
+use Rattle.epoch_pools.specs.declared.record.Record.{Record}
+use Rattle.epoch_pools.specs.declared.views.Part.{Part}
+use Rattle.epoch_pools.specs.Record.{expected_by, lost_by, cursor_word, looked_with, is_judging, gained_by}
+use Rattle.epoch_pools.specs.Running.{Enables, part_after}
+use Rattle.epoch_pools.specs.Hands.{IsHandView, quiet_after}
+use Rattle.marked_list.specs.declared.answers.Lost.{Lost}
+use Rattle.marked_list.specs.Order.{StandsAt, KnowsNext}
+use Rattle.marked_list.specs.Leaves.{IsSamePools, IsOn, IsSameWalk}
+use Rattle.marked_list.specs.Causes.{IsLost, IsWalkLoss, nodes_in}
+use Rattle.marked_list.specs.Going.{seen_of, arrival_at, HasRoom, Outcome, IsFailed, IsUnlinked}
+use Rattle.marked_list.proofs.Lines.{enables, Made, made_by, same_looked, same_walk, on_made, call_made}
+use Rattle.marked_list.proofs.Stepping.{free_go, nodes_seen, came_outcome}
+
+-- an exchange that found another value is in the record
+pub lost_made : {P : Type 0} (rested : P → P) (p q : Part P) (step : Step) (plan : Plan) (w e : ℕ) → Made rested p q step plan w → (Kind : Step → Type 0) → Kind step → expected_by p.core step ≡ Some e → (w == e) ≡ false
+    → (place expected found : ℕ) → place ≡ plan.place → expected ≡ e → found ≡ w → IsLost p.trace.taken q Kind place expected found
+lost_made rested p q step plan w e m Kind kind expects far place expected found placed wanted had = record {
+  lost = record { kind = step; place = plan.place; expected = e; found = w; step = p.trace.taken };
+  is = m.lost ∙ (ap (λ (o : Option ℕ). lost_by p.trace step plan.place o w) expects ∙ ap (λ (b : Bool). if b then p.trace.lost else Some (record { kind = step; place = plan.place; expected = e; found = w; step = p.trace.taken })) far);
+  kind = kind;
+  from = omega arith;
+  below = let t = m.taken in omega arith;
+  placed = sym placed;
+  wanted = sym wanted;
+  had = sym had;
+  differ = let d = eqb-false _ _ far in λ z. d (sym had ∙ (z ∙ wanted));
+}
+
+pub gone_looked : (t : Record) (b : Option Cursor) (j g : Bool) → looked_with t b None j g ≡ t.looked
+gone_looked t None j g = refl
+gone_looked t (Some c) j g = refl
+
+module _ {P : Type 0} (rested : P → P) (p q : Part P) (step : Step) (plan : Plan) (w : ℕ) (m : Made rested p q step plan w) (c : Cursor) (is : p.core.cursor ≡ Some c) where
+  pub failed : IsWalkLoss step → expected_by p.core step ≡ Some (cursor_word p.core.cursor) → plan.view w ≡ dropped p.core → (w == c.cur) ≡ false → held_at p.core.own ≡ None → p.core.hand ≡ None → IsHandView p → HasRoom p
+      → (l : Lost) → l.place ≡ plan.place → l.expected ≡ c.cur → l.found ≡ w → IsFailed p q l
+  failed kind expects gone far free hand view room l placed wanted had = record {
+    on = on_made rested p q step plan w m free (ap (λ (v : View). v.epoch) gone) (subst (IsSamePools p.core) (sym gone) (record { ready = refl; used = refl; homes = refl; notes = refl; passed = refl })) (ap (λ (v : View). v.hand) gone ∙ hand);
+    outcome = (
+      (
+        lost_made rested p q step plan w c.cur m IsWalkLoss kind (expects ∙ ap (λ (o : Option Cursor). Some (cursor_word o)) is) far l.place l.expected l.found placed wanted had,
+        ap (λ (v : View). v.own) core,
+        ap (λ (v : View). v.cursor) core,
+      ),
+      inl (let n = nodes in let r = room.seen in let s = ap seen_of is in let e = m.seats in omega arith),
+    );
+    walk = same_walk rested p q step plan w m (ap is_some is);
+    taken = m.taken;
+  }
+    where
+      core : q.core ≡ dropped p.core
+      core = m.core ∙ gone
+
+      nodes : nodes_in q.trace.looked ≡ c.seen
+      nodes = ap nodes_in (m.looked ∙ (ap (λ (o : Option Cursor). looked_with p.trace p.core.cursor o (is_judging step) (gained_by p.core (plan.view w))) (ap (λ (v : View). v.cursor) gone) ∙ gone_looked p.trace p.core.cursor (is_judging step) (gained_by p.core (plan.view w)))) ∙ nodes_seen p view c is
+
+module _ {P : Type 0} (p : Part P) (n : ℕ) (k : KnowsNext p.core n) (odd : n % 2 ≡ 1) where
+  abbrev st : StandsAt p.core
+  st = k.stands
+
+  abbrev unlink_plan : Plan
+  unlink_plan = exchanges (cell_place p.seats (cell_of st.cursor.prev)) st.cursor.cur (n - 1) (unlinked p.core st.cursor st.node (n - 1)) (dropped p.core)
+
+  unlink_line : IsLine p.seats p.number p.core Unlink unlink_plan
+  unlink_line = unlink st.cursor st.node n st.is st.at k.next odd st.inside.hand
+
+  pub may_unlink : Enables p Unlink
+  may_unlink = enables p Unlink unlink_plan unlink_line
+
+  module _ (rested : P → P) (q : Part P) (w : ℕ) (made : q ≡ part_after rested p Unlink w) where
+    m : Made rested p q Unlink unlink_plan w
+    m = made_by rested p q Unlink unlink_plan w unlink_line made
+
+    abbrev view_by : Bool → View
+    view_by b = if b then unlinked p.core st.cursor st.node (n - 1) else dropped p.core
+
+    won : (w == st.cursor.cur) ≡ true → IsUnlinked p q st.node
+    won e =
+        let core : q.core ≡ unlinked p.core st.cursor st.node (n - 1) = m.core ∙ ap view_by e in
+        record {
+          call = call_made rested p q Unlink unlink_plan w m (free_go p.core.own st.own);
+          epoch = ap (λ (v : View). v.epoch) core;
+          pools = subst (IsSamePools p.core) (sym core) (record { ready = refl; used = refl; homes = refl; notes = refl; passed = refl });
+          hand = ap (λ (v : View). v.hand) core;
+          came = record {
+            cursor = record { prev = st.cursor.prev; cur = n - 1; next = None; lo = None; seen = seen_after st.cursor.seen (n - 1) };
+            is = ap (λ (v : View). v.cursor) core;
+            even = omega arith;
+            next = refl;
+            lo = refl;
+            seen = ap (λ a. seen_after a (n - 1)) (sym (ap seen_of st.is));
+            own = ap (λ (v : View). v.own) core;
+          };
+          walk = same_walk rested p q Unlink unlink_plan w m (ap is_some st.is);
+        }
+
+    pub unlink_some : (x : ℕ) → q.core.hand ≡ Some x → IsUnlinked p q x
+    unlink_some x hand = by_value (w == st.cursor.cur) refl
+      where
+        by_value : (b : Bool) → (w == st.cursor.cur) ≡ b → IsUnlinked p q x
+        by_value true e = let u = won e in let same : st.node ≡ x = let h = sym u.hand ∙ hand in cc in subst (IsUnlinked p q) same u
+        by_value false e = absurd (let h : ◌≡◌ {A = Option ℕ} None (Some x) = sym st.inside.hand ∙ (sym (ap (λ (v : View). v.hand) (m.core ∙ ap view_by e)) ∙ hand) in cc)
+
+    pub unlink_none : q.core.hand ≡ None → IsHandView p → HasRoom p → (l : Lost) → l.place ≡ cell_place p.seats (cell_of st.cursor.prev) → l.expected ≡ st.cursor.cur → l.found ≡ w → IsFailed p q l
+    unlink_none hand view room l placed wanted had = by_value (w == st.cursor.cur) refl
+      where
+        by_value : (b : Bool) → (w == st.cursor.cur) ≡ b → IsFailed p q l
+        by_value true e = absurd (let h : ◌≡◌ {A = Option ℕ} (Some st.node) None = sym (won e).hand ∙ hand in cc)
+        by_value false e = failed rested p q Unlink unlink_plan w m st.cursor st.is tt refl (ap view_by e) e (free_go p.core.own st.own) st.inside.hand view room l placed wanted had
+
+    -- the same, in the words of the cursor that was read before the step
+    pub unlink_lost : q.core.hand ≡ None → IsHandView p → HasRoom p → (d : Cursor) → p.core.cursor ≡ Some d → (s : ℕ) → s ≡ q.seats → (l : Lost) → l.place ≡ cell_place s (cell_of d.prev) → l.expected ≡ d.cur → l.found ≡ w → IsFailed p q l
+    unlink_lost hand view room d is s seats l placed wanted had =
+        let same : d ≡ st.cursor = let e : ◌≡◌ {A = Option Cursor} (Some d) (Some st.cursor) = sym is ∙ st.is in cc in
+        let many : s ≡ p.seats = seats ∙ m.seats in
+        unlink_none hand view room l (placed ∙ (λ i. cell_place (many i) (cell_of (same i).prev))) (wanted ∙ ap (λ (x : Cursor). x.cur) same) had
+
+-- the node is given home
+module _ {P : Type 0} (p q r : Part P) (x : ℕ) (u : IsUnlinked p q x) (made : r ≡ quiet_after q GiveHome (gave_home q.core)) where
+  core_home : r.core ≡ gave_home q.core
+  core_home = ap (λ (z : Part P). z.core) made
+
+  pub home_on : IsOn p r
+  home_on = record {
+    number = ap (λ (z : Part P). z.number) made ∙ u.call.number;
+    seats = ap (λ (z : Part P). z.seats) made ∙ u.call.seats;
+    pass = ap (λ (z : Part P). z.pass) made ∙ u.call.pass;
+    client = ap (λ (z : Part P). z.trace.client) made ∙ u.call.client;
+    epoch = ap (λ (v : View). v.epoch) core_home ∙ u.epoch;
+    pools = subst (IsSamePools p.core) (sym core_home) (record { ready = u.pools.ready; used = u.pools.used; homes = u.pools.homes; notes = u.pools.notes; passed = u.pools.passed });
+    hand = ap (λ (v : View). v.hand) core_home;
+    taken = let a = ap (λ (z : Part P). z.trace.taken) made in let b = u.call.taken in omega arith;
+  }
+
+  pub home_taken : r.trace.taken ≡ p.trace.taken + 2
+  home_taken = let a = ap (λ (z : Part P). z.trace.taken) made in let b = u.call.taken in omega arith
+
+  pub home_walk : IsSameWalk p r
+  home_walk l is =
+      let s = u.walk l is in
+      let t = same_looked q.trace q.core.cursor (gave_home q.core).cursor (is_judging GiveHome) (gained_by q.core (gave_home q.core)) (ap is_some u.came.is) s.0 s.1 in
+      (t.0, ap (λ (z : Part P). z.trace.looked) made ∙ t.1, t.2 ∙ s.2)
+
+  pub home_outcome : StandsAt p.core → IsHandView r → HasRoom p → Outcome p.trace.taken p.core r (arrival_at r.core.own r.core.cursor)
+  home_outcome st view room = came_outcome p.trace.taken p r
+      (record {
+        cursor = u.came.cursor;
+        is = ap (λ (v : View). v.cursor) core_home ∙ u.came.is;
+        even = u.came.even;
+        next = u.came.next;
+        lo = u.came.lo;
+        seen = u.came.seen;
+        own = ap (λ (v : View). v.own) core_home ∙ u.came.own;
+      })
+      st.own (record { odd = ap (λ n. n % 2) home_on.epoch ∙ st.inside.odd; hand = home_on.hand }) view home_on.seats room

@@ -1,0 +1,5 @@
+use Rattle.marked_list.proofs.Owning.{may_fill_lo}
+use Rattle.marked_list.proofs.own.fill.Goals as goal
+
+pub step-requires-clause-enabled : goal.step-requires-clause-enabled
+step-requires-clause-enabled g c = may_fill_lo c.args.hand.now.part c.args.node c.lo.result c.requires.order

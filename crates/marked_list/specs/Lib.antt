@@ -1,0 +1,14 @@
+pub mod Answers
+pub mod Causes
+pub mod Going
+pub mod Leaves
+pub mod Order
+pub use Rattle.epoch_pools.specs.Hands
+pub use Rattle.epoch_pools.specs.Record
+pub use Rattle.lock_core.specs.Grants
+pub use Rattle.lock_core.specs.Machine
+pub use Rattle.lock_core.specs.Nodes
+pub use Rattle.lock_core.specs.Range
+pub use Rattle.lock_core.specs.StepTable
+pub use Rattle.lock_core.specs.Views
+pub use Rattle.lock_core.specs.Words
