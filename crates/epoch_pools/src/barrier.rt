@@ -37,6 +37,7 @@ fn first_inside(view: &View, seats: u32, number: u32) -> (u32, u64)
 
 impl<G: Guard> Hand<G> {
     /// Whether a node is ready.
+    #[inline(always)]
     fn has_ready(&self) -> bool
         ensures some { result ≡ not (is_empty self.now.part.core.ready) }
         ensures sound { IsHandView self.now.part }
@@ -62,6 +63,7 @@ impl<G: Guard> Hand<G> {
     }
 
     /// Takes the first ready node.
+    #[inline(always)]
     fn take_ready<L: Ledger>(&mut self, list: &List<G>, steps: &mut Steps<L>) -> u32
         requires table { self.old.table ≡ list.now.table }
         requires free { IsFree self.old.part.core }
@@ -193,6 +195,7 @@ impl<G: Guard> Hand<G> {
 
 /// Takes a node for the hand, outside an operation: the first ready one, or the first that the barrier makes ready.
 /// Otherwise it says why there is none. It makes at most 17 steps and one more for each seat.
+#[inline(always)]
 pub fn take<G: Guard, L: Ledger>(list: &List<G>, hand: &mut Hand<G>, steps: &mut Steps<L>) -> Taken
     requires table { hand.old.table ≡ list.now.table }
     requires free { IsFree hand.old.part.core }

@@ -28,6 +28,7 @@ impl<G: Guard> Hand<G> {
     ghost use Rattle.epoch_pools.specs.Hands.{IsHandView};
 
     /// What the hand knows of the lock, and may rely on whatever other seats do.
+    #[inline(always)]
     pub fn view(&self) -> &View
         ensures view { result.now ≡ self.now.part.core }
         ensures sound { IsHandView self.now.part }
@@ -36,6 +37,7 @@ impl<G: Guard> Hand<G> {
     }
 
     /// The number of the hand, counted from 0.
+    #[inline(always)]
     pub fn number(&self) -> u32
         ensures number { result ≡ self.now.part.number }
         ensures there { result < self.now.part.seats }
@@ -44,6 +46,7 @@ impl<G: Guard> Hand<G> {
     }
 
     /// How many seats the hand's list has, from 1 to 16.
+    #[inline(always)]
     pub fn seats(&self) -> u32
         ensures seats { result ≡ self.now.part.seats }
         ensures some { 0 < result }

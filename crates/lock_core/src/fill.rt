@@ -14,6 +14,7 @@ use crate::range::{HIGHEST, Mode};
 use crate::views::{Cursor, Own, View};
 
 /// The hi word of an end that is at most 2^62 and a mode.
+#[inline(always)]
 fn end_word(hi: u64, mode: Mode) -> u64
     requires { hi ≤ 2 ^ 62 }
     ensures { result ≡ hi_word hi mode }
@@ -25,6 +26,7 @@ fn end_word(hi: u64, mode: Mode) -> u64
 }
 
 /// Whether the cursor is at the end, or before a node whose lower end was compared.
+#[inline(always)]
 pub(crate) fn is_in_place(cursor: Cursor) -> bool
     ensures { result ≡ is_at_place cursor }
 {
@@ -32,6 +34,7 @@ pub(crate) fn is_in_place(cursor: Cursor) -> bool
 }
 
 /// The word at which an Aim aims: 0 without a cursor, otherwise that of a cursor at its place.
+#[inline(always)]
 fn aim_at(cursor: Option<Cursor>) -> Option<u64>
     ensures { result ≡ aim_of cursor }
 {
@@ -48,6 +51,7 @@ fn aim_at(cursor: Option<Cursor>) -> Option<u64>
 }
 
 /// FillLo: stores the lower end, while there is no aim and no cursor.
+#[inline(always)]
 pub(crate) fn fill_lo_op(seats: u32, seat: u32, view: &View, x: u64) -> Option<Op>
     requires { MayStep seats seat view.now }
     ensures op { IsOpOf (FillLo x) (plan seats seat view.now (FillLo x)) result }
@@ -66,6 +70,7 @@ pub(crate) fn fill_lo_op(seats: u32, seat: u32, view: &View, x: u64) -> Option<O
 }
 
 /// FillLo: the lower end is known, and the higher one isn't.
+#[inline(always)]
 pub(crate) fn fill_lo_view(seats: u32, seat: u32, view: &mut View, x: u64)
     requires may { MayStep seats seat view.old }
     requires enabled { IsEnabled seats seat view.old (FillLo x) }
@@ -90,6 +95,7 @@ pub(crate) fn fill_lo_view(seats: u32, seat: u32, view: &mut View, x: u64)
 }
 
 /// FillHi: stores the higher end and the mode, above a lower end that is known.
+#[inline(always)]
 pub(crate) fn fill_hi_op(seats: u32, seat: u32, view: &View, x: u64, how: Mode) -> Option<Op>
     requires { MayStep seats seat view.now }
     ensures op { IsOpOf (FillHi x how) (plan seats seat view.now (FillHi x how)) result }
@@ -119,6 +125,7 @@ pub(crate) fn fill_hi_op(seats: u32, seat: u32, view: &View, x: u64, how: Mode) 
 }
 
 /// FillHi: the higher end and the mode are known.
+#[inline(always)]
 pub(crate) fn fill_hi_view(seats: u32, seat: u32, view: &mut View, x: u64, how: Mode)
     requires may { MayStep seats seat view.old }
     requires enabled { IsEnabled seats seat view.old (FillHi x how) }
@@ -143,6 +150,7 @@ pub(crate) fn fill_hi_view(seats: u32, seat: u32, view: &mut View, x: u64, how: 
 }
 
 /// Aim: stores the cursor's word, or 0, in the own next word.
+#[inline(always)]
 pub(crate) fn aim_op(seats: u32, seat: u32, view: &View) -> Option<Op>
     requires { MayStep seats seat view.now }
     ensures op { IsOpOf Aim (plan seats seat view.now Aim) result }
@@ -167,6 +175,7 @@ pub(crate) fn aim_op(seats: u32, seat: u32, view: &View) -> Option<Op>
 }
 
 /// Aim: the own next word is known.
+#[inline(always)]
 pub(crate) fn aim_view(seats: u32, seat: u32, view: &mut View)
     requires may { MayStep seats seat view.old }
     requires enabled { IsEnabled seats seat view.old Aim }
@@ -192,6 +201,7 @@ pub(crate) fn aim_view(seats: u32, seat: u32, view: &mut View)
 }
 
 /// ClearHome: stores 0 in the home word of the first ready node.
+#[inline(always)]
 pub(crate) fn clear_home_op(seats: u32, seat: u32, view: &View, node: u32) -> Option<Op>
     requires { MayStep seats seat view.now }
     ensures op { IsOpOf (ClearHome node) (plan seats seat view.now (ClearHome node)) result }
@@ -210,6 +220,7 @@ pub(crate) fn clear_home_op(seats: u32, seat: u32, view: &View, node: u32) -> Op
 }
 
 /// ClearHome: the node is the own one, and nothing is known of its words.
+#[inline(always)]
 pub(crate) fn clear_home_view(seats: u32, seat: u32, view: &mut View, node: u32)
     requires may { MayStep seats seat view.old }
     requires enabled { IsEnabled seats seat view.old (ClearHome node) }

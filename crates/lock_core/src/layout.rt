@@ -33,6 +33,7 @@ impl Model for Layout {
 
 impl Layout {
     /// The layout for so many seats, from 1 to 16, and so many client words, at most 2^20.
+    #[inline(always)]
     pub fn of(seats: u32, client: u32) -> Layout
         requires some { 0 < seats }
         requires few { seats ≤ 16 }
@@ -44,6 +45,7 @@ impl Layout {
     }
 
     /// The place of the head.
+    #[inline(always)]
     pub fn head(&self) -> u32
         ensures { result ≡ cell_place self.now.seats 0 }
     {
@@ -51,6 +53,7 @@ impl Layout {
     }
 
     /// The place of the epoch of seat `s`.
+    #[inline(always)]
     pub fn epoch(&self, s: u32) -> u32
         requires { s < self.now.seats }
         ensures { result ≡ epoch_place s }
@@ -60,6 +63,7 @@ impl Layout {
     }
 
     /// The place of the lower end of node `n`.
+    #[inline(always)]
     pub fn lo(&self, n: u32) -> u32
         requires { n < 16 * self.now.seats }
         ensures { result ≡ lo_place self.now.seats n }
@@ -68,6 +72,7 @@ impl Layout {
     }
 
     /// The place of the higher end and the mode of node `n`.
+    #[inline(always)]
     pub fn hi(&self, n: u32) -> u32
         requires { n < 16 * self.now.seats }
         ensures { result ≡ hi_place self.now.seats n }
@@ -76,6 +81,7 @@ impl Layout {
     }
 
     /// The place of the next word of node `n`.
+    #[inline(always)]
     pub fn next(&self, n: u32) -> u32
         requires { n < 16 * self.now.seats }
         ensures { result ≡ cell_place self.now.seats (suc n) }
@@ -84,6 +90,7 @@ impl Layout {
     }
 
     /// The place of the home word of node `n`.
+    #[inline(always)]
     pub fn home(&self, n: u32) -> u32
         requires { n < 16 * self.now.seats }
         ensures { result ≡ home_place self.now.seats n }
@@ -92,6 +99,7 @@ impl Layout {
     }
 
     /// The place of the word that names what stands behind a node, or behind the head.
+    #[inline(always)]
     pub fn cell(&self, prev: Option<u32>) -> u32
         requires { (n : ℕ) → prev ≡ Some n → n < 16 * self.now.seats }
         ensures { result ≡ cell_place self.now.seats (cell_of prev) }
@@ -103,6 +111,7 @@ impl Layout {
     }
 
     /// The place of client word `i`.
+    #[inline(always)]
     pub fn client(&self, i: u32) -> u32
         requires { i < self.now.client }
         ensures { result ≡ client_place self.now.seats i }
@@ -111,6 +120,7 @@ impl Layout {
     }
 
     /// How many words there are.
+    #[inline(always)]
     pub fn words(&self) -> u32
         ensures { result ≡ word_count self.now.seats + self.now.client }
     {
@@ -119,6 +129,7 @@ impl Layout {
 }
 
 /// The next word that names node `n`, with the mark or without.
+#[inline(always)]
 pub fn node_word(n: u32, marked: bool) -> u64
     ensures { result ≡ word_of n marked }
 {
@@ -127,6 +138,7 @@ pub fn node_word(n: u32, marked: bool) -> u64
 
 /// The node that a next word names, if it names one, and whether the word has the mark. Nodes have numbers below
 /// 2^32, so a word above all their codes names none.
+#[inline(always)]
 pub fn read_word(w: u64) -> (Option<u32>, bool)
     ensures node { w < 2 ^ 33 + 2 → result.0 ≡ node_of w }
     ensures none { 2 ^ 33 + 2 ≤ w → result.0 ≡ None }

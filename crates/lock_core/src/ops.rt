@@ -61,6 +61,7 @@ pub struct Op {
 }
 
 /// The operation of a step, or None where the view doesn't enable the step.
+#[inline(always)]
 fn op_in(seats: u32, seat: u32, view: &View, step: Step) -> Option<Op>
     requires { MayStep seats seat view.now }
     ensures op { IsOpOf step (plan seats seat view.now step) result }
@@ -89,6 +90,7 @@ fn op_in(seats: u32, seat: u32, view: &View, step: Step) -> Option<Op>
 }
 
 /// The view after a step that it enables.
+#[inline(always)]
 fn follow_in(seats: u32, seat: u32, view: &mut View, step: Step, found: u64)
     requires may { MayStep seats seat view.old }
     requires enabled { IsEnabled seats seat view.old step }

@@ -14,6 +14,7 @@ use crate::range::Range;
 use crate::views::{Cursor, Own, Todo, View};
 
 /// QuickLink: exchanges an empty head for the own node with the low bit, outside an operation.
+#[inline(always)]
 pub(crate) fn quick_link_op(seats: u32, seat: u32, view: &View) -> Option<Op>
     requires { MayStep seats seat view.now }
     ensures op { IsOpOf QuickLink (plan seats seat view.now QuickLink) result }
@@ -42,6 +43,7 @@ pub(crate) fn quick_link_op(seats: u32, seat: u32, view: &View) -> Option<Op>
 }
 
 /// QuickLink: the range is held where the head was empty.
+#[inline(always)]
 pub(crate) fn quick_link_view(seats: u32, seat: u32, view: &mut View, found: u64)
     requires may { MayStep seats seat view.old }
     requires enabled { IsEnabled seats seat view.old QuickLink }
@@ -71,6 +73,7 @@ pub(crate) fn quick_link_view(seats: u32, seat: u32, view: &mut View, found: u64
 }
 
 /// QuickUnlink: exchanges the head with the own node and the low bit for an empty head, where the range is held.
+#[inline(always)]
 pub(crate) fn quick_unlink_op(seats: u32, seat: u32, view: &View) -> Option<Op>
     requires { MayStep seats seat view.now }
     ensures op { IsOpOf QuickUnlink (plan seats seat view.now QuickUnlink) result }
@@ -92,6 +95,7 @@ pub(crate) fn quick_unlink_op(seats: u32, seat: u32, view: &View) -> Option<Op>
 }
 
 /// QuickUnlink: the own node is in the hand where the head was found as expected.
+#[inline(always)]
 pub(crate) fn quick_unlink_view(seats: u32, seat: u32, view: &mut View, found: u64)
     requires may { MayStep seats seat view.old }
     requires enabled { IsEnabled seats seat view.old QuickUnlink }
@@ -108,6 +112,7 @@ pub(crate) fn quick_unlink_view(seats: u32, seat: u32, view: &mut View, found: u
 }
 
 /// Settle: exchanges the head that the cursor found with the low bit for the same without it.
+#[inline(always)]
 pub(crate) fn settle_op(seats: u32, seat: u32, view: &View) -> Option<Op>
     requires { MayStep seats seat view.now }
     ensures op { IsOpOf Settle (plan seats seat view.now Settle) result }
@@ -129,6 +134,7 @@ pub(crate) fn settle_op(seats: u32, seat: u32, view: &View) -> Option<Op>
 }
 
 /// Settle: the cursor's word has no low bit where the head was found as expected; otherwise the cursor goes.
+#[inline(always)]
 pub(crate) fn settle_view(seats: u32, seat: u32, view: &mut View, found: u64)
     requires may { MayStep seats seat view.old }
     requires enabled { IsEnabled seats seat view.old Settle }

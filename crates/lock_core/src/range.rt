@@ -66,6 +66,7 @@ pub struct Grant {
 impl Range {
     /// The range from `lo` on and below `hi`. `BadRange` carries both ends, and comes where `lo` isn't below `hi` or
     /// `hi` is above 2^62.
+    #[inline(always)]
     pub fn of(lo: u64, hi: u64) -> Result<Range, BadRange>
         ensures exactly { IsOk result ↔ IsRange lo hi }
         ensures ends { IfOk result (λ r. (r.lo ≡ lo) × (r.hi ≡ hi)) }
@@ -79,6 +80,7 @@ impl Range {
     }
 
     /// The lowest number of the range.
+    #[inline(always)]
     pub fn lo(&self) -> u64
         ensures low { result ≡ self.now.lo }
         ensures bounds { IsRange self.now.lo self.now.hi }
@@ -87,6 +89,7 @@ impl Range {
     }
 
     /// The first number above the range, at most 2^62.
+    #[inline(always)]
     pub fn hi(&self) -> u64
         ensures high { result ≡ self.now.hi }
         ensures bounds { IsRange self.now.lo self.now.hi }
@@ -96,6 +99,7 @@ impl Range {
 }
 
 /// Whether the ranges overlap and at least one of them is a writer's. The seats don't matter.
+#[inline(always)]
 pub fn conflict(a: &Grant, b: &Grant) -> bool
     ensures { IsTrue result ↔ Conflicts (held_of a.now) (held_of b.now) }
 {

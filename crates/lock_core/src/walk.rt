@@ -15,6 +15,7 @@ use crate::ops::{Act, Op};
 use crate::views::{Cursor, Own, Todo, View};
 
 /// The node that a next word without the low bit names. The word is one of a node's or of the end.
+#[inline(always)]
 pub fn plain_node(word: u64) -> Option<u32>
     requires { word / 2 ≤ 256 }
     ensures { result ≡ plain_node_of word }
@@ -26,6 +27,7 @@ pub fn plain_node(word: u64) -> Option<u32>
 }
 
 /// How many nodes a cursor has looked at once it came to this word.
+#[inline(always)]
 fn seen_next(seen: u32, word: u64) -> u32
     ensures { result ≡ seen_after seen word }
 {
@@ -39,6 +41,7 @@ fn seen_next(seen: u32, word: u64) -> u32
 }
 
 /// The own node once the cursor came to this word.
+#[inline(always)]
 fn own_after(own: Own, word: u64) -> Own
     ensures { result ≡ own_at own word }
 {
@@ -71,6 +74,7 @@ fn own_after(own: Own, word: u64) -> Own
 }
 
 /// The own node once the cursor stopped.
+#[inline(always)]
 fn own_once_stopped(own: Own) -> Own
     ensures { result ≡ own_stopped own }
 {
@@ -96,6 +100,7 @@ fn own_once_stopped(own: Own) -> Own
 }
 
 /// The node behind which a cursor begins, or none where that is the head.
+#[inline(always)]
 fn start(own: Own) -> Option<u32>
     ensures { result ≡ start_of own }
 {
@@ -110,6 +115,7 @@ fn start(own: Own) -> Option<u32>
 }
 
 /// Moves the cursor to this word, behind this node.
+#[inline(always)]
 pub(crate) fn come_to(view: &mut View, prev: Option<u32>, word: u64, seen: u32)
     ensures { view.new ≡ came_to view.old prev word seen }
 {
@@ -124,6 +130,7 @@ pub(crate) fn come_to(view: &mut View, prev: Option<u32>, word: u64, seen: u32)
 }
 
 /// Walk: loads the word at which a cursor begins, or the next word of the cursor's node.
+#[inline(always)]
 pub(crate) fn walk_op(seats: u32, seat: u32, view: &View) -> Option<Op>
     requires { MayStep seats seat view.now }
     ensures op { IsOpOf Walk (plan seats seat view.now Walk) result }
@@ -149,6 +156,7 @@ pub(crate) fn walk_op(seats: u32, seat: u32, view: &View) -> Option<Op>
 }
 
 /// Walk: there is a cursor, or the next word of its node is known.
+#[inline(always)]
 pub(crate) fn walk_view(seats: u32, seat: u32, view: &mut View, found: u64)
     requires may { MayStep seats seat view.old }
     requires enabled { IsEnabled seats seat view.old Walk }
@@ -170,6 +178,7 @@ pub(crate) fn walk_view(seats: u32, seat: u32, view: &mut View, found: u64)
 }
 
 /// ReadLo: loads the lower end of the cursor's node, whose next word has no mark.
+#[inline(always)]
 pub(crate) fn read_lo_op(seats: u32, seat: u32, view: &View) -> Option<Op>
     requires { MayStep seats seat view.now }
     ensures op { IsOpOf ReadLo (plan seats seat view.now ReadLo) result }
@@ -194,6 +203,7 @@ pub(crate) fn read_lo_op(seats: u32, seat: u32, view: &View) -> Option<Op>
 }
 
 /// ReadLo: the lower end is known.
+#[inline(always)]
 pub(crate) fn read_lo_view(seats: u32, seat: u32, view: &mut View, found: u64)
     requires may { MayStep seats seat view.old }
     requires enabled { IsEnabled seats seat view.old ReadLo }
@@ -209,6 +219,7 @@ pub(crate) fn read_lo_view(seats: u32, seat: u32, view: &mut View, found: u64)
 }
 
 /// Whether a node may be judged: a seat that fills a node knows its ends.
+#[inline(always)]
 fn knows_ends(own: Own) -> bool
     ensures { result ≡ may_judge own }
 {
@@ -219,6 +230,7 @@ fn knows_ends(own: Own) -> bool
 }
 
 /// ReadHi: loads the higher end of the cursor's node, whose lower end is known.
+#[inline(always)]
 pub(crate) fn read_hi_op(seats: u32, seat: u32, view: &View) -> Option<Op>
     requires { MayStep seats seat view.now }
     ensures op { IsOpOf ReadHi (plan seats seat view.now ReadHi) result }
@@ -243,6 +255,7 @@ pub(crate) fn read_hi_op(seats: u32, seat: u32, view: &View) -> Option<Op>
 }
 
 /// ReadHi: the node is judged, and the cursor goes on past it, stops before it, or stays at a conflict.
+#[inline(always)]
 pub(crate) fn read_hi_view(seats: u32, seat: u32, view: &mut View, found: u64)
     requires may { MayStep seats seat view.old }
     requires enabled { IsEnabled seats seat view.old ReadHi }

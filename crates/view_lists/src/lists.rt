@@ -52,6 +52,7 @@ impl Nodes {
     }
 
     /// Whether there is no node.
+    #[inline(always)]
     pub fn is_empty(&self) -> bool
         ensures { result ≡ is_empty self.now }
     {
@@ -59,6 +60,7 @@ impl Nodes {
     }
 
     /// Whether the node is in the list.
+    #[inline(always)]
     pub fn has(&self, node: u32) -> bool
         ensures { result ≡ not (times node self.now == 0) }
     {
@@ -66,6 +68,7 @@ impl Nodes {
     }
 
     /// The first node, if there is one.
+    #[inline(always)]
     pub fn first(&self) -> Option<u32>
         ensures { result ≡ slice_get self.now 0 }
     {
@@ -73,6 +76,7 @@ impl Nodes {
     }
 
     /// Adds a node at the end, for which there is room.
+    #[inline(always)]
     pub fn push(&mut self, node: u32)
         requires { length self.old < 16 }
         ensures { self.new ≡ self.old ++ node ∷ [] }
@@ -84,6 +88,7 @@ impl Nodes {
     }
 
     /// Adds a node at the front, for which there is room.
+    #[inline(always)]
     pub fn put_first(&mut self, node: u32)
         requires { length self.old < 16 }
         ensures { self.new ≡ node ∷ self.old }
@@ -95,6 +100,7 @@ impl Nodes {
     }
 
     /// Takes the first node.
+    #[inline(always)]
     pub fn take_first(&mut self) -> u32
         requires { 0 < length self.old }
         ensures { self.old ≡ result ∷ self.new }
@@ -170,6 +176,7 @@ impl Notes {
     }
 
     /// The note of a seat that is there.
+    #[inline(always)]
     pub fn at(&self, seat: u32) -> Option<u64>
         requires { seat < length self.now }
         ensures { result ≡ unwrap_or (slice_get self.now seat) None }
@@ -244,6 +251,7 @@ impl Flags {
     }
 
     /// The flag of a seat that is there.
+    #[inline(always)]
     pub fn at(&self, seat: u32) -> bool
         requires { seat < length self.now }
         ensures { result ≡ unwrap_or (slice_get self.now seat) false }
