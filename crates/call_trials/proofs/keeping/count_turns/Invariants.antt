@@ -1,0 +1,5 @@
+use Rattle.list_trials.specs.Trials.{IsSameHand}
+use Rattle.call_trials.proofs.keeping.count_turns.Given as goal
+
+abbrev pub invariant-turns : goal.invariant-turns
+invariant-turns g l = IsSameHand l.initial.hand l.hand

@@ -1,0 +1,5 @@
+use Rattle.list_trials.specs.Trials.{IsSameHand}
+use Rattle.call_trials.proofs.keeping.keep.Given as goal
+
+abbrev pub invariant-calls : goal.invariant-calls
+invariant-calls l = IsSameHand l.initial.hand l.hand

@@ -1,0 +1,8 @@
+use Rattle.list_trials.proofs.Hands.{table_at, order_set}
+use Rattle.call_trials.proofs.keeping.keep_by.Goals as goal
+
+pub keep-requires : goal.keep-requires
+keep-requires c = record { table = table_at c.args.list.now.table c.args.hands.now c.args.number c.index-hands-number.result c.requires.order c.requires.there }
+
+pub returns : goal.returns
+returns c = record { order = order_set c.args.list.now.table c.args.hands.now c.args.number c.index-hands-number.result c.requires.order c.requires.there c.keep.new.hand c.keep.ensures.same }

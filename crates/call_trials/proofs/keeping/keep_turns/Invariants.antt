@@ -1,0 +1,5 @@
+use Rattle.list_trials.specs.Trials.{AreInOrder}
+use Rattle.call_trials.proofs.keeping.keep_turns.Given as goal
+
+abbrev pub invariant-turns : goal.invariant-turns
+invariant-turns l = AreInOrder l.list.table l.hands

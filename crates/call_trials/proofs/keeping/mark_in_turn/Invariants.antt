@@ -1,0 +1,13 @@
+use Rattle.std.proofs.Common.{◌≤◌, ◌<◌, length}
+use Rattle.list_trials.specs.Trials.{AreInOrder}
+use Rattle.call_trials.proofs.keeping.mark_in_turn.Given as goal
+
+abbrev pub invariant-nodes : goal.invariant-nodes
+invariant-nodes l = record {
+  below : l.left ≤ 32;
+  two : 1 < length l.hands;
+  order : AreInOrder l.list.table l.hands;
+}
+
+abbrev pub decreases-nodes : goal.decreases-nodes
+decreases-nodes l = l.left
