@@ -3,7 +3,7 @@ use Rattle.std.proofs.Common.{◌≡◌, ℕ, zero, suc, ◌+◌, ◌-◌, ◌<�
 use Rattle.std.proofs.lemmas.List.{length-replicate, take_all}
 use Rattle.std.proofs.lemmas.List.Elements.{All-nil}
 use Rattle.std.proofs.lemmas.List.Sums.{sum_by-cons}
-use Rattle.std.specs.Prelude.{All, remove, slice_index}
+use Rattle.std.specs.Prelude.{All, None, remove, slice_index}
 use mathlib.Core.Option.{some, some-injective, some-ne-none}
 use lib.ListN.{get_elem?}
 use lib.Seq.{take-append_seam}
@@ -22,11 +22,12 @@ use Rattle.word_rows.proofs.Rowing.{snoc_all as pushed_all}
 use Rattle.area_rows.specs.declared.guard.Pass.{Pass}
 use Rattle.area_rows.specs.Parts.{none_is}
 use Rattle.area_rows.specs.Reads.{StillStands}
-use Rattle.area_rows.specs.Rows.{rows_in, rows_from, areas_from, ShowFrom, RowsShow, IsBareGap}
+use Rattle.row_plans.specs.RowLists.{rows_from, areas_from, ShowFrom, IsBareGap}
+use Rattle.area_rows.specs.Rows.{rows_in, RowsShow}
 use Rattle.area_rows.specs.History.{IsPart, own_planned, planned_count, ShowsBefore, IsShown, IsRunningSpace, IsBacked, AreBacked, HasHistory, own_count, entry_count, newcomer}
-use Rattle.area_rows.specs.Plans.{planned_rows}
+use Rattle.row_plans.specs.Plans.{planned_rows}
 use Rattle.area_rows.specs.Callers.{CallerView, AreNewCallers, new_pass, opening_words}
-use Rattle.area_rows.proofs.RowLists.{length-rows, shows_from, areas_back, bare_from}
+use Rattle.row_plans.proofs.RowLists.{length-rows, shows_from, areas_back, bare_from}
 
 -- the words so far, with zeros up to the end
 pub padded : (start : List Area) (all : ℕ) (words : List ℕ) (wide : ℕ) → all ≡ 3 + ROWS → words ≡ 0 ∷ 0 ∷ row_count start ∷ rows_from 0 start → wide ≡ length words → row_count start ≤ ROWS → take all words ++ replicate (all - wide) 0 ≡ opening_words start
@@ -95,6 +96,7 @@ runs_new start callers areas named few most = record {
   replies = All-nil (λ (e : Entry). IsNamedReply e.reply);
   in_order = areas;
   named = named;
+  limit = few;
   number = refl;
   sequence = let z = no_plans start 0 callers in omega arith;
   room = (opens_rows start areas named few).room;
@@ -118,7 +120,7 @@ opens grants start callers words is areas named few most =
     (start, [], start, both.0, both.1))
 
 abbrev pub caller_with : Known Pass → ℕ → List ℕ → List ℕ → CallerView
-caller_with s left read plan = record { seat = s; left = left; read = read; plan = planned_rows read plan }
+caller_with s left read plan = record { seat = s; left = left; read = read; plan = planned_rows read plan; change = None }
 
 -- the seat that is next
 pub next_seat : (table : TableId) (p : Pass) (worker : ℕ) (seats : List (Known Pass)) (s : Known Pass) → ((k : ℕ) (x : Known Pass) → get_elem? seats k ≡ some x → x ≡ new_seat table (λ (_ : ℕ). p) (worker + k)) → 0 < length seats → s ≡ get_or seats 0 s → s ≡ new_seat table (λ (_ : ℕ). p) worker
@@ -133,5 +135,5 @@ seats_on table p worker seats left rest is k x at =
 pub new_caller : (s t : Known Pass) (left : ℕ) (read plan : List ℕ) → s ≡ t → read ≡ [] → plan ≡ [] → caller_with s left read plan ≡ caller_with t left [] []
 new_caller s t left read plan e r p = λ k. caller_with (e k) left (r k) (p k)
 
-pub one_caller : (table : TableId) (start : List Area) (calls : List ℕ) (made : List CallerView) (c : CallerView) (n : ℕ) → length made ≡ n → AreNewCallers table start calls made → c ≡ record { seat = new_seat table (λ (_ : ℕ). new_pass start) n; left = slice_index calls n; read = []; plan = [] } → AreNewCallers table start calls (made ++ c ∷ [])
-one_caller table start calls made c n e all is = pushed_all (λ k x. x ≡ record { seat = new_seat table (λ (_ : ℕ). new_pass start) k; left = slice_index calls k; read = []; plan = [] }) made c n e all is
+pub one_caller : (table : TableId) (start : List Area) (calls : List ℕ) (made : List CallerView) (c : CallerView) (n : ℕ) → length made ≡ n → AreNewCallers table start calls made → c ≡ record { seat = new_seat table (λ (_ : ℕ). new_pass start) n; left = slice_index calls n; read = []; plan = []; change = None } → AreNewCallers table start calls (made ++ c ∷ [])
+one_caller table start calls made c n e all is = pushed_all (λ k x. x ≡ record { seat = new_seat table (λ (_ : ℕ). new_pass start) k; left = slice_index calls k; read = []; plan = []; change = None }) made c n e all is

@@ -14,10 +14,12 @@ use Rattle.lock_core.specs.declared.range.Held.{Held}
 use Rattle.space_model.specs.Areas.{kind_at}
 use Rattle.area_rows.specs.declared.guard.Pass.{Pass}
 use Rattle.area_rows.specs.declared.guard.Pending.{Pending}
-use Rattle.area_rows.specs.declared.guard.Pending.TheVariants.{AtRest, Planned}
+use Rattle.area_rows.specs.declared.guard.Pending.TheVariants.{AtRest, Planned, OneRow}
 use Rattle.area_rows.specs.declared.close.Kept.{Kept}
-use Rattle.area_rows.specs.Rows.{rows_in, areas_from, rows_start, with_row, RowsShow}
+use Rattle.row_plans.specs.RowLists.{areas_from, rows_start, with_row}
+use Rattle.area_rows.specs.Rows.{rows_in, RowsShow}
 use Rattle.area_rows.specs.Reads.{everything}
+use Rattle.area_rows.specs.Changes.{alone}
 use Rattle.space_model.proofs.Histories.{numbered_at}
 use Rattle.area_rows.specs.History.{Runs, entries_of, planned_calls, LagsAt, RowsStandFor, IsRunningSpace, Backs, AreBacked, HasHistory}
 use Rattle.area_rows.specs.Parts.{none_is}
@@ -26,8 +28,8 @@ use Rattle.area_rows.specs.Closing.{AllStand, AgreesAt, ArePlaced, AreBelow, Are
 use Rattle.page_types.specs.declared.TheConstants.{ROWS}
 use Rattle.page_types.specs.declared.calls.Kind.{Kind}
 use Rattle.std.proofs.lemmas.List.{append-nil, length-map, length-take-le, length-drop, drop_all}
-use Rattle.area_rows.specs.RowWords.{row_start, row_kind}
-use Rattle.area_rows.proofs.RowLists.{areas_back}
+use Rattle.row_plans.specs.RowWords.{row_start, row_kind}
+use Rattle.row_plans.proofs.RowLists.{areas_back}
 use Rattle.area_rows.proofs.Moments.{at_row, none_planned, rows_agree}
 
 kept_at : (kept : List Kept) (callers : List CallerView) (k : ℕ) (c : Kept) → AreKept kept callers → get_elem? kept k ≡ some c → (v : CallerView) × (get_elem? callers k ≡ some v) × (c.mine.items ≡ v.seat.pass.mine)
@@ -50,10 +52,12 @@ nobody_holds n worker h at = none_is h (at_replicate n None (Some h) worker at)
 idle_rest : (n : ℕ) (state : List Area) (worker : ℕ) (pending : Pending) → Backs (replicate n None) state worker pending → planned_calls pending ≡ 0
 idle_rest n state worker AtRest b = refl
 idle_rest n state worker (Planned rows) b = absurd (nobody_holds n worker everything b.0)
+idle_rest n state worker (OneRow c) b = refl
 
 idle_shown : (n : ℕ) (state : List Area) (worker page : ℕ) (pending : Pending) → Backs (replicate n None) state worker pending → LagsAt pending page → ⊥
 idle_shown n state worker page AtRest b lags = lags
 idle_shown n state worker page (Planned rows) b lags = lags
+idle_shown n state worker page (OneRow c) b lags = nobody_holds n worker (alone c.span) b.0
 
 -- and the rows show the state
 pub idle_rows : (n : ℕ) (start : List Area) (history : List Entry) (state : List Area) (words : List ℕ) (passes : List Pass) → IsRunningSpace start history state words passes → AreBacked (replicate n None) words state passes → RowsShow words (kind_at state)
@@ -173,7 +177,7 @@ caller_step history kept old new mine n c at is all keeps places before k d lt t
 drop_next : (l : List ℕ) (i : ℕ) → i < length l → drop i l ≡ get_or l i 0 ∷ drop (i + 1) l
 drop_next l i lt = rw (add-one, drop-cons l i 0) refl
 
-length-rows : (words : List ℕ) → length words ≡ 3 + ROWS → slice_index words 2 ≤ ROWS → length (rows_in words) ≡ slice_index words 2
+pub length-rows : (words : List ℕ) → length words ≡ 3 + ROWS → slice_index words 2 ≤ ROWS → length (rows_in words) ≡ slice_index words 2
 length-rows words wide few = let d = length-drop 3 words in length-take-le (slice_index words 2) (drop 3 words) (omega arith)
 
 row_apart : (lo : ℕ) (kind : Option Kind) (hi : ℕ) (rest : List Area) → with_row lo kind hi rest ≡ with_row lo kind hi [] ++ rest

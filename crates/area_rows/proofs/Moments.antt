@@ -6,7 +6,9 @@ use Rattle.std.proofs.lemmas.List.{get_or-take, get_or-drop, length-take-le, len
 use Rattle.std.proofs.lemmas.List.Elements.{All-head, All-tail}
 use Rattle.std.proofs.lemmas.List.Sums.{sum_by-cons}
 use Rattle.std.specs.Prelude.{All, Option, Some, None, IsSome, slice_index}
-use mathlib.Core.Option.{some}
+use mathlib.Core.Option.{some, some-injective}
+use mathlib.Core.Logic.{dite}
+use native.Mathlib.Decide.{ℕ_discrete}
 use lib.ListN.{get_elem?}
 use Rattle.atomic_table.proofs.Lists.{at_set}
 use Rattle.page_types.specs.declared.TheConstants.{LIMIT, ROWS}
@@ -21,16 +23,19 @@ use Rattle.space_model.specs.Areas.{kind_at}
 use Rattle.area_rows.specs.declared.guard.ReadRow.{ReadRow}
 use Rattle.area_rows.specs.declared.guard.Pass.{Pass}
 use Rattle.area_rows.specs.declared.guard.Pending.{Pending}
-use Rattle.area_rows.specs.declared.guard.Pending.TheVariants.{AtRest, Planned}
-use Rattle.area_rows.specs.RowWords.{row_start}
-use Rattle.area_rows.specs.Rows.{rows_in, rows_start, ShowFrom, RowsShow, IsBareGap, areas_from}
-use Rattle.area_rows.specs.Plans.{PlanShows, IsRowList}
+use Rattle.area_rows.specs.declared.guard.Pending.TheVariants.{AtRest, Planned, OneRow}
+use Rattle.row_plans.specs.RowWords.{row_start}
+use Rattle.row_plans.specs.RowLists.{rows_start, ShowFrom, IsBareGap, areas_from}
+use Rattle.area_rows.specs.Rows.{rows_in, RowsShow}
+use Rattle.row_plans.specs.Plans.{PlanShows, IsRowList}
 use Rattle.area_rows.specs.Reads.{everything, IsHeldPage, HasRead, StillStands}
 use Rattle.area_rows.specs.History.{planned_calls, own_planned, planned_count, LagsAt, IsShown, RowsStandFor, IsRunningSpace, HasHistory, HoldsPages, Backs, AreBacked, IsAtRest, Here}
 use Rattle.area_rows.specs.Callers.{IsHeldPages, IsMoment}
 use Rattle.area_rows.specs.Parts.{planned_set}
 use Rattle.area_rows.specs.Writes.{everything_pages, clash}
-use Rattle.area_rows.proofs.RowLists.{row_says, starts_low, areas_back}
+use Rattle.area_rows.specs.Beside.{apart_pages}
+use Rattle.area_rows.specs.RowStores.{in_span}
+use Rattle.row_plans.proofs.RowLists.{row_says, starts_low, areas_back}
 
 pub held_some : (held : Option Held) → IsSome held → (h : Held) × (held ≡ Some h)
 held_some None s = absurd (false≢true s)
@@ -49,7 +54,7 @@ length-rows_in words kinds s =
 pub at_row : (words : List ℕ) (i : ℕ) → i < slice_index words 2 → get_or (rows_in words) i 0 ≡ slice_index words (3 + i)
 at_row words i l = get_or-take (slice_index words 2) (drop 3 words) i 0 l ∙ get_or-drop 3 words i 0
 
-first_start : (rows : List ℕ) (kinds : ℕ → Option Kind) → ShowFrom 0 rows kinds → 0 < length rows → row_start (get_or rows 0 0) ≡ 0
+pub first_start : (rows : List ℕ) (kinds : ℕ → Option Kind) → ShowFrom 0 rows kinds → 0 < length rows → row_start (get_or rows 0 0) ≡ 0
 first_start [] kinds s l = absurd (omega arith)
 first_start (w ∷ rest) kinds s l = s.0
 
@@ -104,6 +109,7 @@ none_planned (x ∷ xs) all = let a = all 0 x refl in let r = none_planned xs (�
 rest_of_other : (grants : Grants) (state : List Area) (worker other : ℕ) (pending : Pending) → IsExclusive grants → (other ≡ worker → ⊥) → HoldsPages grants worker → Backs grants state other pending → planned_calls pending ≡ 0
 rest_of_other grants state worker other AtRest exclusive differ h b = refl
 rest_of_other grants state worker other (Planned rows) exclusive differ h b = absurd (clash grants other worker exclusive (λ e. differ (sym e)) b.0 h)
+rest_of_other grants state worker other (OneRow c) exclusive differ h b = refl
 
 module _ (grants : Grants) (words : List ℕ) (state : List Area) (passes : List Pass) (worker : ℕ) (p : Pass)
     (exclusive : IsExclusive grants) (backed : AreBacked grants words state passes) (at : get_elem? passes worker ≡ some p) where
@@ -122,14 +128,23 @@ module _ (grants : Grants) (words : List ℕ) (state : List Area) (passes : List
   pub nobody_plans : IsAtRest p → HoldsPages grants worker → planned_count passes ≡ 0
   nobody_plans rest h = only_own_plan h ∙ ap planned_calls rest
 
-  -- no row lags behind at a page that a caller at rest holds
-  pub keeps_off : IsAtRest p → (held : Option Held) → get_elem? grants worker ≡ some held → (page : ℕ) → IsHeldPage held page → (other : ℕ) (pending : Pending) → Backs grants state other pending → LagsAt pending page → ⊥
-  keeps_off rest held has page here other AtRest b lags = lags
-  keeps_off rest held has page here other (Planned rows) b lags = lags
+  -- no row of another lags behind at a page that a caller holds
+  keeps_off : (held : Option Held) → get_elem? grants worker ≡ some held → (page : ℕ) → IsHeldPage held page → (other : ℕ) (pending : Pending) → (other ≡ worker → ⊥) → Backs grants state other pending → LagsAt pending page → ⊥
+  keeps_off held has page here other AtRest differ b lags = lags
+  keeps_off held has page here other (Planned rows) differ b lags = lags
+  keeps_off held has page here other (OneRow c) differ b lags = apart_pages grants other worker c.span exclusive (λ e. differ (sym e)) b.0 held has page here (in_span c page b.1 lags)
+
+  -- and none of its own where it is at rest
+  nowhere : IsAtRest p → (held : Option Held) → get_elem? grants worker ≡ some held → (page : ℕ) → IsHeldPage held page → (other : ℕ) (x : Pass) → get_elem? passes other ≡ some x → LagsAt x.pending page → ⊥
+  nowhere rest held has page here other x there lags = dite (ℕ_discrete other worker)
+      (λ same.
+      let mine : x ≡ p = some-injective x p (sym there ∙ (ap (get_elem? passes) same ∙ at)) in
+      subst (λ (z : Pending). LagsAt z page) (ap (λ (y : Pass). y.pending) mine ∙ rest) lags)
+      (λ differ. keeps_off held has page here other x.pending differ (backed other x there).pending lags)
 
   -- so the rows show the state there
   pub shows_held : IsAtRest p → (held : Option Held) → get_elem? grants worker ≡ some held → (kinds : ℕ → Option Kind) → IsShown state passes kinds → (page : ℕ) → IsHeldPage held page → kinds page ≡ kind_at state page
-  shows_held rest held has kinds shown page here = shown.elsewhere page (λ other x there lags. keeps_off rest held has page here other x.pending (backed other x there).pending lags)
+  shows_held rest held has kinds shown page here = shown.elsewhere page (λ other x there lags. nowhere rest held has page here other x there lags)
 
 -- every page is held where everything is
 in_everything : (page : ℕ) → page < LIMIT → IsHeldPage (Some everything) page

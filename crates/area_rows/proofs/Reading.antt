@@ -13,23 +13,25 @@ use Rattle.lock_core.specs.declared.range.Held.{Held}
 use Rattle.range_rw.specs.Contract.{Known}
 use Rattle.range_rw.specs.declared.record.Record.{Record}
 use Rattle.area_rows.specs.declared.guard.Pass.{Pass}
-use Rattle.area_rows.specs.RowWords.{row_start, row_kind}
-use Rattle.area_rows.specs.Rows.{rows_in, rows_start, RowsShow, IsRowOf}
+use Rattle.row_plans.specs.RowWords.{row_start, row_kind}
+use Rattle.row_plans.specs.RowLists.{rows_start}
+use Rattle.area_rows.specs.Rows.{rows_in, RowsShow, IsRowOf}
 use Rattle.area_rows.specs.Reads.{IsHeldPage, HasRead, StillStands}
 use Rattle.area_rows.specs.History.{RowsStandFor, HoldsPages, IsAtRest, after_count, after_row}
-use Rattle.area_rows.specs.Callers.{IsHeldPages, KeepsRead, IsRowEnd, IsAsRead, RowIs, Shows, IsReading, IsClientStep}
-use Rattle.area_rows.proofs.RowLists.{row_says}
+use Rattle.area_rows.specs.declared.row.Row.{Row}
+use Rattle.area_rows.specs.Callers.{IsHeldPages, KeepsRead, IsRowEnd, IsAsRead, IsReadBefore, IsReadBehind, RowIs, Shows, IsReading, IsClientStep}
+use Rattle.row_plans.proofs.RowLists.{row_says}
 use Rattle.area_rows.proofs.Moments.{length-rows_in, at_row, first_row, row_below, stands, nobody_plans, shows_held}
 use Rattle.area_rows.proofs.Gathering.{next_start}
 
 -- what the word of a row says, of those that show kinds
-record WordSays (words : List ℕ) (kinds : ℕ → Option Kind) (i : ℕ) : Type 0 where
-  below : row_start (slice_index words (3 + i)) < LIMIT
-  within : (p : ℕ) → row_start (slice_index words (3 + i)) ≤ p → p < LIMIT → (i + 1 < slice_index words 2 → p < row_start (slice_index words (3 + (i + 1)))) → kinds p ≡ row_kind (slice_index words (3 + i))
-  rises : i + 1 < slice_index words 2 → row_start (slice_index words (3 + i)) < row_start (slice_index words (3 + (i + 1)))
-  differs : i + 1 < slice_index words 2 → row_kind (slice_index words (3 + i)) ≢ row_kind (slice_index words (3 + (i + 1)))
+pub record WordSays (words : List ℕ) (kinds : ℕ → Option Kind) (i : ℕ) : Type 0 where
+  pub below : row_start (slice_index words (3 + i)) < LIMIT
+  pub within : (p : ℕ) → row_start (slice_index words (3 + i)) ≤ p → p < LIMIT → (i + 1 < slice_index words 2 → p < row_start (slice_index words (3 + (i + 1)))) → kinds p ≡ row_kind (slice_index words (3 + i))
+  pub rises : i + 1 < slice_index words 2 → row_start (slice_index words (3 + i)) < row_start (slice_index words (3 + (i + 1)))
+  pub differs : i + 1 < slice_index words 2 → row_kind (slice_index words (3 + i)) ≢ row_kind (slice_index words (3 + (i + 1)))
 
-word_says : (words : List ℕ) (kinds : ℕ → Option Kind) (i : ℕ) → RowsShow words kinds → i < slice_index words 2 → WordSays words kinds i
+pub word_says : (words : List ℕ) (kinds : ℕ → Option Kind) (i : ℕ) → RowsShow words kinds → i < slice_index words 2 → WordSays words kinds i
 word_says words kinds i s lt =
     let rows = rows_in words in
     let wide : length rows ≡ slice_index words 2 = length-rows_in words kinds s in
@@ -114,7 +116,7 @@ module _ (held : Option Held) (words : List ℕ) (kinds : ℕ → Option Kind) (
   kind_now : row_kind (slice_index words (3 + index)) ≡ row_kind word
   kind_now = still.kind page here (row_of_page page here from until)
 
-  row_is_still : (state : List Area) → ((p : ℕ) → IsHeldPage held p → kinds p ≡ kind_at state p) → RowIs held page (record { index = index; lo = row_start word; hi = hi; kind = row_kind word }) words state
+  pub row_is_still : (state : List Area) → ((p : ℕ) → IsHeldPage held p → kinds p ≡ kind_at state p) → RowIs held page (record { index = index; lo = row_start word; hi = hi; kind = row_kind word }) words state
   row_is_still state same = record {
     index = row_of_page page here from until;
     kind = λ p h low high. let r = row_of_page p h low high in sym (same p h) ∙ ((word_says words kinds index s (omega arith)).within p r.from (below_end held p pages h) r.last ∙ kind_now);
@@ -239,3 +241,26 @@ found_read old new count index word next lo hi kind step l k h counted read lt =
 pub last_read : (seat : Known Pass) (count index word lo : ℕ) (kind : Option Kind) → lo ≡ row_start word → kind ≡ row_kind word → seat.pass.count ≡ Some count → HasRead seat.pass.rows index word → index < count → ¬ (index + 1 < count)
     → IsAsRead seat.pass (record { index = index; lo = lo; hi = LIMIT; kind = kind })
 last_read seat count index word lo kind l k counted read lt not_more = record { count = count; counted = counted; there = lt; word = word; read = read; lo = l; kind = k; hi = inr (omega arith, refl) }
+
+-- the kinds of the rows beside a row, as they are read now
+pub before_read : (a b : Known Pass) (index word : ℕ) (kind : Option Kind) → 0 < index → kind ≡ row_kind word → IsClientStep a (3 + (index - 1)) (after_row (index - 1) word a.pass) b → IsReadBefore b.pass.rows index kind
+before_read a b index word kind more is s = inr (more, word, subst (λ (p : Pass). HasRead p.rows (index - 1) word) (sym s.pass) (inl (refl, refl)), is)
+
+pub behind_read : (a b : Known Pass) (count index word : ℕ) (kind : Option Kind) → index + 1 < count → kind ≡ row_kind word → IsClientStep a (3 + (index + 1)) (after_row (index + 1) word a.pass) b → IsReadBehind b.pass.rows count index kind
+behind_read a b count index word kind more is s = inr (more, word, subst (λ (p : Pass). HasRead p.rows (index + 1) word) (sym s.pass) (inl (refl, refl)), is)
+
+-- what was read of a row and of the one before it is read still
+pub before_on : (a b : Pass) (index : ℕ) (kind : Option Kind) → KeepsRead a b → IsReadBefore a.rows index kind → IsReadBefore b.rows index kind
+before_on a b index kind k r = ⊎_elim (λ t. inl t) (λ t. inr (t.0, t.1, k.rows (index - 1) t.1 t.2, t.3)) r
+
+abbrev pub as_read_on : (a b : Pass) (row : Row) → KeepsRead a b → IsAsRead a row → IsAsRead b row
+as_read_on a b row k r = record {
+  count = r.count;
+  counted = k.count r.count r.counted;
+  there = r.there;
+  word = r.word;
+  read = k.rows row.index r.word r.read;
+  lo = r.lo;
+  kind = r.kind;
+  hi = ⊎_elim (λ t. inl (t.0, t.1, k.rows (row.index + 1) t.1 t.2, t.3)) (λ t. inr t) r.hi;
+}

@@ -1,6 +1,6 @@
 -- The guard allows the steps by which a caller reads words and draws a number, and what each tells.
 use Rattle.std.proofs.Common.{◌≡◌, ℕ, ⊎_elim, inl, inr, ◌⊎◌, ◌+◌, ◌<◌, ◌≤◌, ◌^◌, List, length, sym, refl, ap, ◌∙◌, subst, arith}
-use Rattle.std.specs.Prelude.{All, Option, Some, None, IsSome, slice_index}
+use Rattle.std.specs.Prelude.{◌↔◌, All, Option, Some, None, IsSome, slice_index}
 use mathlib.Core.Option.{some, some-injective}
 use lib.ListN.{get_elem?}
 use Rattle.page_types.specs.declared.TheConstants.{LIMIT, ROWS}
@@ -12,18 +12,22 @@ use Rattle.range_rw.specs.Contract.{Known, IsClientCall}
 use Rattle.space_model.specs.declared.areas.Area.{Area}
 use Rattle.space_model.specs.declared.entries.Entry.{Entry}
 use Rattle.space_model.specs.declared.entries.Under.{Under}
-use Rattle.space_model.specs.declared.entries.Under.TheVariants.{Whole}
+use Rattle.space_model.specs.declared.entries.Under.TheVariants.{Area as OverArea, Whole}
+use Rattle.page_types.specs.declared.pages.Span.{Span}
+use Rattle.area_rows.specs.declared.guard.Change.{Change}
 use Rattle.area_rows.specs.declared.guard.Note.{Note}
+use Rattle.area_rows.specs.declared.guard.ReadRow.{ReadRow}
 use Rattle.area_rows.specs.declared.guard.Pass.{Pass}
 use Rattle.area_rows.specs.declared.guard.Pending.{Pending}
-use Rattle.area_rows.specs.declared.guard.Pending.TheVariants.{AtRest, Planned}
-use Rattle.area_rows.specs.RowWords.{row_start}
-use Rattle.area_rows.specs.Plans.{IsRowList}
-use Rattle.area_rows.specs.Reads.{everything, HasRead, HasRows, StillStands}
+use Rattle.area_rows.specs.declared.guard.Pending.TheVariants.{AtRest, Planned, OneRow}
+use Rattle.row_plans.specs.RowWords.{row_start}
+use Rattle.row_plans.specs.Plans.{IsRowList}
+use Rattle.area_rows.specs.Halving.{IsOnSameSide}
+use Rattle.area_rows.specs.Reads.{everything, IsHeldPage, HasRead, HasRows, StillStands}
 use Rattle.area_rows.specs.History.{Runs, StartsWith, planned_calls, RowsStandFor, HasHistory, Allowed, Here, MayLoad, MayAdd, IsAtRest, IsRight, Leaves, HoldsFor, pending_of, entry_of, after_look, after_count, after_sequence, after_row, after_draw}
 use Rattle.area_rows.specs.History.MayLoad.{number, glance, sequence, count, row}
 use Rattle.area_rows.specs.History.MayAdd.{draw, raise}
-use Rattle.area_rows.specs.Callers.{CallerView, HasToWrite, IsHeldPages, IsMoment, Shows, KeepsRead, KeepsRows, CountsWhole, IsReading, IsLook, IsNumbered, IsDrawn}
+use Rattle.area_rows.specs.Callers.{CallerView, HasToWrite, HasToStore, IsReadRound, IsReadBefore, IsReadBehind, IsRowEnd, IsHeldPages, IsMoment, Shows, KeepsRead, KeepsRows, CountsWhole, IsReading, IsLook, IsNumbered, IsDrawn}
 use Rattle.area_rows.specs.Draws.{draw_pending, draw_mine, draw_seen, draw_start, draw_drew}
 use Rattle.area_rows.specs.Keeping.{no_note}
 use Rattle.area_rows.specs.Parts.{none_is}
@@ -63,6 +67,7 @@ module _ (free held : Type 0) (words : List ℕ) (history : List Entry) (p after
 draw_keeps : (history : List Entry) (e : Entry) (pending : Pending) (held : Option Held) (p : Pass) → KeepsRows pending p (after_draw history e pending held p)
 draw_keeps history e AtRest held p = tt
 draw_keeps history e (Planned rows) held p = (refl, refl)
+draw_keeps history e (OneRow c) held p = (refl, refl)
 
 -- a caller that holds a range remembers the sequence word
 pub may_sequence : (note : Note) (seat : ℕ) (held : Option Held) (pass : Pass) → IsHeldPages held → IsAllowed HasHistory Allowed note seat held pass (loads 1)
@@ -125,6 +130,15 @@ module _ (note : Note) (seat : ℕ) (held : Option Held) (pass : Pass) where
               subst (λ w. row_start w < LIMIT) e (row_below s.1 rows.0 index rows.2 (omega arith)),
         )
 
+    -- a row that was read before starts on the same side of each held page
+    pub reads_side : (index : ℕ) → IsMade HasHistory Allowed note seat held pass (loads (3 + index)) found after → (page : ℕ) → IsHeldPage held page → IsOnSameSide pass.rows index found page
+    reads_side index s page h old has =
+        let m = s.3 in let here = s.5.0 in
+        let same : here.pass ≡ pass = some-injective here.pass pass (sym here.own ∙ m.own) in
+        let stood : All (StillStands held s.1) here.pass.rows = (here.backed seat here.pass here.own).rows held m.grant in
+        let still = stands held s.1 here.pass.rows index old stood (subst (λ (x : Pass). HasRead x.rows index old) (sym same) has) in
+        subst (λ w. (row_start old ≤ page) ↔ (row_start w ≤ page)) s.4 (still.side page h)
+
     -- where everything is held and all rows are read, with this one, they are a row list
     pub reads_all : (index : ℕ) → held ≡ Some everything → IsAtRest pass → IsMade HasHistory Allowed note seat held pass (loads (3 + index)) found after → (new : Pass) → new ≡ after → (rows : List ℕ) → HasRows new rows → IsRowList rows
     reads_all index all rest s new new_is rows has =
@@ -160,6 +174,7 @@ module _ (note : Note) (seat : ℕ) (held : Option Held) (pass : Pass) where
           state = here.state;
           more = subst (λ (x : Pass). StartsWith here.history x.seen) old part.seen;
           runs = subst (λ (a : List Area). Runs 0 a here.history here.state) (sym part.began ∙ ap (λ (x : Pass). x.start) old) here.running.runs;
+          in_order = here.running.in_order;
           counted = sym num;
           worker = sym n;
           left = d.left;
@@ -238,11 +253,52 @@ sequence_is s u found pages call made =
     (sequence_tells _ _ made.1 here.history here.pass u.pass made.5.1)
 
 -- a caller that has drawn a number under everything has its plan to write
-pub writes_plan : (before after : CallerView) (e : Entry) (under : Under) → after.read ≡ before.read → after.plan ≡ before.plan → IsDrawn before.seat e (pending_of under before.plan) after.seat → under ≡ Whole → HasRows before.seat.pass before.read → HasToWrite after
+pub writes_plan : (before after : CallerView) (e : Entry) (under : Under) → after.read ≡ before.read → after.plan ≡ before.plan → IsDrawn before.seat e (pending_of under before.plan before.change) after.seat → under ≡ Whole → HasRows before.seat.pass before.read → HasToWrite after
 writes_plan before after e under read plan d whole has =
-    let is : pending_of under before.plan ≡ Planned after.plan = ap (λ (w : Under). pending_of w before.plan) whole ∙ ap Planned (sym plan) in
+    let is : pending_of under before.plan before.change ≡ Planned after.plan = ap (λ (w : Under). pending_of w before.plan before.change) whole ∙ ap Planned (sym plan) in
     let k : KeepsRows (Planned after.plan) before.seat.pass after.seat.pass = subst (λ (q : Pending). KeepsRows q before.seat.pass after.seat.pass) is d.keeps in
     record {
       pending = d.writes ∙ is;
       read = subst (HasRows after.seat.pass) (sym read) (k.0 ∙ has.0, λ i lt. subst (λ r. HasRead r i (slice_index before.read i)) (sym k.1) (has.1 i lt));
+    }
+
+-- what was read round a change is read still where the range and the rows are the same
+pub round_on : (a b : Known Pass) (change : Change) → b.held ≡ a.held → b.pass.count ≡ a.pass.count → b.pass.rows ≡ a.pass.rows → IsReadRound a change → IsReadRound b change
+round_on a b change same_held same_count same_rows r =
+    let read = r.read in
+    record {
+      row = r.row;
+      before = r.before;
+      behind = r.behind;
+      held = same_held ∙ r.held;
+      round = r.round;
+      pages = r.pages;
+      limit = r.limit;
+      read = record {
+        count = read.count;
+        counted = same_count ∙ read.counted;
+        there = read.there;
+        word = read.word;
+        read = subst (λ (l : List ReadRow). HasRead l r.row.index read.word) (sym same_rows) read.read;
+        lo = read.lo;
+        kind = read.kind;
+        hi = subst (λ (l : List ReadRow). IsRowEnd l read.count r.row.index r.row.hi) (sym same_rows) read.hi;
+      };
+      few = r.few;
+      kind = r.kind;
+      named = r.named;
+      read_before = subst (λ (l : List ReadRow). IsReadBefore l r.row.index r.before) (sym same_rows) r.read_before;
+      read_behind = subst (λ (l : List ReadRow). IsReadBehind l read.count r.row.index r.behind) (sym same_rows) r.read_behind;
+      store = r.store;
+    }
+
+-- a caller that has drawn a number over its area has the row that it has chosen to store
+pub writes_row : (before after : CallerView) (e : Entry) (under : Under) (span : Span) (change : Change) → after.change ≡ before.change → IsDrawn before.seat e (pending_of under before.plan before.change) after.seat → under ≡ OverArea span → before.change ≡ Some change → IsReadRound before.seat change → HasToStore after change
+writes_row before after e under span change same d over chosen round =
+    let is : pending_of under before.plan before.change ≡ OneRow change = λ i. pending_of (over i) before.plan (chosen i) in
+    let k : KeepsRows (OneRow change) before.seat.pass after.seat.pass = subst (λ (q : Pending). KeepsRows q before.seat.pass after.seat.pass) is d.keeps in
+    record {
+      pending = d.writes ∙ is;
+      chosen = same ∙ chosen;
+      round = round_on before.seat after.seat change d.numbered.held k.0 k.1 round;
     }

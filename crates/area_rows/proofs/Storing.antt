@@ -10,7 +10,7 @@ use Rattle.space_model.proofs.Histories.{chains_weaker, numbered_at, replied_sta
 use Rattle.area_rows.specs.declared.guard.Pass.{Pass}
 use Rattle.area_rows.specs.declared.guard.Note.{Note}
 use Rattle.area_rows.specs.declared.guard.Pending.{Pending}
-use Rattle.area_rows.specs.declared.guard.Pending.TheVariants.{AtRest, Planned}
+use Rattle.area_rows.specs.declared.guard.Pending.TheVariants.{AtRest, Planned, OneRow}
 use Rattle.area_rows.specs.History.{FitsAndReplies, entries_of, entry_of, HoldsFor, IsRunningSpace, AreBacked, Here, Allowed, MayLoad, MayStore, MayWrite, MayAdd}
 use Rattle.area_rows.specs.History.MayLoad.{number, glance, sequence, count, row}
 use Rattle.area_rows.specs.History.MayStore.{store_row, store_count}
@@ -129,9 +129,10 @@ store_keeps : (rows : List ℕ) (place value : ℕ) (p after : Pass) → MayStor
 store_keeps rows place value p after (store_row i lt e v is) = same_draw p _ after is refl refl
 store_keeps rows place value p after (store_count e v is) = same_draw p _ after is refl refl
 
-write_keeps : (pending : Pending) (place value : ℕ) (p after : Pass) → MayWrite pending place value p after → KeepsDraw p after
-write_keeps AtRest place value p after may = absurd may
-write_keeps (Planned rows) place value p after may = store_keeps rows place value p after may
+write_keeps : (words : List ℕ) (pending : Pending) (place value : ℕ) (p after : Pass) → MayWrite words pending place value p after → KeepsDraw p after
+write_keeps words AtRest place value p after may = absurd may
+write_keeps words (Planned rows) place value p after may = store_keeps rows place value p after may
+write_keeps words (OneRow c) place value p after may = same_draw p _ after may.3 refl refl
 
 raise_keeps : (grants : Grants) (words : List ℕ) (passes : List Pass) (worker place : ℕ) (note : Note) (here : Here grants words passes worker) (after : Pass) → (place ≡ 0 → ⊥) → MayAdd grants words passes worker note here place after → KeepsDraw here.pass after
 raise_keeps grants words passes worker place note here after differ (draw e d is) = absurd (differ e)
@@ -140,7 +141,7 @@ raise_keeps grants words passes worker place note here after differ (raise rows 
 -- a step of a caller at a moment, from the pass that it has there
 step_keeps : (grants : Grants) (words : List ℕ) (passes : List Pass) (worker : ℕ) (step : ClientStep) (note : Note) (after : Pass) → IsNoDraw step → Allowed grants words passes worker step note after → (here : Here grants words passes worker) × KeepsDraw here.pass after
 step_keeps grants words passes worker (loads i) note after other may = (may.0, load_keeps _ _ words may.0.history i may.0.pass after may.1)
-step_keeps grants words passes worker (stores i value) note after other may = (may.0, write_keeps may.0.pass.pending i value may.0.pass after may.1)
+step_keeps grants words passes worker (stores i value) note after other may = (may.0, write_keeps words may.0.pass.pending i value may.0.pass after may.1)
 step_keeps grants words passes worker (adds i by) note after other may = (may.1, raise_keeps grants words passes worker i note may.1 after other may.2)
 step_keeps grants words passes worker (exchanges i expected new) note after other may = absurd may
 

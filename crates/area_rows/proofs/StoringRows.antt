@@ -15,8 +15,9 @@ use Rattle.area_rows.specs.declared.guard.ReadRow.{ReadRow}
 use Rattle.area_rows.specs.declared.guard.Note.{Note}
 use Rattle.area_rows.specs.declared.guard.Pass.{Pass}
 use Rattle.area_rows.specs.declared.guard.Pending.{Pending}
-use Rattle.area_rows.specs.declared.guard.Pending.TheVariants.{AtRest, Planned}
-use Rattle.area_rows.specs.Rows.{rows_in, ShowFrom, RowsShow, IsBareGap}
+use Rattle.area_rows.specs.declared.guard.Pending.TheVariants.{Planned}
+use Rattle.row_plans.specs.RowLists.{ShowFrom, IsBareGap}
+use Rattle.area_rows.specs.Rows.{rows_in, RowsShow}
 use Rattle.area_rows.specs.Reads.{everything, HasRead, HasRows, StillStands}
 use Rattle.area_rows.specs.History.{HasHistory, Allowed, Here, MayStore, MayWrite, MayAdd, Backs, without, after_count, after_store, after_raise}
 use Rattle.area_rows.specs.History.MayStore.{store_row, store_count}
@@ -27,14 +28,14 @@ use Rattle.area_rows.specs.Keeping.{no_note}
 use Rattle.area_rows.proofs.Moments.{here_at, rows_known, stands}
 
 module _ (note : Note) (seat : ℕ) (held : Option Held) (pass : Pass) (plan : List ℕ) (planned : pass.pending ≡ Planned plan) where
-  may_write : (place value : ℕ) (after : Pass) → MayStore plan place value pass after → MayWrite pass.pending place value pass after
-  may_write place value after may = subst (λ (q : Pending). MayWrite q place value pass after) (sym planned) may
+  may_write : (words : List ℕ) (place value : ℕ) (after : Pass) → MayStore plan place value pass after → MayWrite words pass.pending place value pass after
+  may_write words place value after may = subst (λ (q : Pending). MayWrite words q place value pass after) (sym planned) may
 
   pub may_store_row : (index value : ℕ) → index < length plan → value ≡ slice_index plan index → IsAllowed HasHistory Allowed note seat held pass (stores (3 + index) value)
-  may_store_row index value lt is grants words passes m there small = (after_store index value pass, (here_at grants words passes seat held pass m, may_write (3 + index) value (after_store index value pass) (store_row index lt refl is refl)))
+  may_store_row index value lt is grants words passes m there small = (after_store index value pass, (here_at grants words passes seat held pass m, may_write words (3 + index) value (after_store index value pass) (store_row index lt refl is refl)))
 
   pub may_store_count : (value : ℕ) → value ≡ length plan → IsAllowed HasHistory Allowed note seat held pass (stores 2 value)
-  may_store_count value is grants words passes m there small = (after_count value pass, (here_at grants words passes seat held pass m, may_write 2 value (after_count value pass) (store_count refl is refl)))
+  may_store_count value is grants words passes m there small = (after_count value pass, (here_at grants words passes seat held pass m, may_write words 2 value (after_count value pass) (store_count refl is refl)))
 
   -- the rows that are written show the last state
   written_shows : (grants : Grants) (words : List ℕ) (passes : List Pass) (here : Here grants words passes seat) → here.pass ≡ pass → HasRows pass plan → RowsShow words (kind_at here.state)
@@ -63,30 +64,35 @@ module _ (note : Note) (seat : ℕ) (held : Option Held) (pass : Pass) (plan : L
       (after_raise pass, (refl, here, raise plan refl planned (written_shows grants words passes here refl has) refl))
 
 -- what a store tells of the pass
-row_after : (pending : Pending) (index value : ℕ) (p after : Pass) → MayWrite pending (3 + index) value p after → after ≡ after_store index value p
-row_after AtRest index value p after may = absurd may
-row_after (Planned plan) index value p after (store_row i lt e v is) = let same : i ≡ index = omega arith in is ∙ (λ k. after_store (same k) value p)
-row_after (Planned plan) index value p after (store_count e v is) = absurd (omega arith)
+row_after : (plan : List ℕ) (index value : ℕ) (p after : Pass) → MayStore plan (3 + index) value p after → after ≡ after_store index value p
+row_after plan index value p after (store_row i lt e v is) = let same : i ≡ index = omega arith in is ∙ (λ k. after_store (same k) value p)
+row_after plan index value p after (store_count e v is) = absurd (omega arith)
 
-count_after : (pending : Pending) (value : ℕ) (p after : Pass) → MayWrite pending 2 value p after → after ≡ after_count value p
-count_after AtRest value p after may = absurd may
-count_after (Planned plan) value p after (store_row i lt e v is) = absurd (omega arith)
-count_after (Planned plan) value p after (store_count e v is) = is
+count_after : (plan : List ℕ) (value : ℕ) (p after : Pass) → MayStore plan 2 value p after → after ≡ after_count value p
+count_after plan value p after (store_row i lt e v is) = absurd (omega arith)
+count_after plan value p after (store_count e v is) = is
+
+-- a caller with a plan makes the stores of that plan
+of_plan : (words : List ℕ) (pending : Pending) (plan : List ℕ) (place value : ℕ) (p after : Pass) → pending ≡ Planned plan → MayWrite words pending place value p after → MayStore plan place value p after
+of_plan words pending plan place value p after is may = subst (λ (q : Pending). MayWrite words q place value p after) is may
 
 step_of : (s u : Known Pass) (place : ℕ) (p : Pass) → IsClientCall s place u → u.pass ≡ p → IsClientStep s place p u
 step_of s u place p call is = record { table = call.table; number = call.number; held = call.held; pass = is; trace = call.trace }
 
-pub row_stored : (s u : Known Pass) (index value : ℕ) → IsClientCall s (3 + index) u → ((found : ℕ) × IsMade HasHistory Allowed no_note s.number s.held s.pass (stores (3 + index) value) found u.pass) → IsClientStep s (3 + index) (after_store index value s.pass) u
-row_stored s u index value call made =
-    let m = made.1.3 in let may = made.1.5 in let here = may.0 in
-    let same : here.pass ≡ s.pass = some-injective here.pass s.pass (sym here.own ∙ m.own) in
-    step_of s u (3 + index) (after_store index value s.pass) call (row_after here.pass.pending index value here.pass u.pass may.1 ∙ ap (after_store index value) same)
+module _ (s u : Known Pass) (plan : List ℕ) (planned : s.pass.pending ≡ Planned plan) (value : ℕ) where
+  pub row_stored : (index : ℕ) → IsClientCall s (3 + index) u → ((found : ℕ) × IsMade HasHistory Allowed no_note s.number s.held s.pass (stores (3 + index) value) found u.pass) → IsClientStep s (3 + index) (after_store index value s.pass) u
+  row_stored index call made =
+      let m = made.1.3 in let may = made.1.5 in let here = may.0 in
+      let same : here.pass ≡ s.pass = some-injective here.pass s.pass (sym here.own ∙ m.own) in
+      step_of s u (3 + index) (after_store index value s.pass) call
+      (row_after plan index value here.pass u.pass (of_plan made.1.1 here.pass.pending plan (3 + index) value here.pass u.pass (ap (λ (x : Pass). x.pending) same ∙ planned) may.1) ∙ ap (after_store index value) same)
 
-pub count_stored : (s u : Known Pass) (value : ℕ) → IsClientCall s 2 u → ((found : ℕ) × IsMade HasHistory Allowed no_note s.number s.held s.pass (stores 2 value) found u.pass) → IsClientStep s 2 (after_count value s.pass) u
-count_stored s u value call made =
-    let m = made.1.3 in let may = made.1.5 in let here = may.0 in
-    let same : here.pass ≡ s.pass = some-injective here.pass s.pass (sym here.own ∙ m.own) in
-    step_of s u 2 (after_count value s.pass) call (count_after here.pass.pending value here.pass u.pass may.1 ∙ ap (after_count value) same)
+  pub count_stored : IsClientCall s 2 u → ((found : ℕ) × IsMade HasHistory Allowed no_note s.number s.held s.pass (stores 2 value) found u.pass) → IsClientStep s 2 (after_count value s.pass) u
+  count_stored call made =
+      let m = made.1.3 in let may = made.1.5 in let here = may.0 in
+      let same : here.pass ≡ s.pass = some-injective here.pass s.pass (sym here.own ∙ m.own) in
+      step_of s u 2 (after_count value s.pass) call
+      (count_after plan value here.pass u.pass (of_plan made.1.1 here.pass.pending plan 2 value here.pass u.pass (ap (λ (x : Pass). x.pending) same ∙ planned) may.1) ∙ ap (after_count value) same)
 
 raise_after : (grants : Grants) (words : List ℕ) (passes : List Pass) (worker : ℕ) (here : Here grants words passes worker) (after : Pass) → MayAdd grants words passes worker no_note here 1 after → after ≡ after_raise here.pass
 raise_after grants words passes worker here after (draw e d is) = absurd (omega arith)

@@ -19,10 +19,10 @@ use Rattle.range_rw.specs.Contract.{Known, IsLockCall, IsRelease}
 use Rattle.range_rw.specs.declared.record.Record.{Record}
 use Rattle.area_rows.specs.declared.guard.Pass.{Pass}
 use Rattle.area_rows.specs.declared.guard.Pending.{Pending}
-use Rattle.area_rows.specs.Rows.{areas_from}
-use Rattle.area_rows.specs.Plans.{IsRowList, IsPlan}
+use Rattle.row_plans.specs.RowLists.{areas_from}
+use Rattle.row_plans.specs.Plans.{IsRowList, IsPlan, IsFault}
 use Rattle.area_rows.specs.Reads.{everything, HasRead, HasRows, StillStands}
-use Rattle.area_rows.specs.History.{StartsWith, Runs, IsFault, IsAtRest, HoldsFor, after_row, rest_of}
+use Rattle.area_rows.specs.History.{StartsWith, Runs, IsAtRest, HoldsFor, after_row, rest_of}
 use Rattle.area_rows.specs.Callers.{CallerView, MayNumber, HasPlanned, IsReading, IsClientStep, IsNumbered, IsDrawn, IsWritten}
 use Rattle.area_rows.specs.Called.{IsLastStep, IsCalled}
 use Rattle.area_rows.proofs.Moments.{stands, rows_are}
@@ -155,6 +155,7 @@ called_from a b c e line call free lock same called =
         state = num.state;
         more = subst (λ (p : Pass). StartsWith num.history p.seen) lock.pass num.more;
         runs = subst (λ (p : Pass). Runs 0 p.start num.history num.state) lock.pass num.runs;
+        in_order = num.in_order;
         counted = num.counted;
         worker = num.worker ∙ lock.number;
         left = num.left;
@@ -188,6 +189,7 @@ numbered_whole a b p n w d e pending free call reading drawn written release =
       state = num.state;
       more = subst (StartsWith num.history) (reading.seen ∙ ap (λ (x : Pass). x.seen) call.pass) num.more;
       runs = subst (λ (l : List Area). Runs 0 l num.history num.state) (reading.start ∙ ap (λ (x : Pass). x.start) call.pass) num.runs;
+      in_order = num.in_order;
       counted = num.counted;
       worker = num.worker ∙ (reading.number ∙ call.number);
       left = num.left;

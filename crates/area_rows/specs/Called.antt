@@ -1,7 +1,7 @@
 -- What every call promises that gives an entry, whichever it is: a fault, a map, an unmap or a change of protection. It
 -- is one clause, so that who uses several of them needs one lemma. The entry stands in the one history (Herlihy and
 -- Wing, TOPLAS 1990), and the caller held what it names at the step that drew its number.
-use Rattle.std.specs.Prelude.{ℕ, ◌≡◌, ◌<◌, ◌≤◌, ◌+◌, Some}
+use Rattle.std.specs.Prelude.{ℕ, ◌≡◌, ◌<◌, ◌≤◌, ◌+◌, ◌⊎◌, Some}
 use Rattle.page_types.specs.declared.calls.Call.{Call}
 use Rattle.page_types.specs.Named.{IsNamedReply}
 use Rattle.space_model.specs.declared.entries.Entry.{Entry}
@@ -14,11 +14,12 @@ use Rattle.area_rows.specs.declared.answer.Answer.TheVariants.{Given, Spent}
 use Rattle.area_rows.specs.History.{IsAtRest}
 use Rattle.area_rows.specs.Callers.{CallerView, IsNumbered}
 
--- the client word of a call's last step: the number word, or under everything the sequence word
+-- the client word of a call's last step: the number word; over an area this, or a row word where a row changes; under
+-- everything the sequence word
 abbrev pub IsLastPlace : Under → ℕ → Type 0
 IsLastPlace Nothing place = place ≡ 0
 IsLastPlace (Reader span) place = place ≡ 0
-IsLastPlace (Area span) place = place ≡ 0
+IsLastPlace (Area span) place = (place ≡ 0) ⊎ (3 ≤ place)
 IsLastPlace Whole place = place ≡ 1
 
 -- the last step that the caller made on a client word was made in this call, on that word: it has a number not below

@@ -18,33 +18,41 @@ use Rattle.lock_core.specs.declared.range.Mode.TheVariants.{Writer}
 use Rattle.page_types.specs.declared.calls.Call.{Call}
 use Rattle.page_types.specs.declared.calls.Reply.{Reply}
 use Rattle.page_types.specs.declared.pages.Span.{Span}
+use Rattle.page_types.specs.declared.calls.Kind.{Kind}
+use Rattle.page_types.specs.Named.{IsNamedKind}
 use Rattle.range_rw.specs.Contract.{Known, IsSeatCount, new_seat}
 use Rattle.range_rw.specs.Contract.{client_trace}
+use Rattle.area_rows.specs.declared.guard.Change.{Change}
 use Rattle.area_rows.specs.declared.guard.ReadRow.{ReadRow}
 use Rattle.area_rows.specs.declared.guard.Pass.{Pass}
 use Rattle.area_rows.specs.declared.guard.Pending.{Pending}
-use Rattle.area_rows.specs.declared.guard.Pending.TheVariants.{AtRest, Planned}
+use Rattle.area_rows.specs.declared.guard.Pending.TheVariants.{AtRest, Planned, OneRow}
 use Rattle.area_rows.specs.declared.row.Row.{Row}
 use Rattle.area_rows.specs.declared.space.SpaceFault.{SpaceFault}
 use Rattle.area_rows.specs.declared.space.SpaceFault.TheVariants.{Callers, Rows, Memory}
-use Rattle.area_rows.specs.RowWords.{row_start, row_kind}
-use Rattle.area_rows.specs.Rows.{IsRowOf, rows_in, rows_start, rows_from}
-use Rattle.area_rows.specs.Plans.{IsPlan}
+use Rattle.row_plans.specs.RowWords.{row_start, row_kind}
+use Rattle.row_plans.specs.RowLists.{rows_start, rows_from}
+use Rattle.area_rows.specs.Rows.{IsRowOf, rows_in}
+use Rattle.row_plans.specs.Plans.{IsPlan}
 use Rattle.area_rows.specs.Reads.{IsHeldPage, HasRead, HasRows}
+use Rattle.area_rows.specs.Changes.{alone, IsOneStore, IsRound}
 use Rattle.area_rows.specs.History.{Runs, StartsWith, entries_of, HasNamedReplies, whole_count, planned_calls, IsRunningSpace, AreBacked, HasPages, IsAtRest, IsRight, Leaves, pending_of, HoldsFor}
 
 -- a caller: its seat in the lock's table, whose pass is what it knows of the space; how many numbers it may still draw;
--- and the row words that it read for its last plan, and those that this plan leaves
+-- the row words that it read for its last plan, and those that this plan leaves; and the row that its last plan over an
+-- area changes, if any
 pub record CallerView : Type 0 where
   pub seat : Known Pass
   pub left : ℕ
   pub read : List ℕ
   pub plan : List ℕ
+  pub change : Option Change
 
--- the rows of a caller's last plan are as they were
+-- the rows of a caller's last plans are as they were
 pub record HasSameRows (before after : CallerView) : Type 0 where
   pub read : after.read ≡ before.read
   pub plan : after.plan ≡ before.plan
+  pub change : after.change ≡ before.change
 
 -- a closed space: the areas that are left and the whole history
 pub record ClosedView : Type 0 where
@@ -93,9 +101,10 @@ abbrev pub CountsWhole : Known Pass → ℕ → Type 0
 CountsWhole seat n = (start : List Area) (history : List Entry) (state : List Area) (words : List ℕ) → IsMoment seat start history state words → n + planned_calls seat.pass.pending ≡ whole_count history
 
 -- a caller may number a call with this reply under this range: at every moment at which it holds its range and has read
--- what it has read the entry is right, and under everything its plan is of the rows that the call leaves
+-- what it has read the entry is right, and its plan is what the call leaves: rows under everything, one row over an
+-- area
 abbrev pub MayNumber : CallerView → Call → Reply → Under → Type 0
-MayNumber c call reply under = Shows c.seat (λ _ state. (left : List Area) × IsRight state call reply under left × Leaves state under (pending_of under c.plan) left)
+MayNumber c call reply under = Shows c.seat (λ _ state. (left : List Area) × IsRight state call reply under left × Leaves state under (pending_of under c.plan c.change) left)
 
 -- a caller's plan is of this call: under everything, at every moment at which it still holds it and has read those
 -- rows, the call has this reply and leaves so many rows, and the plan has their words; the caller has read all rows
@@ -140,6 +149,51 @@ pub record RowIs (held : Option Held) (page : ℕ) (row : Row) (words : List ℕ
   pub previous : 0 < row.lo → IsHeldPage held (row.lo - 1) → kind_at state (row.lo - 1) ≢ row.kind
   pub ends : HoldsAround held row → HasEnds words row
 
+-- the kind of the row before this one, as the caller has read it, or None where there is no row before it
+abbrev pub IsReadBefore : List ReadRow → ℕ → Option Kind → Type 0
+IsReadBefore rows index kind = ((index ≡ 0) × (kind ≡ None)) ⊎ ((0 < index) × (word : ℕ) × HasRead rows (index - 1) word × (kind ≡ row_kind word))
+
+-- the kind of the row behind this one, as the caller has read it, or None where there is no row behind it
+abbrev pub IsReadBehind : List ReadRow → ℕ → ℕ → Option Kind → Type 0
+IsReadBehind rows count index kind = ((index + 1 ≡ count) × (kind ≡ None)) ⊎ ((index + 1 < count) × (word : ℕ) × HasRead rows (index + 1) word × (kind ≡ row_kind word))
+
+-- a caller holds an area and a page on each side as a writer, has read the area's row and those on both sides, and the
+-- change is one store on one of them
+pub record IsReadRound (seat : Known Pass) (change : Change) : Type 0 where
+  pub row : Row
+  pub before : Option Kind
+  pub behind : Option Kind
+  pub held : seat.held ≡ Some (alone change.span)
+  pub round : IsRound row change.span
+  pub pages : row.lo < row.hi
+  pub limit : row.hi ≤ LIMIT
+  pub read : IsAsRead seat.pass row
+  pub few : read.count ≤ ROWS
+  pub kind : row.kind ≡ Some change.old
+  pub named : IsNamedKind change.kind
+  pub read_before : IsReadBefore seat.pass.rows row.index before
+  pub read_behind : IsReadBehind seat.pass.rows read.count row.index behind
+  pub store : IsOneStore row before behind change
+
+-- a caller has one row to store: it has numbered the call, and has read the rows round its change
+pub record HasToStore (c : CallerView) (change : Change) : Type 0 where
+  pub pending : c.seat.pass.pending ≡ OneRow change
+  pub chosen : c.change ≡ Some change
+  pub round : IsReadRound c.seat change
+
+-- the one row that a call over its area left is stored, by one step; all is written, and what the caller holds, has
+-- seen and has numbered is as before
+pub record IsStoredRow (before : Known Pass) (index : ℕ) (after : Known Pass) : Type 0 where
+  pub rest : IsAtRest after.pass
+  pub start : after.pass.start ≡ before.pass.start
+  pub seen : after.pass.seen ≡ before.pass.seen
+  pub mine : after.pass.mine ≡ before.pass.mine
+  pub drew : after.pass.drew ≡ before.pass.drew
+  pub table : after.table ≡ before.table
+  pub number : after.number ≡ before.number
+  pub held : after.held ≡ before.held
+  pub trace : after.trace ≡ client_trace before.trace (3 + index)
+
 -- a new pass over these areas
 abbrev pub new_pass : List Area → Pass
 new_pass start = record { start = start; seen = []; mine = []; count = None; rows = []; sequence = None; pending = AtRest; drew = None }
@@ -151,7 +205,7 @@ opening_words start = 0 ∷ 0 ∷ row_count start ∷ (rows_from 0 start ++ repl
 
 -- the callers of a new space, in order of their numbers, each with as many numbers to draw as was asked
 abbrev pub AreNewCallers : TableId → List Area → List ℕ → List CallerView → Type 0
-AreNewCallers table start calls callers = (k : ℕ) (c : CallerView) → get_elem? callers k ≡ some c → c ≡ record { seat = new_seat table (λ _. new_pass start) k; left = slice_index calls k; read = []; plan = [] }
+AreNewCallers table start calls callers = (k : ℕ) (c : CallerView) → get_elem? callers k ≡ some c → c ≡ record { seat = new_seat table (λ _. new_pass start) k; left = slice_index calls k; read = []; plan = []; change = None }
 
 -- why no space is opened for so many callers over so many rows
 abbrev pub IsSpaceFault : ℕ → ℕ → SpaceFault → Type 0
@@ -200,6 +254,7 @@ pub record IsNumbered (before : Known Pass) (e : Entry) (after : Known Pass) : T
   pub state : List Area
   pub more : StartsWith history before.pass.seen
   pub runs : Runs 0 before.pass.start history state
+  pub in_order : IsAreaList state
   pub counted : e.number ≡ length history
   pub worker : e.worker ≡ before.number
   pub left : List Area
@@ -216,6 +271,7 @@ pub record IsNumbered (before : Known Pass) (e : Entry) (after : Known Pass) : T
 abbrev pub KeepsRows : Pending → Pass → Pass → Type 0
 KeepsRows AtRest old new = Unit {0}
 KeepsRows (Planned rows) old new = (new.count ≡ old.count) × (new.rows ≡ old.rows)
+KeepsRows (OneRow change) old new = (new.count ≡ old.count) × (new.rows ≡ old.rows)
 
 -- the same by one step on the number word, made at a moment of the running space whose history is the one before the
 -- entry; so what the caller's range has shown is so of the state that this history leaves. What was held at the draw

@@ -9,7 +9,7 @@ use Rattle.range_rw.specs.Contract.{Known}
 use Rattle.area_rows.specs.declared.guard.Pass.{Pass}
 use Rattle.area_rows.specs.declared.close.Kept.{Kept}
 use Rattle.area_rows.specs.History.{entry_count, IsAtRest}
-use Rattle.area_rows.specs.Plans.{planned_rows}
+use Rattle.row_plans.specs.Plans.{planned_rows}
 use Rattle.area_rows.specs.Callers.{CallerView, IsHeldPages}
 
 -- each of these entries stands in the history at the place of its number
@@ -38,7 +38,7 @@ callers_count callers = entry_count (map caller_pass callers)
 
 -- a caller from its seat and what it has besides
 abbrev pub caller_of : Known Pass → Kept → CallerView
-caller_of s k = record { seat = s; left = k.left; read = k.read.items; plan = planned_rows k.read.items k.plan.items }
+caller_of s k = record { seat = s; left = k.left; read = k.read.items; plan = planned_rows k.read.items k.plan.items; change = k.change }
 
 -- a seat and the rest of a caller belong together
 pub record IsPair (s : Known Pass) (k : Kept) (c : CallerView) : Type 0 where

@@ -9,6 +9,7 @@ use lib.ListN.{get_elem?}
 use Rattle.atomic_table.proofs.Lists.{at_set}
 use Rattle.lock_core.proofs.ByPlace.{below}
 use Rattle.page_types.specs.Named.{IsNamedCall, IsNamedReply}
+use Rattle.page_types.specs.declared.pages.Span.{Span}
 use Rattle.space_model.specs.declared.areas.Area.{Area as Areas}
 use Rattle.space_model.specs.declared.entries.Entry.{Entry}
 use Rattle.space_model.specs.declared.entries.Under.{Under}
@@ -21,16 +22,19 @@ use Rattle.space_model.proofs.SomeAnswer.{leaves_areas}
 use Rattle.lock_core.specs.Grants.{Grants, Holds, IsExclusive}
 use Rattle.lock_core.specs.Client.{adds, words_after}
 use Rattle.lock_core.specs.declared.range.Held.{Held}
+use Rattle.area_rows.specs.declared.guard.Change.{Change}
 use Rattle.area_rows.specs.declared.guard.Pass.{Pass}
 use Rattle.area_rows.specs.declared.guard.Pending.{Pending}
-use Rattle.area_rows.specs.declared.guard.Pending.TheVariants.{AtRest, Planned}
-use Rattle.area_rows.specs.Plans.{PlanShows}
+use Rattle.area_rows.specs.declared.guard.Pending.TheVariants.{AtRest, Planned, OneRow}
+use Rattle.row_plans.specs.Plans.{PlanShows}
 use Rattle.area_rows.specs.Reads.{everything, StillStands}
+use Rattle.area_rows.specs.Changes.{alone, IsChange}
 use Rattle.area_rows.specs.History.{FitsAndReplies, Runs, with_whole, IsPart, planned_calls, planned_count, IsShown, RowsStandFor, IsRunningSpace, Backs, IsBacked, AreBacked, HoldsFor, Leaves, after_draw}
-use Rattle.area_rows.specs.Replies.{all_more, reply_named, left_named}
+use Rattle.area_rows.specs.Replies.{all_more, reply_named, left_named, left_few}
 use Rattle.area_rows.specs.Stands.{all_stand, same_low, low_rows, shown_set}
 use Rattle.area_rows.specs.Parts.{own_more, own_same, count_set, no_wrap, whole_more, planned_set, resting_of, none_is}
-use Rattle.area_rows.specs.Writes.{everything_pages, clash}
+use Rattle.area_rows.specs.Writes.{everything_pages, span_pages, clash}
+use Rattle.area_rows.specs.RowStores.{shown_after_draw, others_back}
 
 -- one entry more
 pub runs_more : (history : List Entry) (n : ℕ) (A B C : List Areas) (e : Entry) → Runs n A history B → e.number ≡ n + length history → FitsUnder B e.call e.under → Answers B e.call e.reply C → Runs n A (history ++ e ∷ []) C
@@ -40,18 +44,22 @@ runs_more history n A B C e r num fits answers = (numbered_more n history e r.0 
 leaves_counts : (state left : List Areas) (under : Under) (pending : Pending) → Leaves state under pending left → with_whole under 0 ≡ planned_calls pending
 leaves_counts state left Nothing AtRest l = refl
 leaves_counts state left (Reader span) AtRest l = refl
-leaves_counts state left (Area span) AtRest l = absurd l
+leaves_counts state left (Area span) AtRest l = refl
 leaves_counts state left Whole AtRest l = absurd l
 leaves_counts state left Nothing (Planned rows) l = absurd l
 leaves_counts state left (Reader span) (Planned rows) l = absurd l
 leaves_counts state left (Area span) (Planned rows) l = absurd l
 leaves_counts state left Whole (Planned rows) l = refl
+leaves_counts state left Nothing (OneRow c) l = absurd l
+leaves_counts state left (Reader span) (OneRow c) l = absurd l
+leaves_counts state left (Area span) (OneRow c) l = refl
+leaves_counts state left Whole (OneRow c) l = absurd l
 
 -- where nothing is to be written nothing has changed
 leaves_same : (state left : List Areas) (under : Under) → Leaves state under AtRest left → left ≡ state
 leaves_same state left Nothing l = l
 leaves_same state left (Reader span) l = l
-leaves_same state left (Area span) l = absurd l
+leaves_same state left (Area span) l = l
 leaves_same state left Whole l = absurd l
 
 -- a plan is of a call under everything
@@ -61,26 +69,42 @@ leaves_plan state left (Reader span) rows l = absurd l
 leaves_plan state left (Area span) rows l = absurd l
 leaves_plan state left Whole rows l = (refl, l)
 
+-- the change of one row is of a call over its area
+leaves_change : (state left : List Areas) (under : Under) (c : Change) → Leaves state under (OneRow c) left → (span : Span) × (under ≡ Area span) × IsChange state span c left
+leaves_change state left Nothing c l = absurd l
+leaves_change state left (Reader span) c l = absurd l
+leaves_change state left (Area span) c l = (span, refl, l)
+leaves_change state left Whole c l = absurd l
+
+-- whose caller holds its span
+held_alone : (grants : Grants) (worker : ℕ) (h : Option Held) (under : Under) (span : Span) → under ≡ Area span → get_elem? grants worker ≡ some h → HoldsFor h under → Holds grants worker (alone span)
+held_alone grants worker h under span is at holds = let e : HoldsFor h (Area span) = subst (HoldsFor h) is holds in at ∙ ap some e
+
 module _ (history : List Entry) (e : Entry) (held : Option Held) (p : Pass) where
   pub draw_pending : (pending : Pending) → (after_draw history e pending held p).pending ≡ pending
   draw_pending AtRest = refl
   draw_pending (Planned rows) = refl
+  draw_pending (OneRow c) = refl
 
   pub draw_mine : (pending : Pending) → (after_draw history e pending held p).mine ≡ p.mine ++ e ∷ []
   draw_mine AtRest = refl
   draw_mine (Planned rows) = refl
+  draw_mine (OneRow c) = refl
 
   pub draw_seen : (pending : Pending) → (after_draw history e pending held p).seen ≡ history ++ e ∷ []
   draw_seen AtRest = refl
   draw_seen (Planned rows) = refl
+  draw_seen (OneRow c) = refl
 
   pub draw_start : (pending : Pending) → (after_draw history e pending held p).start ≡ p.start
   draw_start AtRest = refl
   draw_start (Planned rows) = refl
+  draw_start (OneRow c) = refl
 
   pub draw_drew : (pending : Pending) → (after_draw history e pending held p).drew ≡ held
   draw_drew AtRest = refl
   draw_drew (Planned rows) = refl
+  draw_drew (OneRow c) = refl
 
 -- another caller's part, or the caller's own
 others_part : (start : List Areas) (history : List Entry) (words : List ℕ) (value worker : ℕ) (p : Pass) (e : Entry) → e.worker ≢ worker → IsPart start history words worker p → IsPart start (history ++ e ∷ []) (set words 0 value) worker p
@@ -110,22 +134,37 @@ own_part start history words value worker p e (Planned rows) held is few own = r
   count = λ n c. get_or-set_other words 0 2 value 0 (λ same. omega arith) ∙ own.count n c;
   sequence = λ n c. get_or-set_other words 0 1 value 0 (λ same. omega arith) ∙ own.sequence n c;
 }
+own_part start history words value worker p e (OneRow c) held is few own = record {
+  began = own.began;
+  seen = ([], sym (append-nil (history ++ e ∷ [])));
+  mine = own_more worker history e is ∙ ap (λ l. l ++ e ∷ []) own.mine;
+  few = let l = length-append p.mine (e ∷ []) in omega arith;
+  count = λ n k. get_or-set_other words 0 2 value 0 (λ same. omega arith) ∙ own.count n k;
+  sequence = λ n k. get_or-set_other words 0 1 value 0 (λ same. omega arith) ∙ own.sequence n k;
+}
 
 -- what the rows show after a draw, where no plan is to be written
-shown_drawn : (history : List Entry) (state left : List Areas) (words : List ℕ) (passes : List Pass) (worker value : ℕ) (p : Pass) (e : Entry) (pending : Pending) (held : Option Held) → get_elem? passes worker ≡ some p → p.pending ≡ AtRest → Leaves state e.under pending left
-    → planned_calls pending ≡ 0 → RowsStandFor state passes words → RowsStandFor left (set passes worker (after_draw history e pending held p)) (set words 0 value)
-shown_drawn history state left words passes worker value p e AtRest held at rest leaves none s =
+shown_drawn : (grants : Grants) (history : List Entry) (state left : List Areas) (words : List ℕ) (passes : List Pass) (worker value : ℕ) (p : Pass) (e : Entry) (pending : Pending) (held : Option Held) → AreBacked grants words state passes → IsExclusive grants → get_elem? grants worker ≡ some held → HoldsFor held e.under
+    → get_elem? passes worker ≡ some p → p.pending ≡ AtRest → Leaves state e.under pending left → planned_calls pending ≡ 0 → RowsStandFor state passes words → RowsStandFor left (set passes worker (after_draw history e pending held p)) (set words 0 value)
+shown_drawn grants history state left words passes worker value p e AtRest held backed exclusive has holds at rest leaves none s =
     let q : Pass = after_draw history e AtRest held p in (
       s.0,
       subst (λ (A : List Areas). IsShown A (set passes worker q) s.0) (sym (leaves_same state left e.under leaves)) (shown_set state passes worker p q s.0 at (sym rest) s.1),
       low_rows words 0 value s.0 (omega arith) s.2,
     )
-shown_drawn history state left words passes worker value p e (Planned rows) held at rest leaves none s = absurd (omega arith)
+shown_drawn grants history state left words passes worker value p e (Planned rows) held backed exclusive has holds at rest leaves none s = absurd (omega arith)
+shown_drawn grants history state left words passes worker value p e (OneRow c) held backed exclusive has holds at rest leaves none s =
+    let q : Pass = after_draw history e (OneRow c) held p in
+    let l = leaves_change state left e.under c leaves in (
+      s.0,
+      shown_after_draw grants state left passes worker p q l.0 c words backed exclusive at (held_alone grants worker held e.under l.0 l.1 has holds) l.2 s.0 rest refl s.1,
+      low_rows words 0 value s.0 (omega arith) s.2,
+    )
 
 -- a draw of a number
 module _ (grants : Grants) (start : List Areas) (history : List Entry) (state left : List Areas) (words : List ℕ) (passes : List Pass) (worker : ℕ) (p : Pass) (e : Entry) (pending : Pending) (held : Option Held)
-    (r : IsRunningSpace start history state words passes) (at : get_elem? passes worker ≡ some p) (num : e.number ≡ length history) (is : e.worker ≡ worker)
-    (leaves : Leaves state e.under pending left) (rest : p.pending ≡ AtRest) where
+    (r : IsRunningSpace start history state words passes) (backed : AreBacked grants words state passes) (exclusive : IsExclusive grants) (has : get_elem? grants worker ≡ some held) (holds : HoldsFor held e.under)
+    (at : get_elem? passes worker ≡ some p) (num : e.number ≡ length history) (is : e.worker ≡ worker) (leaves : Leaves state e.under pending left) (rest : p.pending ≡ AtRest) where
   pub drawn : IsNamedCall e.call → FitsUnder state e.call e.under → Answers state e.call e.reply left → length p.mine + 1 < 2 ^ 32 → IsRunningSpace start (history ++ e ∷ []) left (words_after words (adds 0 1)) (set passes worker (after_draw history e pending held p))
   drawn call fits answers few =
       let q : Pass = after_draw history e pending held p in
@@ -143,10 +182,11 @@ module _ (grants : Grants) (start : List Areas) (history : List Entry) (state le
         replies = all_more (λ (x : Entry). IsNamedReply x.reply) history e r.replies (reply_named state left e.call e.reply r.named answers);
         in_order = leaves_areas state e.call e.reply left r.in_order answers;
         named = left_named state left e.call e.reply r.named call answers;
+        limit = left_few state left e.call e.reply r.limit answers;
         number = let g : slice_index (set words 0 value) 0 ≡ value = get_or-set_same words 0 value 0 there in let n = r.number in let w = no_wrap start history state words passes r in omega arith;
         sequence = let g : slice_index (set words 0 value) 1 ≡ slice_index words 1 = get_or-set_other words 0 1 value 0 (λ same. omega arith) in let s = r.sequence in let m = whole_more history e in let c = leaves_counts state left e.under pending leaves in omega arith;
         room = length-set words 0 value ∙ r.room;
-        rows = λ none. shown_drawn history state left words passes worker value p e pending held at rest leaves (omega arith) (r.rows (omega arith));
+        rows = λ none. shown_drawn grants history state left words passes worker value p e pending held backed exclusive has holds at rest leaves (omega arith) (r.rows (omega arith));
         parts = λ other x there. ⊎_elim
             (λ t. subst (λ (z : ℕ × Pass). IsPart start (history ++ e ∷ []) (set words 0 value) z.0 z.1) (λ i. (sym t.0 i, t.1 i)) (own_part start history words value worker p e pending held is few (r.parts worker p at)))
             (λ t. others_part start history words value other x e (λ w. t.0 (sym w ∙ is)) (r.parts other x t.1))
@@ -169,6 +209,7 @@ module _ (grants : Grants) (state left : List Areas) (words : List ℕ) (value :
   others_rest : (worker other : ℕ) (pending : Pending) → IsExclusive grants → other ≢ worker → Holds grants worker everything → Backs grants state other pending → Backs grants left other pending
   others_rest worker other AtRest exclusive differ held b = tt
   others_rest worker other (Planned rows) exclusive differ held b = absurd (clash grants worker other exclusive differ held (everything, b.0, everything_pages))
+  others_rest worker other (OneRow c) exclusive differ held b = absurd (clash grants worker other exclusive differ held (alone c.span, b.0, span_pages c.span))
 
   held_whole : (worker : ℕ) (h : Option Held) (under : Under) → under ≡ Whole → get_elem? grants worker ≡ some h → HoldsFor h under → Holds grants worker everything
   held_whole worker h under whole at holds = let is : HoldsFor h Whole = subst (HoldsFor h) whole holds in at ∙ ap some is
@@ -191,3 +232,15 @@ module _ (grants : Grants) (state left : List Areas) (words : List ℕ) (value :
       }))
       (λ t. other_backed other x (others_rest worker other x.pending exclusive t.0 own (all other x t.1).pending) (all other x t.1))
       (at_set passes worker other (after_draw history e (Planned rows) h p) x there)
+  drawn_backed history passes worker p e under (OneRow c) h all exclusive at has holds leaves other x there =
+      let l = leaves_change state left under c leaves in
+      let own = held_alone grants worker h under l.0 l.1 has holds in
+      let mine : Holds grants worker (alone c.span) = subst (λ (s : Span). Holds grants worker (alone s)) (sym l.2.held) own in
+      ⊎_elim
+      (λ t. subst (λ (z : ℕ × Pass). IsBacked grants (set words 0 value) left z.0 z.1) (λ i. (sym t.0 i, t.1 i)) (record {
+        reads = inr (alone c.span, mine, span_pages c.span);
+        rows = λ held own_held. all_stand held words (set words 0 value) (same_low words 0 value (omega arith)) p.rows ((all worker p at).rows held own_held);
+        pending = (mine, l.2.inside, l.2.after);
+      }))
+      (λ t. other_backed other x (others_back grants state left passes worker p p l.0 c words all exclusive at own l.2 other x.pending t.0 (all other x t.1).pending) (all other x t.1))
+      (at_set passes worker other (after_draw history e (OneRow c) h p) x there)

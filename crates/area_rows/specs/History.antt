@@ -9,13 +9,12 @@ use Rattle.page_types.specs.declared.TheConstants.{LIMIT, ROWS}
 use Rattle.page_types.specs.declared.calls.Call.{Call}
 use Rattle.page_types.specs.declared.calls.Kind.{Kind}
 use Rattle.page_types.specs.declared.calls.Reply.{Reply}
-use Rattle.page_types.specs.declared.calls.Call.TheVariants.{Map, Unmap, Protect, Fault}
 use Rattle.space_model.specs.declared.areas.Area.{Area as Areas}
 use Rattle.space_model.specs.declared.entries.Entry.{Entry}
 use Rattle.space_model.specs.declared.entries.Under.{Under}
 use Rattle.space_model.specs.declared.entries.Under.TheVariants.{Nothing, Reader, Area, Whole}
 use Rattle.page_types.specs.Named.{IsNamedCall, IsNamedReply}
-use Rattle.space_model.specs.Areas.{IsAreaList, HasNamedKinds, kind_at}
+use Rattle.space_model.specs.Areas.{IsAreaList, HasNamedKinds, kind_at, row_count}
 use Rattle.space_model.specs.Answers.{Answers}
 use Rattle.space_model.specs.Held.{FitsUnder}
 use Rattle.space_model.specs.History.{Chains, HasRightReply, IsNumberedFrom, HasNamedCalls}
@@ -23,14 +22,17 @@ use Rattle.lock_core.specs.Grants.{Grants, Holds, IsExclusive}
 use Rattle.lock_core.specs.Client.{ClientStep, loads, stores, adds, exchanges}
 use Rattle.lock_core.specs.declared.range.Mode.TheVariants.{Reader as Shared, Writer as Alone}
 use Rattle.lock_core.specs.declared.range.Held.{Held}
+use Rattle.area_rows.specs.declared.guard.Change.{Change}
 use Rattle.area_rows.specs.declared.guard.ReadRow.{ReadRow}
 use Rattle.area_rows.specs.declared.guard.Note.{Note}
 use Rattle.area_rows.specs.declared.guard.Pass.{Pass}
 use Rattle.area_rows.specs.declared.guard.Pending.{Pending}
-use Rattle.area_rows.specs.declared.guard.Pending.TheVariants.{AtRest, Planned}
-use Rattle.area_rows.specs.Rows.{rows_in, areas_from, RowsShow}
-use Rattle.area_rows.specs.Plans.{PlanShows}
+use Rattle.area_rows.specs.declared.guard.Pending.TheVariants.{AtRest, Planned, OneRow}
+use Rattle.row_plans.specs.RowLists.{areas_from}
+use Rattle.area_rows.specs.Rows.{rows_in, RowsShow}
+use Rattle.row_plans.specs.Plans.{PlanShows}
 use Rattle.area_rows.specs.Reads.{everything, StillStands}
+use Rattle.area_rows.specs.Changes.{IsIn, alone, new_word, IsInside, IsChange, MayReplace}
 
 -- the entry fits what was held and answers what its call answers, which leaves area list B
 abbrev pub FitsAndReplies : List Areas → Entry → List Areas → Type 0
@@ -95,6 +97,7 @@ pub record IsPart (start : List Areas) (history : List Entry) (words : List ℕ)
 abbrev pub planned_calls : Pending → ℕ
 planned_calls AtRest = 0
 planned_calls (Planned rows) = 1
+planned_calls (OneRow change) = 0
 
 -- how many calls under everything a caller has to write
 abbrev pub own_planned : Pass → ℕ
@@ -104,16 +107,18 @@ own_planned pass = planned_calls pass.pending
 abbrev pub planned_count : List Pass → ℕ
 planned_count passes = sum_by own_planned passes
 
--- the pages whose row may lag behind the state while this is to be written. There are none where a caller is at rest,
--- and while a plan is to be written nothing is said of any row
+-- the pages whose row may lag behind the state while this is to be written: those that the change of one row is about.
+-- There are none where a caller is at rest, and while a plan is to be written nothing is said of any row
 abbrev pub LagsAt : Pending → ℕ → Type 0
 LagsAt AtRest page = ⊥
 LagsAt (Planned rows) page = ⊥
+LagsAt (OneRow change) page = IsIn change.place page
 
--- what the rows show of those pages
+-- what the rows show of those pages: the kind that they had before the call
 abbrev pub ShowsBefore : Pending → (ℕ → Option Kind) → Type 0
 ShowsBefore AtRest kinds = Unit {0}
 ShowsBefore (Planned rows) kinds = Unit {0}
+ShowsBefore (OneRow change) kinds = (page : ℕ) → IsIn change.place page → kinds page ≡ Some change.old
 
 -- the kinds that the rows show: those of the state, but at pages whose row may lag
 pub record IsShown (state : List Areas) (passes : List Pass) (kinds : ℕ → Option Kind) : Type 0 where
@@ -134,6 +139,7 @@ pub record IsRunningSpace (start : List Areas) (history : List Entry) (state : L
   pub replies : HasNamedReplies history
   pub in_order : IsAreaList state
   pub named : HasNamedKinds state
+  pub limit : row_count state ≤ ROWS
   pub number : slice_index words 0 ≡ length history
   pub sequence : slice_index words 1 + planned_count passes ≡ whole_count history
   pub room : length words ≡ 3 + ROWS
@@ -159,6 +165,7 @@ HasReadNothing pass = (pass.count ≡ None) × (pass.rows ≡ []) × (pass.seque
 abbrev pub Backs : Grants → List Areas → ℕ → Pending → Type 0
 Backs grants state worker AtRest = Unit {0}
 Backs grants state worker (Planned rows) = Holds grants worker everything × PlanShows rows (kind_at state)
+Backs grants state worker (OneRow change) = Holds grants worker (alone change.span) × IsInside change × ((page : ℕ) → IsIn change.place page → kind_at state page ≡ Some change.new)
 
 -- what a caller has read was read under pages that it still holds, the rows stand still as far as these tell, and the
 -- caller holds what it needs for what it has to write
@@ -194,37 +201,40 @@ HoldsFor held (Reader span) = held ≡ Some (record { range = record { lo = span
 HoldsFor held (Area span) = held ≡ Some (record { range = record { lo = span.lo; hi = span.hi }; mode = Alone })
 HoldsFor held Whole = held ≡ Some everything
 
--- the call is a fault
-abbrev pub IsFault : Call → Type 0
-IsFault (Map addr len prot flags) = ⊥
-IsFault (Unmap addr len) = ⊥
-IsFault (Protect addr len prot) = ⊥
-IsFault (Fault addr access) = Unit {0}
-
 -- the call may be numbered at this state with this reply and under this range, and leaves another: it fits, and the
 -- reply is right
 pub record IsRight (state : List Areas) (call : Call) (reply : Reply) (under : Under) (left : List Areas) : Type 0 where
   pub fits : FitsUnder state call under
   pub answers : Answers state call reply left
 
--- what a call that is numbered under this has to write: under everything the rows that it planned
-abbrev pub pending_of : Under → List ℕ → Pending
-pending_of Nothing rows = AtRest
-pending_of (Reader span) rows = AtRest
-pending_of (Area span) rows = AtRest
-pending_of Whole rows = Planned rows
+-- what a call over one area has to write: the row that it planned, or nothing
+abbrev pub change_pending : Option Change → Pending
+change_pending None = AtRest
+change_pending (Some change) = OneRow change
 
--- what is to be written after a draw is what the call leaves: under everything a plan that shows it, otherwise nothing,
--- and then nothing has changed. A call over one area isn't numbered yet
+-- what a call that is numbered under this has to write: under everything the rows that it planned, and over an area
+-- the row that it planned
+abbrev pub pending_of : Under → List ℕ → Option Change → Pending
+pending_of Nothing rows change = AtRest
+pending_of (Reader span) rows change = AtRest
+pending_of (Area span) rows change = change_pending change
+pending_of Whole rows change = Planned rows
+
+-- what is to be written after a draw is what the call leaves: under everything a plan that shows it, and over an area
+-- the change of one row. Otherwise it is nothing, and nothing has changed
 abbrev pub Leaves : List Areas → Under → Pending → List Areas → Type 0
 Leaves state Nothing AtRest left = left ≡ state
 Leaves state (Reader span) AtRest left = left ≡ state
-Leaves state (Area span) AtRest left = ⊥
+Leaves state (Area span) AtRest left = left ≡ state
 Leaves state Whole AtRest left = ⊥
 Leaves state Nothing (Planned rows) left = ⊥
 Leaves state (Reader span) (Planned rows) left = ⊥
 Leaves state (Area span) (Planned rows) left = ⊥
 Leaves state Whole (Planned rows) left = PlanShows rows (kind_at left)
+Leaves state Nothing (OneRow change) left = ⊥
+Leaves state (Reader span) (OneRow change) left = ⊥
+Leaves state (Area span) (OneRow change) left = IsChange state span change left
+Leaves state Whole (OneRow change) left = ⊥
 
 -- the entry that a note becomes
 abbrev pub entry_of : ℕ → ℕ → Note → Entry
@@ -269,15 +279,20 @@ without index rows = filter (λ r. not (r.index == index)) rows
 abbrev pub after_store : ℕ → ℕ → Pass → Pass
 after_store index word p = record p { rows = record { index = index; word = word } ∷ without index p.rows }
 
--- the pass after an entry was numbered. A caller that has a plan to write keeps what it has read of rows, which only
+-- the pass after an entry was numbered. A caller that has rows to write keeps what it has read of them, which only
 -- itself may change until then
 abbrev pub after_draw : List Entry → Entry → Pending → Option Held → Pass → Pass
 after_draw history e AtRest held p = record { start = p.start; seen = history ++ e ∷ []; mine = p.mine ++ e ∷ []; count = None; rows = []; sequence = None; pending = AtRest; drew = held }
 after_draw history e (Planned rows) held p = record { start = p.start; seen = history ++ e ∷ []; mine = p.mine ++ e ∷ []; count = p.count; rows = p.rows; sequence = p.sequence; pending = Planned rows; drew = held }
+after_draw history e (OneRow change) held p = record { start = p.start; seen = history ++ e ∷ []; mine = p.mine ++ e ∷ []; count = p.count; rows = p.rows; sequence = p.sequence; pending = OneRow change; drew = held }
 
 -- the pass after the sequence word was raised: all is written
 abbrev pub after_raise : Pass → Pass
 after_raise p = record p { sequence = None; pending = AtRest }
+
+-- the pass after the one row of a call over its area was stored: all is written, and what was read is read anew
+abbrev pub after_change : Pass → Pass
+after_change p = record p { count = None; rows = []; sequence = None; pending = AtRest }
 
 -- the loads that a caller may make: the number word and the sequence word at any time. What it has read of the sequence
 -- word, of the row count and of a row it remembers, and it reads the last two only while it holds pages
@@ -309,9 +324,10 @@ pub data MayStore (rows : List ℕ) (place value : ℕ) (p after : Pass) : Type 
   store_count : place ≡ 2 → value ≡ length rows → after ≡ after_count value p → MayStore rows place value p after
 
 -- what a caller that has something to write may store
-abbrev pub MayWrite : Pending → ℕ → ℕ → Pass → Pass → Type 0
-MayWrite AtRest place value p after = ⊥
-MayWrite (Planned rows) place value p after = MayStore rows place value p after
+abbrev pub MayWrite : List ℕ → Pending → ℕ → ℕ → Pass → Pass → Type 0
+MayWrite words AtRest place value p after = ⊥
+MayWrite words (Planned rows) place value p after = MayStore rows place value p after
+MayWrite words (OneRow change) place value p after = (place ≡ 3 + change.index) × (value ≡ new_word change) × MayReplace words change × (after ≡ after_change p)
 
 -- the additions: a draw of a number, and the raising of the sequence word where the rows show what a call under
 -- everything has left
@@ -324,7 +340,7 @@ abbrev pub Allowed : Grants → List ℕ → List Pass → ℕ → ClientStep �
 Allowed grants words passes worker (loads i) note after =
     (here : Here grants words passes worker) × MayLoad (HoldsNothing grants worker) (HoldsPages grants worker) words here.history i here.pass after
 Allowed grants words passes worker (stores i value) note after =
-    (here : Here grants words passes worker) × MayWrite here.pass.pending i value here.pass after
+    (here : Here grants words passes worker) × MayWrite words here.pass.pending i value here.pass after
 Allowed grants words passes worker (exchanges i expected new) note after = ⊥
 Allowed grants words passes worker (adds i by) note after =
     (by ≡ 1) × (here : Here grants words passes worker) × MayAdd grants words passes worker note here i after

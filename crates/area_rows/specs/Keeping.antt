@@ -22,14 +22,16 @@ use Rattle.area_rows.specs.declared.guard.Note.{Note}
 use Rattle.area_rows.specs.declared.guard.ReadRow.{ReadRow}
 use Rattle.area_rows.specs.declared.guard.Pass.{Pass}
 use Rattle.area_rows.specs.declared.guard.Pending.{Pending}
-use Rattle.area_rows.specs.declared.guard.Pending.TheVariants.{AtRest, Planned}
+use Rattle.area_rows.specs.declared.guard.Pending.TheVariants.{AtRest, Planned, OneRow}
 use Rattle.area_rows.specs.Reads.{everything, StillStands}
+use Rattle.area_rows.specs.Changes.{alone}
 use Rattle.area_rows.specs.History.{IsRunningSpace, HoldsPages, HoldsNothing, Backs, IsBacked, AreBacked, HasHistory, rest_of, IsAtRest, entry_of, after_look, after_count, after_sequence, after_row, Here, MayLoad, MayWrite, MayAdd, Allowed}
 use Rattle.area_rows.specs.History.MayLoad.{number, glance, sequence, count, row}
 use Rattle.area_rows.specs.History.MayAdd.{draw, raise}
 use Rattle.area_rows.specs.Stands.{exact_stands}
 use Rattle.area_rows.specs.Parts.{none_is, looked, counted, raised, read, rested, replaced}
 use Rattle.area_rows.specs.Writes.{stores_keep, raise_keeps, raise_backed}
+use Rattle.area_rows.specs.RowStores.{change_keeps, change_backed}
 use Rattle.area_rows.specs.Draws.{drawn, drawn_backed}
 
 -- a note of no call
@@ -78,7 +80,7 @@ adds_keep grants words passes worker note here place after (draw zero_is d is) =
       here.start,
       here.history ++ e ∷ [],
       d.left,
-      drawn grants here.start here.history here.state d.left words passes worker here.pass e note.pending d.held.0 here.running here.own refl refl d.leaves d.rest d.named d.right.fits d.right.answers d.few,
+      drawn grants here.start here.history here.state d.left words passes worker here.pass e note.pending d.held.0 here.running here.backed here.exclusive d.held.1 d.held.2 here.own refl refl d.leaves d.rest d.named d.right.fits d.right.answers d.few,
       drawn_backed grants here.state d.left words ((slice_index words 0 + 1) % 2 ^ 64) here.history passes worker here.pass e note.under note.pending d.held.0 here.backed here.exclusive here.own d.held.1 d.held.2 d.leaves,
     )
 adds_keep grants words passes worker note here place after (raise rows one_is pends written is) =
@@ -91,11 +93,19 @@ adds_keep grants words passes worker note here place after (raise rows one_is pe
     )
 
 -- a store by a caller that has this to write
-writes_keep : (grants : Grants) (words : List ℕ) (passes : List Pass) (worker : ℕ) (here : Here grants words passes worker) (pending : Pending) (place value : ℕ) (after : Pass) → here.pass.pending ≡ pending → MayWrite pending place value here.pass after → HasHistory grants (words_after words (stores place value)) (set passes worker after)
+writes_keep : (grants : Grants) (words : List ℕ) (passes : List Pass) (worker : ℕ) (here : Here grants words passes worker) (pending : Pending) (place value : ℕ) (after : Pass) → here.pass.pending ≡ pending → MayWrite words pending place value here.pass after → HasHistory grants (words_after words (stores place value)) (set passes worker after)
 writes_keep grants words passes worker here AtRest place value after pends may = absurd may
 writes_keep grants words passes worker here (Planned rows) place value after pends may =
     let k = stores_keep grants here.start here.history here.state words passes worker here.pass rows here.running here.backed here.exclusive here.own pends place value after may in
     (here.start, here.history, here.state, k.0, k.1)
+writes_keep grants words passes worker here (OneRow c) place value after pends may =
+    subst (λ (z : ℕ × ℕ × Pass). HasHistory grants (words_after words (stores z.0 z.1)) (set passes worker z.2)) (λ i. (sym may.0 i, sym may.1 i, sym may.3 i)) (
+      here.start,
+      here.history,
+      here.state,
+      change_keeps grants here.start here.history here.state words passes worker here.pass c here.running here.backed here.exclusive here.own pends may.2,
+      change_backed grants here.start here.history here.state words passes worker here.pass c here.running here.backed here.exclusive here.own pends may.2,
+    )
 
 -- the law of steps
 pub steps_keep : (grants : Grants) (words : List ℕ) (passes : List Pass) (worker : ℕ) (step : ClientStep) (note : Note) (after : Pass) → HasHistory grants words passes → Allowed grants words passes worker step note after → HasHistory grants (words_after words step) (set passes worker after)
@@ -120,6 +130,7 @@ module _ (grants : Grants) (words : List ℕ) (seat : ℕ) (new : Option Held) w
   backs_on : (state : List Areas) (other : ℕ) (pending : Pending) → (other ≡ seat → ⊥) → Backs grants state other pending → Backs (set grants seat new) state other pending
   backs_on state other AtRest differ b = tt
   backs_on state other (Planned rows) differ b = (holds_on other everything differ b.0, b.1)
+  backs_on state other (OneRow c) differ b = (holds_on other (alone c.span) differ b.0, b.1, b.2)
 
   backed_on : (state : List Areas) (other : ℕ) (x : Pass) → (other ≡ seat → ⊥) → IsBacked grants words state other x → IsBacked (set grants seat new) words state other x
   backed_on state other x differ b = record {
@@ -135,6 +146,7 @@ holds_none grants seat g none holds = none_is g (some-injective None (Some g) (s
 idle_backs : (grants others : Grants) (state : List Areas) (seat : ℕ) (pending : Pending) → get_elem? grants seat ≡ some None → Backs grants state seat pending → Backs others state seat pending
 idle_backs grants others state seat AtRest none b = tt
 idle_backs grants others state seat (Planned rows) none b = absurd (holds_none grants seat everything none b.0)
+idle_backs grants others state seat (OneRow c) none b = absurd (holds_none grants seat (alone c.span) none b.0)
 
 idle_backed : (grants others : Grants) (words : List ℕ) (state : List Areas) (seat : ℕ) (x : Pass) → get_elem? grants seat ≡ some None → IsBacked grants words state seat x → IsBacked others words state seat x
 idle_backed grants others words state seat x none b = record {

@@ -15,7 +15,7 @@ use Rattle.space_model.specs.declared.entries.Under.TheVariants.{Nothing, Reader
 use Rattle.area_rows.specs.declared.guard.Pass.{Pass}
 use Rattle.area_rows.specs.declared.guard.Pending.{Pending}
 use Rattle.area_rows.specs.declared.guard.Pending.TheVariants.{AtRest, Planned}
-use Rattle.area_rows.specs.History.{entries_of, with_whole, whole_count, own_count, entry_count, IsPart, planned_calls, own_planned, planned_count, RowsStandFor, IsRunningSpace, HasReadNothing, rest_of, after_look, after_count, after_sequence, after_row, after_store, after_raise}
+use Rattle.area_rows.specs.History.{entries_of, with_whole, whole_count, own_count, entry_count, IsPart, planned_calls, own_planned, planned_count, RowsStandFor, IsRunningSpace, HasReadNothing, rest_of, after_look, after_count, after_sequence, after_row, after_store, after_raise, after_change}
 use Rattle.area_rows.specs.Stands.{shown_set}
 
 keep_end : {A : Type 0} (b : Bool) (x : A) (xs ys zs : List A) → ys ≡ xs ++ zs → cond b (x ∷ ys) ys ≡ cond b (x ∷ xs) xs ++ zs
@@ -104,6 +104,17 @@ blank_part start history words others worker x n own = record {
   sequence = λ m e. absurd (none_is m (sym n.2 ∙ e));
 }
 
+-- the part of a caller that makes no step while another stores a row
+pub beside_part : (start : List Areas) (history : List Entry) (words : List ℕ) (worker index value : ℕ) (x : Pass) → IsPart start history words worker x → IsPart start history (set words (3 + index) value) worker x
+beside_part start history words worker index value x own = record {
+  began = own.began;
+  seen = own.seen;
+  mine = own.mine;
+  few = own.few;
+  count = λ n e. get_or-set_other words (3 + index) 2 value 0 (λ same. omega arith) ∙ own.count n e;
+  sequence = λ n e. get_or-set_other words (3 + index) 1 value 0 (λ same. omega arith) ∙ own.sequence n e;
+}
+
 module _ (start : List Areas) (history : List Entry) (state : List Areas) (words : List ℕ) (worker : ℕ) (p : Pass) (own : IsPart start history words worker p) where
   pub looked : IsPart start history words worker (after_look history p)
   looked = record { began = own.began; seen = ([], sym (append-nil history)); mine = own.mine; few = own.few; count = own.count; sequence = own.sequence }
@@ -150,6 +161,9 @@ module _ (start : List Areas) (history : List Entry) (state : List Areas) (words
     sequence = λ n e. absurd (none_is n e);
   }
 
+  pub changed : (others : List ℕ) → IsPart start history others worker (after_change p)
+  changed others = record { began = own.began; seen = own.seen; mine = own.mine; few = own.few; count = λ n e. absurd (none_is n e); sequence = λ n e. absurd (none_is n e) }
+
   -- another pass of this caller with as many entries and as much to write
   pub replaced : (passes : List Pass) (q : Pass) → IsRunningSpace start history state words passes → get_elem? passes worker ≡ some p → IsPart start history words worker q → length q.mine ≡ length p.mine → q.pending ≡ p.pending → IsRunningSpace start history state words (set passes worker q)
   replaced passes q r at part same pends =
@@ -162,6 +176,7 @@ module _ (start : List Areas) (history : List Entry) (state : List Areas) (words
         replies = r.replies;
         in_order = r.in_order;
         named = r.named;
+        limit = r.limit;
         number = r.number;
         sequence = ap (λ n. slice_index words 1 + n) pending ∙ r.sequence;
         room = r.room;

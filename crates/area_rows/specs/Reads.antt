@@ -8,7 +8,7 @@ use Rattle.lock_core.specs.declared.range.Mode.TheVariants.{Writer}
 use Rattle.lock_core.specs.declared.range.Held.{Held}
 use Rattle.area_rows.specs.declared.guard.ReadRow.{ReadRow}
 use Rattle.area_rows.specs.declared.guard.Pass.{Pass}
-use Rattle.area_rows.specs.RowWords.{row_start, row_kind}
+use Rattle.row_plans.specs.RowWords.{row_start, row_kind}
 use Rattle.area_rows.specs.Rows.{IsRowOf}
 
 -- all pages, held as a writer

@@ -1,9 +1,9 @@
 -- What an entry's reply and the list that its call leaves keep of the state before it: named bits, and the order of an
 -- area list. These are parts of the proofs in `Keeping`; a reader who trusts the check may pass them over.
 use Rattle.std.specs.Prelude.{All, Option, Some, None, nat_le, nat_lt, ◌&&◌, ◌==◌}
-use Rattle.std.proofs.Common.{◌≡◌, ℕ, Bool, true, false, not, List, [], ◌∷◌, ◌++◌, sym, subst}
+use Rattle.std.proofs.Common.{◌≡◌, ◌≤◌, ℕ, Bool, true, false, not, List, [], ◌∷◌, ◌++◌, sym, subst}
 use Rattle.std.proofs.lemmas.List.Elements.{All-cons, All-head, All-tail}
-use Rattle.page_types.specs.declared.TheConstants.{LIMIT}
+use Rattle.page_types.specs.declared.TheConstants.{LIMIT, ROWS}
 use Rattle.page_types.specs.declared.calls.Call.{Call}
 use Rattle.page_types.specs.declared.calls.Call.TheVariants.{Map, Unmap, Protect, Fault}
 use Rattle.page_types.specs.declared.calls.Kind.{Kind}
@@ -21,7 +21,7 @@ use Rattle.page_types.specs.PlainReply.{plain_reply, first_that_applies}
 use Rattle.page_types.specs.Sets.{is_fixed, has_one_sharing}
 use Rattle.space_model.specs.declared.areas.Area.{Area}
 use Rattle.space_model.specs.declared.entries.Entry.{Entry}
-use Rattle.space_model.specs.Areas.{HasNamedKinds, kind_at}
+use Rattle.space_model.specs.Areas.{HasNamedKinds, kind_at, row_count}
 use Rattle.space_model.specs.Answers.{Answers, RefusesByState, RefusesMap, RefusesAccess, GrantsAccess}
 use Rattle.space_model.specs.Answers.Answers.{by_arguments, refused, granted, done, too_many_rows}
 use Rattle.space_model.specs.Answers.RefusesMap.{exists, no_gap}
@@ -101,3 +101,11 @@ left_named A B c reply named call (refused why none refuses is same) = subst Has
 left_named A B c reply named call (granted kind none grants is same) = subst HasNamedKinds (sym same) named
 left_named A B c reply named call (done lo hi none place kinds few is) = named-after A B c lo hi named call kinds
 left_named A B c reply named call (too_many_rows lo hi C none place kinds many is same) = subst HasNamedKinds (sym same) named
+
+-- and what it leaves has no more rows than there is room for
+pub left_few : (A B : List Area) (c : Call) (reply : Reply) → row_count A ≤ ROWS → Answers A c reply B → row_count B ≤ ROWS
+left_few A B c reply few (by_arguments decided same) = subst (λ (l : List Area). row_count l ≤ ROWS) (sym same) few
+left_few A B c reply few (refused why none refuses is same) = subst (λ (l : List Area). row_count l ≤ ROWS) (sym same) few
+left_few A B c reply few (granted kind none grants is same) = subst (λ (l : List Area). row_count l ≤ ROWS) (sym same) few
+left_few A B c reply few (done lo hi none place kinds fits is) = fits
+left_few A B c reply few (too_many_rows lo hi C none place kinds many is same) = subst (λ (l : List Area). row_count l ≤ ROWS) (sym same) few

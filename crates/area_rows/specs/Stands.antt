@@ -18,7 +18,7 @@ use Rattle.lock_core.specs.declared.range.Held.{Held}
 use Rattle.area_rows.specs.declared.guard.ReadRow.{ReadRow}
 use Rattle.area_rows.specs.declared.guard.Pass.{Pass}
 use Rattle.area_rows.specs.declared.guard.Pending.{Pending}
-use Rattle.area_rows.specs.RowWords.{row_start, row_kind}
+use Rattle.row_plans.specs.RowWords.{row_start, row_kind}
 use Rattle.area_rows.specs.Rows.{IsRowOf, RowsShow}
 use Rattle.area_rows.specs.Reads.{everything, StillStands}
 use Rattle.area_rows.specs.History.{LagsAt, ShowsBefore, IsShown, without}

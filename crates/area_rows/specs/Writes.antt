@@ -9,6 +9,7 @@ use mathlib.Core.Option.{some, some-injective}
 use lib.ListN.{get_elem?}
 use Rattle.atomic_table.proofs.Lists.{at_set}
 use Rattle.page_types.specs.declared.calls.Kind.{Kind}
+use Rattle.page_types.specs.declared.pages.Span.{Span}
 use Rattle.space_model.specs.declared.areas.Area.{Area as Areas}
 use Rattle.space_model.specs.declared.entries.Entry.{Entry}
 use Rattle.space_model.specs.Areas.{kind_at}
@@ -17,10 +18,11 @@ use Rattle.lock_core.specs.Client.{adds, words_after}
 use Rattle.lock_core.specs.declared.range.Held.{Held}
 use Rattle.area_rows.specs.declared.guard.Pass.{Pass}
 use Rattle.area_rows.specs.declared.guard.Pending.{Pending}
-use Rattle.area_rows.specs.declared.guard.Pending.TheVariants.{AtRest, Planned}
+use Rattle.area_rows.specs.declared.guard.Pending.TheVariants.{AtRest, Planned, OneRow}
 use Rattle.area_rows.specs.Rows.{RowsShow}
-use Rattle.area_rows.specs.Plans.{PlanShows}
+use Rattle.row_plans.specs.Plans.{PlanShows}
 use Rattle.area_rows.specs.Reads.{everything, StillStands}
+use Rattle.area_rows.specs.Changes.{alone}
 use Rattle.area_rows.specs.History.{IsPart, planned_calls, planned_count, ShowsBefore, IsShown, IsRunningSpace, HasPages, HoldsPages, HasReadNothing, Backs, IsBacked, AreBacked, after_count, after_store, after_raise, MayStore}
 use Rattle.area_rows.specs.History.MayStore.{store_row, store_count}
 use Rattle.area_rows.specs.Stands.{all_stand, same_low, low_rows, stored_all, counted_all}
@@ -34,6 +36,10 @@ pub clash : (grants : Grants) (worker other : ℕ) → IsExclusive grants → ot
 clash grants worker other exclusive differ held h = let some_page = h.2.0 in let few = h.2.1 in
     exclusive worker other everything h.0 (λ e. differ (sym e)) held h.1 ((omega arith, omega arith), inl refl)
 
+-- a span that is held has pages alone
+pub span_pages : (span : Span) → HasPages (alone span)
+span_pages span = (span.ordered, span.in_range)
+
 -- and nobody else has read anything
 pub others_blank : (grants : Grants) (words : List ℕ) (state : List Areas) (worker other : ℕ) (x : Pass) → IsExclusive grants → other ≢ worker → Holds grants worker everything → IsBacked grants words state other x → HasReadNothing x
 others_blank grants words state worker other x exclusive differ held b = ⊎_elim (λ n. n) (λ h. absurd (clash grants worker other exclusive differ held h)) b.reads
@@ -42,6 +48,7 @@ others_blank grants words state worker other x exclusive differ held b = ⊎_eli
 others_shown : (grants : Grants) (state : List Areas) (worker other : ℕ) (pending : Pending) (kinds : ℕ → Option Kind) → IsExclusive grants → other ≢ worker → Holds grants worker everything → Backs grants state other pending → ShowsBefore pending kinds
 others_shown grants state worker other AtRest kinds exclusive differ held b = tt
 others_shown grants state worker other (Planned rows) kinds exclusive differ held b = tt
+others_shown grants state worker other (OneRow c) kinds exclusive differ held b = absurd (clash grants worker other exclusive differ held (alone c.span, b.0, span_pages c.span))
 
 -- who has read nothing is backed whatever the words are
 pub blank_backed : (grants : Grants) (words others : List ℕ) (state : List Areas) (worker : ℕ) (x : Pass) → HasReadNothing x → IsBacked grants words state worker x → IsBacked grants others state worker x
@@ -82,6 +89,7 @@ module _ (grants : Grants) (start : List Areas) (history : List Entry) (state : 
         replies = r.replies;
         in_order = r.in_order;
         named = r.named;
+        limit = r.limit;
         number = get_or-set_other words place 0 value 0 (λ e. omega arith) ∙ r.number;
         sequence = ap (λ n. n + planned_count (set passes worker q)) (get_or-set_other words place 1 value 0 (λ e. omega arith)) ∙ (ap (λ n. slice_index words 1 + n) pending ∙ r.sequence);
         room = length-set words place value ∙ r.room;
@@ -145,6 +153,7 @@ module _ (grants : Grants) (start : List Areas) (history : List Entry) (state : 
         replies = r.replies;
         in_order = r.in_order;
         named = r.named;
+        limit = r.limit;
         number = get_or-set_other words 1 0 value 0 (λ e. omega arith) ∙ r.number;
         sequence = let g : slice_index (set words 1 value) 1 ≡ value = get_or-set_same words 1 value 0 there in let s = r.sequence in let f = whole_few history in let w = no_wrap start history state words passes r in omega arith;
         room = length-set words 1 value ∙ r.room;

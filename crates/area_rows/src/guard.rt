@@ -4,7 +4,7 @@
 //! caller's pass meanwhile. A reader may rely on the one history that the number word counts being what the callers
 //! store.
 use lock_core::{Guard, Held, Means};
-use page_types::{Call, Reply};
+use page_types::{Call, Kind, Reply, Span};
 use space_model::{Area, Entry, Under};
 use std::collections::LinkedList;
 use std::marker::{Brand, PhantomData};
@@ -16,12 +16,34 @@ pub struct ReadRow {
     pub word: u64,
 }
 
+/// The one row that a call over its area stores: some pages of the area get another kind, and as many rows are left as
+/// there were. Pages are counted from 0.
+#[derive(Clone, Copy, Debug, PartialEq, Eq)]
+pub struct Change {
+    /// The number of the row, counted from 0.
+    pub index: u32,
+    /// The page where the row starts from now on.
+    pub start: u64,
+    /// The kind of the row's pages from now on.
+    pub kind: Kind,
+    /// The pages that are held as a writer: those of the area, and one more on each side.
+    pub span: Span,
+    /// The pages of the call.
+    pub place: Span,
+    /// The kind that these pages have before the call.
+    pub old: Kind,
+    /// The kind that the call gives them.
+    pub new: Kind,
+}
+
 /// What a call that has its number still has to write.
 pub enum Pending {
     /// Nothing.
     AtRest,
     /// The row words that it leaves, their count, and the sequence word: a call under everything.
     Planned(LinkedList<u64>),
+    /// One row: a call over its area.
+    OneRow(Change),
 }
 
 /// An entry without its number and its worker, and what is to be written when it has its number.

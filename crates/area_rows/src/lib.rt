@@ -6,15 +6,14 @@
 #![tactic(auto)]
 
 mod answer;
+mod area;
+mod change;
 mod close;
 mod collect;
 mod guard;
 mod holding;
 mod laws;
 mod opening;
-mod places;
-mod plan;
-mod planning;
 mod row;
 mod rows;
 mod space;
@@ -24,9 +23,10 @@ mod words;
 mod writing;
 
 pub use answer::Answer;
+pub use area::AreaPlan;
 pub use close::{Closed, SpaceCloseRefused};
-pub use guard::{Note, Pass, Pending, ReadRow, RowGuard};
+pub use guard::{Change, Note, Pass, Pending, ReadRow, RowGuard};
 pub use laws::{draws_hold, history_is_stored, runs_are_legal};
-pub use plan::Planned;
 pub use row::Row;
+pub use row_plans::Planned;
 pub use space::{Caller, Space, SpaceFault, crosses_threads};

@@ -1,30 +1,80 @@
-//! The row of a page, looked for from the first row on, under a range that holds the page. The rows are read one
-//! after another, each by one atomic step; a reader may rely on what they show of the history's state while the range
-//! is held.
-ghost use Rattle.std.specs.Prelude.{◌≡◌, ◌<◌, ◌≤◌, ◌+◌, Some};
+//! The row of a page, looked for by halving, under a range that holds the page. Each row is read by one atomic step; a
+//! reader may rely on what they show of the history's state while the range is held. Others may move rows meanwhile,
+//! but none over a held page: so each row stays on the side of the page on which it was read (`specs/Halving.antt`).
+ghost use Rattle.std.specs.Prelude.{◌≡◌, ◌<◌, ◌≤◌, ◌+◌, ◌^◌, Some};
 ghost use Rattle.page_types.specs.declared.TheConstants.{LIMIT, ROWS};
 ghost use Rattle.page_types.specs.Named.{IsNamedOption};
-ghost use Rattle.area_rows.specs.RowWords.{row_start};
 ghost use Rattle.area_rows.specs.History.{IsAtRest};
-ghost use Rattle.area_rows.specs.Reads.{IsHeldPage, HasRead};
+ghost use Rattle.area_rows.specs.Halving.{IsAmong};
+ghost use Rattle.area_rows.specs.Reads.{IsHeldPage};
 ghost use Rattle.area_rows.specs.Callers.{HasSameRows, IsHeldPages, IsReading, IsAsRead, RowIs, Shows};
 
 use crate::row::Row;
 use crate::space::{Caller, Space};
-use crate::words::read_row;
 use page_types::LIMIT;
+use row_plans::read_row;
 use std::sync::ledger::Ledger;
 use word_rows::Steps;
 
+/// Where a search goes on: at its middle row where that one starts at or before the page, and otherwise at its base.
+/// The top bit of a difference says which, so that the processor need not guess: of a comparison the compiler makes a
+/// jump.
+#[inline(always)]
+fn go_on(base: u32, half: u32, start: u64, page: u64) -> u32
+    requires room { base + half < 2 ^ 32 }
+    requires start { start < 2 ^ 63 }
+    requires page { page < 2 ^ 63 }
+    ensures upper { start ≤ page → result ≡ base + half }
+    ensures lower { page < start → result ≡ base }
+{
+    let up = ((1 << 63) + page - start) >> 63;
+    base + half * up as u32
+}
+
 impl Space {
-    /// The row of a page, where the caller has read how many rows there are, from 1 to `ROWS`, and the word of the
-    /// first one.
-    fn row_from<L: Ledger>(
+    /// The number of the row of a page, where the caller has read how many rows there are, from 1 to `ROWS`. Each step
+    /// reads the middle one of the rows that are left.
+    fn find_row<L: Ledger>(
         &self,
         caller: &mut Caller,
         page: u64,
-        count: u64,
-        first: u64,
+        count: u32,
+        steps: &mut Steps<L>,
+    ) -> u32
+        requires table { caller.old.seat.table ≡ self.now.table }
+        requires held { IsHeldPage caller.old.seat.held page }
+        requires rest { IsAtRest caller.old.seat.pass }
+        requires low { page < LIMIT }
+        requires count { caller.old.seat.pass.count ≡ Some count }
+        requires some { 0 < count }
+        requires few { count ≤ ROWS }
+        ensures found { IsAmong caller.new.seat.pass.rows page count result 1 }
+        ensures reading { IsReading caller.old.seat caller.new.seat }
+        ensures left { caller.new.left ≡ caller.old.left }
+        ensures rows { HasSameRows caller.old caller.new }
+        ensures bound { caller.new.seat.trace.taken ≤ caller.old.seat.trace.taken + 12 }
+        ensures counted { steps.new + caller.old.seat.trace.taken ≡ steps.old + caller.new.seat.trace.taken }
+    {
+        let mut base = 0;
+        let mut size = count;
+        'halve: while size > 1 {
+            let half = size / 2;
+            steps.tick();
+            let word = self.load_row(caller, base + half);
+            let (start, _) = read_row(word);
+            base = go_on(base, half, start, page);
+            size -= half;
+        }
+        base
+    }
+
+    /// The row of that number, read anew with its end, where the search for the page has found it.
+    fn row_at<L: Ledger>(
+        &self,
+        caller: &mut Caller,
+        page: u64,
+        count: u32,
+        index: u32,
         steps: &mut Steps<L>,
     ) -> Row
         requires table { caller.old.seat.table ≡ self.now.table }
@@ -32,10 +82,8 @@ impl Space {
         requires pages { IsHeldPages caller.old.seat.held }
         requires rest { IsAtRest caller.old.seat.pass }
         requires count { caller.old.seat.pass.count ≡ Some count }
-        requires some { 0 < count }
         requires few { count ≤ ROWS }
-        requires first { HasRead caller.old.seat.pass.rows 0 first }
-        requires begins { row_start first ≡ 0 }
+        requires found { IsAmong caller.old.seat.pass.rows page count index 1 }
         ensures from { result.lo ≤ page }
         ensures until { page < result.hi }
         ensures limit { result.hi ≤ LIMIT }
@@ -45,28 +93,23 @@ impl Space {
         ensures reading { IsReading caller.old.seat caller.new.seat }
         ensures left { caller.new.left ≡ caller.old.left }
         ensures rows { HasSameRows caller.old caller.new }
-        ensures bound { caller.new.seat.trace.taken < caller.old.seat.trace.taken + count }
+        ensures bound { caller.new.seat.trace.taken ≤ caller.old.seat.trace.taken + 2 }
         ensures counted { steps.new + caller.old.seat.trace.taken ≡ steps.old + caller.new.seat.trace.taken }
     {
-        let mut index = 0;
-        let mut word = first;
-        'rows: while (index as u64) + 1 < count {
+        steps.tick();
+        let word = self.load_row(caller, index);
+        let (lo, kind) = read_row(word);
+        if index + 1 < count {
             steps.tick();
             let next = self.load_row(caller, index + 1);
             let (hi, _) = read_row(next);
-            if hi > page {
-                let (lo, kind) = read_row(word);
-                return Row {
-                    index,
-                    lo,
-                    hi,
-                    kind,
-                };
-            }
-            index += 1;
-            word = next;
+            return Row {
+                index,
+                lo,
+                hi,
+                kind,
+            };
         }
-        let (lo, kind) = read_row(word);
         Row {
             index,
             lo,
@@ -76,7 +119,8 @@ impl Space {
     }
 
     /// The row of a page that the caller holds; the caller is of this space and has written what it has numbered. It is
-    /// looked for from the first row on, and each row is read by one step, after one that reads how many there are.
+    /// looked for by halving, in at most 15 steps: one reads how many rows there are, at most 12 each read a row, and
+    /// two read the row that was found and the one behind it.
     /// `lo` and `hi` are as they were read. Where the caller holds a page past each of them, or up to 0 and `LIMIT`,
     /// as a writer, they are the row's own.
     pub fn row_of<L: Ledger>(&self, caller: &mut Caller, page: u64, steps: &mut Steps<L>) -> Row
@@ -92,14 +136,13 @@ impl Space {
         ensures reading { IsReading caller.old.seat caller.new.seat }
         ensures left { caller.new.left ≡ caller.old.left }
         ensures rows { HasSameRows caller.old caller.new }
-        ensures bound { caller.new.seat.trace.taken ≤ caller.old.seat.trace.taken + (1 + ROWS) }
+        ensures bound { caller.new.seat.trace.taken ≤ caller.old.seat.trace.taken + 15 }
         ensures counted { steps.new + caller.old.seat.trace.taken ≡ steps.old + caller.new.seat.trace.taken }
     {
         caller.holds_pages();
         steps.tick();
-        let count = self.load_count(caller);
-        steps.tick();
-        let first = self.load_row(caller, 0);
-        self.row_from(caller, page, count, first, steps)
+        let count = self.load_count(caller) as u32;
+        let index = self.find_row(caller, page, count, steps);
+        self.row_at(caller, page, count, index, steps)
     }
 }

@@ -3,7 +3,7 @@
 //! one thread to another; all memory is taken when the space is opened and when it is closed.
 ghost use Rattle.std.specs.Prelude.{◌≡◌, ◌≤◌, ◌<◌, ◌+◌, ◌^◌, vec_len, vec_capacity};
 
-use crate::guard::RowGuard;
+use crate::guard::{Change, RowGuard};
 use page_types::{LIMIT, ROWS};
 use range_rw::{RangeTable, Seat};
 use space_model::Entry;
@@ -53,18 +53,20 @@ pub struct Caller {
     pub(crate) read: Vec<u64>,
     /// The row words that the last plan put together, or none where those that it read stay; with room for `ROWS + 2`.
     pub(crate) plan: Vec<u64>,
+    /// The row that the last plan over an area changes, or None where it changes nothing.
+    pub(crate) change: Option<Change>,
 }
 
 impl Model for Caller {
     ghost use Rattle.std.specs.Prelude.{◌≡◌, ◌+◌, ◌≤◌, ◌<◌, ◌^◌, None, vec_len, vec_capacity};
     ghost use Rattle.page_types.specs.declared.TheConstants.{ROWS};
-    ghost use Rattle.area_rows.specs.Plans.{planned_rows};
+    ghost use Rattle.row_plans.specs.Plans.{planned_rows};
     ghost use Rattle.area_rows.specs.History.{IsAtRest};
     ghost use Rattle.area_rows.specs.Callers.{CallerView, IsHeldPages};
 
     ghost Value = { CallerView };
 
-    ghost view = { λ c. record { seat = c.seat; left = c.left; read = c.read.items; plan = planned_rows c.read.items c.plan.items } };
+    ghost view = { λ c. record { seat = c.seat; left = c.left; read = c.read.items; plan = planned_rows c.read.items c.plan.items; change = c.change } };
 
     ghost invariant = { λ c. (c.seat.number ≡ c.worker) × (c.mine.items ≡ c.seat.pass.mine) × (vec_len c.mine + c.left ≤ vec_capacity c.mine) × (vec_len c.mine + c.left < 2 ^ 32) × (ROWS ≤ vec_capacity c.read) × (ROWS + 2 ≤ vec_capacity c.plan) × (vec_len c.plan ≤ ROWS) × IsHeldPages c.seat.held × (c.seat.held ≡ None → IsAtRest c.seat.pass) };
 }

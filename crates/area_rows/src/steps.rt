@@ -5,15 +5,18 @@
 ghost use Rattle.std.specs.Prelude.{ℕ, List, ◌≡◌, ◌<◌, ◌≤◌, ◌+◌, ◌^◌, IsSome, Some, length};
 ghost use Rattle.page_types.specs.declared.TheConstants.{LIMIT, ROWS};
 ghost use Rattle.page_types.specs.Named.{IsNamedCall, IsNamedReply};
+ghost use Rattle.page_types.specs.declared.pages.Span.{Span};
 ghost use Rattle.space_model.specs.declared.areas.Area.{Area};
-ghost use Rattle.space_model.specs.declared.entries.Under.TheVariants.{Whole};
-ghost use Rattle.area_rows.specs.RowWords.{row_start};
-ghost use Rattle.area_rows.specs.Plans.{IsRowList, planned_rows};
-ghost use Rattle.area_rows.specs.Reads.{everything, HasRows};
+ghost use Rattle.area_rows.specs.declared.guard.Change.{Change};
+ghost use Rattle.space_model.specs.declared.entries.Under.TheVariants.{Area as OverArea, Whole};
+ghost use Rattle.row_plans.specs.RowWords.{row_start};
+ghost use Rattle.row_plans.specs.Plans.{IsRowList, planned_rows};
+ghost use Rattle.area_rows.specs.Halving.{IsOnSameSide};
+ghost use Rattle.area_rows.specs.Reads.{everything, HasRows, IsHeldPage};
 ghost use Rattle.area_rows.specs.History.{HoldsFor, IsAtRest, IsRight, Leaves, pending_of, after_count, after_row, entry_note};
-ghost use Rattle.area_rows.specs.Callers.{HasSameRows, HasToWrite, CountsWhole, IsReading, IsClientStep, IsLook, IsDrawn, MayNumber, Shows};
+ghost use Rattle.area_rows.specs.Callers.{HasSameRows, HasToWrite, HasToStore, IsReadRound, CountsWhole, IsReading, IsClientStep, IsLook, IsDrawn, MayNumber, Shows};
 
-use crate::guard::{By, Noted, RowGuard};
+use crate::guard::{By, Change, Noted, RowGuard};
 use crate::space::{Caller, Space};
 use crate::words::{FIRST_ROW, NUMBER, ROW_COUNT, SEQUENCE};
 use page_types::{Call, Reply};
@@ -41,8 +44,8 @@ impl Space {
     }
 
     /// Loads the word of a row, counted from 0. The caller is of this space, holds a range, and has written what it has
-    /// numbered. Where it holds everything, all rows that it has read, with this one, are a row list once there is no
-    /// other.
+    /// numbered. A row that it has read before starts on the same side of each page that it holds as it did then. Where
+    /// it holds everything, all rows that it has read, with this one, are a row list once there is no other.
     pub(crate) fn load_row(&self, caller: &mut Caller, index: u32) -> u64
         requires table { caller.old.seat.table ≡ self.now.table }
         requires held { IsSome caller.old.seat.held }
@@ -53,6 +56,7 @@ impl Space {
         ensures rows { HasSameRows caller.old caller.new }
         ensures first { index ≡ 0 → row_start result ≡ 0 }
         ensures below { (n : ℕ) → caller.old.seat.pass.count ≡ Some n → index < n → row_start result < LIMIT }
+        ensures side { (page : ℕ) → IsHeldPage caller.old.seat.held page → IsOnSameSide caller.old.seat.pass.rows index result page }
         ensures whole { caller.old.seat.held ≡ Some everything → (rows : List ℕ) → HasRows caller.new.seat.pass rows → IsRowList rows }
     {
         self.table
@@ -83,24 +87,26 @@ impl Space {
         self.table.load::<By<Brand>>(&mut caller.seat, SEQUENCE)
     }
 
-    /// Draws a number for the entry that the note becomes, where a call under everything has these rows to write. The
-    /// call, with all that the note says of it, is an argument so that the note can be picked from it.
+    /// Draws a number for the entry that the note becomes, where a call under everything has these rows to write, and a
+    /// call over an area this one. The call, with all that the note says of it, is an argument so that the note can be
+    /// picked from it.
     fn draw_as<N: Noted>(
         &self,
         seat: &mut Seat<RowGuard>,
         draft: &Entry,
         read: &[u64],
         plan: &[u64],
+        change: Option<Change>,
     ) -> u64
-        requires note { N.noted ≡ entry_note draft.now (pending_of draft.now.under (planned_rows read.now plan.now)) }
+        requires note { N.noted ≡ entry_note draft.now (pending_of draft.now.under (planned_rows read.now plan.now) change) }
         requires table { seat.old.table ≡ self.now.table }
         requires worker { seat.old.number ≡ draft.now.worker }
         requires few { length seat.old.pass.mine + 1 < 2 ^ 32 }
         requires named { IsNamedCall draft.now.call }
         requires rest { IsAtRest seat.old.pass }
         requires held { HoldsFor seat.old.held draft.now.under }
-        requires right { Shows seat.old (λ _ state. (left : List Area) × IsRight state draft.now.call draft.now.reply draft.now.under left × Leaves state draft.now.under (pending_of draft.now.under (planned_rows read.now plan.now)) left) }
-        ensures drawn { IsDrawn seat.old (record draft.now { number = result }) (pending_of draft.now.under (planned_rows read.now plan.now)) seat.new }
+        requires right { Shows seat.old (λ _ state. (left : List Area) × IsRight state draft.now.call draft.now.reply draft.now.under left × Leaves state draft.now.under (pending_of draft.now.under (planned_rows read.now plan.now) change) left) }
+        ensures drawn { IsDrawn seat.old (record draft.now { number = result }) (pending_of draft.now.under (planned_rows read.now plan.now) change) seat.new }
         ensures taken { seat.new.trace.taken ≡ seat.old.trace.taken + 1 }
     {
         self.table.add::<By<N>>(seat, NUMBER, 1)
@@ -126,10 +132,11 @@ impl Space {
         ensures reply { result.reply ≡ reply }
         ensures under { result.under ≡ under }
         ensures named { IsNamedReply result.reply }
-        ensures drawn { IsDrawn caller.old.seat result (pending_of under caller.old.plan) caller.new.seat }
+        ensures drawn { IsDrawn caller.old.seat result (pending_of under caller.old.plan caller.old.change) caller.new.seat }
         ensures left { caller.new.left + 1 ≡ caller.old.left }
         ensures rows { HasSameRows caller.old caller.new }
         ensures write { under ≡ Whole → HasRows caller.old.seat.pass caller.old.read → HasToWrite caller.new }
+        ensures store { (span : Span) (change : Change) → under ≡ OverArea span → caller.old.change ≡ Some change → IsReadRound caller.old.seat change → HasToStore caller.new change }
         ensures taken { caller.new.seat.trace.taken ≡ caller.old.seat.trace.taken + 1 }
     {
         let mut entry = Entry {
@@ -145,6 +152,7 @@ impl Space {
             &entry,
             caller.read.as_slice(),
             caller.plan.as_slice(),
+            caller.change,
         );
         caller.mine.push_reserved(entry);
         caller.left -= 1;
@@ -155,7 +163,8 @@ impl Space {
     /// has numbered, and holds the range that `under` names.
     /// At the history's state the call fits `under` and has this reply, as what the caller has read shows. Under
     /// everything the caller's last plan is of this call, was made under this held range, and nothing was numbered
-    /// since; `write_plan` is to follow.
+    /// since; `write_plan` is to follow. Over an area the same holds of the last plan over an area, and `set_kind` or
+    /// `move_start` is to follow where it has a row to change.
     /// The entry goes to the caller's own, and is the last one that it has seen; what its range has shown was so of
     /// the state before it. One step.
     pub fn number<L: Ledger>(
@@ -178,10 +187,11 @@ impl Space {
         ensures reply { result.reply ≡ reply }
         ensures under { result.under ≡ under }
         ensures named { IsNamedReply result.reply }
-        ensures drawn { IsDrawn caller.old.seat result (pending_of under caller.old.plan) caller.new.seat }
+        ensures drawn { IsDrawn caller.old.seat result (pending_of under caller.old.plan caller.old.change) caller.new.seat }
         ensures left { caller.new.left + 1 ≡ caller.old.left }
         ensures rows { HasSameRows caller.old caller.new }
         ensures write { under ≡ Whole → HasRows caller.old.seat.pass caller.old.read → HasToWrite caller.new }
+        ensures store { (span : Span) (change : Change) → under ≡ OverArea span → caller.old.change ≡ Some change → IsReadRound caller.old.seat change → HasToStore caller.new change }
         ensures taken { caller.new.seat.trace.taken ≡ caller.old.seat.trace.taken + 1 }
         ensures counted { steps.new ≡ steps.old + 1 }
     {

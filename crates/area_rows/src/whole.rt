@@ -7,17 +7,18 @@ ghost use Rattle.page_types.specs.declared.TheConstants.{ROWS};
 ghost use Rattle.page_types.specs.Named.{IsNamedCall};
 ghost use Rattle.page_types.specs.PlainReply.{plain_reply};
 ghost use Rattle.space_model.specs.declared.entries.Under.TheVariants.{Whole};
-ghost use Rattle.area_rows.specs.Rows.{areas_from};
-ghost use Rattle.area_rows.specs.Plans.{IsRowList, IsPlan};
+ghost use Rattle.row_plans.specs.RowLists.{areas_from};
+ghost use Rattle.row_plans.specs.Plans.{IsRowList, IsPlan};
 ghost use Rattle.area_rows.specs.Reads.{everything, HasRows};
-ghost use Rattle.area_rows.specs.History.{IsFault, IsAtRest};
+ghost use Rattle.row_plans.specs.Plans.{IsFault};
+ghost use Rattle.area_rows.specs.History.{IsAtRest};
 ghost use Rattle.area_rows.specs.Callers.{HasPlanned, IsReading};
 ghost use Rattle.area_rows.specs.Called.{IsCalled};
 
-use crate::plan::{Planned, plan_rows};
 use crate::space::{Caller, Space};
 use lock_core::Mode;
 use page_types::{Call, LIMIT, Reply, Span};
+use row_plans::{Planned, plan_rows};
 use space_model::{Entry, Under};
 use std::sync::Wait;
 

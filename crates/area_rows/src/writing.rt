@@ -4,7 +4,7 @@
 ghost use Rattle.std.specs.Prelude.{ℕ, List, ◌≡◌, ◌≤◌, ◌<◌, ◌+◌, Some, length, slice_index};
 ghost use Rattle.page_types.specs.declared.TheConstants.{ROWS};
 ghost use Rattle.area_rows.specs.declared.guard.Pending.TheVariants.{Planned};
-ghost use Rattle.area_rows.specs.Plans.{planned_rows};
+ghost use Rattle.row_plans.specs.Plans.{planned_rows};
 ghost use Rattle.area_rows.specs.Reads.{HasRows};
 ghost use Rattle.area_rows.specs.History.{IsAtRest, after_count, after_store, after_raise};
 ghost use Rattle.area_rows.specs.Callers.{HasSameRows, HasToWrite, IsClientStep, IsWritten};

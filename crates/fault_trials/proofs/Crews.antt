@@ -90,12 +90,10 @@ two_back table seats (u ∷ v ∷ rest) others x a y b one crew two p q = absurd
 two_back table seats (u ∷ []) [] x a y b one crew two p q = absurd (let n = crew.count in omega arith)
 two_back table seats (u ∷ []) (v ∷ rest) x a y b one crew two p q = record { count = crew.count; some = crew.some; idle = idle_two table u v rest a b crew.idle p q }
 
--- the first caller's answer, told by places
-pub first_answer : (callers : List CallerView) (d n : CallerView) (line : ℕ) (call : Call) (answer : Answer) → IsAnswered (get_or callers 0 d) line call answer n
-    → OfCaller 0 callers (set callers 0 n) (λ before after. IsAnswered before line call answer after)
-first_answer [] d n line call answer is a b p q = absurd (some-ne-none a (sym p))
-first_answer (x ∷ xs) d n line call answer is a b p q =
-    subst (λ (z : CallerView × CallerView). IsAnswered z.0 line call answer z.1) (λ i. (some-injective x a p i, some-injective n b q i)) is
+-- what became of the first caller, told by places
+pub first_is : (callers : List CallerView) (d n : CallerView) (what : CallerView → CallerView → Type 0) → what (get_or callers 0 d) n → OfCaller 0 callers (set callers 0 n) what
+first_is [] d n what is a b p q = absurd (some-ne-none a (sym p))
+first_is (x ∷ xs) d n what is a b p q = subst (λ (z : CallerView × CallerView). what z.0 z.1) (λ i. (some-injective x a p i, some-injective n b q i)) is
 
 -- the others stay
 pub others_stay : (callers : List CallerView) (n : CallerView) → drop 1 (set callers 0 n) ≡ drop 1 callers

@@ -2,7 +2,7 @@
 //! change the number of rows: it holds all pages.
 ghost use Rattle.std.specs.Prelude.{◌≡◌, None};
 ghost use Rattle.page_types.specs.Named.{IsNamedCall};
-ghost use Rattle.area_rows.specs.History.{IsFault};
+ghost use Rattle.row_plans.specs.Plans.{IsFault};
 ghost use Rattle.area_rows.specs.Called.{IsAnswered};
 
 use area_rows::{Answer, Caller, Space};

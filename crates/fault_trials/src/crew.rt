@@ -56,6 +56,26 @@ pub fn call_by<R: Wait>(
     make_call(rt, space, &mut callers[0], line, call)
 }
 
+/// One caller faults in one try.
+fn try_alone<L: Ledger>(space: &Space, caller: &mut Caller, addr: u64, blank: Blank) -> TriedFault
+    requires blank { (blank.name ≡ L.name) × (blank.parts ≡ L.parts) × (0 < L.parts) }
+    requires caller { (caller.old.seat.table ≡ space.now.table) × (caller.old.seat.held ≡ None) }
+    ensures caller { IsIdleAgain caller.old caller.new }
+    ensures tried { IsTried caller.old 1 addr Read result caller.new }
+{
+    let mut steps = Steps::<L>::new(blank);
+    try_fault(space, caller, 1, addr, Access::Read, &mut steps)
+}
+
+/// The first caller of the crew reads a byte in one try, for line 1.
+pub fn try_by(space: &Space, callers: &mut [Caller], addr: u64) -> TriedFault
+    requires crew { IsCrew space.now.table space.now.seats callers.old }
+    ensures crew { IsCrew space.now.table space.now.seats callers.new }
+    ensures tried { OfCaller 0 callers.old callers.new (λ before after. IsTried before 1 addr Read result after) }
+{
+    try_alone::<Brand>(space, &mut callers[0], addr, Blank::new(1))
+}
+
 /// One caller faults in one try while another one holds a span as a writer.
 fn try_counting<L: Ledger, R: Wait>(
     rt: &R,

@@ -4,8 +4,9 @@
 ghost use Rattle.std.specs.Prelude.{◌≡◌};
 ghost use Rattle.fault_trials.specs.Trials.{IsCrew};
 
-use crate::{Work, call_at, call_by, not_replacing, open_crew, replacing, work_all};
+use crate::{Work, call_at, call_by, not_replacing, open_crew, replacing, try_by, work_all};
 use area_rows::{Answer, Caller, Closed, Space};
+use page_fault::TriedFault;
 use page_types::{Call, Field, Kind, LIMIT, MapFlags, PAGE, Prot, Reply, Short, Why};
 use space_model::{Area, PlainSpace, Under, have_named_calls, have_named_kinds, legal};
 use std::alloc::Global;
@@ -272,6 +273,55 @@ fn a_change_may_leave_4096_rows_and_no_more(rt: HostRuntime) -> Result<(), Fail>
         unmap(end, PAGE, Reply::Zero),
     ];
     plays(&rt, rt.alloc(), &areas, &cases, &areas)
+}
+
+/// What a read of a page of that space answers.
+fn read_of(page: u64) -> Reply {
+    if !(16..4112).contains(&page) {
+        return Reply::Refused(Why::MapErr(page));
+    }
+    let prot = if page < 4109 && page % 2 == 0 {
+        Prot::READ
+    } else {
+        read_write()
+    };
+    Reply::Granted(Kind {
+        prot,
+        shared: false,
+    })
+}
+
+/// The first caller tries at each of these pages, and the answers are those of the space of 4096 rows.
+fn tries<R: Abort>(rt: &R, space: &Space, callers: &mut [Caller], pages: &[u64])
+    requires { IsCrew space.now.table space.now.seats callers.old }
+    ensures { IsCrew space.now.table space.now.seats callers.new }
+{
+    for &page in pages {
+        assert!(rt; page < LIMIT);
+        let TriedFault::Answered(entry) = try_by(space, callers, page * PAGE) else {
+            panic!(rt; "page {page} wasn't held");
+        };
+        assert_eq!(rt; entry.reply, read_of(page));
+    }
+}
+
+#[test]
+fn a_try_finds_its_page_among_4096_rows(rt: HostRuntime) -> Result<(), Fail> {
+    let alloc = rt.alloc();
+    let areas = full(alloc)?;
+    assert!(rt; have_named_kinds(&areas) && areas.len() == 4094);
+    let start = PlainSpace::of_areas(alloc, &areas)?;
+    let Ok((space, mut crew)) = open_crew(alloc, &[24], &start) else {
+        panic!(rt; "no space");
+    };
+    let first = [
+        16, 17, 18, 19, 20, 21, 22, 23, 24, 25, 26, 27, 28, 29, 30, 31,
+    ];
+    tries(&rt, &space, crew.as_mut_slice(), &first);
+    let others = [0, 15, 2063, 4108, 4109, 4111, 4112, LIMIT - 1];
+    tries(&rt, &space, crew.as_mut_slice(), &others);
+    closed_right(&rt, alloc, space, crew, &start, 24)?;
+    Ok(())
 }
 
 /// Callers with 500 calls each, of which the first ones do the work and the others read, each on a thread of its own.

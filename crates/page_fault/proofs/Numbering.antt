@@ -58,6 +58,7 @@ called_held b r n d e line call span reading same line_is call_is under named dr
         state = num.state;
         more = subst (StartsWith num.history) reading.seen num.more;
         runs = subst (λ (a : List Area). Runs 0 a num.history num.state) reading.start num.runs;
+        in_order = num.in_order;
         counted = num.counted;
         worker = num.worker ∙ reading.number;
         left = num.left;

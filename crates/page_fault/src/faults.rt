@@ -2,7 +2,6 @@
 //! isn't. A fault that its arguments decide holds nothing. What a reader may rely on is said by `IsAnswer` and
 //! `IsTried` (`specs/Faults.antt`); the replies are those of sigaction(2).
 ghost use Rattle.std.specs.Prelude.{◌≡◌, ◌<◌, ◌≤◌, ◌+◌, ◌*◌, Some, None};
-ghost use Rattle.page_types.specs.declared.TheConstants.{ROWS};
 ghost use Rattle.page_types.specs.declared.calls.Call.TheVariants.{Fault};
 ghost use Rattle.page_types.specs.PlainReply.{plain_reply};
 ghost use Rattle.area_rows.specs.History.{IsAtRest};
@@ -65,7 +64,8 @@ fn number_plain<L: Ledger>(
     space.call_plain(caller, line, Call::Fault { addr, access }, reply)
 }
 
-/// A fault whose page the caller holds: it reads the page's row, draws its number, and gives the page back.
+/// A fault whose page the caller holds: it reads the page's row, draws its number, and gives the page back, in at most
+/// 18 steps.
 fn number_held<L: Ledger>(
     space: &Space,
     caller: &mut Caller,
@@ -83,7 +83,7 @@ fn number_held<L: Ledger>(
     requires held { caller.old.seat.held ≡ Some (page_held addr) }
     requires rest { IsAtRest caller.old.seat.pass }
     ensures called { IsCalled (record caller.old { seat = record caller.old.seat { held = None } }) line (Fault addr access) result caller.new }
-    ensures bound { caller.new.seat.trace.taken ≤ caller.old.seat.trace.taken + (4 + ROWS) }
+    ensures bound { caller.new.seat.trace.taken ≤ caller.old.seat.trace.taken + 18 }
     ensures counted { steps.new + caller.old.seat.trace.taken ≡ steps.old + caller.new.seat.trace.taken }
 {
     let page = addr / PAGE;
@@ -145,7 +145,8 @@ pub fn fault<R: Wait>(
 
 /// The same with one try to hold the page, so that it waits for nobody.
 /// `NotHeld` comes only for a fault below `LIMIT`, and then as for a try of the one page as a reader; the caller has
-/// seen and numbered what it had. The bound on its steps is that of the try, one for each row and four more.
+/// seen and numbered what it had. It takes at most 18 steps more than the lock's try: at most 15 find the row, one
+/// draws the number, and one or two give the page back.
 pub fn try_fault<L: Ledger>(
     space: &Space,
     caller: &mut Caller,
@@ -157,7 +158,7 @@ pub fn try_fault<L: Ledger>(
     requires table { caller.old.seat.table ≡ space.now.table }
     requires free { caller.old.seat.held ≡ None }
     ensures answer { IsTried caller.old line addr access result caller.new }
-    ensures bound { caller.new.seat.trace.taken ≤ caller.old.seat.trace.taken + (68 + 386 * space.now.seats + ROWS) }
+    ensures bound { caller.new.seat.trace.taken ≤ caller.old.seat.trace.taken + (64 + 386 * space.now.seats) + 18 }
     ensures counted { steps.new + caller.old.seat.trace.taken ≡ steps.old + caller.new.seat.trace.taken }
 {
     if caller.left() == 0 {

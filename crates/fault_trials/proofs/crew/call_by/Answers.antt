@@ -2,7 +2,8 @@ use Rattle.std.proofs.Common.{rules, ◌≡◌, slice_index_or, sym, subst}
 use Rattle.std.specs.Prelude.{None}
 use Rattle.fault_trials.specs.Trials.{IsIdleAgain}
 use Rattle.area_rows.specs.Callers.{CallerView}
-use Rattle.fault_trials.proofs.Crews.{first_of, first_back, answer_back, first_answer, others_stay}
+use Rattle.area_rows.specs.Called.{IsAnswered}
+use Rattle.fault_trials.proofs.Crews.{first_of, first_back, answer_back, first_is, others_stay}
 use Rattle.fault_trials.proofs.crew.call_by.Goals as goal
 
 pub make_call-requires-clause-table : goal.make_call-requires-clause-table
@@ -28,6 +29,6 @@ returns g c =
     let back = answer_back (slice_index_or c.args.callers.now 0 d) c.make_call.new.caller c.args.line c.args.call c.make_call.result free c.make_call.ensures.answer in
     record {
       crew = first_back c.args.space.now.table c.args.space.now.seats c.args.callers.now d c.make_call.new.caller c.requires.crew is (subst (λ (v : CallerView). IsIdleAgain v c.make_call.new.caller) (sym is) back);
-      answer = first_answer c.args.callers.now d c.make_call.new.caller c.args.line c.args.call c.make_call.result c.make_call.ensures.answer;
+      answer = first_is c.args.callers.now d c.make_call.new.caller (λ before after. IsAnswered before c.args.line c.args.call c.make_call.result after) c.make_call.ensures.answer;
       others = others_stay c.args.callers.now c.make_call.new.caller;
     }

@@ -1,7 +1,9 @@
-use Rattle.std.proofs.Common.{rules, ap, ◌∙◌, refl}
+use Rattle.std.proofs.Common.{rules, ap, ◌∙◌, refl, subst}
 use Rattle.area_rows.specs.Keeping.{no_note}
+use Rattle.area_rows.specs.Halving.{IsOnSameSide}
+use Rattle.area_rows.specs.Reads.{IsHeldPage}
 use Rattle.area_rows.specs.Callers.{CallerView}
-use Rattle.area_rows.proofs.Stepping.{may_row, reads, reads_all}
+use Rattle.area_rows.proofs.Stepping.{may_row, reads, reads_all, reads_side}
 use Rattle.area_rows.proofs.space.Space.load_row.Goals as goal
 
 pub load-requires-clause-allowed : goal.load-requires-clause-allowed
@@ -22,3 +24,9 @@ pub returns-clause-whole : goal.returns-clause-whole
 returns-clause-whole c = λ all rows has.
     let s = c.caller.inside.seat in
     reads_all no_note s.number s.held s.pass c.load.result c.load.new.seat.pass c.args.index (ap (λ (v : CallerView). v.seat.held) c.caller.view_is ∙ all) (search rules) c.load.ensures.made c.load.new.seat.pass refl rows has
+
+pub returns-clause-side : goal.returns-clause-side
+returns-clause-side c = λ page here.
+    let s = c.caller.inside.seat in
+    subst (λ (v : CallerView). IsHeldPage v.seat.held page → IsOnSameSide v.seat.pass.rows c.args.index c.load.result page) c.caller.view_is
+    (reads_side no_note s.number s.held s.pass c.load.result c.load.new.seat.pass c.args.index c.load.ensures.made page) here

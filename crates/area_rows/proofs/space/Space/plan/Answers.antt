@@ -1,8 +1,8 @@
 use Rattle.std.proofs.Common.{ℕ, List, ◌∙◌, ap, sym, subst}
 use Rattle.range_rw.specs.Contract.{Known}
 use Rattle.area_rows.specs.declared.guard.Pass.{Pass}
-use Rattle.area_rows.specs.Rows.{areas_from}
-use Rattle.area_rows.specs.Plans.{IsPlan}
+use Rattle.row_plans.specs.RowLists.{areas_from}
+use Rattle.row_plans.specs.Plans.{IsPlan}
 use Rattle.area_rows.specs.Reads.{HasRows}
 use Rattle.area_rows.proofs.Wholes.{plan_shows}
 use Rattle.area_rows.proofs.space.Space.plan.Goals as goal

@@ -1,0 +1,43 @@
+use Rattle.std.proofs.Common.{rules, arith, ◌+◌, ◌-◌, ◌/◌, ap, ◌∙◌, refl, subst, sym}
+use Rattle.std.specs.Prelude.{Option}
+use Rattle.lock_core.specs.declared.range.Held.{Held}
+use Rattle.area_rows.specs.declared.guard.Pass.{Pass}
+use Rattle.area_rows.specs.Halving.{IsAmong}
+use Rattle.area_rows.specs.Reads.{IsHeldPage}
+use Rattle.area_rows.proofs.Halving.{all_rows, narrowed, halved}
+use Rattle.area_rows.proofs.Reading.{no_reading, reading_on, row_reads, step_taken}
+use Rattle.area_rows.proofs.space.Space.find_row.Goals as goal
+
+pub halve-init : goal.halve-init
+halve-init g c = record {
+  reading = no_reading c.args.caller.now.seat;
+  left = refl;
+  rows = search rules;
+  rest = c.requires.rest;
+  counted = refl;
+  count = c.requires.count;
+  among = all_rows c.args.caller.now.seat.pass.rows c.args.page c.args.count c.requires.some;
+  room = (12, let few = c.requires.few in omega arith, omega arith);
+}
+
+pub halve-preserved : goal.halve-preserved
+halve-preserved g c =
+    let i = c.halve.invariant in
+    let w = c.load_row-word.ensures in
+    let middle = c.halve.base + c.halve.size / 2 in
+    let seat = c.halve.caller.seat in
+    let new = c.load_row-word.new.caller.seat in
+    let taken = step_taken seat new _ _ w.step in
+    let half = halved c.halve.size i.room.0 c.halve-test.true i.room.1 in
+    let side = w.side c.args.page (subst (λ (h : Option Held). IsHeldPage h c.args.page) (sym i.reading.held) c.requires.held) in
+    record {
+      reading = reading_on c.args.caller.now.seat seat new i.reading (row_reads seat new middle c.load_row-word.result w.step);
+      left = w.left ∙ i.left;
+      rows = search rules;
+      rest = ap (λ (p : Pass). p.pending) w.step.pass ∙ i.rest;
+      counted = let t = c.tick.ensures in let b = i.counted in omega arith;
+      count = ap (λ (p : Pass). p.count) w.step.pass ∙ i.count;
+      among = subst (λ (p : Pass). IsAmong p.rows c.args.page c.args.count c.go_on-base.result (c.halve.size - c.halve.size / 2)) (sym w.step.pass)
+          (narrowed seat.pass.rows c.args.page c.args.count c.halve.base c.halve.size c.load_row-word.result c.read_row-start.result.0 c.go_on-base.result i.among c.halve-test.true side c.read_row-start.ensures.start c.go_on-base.ensures.upper c.go_on-base.ensures.lower);
+      room = (half.0, half.2, let b = i.room.2 in let e = half.1 in omega arith);
+    }

@@ -1,0 +1,21 @@
+use Rattle.std.proofs.Common.{ℕ, ◌≡◌, ◌+◌, ◌^◌, ◌≤◌}
+use Rattle.std.specs.Prelude.{Some}
+use Rattle.area_rows.specs.Halving.{IsAmong}
+use Rattle.area_rows.specs.History.{IsAtRest}
+use Rattle.area_rows.specs.Callers.{HasSameRows, IsReading}
+use Rattle.area_rows.proofs.space.Space.find_row.Given as goal
+
+abbrev pub invariant-halve : goal.invariant-halve
+invariant-halve g l = record {
+  reading : IsReading l.initial.caller.seat l.caller.seat;
+  left : l.caller.left ≡ l.initial.caller.left;
+  rows : HasSameRows l.initial.caller l.caller;
+  rest : IsAtRest l.caller.seat.pass;
+  counted : l.steps + l.initial.caller.seat.trace.taken ≡ l.initial.steps + l.caller.seat.trace.taken;
+  count : l.caller.seat.pass.count ≡ Some l.count;
+  among : IsAmong l.caller.seat.pass.rows l.page l.count l.base l.size;
+  room : (k : ℕ) × (l.size ≤ 2 ^ k) × (l.caller.seat.trace.taken + k ≤ l.initial.caller.seat.trace.taken + 12);
+}
+
+abbrev pub decreases-halve : goal.decreases-halve
+decreases-halve g l = l.size

@@ -1,0 +1,28 @@
+-- How far a search by halving has come to the row of a held page. Its loads are made at different moments, and others
+-- may move rows between them; but a row that was read on one side of a held page stays on that side (`side` of
+-- `StillStands`). So the search rests on two rows that were read, one on each side, and no two rows need have been read
+-- at one moment. The definitions are this project's own; nobody but the search of `row_of` speaks of them.
+use Rattle.std.specs.Prelude.{ℕ, ◌≡◌, ◌<◌, ◌≤◌, ◌+◌, ◌⊎◌, ◌↔◌, List}
+use Rattle.area_rows.specs.declared.guard.ReadRow.{ReadRow}
+use Rattle.row_plans.specs.RowWords.{row_start}
+use Rattle.area_rows.specs.Reads.{HasRead}
+
+-- the word of a row starts on the same side of the page as each word that was read of that row before
+abbrev pub IsOnSameSide : List ReadRow → ℕ → ℕ → ℕ → Type 0
+IsOnSameSide rows index word page = (old : ℕ) → HasRead rows index old → (row_start old ≤ page) ↔ (row_start word ≤ page)
+
+-- a row starts at or before the page: it is the first one, or was read so
+abbrev pub StartsUpTo : List ReadRow → ℕ → ℕ → Type 0
+StartsUpTo rows page index = (index ≡ 0) ⊎ ((word : ℕ) × HasRead rows index word × (row_start word ≤ page))
+
+-- a row starts behind the page: there is none of that number, or it was read so
+abbrev pub StartsBehind : List ReadRow → ℕ → ℕ → ℕ → Type 0
+StartsBehind rows page count index = (index ≡ count) ⊎ ((word : ℕ) × HasRead rows index word × (page < row_start word))
+
+-- the row of the page is one of so many from a base on. The base starts at or before the page; the first row after
+-- them, or the last one of them, starts behind it
+pub record IsAmong (rows : List ReadRow) (page count base size : ℕ) : Type 0 where
+  pub some : 0 < size
+  pub there : base + size ≤ count
+  pub from : StartsUpTo rows page base
+  pub behind : (next : ℕ) × (base < next) × (next ≤ base + size) × (base + size ≤ next + 1) × StartsBehind rows page count next

@@ -1,0 +1,171 @@
+//! The plan of a change of protection over the area that its caller holds, as `plan` is that of a call under
+//! everything. Four ways leave the number of rows as it is: nothing changes, the whole area changes, its first pages go
+//! to the area before it, or its last pages to the area behind it. This is the speculative mprotect of Kogan, Dice and
+//! Issa, EuroSys 2020; a reader may rely on `IsAreaPlan` (`specs/AreaPlans.antt`).
+ghost use Rattle.std.specs.Prelude.{◌≡◌, ◌<◌, ◌≤◌, ◌+◌, IsSome, None, Some};
+ghost use Rattle.page_types.specs.declared.TheConstants.{LIMIT, ROWS};
+ghost use Rattle.page_types.specs.declared.calls.Call.TheVariants.{Protect};
+ghost use Rattle.page_types.specs.Named.{IsNamedCall, IsNamedKind};
+ghost use Rattle.page_types.specs.Pages.{page_of, end_page};
+ghost use Rattle.page_types.specs.PlainReply.{plain_reply};
+ghost use Rattle.area_rows.specs.Changes.{alone, IsRound};
+ghost use Rattle.area_rows.specs.History.{IsAtRest};
+ghost use Rattle.area_rows.specs.Callers.{IsAsRead, IsReadBefore, IsReadBehind, IsReading, RowIs, Shows};
+ghost use Rattle.area_rows.specs.AreaPlans.{IsChosen, IsAreaPlan, planned_change};
+
+use crate::guard::Change;
+use crate::row::Row;
+use crate::space::{Caller, Space};
+use page_types::{Kind, Prot, Span};
+use row_plans::read_row;
+
+/// What a change of protection over the area that its caller holds comes to.
+#[derive(Clone, Copy, Debug, PartialEq, Eq)]
+pub enum AreaPlan {
+    /// It would leave another number of rows, so it has to hold all pages.
+    NotSimple,
+    /// It changes nothing.
+    Same,
+    /// The whole area gets another kind: `set_kind` writes it.
+    SetKind(Change),
+    /// A boundary of the area moves: `move_start` writes it.
+    MoveStart(Change),
+}
+
+/// The row that a plan changes.
+fn change_in(plan: AreaPlan) -> Option<Change>
+    ensures { result ≡ planned_change plan }
+{
+    match plan {
+        AreaPlan::SetKind(change) | AreaPlan::MoveStart(change) => Some(change),
+        AreaPlan::NotSimple | AreaPlan::Same => None,
+    }
+}
+
+/// Which of the four ways it is, by the kinds of the page before the row and of the page behind it, None where there is
+/// none. `change` has the pages of the call, which lie in the row, and their kinds, and names the row as if it changed
+/// whole.
+fn choose(row: &Row, change: Change, before: Option<Kind>, behind: Option<Kind>) -> AreaPlan
+    requires index { row.now.index < ROWS }
+    requires from { row.now.lo ≤ change.place.lo }
+    requires until { change.place.hi ≤ row.now.hi }
+    requires at { (change.index ≡ row.now.index) × (change.start ≡ row.now.lo) × (change.kind ≡ change.new) }
+    ensures { IsChosen row.now change before behind result }
+{
+    let new = change.new;
+    if new == change.old {
+        return AreaPlan::Same;
+    }
+    let place = change.place;
+    if place.lo == row.lo && place.hi == row.hi {
+        if before == Some(new) || behind == Some(new) {
+            return AreaPlan::NotSimple;
+        }
+        return AreaPlan::SetKind(change);
+    }
+    if place.lo == row.lo && before == Some(new) {
+        return AreaPlan::MoveStart(Change {
+            start: place.hi,
+            kind: change.old,
+            ..change
+        });
+    }
+    if place.hi == row.hi && behind == Some(new) {
+        return AreaPlan::MoveStart(Change {
+            index: row.index + 1,
+            start: place.lo,
+            ..change
+        });
+    }
+    AreaPlan::NotSimple
+}
+
+impl Space {
+    /// The kind of the row before this one, or None before the first row.
+    fn kind_before(&self, caller: &mut Caller, index: u32) -> Option<Kind>
+        requires table { caller.old.seat.table ≡ self.now.table }
+        requires held { IsSome caller.old.seat.held }
+        requires rest { IsAtRest caller.old.seat.pass }
+        requires index { index < ROWS }
+        ensures read { IsReadBefore caller.new.seat.pass.rows index result }
+        ensures reading { IsReading caller.old.seat caller.new.seat }
+        ensures left { caller.new.left ≡ caller.old.left }
+    {
+        if index == 0 {
+            return None;
+        }
+        let (_, kind) = read_row(self.load_row(caller, index - 1));
+        kind
+    }
+
+    /// The kind of the row behind this one, or None behind the last of `count` rows.
+    fn kind_behind(&self, caller: &mut Caller, index: u32, count: u64) -> Option<Kind>
+        requires table { caller.old.seat.table ≡ self.now.table }
+        requires held { IsSome caller.old.seat.held }
+        requires rest { IsAtRest caller.old.seat.pass }
+        requires index { index < count }
+        requires few { count ≤ ROWS }
+        ensures read { IsReadBehind caller.new.seat.pass.rows count index result }
+        ensures reading { IsReading caller.old.seat caller.new.seat }
+        ensures left { caller.new.left ≡ caller.old.left }
+    {
+        if index as u64 + 1 == count {
+            return None;
+        }
+        let (_, kind) = read_row(self.load_row(caller, index + 1));
+        kind
+    }
+
+    /// Plans a Protect of pages that lie in one area: whether it leaves the number of rows as it is, and which row it
+    /// changes, which goes into the caller's own room. The caller is of this space, has read the area's row under the
+    /// range that it holds, which is the area and a page on each side as a writer, and has written what it has
+    /// numbered. The plan is right until the caller draws a number or gives the range back. It takes no memory.
+    pub fn plan_area(
+        &self,
+        caller: &mut Caller,
+        addr: u64,
+        len: u64,
+        prot: Prot,
+        row: &Row,
+        kind: Kind,
+        span: Span,
+    ) -> AreaPlan
+        requires table { caller.old.seat.table ≡ self.now.table }
+        requires held { caller.old.seat.held ≡ Some (alone span) }
+        requires round { IsRound row.now span }
+        requires rest { IsAtRest caller.old.seat.pass }
+        requires named { IsNamedCall (Protect addr len prot) }
+        requires undecided { plain_reply (Protect addr len prot) ≡ None }
+        requires kind { row.now.kind ≡ Some kind }
+        requires named_kind { IsNamedKind kind }
+        requires from { row.now.lo ≤ page_of addr }
+        requires until { end_page addr len ≤ row.now.hi }
+        requires limit { row.now.hi ≤ LIMIT }
+        requires read { IsAsRead caller.old.seat.pass row.now }
+        requires shows { Shows caller.old.seat (RowIs caller.old.seat.held (page_of addr) row.now) }
+        ensures plan { IsAreaPlan caller.new (Protect addr len prot) span (page_of addr) (end_page addr len) result }
+        ensures reading { IsReading caller.old.seat caller.new.seat }
+        ensures left { caller.new.left ≡ caller.old.left }
+    {
+        caller.holds_pages();
+        let count = self.load_count(caller);
+        let before = self.kind_before(caller, row.index);
+        let behind = self.kind_behind(caller, row.index, count);
+        let new = Kind {
+            prot,
+            shared: kind.shared,
+        };
+        let change = Change {
+            index: row.index,
+            start: row.lo,
+            kind: new,
+            span,
+            place: Span::of_valid(addr, len),
+            old: kind,
+            new,
+        };
+        let plan = choose(row, change, before, behind);
+        caller.change = change_in(plan);
+        plan
+    }
+}

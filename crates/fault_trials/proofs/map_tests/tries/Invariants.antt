@@ -1,0 +1,5 @@
+use Rattle.fault_trials.specs.Trials.{IsCrew}
+use Rattle.fault_trials.proofs.map_tests.tries.Given as goal
+
+abbrev pub invariant-loop-page : goal.invariant-loop-page
+invariant-loop-page g l = IsCrew l.space.table l.space.seats l.callers

@@ -1,0 +1,30 @@
+-- A row word reads back as the row that it was written for.
+use Rattle.std.proofs.Common.{◌≡◌, ℕ, ◌+◌, ◌*◌, ◌/◌, ◌%◌, ◌<◌, eqb, true, false, Bool, cond, arith}
+use Rattle.std.specs.Prelude.{Option, Some, None}
+use Rattle.page_types.specs.declared.calls.Kind.{Kind}
+use Rattle.page_types.specs.Sets.{prot_bits}
+use Rattle.page_types.specs.Named.{IsNamedOption}
+use Rattle.row_plans.specs.RowWords.{row_start, row_kind, row_word}
+
+start_bits : (start prot : ℕ) (shared : Bool) → prot < 8 → (start * 32 + (16 + cond shared 8 0 + prot)) / 32 ≡ start
+start_bits start prot true named = omega arith
+start_bits start prot false named = omega arith
+
+pub start_back : (start : ℕ) (kind : Option Kind) → IsNamedOption kind → row_start (row_word start kind) ≡ start
+start_back start None named = omega arith
+start_back start (Some kind) named = start_bits start (prot_bits kind.prot) kind.shared named
+
+-- the kind that the low five bits say
+abbrev said : ℕ → ℕ → ℕ → Option Kind
+said mapped shared prot = cond (eqb mapped 1) (Some (record { prot = record { 0 = prot }; shared = eqb shared 1 })) None
+
+said_is : (m s p m' s' p' : ℕ) → m ≡ m' → s ≡ s' → p ≡ p' → said m s p ≡ said m' s' p'
+said_is m s p m' s' p' a b c = λ i. said (a i) (b i) (c i)
+
+said_kind : (start prot : ℕ) (shared : Bool) → prot < 8 → row_kind (start * 32 + (16 + cond shared 8 0 + prot)) ≡ Some (record { prot = record { 0 = prot }; shared = shared })
+said_kind start prot true named = let w = start * 32 + (16 + 8 + prot) in said_is (w / 16 % 2) (w / 8 % 2) (w % 8) 1 1 prot (omega arith) (omega arith) (omega arith)
+said_kind start prot false named = let w = start * 32 + (16 + 0 + prot) in said_is (w / 16 % 2) (w / 8 % 2) (w % 8) 1 0 prot (omega arith) (omega arith) (omega arith)
+
+pub kind_back : (start : ℕ) (kind : Option Kind) → IsNamedOption kind → row_kind (row_word start kind) ≡ kind
+kind_back start None named = let w = start * 32 + 0 in said_is (w / 16 % 2) (w / 8 % 2) (w % 8) 0 0 0 (omega arith) (omega arith) (omega arith)
+kind_back start (Some kind) named = said_kind start (prot_bits kind.prot) kind.shared named

@@ -1,0 +1,13 @@
+use Rattle.std.proofs.Common.{ℕ, ◌-◌, drop, length}
+use Rattle.std.specs.Prelude.{Option}
+use Rattle.page_types.specs.declared.calls.Kind.{Kind}
+use Rattle.row_plans.specs.RowLists.{rows_start, ShowFrom}
+use Rattle.row_plans.specs.Planning.{NoneSuch}
+use Rattle.row_plans.proofs.places.lowest_such.Given as goal
+
+-- no page before the next row is so
+abbrev pub invariant-rows : goal.invariant-rows
+invariant-rows l = (kinds : ℕ → Option Kind) → ShowFrom 0 l.rows kinds → NoneSuch kinds l.mapped l.lo (rows_start (drop l.i l.rows))
+
+abbrev pub decreases-rows : goal.decreases-rows
+decreases-rows l = length l.rows - l.i

@@ -1,0 +1,4 @@
+pub mod RowWords
+pub mod RowLists
+pub mod Plans
+pub mod Planning

@@ -1,0 +1,81 @@
+//! The plan of a call that changes the address space: its reply and the rows that it leaves, from the rows as they were
+//! read, before any word is stored. It is what `PlainSpace::step` of `space_model` answers on the areas of these rows,
+//! after mmap(2), munmap(2) and mprotect(2). A reader may rely on that, and on no memory being taken.
+ghost use Rattle.std.specs.Prelude.{◌≡◌, ◌≤◌, ◌<◌, ◌+◌, None, [], length, vec_capacity};
+ghost use Rattle.page_types.specs.declared.TheConstants.{ROWS};
+ghost use Rattle.page_types.specs.Named.{IsNamedCall};
+ghost use Rattle.page_types.specs.PlainReply.{plain_reply};
+ghost use Rattle.space_model.specs.Answers.{IsPlace};
+ghost use Rattle.row_plans.specs.RowLists.{areas_from};
+ghost use Rattle.row_plans.specs.Plans.{IsFault};
+ghost use Rattle.row_plans.specs.Plans.{IsRowList, planned_rows, IsPlan};
+
+use crate::places::place_of;
+use crate::planning::change_rows;
+use page_types::{Call, ROWS, Reply, Short, Span, Why, plain};
+use space_model::done_reply;
+
+/// What a call answers, and how many rows the address space has after it.
+#[derive(Clone, Copy, Debug, PartialEq, Eq)]
+pub struct Planned {
+    /// The reply.
+    pub reply: Reply,
+    /// The number of rows that the call leaves: areas, and gaps between 0 and `LIMIT`.
+    pub rows: u32,
+}
+
+/// The plan of a call that changes nothing: no row is put together for it.
+fn unchanged(old: &[u64], reply: Reply, new: &mut Vec<u64>) -> Planned
+    requires few { length old.now ≤ ROWS }
+    ensures reply { result.reply ≡ reply }
+    ensures rows { result.rows ≡ length old.now }
+    ensures none { new.new.items ≡ [] }
+    ensures room { vec_capacity new.old ≤ vec_capacity new.new }
+{
+    new.clear();
+    Planned {
+        reply,
+        rows: old.len() as u32,
+    }
+}
+
+/// The plan of a call whose place is these pages: their change, unless the result would have more than `ROWS` rows.
+fn changed(old: &[u64], call: &Call, place: Span, new: &mut Vec<u64>) -> Planned
+    requires old { IsRowList old.now }
+    requires named { IsNamedCall call.now }
+    requires undecided { plain_reply call.now ≡ None }
+    requires place { IsPlace (areas_from old.now) call.now place.lo place.hi }
+    requires room { ROWS + 2 ≤ vec_capacity new.old }
+    ensures plan { IsPlan call.now result.reply result.rows (planned_rows old.now new.new.items) (areas_from old.now) }
+    ensures room { vec_capacity new.old ≤ vec_capacity new.new }
+{
+    change_rows(old, call, place, new);
+    let rows = new.len() as u32;
+    if rows as usize > ROWS {
+        return unchanged(old, Reply::Refused(Why::Enomem(Short::Rows(rows))), new);
+    }
+    Planned {
+        reply: done_reply(call, place.lo),
+        rows,
+    }
+}
+
+/// The plan of a call that is no fault, on rows as they were read. `new` gets the rows that the call leaves, or none
+/// where the call is refused or its arguments decide it: then they are those of `old`, and nothing is copied. It takes
+/// no memory: `new` has room for `ROWS + 2` rows.
+pub fn plan_rows(old: &[u64], call: &Call, new: &mut Vec<u64>) -> Planned
+    requires old { IsRowList old.now }
+    requires call { ¬ IsFault call.now }
+    requires named { IsNamedCall call.now }
+    requires room { ROWS + 2 ≤ vec_capacity new.old }
+    ensures plan { IsPlan call.now result.reply result.rows (planned_rows old.now new.new.items) (areas_from old.now) }
+    ensures room { vec_capacity new.old ≤ vec_capacity new.new }
+{
+    if let Some(reply) = plain(call) {
+        return unchanged(old, reply, new);
+    }
+    match place_of(old, call) {
+        Ok(place) => changed(old, call, place, new),
+        Err(why) => unchanged(old, Reply::Refused(why), new),
+    }
+}
