@@ -77,4 +77,12 @@ impl AreaMap {
             None
         }
     }
+
+    /// Gives the area that begins at page `lo` a protection, if there is one.
+    pub fn protect<R: Wait>(&self, wait: &R, lo: u64, prot: Prot) {
+        let mut areas = self.areas.write(wait);
+        if let Some(area) = areas.get_mut(&lo) {
+            area.kind.prot = prot;
+        }
+    }
 }

@@ -1,6 +1,7 @@
 //! Measures what a page fault costs: by one caller that nobody hinders, beside a lookup of the page in a `BTreeMap` of
 //! areas under an `RwLock` of std in the same run, and by callers on threads that fault on the same four pages. And
 //! what a map, an unmap and a protect under everything cost, beside the same change of a `BTreeMap` under a `Mutex`.
+//! And what protects over one area and faults cost that callers make on areas of their own, beside the same on a map.
 //! Each figure is the least of many rounds, so that other work on the machine counts little. Beside that of a fault is
 //! that of the first round: a space reserves memory for its entries without touching it, so the first faults pay for
 //! it. Figures go to standard error, since they differ from run to run; standard output says only how much was
@@ -12,6 +13,7 @@ mod changes;
 mod crowd;
 mod locked;
 mod plans;
+mod protects;
 mod rounds;
 mod size;
 
@@ -22,6 +24,7 @@ use crowd::times_of_crowd;
 use locked::LockedMap;
 use page_types::PAGE;
 use plans::least_of_plans;
+use protects::{least_of_map_own, least_of_own, own_areas};
 use rounds::{least_of_lookups, times_of_faults};
 use size::Size;
 use space_model::{PlainSpace, have_named_kinds};
@@ -42,6 +45,7 @@ fn main(rt: HostRuntime) -> Result<()> {
         measure_alone(&rt, rt.alloc(), size, count)?;
     }
     measure_crowds(&rt, rt.alloc(), size)?;
+    measure_own(&rt, rt.alloc(), size)?;
     for rows in [33u32, 127, 4000] {
         measure_changes(&rt, rt.alloc(), size, rows)?;
     }
@@ -98,6 +102,30 @@ fn measure_crowds<R: Threads + Wait + Sync + Clock + Eprint>(
             size.each(times.first) / crew.max(1)
         )?;
     }
+    Ok(())
+}
+
+/// Protects and ten times as many faults of callers on threads, each on an area of its own, and the same on a map.
+fn measure_own<R: Threads + Wait + Sync + Clock + Eprint>(
+    rt: &R,
+    alloc: Global,
+    size: Size,
+) -> Result<()> {
+    let list = own_areas(alloc)?;
+    ensure!(
+        have_named_kinds(&list) && list.len() < 1 << 30,
+        "no area list"
+    );
+    let start = PlainSpace::of_areas(alloc, &list)?;
+    let map = AreaMap::of(alloc, &list)?;
+    let space = least_of_own(rt, size, alloc, &start)?;
+    let locked = least_of_map_own(rt, size, &map)?;
+    let percent = space.saturating_mul(100) / locked.max(1);
+    eprintln!(rt;
+        "4 callers on areas of their own: a protect and ten faults of each take {} ns, {percent} percent of the same with a BTreeMap under an RwLock ({} ns)",
+        size.each(space),
+        size.each(locked)
+    )?;
     Ok(())
 }
 

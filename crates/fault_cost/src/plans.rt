@@ -2,7 +2,8 @@
 //! again, and numbers none.
 ghost use Rattle.std.specs.Prelude.{◌≡◌, ◌<◌, ◌^◌, Some};
 ghost use Rattle.page_types.specs.Named.{IsNamedCall};
-ghost use Rattle.area_rows.specs.History.{IsFault, IsAtRest};
+ghost use Rattle.row_plans.specs.Plans.{IsFault};
+ghost use Rattle.area_rows.specs.History.{IsAtRest};
 ghost use Rattle.area_rows.specs.Reads.{everything};
 ghost use Rattle.fault_cost.specs.Ready.{IsReady};
 

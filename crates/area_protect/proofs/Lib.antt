@@ -1,0 +1,4 @@
+pub mod Looking
+pub mod Stages
+pub mod Lone
+pub mod Newcomers

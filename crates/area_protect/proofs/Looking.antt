@@ -1,0 +1,200 @@
+-- What a look has shown of the history stays so of what the caller sees later, and looks and a call after them are one
+-- call.
+use Rattle.std.proofs.Common.{◌≡◌, ◌≢◌, ℕ, ◌+◌, ◌<◌, ◌≤◌, List, [], ◌∷◌, ◌++◌, take, length, sym, refl, ap, ◌∙◌, subst, arith, inl, inr, length-append, append_assoc}
+use Rattle.std.proofs.lemmas.Bool.{cases_lt}
+use Rattle.std.proofs.lemmas.List.{append-nil, take_all, take-append-le}
+use Rattle.std.specs.Prelude.{None}
+use Rattle.page_types.specs.declared.calls.Call.{Call}
+use Rattle.page_types.specs.declared.calls.Call.TheVariants.{Protect}
+use Rattle.page_types.specs.Pages.{page_of, end_page}
+use Rattle.space_model.specs.declared.areas.Area.{Area}
+use Rattle.space_model.specs.declared.entries.Entry.{Entry}
+use Rattle.space_model.specs.History.{StateAfter}
+use Rattle.range_rw.specs.Contract.{Known}
+use Rattle.area_rows.specs.declared.guard.Pass.{Pass}
+use Rattle.area_rows.specs.AreaPlans.{IsOneKind}
+use Rattle.area_rows.specs.History.{Runs, StartsWith, whole_count, planned_calls, IsAtRest}
+use Rattle.area_rows.specs.Callers.{CallerView, CountsWhole, IsLook, Shows}
+use Rattle.area_rows.specs.Called.{IsCalled}
+use Rattle.area_rows.proofs.Storing.{all_legal}
+use Rattle.area_protect.specs.declared.path.Cause.{Cause}
+use Rattle.area_protect.specs.declared.path.Cause.TheVariants.{NotOneArea, NotSimple, Moved}
+use Rattle.area_protect.specs.declared.steps.Attempt.{Attempt}
+use Rattle.area_protect.specs.declared.steps.Attempt.TheVariants.{Done, Again, Whole}
+use Rattle.area_protect.specs.declared.steps.Request.{Request}
+use Rattle.area_protect.specs.Looks.{IsAfter, HasWhole, HasLooked, IsLookedAt}
+use Rattle.area_protect.specs.Protects.{HasCause}
+use Rattle.area_protect.specs.Attempts.{IsReason, IsChanged, IsAttempt, CallIs, NeedsMoreRows}
+
+-- beginnings of beginnings
+pub begins_on : (a b c : List Entry) → StartsWith b a → StartsWith c b → StartsWith c a
+begins_on a b c f g = (f.0 ++ g.0, g.1 ∙ (ap (λ l. l ++ g.0) f.1 ∙ append_assoc a f.0 g.0))
+
+pub longer : (a b : List Entry) → StartsWith b a → length a ≤ length b
+longer a b f = let e : length b ≡ length a + length f.0 = ap length f.1 ∙ length-append a f.0 in omega arith
+
+-- the first entries of a beginning are those of the whole
+same_first : (a b : List Entry) (m : ℕ) → StartsWith b a → m ≤ length a → take m b ≡ take m a
+same_first a b m f le = ap (take m) f.1 ∙ take-append-le m a f.0 le
+
+-- what was so after so many entries is so of what is seen later
+pub after_on : (a b : Known Pass) (m : ℕ) (what : List Area → Type 0) → b.pass.start ≡ a.pass.start → StartsWith b.pass.seen a.pass.seen → m ≤ length a.pass.seen → IsAfter a m what → IsAfter b m what
+after_on a b m what start more le t = (t.0, subst (λ (z : List Area × List Entry). StateAfter z.0 z.1 t.0) (λ i. (sym start i, sym (same_first a.pass.seen b.pass.seen m more le) i)) t.1, t.2)
+
+pub whole_on : (a b : Known Pass) (m n : ℕ) → StartsWith b.pass.seen a.pass.seen → m ≤ length a.pass.seen → HasWhole a m n → HasWhole b m n
+whole_on a b m n more le t = ap whole_count (same_first a.pass.seen b.pass.seen m more le) ∙ t
+
+-- looks, one after another
+pub looked_on : (a b c : CallerView) → HasLooked a b → HasLooked b c → HasLooked a c
+looked_on a b c f g = record {
+  table = g.table ∙ f.table;
+  number = g.number ∙ f.number;
+  start = g.start ∙ f.start;
+  mine = g.mine ∙ f.mine;
+  more = begins_on a.seat.pass.seen b.seat.pass.seen c.seat.pass.seen f.more g.more;
+  rest = g.rest;
+  taken = let l = f.taken in let m = g.taken in omega arith;
+  left = g.left ∙ f.left;
+}
+
+-- a look shows the state after so many entries, and how many of them are under everything
+pub look_shows : (s u : Known Pass) (found : ℕ) (what : List Area → Type 0) → IsLook s found u → Shows s (λ _ state. what state) → IsAfter u found what
+look_shows s u found what look shows =
+    let all : take found u.pass.seen ≡ u.pass.seen = take_all found u.pass.seen (let c = look.count in omega arith) in
+    let run : StateAfter s.pass.start u.pass.seen look.state = (all_legal s.pass.start look.state u.pass.seen look.moment.running.runs).1 in
+    let start : u.pass.start ≡ s.pass.start = ap (λ (p : Pass). p.start) look.step.pass in (
+      look.state,
+      subst (λ (z : List Area × List Entry). StateAfter z.0 z.1 look.state) (λ i. (sym start i, sym all i)) run,
+      shows s.pass.start u.pass.seen look.state look.words look.moment,
+    )
+
+pub look_counts : (s u : Known Pass) (found n : ℕ) → IsLook s found u → IsAtRest s.pass → CountsWhole s n → HasWhole u found n
+look_counts s u found n look rest counts =
+    let all : take found u.pass.seen ≡ u.pass.seen = take_all found u.pass.seen (let c = look.count in omega arith) in
+    let c : n + planned_calls s.pass.pending ≡ whole_count u.pass.seen = counts s.pass.start u.pass.seen look.state look.words look.moment in
+    let none : planned_calls s.pass.pending ≡ 0 = ap planned_calls rest in
+    ap whole_count all ∙ (let e : whole_count u.pass.seen ≡ n = omega arith in e)
+
+-- two different counts are of different lengths
+pub rises : (s : Known Pass) (first second old new : ℕ) → first ≤ second → HasWhole s first old → HasWhole s second new → old ≢ new → first < second
+rises s first second old new le f g differ = elim (cases_lt first second) [
+  | inl lt ↦ lt
+  | inr ge ↦ let same : first ≡ second = omega arith in absurd (differ (sym f ∙ (ap (λ m. whole_count (take m s.pass.seen)) same ∙ g)))
+]
+
+-- a call after looks is a call from before them
+pub called_after : (a b c : CallerView) (line : ℕ) (call : Call) (e : Entry) → HasLooked a b → b.seat.held ≡ a.seat.held → IsCalled b line call e c → IsCalled a line call e c
+called_after a b c line call e look held called =
+    let num = called.numbered in
+    record {
+      line_is = called.line_is;
+      call_is = called.call_is;
+      named = called.named;
+      numbered = record {
+        history = num.history;
+        state = num.state;
+        more = begins_on a.seat.pass.seen b.seat.pass.seen num.history look.more num.more;
+        runs = subst (λ (l : List Area). Runs 0 l num.history num.state) look.start num.runs;
+        in_order = num.in_order;
+        counted = num.counted;
+        worker = num.worker ∙ look.number;
+        left = num.left;
+        right = num.right;
+        seen = num.seen;
+        mine = num.mine ∙ ap (λ (l : List Entry). l ++ e ∷ []) look.mine;
+        drew = num.drew;
+        start = num.start ∙ look.start;
+        table = num.table ∙ look.table;
+        number = num.number ∙ look.number;
+        held = num.held ∙ held;
+      };
+      last = record {
+        place = called.last.place;
+        step = called.last.step;
+        word = called.last.word;
+        client = called.last.client;
+        since = let l = look.taken in let m = called.last.since in omega arith;
+        until = called.last.until;
+      };
+      written = called.written;
+      left = called.left ∙ look.left;
+    }
+
+-- what the caller had seen is seen still behind its entry
+pub seen_on : (a b : CallerView) (line : ℕ) (call : Call) (e : Entry) → IsCalled a line call e b → StartsWith b.seat.pass.seen a.seat.pass.seen × (length a.seat.pass.seen ≤ e.number)
+seen_on a b line call e called =
+    let num = called.numbered in
+    let more : StartsWith b.seat.pass.seen num.history = (e ∷ [], num.seen) in
+    (begins_on a.seat.pass.seen num.history b.seat.pass.seen num.more more, let l = longer a.seat.pass.seen num.history num.more in let c = num.counted in omega arith)
+
+-- the reason of an attempt is the cause of the call that follows
+pub cause_of : (a b c : CallerView) (r : Request) (line : ℕ) (e : Entry) (cause : Cause) → HasLooked a b → IsReason a r b cause → IsCalled b line (Protect r.addr r.len r.prot) e c → HasCause a.seat (Protect r.addr r.len r.prot) (page_of r.addr) (end_page r.addr r.len) e c.seat cause
+cause_of a b c r line e (NotOneArea at) look reason called =
+    let s = seen_on b c line (Protect r.addr r.len r.prot) e called in
+    ((reason.0.0, (let h = reason.0.1 in let l = s.1 in omega arith)), after_on b.seat c.seat at _ called.numbered.start s.0 reason.0.1 reason.1)
+cause_of a b c r line e (NotSimple at) look reason called =
+    let s = seen_on b c line (Protect r.addr r.len r.prot) e called in
+    ((reason.0.0, (let h = reason.0.1 in let l = s.1 in omega arith)), after_on b.seat c.seat at _ called.numbered.start s.0 reason.0.1 reason.1)
+cause_of a b c r line e (Moved first second old new) look reason called =
+    let s = seen_on b c line (Protect r.addr r.len r.prot) e called in (
+      (reason.0.0, (let h = reason.0.1 in let l = s.1 in omega arith)),
+      (reason.1.0, (let h = reason.1.1 in let l = s.1 in omega arith)),
+      reason.2,
+      whole_on b.seat c.seat first old s.0 reason.0.1 reason.3,
+      whole_on b.seat c.seat second new s.0 reason.1.1 reason.4,
+      reason.5,
+    )
+
+-- what was met between two looks was met between looks round them
+pub at_more : (a b c : CallerView) (m : ℕ) → IsLookedAt a.seat m b.seat → HasLooked b c → IsLookedAt a.seat m c.seat
+at_more a b c m at look = (at.0, (let l = longer b.seat.pass.seen c.seat.pass.seen look.more in let h = at.1 in omega arith))
+
+pub at_since : (a b c : CallerView) (m : ℕ) → HasLooked a b → IsLookedAt b.seat m c.seat → IsLookedAt a.seat m c.seat
+at_since a b c m look at = ((let l = longer a.seat.pass.seen b.seat.pass.seen look.more in let h = at.0 in omega arith), at.1)
+
+-- a call under everything came between the first look and the second
+pub moved_between : (a b c : CallerView) (r : Request) (first second old new : ℕ) → HasLooked a b → HasLooked b c → IsLookedAt a.seat first b.seat → HasWhole b.seat first old → IsLookedAt b.seat second c.seat → HasWhole c.seat second new → (new ≡ old → ⊥) → IsReason a r c (Moved first second old new)
+moved_between a b c r first second old new look next at_first of_first at_second of_second differ =
+    let now : HasWhole c.seat first old = whole_on b.seat c.seat first old next.more at_first.1 of_first in
+    let later : first ≤ second = (let h = at_first.1 in let l = at_second.0 in omega arith) in (
+      at_more a b c first at_first next,
+      at_since a b c second look at_second,
+      rises c.seat first second old new later now of_second (λ e. differ (sym e)),
+      now,
+      of_second,
+      λ e. differ (sym e),
+    )
+
+-- pages that lay in no area at the first look are the reason at once, and a change that needs more rows is one later
+pub other_before : (a b : CallerView) (r : Request) (at : ℕ) (lo hi : ℕ) → lo ≡ page_of r.addr → hi ≡ end_page r.addr r.len → IsLookedAt a.seat at b.seat → IsAfter b.seat at (λ A. ¬ IsOneKind A lo hi) → IsReason a r b (NotOneArea at)
+other_before a b r at lo hi is_lo is_hi looked other = (looked, subst (λ (z : ℕ × ℕ). IsAfter b.seat at (λ A. ¬ IsOneKind A z.0 z.1)) (λ i. (is_lo i, is_hi i)) other)
+
+pub more_rows_later : (a b c : CallerView) (r : Request) (at : ℕ) → HasLooked a b → NeedsMoreRows b r c at → IsReason a r c (NotSimple at)
+more_rows_later a b c r at look needs = (at_since a b c at look needs.when, needs.state)
+
+-- looks say nothing of what is held
+pub looked_free : (a b : CallerView) → HasLooked a b → HasLooked a (record b { seat = record b.seat { held = None } })
+looked_free a b look = record { table = look.table; number = look.number; start = look.start; mine = look.mine; more = look.more; rest = look.rest; taken = look.taken; left = look.left }
+
+-- a change over the area that the caller holds, after looks, is one call from before them
+pub changed_after : (a b c : CallerView) (r : Request) (e : Entry) → a.seat.held ≡ None → HasLooked a b → IsChanged b r c e → CallIs a r e c
+changed_after a b c r e free look changed =
+    called_after a (record b { seat = record b.seat { held = None } }) c r.line (Protect r.addr r.len r.prot) e (looked_free a b look) (sym free) changed.called
+
+-- who has nothing to write has looked, and seen no more
+pub no_look : (a : CallerView) → IsAtRest a.seat.pass → HasLooked a a
+no_look a rest = record { table = refl; number = refl; start = refl; mine = refl; more = ([], sym (append-nil a.seat.pass.seen)); rest = rest; taken = omega arith; left = refl }
+
+-- what an attempt after looks came to, it came to from before them
+reason_since : (a b c : CallerView) (r : Request) (cause : Cause) → HasLooked a b → IsReason b r c cause → IsReason a r c cause
+reason_since a b c r (NotOneArea at) look reason = (at_since a b c at look reason.0, reason.1)
+reason_since a b c r (NotSimple at) look reason = (at_since a b c at look reason.0, reason.1)
+reason_since a b c r (Moved first second old new) look reason = (at_since a b c first look reason.0, at_since a b c second look reason.1, reason.2, reason.3, reason.4, reason.5)
+
+pub attempt_since : (a b c : CallerView) (r : Request) (attempt : Attempt) → HasLooked a b → b.seat.held ≡ a.seat.held → IsAttempt b r c attempt → IsAttempt a r c attempt
+attempt_since a b c r (Done e seq) look held t = (called_after a b c r.line (Protect r.addr r.len r.prot) e look held t.0, t.1, t.2)
+attempt_since a b c r Again look held t = looked_on a b c look t
+attempt_since a b c r (Whole cause) look held t = (looked_on a b c look t.0, reason_since a b c r cause look t.1)
+
+pub same_attempt : (a b c : CallerView) (r : Request) (x y : Attempt) → c ≡ b → y ≡ x → IsAttempt a r b x → IsAttempt a r c y
+same_attempt a b c r x y e f t = subst (λ (z : CallerView × Attempt). IsAttempt a r z.0 z.1) (λ i. (sym e i, sym f i)) t

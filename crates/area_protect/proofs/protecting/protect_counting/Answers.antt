@@ -1,0 +1,18 @@
+use Rattle.std.proofs.Common.{◌∙◌, sym, subst}
+use Rattle.page_types.specs.declared.calls.Call.{Call}
+use Rattle.page_types.specs.declared.calls.Call.TheVariants.{Protect}
+use Rattle.area_rows.specs.Called.{IsCalled}
+use Rattle.area_protect.proofs.Looking.{called_after, cause_of}
+use Rattle.area_protect.proofs.protecting.protect_counting.Goals as goal
+
+pub returns-in-Whole : goal.returns-in-Whole
+returns-in-Whole g c =
+    let a = c.args.caller.now in let b = c.attempts.new.caller in let w = c.call_whole-entry in let q = c.args.request in
+    let t = c.in-Whole.ensures.attempt in
+    let called : IsCalled b q.line (Protect q.addr q.len q.prot) w.result w.new.caller = subst (λ (call : Call). IsCalled b q.line call w.result w.new.caller) c.call.ensures w.ensures.called in
+    record {
+      protected = record {
+        called = called_after a b w.new.caller q.line (Protect q.addr q.len q.prot) w.result t.0 (c.attempts.ensures.free ∙ sym c.requires.free) called;
+        way = (c.requires.undecided, w.ensures.under, cause_of a b w.new.caller q q.line w.result c.in-Whole.cause t.0 t.1 called);
+      };
+    }

@@ -1,0 +1,38 @@
+use Rattle.std.proofs.Common.{ℕ, ◌+◌, ◌-◌, ◌∙◌, ap, refl, subst, sym}
+use Rattle.std.specs.Prelude.{Option, IsSome, min}
+use Rattle.page_types.specs.declared.TheConstants.{LIMIT}
+use Rattle.page_types.specs.declared.calls.Kind.{Kind}
+use Rattle.page_types.specs.Named.{IsNamedOption}
+use Rattle.lock_core.specs.declared.range.Held.{Held}
+use Rattle.area_rows.specs.Callers.{CountsWhole, RowIs, Shows}
+use Rattle.area_protect.proofs.Looking.{look_counts}
+use Rattle.area_protect.proofs.Stages.{whole_back, looked_round, counts_on}
+use Rattle.area_protect.proofs.steps.hold_area.Goals as goal
+
+pub returns-then-sequence-found-clause-held : goal.returns-then-sequence-found-clause-held
+returns-then-sequence-found-clause-held g c =
+    let a = c.acquire in let q = c.sequence-sequence in let l = c.look-second in let d = c.release in
+    let some : IsSome a.new.caller.seat.held = subst (λ (h : Option Held). IsSome h) (sym a.ensures.held) refl in
+    let looked = looked_round c.args.caller.now a.new.caller q.new.caller l.new.caller d.new.caller l.result a.ensures.call a.ensures.left a.ensures.rest q.ensures.reading q.ensures.left l.ensures.look l.ensures.left d.ensures.release d.ensures.left in (
+      d.ensures.release.held,
+      looked.1,
+      whole_back l.new.caller.seat d.new.caller.seat d.ensures.release l.result q.result (look_counts q.new.caller.seat l.new.caller.seat l.result q.result l.ensures.look (q.ensures.reading.read.pending ∙ a.ensures.rest) (q.ensures.counts some)),
+      c.if-sequence-found.true,
+    )
+
+pub returns-in-Some-clause-held : goal.returns-in-Some-clause-held
+returns-in-Some-clause-held g c =
+    let a = c.acquire in let q = c.sequence-sequence in let r = c.row_of-row in
+    let some : IsSome a.new.caller.seat.held = subst (λ (h : Option Held). IsSome h) (sym a.ensures.held) refl in
+    let lo = c.if-row-found.true in let hi = c.if-row-found-2.true in
+    record {
+      held = r.ensures.reading.held ∙ (q.ensures.reading.held ∙ a.ensures.held);
+      round = (c.requires.wide.first ∙ ap (λ (n : ℕ). n - 1) (sym lo), c.requires.wide.end ∙ ap (λ (n : ℕ). min (n + 1) LIMIT) (sym hi));
+      lo = lo;
+      hi = hi;
+      kind_is = c.in-Some.is;
+      named = subst (λ (k : Option Kind). IsNamedOption k) c.in-Some.is r.ensures.named;
+      read = r.ensures.read;
+      shows = subst (λ (h : Option Held). Shows r.new.caller.seat (RowIs h c.args.page r.result)) (sym r.ensures.reading.held) r.ensures.shows;
+      whole = subst (λ n. CountsWhole r.new.caller.seat n) c.if-sequence-found.false (counts_on q.new.caller.seat r.new.caller.seat q.result r.ensures.reading (q.ensures.counts some));
+    }

@@ -1,0 +1,4 @@
+use Rattle.area_protect.proofs.tests.a_boundary_that_moves_between_two_looks_is_seen.Given as goal
+
+abbrev pub ghosts-held_beside : goal.ghosts-held_beside
+ghosts-held_beside g a = record { name = a.blank.name; parts = a.blank.parts }

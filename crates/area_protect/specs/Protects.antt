@@ -1,0 +1,69 @@
+-- What a change of protection answers, and what each answer says: mprotect(2), with the way that the call went. A way
+-- is no claim about what the code did: it is a fact of the history after so many entries, which stands between what the
+-- caller had seen before the call and the call's own entry.
+use Rattle.std.specs.Prelude.{ℕ, ◌≡◌, ◌≢◌, ◌<◌, ◌≤◌, ◌↔◌, IsSome, None, length}
+use Rattle.page_types.specs.declared.calls.Call.{Call}
+use Rattle.page_types.specs.declared.calls.Call.TheVariants.{Protect}
+use Rattle.page_types.specs.declared.sets.Prot.{Prot}
+use Rattle.page_types.specs.Pages.{page_of, end_page}
+use Rattle.page_types.specs.PlainReply.{plain_reply}
+use Rattle.space_model.specs.declared.entries.Entry.{Entry}
+use Rattle.space_model.specs.declared.entries.Under.TheVariants.{Whole as Everything}
+use Rattle.space_model.specs.Held.{HoldsSomeArea, IsSimple}
+use Rattle.range_rw.specs.Contract.{Known}
+use Rattle.area_rows.specs.declared.guard.Pass.{Pass}
+use Rattle.area_rows.specs.AreaPlans.{IsOneKind}
+use Rattle.area_rows.specs.Callers.{CallerView}
+use Rattle.area_rows.specs.Called.{IsCalled}
+use Rattle.area_protect.specs.declared.path.Cause.{Cause}
+use Rattle.area_protect.specs.declared.path.Cause.TheVariants.{NotOneArea, NotSimple, Moved}
+use Rattle.area_protect.specs.declared.path.Path.{Path}
+use Rattle.area_protect.specs.declared.path.Path.TheVariants.{Free, Area as OverArea, Whole}
+use Rattle.area_protect.specs.declared.path.Protected.{Protected}
+use Rattle.area_protect.specs.declared.path.Protected.TheVariants.{Given, Spent}
+use Rattle.area_protect.specs.Looks.{IsAfter, HasWhole}
+
+-- after so many entries: no fewer than the caller had seen before the call, and no more than came before its entry
+abbrev pub IsBetween : Known Pass → ℕ → Entry → Type 0
+IsBetween before m e = (length before.pass.seen ≤ m) × (m ≤ e.number)
+
+-- why the call had to hold everything, by the history that the caller has seen at the end
+abbrev pub HasCause : Known Pass → Call → ℕ → ℕ → Entry → Known Pass → Cause → Type 0
+HasCause before call lo hi e after (NotOneArea at) = IsBetween before at e × IsAfter after at (λ A. ¬ IsOneKind A lo hi)
+HasCause before call lo hi e after (NotSimple at) = IsBetween before at e × IsAfter after at (λ A. IsOneKind A lo hi × ¬ IsSimple A call)
+HasCause before call lo hi e after (Moved first second old new) = IsBetween before first e × IsBetween before second e × (first < second) × HasWhole after first old × HasWhole after second new × (old ≢ new)
+
+-- by which way the call went: free exactly where its arguments decide it
+abbrev pub HasPath : Known Pass → Call → ℕ → ℕ → Entry → Known Pass → Path → Type 0
+HasPath before call lo hi e after Free = IsSome (plain_reply call)
+HasPath before call lo hi e after (OverArea seq) = (plain_reply call ≡ None) × HoldsSomeArea e.under × HasWhole after e.number seq
+HasPath before call lo hi e after (Whole cause) = (plain_reply call ≡ None) × (e.under ≡ Everything) × HasCause before call lo hi e after cause
+
+-- the call got one entry, as each call that gives one, and went that way
+pub record IsProtected (before : CallerView) (line addr len : ℕ) (prot : Prot) (e : Entry) (path : Path) (after : CallerView) : Type 0 where
+  pub called : IsCalled before line (Protect addr len prot) e after
+  pub way : HasPath before.seat (Protect addr len prot) (page_of addr) (end_page addr len) e after.seat path
+
+-- the answer: an entry where a number is left, and otherwise nothing has changed
+abbrev pub IsAnswer : CallerView → ℕ → ℕ → ℕ → Prot → Protected → CallerView → Type 0
+IsAnswer before line addr len prot (Given e path) after = (0 < before.left) × IsProtected before line addr len prot e path after
+IsAnswer before line addr len prot Spent after = (before.left ≡ 0) × (after ≡ before)
+
+-- no entry came between what the caller had seen and its own entry
+abbrev pub IsLone : CallerView → Entry → Type 0
+IsLone before e = e.number ≡ length before.seat.pass.seen
+
+-- where nothing was numbered meanwhile, a call that its arguments don't decide holds its area exactly where the change
+-- is simple at the state that its entry finds
+abbrev pub LoneHoldsArea : Type 0
+LoneHoldsArea =
+    (before after : CallerView) (line addr len : ℕ) (prot : Prot) (e : Entry) (path : Path) (p : IsProtected before line addr len prot e path after) →
+    plain_reply (Protect addr len prot) ≡ None → IsLone before e → HoldsSomeArea e.under ↔ IsSimple p.called.numbered.state (Protect addr len prot)
+
+-- and two such calls with the same arguments after the same entries from one start went the same way; so on one caller
+-- alone the way is a function of the history
+abbrev pub LonePathIsOne : Type 0
+LonePathIsOne =
+    (before after other_before other_after : CallerView) (line other_line addr len : ℕ) (prot : Prot) (e f : Entry) (path other : Path) →
+    IsProtected before line addr len prot e path after → IsProtected other_before other_line addr len prot f other other_after → IsLone before e → IsLone other_before f →
+    before.seat.pass.start ≡ other_before.seat.pass.start → before.seat.pass.seen ≡ other_before.seat.pass.seen → path ≡ other

@@ -1,0 +1,120 @@
+//! The call: nothing where the caller has no number left, the reply of the arguments where these decide, and otherwise
+//! attempts over one area until one gets its entry or shows that the call has to hold everything.
+ghost use Rattle.std.specs.Prelude.{◌≡◌, ◌<◌, None};
+ghost use Rattle.page_types.specs.declared.calls.Call.TheVariants.{Protect};
+ghost use Rattle.page_types.specs.Named.{IsNamedCall};
+ghost use Rattle.page_types.specs.Pages.{page_of, end_page};
+ghost use Rattle.page_types.specs.PlainReply.{plain_reply};
+ghost use Rattle.area_protect.specs.Protects.{IsProtected, IsAnswer};
+ghost use Rattle.area_protect.specs.Attempts.{IsAgain, IsAttempt};
+
+use crate::path::{Path, Protected};
+use crate::steps::{Attempt, Request, one_attempt};
+use area_rows::{Caller, Space};
+use page_types::{Prot, Span, plain};
+use space_model::Entry;
+use std::marker::Brand;
+use std::sync::Wait;
+use std::sync::ledger::{Blank, Ledger};
+use word_rows::Steps;
+
+/// Attempts, one after another, until one doesn't end at boundaries that have moved.
+fn attempts<R: Wait, L: Ledger>(
+    space: &Space,
+    wait: &R,
+    caller: &mut Caller,
+    request: Request,
+    pages: Span,
+    steps: &mut Steps<L>,
+) -> Attempt
+    requires table { caller.old.seat.table ≡ space.now.table }
+    requires free { caller.old.seat.held ≡ None }
+    requires left { 0 < caller.old.left }
+    requires named { IsNamedCall (Protect request.addr request.len request.prot) }
+    requires undecided { plain_reply (Protect request.addr request.len request.prot) ≡ None }
+    requires lo { pages.lo ≡ page_of request.addr }
+    requires hi { pages.hi ≡ end_page request.addr request.len }
+    ensures free { caller.new.seat.held ≡ None }
+    ensures attempt { IsAttempt caller.old request caller.new result }
+    ensures last { ¬ IsAgain result }
+{
+    caller.holds_pages();
+    let mut last = Attempt::Again;
+    for _ in wait.forever() {
+        last = one_attempt(space, wait, caller, request, pages, steps);
+        match last {
+            Attempt::Again => {}
+            Attempt::Done { .. } | Attempt::Whole(_) => break,
+        }
+    }
+    last
+}
+
+/// A change of protection that its arguments don't decide.
+fn protect_counting<L: Ledger, R: Wait>(
+    space: &Space,
+    wait: &R,
+    caller: &mut Caller,
+    request: Request,
+    blank: Blank,
+) -> (Entry, Path)
+    requires blank { (blank.name ≡ L.name) × (blank.parts ≡ L.parts) × (0 < L.parts) }
+    requires table { caller.old.seat.table ≡ space.now.table }
+    requires free { caller.old.seat.held ≡ None }
+    requires left { 0 < caller.old.left }
+    requires named { IsNamedCall (Protect request.addr request.len request.prot) }
+    requires undecided { plain_reply (Protect request.addr request.len request.prot) ≡ None }
+    ensures protected { IsProtected caller.old request.line request.addr request.len request.prot result.0 result.1 caller.new }
+{
+    let mut steps = Steps::<L>::new(blank);
+    let pages = Span::of_valid(request.addr, request.len);
+    match attempts(space, wait, caller, request, pages, &mut steps) {
+        Attempt::Done { entry, seq } => (entry, Path::Area { seq }),
+        Attempt::Whole(cause) => {
+            let entry = space.call_whole(wait, caller, request.line, request.call());
+            (entry, Path::Whole(cause))
+        }
+        Attempt::Again => unreachable!(),
+    }
+}
+
+/// Changes the protection of the `len` bytes from `addr` on, rounded up to whole pages, as mprotect(2) does. The caller
+/// is of this space and holds nothing, and `prot` has named bits alone; `line` is the line of the input that names the
+/// call, counted from 1. A change within one area that leaves the number of rows as it is holds that area and a page on
+/// each side, and every other one holds all pages; a call that its arguments decide holds nothing. It waits for the
+/// callers that hold these pages. The answer says by which way the call went and why. `Spent` comes exactly where the
+/// caller has no number left, and nothing has changed then. It takes no memory.
+pub fn protect<R: Wait>(
+    space: &Space,
+    wait: &R,
+    caller: &mut Caller,
+    line: u32,
+    addr: u64,
+    len: u64,
+    prot: Prot,
+) -> Protected
+    requires table { caller.old.seat.table ≡ space.now.table }
+    requires free { caller.old.seat.held ≡ None }
+    requires named { IsNamedCall (Protect addr len prot) }
+    ensures answer { IsAnswer caller.old line addr len prot result caller.new }
+{
+    if caller.left() == 0 {
+        return Protected::Spent;
+    }
+    let request = Request {
+        line,
+        addr,
+        len,
+        prot,
+    };
+    if let Some(reply) = plain(&request.call()) {
+        let entry = space.call_plain(caller, line, request.call(), reply);
+        return Protected::Given {
+            entry,
+            path: Path::Free,
+        };
+    }
+    let blank = Blank::new(1);
+    let (entry, path) = protect_counting::<Brand, R>(space, wait, caller, request, blank);
+    Protected::Given { entry, path }
+}
