@@ -1,0 +1,5 @@
+pub mod Answering
+pub mod Plays
+pub mod Lone
+pub mod Collecting
+pub mod Hirings

@@ -1,0 +1,5 @@
+use Rattle.trace_threads.proofs.Collecting.{made, collected}
+use Rattle.trace_threads.proofs.laws.plays_are_collected.Goals as goal
+
+pub returns : goal.returns
+returns c = record { made = made; collected = collected }

@@ -1,0 +1,5 @@
+use Rattle.trace_threads.proofs.Plays.{given}
+use Rattle.trace_threads.proofs.playing.play_line.Goals as goal
+
+pub returns : goal.returns
+returns g c = record { played = given _ _ _ _ c.requires.left c.make_call.ensures.answer }

@@ -1,0 +1,12 @@
+pub mod Workers
+pub mod Collected
+pub mod Hiring
+pub use Rattle.area_rows.specs.Callers
+pub use Rattle.area_rows.specs.Called
+pub use Rattle.area_rows.specs.History
+pub use Rattle.atomic_table.specs.Seated
+pub use Rattle.page_types.specs.Named
+pub use Rattle.page_types.specs.PlainReply
+pub use Rattle.range_rw.specs.Contract
+pub use Rattle.space_model.specs.Areas
+pub use Rattle.space_model.specs.Held

@@ -1,0 +1,39 @@
+//! The call of a line, by the crate that makes it: a fault, a map, an unmap or a change of protection. Who makes a call
+//! is decided here alone, and the contract doesn't say.
+ghost use Rattle.std.specs.Prelude.{◌≡◌, None};
+ghost use Rattle.page_types.specs.Named.{IsNamedCall};
+ghost use Rattle.trace_threads.specs.Workers.{IsLineAnswer};
+
+use crate::worker::Line;
+use area_protect::{Protected, protect};
+use area_rows::{Answer, Caller, Space};
+use map_calls::{map, unmap};
+use page_fault::fault;
+use page_types::Call;
+use std::sync::Wait;
+
+/// A caller makes the call of a line.
+pub(crate) fn make_call<R: Wait>(wait: &R, space: &Space, caller: &mut Caller, line: Line) -> Answer
+    requires table { caller.old.seat.table ≡ space.now.table }
+    requires free { caller.old.seat.held ≡ None }
+    requires named { IsNamedCall line.call }
+    ensures answer { IsLineAnswer caller.old line result caller.new }
+{
+    let number = line.line;
+    match line.call {
+        Call::Map {
+            addr,
+            len,
+            prot,
+            flags,
+        } => map(space, wait, caller, number, addr, len, prot, flags),
+        Call::Unmap { addr, len } => unmap(space, wait, caller, number, addr, len),
+        Call::Protect { addr, len, prot } => {
+            match protect(space, wait, caller, number, addr, len, prot) {
+                Protected::Given { entry, .. } => Answer::Given(entry),
+                Protected::Spent => Answer::Spent,
+            }
+        }
+        Call::Fault { addr, access } => fault(space, wait, caller, number, addr, access),
+    }
+}

@@ -1,0 +1,4 @@
+use Rattle.worker_trials.proofs.beside.give_back_at_sign.Given as goal
+
+abbrev pub ghosts-release_at_sign : goal.ghosts-release_at_sign
+ghosts-release_at_sign a = record { name = a.blank.name; parts = a.blank.parts }
