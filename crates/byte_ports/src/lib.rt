@@ -4,11 +4,18 @@
 //! alike; what each count is and when it rises is this project's own profile.
 #![tactic(auto)]
 
+mod clean;
+mod drip;
+mod fill;
 mod memory;
+mod moves;
 mod ports;
 mod standard;
 mod whole;
 
+pub use clean::{CleanSink, CleanSource};
+pub use drip::{DripSink, DripSource};
+pub use fill::FillSource;
 pub use memory::{MemorySink, MemorySource};
 pub use ports::{Failed, Sink, Source};
 pub use standard::{StdSink, StdSource};

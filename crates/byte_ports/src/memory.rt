@@ -7,6 +7,7 @@ ghost use Rattle.std.specs.Io.KnownBytes.{Appends, Consumes, IsAtEnd, Keeps};
 ghost use Rattle.byte_ports.specs.Counts.{Rose, one_more};
 ghost use Rattle.byte_ports.specs.Memory.{IsListed, calls_after};
 
+use crate::moves::{append_from, move_into};
 use crate::{Failed, Sink, Source};
 
 /// Counts a call that has bytes to move, and returns whether it is listed to fail.
@@ -95,9 +96,7 @@ impl Source for MemorySource {
             self.faults = self.faults.saturating_add(1);
             return Err(Failed);
         }
-        let left = &self.bytes[self.at..];
-        let amount = left.len().min(buf.len());
-        buf[..amount].copy_from_slice(&left[..amount]);
+        let amount = move_into(&self.bytes, self.at, buf);
         self.at += amount;
         Ok(amount)
     }
@@ -187,8 +186,7 @@ impl Sink for MemorySink {
             self.faults = self.faults.saturating_add(1);
             return Err(Failed);
         }
-        let amount = room.min(bytes.len());
-        self.store[self.used..self.used + amount].copy_from_slice(&bytes[..amount]);
+        let amount = append_from(&mut self.store, self.used, bytes);
         self.used += amount;
         Ok(amount)
     }

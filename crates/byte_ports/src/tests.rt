@@ -1,6 +1,9 @@
 //! What no clause says of the ports: that their calls succeed with concrete bytes, each once through its bound, and the
 //! message of a failure.
-use crate::{Failed, MemorySink, MemorySource, Sink, Source, StdSink, StdSource, write_all};
+use crate::{
+    CleanSink, CleanSource, DripSink, DripSource, Failed, FillSource, MemorySink, MemorySource,
+    Sink, Source, StdSink, StdSource, write_all,
+};
 use std::test::Fail;
 
 /// One read through the bound.
@@ -50,6 +53,70 @@ fn a_sink_takes_what_fits_and_then_fails(rt: HostRuntime) -> Result<(), Fail> {
     assert_eq!(rt; sink.faults, 2);
     assert_eq!(rt; write_all(&mut sink, b""), Ok(()));
     Ok(())
+}
+
+#[test]
+fn a_clean_source_gives_all_that_has_room(rt: HostRuntime) -> Result<(), Fail> {
+    let mut source = CleanSource::new(b"abcde".to_vec(rt.alloc())?);
+    let mut buf = [0; 3];
+    assert_eq!(rt; read_some(&mut source, &mut buf), Ok(3));
+    assert_eq!(rt; buf.as_slice(), b"abc".as_slice());
+    assert_eq!(rt; read_some(&mut source, &mut []), Ok(0));
+    assert_eq!(rt; read_some(&mut source, &mut buf), Ok(2));
+    assert_eq!(rt; buf.as_slice(), b"dec".as_slice());
+    assert_eq!(rt; read_some(&mut source, &mut buf), Ok(0));
+    Ok(())
+}
+
+#[test]
+fn a_clean_sink_fails_where_it_is_full(rt: HostRuntime) -> Result<(), Fail> {
+    let mut sink = CleanSink::new(b"....".to_vec(rt.alloc())?);
+    assert_eq!(rt; write_all(&mut sink, b"abc"), Ok(()));
+    assert_eq!(rt; sink.faults, 0);
+    assert_eq!(rt; write_some(&mut sink, b"de"), Ok(1));
+    assert_eq!(rt; write_some(&mut sink, b""), Ok(0));
+    assert_eq!(rt; write_some(&mut sink, b"e"), Err(Failed));
+    assert_eq!(rt; sink.written(), b"abcd".as_slice());
+    assert_eq!(rt; sink.faults, 1);
+    Ok(())
+}
+
+#[test]
+fn a_drip_moves_one_byte_a_call(rt: HostRuntime) -> Result<(), Fail> {
+    let alloc = rt.alloc();
+    let mut source = DripSource {
+        inner: MemorySource::new(b"ab".to_vec(alloc)?, [2].to_vec(alloc)?),
+    };
+    let mut buf = [0; 3];
+    assert_eq!(rt; read_some(&mut source, &mut buf), Ok(1));
+    assert_eq!(rt; read_some(&mut source, &mut buf), Err(Failed));
+    assert_eq!(rt; read_some(&mut source, &mut []), Ok(0));
+    assert_eq!(rt; read_some(&mut source, &mut buf), Ok(1));
+    assert_eq!(rt; buf[0], b'b');
+    assert_eq!(rt; read_some(&mut source, &mut buf), Ok(0));
+    let mut sink = DripSink {
+        inner: CleanSink::new(b"...".to_vec(alloc)?),
+    };
+    assert_eq!(rt; write_some(&mut sink, b"ab"), Ok(1));
+    assert_eq!(rt; write_some(&mut sink, b""), Ok(0));
+    assert_eq!(rt; write_all(&mut sink, b"bcd"), Err(Failed));
+    assert_eq!(rt; sink.inner.written(), b"abc".as_slice());
+    Ok(())
+}
+
+#[test]
+fn a_fill_gives_one_byte_so_many_times(rt: HostRuntime) {
+    let mut source = FillSource {
+        left: 4,
+        byte: b'x',
+    };
+    let mut buf = [0; 3];
+    assert_eq!(rt; read_some(&mut source, &mut buf), Ok(3));
+    assert_eq!(rt; buf.as_slice(), b"xxx".as_slice());
+    buf[1] = 0;
+    assert_eq!(rt; read_some(&mut source, &mut buf), Ok(1));
+    assert_eq!(rt; buf[1], 0);
+    assert_eq!(rt; read_some(&mut source, &mut buf), Ok(0));
 }
 
 #[test]
