@@ -1,6 +1,5 @@
 pub mod LineLemmas
 pub mod Draining
-pub mod WordLemmas
 pub mod TraceLemmas
 pub mod PlayLemmas
 pub mod ReportPieces
@@ -10,3 +9,8 @@ pub mod Differences
 pub mod ScriptLemmas
 pub mod Outcomes
 pub mod ProcessLemmas
+pub mod Parts
+pub mod DealtLemmas
+pub mod OneWorker
+pub mod CommandLemmas
+pub mod LoadLemmas

@@ -1,7 +1,8 @@
 -- The words and the bytes of an input have one outcome: what reads an input and what ends a run exclude each other, and
 -- an input ends a run in one way. It rests on each text having one outcome, and on one area list having given kinds.
-use Rattle.std.proofs.Common.{◌≡◌, ◌⊎◌, Bool, true, false, ℕ, ◌+◌, ◌*◌, ◌≤◌, List, [], length, drop, Option, Some, subst, inl, inr, refl, sym, ap, ◌∙◌, arith, codes}
+use Rattle.std.proofs.Common.{◌≡◌, ◌⊎◌, Bool, true, false, ℕ, ◌+◌, ◌*◌, ◌≤◌, List, [], length, drop, Option, None, Some, subst, inl, inr, refl, sym, ap, ◌∙◌, arith}
 use Rattle.page_types.specs.declared.calls.Kind.{Kind}
+use Rattle.area_rows.specs.Callers.{ClosedView}
 use Rattle.space_model.specs.declared.areas.Area.{Area}
 use Rattle.space_model.specs.Areas.{HasKinds, kind_at, row_count}
 use Rattle.space_model.proofs.AreaKinds.{only_one}
@@ -17,19 +18,20 @@ use Rattle.range_cli.specs.declared.status.Status.{Status}
 use Rattle.range_cli.specs.declared.status.Status.TheVariants.{Done, Usage, BadLine, ReadFault, WriteFault, Memory, Limit}
 use Rattle.range_cli.specs.declared.status.Which.TheVariants.{Input, Line as OfLine, Lines as OfLines, Rows}
 use Rattle.range_cli.specs.declared.trace.Line.{Line}
-use Rattle.range_cli.specs.declared.words.Options.{Options}
+use Rattle.range_cli.specs.declared.commands.Command.TheVariants.{Play, Load}
+use Rattle.range_cli.specs.declared.commands.Options.{Options}
 use Rattle.range_cli.specs.Lines.{lines_of}
 use Rattle.range_cli.specs.Opening.{IsNext, IsRefused, EndsMap, ReadsMaps, EndsMaps, Opens, EndsOpening, map_start, map_stop}
 use Rattle.range_cli.specs.Opening.ReadsMaps.{over, empty as empty_map, mapped, past_end}
 use Rattle.range_cli.specs.Opening.EndsMaps.{here as here_map, later as later_map}
-use Rattle.range_cli.specs.Run.{Heard, Wrote, HasCause, IsOutcome, IsOnlyOutcome, IsHindered}
-use Rattle.range_cli.specs.Run.IsOutcome.{usage, too_long, early, done}
+use Rattle.range_cli.specs.Run.{Heard, Reports, Wrote, HasCause, IsOutcome, IsOnlyOutcome, IsHindered}
+use Rattle.range_cli.specs.Run.IsOutcome.{usage, too_long, early, done, loaded}
 use Rattle.range_cli.specs.Script.{IsScript, EndsTrace, EndsInput}
-use Rattle.range_cli.specs.Status.{status_of}
+use Rattle.range_cli.specs.Status.{status_of, ending}
 use Rattle.range_cli.specs.Trace.{Standing, start_at, after, Asks, Ends, Reads, EndsAt, played_by}
 use Rattle.range_cli.specs.Trace.Reads.{nothing, line}
 use Rattle.range_cli.specs.Trace.EndsAt.{here, later}
-use Rattle.range_cli.specs.Words.{Accepts, once, count_of_word}
+use Rattle.range_cli.specs.Commands.{Spells, AskForOne}
 
 -- a line that asks for something ends no run
 asks_ends : (stand : Standing) (text : List ℕ) (answer : Fed) (end : EarlyEnd) → Asks stand text answer → Ends stand text end → ⊥
@@ -249,79 +251,86 @@ input_ends_same options bytes s u (inr (inr e)) (inr (inr h)) =
     let k : HasKinds (kind_at e.head.areas) h.start = rw p.areas at h.kinds in
     e.is ∙ ap (λ l. Above Rows (row_count l)) (same_list (kind_at e.head.areas) e.start h.start e.kinds k) ∙ sym h.is
 
-once_same : (a b : Bool) → once a ≡ once b → a ≡ b
-once_same true true h = refl
-once_same true false h = absurd (omega (arith, h))
-once_same false true h = absurd (omega (arith, h))
-once_same false false h = refl
-
-options_from : (o p : Options) → o.opening ≡ p.opening → o.log ≡ p.log → o ≡ p
-options_from o p a b = λ i. record { opening = a i; log = b i }
-
 -- accepted words ask for one choice of options
-same_options : (words : List (List ℕ)) (o p : Options) → Accepts words o → Accepts words p → o ≡ p
-same_options words o p a b =
-    let same : a.rest ≡ b.rest = ap (λ l. drop 1 l) (sym a.play ∙ b.play) in
-    options_from o p
-    (once_same o.opening p.opening (sym a.asked.openings ∙ ap (count_of_word (codes "--opening")) same ∙ b.asked.openings))
-    (once_same o.log p.log (sym a.asked.logs ∙ ap (count_of_word (codes "--log")) same ∙ b.asked.logs))
+same_options : (words : List (List ℕ)) → AskForOne words → (o p : Options) (m n : ℕ) → Spells words (Play o m) → Spells words (Play p n) → o ≡ p
+same_options words one o p m n a b = let same : Play o m ≡ Play p n = one (Play o m) (Play p n) a b in cc same
 
--- words and an input have one outcome
-one_status : {words : List (List ℕ)} {bytes : List ℕ} {s u : Status} → IsOutcome words bytes s → IsOutcome words bytes u → s ≡ u
-one_status (usage a) (usage b) = refl
-one_status (usage a) (too_long {options = o} acc high) = absurd (a o acc)
-one_status (usage a) (early {options = o} acc fits ends is) = absurd (a o acc)
-one_status (usage a) (done {options = o} acc fits script) = absurd (a o acc)
-one_status (too_long {options = o} acc high) (usage b) = absurd (b o acc)
-one_status (too_long acc high) (too_long acc2 high2) = refl
-one_status (too_long acc high) (early acc2 fits ends is) = absurd (omega (arith, high, fits))
-one_status (too_long acc high) (done acc2 fits script) = absurd (omega (arith, high, fits))
-one_status (early {options = o} acc fits ends is) (usage b) = absurd (b o acc)
-one_status (early acc fits ends is) (too_long acc2 high) = absurd (omega (arith, high, fits))
-one_status {words = words} {bytes = bytes} (early {options = o} {end = e} acc fits ends is) (early {options = p} {end = f} acc2 fits2 ends2 is2) =
-    let same = same_options words p o acc2 acc in
-    is ∙ ap status_of (input_ends_same o bytes e f ends (subst (λ q. EndsInput q bytes f) same ends2)) ∙ sym is2
-one_status {words = words} {bytes = bytes} (early {options = o} {end = e} acc fits ends is) (done {options = p} {start = x} {lines = l} {skipped = k} acc2 fits2 script) =
-    absurd (script_ends p bytes x l k e script (subst (λ q. EndsInput q bytes e) (same_options words o p acc acc2) ends))
-one_status (done {options = o} acc fits script) (usage b) = absurd (b o acc)
-one_status (done acc fits script) (too_long acc2 high) = absurd (omega (arith, high, fits))
-one_status {words = words} {bytes = bytes} (done {options = p} {start = x} {lines = l} {skipped = k} acc2 fits2 script) (early {options = o} {end = e} acc fits ends is) =
-    absurd (script_ends p bytes x l k e script (subst (λ q. EndsInput q bytes e) (same_options words o p acc acc2) ends))
-one_status (done acc fits script) (done acc2 fits2 script2) = refl
+-- and not for a load too
+no_load : (words : List (List ℕ)) → AskForOne words → (o : Options) (m seed threads calls : ℕ) → Spells words (Play o m) → Spells words (Load seed threads calls) → ⊥
+no_load words one o m seed threads calls a b = let same : Play o m ≡ Load seed threads calls = one (Play o m) (Load seed threads calls) a b in absurd (cc same)
+
+-- words and an input have one outcome, but for the history that it carries
+one_status : {words : List (List ℕ)} {bytes : List ℕ} {s u : Status} → AskForOne words → IsOutcome words bytes s → IsOutcome words bytes u → ending s ≡ ending u
+one_status one (usage a) (usage b) = refl
+one_status one (usage a) (too_long (o, n, acc) high) = absurd (a (Play o n) acc)
+one_status one (usage a) (early {options = o} {threads = n} acc fits ends is) = absurd (a (Play o n) acc)
+one_status one (usage a) (done {options = o} {threads = n} acc fits script) = absurd (a (Play o n) acc)
+one_status one (usage a) (loaded {seed = x} {threads = n} {calls = k} acc) = absurd (a (Load x n k) acc)
+one_status one (too_long (o, n, acc) high) (usage b) = absurd (b (Play o n) acc)
+one_status one (too_long acc high) (too_long acc2 high2) = refl
+one_status one (too_long acc high) (early acc2 fits ends is) = absurd (omega (arith, high, fits))
+one_status one (too_long acc high) (done acc2 fits script) = absurd (omega (arith, high, fits))
+one_status {words = words} one (too_long (o, n, acc) high) (loaded {seed = x} {threads = m} {calls = k} acc2) = absurd (no_load words one o n x m k acc acc2)
+one_status one (early {options = o} {threads = n} acc fits ends is) (usage b) = absurd (b (Play o n) acc)
+one_status one (early acc fits ends is) (too_long acc2 high) = absurd (omega (arith, high, fits))
+one_status {words = words} {bytes = bytes} one (early {options = o} {threads = m} {end = e} acc fits ends is) (early {options = p} {threads = n} {end = f} acc2 fits2 ends2 is2) =
+    let same = same_options words one p o n m acc2 acc in
+    ap ending (is ∙ ap status_of (input_ends_same o bytes e f ends (subst (λ q. EndsInput q bytes f) same ends2)) ∙ sym is2)
+one_status {words = words} {bytes = bytes} one (early {options = o} {threads = m} {end = e} acc fits ends is) (done {options = p} {threads = n} {start = x} {lines = l} {skipped = k} acc2 fits2 script) =
+    absurd (script_ends p bytes x l k e script (subst (λ q. EndsInput q bytes e) (same_options words one o p m n acc acc2) ends))
+one_status {words = words} one (early {options = o} {threads = n} acc fits ends is) (loaded {seed = x} {threads = m} {calls = k} acc2) = absurd (no_load words one o n x m k acc acc2)
+one_status one (done {options = o} {threads = n} acc fits script) (usage b) = absurd (b (Play o n) acc)
+one_status one (done acc fits script) (too_long acc2 high) = absurd (omega (arith, high, fits))
+one_status {words = words} {bytes = bytes} one (done {options = p} {threads = n} {start = x} {lines = l} {skipped = k} acc2 fits2 script) (early {options = o} {threads = m} {end = e} acc fits ends is) =
+    absurd (script_ends p bytes x l k e script (subst (λ q. EndsInput q bytes e) (same_options words one o p m n acc acc2) ends))
+one_status one (done acc fits script) (done acc2 fits2 script2) = refl
+one_status one (done acc fits script) (loaded acc2) = refl
+one_status one (loaded {seed = x} {threads = n} {calls = k} acc) (usage b) = absurd (b (Load x n k) acc)
+one_status {words = words} one (loaded {seed = x} {threads = m} {calls = k} acc) (too_long (o, n, acc2) high) = absurd (no_load words one o n x m k acc2 acc)
+one_status {words = words} one (loaded {seed = x} {threads = m} {calls = k} acc) (early {options = o} {threads = n} acc2 fits ends is) = absurd (no_load words one o n x m k acc2 acc)
+one_status one (loaded acc) (done acc2 fits script) = refl
+one_status one (loaded acc) (loaded acc2) = refl
 
 -- what was heard of a known input is so of its bytes
 early_from : (words : List (List ℕ)) (bytes : List ℕ) (new : Option (List ℕ)) (end : EarlyEnd)
-    → Heard words (Some bytes) new (λ options all. EndsInput options all end) → IsOutcome words bytes (status_of end)
+    → Heard words (Some bytes) new (λ options threads all. EndsInput options all end) → IsOutcome words bytes (status_of end)
 early_from words bytes new end h =
     let same = sym h.input.0.0 in
     early h.accepted (subst (λ b. length b ≤ 67108864) same h.input.1) (subst (λ b. EndsInput h.options b end) same h.holds) refl
+
+-- a report is called for
+done_outcome : (words : List (List ℕ)) (bytes : List ℕ) (new : Option (List ℕ)) (closed : ClosedView) (report : List ℕ)
+    → Reports words (Some bytes) new closed report → IsOutcome words bytes (Done (Some closed))
+done_outcome words bytes new closed report (inl h) =
+    let same = sym h.input.0.0 in
+    let script = subst (λ b. IsScript h.options b h.holds.start h.holds.lines h.holds.skipped) same h.holds.script in
+    done h.accepted (subst (λ b. length b ≤ 67108864) same h.input.1) script
+done_outcome words bytes new closed report (inr h) = loaded h.accepted
 
 -- the status of a run is the outcome of its words and its input, unless something hindered it
 outcome_of : (words : List (List ℕ)) (bytes : List ℕ) (new out_old out_new : Option (List ℕ)) (input out : ℕ × ℕ) (result : Status)
     → Wrote words (Some bytes) new out_old out_new result → HasCause words (Some bytes) new input out result
     → IsOutcome words bytes result ⊎ IsHindered input out result
-outcome_of words bytes new out_old out_new input out Done wrote cause =
-    let h = wrote.1 in
-    let same = sym h.input.0.0 in
-    let script = subst (λ b. IsScript h.options b h.holds.start h.holds.lines h.holds.skipped) same h.holds.script in
-    inl (done h.accepted (subst (λ b. length b ≤ 67108864) same h.input.1) script)
+outcome_of words bytes new out_old out_new input out (Done None) wrote cause = absurd wrote
+outcome_of words bytes new out_old out_new input out (Done (Some closed)) wrote cause =
+    inl (done_outcome words bytes new closed wrote.0 wrote.1)
 outcome_of words bytes new out_old out_new input out Usage wrote cause = inl (usage cause)
 outcome_of words bytes new out_old out_new input out (BadLine l k w) wrote cause = inl (early_from words bytes new (Refused l k w) cause)
 outcome_of words bytes new out_old out_new input out ReadFault wrote cause = inr cause
-outcome_of words bytes new out_old out_new input out WriteFault wrote cause = inr cause
+outcome_of words bytes new out_old out_new input out (WriteFault closed) wrote cause = inr cause
 outcome_of words bytes new out_old out_new input out Memory wrote cause = inr tt
 outcome_of words bytes new out_old out_new input out (Limit Input v) wrote cause =
-    inl (subst (λ n. IsOutcome words bytes (Limit Input n)) (sym cause.0) (too_long cause.2.1 cause.1))
+    inl (subst (λ n. IsOutcome words bytes (Limit Input n)) (sym cause.0) (too_long cause.2 cause.1))
 outcome_of words bytes new out_old out_new input out (Limit OfLine v) wrote cause = inl (early_from words bytes new (Above OfLine v) cause)
 outcome_of words bytes new out_old out_new input out (Limit OfLines v) wrote cause = inl (early_from words bytes new (Above OfLines v) cause)
 outcome_of words bytes new out_old out_new input out (Limit Rows v) wrote cause = inl (early_from words bytes new (Above Rows v) cause)
 
 -- and it is the only one
-pub complete : (words : List (List ℕ)) (bytes : List ℕ) (new out_old out_new : Option (List ℕ)) (input out : ℕ × ℕ) (result : Status)
+pub complete : (words : List (List ℕ)) → AskForOne words → (bytes : List ℕ) (new out_old out_new : Option (List ℕ)) (input out : ℕ × ℕ) (result : Status)
     → Wrote words (Some bytes) new out_old out_new result → HasCause words (Some bytes) new input out result
     → IsOnlyOutcome words bytes result ⊎ IsHindered input out result
-complete words bytes new out_old out_new input out result wrote cause =
+complete words one bytes new out_old out_new input out result wrote cause =
     elim (outcome_of words bytes new out_old out_new input out result wrote cause) [
-      | inl is ↦ inl (record { called_for = is; only = λ other h. one_status h is })
+      | inl is ↦ inl (record { called_for = is; only = λ other h. one_status one h is })
       | inr hindered ↦ inr hindered
     ]

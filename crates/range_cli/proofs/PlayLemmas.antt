@@ -1,83 +1,59 @@
--- Lines are played one by one: each entry is right at the state that the entries before it leave.
-use Rattle.std.proofs.Common.{◌≡◌, ℕ, suc, ◌+◌, ◌<◌, ◌≤◌, List, [], ◌∷◌, ◌++◌, length, get_or, take, refl, sym, ap, subst, ◌∙◌, arith, add-one, length-append}
-use Rattle.std.proofs.Math.Seq.{take-suc}
-use Rattle.std.proofs.lemmas.List.{take_all}
+-- What the workers of a space have played is a legal history of just their lines, with as many entries as lines.
+use Rattle.std.proofs.Common.{◌≡◌, ℕ, zero, suc, ◌+◌, ◌<◌, List, [], ◌∷◌, length, map, refl, sym, ap, ◌∙◌, arith, mod-lt}
+use mathlib.Core.Option.{some}
+use lib.ListN.{get_elem?}
+use Rattle.std.specs.List.{range_with_len}
+use Rattle.std.proofs.lemmas.List.{length-map}
+use Rattle.std.proofs.lemmas.List.FromFn.{length-map-range_with_len}
 use Rattle.space_model.specs.declared.areas.Area.{Area}
 use Rattle.space_model.specs.declared.entries.Entry.{Entry}
-use Rattle.space_model.specs.History.{Chains, HasRightReply, IsNumberedFrom}
+use Rattle.space_model.specs.History.{HasRightReply}
 use Rattle.space_model.proofs.Histories.{chains_weaker, replied_state}
+use Rattle.area_rows.specs.History.{FitsAndReplies, entries_of}
+use Rattle.trace_threads.specs.declared.worker.Line.{Line as Turn}
+use Rattle.trace_threads.specs.Workers.{AreEntriesOf}
+use Rattle.trace_threads.specs.Collected.{IsCollected, IsPlayed as WerePlayed}
 use Rattle.range_cli.specs.declared.trace.Line.{Line}
-use Rattle.range_cli.specs.Play.{IsPlayedAs, IsCollected, HeldAndReplies, IsPlayed}
+use Rattle.range_cli.specs.Dealt.{worker_of, own_lines, worker_lines, played_line, dealt}
+use Rattle.range_cli.specs.Play.{IsPlayed}
+use Rattle.range_cli.proofs.Parts.{total_same, parts_whole, none_above}
 
--- the lines were played one after another, numbered from a number on
-abbrev pub Plays : ℕ → List Area → List Line → List Entry → List Area → Type 0
-Plays n A [] [] B = B ≡ A
-Plays n A [] (entry ∷ entries) B = ⊥
-Plays n A (line ∷ lines) [] B = ⊥
-Plays n A (line ∷ lines) (entry ∷ entries) B = (C : List Area) × IsPlayedAs n A line entry C × Plays (n + 1) C lines entries B
+-- as many entries as lines
+entries_length : (worker : ℕ) (lines : List Turn) (entries : List Entry) → AreEntriesOf worker lines entries → length entries ≡ length lines
+entries_length worker [] [] h = refl
+entries_length worker [] (e ∷ es) h = absurd h
+entries_length worker (l ∷ ls) [] h = absurd h
+entries_length worker (l ∷ ls) (e ∷ es) h = let rest = entries_length worker ls es h.1 in omega arith
 
-plus_none : (n : ℕ) → n + 0 ≡ n
-plus_none n = omega arith
+-- the list of each number
+numbered_list : {A : Type 0} (f : ℕ → A) (from n k j : ℕ) → k < n → from + k ≡ j → get_elem? (map f (range_with_len from n)) k ≡ some (f j)
+numbered_list f from zero k j low is = absurd (omega arith)
+numbered_list f from (suc n) zero j low is = ap (λ (i : ℕ). some (f i)) (let same : from ≡ j = omega arith in same)
+numbered_list f from (suc n) (suc k) j low is = numbered_list f (from + 1) n k j (omega arith) (omega arith)
 
-plus_one : (n k : ℕ) → n + suc k ≡ n + 1 + k
-plus_one n k = omega arith
+dealt_length : (threads : ℕ) (lines : List Line) → length (dealt threads lines) ≡ threads
+dealt_length threads lines = length-map-range_with_len (worker_lines threads lines) 0 threads
 
-none_plus : (i k : ℕ) → k ≡ i → i ≡ 0 + k
-none_plus i k same = omega arith
+-- one entry for each line
+pub as_many : (threads : ℕ) (lines : List Line) (entries : List Entry) → 0 < threads → IsCollected (dealt threads lines) entries → length entries ≡ length lines
+as_many threads lines entries some_threads h =
+    let count = dealt_length threads lines in
+    sym (parts_whole (λ (e : Entry). e.worker) threads entries (λ k above. h.no_other k (omega arith)))
+    ∙ total_same threads (λ k. length (entries_of k entries)) (λ k. length (own_lines threads lines k))
+    (λ k low. entries_length k (worker_lines threads lines k) (entries_of k entries) (h.lines k (worker_lines threads lines k) (numbered_list (worker_lines threads lines) 0 threads k k low (omega arith))) ∙ length-map (own_lines threads lines k) played_line)
+    ∙ parts_whole (worker_of threads) threads lines (none_above (worker_of threads) threads (λ line. mod-lt line.process some_threads) lines)
 
-plays_more : (n : ℕ) (A : List Area) (lines : List Line) (entries : List Entry) (B C : List Area) (line : Line) (entry : Entry)
-    → Plays n A lines entries B → IsPlayedAs (n + length entries) B line entry C
-    → Plays n A (lines ++ line ∷ []) (entries ++ entry ∷ []) C
-plays_more n A [] [] B C line entry so_far step =
-    let first : IsPlayedAs n B line entry C = subst (λ k. IsPlayedAs k B line entry C) (plus_none n) step in
-    (C, rw so_far at first, refl)
-plays_more n A [] (e ∷ es) B C line entry so_far step = absurd so_far
-plays_more n A (l ∷ ls) [] B C line entry so_far step = absurd so_far
-plays_more n A (l ∷ ls) (e ∷ es) B C line entry so_far step =
-    (so_far.0, so_far.1, plays_more (n + 1) so_far.0 ls es B C line entry so_far.2 (subst (λ k. IsPlayedAs k B line entry C) (plus_one n (length es)) step))
-
--- one line more
-pub plays_next : (A : List Area) (lines : List Line) (i number : ℕ) (d : Line) (entries new : List Entry) (B C : List Area) (entry : Entry)
-    → i < length lines → length entries ≡ i → number ≡ i → Plays 0 A (take i lines) entries B → IsPlayedAs number B (get_or lines i d) entry C
-    → new ≡ entries ++ entry ∷ [] → Plays 0 A (take (i + 1) lines) new C × (length new ≡ i + 1)
-plays_next A lines i number d entries new B C entry within count numbered so_far step is =
-    let line = get_or lines i d in
-    let longer : take (i + 1) lines ≡ take i lines ++ line ∷ [] = rw (add-one, take-suc lines i d) refl in
-    let all = plays_more 0 A (take i lines) entries B C line entry so_far (subst (λ k. IsPlayedAs k B line entry C) (none_plus number (length entries) (count ∙ sym numbered)) step) in
-    (rw (longer, is) all, omega (arith, ap length is, length-append entries (entry ∷ [])))
-
-collected : (n : ℕ) (A : List Area) (lines : List Line) (entries : List Entry) (B : List Area) → Plays n A lines entries B → IsCollected lines entries
-collected n A [] [] B h = tt
-collected n A [] (e ∷ es) B h = h
-collected n A (l ∷ ls) [] B h = h
-collected n A (l ∷ ls) (e ∷ es) B h = (h.1.of_line, collected (n + 1) h.0 ls es B h.2)
-
-numbered : (n : ℕ) (A : List Area) (lines : List Line) (entries : List Entry) (B : List Area) → Plays n A lines entries B → IsNumberedFrom n entries
-numbered n A [] [] B h = tt
-numbered n A [] (e ∷ es) B h = absurd h
-numbered n A (l ∷ ls) [] B h = tt
-numbered n A (l ∷ ls) (e ∷ es) B h = (h.1.numbered, numbered (n + 1) h.0 ls es B h.2)
-
-all_held : (n : ℕ) (A : List Area) (lines : List Line) (entries : List Entry) (B : List Area) → Plays n A lines entries B → Chains HeldAndReplies A entries B
-all_held n A [] [] B h = h
-all_held n A [] (e ∷ es) B h = absurd h
-all_held n A (l ∷ ls) [] B h = absurd h
-all_held n A (l ∷ ls) (e ∷ es) B h = (h.0, (h.1.held, h.1.given), all_held (n + 1) h.0 ls es B h.2)
-
-played : (A : List Area) (lines : List Line) (entries : List Entry) (B : List Area) → Plays 0 A lines entries B → IsPlayed A lines entries B
-played A lines entries B h =
-    let held = all_held 0 A lines entries B h in
-    let replied = chains_weaker HeldAndReplies HasRightReply (λ C e D step. step.1) A entries B held in
+-- what workers have played is what `run` says of it
+pub played : (threads : ℕ) (opening : List Area) (lines : List Line) (entries : List Entry) (last : List Area)
+    → WerePlayed opening (dealt threads lines) entries last → IsPlayed threads opening lines entries last
+played threads opening lines entries last h =
+    let replied = chains_weaker FitsAndReplies HasRightReply (λ A e B step. step.1) opening entries last h.runs.1 in
     record {
-      collected = collected 0 A lines entries B h;
-      legal = (numbered 0 A lines entries B h, (B, replied));
-      held = (B, held);
-      leaves = replied_state A entries B replied;
+      collected = h.collected;
+      legal = (h.runs.0, (last, replied));
+      fits = (last, h.runs.1);
+      alone = h.alone;
+      leaves = replied_state opening entries last replied;
+      calls = h.calls;
+      replies = h.replies;
     }
-
--- all lines
-pub played_all : (A : List Area) (lines : List Line) (i : ℕ) (entries : List Entry) (B : List Area) → i ≤ length lines → length lines ≤ i
-    → Plays 0 A (take i lines) entries B → IsPlayed A lines entries B
-played_all A lines i entries B low high h =
-    let whole : take i lines ≡ lines = take_all i lines high in
-    played A lines entries B (rw whole at h)

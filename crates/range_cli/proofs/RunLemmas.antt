@@ -1,22 +1,20 @@
--- What ends a run early wrote nothing and has its cause; what was played has an entry for each line.
-use Rattle.std.proofs.Common.{◌≡◌, Bool, true, false, inl, inr, ℕ, List, [], ◌∷◌, length, Option, None, Some, refl, arith}
+-- What ends a run early wrote nothing and has its cause.
+use Rattle.std.proofs.Common.{◌≡◌, Bool, true, false, inl, inr, ℕ, List, Option, None, Some, refl}
 use Rattle.std.specs.Io.KnownBytes.{Keeps}
-use Rattle.space_model.specs.declared.entries.Entry.{Entry}
 use Rattle.range_cli.specs.declared.status.EarlyEnd.{EarlyEnd}
 use Rattle.range_cli.specs.declared.status.EarlyEnd.TheVariants.{Refused, Failed, NoMemory, Above}
 use Rattle.range_cli.specs.declared.status.Status.TheVariants.{Usage}
 use Rattle.range_cli.specs.declared.status.Which.TheVariants.{Input, Line as OfLine, Lines as OfLines, Rows}
-use Rattle.range_cli.specs.declared.trace.Line.{Line}
-use Rattle.range_cli.specs.declared.words.Options.{Options}
+use Rattle.range_cli.specs.declared.commands.Command.TheVariants.{Play}
+use Rattle.range_cli.specs.declared.commands.Options.{Options}
 use Rattle.range_cli.specs.Input.{IsInput}
 use Rattle.range_cli.specs.Opening.{EndsMap, EndsMaps, EndsOpening}
 use Rattle.range_cli.specs.Opening.EndsMaps.{here as here_map, later as later_map}
-use Rattle.range_cli.specs.Play.{IsCollected}
 use Rattle.range_cli.specs.Script.{EndsInput, EndsEarly}
 use Rattle.range_cli.specs.Status.{status_of, OrMemory}
 use Rattle.range_cli.specs.Trace.{Standing, Ends, EndsAt}
 use Rattle.range_cli.specs.Trace.EndsAt.{here, later}
-use Rattle.range_cli.specs.Words.{Accepts}
+use Rattle.range_cli.specs.Commands.{Spells}
 use Rattle.range_cli.specs.Run.{Wrote, HasCause, EndsByInput}
 
 -- the bytes of an input end a run with a refusal, or with another limit than that on their number
@@ -83,36 +81,29 @@ never_usage NoMemory is = cc
 never_usage (Above which value) is = cc
 
 -- its bytes ended the run
-by_bytes : (words : List (List ℕ)) (options : Options) (a b : Option (List ℕ)) (end : EarlyEnd) → Accepts words options
+by_bytes : (words : List (List ℕ)) (options : Options) (threads : ℕ) (a b : Option (List ℕ)) (end : EarlyEnd) → Spells words (Play options threads)
     → ((bytes : List ℕ) × IsInput a b bytes × EndsInput options bytes end) → EndsByInput words a b end
-by_bytes words options a b end accepted (bytes, input, h) = record { options = options; accepted = accepted; bytes = bytes; input = input; holds = h }
+by_bytes words options threads a b end accepted (bytes, input, h) = record { options = options; threads = threads; accepted = accepted; bytes = bytes; input = input; holds = h }
 
 -- an early end has its cause
-pub has_cause : (words : List (List ℕ)) (options : Options) (a b : Option (List ℕ)) (m n : ℕ) (failures : ℕ × ℕ) (end : EarlyEnd) → Accepts words options
+pub has_cause : (words : List (List ℕ)) (options : Options) (threads : ℕ) (a b : Option (List ℕ)) (m n : ℕ) (failures : ℕ × ℕ) (end : EarlyEnd) → Spells words (Play options threads)
     → OrMemory (EndsEarly options a b m n) end → HasCause words a b (m, n) failures (status_of end)
-has_cause words options a b m n failures (Refused line column what) accepted (inl h) = absurd cc
-has_cause words options a b m n failures (Refused line column what) accepted (inr (inl h)) = absurd h
-has_cause words options a b m n failures (Refused line column what) accepted (inr (inr h)) = by_bytes words options a b _ accepted h
-has_cause words options a b m n failures Failed accepted (inl h) = absurd cc
-has_cause words options a b m n failures Failed accepted (inr (inl h)) = h
-has_cause words options a b m n failures Failed accepted (inr (inr h)) = absurd (of_bytes options h.0 Failed h.2)
-has_cause words options a b m n failures NoMemory accepted h = tt
-has_cause words options a b m n failures (Above Input value) accepted (inl h) = absurd cc
-has_cause words options a b m n failures (Above Input value) accepted (inr (inl h)) = (h.0, h.1, (options, accepted))
-has_cause words options a b m n failures (Above Input value) accepted (inr (inr h)) = absurd (of_bytes options h.0 (Above Input value) h.2)
-has_cause words options a b m n failures (Above OfLine value) accepted (inl h) = absurd cc
-has_cause words options a b m n failures (Above OfLine value) accepted (inr (inl h)) = absurd h
-has_cause words options a b m n failures (Above OfLine value) accepted (inr (inr h)) = by_bytes words options a b _ accepted h
-has_cause words options a b m n failures (Above OfLines value) accepted (inl h) = absurd cc
-has_cause words options a b m n failures (Above OfLines value) accepted (inr (inl h)) = absurd h
-has_cause words options a b m n failures (Above OfLines value) accepted (inr (inr h)) = by_bytes words options a b _ accepted h
-has_cause words options a b m n failures (Above Rows value) accepted (inl h) = absurd cc
-has_cause words options a b m n failures (Above Rows value) accepted (inr (inl h)) = absurd h
-has_cause words options a b m n failures (Above Rows value) accepted (inr (inr h)) = by_bytes words options a b _ accepted h
-
--- one entry for each line
-pub as_many : (lines : List Line) (entries : List Entry) → IsCollected lines entries → length entries ≡ length lines
-as_many [] [] h = refl
-as_many [] (entry ∷ entries) h = absurd h
-as_many (line ∷ lines) [] h = absurd h
-as_many (line ∷ lines) (entry ∷ entries) h = omega (arith, as_many lines entries h.1)
+has_cause words options threads a b m n failures (Refused line column what) accepted (inl h) = absurd cc
+has_cause words options threads a b m n failures (Refused line column what) accepted (inr (inl h)) = absurd h
+has_cause words options threads a b m n failures (Refused line column what) accepted (inr (inr h)) = by_bytes words options threads a b _ accepted h
+has_cause words options threads a b m n failures Failed accepted (inl h) = absurd cc
+has_cause words options threads a b m n failures Failed accepted (inr (inl h)) = h
+has_cause words options threads a b m n failures Failed accepted (inr (inr h)) = absurd (of_bytes options h.0 Failed h.2)
+has_cause words options threads a b m n failures NoMemory accepted h = tt
+has_cause words options threads a b m n failures (Above Input value) accepted (inl h) = absurd cc
+has_cause words options threads a b m n failures (Above Input value) accepted (inr (inl h)) = (h.0, h.1, (options, threads, accepted))
+has_cause words options threads a b m n failures (Above Input value) accepted (inr (inr h)) = absurd (of_bytes options h.0 (Above Input value) h.2)
+has_cause words options threads a b m n failures (Above OfLine value) accepted (inl h) = absurd cc
+has_cause words options threads a b m n failures (Above OfLine value) accepted (inr (inl h)) = absurd h
+has_cause words options threads a b m n failures (Above OfLine value) accepted (inr (inr h)) = by_bytes words options threads a b _ accepted h
+has_cause words options threads a b m n failures (Above OfLines value) accepted (inl h) = absurd cc
+has_cause words options threads a b m n failures (Above OfLines value) accepted (inr (inl h)) = absurd h
+has_cause words options threads a b m n failures (Above OfLines value) accepted (inr (inr h)) = by_bytes words options threads a b _ accepted h
+has_cause words options threads a b m n failures (Above Rows value) accepted (inl h) = absurd cc
+has_cause words options threads a b m n failures (Above Rows value) accepted (inr (inl h)) = absurd h
+has_cause words options threads a b m n failures (Above Rows value) accepted (inr (inr h)) = by_bytes words options threads a b _ accepted h

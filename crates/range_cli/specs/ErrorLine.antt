@@ -36,10 +36,10 @@ bad_line_text line column what = numbered (codes "line ") line (codes " column "
 
 -- the line for a status; none for a whole report
 unfoldable pub error_line : Status → List ℕ
-error_line Done = []
+error_line (Done closed) = []
 error_line Usage = codes "usage: play [--threads N] [--opening] [--log] or load --seed N --threads N --calls N\n"
 error_line (BadLine line column what) = bad_line_text line column what
 error_line ReadFault = codes "read fault\n"
-error_line WriteFault = codes "write fault\n"
+error_line (WriteFault closed) = codes "write fault\n"
 error_line Memory = codes "out of memory\n"
 error_line (Limit which value) = numbered (which_text which) value (codes "\n")

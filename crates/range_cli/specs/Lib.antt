@@ -1,12 +1,15 @@
 pub mod Lines
 pub mod Input
-pub mod Words
 pub mod Status
 pub mod Trace
 pub mod TraceReader
 pub mod ErrorLine
+pub mod Dealt
 pub mod Play
 pub mod Report
 pub mod Run
 pub mod Opening
 pub mod Script
+pub mod Laws
+pub mod Commands
+pub mod Load

@@ -1,6 +1,7 @@
 -- The report of a run, as one text: the log where it is asked for, the maps of the last areas, and the summary. The
 -- texts of its parts are the printer's. The order of the parts and what is counted are this project's own profile.
-use Rattle.std.specs.Prelude.{◌≡◌, ◌⊎◌, ℕ, ◌+◌, ◌∷◌, Bool, true, false, List, [], ◌++◌, length, count_by, if◌then◌else◌}
+use Rattle.std.specs.Prelude.{◌≡◌, ◌≢◌, ◌⊎◌, ℕ, ◌+◌, ◌<◌, ◌∷◌, Bool, true, false, List, [], ◌++◌, length, count_by, slice_index_or, if◌then◌else◌}
+use Rattle.std.specs.List.{AllPairs, Contains}
 use Rattle.page_types.specs.declared.calls.Reply.{Reply}
 use Rattle.page_types.specs.declared.calls.Reply.TheVariants.{At, Zero, Granted, Refused}
 use Rattle.space_model.specs.declared.areas.Area.{Area}
@@ -9,7 +10,7 @@ use Rattle.maps_printer.specs.Lines.{log_text, maps_text, summary_text}
 use Rattle.strace_reader.specs.Playing.{Differs}
 use Rattle.range_cli.specs.declared.report.Counts.{Counts}
 use Rattle.range_cli.specs.declared.trace.Line.{Line}
-use Rattle.range_cli.specs.declared.words.Options.{Options}
+use Rattle.range_cli.specs.declared.commands.Options.{Options}
 
 -- the reply is a refusal
 abbrev pub is_refused : Reply → Bool
@@ -22,14 +23,28 @@ is_refused (Refused why) = true
 abbrev pub refused_count : List Entry → ℕ
 refused_count entries = count_by (λ entry. is_refused entry.reply) entries
 
+-- the numbers of the lines rise
+abbrev pub Rise : List Line → Type 0
+Rise lines = AllPairs (λ one other. one.number < other.number) lines
+
+-- the line of this number stands at that place
+abbrev pub IsPlaceOf : List Line → ℕ → ℕ → Type 0
+IsPlaceOf lines number place = (place < length lines) × ((d : Line) → (slice_index_or lines place d).number ≡ number)
+
+-- no line has this number
+abbrev pub HasNoLine : List Line → ℕ → Type 0
+HasNoLine lines number = (line : Line) → Contains lines line → line.number ≢ number
+
+-- the entry's reply differs from the recorded result of its line
+abbrev pub DiffersFromLine : List Line → Entry → Type 0
+DiffersFromLine lines entry = (line : Line) × Contains lines line × (line.number ≡ entry.line) × Differs entry.reply line.recorded
+
 -- so many entries have a reply that differs from the recorded result of their line
 abbrev pub Differing : List Line → List Entry → ℕ → Type 0
-Differing [] [] count = count ≡ 0
-Differing [] (entry ∷ entries) count = ⊥
-Differing (line ∷ lines) [] count = ⊥
-Differing (line ∷ lines) (entry ∷ entries) count =
-    (Differs entry.reply line.recorded × ((rest : ℕ) × Differing lines entries rest × (count ≡ 1 + rest)))
-    ⊎ ((¬ Differs entry.reply line.recorded) × Differing lines entries count)
+Differing lines [] count = count ≡ 0
+Differing lines (entry ∷ entries) count =
+    (DiffersFromLine lines entry × ((rest : ℕ) × Differing lines entries rest × (count ≡ 1 + rest)))
+    ⊎ ((¬ DiffersFromLine lines entry) × Differing lines entries count)
 
 -- the log, where it is asked for
 abbrev pub asked_log : Options → List Entry → List ℕ

@@ -1,6 +1,7 @@
 -- How an early end becomes the status of a run, and the exit status of each; both are this project's own profile. Out
 -- of memory is the one early end that has no cause to show. That it may come anywhere is said in one place, `OrMemory`.
-use Rattle.std.specs.Prelude.{◌≡◌, ◌⊎◌, ℕ}
+-- A status that carries the history of a run is told from others by `ending`, which leaves the history away.
+use Rattle.std.specs.Prelude.{◌≡◌, ◌⊎◌, ℕ, None}
 use Rattle.range_cli.specs.declared.status.EarlyEnd.{EarlyEnd}
 use Rattle.range_cli.specs.declared.status.EarlyEnd.TheVariants.{Refused, Failed, NoMemory, Above}
 use Rattle.range_cli.specs.declared.status.Status.{Status}
@@ -19,10 +20,20 @@ OrMemory Ends end = (end ≡ NoMemory) ⊎ Ends end
 
 -- the exit status
 abbrev pub exit_code : Status → ℕ
-exit_code Done = 0
+exit_code (Done closed) = 0
 exit_code Usage = 2
 exit_code (BadLine line column what) = 3
 exit_code ReadFault = 4
-exit_code WriteFault = 5
+exit_code (WriteFault closed) = 5
 exit_code Memory = 6
 exit_code (Limit which value) = 7
+
+-- the status without the history that it carries
+abbrev pub ending : Status → Status
+ending (Done closed) = Done None
+ending Usage = Usage
+ending (BadLine line column what) = BadLine line column what
+ending ReadFault = ReadFault
+ending (WriteFault closed) = WriteFault None
+ending Memory = Memory
+ending (Limit which value) = Limit which value

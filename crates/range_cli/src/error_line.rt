@@ -5,6 +5,7 @@ ghost use Rattle.std.specs.Prelude.{◌≡◌, ◌≤◌, OnOk, OnErr, decimal};
 ghost use Rattle.std.specs.Io.KnownBytes.{Appends};
 ghost use Rattle.byte_ports.specs.Bytes.{AppendsPrefix};
 ghost use Rattle.byte_ports.specs.Counts.{Rose};
+ghost use Rattle.range_cli.specs.Run.{IsDone};
 ghost use Rattle.range_cli.specs.ErrorLine.{error_line, what_text, which_text, bad_line_text, numbered};
 
 use crate::status::{Status, Which};
@@ -25,16 +26,16 @@ pub fn write_error<K: Sink>(err: &mut K, status: &Status) -> Result<(), Failed>
     ensures failed_prefix { OnErr result
         (AppendsPrefix (K.contents err.old) (K.contents err.new) (error_line status.now)) }
     ensures failed_rose { OnErr result (Rose (K.fault_count err.old) (K.fault_count err.new)) }
-    ensures silent { status.now ≡ Status.Done → err.new ≡ err.old }
+    ensures silent { IsDone status.now → err.new ≡ err.old }
 {
-    match *status {
-        Status::Done => Ok(()),
+    match status {
+        Status::Done(_) => Ok(()),
         Status::Usage => write_all(err, USAGE),
-        Status::BadLine { line, column, what } => write_bad_line(err, line, column, what),
+        Status::BadLine { line, column, what } => write_bad_line(err, *line, *column, *what),
         Status::ReadFault => write_all(err, b"read fault\n"),
-        Status::WriteFault => write_all(err, b"write fault\n"),
+        Status::WriteFault(_) => write_all(err, b"write fault\n"),
         Status::Memory => write_all(err, b"out of memory\n"),
-        Status::Limit { which, value } => write_numbered(err, limit(which), value, b"\n"),
+        Status::Limit { which, value } => write_numbered(err, limit(*which), *value, b"\n"),
     }
 }
 

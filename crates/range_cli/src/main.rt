@@ -3,9 +3,17 @@
 //! said on it. This file ties it to the process: its words, its standard streams and its exit status.
 #![tactic(auto)]
 
+#[cfg(test)]
+mod command_tests;
+mod commands;
+mod dealing;
 mod error_line;
+#[cfg(test)]
+mod gate_tests;
 mod input;
+mod laws;
 mod lines;
+mod load;
 mod opening;
 mod play;
 mod processes;
@@ -16,7 +24,10 @@ mod status;
 #[cfg(test)]
 mod tests;
 mod trace;
-mod words;
+#[cfg(test)]
+mod trial;
+#[cfg(test)]
+mod worker_tests;
 
 use crate::error_line::write_error;
 use crate::run::run;
@@ -24,6 +35,7 @@ use crate::status::Status;
 use byte_ports::{StdSink, StdSource};
 use std::process::ExitCode;
 use std::{env, io};
+use trace_threads::OpenGate;
 
 /// Runs the program on the process's own streams.
 fn main(rt: HostRuntime) -> ExitCode {
@@ -39,7 +51,15 @@ fn main(rt: HostRuntime) -> ExitCode {
     };
     let mut input = StdSource::new(rt.stdin());
     let mut out = StdSink::output(rt.stdout());
-    let status = run(rt.alloc(), &words, &mut input, &mut out, &mut err);
+    let status = run(
+        &rt,
+        rt.alloc(),
+        &words,
+        &mut input,
+        &mut out,
+        &mut err,
+        &OpenGate,
+    );
     ExitCode::from(status.code())
 }
 

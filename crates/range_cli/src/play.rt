@@ -1,54 +1,42 @@
-//! Playing the lines of a trace on the address space of one thread: one entry for each line, numbered from 0. The
-//! entries are a legal history in the sense of Herlihy and Wing (TOPLAS 1990). A reader may rely on each entry being
-//! right at the areas that the entries before it leave.
-ghost use Rattle.std.specs.Prelude.{◌≤◌, length, All, IfOk};
-ghost use Rattle.range_cli.specs.Play.{IsPlayed, IsPlayedAs};
+//! Playing the lines of a trace on a running address space. The lines are dealt out to workers, which play them beside
+//! each other; the crate `trace_threads` opens the space, lets the workers play and closes it. A reader may rely on
+//! what is given being the whole history of that space, since nothing but a closing makes one.
+ghost use Rattle.std.specs.Prelude.{◌≡◌, ◌<◌, ◌≤◌, length, All, IfOk};
+ghost use Rattle.page_types.specs.declared.TheConstants.{ROWS};
+ghost use Rattle.space_model.specs.Areas.{row_count};
+ghost use Rattle.range_cli.specs.Play.{IsPlayed};
 ghost use Rattle.range_cli.specs.Trace.{IsNamedLine};
 ghost use Rattle.range_cli.specs.declared.trace.TheConstants.{LINES_LIMIT};
 
+use crate::dealing::deal_lines;
 use crate::trace::Line;
-use space_model::{Entry, PlainSpace};
+use area_rows::Closed;
+use space_model::PlainSpace;
 use std::alloc::{AllocError, Global};
-use strace_reader::as_played;
+use std::sync::Wait;
+use std::thread::Threads;
+use trace_threads::{Gate, play_trace};
 
-/// What playing has left: the space, and one entry for each line.
-#[derive(Debug, Drop)]
-pub struct Played {
-    /// The space after the last call.
-    pub space: PlainSpace,
-    /// The entries, in the order of the lines.
-    pub entries: Vec<Entry>,
-}
-
-/// Plays the lines on a space, in their order, as worker 0.
-pub fn play(alloc: Global, opening: PlainSpace, lines: &[Line]) -> Result<Played, AllocError>
+/// Plays the lines from these areas on by so many workers, each its own in their order, and gives the whole history and
+/// the areas that are left. All memory is taken before the first call is played and in the closing of the space.
+pub fn play<R: Threads + Wait + Sync, G: Gate>(
+    wait: &R,
+    alloc: Global,
+    threads: u32,
+    opening: &PlainSpace,
+    lines: &[Line],
+    gate: &G,
+) -> Result<Closed, AllocError>
+    requires some { 0 < threads }
+    requires threads { threads ≤ 16 }
+    requires rows { row_count opening.now ≤ ROWS }
     requires named { All IsNamedLine lines.now }
     requires few { length lines.now ≤ LINES_LIMIT }
-    ensures { IfOk result (λ played. IsPlayed opening lines.now played.entries.items played.space) }
+    ensures { IfOk result (λ closed. IsPlayed threads opening.now lines.now closed.entries closed.areas) }
 {
-    let mut space = opening;
-    let mut entries = Vec::with_capacity(alloc, lines.len())?;
-    for line in lines {
-        let number = entries.len() as u64;
-        entries.push(play_line(&mut space, line, number)?)?;
+    let dealt = deal_lines(alloc, threads, lines)?;
+    match play_trace(wait, alloc, opening, dealt, gate) {
+        Ok(closed) => Ok(closed),
+        Err(_) => Err(AllocError),
     }
-    Ok(Played { space, entries })
-}
-
-/// Plays one line, as the entry of a number.
-fn play_line(space: &mut PlainSpace, line: &Line, number: u64) -> Result<Entry, AllocError>
-    requires { IsNamedLine line.now }
-    ensures { IfOk result (λ entry. IsPlayedAs number space.old line.now entry space.new) }
-{
-    let call = as_played(&line.call, line.recorded);
-    let under = space.under(&call);
-    let reply = space.step(&call)?;
-    Ok(Entry {
-        number,
-        worker: 0,
-        line: line.number,
-        call,
-        reply,
-        under,
-    })
 }

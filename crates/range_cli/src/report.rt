@@ -1,14 +1,14 @@
 //! The report of a run: the log where it is asked for, the maps that are left, and the summary. The texts of the parts
 //! are those of the crate `maps_printer`. A reader may rely on the output being the whole report, or a first part of it
 //! where the sink failed.
-ghost use Rattle.std.specs.Prelude.{◌≡◌, ◌≤◌, ◌^◌, ◌<◌, length, OnOk, OnErr};
+ghost use Rattle.std.specs.Prelude.{◌≡◌, ◌≤◌, ◌^◌, ◌<◌, ◌↔◌, length, IfSome, IsNone, IsTrue, OnOk, OnErr};
 ghost use Rattle.std.specs.Io.KnownBytes.{Appends};
 ghost use Rattle.byte_ports.specs.Bytes.{AppendsPrefix};
 ghost use Rattle.byte_ports.specs.Counts.{Rose};
-ghost use Rattle.range_cli.specs.Report.{report_text, asked_log, is_refused, refused_count, Differing};
+ghost use Rattle.range_cli.specs.Report.{report_text, asked_log, is_refused, refused_count, Differing, DiffersFromLine, HasNoLine, IsPlaceOf, Rise};
 
+use crate::commands::Options;
 use crate::trace::Line;
-use crate::words::Options;
 use byte_ports::{Failed, Sink};
 use maps_printer::{write_log, write_maps, write_summary};
 use page_types::Reply;
@@ -86,15 +86,45 @@ fn is_refused(reply: Reply) -> bool
 
 /// How many replies differ from the recorded result of their line.
 pub fn differ_count(lines: &[Line], entries: &[Entry]) -> u32
-    requires each { length lines.now ≡ length entries.now }
-    requires few { length lines.now < 2 ^ 32 }
+    requires rising { Rise lines.now }
+    requires few { length entries.now < 2 ^ 32 }
     ensures { Differing lines.now entries.now result }
 {
     let mut count = 0;
-    for (i, line) in lines.iter().enumerate() {
-        if differs(&entries[i].reply, line.recorded) {
+    let mut near = 0;
+    'entries: for entry in entries {
+        let (differs, next) = differs_from_line(lines, entry, near);
+        near = next;
+        if differs {
             count += 1;
         }
     }
     count
+}
+
+/// Whether an entry's reply differs from the recorded result of its line, which is looked for at one place first; and
+/// where to look first for the line of the next entry.
+fn differs_from_line(lines: &[Line], entry: &Entry, near: usize) -> (bool, usize)
+    requires { Rise lines.now }
+    ensures { IsTrue result.0 ↔ DiffersFromLine lines.now entry.now }
+{
+    match place_of(lines, entry.line, near) {
+        Some(place) => (differs(&entry.reply, lines[place].recorded), place + 1),
+        None => (false, near),
+    }
+}
+
+/// Where the line of a number stands: looked for at one place first, and otherwise by halving.
+fn place_of(lines: &[Line], number: u32, near: usize) -> Option<usize>
+    requires rising { Rise lines.now }
+    ensures found { IfSome result (IsPlaceOf lines.now number) }
+    ensures none { IsNone result → HasNoLine lines.now number }
+{
+    if near < lines.len() && lines[near].number == number {
+        return Some(near);
+    }
+    match lines.binary_search_by_key(&number, |line| line.number) {
+        Ok(place) => Some(place),
+        Err(_) => None,
+    }
 }

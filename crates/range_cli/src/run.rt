@@ -1,28 +1,42 @@
-//! The whole program over a source and two sinks: words, input, lines, calls, report. What `run` wrote is what the
-//! input says; why it ended otherwise is said by its status. Each status comes only with its cause, and the run ends
-//! with the one status that the words and the input call for, unless there was no memory or a port failed.
-ghost use Rattle.std.specs.Prelude.{◌≡◌, ◌⊎◌, ℕ, List, Some, map};
+//! The whole program over a source and two sinks: words, input, lines, calls, report. The calls are played by workers
+//! beside each other, on one shared address space. What `run` wrote is the report of that space's history, which its
+//! status carries; why it ended otherwise is said by its status too. Each status comes only with its cause, and the run
+//! ends with the one status that the words and the input call for, unless there was no memory or a port failed.
+ghost use Rattle.std.specs.Prelude.{◌≡◌, ◌≢◌, ◌⊎◌, ◌<◌, ◌≤◌, ℕ, List, Option, Some, map};
 ghost use Rattle.std.specs.String.{string_bytes};
-ghost use Rattle.range_cli.specs.Words.{RefusesWords};
-ghost use Rattle.range_cli.specs.Run.{Wrote, IsUnwritten, HasCause, IsOnlyOutcome, IsHindered, Complains};
+ghost use Rattle.load_lines.specs.declared.TheConstants.{SEED_LIMIT, THREADS_LIMIT, CALLS_LIMIT};
+ghost use Rattle.range_cli.specs.Commands.{Spells, RefusesWords, AskForLoad, AskForOne};
+ghost use Rattle.range_cli.specs.declared.commands.Command.TheVariants.{Play, Load};
+ghost use Rattle.range_cli.specs.Run.{Wrote, IsDone, IsUnwritten, HasCause, IsOnlyOutcome, IsHindered, Complains};
 
+use crate::commands::{Command, Options, command_of};
 use crate::error_line::write_error;
+use crate::laws::one_worker_plays_one_history;
+use crate::load::lines_of_load;
 use crate::play::play;
 use crate::report::{Counts, differ_count, refused_count, write_report};
 use crate::script::read_script;
 use crate::status::Status;
-use crate::words::options_of;
 use byte_ports::{Sink, Source};
+use maps_printer::write_summary;
+use space_model::PlainSpace;
 use std::alloc::Global;
+use std::sync::Wait;
+use std::thread::Threads;
+use trace_threads::Gate;
 
-/// Plays the trace of `input` as `words` ask for, the words behind the program's name, and writes the report to `out`.
-/// Where the run ends otherwise, the reason goes to `err` as one line; if that write fails the status stays.
-pub fn run<S: Source, K: Sink>(
+/// Plays the trace of `input` or a load, as `words` ask for, the words behind the program's name, and writes the report
+/// to `out`.
+/// Where the run ends otherwise, the reason goes to `err` as one line; if that write fails the status stays. `gate` is
+/// called before and after each line. It waits until every worker has played its lines.
+pub fn run<R: Threads + Wait + Sync, S: Source, K: Sink, G: Gate>(
+    wait: &R,
     alloc: Global,
     words: &[String],
     input: &mut S,
     out: &mut K,
     err: &mut K,
+    gate: &G,
 ) -> Status
     ensures out { Wrote (map string_bytes words.now) (S.remaining input.old)
         (S.remaining input.new) (K.contents out.old) (K.contents out.new) result }
@@ -30,26 +44,34 @@ pub fn run<S: Source, K: Sink>(
         (S.remaining input.new) (S.fault_count input.old, S.fault_count input.new)
         (K.fault_count out.old, K.fault_count out.new) result }
     // The run ends with the one status that the words and the bytes of the input call for, unless there was no memory
-    // or
-    // a port failed. So with accepted words, readable lines and all limits kept it is done.
+    // or a port failed. So with accepted words, readable lines and all limits kept it is done.
     ensures complete { (bytes : List ℕ) → S.remaining input.old ≡ Some bytes
         → IsOnlyOutcome (map string_bytes words.now) bytes result
         ⊎ IsHindered (S.fault_count input.old, S.fault_count input.new)
         (K.fault_count out.old, K.fault_count out.new) result }
     ensures usage { RefusesWords (map string_bytes words.now) → result ≡ Status.Usage }
     ensures nothing_read { result ≡ Status.Usage → input.new ≡ input.old }
+    ensures load_reads_nothing { AskForLoad (map string_bytes words.now) → input.new ≡ input.old }
     ensures nothing_written { IsUnwritten result → out.new ≡ out.old }
     ensures err { Complains (K.contents err.old) (K.contents err.new)
         (K.fault_count err.old) (K.fault_count err.new) result }
-    ensures silent { result ≡ Status.Done → err.new ≡ err.old }
+    ensures silent { IsDone result → err.new ≡ err.old }
 {
-    let status = report(alloc, words, input, out);
+    one_worker_plays_one_history();
+    let status = report(wait, alloc, words, input, out, gate);
     let _ = write_error(err, &status);
     status
 }
 
 /// The whole of a run but its line on standard error.
-fn report<S: Source, K: Sink>(alloc: Global, words: &[String], input: &mut S, out: &mut K) -> Status
+fn report<R: Threads + Wait + Sync, S: Source, K: Sink, G: Gate>(
+    wait: &R,
+    alloc: Global,
+    words: &[String],
+    input: &mut S,
+    out: &mut K,
+    gate: &G,
+) -> Status
     ensures out { Wrote (map string_bytes words.now) (S.remaining input.old)
         (S.remaining input.new) (K.contents out.old) (K.contents out.new) result }
     ensures cause { HasCause (map string_bytes words.now) (S.remaining input.old)
@@ -57,25 +79,94 @@ fn report<S: Source, K: Sink>(alloc: Global, words: &[String], input: &mut S, ou
         (K.fault_count out.old, K.fault_count out.new) result }
     ensures usage { RefusesWords (map string_bytes words.now) → result ≡ Status.Usage }
     ensures nothing_read { result ≡ Status.Usage → input.new ≡ input.old }
+    ensures load_reads_nothing { AskForLoad (map string_bytes words.now) → input.new ≡ input.old }
+    ensures nothing_written { IsUnwritten result → out.new ≡ out.old }
+    ensures one { AskForOne (map string_bytes words.now) }
+{
+    match command_of(words) {
+        Some(Command::Play { options, threads }) => {
+            play_input(wait, alloc, options, threads, input, out, gate)
+        }
+        Some(
+            Command::Load {
+                seed,
+                threads,
+                calls,
+            },
+        ) => play_load(wait, alloc, seed, threads, calls, out, gate),
+        None => Status::Usage,
+    }
+}
+
+/// Plays the lines of an input, and writes its report. What is said of it is so of all words that ask for this.
+fn play_input<R: Threads + Wait + Sync, S: Source, K: Sink, G: Gate>(
+    wait: &R,
+    alloc: Global,
+    options: Options,
+    threads: u32,
+    input: &mut S,
+    out: &mut K,
+    gate: &G,
+) -> Status
+    requires some_threads { 0 < threads }
+    requires few_threads { threads ≤ 16 }
+    ensures out { (words : List (List ℕ)) → Spells words (Play options threads) → Wrote words (S.remaining input.old)
+        (S.remaining input.new) (K.contents out.old) (K.contents out.new) result }
+    ensures cause { (words : List (List ℕ)) → Spells words (Play options threads) → HasCause words (S.remaining input.old)
+        (S.remaining input.new) (S.fault_count input.old, S.fault_count input.new)
+        (K.fault_count out.old, K.fault_count out.new) result }
+    ensures no_usage { result ≢ Status.Usage }
     ensures nothing_written { IsUnwritten result → out.new ≡ out.old }
 {
-    let Some(options) = options_of(words) else {
-        return Status::Usage;
-    };
     let script = match read_script(alloc, options, input) {
         Ok(script) => script,
         Err(end) => return end.status(),
     };
-    let Ok(played) = play(alloc, script.opening, &script.lines) else {
+    let Ok(closed) = play(wait, alloc, threads, &script.opening, &script.lines, gate) else {
         return Status::Memory;
     };
     let counts = Counts {
         skipped: script.skipped,
-        refused: refused_count(&played.entries),
-        differ: differ_count(&script.lines, &played.entries),
+        refused: refused_count(closed.entries()),
+        differ: differ_count(&script.lines, closed.entries()),
     };
-    match write_report(out, options, &played.entries, played.space.areas(), counts) {
-        Ok(()) => Status::Done,
-        Err(_) => Status::WriteFault,
+    match write_report(out, options, closed.entries(), closed.areas(), counts) {
+        Ok(()) => Status::Done(Some(closed)),
+        Err(_) => Status::WriteFault(Some(closed)),
+    }
+}
+
+/// Plays the lines of a load on an empty space, and writes its summary. What is said of it is so of all words that ask
+/// for this, whatever the input is.
+fn play_load<R: Threads + Wait + Sync, K: Sink, G: Gate>(
+    wait: &R,
+    alloc: Global,
+    seed: u32,
+    threads: u32,
+    calls: u32,
+    out: &mut K,
+    gate: &G,
+) -> Status
+    requires seed { seed ≤ SEED_LIMIT }
+    requires some_threads { 0 < threads }
+    requires few_threads { threads ≤ THREADS_LIMIT }
+    requires calls { calls ≤ CALLS_LIMIT }
+    ensures out { (words : List (List ℕ)) (input : Option (List ℕ)) → Spells words (Load seed threads calls)
+        → Wrote words input input (K.contents out.old) (K.contents out.new) result }
+    ensures cause { (words : List (List ℕ)) (input : Option (List ℕ)) (failures : ℕ × ℕ) → Spells words (Load seed threads calls)
+        → HasCause words input input failures (K.fault_count out.old, K.fault_count out.new) result }
+    ensures no_usage { result ≢ Status.Usage }
+    ensures nothing_written { IsUnwritten result → out.new ≡ out.old }
+{
+    let Ok(lines) = lines_of_load(alloc, seed, threads, calls) else {
+        return Status::Memory;
+    };
+    let Ok(closed) = play(wait, alloc, threads, &PlainSpace::new(alloc), &lines, gate) else {
+        return Status::Memory;
+    };
+    let played = closed.entries().len() as u32;
+    match write_summary(out, played, 0, refused_count(closed.entries()), 0) {
+        Ok(()) => Status::Done(Some(closed)),
+        Err(_) => Status::WriteFault(Some(closed)),
     }
 }

@@ -3,6 +3,7 @@
 //! code that reads can't say that a run is done. The statuses and their numbers are this project's own profile.
 ghost use Rattle.std.specs.Prelude.{◌≡◌};
 
+use area_rows::Closed;
 use strace_reader::What;
 
 /// Which limit an input passes.
@@ -47,11 +48,12 @@ impl EarlyEnd {
     }
 }
 
-/// How a run ends.
-#[derive(Clone, Copy, Debug, PartialEq, Eq)]
+/// How a run ends. Where it wrote something it carries what the closing of its space gave: nothing else makes one, so
+/// the report is that of a space on which the run played.
+#[derive(Drop)]
 pub enum Status {
     /// The whole report was written.
-    Done,
+    Done(Option<Closed>),
     /// The words of the command line are not accepted.
     Usage,
     /// A line is refused: its number, counted from 1, its column in bytes, counted from 1, and what was due there.
@@ -59,7 +61,7 @@ pub enum Status {
     /// The input failed, and nothing was played.
     ReadFault,
     /// The output failed; it has a first part of the report.
-    WriteFault,
+    WriteFault(Option<Closed>),
     /// There was no memory.
     Memory,
     /// A limit is passed; the value is the first number above it, or the count of rows.
@@ -74,11 +76,11 @@ impl Status {
         ensures { result ≡ exit_code self.now }
     {
         match self {
-            Status::Done => 0,
+            Status::Done(_) => 0,
             Status::Usage => 2,
             Status::BadLine { .. } => 3,
             Status::ReadFault => 4,
-            Status::WriteFault => 5,
+            Status::WriteFault(_) => 5,
             Status::Memory => 6,
             Status::Limit { .. } => 7,
         }

@@ -1,13 +1,15 @@
 //! What no clause says: worked runs over ports in memory, with the bytes and the status that the profile gives.
-use crate::run::run;
-use crate::status::{Status, Which};
+use crate::status::Which;
+use crate::trial::{Status, try_run};
 use byte_ports::{MemorySink, MemorySource};
 use maps_printer::write_maps;
 use page_types::{Kind, Prot};
 use space_model::Area;
 use std::alloc::Global;
 use std::process::Abort;
+use std::sync::Wait;
 use std::test::Fail;
+use std::thread::Threads;
 use strace_reader::What;
 
 /// The first trace: one mapping of two pages.
@@ -23,7 +25,8 @@ struct Left {
 }
 
 /// A run over ports in memory, of which the calls with these numbers fail.
-fn run_with(
+fn run_with<R: Threads + Wait + Sync>(
+    rt: &R,
     alloc: Global,
     words: &[&str],
     input: &[u8],
@@ -37,7 +40,7 @@ fn run_with(
     let mut source = MemorySource::new(input.to_vec(alloc)?, read_fails.to_vec(alloc)?);
     let mut out = MemorySink::new(vec![in alloc; 0u8; 4096]?, write_fails.to_vec(alloc)?);
     let mut err = MemorySink::new(vec![in alloc; 0u8; 256]?, Vec::new(alloc));
-    let status = run(alloc, &owned, &mut source, &mut out, &mut err);
+    let status = try_run(rt, alloc, &owned, &mut source, &mut out, &mut err);
     Ok(Left { status, out, err })
 }
 
@@ -50,7 +53,7 @@ fn expect(rt: &impl Abort, left: &Left, status: Status, out: &str, err: &str) {
 
 #[test]
 fn one_mapping_gives_one_line_of_maps(rt: HostRuntime) -> Result<(), Fail> {
-    let left = run_with(rt.alloc(), &["play"], FIRST, &[], &[])?;
+    let left = run_with(&rt, rt.alloc(), &["play"], FIRST, &[], &[])?;
     let out = "00010000-00012000 rw-p 00000000 00:00 0\nplayed 1 skipped 0 refused 0 differ 0\n";
     expect(&rt, &left, Status::Done, out, "");
     Ok(())
@@ -58,7 +61,7 @@ fn one_mapping_gives_one_line_of_maps(rt: HostRuntime) -> Result<(), Fail> {
 
 #[test]
 fn an_empty_input_gives_the_summary_alone(rt: HostRuntime) -> Result<(), Fail> {
-    let left = run_with(rt.alloc(), &["play"], b"", &[], &[])?;
+    let left = run_with(&rt, rt.alloc(), &["play"], b"", &[], &[])?;
     expect(
         &rt,
         &left,
@@ -70,14 +73,14 @@ fn an_empty_input_gives_the_summary_alone(rt: HostRuntime) -> Result<(), Fail> {
 }
 
 /// Fails the test unless a run with these words writes just `out`, and ends well.
-fn plays(
-    rt: &impl Abort,
+fn plays<R: Abort + Threads + Wait + Sync>(
+    rt: &R,
     alloc: Global,
     words: &[&str],
     input: &str,
     out: &str,
 ) -> Result<(), Fail> {
-    let left = run_with(alloc, words, input.as_bytes(), &[], &[])?;
+    let left = run_with(rt, alloc, words, input.as_bytes(), &[], &[])?;
     expect(rt, &left, Status::Done, out, "");
     Ok(())
 }
@@ -292,15 +295,22 @@ fn a_program_starts_with_its_maps(rt: HostRuntime) -> Result<(), Fail> {
 }
 
 /// Fails the test unless a run with `--opening` refuses this line of its input so.
-fn refuses(
-    rt: &impl Abort,
+fn refuses<R: Abort + Threads + Wait + Sync>(
+    rt: &R,
     alloc: Global,
     input: &str,
     line: u32,
     what: What,
     err: &str,
 ) -> Result<(), Fail> {
-    let left = run_with(alloc, &["play", "--opening"], input.as_bytes(), &[], &[])?;
+    let left = run_with(
+        rt,
+        alloc,
+        &["play", "--opening"],
+        input.as_bytes(),
+        &[],
+        &[],
+    )?;
     let status = Status::BadLine {
         line,
         column: 1,
@@ -358,7 +368,14 @@ fn an_opening_of_4097_rows_is_too_large(rt: HostRuntime) -> Result<(), Fail> {
     }
     let mut maps = MemorySink::new(vec![in rt.alloc(); 0u8; 200_000]?, Vec::new(rt.alloc()));
     assert!(rt; write_maps(&mut maps, &areas).is_ok());
-    let left = run_with(rt.alloc(), &["play", "--opening"], maps.written(), &[], &[])?;
+    let left = run_with(
+        &rt,
+        rt.alloc(),
+        &["play", "--opening"],
+        maps.written(),
+        &[],
+        &[],
+    )?;
     let status = Status::Limit {
         which: Which::Rows,
         value: 4097,
@@ -369,7 +386,7 @@ fn an_opening_of_4097_rows_is_too_large(rt: HostRuntime) -> Result<(), Fail> {
 
 #[test]
 fn a_call_that_is_cut_off_says_where(rt: HostRuntime) -> Result<(), Fail> {
-    let left = run_with(rt.alloc(), &["play"], b"mmap(0x10000, 81", &[], &[])?;
+    let left = run_with(&rt, rt.alloc(), &["play"], b"mmap(0x10000, 81", &[], &[])?;
     let status = Status::BadLine {
         line: 1,
         column: 17,
@@ -383,7 +400,7 @@ fn a_call_that_is_cut_off_says_where(rt: HostRuntime) -> Result<(), Fail> {
 fn an_unaligned_fixed_address_is_refused(rt: HostRuntime) -> Result<(), Fail> {
     let input =
         b"mmap(0x10001, 4096, PROT_READ|PROT_WRITE, MAP_PRIVATE|MAP_FIXED|MAP_ANONYMOUS, -1, 0)";
-    let left = run_with(rt.alloc(), &["play"], input, &[], &[])?;
+    let left = run_with(&rt, rt.alloc(), &["play"], input, &[], &[])?;
     expect(
         &rt,
         &left,
@@ -401,14 +418,17 @@ fn the_halves_of_a_call_are_played_at_the_second(rt: HostRuntime) -> Result<(), 
         [pid     8] mmap(0x20000, 4096, PROT_READ, MAP_PRIVATE|MAP_FIXED, -1, 0) = 0x20000\n\
         [pid     7] <... mmap resumed>) = 0x10000\n\
         [pid     7] munmap(0x10000, 4096) = 0\n";
-    plays(
-        &rt,
-        rt.alloc(),
-        &["play"],
-        input,
-        "00020000-00021000 r--p 00000000 00:00 0\n\
-        played 3 skipped 0 refused 0 differ 0\n",
-    )?;
+    let lists: [&[&str]; 2] = [&["play"], &["play", "--threads", "2"]];
+    for words in lists {
+        plays(
+            &rt,
+            rt.alloc(),
+            words,
+            input,
+            "00020000-00021000 r--p 00000000 00:00 0\n\
+            played 3 skipped 0 refused 0 differ 0\n",
+        )?;
+    }
     plays(
         &rt,
         rt.alloc(),
@@ -526,7 +546,7 @@ fn a_refused_call_in_two_halves_says_where(rt: HostRuntime) -> Result<(), Fail> 
         ),
     ];
     for (input, line, column, what, err) in cases {
-        let left = run_with(rt.alloc(), &["play"], input.as_bytes(), &[], &[])?;
+        let left = run_with(&rt, rt.alloc(), &["play"], input.as_bytes(), &[], &[])?;
         let status = Status::BadLine { line, column, what };
         expect(&rt, &left, status, "", err);
     }
@@ -547,7 +567,7 @@ fn other_words_get_the_usage_line(rt: HostRuntime) -> Result<(), Fail> {
         &[],
     ];
     for words in lists {
-        let left = run_with(rt.alloc(), words, FIRST, &[], &[])?;
+        let left = run_with(&rt, rt.alloc(), words, FIRST, &[], &[])?;
         expect(&rt, &left, Status::Usage, "", usage);
     }
     Ok(())
@@ -556,7 +576,7 @@ fn other_words_get_the_usage_line(rt: HostRuntime) -> Result<(), Fail> {
 #[test]
 fn a_failed_read_plays_nothing(rt: HostRuntime) -> Result<(), Fail> {
     for fails in [1, 2] {
-        let left = run_with(rt.alloc(), &["play"], FIRST, &[fails], &[])?;
+        let left = run_with(&rt, rt.alloc(), &["play"], FIRST, &[fails], &[])?;
         expect(&rt, &left, Status::ReadFault, "", "read fault\n");
     }
     Ok(())
@@ -568,21 +588,21 @@ fn a_failed_third_read_plays_nothing(rt: HostRuntime) -> Result<(), Fail> {
     for byte in FIRST {
         input.push(*byte)?;
     }
-    let left = run_with(rt.alloc(), &["play"], &input, &[3], &[])?;
+    let left = run_with(&rt, rt.alloc(), &["play"], &input, &[3], &[])?;
     expect(&rt, &left, Status::ReadFault, "", "read fault\n");
     Ok(())
 }
 
 #[test]
 fn a_failed_first_write_leaves_nothing(rt: HostRuntime) -> Result<(), Fail> {
-    let left = run_with(rt.alloc(), &["play"], FIRST, &[], &[1])?;
+    let left = run_with(&rt, rt.alloc(), &["play"], FIRST, &[], &[1])?;
     expect(&rt, &left, Status::WriteFault, "", "write fault\n");
     Ok(())
 }
 
 #[test]
 fn a_failed_second_write_leaves_the_maps(rt: HostRuntime) -> Result<(), Fail> {
-    let left = run_with(rt.alloc(), &["play"], FIRST, &[], &[2])?;
+    let left = run_with(&rt, rt.alloc(), &["play"], FIRST, &[], &[2])?;
     let out = "00010000-00012000 rw-p 00000000 00:00 0\n";
     expect(&rt, &left, Status::WriteFault, out, "write fault\n");
     Ok(())
@@ -591,7 +611,7 @@ fn a_failed_second_write_leaves_the_maps(rt: HostRuntime) -> Result<(), Fail> {
 #[test]
 fn a_line_of_65536_bytes_is_too_long(rt: HostRuntime) -> Result<(), Fail> {
     let line = vec![in rt.alloc(); b'x'; 65536]?;
-    let left = run_with(rt.alloc(), &["play"], &line, &[], &[])?;
+    let left = run_with(&rt, rt.alloc(), &["play"], &line, &[], &[])?;
     let status = Status::Limit {
         which: Which::Line,
         value: 65536,
@@ -603,7 +623,7 @@ fn a_line_of_65536_bytes_is_too_long(rt: HostRuntime) -> Result<(), Fail> {
 #[test]
 fn a_line_of_65535_bytes_is_passed_over(rt: HostRuntime) -> Result<(), Fail> {
     let line = vec![in rt.alloc(); b'x'; 65535]?;
-    let left = run_with(rt.alloc(), &["play"], &line, &[], &[])?;
+    let left = run_with(&rt, rt.alloc(), &["play"], &line, &[], &[])?;
     expect(
         &rt,
         &left,

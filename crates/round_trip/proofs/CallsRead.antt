@@ -25,6 +25,7 @@ use Rattle.strace_reader.proofs.BodyAnswers.{call_cut}
 use Rattle.maps_printer.specs.Calls.{call_text}
 use Rattle.maps_printer.specs.Numbers.{address_text, prefixed_hex}
 use Rattle.maps_printer.specs.Words.{prot_text, flags_text, access_text}
+use Rattle.round_trip.specs.Logs.{FitsCall}
 use Rattle.round_trip.proofs.NumbersRead.{decimal_takes, hex_takes, decimal_starts}
 use Rattle.round_trip.proofs.WordsRead.{Ends, comma_ends, comma_ends_number, prot_takes, flags_takes}
 
@@ -174,13 +175,6 @@ spelled name args text body c h e ends = (
   ),
 )
 
--- the numbers of a call fit in 64 bits
-abbrev pub Fits64 : Call → Type 0
-Fits64 (Map addr len _ _) = (addr < 2 ^ 64) × (len < 2 ^ 64)
-Fits64 (Unmap addr len) = (addr < 2 ^ 64) × (len < 2 ^ 64)
-Fits64 (Protect addr len _) = (addr < 2 ^ 64) × (len < 2 ^ 64)
-Fits64 (Fault addr _) = addr < 2 ^ 64
-
 -- joined from the left or from the right, a text of several parts is the same
 nest_map : (o a c n p f t : List ℕ) → o ++ a ++ c ++ n ++ c ++ p ++ c ++ f ++ t ≡ o ++ (a ++ (c ++ (n ++ (c ++ (p ++ (c ++ (f ++ t)))))))
 nest_map o a c n p f t = simp append_assoc
@@ -192,7 +186,7 @@ nest_unmap : (o a c n t : List ℕ) → o ++ a ++ c ++ n ++ t ≡ o ++ (a ++ (c 
 nest_unmap o a c n t = simp append_assoc
 
 -- what is written of a call spells the call
-pub call_text_spells : (c : Call) → IsNamedCall c → Fits64 c → Spells (call_text c) (Played 0 c None)
+pub call_text_spells : (c : Call) → IsNamedCall c → FitsCall c → Spells (call_text c) (Played 0 c None)
 call_text_spells (Map a n p f) named fits =
     let body = codes "mmap(" ++ address_text a ++ codes ", " ++ decimal n ++ codes ", " ++ prot_text p ++ codes ", " ++ flags_text f in
     spelled Mmap _ (call_text (Map a n p f)) (body ++ codes ", -1, 0") _
@@ -221,7 +215,7 @@ address_length : (n : ℕ) → n < 2 ^ 64 → length (address_text n) ≤ 18
 address_length n small = let digits = length-hex_digits n small in grind (arith, length-append {A = ℕ})
 
 -- what is written of a call has at most 143 bytes
-pub call_text_length : (c : Call) → IsNamedCall c → Fits64 c → length (call_text c) ≤ 143
+pub call_text_length : (c : Call) → IsNamedCall c → FitsCall c → length (call_text c) ≤ 143
 call_text_length (Map a n p f) named fits =
     let addr_short = address_length a fits.0 in
     let len_short = length-decimal-le 20 n (omega arith) (omega arith) fits.1 in

@@ -1,3 +1,4 @@
 pub mod NumbersRead
 pub mod WordsRead
 pub mod CallsRead
+pub mod LogsRead

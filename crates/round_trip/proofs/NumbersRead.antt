@@ -34,7 +34,7 @@ decimal_digits n small =
       sym (value_is 10 0 (decimal n) (omega arith) h.0.1 ∙ h.1),
     )
 
-hex_are_digits : (n : ℕ) → n < 2 ^ 64 → Digits 16 (hex_digits n) n
+pub hex_are_digits : (n : ℕ) → n < 2 ^ 64 → Digits 16 (hex_digits n) n
 hex_are_digits n small =
     let h = digits_is_IsNumeral 16 false (omega arith) (omega arith) n (omega arith) in (
       h.0.0,

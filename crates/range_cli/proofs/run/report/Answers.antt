@@ -1,30 +1,18 @@
-use Rattle.std.proofs.Common.{refl, ap, arith, length}
-use Rattle.range_cli.proofs.RunLemmas.{wrote_nothing, has_cause, never_usage, as_many}
+use Rattle.std.proofs.Common.{refl, subst, map}
+use Rattle.std.specs.String.{string_bytes}
+use Rattle.range_cli.specs.Commands.{Spells}
 use Rattle.range_cli.proofs.run.report.Goals as goal
 
-pub returns-in_default-clause-cause : goal.returns-in_default-clause-cause
-returns-in_default-clause-cause g c = c.in_default.ensures.refused refl
+pub returns-in-Some-Load-clause-out : goal.returns-in-Some-Load-clause-out
+returns-in-Some-Load-clause-out g c =
+    c.play_load.ensures.out (map string_bytes c.args.words.now) (g.S.Source.remaining c.args.input.now)
+    (subst (Spells (map string_bytes c.args.words.now)) c.in-Some-Load.field-0-is c.in-Some-Load.ensures.spelled)
 
-pub returns-in-Err-clause-out : goal.returns-in-Err-clause-out
-returns-in-Err-clause-out g c = rw c.status.ensures (wrote_nothing _ _ _ _ c.in-Err.end)
+pub returns-in-Some-Load-clause-cause : goal.returns-in-Some-Load-clause-cause
+returns-in-Some-Load-clause-cause g c =
+    c.play_load.ensures.cause (map string_bytes c.args.words.now) (g.S.Source.remaining c.args.input.now)
+    (g.S.Source.fault_count c.args.input.now, g.S.Source.fault_count c.args.input.now)
+    (subst (Spells (map string_bytes c.args.words.now)) c.in-Some-Load.field-0-is c.in-Some-Load.ensures.spelled)
 
-pub returns-in-Err-clause-cause : goal.returns-in-Err-clause-cause
-returns-in-Err-clause-cause g c = rw c.status.ensures (has_cause _ _ _ _ _ _ _ _ c.in-Some.ensures.accepted c.in-Err.ensures.stopped)
-
-pub returns-in-Err-clause-nothing_read : goal.returns-in-Err-clause-nothing_read
-returns-in-Err-clause-nothing_read g c = λ is. absurd (never_usage c.in-Err.end (rw c.status.ensures at is))
-
-pub refused_count-requires : goal.refused_count-requires
-refused_count-requires g c =
-    let many = as_many _ _ c.in-Ok-play.ensures.collected in
-    omega (arith, many, ap length c.deref-2.ensures.value, ap length c.deref.ensures.value, c.in-Ok.ensures.few)
-
-pub differ_count-requires-clause-each : goal.differ_count-requires-clause-each
-differ_count-requires-clause-each g c =
-    let many = as_many _ _ c.in-Ok-play.ensures.collected in
-    omega (arith, many, ap length c.deref-3.ensures.value, ap length c.deref-4.ensures.value, ap length c.deref.ensures.value)
-
-pub write_report-requires : goal.write_report-requires
-write_report-requires g c =
-    let many = as_many _ _ c.in-Ok-play.ensures.collected in
-    omega (arith, many, ap length c.deref-5.ensures.value, ap length c.deref-2.ensures.value, ap length c.deref.ensures.value, c.in-Ok.ensures.few)
+pub returns-in-None-clause-cause : goal.returns-in-None-clause-cause
+returns-in-None-clause-cause g c = c.in-None.ensures.refused refl

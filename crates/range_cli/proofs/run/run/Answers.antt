@@ -3,4 +3,4 @@ use Rattle.range_cli.proofs.run.run.Goals as goal
 
 pub returns-clause-complete : goal.returns-clause-complete
 returns-clause-complete g c = λ bytes known.
-    complete _ bytes _ _ _ _ _ _ (rw known at c.report-status.ensures.out) (rw known at c.report-status.ensures.cause)
+    complete _ c.report-status.ensures.one bytes _ _ _ _ _ _ (rw known at c.report-status.ensures.out) (rw known at c.report-status.ensures.cause)

@@ -1,23 +1,24 @@
 use Rattle.std.proofs.Common.{sym, subst}
-use Rattle.round_trip.proofs.CallsRead.{call_text_spells, call_text_length, Fits64}
+use Rattle.round_trip.specs.Logs.{FitsCall}
+use Rattle.round_trip.proofs.CallsRead.{call_text_spells, call_text_length}
 use Rattle.round_trip.proofs.calls.reads_back.Goals as goal
 
 pub returns-in-Map : goal.returns-in-Map
 returns-in-Map c =
-    let fits = subst Fits64 (sym c.in-Map.is) (c.in_range.ensures.one, c.in_range.ensures.other) in
+    let fits = subst FitsCall (sym c.in-Map.is) (c.in_range.ensures.one, c.in_range.ensures.other) in
     record { spells = call_text_spells c.args.call c.requires fits; short = call_text_length c.args.call c.requires fits }
 
 pub returns-in-Unmap : goal.returns-in-Unmap
 returns-in-Unmap c =
-    let fits = subst Fits64 (sym c.in-Unmap.is) (c.in_range-in-Unmap.ensures.one, c.in_range-in-Unmap.ensures.other) in
+    let fits = subst FitsCall (sym c.in-Unmap.is) (c.in_range-in-Unmap.ensures.one, c.in_range-in-Unmap.ensures.other) in
     record { spells = call_text_spells c.args.call c.requires fits; short = call_text_length c.args.call c.requires fits }
 
 pub returns-in-Protect : goal.returns-in-Protect
 returns-in-Protect c =
-    let fits = subst Fits64 (sym c.in-Protect.is) (c.in_range-in-Protect.ensures.one, c.in_range-in-Protect.ensures.other) in
+    let fits = subst FitsCall (sym c.in-Protect.is) (c.in_range-in-Protect.ensures.one, c.in_range-in-Protect.ensures.other) in
     record { spells = call_text_spells c.args.call c.requires fits; short = call_text_length c.args.call c.requires fits }
 
 pub returns-in-Fault : goal.returns-in-Fault
 returns-in-Fault c =
-    let fits = subst Fits64 (sym c.in-Fault.is) c.in_range-in-Fault.ensures.one in
+    let fits = subst FitsCall (sym c.in-Fault.is) c.in_range-in-Fault.ensures.one in
     record { spells = call_text_spells c.args.call c.requires fits; short = call_text_length c.args.call c.requires fits }

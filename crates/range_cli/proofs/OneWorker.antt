@@ -1,0 +1,63 @@
+-- One worker's entries are those of its lines in their order, so two histories of them have the same calls, and then
+-- the same replies and the same last areas.
+use Rattle.std.proofs.Common.{◌≡◌, ◌≢◌, ℕ, ◌<◌, ◌≤◌, List, [], ◌∷◌, map, sym, refl, ap, subst, ◌∙◌, arith}
+use Rattle.std.specs.Prelude.{◌==◌}
+use Rattle.space_model.specs.declared.areas.Area.{Area}
+use Rattle.space_model.specs.declared.entries.Entry.{Entry}
+use Rattle.space_model.specs.Answers.{Answers}
+use Rattle.space_model.specs.History.{StateAfter}
+use Rattle.space_model.proofs.Histories.{agree}
+use Rattle.space_model.proofs.OneAnswer.{one_answer}
+use Rattle.area_rows.specs.History.{entries_of}
+use Rattle.trace_threads.specs.declared.worker.Line.{Line as Turn}
+use Rattle.trace_threads.specs.Workers.{AreEntriesOf}
+use Rattle.trace_threads.specs.Collected.{IsCollected}
+use Rattle.range_cli.specs.declared.trace.Line.{Line}
+use Rattle.range_cli.specs.Dealt.{worker_lines, dealt}
+use Rattle.range_cli.specs.Play.{IsPlayed}
+use Rattle.range_cli.specs.Laws.{AreAlike, OneWorkerPlaysOneHistory}
+use Rattle.range_cli.proofs.Parts.{part_whole}
+
+-- one worker's entries are those of all its lines
+of_lines : (lines : List Line) (entries : List Entry) → IsCollected (dealt 1 lines) entries → AreEntriesOf 0 (worker_lines 1 lines 0) entries
+of_lines lines entries h =
+    subst (AreEntriesOf 0 (worker_lines 1 lines 0)) (part_whole (λ (e : Entry). e.worker) entries h.no_other) (h.lines 0 (worker_lines 1 lines 0) refl)
+
+-- what the entries of lines have of their lines
+record Agrees (worker : ℕ) (turns : List Turn) (entries : List Entry) : Type 0 where
+  pub workers : map (λ (e : Entry). e.worker) entries ≡ map (λ (t : Turn). worker) turns
+  pub lines : map (λ (e : Entry). e.line) entries ≡ map (λ (t : Turn). t.line) turns
+  pub calls : map (λ (e : Entry). e.call) entries ≡ map (λ (t : Turn). t.call) turns
+
+agrees : (worker : ℕ) (turns : List Turn) (entries : List Entry) → AreEntriesOf worker turns entries → Agrees worker turns entries
+agrees worker [] [] h = record { workers = refl; lines = refl; calls = refl }
+agrees worker [] (e ∷ es) h = absurd h
+agrees worker (t ∷ ts) [] h = absurd h
+agrees worker (t ∷ ts) (e ∷ es) h =
+    let rest = agrees worker ts es h.1 in
+    record {
+      workers = λ i. h.0.worker_is i ∷ rest.workers i;
+      lines = λ i. h.0.line_is i ∷ rest.lines i;
+      calls = λ i. h.0.call_is i ∷ rest.calls i;
+    }
+
+-- the same calls leave the same areas
+one_end : (A : List Area) (xs ys : List Entry) (B C : List Area) → map (λ (e : Entry). e.call) xs ≡ map (λ (e : Entry). e.call) ys → StateAfter A xs B → StateAfter A ys C → B ≡ C
+one_end A [] [] B C same s t = s ∙ sym t
+one_end A [] (y ∷ ys) B C same s t = absurd cc
+one_end A (x ∷ xs) [] B C same s t = absurd cc
+one_end A (x ∷ xs) (y ∷ ys) B C same (D, (q, g), s) (E, (r, h), t) =
+    let calls : x.call ≡ y.call = cc in
+    let rest : map (λ (e : Entry). e.call) xs ≡ map (λ (e : Entry). e.call) ys = cc in
+    let one = (one_answer A x.call q r D E g (subst (λ c. Answers A c r E) (sym calls) h)).1 in
+    one_end E xs ys B C rest (subst (λ X. StateAfter X xs B) one s) t
+
+pub one_history : OneWorkerPlaysOneHistory
+one_history opening lines entries others last end a b =
+    let x = agrees 0 (worker_lines 1 lines 0) entries (of_lines lines entries a.collected) in
+    let y = agrees 0 (worker_lines 1 lines 0) others (of_lines lines others b.collected) in
+    let calls = x.calls ∙ sym y.calls in
+    let replies = agree opening entries others a.legal b.legal calls in (
+      record { numbers = replies.0; workers = x.workers ∙ sym y.workers; lines = x.lines ∙ sym y.lines; calls = calls; replies = replies.1 },
+      one_end opening entries others last end calls a.leaves b.leaves,
+    )

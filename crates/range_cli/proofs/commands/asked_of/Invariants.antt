@@ -1,0 +1,16 @@
+-- What was asked for so far, with what the rest of the words ask for, is what all of them ask for.
+use Rattle.std.proofs.Common.{length, map}
+use Rattle.std.specs.String.{string_bytes}
+use Rattle.range_cli.specs.Commands.{DoAsk}
+use Rattle.range_cli.specs.declared.commands.Asked.{Asked}
+use Rattle.range_cli.proofs.CommandLemmas.{LeftOver}
+use Rattle.range_cli.proofs.commands.asked_of.Given as goal
+
+abbrev pub invariant-loop-rest : goal.invariant-loop-rest
+invariant-loop-rest l = record {
+  to : (after : Asked) → LeftOver l.asked (map string_bytes l.rest) after → DoAsk (map string_bytes l.words) after;
+  from : (after : Asked) → DoAsk (map string_bytes l.words) after → LeftOver l.asked (map string_bytes l.rest) after;
+}
+
+abbrev pub decreases-loop-rest : goal.decreases-loop-rest
+decreases-loop-rest l = length l.rest

@@ -1,0 +1,14 @@
+use Rattle.std.proofs.Common.{rules, map, drop, refl}
+use Rattle.std.specs.String.{string_bytes}
+use Rattle.range_cli.proofs.CommandLemmas.{not_joined, not_apart}
+use Rattle.range_cli.proofs.commands.head_of.Goals as goal
+
+pub returns-in_err-given-clause-none : goal.returns-in_err-given-clause-none
+returns-in_err-given-clause-none c _ =
+    not_joined c.as_str-word.result.now c.in-Some.name.now c.in-Some.value.now (map string_bytes c.in_ok-first.rest.now)
+    (map string_bytes c.args.words.now) (search rules) (search rules) (search rules) (search rules) (c.in_err-given.ensures.none refl)
+
+pub returns-in_err-given-2-clause-none : goal.returns-in_err-given-2-clause-none
+returns-in_err-given-2-clause-none c _ =
+    not_apart c.as_str-word.result.now c.as_str.result.now (map string_bytes (drop 1 c.in_ok-first.rest.now)) (map string_bytes c.args.words.now)
+    (search rules) (search rules) (c.in_default-flag.ensures.none refl) (c.in_err-given-2.ensures.none refl)

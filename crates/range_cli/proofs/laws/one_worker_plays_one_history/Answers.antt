@@ -1,0 +1,5 @@
+use Rattle.range_cli.proofs.OneWorker.{one_history}
+use Rattle.range_cli.proofs.laws.one_worker_plays_one_history.Goals as goal
+
+pub returns : goal.returns
+returns c = one_history

@@ -1,0 +1,33 @@
+use Rattle.std.proofs.Common.{sym, ap, subst, arith, length}
+use Rattle.range_cli.specs.Report.{Rise}
+use Rattle.range_cli.proofs.Differences.{reads_rise}
+use Rattle.range_cli.proofs.PlayLemmas.{as_many}
+use Rattle.range_cli.proofs.RunLemmas.{wrote_nothing, has_cause, never_usage}
+use Rattle.range_cli.proofs.run.play_input.Goals as goal
+
+pub returns-in-Err-clause-out : goal.returns-in-Err-clause-out
+returns-in-Err-clause-out g c words asked = rw c.status.ensures (wrote_nothing words _ _ _ c.in-Err.end)
+
+pub returns-in-Err-clause-cause : goal.returns-in-Err-clause-cause
+returns-in-Err-clause-cause g c words asked = rw c.status.ensures (has_cause words _ _ _ _ _ _ _ _ asked c.in-Err.ensures.stopped)
+
+pub returns-in-Err-clause-no_usage : goal.returns-in-Err-clause-no_usage
+returns-in-Err-clause-no_usage g c is = never_usage c.in-Err.end (rw c.status.ensures at is)
+
+pub refused_count-requires : goal.refused_count-requires
+refused_count-requires g c =
+    let many = as_many c.args.threads _ _ c.requires.some_threads c.in-Ok-play.ensures.collected in
+    omega (arith, many, ap length c.entries.ensures, ap length c.deref.ensures.value, c.in-Ok.ensures.few)
+
+pub differ_count-requires-clause-rising : goal.differ_count-requires-clause-rising
+differ_count-requires-clause-rising g c = subst Rise (sym c.deref-2.ensures.value) (reads_rise c.in-Ok.ensures.read.2.reads).0
+
+pub differ_count-requires-clause-few : goal.differ_count-requires-clause-few
+differ_count-requires-clause-few g c =
+    let many = as_many c.args.threads _ _ c.requires.some_threads c.in-Ok-play.ensures.collected in
+    omega (arith, many, ap length c.entries-2.ensures, ap length c.deref.ensures.value, c.in-Ok.ensures.few)
+
+pub write_report-requires : goal.write_report-requires
+write_report-requires g c =
+    let many = as_many c.args.threads _ _ c.requires.some_threads c.in-Ok-play.ensures.collected in
+    omega (arith, many, ap length c.entries-3.ensures, ap length c.deref.ensures.value, c.in-Ok.ensures.few)

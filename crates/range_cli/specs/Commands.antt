@@ -1,0 +1,158 @@
+-- What the words of the command line ask for, this project's own profile. Behind `play` or `load` stand options in any
+-- order, each at most once; an option with a number is written as two words or as one with `=` in it. What is accepted
+-- is said by what is written: the words are the spellings of some options, one behind the other. So a reader may rely
+-- on each list of words asking for one thing at most.
+use Rattle.std.specs.Prelude.{◌≡◌, ℕ, ◌<◌, ◌≤◌, List, [], ◌∷◌, ◌++◌, Option, Some, None, ⊤, ◌⊎◌, option_to_list, unwrap_or, length, if◌then◌else◌, codes, false}
+use Rattle.std.specs.List.{filter_map}
+use Rattle.std.specs.Fmt.{decimal}
+use Rattle.range_cli.specs.declared.commands.Command.{Command}
+use Rattle.range_cli.specs.declared.commands.Command.TheVariants.{Play, Load}
+use Rattle.range_cli.specs.declared.commands.Given.{Given}
+use Rattle.range_cli.specs.declared.commands.Given.TheVariants.{Opening, Log, Threads, Seed, Calls}
+use Rattle.range_cli.specs.declared.commands.Asked.{Asked}
+use Rattle.range_cli.specs.declared.commands.Options.{Options}
+
+-- the name of an option
+abbrev pub name_of : Given → List ℕ
+name_of Opening = codes "--opening"
+name_of Log = codes "--log"
+name_of (Threads n) = codes "--threads"
+name_of (Seed n) = codes "--seed"
+name_of (Calls n) = codes "--calls"
+
+-- the number that it is given, if it takes one
+abbrev pub number_of : Given → Option ℕ
+number_of Opening = None
+number_of Log = None
+number_of (Threads n) = Some n
+number_of (Seed n) = Some n
+number_of (Calls n) = Some n
+
+-- the numbers that it may be given
+abbrev pub IsInRange : Given → Type 0
+IsInRange Opening = ⊤
+IsInRange Log = ⊤
+IsInRange (Threads n) = (1 ≤ n) × (n ≤ 16)
+IsInRange (Seed n) = n ≤ 2147483647
+IsInRange (Calls n) = n ≤ 1048576
+
+-- the words are an option with this name and number, and then the rest: the name alone, or the name and the number as
+-- two words, or as one with `=` between them. A number is written as it is printed, in decimal digits without a sign or
+-- zeros before it
+abbrev pub AreWritten : List ℕ → Option ℕ → List (List ℕ) → List (List ℕ) → Type 0
+AreWritten name None rest words = words ≡ name ∷ rest
+AreWritten name (Some n) rest words = (words ≡ name ∷ decimal n ∷ rest) ⊎ (words ≡ (name ++ codes "=" ++ decimal n) ∷ rest)
+
+-- the words are the spelling of an option, and then the rest
+abbrev pub BeginsWith : Given → List (List ℕ) → List (List ℕ) → Type 0
+BeginsWith given rest words = IsInRange given × AreWritten (name_of given) (number_of given) rest words
+
+-- the words are the spellings of these options, one behind the other
+abbrev pub AreSpellings : List Given → List (List ℕ) → Type 0
+AreSpellings [] words = words ≡ []
+AreSpellings (given ∷ more) words = (rest : List (List ℕ)) × BeginsWith given rest words × AreSpellings more rest
+
+-- which option it is
+pub data Kind : Type 0 where
+  of_opening : Kind
+  of_log : Kind
+  of_threads : Kind
+  of_seed : Kind
+  of_calls : Kind
+
+-- what an option gives, if it is of this kind: its number, or 0 where it takes none
+abbrev pub value_for : Kind → Given → Option ℕ
+value_for of_opening Opening = Some 0
+value_for of_log Log = Some 0
+value_for of_threads (Threads n) = Some n
+value_for of_seed (Seed n) = Some n
+value_for of_calls (Calls n) = Some n
+value_for _ _ = None
+
+-- what is asked for of this kind, once or not at all
+abbrev pub asked_for : Kind → Asked → List ℕ
+asked_for of_opening asked = if asked.opening then 0 ∷ [] else []
+asked_for of_log asked = if asked.log then 0 ∷ [] else []
+asked_for of_threads asked = option_to_list asked.threads
+asked_for of_seed asked = option_to_list asked.seed
+asked_for of_calls asked = option_to_list asked.calls
+
+-- the words are spellings of options that ask for this: of each kind, what they give is what is asked for
+pub record DoAsk (words : List (List ℕ)) (asked : Asked) : Type 0 where
+  pub given : List Given
+  pub spelled : AreSpellings given words
+  pub asks : (kind : Kind) → filter_map (value_for kind) given ≡ asked_for kind asked
+
+-- what the first word makes of the options behind it. `play` takes its own alone, and is on one thread where no number
+-- is asked for; `load` takes all three of its own, and no other
+abbrev pub IsCommand : List ℕ → Asked → Command → Type 0
+IsCommand name asked (Play options threads) =
+    (name ≡ codes "play")
+    × (asked.opening ≡ options.opening)
+    × (asked.log ≡ options.log)
+    × (threads ≡ unwrap_or asked.threads 1)
+    × (asked.seed ≡ None)
+    × (asked.calls ≡ None)
+IsCommand name asked (Load seed threads calls) =
+    (name ≡ codes "load")
+    × (asked.opening ≡ false)
+    × (asked.log ≡ false)
+    × (asked.seed ≡ Some seed)
+    × (asked.threads ≡ Some threads)
+    × (asked.calls ≡ Some calls)
+
+-- the words ask for this
+pub record Spells (words : List (List ℕ)) (command : Command) : Type 0 where
+  pub name : List ℕ
+  pub rest : List (List ℕ)
+  pub whole : words ≡ name ∷ rest
+  pub asked : Asked
+  pub options : DoAsk rest asked
+  pub is : IsCommand name asked command
+
+-- the words ask for nothing that there is
+abbrev pub RefusesWords : List (List ℕ) → Type 0
+RefusesWords words = (command : Command) → ¬ Spells words command
+
+-- the words ask for an input to be played
+abbrev pub AskToPlay : List (List ℕ) → Type 0
+AskToPlay words = (options : Options) × (threads : ℕ) × Spells words (Play options threads)
+
+-- the words ask for a load
+abbrev pub AskForLoad : List (List ℕ) → Type 0
+AskForLoad words = (seed : ℕ) × (threads : ℕ) × (calls : ℕ) × Spells words (Load seed threads calls)
+
+-- the words ask for one thing at most
+abbrev pub AskForOne : List (List ℕ) → Type 0
+AskForOne words = (first other : Command) → Spells words first → Spells words other → first ≡ other
+
+-- the numbers of a command are in their ranges
+abbrev pub HasRanges : Command → Type 0
+HasRanges (Play options threads) = (1 ≤ threads) × (threads ≤ 16)
+HasRanges (Load seed threads calls) = (seed ≤ 2147483647) × (1 ≤ threads) × (threads ≤ 16) × (calls ≤ 1048576)
+
+-- an option that takes no number has this name
+abbrev pub IsFlag : List ℕ → Given → Type 0
+IsFlag name given = (name ≡ name_of given) × (number_of given ≡ None)
+
+-- an option that takes this number has this name
+abbrev pub IsNamed : List ℕ → ℕ → Given → Type 0
+IsNamed name n given = (name ≡ name_of given) × (number_of given ≡ Some n)
+
+-- an option has this name, and this is the text of its number
+pub record IsNumbered (name value : List ℕ) (given : Given) : Type 0 where
+  pub number : ℕ
+  pub named : IsNamed name number given
+  pub text : value ≡ decimal number
+  pub in_range : IsInRange given
+
+-- what was asked for, and this option besides
+abbrev pub Adds : Asked → Given → Asked → Type 0
+Adds before given after = (kind : Kind) → asked_for kind after ≡ asked_for kind before ++ option_to_list (value_for kind given)
+
+-- an option of the same kind was asked for already
+pub record IsAsked (before : Asked) (given : Given) : Type 0 where
+  pub kind : Kind
+  pub value : ℕ
+  pub gives : value_for kind given ≡ Some value
+  pub already : 0 < length (asked_for kind before)

@@ -1,0 +1,542 @@
+-- The text of a log tells its entries. Each part of a line ends at the first byte that it can't have itself: a space
+-- behind a number, the closing parenthesis of a call, the `u` of `under` behind a reply, and the newline.
+use Rattle.std.proofs.Common.{◌≡◌, ◌≢◌, ℕ, zero, suc, ◌+◌, ◌^◌, ◌<◌, ◌≤◌, Bool, true, false, not, cond, ◌&&◌, List, [], ◌∷◌, ◌++◌, length, get_or, drop, codes, decimal, if◌then◌else◌, All, None, refl, sym, ap, subst, ◌∙◌, inl, inr, arith, append_assoc}
+use Rattle.std.specs.Prelude.{◌==◌}
+use Rattle.std.proofs.Math.Bridge.{le_prop}
+use Rattle.std.proofs.lemmas.Bool.{cases_lt}
+use Rattle.std.proofs.lemmas.Bool.Decides.{eqb_tells}
+use Rattle.std.proofs.lemmas.List.{get_or_default}
+use Rattle.std.proofs.lemmas.Fmt.{decimal_injective}
+use Rattle.line_parts.specs.Leaves.{worth, AllDigits, value}
+use Rattle.page_types.specs.declared.TheConstants.{LIMIT}
+use Rattle.page_types.specs.declared.calls.Call.{Call}
+use Rattle.page_types.specs.declared.calls.Call.TheVariants.{Map, Unmap, Protect, Fault}
+use Rattle.page_types.specs.declared.calls.Kind.{Kind}
+use Rattle.page_types.specs.declared.calls.Reply.{Reply}
+use Rattle.page_types.specs.declared.calls.Reply.TheVariants.{At, Zero, Granted, Refused}
+use Rattle.page_types.specs.declared.calls.Why.{Why}
+use Rattle.page_types.specs.declared.calls.Why.TheVariants.{Einval, Enomem, Eexist, MapErr, AccErr}
+use Rattle.page_types.specs.declared.calls.Short.{Short}
+use Rattle.page_types.specs.declared.calls.Short.TheVariants.{Missing, PastEnd, NoGap, Rows}
+use Rattle.page_types.specs.declared.pages.Field.{Field}
+use Rattle.page_types.specs.declared.pages.Field.TheVariants.{Addr, Len, Flags, End}
+use Rattle.page_types.specs.declared.pages.Span.{Span}
+use Rattle.page_types.specs.declared.sets.Access.{Access}
+use Rattle.page_types.specs.declared.sets.Access.TheVariants.{Read, Write, Exec}
+use Rattle.page_types.specs.declared.sets.Prot.{Prot}
+use Rattle.page_types.specs.declared.sets.MapFlags.{MapFlags}
+use Rattle.page_types.specs.Named.{IsNamedCall, IsNamedKind, IsNamedReply, IsNamedWhy}
+use Rattle.page_types.specs.Sets.{prot_bits, flag_bits, has_bits}
+use Rattle.space_model.specs.declared.entries.Entry.{Entry}
+use Rattle.space_model.specs.declared.entries.Under.{Under}
+use Rattle.space_model.specs.declared.entries.Under.TheVariants.{Nothing, Reader, Area, Whole}
+use Rattle.strace_reader.specs.declared.item.Item.TheVariants.{Played}
+use Rattle.strace_reader.specs.Grammar.{Spells}
+use Rattle.strace_reader.proofs.OneOutcome.{one_outcome}
+use Rattle.maps_printer.specs.Calls.{call_text, reply_text, why_text, short_text, field_text}
+use Rattle.maps_printer.specs.Lines.{entry_line, log_text, under_text, span_text}
+use Rattle.maps_printer.specs.Numbers.{address_text, prefixed_hex, hex_digits}
+use Rattle.maps_printer.specs.Words.{prot_text, flags_text, access_text, kind_text, letter_if, words_or, word_if}
+use Rattle.round_trip.specs.Logs.{FitsCall, FitsReply, FitsWhy, FitsShort, FitsHeld, HasWordNumbers, IsNamedEntry}
+use Rattle.round_trip.proofs.CallsRead.{call_text_spells}
+use Rattle.round_trip.proofs.NumbersRead.{decimal_digits, hex_are_digits}
+
+-- ---- cutting a text
+
+-- the text has no such byte
+abbrev pub lacks : ℕ → List ℕ → Bool
+lacks b [] = true
+lacks b (x ∷ xs) = not (x == b) && lacks b xs
+
+both : (p q : Bool) → p ≡ true → q ≡ true → p && q ≡ true
+both true q a b = b
+both false q a b = absurd cc
+
+first_of : (p q : Bool) → p && q ≡ true → p ≡ true
+first_of true q a = refl
+first_of false q a = absurd cc
+
+second_of : (p q : Bool) → p && q ≡ true → q ≡ true
+second_of true q a = a
+second_of false q a = absurd cc
+
+differ : (x b : ℕ) → not (x == b) ≡ true → x ≢ b
+differ x b h = elim (eqb_tells x b) [ inl t ↦ absurd (let no : not (x == b) ≡ false = ap not t.0 in cc) | inr t ↦ t.1 ]
+
+lacks_both : (b : ℕ) (xs ys : List ℕ) → lacks b xs ≡ true → lacks b ys ≡ true → lacks b (xs ++ ys) ≡ true
+lacks_both b [] ys p q = q
+lacks_both b (x ∷ xs) ys p q = both (not (x == b)) (lacks b (xs ++ ys)) (first_of (not (x == b)) (lacks b xs) p) (lacks_both b xs ys (second_of (not (x == b)) (lacks b xs) p) q)
+
+-- a text that lacks the byte
+pub record Clean (b : ℕ) : Type 0 where
+  pub text : List ℕ
+  pub lacks_it : lacks b text ≡ true
+
+abbrev clean : (b : ℕ) (text : List ℕ) → lacks b text ≡ true → Clean b
+clean b text h = record { text = text; lacks_it = h }
+
+-- one text behind another
+abbrev onto : {b : ℕ} → Clean b → (text : List ℕ) → lacks b text ≡ true → Clean b
+onto {b} first text h = record { text = first.text ++ text; lacks_it = lacks_both b first.text text first.lacks_it h }
+
+-- two texts that lack a byte and have it behind them: where the wholes are equal the parts are
+pub cut : (b : ℕ) (xs ys r s : List ℕ) → lacks b xs ≡ true → lacks b ys ≡ true → xs ++ b ∷ r ≡ ys ++ b ∷ s → (xs ≡ ys) × (r ≡ s)
+cut b [] [] r s p q e = (refl, ap (drop 1) e)
+cut b [] (y ∷ ys) r s p q e = absurd (differ y b (first_of (not (y == b)) (lacks b ys) q) (sym (ap (λ (l : List ℕ). get_or l 0 0) e)))
+cut b (x ∷ xs) [] r s p q e = absurd (differ x b (first_of (not (x == b)) (lacks b xs) p) (ap (λ (l : List ℕ). get_or l 0 0) e))
+cut b (x ∷ xs) (y ∷ ys) r s p q e =
+    let first : x ≡ y = ap (λ (l : List ℕ). get_or l 0 0) e in
+    let rest = cut b xs ys r s (second_of (not (x == b)) (lacks b xs) p) (second_of (not (y == b)) (lacks b ys) q) (ap (drop 1) e) in
+    ((λ i. first i ∷ rest.0 i), rest.1)
+
+none_behind : (a : ℕ) (l : List ℕ) → l ++ a ∷ [] ≡ [] → ⊥
+none_behind a [] e = cc
+none_behind a (x ∷ l) e = cc
+
+-- a last byte less
+last_off : (a : ℕ) (xs ys : List ℕ) → xs ++ a ∷ [] ≡ ys ++ a ∷ [] → xs ≡ ys
+last_off a [] [] e = refl
+last_off a [] (y ∷ ys) e = absurd (none_behind a ys (sym (ap (drop 1) e)))
+last_off a (x ∷ xs) [] e = absurd (none_behind a xs (ap (drop 1) e))
+last_off a (x ∷ xs) (y ∷ ys) e =
+    let first : x ≡ y = ap (λ (l : List ℕ). get_or l 0 0) e in
+    let rest = last_off a xs ys (ap (drop 1) e) in
+    λ i. first i ∷ rest i
+
+-- ---- numbers
+
+digits_lack : (base b : ℕ) (ds : List ℕ) → AllDigits base ds → base ≤ worth b → lacks b ds ≡ true
+digits_lack base b [] all none = refl
+digits_lack base b (c ∷ ds) all none = elim (eqb_tells c b) [
+  | inl h ↦ absurd (omega (arith, all.0, none, ap worth h.1))
+  | inr h ↦ both (not (c == b)) (lacks b ds) (ap not h.0) (digits_lack base b ds all.1 none)
+]
+
+decimal_lacks : (b n : ℕ) → n < 2 ^ 64 → 10 ≤ worth b → lacks b (decimal n) ≡ true
+decimal_lacks b n small none = digits_lack 10 b (decimal n) (decimal_digits n small).1 none
+
+hex_lacks : (b n : ℕ) → n < 2 ^ 64 → 16 ≤ worth b → lacks b (hex_digits n) ≡ true
+hex_lacks b n small none = digits_lack 16 b (hex_digits n) (hex_are_digits n small).1 none
+
+-- the number that hexadecimal digits write
+hex_back : (n : ℕ) → n < 2 ^ 64 → value 16 0 (hex_digits n) ≡ n
+hex_back n small = sym (hex_are_digits n small).2
+
+space_ends : 16 ≤ worth 32
+unfolding worth
+space_ends = omega arith
+
+dash_ends : 16 ≤ worth 45
+unfolding worth
+dash_ends = omega arith
+
+close_ends : 16 ≤ worth 41
+unfolding worth
+close_ends = omega arith
+
+u_ends : 16 ≤ worth 117
+unfolding worth
+u_ends = omega arith
+
+line_ends : 16 ≤ worth 10
+unfolding worth
+line_ends = omega arith
+
+-- a number with a space behind it
+cut_number : (n m : ℕ) (r s : List ℕ) → n < 2 ^ 64 → m < 2 ^ 64 → decimal n ++ 32 ∷ r ≡ decimal m ++ 32 ∷ s → (n ≡ m) × (r ≡ s)
+cut_number n m r s low high e =
+    let parts = cut 32 (decimal n) (decimal m) r s (decimal_lacks 32 n low (omega (arith, space_ends))) (decimal_lacks 32 m high (omega (arith, space_ends))) e in
+    (decimal_injective n m low high parts.0, parts.1)
+
+-- ---- calls
+
+address_lacks : (b n : ℕ) → n < 2 ^ 64 → lacks b (codes "NULL") ≡ true → lacks b (codes "0x") ≡ true → 16 ≤ worth b → lacks b (address_text n) ≡ true
+address_lacks b n small null x none = elim (n == 0) as (λ t. lacks b (cond t (codes "NULL") (prefixed_hex n)) ≡ true) [ true ↦ null | false ↦ lacks_both b (codes "0x") (hex_digits n) x (hex_lacks b n small none) ]
+
+prot_words_lack : (a b c : Bool) → lacks 41 (words_or (codes "PROT_NONE") (word_if a (codes "PROT_READ") ++ word_if b (codes "PROT_WRITE") ++ word_if c (codes "PROT_EXEC"))) ≡ true
+prot_words_lack true true true = refl
+prot_words_lack true true false = refl
+prot_words_lack true false true = refl
+prot_words_lack true false false = refl
+prot_words_lack false true true = refl
+prot_words_lack false true false = refl
+prot_words_lack false false true = refl
+prot_words_lack false false false = refl
+
+prot_lacks : (p : Prot) → lacks 41 (prot_text p) ≡ true
+prot_lacks p = prot_words_lack (has_bits (prot_bits p) 1) (has_bits (prot_bits p) 2) (has_bits (prot_bits p) 4)
+
+flag_words_lack : (a b c d : Bool) → lacks 41 (words_or (codes "0") (word_if a (codes "MAP_SHARED") ++ word_if b (codes "MAP_PRIVATE") ++ word_if c (codes "MAP_FIXED") ++ word_if d (codes "MAP_FIXED_NOREPLACE"))) ≡ true
+flag_words_lack true true true true = refl
+flag_words_lack true true true false = refl
+flag_words_lack true true false true = refl
+flag_words_lack true true false false = refl
+flag_words_lack true false true true = refl
+flag_words_lack true false true false = refl
+flag_words_lack true false false true = refl
+flag_words_lack true false false false = refl
+flag_words_lack false true true true = refl
+flag_words_lack false true true false = refl
+flag_words_lack false true false true = refl
+flag_words_lack false true false false = refl
+flag_words_lack false false true true = refl
+flag_words_lack false false true false = refl
+flag_words_lack false false false true = refl
+flag_words_lack false false false false = refl
+
+flags_lack : (f : MapFlags) → lacks 41 (flags_text f) ≡ true
+flags_lack f = flag_words_lack (has_bits (flag_bits f) 1) (has_bits (flag_bits f) 2) (has_bits (flag_bits f) 4) (has_bits (flag_bits f) 8)
+
+access_lacks : (a : Access) → lacks 41 (access_text a) ≡ true
+access_lacks Read = refl
+access_lacks Write = refl
+access_lacks Exec = refl
+
+-- the text of a call up to its closing parenthesis
+record Body (c : Call) : Type 0 where
+  pub body : List ℕ
+  pub lacks_close : lacks 41 body ≡ true
+  pub whole : call_text c ≡ body ++ 41 ∷ []
+
+of_clean : (c : Call) (text : Clean 41) → call_text c ≡ text.text ++ 41 ∷ [] → Body c
+of_clean c text whole = record { body = text.text; lacks_close = text.lacks_it; whole = whole }
+
+body_of : (c : Call) → FitsCall c → Body c
+body_of (Map a n p f) fits =
+    let start = clean 41 (codes "mmap(") refl in
+    let address = onto start (address_text a) (address_lacks 41 a fits.0 refl refl close_ends) in
+    let len = onto (onto address (codes ", ") refl) (decimal n) (decimal_lacks 41 n fits.1 (omega (arith, close_ends))) in
+    let prot = onto (onto len (codes ", ") refl) (prot_text p) (prot_lacks p) in
+    let flags = onto (onto prot (codes ", ") refl) (flags_text f) (flags_lack f) in
+    of_clean (Map a n p f) (onto flags (codes ", -1, 0") refl) (sym (append_assoc flags.text (codes ", -1, 0") (41 ∷ [])))
+body_of (Unmap a n) fits =
+    let address = onto (clean 41 (codes "munmap(") refl) (address_text a) (address_lacks 41 a fits.0 refl refl close_ends) in
+    of_clean (Unmap a n) (onto (onto address (codes ", ") refl) (decimal n) (decimal_lacks 41 n fits.1 (omega (arith, close_ends)))) refl
+body_of (Protect a n p) fits =
+    let address = onto (clean 41 (codes "mprotect(") refl) (address_text a) (address_lacks 41 a fits.0 refl refl close_ends) in
+    let len = onto (onto address (codes ", ") refl) (decimal n) (decimal_lacks 41 n fits.1 (omega (arith, close_ends))) in
+    of_clean (Protect a n p) (onto (onto len (codes ", ") refl) (prot_text p) (prot_lacks p)) refl
+body_of (Fault a which) fits =
+    let address = onto (clean 41 (codes "fault(") refl) (address_text a) (address_lacks 41 a fits refl refl close_ends) in
+    of_clean (Fault a which) (onto (onto address (codes ", ") refl) (access_text which) (access_lacks which)) refl
+
+-- a text has one call
+call_tells : (c d : Call) → IsNamedCall c → IsNamedCall d → FitsCall c → FitsCall d → call_text c ≡ call_text d → c ≡ d
+call_tells c d named_c named_d fits_c fits_d e =
+    let other = subst (λ t. Spells t (Played 0 d None)) (sym e) (call_text_spells d named_d fits_d) in
+    let same : Played 0 c None ≡ Played 0 d None = (one_outcome (call_text c)).item _ _ (call_text_spells c named_c fits_c) other in
+    cc
+
+cut_call : (c d : Call) (r s : List ℕ) → IsNamedCall c → IsNamedCall d → FitsCall c → FitsCall d → call_text c ++ r ≡ call_text d ++ s → (c ≡ d) × (r ≡ s)
+cut_call c d r s named_c named_d fits_c fits_d e =
+    let b = body_of c fits_c in
+    let a = body_of d fits_d in
+    let left : call_text c ++ r ≡ b.body ++ 41 ∷ r = ap (λ (l : List ℕ). l ++ r) b.whole ∙ append_assoc b.body (41 ∷ []) r in
+    let right : call_text d ++ s ≡ a.body ++ 41 ∷ s = ap (λ (l : List ℕ). l ++ s) a.whole ∙ append_assoc a.body (41 ∷ []) s in
+    let parts = cut 41 b.body a.body r s b.lacks_close a.lacks_close (sym left ∙ e ∙ right) in
+    (call_tells c d named_c named_d fits_c fits_d (b.whole ∙ ap (λ (l : List ℕ). l ++ 41 ∷ []) parts.0 ∙ sym a.whole), parts.1)
+
+-- ---- replies: each is told back from its text
+
+kind_back : List ℕ → Kind
+kind_back text = record { prot = record { 0 = cond (get_or text 0 0 == 114) 1 0 + cond (get_or text 1 0 == 119) 2 0 + cond (get_or text 2 0 == 120) 4 0 }; shared = get_or text 3 0 == 115 }
+
+kind_at_bits : (bits : ℕ) (shared : Bool) → bits < 8 → kind_back (kind_text (record { prot = record { 0 = bits }; shared = shared })) ≡ record { prot = record { 0 = bits }; shared = shared }
+unfolding kind_back
+kind_at_bits zero true low = refl
+kind_at_bits zero false low = refl
+kind_at_bits (suc zero) true low = refl
+kind_at_bits (suc zero) false low = refl
+kind_at_bits (suc (suc zero)) true low = refl
+kind_at_bits (suc (suc zero)) false low = refl
+kind_at_bits (suc (suc (suc zero))) true low = refl
+kind_at_bits (suc (suc (suc zero))) false low = refl
+kind_at_bits (suc (suc (suc (suc zero)))) true low = refl
+kind_at_bits (suc (suc (suc (suc zero)))) false low = refl
+kind_at_bits (suc (suc (suc (suc (suc zero))))) true low = refl
+kind_at_bits (suc (suc (suc (suc (suc zero))))) false low = refl
+kind_at_bits (suc (suc (suc (suc (suc (suc zero)))))) true low = refl
+kind_at_bits (suc (suc (suc (suc (suc (suc zero)))))) false low = refl
+kind_at_bits (suc (suc (suc (suc (suc (suc (suc zero))))))) true low = refl
+kind_at_bits (suc (suc (suc (suc (suc (suc (suc zero))))))) false low = refl
+kind_at_bits (suc (suc (suc (suc (suc (suc (suc (suc n)))))))) shared low = absurd (omega arith)
+
+kind_told : (k : Kind) → IsNamedKind k → kind_back (kind_text k) ≡ k
+kind_told k named = kind_at_bits (prot_bits k.prot) k.shared named
+
+kind_tells : (k j : Kind) → IsNamedKind k → IsNamedKind j → kind_text k ≡ kind_text j → k ≡ j
+kind_tells k j a b e = sym (kind_told k a) ∙ ap kind_back e ∙ kind_told j b
+
+-- what a text says of a refused argument, a want and a refusal, by the bytes that tell them apart
+field_back : List ℕ → Field
+field_back text = if get_or text 0 0 == 97 then Addr else if get_or text 0 0 == 108 then Len else if get_or text 0 0 == 102 then Flags else End
+
+field_told : (f : Field) → field_back (field_text f) ≡ f
+unfolding field_back
+field_told Addr = refl
+field_told Len = refl
+field_told Flags = refl
+field_told End = refl
+
+hex_tells : (n m : ℕ) → n < 2 ^ 64 → m < 2 ^ 64 → hex_digits n ≡ hex_digits m → n ≡ m
+hex_tells n m low high e = sym (hex_back n low) ∙ ap (value 16 0) e ∙ hex_back m high
+
+-- two texts that differ at a place differ
+apart : (place : ℕ) (xs ys : List ℕ) → get_or xs place 0 ≢ get_or ys place 0 → xs ≡ ys → ⊥
+apart place xs ys differ e = differ (ap (λ (l : List ℕ). get_or l place 0) e)
+
+short_tells : (s t : Short) → FitsShort s → FitsShort t → short_text s ≡ short_text t → s ≡ t
+short_tells (Missing p) (Missing q) a b e = ap Missing (hex_tells p q a b (ap (drop 15) e))
+short_tells (Missing p) (PastEnd q) a b e = absurd (apart 0 _ _ (λ x. omega (arith, x)) e)
+short_tells (Missing p) (NoGap q) a b e = absurd (apart 0 _ _ (λ x. omega (arith, x)) e)
+short_tells (Missing p) (Rows q) a b e = absurd (apart 0 _ _ (λ x. omega (arith, x)) e)
+short_tells (PastEnd p) (Missing q) a b e = absurd (apart 0 _ _ (λ x. omega (arith, x)) e)
+short_tells (PastEnd p) (PastEnd q) a b e = ap PastEnd (hex_tells p q a b (ap (drop 11) e))
+short_tells (PastEnd p) (NoGap q) a b e = absurd (apart 0 _ _ (λ x. omega (arith, x)) e)
+short_tells (PastEnd p) (Rows q) a b e = absurd (apart 0 _ _ (λ x. omega (arith, x)) e)
+short_tells (NoGap p) (Missing q) a b e = absurd (apart 0 _ _ (λ x. omega (arith, x)) e)
+short_tells (NoGap p) (PastEnd q) a b e = absurd (apart 0 _ _ (λ x. omega (arith, x)) e)
+short_tells (NoGap p) (NoGap q) a b e = ap NoGap (cut_number p q (codes "pages") (codes "pages") a b (ap (drop 10) e)).0
+short_tells (NoGap p) (Rows q) a b e = absurd (apart 0 _ _ (λ x. omega (arith, x)) e)
+short_tells (Rows p) (Missing q) a b e = absurd (apart 0 _ _ (λ x. omega (arith, x)) e)
+short_tells (Rows p) (PastEnd q) a b e = absurd (apart 0 _ _ (λ x. omega (arith, x)) e)
+short_tells (Rows p) (NoGap q) a b e = absurd (apart 0 _ _ (λ x. omega (arith, x)) e)
+short_tells (Rows p) (Rows q) a b e = ap Rows (decimal_injective p q a b (ap (drop 5) e))
+
+acc_err : (p q : ℕ) (k j : Kind) → why_text (AccErr p k) ≡ why_text (AccErr q j) → hex_digits p ++ 32 ∷ kind_text k ≡ hex_digits q ++ 32 ∷ kind_text j
+acc_err p q k j e =
+    sym (append_assoc (hex_digits p) (codes " ") (kind_text k)) ∙ ap (drop 22) e ∙ append_assoc (hex_digits q) (codes " ") (kind_text j)
+
+why_tells : (w v : Why) → FitsWhy w → FitsWhy v → IsNamedWhy w → IsNamedWhy v → why_text w ≡ why_text v → w ≡ v
+why_tells (Einval f) (Einval g) a b c d e = ap Einval (sym (field_told f) ∙ ap field_back (ap (drop 10) e) ∙ field_told g)
+why_tells (Einval f) (Enomem g) a b c d e = absurd (apart 4 _ _ (λ x. omega (arith, x)) e)
+why_tells (Einval f) (Eexist q) a b c d e = absurd (apart 4 _ _ (λ x. omega (arith, x)) e)
+why_tells (Einval f) (MapErr q) a b c d e = absurd (apart 3 _ _ (λ x. omega (arith, x)) e)
+why_tells (Einval f) (AccErr q j) a b c d e = absurd (apart 3 _ _ (λ x. omega (arith, x)) e)
+why_tells (Enomem f) (Einval g) a b c d e = absurd (apart 4 _ _ (λ x. omega (arith, x)) e)
+why_tells (Enomem f) (Enomem g) a b c d e = ap Enomem (short_tells f g a b (ap (drop 10) e))
+why_tells (Enomem f) (Eexist q) a b c d e = absurd (apart 4 _ _ (λ x. omega (arith, x)) e)
+why_tells (Enomem f) (MapErr q) a b c d e = absurd (apart 3 _ _ (λ x. omega (arith, x)) e)
+why_tells (Enomem f) (AccErr q j) a b c d e = absurd (apart 3 _ _ (λ x. omega (arith, x)) e)
+why_tells (Eexist p) (Einval g) a b c d e = absurd (apart 4 _ _ (λ x. omega (arith, x)) e)
+why_tells (Eexist p) (Enomem g) a b c d e = absurd (apart 4 _ _ (λ x. omega (arith, x)) e)
+why_tells (Eexist p) (Eexist q) a b c d e = ap Eexist (hex_tells p q a b (ap (drop 17) e))
+why_tells (Eexist p) (MapErr q) a b c d e = absurd (apart 3 _ _ (λ x. omega (arith, x)) e)
+why_tells (Eexist p) (AccErr q j) a b c d e = absurd (apart 3 _ _ (λ x. omega (arith, x)) e)
+why_tells (MapErr p) (Einval g) a b c d e = absurd (apart 3 _ _ (λ x. omega (arith, x)) e)
+why_tells (MapErr p) (Enomem g) a b c d e = absurd (apart 3 _ _ (λ x. omega (arith, x)) e)
+why_tells (MapErr p) (Eexist q) a b c d e = absurd (apart 3 _ _ (λ x. omega (arith, x)) e)
+why_tells (MapErr p) (MapErr q) a b c d e = ap MapErr (hex_tells p q a b (ap (drop 22) e))
+why_tells (MapErr p) (AccErr q j) a b c d e = absurd (apart 8 _ _ (λ x. omega (arith, x)) e)
+why_tells (AccErr p k) (Einval g) a b c d e = absurd (apart 3 _ _ (λ x. omega (arith, x)) e)
+why_tells (AccErr p k) (Enomem g) a b c d e = absurd (apart 3 _ _ (λ x. omega (arith, x)) e)
+why_tells (AccErr p k) (Eexist q) a b c d e = absurd (apart 3 _ _ (λ x. omega (arith, x)) e)
+why_tells (AccErr p k) (MapErr q) a b c d e = absurd (apart 8 _ _ (λ x. omega (arith, x)) e)
+why_tells (AccErr p k) (AccErr q j) a b c d e = let h = cut 32 (hex_digits p) (hex_digits q) (kind_text k) (kind_text j) (hex_lacks 32 p a space_ends) (hex_lacks 32 q b space_ends) (acc_err p q k j e) in λ i. AccErr (hex_tells p q a b h.0 i) (kind_tells k j c d h.1 i)
+
+minus : (w : Why) → get_or (why_text w) 0 0 ≡ 45
+minus (Einval f) = refl
+minus (Enomem f) = refl
+minus (Eexist p) = refl
+minus (MapErr p) = refl
+minus (AccErr p k) = refl
+
+reply_tells : (r s : Reply) → FitsReply r → FitsReply s → IsNamedReply r → IsNamedReply s → reply_text r ≡ reply_text s → r ≡ s
+reply_tells (At n) (At m) a b c d e = ap At (hex_tells n m a b (ap (drop 2) e))
+reply_tells (At n) Zero a b c d e = absurd (apart 1 _ _ (λ x. omega (arith, x)) e)
+reply_tells (At n) (Granted j) a b c d e = absurd (apart 0 _ _ (λ x. omega (arith, x)) e)
+reply_tells (At n) (Refused v) a b c d e = absurd (apart 0 _ _ (λ x. omega (arith, x, minus v)) e)
+reply_tells Zero (At m) a b c d e = absurd (apart 1 _ _ (λ x. omega (arith, x)) e)
+reply_tells Zero Zero a b c d e = refl
+reply_tells Zero (Granted j) a b c d e = absurd (apart 0 _ _ (λ x. omega (arith, x)) e)
+reply_tells Zero (Refused v) a b c d e = absurd (apart 0 _ _ (λ x. omega (arith, x, minus v)) e)
+reply_tells (Granted k) (At m) a b c d e = absurd (apart 0 _ _ (λ x. omega (arith, x)) e)
+reply_tells (Granted k) Zero a b c d e = absurd (apart 0 _ _ (λ x. omega (arith, x)) e)
+reply_tells (Granted k) (Granted j) a b c d e = ap Granted (kind_tells k j c d (ap (drop 8) e))
+reply_tells (Granted k) (Refused v) a b c d e = absurd (apart 0 _ _ (λ x. omega (arith, x, minus v)) e)
+reply_tells (Refused w) (At m) a b c d e = absurd (apart 0 _ _ (λ x. omega (arith, x, minus w)) e)
+reply_tells (Refused w) Zero a b c d e = absurd (apart 0 _ _ (λ x. omega (arith, x, minus w)) e)
+reply_tells (Refused w) (Granted j) a b c d e = absurd (apart 0 _ _ (λ x. omega (arith, x, minus w)) e)
+reply_tells (Refused w) (Refused v) a b c d e = ap Refused (why_tells w v a b c d e)
+
+-- ---- what was held
+
+abbrev span_of : (lo hi : ℕ) → lo < hi → hi ≤ LIMIT → Span
+span_of lo hi a b = record { lo = lo; hi = hi; ordered = a; in_range = b }
+
+same_ends : (lo hi : ℕ) (a : lo < hi) (b : hi ≤ LIMIT) (x : ℕ) → lo ≡ x → (y : ℕ) → hi ≡ y → (c : x < y) (d : y ≤ LIMIT) → span_of lo hi a b ≡ span_of x y c d
+same_ends lo hi a b x p y q =
+    subst (λ (v : ℕ). (c : v < y) (d : y ≤ LIMIT) → span_of lo hi a b ≡ span_of v y c d) p
+    (subst (λ (v : ℕ). (c : lo < v) (d : v ≤ LIMIT) → span_of lo hi a b ≡ span_of lo v c d) q (λ c d. λ i. span_of lo hi (le_prop a c i) (le_prop b d i)))
+
+span_tells : (s t : Span) → s.lo < 2 ^ 64 → s.hi < 2 ^ 64 → t.lo < 2 ^ 64 → t.hi < 2 ^ 64 → span_text s ≡ span_text t → s ≡ t
+span_tells s t a b c d e =
+    let parts = cut 45 (hex_digits s.lo) (hex_digits t.lo) (prefixed_hex s.hi) (prefixed_hex t.hi) (hex_lacks 45 s.lo a dash_ends) (hex_lacks 45 t.lo c dash_ends) (dashes s t e) in
+    let lo = hex_tells s.lo t.lo a c parts.0 in
+    let hi = hex_tells s.hi t.hi b d (ap (drop 2) parts.1) in
+    whole s t lo hi
+  where
+    whole : (s t : Span) → s.lo ≡ t.lo → s.hi ≡ t.hi → s ≡ t
+    whole s t lo hi = same_ends s.lo s.hi s.ordered s.in_range t.lo lo t.hi hi t.ordered t.in_range
+
+    dashes : (s t : Span) → span_text s ≡ span_text t → hex_digits s.lo ++ 45 ∷ prefixed_hex s.hi ≡ hex_digits t.lo ++ 45 ∷ prefixed_hex t.hi
+    dashes s t e = sym (append_assoc (hex_digits s.lo) (codes "-") (prefixed_hex s.hi)) ∙ ap (drop 2) e ∙ append_assoc (hex_digits t.lo) (codes "-") (prefixed_hex t.hi)
+
+under_tells : (u v : Under) → FitsHeld u → FitsHeld v → under_text u ≡ under_text v → u ≡ v
+under_tells Nothing Nothing a b e = refl
+under_tells Nothing (Reader t) a b e = absurd (apart 0 _ _ (λ x. omega (arith, x)) e)
+under_tells Nothing (Area t) a b e = absurd (apart 0 _ _ (λ x. omega (arith, x)) e)
+under_tells Nothing Whole a b e = absurd (apart 0 _ _ (λ x. omega (arith, x)) e)
+under_tells (Reader s) Nothing a b e = absurd (apart 0 _ _ (λ x. omega (arith, x)) e)
+under_tells (Reader s) (Reader t) a b e = ap Reader (span_tells s t a.0 a.1 b.0 b.1 (ap (drop 7) e))
+under_tells (Reader s) (Area t) a b e = absurd (apart 0 _ _ (λ x. omega (arith, x)) e)
+under_tells (Reader s) Whole a b e = absurd (apart 0 _ _ (λ x. omega (arith, x)) e)
+under_tells (Area s) Nothing a b e = absurd (apart 0 _ _ (λ x. omega (arith, x)) e)
+under_tells (Area s) (Reader t) a b e = absurd (apart 0 _ _ (λ x. omega (arith, x)) e)
+under_tells (Area s) (Area t) a b e = ap Area (span_tells s t a.0 a.1 b.0 b.1 (ap (drop 5) e))
+under_tells (Area s) Whole a b e = absurd (apart 0 _ _ (λ x. omega (arith, x)) e)
+under_tells Whole Nothing a b e = absurd (apart 0 _ _ (λ x. omega (arith, x)) e)
+under_tells Whole (Reader t) a b e = absurd (apart 0 _ _ (λ x. omega (arith, x)) e)
+under_tells Whole (Area t) a b e = absurd (apart 0 _ _ (λ x. omega (arith, x)) e)
+under_tells Whole Whole a b e = refl
+
+span_lacks : (s : Span) → s.lo < 2 ^ 64 → s.hi < 2 ^ 64 → lacks 10 (span_text s) ≡ true
+span_lacks s a b =
+    let lo = onto (clean 10 (codes "0x") refl) (hex_digits s.lo) (hex_lacks 10 s.lo a line_ends) in
+    (onto (onto lo (codes "-") refl) (prefixed_hex s.hi) (lacks_both 10 (codes "0x") (hex_digits s.hi) refl (hex_lacks 10 s.hi b line_ends))).lacks_it
+
+under_lacks : (u : Under) → FitsHeld u → lacks 10 (under_text u) ≡ true
+under_lacks Nothing a = refl
+under_lacks (Reader s) a = lacks_both 10 (codes "reader ") (span_text s) refl (span_lacks s a.0 a.1)
+under_lacks (Area s) a = lacks_both 10 (codes "area ") (span_text s) refl (span_lacks s a.0 a.1)
+under_lacks Whole a = refl
+
+-- ---- a reply has no `u`
+
+letter_lacks : (a b c d : Bool) → lacks 117 (letter_if a 114 ∷ letter_if b 119 ∷ letter_if c 120 ∷ (if d then 115 else 112) ∷ []) ≡ true
+letter_lacks a b c d = four (not (letter_if a 114 == 117)) (not (letter_if b 119 == 117)) (not (letter_if c 120 == 117)) (not ((if d then 115 else 112) == 117)) (first a) (second b) (third c) (last d)
+  where
+    four : (p q r s : Bool) → p ≡ true → q ≡ true → r ≡ true → s ≡ true → p && (q && (r && (s && true))) ≡ true
+    four p q r s a b c d = both p _ a (both q _ b (both r _ c (both s true d refl)))
+
+    first : (x : Bool) → not (letter_if x 114 == 117) ≡ true
+    first true = refl
+    first false = refl
+
+    second : (x : Bool) → not (letter_if x 119 == 117) ≡ true
+    second true = refl
+    second false = refl
+
+    third : (x : Bool) → not (letter_if x 120 == 117) ≡ true
+    third true = refl
+    third false = refl
+
+    last : (x : Bool) → not ((if x then 115 else 112) == 117) ≡ true
+    last true = refl
+    last false = refl
+
+kind_lacks : (k : Kind) → lacks 117 (kind_text k) ≡ true
+kind_lacks k = letter_lacks (has_bits (prot_bits k.prot) 1) (has_bits (prot_bits k.prot) 2) (has_bits (prot_bits k.prot) 4) k.shared
+
+page_lacks : (n : ℕ) → n < 2 ^ 64 → lacks 117 (prefixed_hex n) ≡ true
+page_lacks n a = lacks_both 117 (codes "0x") (hex_digits n) refl (hex_lacks 117 n a u_ends)
+
+short_lacks : (s : Short) → FitsShort s → lacks 117 (short_text s) ≡ true
+short_lacks (Missing p) a = lacks_both 117 (codes "missing page ") (prefixed_hex p) refl (page_lacks p a)
+short_lacks (PastEnd p) a = lacks_both 117 (codes "end page ") (prefixed_hex p) refl (page_lacks p a)
+short_lacks (NoGap n) a = (onto (onto (clean 117 (codes "no gap of ") refl) (decimal n) (decimal_lacks 117 n a (omega (arith, u_ends)))) (codes " pages") refl).lacks_it
+short_lacks (Rows n) a = lacks_both 117 (codes "rows ") (decimal n) refl (decimal_lacks 117 n a (omega (arith, u_ends)))
+
+why_lacks : (w : Why) → FitsWhy w → lacks 117 (why_text w) ≡ true
+why_lacks (Einval Addr) a = refl
+why_lacks (Einval Len) a = refl
+why_lacks (Einval Flags) a = refl
+why_lacks (Einval End) a = refl
+why_lacks (Enomem s) a = lacks_both 117 (codes "-1 ENOMEM ") (short_text s) refl (short_lacks s a)
+why_lacks (Eexist p) a = lacks_both 117 (codes "-1 EEXIST page ") (prefixed_hex p) refl (page_lacks p a)
+why_lacks (MapErr p) a = lacks_both 117 (codes "-1 SEGV_MAPERR page ") (prefixed_hex p) refl (page_lacks p a)
+why_lacks (AccErr p k) a =
+    let page = onto (clean 117 (codes "-1 SEGV_ACCERR page ") refl) (prefixed_hex p) (page_lacks p a) in
+    (onto (onto page (codes " ") refl) (kind_text k) (kind_lacks k)).lacks_it
+
+reply_lacks : (r : Reply) → FitsReply r → lacks 117 (reply_text r) ≡ true
+reply_lacks (At n) a = page_lacks n a
+reply_lacks Zero a = refl
+reply_lacks (Granted k) a = lacks_both 117 (codes "granted ") (kind_text k) refl (kind_lacks k)
+reply_lacks (Refused w) a = why_lacks w a
+
+-- ---- a line
+
+-- joined from the left or from the right, the parts of a line are one text
+nest_line : (sp n w l c q r u h nl rest : List ℕ) → n ++ sp ++ w ++ sp ++ l ++ sp ++ c ++ q ++ r ++ u ++ h ++ nl ++ rest ≡ n ++ (sp ++ (w ++ (sp ++ (l ++ (sp ++ (c ++ (q ++ (r ++ (u ++ (h ++ (nl ++ rest)))))))))))
+nest_line sp n w l c q r u h nl rest = simp append_assoc
+
+-- what stands behind the call of a line
+behind_call : Entry → List ℕ → List ℕ
+behind_call e rest = codes " = " ++ (reply_text e.reply ++ (codes " under " ++ (under_text e.under ++ 10 ∷ rest)))
+
+line_parts : (e : Entry) (rest : List ℕ) → entry_line e ++ rest ≡ decimal e.number ++ 32 ∷ (decimal e.worker ++ 32 ∷ (decimal e.line ++ 32 ∷ (call_text e.call ++ behind_call e rest)))
+unfolding behind_call
+line_parts e rest = nest_line (codes " ") (decimal e.number) (decimal e.worker) (decimal e.line) (call_text e.call) (codes " = ") (reply_text e.reply) (codes " under ") (under_text e.under) (codes "\n") rest
+
+reply_parts : (r rest : List ℕ) → r ++ (codes " under " ++ rest) ≡ (r ++ 32 ∷ []) ++ 117 ∷ (codes "nder " ++ rest)
+reply_parts r rest = sym (append_assoc r (32 ∷ []) (117 ∷ (codes "nder " ++ rest)))
+
+-- what is behind the call tells the reply and what was held
+cut_behind : (e f : Entry) (r s : List ℕ) → FitsReply e.reply → FitsReply f.reply → FitsHeld e.under → FitsHeld f.under → IsNamedReply e.reply → IsNamedReply f.reply
+    → behind_call e r ≡ behind_call f s → (e.reply ≡ f.reply) × (e.under ≡ f.under) × (r ≡ s)
+unfolding behind_call
+cut_behind e f r s a b c d named_e named_f is =
+    let reply = ap (drop 3) is in
+    let parts = cut 117 (reply_text e.reply ++ 32 ∷ []) (reply_text f.reply ++ 32 ∷ []) _ _
+    (lacks_both 117 (reply_text e.reply) (32 ∷ []) (reply_lacks e.reply a) refl) (lacks_both 117 (reply_text f.reply) (32 ∷ []) (reply_lacks f.reply b) refl)
+    (sym (reply_parts (reply_text e.reply) (under_text e.under ++ 10 ∷ r)) ∙ reply ∙ reply_parts (reply_text f.reply) (under_text f.under ++ 10 ∷ s)) in
+    let held = cut 10 (under_text e.under) (under_text f.under) r s (under_lacks e.under c) (under_lacks f.under d) (ap (drop 5) parts.1) in
+    (reply_tells e.reply f.reply a b named_e named_f (last_off 32 (reply_text e.reply) (reply_text f.reply) parts.0), under_tells e.under f.under c d held.0, held.1)
+
+-- a line tells its entry
+cut_line : (e f : Entry) (r s : List ℕ) → HasWordNumbers e → HasWordNumbers f → IsNamedEntry e → IsNamedEntry f → entry_line e ++ r ≡ entry_line f ++ s → (e ≡ f) × (r ≡ s)
+cut_line e f r s a b c d is =
+    let number = cut_number e.number f.number _ _ a.number b.number (sym (line_parts e r) ∙ is ∙ line_parts f s) in
+    let worker = cut_number e.worker f.worker _ _ a.worker b.worker number.1 in
+    let line = cut_number e.line f.line _ _ a.line b.line worker.1 in
+    let call = cut_call e.call f.call _ _ c.0 d.0 a.call b.call line.1 in
+    let behind = cut_behind e f r s a.reply b.reply a.under b.under c.1 d.1 call.1 in (
+      (λ i. record { number = number.0 i; worker = worker.0 i; line = line.0 i; call = call.0 i; reply = behind.0 i; under = behind.1 i }),
+      behind.2,
+    )
+
+-- no line is empty
+no_empty_line : (e : Entry) (rest : List ℕ) → entry_line e ++ rest ≡ [] → ⊥
+no_empty_line e rest is = none_then 32 (decimal e.number) _ (sym (line_parts e rest) ∙ is)
+  where
+    none_then : (b : ℕ) (l more : List ℕ) → l ++ b ∷ more ≡ [] → ⊥
+    none_then b [] more e = cc
+    none_then b (x ∷ l) more e = cc
+
+all_first : {X : Type 0} (P : X → Type 0) (x : X) (xs : List X) → All P (x ∷ xs) → P x
+all_first P x xs all = all 0 x (omega arith)
+
+all_rest : {X : Type 0} (P : X → Type 0) (x : X) (xs : List X) → All P (x ∷ xs) → All P xs
+all_rest P x xs all k d low = all (suc k) d (omega arith)
+
+-- a log tells its entries
+pub log_tells : (entries others : List Entry) → All HasWordNumbers entries → All HasWordNumbers others → All IsNamedEntry entries → All IsNamedEntry others → log_text entries ≡ log_text others → entries ≡ others
+log_tells [] [] a b c d is = refl
+log_tells [] (f ∷ fs) a b c d is = absurd (no_empty_line f (log_text fs) (sym is))
+log_tells (e ∷ es) [] a b c d is = absurd (no_empty_line e (log_text es) is)
+log_tells (e ∷ es) (f ∷ fs) a b c d is =
+    let first = cut_line e f (log_text es) (log_text fs) (all_first HasWordNumbers e es a) (all_first HasWordNumbers f fs b) (all_first IsNamedEntry e es c) (all_first IsNamedEntry f fs d) is in
+    let rest = log_tells es fs (all_rest HasWordNumbers e es a) (all_rest HasWordNumbers f fs b) (all_rest IsNamedEntry e es c) (all_rest IsNamedEntry f fs d) first.1 in
+    λ i. first.0 i ∷ rest i
+
+-- ---- the numbers of one entry more fit
+
+pub words_next : (entries : List Entry) (i : ℕ) (e : Entry) → i < length entries → ((k : ℕ) (d : Entry) → k < i → HasWordNumbers (get_or entries k d)) → e ≡ get_or entries i e → HasWordNumbers e
+    → (k : ℕ) (d : Entry) → k < i + 1 → HasWordNumbers (get_or entries k d)
+words_next entries i e low so_far is fits k d below = elim (cases_lt k i) [
+  | inl before ↦ so_far k d before
+  | inr behind ↦
+      let same : i ≡ k = omega arith in
+      subst HasWordNumbers (is ∙ get_or_default entries i e d low ∙ ap (λ (j : ℕ). get_or entries j d) same) fits
+]
