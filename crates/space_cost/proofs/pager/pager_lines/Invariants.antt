@@ -1,0 +1,10 @@
+use Rattle.std.proofs.Common.{◌<◌, ◌≤◌, ◌^◌, All, vec_len}
+use Rattle.page_types.specs.Named.{IsNamedCall}
+use Rattle.space_cost.proofs.pager.pager_lines.Given as goal
+
+abbrev pub invariant-loop-made : goal.invariant-loop-made
+invariant-loop-made l = record {
+  named : All (λ m. IsNamedCall m.call) l.lines.items;
+  count : vec_len l.lines ≤ l.made;
+  state : l.state < 2 ^ 31;
+}

@@ -1,0 +1,108 @@
+//! Measures what a call costs on the address space that threads share, beside the same calls on a `BTreeMap` of the
+//! areas under an `RwLock` and under a `Mutex` of std, in one run: the workloads `load` and `pager` on 1, 2 and 4
+//! threads, and one worker on 300 to 600 areas, also beside the address space of one thread. All keep the history: each
+//! call draws a number and its entry is kept. A time is that of playing alone, the least of several rounds. Times go to
+//! standard error, since they differ from run to run; standard output says how many calls were played and how many of
+//! them refused, on which all agree. The word `full` plays 1,048,576 calls of `load` and `pager` a round, the word
+//! `areas` as many on 300 to 600 areas; without a word a round has a few thousand.
+#![tactic(auto)]
+
+ghost use Rattle.std.specs.Prelude.{◌≤◌};
+
+mod lines;
+mod locks;
+mod maps;
+mod pager;
+mod peers;
+mod plain;
+mod rounds;
+mod size;
+mod watch;
+
+use anyhow::{Result, bail};
+use lines::Workload;
+use rounds::{Times, least_of_plain, times_of};
+use size::Size;
+use std::alloc::Global;
+use std::env;
+use std::io::{Eprint, Print};
+use std::sync::Wait;
+use std::thread::Threads;
+use std::time::Clock;
+
+fn main(rt: HostRuntime) -> Result<()> {
+    match env::args(&rt)?.nth(1) {
+        Some(word) if word.as_str() == "full" => measure_threads(&rt, rt.alloc(), Size::FULL),
+        Some(word) if word.as_str() == "areas" => measure_areas(&rt, rt.alloc(), Size::FULL),
+        Some(_) => bail!("usage: space_cost [full|areas]"),
+        None => {
+            measure_threads(&rt, rt.alloc(), Size::SMALL)?;
+            measure_areas(&rt, rt.alloc(), Size::SMALL)
+        }
+    }
+}
+
+/// `load` and `pager` on 1, 2 and 4 threads.
+fn measure_threads<R: Threads + Wait + Sync + Clock + Print + Eprint>(
+    rt: &R,
+    alloc: Global,
+    size: Size,
+) -> Result<()>
+    requires { size.calls ≤ 1048576 }
+{
+    for workload in [Workload::Load, Workload::Pager] {
+        for threads in [1u32, 2, 4] {
+            let times = times_of(rt, alloc, size, workload, threads)?;
+            print_times(rt, size, workload, threads, times)?;
+        }
+    }
+    Ok(())
+}
+
+/// One worker on 300 to 600 areas.
+fn measure_areas<R: Threads + Wait + Sync + Clock + Print + Eprint>(
+    rt: &R,
+    alloc: Global,
+    size: Size,
+) -> Result<()>
+    requires { size.calls ≤ 1048576 }
+{
+    let times = times_of(rt, alloc, size, Workload::Areas, 1)?;
+    print_times(rt, size, Workload::Areas, 1, times)?;
+    let plain = least_of_plain(rt, alloc, size, Workload::Areas, times)?;
+    eprintln!(rt;
+        "areas, 1 thread: a call takes {} percent of one on the space of one thread ({} ns)",
+        percent(times.space, plain),
+        size.each(plain)
+    )?;
+    Ok(())
+}
+
+/// One time in percent of another.
+fn percent(one: u64, other: u64) -> u64 {
+    one.saturating_mul(100) / other.max(1)
+}
+
+/// The summary of a workload, and its times.
+fn print_times<R: Print + Eprint>(
+    rt: &R,
+    size: Size,
+    workload: Workload,
+    threads: u32,
+    times: Times,
+) -> Result<()> {
+    let name = workload.name();
+    println!(rt;
+        "{name}, threads {threads}: played {} skipped 0 refused {} differ 0",
+        times.calls, times.refused
+    )?;
+    eprintln!(rt;
+        "{name}, threads {threads}: a call takes {} ns, {} percent of the BTreeMap under an RwLock ({} ns), {} percent of that under a Mutex ({} ns)",
+        size.each(times.space),
+        percent(times.space, times.rw_lock),
+        size.each(times.rw_lock),
+        percent(times.space, times.mutex),
+        size.each(times.mutex)
+    )?;
+    Ok(())
+}

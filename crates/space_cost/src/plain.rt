@@ -1,0 +1,61 @@
+//! Rounds of one worker that plays its lines on the address space of one thread, which needs no lock. Each call's entry
+//! is kept, in room that is taken before the clock starts.
+ghost use Rattle.std.specs.Prelude.{◌≤◌, All};
+ghost use Rattle.page_types.specs.Named.{IsNamedCall};
+
+use crate::lines::Workload;
+use crate::rounds::{Played, count_refused};
+use crate::watch::Watch;
+use anyhow::Result;
+use space_model::{Entry, PlainSpace};
+use std::alloc::{AllocError, Global};
+use std::time::Clock;
+use trace_threads::{Gate, Line};
+
+/// A worker plays its lines in their order.
+fn play_lines<G: Gate>(
+    space: &mut PlainSpace,
+    lines: &[Line],
+    entries: &mut Vec<Entry>,
+    gate: &G,
+) -> Result<(), AllocError>
+    requires { All (λ l. IsNamedCall l.call) lines.now }
+{
+    let mut number = 0;
+    'lines: for line in lines {
+        gate.before(0, line.line);
+        let (reply, under) = space.step_under(&line.call)?;
+        entries.push(Entry {
+            number,
+            worker: 0,
+            line: line.line,
+            call: line.call,
+            reply,
+            under,
+        })?;
+        number = u64::wrapping_add(number, 1);
+        gate.after(0, line.line);
+    }
+    Ok(())
+}
+
+/// A round of one worker.
+pub fn round_of_plain<R: Clock + Sync>(
+    rt: &R,
+    alloc: Global,
+    workload: Workload,
+    calls: u32,
+) -> Result<Played>
+    requires calls { calls ≤ 1048576 }
+{
+    let mut space = workload.start(alloc)?;
+    let lines = workload.lines_of(alloc, 0, 1, calls)?;
+    let mut entries = Vec::with_capacity(alloc, lines.len())?;
+    let watch = Watch::new(rt, 1, calls)?;
+    play_lines(&mut space, &lines, &mut entries, &watch)?;
+    Ok(Played {
+        time: watch.time(),
+        calls: entries.len(),
+        refused: count_refused(entries.as_slice()),
+    })
+}
