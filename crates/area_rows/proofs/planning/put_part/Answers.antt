@@ -1,6 +1,0 @@
-use Rattle.std.proofs.Common.{rules}
-use Rattle.area_rows.proofs.PutRows.{no_part}
-use Rattle.area_rows.proofs.planning.put_part.Goals as goal
-
-pub returns-else-from-to-clause-shows : goal.returns-else-from-to-clause-shows
-returns-else-from-to-clause-shows c = λ kinds le all show. no_part c.args.rows.now.items c.args.from c.args.to kinds le (search rules) show
