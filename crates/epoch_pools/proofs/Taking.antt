@@ -9,6 +9,7 @@ use Rattle.std.proofs.lemmas.List.{get_or-set_same, get_or-set_other}
 use Rattle.view_lists.specs.Counted.{times, without, is_empty, are_others_passed}
 use Rattle.lock_core.specs.declared.range.Held.{Held}
 use Rattle.lock_core.specs.declared.views.View.{View}
+use Rattle.lock_core.specs.declared.views.Cursor.{Cursor}
 use Rattle.lock_core.specs.declared.views.Own.{Own}
 use Rattle.lock_core.specs.declared.views.Own.TheVariants.{Nothing}
 use Rattle.lock_core.specs.declared.steps.Step.{Step}
@@ -24,8 +25,9 @@ use Rattle.lock_core.proofs.Enabled.{line_of, clear_home_on}
 use Rattle.lock_core.proofs.Table.{plan_of_line, both, together}
 use Rattle.epoch_pools.specs.declared.record.Away.{Away}
 use Rattle.epoch_pools.specs.declared.record.Noted.{Noted}
+use Rattle.epoch_pools.specs.declared.record.Record.{Record}
 use Rattle.epoch_pools.specs.declared.views.Part.{Part}
-use Rattle.epoch_pools.specs.Record.{noted_after}
+use Rattle.epoch_pools.specs.Record.{noted_after, looked_with, is_judging, gained_by}
 use Rattle.epoch_pools.specs.Running.{pass_kept, Enables, part_after, core_after}
 use Rattle.epoch_pools.specs.declared.stuck.Stuck.{Stuck}
 use Rattle.epoch_pools.specs.declared.stuck.Stuck.TheVariants.{Inside, Away as IsAway}
@@ -45,6 +47,14 @@ find_here key a l = ap (λ (t : Bool). cond t (Some a) (find (λ b. key b == key
 pass_none : {P : Type 0} (rested : P → P) (own : Own) (now : Option Held) (pass : P) → own ≡ Nothing → pass_kept rested (held_at own) now pass ≡ pass
 pass_none rested own now pass e = ap (λ (o : Own). pass_kept rested (held_at o) now pass) e
 
+-- without a cursor before and after, what the last one looked at stays
+none_looked : (t : Record) (before now : Option Cursor) (judging gained : Bool) → before ≡ None → now ≡ before → looked_with t before now judging gained ≡ t.looked
+none_looked t before now judging gained none same = ap (λ (o : Option Cursor). looked_with t before o judging gained) (same ∙ none) ∙ gone before
+  where
+    gone : (b : Option Cursor) → looked_with t b None judging gained ≡ t.looked
+    gone None = refl
+    gone (Some c) = refl
+
 pub pool_call : {P : Type 0} (rested : P → P) (p q : Part P) (step : Step) (w : ℕ) (u : View) → q ≡ part_after rested p step w → p.core.own ≡ Nothing → q.core ≡ u
     → u.epoch ≡ p.core.epoch → u.cursor ≡ p.core.cursor → u.hand ≡ p.core.hand → IsPoolCall p q
 pool_call {P} rested p q step w u made own core epoch cursor hand = record {
@@ -55,11 +65,13 @@ pool_call {P} rested p q step w u made own core epoch cursor hand = record {
   epoch = ap (λ (v : View). v.epoch) core ∙ epoch;
   cursor = ap (λ (v : View). v.cursor) core ∙ cursor;
   hand = ap (λ (v : View). v.hand) core ∙ hand;
+  looked = λ none. ap (λ (x : Part P). x.trace.looked) made ∙ none_looked p.trace p.core.cursor (core_after p step w).cursor (is_judging step) (gained_by p.core (core_after p step w)) none
+      (ap (λ (x : Part P). x.core.cursor) (sym made) ∙ (ap (λ (v : View). v.cursor) core ∙ cursor));
   taken = let t = ap (λ (x : Part P). x.trace.taken) made in omega arith;
 }
 
 pub no_call : {P : Type 0} (p : Part P) → IsPoolCall p p
-no_call p = record { number = refl; seats = refl; pass = refl; client = refl; epoch = refl; cursor = refl; hand = refl; taken = omega arith }
+no_call p = record { number = refl; seats = refl; pass = refl; client = refl; epoch = refl; cursor = refl; hand = refl; looked = λ none. refl; taken = omega arith }
 
 pub both_calls : {P : Type 0} (p q r : Part P) → IsPoolCall p q → IsPoolCall q r → IsPoolCall p r
 both_calls p q r a b = record {
@@ -70,6 +82,7 @@ both_calls p q r a b = record {
   epoch = b.epoch ∙ a.epoch;
   cursor = b.cursor ∙ a.cursor;
   hand = b.hand ∙ a.hand;
+  looked = λ none. b.looked (a.cursor ∙ none) ∙ a.looked none;
   taken = let x = a.taken in let y = b.taken in omega arith;
 }
 

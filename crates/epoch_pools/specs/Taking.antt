@@ -30,6 +30,8 @@ pub record IsPoolCall {P : Type 0} (p q : Part P) : Type 0 where
   pub epoch : q.core.epoch ≡ p.core.epoch
   pub cursor : q.core.cursor ≡ p.core.cursor
   pub hand : q.core.hand ≡ p.core.hand
+  -- what the last cursor has looked at stays
+  pub looked : p.core.cursor ≡ None → q.trace.looked ≡ p.trace.looked
   pub taken : p.trace.taken ≤ q.trace.taken
 
 -- node x was read as away, for the last time by a step from number `since` on and below `taken`

@@ -13,7 +13,7 @@ use crate::token::Token;
 use crate::views::ListView;
 use atomic_table::{Closed, Shared};
 use lock_core::Guard;
-use std::alloc::Global;
+use std::alloc::{AllocError, Global};
 use word_rows::Start;
 
 /// There was no memory to close the list. Nothing has changed, and all comes back.
@@ -62,10 +62,39 @@ fn copy_words(closed: &Closed<(), Global>, from: u32, count: u32, out: &mut Vec<
     }
 }
 
-/// Ends the list and gives its client words, which meet the guard with no grant.
+/// An empty `Vec` with room for the list's client words, so that `close_into` can't be refused.
+pub fn room_for_words<G: Guard>(list: &List<G>, alloc: Global) -> Result<Vec<u64>, AllocError>
+    ensures { IfOk result (λ words. (words.items ≡ []) × (list.now.client ≤ vec_capacity words)) }
+{
+    Vec::with_capacity(alloc, list.client as usize)
+}
+
+/// Ends the list and gives its client words, which meet the guard with no grant, in a `Vec` that has room for them.
 /// The hands are all those of the opening, in order of their numbers; each is outside its epoch, and has no node in use
-/// or still to be given home. The one refusal is that there is no memory: it comes before anything is changed, and
-/// hands all back.
+/// or still to be given home.
+pub fn close_into<G: Guard>(list: List<G>, hands: Vec<Hand<G>>, mut words: Vec<u64>) -> Vec<u64>
+    requires count { length hands.items ≡ list.seats }
+    requires idle { AreIdleHands list.table hands.items }
+    requires empty { words.items ≡ [] }
+    requires room { list.client ≤ vec_capacity words }
+    ensures words { length result.items ≡ list.client }
+    ensures guard { G.holds (replicate list.seats None) result.items (map pass_in hands.items) }
+{
+    let List {
+        table,
+        seats,
+        client,
+    } = list;
+    let all = join_all(&table.shared, hands);
+    let closed = table.close_with(all);
+    copy_words(&closed, lock_word_count(seats), client, &mut words);
+    closed.free();
+    words
+}
+
+/// Ends the list and gives its client words, which meet the guard with no grant.
+/// The hands are as for `close_into`. The one refusal is that there is no memory: it comes before anything is changed,
+/// and hands all back.
 pub fn close<G: Guard>(
     list: List<G>,
     alloc: Global,
@@ -77,17 +106,8 @@ pub fn close<G: Guard>(
     ensures guard { IfOk result (λ words. G.holds (replicate list.seats None) words.items (map pass_in hands.items)) }
     ensures refused { IfErr result (λ r. (r.list ≡ list) × (r.hands.items ≡ hands.items)) }
 {
-    let Ok(mut words) = Vec::with_capacity(alloc, list.client as usize) else {
+    let Ok(words) = room_for_words(&list, alloc) else {
         return Err(ListCloseRefused { list, hands });
     };
-    let List {
-        table,
-        seats,
-        client,
-    } = list;
-    let all = join_all(&table.shared, hands);
-    let closed = table.close_with(all);
-    copy_words(&closed, lock_word_count(seats), client, &mut words);
-    closed.free();
-    Ok(words)
+    Ok(close_into(list, hands, words))
 }

@@ -22,6 +22,7 @@ pub fn enter<G: Guard, L: Ledger>(list: &List<G>, hand: &mut Hand<G>, steps: &mu
     requires given { hand.old.part.core.hand ≡ None }
     ensures table { hand.new.table ≡ hand.old.table }
     ensures made { hand.new.part ≡ quiet_after hand.old.part Enter (entered hand.old.part.core) }
+    ensures seats { hand.old.part.seats ≡ list.now.seats }
     ensures counted { steps.new ≡ steps.old + 1 }
 {
     hand.make(list, Step::Enter, steps);

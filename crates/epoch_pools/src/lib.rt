@@ -24,7 +24,7 @@ mod views;
 
 pub use barrier::take;
 pub use client::{client_add, client_exchange, client_load, client_store};
-pub use closing::{ListCloseRefused, close};
+pub use closing::{ListCloseRefused, close, close_into, room_for_words};
 pub use epochs::{enter, give_home, inside, leave, ready};
 pub use hand::Hand;
 pub use laws::{keeps_apart, keeps_lock, keeps_no_reuse};

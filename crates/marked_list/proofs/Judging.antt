@@ -16,7 +16,7 @@ use Rattle.lock_core.specs.declared.compare.Verdict.TheVariants.{Past, Stop, Con
 use Rattle.lock_core.specs.declared.steps.Step.TheVariants.{Walk, ReadLo, ReadHi}
 use Rattle.lock_core.specs.Words.{plain_node_of, cell_place, lo_place, hi_place, hi_word, mode_of}
 use Rattle.lock_core.specs.Nodes.{Listed, listed}
-use Rattle.lock_core.specs.Views.{walk_cell, walked, lo_read, hi_read, hi_judged, own_stopped, seen_after, todo_of}
+use Rattle.lock_core.specs.Views.{walk_cell, own_at, walked, lo_read, hi_read, hi_judged, own_stopped, seen_after, todo_of}
 use Rattle.lock_core.specs.Compare.{verdict_of, is_reader}
 use Rattle.lock_core.specs.StepTable.{Plan, IsLine, loads, walk, read_lo, read_hi}
 use Rattle.lock_core.specs.Machine.{held_at}
@@ -31,12 +31,14 @@ use Rattle.epoch_pools.specs.Running.{Enables, line_for, part_after, Told}
 use Rattle.epoch_pools.specs.Hands.{IsHandView}
 use Rattle.marked_list.specs.declared.answers.Walked.TheVariants.{Place}
 use Rattle.marked_list.specs.Order.{MayGo, IsAhead, IsInside, StandsAt, KnowsNext, StandsInConflict}
-use Rattle.marked_list.specs.Leaves.{IsSamePools, IsOn, IsSameWalk}
-use Rattle.marked_list.specs.Causes.{IsMet, asked_of}
+use Rattle.marked_list.specs.Leaves.{IsSamePools, IsOn, IsSameWalk, HasJudged}
+use Rattle.marked_list.specs.Causes.{IsMet, asked_of, judged_in}
 use Rattle.marked_list.specs.Answers.{Arrives}
 use Rattle.marked_list.specs.Going.{seen_of, has_arrived, arrival_at, judgement_at, conflict_with, KnowsLo, Came, IsOthers, IsElsewhere, IsWithin, HasRoom, Outcome, IsLoad}
-use Rattle.marked_list.proofs.Lines.{enables, line_is, Made, made_by, same_walk, on_made}
+use Rattle.marked_list.specs.Scanning.{IsSeen, PassesFrom, found_with}
+use Rattle.marked_list.proofs.Lines.{enables, line_is, Made, made_by, same_walk, same_judged, more_judged, on_made}
 use Rattle.marked_list.proofs.Stepping.{free_go, judges_go, nodes_seen, came_outcome}
+use Rattle.marked_list.proofs.Passing.{judged_on_from, scanning_at}
 use Rattle.marked_list.proofs.Moments.{found_other, found_range, found_own}
 
 -- a load that changes the cursor alone
@@ -73,6 +75,7 @@ module _ {P : Type 0} (p : Part P) (st : StandsAt p.core) where
       own = ap (λ (v : View). v.own) core_next;
       seen = ap (λ (v : View). seen_of v.cursor) core_next ∙ sym (ap seen_of st.is);
       walk = same_walk rested p q Walk walk_plan w m (ap is_some st.is);
+      judged = same_judged rested p q Walk walk_plan w m refl (ap is_some st.is);
       taken = m.taken;
     }
       where
@@ -132,6 +135,7 @@ module _ {P : Type 0} (p : Part P) (n : ℕ) (k : KnowsNext p.core n) (even : n 
       own = ap (λ (v : View). v.own) core_lo;
       seen = ap (λ (v : View). seen_of v.cursor) core_lo ∙ sym (ap seen_of k.stands.is);
       walk = same_walk rested p q ReadLo lo_plan w lo_made (ap is_some k.stands.is);
+      judged = same_judged rested p q ReadLo lo_plan w lo_made refl (ap is_some k.stands.is);
       taken = lo_made.taken;
     }
 
@@ -353,3 +357,56 @@ module _ {P : Type 0} (p : Part P) (n lo : ℕ) (k : KnowsLo p.core n lo) (even 
 
         pub judged_outcome : Outcome p.trace.walked p.core q (judgement_at q.core.own q.core.cursor lo w)
         judged_outcome = by_verdict verdict refl
+
+    -- a scan has no own node, and goes past every node
+    module _ (bare : p.core.own ≡ Nothing) (walked : p.trace.walked < p.trace.taken) where
+      core_past : q.core ≡ hi_judged p.core st.cursor st.node n Past
+      core_past = hi_made.core ∙ ap (λ (o : Own). hi_judged p.core st.cursor st.node n (verdict_of o lo w)) bare
+
+      abbrev seen_held : ℕ → Held
+      seen_held low = record { range = record { lo = low; hi = w / 2 }; mode = mode_of w }
+
+      pub scan_seen : IsSeen p.trace.walked q ((st.cursor.cur / 2 - 1) / 16) (seen_held lo)
+      scan_seen = record {
+        met = record { owner = (st.cursor.cur / 2 - 1) / 16; held = seen_held lo; step = p.trace.walked };
+        is = hi_made.met ∙ (ap (λ (o : Option Cursor). met_at p.trace o w) st.is
+            ∙ ap (λ (l : Option ℕ). Some (record { owner = (st.cursor.cur / 2 - 1) / 16; held = seen_held (unwrap_or l 0); step = p.trace.walked })) k.lo);
+        from = omega arith;
+        below = let t = hi_made.taken in omega arith;
+        owned = refl;
+        holds = refl;
+      }
+
+      scan_judged : HasJudged 1 p q
+      scan_judged = more_judged rested p q ReadHi hi_plan w hi_made refl (ap is_some st.is) (ap (λ (o : Own). is_some (hi_judged p.core st.cursor st.node n (verdict_of o lo w)).cursor) bare)
+
+      pub past_own : q.core.own ≡ Nothing
+      past_own = ap (λ (v : View). v.own) core_past ∙ ap (λ (o : Own). own_at o n) bare
+
+      module _ (before : IsHandView p) (view : IsHandView q) (room : HasRoom p) where
+        past_inside : IsInside q.core
+        past_inside = record { odd = ap (λ (v : View). v.epoch % 2) core_past ∙ st.inside.odd; hand = judged_on.hand }
+
+        past_came : Came p.core q.core
+        past_came = record {
+          cursor = record { prev = Some st.node; cur = n; next = None; lo = None; seen = seen_after st.cursor.seen n };
+          is = ap (λ (v : View). v.cursor) core_past;
+          even = even;
+          next = refl;
+          lo = refl;
+          seen = ap (λ a. seen_after a n) (sym (ap seen_of st.is));
+          own = ap (λ (v : View). v.own) core_past;
+        }
+
+        past_found : PassesFrom p.trace.walked (judged_in p.trace.looked) q (found_with st.cursor.cur lo w)
+        past_found = (
+          scan_seen,
+          judged_on_from 1 p q st.cursor st.is before scan_judged,
+          scanning_at p.trace.walked p q bare view room hi_made.seats past_inside (came_outcome p.trace.walked p q past_came st.own past_inside view hi_made.seats room),
+        )
+
+        -- the same, in the words of the cursor that was read before the step
+        pub past_passes : (d : Cursor) → p.core.cursor ≡ Some d → PassesFrom p.trace.walked (judged_in p.trace.looked) q (found_with d.cur lo w)
+        past_passes d is =
+            let same : st.cursor ≡ d = let e : ◌≡◌ {A = Option Cursor} (Some st.cursor) (Some d) = sym st.is ∙ is in cc in
+            subst (λ (c : Cursor). PassesFrom p.trace.walked (judged_in p.trace.looked) q (found_with c.cur lo w)) same past_found

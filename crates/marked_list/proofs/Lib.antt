@@ -3,6 +3,7 @@ pub mod Judging
 pub mod Lines
 pub mod Moments
 pub mod Owning
+pub mod Passing
 pub mod Setting
 pub mod Stepping
 pub mod Swept

@@ -1,6 +1,6 @@
 -- A step of a hand by the line that its view enables, and what every step leaves of the part and of the record.
-use Rattle.std.proofs.Common.{◌≡◌, ℕ, ◌+◌, true, Bool, refl, sym, ap, ◌∙◌, subst, arith}
-use Rattle.std.specs.Prelude.{Option, Some, None, is_some, unwrap_or}
+use Rattle.std.proofs.Common.{◌≡◌, ℕ, ◌+◌, true, false, Bool, refl, sym, ap, ◌∙◌, subst, arith}
+use Rattle.std.specs.Prelude.{Option, Some, None, is_some, unwrap_or, if◌then◌else◌}
 use Rattle.lock_core.specs.declared.range.Held.{Held}
 use Rattle.lock_core.specs.declared.views.View.{View}
 use Rattle.lock_core.specs.declared.views.Cursor.{Cursor}
@@ -13,7 +13,7 @@ use Rattle.epoch_pools.specs.declared.record.Record.{Record}
 use Rattle.epoch_pools.specs.declared.views.Part.{Part}
 use Rattle.epoch_pools.specs.Record.{met_after, lost_by, expected_by, looked_with, looked_on, walked_at, is_judging, gained_by}
 use Rattle.epoch_pools.specs.Running.{Enables, line_for, part_after, pass_kept}
-use Rattle.marked_list.specs.Leaves.{IsSamePools, IsOn, IsCall, IsSameWalk}
+use Rattle.marked_list.specs.Leaves.{IsSamePools, IsOn, IsCall, IsSameWalk, HasJudged}
 
 pub enables : {P : Type 0} (p : Part P) (step : Step) (plan : Plan) → IsLine p.seats p.number p.core step plan → Enables p step
 enables p step plan line = ap is_some (plan_of_line p.seats p.number p.core step plan line)
@@ -52,7 +52,32 @@ same_looked t (Some b) (Some c) j g e l is = by_looked t.looked is
     by_looked None e' = absurd (cc)
     by_looked (Some k) e' = let same : k ≡ l = cc in (_, refl, ap (λ (x : Looked). x.step) same)
 
+-- a step with a cursor judges one node or none
+judged_on : (t : Record) (b now : Option Cursor) (j g : Bool) → is_some b ≡ true → (l : Looked) → t.looked ≡ Some l → is_some now ≡ true → (m : Looked) × (looked_with t b now j g ≡ Some m) × (m.step ≡ l.step) × (m.judged ≡ (if j then l.judged + 1 else l.judged))
+judged_on t None now j g e l is there = absurd (cc)
+judged_on t (Some b) None j g e l is there = absurd (cc)
+judged_on t (Some b) (Some c) j g e l is there = by_looked t.looked is
+  where
+    by_looked : (o : Option Looked) → o ≡ Some l → (m : Looked) × (looked_on o c j g ≡ Some m) × (m.step ≡ l.step) × (m.judged ≡ (if j then l.judged + 1 else l.judged))
+    by_looked None e' = absurd (cc)
+    by_looked (Some k) e' = let same : k ≡ l = cc in (_, refl, ap (λ (x : Looked). x.step) same, ap (λ (x : Looked). if j then x.judged + 1 else x.judged) same)
+
+pub judges_none : (t : Record) (b now : Option Cursor) (g : Bool) → is_some b ≡ true → (l : Looked) → t.looked ≡ Some l → (m : Looked) × (looked_with t b now false g ≡ Some m) × (m.step ≡ l.step) × (m.judged ≡ l.judged + 0)
+judges_none t None now g e l is = absurd (cc)
+judges_none t (Some b) None g e l is = (l, is, refl, (let z : l.judged ≡ l.judged + 0 = omega arith in z))
+judges_none t (Some b) (Some c) g e l is = let r = judged_on t (Some b) (Some c) false g refl l is refl in (r.0, r.1, r.2, (let z : l.judged ≡ l.judged + 0 = omega arith in r.3 ∙ z))
+
 module _ {P : Type 0} (rested : P → P) (p q : Part P) (step : Step) (plan : Plan) (found : ℕ) (m : Made rested p q step plan found) where
+  pub same_judged : is_judging step ≡ false → is_some p.core.cursor ≡ true → HasJudged 0 p q
+  same_judged none there l is =
+      let r = judges_none p.trace p.core.cursor (plan.view found).cursor (gained_by p.core (plan.view found)) there l is in
+      (r.0, m.looked ∙ (ap (λ (b : Bool). looked_with p.trace p.core.cursor (plan.view found).cursor b (gained_by p.core (plan.view found))) none ∙ r.1), r.2, r.3)
+
+  pub more_judged : is_judging step ≡ true → is_some p.core.cursor ≡ true → is_some (plan.view found).cursor ≡ true → HasJudged 1 p q
+  more_judged one there now l is =
+      let r = judged_on p.trace p.core.cursor (plan.view found).cursor true (gained_by p.core (plan.view found)) there l is now in
+      (r.0, m.looked ∙ (ap (λ (b : Bool). looked_with p.trace p.core.cursor (plan.view found).cursor b (gained_by p.core (plan.view found))) one ∙ r.1), r.2, r.3)
+
   pub same_walk : is_some p.core.cursor ≡ true → IsSameWalk p q
   same_walk there l is = let r = same_looked p.trace p.core.cursor (plan.view found).cursor (is_judging step) (gained_by p.core (plan.view found)) there l is in (r.0, m.looked ∙ r.1, r.2)
 

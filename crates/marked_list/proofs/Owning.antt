@@ -1,6 +1,6 @@
 -- The own node on its way: filled, aimed, linked, marked, and by the fast path.
-use Rattle.std.proofs.Common.{◌≡◌, ◌≢◌, ◌⊎◌, ℕ, suc, ◌+◌, ◌*◌, ◌%◌, ◌^◌, ◌≤◌, ◌<◌, Bool, ⊎_elim, refl, sym, ap, ◌∙◌, subst, arith, eq-eqb, ne_eqb}
-use Rattle.std.specs.Prelude.{Option, Some, None, unwrap_or, if◌then◌else◌}
+use Rattle.std.proofs.Common.{◌≡◌, ◌≢◌, ◌⊎◌, ℕ, suc, ◌+◌, ◌*◌, ◌%◌, ◌^◌, ◌≤◌, ◌<◌, Bool, true, false, inl, inr, ⊎_elim, refl, sym, ap, ◌∙◌, subst, arith, eq-eqb, ne_eqb}
+use Rattle.std.specs.Prelude.{Option, Some, None, unwrap_or, if◌then◌else◌, ◌==◌}
 use Rattle.lock_core.specs.declared.range.Held.{Held}
 use Rattle.lock_core.specs.declared.range.Mode.{Mode}
 use Rattle.lock_core.specs.declared.views.View.{View}
@@ -9,23 +9,28 @@ use Rattle.lock_core.specs.declared.views.Own.{Own}
 use Rattle.lock_core.specs.declared.views.Own.TheVariants.{Filling, Linked}
 use Rattle.lock_core.specs.declared.views.Todo.{Todo}
 use Rattle.lock_core.specs.declared.views.Todo.TheVariants.{Done}
-use Rattle.lock_core.specs.declared.steps.Step.TheVariants.{FillLo, FillHi, Aim, Link, QuickLink, QuickUnlink}
+use Rattle.lock_core.specs.declared.steps.Step.{Step}
+use Rattle.lock_core.specs.declared.steps.Step.TheVariants.{FillLo, FillHi, Aim, Link, Mark, QuickLink, QuickUnlink}
 use Rattle.lock_core.specs.Words.{cell_place, lo_place, hi_place, hi_word, cell_of}
 use Rattle.lock_core.specs.Nodes.{Filled, Listed, filling, listed, listed_of}
-use Rattle.lock_core.specs.Views.{lo_filled, hi_filled, aimed_at, linked, dropped, todo_of, quick_linked, quick_unlinked}
-use Rattle.lock_core.specs.StepTable.{Plan, IsLine, Aims, stores, exchanges, fill_lo, fill_hi, aim, link, quick_link, quick_unlink}
+use Rattle.lock_core.specs.Views.{lo_filled, hi_filled, aimed_at, linked, dropped, todo_of, marked, quick_linked, quick_unlinked}
+use Rattle.lock_core.specs.StepTable.{Plan, IsLine, Aims, stores, adds_one, exchanges, fill_lo, fill_hi, aim, link, mark, quick_link, quick_unlink}
 use Rattle.lock_core.specs.Machine.{held_at}
+use Rattle.epoch_pools.specs.declared.record.Looked.{Looked}
+use Rattle.epoch_pools.specs.declared.record.Record.{Record}
 use Rattle.epoch_pools.specs.declared.views.Part.{Part}
-use Rattle.epoch_pools.specs.Record.{cursor_word, own_word}
+use Rattle.epoch_pools.specs.Hands.{IsHandView}
+use Rattle.epoch_pools.specs.Record.{cursor_word, own_word, looked_on, looked_with, is_judging, gained_by}
 use Rattle.epoch_pools.specs.Running.{Enables, part_after, pass_kept}
 use Rattle.marked_list.specs.declared.answers.Lost.{Lost}
-use Rattle.marked_list.specs.Order.{HasEnds, StandsAtPlace, MayFill, MayAim, MayLink, MayQuickUnlink}
-use Rattle.marked_list.specs.Leaves.{IsCall}
-use Rattle.marked_list.specs.Causes.{IsLost}
-use Rattle.marked_list.specs.Answers.{aimed_own, linked_own, IsAimed, IsQuickCall}
-use Rattle.marked_list.proofs.Lines.{enables, Made, made_by, call_made}
+use Rattle.marked_list.specs.Order.{HasEnds, StandsAtPlace, MayFill, MayAim, MayLink, MayMark, MayQuickUnlink}
+use Rattle.marked_list.specs.Leaves.{IsCall, IsSameLook}
+use Rattle.marked_list.specs.Causes.{IsLost, nodes_in}
+use Rattle.marked_list.specs.Going.{seen_of}
+use Rattle.marked_list.specs.Answers.{aimed_own, linked_own, IsAimed, IsMarkCall, IsQuickCall}
+use Rattle.marked_list.proofs.Lines.{enables, Made, made_by, pass_stays, same_looked, call_made, walk_on_walk}
 use Rattle.marked_list.proofs.Following.{lost_from}
-use Rattle.marked_list.proofs.Unlinking.{lost_made}
+use Rattle.marked_list.proofs.Unlinking.{gone_looked, lost_made}
 
 pub call_on : {P : Type 0} (p q r : Part P) → IsCall 1 p q → IsCall 1 q r → IsCall 2 p r
 call_on p q r a b = record {
@@ -35,6 +40,31 @@ call_on p q r a b = record {
   client = b.client ∙ a.client;
   taken = let x = a.taken in let y = b.taken in omega arith;
 }
+
+pub look_on_look : {P : Type 0} (p q r : Part P) → IsSameLook p q → IsSameLook q r → IsSameLook p r
+look_on_look p q r a b = (b.0 ∙ a.0, walk_on_walk p q r a.1 b.1)
+
+-- a step that lets the cursor be or takes it away leaves the count of its nodes and the step that made it
+look_stays : (t : Record) (b now : Option Cursor) (j g : Bool) → ((c : Cursor) → b ≡ Some c → (l : Looked) × (t.looked ≡ Some l) × (l.nodes ≡ c.seen)) → (now ≡ None) ⊎ (now ≡ b)
+    → (nodes_in (looked_with t b now j g) ≡ nodes_in t.looked) × ((l : Looked) → t.looked ≡ Some l → (m : Looked) × (looked_with t b now j g ≡ Some m) × (m.step ≡ l.step))
+look_stays t b None j g on way = (ap nodes_in (gone_looked t b j g), λ l is. (l, gone_looked t b j g ∙ is, refl))
+look_stays t None (Some d) j g on way = absurd (⊎_elim (λ e. some_none d e) (λ e. some_none d e) way)
+  where
+    some_none : (x : Cursor) → ◌≡◌ {A = Option Cursor} (Some x) None → ⊥
+    some_none x e = cc
+look_stays t (Some c) (Some d) j g on way =
+    let l = on c refl in
+    let same : d.seen ≡ l.0.nodes = ⊎_elim (λ e. absurd (some_none d e)) (λ e. ap seen_of e ∙ sym l.2) way in
+    (ap (λ (o : Option Looked). nodes_in (looked_on o d j g)) l.1 ∙ (same ∙ ap nodes_in (sym l.1)), same_looked t (Some c) (Some d) j g refl)
+  where
+    some_none : (x : Cursor) → ◌≡◌ {A = Option Cursor} (Some x) None → ⊥
+    some_none x e = cc
+
+module _ {P : Type 0} (rested : P → P) (p q : Part P) (step : Step) (plan : Plan) (found : ℕ) (m : Made rested p q step plan found) (view : IsHandView p) where
+  same_look : ((plan.view found).cursor ≡ None) ⊎ ((plan.view found).cursor ≡ p.core.cursor) → IsSameLook p q
+  same_look way =
+      let r = look_stays p.trace p.core.cursor (plan.view found).cursor (is_judging step) (gained_by p.core (plan.view found)) (λ c is. let l = view.looked c is in (l.0, l.1, l.2)) way in
+      (ap nodes_in m.looked ∙ r.0, λ l is. let s = r.1 l is in (s.0, m.looked ∙ s.1, s.2))
 
 module _ {P : Type 0} (p : Part P) (n lo : ℕ) (may : MayFill p.core n) where
   abbrev lo_plan : Plan
@@ -92,12 +122,13 @@ module _ {P : Type 0} (p : Part P) (may : MayAim p.core) where
   pub may_aim : Enables p Aim
   may_aim = enables p Aim aim_plan aim_line
 
-  pub aimed_is : (rested : P → P) (q : Part P) (w : ℕ) → q ≡ part_after rested p Aim w → IsAimed p q
-  aimed_is rested q w made =
+  pub aimed_is : (rested : P → P) (q : Part P) (w : ℕ) → q ≡ part_after rested p Aim w → IsHandView p → IsAimed p q
+  aimed_is rested q w made view =
       let m = made_by rested p q Aim aim_plan w aim_line made in
       record {
         call = call_made rested p q Aim aim_plan w m (ap held_at may.own.is);
         core = m.core ∙ ap (λ (o : Own). record p.core { own = aimed_own (cursor_word p.core.cursor) o }) (sym may.own.is);
+        look = same_look rested p q Aim aim_plan w m view (inr refl);
       }
 
 -- the own node that was linked
@@ -131,6 +162,13 @@ module _ {P : Type 0} (p q : Part P) (a : IsAimed p q) where
 
       abbrev linked_by : Bool → View
       linked_by b = if b then linked q.core full.node may.own.lo may.own.hi full.mode (todo_of full.mode) else dropped q.core
+
+      gone_by : (b : Bool) → (linked_by b).cursor ≡ None
+      gone_by true = refl
+      gone_by false = refl
+
+      pub link_look : IsHandView q → IsSameLook p r
+      link_look view = look_on_look p q r a.look (same_look rested q r Link link_plan w link_made view (inl (gone_by (w == may.place.cursor.cur))))
 
       pub link_call : IsCall 2 p r
       link_call = call_on p q r a.call (call_made rested q r Link link_plan w link_made (ap held_at own_link))
@@ -201,6 +239,30 @@ kept_same : {P : Type 0} (rested : P → P) (o : Option Held) (pass : P) → pas
 kept_same rested None pass = refl
 kept_same rested (Some h) pass = refl
 
+-- the own node is marked
+module _ {P : Type 0} (is_at_rest : P → Type 0) (p : Part P) (may : MayMark is_at_rest p) where
+  abbrev mark_plan : Plan
+  mark_plan = adds_one (cell_place p.seats (suc may.node.node)) (marked p.core may.node.node)
+
+  mark_line : IsLine p.seats p.number p.core Mark mark_plan
+  mark_line = mark may.node may.is
+
+  pub mark_call : (rested : P → P) (q : Part P) (w : ℕ) → q ≡ part_after rested p Mark w → IsHandView p → IsMarkCall rested p q
+  mark_call rested q w made view =
+      let m = made_by rested p q Mark mark_plan w mark_line made in
+      record {
+        number = m.number;
+        seats = m.seats;
+        client = m.client;
+        taken = m.taken;
+        core = λ k is. let same : listed may.node ≡ listed k = sym may.is ∙ is in let node : may.node.node ≡ k.node = cc in m.core ∙ ap (marked p.core) node;
+        held = λ h is. m.pass ∙ ap (λ (o : Option Held). pass_kept rested o None p.pass) is;
+        free = λ none. m.pass ∙ pass_stays rested (held_at p.core.own) None p.pass none;
+        met = m.met;
+        lost = m.lost;
+        look = same_look rested p q Mark mark_plan w m view (inr refl);
+      }
+
 module _ {P : Type 0} (is_at_rest : P → Type 0) (p : Part P) (may : MayQuickUnlink is_at_rest p) where
   abbrev back_plan : Plan
   back_plan = exchanges 0 (2 * suc may.node.node + 1) 0 (quick_unlinked p.core may.node.node) p.core
@@ -219,7 +281,7 @@ module _ {P : Type 0} (is_at_rest : P → Type 0) (p : Part P) (may : MayQuickUn
     back_by b = if b then quick_unlinked p.core may.node.node else p.core
 
     back_call : IsQuickCall p q
-    back_call = record { number = back_made.number; seats = back_made.seats; client = back_made.client; taken = back_made.taken }
+    back_call = record { number = back_made.number; seats = back_made.seats; client = back_made.client; met = back_made.met; taken = back_made.taken }
 
     held_own : held_at p.core.own ≡ Some (record { range = may.node.range; mode = may.node.mode })
     held_own = ap held_at may.is ∙ ap (λ t. held_at (Linked may.node.node may.node.range may.node.mode t)) may.held

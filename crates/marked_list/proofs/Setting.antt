@@ -22,7 +22,8 @@ use Rattle.marked_list.specs.declared.answers.Walked.TheVariants.{Lost as Gone}
 use Rattle.marked_list.specs.Order.{MayGo, IsInside}
 use Rattle.marked_list.specs.Leaves.{IsSamePools}
 use Rattle.marked_list.specs.Going.{seen_of, arrival_at, HasRoom, MaySetOut, IsAtOddHead, IsSetOut, IsSettled, IsFailed, Outcome}
-use Rattle.marked_list.proofs.Lines.{enables, line_is, Made, made_by, same_walk, on_made}
+use Rattle.marked_list.specs.Causes.{judged_in}
+use Rattle.marked_list.proofs.Lines.{enables, line_is, Made, made_by, same_walk, same_judged, on_made}
 use Rattle.marked_list.proofs.Stepping.{free_go, done_not, came_outcome}
 use Rattle.marked_list.proofs.Moments.{seat_count, found_even}
 use Rattle.marked_list.proofs.Unlinking.{failed}
@@ -82,6 +83,8 @@ module _ {P : Type 0} (p : Part P) (may : MaySetOut p.core) where
         omega arith,
         (let t = m.taken in omega arith),
       );
+      judged = ap judged_in (m.looked ∙ (ap (λ (b : Option Cursor). looked_with p.trace b (out_plan.view w).cursor (is_judging Walk) (gained_by p.core (out_plan.view w))) may.cursor
+          ∙ ap (λ (b : Option Cursor). looked_with p.trace None b (is_judging Walk) (gained_by p.core (out_plan.view w))) (ap (λ (v : View). v.cursor) view_is)));
       unlinked = unlinked;
       seats = let c = seat_count p Walk w (told.moment (λ x. x)) in let a = c.0 in let b = c.1 in let s = m.seats in (omega arith, omega arith);
       taken = m.taken;
@@ -125,6 +128,7 @@ module _ {P : Type 0} (p : Part P) (head : IsAtOddHead p.core) where
           cursor = λ c is. let same : head.cursor ≡ c = let h = sym head.is ∙ is in cc in ap (λ (v : View). v.cursor) core ∙ ap (λ (x : Cursor). Some (record x { cur = x.cur - 1 })) same;
           own = ap (λ (v : View). v.own) core;
           walk = same_walk rested p q Settle settle_plan w m' (ap is_some head.is);
+          judged = same_judged rested p q Settle settle_plan w m' refl (ap is_some head.is);
           taken = m'.taken;
         }
 

@@ -6,7 +6,7 @@ use Rattle.std.specs.Prelude.{Option, Some, None, is_some, ◌==◌, if◌then�
 use Rattle.lock_core.specs.declared.views.View.{View}
 use Rattle.lock_core.specs.declared.views.Cursor.{Cursor}
 use Rattle.lock_core.specs.declared.steps.Step.{Step}
-use Rattle.lock_core.specs.declared.steps.Step.TheVariants.{Unlink, GiveHome}
+use Rattle.lock_core.specs.declared.steps.Step.TheVariants.{Enter, Leave, ReadEpoch, ReadHome, GiveHome, FillLo, FillHi, Aim, ClearHome, Walk, ReadLo, ReadHi, Link, Unlink, Mark, QuickLink, QuickUnlink, Settle}
 use Rattle.lock_core.specs.Words.{cell_place, cell_of}
 use Rattle.lock_core.specs.Views.{gave_home, unlinked, dropped, seen_after}
 use Rattle.lock_core.specs.StepTable.{Plan, IsLine, exchanges, unlink}
@@ -18,10 +18,10 @@ use Rattle.epoch_pools.specs.Running.{Enables, part_after}
 use Rattle.epoch_pools.specs.Hands.{IsHandView, quiet_after}
 use Rattle.marked_list.specs.declared.answers.Lost.{Lost}
 use Rattle.marked_list.specs.Order.{StandsAt, KnowsNext}
-use Rattle.marked_list.specs.Leaves.{IsSamePools, IsOn, IsSameWalk}
+use Rattle.marked_list.specs.Leaves.{IsSamePools, IsOn, IsSameWalk, HasJudged}
 use Rattle.marked_list.specs.Causes.{IsLost, IsWalkLoss, nodes_in}
 use Rattle.marked_list.specs.Going.{seen_of, arrival_at, HasRoom, Outcome, IsFailed, IsUnlinked}
-use Rattle.marked_list.proofs.Lines.{enables, Made, made_by, same_looked, same_walk, on_made, call_made}
+use Rattle.marked_list.proofs.Lines.{enables, Made, made_by, same_looked, judges_none, same_walk, same_judged, on_made, call_made}
 use Rattle.marked_list.proofs.Stepping.{free_go, nodes_seen, came_outcome}
 
 -- an exchange that found another value is in the record
@@ -38,6 +38,26 @@ lost_made rested p q step plan w e m Kind kind expects far place expected found 
   had = sym had;
   differ = let d = eqb-false _ _ far in λ z. d (sym had ∙ (z ∙ wanted));
 }
+
+not_judging : (s : Step) → IsWalkLoss s → is_judging s ≡ false
+not_judging Unlink k = refl
+not_judging Settle k = refl
+not_judging Enter k = absurd k
+not_judging Leave k = absurd k
+not_judging (ReadEpoch j) k = absurd k
+not_judging (ReadHome n) k = absurd k
+not_judging GiveHome k = absurd k
+not_judging (FillLo lo) k = absurd k
+not_judging (FillHi hi mode) k = absurd k
+not_judging Aim k = absurd k
+not_judging (ClearHome n) k = absurd k
+not_judging Walk k = absurd k
+not_judging ReadLo k = absurd k
+not_judging ReadHi k = absurd k
+not_judging Link k = absurd k
+not_judging Mark k = absurd k
+not_judging QuickLink k = absurd k
+not_judging QuickUnlink k = absurd k
 
 pub gone_looked : (t : Record) (b : Option Cursor) (j g : Bool) → looked_with t b None j g ≡ t.looked
 gone_looked t None j g = refl
@@ -57,6 +77,7 @@ module _ {P : Type 0} (rested : P → P) (p q : Part P) (step : Step) (plan : Pl
       inl (let n = nodes in let r = room.seen in let s = ap seen_of is in let e = m.seats in omega arith),
     );
     walk = same_walk rested p q step plan w m (ap is_some is);
+    judged = same_judged rested p q step plan w m (not_judging step kind) (ap is_some is);
     taken = m.taken;
   }
     where
@@ -104,6 +125,7 @@ module _ {P : Type 0} (p : Part P) (n : ℕ) (k : KnowsNext p.core n) (odd : n %
             own = ap (λ (v : View). v.own) core;
           };
           walk = same_walk rested p q Unlink unlink_plan w m (ap is_some st.is);
+          judged = same_judged rested p q Unlink unlink_plan w m refl (ap is_some st.is);
         }
 
     pub unlink_some : (x : ℕ) → q.core.hand ≡ Some x → IsUnlinked p q x
@@ -152,6 +174,12 @@ module _ {P : Type 0} (p q r : Part P) (x : ℕ) (u : IsUnlinked p q x) (made : 
       let s = u.walk l is in
       let t = same_looked q.trace q.core.cursor (gave_home q.core).cursor (is_judging GiveHome) (gained_by q.core (gave_home q.core)) (ap is_some u.came.is) s.0 s.1 in
       (t.0, ap (λ (z : Part P). z.trace.looked) made ∙ t.1, t.2 ∙ s.2)
+
+  pub home_judged : HasJudged 0 p r
+  home_judged l is =
+      let s = u.judged l is in
+      let t = judges_none q.trace q.core.cursor (gave_home q.core).cursor (gained_by q.core (gave_home q.core)) (ap is_some u.came.is) s.0 s.1 in
+      (t.0, ap (λ (z : Part P). z.trace.looked) made ∙ t.1, t.2 ∙ s.2, (let a = t.3 in let b = s.3 in omega arith))
 
   pub home_outcome : StandsAt p.core → IsHandView r → HasRoom p → Outcome p.trace.taken p.core r (arrival_at r.core.own r.core.cursor)
   home_outcome st view room = came_outcome p.trace.taken p r

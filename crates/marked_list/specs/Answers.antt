@@ -22,7 +22,7 @@ use Rattle.marked_list.specs.declared.answers.Linked.TheVariants.{Done, Lost as 
 use Rattle.marked_list.specs.declared.answers.Walked.{Walked}
 use Rattle.marked_list.specs.declared.answers.Walked.TheVariants.{Place, Conflict, Lost, Long}
 use Rattle.marked_list.specs.Causes.{IsMet, IsLost, IsWalkLoss, IsSpent}
-use Rattle.marked_list.specs.Leaves.{IsCall}
+use Rattle.marked_list.specs.Leaves.{IsCall, IsSameLook}
 use Rattle.marked_list.specs.Order.{StandsAtPlace, StandsInConflict}
 
 -- the cursor is at the end of the list
@@ -73,6 +73,7 @@ module _ {P : Type 0} where
   pub record IsAimed (p q : Part P) : Type 0 where
     pub call : IsCall 1 p q
     pub core : q.core ≡ record p.core { own = aimed_own (cursor_word p.core.cursor) p.core.own }
+    pub look : IsSameLook p q
 
   -- why a link gives an answer: the node is linked and has its validation still to do, or the exchange found another
   -- value; the cursor is gone
@@ -96,6 +97,10 @@ module _ {P : Type 0} where
     pub core : (k : Listed) → p.core.own ≡ listed k → q.core ≡ marked p.core k.node
     pub held : (h : HeldRange) → held_at p.core.own ≡ Some h → q.pass ≡ rested p.pass
     pub free : held_at p.core.own ≡ None → q.pass ≡ p.pass
+    -- what the record has of nodes, exchanges and walks stays
+    pub met : q.trace.met ≡ p.trace.met
+    pub lost : q.trace.lost ≡ p.trace.lost
+    pub look : IsSameLook p q
 
   -- why a quick unlink gives an answer: the range was given back, and the node is to be given home; or the head was
   -- another, and the range is still held
@@ -103,6 +108,7 @@ module _ {P : Type 0} where
     pub number : q.number ≡ p.number
     pub seats : q.seats ≡ p.seats
     pub client : q.trace.client ≡ p.trace.client
+    pub met : q.trace.met ≡ p.trace.met
     pub taken : q.trace.taken ≡ p.trace.taken + 1
 
   abbrev pub QuickUnlinks : (P → P) → Part P → Part P → Linked → Type 0

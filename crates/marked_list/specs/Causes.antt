@@ -57,6 +57,11 @@ abbrev pub nodes_in : Option Looked → ℕ
 nodes_in None = 0
 nodes_in (Some l) = l.nodes
 
+-- and how many of them it has judged
+abbrev pub judged_in : Option Looked → ℕ
+judged_in None = 0
+judged_in (Some l) = l.judged
+
 -- the last walk has looked at as many nodes as it may, and no range is held: so its last step made none held
 abbrev pub IsSpent : {P : Type 0} → Part P → Type 0
 IsSpent q = (nodes_in q.trace.looked ≡ 16 * q.seats + 1) × (held_at q.core.own ≡ None)

@@ -13,9 +13,9 @@ use Rattle.epoch_pools.specs.declared.views.Part.{Part}
 use Rattle.marked_list.specs.declared.answers.Walked.{Walked}
 use Rattle.marked_list.specs.declared.answers.Walked.TheVariants.{Place, Conflict, Lost}
 use Rattle.marked_list.specs.declared.answers.Lost.{Lost as LostAnswer}
-use Rattle.marked_list.specs.Causes.{nodes_in}
+use Rattle.marked_list.specs.Causes.{nodes_in, judged_in}
 use Rattle.marked_list.specs.Answers.{Answers}
-use Rattle.marked_list.specs.Leaves.{IsSamePools, IsOn, IsCall, IsSameWalk, IsNewWalk}
+use Rattle.marked_list.specs.Leaves.{IsSamePools, IsOn, IsCall, IsSameWalk, HasJudged, IsNewWalk}
 use Rattle.marked_list.specs.Order.{MayGo, IsInside, StandsAt, KnowsNext}
 
 -- how many nodes a cursor has looked at; none where there is no cursor
@@ -108,6 +108,7 @@ module _ {P : Type 0} where
     pub own : q.core.own ≡ p.core.own
     pub seen : seen_of q.core.cursor ≡ seen_of p.core.cursor
     pub walk : IsSameWalk p q
+    pub judged : HasJudged 0 p q
     pub taken : q.trace.taken ≡ p.trace.taken + 1
 
   -- an exchange of the cursor's word that found another value, which is the walk's answer
@@ -115,6 +116,7 @@ module _ {P : Type 0} where
     pub on : IsOn p q
     pub outcome : Outcome p.trace.taken p.core q (Some (Lost l))
     pub walk : IsSameWalk p q
+    pub judged : HasJudged 0 p q
     pub taken : q.trace.taken ≡ p.trace.taken + 1
 
   -- the cursor's node was unlinked, and is to be given home
@@ -125,6 +127,7 @@ module _ {P : Type 0} where
     pub hand : q.core.hand ≡ Some node
     pub came : Came p.core q.core
     pub walk : IsSameWalk p q
+    pub judged : HasJudged 0 p q
 
   -- a cursor was made, which names that word, in a list of 1 to 16 seats; where the word has the low bit, the cursor
   -- is at the head, and no node of this seat is linked
@@ -133,6 +136,7 @@ module _ {P : Type 0} where
     pub cursor : q.core.cursor ≡ Some (record { prev = start_of p.core.own; cur = word; next = None; lo = None; seen = seen_after 0 word })
     pub own : q.core.own ≡ own_at p.core.own word
     pub walk : IsNewWalk p.trace.taken q
+    pub judged : judged_in q.trace.looked ≡ 0
     pub unlinked : word % 2 ≡ 1 → listed_of p.core.own ≡ None
     pub seats : (0 < q.seats) × (q.seats ≤ 16)
     pub taken : q.trace.taken ≡ p.trace.taken + 1
@@ -143,4 +147,5 @@ module _ {P : Type 0} where
     pub cursor : (c : Cursor) → p.core.cursor ≡ Some c → q.core.cursor ≡ Some (record c { cur = c.cur - 1 })
     pub own : q.core.own ≡ p.core.own
     pub walk : IsSameWalk p q
+    pub judged : HasJudged 0 p q
     pub taken : q.trace.taken ≡ p.trace.taken + 1

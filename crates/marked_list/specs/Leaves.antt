@@ -6,6 +6,7 @@ use Rattle.lock_core.specs.declared.views.View.{View}
 use Rattle.lock_core.specs.declared.views.Own.TheVariants.{Nothing}
 use Rattle.epoch_pools.specs.declared.record.Looked.{Looked}
 use Rattle.epoch_pools.specs.declared.views.Part.{Part}
+use Rattle.marked_list.specs.Causes.{nodes_in}
 use Rattle.marked_list.specs.Order.{IsOutside}
 
 -- the pools and what is known of other seats stay
@@ -38,6 +39,14 @@ pub record IsCall {P : Type 0} (count : ℕ) (p q : Part P) : Type 0 where
 -- the cursor that was looked with last is the same one: it was made by the same step
 abbrev pub IsSameWalk : {P : Type 0} → Part P → Part P → Type 0
 IsSameWalk p q = (l : Looked) → p.trace.looked ≡ Some l → (m : Looked) × (q.trace.looked ≡ Some m) × (m.step ≡ l.step)
+
+-- and since then it has judged so many nodes
+abbrev pub HasJudged : {P : Type 0} → ℕ → Part P → Part P → Type 0
+HasJudged count p q = (l : Looked) → p.trace.looked ≡ Some l → (m : Looked) × (q.trace.looked ≡ Some m) × (m.step ≡ l.step) × (m.judged ≡ l.judged + count)
+
+-- and it has looked at no more nodes
+abbrev pub IsSameLook : {P : Type 0} → Part P → Part P → Type 0
+IsSameLook p q = (nodes_in q.trace.looked ≡ nodes_in p.trace.looked) × IsSameWalk p q
 
 -- it was made by the step of that number or a later one
 abbrev pub IsNewWalk : {P : Type 0} → ℕ → Part P → Type 0

@@ -3,6 +3,7 @@ pub mod Causes
 pub mod Going
 pub mod Leaves
 pub mod Order
+pub mod Scanning
 pub use Rattle.epoch_pools.specs.Hands
 pub use Rattle.epoch_pools.specs.Record
 pub use Rattle.lock_core.specs.Grants

@@ -45,3 +45,26 @@ pub enum Linked {
     /// It found another value.
     Lost(Lost),
 }
+
+/// What one call of a scan came to.
+#[derive(Clone, Copy, Debug, PartialEq, Eq)]
+pub enum Passed {
+    /// The scan went past this node, unmarked at a step of this call. Its range may be held or asked for.
+    Found {
+        /// The number of the seat whose node it is.
+        owner: u32,
+        /// The range of the node.
+        range: Range,
+        /// The mode of the node.
+        mode: Mode,
+    },
+    /// The end of the list was read, and this call went past no node.
+    End,
+    /// An exchange of this call found another value; the next call begins at the head.
+    Lost(Lost),
+    /// As many nodes were looked at as one walk may, and this call went past none.
+    Long {
+        /// How many nodes this walk has looked at.
+        visits: u32,
+    },
+}

@@ -32,6 +32,7 @@ pub fn begin<G: Guard, L: Ledger>(
     ensures made { hand.new.part ≡ quiet_after hand.old.part Enter (entered hand.old.part.core) }
     ensures inside { IsInside hand.new.part.core }
     ensures epoch { result.epoch ≡ hand.new.part.core.epoch }
+    ensures seats { hand.old.part.seats ≡ list.now.seats }
     ensures counted { steps.new ≡ steps.old + 1 }
 {
     enter(list, hand, steps);

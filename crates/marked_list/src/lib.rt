@@ -10,13 +10,15 @@ mod cursor;
 mod look;
 mod own;
 mod quick;
+mod scanning;
 mod sweeping;
 mod walking;
 mod way;
 
-pub use answers::{Linked, Lost, Walked};
+pub use answers::{Linked, Lost, Passed, Walked};
 pub use cursor::{Cursor, begin, end};
 pub use own::{fill, link, mark};
 pub use quick::{quick_link, quick_unlink};
+pub use scanning::pass;
 pub use sweeping::sweep;
 pub use walking::{validate, walk};

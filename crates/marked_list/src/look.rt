@@ -8,7 +8,7 @@ ghost use Rattle.lock_core.specs.declared.views.Cursor.{Cursor};
 ghost use Rattle.lock_core.specs.Words.{cell_place, cell_of, mode_of};
 ghost use Rattle.lock_core.specs.Machine.{held_at};
 ghost use Rattle.marked_list.specs.Order.{StandsAt, KnowsNext};
-ghost use Rattle.marked_list.specs.Leaves.{IsOn, IsSameWalk};
+ghost use Rattle.marked_list.specs.Leaves.{IsOn, IsSameWalk, HasJudged};
 ghost use Rattle.marked_list.specs.Going.{arrival_at, conflict_with, judgement_at, KnowsLo, HasRoom, IsElsewhere, IsLoad, IsUnlinked, IsFailed, Outcome};
 
 use crate::answers::{Lost, Walked};
@@ -18,7 +18,7 @@ use std::sync::ledger::Ledger;
 use word_rows::Steps;
 
 /// The mode that a hi word says.
-fn mode_in(word: u64) -> Mode
+pub(crate) fn mode_in(word: u64) -> Mode
     ensures { result ≡ mode_of word }
 {
     if word % 2 == 1 {
@@ -97,7 +97,11 @@ pub(crate) fn lost_at(seats: u32, cursor: Cursor, found: u64) -> Lost
 }
 
 /// Loads the next word of the cursor's node.
-fn load_next<G: Guard, L: Ledger>(list: &List<G>, hand: &mut Hand<G>, steps: &mut Steps<L>) -> u64
+pub(crate) fn load_next<G: Guard, L: Ledger>(
+    list: &List<G>,
+    hand: &mut Hand<G>,
+    steps: &mut Steps<L>,
+) -> u64
     requires table { hand.old.table ≡ list.now.table }
     requires stands { StandsAt hand.old.part.core }
     ensures table { hand.new.table ≡ hand.old.table }
@@ -111,7 +115,11 @@ fn load_next<G: Guard, L: Ledger>(list: &List<G>, hand: &mut Hand<G>, steps: &mu
 }
 
 /// Loads the lower end of the cursor's node, whose next word is known and has no mark.
-fn load_lo<G: Guard, L: Ledger>(list: &List<G>, hand: &mut Hand<G>, steps: &mut Steps<L>) -> u64
+pub(crate) fn load_lo<G: Guard, L: Ledger>(
+    list: &List<G>,
+    hand: &mut Hand<G>,
+    steps: &mut Steps<L>,
+) -> u64
     requires table { hand.old.table ≡ list.now.table }
     requires knows { (n : ℕ) × KnowsNext hand.old.part.core n × (n % 2 ≡ 0) }
     requires other { IsElsewhere hand.old.part }
@@ -173,7 +181,7 @@ fn unlink<G: Guard, L: Ledger>(
 }
 
 /// Unlinks the cursor's node, whose next word is known and has the mark, and gives it home.
-fn pass_marked<G: Guard, L: Ledger>(
+pub(crate) fn pass_marked<G: Guard, L: Ledger>(
     list: &List<G>,
     hand: &mut Hand<G>,
     steps: &mut Steps<L>,
@@ -185,6 +193,7 @@ fn pass_marked<G: Guard, L: Ledger>(
     ensures on { IsOn hand.old.part hand.new.part }
     ensures outcome { Outcome hand.old.part.trace.taken hand.old.part.core hand.new.part result }
     ensures walk { IsSameWalk hand.old.part hand.new.part }
+    ensures judged { HasJudged 0 hand.old.part hand.new.part }
     ensures taken { hand.new.part.trace.taken ≤ hand.old.part.trace.taken + 2 }
     ensures counted { steps.new + hand.old.part.trace.taken ≡ steps.old + hand.new.part.trace.taken }
 {

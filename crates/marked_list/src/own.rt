@@ -5,7 +5,7 @@
 ghost use Rattle.std.specs.Prelude.{◌≡◌, ◌+◌, Some, None};
 ghost use Rattle.lock_core.specs.declared.views.Own.TheVariants.{Filling};
 ghost use Rattle.marked_list.specs.Order.{HasEnds, MayFill, MayAim, MayLink, MayMark};
-ghost use Rattle.marked_list.specs.Leaves.{IsCall};
+ghost use Rattle.marked_list.specs.Leaves.{IsCall, IsSameLook};
 ghost use Rattle.marked_list.specs.Answers.{IsAimed, Links, IsMarkCall};
 
 use crate::answers::Linked;
@@ -30,6 +30,7 @@ pub fn fill<G: Guard, L: Ledger>(
     ensures table { hand.new.table ≡ hand.old.table }
     ensures call { IsCall 2 hand.old.part hand.new.part }
     ensures filled { hand.new.part.core ≡ record hand.old.part.core { own = Filling node (Some range.lo) (Some range.hi) mode None } }
+    ensures seats { hand.old.part.seats ≡ list.now.seats }
     ensures counted { steps.new ≡ steps.old + 2 }
 {
     let _ = node;
@@ -53,6 +54,7 @@ pub(crate) fn aim<G: Guard, L: Ledger>(list: &List<G>, hand: &mut Hand<G>, steps
     ensures aimed { IsAimed hand.old.part hand.new.part }
     ensures counted { steps.new ≡ steps.old + 1 }
 {
+    let _ = hand.view();
     step(list, hand, Step::Aim, steps);
 }
 
@@ -71,6 +73,7 @@ pub fn link<G: Guard, L: Ledger>(
     ensures table { hand.new.table ≡ hand.old.table }
     ensures call { IsCall 2 hand.old.part hand.new.part }
     ensures answer { Links hand.old.part hand.new.part result }
+    ensures look { IsSameLook hand.old.part hand.new.part }
     ensures counted { steps.new ≡ steps.old + 2 }
     ensures cursor { cursor.new ≡ cursor.old }
 {
@@ -95,5 +98,6 @@ pub fn mark<G: Guard, L: Ledger>(list: &List<G>, hand: &mut Hand<G>, steps: &mut
     ensures marked { IsMarkCall G.rested hand.old.part hand.new.part }
     ensures counted { steps.new ≡ steps.old + 1 }
 {
+    let _ = hand.view();
     step(list, hand, Step::Mark, steps);
 }

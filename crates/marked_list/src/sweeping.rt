@@ -31,6 +31,7 @@ pub fn sweep<G: Guard, L: Ledger>(
     ensures answer { Sweeps hand.old.part.trace.taken hand.new.part result }
     ensures long { IsLong result ↔ IsSpent hand.new.part }
     ensures walk { IsNewWalk hand.old.part.trace.taken hand.new.part }
+    ensures seats { hand.old.part.seats ≡ list.now.seats }
     ensures bound { hand.new.part.trace.taken ≤ hand.old.part.trace.taken + 4 + 3 * (16 * hand.old.part.seats + 1) }
     ensures counted { steps.new + hand.old.part.trace.taken ≡ steps.old + hand.new.part.trace.taken }
 {

@@ -5,7 +5,7 @@
 ghost use Rattle.std.specs.Prelude.{◌≡◌, ◌+◌, ◌*◌, ◌%◌, ◌<◌, ◌≤◌, ◌↔◌, ℕ, IsOk, IfErr};
 ghost use Rattle.marked_list.specs.Order.{StandsAt};
 ghost use Rattle.marked_list.specs.Leaves.{IsOn, IsSameWalk, IsNewWalk};
-ghost use Rattle.marked_list.specs.Causes.{IsSpent};
+ghost use Rattle.marked_list.specs.Causes.{IsSpent, judged_in};
 ghost use Rattle.marked_list.specs.Answers.{Answers, IsLong};
 ghost use Rattle.marked_list.specs.Going.{seen_of, HasRoom, MaySetOut, IsAtOddHead, IsSetOut, IsSettled, IsFailed, Outcome};
 
@@ -17,7 +17,7 @@ use std::sync::ledger::Ledger;
 use word_rows::Steps;
 
 /// How many nodes the cursor has looked at.
-fn seen_in(view: &View) -> u32
+pub(crate) fn seen_in(view: &View) -> u32
     ensures { result ≡ seen_of view.now.cursor }
 {
     match view.cursor {
@@ -62,7 +62,7 @@ fn settle<G: Guard, L: Ledger>(
 }
 
 /// Sets out: None where the cursor is at the first node of its way.
-fn set_out<G: Guard, L: Ledger>(
+pub(crate) fn set_out<G: Guard, L: Ledger>(
     list: &List<G>,
     hand: &mut Hand<G>,
     steps: &mut Steps<L>,
@@ -73,6 +73,7 @@ fn set_out<G: Guard, L: Ledger>(
     ensures on { IsOn hand.old.part hand.new.part }
     ensures outcome { Outcome hand.old.part.trace.taken hand.old.part.core hand.new.part result }
     ensures walk { IsNewWalk hand.old.part.trace.taken hand.new.part }
+    ensures judged { judged_in hand.new.part.trace.looked ≡ 0 }
     ensures some { 0 < hand.new.part.seats }
     ensures taken { hand.new.part.trace.taken ≤ hand.old.part.trace.taken + 2 }
     ensures counted { steps.new + hand.old.part.trace.taken ≡ steps.old + hand.new.part.trace.taken }

@@ -3,7 +3,7 @@ use Rattle.std.specs.Prelude.{Option}
 use Rattle.lock_core.specs.declared.views.View.{View}
 use Rattle.marked_list.specs.declared.answers.Walked.{Walked}
 use Rattle.marked_list.specs.Going.{arrival_at, Outcome}
-use Rattle.marked_list.proofs.Unlinking.{home_on, home_walk, home_outcome}
+use Rattle.marked_list.proofs.Unlinking.{home_on, home_walk, home_judged, home_outcome}
 use Rattle.marked_list.proofs.look.pass_marked.Goals as goal
 
 pub returns-in-Ok-clause-on : goal.returns-in-Ok-clause-on
@@ -11,6 +11,9 @@ returns-in-Ok-clause-on g c = home_on c.args.hand.now.part c.unlink.new.hand.par
 
 pub returns-in-Ok-clause-walk : goal.returns-in-Ok-clause-walk
 returns-in-Ok-clause-walk g c = home_walk c.args.hand.now.part c.unlink.new.hand.part c.give_home.new.hand.part c.in-Ok.node c.in-Ok.ensures.unlinked c.give_home.ensures.made
+
+pub returns-in-Ok-clause-judged : goal.returns-in-Ok-clause-judged
+returns-in-Ok-clause-judged g c = home_judged c.args.hand.now.part c.unlink.new.hand.part c.give_home.new.hand.part c.in-Ok.node c.in-Ok.ensures.unlinked c.give_home.ensures.made
 
 pub returns-in-Ok-clause-outcome : goal.returns-in-Ok-clause-outcome
 returns-in-Ok-clause-outcome g c =

@@ -1,6 +1,6 @@
 use Rattle.std.proofs.Common.{rules, inr, sym, ap, ◌∙◌}
 use Rattle.lock_core.specs.declared.views.View.{View}
-use Rattle.marked_list.proofs.Owning.{may_link, link_call, link_done, link_lost}
+use Rattle.marked_list.proofs.Owning.{may_link, link_call, link_look, link_done, link_lost}
 use Rattle.marked_list.proofs.own.link.Goals as goal
 
 pub aim-requires-clause-may : goal.aim-requires-clause-may
@@ -22,3 +22,9 @@ returns-then-found-place-clause-call g c = link_call c.args.hand.now.part c.aim.
 pub returns-then-found-place-clause-answer : goal.returns-then-found-place-clause-answer
 returns-then-found-place-clause-answer g c = link_lost c.args.hand.now.part c.aim.new.hand.part c.aim.ensures.aimed c.requires.order g.G.Guard.rested c.step-found.new.hand.part c.step-found.result c.step-found.ensures.made
     c.in-Some.place (ap (λ (v : View). v.cursor) (sym c.view.ensures.view) ∙ c.in-Some.is) c.if-found-place.true c.seats.result (search rules) c.lost_at.result c.lost_at.ensures.place c.lost_at.ensures.values.0 c.lost_at.ensures.values.1
+
+pub returns-clause-look : goal.returns-clause-look
+returns-clause-look g c = link_look c.args.hand.now.part c.aim.new.hand.part c.aim.ensures.aimed c.requires.order g.G.Guard.rested c.step-found.new.hand.part c.step-found.result c.step-found.ensures.made c.view.ensures.sound
+
+pub returns-then-found-place-clause-look : goal.returns-then-found-place-clause-look
+returns-then-found-place-clause-look g c = link_look c.args.hand.now.part c.aim.new.hand.part c.aim.ensures.aimed c.requires.order g.G.Guard.rested c.step-found.new.hand.part c.step-found.result c.step-found.ensures.made c.view.ensures.sound

@@ -2,7 +2,7 @@ use Rattle.std.proofs.Common.{◌∙◌, ap, drop, sym}
 use Rattle.std.specs.Mem.Slots.{slots_items}
 use Rattle.lock_core.specs.Words.{word_count}
 use Rattle.epoch_pools.proofs.Joining.{closed}
-use Rattle.epoch_pools.proofs.closing.close.Goals as goal
+use Rattle.epoch_pools.proofs.closing.close_into.Goals as goal
 
 pub returns-clause-guard : goal.returns-clause-guard
 returns-clause-guard g c =

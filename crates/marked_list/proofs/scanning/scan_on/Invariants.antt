@@ -1,0 +1,24 @@
+use Rattle.std.proofs.Common.{◌≡◌, ◌+◌, ◌*◌, ◌-◌, ◌≤◌}
+use Rattle.lock_core.specs.declared.views.Own.TheVariants.{Nothing}
+use Rattle.marked_list.specs.Order.{StandsAt}
+use Rattle.marked_list.specs.Leaves.{IsOn}
+use Rattle.marked_list.specs.Causes.{judged_in}
+use Rattle.marked_list.specs.Going.{seen_of}
+use Rattle.marked_list.proofs.scanning.scan_on.Given as goal
+
+abbrev pub invariant-nodes : goal.invariant-nodes
+invariant-nodes g l = record {
+  table : l.hand.table ≡ l.initial.hand.table;
+  most : l.most ≡ 16 * l.hand.part.seats + 1;
+  few : l.hand.part.seats ≤ 16;
+  stands : StandsAt l.hand.part.core;
+  own : l.hand.part.core.own ≡ Nothing;
+  seen : seen_of l.hand.part.core.cursor ≤ l.most;
+  on : IsOn l.initial.hand.part l.hand.part;
+  judged : judged_in l.hand.part.trace.looked ≡ judged_in l.initial.hand.part.trace.looked;
+  taken : l.hand.part.trace.taken + 3 * seen_of l.initial.hand.part.core.cursor ≤ l.initial.hand.part.trace.taken + 3 * seen_of l.hand.part.core.cursor;
+  counted : l.steps + l.initial.hand.part.trace.taken ≡ l.initial.steps + l.hand.part.trace.taken;
+}
+
+abbrev pub decreases-nodes : goal.decreases-nodes
+decreases-nodes g l = l.most - seen_of l.hand.part.core.cursor
