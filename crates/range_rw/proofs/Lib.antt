@@ -1,9 +1,8 @@
-pub mod BoardSteps
-pub mod BoardTable
-pub mod ClientSteps
-pub mod Joining
+pub mod Giving
 pub mod Lists
-pub mod Opening
-pub mod Placing
-pub mod Searching
+pub mod Pieces
+pub mod Scans
 pub mod SeatLists
+pub mod Seating
+pub mod Taking
+pub mod Waiting

@@ -1,22 +1,29 @@
 -- The contract of a range lock: what its clients see of a table and of a seat, and what each call leaves of them. A
--- seat is its table, its number, the range that it holds, the pass of the layer above, and the record of its steps.
--- Nothing here says how a range is kept, so a lock on a board and a lock on a list can each meet it, as Iris' library
--- states a lock once for a spinlock and a ticket lock; the ranges are those of Kogan, Dice and Issa 2020.
-use Rattle.std.specs.Prelude.{◌≡◌, ◌≢◌, ℕ, zero, suc, ◌+◌, ◌<◌, ◌≤◌, List, [], ◌∷◌, Option, Some, None}
+-- seat is its table, its number, the range that it holds, its pools of nodes, the pass of the layer above, and the
+-- record of its steps. The ranges are those of Kogan, Dice and Issa 2020; pools and record are this project's own
+-- profile. The layer above reads of a refusal its cause, and needs to know nothing of nodes.
+use Rattle.std.specs.Prelude.{◌≡◌, ◌≢◌, ◌⊎◌, ℕ, zero, suc, ◌+◌, ◌*◌, ◌/◌, ◌%◌, ◌<◌, ◌≤◌, ◌==◌, Bool, true, false, find, List, [], ◌∷◌, Option, Some, None}
 use mathlib.Core.Option.{some}
 use lib.ListN.{get_elem?}
 use Rattle.atomic_table.specs.Seated.{TableId}
 use Rattle.lock_core.specs.Grants.{Conflicts}
+use Rattle.lock_core.specs.Machine.{numbers_from}
 use Rattle.lock_core.specs.declared.range.Held.{Held}
-use Rattle.range_rw.specs.declared.record.Exchange.{Exchange}
-use Rattle.range_rw.specs.declared.record.Exchange.TheVariants.{TakeTurn, Link, Unlink, Settle, QuickLink, QuickUnlink}
-use Rattle.range_rw.specs.declared.record.Lost.{Lost}
-use Rattle.range_rw.specs.declared.record.Met.{Met}
-use Rattle.range_rw.specs.declared.record.Record.{Record}
+use Rattle.lock_core.specs.declared.steps.Step.{Step}
+use Rattle.lock_core.specs.declared.steps.Step.TheVariants.{Link, Unlink, Settle}
+use Rattle.epoch_pools.specs.declared.record.Looked.{Looked}
+use Rattle.epoch_pools.specs.declared.record.Lost.{Lost}
+use Rattle.epoch_pools.specs.declared.record.Met.{Met}
+use Rattle.epoch_pools.specs.declared.record.Noted.{Noted}
+use Rattle.epoch_pools.specs.declared.stuck.Stuck.{Stuck}
+use Rattle.epoch_pools.specs.declared.stuck.Stuck.TheVariants.{Inside, Away}
+use Rattle.epoch_pools.specs.Taking.{IsReadAway}
 use Rattle.range_rw.specs.declared.refusals.NotHeld.{NotHeld}
-use Rattle.range_rw.specs.declared.refusals.NotHeld.TheVariants.{Busy, Again}
+use Rattle.range_rw.specs.declared.refusals.NotHeld.TheVariants.{Busy, Again, Long, NoNode}
 use Rattle.range_rw.specs.declared.refusals.OpenFault.{OpenFault}
 use Rattle.range_rw.specs.declared.refusals.OpenFault.TheVariants.{Seats, Memory}
+pub use Rattle.epoch_pools.specs.declared.record.Record.{Record}
+pub use Rattle.epoch_pools.specs.Record.{no_steps, client_trace}
 
 -- a table: which one it is, and how many seats and client words it has
 pub record Shape : Type 0 where
@@ -24,21 +31,44 @@ pub record Shape : Type 0 where
   pub seats : ℕ
   pub client : ℕ
 
--- a seat: its table and number, the range that it holds, its pass, and the record of its steps
+-- another seat that isn't passed since a used node last came home, and the odd epoch that was first noted of it
+pub record Waited : Type 0 where
+  pub seat : ℕ
+  pub epoch : ℕ
+
+-- the nodes that a seat has ready to be taken, in order; those of its used ones that came home and wait for the other
+-- seats; and the seats that they wait for, of which an epoch is noted
+pub record Pools : Type 0 where
+  pub ready : List ℕ
+  pub homes : List ℕ
+  pub waits : List Waited
+
+-- an open scan: how many nodes its walk may look at, how many it has looked at, past how many of them it went, and
+-- whether it is at the end of the list
+pub record OpenScan : Type 0 where
+  pub most : ℕ
+  pub nodes : ℕ
+  pub passed : ℕ
+  pub ended : Bool
+
+-- one whose walk begins with the next call
+abbrev pub fresh_scan : ℕ → OpenScan
+fresh_scan most = record { most = most; nodes = 0; passed = 0; ended = false }
+
+-- a seat: its table and number, the range that it holds, its pools, its open scan, its pass, and the record of its
+-- steps
 pub record Known (P : Type 0) : Type 0 where
   pub table : TableId
   pub number : ℕ
   pub held : Option Held
+  pub pools : Pools
+  pub scan : Option OpenScan
   pub pass : P
   pub trace : Record
 
--- a record before the first step
-abbrev pub no_steps : Record
-no_steps = record { taken = 0; client = None; met = None; lost = None }
-
--- what a step on client word i leaves in the record
-abbrev pub client_trace : Record → ℕ → Record
-client_trace t i = record t { taken = t.taken + 1; client = Some (record { place = i; step = t.taken }) }
+-- the pools of the seat of number k before the first step: its own sixteen nodes are ready
+abbrev pub first_pools : ℕ → Pools
+first_pools k = record { ready = numbers_from (16 * k) 16; homes = []; waits = [] }
 
 -- a table has from 1 to 16 seats (this project's own profile)
 abbrev pub IsSeatCount : ℕ → Type 0
@@ -49,14 +79,23 @@ abbrev pub IsOpenFault : ℕ → OpenFault → Type 0
 IsOpenFault seats (Seats n) = (n ≡ seats) × ¬ (IsSeatCount seats)
 IsOpenFault seats Memory = IsSeatCount seats
 
--- the exchanges whose loss refuses a try: all but those of a list's fast path, after which a call goes on without it
-abbrev pub RefusesTry : Exchange → Type 0
-RefusesTry TakeTurn = Unit {0}
+-- the exchanges whose loss refuses a try: all but those of the fast path, after which a call goes on without it
+abbrev pub RefusesTry : Step → Type 0
 RefusesTry Link = Unit {0}
 RefusesTry Unlink = Unit {0}
 RefusesTry Settle = Unit {0}
-RefusesTry QuickLink = ⊥
-RefusesTry QuickUnlink = ⊥
+RefusesTry _ = ⊥
+
+-- the answer that a walk was too long
+abbrev pub IsLongRefusal : NotHeld → Type 0
+IsLongRefusal (Busy owner range mode) = ⊥
+IsLongRefusal (Again place expected found) = ⊥
+IsLongRefusal (Long visits) = Unit {0}
+IsLongRefusal (NoNode stuck) = ⊥
+
+-- the ready pool after a try, where it wasn't empty before: as it was, or without its first node
+abbrev pub IsReadyLeft : List ℕ → List ℕ → Type 0
+IsReadyLeft before after = (before ≡ []) ⊎ ((after ≡ before) ⊎ ((n : ℕ) × (before ≡ n ∷ after)))
 
 module _ {P : Type 0} where
   -- the passes with which the seats from number n on begin, so many
@@ -69,7 +108,7 @@ module _ {P : Type 0} where
 
   -- what the seat of number k is when a table is opened: new, and of that table
   abbrev pub new_seat : TableId → (ℕ → P) → ℕ → Known P
-  new_seat table first k = record { table = table; number = k; held = None; pass = first k; trace = no_steps }
+  new_seat table first k = record { table = table; number = k; held = None; pools = first_pools k; scan = None; pass = first k; trace = no_steps }
 
   -- the seats are those of a new table, in order of their numbers
   abbrev pub AreNewSeats : TableId → (ℕ → P) → List (Known P) → Type 0
@@ -91,20 +130,22 @@ module _ {P : Type 0} where
     pub client : after.trace.client ≡ before.trace.client
     pub taken : before.trace.taken ≤ after.trace.taken
 
-  -- one step on client word i: the seat holds what it held, and its record has this step
+  -- one step on client word i: the seat holds what it held, its pools stay, and its record has this step
   pub record IsClientCall (before : Known P) (i : ℕ) (after : Known P) : Type 0 where
     pub table : after.table ≡ before.table
     pub number : after.number ≡ before.number
     pub held : after.held ≡ before.held
+    pub pools : after.pools ≡ before.pools
     pub trace : after.trace ≡ client_trace before.trace i
 
-  -- a range was given back, in one step or two, of which none is a client step and none meets a grant: the pass is
-  -- rested. A list's fast path may lose an exchange here, so the record's `lost` is left open
+  -- a range was given back, in one step or two, of which none is a client step and none meets a node: the pass is
+  -- rested. The fast path may lose an exchange here, so the record's `lost` is left open
   pub record IsRelease (rested : P → P) (before after : Known P) : Type 0 where
     pub table : after.table ≡ before.table
     pub number : after.number ≡ before.number
     pub held : after.held ≡ None
     pub pass : after.pass ≡ rested before.pass
+    pub ready : after.pools.ready ≡ before.pools.ready
     pub client : after.trace.client ≡ before.trace.client
     pub met : after.trace.met ≡ before.trace.met
     pub least : before.trace.taken + 1 ≤ after.trace.taken
@@ -116,11 +157,44 @@ module _ {P : Type 0} where
     pub number : after.number ≡ before.number
     pub held : after.held ≡ None
 
-  -- why a try for that range was refused: at a step of this call another seat held a range in conflict, or an exchange
-  -- of this call, whose loss refuses a try, found another value than it expected. A part of the record with a number
-  -- not below the number of steps at the call's entry was made in this call
+  -- the last walk after a call, which a step of this call began
+  pub record IsWalkOf (before after : Known P) : Type 0 where
+    pub walk : Looked
+    pub is : after.trace.looked ≡ Some walk
+    pub from : before.trace.taken ≤ walk.step
+    pub below : walk.step < after.trace.taken
+
+  -- one walk of this call has looked at as many nodes as it may, and its last step made no range held
+  abbrev pub IsSpentIn : ℕ → Known P → Known P → Type 0
+  IsSpentIn seats before after = (w : IsWalkOf before after) × (w.walk.nodes ≡ 16 * seats + 1) × (after.held ≡ None)
+
+  -- a used node came home, and this call read that odd epoch of another seat, last of all that it read there; that seat
+  -- isn't passed, and no other epoch was noted of it before
+  pub record IsHeldUp (before after : Known P) (seat epoch : ℕ) : Type 0 where
+    pub home : after.pools.homes ≢ []
+    pub other : seat ≢ after.number
+    pub entry : Noted
+    pub last : find (λ n. n.seat == seat) after.trace.noted ≡ Some entry
+    pub from : before.trace.taken ≤ entry.step
+    pub below : entry.step < after.trace.taken
+    pub odd : epoch % 2 ≡ 1
+    pub read : entry.epoch ≡ epoch
+    pub first : find (λ w. w.seat == seat) after.pools.waits ≡ Some (record { seat = seat; epoch = epoch })
+
+  -- why there is no node to take: this call read each of the seat's sixteen nodes as away, of which the lowest is
+  -- named; or another seat is named that hinders one that came home
+  abbrev pub IsStuckIn : Known P → Known P → Stuck → Type 0
+  IsStuckIn before after (Away node) = (node ≡ 16 * after.number) × ((x : ℕ) → x / 16 ≡ after.number → IsReadAway before.trace.taken after.trace.taken after.trace.away x)
+  IsStuckIn before after (Inside seat epoch) = IsHeldUp before after seat epoch
+
+  -- why a try for that range was refused: at a step of this call another seat's node was in conflict; or an exchange of
+  -- this call, whose loss refuses a try, found another value than it expected; or a walk of this call was too long; or
+  -- no node was ready, and after a sweep of this call that read the end of the list there was none to take. A part of
+  -- the record with a number not below the number of steps at the call's entry was made in this call
   abbrev pub IsCause : Known P → Known P → Held → NotHeld → Type 0
   IsCause before after asked (Busy owner range mode) = (m : Met) × (after.trace.met ≡ Some m) × (before.trace.taken ≤ m.step) × (m.step < after.trace.taken)
       × (m.owner ≡ owner) × (m.held ≡ record { range = range; mode = mode }) × (owner ≢ before.number) × Conflicts m.held asked
   IsCause before after asked (Again place expected found) = (l : Lost) × (after.trace.lost ≡ Some l) × (before.trace.taken ≤ l.step) × (l.step < after.trace.taken)
       × RefusesTry l.kind × (l.place ≡ place) × (l.expected ≡ expected) × (l.found ≡ found) × (found ≢ expected)
+  IsCause before after asked (Long visits) = (w : IsWalkOf before after) × (w.walk.nodes ≡ visits)
+  IsCause before after asked (NoNode stuck) = (before.pools.ready ≡ []) × ((w : IsWalkOf before after) × (w.walk.ended ≡ true)) × IsStuckIn before after stuck

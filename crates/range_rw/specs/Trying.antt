@@ -1,48 +1,113 @@
--- What a try on the board finds in its look round at the other seats, and what it leaves of the seat. The cause of a
--- refusal, which the contract asks for, follows from these: a grant that a look met is in the record of the seat's
--- steps, with the number of the step that met it.
-use Rattle.std.specs.Prelude.{◌≡◌, ◌≢◌, ℕ, ◌+◌, ◌*◌, ◌<◌, ◌≤◌, Option, Some, None, false}
-use Rattle.lock_core.specs.Grants.{Conflicts}
+-- What the pieces of a try leave of its hand, and by which cause each refuses: taking a node, after a sweep where none
+-- is ready; the fast path; a walk to the node's place and its link; the validation. A node that wasn't linked becomes
+-- ready again where the try ends, and one that was linked is marked. The order is that of Kogan, Dice and Issa 2020.
+use Rattle.std.specs.Prelude.{◌≡◌, ◌≢◌, ◌⊎◌, ◌↔◌, ℕ, ◌+◌, ◌*◌, ◌≤◌, ◌<◌, Bool, true, false, [], ◌∷◌, Option, Some, None}
+use Rattle.atomic_table.specs.Seated.{TableId}
 use Rattle.lock_core.specs.declared.range.Held.{Held}
-use Rattle.lock_core.specs.declared.range.Grant.{Grant}
-use Rattle.range_rw.specs.declared.record.Met.{Met}
-use Rattle.range_rw.specs.declared.views.Part.{Part}
-use Rattle.range_rw.specs.Board.{held_in}
-use Rattle.range_rw.specs.BoardSteps.{reads_lo, reads_hi, part_after, IsClear}
+use Rattle.lock_core.specs.declared.range.Mode.TheVariants.{Writer}
+use Rattle.lock_core.specs.declared.views.Own.{Own}
+use Rattle.lock_core.specs.declared.views.Own.TheVariants.{Nothing, Filling}
+use Rattle.lock_core.specs.Grants.{Conflicts}
+use Rattle.lock_core.specs.Nodes.{Filled, filling}
+use Rattle.lock_core.specs.Views.{todo_of}
+use Rattle.lock_core.specs.Machine.{held_at, may_leave}
+use Rattle.epoch_pools.specs.declared.record.Met.{Met}
+use Rattle.epoch_pools.specs.declared.views.Part.{Part}
+use Rattle.marked_list.specs.declared.answers.Walked.{Walked}
+use Rattle.marked_list.specs.declared.answers.Walked.TheVariants.{Place, Conflict, Lost, Long}
+use Rattle.marked_list.specs.Leaves.{IsNewWalk}
+use Rattle.marked_list.specs.Causes.{asked_of, IsLost, IsSpent}
+use Rattle.marked_list.specs.Answers.{linked_own}
+use Rattle.range_rw.specs.declared.refusals.NotHeld.{NotHeld}
+use Rattle.range_rw.specs.declared.refusals.NotHeld.TheVariants.{Busy, Again, Long as TooLong}
+use Rattle.range_rw.specs.Contract.{RefusesTry, IsLongRefusal, IsCause}
+use Rattle.range_rw.specs.Seats.{known_in}
 
--- the result of a look at one other seat, by what it holds: the grant, where it conflicts with what is asked
-abbrev pub IsLookResult : Held → ℕ → Option Held → Option Grant → Type 0
-IsLookResult asked other held None = (g : Held) → held ≡ Some g → ¬ (Conflicts g asked)
-IsLookResult asked other held (Some grant) = (grant.seat ≡ other) × (held ≡ Some (record { range = grant.range; mode = grant.mode })) × Conflicts (record { range = grant.range; mode = grant.mode }) asked
+-- the refusal that an answer of a walk is
+abbrev pub refusal_at : Walked → Option NotHeld
+refusal_at Place = None
+refusal_at (Conflict owner range mode) = Some (Busy owner range mode)
+refusal_at (Lost l) = Some (Again l.place l.expected l.found)
+refusal_at (Long visits) = Some (TooLong visits)
 
--- one look at another seat: its lo word was loaded and then its hi word
-pub record IsLookAt {P : Type 0} (rested : P → P) (before : Part P) (other : ℕ) (asked : Held) (met : Option Grant) (after : Part P) : Type 0 where
-  pub lo : ℕ
-  pub hi : ℕ
-  pub part : after ≡ part_after rested (part_after rested before (reads_lo other) lo) (reads_hi other lo) hi
-  pub says : IsLookResult asked other (held_in lo hi) met
+-- whether a walk came to its end
+abbrev pub has_come : Walked → Bool
+has_come Place = true
+has_come (Conflict owner range mode) = false
+has_come (Lost l) = false
+has_come (Long visits) = false
 
--- what a look round at the other seats leaves
-pub record IsSearch {P : Type 0} (seats : ℕ) (before after : Part P) : Type 0 where
-  pub number : after.number ≡ before.number
-  pub held : after.core.held ≡ before.core.held
-  pub turn : after.core.has_turn ≡ before.core.has_turn
-  pub pass : after.pass ≡ before.pass
-  pub client : after.trace.client ≡ before.trace.client
-  pub low : before.trace.taken ≤ after.trace.taken
-  pub high : after.trace.taken + 2 ≤ before.trace.taken + 2 * seats
+-- the own node is this one, being filled
+abbrev pub IsFilling : ℕ → Own → Type 0
+IsFilling node own = (f : Filled) × (own ≡ filling f) × (f.node ≡ node)
 
--- the result of a look round: no other seat holds a range in conflict, or one was met that does
-abbrev pub IsFound : {P : Type 0} → ℕ → Part P → Held → Option Grant → Part P → Type 0
-IsFound seats before asked None after = IsClear seats before.number after.core.seen asked
-IsFound seats before asked (Some grant) after = (m : Met) × (after.trace.met ≡ Some m) × (before.trace.taken ≤ m.step) × (m.step < after.trace.taken)
-    × (m.owner ≡ grant.seat) × (m.held ≡ record { range = grant.range; mode = grant.mode }) × (grant.seat ≢ before.number) × Conflicts m.held asked
+module _ {P : Type 0} where
+  -- what every piece of a try leaves
+  pub record IsPiece (p q : Part P) : Type 0 where
+    pub number : q.number ≡ p.number
+    pub seats : q.seats ≡ p.seats
+    pub pass : q.pass ≡ p.pass
+    pub client : q.trace.client ≡ p.trace.client
+    pub taken : p.trace.taken ≤ q.trace.taken
 
--- what holding a range from now on leaves: three steps, and the turn is given back
-pub record IsGain {P : Type 0} (before : Part P) (h : Held) (after : Part P) : Type 0 where
-  pub number : after.number ≡ before.number
-  pub held : after.core.held ≡ Some h
-  pub turn : after.core.has_turn ≡ false
-  pub pass : after.pass ≡ before.pass
-  pub client : after.trace.client ≡ before.trace.client
-  pub taken : after.trace.taken ≡ before.trace.taken + 3
+  -- a piece inside an epoch, or outside one, after which no node is owed its home and the ready nodes are the same
+  pub record IsStill (p q : Part P) : Type 0 where
+    pub piece : IsPiece p q
+    pub epoch : q.core.epoch ≡ p.core.epoch
+    pub hand : q.core.hand ≡ None
+    pub ready : q.core.ready ≡ p.core.ready
+
+  -- another seat's node was met in conflict with what is asked, by the step of that number or a later one
+  pub record IsBusy (first : ℕ) (asked : Option Held) (q : Part P) (owner : ℕ) (held : Held) : Type 0 where
+    pub met : Met
+    pub is : q.trace.met ≡ Some met
+    pub from : first ≤ met.step
+    pub below : met.step < q.trace.taken
+    pub owned : met.owner ≡ owner
+    pub holds : met.held ≡ held
+    pub other : owner ≢ q.number
+    pub wants : Held
+    pub asks : asked ≡ Some wants
+    pub conflicts : Conflicts held wants
+
+  -- why an answer of a walk refuses a try whose steps begin with that number
+  abbrev pub Refuses : ℕ → Option Held → Part P → Walked → Type 0
+  Refuses first asked q Place = ⊥
+  Refuses first asked q (Conflict owner range mode) = IsBusy first asked q owner (record { range = range; mode = mode })
+  Refuses first asked q (Lost l) = IsLost first q RefusesTry l.place l.expected l.found
+  Refuses first asked q (Long visits) = (visits ≡ 16 * q.seats + 1) × IsNewWalk first q
+
+  -- a node was taken, of whose words nothing is known: the first ready one, where one was ready
+  pub record HasNode (p q : Part P) (node : ℕ) : Type 0 where
+    pub own : q.core.own ≡ Filling node None None Writer None
+    pub cursor : q.core.cursor ≡ None
+    pub ready : (p.core.ready ≡ []) ⊎ (p.core.ready ≡ node ∷ q.core.ready)
+
+  -- the walk and the link: the node is linked and has to be validated, or it is as it was but for its aim
+  abbrev pub LinkEnds : Part P → Part P → Walked → Type 0
+  LinkEnds p q Place = (q.core.own ≡ linked_own todo_of p.core.own) × (q.core.cursor ≡ None)
+  LinkEnds p q a = ((node : ℕ) → IsFilling node p.core.own → IsFilling node q.core.own) × Refuses p.trace.taken (asked_of p.core.own) q a
+
+  -- the validation: the range is held, or the node is marked
+  abbrev pub ValidEnds : Part P → Part P → Walked → Type 0
+  ValidEnds p q Place = (held_at q.core.own ≡ asked_of p.core.own) × (may_leave q.core.own ≡ true)
+  ValidEnds p q a = (q.core.own ≡ Nothing) × Refuses p.trace.taken (asked_of p.core.own) q a
+
+  -- the way inside the epoch: the range is held, or the node is still being filled or was marked
+  abbrev pub StepEnds : Part P → Part P → Walked → Type 0
+  StepEnds p q Place = (held_at q.core.own ≡ asked_of p.core.own) × (may_leave q.core.own ≡ true)
+  StepEnds p q a = ((q.core.own ≡ Nothing) ⊎ ((node : ℕ) → IsFilling node p.core.own → IsFilling node q.core.own)) × Refuses p.trace.taken (asked_of p.core.own) q a
+
+  -- the whole way through the list, for a node that is filled: the range is held, or the seat has no own node
+  abbrev pub WayEnds : Part P → Part P → Walked → Type 0
+  WayEnds p q Place = (held_at q.core.own ≡ asked_of p.core.own) × (q.core.ready ≡ p.core.ready)
+  WayEnds p q a = (q.core.own ≡ Nothing) × Refuses p.trace.taken (asked_of p.core.own) q a
+      × ((node : ℕ) → IsFilling node p.core.own → (q.core.ready ≡ p.core.ready) ⊎ (q.core.ready ≡ node ∷ p.core.ready))
+
+  -- why there is no node: by its cause, and the hand has no node of its own
+  pub record Misses (table : TableId) (p q : Part P) (why : NotHeld) : Type 0 where
+    pub cause : (asked : Held) → IsCause (known_in table p) (known_in table q) asked why
+    pub long : IsLongRefusal why ↔ IsSpent q
+    pub empty : p.core.ready ≡ []
+    pub own : q.core.own ≡ Nothing
+    pub cursor : q.core.cursor ≡ None

@@ -3,43 +3,15 @@
 //! the value that it returns being that of the word there, and on the pass being one that the guard gives there.
 ghost use Rattle.std.specs.Prelude.{◌≡◌, ◌≢◌, ◌<◌, ◌+◌, ℕ, MatchResult};
 ghost use Rattle.lock_core.specs.Client.{loads, stores, adds, exchanges, IsAllowed, IsMade};
-ghost use Rattle.range_rw.specs.Board.{lock_words};
-ghost use Rattle.range_rw.specs.Running.{client_part};
 ghost use Rattle.range_rw.specs.Contract.{IsClientCall};
 
-use crate::places::lock_word_count;
-use crate::plays::{Acting, Acts, Overwrites};
 use crate::table::{RangeTable, Seat};
-use crate::token::Token;
+use epoch_pools::{client_add, client_exchange, client_load, client_store};
 use lock_core::{Guard, Means};
-use std::marker::Brand;
 use std::sync::ledger::Ledger;
 use word_rows::Steps;
 
 impl<G: Guard> RangeTable<G> {
-    /// The place of a client word in the table.
-    fn client_word(&self, i: u32) -> usize
-        requires { i < self.now.client }
-        ensures { result ≡ lock_words self.now.seats + i }
-    {
-        (lock_word_count(self.seats) + i) as usize
-    }
-
-    fn load_client<M: Means<G>, C: Acting>(&self, token: &mut Token<G>, i: u32) -> u64
-        requires acting { C.acting ≡ loads i }
-        requires table { token.old.table ≡ self.now.table }
-        requires place { i < self.now.client }
-        requires allowed { IsAllowed G.holds G.allows M.note token.old.part.number token.old.part.core.held token.old.part.pass C.acting }
-        ensures table { token.new.table ≡ token.old.table }
-        ensures part { token.new.part ≡ client_part token.old.part i token.new.part.pass }
-        ensures made { IsMade G.holds G.allows M.note token.old.part.number token.old.part.core.held token.old.part.pass C.acting result token.new.part.pass }
-    {
-        let word = self.client_word(i);
-        self.table
-            .shared
-            .load::<Acts<G, M, C>>(&mut token.seat, word)
-    }
-
     /// Loads client word `i`, counted from 0, and returns its value.
     pub fn load<M: Means<G>>(&self, seat: &mut Seat<G>, i: u32) -> u64
         requires table { seat.old.table ≡ self.now.table }
@@ -48,7 +20,7 @@ impl<G: Guard> RangeTable<G> {
         ensures call { IsClientCall seat.old i seat.new }
         ensures made { IsMade G.holds G.allows M.note seat.old.number seat.old.held seat.old.pass (loads i) result seat.new.pass }
     {
-        self.load_client::<M, Brand>(&mut seat.token, i)
+        client_load::<G, M>(&self.list, &mut seat.hand, i)
     }
 
     /// The same as `load`, counted by `steps`.
@@ -69,21 +41,6 @@ impl<G: Guard> RangeTable<G> {
         self.load::<M>(seat, i)
     }
 
-    fn store_client<M: Means<G>, C: Acting>(&self, token: &mut Token<G>, i: u32, value: u64)
-        requires acting { C.acting ≡ stores i value }
-        requires table { token.old.table ≡ self.now.table }
-        requires place { i < self.now.client }
-        requires allowed { IsAllowed G.holds G.allows M.note token.old.part.number token.old.part.core.held token.old.part.pass C.acting }
-        ensures table { token.new.table ≡ token.old.table }
-        ensures part { token.new.part ≡ client_part token.old.part i token.new.part.pass }
-        ensures made { (found : ℕ) × IsMade G.holds G.allows M.note token.old.part.number token.old.part.core.held token.old.part.pass C.acting found token.new.part.pass }
-    {
-        let word = self.client_word(i);
-        self.table
-            .shared
-            .store::<Overwrites<G, M, C>>(&mut token.seat, word, value);
-    }
-
     /// Stores a value in client word `i`, counted from 0.
     pub fn store<M: Means<G>>(&self, seat: &mut Seat<G>, i: u32, value: u64)
         requires table { seat.old.table ≡ self.now.table }
@@ -92,7 +49,7 @@ impl<G: Guard> RangeTable<G> {
         ensures call { IsClientCall seat.old i seat.new }
         ensures made { (found : ℕ) × IsMade G.holds G.allows M.note seat.old.number seat.old.held seat.old.pass (stores i value) found seat.new.pass }
     {
-        self.store_client::<M, Brand>(&mut seat.token, i, value);
+        client_store::<G, M>(&self.list, &mut seat.hand, i, value);
     }
 
     /// The same as `store`, counted by `steps`.
@@ -114,21 +71,6 @@ impl<G: Guard> RangeTable<G> {
         self.store::<M>(seat, i, value);
     }
 
-    fn add_client<M: Means<G>, C: Acting>(&self, token: &mut Token<G>, i: u32, by: u64) -> u64
-        requires acting { C.acting ≡ adds i by }
-        requires table { token.old.table ≡ self.now.table }
-        requires place { i < self.now.client }
-        requires allowed { IsAllowed G.holds G.allows M.note token.old.part.number token.old.part.core.held token.old.part.pass C.acting }
-        ensures table { token.new.table ≡ token.old.table }
-        ensures part { token.new.part ≡ client_part token.old.part i token.new.part.pass }
-        ensures made { IsMade G.holds G.allows M.note token.old.part.number token.old.part.core.held token.old.part.pass C.acting result token.new.part.pass }
-    {
-        let word = self.client_word(i);
-        self.table
-            .shared
-            .fetch_add::<Acts<G, M, C>>(&mut token.seat, word, by)
-    }
-
     /// Adds `by` to client word `i`, counted from 0, modulo 2^64, and returns the value before.
     pub fn add<M: Means<G>>(&self, seat: &mut Seat<G>, i: u32, by: u64) -> u64
         requires table { seat.old.table ≡ self.now.table }
@@ -137,7 +79,7 @@ impl<G: Guard> RangeTable<G> {
         ensures call { IsClientCall seat.old i seat.new }
         ensures made { IsMade G.holds G.allows M.note seat.old.number seat.old.held seat.old.pass (adds i by) result seat.new.pass }
     {
-        self.add_client::<M, Brand>(&mut seat.token, i, by)
+        client_add::<G, M>(&self.list, &mut seat.hand, i, by)
     }
 
     /// The same as `add`, counted by `steps`.
@@ -159,27 +101,6 @@ impl<G: Guard> RangeTable<G> {
         self.add::<M>(seat, i, by)
     }
 
-    fn exchange_client<M: Means<G>, C: Acting>(
-        &self,
-        token: &mut Token<G>,
-        i: u32,
-        expected: u64,
-        new: u64,
-    ) -> u64
-        requires acting { C.acting ≡ exchanges i expected new }
-        requires table { token.old.table ≡ self.now.table }
-        requires place { i < self.now.client }
-        requires allowed { IsAllowed G.holds G.allows M.note token.old.part.number token.old.part.core.held token.old.part.pass C.acting }
-        ensures table { token.new.table ≡ token.old.table }
-        ensures part { token.new.part ≡ client_part token.old.part i token.new.part.pass }
-        ensures made { IsMade G.holds G.allows M.note token.old.part.number token.old.part.core.held token.old.part.pass C.acting result token.new.part.pass }
-    {
-        let word = self.client_word(i);
-        self.table
-            .shared
-            .compare_exchange::<Acts<G, M, C>>(&mut token.seat, word, expected, new)
-    }
-
     /// Puts `new` in place of `expected` in client word `i`, counted from 0. Where the word has another value, it
     /// returns that value, and the word stays.
     pub fn exchange<M: Means<G>>(
@@ -195,12 +116,7 @@ impl<G: Guard> RangeTable<G> {
         ensures call { IsClientCall seat.old i seat.new }
         ensures made { MatchResult result (λ _. IsMade G.holds G.allows M.note seat.old.number seat.old.held seat.old.pass (exchanges i expected new) expected seat.new.pass) (λ found. (found ≢ expected) × IsMade G.holds G.allows M.note seat.old.number seat.old.held seat.old.pass (exchanges i expected new) found seat.new.pass) }
     {
-        let found = self.exchange_client::<M, Brand>(&mut seat.token, i, expected, new);
-        if found == expected {
-            Ok(())
-        } else {
-            Err(found)
-        }
+        client_exchange::<G, M>(&self.list, &mut seat.hand, i, expected, new)
     }
 
     /// The same as `exchange`, counted by `steps`.

@@ -1,23 +1,21 @@
 //! A table of one range lock: how it is opened with a seat for each number, what a seat holds, and how it is closed.
 //! Between the two, seats may go to other threads, and the table is shared by reference; a reader may rely on the
 //! guard's rule holding of the client words that come back.
-ghost use Rattle.std.specs.Prelude.{◌≡◌, ◌<◌, ◌≤◌, ◌+◌, ◌-◌, ◌^◌, ◌↔◌, ℕ, List, [], ◌++◌, IfOk, length, map, drop, replicate, vec_capacity};
-ghost use Rattle.std.specs.Mem.Slots.{IsFull, slots_len, slots_items};
-ghost use Rattle.range_rw.specs.Board.{lock_words};
-ghost use Rattle.range_rw.specs.Contract.{AreSeatsOf};
-ghost use Rattle.range_rw.specs.Standing.{known_in};
+ghost use Rattle.std.specs.Prelude.{◌≡◌, ◌<◌, ◌≤◌, [], None, length, map, vec_capacity};
+ghost use Rattle.epoch_pools.specs.Hands.{AreNewHands, AreIdleHands, IsIdle, pass_in as hand_pass};
+ghost use Rattle.range_rw.specs.Contract.{AreIdleSeats, AreNewSeats, pass_in};
 
-use crate::places::{MOST_SEATS, lock_word_count};
-use crate::plays::Gathers;
 use crate::refusals::OpenFault;
-use crate::rule::BoardRule;
-use crate::token::Token;
-use crate::views::BoardView;
-use atomic_table::{Closed, Shared, Table};
+use crate::trying::come_out;
+use epoch_pools::{Hand, List, close_into, open, room_for_words};
 use lock_core::{Guard, Held, Mode, Range};
 use std::alloc::{AllocError, Global};
-use std::marker::Model;
-use word_rows::{Start, open_words};
+use std::marker::{Brand, Model};
+use std::sync::ledger::{Blank, Ledger};
+use word_rows::Steps;
+
+/// The most seats that a table has.
+pub const MOST_SEATS: u32 = 16;
 
 /// There was no memory to close the table. Nothing has changed, and all comes back.
 #[derive(Drop)]
@@ -30,93 +28,94 @@ pub struct CloseRefused<G: Guard> {
 /// A range lock for up to 16 seats, and client words under the rule of a guard.
 #[derive(Drop)]
 pub struct RangeTable<G: Guard> {
-    pub(crate) table: Table<(), BoardView<G::Pass>, Start, BoardRule<G>, Global>,
-    pub(crate) seats: u32,
-    pub(crate) client: u32,
+    pub(crate) list: List<G>,
 }
 
 impl<G: Guard> Model for RangeTable<G> {
-    ghost use Rattle.std.specs.Prelude.{length};
     ghost use Rattle.range_rw.specs.Contract.{Shape};
-    ghost use Rattle.range_rw.specs.Standing.{IsTable};
 
     ghost Value = { Shape };
 
-    ghost view = { λ t. record { table = t.table.shared.table_id; seats = t.seats; client = t.client } };
-
-    ghost invariant = { λ t. IsTable t.table.shared.key.seats (length t.table.shared.key.words.items) t.table.shared.table_id.words t.table.shared.table_id.slots t.seats t.client };
+    ghost view = { λ t. record { table = t.list.table; seats = t.list.seats; client = t.list.client } };
 }
 
 /// A seat of a table: by it a thread takes and gives back one range at a time, and makes its steps on client words.
 #[derive(Drop)]
 pub struct Seat<G: Guard> {
-    pub(crate) token: Token<G>,
+    pub(crate) hand: Hand<G>,
     pub(crate) held: Option<Held>,
+    /// Whether the held range was linked by the fast path.
+    pub(crate) quick: bool,
 }
 
 impl<G: Guard> Model for Seat<G> {
-    ghost use Rattle.std.specs.Prelude.{◌≡◌, false};
+    ghost use Rattle.std.specs.Prelude.{◌≡◌};
+    ghost use Rattle.lock_core.specs.Machine.{held_at};
     ghost use Rattle.range_rw.specs.Contract.{Known};
-    ghost use Rattle.range_rw.specs.Standing.{known_of};
+    ghost use Rattle.range_rw.specs.Seats.{IsBetween, known_of};
 
     ghost Value = { Known G.Pass };
 
-    ghost view = { λ s. known_of s.token };
+    ghost view = { λ s. known_of s.hand };
 
-    ghost invariant = { λ s. (s.token.part.core.held ≡ s.held) × (s.token.part.core.has_turn ≡ false) };
+    ghost invariant = { λ s. (held_at s.hand.part.core.own ≡ s.held) × IsBetween s.hand.part.core };
 }
 
-/// The words of a new table: those of the lock, all 0, and then the client words.
-fn opening_words(alloc: Global, seats: u32, client: &[u64]) -> Result<Vec<u64>, AllocError>
-    requires seats { seats ≤ 16 }
-    ensures { IfOk result (λ words. words.items ≡ replicate (lock_words seats) 0 ++ client.now) }
+/// Makes seats of the hands of a new list, in their order. There is room for them.
+fn seat_all<G: Guard>(
+    list: &List<G>,
+    client: &[u64],
+    mut hands: Vec<Hand<G>>,
+    seats: &mut Vec<Seat<G>>,
+)
+    requires new { AreNewHands list.now.table (G.first client.now) list.now.seats hands.items }
+    requires empty { seats.old.items ≡ [] }
+    requires room { length hands.items ≤ vec_capacity seats.old }
+    ensures count { length seats.new.items ≡ length hands.items }
+    ensures new { AreNewSeats list.now.table (G.first client.now) seats.new.items }
 {
-    let mut words = Vec::new(alloc);
-    words.resize(lock_word_count(seats) as usize, 0)?;
-    words.extend_from_slice(client)?;
-    Ok(words)
-}
-
-/// One seat that has what belongs to all of these, in their order. The seats are of the table, and there is one at
-/// least.
-fn join_all<G: Guard>(
-    shared: &Shared<(), BoardView<G::Pass>, Start, BoardRule<G>>,
-    mut seats: Vec<Seat<G>>,
-) -> atomic_table::Seat<(), BoardView<G::Pass>>
-    requires words { 0 < shared.now.table_id.words }
-    requires some { 0 < length seats.items }
-    requires tables { AreSeatsOf shared.now.table_id seats.items }
-    ensures table { (result.table_id ≡ shared.now.table_id) × (result.me.1 ≡ []) }
-    ensures parts { map (known_in shared.now.table_id) result.me.0.parts ≡ seats.items }
-{
-    let Seat { token, .. } = seats.remove(0);
-    let Token { seat: mut all, .. } = token;
-    'all: while !seats.is_empty() {
-        let Seat { token, .. } = seats.remove(0);
-        let Token { seat, .. } = token;
-        shared.join_seat::<Gathers>(&mut all, seat);
+    let _ = list;
+    let _ = client;
+    'all: while !hands.is_empty() {
+        let hand = hands.remove(0);
+        seats.push_reserved(Seat {
+            hand,
+            held: None,
+            quick: false,
+        });
     }
-    all
 }
 
-/// Fills an empty `Vec` that has room for them with the words from a place on.
-fn copy_words(closed: &Closed<(), Global>, from: u32, count: u32, out: &mut Vec<u64>)
-    requires full { IsFull closed.now.words }
-    requires words { slots_len closed.now.words ≡ from + count }
-    requires small { from + count < 2 ^ 32 }
-    requires empty { out.old.items ≡ [] }
-    requires room { count ≤ vec_capacity out.old }
-    ensures { out.new.items ≡ drop from (slots_items closed.now.words) }
+/// A seat's hand, outside its epoch. The seat holds nothing.
+fn hand_of<G: Guard, L: Ledger>(list: &List<G>, seat: Seat<G>, blank: Blank) -> Hand<G>
+    requires blank { (blank.name ≡ L.name) × (blank.parts ≡ L.parts) × (0 < L.parts) }
+    requires table { seat.table ≡ list.now.table }
+    requires free { seat.held ≡ None }
+    ensures hand { (result.table ≡ seat.table) × (result.part.number ≡ seat.number) × (result.part.pass ≡ seat.pass) × IsIdle result.part.core }
 {
-    let mut i = 0;
-    'words: while i < count {
-        out.push_reserved(closed.word((from + i) as usize));
-        i += 1;
+    let Seat { mut hand, .. } = seat;
+    let mut steps = Steps::<L>::new(blank);
+    come_out(list, &mut hand, &mut steps);
+    hand
+}
+
+/// The hands of idle seats, in their order. There is room for them.
+fn hands_of<G: Guard>(list: &List<G>, mut seats: Vec<Seat<G>>, hands: &mut Vec<Hand<G>>)
+    requires idle { AreIdleSeats list.now.table seats.items }
+    requires empty { hands.old.items ≡ [] }
+    requires room { length seats.items ≤ vec_capacity hands.old }
+    ensures count { length hands.new.items ≡ length seats.items }
+    ensures idle { AreIdleHands list.now.table hands.new.items }
+    ensures passes { map hand_pass hands.new.items ≡ map pass_in seats.items }
+{
+    'all: while !seats.is_empty() {
+        let seat = seats.remove(0);
+        hands.push_reserved(hand_of::<G, Brand>(list, seat, Blank::new(1)));
     }
 }
 
 impl<G: Guard> RangeTable<G> {
-    ghost use Rattle.std.specs.Prelude.{◌≡◌, ◌<◌, ◌+◌, ◌≤◌, ◌^◌, ◌↔◌, ℕ, Some, None, IsNone, IfSome, IfOk, IfErr, length, map, replicate};
+    ghost use Rattle.std.specs.Prelude.{◌≡◌, ◌≤◌, ◌^◌, ◌↔◌, Some, None, IsNone, IfSome, IfOk, IfErr, length, map, replicate};
     ghost use Rattle.range_rw.specs.Contract.{IsSeatCount, IsOpenFault, AreNewSeats, AreIdleSeats, first_passes, pass_in};
 
     fn open_at(
@@ -130,25 +129,10 @@ impl<G: Guard> RangeTable<G> {
         ensures shape { IfOk result (λ r. (r.0.seats ≡ seats) × (r.0.client ≡ length client.now)) }
         ensures seats { IfOk result (λ r. (length r.1.items ≡ seats) × AreNewSeats r.0.table (G.first client.now) r.1.items) }
     {
-        let words = opening_words(alloc, seats, client)?;
         let mut made = Vec::with_capacity(alloc, seats as usize)?;
-        let (table, mut opened) = open_words::<BoardRule<G>>(alloc, seats, words.as_slice(), &[])?;
-        let mut number = 0;
-        'all: while !opened.is_empty() {
-            let seat = opened.remove(0);
-            made.push_reserved(Seat {
-                token: Token { seat, number },
-                held: None,
-            });
-            number += 1;
-        }
-        let client = client.len() as u32;
-        let table = RangeTable {
-            table,
-            seats,
-            client,
-        };
-        Ok((table, made))
+        let (list, hands) = open(alloc, seats, client)?;
+        seat_all(&list, client, hands, &mut made);
+        Ok((RangeTable { list }, made))
     }
 
     /// A table of that many seats, from 1 to 16, over these client words, and its seats in order of their numbers,
@@ -186,19 +170,15 @@ impl<G: Guard> RangeTable<G> {
         ensures guard { IfOk result (λ words. G.holds (replicate self.seats None) words.items (map pass_in seats.items)) }
         ensures refused { IfErr result (λ r. (r.table ≡ self) × (r.seats.items ≡ seats.items)) }
     {
-        let Ok(mut words) = Vec::with_capacity(alloc, self.client as usize) else {
+        let Ok(words) = room_for_words(&self.list, alloc) else {
             return Err(CloseRefused { table: self, seats });
         };
-        let RangeTable {
-            table,
-            seats: count,
-            client,
-        } = self;
-        let all = join_all(&table.shared, seats);
-        let closed = table.close_with(all);
-        copy_words(&closed, lock_word_count(count), client, &mut words);
-        closed.free();
-        Ok(words)
+        let Ok(mut hands) = Vec::with_capacity(alloc, seats.len()) else {
+            return Err(CloseRefused { table: self, seats });
+        };
+        let RangeTable { list } = self;
+        hands_of(&list, seats, &mut hands);
+        Ok(close_into(list, hands, words))
     }
 
     /// The range that the seat holds, and how; None where it holds nothing. The seat is of this table.

@@ -1,0 +1,190 @@
+-- A scan through a seat: how its hand goes into its epoch and out of it, and what a call on the list is to the seat.
+use Rattle.std.proofs.Common.{◌≡◌, ◌≢◌, ℕ, ◌+◌, ◌*◌, ◌%◌, ◌≤◌, Bool, true, false, inl, ⊎_elim, refl, sym, ap, ◌∙◌, subst, arith, eqb-true, eq-eqb, ne_eqb}
+use Rattle.std.specs.Prelude.{IsSome, Option, Some, None, ◌==◌, if◌then◌else◌}
+use Rattle.atomic_table.specs.Seated.{TableId}
+use Rattle.lock_core.specs.declared.views.Cursor.{Cursor}
+use Rattle.lock_core.specs.declared.views.Own.{Own}
+use Rattle.lock_core.specs.declared.views.Own.TheVariants.{Nothing}
+use Rattle.lock_core.specs.declared.steps.Step.TheVariants.{Enter}
+use Rattle.lock_core.specs.Views.{entered}
+use Rattle.lock_core.specs.Machine.{held_at}
+use Rattle.lock_core.proofs.SizedSteps.{plain_is}
+use Rattle.epoch_pools.specs.declared.record.Looked.{Looked}
+use Rattle.epoch_pools.specs.declared.views.Part.{Part}
+use Rattle.epoch_pools.specs.Hands.{IsHandView, quiet_after}
+use Rattle.marked_list.specs.declared.answers.Passed.{Passed}
+use Rattle.marked_list.specs.declared.answers.Passed.TheVariants.{Found as NodeFound, End as ListEnd, Lost as NotWon, Long as TooLong}
+use Rattle.marked_list.specs.Order.{IsInside, MaySweep}
+use Rattle.marked_list.specs.Leaves.{IsOn}
+use Rattle.marked_list.specs.Causes.{nodes_in, judged_in}
+use Rattle.marked_list.specs.Answers.{IsAtEnd}
+use Rattle.marked_list.specs.Going.{seen_of}
+use Rattle.marked_list.specs.Scanning.{IsAtNode, IsAtLast, IsScanning, IsResting, passed_at, passed_by, Passes}
+use Rattle.marked_list.proofs.Stepping.{nodes_seen}
+use Rattle.range_rw.specs.declared.scan.Scanned.{Scanned}
+use Rattle.range_rw.specs.Contract.{OpenScan, fresh_scan}
+use Rattle.range_rw.specs.Seats.{IsSettled, IsBetween, walk_of, scan_of, known_in}
+use Rattle.range_rw.specs.Trying.{IsPiece}
+use Rattle.range_rw.specs.Scan.{scanned_as, IsScanCall, Gives, IsNext, GoesIn, GoesOut}
+
+-- a hand that is outside goes in, and one that has come out stays there
+pub goes_in : {P : Type 0} (p e q : Part P) → IsPiece p e → MaySweep e.core → e.core.ready ≡ p.core.ready → q ≡ quiet_after e Enter (entered e.core) → GoesIn p q
+goes_in {P} p e q a may ready made = record {
+  piece = record {
+    number = ap (λ (x : Part P). x.number) made ∙ a.number;
+    seats = ap (λ (x : Part P). x.seats) made ∙ a.seats;
+    pass = ap (λ (x : Part P). x.pass) made ∙ a.pass;
+    client = ap (λ (x : Part P). x.trace.client) made ∙ a.client;
+    taken = let t = ap (λ (x : Part P). x.trace.taken) made in let b = a.taken in omega arith;
+  };
+  odd = let n = ap (λ (x : Part P). x.core.epoch) made in let z = may.outside.even in omega arith;
+  hand = ap (λ (x : Part P). x.core.hand) made ∙ may.outside.hand;
+  own = ap (λ (x : Part P). x.core.own) made ∙ may.own;
+  cursor = ap (λ (x : Part P). x.core.cursor) made;
+  ready = ap (λ (x : Part P). x.core.ready) made ∙ ready;
+}
+
+pub goes_out : {P : Type 0} (p q : Part P) → IsPiece p q → MaySweep q.core → q.core.ready ≡ p.core.ready → IsHandView q → GoesOut p q
+goes_out p q a may ready view = record { piece = a; even = may.outside.even; hand = may.outside.hand; own = may.own; cursor = view.sound.outside may.outside.even; ready = ready }
+
+bare_settled : (own : Own) → own ≡ Nothing → IsSettled own
+bare_settled own e = subst IsSettled (sym e) tt
+
+module _ {P : Type 0} (p : Part P) where
+  -- where no scan is open, and where one is
+  pub scan_none : p.core.epoch % 2 ≡ 0 → scan_of p ≡ None
+  scan_none even = ap (λ (b : Bool). if b then None else Some (walk_of (16 * p.seats + 1) p.core.cursor p.trace.looked)) (eq-eqb _ _ even)
+
+  pub scan_some : p.core.epoch % 2 ≡ 1 → scan_of p ≡ Some (walk_of (16 * p.seats + 1) p.core.cursor p.trace.looked)
+  scan_some odd = ap (λ (b : Bool). if b then None else Some (walk_of (16 * p.seats + 1) p.core.cursor p.trace.looked)) (ne_eqb (p.core.epoch % 2) 0 (λ z. let o = odd in omega arith))
+
+  pub scan_inside : IsSome (scan_of p) → p.core.hand ≡ None → IsInside p.core
+  scan_inside some hand = record { odd = by_even (p.core.epoch % 2 == 0) refl some; hand = hand }
+    where
+      by_even : (b : Bool) → (p.core.epoch % 2 == 0) ≡ b → IsSome (if b then None else Some (walk_of (16 * p.seats + 1) p.core.cursor p.trace.looked)) → p.core.epoch % 2 ≡ 1
+      by_even true e s = absurd (cc)
+      by_even false e s = let far : p.core.epoch % 2 ≢ 0 = λ z. let t = eq-eqb _ _ z in let f : ◌≡◌ {A = Bool} true false = sym t ∙ e in cc in omega arith
+
+  -- what the seat shows of the walk
+  pub was_is : (was : OpenScan) → scan_of p ≡ Some was → IsInside p.core → walk_of (16 * p.seats + 1) p.core.cursor p.trace.looked ≡ was
+  was_is was e inside = let s = scan_some inside.odd in let f : ◌≡◌ {A = Option OpenScan} (Some (walk_of (16 * p.seats + 1) p.core.cursor p.trace.looked)) (Some was) = sym s ∙ e in cc
+
+walk_most : (m : ℕ) (o : Option Cursor) (l : Option Looked) → (walk_of m o l).most ≡ m
+walk_most m None l = refl
+walk_most m (Some c) l = refl
+
+walk_nodes : (m : ℕ) (o : Option Cursor) (l : Option Looked) → (walk_of m o l).nodes ≡ seen_of o
+walk_nodes m None l = refl
+walk_nodes m (Some c) l = refl
+
+walk_passed : (m : ℕ) (o : Option Cursor) (l : Option Looked) → (walk_of m o l).passed ≡ passed_at o l
+walk_passed m None l = refl
+walk_passed m (Some c) l = refl
+
+walk_ended : (m : ℕ) (o : Option Cursor) (l : Option Looked) → (walk_of m o l).ended ≡ true → IsAtEnd o
+walk_ended m None l e = absurd (cc)
+walk_ended m (Some c) l e = (c, refl, eqb-true _ _ e)
+
+module _ {P : Type 0} (table : TableId) (p q : Part P) where
+  -- between two calls of a scan
+  pub in_between : GoesIn p q → IsBetween q.core
+  in_between g = record { own = bare_settled q.core.own g.own; hand = g.hand; cursor = inl g.cursor }
+
+  pub out_between : GoesOut p q → IsBetween q.core
+  out_between g = record { own = bare_settled q.core.own g.own; hand = g.hand; cursor = inl g.cursor }
+
+  pub on_between : IsOn p q → q.core.own ≡ Nothing → IsResting q.core → IsBetween q.core
+  on_between on own rests = record { own = bare_settled q.core.own own; hand = on.hand; cursor = rests }
+
+  piece_call : IsPiece p q → q.core.own ≡ Nothing → q.core.ready ≡ p.core.ready → IsScanCall (known_in table p) (known_in table q)
+  piece_call a own ready = record { table = refl; number = a.number; held = ap held_at own; ready = ready; pass = a.pass; client = a.client; taken = a.taken }
+
+  pub in_call : GoesIn p q → IsScanCall (known_in table p) (known_in table q)
+  in_call g = piece_call g.piece g.own g.ready
+
+  pub out_call : GoesOut p q → IsScanCall (known_in table p) (known_in table q)
+  out_call g = piece_call g.piece g.own g.ready
+
+  pub on_call : IsOn p q → q.core.own ≡ Nothing → IsScanCall (known_in table p) (known_in table q)
+  on_call on own = record { table = refl; number = on.number; held = ap held_at own; ready = on.pools.ready; pass = on.pass; client = on.client; taken = on.taken }
+
+  pub in_begun : (seats : ℕ) → q.seats ≡ seats → GoesIn p q → scan_of q ≡ Some (fresh_scan (16 * seats + 1))
+  in_begun seats e g = scan_some q g.odd ∙ ((λ i. Some (walk_of (16 * q.seats + 1) (g.cursor i) q.trace.looked)) ∙ ap (λ (n : ℕ). Some (fresh_scan (16 * n + 1))) e)
+
+  pub out_none : GoesOut p q → scan_of q ≡ None
+  out_none g = scan_none q g.even
+
+  module _ (inside : IsInside p.core) (on : IsOn p q) (view : IsHandView q) (was : OpenScan) (opened : scan_of p ≡ Some was) where
+    abbrev now : OpenScan
+    now = walk_of (16 * q.seats + 1) q.core.cursor q.trace.looked
+
+    was_walk : walk_of (16 * p.seats + 1) p.core.cursor p.trace.looked ≡ was
+    was_walk = was_is p was opened inside
+
+    was_most : 16 * p.seats + 1 ≡ was.most
+    was_most = sym (walk_most (16 * p.seats + 1) p.core.cursor p.trace.looked) ∙ ap (λ (w : OpenScan). w.most) was_walk
+
+    now_most : now.most ≡ 16 * q.seats + 1
+    now_most = walk_most (16 * q.seats + 1) q.core.cursor q.trace.looked
+
+    same_most : now.most ≡ was.most
+    same_most = let e = now_most in let s = on.seats in let w = was_most in omega arith
+
+    was_passed : passed_by p ≡ was.passed
+    was_passed = sym (walk_passed (16 * p.seats + 1) p.core.cursor p.trace.looked) ∙ ap (λ (w : OpenScan). w.passed) was_walk
+
+    now_is : scan_of q ≡ Some now
+    now_is = scan_some q (ap (λ n. n % 2) on.epoch ∙ inside.odd)
+
+    module _ (c : Cursor) (is : q.core.cursor ≡ Some c) where
+      now_passed : now.passed ≡ judged_in q.trace.looked
+      now_passed = ap (λ (o : Option Cursor). (walk_of (16 * q.seats + 1) o q.trace.looked).passed) is
+
+      now_ended : now.ended ≡ (c.cur == 0)
+      now_ended = ap (λ (o : Option Cursor). (walk_of (16 * q.seats + 1) o q.trace.looked).ended) is
+
+      now_nodes : now.nodes ≡ nodes_in q.trace.looked
+      now_nodes = ap (λ (o : Option Cursor). (walk_of (16 * q.seats + 1) o q.trace.looked).nodes) is ∙ sym (nodes_seen q view c is)
+
+    cursor_of : IsScanning q.core → (c : Cursor) × (q.core.cursor ≡ Some c)
+    cursor_of s = ⊎_elim (λ (n : IsAtNode q.core). (n.stands.cursor, n.stands.is)) (λ (l : IsAtLast q.core). (l.end.0, l.end.1)) s.at
+
+    gives_by : (a : Passed) → Passes p q a → Gives (known_in table p) (known_in table q) was now (scanned_as a)
+    gives_by (NodeFound owner range mode) x =
+        let s = x.0 in let c = cursor_of x.2 in
+        (record { met = s.met; is = s.is; from = s.from; below = s.below; owned = s.owned; holds = s.holds }, now_passed c.0 c.1 ∙ (x.1 ∙ ap (λ n. n + 1) was_passed))
+    gives_by ListEnd x =
+        let e = x.0.end in
+        (now_ended e.0 e.1 ∙ eq-eqb _ _ e.2, now_passed e.0 e.1 ∙ (x.1 ∙ was_passed), (let n = now_nodes e.0 e.1 in let m = now_most in let le = x.2 in omega arith))
+    gives_by (NotWon l) x =
+        let s = x.0 in (
+          record { lost = s.lost; is = s.is; kind = s.kind; from = s.from; below = s.below; placed = s.placed; wanted = s.wanted; had = s.had; differ = s.differ },
+          x.1 ∙ was_passed,
+          (let n = x.2 in let e = on.seats in let w = was_most in omega arith),
+          ap (λ (o : Option Cursor). walk_of (16 * q.seats + 1) o q.trace.looked) x.3 ∙ ap fresh_scan (sym now_most ∙ same_most),
+        )
+    gives_by (TooLong visits) x =
+        let st = x.3.stands in let plain = plain_is st.cursor.cur st.node st.at in (
+          x.0 ∙ sym now_most,
+          now_nodes st.cursor st.is ∙ (x.2 ∙ sym now_most),
+          now_passed st.cursor st.is ∙ (x.1 ∙ was_passed),
+          now_ended st.cursor st.is ∙ ne_eqb st.cursor.cur 0 (λ z. let q = plain in omega arith),
+        )
+
+    pub next_is : (a : Passed) (answer : Scanned) → answer ≡ scanned_as a → Passes p q a → IsNext (known_in table p) (known_in table q) was answer
+    next_is a answer e x = record { now = now; is = now_is; same = same_most; gives = subst (Gives (known_in table p) (known_in table q) was now) (sym e) (gives_by a x) }
+
+    pub next_bound : q.trace.taken ≤ p.trace.taken + 2 + 3 * (16 * p.seats + 1) → q.trace.taken ≤ p.trace.taken + 2 + 3 * was.most
+    next_bound b = let w = was_most in omega arith
+
+    -- a walk that is at the end, or has looked at as many nodes as it may, stays
+    pub next_ended : (a : Passed) (answer : Scanned) → answer ≡ scanned_as a → was.ended ≡ true → (IsAtEnd p.core.cursor → (q ≡ p) × (a ≡ ListEnd)) → (known_in table q ≡ known_in table p) × (answer ≡ scanned_as ListEnd)
+    next_ended a answer e ended stays =
+        let s = stays (walk_ended (16 * p.seats + 1) p.core.cursor p.trace.looked (ap (λ (w : OpenScan). w.ended) was_walk ∙ ended)) in
+        (ap (known_in table) s.0, e ∙ ap scanned_as s.1)
+
+    pub next_spent : (a : Passed) (answer : Scanned) → answer ≡ scanned_as a → was.nodes ≡ was.most → (seen_of p.core.cursor ≡ 16 * p.seats + 1 → (q ≡ p) × (a ≡ TooLong (16 * p.seats + 1))) → (known_in table q ≡ known_in table p) × (answer ≡ scanned_as (TooLong was.most))
+    next_spent a answer e spent stays =
+        let n = walk_nodes (16 * p.seats + 1) p.core.cursor p.trace.looked in let w = ap (λ (x : OpenScan). x.nodes) was_walk in let m = was_most in
+        let s = stays (omega arith) in
+        (ap (known_in table) s.0, e ∙ (ap scanned_as s.1 ∙ ap (λ (k : ℕ). scanned_as (TooLong k)) was_most))

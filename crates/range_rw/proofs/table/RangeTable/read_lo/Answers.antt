@@ -1,6 +1,0 @@
-use Rattle.std.proofs.Common.{ap, ◌∙◌, sym}
-use Rattle.range_rw.specs.BoardSteps.{board_word_of}
-use Rattle.range_rw.proofs.table.RangeTable.read_lo.Goals as goal
-
-pub load_at-requires-clause-place : goal.load_at-requires-clause-place
-load_at-requires-clause-place g c = (c.lo_word-word.ensures.place ∙ ap (board_word_of _) (sym c.requires.doing), c.lo_word-word.ensures.there)

@@ -1,0 +1,15 @@
+use Rattle.std.proofs.Common.{◌≡◌, ◌+◌, length, vec_capacity}
+use Rattle.range_rw.specs.Contract.{AreNewSeats}
+use Rattle.range_rw.proofs.Seating.{IsNewFrom}
+use Rattle.range_rw.proofs.table.seat_all.Given as goal
+
+abbrev pub invariant-all : goal.invariant-all
+invariant-all g l = record {
+  room : vec_capacity l.seats ≡ vec_capacity l.initial.seats;
+  count : length l.seats.items + length l.hands.items ≡ length l.initial.hands.items;
+  new : AreNewSeats l.list.table (g.G.Guard.first l.client) l.seats.items;
+  rest : IsNewFrom l.list.table (g.G.Guard.first l.client) l.list.seats (length l.seats.items) l.hands.items;
+}
+
+abbrev pub decreases-all : goal.decreases-all
+decreases-all g l = length l.hands.items

@@ -1,0 +1,11 @@
+use Rattle.std.proofs.Common.{ap, ◌∙◌}
+use Rattle.std.specs.Prelude.{◌%◌, None}
+use Rattle.lock_core.specs.declared.views.View.{View}
+use Rattle.range_rw.proofs.Taking.{has_ends}
+use Rattle.range_rw.proofs.trying.fill_and_link.Goals as goal
+
+pub quick_link-requires-clause-order : goal.quick_link-requires-clause-order
+quick_link-requires-clause-order g c = record {
+  even = ap (λ (v : View). v.epoch % 2) c.fill.ensures.filled ∙ c.requires.outside.even;
+  own = has_ends c.fill.new.hand.part.core.own c.args.node c.args.range.lo c.args.range.hi c.args.mode None (ap (λ (v : View). v.own) c.fill.ensures.filled);
+}

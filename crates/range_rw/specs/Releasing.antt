@@ -1,0 +1,33 @@
+-- What giving a range back leaves of a hand: it has no node of its own, and owes none its home; the pass is rested. The
+-- fast path unlinks the node and gives it home, or finds the head changed and leaves the range held. Kogan, Dice and
+-- Issa 2020.
+use Rattle.std.specs.Prelude.{◌≡◌, ◌+◌, ◌≤◌, Bool, true, false, None}
+use Rattle.lock_core.specs.declared.views.Own.TheVariants.{Nothing}
+use Rattle.epoch_pools.specs.declared.views.Part.{Part}
+
+module _ {P : Type 0} where
+  -- the range was given back, in one step or two
+  pub record GivesBack (rested : P → P) (p q : Part P) : Type 0 where
+    pub number : q.number ≡ p.number
+    pub pass : q.pass ≡ rested p.pass
+    pub client : q.trace.client ≡ p.trace.client
+    pub met : q.trace.met ≡ p.trace.met
+    pub own : q.core.own ≡ Nothing
+    pub hand : q.core.hand ≡ None
+    pub cursor : q.core.cursor ≡ p.core.cursor
+    pub ready : q.core.ready ≡ p.core.ready
+    pub least : p.trace.taken + 1 ≤ q.trace.taken
+    pub most : q.trace.taken ≤ p.trace.taken + 2
+
+  -- the range is still held, after one step
+  pub record IsRefusedQuickly (p q : Part P) : Type 0 where
+    pub number : q.number ≡ p.number
+    pub core : q.core ≡ p.core
+    pub pass : q.pass ≡ p.pass
+    pub client : q.trace.client ≡ p.trace.client
+    pub met : q.trace.met ≡ p.trace.met
+    pub taken : q.trace.taken ≡ p.trace.taken + 1
+
+  abbrev pub IsQuickBack : (P → P) → Part P → Part P → Bool → Type 0
+  IsQuickBack rested p q true = GivesBack rested p q
+  IsQuickBack rested p q false = IsRefusedQuickly p q
