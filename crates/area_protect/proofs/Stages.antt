@@ -16,8 +16,7 @@ use Rattle.space_model.specs.Areas.{kind_at}
 use Rattle.space_model.specs.History.{StateAfter}
 use Rattle.space_model.specs.Held.{HoldsSomeArea}
 use Rattle.lock_core.specs.declared.range.Held.{Held}
-use Rattle.range_rw.specs.Contract.{Known, IsLockCall, IsRelease}
-use Rattle.range_rw.specs.declared.record.Record.{Record}
+use Rattle.range_rw.specs.Contract.{Known, IsLockCall, IsRelease, Record, client_trace}
 use Rattle.area_rows.specs.declared.guard.Pass.{Pass}
 use Rattle.area_rows.specs.declared.guard.Pending.{Pending}
 use Rattle.area_rows.specs.declared.row.Row.{Row}
@@ -62,7 +61,7 @@ pub record IsFinished (drawn after : Known Pass) : Type 0 where
   pub table : after.table ≡ drawn.table
   pub number : after.number ≡ drawn.number
   pub held : after.held ≡ drawn.held
-  pub trace : (after.trace ≡ drawn.trace) ⊎ ((index : ℕ) × (after.trace ≡ record drawn.trace { taken = drawn.trace.taken + 1; client = Some (record { place = 3 + index; step = drawn.trace.taken }) }))
+  pub trace : (after.trace ≡ drawn.trace) ⊎ ((index : ℕ) × (after.trace ≡ client_trace drawn.trace (3 + index)))
 
 pub nothing_to_store : (n : Known Pass) → IsAtRest n.pass → IsFinished n n
 nothing_to_store n rest = record { rest = rest; start = refl; seen = refl; mine = refl; drew = refl; table = refl; number = refl; held = refl; trace = inl refl }

@@ -122,6 +122,10 @@ opens grants start callers words is areas named few most =
 abbrev pub caller_with : Known Pass → ℕ → List ℕ → List ℕ → CallerView
 caller_with s left read plan = record { seat = s; left = left; read = read; plan = planned_rows read plan; change = None }
 
+-- before the first caller all seats wait
+pub first_seats : (table : TableId) (p : Pass) (seats : List (Known Pass)) → ((k : ℕ) (x : Known Pass) → get_elem? seats k ≡ some x → x ≡ new_seat table (λ (_ : ℕ). p) k) → (k : ℕ) (x : Known Pass) → get_elem? seats k ≡ some x → x ≡ new_seat table (λ (_ : ℕ). p) (0 + k)
+first_seats table p seats all k x at = let z : k ≡ 0 + k = omega arith in all k x at ∙ ap (new_seat table (λ (_ : ℕ). p)) z
+
 -- the seat that is next
 pub next_seat : (table : TableId) (p : Pass) (worker : ℕ) (seats : List (Known Pass)) (s : Known Pass) → ((k : ℕ) (x : Known Pass) → get_elem? seats k ≡ some x → x ≡ new_seat table (λ (_ : ℕ). p) (worker + k)) → 0 < length seats → s ≡ get_or seats 0 s → s ≡ new_seat table (λ (_ : ℕ). p) worker
 next_seat table p worker seats s rest more is = let z : worker + 0 ≡ worker = omega arith in rest 0 s (at_index seats 0 s more is) ∙ ap (new_seat table (λ (_ : ℕ). p)) z

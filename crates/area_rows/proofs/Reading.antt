@@ -11,7 +11,7 @@ use Rattle.space_model.specs.declared.areas.Area.{Area}
 use Rattle.space_model.specs.Areas.{kind_at}
 use Rattle.lock_core.specs.declared.range.Held.{Held}
 use Rattle.range_rw.specs.Contract.{Known}
-use Rattle.range_rw.specs.declared.record.Record.{Record}
+use Rattle.range_rw.specs.Contract.{Record}
 use Rattle.area_rows.specs.declared.guard.Pass.{Pass}
 use Rattle.row_plans.specs.RowWords.{row_start, row_kind}
 use Rattle.row_plans.specs.RowLists.{rows_start}
@@ -165,10 +165,10 @@ pub keeps_on : (a b c : Pass) → KeepsRead a b → KeepsRead b c → KeepsRead 
 keeps_on a b c f g = record { count = λ n e. g.count n (f.count n e); rows = λ index word h. g.rows index word (f.rows index word h); sequence = λ n e. g.sequence n (f.sequence n e); pending = g.pending ∙ f.pending }
 
 pub reading_on : (a b c : Known Pass) → IsReading a b → IsReading b c → IsReading a c
-reading_on a b c f g = record { table = g.table ∙ f.table; number = g.number ∙ f.number; held = g.held ∙ f.held; start = g.start ∙ f.start; seen = g.seen ∙ f.seen; mine = g.mine ∙ f.mine; taken = let l = f.taken in let m = g.taken in omega arith; read = keeps_on a.pass b.pass c.pass f.read g.read }
+reading_on a b c f g = record { table = g.table ∙ f.table; number = g.number ∙ f.number; held = g.held ∙ f.held; pools = g.pools ∙ f.pools; start = g.start ∙ f.start; seen = g.seen ∙ f.seen; mine = g.mine ∙ f.mine; taken = let l = f.taken in let m = g.taken in omega arith; read = keeps_on a.pass b.pass c.pass f.read g.read }
 
 pub no_reading : (a : Known Pass) → IsReading a a
-no_reading a = record { table = refl; number = refl; held = refl; start = refl; seen = refl; mine = refl; taken = omega arith; read = record { count = λ n e. e; rows = λ index word h. h; sequence = λ n e. e; pending = refl } }
+no_reading a = record { table = refl; number = refl; held = refl; pools = refl; start = refl; seen = refl; mine = refl; taken = omega arith; read = record { count = λ n e. e; rows = λ index word h. h; sequence = λ n e. e; pending = refl } }
 
 pub step_taken : (a b : Known Pass) (place : ℕ) (p : Pass) → IsClientStep a place p b → b.trace.taken ≡ a.trace.taken + 1
 step_taken a b place p s = ap (λ (r : Record). r.taken) s.trace
@@ -178,6 +178,7 @@ step_reads a b place p s x y z k = record {
   table = s.table;
   number = s.number;
   held = s.held;
+  pools = s.pools;
   start = ap (λ (q : Pass). q.start) s.pass ∙ x;
   seen = ap (λ (q : Pass). q.seen) s.pass ∙ y;
   mine = ap (λ (q : Pass). q.mine) s.pass ∙ z;

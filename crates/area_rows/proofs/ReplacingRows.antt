@@ -334,6 +334,7 @@ change_stored s u c index word pends call made =
       table = call.table;
       number = call.number;
       held = call.held;
+      pools = call.pools;
       pass = row_changed made.1.1 here.pass.pending c (3 + index) word here.pass u.pass (ap (λ (x : Pass). x.pending) same ∙ pends) may.1 ∙ ap after_change same;
       trace = call.trace;
     }
@@ -349,6 +350,7 @@ row_written s u index step = record {
   table = step.table;
   number = step.number;
   held = step.held;
+  pools = step.pools;
   trace = step.trace;
 }
 

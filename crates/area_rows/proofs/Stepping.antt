@@ -192,6 +192,7 @@ module _ (note : Note) (seat : ℕ) (held : Option Held) (pass : Pass) where
           words = s.1;
           moment = moment_of s.0 s.1 s.2 seat here t granted n old;
           drew = drew ∙ held_then;
+          pools = call.pools;
           writes = ap (λ (x : Pass). x.pending) new ∙ draw_pending here.history f d.held.0 t.pass note.pending;
           keeps = subst (λ (x : Pass). KeepsRows note.pending t.pass x) (sym new) (draw_keeps here.history f note.pending d.held.0 t.pass);
           trace = call.trace;
@@ -210,7 +211,7 @@ look_is s u found call made =
       state = here.state;
       words = made.1;
       moment = subst (λ h. IsMoment s s.pass.start h here.state made.1) (sym seen) (moment_of made.0 made.1 made.2 s.number here s m.grant refl same);
-      step = record { table = call.table; number = call.number; held = call.held; pass = is ∙ ap (λ h. after_look h s.pass) (sym seen); trace = call.trace };
+      step = record { table = call.table; number = call.number; held = call.held; pools = call.pools; pass = is ∙ ap (λ h. after_look h s.pass) (sym seen); trace = call.trace };
       more = subst (λ h. StartsWith h s.pass.seen) (sym seen) (subst (λ (x : Pass). StartsWith here.history x.seen) same (here.running.parts s.number here.pass here.own).seen);
       count = ap length seen ∙ (sym here.running.number ∙ made.4);
     }
@@ -242,12 +243,12 @@ sequence_is s u found pages call made =
     (λ t.
     let is : u.pass ≡ s.pass = t.1 ∙ same in
     let free : s.held ≡ None = some-injective s.held None (sym m.grant ∙ t.0) in (
-      step_reads s u 1 s.pass (record { table = call.table; number = call.number; held = call.held; pass = is; trace = call.trace }) refl refl refl (keeps_all s.pass),
+      step_reads s u 1 s.pass (record { table = call.table; number = call.number; held = call.held; pools = call.pools; pass = is; trace = call.trace }) refl refl refl (keeps_all s.pass),
       λ some_held. let h = held_some s.held some_held in absurd (none_is h.0 (sym free ∙ h.1)),
     ))
     (λ is_then.
     let is : u.pass ≡ after_sequence found s.pass = is_then ∙ (λ i. after_sequence (made.4 i) (same i)) in (
-      step_reads s u 1 (after_sequence found s.pass) (record { table = call.table; number = call.number; held = call.held; pass = is; trace = call.trace }) refl refl refl (remembers s.pass found again),
+      step_reads s u 1 (after_sequence found s.pass) (record { table = call.table; number = call.number; held = call.held; pools = call.pools; pass = is; trace = call.trace }) refl refl refl (remembers s.pass found again),
       λ some_held. counts_whole u found (ap (λ (x : Pass). x.sequence) is) (subst IsSome (sym call.held) some_held) (subst IsHeldPages (sym call.held) pages),
     ))
     (sequence_tells _ _ made.1 here.history here.pass u.pass made.5.1)

@@ -9,7 +9,7 @@ use Rattle.lock_core.specs.declared.range.Held.{Held}
 use Rattle.lock_core.specs.Grants.{Grants}
 use Rattle.lock_core.specs.Client.{stores, adds, IsAllowed, IsMade}
 use Rattle.range_rw.specs.Contract.{Known, IsClientCall}
-use Rattle.range_rw.specs.declared.record.Record.{Record}
+use Rattle.range_rw.specs.Contract.{Record}
 use Rattle.space_model.specs.Areas.{kind_at}
 use Rattle.area_rows.specs.declared.guard.ReadRow.{ReadRow}
 use Rattle.area_rows.specs.declared.guard.Note.{Note}
@@ -77,7 +77,7 @@ of_plan : (words : List ℕ) (pending : Pending) (plan : List ℕ) (place value 
 of_plan words pending plan place value p after is may = subst (λ (q : Pending). MayWrite words q place value p after) is may
 
 step_of : (s u : Known Pass) (place : ℕ) (p : Pass) → IsClientCall s place u → u.pass ≡ p → IsClientStep s place p u
-step_of s u place p call is = record { table = call.table; number = call.number; held = call.held; pass = is; trace = call.trace }
+step_of s u place p call is = record { table = call.table; number = call.number; held = call.held; pools = call.pools; pass = is; trace = call.trace }
 
 module _ (s u : Known Pass) (plan : List ℕ) (planned : s.pass.pending ≡ Planned plan) (value : ℕ) where
   pub row_stored : (index : ℕ) → IsClientCall s (3 + index) u → ((found : ℕ) × IsMade HasHistory Allowed no_note s.number s.held s.pass (stores (3 + index) value) found u.pass) → IsClientStep s (3 + index) (after_store index value s.pass) u
@@ -132,19 +132,19 @@ mixed_same rows old plan index m there same = record {
 
 -- steps of writing, one after another
 pub writing_on : (a b c : Known Pass) → IsWriting a b → IsWriting b c → IsWriting a c
-writing_on a b c f g = record { table = g.table ∙ f.table; number = g.number ∙ f.number; held = g.held ∙ f.held; start = g.start ∙ f.start; seen = g.seen ∙ f.seen; mine = g.mine ∙ f.mine; drew = g.drew ∙ f.drew; pending = g.pending ∙ f.pending; taken = let l = f.taken in let m = g.taken in omega arith }
+writing_on a b c f g = record { table = g.table ∙ f.table; number = g.number ∙ f.number; held = g.held ∙ f.held; pools = g.pools ∙ f.pools; start = g.start ∙ f.start; seen = g.seen ∙ f.seen; mine = g.mine ∙ f.mine; drew = g.drew ∙ f.drew; pending = g.pending ∙ f.pending; taken = let l = f.taken in let m = g.taken in omega arith }
 
 pub no_writing : (a : Known Pass) → IsWriting a a
-no_writing a = record { table = refl; number = refl; held = refl; start = refl; seen = refl; mine = refl; drew = refl; pending = refl; taken = omega arith }
+no_writing a = record { table = refl; number = refl; held = refl; pools = refl; start = refl; seen = refl; mine = refl; drew = refl; pending = refl; taken = omega arith }
 
 step_more : (a b : Known Pass) (place : ℕ) (p : Pass) → IsClientStep a place p b → a.trace.taken ≤ b.trace.taken
 step_more a b place p s = let l : b.trace.taken ≡ a.trace.taken + 1 = ap (λ (r : Record). r.taken) s.trace in omega arith
 
 pub store_writes : (a b : Known Pass) (index value : ℕ) → IsClientStep a (3 + index) (after_store index value a.pass) b → IsWriting a b
-store_writes a b index value s = record { table = s.table; number = s.number; held = s.held; start = ap (λ (x : Pass). x.start) s.pass; seen = ap (λ (x : Pass). x.seen) s.pass; mine = ap (λ (x : Pass). x.mine) s.pass; drew = ap (λ (x : Pass). x.drew) s.pass; pending = ap (λ (x : Pass). x.pending) s.pass; taken = step_more a b (3 + index) (after_store index value a.pass) s }
+store_writes a b index value s = record { table = s.table; number = s.number; held = s.held; pools = s.pools; start = ap (λ (x : Pass). x.start) s.pass; seen = ap (λ (x : Pass). x.seen) s.pass; mine = ap (λ (x : Pass). x.mine) s.pass; drew = ap (λ (x : Pass). x.drew) s.pass; pending = ap (λ (x : Pass). x.pending) s.pass; taken = step_more a b (3 + index) (after_store index value a.pass) s }
 
 pub count_writes : (a b : Known Pass) (value : ℕ) → IsClientStep a 2 (after_count value a.pass) b → IsWriting a b
-count_writes a b value s = record { table = s.table; number = s.number; held = s.held; start = ap (λ (x : Pass). x.start) s.pass; seen = ap (λ (x : Pass). x.seen) s.pass; mine = ap (λ (x : Pass). x.mine) s.pass; drew = ap (λ (x : Pass). x.drew) s.pass; pending = ap (λ (x : Pass). x.pending) s.pass; taken = step_more a b 2 (after_count value a.pass) s }
+count_writes a b value s = record { table = s.table; number = s.number; held = s.held; pools = s.pools; start = ap (λ (x : Pass). x.start) s.pass; seen = ap (λ (x : Pass). x.seen) s.pass; mine = ap (λ (x : Pass). x.mine) s.pass; drew = ap (λ (x : Pass). x.drew) s.pass; pending = ap (λ (x : Pass). x.pending) s.pass; taken = step_more a b 2 (after_count value a.pass) s }
 
 -- all is written where the sequence word is raised behind the rows
 pub all_written : (a b c : Known Pass) → IsWriting a b → IsClientStep b 1 (after_raise b.pass) c → IsWritten a c
@@ -161,4 +161,5 @@ all_written a b c w s = record {
   table = s.table ∙ w.table;
   number = s.number ∙ w.number;
   held = s.held ∙ w.held;
+  pools = s.pools ∙ w.pools;
 }

@@ -16,7 +16,7 @@ use Rattle.space_model.specs.declared.entries.Under.TheVariants.{Nothing, Whole}
 use Rattle.space_model.specs.Answers.Answers.{by_arguments}
 use Rattle.space_model.specs.Held.{FitsByState}
 use Rattle.range_rw.specs.Contract.{Known, IsLockCall, IsRelease}
-use Rattle.range_rw.specs.declared.record.Record.{Record}
+use Rattle.range_rw.specs.Contract.{Record}
 use Rattle.area_rows.specs.declared.guard.Pass.{Pass}
 use Rattle.area_rows.specs.declared.guard.Pending.{Pending}
 use Rattle.row_plans.specs.RowLists.{areas_from}

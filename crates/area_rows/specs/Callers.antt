@@ -182,7 +182,7 @@ pub record HasToStore (c : CallerView) (change : Change) : Type 0 where
   pub round : IsReadRound c.seat change
 
 -- the one row that a call over its area left is stored, by one step; all is written, and what the caller holds, has
--- seen and has numbered is as before
+-- seen and has numbered is as before, and its pools are
 pub record IsStoredRow (before : Known Pass) (index : ℕ) (after : Known Pass) : Type 0 where
   pub rest : IsAtRest after.pass
   pub start : after.pass.start ≡ before.pass.start
@@ -192,6 +192,7 @@ pub record IsStoredRow (before : Known Pass) (index : ℕ) (after : Known Pass) 
   pub table : after.table ≡ before.table
   pub number : after.number ≡ before.number
   pub held : after.held ≡ before.held
+  pub pools : after.pools ≡ before.pools
   pub trace : after.trace ≡ client_trace before.trace (3 + index)
 
 -- a new pass over these areas
@@ -217,19 +218,22 @@ IsSpaceFault callers rows Memory = IsSeatCount callers × (rows ≤ ROWS)
 abbrev pub AreIdle : TableId → List CallerView → Type 0
 AreIdle table callers = (k : ℕ) (c : CallerView) → get_elem? callers k ≡ some c → (c.seat.table ≡ table) × (c.seat.number ≡ k) × (c.seat.held ≡ None)
 
--- one step on the client word of that place, which left this pass: the seat holds what it held
+-- one step on the client word of that place, which left this pass: the seat holds what it held, and its pools stay
 pub record IsClientStep (before : Known Pass) (place : ℕ) (left_pass : Pass) (after : Known Pass) : Type 0 where
   pub table : after.table ≡ before.table
   pub number : after.number ≡ before.number
   pub held : after.held ≡ before.held
+  pub pools : after.pools ≡ before.pools
   pub pass : after.pass ≡ left_pass
   pub trace : after.trace ≡ client_trace before.trace place
 
--- steps that read words: the seat holds what it held, has seen and numbered what it had, and keeps what it had read
+-- steps that read words: the seat holds what it held, has seen and numbered what it had, and keeps what it had read and
+-- its pools
 pub record IsReading (before after : Known Pass) : Type 0 where
   pub table : after.table ≡ before.table
   pub number : after.number ≡ before.number
   pub held : after.held ≡ before.held
+  pub pools : after.pools ≡ before.pools
   pub start : after.pass.start ≡ before.pass.start
   pub seen : after.pass.seen ≡ before.pass.seen
   pub mine : after.pass.mine ≡ before.pass.mine
@@ -275,18 +279,19 @@ KeepsRows (OneRow change) old new = (new.count ≡ old.count) × (new.rows ≡ o
 
 -- the same by one step on the number word, made at a moment of the running space whose history is the one before the
 -- entry; so what the caller's range has shown is so of the state that this history leaves. What was held at the draw
--- is what the caller holds, and this is to be written
+-- is what the caller holds, and this is to be written; the pools stay
 pub record IsDrawn (before : Known Pass) (e : Entry) (pending : Pending) (after : Known Pass) : Type 0 where
   pub numbered : IsNumbered before e after
   pub words : List ℕ
   pub moment : IsMoment before before.pass.start numbered.history numbered.state words
   pub drew : after.pass.drew ≡ before.held
+  pub pools : after.pools ≡ before.pools
   pub writes : after.pass.pending ≡ pending
   pub keeps : KeepsRows pending before.pass after.pass
   pub trace : after.trace ≡ client_trace before.trace 0
 
 -- all that a call under everything left is written, and the last step on a client word raised the sequence word, in
--- this call; what the caller holds, has seen and has numbered is as before
+-- this call; what the caller holds, has seen and has numbered is as before, and its pools are
 pub record IsWritten (before after : Known Pass) : Type 0 where
   pub rest : IsAtRest after.pass
   pub step : ℕ
@@ -300,6 +305,7 @@ pub record IsWritten (before after : Known Pass) : Type 0 where
   pub table : after.table ≡ before.table
   pub number : after.number ≡ before.number
   pub held : after.held ≡ before.held
+  pub pools : after.pools ≡ before.pools
 
 -- the whole history of callers that have stopped: it runs from what each began with to the areas that are left, which
 -- are an area list; calls, replies and areas have named bits alone; each caller's entries stand in it in order, no

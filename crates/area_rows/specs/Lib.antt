@@ -25,6 +25,7 @@ pub use Rattle.page_types.specs.Pages
 pub use Rattle.page_types.specs.PlainReply
 pub use Rattle.page_types.specs.Sets
 pub use Rattle.range_rw.specs.Contract
+pub use Rattle.range_rw.specs.Scan
 pub use Rattle.space_model.specs.Answers
 pub use Rattle.space_model.specs.Areas
 pub use Rattle.space_model.specs.Held

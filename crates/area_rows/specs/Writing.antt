@@ -11,11 +11,12 @@ pub record IsMixed (rows : List ReadRow) (old plan : List ℕ) (index : ℕ) : T
   pub below : (i : ℕ) → i < index → HasRead rows i (slice_index plan i)
   pub above : (i : ℕ) → index ≤ i → i < length old → HasRead rows i (slice_index old i)
 
--- steps of writing: the caller holds what it held, and has seen, numbered and to write what it had
+-- steps of writing: the caller holds what it held, and has seen, numbered and to write what it had, and its pools stay
 pub record IsWriting (before after : Known Pass) : Type 0 where
   pub table : after.table ≡ before.table
   pub number : after.number ≡ before.number
   pub held : after.held ≡ before.held
+  pub pools : after.pools ≡ before.pools
   pub start : after.pass.start ≡ before.pass.start
   pub seen : after.pass.seen ≡ before.pass.seen
   pub mine : after.pass.mine ≡ before.pass.mine

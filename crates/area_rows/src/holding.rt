@@ -1,7 +1,7 @@
 //! A caller takes a range of pages and gives it back, by the calls of the range lock. A reader may rely on the caller
 //! holding the range where `acquire` returns, and on a release keeping what the caller has seen and numbered.
-ghost use Rattle.std.specs.Prelude.{◌≡◌, ◌≤◌, ◌+◌, ◌*◌, Some, None, IsSome, IfErr, OnOk, OnErr};
-ghost use Rattle.range_rw.specs.Contract.{IsLockCall, IsRelease, IsCause};
+ghost use Rattle.std.specs.Prelude.{◌≡◌, ◌≤◌, ◌+◌, ◌*◌, ◌↔◌, Some, None, IsSome, IfErr, OnOk, OnErr};
+ghost use Rattle.range_rw.specs.Contract.{IsLockCall, IsRelease, IsCause, IsLongRefusal, IsReadyLeft, IsSpentIn};
 ghost use Rattle.area_rows.specs.History.{rest_of, IsAtRest};
 ghost use Rattle.area_rows.specs.Callers.{held_span};
 
@@ -40,9 +40,12 @@ impl Space {
     }
 
     /// Tries once to hold the span, and waits for nobody. The caller is of this space and holds nothing.
-    /// `Busy` names a range of another caller that was in conflict at a step of this call, and `Again` an exchange of
-    /// this call that found the lock's turn taken. After a refusal the caller is as before, but for the record of its
-    /// steps.
+    /// `Busy` names a range of another caller, held or asked for, that was in conflict at a step of this call. `Again`
+    /// names an exchange of this call that found another value than it expected: another caller changed the lock's
+    /// list there. `Long` comes exactly where a walk of this call looked at 16 nodes for each caller and one more and
+    /// made nothing held. `NoNode` comes where no node of the caller was ready, and none could be made so after a sweep
+    /// of the list. After a refusal the caller knows and holds what it did before; its ready nodes, if it had any, are
+    /// as they were or without the first one.
     pub fn try_acquire<L: Ledger>(
         &self,
         caller: &mut Caller,
@@ -57,6 +60,8 @@ impl Space {
         ensures free { OnErr result (caller.new.seat.held ≡ None) }
         ensures rest { IsAtRest caller.new.seat.pass }
         ensures cause { IfErr result (IsCause caller.old.seat caller.new.seat (held_span span mode)) }
+        ensures long { IfErr result (λ why. IsLongRefusal why ↔ IsSpentIn self.now.seats caller.old.seat caller.new.seat) }
+        ensures ready { IsReadyLeft caller.old.seat.pools.ready caller.new.seat.pools.ready }
         ensures left { caller.new.left ≡ caller.old.left }
         ensures bound { caller.new.seat.trace.taken ≤ caller.old.seat.trace.taken + (64 + 386 * self.now.seats) }
         ensures counted { steps.new + caller.old.seat.trace.taken ≡ steps.old + caller.new.seat.trace.taken }

@@ -107,6 +107,7 @@ impl Space {
         requires decided { plain_reply call ≡ Some reply }
         ensures called { IsCalled caller.old line call result caller.new }
         ensures taken { caller.new.seat.trace.taken ≡ caller.old.seat.trace.taken + 1 }
+        ensures pools { caller.new.seat.pools ≡ caller.old.seat.pools }
     {
         caller.holds_pages();
         self.draw(caller, line, call, reply, Under::Nothing)

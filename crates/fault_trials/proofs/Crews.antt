@@ -101,13 +101,13 @@ others_stay [] n = refl
 others_stay (x ∷ xs) n = refl
 
 -- the second caller's answer, told by places
-pub second_tried : (first others : List CallerView) (w d n : CallerView) (line addr : ℕ) (access : Access) (answer : TriedFault) → length first ≡ 1 → IsTried (get_or others 0 d) line addr access answer n
-    → OfCaller 1 (first ++ others) (set first 0 w ++ set others 0 n) (λ before after. IsTried before line addr access answer after)
-second_tried [] others w d n line addr access answer one is a b p q = absurd (omega arith)
-second_tried (x ∷ y ∷ rest) others w d n line addr access answer one is a b p q = absurd (omega arith)
-second_tried (x ∷ []) [] w d n line addr access answer one is a b p q = absurd (some-ne-none a (sym p))
-second_tried (x ∷ []) (y ∷ rest) w d n line addr access answer one is a b p q =
-    subst (λ (z : CallerView × CallerView). IsTried z.0 line addr access answer z.1) (λ i. (some-injective y a p i, some-injective n b q i)) is
+pub second_tried : (seats : ℕ) (first others : List CallerView) (w d n : CallerView) (line addr : ℕ) (access : Access) (answer : TriedFault) → length first ≡ 1 → IsTried seats (get_or others 0 d) line addr access answer n
+    → OfCaller 1 (first ++ others) (set first 0 w ++ set others 0 n) (λ before after. IsTried seats before line addr access answer after)
+second_tried seats [] others w d n line addr access answer one is a b p q = absurd (omega arith)
+second_tried seats (x ∷ y ∷ rest) others w d n line addr access answer one is a b p q = absurd (omega arith)
+second_tried seats (x ∷ []) [] w d n line addr access answer one is a b p q = absurd (some-ne-none a (sym p))
+second_tried seats (x ∷ []) (y ∷ rest) w d n line addr access answer one is a b p q =
+    subst (λ (z : CallerView × CallerView). IsTried seats z.0 line addr access answer z.1) (λ i. (some-injective y a p i, some-injective n b q i)) is
 
 -- one call more
 pub one_more : (calls : ℕ) (start before after : CallerView) (line : ℕ) (call : Call) (answer : Answer) → HasCalled calls start before → IsAnswered before line call answer after → HasCalled (calls + 1) start after

@@ -61,7 +61,7 @@ fn try_alone<L: Ledger>(space: &Space, caller: &mut Caller, addr: u64, blank: Bl
     requires blank { (blank.name ≡ L.name) × (blank.parts ≡ L.parts) × (0 < L.parts) }
     requires caller { (caller.old.seat.table ≡ space.now.table) × (caller.old.seat.held ≡ None) }
     ensures caller { IsIdleAgain caller.old caller.new }
-    ensures tried { IsTried caller.old 1 addr Read result caller.new }
+    ensures tried { IsTried space.now.seats caller.old 1 addr Read result caller.new }
 {
     let mut steps = Steps::<L>::new(blank);
     try_fault(space, caller, 1, addr, Access::Read, &mut steps)
@@ -71,7 +71,7 @@ fn try_alone<L: Ledger>(space: &Space, caller: &mut Caller, addr: u64, blank: Bl
 pub fn try_by(space: &Space, callers: &mut [Caller], addr: u64) -> TriedFault
     requires crew { IsCrew space.now.table space.now.seats callers.old }
     ensures crew { IsCrew space.now.table space.now.seats callers.new }
-    ensures tried { OfCaller 0 callers.old callers.new (λ before after. IsTried before 1 addr Read result after) }
+    ensures tried { OfCaller 0 callers.old callers.new (λ before after. IsTried space.now.seats before 1 addr Read result after) }
 {
     try_alone::<Brand>(space, &mut callers[0], addr, Blank::new(1))
 }
@@ -91,7 +91,7 @@ fn try_counting<L: Ledger, R: Wait>(
     requires caller { (caller.old.seat.table ≡ space.now.table) × (caller.old.seat.held ≡ None) }
     ensures writer { IsIdleAgain writer.old writer.new }
     ensures caller { IsIdleAgain caller.old caller.new }
-    ensures tried { IsTried caller.old 1 addr Read result caller.new }
+    ensures tried { IsTried space.now.seats caller.old 1 addr Read result caller.new }
 {
     let mut steps = Steps::<L>::new(blank);
     space.acquire(rt, writer, span, Mode::Writer);
@@ -111,7 +111,7 @@ pub fn try_beside<R: Wait>(
     requires crew { IsCrew space.now.table space.now.seats callers.old }
     requires two { 2 ≤ space.now.seats }
     ensures crew { IsCrew space.now.table space.now.seats callers.new }
-    ensures tried { OfCaller 1 callers.old callers.new (λ before after. IsTried before 1 addr Read result after) }
+    ensures tried { OfCaller 1 callers.old callers.new (λ before after. IsTried space.now.seats before 1 addr Read result after) }
 {
     let (first, others) = callers.split_at_mut(1);
     try_counting::<Brand, R>(

@@ -1,6 +1,6 @@
 -- A fault's reply is right where its arguments decide it, and where the row of its page shows the kind; and the parts
 -- of a call make the whole.
-use Rattle.std.proofs.Common.{◌≡◌, ℕ, ◌+◌, ◌<◌, ◌≤◌, List, [], ◌∷◌, ◌++◌, sym, refl, ap, ◌∙◌, subst, arith}
+use Rattle.std.proofs.Common.{◌≡◌, ℕ, ◌+◌, ◌<◌, ◌≤◌, List, [], ◌∷◌, ◌++◌, sym, refl, ap, ◌∙◌, subst, arith, inl, inr}
 use Rattle.std.specs.Prelude.{Option, None}
 use Rattle.page_types.specs.declared.pages.Span.{Span}
 use Rattle.page_types.specs.declared.sets.Access.{Access}
@@ -19,8 +19,7 @@ use Rattle.space_model.specs.Held.{FitsByState}
 use Rattle.space_model.specs.Answers.{AnswersFault}
 use Rattle.space_model.proofs.Stepping.{fault-answers}
 use Rattle.lock_core.specs.declared.range.Held.{Held}
-use Rattle.range_rw.specs.Contract.{IsRelease}
-use Rattle.range_rw.specs.declared.record.Record.{Record}
+use Rattle.range_rw.specs.Contract.{IsRelease, IsReadyLeft, Pools, Record}
 use Rattle.area_rows.specs.declared.guard.Pass.{Pass}
 use Rattle.area_rows.specs.declared.guard.Pending.TheVariants.{AtRest}
 use Rattle.area_rows.specs.declared.row.Row.{Row}
@@ -82,3 +81,7 @@ called_held b r n d e line call span reading same line_is call_is under named dr
       written = ap (λ (p : Pass). p.pending) release.pass ∙ drawn.writes;
       left = ap (λ k. k + 1) same_left ∙ (left ∙ same);
     }
+
+-- pools that stay are ready nodes as they were
+pub pools_left : (a b : Pools) → b ≡ a → IsReadyLeft a.ready b.ready
+pools_left a b same = inr (inl (ap (λ (p : Pools). p.ready) same))

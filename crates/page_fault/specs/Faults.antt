@@ -1,7 +1,7 @@
 -- What the two calls for page faults answer, and what each answer says: an access to a page as sigaction(2) has it. An
 -- entry is right at its place in the one history, and at the step that drew its number its caller held the range that
 -- the entry names: the page as a reader, or nothing where the arguments decide. The caller's pass keeps that range.
-use Rattle.std.specs.Prelude.{ℕ, ◌≡◌, ◌<◌, ◌+◌, None}
+use Rattle.std.specs.Prelude.{ℕ, ◌≡◌, ◌↔◌, ◌<◌, ◌+◌, None}
 use Rattle.page_types.specs.declared.sets.Access.{Access}
 use Rattle.page_types.specs.declared.calls.Call.TheVariants.{Fault}
 use Rattle.page_types.specs.Pages.{page_of}
@@ -9,7 +9,7 @@ use Rattle.page_types.specs.PlainReply.{plain_reply}
 use Rattle.space_model.specs.declared.entries.Entry.{Entry}
 use Rattle.lock_core.specs.declared.range.Held.{Held}
 use Rattle.lock_core.specs.declared.range.Mode.TheVariants.{Reader}
-use Rattle.range_rw.specs.Contract.{IsLockCall, IsCause}
+use Rattle.range_rw.specs.Contract.{IsLockCall, IsCause, IsLongRefusal, IsSpentIn}
 use Rattle.area_rows.specs.declared.answer.Answer.{Answer}
 use Rattle.area_rows.specs.Callers.{CallerView}
 use Rattle.area_rows.specs.Called.{IsCalled, IsAnswered}
@@ -30,17 +30,19 @@ IsFaulted before line addr access e after = IsCalled before line (Fault addr acc
 abbrev pub IsAnswer : CallerView → ℕ → ℕ → Access → Answer → CallerView → Type 0
 IsAnswer before line addr access answer after = IsAnswered before line (Fault addr access) answer after
 
--- the range wasn't got in one try, for this cause: the arguments don't decide the call, and what the caller knows is
--- as before
-pub record IsNotHeld (before : CallerView) (addr : ℕ) (access : Access) (why : Why) (after : CallerView) : Type 0 where
+-- the range wasn't got in one try in a space of so many callers, for this cause: the arguments don't decide the call,
+-- and what the caller knows is as before. The cause is that of the try of the one page, and a walk that was too long is
+-- told exactly where the try had one
+pub record IsNotHeld (seats : ℕ) (before : CallerView) (addr : ℕ) (access : Access) (why : Why) (after : CallerView) : Type 0 where
   pub undecided : plain_reply (Fault addr access) ≡ None
   pub call : IsLockCall before.seat after.seat
   pub free : after.seat.held ≡ None
   pub left : after.left ≡ before.left
   pub cause : IsCause before.seat after.seat (page_held addr) why
+  pub long : IsLongRefusal why ↔ IsSpentIn seats before.seat after.seat
 
--- the answer of a fault that waits for nobody
-abbrev pub IsTried : CallerView → ℕ → ℕ → Access → TriedFault → CallerView → Type 0
-IsTried before line addr access (Answered e) after = (0 < before.left) × IsFaulted before line addr access e after
-IsTried before line addr access (NotHeld why) after = (0 < before.left) × IsNotHeld before addr access why after
-IsTried before line addr access NoneLeft after = (before.left ≡ 0) × (after ≡ before)
+-- the answer of a fault that waits for nobody, in a space of so many callers
+abbrev pub IsTried : ℕ → CallerView → ℕ → ℕ → Access → TriedFault → CallerView → Type 0
+IsTried seats before line addr access (Answered e) after = (0 < before.left) × IsFaulted before line addr access e after
+IsTried seats before line addr access (NotHeld why) after = (0 < before.left) × IsNotHeld seats before addr access why after
+IsTried seats before line addr access NoneLeft after = (before.left ≡ 0) × (after ≡ before)

@@ -4,6 +4,7 @@
 ghost use Rattle.std.specs.Prelude.{◌≡◌, ◌<◌, ◌≤◌, ◌+◌, ◌*◌, Some, None};
 ghost use Rattle.page_types.specs.declared.calls.Call.TheVariants.{Fault};
 ghost use Rattle.page_types.specs.PlainReply.{plain_reply};
+ghost use Rattle.range_rw.specs.Contract.{IsReadyLeft};
 ghost use Rattle.area_rows.specs.History.{IsAtRest};
 ghost use Rattle.area_rows.specs.Called.{IsCalled};
 ghost use Rattle.page_fault.specs.Faults.{page_held, IsFaulted, IsAnswer, IsTried};
@@ -57,6 +58,7 @@ fn number_plain<L: Ledger>(
     requires left { 0 < caller.old.left }
     requires decided { plain_reply (Fault addr access) ≡ Some reply }
     ensures faulted { IsFaulted caller.old line addr access result caller.new }
+    ensures pools { caller.new.seat.pools ≡ caller.old.seat.pools }
     ensures bound { caller.new.seat.trace.taken ≤ caller.old.seat.trace.taken + 1 }
     ensures counted { steps.new + caller.old.seat.trace.taken ≡ steps.old + caller.new.seat.trace.taken }
 {
@@ -83,6 +85,7 @@ fn number_held<L: Ledger>(
     requires held { caller.old.seat.held ≡ Some (page_held addr) }
     requires rest { IsAtRest caller.old.seat.pass }
     ensures called { IsCalled (record caller.old { seat = record caller.old.seat { held = None } }) line (Fault addr access) result caller.new }
+    ensures ready { caller.new.seat.pools.ready ≡ caller.old.seat.pools.ready }
     ensures bound { caller.new.seat.trace.taken ≤ caller.old.seat.trace.taken + 18 }
     ensures counted { steps.new + caller.old.seat.trace.taken ≡ steps.old + caller.new.seat.trace.taken }
 {
@@ -144,8 +147,9 @@ pub fn fault<R: Wait>(
 }
 
 /// The same with one try to hold the page, so that it waits for nobody.
-/// `NotHeld` comes only for a fault below `LIMIT`, and then as for a try of the one page as a reader; the caller has
-/// seen and numbered what it had. It takes at most 18 steps more than the lock's try: at most 15 find the row, one
+/// `NotHeld` comes only for a fault below `LIMIT`, and then exactly as for a try of the one page as a reader, by the
+/// same causes; the caller has seen and numbered what it had. Its ready nodes, if it had any, are afterwards as they
+/// were or without the first one. It takes at most 18 steps more than the lock's try: at most 15 find the row, one
 /// draws the number, and one or two give the page back.
 pub fn try_fault<L: Ledger>(
     space: &Space,
@@ -157,7 +161,8 @@ pub fn try_fault<L: Ledger>(
 ) -> TriedFault
     requires table { caller.old.seat.table ≡ space.now.table }
     requires free { caller.old.seat.held ≡ None }
-    ensures answer { IsTried caller.old line addr access result caller.new }
+    ensures answer { IsTried space.now.seats caller.old line addr access result caller.new }
+    ensures ready { IsReadyLeft caller.old.seat.pools.ready caller.new.seat.pools.ready }
     ensures bound { caller.new.seat.trace.taken ≤ caller.old.seat.trace.taken + (64 + 386 * space.now.seats) + 18 }
     ensures counted { steps.new + caller.old.seat.trace.taken ≡ steps.old + caller.new.seat.trace.taken }
 {

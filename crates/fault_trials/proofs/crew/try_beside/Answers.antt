@@ -23,8 +23,8 @@ pub returns : goal.returns
 returns g c =
     let s = c.split_at_mut-first in
     let crew = subst (λ (l : List CallerView). IsCrew c.args.space.now.table c.args.space.now.seats l) s.ensures.value c.requires.crew in
-    let old = subst (λ (l : List CallerView). OfCaller 1 l (set s.result.0.now 0 c.try_counting.new.writer ++ set s.result.1.now 0 c.try_counting.new.caller) (λ before after. IsTried before 1 c.args.addr Read c.try_counting.result after)) (sym s.ensures.value)
-    (second_tried s.result.0.now s.result.1.now c.try_counting.new.writer c.index-others-0.result c.try_counting.new.caller 1 c.args.addr Read c.try_counting.result s.ensures.front_len c.try_counting.ensures.tried) in
+    let old = subst (λ (l : List CallerView). OfCaller 1 l (set s.result.0.now 0 c.try_counting.new.writer ++ set s.result.1.now 0 c.try_counting.new.caller) (λ before after. IsTried c.args.space.now.seats before 1 c.args.addr Read c.try_counting.result after)) (sym s.ensures.value)
+    (second_tried c.args.space.now.seats s.result.0.now s.result.1.now c.try_counting.new.writer c.index-others-0.result c.try_counting.new.caller 1 c.args.addr Read c.try_counting.result s.ensures.front_len c.try_counting.ensures.tried) in
     record {
       crew = two_back _ _ s.result.0.now s.result.1.now c.index-first-0.result c.try_counting.new.writer c.index-others-0.result c.try_counting.new.caller s.ensures.front_len crew c.requires.two c.try_counting.ensures.writer c.try_counting.ensures.caller;
       tried = old;

@@ -20,5 +20,5 @@ returns c =
     let is : d ≡ slice_index_or c.args.callers.now 0 d = search rules in
     record {
       crew = first_back c.args.space.now.table c.args.space.now.seats c.args.callers.now d c.try_alone.new.caller c.requires.crew is (subst (λ (v : CallerView). IsIdleAgain v c.try_alone.new.caller) (sym is) c.try_alone.ensures.caller);
-      tried = first_is c.args.callers.now d c.try_alone.new.caller (λ before after. IsTried before 1 c.args.addr Read c.try_alone.result after) c.try_alone.ensures.tried;
+      tried = first_is c.args.callers.now d c.try_alone.new.caller (λ before after. IsTried c.args.space.now.seats before 1 c.args.addr Read c.try_alone.result after) c.try_alone.ensures.tried;
     }

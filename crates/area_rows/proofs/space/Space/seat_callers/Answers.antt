@@ -4,7 +4,7 @@ use Rattle.range_rw.specs.Contract.{Known}
 use Rattle.std.proofs.lemmas.List.Edits.{length-remove}
 use Rattle.area_rows.specs.declared.guard.Pass.{Pass}
 use Rattle.area_rows.specs.Callers.{new_pass}
-use Rattle.area_rows.proofs.Beginning.{next_seat, seats_on, one_caller, new_caller}
+use Rattle.area_rows.proofs.Beginning.{first_seats, next_seat, seats_on, one_caller, new_caller}
 use Rattle.area_rows.specs.Parts.{none_is}
 use Rattle.area_rows.proofs.space.Space.seat_callers.Goals as goal
 
@@ -22,6 +22,9 @@ invariant_of-push_reserved c =
       λ h e. absurd (none_is h (sym (ap (λ (x : Known Pass). x.held) s) ∙ e)),
       λ _. ap (λ (x : Known Pass). x.pass.pending) s,
     )
+
+pub seats-init : goal.seats-init
+seats-init c = record { room = search rules; count = search rules; sum = search rules; new = search rules; rest = first_seats c.args.table.now.table (new_pass c.args.start.now) c.args.seats.items c.requires.seats }
 
 pub seats-preserved : goal.seats-preserved
 seats-preserved c =

@@ -1,7 +1,14 @@
-use Rattle.std.proofs.Common.{◌∙◌, ap}
+use Rattle.std.proofs.Common.{◌∙◌, ap, subst, ℕ}
+use Rattle.std.specs.Prelude.{IfErr, ◌↔◌}
+use Rattle.range_rw.specs.Contract.{Known, Shape, IsLongRefusal, IsSpentIn}
 use Rattle.area_rows.specs.declared.guard.Pass.{Pass}
 use Rattle.area_rows.specs.Callers.{CallerView}
 use Rattle.area_rows.proofs.space.Space.try_acquire.Goals as goal
 
 pub returns-clause-rest : goal.returns-clause-rest
 returns-clause-rest g c = ap (λ (p : Pass). p.pending) c.try_acquire.ensures.call.pass ∙ c.caller.invariant.8 (ap (λ (v : CallerView). v.seat.held) c.caller.view_is ∙ c.requires.free)
+
+pub returns-clause-long : goal.returns-clause-long
+returns-clause-long g c =
+    subst (λ (z : ℕ × Known Pass). IfErr c.try_acquire.result (λ why. IsLongRefusal why ↔ IsSpentIn z.0 z.1 c.try_acquire.new.seat))
+    (λ i. (ap (λ (t : Shape). t.seats) c.self.view_is i, ap (λ (v : CallerView). v.seat) c.caller.view_is i)) c.try_acquire.ensures.long

@@ -1,0 +1,4 @@
+use Rattle.area_rows.proofs.space.Space.scan.Given as goal
+
+abbrev pub ghosts-begin_scan : goal.ghosts-begin_scan
+ghosts-begin_scan a = record { name = a.blank.name; parts = a.blank.parts }
