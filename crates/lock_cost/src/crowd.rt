@@ -1,31 +1,75 @@
-//! The least time of many rounds in which each seat of a table has a thread, and all of them want the one range. What a
-//! turn costs then is mostly waiting: for the range, and for the cache line of the turn word.
-use lock_trials::{add_all, open_tally};
+//! The least time of many rounds in which each seat of a table has a thread. Where all of them want one range, a turn
+//! is mostly waiting for it; where each wants a range of its own, nobody has to wait, and what a turn costs more than
+//! alone is for the words that all threads change, and for the walk past the others' nodes.
+ghost use Rattle.std.specs.Prelude.{◌≡◌, None};
+ghost use Rattle.range_rw.specs.Contract.{AreIdleSeats, IsGivenBack};
+
+use crate::turns::hold_turns;
+use lock_core::{FreeGuard, Range};
+use range_rw::{RangeTable, Seat};
 use std::alloc::Global;
-use std::io;
 use std::sync::Wait;
 use std::thread::Threads;
 use std::time::{Clock, Instant};
+use std::{io, thread};
 
 /// How many rounds are measured.
 pub const CROWD_ROUNDS: u32 = 5;
 
-/// How many turns each thread has in a round.
-pub const CROWD_TURNS: u32 = 1_000;
+/// Which ranges the threads want.
+#[derive(Clone, Copy, Debug, PartialEq, Eq)]
+pub enum Wants {
+    /// All of them the one range 0 to 1.
+    One,
+    /// Each a range of its own, and no two of these have a number in common.
+    Own,
+}
 
-/// The least time of a round in which so many threads each add to a word under one range.
+/// The range that the thread at a place wants.
+fn range_for(wants: Wants, place: usize) -> Range {
+    let lo = match wants {
+        Wants::One => 0,
+        Wants::Own => place as u64 % 16,
+    };
+    let Ok(range) = Range::of(lo, lo + 1) else {
+        unreachable!()
+    };
+    range
+}
+
+/// Each seat holds its range as a writer so many times, each on a thread of its own.
+fn hold_all<R: Threads + Wait + Sync>(
+    rt: &R,
+    table: &RangeTable<FreeGuard>,
+    seats: &mut [Seat<FreeGuard>],
+    wants: Wants,
+    turns: u32,
+)
+    requires idle { AreIdleSeats table.now.table seats.old }
+    ensures idle { AreIdleSeats table.now.table seats.new }
+{
+    let turn = |place: usize, seat: &mut Seat<FreeGuard>|
+        requires { (seat.now.table ≡ table.now.table) × (seat.now.held ≡ None) }
+        ensures { IsGivenBack seat.entry.now seat.exit.now }
+    { hold_turns(rt, table, seat, range_for(wants, place), turns) };
+    thread::for_each_mut(rt, seats, 16, &turn);
+}
+
+/// The least time of a round in which so many threads hold their ranges so many times each.
 pub fn least_of_crowd<R: Threads + Wait + Clock + Sync>(
     rt: &R,
     alloc: Global,
     seats: u32,
+    wants: Wants,
+    turns: u32,
 ) -> io::Result<u128> {
     let mut least = u128::MAX;
     for _ in 0..CROWD_ROUNDS {
-        let Ok((table, mut all)) = open_tally(alloc, seats, 0) else {
+        let Ok((table, mut all)) = RangeTable::<FreeGuard>::open(alloc, seats, &[]) else {
             return Err(io::Error::from(io::ErrorKind::OutOfMemory));
         };
         let start = Instant::now(rt)?;
-        add_all(rt, &table, all.as_mut_slice(), CROWD_TURNS);
+        hold_all(rt, &table, all.as_mut_slice(), wants, turns);
         least = least.min(start.elapsed(rt)?.as_nanos());
     }
     Ok(least)

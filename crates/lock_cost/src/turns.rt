@@ -1,7 +1,7 @@
 //! Turns that hold a range and give it back at once, with nothing between. A number of turns ends by itself and
 //! leaves the seat with no range.
 ghost use Rattle.std.specs.Prelude.{◌≡◌, ◌+◌, ◌<◌, ◌≤◌, None, IfOk, IfErr};
-ghost use Rattle.range_rw.specs.Contract.{IsOpenFault, new_seat};
+ghost use Rattle.range_rw.specs.Contract.{IsGivenBack, IsOpenFault, new_seat};
 
 use lock_core::{FreeGuard, Mode, Range};
 use range_rw::{OpenFault, RangeTable, Seat};
@@ -34,8 +34,7 @@ pub fn hold_turns<R: Wait>(
 )
     requires table { seat.old.table ≡ table.now.table }
     requires free { seat.old.held ≡ None }
-    ensures table { seat.new.table ≡ seat.old.table }
-    ensures free { seat.new.held ≡ None }
+    ensures back { IsGivenBack seat.old seat.new }
     ensures made { seat.old.trace.taken + turns ≤ seat.new.trace.taken }
 {
     for _ in 0..turns {

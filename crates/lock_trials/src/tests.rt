@@ -1,12 +1,15 @@
-//! Worked cases of the board, and threads that meet at one table. Each test ends by a stated number of turns; what it
-//! expects is reckoned by hand, never taken from the program.
-use crate::{both, in_order, open_tally, open_turnstile, tally_of, visit_all};
+//! Worked tries, and threads that meet at one table. Each test ends by a stated number of turns; what it expects is
+//! reckoned by hand, never taken from the program.
+use crate::{
+    PAGES, alone, both, cross_all, hold_times, in_order, open_tally, open_turnstile, tally_of,
+    visit_all,
+};
 use lock_core::{FreeGuard, Mode, Range};
-use range_rw::{NotHeld, OpenFault, RangeTable};
+use range_rw::{NotHeld, OpenFault, RangeTable, Stuck};
 use std::sync::atomic::{AtomicU64, Ordering};
 
 #[test]
-fn tries_on_the_board_answer_as_worked_by_hand(rt: HostRuntime) {
+fn tries_answer_as_worked_by_hand(rt: HostRuntime) {
     let alloc = rt.alloc();
     let (table, seats) = RangeTable::<FreeGuard>::open(alloc, 2, &[7]).expect(&rt, "memory");
     let (mut a, mut b) = both(&table, seats);
@@ -64,4 +67,62 @@ fn four_threads_never_see_a_writer_inside(rt: HostRuntime) {
         panic!(rt; "memory");
     };
     assert_eq!(rt; words.as_slice(), [0].as_slice());
+}
+
+#[test]
+fn a_seat_alone_is_granted_each_of_forty_tries(rt: HostRuntime) {
+    let alloc = rt.alloc();
+    let (table, seats) = RangeTable::<FreeGuard>::open(alloc, 1, &[]).expect(&rt, "memory");
+    let mut seat = alone(&table, seats);
+    let range = Range::of(0, 1).expect(&rt, "a range");
+    assert_eq!(rt; hold_times(&table, &mut seat, range, Mode::Writer, 40), 40);
+}
+
+#[test]
+fn sixteen_threads_meet_nobody_in_their_pages(rt: HostRuntime) {
+    let alloc = rt.alloc();
+    let counts = [0u64; PAGES as usize];
+    let (table, mut seats) = RangeTable::<FreeGuard>::open(alloc, 16, &counts).expect(
+        &rt, "memory",
+    );
+    let met = AtomicU64::new(0);
+    cross_all(&rt, &table, seats.as_mut_slice(), 200, &met);
+    assert_eq!(rt; met.load(Ordering::SeqCst), 0);
+    let Ok(words) = table.close(alloc, seats) else {
+        panic!(rt; "memory");
+    };
+    assert_eq!(rt; words.as_slice(), counts.as_slice());
+}
+
+#[test]
+fn a_used_node_waits_for_an_open_scan(rt: HostRuntime) {
+    let alloc = rt.alloc();
+    let (table, seats) = RangeTable::<FreeGuard>::open(alloc, 2, &[]).expect(&rt, "memory");
+    let (mut a, mut b) = both(&table, seats);
+    let range = Range::of(0, 1).expect(&rt, "a range");
+    let scan = table.scan(&mut b);
+    assert_eq!(rt; hold_times(&table, &mut a, range, Mode::Reader, 16), 16);
+    let inside = NotHeld::NoNode(Stuck::Inside { seat: 1, epoch: 1 });
+    let refused = table.try_once(&mut a, range, Mode::Reader);
+    assert_eq!(rt; refused, Err(inside));
+    scan.end();
+    assert_eq!(rt; hold_times(&table, &mut a, range, Mode::Reader, 1), 1);
+}
+
+/// The scan is the first operation of seat 1 that enters its epoch, as the refusal of seat 0 tells: so each of the
+/// sixteen tries before it took a node, filled it and linked it at once, in five steps, and each release unlinked it
+/// and gave it home, in two.
+#[test]
+fn sixteen_tries_at_an_empty_list_enter_no_epoch(rt: HostRuntime) {
+    let alloc = rt.alloc();
+    let (table, seats) = RangeTable::<FreeGuard>::open(alloc, 2, &[]).expect(&rt, "memory");
+    let (mut a, mut b) = both(&table, seats);
+    let range = Range::of(0, 1).expect(&rt, "a range");
+    assert_eq!(rt; hold_times(&table, &mut b, range, Mode::Writer, 16), 16);
+    let scan = table.scan(&mut b);
+    assert_eq!(rt; hold_times(&table, &mut a, range, Mode::Writer, 16), 16);
+    let inside = NotHeld::NoNode(Stuck::Inside { seat: 1, epoch: 1 });
+    let refused = table.try_once(&mut a, range, Mode::Writer);
+    assert_eq!(rt; refused, Err(inside));
+    scan.end();
 }

@@ -5,6 +5,7 @@ use Rattle.lock_cost.proofs.turns.hold_turns.Given as goal
 abbrev pub invariant-loop : goal.invariant-loop
 invariant-loop g l = record {
   table : l.seat.table ≡ l.initial.seat.table;
+  number : l.seat.number ≡ l.initial.seat.number;
   held : l.seat.held ≡ None;
   made : l.initial.seat.trace.taken + l.counter ≤ l.seat.trace.taken;
 }

@@ -1,0 +1,10 @@
+use Rattle.std.proofs.Common.{◌≡◌}
+use Rattle.std.specs.Prelude.{None}
+use Rattle.lock_trials.proofs.pages.cross_turns.Given as goal
+
+abbrev pub invariant-loop : goal.invariant-loop
+invariant-loop g l = record {
+  table : l.seat.table ≡ l.initial.seat.table;
+  number : l.seat.number ≡ l.initial.seat.number;
+  held : l.seat.held ≡ None;
+}

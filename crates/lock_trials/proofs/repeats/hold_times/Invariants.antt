@@ -1,0 +1,11 @@
+use Rattle.std.proofs.Common.{◌≡◌, ◌≤◌}
+use Rattle.std.specs.Prelude.{None}
+use Rattle.lock_trials.proofs.repeats.hold_times.Given as goal
+
+abbrev pub invariant-loop : goal.invariant-loop
+invariant-loop l = record {
+  table : l.seat.table ≡ l.initial.seat.table;
+  number : l.seat.number ≡ l.initial.seat.number;
+  held : l.seat.held ≡ None;
+  most : l.held ≤ l.counter;
+}
