@@ -14,3 +14,4 @@ pub mod DealtLemmas
 pub mod OneWorker
 pub mod CommandLemmas
 pub mod LoadLemmas
+pub mod CleanLemmas

@@ -13,3 +13,4 @@ pub mod Script
 pub mod Laws
 pub mod Commands
 pub mod Load
+pub mod Clean

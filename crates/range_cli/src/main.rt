@@ -3,6 +3,9 @@
 //! said on it. This file ties it to the process: its words, its standard streams and its exit status.
 #![tactic(auto)]
 
+mod clean;
+#[cfg(test)]
+mod clean_tests;
 #[cfg(test)]
 mod command_tests;
 mod commands;

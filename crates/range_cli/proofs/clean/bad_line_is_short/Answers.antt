@@ -1,0 +1,5 @@
+use Rattle.range_cli.proofs.CleanLemmas.{short_bad_line}
+use Rattle.range_cli.proofs.clean.bad_line_is_short.Goals as goal
+
+pub returns : goal.returns
+returns c = short_bad_line c.args.line c.args.column c.args.what c.ranges.line.fits c.ranges.column.fits
