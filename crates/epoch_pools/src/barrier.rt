@@ -11,7 +11,7 @@ ghost use Rattle.epoch_pools.specs.Taking.{IsFree, IsPoolCall, IsLooking, IsHome
 use crate::hand::Hand;
 use crate::list::List;
 use crate::stuck::{Stuck, Taken};
-use lock_core::{Guard, NODES, Step, View, is_enabled};
+use lock_core::{Guard, NODES, Step, View, enabled_op};
 use std::sync::ledger::Ledger;
 use word_rows::Steps;
 
@@ -92,9 +92,10 @@ impl<G: Guard> Hand<G> {
         ensures counted { steps.new + self.old.part.trace.taken ≡ steps.old + self.new.part.trace.taken }
     {
         let step = Step::ReadHome { node };
-        if is_enabled(self.seats(), self.number(), self.view(), step) {
-            self.make(list, step, steps);
-        }
+        let Some(op) = enabled_op(self.seats(), self.number(), self.view(), step) else {
+            return;
+        };
+        self.make_with(list, step, op, steps);
     }
 
     /// Looks at the home words of all used nodes, the lowest node first. Where the hand is alone, those that came home

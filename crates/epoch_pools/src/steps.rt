@@ -2,26 +2,29 @@
 //! on one word, and the view afterwards. A reader may rely on the view after being that of the step's line in the step
 //! table, and on a range that is given back leaving the guard's pass rested.
 ghost use Rattle.std.specs.Prelude.{◌≡◌, ◌+◌, ◌<◌, ℕ};
-ghost use Rattle.lock_core.specs.Operations.{IsStoring};
-ghost use Rattle.epoch_pools.specs.Running.{Enables, MayRest, part_after, Told};
+ghost use Rattle.lock_core.specs.Words.{word_count};
+ghost use Rattle.lock_core.specs.Operations.{IsOp, IsStoring};
+ghost use Rattle.epoch_pools.specs.Running.{Enables, MayRest, line_for, part_after, Told};
 ghost use Rattle.epoch_pools.specs.Hands.{IsListStep};
 
 use crate::hand::Hand;
 use crate::list::List;
 use crate::plays::Doing;
-use lock_core::{Guard, Step, follow, op_of};
+use lock_core::{Guard, Op, Step, follow, op_of};
 use std::marker::Brand;
 use std::sync::ledger::Ledger;
 use word_rows::Steps;
 
 impl<G: Guard> Hand<G> {
     #[inline(always)]
-    fn make_at<D: Doing>(&mut self, list: &List<G>, step: Step) -> u64
+    fn make_at<D: Doing>(&mut self, list: &List<G>, step: Step, op: Op) -> u64
         requires doing { D.doing ≡ step }
         requires seats { D.seats ≡ list.now.seats }
         requires table { self.old.table ≡ list.now.table }
         requires enabled { Enables self.old.part step }
         requires rest { MayRest G.is_at_rest self.old.part step }
+        requires op { IsOp step (line_for self.old.part step) op }
+        requires place { op.place < word_count self.old.part.seats }
         ensures table { self.new.table ≡ self.old.table }
         ensures made { self.new.part ≡ part_after G.rested self.old.part step result }
         ensures told { Told D.seats self.old.part step result }
@@ -29,9 +32,33 @@ impl<G: Guard> Hand<G> {
     {
         let seats = self.seats();
         let number = self.number();
-        let op = op_of(seats, number, &self.view, step);
         let found = list.perform::<D>(&mut self.token, op);
         follow(seats, number, &mut self.view, step, found);
+        found
+    }
+
+    /// Makes one step of the lock with its operation, which is that of the hand's view.
+    #[inline(always)]
+    pub(crate) fn make_with<L: Ledger>(
+        &mut self,
+        list: &List<G>,
+        step: Step,
+        op: Op,
+        steps: &mut Steps<L>,
+    ) -> u64
+        requires table { self.old.table ≡ list.now.table }
+        requires enabled { Enables self.old.part step }
+        requires rest { MayRest G.is_at_rest self.old.part step }
+        requires op { IsOp step (line_for self.old.part step) op }
+        requires place { op.place < word_count self.old.part.seats }
+        ensures table { self.new.table ≡ self.old.table }
+        ensures made { self.new.part ≡ part_after G.rested self.old.part step result }
+        ensures told { Told list.now.seats self.old.part step result }
+        ensures store { IsStoring step → result ≡ 0 }
+        ensures counted { steps.new ≡ steps.old + 1 }
+    {
+        let found = self.make_at::<Brand>(list, step, op);
+        steps.tick();
         found
     }
 
@@ -52,9 +79,8 @@ impl<G: Guard> Hand<G> {
         ensures store { IsStoring step → result ≡ 0 }
         ensures counted { steps.new ≡ steps.old + 1 }
     {
-        let found = self.make_at::<Brand>(list, step);
-        steps.tick();
-        found
+        let op = op_of(self.seats(), self.number(), &self.view, step);
+        self.make_with(list, step, op, steps)
     }
 }
 

@@ -1,8 +1,10 @@
 -- Tests of a list by counts, and a list without another in parts.
-use Rattle.std.proofs.Common.{◌≡◌, ℕ, ◌+◌, Bool, true, false, List, [], ◌∷◌, ◌++◌, refl, sym, ap, ◌∙◌, arith, zero-add}
-use Rattle.std.specs.Prelude.{◌==◌, ◌||◌, not, if◌then◌else◌}
+use Rattle.std.proofs.Common.{◌≡◌, ℕ, zero, suc, ◌+◌, ◌≤◌, Bool, true, false, List, [], ◌∷◌, ◌++◌, Some, length, ◌<◌, refl, sym, ap, subst, ◌∙◌, arith, zero-add, eqb-true, eq-eqb, append_assoc}
+use Rattle.std.specs.Prelude.{◌==◌, ◌||◌, not, if◌then◌else◌, slice_get, get_or}
+use Rattle.std.specs.Bool.{OnTrue}
 use Rattle.std.specs.List.{list_any}
 use Rattle.std.proofs.lemmas.Bool.Decides.{nat_tests}
+use Rattle.std.proofs.lemmas.Option.{slice_get-get_or}
 use Rattle.view_lists.specs.Counted.{times, without}
 
 -- the test of a list for a node, by counts
@@ -21,3 +23,43 @@ without-append hs (y ∷ ys) bs = split (times y hs == 0) (without-append hs ys 
     split : (b : Bool) → without hs (ys ++ bs) ≡ without hs ys ++ without hs bs → (if b then y ∷ without hs (ys ++ bs) else without hs (ys ++ bs)) ≡ (if b then y ∷ without hs ys else without hs ys) ++ without hs bs
     split true e = ap (λ l. y ∷ l) e
     split false e = e
+
+-- a node that stands at a place is counted
+pub place_counts : (l : List ℕ) (i node : ℕ) → slice_get l i ≡ Some node → 1 ≤ times node l
+place_counts [] i node e = absurd (cc)
+place_counts (y ∷ ys) zero node e =
+    let one : ◌≡◌ {A = ℕ} (if y == node then 1 else 0) 1 = ap (λ (b : Bool). if b then 1 else 0) (eq-eqb y node cc) in omega arith
+place_counts (y ∷ ys) (suc i) node e = let more = place_counts ys i node e in omega arith
+
+-- the test of a list for a node that is counted
+pub counted_there : (n : ℕ) → 1 ≤ n → true ≡ not (n == 0)
+counted_there n e = by (n == 0) refl
+  where
+    by : (b : Bool) → (n == 0) ≡ b → true ≡ not b
+    by true z = let none = eqb-true n 0 z in absurd (omega arith)
+    by false z = refl
+
+counted_in : (front l : List ℕ) (node : ℕ) → 1 ≤ times node (front ++ node ∷ l)
+counted_in [] l node =
+    let one : ◌≡◌ {A = ℕ} (if node == node then 1 else 0) 1 = ap (λ (b : Bool). if b then 1 else 0) (eq-eqb node node refl) in omega arith
+counted_in (y ∷ front) l node = let more = counted_in front l node in omega arith
+
+-- a list without a longer one that ends as it does: nothing is left
+without_longer : (front l : List ℕ) → without (front ++ l) l ≡ []
+without_longer front [] = refl
+without_longer front (y ∷ ys) = gone (times y (front ++ y ∷ ys) == 0) refl (without_longer (front ++ y ∷ []) ys)
+  where
+    gone : (b : Bool) → (times y (front ++ y ∷ ys) == 0) ≡ b → without ((front ++ y ∷ []) ++ ys) ys ≡ [] → (if b then y ∷ without (front ++ y ∷ ys) ys else without (front ++ y ∷ ys) ys) ≡ []
+    gone true e rest = let none = eqb-true (times y (front ++ y ∷ ys)) 0 e in let some = counted_in front ys y in absurd (omega arith)
+    gone false e rest = subst (λ l. without l ys ≡ []) (append_assoc front (y ∷ []) ys) rest
+
+pub without_itself : (l : List ℕ) → without l l ≡ []
+without_itself l = without_longer [] l
+
+-- a node at its place, by the test that finds it there
+pub when_equal : (l : List ℕ) (i d there node : ℕ) → i < length l → there ≡ get_or l i d → OnTrue (there == node) (1 ≤ times node l)
+when_equal l i d there node less at = by (there == node) refl
+  where
+    by : (b : Bool) → (there == node) ≡ b → OnTrue b (1 ≤ times node l)
+    by true e = place_counts l i node (slice_get-get_or l i d less ∙ ap Some (sym at ∙ eqb-true there node e))
+    by false e = tt

@@ -1,6 +1,7 @@
 //! Nodes in order, noted epochs by seat, and flags by seat, each over a `Vec` of its own. Each is made from such a
 //! vector and gives it back without taking memory. This project's own profile.
 ghost use Rattle.std.specs.Prelude.{◌≡◌, ℕ, ◌+◌, ◌*◌, ◌<◌, ◌≤◌, ◌==◌, ◌&&◌, not, Bool, true, false, List, [], ◌∷◌, ◌++◌, length, take, drop, replicate, slice_get, slice_set, unwrap_or, IfOk, None, Some, vec_capacity};
+ghost use Rattle.std.specs.Bool.{OnTrue};
 ghost use Rattle.std.specs.List.{list_all};
 ghost use Rattle.view_lists.specs.Counted.{times, without, is_empty, are_others_passed};
 
@@ -59,11 +60,23 @@ impl Nodes {
         self.items.is_empty()
     }
 
+    /// Whether the node stands at its own place of sixteen, where it is while they all are there in order.
+    #[inline(always)]
+    fn is_in_place(&self, node: u32) -> bool
+        ensures { OnTrue result (1 ≤ times node self.now) }
+    {
+        let place = node as usize % ROOM;
+        place < self.items.len() && self.items[place] == node
+    }
+
     /// Whether the node is in the list.
     #[inline(always)]
     pub fn has(&self, node: u32) -> bool
         ensures { result ≡ not (times node self.now == 0) }
     {
+        if self.is_in_place(node) {
+            return true;
+        }
         self.items.contains(&node)
     }
 
@@ -123,6 +136,10 @@ impl Nodes {
     pub fn leave_out(&mut self, gone: &Nodes)
         ensures { self.new ≡ without gone.now self.old }
     {
+        if self.as_slice() == gone.as_slice() {
+            self.items.clear();
+            return;
+        }
         let mut i = 0;
         while i < self.items.len() {
             if gone.has(self.items[i]) {

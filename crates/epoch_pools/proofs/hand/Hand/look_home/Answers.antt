@@ -4,7 +4,7 @@ use Rattle.epoch_pools.specs.Running.{Enables}
 use Rattle.epoch_pools.proofs.Taking.{home_look}
 use Rattle.epoch_pools.proofs.hand.Hand.look_home.Goals as goal
 
-pub returns-then-is_enabled-clause-looked : goal.returns-then-is_enabled-clause-looked
-returns-then-is_enabled-clause-looked g c =
+pub returns-clause-looked : goal.returns-clause-looked
+returns-clause-looked g c =
     let may : Enables c.args.self.now.part (ReadHome c.args.node) = search rules in
-    home_look g.G.Guard.rested c.args.self.now.part c.make.new.self.part c.args.node c.make.result c.requires.free may c.make.ensures.made
+    home_look g.G.Guard.rested c.args.self.now.part c.make_with.new.self.part c.args.node c.make_with.result c.requires.free may c.make_with.ensures.made
