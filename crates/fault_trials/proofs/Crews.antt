@@ -1,8 +1,11 @@
 -- A crew read by place, before and after what was done to each caller.
-use Rattle.std.proofs.Common.{◌≡◌, ℕ, zero, suc, ◌<◌, List, [], ◌∷◌, ◌++◌, ◌≤◌, get_or, set, length, drop, ◌+◌, sym, refl, ap, ◌∙◌, subst, arith, length-set, length-append, ⊎_elim}
+use Rattle.std.proofs.Common.{◌≡◌, ℕ, zero, suc, ◌<◌, List, [], ◌∷◌, ◌++◌, ◌≤◌, get_or, set, length, take, drop, ◌+◌, sym, refl, ap, ◌∙◌, subst, arith, length-set, length-append, ⊎_elim}
 use Rattle.std.specs.Prelude.{None}
 use mathlib.Core.Option.{some, some-injective, some-ne-none}
 use lib.ListN.{get_elem?}
+use Rattle.std.proofs.lemmas.List.{append-nil}
+use Rattle.std.proofs.Math.ListN.{drop_of_length-le}
+use Rattle.std.proofs.Math.Seq.{take-length}
 use Rattle.atomic_table.specs.Seated.{TableId}
 use Rattle.atomic_table.proofs.Lists.{at_index, at_set}
 use Rattle.lock_core.proofs.ByPlace.{below, at_or, same_or}
@@ -18,7 +21,7 @@ use Rattle.page_fault.specs.declared.faults.TriedFault.{TriedFault}
 use Rattle.fault_trials.specs.Trials.{HasCalled, HaveCalled, IsIdleAgain, IsCrew, OfCaller}
 
 -- what is back is idle
-back_idle : (table : TableId) (k : ℕ) (a b : CallerView) → IsIdleAgain a b → (a.seat.table ≡ table) × (a.seat.number ≡ k) × (a.seat.held ≡ None) → (b.seat.table ≡ table) × (b.seat.number ≡ k) × (b.seat.held ≡ None)
+pub back_idle : (table : TableId) (k : ℕ) (a b : CallerView) → IsIdleAgain a b → (a.seat.table ≡ table) × (a.seat.number ≡ k) × (a.seat.held ≡ None) → (b.seat.table ≡ table) × (b.seat.number ≡ k) × (b.seat.held ≡ None)
 back_idle table k a b back i = (back.table ∙ i.0, back.number ∙ i.1, back.held)
 
 -- new callers are a crew
@@ -129,3 +132,11 @@ crew_called calls old new each k a b at_a at_b =
     let was : e.0 ≡ a = e.2 ∙ at_or old k a a at_a in
     let now : e.1 ≡ b = e.4 ∙ (at_or new k b a at_b) in
     subst (λ (z : CallerView × CallerView). HasCalled calls z.0 z.1) (λ i. (was i, now i)) e.3
+
+-- a crew that was lent as a slice of all of its callers is idle where it is handed back
+pub idle_kept : (table : TableId) (seats len : ℕ) (callers items : List CallerView) → IsCrew table seats callers → length items ≡ seats → len ≡ seats
+    → AreIdle table (take len (callers ++ drop (length callers) items))
+idle_kept table seats len callers items crew own wide =
+    let le : length items ≤ length callers = let n = crew.count in omega (arith, own, n) in
+    let whole : take len (callers ++ drop (length callers) items) ≡ callers = ap (λ n. take n (callers ++ drop (length callers) items)) (wide ∙ sym crew.count) ∙ ap (λ r. take (length callers) (callers ++ r)) (drop_of_length-le items le) ∙ ap (take (length callers)) (append-nil callers) ∙ take-length callers in
+    subst (AreIdle table) (sym whole) crew.idle

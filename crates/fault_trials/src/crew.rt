@@ -67,13 +67,22 @@ fn try_alone<L: Ledger>(space: &Space, caller: &mut Caller, addr: u64, blank: Bl
     try_fault(space, caller, 1, addr, Access::Read, &mut steps)
 }
 
+/// A caller reads a byte in one try, for line 1. It is of this space and holds nothing.
+pub fn try_read(space: &Space, caller: &mut Caller, addr: u64) -> TriedFault
+    requires caller { (caller.old.seat.table ≡ space.now.table) × (caller.old.seat.held ≡ None) }
+    ensures caller { IsIdleAgain caller.old caller.new }
+    ensures tried { IsTried space.now.seats caller.old 1 addr Read result caller.new }
+{
+    try_alone::<Brand>(space, caller, addr, Blank::new(1))
+}
+
 /// The first caller of the crew reads a byte in one try, for line 1.
 pub fn try_by(space: &Space, callers: &mut [Caller], addr: u64) -> TriedFault
     requires crew { IsCrew space.now.table space.now.seats callers.old }
     ensures crew { IsCrew space.now.table space.now.seats callers.new }
     ensures tried { OfCaller 0 callers.old callers.new (λ before after. IsTried space.now.seats before 1 addr Read result after) }
 {
-    try_alone::<Brand>(space, &mut callers[0], addr, Blank::new(1))
+    try_read(space, &mut callers[0], addr)
 }
 
 /// One caller faults in one try while another one holds a span as a writer.

@@ -1,15 +1,28 @@
 //! Worked cases of faults over a running space, and four threads on shared pages. What a test expects is reckoned by
 //! hand or by the one-thread model, never taken from the program.
+ghost use Rattle.page_types.specs.Named.{IsNamedCall};
+ghost use Rattle.fault_trials.specs.Trials.{IsCrew};
 
-use crate::{Work, open_crew, try_beside, work_all};
-use area_rows::SpaceFault;
+use crate::{Work, call_by, open_crew, try_beside, work_all};
+use area_rows::{Answer, Caller, Space, SpaceFault};
 use lock_core::{Mode, Range};
 use page_fault::TriedFault;
-use page_types::{Kind, PAGE, Prot, Reply, Span, Why};
+use page_types::{Access, Call, Kind, PAGE, Prot, Reply, Span, Why};
 use range_rw::NotHeld;
-use space_model::{Area, PlainSpace, have_named_calls, have_named_kinds, legal};
+use space_model::{Area, PlainSpace, Under, have_named_calls, have_named_kinds, legal};
+use std::sync::Wait;
 
-/// The pages 16 and 17, which may be read, shared.
+/// The pages 16 and 17, which may be read.
+const PRIVATE: Area = Area {
+    lo: 16,
+    hi: 18,
+    kind: Kind {
+        prot: Prot::READ,
+        shared: false,
+    },
+};
+
+/// The same pages, shared.
 const SHARED: Area = Area {
     lo: 16,
     hi: 18,
@@ -31,6 +44,50 @@ fn a_space_has_from_one_to_sixteen_callers(rt: HostRuntime) {
     }
     let text = format!(in rt.alloc(); "{}", SpaceFault::Callers(17)).expect(&rt, "memory");
     assert_eq!(rt; text.as_str(), "17 callers, where 1 to 16 may be");
+}
+
+#[test]
+fn faults_answer_as_worked_by_hand(rt: HostRuntime) {
+    let alloc = rt.alloc();
+    let start = PlainSpace::of_areas(alloc, &[PRIVATE]).expect(&rt, "an area list");
+    let kind = PRIVATE.kind;
+    let (space, mut callers) = open_crew(alloc, &[4], &start).expect(&rt, "memory");
+    let cases = [
+        (0x10000, Access::Read, Reply::Granted(kind), 16),
+        (0x11fff, Access::Read, Reply::Granted(kind), 17),
+        (0x12000, Access::Read, Reply::Refused(Why::MapErr(18)), 18),
+        (
+            0x10000,
+            Access::Write,
+            Reply::Refused(Why::AccErr(16, kind)),
+            16,
+        ),
+    ];
+    for (addr, access, reply, page) in cases {
+        let call = Call::Fault { addr, access };
+        let Answer::Given(entry) = call_by(&rt, &space, callers.as_mut_slice(), 7, call) else {
+            panic!(rt; "no number left");
+        };
+        assert_eq!(rt; entry.reply, reply);
+        assert_eq!(rt; entry.line, 7);
+        match entry.under {
+            Under::Reader(span) => assert_eq!(rt; (span.lo(), span.hi()), (page, page + 1)),
+            _ => panic!(rt; "the page wasn't held"),
+        }
+    }
+    let call = Call::Fault {
+        addr: 0,
+        access: Access::Read,
+    };
+    assert_eq!(rt;
+        call_by(&rt, &space, callers.as_mut_slice(), 7, call),
+        Answer::Spent
+    );
+    let Ok(closed) = space.close(alloc, callers) else {
+        panic!(rt; "memory");
+    };
+    assert_eq!(rt; closed.areas(), [PRIVATE].as_slice());
+    assert_eq!(rt; closed.entries().len(), 4);
 }
 
 #[test]
@@ -84,6 +141,56 @@ fn a_start_of_4097_rows_is_too_large(rt: HostRuntime) {
         Ok(_) => panic!(rt; "a space of 4097 rows"),
         Err(refusal) => assert_eq!(rt; refusal, SpaceFault::Rows(4097)),
     }
+}
+
+/// The first caller's two answers to a call on line 1 and the same call on line 2.
+fn call_twice<R: Wait>(
+    rt: &R,
+    space: &Space,
+    callers: &mut [Caller],
+    call: Call,
+) -> (Answer, Answer)
+    requires crew { IsCrew space.now.table space.now.seats callers.old }
+    requires named { IsNamedCall call }
+    ensures crew { IsCrew space.now.table space.now.seats callers.new }
+{
+    let first = call_by(rt, space, callers, 1, call);
+    let second = call_by(rt, space, callers, 2, call);
+    (first, second)
+}
+
+#[test]
+fn a_caller_with_one_number_faults_once(rt: HostRuntime) {
+    let alloc = rt.alloc();
+    let start = PlainSpace::new(alloc);
+    let (space, mut callers) = open_crew(alloc, &[1], &start).expect(&rt, "memory");
+    let call = Call::Fault {
+        addr: 0x10000,
+        access: Access::Read,
+    };
+    let (first, second) = call_twice(&rt, &space, callers.as_mut_slice(), call);
+    let Answer::Given(entry) = first else {
+        panic!(rt; "no number left");
+    };
+    assert_eq!(rt; entry.reply, Reply::Refused(Why::MapErr(16)));
+    assert_eq!(rt; second, Answer::Spent);
+    let Ok(closed) = space.close(alloc, callers) else {
+        panic!(rt; "memory");
+    };
+    assert!(rt; closed.areas().is_empty());
+    assert_eq!(rt; closed.entries(), [entry].as_slice());
+    assert!(rt; have_named_calls(closed.entries()));
+    let illegal = legal(alloc, &start, closed.entries()).expect(&rt, "memory");
+    assert_eq!(rt; illegal, None);
+    let mut wrong = entry;
+    wrong.reply = Reply::Granted(Kind {
+        prot: Prot::READ,
+        shared: false,
+    });
+    let wrong = [wrong];
+    assert!(rt; have_named_calls(&wrong));
+    let illegal = legal(alloc, &start, &wrong).expect(&rt, "memory");
+    assert_eq!(rt; illegal, Some(0));
 }
 
 #[test]

@@ -7,18 +7,18 @@ use Rattle.area_rows.specs.Callers.{CallerView}
 use Rattle.fault_trials.proofs.Crews.{first_of, first_back, first_is}
 use Rattle.fault_trials.proofs.crew.try_by.Goals as goal
 
-pub try_alone-requires-clause-caller : goal.try_alone-requires-clause-caller
-try_alone-requires-clause-caller c =
+pub try_read-requires : goal.try_read-requires
+try_read-requires c =
     let d = c.index-callers-0.result in
     let is : d ≡ slice_index_or c.args.callers.now 0 d = search rules in
     let f = first_of c.args.space.now.table c.args.space.now.seats c.args.callers.now d c.requires.crew is in
-    subst (λ (v : CallerView). (v.seat.table ≡ c.args.space.now.table) × (v.seat.held ≡ None)) is (f.0, f.2)
+    record { caller = subst (λ (v : CallerView). (v.seat.table ≡ c.args.space.now.table) × (v.seat.held ≡ None)) is (f.0, f.2) }
 
 pub returns : goal.returns
 returns c =
     let d = c.index-callers-0.result in
     let is : d ≡ slice_index_or c.args.callers.now 0 d = search rules in
     record {
-      crew = first_back c.args.space.now.table c.args.space.now.seats c.args.callers.now d c.try_alone.new.caller c.requires.crew is (subst (λ (v : CallerView). IsIdleAgain v c.try_alone.new.caller) (sym is) c.try_alone.ensures.caller);
-      tried = first_is c.args.callers.now d c.try_alone.new.caller (λ before after. IsTried c.args.space.now.seats before 1 c.args.addr Read c.try_alone.result after) c.try_alone.ensures.tried;
+      crew = first_back c.args.space.now.table c.args.space.now.seats c.args.callers.now d c.try_read.new.caller c.requires.crew is (subst (λ (v : CallerView). IsIdleAgain v c.try_read.new.caller) (sym is) c.try_read.ensures.caller);
+      tried = first_is c.args.callers.now d c.try_read.new.caller (λ before after. IsTried c.args.space.now.seats before 1 c.args.addr Read c.try_read.result after) c.try_read.ensures.tried;
     }

@@ -1,0 +1,11 @@
+use Rattle.std.proofs.Common.{rules, ◌≡◌, length, ◌∙◌}
+use Rattle.fault_trials.specs.Trials.{IsCrew}
+use Rattle.fault_trials.proofs.Crews.{idle_kept}
+use Rattle.fault_trials.proofs.tests.a_caller_with_one_number_faults_once.Goals as goal
+
+pub close-requires-clause-idle : goal.close-requires-clause-idle
+close-requires-clause-idle g c =
+    let before : IsCrew c.expect-space.result.0.table c.expect-space.result.0.seats c.expect-space.result.1.items = search rules in
+    let after : IsCrew c.expect-space.result.0.table c.expect-space.result.0.seats c.call_twice-first.new.callers = search rules in
+    let same : c.expect-space.result.1.len ≡ length c.expect-space.result.1.items = search rules in
+    idle_kept _ _ c.expect-space.result.1.len c.call_twice-first.new.callers c.expect-space.result.1.items after before.count (same ∙ before.count)
