@@ -1,0 +1,5 @@
+pub mod AsBox
+pub mod Lifting
+pub mod Refusals
+pub mod Rows
+pub mod Tries

@@ -1,0 +1,66 @@
+-- What is so of each element of a list, by its place, is so of its last and of the others. A seat that is taken from
+-- the end of the row of those that are left to share is new, and the others stay so; put back, the row is as it was.
+use Rattle.std.proofs.Common.{◌≡◌, ℕ, ◌+◌, ◌≤◌, ◌^◌, ◌∙◌, List, [], ◌∷◌, ◌++◌, length, sym, refl, ap, subst}
+use Rattle.std.proofs.lemmas.List.{length-append}
+use mathlib.Core.Option.{some}
+use lib.ListN.{get_elem?}
+use Rattle.atomic_table.specs.Seated.{TableId}
+use Rattle.atomic_table.proofs.Lists.{at_last, at_longer}
+use Rattle.range_rw.specs.Contract.{Known, IsSeatCount, AreNewSeats, new_seat}
+use Rattle.range_c.specs.Behind.{Behind, IsNewBehind, IsShared}
+
+abbrev pub AllAt : {A : Type 0} → (ℕ → A → Type 0) → List A → Type 0
+AllAt {A} P l = (k : ℕ) (a : A) → get_elem? l k ≡ some a → P k a
+
+pub popped : {A : Type 0} (P : ℕ → A → Type 0) (old new : List A) (a : A) → old ≡ new ++ a ∷ [] → AllAt P old → P (length new) a × AllAt P new
+popped P old new a e all = (
+  all (length new) a (subst (λ l. get_elem? l (length new) ≡ some a) (sym e) (at_last new a (length new) refl)),
+  λ k b at. all k b (subst (λ l. get_elem? l k ≡ some b) (sym e) (at_longer new (a ∷ []) k b at)),
+)
+
+pub longer : {A : Type 0} (old new : List A) (a : A) → old ≡ new ++ a ∷ [] → length new + 1 ≡ length old
+longer old new a e = sym (ap length e ∙ length-append new (a ∷ []))
+
+abbrev pub Row : Type 0
+Row = List (Known (Unit {0}))
+
+abbrev pub behind : Known (Unit {0}) → ℕ → ℕ → ℕ → Behind
+behind seat spare words seats = record { seat = seat; spare = spare; words = words; seats = seats }
+
+-- the seat that is taken from the end
+pub taken : (t : TableId) (old new : Row) (s : Known (Unit {0})) → old ≡ new ++ s ∷ [] → AreNewSeats t (λ _. tt) old → (s ≡ new_seat t (λ _. tt) (length new)) × AreNewSeats t (λ _. tt) new
+taken t old new s e all = popped (λ k (x : Known (Unit {0})). x ≡ new_seat t (λ _. tt) k) old new s e all
+
+-- a seat put back at the end
+pub put_back : (old new again : Row) (s x : Known (Unit {0})) → old ≡ new ++ s ∷ [] → x ≡ s → again ≡ new ++ x ∷ [] → again ≡ old
+put_back old new again s x e is f = f ∙ (ap (λ y. new ++ y ∷ []) is ∙ sym e)
+
+own_table : (t : TableId) (k : ℕ) (s : Known (Unit {0})) → s ≡ new_seat t (λ _. tt) k → s ≡ new_seat s.table (λ _. tt) k
+own_table t k s e = subst (λ x. s ≡ new_seat x (λ _. tt) k) (sym (ap (λ (x : Known (Unit {0})). x.table) e)) e
+
+-- what is behind the first handle of a new table
+pub opens : (t : TableId) (seats count n : ℕ) (old new : Row) (s : Known (Unit {0})) (b : Behind) → IsSeatCount seats → count ≤ 2 ^ 20 → length old ≡ seats → old ≡ new ++ s ∷ []
+    → AreNewSeats t (λ _. tt) old → n ≡ seats → b ≡ behind s (length new) count n → IsNewBehind seats count b
+opens t seats count n old new s b counted most len e all same is = subst (λ x. IsNewBehind seats count x) (sym is) (record {
+  seat_count = counted;
+  word_count = most;
+  spare = longer old new s e ∙ len;
+  seat = own_table t (length new) s (taken t old new s e all).0;
+  words = refl;
+  table_seats = same;
+})
+
+-- what is behind a handle that shares, and behind the new one
+pub shares : (t : TableId) (old new rest : Row) (mine s : Known (Unit {0})) (words seats : ℕ) (before b : Behind) → behind mine (length old) words seats ≡ before → mine.table ≡ t
+    → old ≡ new ++ s ∷ [] → AreNewSeats t (λ _. tt) old → length rest ≡ 0 → b ≡ behind s (length rest) words seats
+    → IsShared before (behind mine (length new) words seats) b
+shares t old new rest mine s words seats before b was table e all none is =
+    let now = behind mine (length new) words seats in
+    subst (λ x. IsShared x now b) was (subst (λ x. IsShared (behind mine (length old) words seats) now x) (sym is) (record {
+      kept = refl;
+      spare = longer old new s e;
+      seat = subst (λ x. s ≡ new_seat x (λ _. tt) (length new)) (sym table) (taken t old new s e all).0;
+      none = none;
+      words = refl;
+      seats = refl;
+    }))

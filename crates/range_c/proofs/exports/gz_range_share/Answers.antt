@@ -1,0 +1,6 @@
+use Rattle.range_c.proofs.Refusals.{sharing_of_open}
+use Rattle.range_c.proofs.exports.gz_range_share.Goals as goal
+
+pub returns-then-is_open-clause-cause : goal.returns-then-is_open-clause-cause
+returns-then-is_open-clause-cause c =
+    λ _. sharing_of_open c.code.result c.args.from.now.pointer.behind c.args.handle.now.pointer.behind (c.is_open.ensures.open c.if-is_open.true) c.code.ensures

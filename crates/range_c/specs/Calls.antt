@@ -1,0 +1,51 @@
+-- What a call answers and leaves of a handle, open or closed. Each relation lifts one of `Behind` to handles; that a
+-- closed handle is told and stays closed is said here once.
+use Rattle.std.specs.Prelude.{◌≡◌, ℕ, Option, Some, None}
+use Rattle.range_c.specs.declared.answers.Answer.{Answer}
+use Rattle.range_c.specs.declared.answers.Answer.TheVariants.{Done, Closed, Open}
+use Rattle.range_c.specs.declared.state.WordStep.{WordStep}
+use Rattle.range_c.specs.Behind.{Behind, IsNewBehind, IsNotOpened, IsShared, IsUnshared, IsStepped}
+
+-- the handle is open before and after, and this is so of what is behind it
+abbrev pub Between : (Behind → Behind → Type 0) → Option Behind → Option Behind → Type 0
+Between R (Some before) (Some after) = R before after
+Between R _ _ = ⊥
+
+-- a call on a handle: where it is closed it stays so, and the answer says it; where it is open it stays open
+abbrev pub OnHandle : (Answer → Behind → Behind → Type 0) → Answer → Option Behind → Option Behind → Type 0
+OnHandle R answer None None = answer ≡ Closed
+OnHandle R answer (Some before) (Some after) = R answer before after
+OnHandle R answer _ _ = ⊥
+
+-- a step on a client word by a handle: where it is closed, what is said is what the call brought
+abbrev pub OnWord : ℕ → WordStep → ℕ → ℕ → Answer → Option Behind → Option Behind → Type 0
+OnWord i step told said answer None None = (answer ≡ Closed) × (said ≡ told)
+OnWord i step told said answer (Some before) (Some after) = IsStepped i step told said answer before after
+OnWord i step told said answer _ _ = ⊥
+
+-- a handle is over a new table
+abbrev pub IsFresh : ℕ → ℕ → Option Behind → Type 0
+IsFresh seats count (Some b) = IsNewBehind seats count b
+IsFresh seats count None = ⊥
+
+-- why no table was opened behind a handle
+abbrev pub IsOpenRefusal : ℕ → ℕ → Option Behind → Answer → Type 0
+IsOpenRefusal seats count (Some b) why = why ≡ Open
+IsOpenRefusal seats count None why = IsNotOpened seats count why
+
+-- a handle was given a seat of another one's table
+abbrev pub HandleShared : Option Behind → Option Behind → Option Behind → Type 0
+HandleShared (Some before) (Some after) (Some new) = IsShared before after new
+HandleShared _ _ _ = ⊥
+
+-- why no seat was given: the handle that was to get it is open, or the other one is closed, or has none left, or there
+-- was no memory
+abbrev pub IsShareRefusal : Option Behind → Option Behind → Answer → Type 0
+IsShareRefusal from (Some b) why = why ≡ Open
+IsShareRefusal None None why = why ≡ Closed
+IsShareRefusal (Some b) None why = IsUnshared b.spare why
+
+-- what an ending answers: whether there was anything to end
+abbrev pub IsEnd : Option Behind → Answer → Type 0
+IsEnd None answer = answer ≡ Closed
+IsEnd (Some b) answer = answer ≡ Done

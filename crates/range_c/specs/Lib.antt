@@ -1,0 +1,6 @@
+pub mod Behind
+pub mod Calls
+pub mod Codes
+pub mod Handles
+pub use Rattle.lock_core.specs.Client
+pub use Rattle.range_rw.specs.Contract

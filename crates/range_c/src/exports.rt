@@ -1,0 +1,186 @@
+//! What C calls. Each export answers a code of `specs/Codes.antt`, and its contract says the cause of each. A reader
+//! may rely on a handle staying as it was, and on nothing else being written, where the answer is a refusal.
+ghost use Rattle.std.specs.Prelude.{◌≡◌, ◌<◌, ℕ, Some, None, length};
+ghost use Rattle.range_c.specs.declared.state.WordStep.TheVariants.{Load, Store, Add, Exchange};
+ghost use Rattle.range_c.specs.Behind.{IsTried, IsReleased};
+ghost use Rattle.range_c.specs.Codes.{Says, shown_of};
+ghost use Rattle.range_c.specs.Calls.{OnHandle, OnWord, IsFresh, IsOpenRefusal, HandleShared, IsShareRefusal, IsEnd};
+
+use crate::answers::{Answer, GzBusy};
+use crate::calls::{WordCall, release_by, share_by, step_by, try_by};
+use crate::handle::GzRange;
+use crate::opening::open_table;
+use crate::state::{Asked, State, WordStep};
+use core::mem::replace;
+use std::alloc::Global;
+
+/// Puts an open handle over a box in the place of a closed one.
+fn open_over(handle: &mut GzRange, b: Box<State, Global>)
+    requires closed { handle.old.pointer.behind ≡ None }
+    ensures open { handle.new.pointer.behind ≡ Some b.value }
+{
+    let closed = replace(handle, GzRange::over(b));
+    closed.forget();
+}
+
+/// Opens a table of so many seats, from 1 to 16, over copies of these client words, at most 2^20, behind a handle that
+/// is closed. Its seat has the highest number.
+#[unsafe(no_mangle)]
+pub extern "C" fn gz_range_open(
+    alloc: Global,
+    seats: u32,
+    words: &[u64],
+    handle: &mut GzRange,
+) -> u32
+    ensures opened { result ≡ 0 → (handle.old.pointer.behind ≡ None) × IsFresh seats (length words.now) handle.new.pointer.behind }
+    ensures refused { 0 < result → handle.new.pointer.behind ≡ handle.old.pointer.behind }
+    ensures cause { 0 < result → Says (IsOpenRefusal seats (length words.now) handle.old.pointer.behind) result }
+{
+    if handle.is_open() {
+        return Answer::Open.code();
+    }
+    match open_table(alloc, seats, words) {
+        Ok(b) => {
+            open_over(handle, b);
+            0
+        }
+        Err(why) => why.code(),
+    }
+}
+
+/// Gives a handle that is closed a seat of its own in the table of an open one.
+#[unsafe(no_mangle)]
+pub extern "C" fn gz_range_share(alloc: Global, from: &mut GzRange, handle: &mut GzRange) -> u32
+    ensures shared { result ≡ 0 → (handle.old.pointer.behind ≡ None) × HandleShared from.old.pointer.behind from.new.pointer.behind handle.new.pointer.behind }
+    ensures refused { 0 < result → (from.new.pointer.behind ≡ from.old.pointer.behind) × (handle.new.pointer.behind ≡ handle.old.pointer.behind) }
+    ensures cause { 0 < result → Says (IsShareRefusal from.old.pointer.behind handle.old.pointer.behind) result }
+{
+    if handle.is_open() {
+        return Answer::Open.code();
+    }
+    match share_by(from, alloc) {
+        Ok(b) => {
+            open_over(handle, b);
+            0
+        }
+        Err(why) => why.code(),
+    }
+}
+
+/// Tries at most so many times to hold the numbers from `lo` on and below `hi`, at most 2^62, as long as another seat
+/// is in the way. `busy` is what the last try met where the answer says so, and all 0 after each other answer.
+#[unsafe(no_mangle)]
+pub extern "C" fn gz_range_try(
+    handle: &mut GzRange,
+    lo: u64,
+    hi: u64,
+    writer: bool,
+    tries: u32,
+    busy: &mut GzBusy,
+) -> u32
+    ensures tried { Says (λ answer. (busy.new ≡ shown_of answer) × OnHandle (IsTried lo hi writer tries) answer handle.old.pointer.behind handle.new.pointer.behind) result }
+{
+    let asked = Asked {
+        lo,
+        hi,
+        writer,
+        tries,
+    };
+    let answer = try_by(handle, asked);
+    *busy = answer.shown();
+    answer.code()
+}
+
+/// Gives the held range back.
+#[unsafe(no_mangle)]
+pub extern "C" fn gz_range_release(handle: &mut GzRange) -> u32
+    ensures released { Says (λ answer. OnHandle IsReleased answer handle.old.pointer.behind handle.new.pointer.behind) result }
+{
+    release_by(handle).code()
+}
+
+/// Loads client word `i`, counted from 0, into `value`.
+#[unsafe(no_mangle)]
+pub extern "C" fn gz_range_load(handle: &mut GzRange, i: u32, value: &mut u64) -> u32
+    ensures loaded { Says (λ answer. OnWord i Load value.old value.new answer handle.old.pointer.behind handle.new.pointer.behind) result }
+{
+    let call = WordCall {
+        i,
+        step: WordStep::Load,
+        told: *value,
+    };
+    let (answer, found) = step_by(handle, call);
+    *value = found;
+    answer.code()
+}
+
+/// Stores a value in client word `i`, counted from 0.
+#[unsafe(no_mangle)]
+pub extern "C" fn gz_range_store(handle: &mut GzRange, i: u32, value: u64) -> u32
+    ensures stored { Says (λ answer. (found : ℕ) × OnWord i (Store value) 0 found answer handle.old.pointer.behind handle.new.pointer.behind) result }
+{
+    let call = WordCall {
+        i,
+        step: WordStep::Store(value),
+        told: 0,
+    };
+    let (answer, _) = step_by(handle, call);
+    answer.code()
+}
+
+/// Adds `by` to client word `i`, counted from 0, modulo 2^64; `before` is its value before.
+#[unsafe(no_mangle)]
+pub extern "C" fn gz_range_add(handle: &mut GzRange, i: u32, by: u64, before: &mut u64) -> u32
+    ensures added { Says (λ answer. OnWord i (Add by) before.old before.new answer handle.old.pointer.behind handle.new.pointer.behind) result }
+{
+    let call = WordCall {
+        i,
+        step: WordStep::Add(by),
+        told: *before,
+    };
+    let (answer, found) = step_by(handle, call);
+    *before = found;
+    answer.code()
+}
+
+/// Puts `new` into client word `i`, counted from 0, where it is `expected`, in one step. Where it has another value,
+/// the word stays, and `expected` becomes that value.
+#[unsafe(no_mangle)]
+pub extern "C" fn gz_range_exchange(
+    handle: &mut GzRange,
+    i: u32,
+    expected: &mut u64,
+    new: u64,
+) -> u32
+    ensures exchanged { Says (λ answer. OnWord i (Exchange expected.old new) expected.old expected.new answer handle.old.pointer.behind handle.new.pointer.behind) result }
+{
+    let call = WordCall {
+        i,
+        step: WordStep::Exchange {
+            expected: *expected,
+            new,
+        },
+        told: *expected,
+    };
+    let (answer, found) = step_by(handle, call);
+    *expected = found;
+    answer.code()
+}
+
+/// Puts another handle, as a closed one, in the place of a handle, and ends what that was: gives back what it held, and
+/// lets its seat and its share of the table go. The last handle of a table frees it. A closed handle has nothing to
+/// end.
+#[unsafe(no_mangle)]
+pub extern "C" fn gz_range_end(handle: &mut GzRange, next: GzRange) -> u32
+    ensures put { handle.new.pointer.behind ≡ next.pointer.behind }
+    ensures ended { Says (IsEnd handle.old.pointer.behind) result }
+{
+    let was = replace(handle, next);
+    if !was.is_open() {
+        was.forget();
+        return Answer::Closed.code();
+    }
+    let mut b = was.into_box();
+    b.release();
+    Answer::Done.code()
+}

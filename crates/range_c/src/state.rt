@@ -1,0 +1,151 @@
+//! What is behind an open handle: an owner of the table, one seat of it, and the seats that no handle has yet. Each
+//! call of C's is a method here. A reader may rely on all the seats being of that table, and on those that are left to
+//! share being as they were at the opening.
+ghost use Rattle.std.specs.Prelude.{◌≡◌, ℕ, ◌<◌, ◌≤◌, ◌↔◌, Some, None, true, false, OnOk, OnErr, IfErr, length};
+ghost use Rattle.range_rw.specs.Contract.{IsCause, IsLongRefusal, IsSpentIn};
+ghost use Rattle.range_c.specs.Behind.{IsTried, IsReleased, IsStepped, IsTrial, IsTrialAnswer, mode_for};
+
+use crate::answers::Answer;
+use lock_core::{FreeGuard, Mode, Range};
+use range_rw::{NotHeld, RangeTable, Seat};
+use std::alloc::Global;
+use std::hint::spin_loop;
+use std::marker::Model;
+use std::sync::Arc;
+
+/// An owner of the table, a seat, and the seats that are left to share.
+#[derive(Drop)]
+pub(crate) struct State {
+    pub(crate) table: Arc<RangeTable<FreeGuard>, Global>,
+    pub(crate) seat: Seat<FreeGuard>,
+    pub(crate) spare: Vec<Seat<FreeGuard>>,
+    pub(crate) words: u32,
+}
+
+impl Model for State {
+    ghost use Rattle.std.specs.Prelude.{◌≡◌, length};
+    ghost use Rattle.std.specs.Arc.{arc_value};
+    ghost use Rattle.range_rw.specs.Contract.{AreNewSeats};
+    ghost use Rattle.range_c.specs.Behind.{Behind};
+
+    ghost Value = { Behind };
+
+    ghost view = { λ s. record { seat = s.seat; spare = length s.spare.items; words = s.words; seats = (arc_value s.table).seats } };
+
+    ghost invariant = { λ s. (s.seat.table ≡ (arc_value s.table).table) × AreNewSeats (arc_value s.table).table (λ _. tt) s.spare.items × ((arc_value s.table).client ≡ s.words) };
+}
+
+/// The range that a call of C's asks for, and how often it is to try.
+#[derive(Clone, Copy, Drop)]
+pub(crate) struct Asked {
+    pub(crate) lo: u64,
+    pub(crate) hi: u64,
+    pub(crate) writer: bool,
+    pub(crate) tries: u32,
+}
+
+/// A step on a client word.
+#[derive(Clone, Copy, Drop)]
+pub enum WordStep {
+    Load,
+    Store(u64),
+    Add(u64),
+    Exchange { expected: u64, new: u64 },
+}
+
+/// The mode that C's flag means.
+fn mode_of(writer: bool) -> Mode
+    ensures { result ≡ mode_for writer }
+{
+    if writer { Mode::Writer } else { Mode::Reader }
+}
+
+impl State {
+    /// Tries once for the range. The seat holds nothing.
+    fn try_once(&mut self, range: Range, mode: Mode) -> Result<(), NotHeld>
+        requires free { self.old.seat.held ≡ None }
+        ensures kept { IsTrial self.old self.new }
+        ensures held { OnOk result (self.new.seat.held ≡ Some (record { range = range; mode = mode })) }
+        ensures free { OnErr result (self.new.seat.held ≡ None) }
+        ensures cause { IfErr result (IsCause self.old.seat self.new.seat (record { range = range; mode = mode })) }
+        ensures long { IfErr result (λ why. IsLongRefusal why ↔ IsSpentIn self.old.seats self.old.seat self.new.seat) }
+    {
+        self.table.try_once(&mut self.seat, range, mode)
+    }
+
+    /// Tries at most so many times for the range, with a pause after each refusal. The seat holds nothing.
+    fn try_up_to(&mut self, range: Range, mode: Mode, tries: u32) -> Answer
+        requires free { self.old.seat.held ≡ None }
+        ensures kept { IsTrial self.old self.new }
+        ensures answer { IsTrialAnswer (record { range = range; mode = mode }) tries self.old self.new result }
+    {
+        let mut answer = Answer::NotTried;
+        let mut left = tries;
+        'tries: while left > 0 {
+            match self.try_once(range, mode) {
+                Ok(()) => return Answer::Done,
+                Err(why) => answer = Answer::Refused(why),
+            }
+            spin_loop();
+            left -= 1;
+        }
+        answer
+    }
+
+    /// Tries for the range that C asks for.
+    pub(crate) fn try_asked(&mut self, asked: Asked) -> Answer
+        ensures tried { IsTried asked.lo asked.hi asked.writer asked.tries result self.old self.new }
+    {
+        if self.table.held(&self.seat).is_some() {
+            return Answer::HasOne;
+        }
+        let Ok(range) = Range::of(asked.lo, asked.hi) else {
+            return Answer::BadRange;
+        };
+        self.try_up_to(range, mode_of(asked.writer), asked.tries)
+    }
+
+    /// Gives the held range back.
+    pub(crate) fn release(&mut self) -> Answer
+        ensures released { IsReleased result self.old self.new }
+    {
+        if self.table.held(&self.seat).is_none() {
+            return Answer::HasNone;
+        }
+        self.table.give_back(&mut self.seat);
+        Answer::Done
+    }
+
+    /// Makes a step on client word `i`, counted from 0, and returns what a load, an addition or an exchange found.
+    /// Where none found a value, that is `told`.
+    pub(crate) fn step(&mut self, i: u32, step: WordStep, told: u64) -> (Answer, u64)
+        ensures stepped { IsStepped i step told result.1 result.0 self.old self.new }
+    {
+        if i >= self.words {
+            return (Answer::NoWord, told);
+        }
+        match step {
+            WordStep::Load => (
+                Answer::Done,
+                self.table.load::<FreeGuard>(&mut self.seat, i),
+            ),
+            WordStep::Store(value) => {
+                self.table.store::<FreeGuard>(&mut self.seat, i, value);
+                (Answer::Done, told)
+            }
+            WordStep::Add(by) => (
+                Answer::Done,
+                self.table.add::<FreeGuard>(&mut self.seat, i, by),
+            ),
+            WordStep::Exchange { expected, new } => {
+                match self
+                    .table
+                    .exchange::<FreeGuard>(&mut self.seat, i, expected, new)
+                {
+                    Ok(()) => (Answer::Done, expected),
+                    Err(found) => (Answer::Other, found),
+                }
+            }
+        }
+    }
+}

@@ -1,0 +1,116 @@
+/* Each answer that a call may give, met on one thread, and what is so after it. It prints one line for each call with
+   the answer's number; gz_range.h says what the numbers mean. */
+#include "gz_range.h"
+
+#include <inttypes.h>
+#include <stdio.h>
+#include <stdlib.h>
+
+static void says(const char *call, uint32_t answer) { printf("%-44s %2u\n", call, answer); }
+
+static void shows(const gz_busy *busy) {
+    printf("    seat %u, %" PRIu64 " to %" PRIu64 ", %s\n", busy->owner, busy->lo, busy->hi,
+           busy->writer ? "writer" : "reader");
+}
+
+static void closed_handles(void) {
+    gz_range handle = GZ_RANGE_CLOSED, other = GZ_RANGE_CLOSED;
+    gz_busy busy;
+    uint64_t value = 5;
+    says("share of a closed handle", gz_range_share(&handle, &other));
+    says("try by a closed handle", gz_range_try(&handle, 0, 1, true, 1, &busy));
+    says("acquire by a closed handle", gz_range_acquire(&handle, 0, 1, true));
+    says("release by a closed handle", gz_range_release(&handle));
+    says("load by a closed handle", gz_range_load(&handle, 0, &value));
+    says("store by a closed handle", gz_range_store(&handle, 0, 1));
+    says("add by a closed handle", gz_range_add(&handle, 0, 1, &value));
+    says("exchange by a closed handle", gz_range_exchange(&handle, 0, &value, 1));
+    printf("    the value is %" PRIu64 " still\n", value);
+    says("close of a closed handle", gz_range_close(&handle));
+    says("try by it when it was closed once more", gz_range_try(&handle, 0, 1, true, 1, &busy));
+}
+
+static void openings(void) {
+    const uint64_t words[1] = { 7 };
+    gz_range handle = GZ_RANGE_CLOSED, other = GZ_RANGE_CLOSED, third = GZ_RANGE_CLOSED;
+    uint64_t *many = calloc(GZ_RANGE_MOST_WORDS + 1, sizeof *many);
+    if (!many) exit(1);
+    says("open of no seat", gz_range_open(0, words, 1, &handle));
+    says("open of 17 seats", gz_range_open(17, words, 1, &handle));
+    says("open of 2^20 + 1 words", gz_range_open(2, many, GZ_RANGE_MOST_WORDS + 1, &handle));
+    says("open of 2^20 words", gz_range_open(2, many, GZ_RANGE_MOST_WORDS, &handle));
+    gz_range_close(&handle);
+    says("open of 2 seats and no word", gz_range_open(2, words, 0, &handle));
+    says("open of an open handle", gz_range_open(2, words, 0, &handle));
+    says("share of the second seat", gz_range_share(&handle, &other));
+    says("share into an open handle", gz_range_share(&handle, &other));
+    says("share where none is left", gz_range_share(&handle, &third));
+    says("share of a handle that was shared", gz_range_share(&other, &third));
+    gz_range_close(&handle);
+    says("store by the handle that is left", gz_range_store(&other, 0, 1));
+    gz_range_close(&other);
+    free(many);
+}
+
+static void ranges(gz_range *a, gz_range *b) {
+    gz_busy busy;
+    says("try of no number", gz_range_try(a, 5, 5, true, 1, &busy));
+    says("try above 2^62", gz_range_try(a, 5, (uint64_t)GZ_RANGE_HIGHEST + 1, true, 1, &busy));
+    says("no try", gz_range_try(a, 5, 9, true, 0, &busy));
+    says("release of nothing", gz_range_release(a));
+    says("try of 5 to 9 as a writer", gz_range_try(a, 5, 9, true, 1, &busy));
+    says("try while one is held", gz_range_try(a, 20, 30, true, 1, &busy));
+    says("acquire while one is held", gz_range_acquire(a, 20, 30, true));
+    says("another's try of 8 to 10 as a reader", gz_range_try(b, 8, 10, false, 3, &busy));
+    shows(&busy);
+    says("another's try of 9 to 10 as a writer", gz_range_try(b, 9, 10, true, 1, &busy));
+    shows(&busy);
+    says("release", gz_range_release(b));
+    says("release", gz_range_release(a));
+    says("try of 0 to 2^62 as a reader", gz_range_try(a, 0, GZ_RANGE_HIGHEST, false, 1, &busy));
+    says("another's try of 3 to 4 as a reader", gz_range_try(b, 3, 4, false, 1, &busy));
+    says("release", gz_range_release(b));
+    says("another's try of 3 to 4 as a writer", gz_range_try(b, 3, 4, true, 1, &busy));
+    shows(&busy);
+    says("release", gz_range_release(a));
+    says("acquire of 3 to 4 as a writer", gz_range_acquire(b, 3, 4, true));
+}
+
+static void words_of(gz_range *a) {
+    uint64_t value = 0;
+    says("load of word 1", gz_range_load(a, 1, &value));
+    printf("    found %" PRIu64 "\n", value);
+    says("load of word 2 of 2", gz_range_load(a, 2, &value));
+    says("store of 2^64 - 1 in word 0", gz_range_store(a, 0, UINT64_MAX));
+    says("store in word 2 of 2", gz_range_store(a, 2, 1));
+    says("add of 3", gz_range_add(a, 0, 3, &value));
+    printf("    found %" PRIu64 "\n", value);
+    says("add to word 2 of 2", gz_range_add(a, 2, 3, &value));
+    value = 4;
+    says("exchange of 4", gz_range_exchange(a, 0, &value, 9));
+    printf("    found %" PRIu64 "\n", value);
+    says("exchange of what was found", gz_range_exchange(a, 0, &value, 9));
+    printf("    found %" PRIu64 "\n", value);
+    says("exchange in word 2 of 2", gz_range_exchange(a, 2, &value, 9));
+    says("load of word 0", gz_range_load(a, 0, &value));
+    printf("    found %" PRIu64 "\n", value);
+}
+
+int main(void) {
+    const uint64_t words[2] = { 7, 8 };
+    gz_range a = GZ_RANGE_CLOSED, b = GZ_RANGE_CLOSED;
+    gz_busy busy;
+    closed_handles();
+    openings();
+    says("open", gz_range_open(2, words, 2, &a));
+    says("share", gz_range_share(&a, &b));
+    ranges(&a, &b);
+    words_of(&a);
+    says("try of what another holds", gz_range_try(&a, 3, 4, true, 1, &busy));
+    shows(&busy);
+    says("close of the other", gz_range_close(&b));
+    says("try of it when the other is closed", gz_range_try(&a, 3, 4, true, 1, &busy));
+    says("close", gz_range_close(&a));
+    says("close once more", gz_range_close(&a));
+    return 0;
+}
