@@ -1,0 +1,12 @@
+use Rattle.std.proofs.Common.{◌≡◌}
+use Rattle.std.specs.Prelude.{None}
+use Rattle.fault_trials.specs.Trials.{HasCalled}
+use Rattle.stress.proofs.callers.make_calls.Given as goal
+
+abbrev pub invariant-loop-turn : goal.invariant-loop-turn
+invariant-loop-turn g l = record {
+  table : l.caller.seat.table ≡ l.initial.caller.seat.table;
+  number : l.caller.seat.number ≡ l.initial.caller.seat.number;
+  held : l.caller.seat.held ≡ None;
+  called : HasCalled l.turn l.initial.caller l.caller;
+}

@@ -1,0 +1,4 @@
+use Rattle.stress.proofs.callers.take_turn.Given as goal
+
+abbrev pub ghosts-try_counting : goal.ghosts-try_counting
+ghosts-try_counting g a = record { name = a.blank.name; parts = a.blank.parts }

@@ -1,0 +1,10 @@
+use Rattle.std.proofs.Common.{◌≡◌}
+use Rattle.std.specs.Prelude.{None}
+use Rattle.stress.proofs.visits.take_turns.Given as goal
+
+abbrev pub invariant-turns : goal.invariant-turns
+invariant-turns g l = record {
+  table : l.seat.table ≡ l.initial.seat.table;
+  number : l.seat.number ≡ l.initial.seat.number;
+  held : l.seat.held ≡ None;
+}

@@ -1,0 +1,16 @@
+use Rattle.std.proofs.Common.{◌≡◌}
+use Rattle.stress.proofs.visits.visit.Given as goal
+
+abbrev pub invariant-come : goal.invariant-come
+invariant-come l = record {
+  table : l.seat.table ≡ l.initial.seat.table;
+  number : l.seat.number ≡ l.initial.seat.number;
+  held : l.seat.held ≡ l.initial.seat.held;
+}
+
+abbrev pub invariant-go : goal.invariant-go
+invariant-go l = record {
+  table : l.seat.table ≡ l.initial.seat.table;
+  number : l.seat.number ≡ l.initial.seat.number;
+  held : l.seat.held ≡ l.initial.seat.held;
+}

@@ -1,0 +1,129 @@
+//! Rounds on a running address space. Each round is closed, and its history judged by the one-thread model: every entry
+//! has to have its place's number and the reply that the model gives, every caller's calls have to be there once and in
+//! order, and the areas that are left have to be the model's.
+ghost use Rattle.std.specs.Prelude.{IfOk, OnOk};
+ghost use Rattle.space_model.specs.History.{IsLegal};
+ghost use Rattle.area_rows.specs.Callers.{IsWhole};
+ghost use Rattle.fault_trials.specs.Trials.{IsCrew};
+
+use crate::callers::call_all;
+use crate::counts::{Entries, Tries};
+use crate::limit::Limit;
+use anyhow::{Result, bail, ensure};
+use area_rows::{Caller, Closed, Space};
+use fault_trials::open_crew;
+use space_model::{Entry, PlainSpace, have_named_calls, legal};
+use std::alloc::Global;
+use std::sync::{Mutex, Wait};
+use std::thread::Threads;
+use std::time::Clock;
+
+/// How many callers a round has.
+const CALLERS: usize = 16;
+
+/// Whether the entries are so many calls of each caller, in the order of its lines.
+fn are_all_lines(entries: &[Entry], calls: u32) -> bool {
+    let mut made = [0u32; CALLERS];
+    for entry in entries {
+        let caller = entry.worker as usize;
+        if caller >= CALLERS || entry.line != made[caller].wrapping_add(1) {
+            return false;
+        }
+        made[caller] = entry.line;
+    }
+    made.iter().all(|count| *count == calls)
+}
+
+/// Judges a history that began with this space.
+fn judge(alloc: Global, start: &PlainSpace, closed: &Closed, calls: u32) -> Result<()>
+    ensures legal { OnOk result (IsLegal start.now closed.now.entries) }
+{
+    let entries = closed.entries();
+    ensure!(are_all_lines(entries, calls), "a call is missing");
+    ensure!(
+        have_named_calls(entries) && entries.len() < 1 << 32,
+        "no history to judge"
+    );
+    if let Some(first) = legal(alloc, start, entries)? {
+        bail!("entry {first} is not as a legal history has it");
+    }
+    let mut model = start.copied(alloc)?;
+    'entries: for entry in entries {
+        ensure!(entry.call.is_named(), "a call has unnamed bits");
+        model.step(&entry.call)?;
+    }
+    ensure!(model.areas() == closed.areas(), "other areas are left");
+    Ok(())
+}
+
+/// Closes a space with all of its callers, and gives its history.
+fn close(alloc: Global, space: Space, callers: Vec<Caller>) -> Result<Closed>
+    requires { IsCrew space.table space.seats callers.items }
+    ensures whole { IfOk result (λ c. IsWhole callers.items c.entries c.areas) }
+{
+    let Ok(closed) = space.close(alloc, callers) else {
+        bail!("no memory to close a space");
+    };
+    Ok(closed)
+}
+
+/// One round of so many calls of each caller, and its entries by what they are.
+fn play_round<R: Threads + Wait + Sync>(
+    rt: &R,
+    alloc: Global,
+    seed: u64,
+    calls: u32,
+    entries: &mut Entries,
+    total: &Mutex<Tries>,
+) -> Result<()> {
+    let start = PlainSpace::new(alloc);
+    let Ok((space, mut callers)) = open_crew(alloc, &[calls; CALLERS], &start) else {
+        bail!("no memory for a space");
+    };
+    call_all(rt, &space, callers.as_mut_slice(), seed, calls, total);
+    let closed = close(alloc, space, callers)?;
+    judge(alloc, &start, &closed, calls)?;
+    for entry in closed.entries() {
+        entries.count(entry);
+    }
+    Ok(())
+}
+
+/// What rounds on address spaces came to.
+#[derive(Clone, Copy, Debug)]
+pub struct SpaceStress {
+    /// How many there were.
+    pub rounds: u64,
+    /// Their entries.
+    pub entries: Entries,
+    /// The faults that were tried once.
+    pub tries: Tries,
+}
+
+/// Rounds of 16 callers with so many calls each until the limit is past, and at least one. A history that isn't legal
+/// ends them with an error.
+pub fn stress_space<R: Threads + Wait + Sync + Clock>(
+    rt: &R,
+    alloc: Global,
+    seed: u64,
+    calls: u32,
+    limit: Limit,
+) -> Result<SpaceStress> {
+    let total = Mutex::new(Tries::none());
+    let mut entries = Entries::none();
+    let mut rounds = 0;
+    for round in 0..u64::MAX {
+        let seed = seed.wrapping_add(round);
+        play_round(rt, alloc, seed, calls, &mut entries, &total)?;
+        rounds = round + 1;
+        if limit.is_past(rt)? {
+            break;
+        }
+    }
+    let tries = *total.lock(rt);
+    Ok(SpaceStress {
+        rounds,
+        entries,
+        tries,
+    })
+}
