@@ -12,6 +12,5 @@ pub mod ProcessLemmas
 pub mod Parts
 pub mod DealtLemmas
 pub mod OneWorker
-pub mod CommandLemmas
 pub mod LoadLemmas
 pub mod CleanLemmas

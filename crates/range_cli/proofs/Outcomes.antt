@@ -18,8 +18,8 @@ use Rattle.range_cli.specs.declared.status.Status.{Status}
 use Rattle.range_cli.specs.declared.status.Status.TheVariants.{Done, Usage, BadLine, ReadFault, WriteFault, Memory, Limit}
 use Rattle.range_cli.specs.declared.status.Which.TheVariants.{Input, Line as OfLine, Lines as OfLines, Rows}
 use Rattle.range_cli.specs.declared.trace.Line.{Line}
-use Rattle.range_cli.specs.declared.commands.Command.TheVariants.{Play, Load}
-use Rattle.range_cli.specs.declared.commands.Options.{Options}
+use Rattle.command_words.specs.declared.commands.Command.TheVariants.{Play, Load}
+use Rattle.command_words.specs.declared.commands.Options.{Options}
 use Rattle.range_cli.specs.Lines.{lines_of}
 use Rattle.range_cli.specs.Opening.{IsNext, IsRefused, EndsMap, ReadsMaps, EndsMaps, Opens, EndsOpening, map_start, map_stop}
 use Rattle.range_cli.specs.Opening.ReadsMaps.{over, empty as empty_map, mapped, past_end}
@@ -31,7 +31,7 @@ use Rattle.range_cli.specs.Status.{status_of, ending}
 use Rattle.range_cli.specs.Trace.{Standing, start_at, after, Asks, Ends, Reads, EndsAt, played_by}
 use Rattle.range_cli.specs.Trace.Reads.{nothing, line}
 use Rattle.range_cli.specs.Trace.EndsAt.{here, later}
-use Rattle.range_cli.specs.Commands.{Spells, AskForOne}
+use Rattle.command_words.specs.Commands.{Spells, AskForOne}
 
 -- a line that asks for something ends no run
 asks_ends : (stand : Standing) (text : List ℕ) (answer : Fed) (end : EarlyEnd) → Asks stand text answer → Ends stand text end → ⊥

@@ -10,7 +10,7 @@ use Rattle.space_model.specs.declared.areas.Area.{Area}
 use Rattle.space_model.specs.declared.entries.Entry.{Entry}
 use Rattle.maps_printer.specs.Lines.{maps_text, summary_text}
 use Rattle.range_cli.specs.declared.report.Counts.{Counts}
-use Rattle.range_cli.specs.declared.commands.Options.{Options}
+use Rattle.command_words.specs.declared.commands.Options.{Options}
 use Rattle.range_cli.specs.Report.{asked_log, report_text}
 
 pub report_all : {T E : Type 0} (r : Result T E) (a b c d : Option (List ℕ)) (options : Options) (areas : List Area) (entries : List Entry)

@@ -5,8 +5,8 @@ use Rattle.range_cli.specs.declared.status.EarlyEnd.{EarlyEnd}
 use Rattle.range_cli.specs.declared.status.EarlyEnd.TheVariants.{Refused, Failed, NoMemory, Above}
 use Rattle.range_cli.specs.declared.status.Status.TheVariants.{Usage}
 use Rattle.range_cli.specs.declared.status.Which.TheVariants.{Input, Line as OfLine, Lines as OfLines, Rows}
-use Rattle.range_cli.specs.declared.commands.Command.TheVariants.{Play}
-use Rattle.range_cli.specs.declared.commands.Options.{Options}
+use Rattle.command_words.specs.declared.commands.Command.TheVariants.{Play}
+use Rattle.command_words.specs.declared.commands.Options.{Options}
 use Rattle.range_cli.specs.Input.{IsInput}
 use Rattle.range_cli.specs.Opening.{EndsMap, EndsMaps, EndsOpening}
 use Rattle.range_cli.specs.Opening.EndsMaps.{here as here_map, later as later_map}
@@ -14,7 +14,7 @@ use Rattle.range_cli.specs.Script.{EndsInput, EndsEarly}
 use Rattle.range_cli.specs.Status.{status_of, OrMemory}
 use Rattle.range_cli.specs.Trace.{Standing, Ends, EndsAt}
 use Rattle.range_cli.specs.Trace.EndsAt.{here, later}
-use Rattle.range_cli.specs.Commands.{Spells}
+use Rattle.command_words.specs.Commands.{Spells}
 use Rattle.range_cli.specs.Run.{Wrote, HasCause, EndsByInput}
 
 -- the bytes of an input end a run with a refusal, or with another limit than that on their number

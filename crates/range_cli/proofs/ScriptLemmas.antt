@@ -2,7 +2,7 @@
 use Rattle.std.proofs.Common.{inl, inr, ℕ, List}
 use Rattle.space_model.specs.declared.areas.Area.{Area}
 use Rattle.range_cli.specs.declared.status.EarlyEnd.{EarlyEnd}
-use Rattle.range_cli.specs.declared.commands.Options.{Options}
+use Rattle.command_words.specs.declared.commands.Options.{Options}
 use Rattle.range_cli.specs.Lines.{lines_of}
 use Rattle.range_cli.specs.Opening.{Opens}
 use Rattle.range_cli.specs.Script.{Begins, EndsInput}

@@ -11,6 +11,5 @@ pub mod Run
 pub mod Opening
 pub mod Script
 pub mod Laws
-pub mod Commands
 pub mod Load
 pub mod Clean

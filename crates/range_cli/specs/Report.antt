@@ -10,7 +10,7 @@ use Rattle.maps_printer.specs.Lines.{log_text, maps_text, summary_text}
 use Rattle.strace_reader.specs.Playing.{Differs}
 use Rattle.range_cli.specs.declared.report.Counts.{Counts}
 use Rattle.range_cli.specs.declared.trace.Line.{Line}
-use Rattle.range_cli.specs.declared.commands.Options.{Options}
+use Rattle.command_words.specs.declared.commands.Options.{Options}
 
 -- the reply is a refusal
 abbrev pub is_refused : Reply → Bool

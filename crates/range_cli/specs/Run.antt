@@ -8,8 +8,8 @@ use Rattle.byte_ports.specs.Counts.{Rose}
 use Rattle.space_model.specs.declared.areas.Area.{Area}
 use Rattle.area_rows.specs.Callers.{ClosedView}
 use Rattle.maps_printer.specs.Lines.{summary_text}
-use Rattle.range_cli.specs.declared.commands.Command.TheVariants.{Play, Load}
-use Rattle.range_cli.specs.declared.commands.Options.{Options}
+use Rattle.command_words.specs.declared.commands.Command.TheVariants.{Play, Load}
+use Rattle.command_words.specs.declared.commands.Options.{Options}
 use Rattle.range_cli.specs.declared.status.EarlyEnd.{EarlyEnd}
 use Rattle.range_cli.specs.declared.status.EarlyEnd.TheVariants.{Refused, Above}
 use Rattle.range_cli.specs.declared.status.Status.{Status}
@@ -17,7 +17,7 @@ use Rattle.range_cli.specs.declared.status.Status.TheVariants.{Done, Usage, BadL
 use Rattle.range_cli.specs.declared.status.Which.{Which}
 use Rattle.range_cli.specs.declared.status.Which.TheVariants.{Input, Line as OfLine, Lines as OfLines, Rows}
 use Rattle.range_cli.specs.declared.trace.Line.{Line}
-use Rattle.range_cli.specs.Commands.{Spells, RefusesWords, AskToPlay}
+use Rattle.command_words.specs.Commands.{Spells, RefusesWords, AskToPlay}
 use Rattle.range_cli.specs.ErrorLine.{error_line}
 use Rattle.range_cli.specs.Input.{IsInput, IsTooLong}
 use Rattle.range_cli.specs.Load.{lines_of_load}

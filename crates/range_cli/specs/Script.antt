@@ -9,7 +9,7 @@ use Rattle.range_cli.specs.declared.status.EarlyEnd.{EarlyEnd}
 use Rattle.range_cli.specs.declared.status.EarlyEnd.TheVariants.{Above}
 use Rattle.range_cli.specs.declared.status.Which.TheVariants.{Rows}
 use Rattle.range_cli.specs.declared.trace.Line.{Line}
-use Rattle.range_cli.specs.declared.commands.Options.{Options}
+use Rattle.command_words.specs.declared.commands.Options.{Options}
 use Rattle.range_cli.specs.Input.{IsInput, EndsReading}
 use Rattle.range_cli.specs.Lines.{lines_of}
 use Rattle.range_cli.specs.Opening.{Opens, EndsOpening}

@@ -6,9 +6,6 @@
 mod clean;
 #[cfg(test)]
 mod clean_tests;
-#[cfg(test)]
-mod command_tests;
-mod commands;
 mod dealing;
 mod error_line;
 #[cfg(test)]
@@ -19,6 +16,8 @@ mod lines;
 mod load;
 mod opening;
 mod play;
+#[cfg(test)]
+mod port_tests;
 mod processes;
 mod report;
 mod run;

@@ -7,9 +7,9 @@ ghost use Rattle.byte_ports.specs.Bytes.{AppendsPrefix};
 ghost use Rattle.byte_ports.specs.Counts.{Rose};
 ghost use Rattle.range_cli.specs.Report.{report_text, asked_log, is_refused, refused_count, Differing, DiffersFromLine, HasNoLine, IsPlaceOf, Rise};
 
-use crate::commands::Options;
 use crate::trace::Line;
 use byte_ports::{Failed, Sink};
+use command_words::Options;
 use maps_printer::{write_log, write_maps, write_summary};
 use page_types::Reply;
 use space_model::{Area, Entry};

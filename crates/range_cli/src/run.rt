@@ -5,11 +5,10 @@
 ghost use Rattle.std.specs.Prelude.{◌≡◌, ◌≢◌, ◌⊎◌, ◌<◌, ◌≤◌, ℕ, List, Option, Some, map};
 ghost use Rattle.std.specs.String.{string_bytes};
 ghost use Rattle.load_lines.specs.declared.TheConstants.{SEED_LIMIT, THREADS_LIMIT, CALLS_LIMIT};
-ghost use Rattle.range_cli.specs.Commands.{Spells, RefusesWords, AskForLoad, AskForOne};
-ghost use Rattle.range_cli.specs.declared.commands.Command.TheVariants.{Play, Load};
+ghost use Rattle.command_words.specs.Commands.{Spells, RefusesWords, AskForLoad, AskForOne};
+ghost use Rattle.command_words.specs.declared.commands.Command.TheVariants.{Play, Load};
 ghost use Rattle.range_cli.specs.Run.{Wrote, IsDone, IsUnwritten, HasCause, IsOnlyOutcome, IsHindered, Complains};
 
-use crate::commands::{Command, Options, command_of};
 use crate::error_line::write_error;
 use crate::laws::one_worker_plays_one_history;
 use crate::load::lines_of_load;
@@ -18,6 +17,7 @@ use crate::report::{Counts, differ_count, refused_count, write_report};
 use crate::script::read_script;
 use crate::status::Status;
 use byte_ports::{Sink, Source};
+use command_words::{Command, Options, command_of};
 use maps_printer::write_summary;
 use space_model::PlainSpace;
 use std::alloc::Global;

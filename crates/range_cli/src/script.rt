@@ -8,12 +8,12 @@ ghost use Rattle.range_cli.specs.Status.{OrMemory};
 ghost use Rattle.range_cli.specs.declared.input.TheConstants.{INPUT_LIMIT};
 ghost use Rattle.range_cli.specs.Trace.{IsNamedLine};
 
-use crate::commands::Options;
 use crate::input::read_input;
 use crate::opening::read_opening;
 use crate::status::{EarlyEnd, Which};
 use crate::trace::{Line, read_lines};
 use byte_ports::Source;
+use command_words::Options;
 use page_types::ROWS;
 use space_model::PlainSpace;
 use std::alloc::Global;

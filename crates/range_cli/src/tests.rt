@@ -2,9 +2,6 @@
 use crate::status::Which;
 use crate::trial::{Status, try_run};
 use byte_ports::{MemorySink, MemorySource};
-use maps_printer::write_maps;
-use page_types::{Kind, Prot};
-use space_model::Area;
 use std::alloc::Global;
 use std::process::Abort;
 use std::sync::Wait;
@@ -24,21 +21,19 @@ struct Left {
     err: MemorySink,
 }
 
-/// A run over ports in memory, of which the calls with these numbers fail.
+/// A run over ports in memory.
 fn run_with<R: Threads + Wait + Sync>(
     rt: &R,
     alloc: Global,
     words: &[&str],
     input: &[u8],
-    read_fails: &[u32],
-    write_fails: &[u32],
 ) -> Result<Left, Fail> {
     let mut owned = Vec::new(alloc);
     for word in words {
         owned.push(String::from_str(alloc, word)?)?;
     }
-    let mut source = MemorySource::new(input.to_vec(alloc)?, read_fails.to_vec(alloc)?);
-    let mut out = MemorySink::new(vec![in alloc; 0u8; 4096]?, write_fails.to_vec(alloc)?);
+    let mut source = MemorySource::new(input.to_vec(alloc)?, Vec::new(alloc));
+    let mut out = MemorySink::new(vec![in alloc; 0u8; 4096]?, Vec::new(alloc));
     let mut err = MemorySink::new(vec![in alloc; 0u8; 256]?, Vec::new(alloc));
     let status = try_run(rt, alloc, &owned, &mut source, &mut out, &mut err);
     Ok(Left { status, out, err })
@@ -53,7 +48,7 @@ fn expect(rt: &impl Abort, left: &Left, status: Status, out: &str, err: &str) {
 
 #[test]
 fn one_mapping_gives_one_line_of_maps(rt: HostRuntime) -> Result<(), Fail> {
-    let left = run_with(&rt, rt.alloc(), &["play"], FIRST, &[], &[])?;
+    let left = run_with(&rt, rt.alloc(), &["play"], FIRST)?;
     let out = "00010000-00012000 rw-p 00000000 00:00 0\nplayed 1 skipped 0 refused 0 differ 0\n";
     expect(&rt, &left, Status::Done, out, "");
     Ok(())
@@ -61,7 +56,7 @@ fn one_mapping_gives_one_line_of_maps(rt: HostRuntime) -> Result<(), Fail> {
 
 #[test]
 fn an_empty_input_gives_the_summary_alone(rt: HostRuntime) -> Result<(), Fail> {
-    let left = run_with(&rt, rt.alloc(), &["play"], b"", &[], &[])?;
+    let left = run_with(&rt, rt.alloc(), &["play"], b"")?;
     expect(
         &rt,
         &left,
@@ -80,7 +75,7 @@ fn plays<R: Abort + Threads + Wait + Sync>(
     input: &str,
     out: &str,
 ) -> Result<(), Fail> {
-    let left = run_with(rt, alloc, words, input.as_bytes(), &[], &[])?;
+    let left = run_with(rt, alloc, words, input.as_bytes())?;
     expect(rt, &left, Status::Done, out, "");
     Ok(())
 }
@@ -303,14 +298,7 @@ fn refuses<R: Abort + Threads + Wait + Sync>(
     what: What,
     err: &str,
 ) -> Result<(), Fail> {
-    let left = run_with(
-        rt,
-        alloc,
-        &["play", "--opening"],
-        input.as_bytes(),
-        &[],
-        &[],
-    )?;
+    let left = run_with(rt, alloc, &["play", "--opening"], input.as_bytes())?;
     let status = Status::BadLine {
         line,
         column: 1,
@@ -349,44 +337,8 @@ fn maps_come_in_order_and_in_form(rt: HostRuntime) -> Result<(), Fail> {
 }
 
 #[test]
-fn an_opening_of_4097_rows_is_too_large(rt: HostRuntime) -> Result<(), Fail> {
-    let mut areas = Vec::new(rt.alloc());
-    for page in 16..4111 {
-        let prot = if page % 2 == 0 {
-            Prot::READ
-        } else {
-            Prot::READ | Prot::WRITE
-        };
-        areas.push(Area {
-            lo: page,
-            hi: page + 1,
-            kind: Kind {
-                prot,
-                shared: false,
-            },
-        })?;
-    }
-    let mut maps = MemorySink::new(vec![in rt.alloc(); 0u8; 200_000]?, Vec::new(rt.alloc()));
-    assert!(rt; write_maps(&mut maps, &areas).is_ok());
-    let left = run_with(
-        &rt,
-        rt.alloc(),
-        &["play", "--opening"],
-        maps.written(),
-        &[],
-        &[],
-    )?;
-    let status = Status::Limit {
-        which: Which::Rows,
-        value: 4097,
-    };
-    expect(&rt, &left, status, "", "limit rows: 4097\n");
-    Ok(())
-}
-
-#[test]
 fn a_call_that_is_cut_off_says_where(rt: HostRuntime) -> Result<(), Fail> {
-    let left = run_with(&rt, rt.alloc(), &["play"], b"mmap(0x10000, 81", &[], &[])?;
+    let left = run_with(&rt, rt.alloc(), &["play"], b"mmap(0x10000, 81")?;
     let status = Status::BadLine {
         line: 1,
         column: 17,
@@ -400,7 +352,7 @@ fn a_call_that_is_cut_off_says_where(rt: HostRuntime) -> Result<(), Fail> {
 fn an_unaligned_fixed_address_is_refused(rt: HostRuntime) -> Result<(), Fail> {
     let input =
         b"mmap(0x10001, 4096, PROT_READ|PROT_WRITE, MAP_PRIVATE|MAP_FIXED|MAP_ANONYMOUS, -1, 0)";
-    let left = run_with(&rt, rt.alloc(), &["play"], input, &[], &[])?;
+    let left = run_with(&rt, rt.alloc(), &["play"], input)?;
     expect(
         &rt,
         &left,
@@ -546,7 +498,7 @@ fn a_refused_call_in_two_halves_says_where(rt: HostRuntime) -> Result<(), Fail> 
         ),
     ];
     for (input, line, column, what, err) in cases {
-        let left = run_with(&rt, rt.alloc(), &["play"], input.as_bytes(), &[], &[])?;
+        let left = run_with(&rt, rt.alloc(), &["play"], input.as_bytes())?;
         let status = Status::BadLine { line, column, what };
         expect(&rt, &left, status, "", err);
     }
@@ -567,32 +519,8 @@ fn other_words_get_the_usage_line(rt: HostRuntime) -> Result<(), Fail> {
         &[],
     ];
     for words in lists {
-        let left = run_with(&rt, rt.alloc(), words, FIRST, &[], &[])?;
+        let left = run_with(&rt, rt.alloc(), words, FIRST)?;
         expect(&rt, &left, Status::Usage, "", usage);
-    }
-    Ok(())
-}
-
-#[test]
-fn a_failed_read_plays_nothing(rt: HostRuntime) -> Result<(), Fail> {
-    let mut long = vec![in rt.alloc(); b'\n'; 70_000]?;
-    for byte in FIRST {
-        long.push(*byte)?;
-    }
-    for fails in [1, 2, 3] {
-        let left = run_with(&rt, rt.alloc(), &["play"], &long, &[fails], &[])?;
-        expect(&rt, &left, Status::ReadFault, "", "read fault\n");
-    }
-    Ok(())
-}
-
-#[test]
-fn a_failed_write_leaves_what_went_before(rt: HostRuntime) -> Result<(), Fail> {
-    let maps = "00010000-00012000 rw-p 00000000 00:00 0\n";
-    let cases = [(1, ""), (2, maps)];
-    for (fails, out) in cases {
-        let left = run_with(&rt, rt.alloc(), &["play"], FIRST, &[], &[fails])?;
-        expect(&rt, &left, Status::WriteFault, out, "write fault\n");
     }
     Ok(())
 }
@@ -600,11 +528,11 @@ fn a_failed_write_leaves_what_went_before(rt: HostRuntime) -> Result<(), Fail> {
 #[test]
 fn a_line_may_have_65535_bytes(rt: HostRuntime) -> Result<(), Fail> {
     let mut line = vec![in rt.alloc(); b'x'; 65535]?;
-    let left = run_with(&rt, rt.alloc(), &["play"], &line, &[], &[])?;
+    let left = run_with(&rt, rt.alloc(), &["play"], &line)?;
     let out = "played 0 skipped 1 refused 0 differ 0\n";
     expect(&rt, &left, Status::Done, out, "");
     line.push(b'x')?;
-    let left = run_with(&rt, rt.alloc(), &["play"], &line, &[], &[])?;
+    let left = run_with(&rt, rt.alloc(), &["play"], &line)?;
     let status = Status::Limit {
         which: Which::Line,
         value: 65536,

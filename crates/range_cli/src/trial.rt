@@ -30,7 +30,12 @@ pub fn try_run<R: Threads + Wait + Sync>(
     out: &mut MemorySink,
     err: &mut MemorySink,
 ) -> Status {
-    match run(rt, alloc, words, input, out, err, &OpenGate) {
+    plain(run(rt, alloc, words, input, out, err, &OpenGate))
+}
+
+/// A run's status without the history that it carries.
+pub fn plain(status: status::Status) -> Status {
+    match status {
         status::Status::Done(_) => Status::Done,
         status::Status::Usage => Status::Usage,
         status::Status::BadLine { line, column, what } => Status::BadLine { line, column, what },

@@ -1,5 +1,5 @@
-//! Worked runs by several workers, and the words that ask for them. What the threads decide is left open: a test
-//! expects what is so in every order of their calls.
+//! Worked runs by several workers, of traces and of loads. What the threads decide is left open: a test expects what is
+//! so in every order of their calls.
 use crate::run::run;
 use crate::status::Status;
 use byte_ports::{MemorySink, MemorySource};
@@ -106,59 +106,6 @@ fn a_run_carries_the_history_that_it_printed(rt: HostRuntime) -> Result<(), Fail
     assert!(rt; write_log(&mut shown, closed.entries()).is_ok());
     assert!(rt; write_maps(&mut shown, closed.areas()).is_ok());
     assert!(rt; written.written().starts_with(shown.written()));
-    Ok(())
-}
-
-#[test]
-fn other_numbers_are_refused_unread(rt: HostRuntime) -> Result<(), Fail> {
-    let lists: [&[&str]; 17] = [
-        &["play", "--threads"],
-        &["play", "--threads="],
-        &["play", "--threads", "0"],
-        &["play", "--threads=17"],
-        &["play", "--threads", "20"],
-        &["play", "--threads", "02"],
-        &["play", "--threads", "17"],
-        &["play", "--threads", "04"],
-        &[
-            "load",
-            "--seed",
-            "2147483648",
-            "--threads",
-            "1",
-            "--calls",
-            "1",
-        ],
-        &["load", "--seed=1", "--threads=1", "--calls=1048577"],
-        &["load", "--seed=1", "--threads=1", "--calls=5", "--log"],
-        &["play", "--threads=+2"],
-        &["play", "--threads", "two"],
-        &["play", "--threads", "--log"],
-        &["play", "--threads=2", "--threads", "2"],
-        &["play", "--thread", "2"],
-        &["play", "2"],
-    ];
-    for words in lists {
-        let (status, written, reads) = run_words(&rt, rt.alloc(), words, THREE)?;
-        assert!(rt; matches!(status, Status::Usage));
-        assert_eq!(rt; status.code(), 2);
-        assert!(rt; written.written().is_empty());
-        assert_eq!(rt; reads, 0);
-    }
-    Ok(())
-}
-
-#[test]
-fn a_number_of_400_digits_is_refused_unread(rt: HostRuntime) -> Result<(), Fail> {
-    let mut digits = String::new(rt.alloc());
-    for _ in 0..400 {
-        digits.push('1')?;
-    }
-    let words = ["play", "--threads", digits.as_str()];
-    let (status, written, reads) = run_words(&rt, rt.alloc(), &words, THREE)?;
-    assert!(rt; matches!(status, Status::Usage));
-    assert!(rt; written.written().is_empty());
-    assert_eq!(rt; reads, 0);
     Ok(())
 }
 

@@ -1,6 +1,6 @@
 use Rattle.std.proofs.Common.{refl, subst, map}
 use Rattle.std.specs.String.{string_bytes}
-use Rattle.range_cli.specs.Commands.{Spells}
+use Rattle.command_words.specs.Commands.{Spells}
 use Rattle.range_cli.proofs.run.report.Goals as goal
 
 pub returns-in-Some-Load-clause-out : goal.returns-in-Some-Load-clause-out

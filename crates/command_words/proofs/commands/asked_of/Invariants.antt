@@ -1,10 +1,10 @@
 -- What was asked for so far, with what the rest of the words ask for, is what all of them ask for.
 use Rattle.std.proofs.Common.{length, map}
 use Rattle.std.specs.String.{string_bytes}
-use Rattle.range_cli.specs.Commands.{DoAsk}
-use Rattle.range_cli.specs.declared.commands.Asked.{Asked}
-use Rattle.range_cli.proofs.CommandLemmas.{LeftOver}
-use Rattle.range_cli.proofs.commands.asked_of.Given as goal
+use Rattle.command_words.specs.Commands.{DoAsk}
+use Rattle.command_words.specs.declared.commands.Asked.{Asked}
+use Rattle.command_words.proofs.CommandLemmas.{LeftOver}
+use Rattle.command_words.proofs.commands.asked_of.Given as goal
 
 abbrev pub invariant-loop-rest : goal.invariant-loop-rest
 invariant-loop-rest l = record {

@@ -1,7 +1,7 @@
 use Rattle.std.proofs.Common.{rules, map, drop, refl}
 use Rattle.std.specs.String.{string_bytes}
-use Rattle.range_cli.proofs.CommandLemmas.{not_joined, not_apart}
-use Rattle.range_cli.proofs.commands.head_of.Goals as goal
+use Rattle.command_words.proofs.CommandLemmas.{not_joined, not_apart}
+use Rattle.command_words.proofs.commands.head_of.Goals as goal
 
 pub returns-in_err-given-clause-none : goal.returns-in_err-given-clause-none
 returns-in_err-given-clause-none c _ =

@@ -1,8 +1,8 @@
 use Rattle.std.proofs.Common.{rules, map}
 use Rattle.std.specs.String.{string_bytes}
-use Rattle.range_cli.specs.Commands.{IsCommand, HasRanges}
-use Rattle.range_cli.proofs.CommandLemmas.{has_ranges, some_weaker, spells_once, spells_none, one_command, is_answer}
-use Rattle.range_cli.proofs.commands.command_of.Goals as goal
+use Rattle.command_words.specs.Commands.{IsCommand, HasRanges}
+use Rattle.command_words.proofs.CommandLemmas.{has_ranges, some_weaker, spells_once, spells_none, one_command, is_answer}
+use Rattle.command_words.proofs.commands.command_of.Goals as goal
 
 pub returns-in_err-asked-clause-only : goal.returns-in_err-asked-clause-only
 returns-in_err-asked-clause-only c command h =

@@ -10,12 +10,12 @@ use Rattle.std.proofs.lemmas.Fmt.{decimal_injective}
 use Rattle.std.specs.Fmt.{decimal}
 use Rattle.std.specs.Prelude.{◌==◌}
 use Rattle.std.specs.List.{filter_map, cons_option, position_or_len, before_first, after_first}
-use Rattle.range_cli.specs.declared.commands.Asked.{Asked}
-use Rattle.range_cli.specs.declared.commands.Command.{Command}
-use Rattle.range_cli.specs.declared.commands.Command.TheVariants.{Play, Load}
-use Rattle.range_cli.specs.declared.commands.Given.{Given}
-use Rattle.range_cli.specs.declared.commands.Given.TheVariants.{Opening, Log, Threads, Seed, Calls}
-use Rattle.range_cli.specs.Commands.{name_of, number_of, IsInRange, AreWritten, BeginsWith, AreSpellings, Kind, of_opening, of_log, of_threads, of_seed, of_calls, value_for, asked_for, DoAsk, IsCommand, HasRanges, Spells, IsFlag, IsNamed, IsNumbered, Adds, IsAsked}
+use Rattle.command_words.specs.declared.commands.Asked.{Asked}
+use Rattle.command_words.specs.declared.commands.Command.{Command}
+use Rattle.command_words.specs.declared.commands.Command.TheVariants.{Play, Load}
+use Rattle.command_words.specs.declared.commands.Given.{Given}
+use Rattle.command_words.specs.declared.commands.Given.TheVariants.{Opening, Log, Threads, Seed, Calls}
+use Rattle.command_words.specs.Commands.{name_of, number_of, IsInRange, AreWritten, BeginsWith, AreSpellings, Kind, of_opening, of_log, of_threads, of_seed, of_calls, value_for, asked_for, DoAsk, IsCommand, HasRanges, Spells, IsFlag, IsNamed, IsNumbered, Adds, IsAsked}
 
 -- the third letter of a word
 abbrev letter : List ℕ → ℕ

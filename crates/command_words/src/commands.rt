@@ -4,10 +4,10 @@
 ghost use Rattle.std.specs.Prelude.{◌≡◌, ℕ, ◌+◌, ◌-◌, ◌<◌, ◌≤◌, ◌^◌, ◌↔◌, map, drop, codes, List, [], length, Some, None, false, IsTrue, IfSome, IsNone};
 ghost use Rattle.std.specs.Fmt.{decimal};
 ghost use Rattle.std.specs.String.{string_bytes};
-ghost use Rattle.range_cli.specs.Commands.{Spells, RefusesWords, AskForOne, HasRanges, IsCommand, DoAsk, BeginsWith, IsFlag, IsNamed, IsNumbered, IsInRange, Adds, IsAsked};
-ghost use Rattle.range_cli.specs.declared.commands.Asked.{Asked};
-ghost use Rattle.range_cli.specs.declared.commands.Command.{Command};
-ghost use Rattle.range_cli.specs.declared.commands.Given.{Given};
+ghost use Rattle.command_words.specs.Commands.{Spells, RefusesWords, AskForOne, HasRanges, IsCommand, DoAsk, BeginsWith, IsFlag, IsNamed, IsNumbered, IsInRange, Adds, IsAsked};
+ghost use Rattle.command_words.specs.declared.commands.Asked.{Asked};
+ghost use Rattle.command_words.specs.declared.commands.Command.{Command};
+ghost use Rattle.command_words.specs.declared.commands.Given.{Given};
 
 /// What `play` does besides playing the lines.
 #[derive(Clone, Copy, Debug, PartialEq, Eq)]

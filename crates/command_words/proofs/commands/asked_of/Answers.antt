@@ -1,9 +1,9 @@
 use Rattle.std.proofs.Common.{rules, ◌≡◌, ℕ, ◌<◌, List, length, map, drop, refl, sym, subst, ap, ◌∙◌, Some}
 use Rattle.std.proofs.lemmas.List.{drop-map, length-map, take_rest}
 use Rattle.std.specs.String.{string_bytes}
-use Rattle.range_cli.specs.declared.commands.Asked.{Asked}
-use Rattle.range_cli.proofs.CommandLemmas.{LeftOver, left_before, left_behind, left_of_none, left_of_asked, left_of_nothing}
-use Rattle.range_cli.proofs.commands.asked_of.Goals as goal
+use Rattle.command_words.specs.declared.commands.Asked.{Asked}
+use Rattle.command_words.proofs.CommandLemmas.{LeftOver, left_before, left_behind, left_of_none, left_of_asked, left_of_nothing}
+use Rattle.command_words.proofs.commands.asked_of.Goals as goal
 
 pub returns-in_err-head-clause-only : goal.returns-in_err-head-clause-only
 returns-in_err-head-clause-only c other h =

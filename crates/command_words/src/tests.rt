@@ -1,6 +1,6 @@
 //! What no clause says of the command line: that its words are accepted and refused as the tables here say, each case
 //! by hand.
-use crate::commands::{Command, Options, command_of};
+use crate::{Command, Options, command_of};
 use std::alloc::{AllocError, Global};
 use std::test::Fail;
 

@@ -5,12 +5,12 @@
 use Rattle.std.specs.Prelude.{◌≡◌, ℕ, ◌<◌, ◌≤◌, List, [], ◌∷◌, ◌++◌, Option, Some, None, ⊤, ◌⊎◌, option_to_list, unwrap_or, length, if◌then◌else◌, codes, false}
 use Rattle.std.specs.List.{filter_map}
 use Rattle.std.specs.Fmt.{decimal}
-use Rattle.range_cli.specs.declared.commands.Command.{Command}
-use Rattle.range_cli.specs.declared.commands.Command.TheVariants.{Play, Load}
-use Rattle.range_cli.specs.declared.commands.Given.{Given}
-use Rattle.range_cli.specs.declared.commands.Given.TheVariants.{Opening, Log, Threads, Seed, Calls}
-use Rattle.range_cli.specs.declared.commands.Asked.{Asked}
-use Rattle.range_cli.specs.declared.commands.Options.{Options}
+use Rattle.command_words.specs.declared.commands.Command.{Command}
+use Rattle.command_words.specs.declared.commands.Command.TheVariants.{Play, Load}
+use Rattle.command_words.specs.declared.commands.Given.{Given}
+use Rattle.command_words.specs.declared.commands.Given.TheVariants.{Opening, Log, Threads, Seed, Calls}
+use Rattle.command_words.specs.declared.commands.Asked.{Asked}
+use Rattle.command_words.specs.declared.commands.Options.{Options}
 
 -- the name of an option
 abbrev pub name_of : Given → List ℕ

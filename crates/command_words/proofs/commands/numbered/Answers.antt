@@ -1,6 +1,6 @@
 use Rattle.std.proofs.Common.{rules, refl}
-use Rattle.range_cli.proofs.CommandLemmas.{not_named, not_in_range}
-use Rattle.range_cli.proofs.commands.numbered.Goals as goal
+use Rattle.command_words.proofs.CommandLemmas.{not_named, not_in_range}
+use Rattle.command_words.proofs.commands.numbered.Goals as goal
 
 pub returns-in_err-given-clause-none : goal.returns-in_err-given-clause-none
 returns-in_err-given-clause-none c _ =
