@@ -29,7 +29,7 @@ fn todo_after(mode: Mode) -> Todo
 }
 
 /// Link: exchanges the cursor's word for the own node, which is aimed at that word.
-#[inline(always)]
+#[inline(never)]
 pub(crate) fn link_op(seats: u32, seat: u32, view: &View) -> Option<Op>
     requires { MayStep seats seat view.now }
     ensures op { IsOpOf Link (plan seats seat view.now Link) result }
@@ -61,7 +61,7 @@ pub(crate) fn link_op(seats: u32, seat: u32, view: &View) -> Option<Op>
 }
 
 /// Link: the own node is linked where the word was found as expected; the cursor goes.
-#[inline(always)]
+#[inline(never)]
 pub(crate) fn link_view(seats: u32, seat: u32, view: &mut View, found: u64)
     requires may { MayStep seats seat view.old }
     requires enabled { IsEnabled seats seat view.old Link }
@@ -92,7 +92,7 @@ pub(crate) fn link_view(seats: u32, seat: u32, view: &mut View, found: u64)
 }
 
 /// Unlink: exchanges the cursor's word for the next word of the cursor's node, which is marked, without the mark.
-#[inline(always)]
+#[inline(never)]
 pub(crate) fn unlink_op(seats: u32, seat: u32, view: &View) -> Option<Op>
     requires { MayStep seats seat view.now }
     ensures op { IsOpOf Unlink (plan seats seat view.now Unlink) result }
@@ -117,7 +117,7 @@ pub(crate) fn unlink_op(seats: u32, seat: u32, view: &View) -> Option<Op>
 }
 
 /// Unlink: the node is in the hand where the word was found as expected; otherwise the cursor goes.
-#[inline(always)]
+#[inline(never)]
 pub(crate) fn unlink_view(seats: u32, seat: u32, view: &mut View, found: u64)
     requires may { MayStep seats seat view.old }
     requires enabled { IsEnabled seats seat view.old Unlink }
@@ -141,7 +141,7 @@ pub(crate) fn unlink_view(seats: u32, seat: u32, view: &mut View, found: u64)
 }
 
 /// Mark: adds the mark to the next word of the own node.
-#[inline(always)]
+#[inline(never)]
 pub(crate) fn mark_op(seats: u32, seat: u32, view: &View) -> Option<Op>
     requires { MayStep seats seat view.now }
     ensures op { IsOpOf Mark (plan seats seat view.now Mark) result }
@@ -157,7 +157,7 @@ pub(crate) fn mark_op(seats: u32, seat: u32, view: &View) -> Option<Op>
 }
 
 /// Mark: the own node is a used one, and its range is given back.
-#[inline(always)]
+#[inline(never)]
 pub(crate) fn mark_view(seats: u32, seat: u32, view: &mut View)
     requires may { MayStep seats seat view.old }
     requires enabled { IsEnabled seats seat view.old Mark }

@@ -14,7 +14,7 @@ use crate::ops::{Act, Op};
 use crate::views::{Own, Todo, View};
 
 /// Enter: adds 1 to the own epoch, outside an operation and with nothing in the hand.
-#[inline(always)]
+#[inline(never)]
 pub(crate) fn enter_op(seats: u32, seat: u32, view: &View) -> Option<Op>
     requires { MayStep seats seat view.now }
     ensures op { IsOpOf Enter (plan seats seat view.now Enter) result }
@@ -30,7 +30,7 @@ pub(crate) fn enter_op(seats: u32, seat: u32, view: &View) -> Option<Op>
 }
 
 /// Enter: inside an operation from now on, and without a cursor.
-#[inline(always)]
+#[inline(never)]
 pub(crate) fn enter_view(seats: u32, seat: u32, view: &mut View)
     requires may { MayStep seats seat view.old }
     requires enabled { IsEnabled seats seat view.old Enter }
@@ -52,7 +52,7 @@ fn is_settled(own: Own) -> bool
 }
 
 /// Leave: adds 1 to the own epoch, inside an operation.
-#[inline(always)]
+#[inline(never)]
 pub(crate) fn leave_op(seats: u32, seat: u32, view: &View) -> Option<Op>
     requires { MayStep seats seat view.now }
     ensures op { IsOpOf Leave (plan seats seat view.now Leave) result }
@@ -68,7 +68,7 @@ pub(crate) fn leave_op(seats: u32, seat: u32, view: &View) -> Option<Op>
 }
 
 /// Leave: outside again; a node that was being filled is the first ready one.
-#[inline(always)]
+#[inline(never)]
 pub(crate) fn leave_view(seats: u32, seat: u32, view: &mut View)
     requires may { MayStep seats seat view.old }
     requires enabled { IsEnabled seats seat view.old Leave }
@@ -117,7 +117,7 @@ fn release(view: &mut View)
 }
 
 /// ReadEpoch: loads the epoch of another seat, while homes wait.
-#[inline(always)]
+#[inline(never)]
 pub(crate) fn read_epoch_op(seats: u32, seat: u32, view: &View, other: u32) -> Option<Op>
     requires { MayStep seats seat view.now }
     ensures op { IsOpOf (ReadEpoch other) (plan seats seat view.now (ReadEpoch other)) result }
@@ -133,7 +133,7 @@ pub(crate) fn read_epoch_op(seats: u32, seat: u32, view: &View, other: u32) -> O
 }
 
 /// ReadEpoch: that seat is noted or passed, and once all others are passed the homes become ready.
-#[inline(always)]
+#[inline(never)]
 pub(crate) fn read_epoch_view(seats: u32, seat: u32, view: &mut View, other: u32, found: u64)
     requires may { MayStep seats seat view.old }
     requires enabled { IsEnabled seats seat view.old (ReadEpoch other) }
@@ -158,7 +158,7 @@ fn come_home(seats: u32, view: &mut View, node: u32)
 }
 
 /// ReadHome: loads the home word of a used node that isn't among the homes.
-#[inline(always)]
+#[inline(never)]
 pub(crate) fn read_home_op(seats: u32, seat: u32, view: &View, node: u32) -> Option<Op>
     requires { MayStep seats seat view.now }
     ensures op { IsOpOf (ReadHome node) (plan seats seat view.now (ReadHome node)) result }
@@ -174,7 +174,7 @@ pub(crate) fn read_home_op(seats: u32, seat: u32, view: &View, node: u32) -> Opt
 }
 
 /// ReadHome: a node that is at home joins the homes; with one seat alone it is ready at once.
-#[inline(always)]
+#[inline(never)]
 pub(crate) fn read_home_view(seats: u32, seat: u32, view: &mut View, node: u32, found: u64)
     requires may { MayStep seats seat view.old }
     requires enabled { IsEnabled seats seat view.old (ReadHome node) }

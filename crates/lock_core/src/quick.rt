@@ -112,7 +112,7 @@ pub(crate) fn quick_unlink_view(seats: u32, seat: u32, view: &mut View, found: u
 }
 
 /// Settle: exchanges the head that the cursor found with the low bit for the same without it.
-#[inline(always)]
+#[inline(never)]
 pub(crate) fn settle_op(seats: u32, seat: u32, view: &View) -> Option<Op>
     requires { MayStep seats seat view.now }
     ensures op { IsOpOf Settle (plan seats seat view.now Settle) result }
@@ -134,7 +134,7 @@ pub(crate) fn settle_op(seats: u32, seat: u32, view: &View) -> Option<Op>
 }
 
 /// Settle: the cursor's word has no low bit where the head was found as expected; otherwise the cursor goes.
-#[inline(always)]
+#[inline(never)]
 pub(crate) fn settle_view(seats: u32, seat: u32, view: &mut View, found: u64)
     requires may { MayStep seats seat view.old }
     requires enabled { IsEnabled seats seat view.old Settle }

@@ -130,7 +130,7 @@ pub(crate) fn come_to(view: &mut View, prev: Option<u32>, word: u64, seen: u32)
 }
 
 /// Walk: loads the word at which a cursor begins, or the next word of the cursor's node.
-#[inline(always)]
+#[inline(never)]
 pub(crate) fn walk_op(seats: u32, seat: u32, view: &View) -> Option<Op>
     requires { MayStep seats seat view.now }
     ensures op { IsOpOf Walk (plan seats seat view.now Walk) result }
@@ -156,7 +156,7 @@ pub(crate) fn walk_op(seats: u32, seat: u32, view: &View) -> Option<Op>
 }
 
 /// Walk: there is a cursor, or the next word of its node is known.
-#[inline(always)]
+#[inline(never)]
 pub(crate) fn walk_view(seats: u32, seat: u32, view: &mut View, found: u64)
     requires may { MayStep seats seat view.old }
     requires enabled { IsEnabled seats seat view.old Walk }
@@ -178,7 +178,7 @@ pub(crate) fn walk_view(seats: u32, seat: u32, view: &mut View, found: u64)
 }
 
 /// ReadLo: loads the lower end of the cursor's node, whose next word has no mark.
-#[inline(always)]
+#[inline(never)]
 pub(crate) fn read_lo_op(seats: u32, seat: u32, view: &View) -> Option<Op>
     requires { MayStep seats seat view.now }
     ensures op { IsOpOf ReadLo (plan seats seat view.now ReadLo) result }
@@ -203,7 +203,7 @@ pub(crate) fn read_lo_op(seats: u32, seat: u32, view: &View) -> Option<Op>
 }
 
 /// ReadLo: the lower end is known.
-#[inline(always)]
+#[inline(never)]
 pub(crate) fn read_lo_view(seats: u32, seat: u32, view: &mut View, found: u64)
     requires may { MayStep seats seat view.old }
     requires enabled { IsEnabled seats seat view.old ReadLo }
@@ -230,7 +230,7 @@ fn knows_ends(own: Own) -> bool
 }
 
 /// ReadHi: loads the higher end of the cursor's node, whose lower end is known.
-#[inline(always)]
+#[inline(never)]
 pub(crate) fn read_hi_op(seats: u32, seat: u32, view: &View) -> Option<Op>
     requires { MayStep seats seat view.now }
     ensures op { IsOpOf ReadHi (plan seats seat view.now ReadHi) result }
@@ -255,7 +255,7 @@ pub(crate) fn read_hi_op(seats: u32, seat: u32, view: &View) -> Option<Op>
 }
 
 /// ReadHi: the node is judged, and the cursor goes on past it, stops before it, or stays at a conflict.
-#[inline(always)]
+#[inline(never)]
 pub(crate) fn read_hi_view(seats: u32, seat: u32, view: &mut View, found: u64)
     requires may { MayStep seats seat view.old }
     requires enabled { IsEnabled seats seat view.old ReadHi }
