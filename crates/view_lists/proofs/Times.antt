@@ -1,9 +1,10 @@
 -- Tests of a list by counts, and a list without another in parts.
-use Rattle.std.proofs.Common.{◌≡◌, ℕ, zero, suc, ◌+◌, ◌≤◌, Bool, true, false, List, [], ◌∷◌, ◌++◌, Some, length, ◌<◌, refl, sym, ap, subst, ◌∙◌, arith, zero-add, eqb-true, eq-eqb, append_assoc}
+use Rattle.std.proofs.Common.{◌≡◌, ℕ, zero, suc, ◌+◌, ◌≤◌, Bool, true, false, List, [], ◌∷◌, ◌++◌, Some, length, take, drop, remove, ◌<◌, refl, sym, ap, subst, ◌∙◌, arith, zero-add, eqb-true, eq-eqb, append_assoc}
 use Rattle.std.specs.Prelude.{◌==◌, ◌||◌, not, if◌then◌else◌, slice_get, get_or}
 use Rattle.std.specs.Bool.{OnTrue}
-use Rattle.std.specs.List.{list_any}
+use Rattle.std.specs.List.{list_any, All}
 use Rattle.std.proofs.lemmas.Bool.Decides.{nat_tests}
+use Rattle.std.proofs.lemmas.List.Elements.{All-take, All-drop, All-append}
 use Rattle.std.proofs.lemmas.Option.{slice_get-get_or}
 use Rattle.view_lists.specs.Counted.{times, without}
 
@@ -63,3 +64,29 @@ when_equal l i d there node less at = by (there == node) refl
     by : (b : Bool) → (there == node) ≡ b → OnTrue b (1 ≤ times node l)
     by true e = place_counts l i node (slice_get-get_or l i d less ∙ ap Some (sym at ∙ eqb-true there node e))
     by false e = tt
+
+-- a node that no node of a list comes up to isn't in it
+pub none_above : (node top : ℕ) (l : List ℕ) → All (λ x. x ≤ top) l → top < node → times node l ≡ 0
+none_above node top [] low above = refl
+none_above node top (y ∷ ys) low above = by (y == node) refl (none_above node top ys (λ k d less. low (suc k) d (omega arith)) above)
+  where
+    by : (b : Bool) → (y == node) ≡ b → times node ys ≡ 0 → (if b then 1 else 0) + times node ys ≡ 0
+    by true e rest = let same = eqb-true y node e in let first = low zero 0 (omega arith) in absurd (omega arith)
+    by false e rest = zero-add (times node ys) ∙ rest
+
+-- a list that lost one node isn't higher than it was
+pub All-removed : (top : ℕ) (xs new : List ℕ) (i : ℕ) → All (λ x. x ≤ top) xs → new ≡ remove xs i → All (λ x. x ≤ top) new
+All-removed top xs new i low is = subst (All (λ x. x ≤ top)) (sym is) (removed xs i low)
+  where
+    removed : (ys : List ℕ) (k : ℕ) → All (λ x. x ≤ top) ys → All (λ x. x ≤ top) (remove ys k)
+    removed ys k all = All-append (λ x. x ≤ top) (take k ys) (drop (suc k) ys) (All-take (λ x. x ≤ top) k ys all) (All-drop (λ x. x ≤ top) (suc k) ys all)
+
+-- to take a node of the first list out of another, at its place, changes nothing of what is left without the first
+pub removed_done : (gone xs : List ℕ) (i x : ℕ) → i < length xs → x ≡ get_or xs i x → not (times x gone == 0) ≡ true → take i (remove xs i) ++ without gone (drop i (remove xs i)) ≡ take i xs ++ without gone (drop i xs)
+removed_done gone [] i x less at some = absurd (omega arith)
+removed_done gone (y ∷ ys) zero x less at some = by (times y gone == 0) refl
+  where
+    by : (b : Bool) → (times y gone == 0) ≡ b → without gone ys ≡ (if b then y ∷ without gone ys else without gone ys)
+    by true e = let same : x ≡ y = at in absurd (cc)
+    by false e = refl
+removed_done gone (y ∷ ys) (suc i) x less at some = ap (λ l. y ∷ l) (removed_done gone ys i x (omega arith) at some)

@@ -15,16 +15,19 @@ pub const ROOM: usize = 16;
 #[derive(Debug, Drop)]
 pub struct Nodes {
     items: Vec<u32>,
+    /// No node is above it, so a node that is above it isn't looked for.
+    highest: u32,
 }
 
 impl Model for Nodes {
     ghost use Rattle.std.specs.Prelude.{ℕ, List, ◌≤◌, vec_capacity};
+    ghost use Rattle.std.specs.List.{All};
 
     ghost Value = { List ℕ };
 
     ghost view = { λ n. n.items.items };
 
-    ghost invariant = { λ n. 16 ≤ vec_capacity n.items };
+    ghost invariant = { λ n. (16 ≤ vec_capacity n.items) × All (λ x. x ≤ n.highest) n.items.items };
 }
 
 impl Nodes {
@@ -33,7 +36,10 @@ impl Nodes {
         requires { 16 ≤ vec_capacity items }
         ensures { result ≡ items.items }
     {
-        Nodes { items }
+        Nodes {
+            items,
+            highest: u32::MAX,
+        }
     }
 
     /// An empty list with its room reserved.
@@ -42,6 +48,7 @@ impl Nodes {
     {
         Ok(Nodes {
             items: Vec::with_capacity(alloc, ROOM)?,
+            highest: 0,
         })
     }
 
@@ -74,6 +81,9 @@ impl Nodes {
     pub fn has(&self, node: u32) -> bool
         ensures { result ≡ not (times node self.now == 0) }
     {
+        if node > self.highest {
+            return false;
+        }
         if self.is_in_place(node) {
             return true;
         }
@@ -94,6 +104,7 @@ impl Nodes {
         requires { length self.old < 16 }
         ensures { self.new ≡ self.old ++ node ∷ [] }
     {
+        self.highest = self.highest.max(node);
         match self.items.push(node) {
             Ok(()) => {}
             Err(_) => unreachable!(),
@@ -106,6 +117,7 @@ impl Nodes {
         requires { length self.old < 16 }
         ensures { self.new ≡ node ∷ self.old }
     {
+        self.highest = self.highest.max(node);
         match self.items.insert(0, node) {
             Ok(()) => {}
             Err(_) => unreachable!(),
@@ -126,7 +138,8 @@ impl Nodes {
         requires { length self.old + length more.now ≤ 16 }
         ensures { self.new ≡ self.old ++ more.now }
     {
-        match self.items.extend_from_slice(more.as_slice()) {
+        self.highest = self.highest.max(more.highest);
+        match self.items.extend_from_slice(&more.items) {
             Ok(()) => {}
             Err(_) => unreachable!(),
         }
@@ -155,6 +168,7 @@ impl Nodes {
         ensures { self.new ≡ [] }
     {
         self.items.clear();
+        self.highest = 0;
     }
 }
 
@@ -172,14 +186,19 @@ impl From<Nodes> for Vec<u32> {
 #[derive(Debug, Drop)]
 pub struct Notes {
     items: Vec<Option<u64>>,
+    /// Whether there may be a note, so that none is cleared twice.
+    noted: bool,
 }
 
 impl Model for Notes {
-    ghost use Rattle.std.specs.Prelude.{ℕ, List, Option};
+    ghost use Rattle.std.specs.Prelude.{◌≡◌, ℕ, List, Option, None, length, replicate};
+    ghost use Rattle.std.specs.Bool.{OnFalse};
 
     ghost Value = { List (Option ℕ) };
 
     ghost view = { λ n. n.items.items };
+
+    ghost invariant = { λ n. OnFalse n.noted (n.items.items ≡ replicate (length n.items.items) None) };
 }
 
 impl Notes {
@@ -189,6 +208,7 @@ impl Notes {
     {
         Ok(Notes {
             items: vec![in alloc; None; seats as usize]?,
+            noted: false,
         })
     }
 
@@ -207,13 +227,18 @@ impl Notes {
         ensures { self.new ≡ slice_set self.old seat (Some epoch) }
     {
         self.items[seat as usize] = Some(epoch);
+        self.noted = true;
     }
 
     /// Forgets every note.
     pub fn clear(&mut self)
         ensures { self.new ≡ replicate (length self.old) None }
     {
+        if !self.noted {
+            return;
+        }
         self.items.fill(None);
+        self.noted = false;
     }
 }
 
@@ -223,7 +248,7 @@ impl From<Vec<Option<u64>>> for Notes {
     ghost from_gives = { λ v notes. notes ≡ v.items };
 
     fn from(items: Vec<Option<u64>>) -> Notes {
-        Notes { items }
+        Notes { items, noted: true }
     }
 }
 
@@ -241,14 +266,19 @@ impl From<Notes> for Vec<Option<u64>> {
 #[derive(Debug, Drop)]
 pub struct Flags {
     items: Vec<bool>,
+    /// Whether there may be a set flag, so that none is taken back twice.
+    raised: bool,
 }
 
 impl Model for Flags {
-    ghost use Rattle.std.specs.Prelude.{List, Bool};
+    ghost use Rattle.std.specs.Prelude.{◌≡◌, List, Bool, false, length, replicate};
+    ghost use Rattle.std.specs.Bool.{OnFalse};
 
     ghost Value = { List Bool };
 
     ghost view = { λ n. n.items.items };
+
+    ghost invariant = { λ n. OnFalse n.raised (n.items.items ≡ replicate (length n.items.items) false) };
 }
 
 fn are_all_set(flags: &[bool]) -> bool
@@ -264,6 +294,7 @@ impl Flags {
     {
         Ok(Flags {
             items: vec![in alloc; false; seats as usize]?,
+            raised: false,
         })
     }
 
@@ -282,6 +313,7 @@ impl Flags {
         ensures { self.new ≡ slice_set self.old seat true }
     {
         self.items[seat as usize] = true;
+        self.raised = true;
     }
 
     /// Whether the flags of all seats but this one are set.
@@ -297,7 +329,11 @@ impl Flags {
     pub fn clear(&mut self)
         ensures { self.new ≡ replicate (length self.old) false }
     {
+        if !self.raised {
+            return;
+        }
         self.items.fill(false);
+        self.raised = false;
     }
 }
 
@@ -307,7 +343,10 @@ impl From<Vec<bool>> for Flags {
     ghost from_gives = { λ v flags. flags ≡ v.items };
 
     fn from(items: Vec<bool>) -> Flags {
-        Flags { items }
+        Flags {
+            items,
+            raised: true,
+        }
     }
 }
 

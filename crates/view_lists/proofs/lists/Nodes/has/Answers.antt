@@ -1,8 +1,14 @@
-use Rattle.std.proofs.Common.{◌∙◌, ap}
-use Rattle.std.specs.Prelude.{◌==◌}
-use Rattle.std.specs.List.{list_any}
-use Rattle.view_lists.proofs.Times.{any_times}
+use Rattle.std.proofs.Common.{rules, ◌≡◌, ◌∙◌, ◌≤◌, ◌<◌, sym, ap}
+use Rattle.std.specs.Prelude.{◌==◌, not}
+use Rattle.std.specs.List.{list_any, All}
+use Rattle.view_lists.proofs.Times.{any_times, none_above}
 use Rattle.view_lists.proofs.lists.Nodes.has.Goals as goal
+
+pub returns-then-node-self : goal.returns-then-node-self
+returns-then-node-self c =
+    let low : All (λ x. x ≤ c.self.inside.highest) c.args.self.now = search rules in
+    let above : c.self.inside.highest < c.args.node = search rules in
+    sym (ap (λ n. not (n == 0)) (none_above c.args.node c.self.inside.highest c.args.self.now low above))
 
 pub returns : goal.returns
 returns c =

@@ -1,4 +1,5 @@
 use Rattle.std.proofs.Common.{◌≡◌, ◌++◌, ◌≤◌, ◌-◌, take, drop, length, vec_capacity}
+use Rattle.std.specs.List.{All}
 use Rattle.view_lists.specs.Counted.{without}
 use Rattle.view_lists.proofs.lists.Nodes.leave_out.Given as goal
 
@@ -6,6 +7,7 @@ abbrev pub invariant-loop-i : goal.invariant-loop-i
 invariant-loop-i l = record {
   room : 16 ≤ vec_capacity l.self-inside.items;
   within : l.i ≤ length l.self-inside.items.items;
+  low : All (λ x. x ≤ l.self-inside.highest) l.self-inside.items.items;
   done : take l.i l.self-inside.items.items ++ without l.gone (drop l.i l.self-inside.items.items) ≡ without l.gone l.fn.self;
 }
 
