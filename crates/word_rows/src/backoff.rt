@@ -1,7 +1,7 @@
 //! Waiting between two looks at a word that another thread has to change. Each look takes the word's cache line from
 //! the thread that is about to write it, so a caller that looks again at once slows down the one that it waits for.
-//! The name is that of crossbeam's `Backoff`, which waits far less: a lock's turn takes about a hundred turns of its
-//! loop.
+//! The name is that of crossbeam's `Backoff`, which waits far less. How long to wait was measured, by what threads at
+//! one range get done together.
 ghost use Rattle.std.specs.Prelude.{◌≡◌, ◌*◌, ◌≤◌, ℕ, min};
 ghost use Rattle.word_rows.specs.declared.backoff.TheConstants.{SHORTEST_WAIT, LONGEST_WAIT};
 
@@ -9,7 +9,7 @@ use std::marker::Model;
 use std::{hint, thread};
 
 /// How many turns of `std::hint::spin_loop` the first wait takes.
-pub const SHORTEST_WAIT: u32 = 256;
+pub const SHORTEST_WAIT: u32 = 1024;
 
 /// How many turns a wait takes at most. One that takes as many also yields the processor.
 pub const LONGEST_WAIT: u32 = 8192;
