@@ -1,6 +1,7 @@
 -- What a look has shown of the history stays so of what the caller sees later, and looks and a call after them are one
 -- call.
-use Rattle.std.proofs.Common.{◌≡◌, ◌≢◌, ℕ, ◌+◌, ◌<◌, ◌≤◌, List, [], ◌∷◌, ◌++◌, take, length, sym, refl, ap, ◌∙◌, subst, arith, inl, inr, length-append, append_assoc}
+use Rattle.std.proofs.Common.{◌≡◌, ◌≢◌, ℕ, ◌+◌, ◌<◌, ◌≤◌, List, [], ◌∷◌, ◌++◌, take, length, sym, refl, ap, ◌∙◌, subst}
+use Rattle.std.proofs.Common.{arith, inl, inr, length-append, append_assoc}
 use Rattle.std.proofs.lemmas.Bool.{cases_lt}
 use Rattle.std.proofs.lemmas.List.{append-nil, take_all, take-append-le}
 use Rattle.std.specs.Prelude.{None}
@@ -38,8 +39,14 @@ same_first : (a b : List Entry) (m : ℕ) → StartsWith b a → m ≤ length a 
 same_first a b m f le = ap (take m) f.1 ∙ take-append-le m a f.0 le
 
 -- what was so after so many entries is so of what is seen later
-pub after_on : (a b : Known Pass) (m : ℕ) (what : List Area → Type 0) → b.pass.start ≡ a.pass.start → StartsWith b.pass.seen a.pass.seen → m ≤ length a.pass.seen → IsAfter a m what → IsAfter b m what
-after_on a b m what start more le t = (t.0, subst (λ (z : List Area × List Entry). StateAfter z.0 z.1 t.0) (λ i. (sym start i, sym (same_first a.pass.seen b.pass.seen m more le) i)) t.1, t.2)
+pub after_on : (a b : Known Pass) (m : ℕ) (what : List Area → Type 0) → b.pass.start ≡ a.pass.start
+    → StartsWith b.pass.seen a.pass.seen → m ≤ length a.pass.seen → IsAfter a m what → IsAfter b m what
+after_on a b m what start more le t = (
+  t.0,
+  subst (λ (z : List Area × List Entry). StateAfter z.0 z.1 t.0)
+      (λ i. (sym start i, sym (same_first a.pass.seen b.pass.seen m more le) i)) t.1,
+  t.2,
+)
 
 pub whole_on : (a b : Known Pass) (m n : ℕ) → StartsWith b.pass.seen a.pass.seen → m ≤ length a.pass.seen → HasWhole a m n → HasWhole b m n
 whole_on a b m n more le t = ap whole_count (same_first a.pass.seen b.pass.seen m more le) ∙ t
@@ -83,7 +90,8 @@ rises s first second old new le f g differ = elim (cases_lt first second) [
 ]
 
 -- a call after looks is a call from before them
-pub called_after : (a b c : CallerView) (line : ℕ) (call : Call) (e : Entry) → HasLooked a b → b.seat.held ≡ a.seat.held → IsCalled b line call e c → IsCalled a line call e c
+pub called_after : (a b c : CallerView) (line : ℕ) (call : Call) (e : Entry) → HasLooked a b → b.seat.held ≡ a.seat.held
+    → IsCalled b line call e c → IsCalled a line call e c
 called_after a b c line call e look held called =
     let num = called.numbered in
     record {
@@ -121,14 +129,20 @@ called_after a b c line call e look held called =
     }
 
 -- what the caller had seen is seen still behind its entry
-pub seen_on : (a b : CallerView) (line : ℕ) (call : Call) (e : Entry) → IsCalled a line call e b → StartsWith b.seat.pass.seen a.seat.pass.seen × (length a.seat.pass.seen ≤ e.number)
+pub seen_on : (a b : CallerView) (line : ℕ) (call : Call) (e : Entry) → IsCalled a line call e b
+    → StartsWith b.seat.pass.seen a.seat.pass.seen × (length a.seat.pass.seen ≤ e.number)
 seen_on a b line call e called =
     let num = called.numbered in
-    let more : StartsWith b.seat.pass.seen num.history = (e ∷ [], num.seen) in
-    (begins_on a.seat.pass.seen num.history b.seat.pass.seen num.more more, let l = longer a.seat.pass.seen num.history num.more in let c = num.counted in omega arith)
+    let more : StartsWith b.seat.pass.seen num.history = (e ∷ [], num.seen) in (
+      begins_on a.seat.pass.seen num.history b.seat.pass.seen num.more more,
+      let l =
+          longer a.seat.pass.seen num.history num.more in let c = num.counted in omega arith,
+    )
 
 -- the reason of an attempt is the cause of the call that follows
-pub cause_of : (a b c : CallerView) (r : Request) (line : ℕ) (e : Entry) (cause : Cause) → HasLooked a b → IsReason a r b cause → IsCalled b line (Protect r.addr r.len r.prot) e c → HasCause a.seat (Protect r.addr r.len r.prot) (page_of r.addr) (end_page r.addr r.len) e c.seat cause
+pub cause_of : (a b c : CallerView) (r : Request) (line : ℕ) (e : Entry) (cause : Cause) → HasLooked a b → IsReason a r b cause
+    → IsCalled b line (Protect r.addr r.len r.prot) e c
+    → HasCause a.seat (Protect r.addr r.len r.prot) (page_of r.addr) (end_page r.addr r.len) e c.seat cause
 cause_of a b c r line e (NotOneArea at) look reason called =
     let s = seen_on b c line (Protect r.addr r.len r.prot) e called in
     ((reason.0.0, (let h = reason.0.1 in let l = s.1 in omega arith)), after_on b.seat c.seat at _ called.numbered.start s.0 reason.0.1 reason.1)
@@ -153,7 +167,9 @@ pub at_since : (a b c : CallerView) (m : ℕ) → HasLooked a b → IsLookedAt b
 at_since a b c m look at = ((let l = longer a.seat.pass.seen b.seat.pass.seen look.more in let h = at.0 in omega arith), at.1)
 
 -- a call under everything came between the first look and the second
-pub moved_between : (a b c : CallerView) (r : Request) (first second old new : ℕ) → HasLooked a b → HasLooked b c → IsLookedAt a.seat first b.seat → HasWhole b.seat first old → IsLookedAt b.seat second c.seat → HasWhole c.seat second new → (new ≡ old → ⊥) → IsReason a r c (Moved first second old new)
+pub moved_between : (a b c : CallerView) (r : Request) (first second old new : ℕ) → HasLooked a b → HasLooked b c
+    → IsLookedAt a.seat first b.seat → HasWhole b.seat first old → IsLookedAt b.seat second c.seat → HasWhole c.seat second new
+    → (new ≡ old → ⊥) → IsReason a r c (Moved first second old new)
 moved_between a b c r first second old new look next at_first of_first at_second of_second differ =
     let now : HasWhole c.seat first old = whole_on b.seat c.seat first old next.more at_first.1 of_first in
     let later : first ≤ second = (let h = at_first.1 in let l = at_second.0 in omega arith) in (
@@ -166,15 +182,26 @@ moved_between a b c r first second old new look next at_first of_first at_second
     )
 
 -- pages that lay in no area at the first look are the reason at once, and a change that needs more rows is one later
-pub other_before : (a b : CallerView) (r : Request) (at : ℕ) (lo hi : ℕ) → lo ≡ page_of r.addr → hi ≡ end_page r.addr r.len → IsLookedAt a.seat at b.seat → IsAfter b.seat at (λ A. ¬ IsOneKind A lo hi) → IsReason a r b (NotOneArea at)
-other_before a b r at lo hi is_lo is_hi looked other = (looked, subst (λ (z : ℕ × ℕ). IsAfter b.seat at (λ A. ¬ IsOneKind A z.0 z.1)) (λ i. (is_lo i, is_hi i)) other)
+pub other_before : (a b : CallerView) (r : Request) (at : ℕ) (lo hi : ℕ) → lo ≡ page_of r.addr → hi ≡ end_page r.addr r.len
+    → IsLookedAt a.seat at b.seat → IsAfter b.seat at (λ A. ¬ IsOneKind A lo hi) → IsReason a r b (NotOneArea at)
+other_before a b r at lo hi is_lo is_hi looked other =
+    (looked, subst (λ (z : ℕ × ℕ). IsAfter b.seat at (λ A. ¬ IsOneKind A z.0 z.1)) (λ i. (is_lo i, is_hi i)) other)
 
 pub more_rows_later : (a b c : CallerView) (r : Request) (at : ℕ) → HasLooked a b → NeedsMoreRows b r c at → IsReason a r c (NotSimple at)
 more_rows_later a b c r at look needs = (at_since a b c at look needs.when, needs.state)
 
 -- looks say nothing of what is held
 pub looked_free : (a b : CallerView) → HasLooked a b → HasLooked a (record b { seat = record b.seat { held = None } })
-looked_free a b look = record { table = look.table; number = look.number; start = look.start; mine = look.mine; more = look.more; rest = look.rest; taken = look.taken; left = look.left }
+looked_free a b look = record {
+  table = look.table;
+  number = look.number;
+  start = look.start;
+  mine = look.mine;
+  more = look.more;
+  rest = look.rest;
+  taken = look.taken;
+  left = look.left;
+}
 
 -- a change over the area that the caller holds, after looks, is one call from before them
 pub changed_after : (a b c : CallerView) (r : Request) (e : Entry) → a.seat.held ≡ None → HasLooked a b → IsChanged b r c e → CallIs a r e c
@@ -183,15 +210,26 @@ changed_after a b c r e free look changed =
 
 -- who has nothing to write has looked, and seen no more
 pub no_look : (a : CallerView) → IsAtRest a.seat.pass → HasLooked a a
-no_look a rest = record { table = refl; number = refl; start = refl; mine = refl; more = ([], sym (append-nil a.seat.pass.seen)); rest = rest; taken = omega arith; left = refl }
+no_look a rest = record {
+  table = refl;
+  number = refl;
+  start = refl;
+  mine = refl;
+  more = ([], sym (append-nil a.seat.pass.seen));
+  rest = rest;
+  taken = omega arith;
+  left = refl;
+}
 
 -- what an attempt after looks came to, it came to from before them
 reason_since : (a b c : CallerView) (r : Request) (cause : Cause) → HasLooked a b → IsReason b r c cause → IsReason a r c cause
 reason_since a b c r (NotOneArea at) look reason = (at_since a b c at look reason.0, reason.1)
 reason_since a b c r (NotSimple at) look reason = (at_since a b c at look reason.0, reason.1)
-reason_since a b c r (Moved first second old new) look reason = (at_since a b c first look reason.0, at_since a b c second look reason.1, reason.2, reason.3, reason.4, reason.5)
+reason_since a b c r (Moved first second old new) look reason =
+    (at_since a b c first look reason.0, at_since a b c second look reason.1, reason.2, reason.3, reason.4, reason.5)
 
-pub attempt_since : (a b c : CallerView) (r : Request) (attempt : Attempt) → HasLooked a b → b.seat.held ≡ a.seat.held → IsAttempt b r c attempt → IsAttempt a r c attempt
+pub attempt_since : (a b c : CallerView) (r : Request) (attempt : Attempt) → HasLooked a b → b.seat.held ≡ a.seat.held
+    → IsAttempt b r c attempt → IsAttempt a r c attempt
 attempt_since a b c r (Done e seq) look held t = (called_after a b c r.line (Protect r.addr r.len r.prot) e look held t.0, t.1, t.2)
 attempt_since a b c r Again look held t = looked_on a b c look t
 attempt_since a b c r (Whole cause) look held t = (looked_on a b c look t.0, reason_since a b c r cause look t.1)

@@ -12,7 +12,8 @@ pub record IsNew (table : TableId) (left : ℕ) (c : CallerView) : Type 0 where
   pub free : c.seat.held ≡ None
   pub left_is : c.left ≡ left
 
-parts_new : (table : TableId) (start : List Area) (calls : List ℕ) (first others : List CallerView) (a b : CallerView) → AreNewCallers table start calls (first ++ others) → length first ≡ 1 → length (first ++ others) ≡ 2
+parts_new : (table : TableId) (start : List Area) (calls : List ℕ) (first others : List CallerView) (a b : CallerView)
+    → AreNewCallers table start calls (first ++ others) → length first ≡ 1 → length (first ++ others) ≡ 2
     → IsNew table (slice_index calls 0) (get_or first 0 a) × IsNew table (slice_index calls 1) (get_or others 0 b)
 parts_new table start calls [] others a b new one two = absurd (omega arith)
 parts_new table start calls (x ∷ y ∷ rest) others a b new one two = absurd (omega arith)
@@ -22,6 +23,9 @@ parts_new table start calls (x ∷ []) (y ∷ rest) a b new one two = let p = ne
   record { table_is = ap (λ (c : CallerView). c.seat.table) q; free = ap (λ (c : CallerView). c.seat.held) q; left_is = ap (λ (c : CallerView). c.left) q },
 )
 
-pub two_new : (table : TableId) (start : List Area) (calls : List ℕ) (callers first others : List CallerView) (a b : CallerView) → AreNewCallers table start calls callers → callers ≡ first ++ others → length first ≡ 1 → length callers ≡ 2
+pub two_new : (table : TableId) (start : List Area) (calls : List ℕ) (callers first others : List CallerView) (a b : CallerView)
+    → AreNewCallers table start calls callers → callers ≡ first ++ others → length first ≡ 1 → length callers ≡ 2
     → IsNew table (slice_index calls 0) (get_or first 0 a) × IsNew table (slice_index calls 1) (get_or others 0 b)
-two_new table start calls callers first others a b new parts one two = parts_new table start calls first others a b (subst (λ l. AreNewCallers table start calls l) parts new) one (subst (λ (l : List CallerView). length l ≡ 2) parts two)
+two_new table start calls callers first others a b new parts one two =
+    parts_new table start calls first others a b (subst (λ l. AreNewCallers table start calls l) parts new) one
+    (subst (λ (l : List CallerView). length l ≡ 2) parts two)

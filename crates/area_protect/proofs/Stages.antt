@@ -33,7 +33,9 @@ use Rattle.area_protect.specs.Looks.{IsAfter, HasWhole, HasLooked, IsLookedAt}
 use Rattle.area_protect.proofs.Looking.{longer}
 
 -- pages that the row of the first one doesn't hold, or that aren't mapped there, are not of one kind
-pub other_kind : (held : Held) (pages : Span) (row : Row) (words : List ℕ) (state : List Area) → held.range.lo ≡ pages.lo → held.range.hi ≡ pages.hi → RowIs (Some held) pages.lo row words state → row.lo ≤ pages.lo → pages.lo < row.hi → (row.kind ≡ None) ⊎ (row.hi < pages.hi) → IsOneKind state pages.lo pages.hi → ⊥
+pub other_kind : (held : Held) (pages : Span) (row : Row) (words : List ℕ) (state : List Area) → held.range.lo ≡ pages.lo
+    → held.range.hi ≡ pages.hi → RowIs (Some held) pages.lo row words state → row.lo ≤ pages.lo → pages.lo < row.hi
+    → (row.kind ≡ None) ⊎ (row.hi < pages.hi) → IsOneKind state pages.lo pages.hi → ⊥
 other_kind held pages row words state lo hi is from until why one =
     let order = pages.ordered in
     let here : IsHeldPage (Some held) pages.lo = (held, refl, omega arith, omega arith) in
@@ -46,10 +48,14 @@ other_kind held pages row words state lo hi is from until why one =
     why
 
 -- so at a look under these pages they were not of one kind
-pub other_shown : (seat : Known Pass) (held : Option Held) (h : Held) (page : ℕ) (pages : Span) (row : Row) → held ≡ Some h → h.range.lo ≡ pages.lo → h.range.hi ≡ pages.hi → page ≡ pages.lo → Shows seat (RowIs held page row) → row.lo ≤ page → page < row.hi → (row.kind ≡ None) ⊎ (row.hi < pages.hi)
+pub other_shown : (seat : Known Pass) (held : Option Held) (h : Held) (page : ℕ) (pages : Span) (row : Row) → held ≡ Some h
+    → h.range.lo ≡ pages.lo → h.range.hi ≡ pages.hi → page ≡ pages.lo → Shows seat (RowIs held page row) → row.lo ≤ page
+    → page < row.hi → (row.kind ≡ None) ⊎ (row.hi < pages.hi)
     → Shows seat (λ _ state. ¬ IsOneKind state pages.lo pages.hi)
 other_shown seat held h page pages row is lo hi first shows from until why start history state words m =
-    other_kind h pages row words state lo hi (subst (λ (z : Option Held × ℕ). RowIs z.0 z.1 row words state) (λ i. (is i, first i)) (shows start history state words m)) (subst (λ n. row.lo ≤ n) first from) (subst (λ n. n < row.hi) first until) why
+    other_kind h pages row words state lo hi (subst (λ (z : Option Held × ℕ). RowIs z.0 z.1 row words state)
+    (λ i. (is i, first i)) (shows start history state words m)) (subst (λ n. row.lo ≤ n) first from)
+    (subst (λ n. n < row.hi) first until) why
 
 -- what a numbered call left is written, at the latest by a store of one row
 pub record IsFinished (drawn after : Known Pass) : Type 0 where
@@ -64,14 +70,37 @@ pub record IsFinished (drawn after : Known Pass) : Type 0 where
   pub trace : (after.trace ≡ drawn.trace) ⊎ ((index : ℕ) × (after.trace ≡ client_trace drawn.trace (3 + index)))
 
 pub nothing_to_store : (n : Known Pass) → IsAtRest n.pass → IsFinished n n
-nothing_to_store n rest = record { rest = rest; start = refl; seen = refl; mine = refl; drew = refl; table = refl; number = refl; held = refl; trace = inl refl }
+nothing_to_store n rest = record {
+  rest = rest;
+  start = refl;
+  seen = refl;
+  mine = refl;
+  drew = refl;
+  table = refl;
+  number = refl;
+  held = refl;
+  trace = inl refl;
+}
 
 pub stored_one : (n w : Known Pass) (index : ℕ) → IsStoredRow n index w → IsFinished n w
-stored_one n w index s = record { rest = s.rest; start = s.start; seen = s.seen; mine = s.mine; drew = s.drew; table = s.table; number = s.number; held = s.held; trace = inr (index, s.trace) }
+stored_one n w index s = record {
+  rest = s.rest;
+  start = s.start;
+  seen = s.seen;
+  mine = s.mine;
+  drew = s.drew;
+  table = s.table;
+  number = s.number;
+  held = s.held;
+  trace = inr (index, s.trace);
+}
 
 -- planning, numbering, storing and giving back are one call of a caller that held nothing before
-pub called_area : (b r n w d : CallerView) (e : Entry) (line : ℕ) (call : Call) (span : Span) (pending : Pending) → IsReading b.seat r.seat → r.left ≡ b.left → e.line ≡ line → e.call ≡ call → e.under ≡ OverArea span → IsNamedReply e.reply → IsDrawn r.seat e pending n.seat → n.left + 1 ≡ r.left
-    → IsFinished n.seat w.seat → w.left ≡ n.left → IsRelease rest_of w.seat d.seat → d.left ≡ w.left → IsCalled (record b { seat = record b.seat { held = None } }) line call e d
+pub called_area : (b r n w d : CallerView) (e : Entry) (line : ℕ) (call : Call) (span : Span) (pending : Pending)
+    → IsReading b.seat r.seat → r.left ≡ b.left → e.line ≡ line → e.call ≡ call → e.under ≡ OverArea span → IsNamedReply e.reply
+    → IsDrawn r.seat e pending n.seat → n.left + 1 ≡ r.left
+    → IsFinished n.seat w.seat → w.left ≡ n.left → IsRelease rest_of w.seat d.seat → d.left ≡ w.left
+    → IsCalled (record b { seat = record b.seat { held = None } }) line call e d
 called_area b r n w d e line call span pending reading same line_is call_is under named drawn left finished stored_left release same_left =
     let num = drawn.numbered in
     let taken : n.seat.trace.taken ≡ r.seat.trace.taken + 1 = ap (λ (t : Record). t.taken) drawn.trace in
@@ -134,10 +163,15 @@ module _ (d e : Known Pass) (release : IsRelease rest_of d e) where
   whole_back m n t = ap (λ l. whole_count (take m l)) seen_back ∙ t
 
 -- holding, reading, looking and giving back are a look
-pub looked_round : (a b c d e : CallerView) (found : ℕ) → IsLockCall a.seat b.seat → b.left ≡ a.left → IsAtRest b.seat.pass → IsReading b.seat c.seat → c.left ≡ b.left → IsLook c.seat found d.seat → d.left ≡ c.left → IsRelease rest_of d.seat e.seat → e.left ≡ d.left
+pub looked_round : (a b c d e : CallerView) (found : ℕ) → IsLockCall a.seat b.seat → b.left ≡ a.left → IsAtRest b.seat.pass
+    → IsReading b.seat c.seat → c.left ≡ b.left → IsLook c.seat found d.seat → d.left ≡ c.left → IsRelease rest_of d.seat e.seat
+    → e.left ≡ d.left
     → HasLooked a e × IsLookedAt a.seat found e.seat
 looked_round a b c d e found lock same_b rest reading same_c look same_d release same_e =
-    let more : StartsWith e.seat.pass.seen a.seat.pass.seen = subst (λ (z : List Entry × List Entry). StartsWith z.0 z.1) (λ i. (sym (ap (λ (p : Pass). p.seen) release.pass) i, (reading.seen ∙ ap (λ (p : Pass). p.seen) lock.pass) i)) look.more in
+    let more : StartsWith e.seat.pass.seen a.seat.pass.seen =
+    subst (λ (z : List Entry × List Entry). StartsWith z.0 z.1)
+    (λ i. (sym (ap (λ (p : Pass). p.seen) release.pass) i, (reading.seen ∙ ap (λ (p : Pass). p.seen) lock.pass) i))
+    look.more in
     let counted : length e.seat.pass.seen ≡ found = ap (λ (p : Pass). length p.seen) release.pass ∙ look.count in (
       record {
         table = release.table ∙ (look.step.table ∙ (reading.table ∙ lock.table));
@@ -146,14 +180,17 @@ looked_round a b c d e found lock same_b rest reading same_c look same_d release
         mine = ap (λ (p : Pass). p.mine) release.pass ∙ (ap (λ (p : Pass). p.mine) look.step.pass ∙ (reading.mine ∙ ap (λ (p : Pass). p.mine) lock.pass));
         more = more;
         rest = ap (λ (p : Pass). p.pending) release.pass ∙ (ap (λ (p : Pass). p.pending) look.step.pass ∙ (reading.read.pending ∙ rest));
-        taken = let l = lock.taken in let r = reading.taken in let t : d.seat.trace.taken ≡ c.seat.trace.taken + 1 = ap (λ (x : Record). x.taken) look.step.trace in let m = release.least in omega arith;
+        taken = let l = lock.taken in let r = reading.taken in
+            let t : d.seat.trace.taken ≡ c.seat.trace.taken + 1 = ap (λ (x : Record). x.taken) look.step.trace in
+            let m = release.least in omega arith;
         left = same_e ∙ (same_d ∙ (same_c ∙ same_b));
       },
       ((let l = longer a.seat.pass.seen e.seat.pass.seen more in omega arith), (let c = counted in omega arith)),
     )
 
 -- holding, reading and giving back, without a look
-pub held_and_back : (a b c e : CallerView) → IsLockCall a.seat b.seat → b.left ≡ a.left → IsAtRest b.seat.pass → IsReading b.seat c.seat → c.left ≡ b.left → IsRelease rest_of c.seat e.seat → e.left ≡ c.left → HasLooked a e
+pub held_and_back : (a b c e : CallerView) → IsLockCall a.seat b.seat → b.left ≡ a.left → IsAtRest b.seat.pass
+    → IsReading b.seat c.seat → c.left ≡ b.left → IsRelease rest_of c.seat e.seat → e.left ≡ c.left → HasLooked a e
 held_and_back a b c e lock same_b rest reading same_c release same_e = record {
   table = release.table ∙ (reading.table ∙ lock.table);
   number = release.number ∙ (reading.number ∙ lock.number);
@@ -166,7 +203,8 @@ held_and_back a b c e lock same_b rest reading same_c release same_e = record {
 }
 
 -- and holding and reading alone, where the range is kept
-pub held_and_read : (a b c : CallerView) → IsLockCall a.seat b.seat → b.left ≡ a.left → IsAtRest b.seat.pass → IsReading b.seat c.seat → c.left ≡ b.left → HasLooked a c
+pub held_and_read : (a b c : CallerView) → IsLockCall a.seat b.seat → b.left ≡ a.left → IsAtRest b.seat.pass
+    → IsReading b.seat c.seat → c.left ≡ b.left → HasLooked a c
 held_and_read a b c lock same_b rest reading same_c = record {
   table = reading.table ∙ lock.table;
   number = reading.number ∙ lock.number;
@@ -196,22 +234,29 @@ counts_on b c n reading counts start history state words m =
     omega arith
 
 -- and at the draw they are those before the entry
-pub drawn_counts : (r n : Known Pass) (e : Entry) (pending : Pending) (k : ℕ) → IsDrawn r e pending n → IsAtRest r.pass → CountsWhole r k → HasWhole n e.number k
+pub drawn_counts : (r n : Known Pass) (e : Entry) (pending : Pending) (k : ℕ) → IsDrawn r e pending n → IsAtRest r.pass
+    → CountsWhole r k → HasWhole n e.number k
 drawn_counts r n e pending k drawn rest counts =
     let num = drawn.numbered in
-    let all : take e.number n.pass.seen ≡ num.history = ap (take e.number) num.seen ∙ (take-append-le e.number num.history (e ∷ []) (let c = num.counted in omega arith) ∙ take_all e.number num.history (let c = num.counted in omega arith)) in
+    let all : take e.number n.pass.seen ≡ num.history = ap (take e.number) num.seen
+    ∙ (take-append-le e.number num.history (e ∷ []) (let c = num.counted in omega arith)
+    ∙ take_all e.number num.history (let c = num.counted in omega arith)) in
     let c : k + planned_calls r.pass.pending ≡ whole_count num.history = counts r.pass.start num.history num.state drawn.words drawn.moment in
     let none : planned_calls r.pass.pending ≡ 0 = ap planned_calls rest in
     ap whole_count all ∙ (let z : whole_count num.history ≡ k = omega arith in z)
 
 -- so a change over the area that the caller holds got its entry, whether a row was to be stored or not
-pub changed_area : (b r n w d : CallerView) (q : Request) (e : Entry) (span : Span) (pending : Pending) → IsReading b.seat r.seat → r.left ≡ b.left → IsAtRest b.seat.pass → e.line ≡ q.line → e.call ≡ Protect q.addr q.len q.prot → e.under ≡ OverArea span → IsNamedReply e.reply → IsDrawn r.seat e pending n.seat → n.left + 1 ≡ r.left
+pub changed_area : (b r n w d : CallerView) (q : Request) (e : Entry) (span : Span) (pending : Pending) → IsReading b.seat r.seat
+    → r.left ≡ b.left → IsAtRest b.seat.pass → e.line ≡ q.line → e.call ≡ Protect q.addr q.len q.prot → e.under ≡ OverArea span
+    → IsNamedReply e.reply → IsDrawn r.seat e pending n.seat → n.left + 1 ≡ r.left
     → IsFinished n.seat w.seat → w.left ≡ n.left → IsRelease rest_of w.seat d.seat → d.left ≡ w.left → IsChanged b q d e
 changed_area b r n w d q e span pending reading same rest line_is call_is under named drawn left finished stored_left release same_left = record {
-  called = called_area b r n w d e q.line (Protect q.addr q.len q.prot) span pending reading same line_is call_is under named drawn left finished stored_left release same_left;
+  called = called_area b r n w d e q.line (Protect q.addr q.len q.prot) span pending reading same line_is call_is under named
+      drawn left finished stored_left release same_left;
   area = subst HoldsSomeArea (sym under) tt;
   whole = λ k counts.
-      let drew : HasWhole n.seat e.number k = drawn_counts r.seat n.seat e pending k drawn (reading.read.pending ∙ rest) (counts_on b.seat r.seat k reading counts) in
+      let drew : HasWhole n.seat e.number k = drawn_counts r.seat n.seat e pending k drawn (reading.read.pending ∙ rest)
+      (counts_on b.seat r.seat k reading counts) in
       let stored : HasWhole w.seat e.number k = ap (λ l. whole_count (take e.number l)) finished.seen ∙ drew in
       whole_back w.seat d.seat release e.number k stored;
 }

@@ -55,7 +55,8 @@ pub record HoldsFound (after : CallerView) (page : ℕ) (f : Found) (wide : Span
 abbrev pub IsHeld : CallerView → CallerView → ℕ → Found → Span → Held → Type 0
 IsHeld before after page f wide (IsArea row kind) = HoldsFound after page f wide row kind
 IsHeld before after page f wide Other = after.seat.held ≡ None
-IsHeld before after page f wide (HasMoved second sequence) = (after.seat.held ≡ None) × IsLookedAt before.seat second after.seat × HasWhole after.seat second sequence × (sequence ≢ f.sequence)
+IsHeld before after page f wide (HasMoved second sequence) = (after.seat.held ≡ None) × IsLookedAt before.seat second after.seat
+    × HasWhole after.seat second sequence × (sequence ≢ f.sequence)
 
 -- the call of a request
 abbrev pub CallIs : CallerView → Request → Entry → CallerView → Type 0
@@ -76,9 +77,14 @@ pub record NeedsMoreRows (before : CallerView) (r : Request) (after : CallerView
 
 -- why an attempt has to hold everything
 abbrev pub IsReason : CallerView → Request → CallerView → Cause → Type 0
-IsReason before r after (NotOneArea at) = IsLookedAt before.seat at after.seat × IsAfter after.seat at (λ A. ¬ IsOneKind A (page_of r.addr) (end_page r.addr r.len))
-IsReason before r after (NotSimple at) = IsLookedAt before.seat at after.seat × IsAfter after.seat at (λ A. IsOneKind A (page_of r.addr) (end_page r.addr r.len) × ¬ IsSimple A (Protect r.addr r.len r.prot))
-IsReason before r after (Moved first second old new) = IsLookedAt before.seat first after.seat × IsLookedAt before.seat second after.seat × (first < second) × HasWhole after.seat first old × HasWhole after.seat second new × (old ≢ new)
+IsReason before r after (NotOneArea at) = IsLookedAt before.seat at after.seat
+    × IsAfter after.seat at (λ A. ¬ IsOneKind A (page_of r.addr) (end_page r.addr r.len))
+IsReason before r after (NotSimple at) = IsLookedAt before.seat at after.seat
+    × IsAfter after.seat at (λ A. IsOneKind A (page_of r.addr) (end_page r.addr r.len)
+    × ¬ IsSimple A (Protect r.addr r.len r.prot))
+IsReason before r after (Moved first second old new) = IsLookedAt before.seat first after.seat
+    × IsLookedAt before.seat second after.seat × (first < second) × HasWhole after.seat first old × HasWhole after.seat second new
+    × (old ≢ new)
 
 -- another attempt is due
 abbrev pub IsAgain : Attempt → Type 0

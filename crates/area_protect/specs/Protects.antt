@@ -31,7 +31,8 @@ IsBetween before m e = (length before.pass.seen ≤ m) × (m ≤ e.number)
 abbrev pub HasCause : Known Pass → Call → ℕ → ℕ → Entry → Known Pass → Cause → Type 0
 HasCause before call lo hi e after (NotOneArea at) = IsBetween before at e × IsAfter after at (λ A. ¬ IsOneKind A lo hi)
 HasCause before call lo hi e after (NotSimple at) = IsBetween before at e × IsAfter after at (λ A. IsOneKind A lo hi × ¬ IsSimple A call)
-HasCause before call lo hi e after (Moved first second old new) = IsBetween before first e × IsBetween before second e × (first < second) × HasWhole after first old × HasWhole after second new × (old ≢ new)
+HasCause before call lo hi e after (Moved first second old new) = IsBetween before first e × IsBetween before second e
+    × (first < second) × HasWhole after first old × HasWhole after second new × (old ≢ new)
 
 -- by which way the call went: free exactly where its arguments decide it
 abbrev pub HasPath : Known Pass → Call → ℕ → ℕ → Entry → Known Pass → Path → Type 0
@@ -65,5 +66,6 @@ LoneHoldsArea =
 abbrev pub LonePathIsOne : Type 0
 LonePathIsOne =
     (before after other_before other_after : CallerView) (line other_line addr len : ℕ) (prot : Prot) (e f : Entry) (path other : Path) →
-    IsProtected before line addr len prot e path after → IsProtected other_before other_line addr len prot f other other_after → IsLone before e → IsLone other_before f →
+    IsProtected before line addr len prot e path after → IsProtected other_before other_line addr len prot f other other_after
+    → IsLone before e → IsLone other_before f →
     before.seat.pass.start ≡ other_before.seat.pass.start → before.seat.pass.seen ≡ other_before.seat.pass.seen → path ≡ other

@@ -63,7 +63,8 @@ record IsBeside (kinds : ℕ → Option Kind) (row : Row) (before behind : Optio
   right : row.hi < LIMIT → kinds row.hi ≡ behind
   last : row.hi ≡ LIMIT → behind ≡ None
 
-beside : (rows : List ℕ) (kinds : ℕ → Option Kind) (row : Row) (before behind : Option Kind) → ShowFrom 0 rows kinds → IsRowIn rows row before behind → IsBeside kinds row before behind
+beside : (rows : List ℕ) (kinds : ℕ → Option Kind) (row : Row) (before behind : Option Kind) → ShowFrom 0 rows kinds
+    → IsRowIn rows row before behind → IsBeside kinds row before behind
 beside rows kinds row before behind show f = record {
   first = λ none. ⊎_elim
       (λ t. t.1)
@@ -71,20 +72,26 @@ beside rows kinds row before behind show f = record {
       let i = row.index - 1 in
       let b = shown_at 0 rows kinds i show (let h = f.there in omega arith) in
       let grows = b.grows in
-      let e : rows_start (drop (suc i) rows) ≡ row.lo = ap (λ n. rows_start (drop n rows)) (let z : suc i ≡ row.index = (let n = t.0 in omega arith) in z) ∙ (next_is rows row.index f.there ∙ f.lo) in
+      let e : rows_start (drop (suc i) rows) ≡ row.lo =
+      ap (λ n. rows_start (drop n rows)) (let z : suc i ≡ row.index = (let n = t.0 in omega arith) in z)
+      ∙ (next_is rows row.index f.there ∙ f.lo) in
       absurd (omega arith))
       f.left;
   left = λ more. ⊎_elim
-      (λ t. let z : row.lo ≡ 0 = sym f.lo ∙ (ap (λ n. row_start (get_or rows n 0)) t.0 ∙ first_start rows kinds show (let h = f.there in omega arith)) in absurd (omega arith))
+      (λ t. let z : row.lo ≡ 0 = sym f.lo ∙ (ap (λ n. row_start (get_or rows n 0)) t.0
+      ∙ first_start rows kinds show (let h = f.there in omega arith)) in absurd (omega arith))
       (λ t.
       let i = row.index - 1 in
       let b = shown_at 0 rows kinds i show (let h = f.there in omega arith) in
       let grows = b.grows in
-      let e : rows_start (drop (suc i) rows) ≡ row.lo = ap (λ n. rows_start (drop n rows)) (let z : suc i ≡ row.index = (let n = t.0 in omega arith) in z) ∙ (next_is rows row.index f.there ∙ f.lo) in
+      let e : rows_start (drop (suc i) rows) ≡ row.lo =
+      ap (λ n. rows_start (drop n rows)) (let z : suc i ≡ row.index = (let n = t.0 in omega arith) in z)
+      ∙ (next_is rows row.index f.there ∙ f.lo) in
       b.within (row.lo - 1) (omega arith) (omega arith) ∙ t.1)
       f.left;
   right = λ low. ⊎_elim
-      (λ t. let e : rows_start (drop (suc row.index) rows) ≡ LIMIT = ap rows_start (drop_all (suc row.index) rows (let n = t.0 in omega arith)) in let h = f.hi in absurd (omega arith))
+      (λ t. let e : rows_start (drop (suc row.index) rows) ≡ LIMIT =
+      ap rows_start (drop_all (suc row.index) rows (let n = t.0 in omega arith)) in let h = f.hi in absurd (omega arith))
       (λ t.
       let b = shown_at 0 rows kinds (suc row.index) show t.0 in
       let grows = b.grows in
@@ -101,15 +108,21 @@ beside rows kinds row before behind show f = record {
 }
 
 -- one store is one of the four ways
-pub four_of : (A : List Area) (a : Area) (row : Row) (before behind : Option Kind) (c : Change) → IsAmong A a row c.old before behind → IsOneStore row before behind c → FourCases A a c.place.lo c.place.hi c.new
+pub four_of : (A : List Area) (a : Area) (row : Row) (before behind : Option Kind) (c : Change)
+    → IsAmong A a row c.old before behind → IsOneStore row before behind c → FourCases A a c.place.lo c.place.hi c.new
 four_of A a row before behind c g (whole index at new lo hi not_before not_behind) =
-    all_change (lo ∙ sym g.lo) (hi ∙ sym g.hi) (λ e. not_before (sym g.left ∙ (ap (kind_before A) (sym lo) ∙ e))) (λ e. not_behind (sym g.right ∙ (ap (kind_at A) (sym hi) ∙ e)))
-four_of A a row before behind c g (first_part index at same_kind lo hi is_before) = first_change (lo ∙ sym g.lo) (let h = g.hi in omega arith) (ap (kind_before A) lo ∙ (g.left ∙ is_before))
-four_of A a row before behind c g (last_part index at new lo hi is_behind) = last_change (let l = g.lo in omega arith) (hi ∙ sym g.hi) (ap (kind_at A) hi ∙ (g.right ∙ is_behind))
+    all_change (lo ∙ sym g.lo) (hi ∙ sym g.hi) (λ e. not_before (sym g.left ∙ (ap (kind_before A) (sym lo) ∙ e)))
+    (λ e. not_behind (sym g.right ∙ (ap (kind_at A) (sym hi) ∙ e)))
+four_of A a row before behind c g (first_part index at same_kind lo hi is_before) =
+    first_change (lo ∙ sym g.lo) (let h = g.hi in omega arith) (ap (kind_before A) lo ∙ (g.left ∙ is_before))
+four_of A a row before behind c g (last_part index at new lo hi is_behind) =
+    last_change (let l = g.lo in omega arith) (hi ∙ sym g.hi) (ap (kind_at A) hi ∙ (g.right ∙ is_behind))
 
 -- no way leads to more rows or fewer
 pub none_of : (A : List Area) (a : Area) (row : Row) (before behind : Option Kind) (c : Change) → IsAmong A a row c.old before behind → (c.new ≡ c.old → ⊥)
-    → (c.place.lo ≡ row.lo → c.place.hi ≡ row.hi → (before ≡ Some c.new) ⊎ (behind ≡ Some c.new)) → (c.place.lo ≡ row.lo → c.place.hi < row.hi → before ≢ Some c.new) → (row.lo < c.place.lo → c.place.hi ≡ row.hi → behind ≢ Some c.new)
+    → (c.place.lo ≡ row.lo → c.place.hi ≡ row.hi → (before ≡ Some c.new) ⊎ (behind ≡ Some c.new))
+    → (c.place.lo ≡ row.lo → c.place.hi < row.hi → before ≢ Some c.new)
+    → (row.lo < c.place.lo → c.place.hi ≡ row.hi → behind ≢ Some c.new)
     → FourCases A a c.place.lo c.place.hi c.new → ⊥
 none_of A a row before behind c g differ all first last (nothing same) = differ (same ∙ g.kind)
 none_of A a row before behind c g differ all first last (all_change lo hi not_before not_behind) =
@@ -127,10 +140,15 @@ none_of A a row before behind c g differ all first last (last_change lo hi is_be
     last (let l = g.lo in omega arith) at_hi (sym g.right ∙ (ap (kind_at A) (sym at_hi) ∙ is_behind))
 
 -- at a moment of a caller that holds the row and a page on each side, and has read the rows round it
-module _ (seat : Known Pass) (span : Span) (row : Row) (kind : Kind) (before behind : Option Kind) (addr len : ℕ) (prot : Prot) (held : seat.held ≡ Some (alone span)) (rest : IsAtRest seat.pass) (round : IsRound row span) (limit : row.hi ≤ LIMIT) (is_kind : row.kind ≡ Some kind)
-    (read : IsAsRead seat.pass row) (read_before : IsReadBefore seat.pass.rows row.index before) (read_behind : IsReadBehind seat.pass.rows read.count row.index behind)
-    (undecided : plain_reply (Protect addr len prot) ≡ None) (some_page : page_of addr < end_page addr len) (from : row.lo ≤ page_of addr) (until : end_page addr len ≤ row.hi)
-    (start : List Area) (history : List Entry) (state : List Area) (words : List ℕ) (m : IsMoment seat start history state words) (is : RowIs seat.held (page_of addr) row words state) where
+module _ (seat : Known Pass) (span : Span) (row : Row) (kind : Kind) (before behind : Option Kind) (addr len : ℕ) (prot : Prot)
+    (held : seat.held ≡ Some (alone span)) (rest : IsAtRest seat.pass) (round : IsRound row span) (limit : row.hi ≤ LIMIT)
+    (is_kind : row.kind ≡ Some kind)
+    (read : IsAsRead seat.pass row) (read_before : IsReadBefore seat.pass.rows row.index before)
+    (read_behind : IsReadBehind seat.pass.rows read.count row.index behind)
+    (undecided : plain_reply (Protect addr len prot) ≡ None) (some_page : page_of addr < end_page addr len)
+    (from : row.lo ≤ page_of addr) (until : end_page addr len ≤ row.hi)
+    (start : List Area) (history : List Entry) (state : List Area) (words : List ℕ) (m : IsMoment seat start history state words)
+    (is : RowIs seat.held (page_of addr) row words state) where
   abbrev pub own : Area
   own = record { lo = row.lo; hi = row.hi; kind = kind }
 
@@ -150,7 +168,8 @@ module _ (seat : Known Pass) (span : Span) (row : Row) (kind : Kind) (before beh
   page_held page low high below = let a = round.0 in let b = round.1 in (alone span, refl, omega arith, omega arith)
 
   same_kinds : (page : ℕ) → row.lo - 1 ≤ page → page ≤ row.hi → page < LIMIT → rows.0 page ≡ kind_at state page
-  same_kinds page low high below = shows_held m.grants words state m.passes seat.number m.pass m.exclusive m.backed m.own rested (Some (alone span)) granted rows.0 rows.1 page (page_held page low high below)
+  same_kinds page low high below = shows_held m.grants words state m.passes seat.number m.pass m.exclusive m.backed m.own rested
+      (Some (alone span)) granted rows.0 rows.1 page (page_held page low high below)
 
   at_held : (page : ℕ) → row.lo - 1 ≤ page → page ≤ row.hi → page < LIMIT → IsHeldPage seat.held page
   at_held page low high below = subst (λ h. IsHeldPage h page) (sym held) (page_held page low high below)
@@ -159,7 +178,9 @@ module _ (seat : Known Pass) (span : Span) (row : Row) (kind : Kind) (before beh
   found =
       let part = m.running.parts seat.number m.pass m.own in
       let stood : All (StillStands (Some (alone span)) words) m.pass.rows = (m.backed seat.number m.pass m.own).rows (Some (alone span)) granted in
-      row_in span words rows.0 rows.2 m.pass.rows stood row before behind read.count read.word round (omega arith) limit (part.count read.count (m.read.count read.count read.counted)) read.there (m.read.rows row.index read.word read.read) read.lo read.kind
+      row_in span words rows.0 rows.2 m.pass.rows stood row before behind read.count read.word round (omega arith) limit
+      (part.count read.count (m.read.count read.count read.counted)) read.there (m.read.rows row.index read.word read.read)
+      read.lo read.kind
       (⊎_elim (λ t. inl (t.0, t.1, m.read.rows (row.index + 1) t.1 t.2, t.3)) (λ t. inr t) read.hi)
       (⊎_elim (λ t. inl t) (λ t. inr (t.0, t.1, m.read.rows (row.index - 1) t.1 t.2, t.3)) read_before)
       (⊎_elim (λ t. inl t) (λ t. inr (t.0, t.1, m.read.rows (row.index + 1) t.1 t.2, t.3)) read_behind)
@@ -190,7 +211,8 @@ module _ (seat : Known Pass) (span : Span) (row : Row) (kind : Kind) (before beh
   run = record {
     has_page = omega arith;
     one_kind = of_kind;
-    before = λ page e same. is.previous (omega arith) (at_held (row.lo - 1) (omega arith) (omega arith) (omega arith)) (ap (kind_at state) (let z : row.lo - 1 ≡ page = omega arith in z) ∙ (same ∙ sym is_kind));
+    before = λ page e same. is.previous (omega arith) (at_held (row.lo - 1) (omega arith) (omega arith) (omega arith))
+        (ap (kind_at state) (let z : row.lo - 1 ≡ page = omega arith in z) ∙ (same ∙ sym is_kind));
     behind = λ same. elim (cases_lt row.hi LIMIT) [
       | inl low ↦ is.next (at_held row.hi (omega arith) (omega arith) low) (same ∙ sym is_kind)
       | inr ge ↦ some_none kind (kind_at state row.hi) (kind_at-limit state in_order row.hi ge) same
@@ -222,9 +244,11 @@ module _ (seat : Known Pass) (span : Span) (row : Row) (kind : Kind) (before beh
 
     pub right : IsRight state (Protect addr len prot) Zero (OverArea span) simple_in_own.1.0
     right = record {
-      fits = match_none (plain_reply (Protect addr len prot)) (FitsByState state (Protect addr len prot) (OverArea span)) (λ (_ : Reply). OverArea span ≡ Nothing) undecided
+      fits = match_none (plain_reply (Protect addr len prot)) (FitsByState state (Protect addr len prot) (OverArea span))
+          (λ (_ : Reply). OverArea span ≡ Nothing) undecided
           (inr (own, simple_in_own, record { first = round.0; end = round.1 }));
-      answers = done (page_of addr) (end_page addr len) undecided (refl, refl, mapped) counts.changed (let a = counts.areas in let g = counts.gaps in let l = m.running.limit in omega arith) refl;
+      answers = done (page_of addr) (end_page addr len) undecided (refl, refl, mapped) counts.changed (let a = counts.areas in
+          let g = counts.gaps in let l = m.running.limit in omega arith) refl;
     }
 
     kind_after : (page : ℕ) → page_of addr ≤ page → page < end_page addr len → kind_at simple_in_own.1.0 page ≡ Some (protected_kind prot kind)
@@ -233,12 +257,15 @@ module _ (seat : Known Pass) (span : Span) (row : Row) (kind : Kind) (before beh
         ∙ ap (option_map (protected_kind prot)) (of_kind page (omega arith) (omega arith)))
 
     -- a page of the call, or one that keeps its kind
-    elsewhere_or : (page : ℕ) → (page_of addr ≤ page → page < end_page addr len → kind_at simple_in_own.1.0 page ≡ kind_at state page) → kind_at simple_in_own.1.0 page ≡ kind_at state page
+    elsewhere_or : (page : ℕ) → (page_of addr ≤ page → page < end_page addr len
+        → kind_at simple_in_own.1.0 page ≡ kind_at state page) → kind_at simple_in_own.1.0 page ≡ kind_at state page
     elsewhere_or page inside = elim (cases_lt page (page_of addr)) [
-      | inl lt ↦ counts.changed.kinds_are page ∙ within-before (page_of addr) (end_page addr len) page (option_map (protected_kind prot) (kind_at state page)) (kind_at state page) lt
+      | inl lt ↦ counts.changed.kinds_are page ∙ within-before (page_of addr) (end_page addr len) page
+          (option_map (protected_kind prot) (kind_at state page)) (kind_at state page) lt
       | inr ge ↦ elim (cases_lt page (end_page addr len)) [
         | inl less ↦ inside ge less
-        | inr over ↦ counts.changed.kinds_are page ∙ within-after (page_of addr) (end_page addr len) page (option_map (protected_kind prot) (kind_at state page)) (kind_at state page) over
+        | inr over ↦ counts.changed.kinds_are page ∙ within-after (page_of addr) (end_page addr len) page
+            (option_map (protected_kind prot) (kind_at state page)) (kind_at state page) over
       ]
     ]
 
@@ -248,7 +275,8 @@ module _ (seat : Known Pass) (span : Span) (row : Row) (kind : Kind) (before beh
         (λ low high. kind_after page low high ∙ (ap Some same ∙ sym (of_kind page (omega arith) (omega arith)))))
 
     -- the change of one row is what is left
-    pub change_left : (c : Change) → c.span ≡ span → c.place.lo ≡ page_of addr → c.place.hi ≡ end_page addr len → c.old ≡ kind → c.new ≡ protected_kind prot kind → IsChange state span c simple_in_own.1.0
+    pub change_left : (c : Change) → c.span ≡ span → c.place.lo ≡ page_of addr → c.place.hi ≡ end_page addr len → c.old ≡ kind
+        → c.new ≡ protected_kind prot kind → IsChange state span c simple_in_own.1.0
     change_left c s lo hi old new = record {
       held = s;
       inside = let a = round.0 in let b = round.1 in let e = ap (λ (x : Span). x.lo) s in let f = ap (λ (x : Span). x.hi) s in (omega arith, omega arith);
@@ -278,40 +306,58 @@ other_kind : (c d : Change) → IsLike c d → c.new ≢ c.old → d.new ≢ d.o
 other_kind c d k differs = λ same. differs (sym k.new ∙ (same ∙ k.old))
 
 -- the four cases, by the pages and the kind of a change
-cases_of : (A : List Area) (a : Area) (c : Change) (span : Span) (lo hi : ℕ) (old new : Kind) → IsOf c span lo hi old new → FourCases A a c.place.lo c.place.hi c.new → FourCases A a lo hi new
+cases_of : (A : List Area) (a : Area) (c : Change) (span : Span) (lo hi : ℕ) (old new : Kind) → IsOf c span lo hi old new
+    → FourCases A a c.place.lo c.place.hi c.new → FourCases A a lo hi new
 cases_of A a c span lo hi old new o way = subst (λ (z : ℕ × ℕ × Kind). FourCases A a z.0 z.1 z.2) (λ i. (o.lo_is i, o.hi_is i, o.new_is i)) way
 
-cases_to : (A : List Area) (a : Area) (c : Change) (span : Span) (lo hi : ℕ) (old new : Kind) → IsOf c span lo hi old new → FourCases A a lo hi new → FourCases A a c.place.lo c.place.hi c.new
+cases_to : (A : List Area) (a : Area) (c : Change) (span : Span) (lo hi : ℕ) (old new : Kind) → IsOf c span lo hi old new
+    → FourCases A a lo hi new → FourCases A a c.place.lo c.place.hi c.new
 cases_to A a c span lo hi old new o way = subst (λ (z : ℕ × ℕ × Kind). FourCases A a z.0 z.1 z.2) (λ i. (sym o.lo_is i, sym o.hi_is i, sym o.new_is i)) way
 
 -- the plan of a caller that holds the area and has read the rows round it
-module _ (c : CallerView) (span : Span) (row : Row) (kind : Kind) (before behind : Option Kind) (addr len : ℕ) (prot : Prot) (held : c.seat.held ≡ Some (alone span)) (rest : IsAtRest c.seat.pass) (round : IsRound row span) (limit : row.hi ≤ LIMIT) (is_kind : row.kind ≡ Some kind)
-    (read : IsAsRead c.seat.pass row) (few : read.count ≤ ROWS) (read_before : IsReadBefore c.seat.pass.rows row.index before) (read_behind : IsReadBehind c.seat.pass.rows read.count row.index behind)
-    (undecided : plain_reply (Protect addr len prot) ≡ None) (some_page : page_of addr < end_page addr len) (from : row.lo ≤ page_of addr) (until : end_page addr len ≤ row.hi)
+module _ (c : CallerView) (span : Span) (row : Row) (kind : Kind) (before behind : Option Kind) (addr len : ℕ) (prot : Prot)
+    (held : c.seat.held ≡ Some (alone span)) (rest : IsAtRest c.seat.pass) (round : IsRound row span) (limit : row.hi ≤ LIMIT)
+    (is_kind : row.kind ≡ Some kind)
+    (read : IsAsRead c.seat.pass row) (few : read.count ≤ ROWS) (read_before : IsReadBefore c.seat.pass.rows row.index before)
+    (read_behind : IsReadBehind c.seat.pass.rows read.count row.index behind)
+    (undecided : plain_reply (Protect addr len prot) ≡ None) (some_page : page_of addr < end_page addr len)
+    (from : row.lo ≤ page_of addr) (until : end_page addr len ≤ row.hi)
     (shows : Shows c.seat (RowIs c.seat.held (page_of addr) row)) where
   -- a call of one of the four ways may be numbered
   number_by : (change : Option Change) → c.change ≡ change
-      → ((A : List Area) (a : Area) → IsAmong A a row kind before behind → a.kind ≡ kind → FourCases A a (page_of addr) (end_page addr len) (protected_kind prot kind))
-      → ((state left : List Area) → (protected_kind prot kind ≡ kind → left ≡ state) → ((d : Change) → IsOf d span (page_of addr) (end_page addr len) kind (protected_kind prot kind) → IsChange state span d left) → Leaves state (OverArea span) (change_pending change) left)
+      → ((A : List Area) (a : Area) → IsAmong A a row kind before behind → a.kind ≡ kind
+      → FourCases A a (page_of addr) (end_page addr len) (protected_kind prot kind))
+      → ((state left : List Area) → (protected_kind prot kind ≡ kind → left ≡ state)
+      → ((d : Change) → IsOf d span (page_of addr) (end_page addr len) kind (protected_kind prot kind)
+      → IsChange state span d left) → Leaves state (OverArea span) (change_pending change) left)
       → MayNumber c (Protect addr len prot) Zero (OverArea span)
   number_by change chosen way leaves start history state words m =
       let is = shows start history state words m in
-      let g = among c.seat span row kind before behind addr len prot held rest round limit is_kind read read_before read_behind undecided some_page from until start history state words m is in
-      let mine = own c.seat span row kind before behind addr len prot held rest round limit is_kind read read_before read_behind undecided some_page from until start history state words m is in
+      let g = among c.seat span row kind before behind addr len prot held rest round limit is_kind read read_before read_behind
+      undecided some_page from until start history state words m is in
+      let mine = own c.seat span row kind before behind addr len prot held rest round limit is_kind read read_before read_behind
+      undecided some_page from until start history state words m is in
       let w = way state mine g refl in
-      let s = simple_in_own c.seat span row kind before behind addr len prot held rest round limit is_kind read read_before read_behind undecided some_page from until start history state words m is w in (
+      let s = simple_in_own c.seat span row kind before behind addr len prot held rest round limit is_kind read read_before
+      read_behind undecided some_page from until start history state words m is w in (
         s.1.0,
-        right c.seat span row kind before behind addr len prot held rest round limit is_kind read read_before read_behind undecided some_page from until start history state words m is w,
+        right c.seat span row kind before behind addr len prot held rest round limit is_kind read read_before read_behind
+            undecided some_page from until start history state words m is w,
         subst (λ (o : Option Change). Leaves state (OverArea span) (change_pending o) s.1.0) (sym chosen)
             (leaves state s.1.0
-            (nothing_left c.seat span row kind before behind addr len prot held rest round limit is_kind read read_before read_behind undecided some_page from until start history state words m is w)
-            (λ d o. change_left c.seat span row kind before behind addr len prot held rest round limit is_kind read read_before read_behind undecided some_page from until start history state words m is w d o.span_is o.lo_is o.hi_is o.old_is o.new_is)),
+            (nothing_left c.seat span row kind before behind addr len prot held rest round limit is_kind read read_before
+            read_behind undecided some_page from until start history state words m is w)
+            (λ d o. change_left c.seat span row kind before behind addr len prot held rest round limit is_kind read read_before
+            read_behind undecided some_page from until start history state words m is w d o.span_is o.lo_is o.hi_is o.old_is
+            o.new_is)),
       )
 
-  one_store : (d : Change) → c.change ≡ Some d → IsOf d span (page_of addr) (end_page addr len) kind (protected_kind prot kind) → IsOneStore row before behind d → d.new ≢ d.old → IsNamedKind d.kind → MayChange c (Protect addr len prot) span d
+  one_store : (d : Change) → c.change ≡ Some d → IsOf d span (page_of addr) (end_page addr len) kind (protected_kind prot kind)
+      → IsOneStore row before behind d → d.new ≢ d.old → IsNamedKind d.kind → MayChange c (Protect addr len prot) span d
   one_store d chosen o store differs named = record {
     number = number_by (Some d) chosen
-        (λ A a g e. cases_of A a d span (page_of addr) (end_page addr len) kind (protected_kind prot kind) o (four_of A a row before behind d (subst (λ (k : Kind). IsAmong A a row k before behind) (sym o.old_is) g) store))
+        (λ A a g e. cases_of A a d span (page_of addr) (end_page addr len) kind (protected_kind prot kind) o
+        (four_of A a row before behind d (subst (λ (k : Kind). IsAmong A a row k before behind) (sym o.old_is) g) store))
         (λ state left none change. change d o);
     chosen = chosen;
     differs = differs;
@@ -339,19 +385,30 @@ module _ (c : CallerView) (span : Span) (row : Row) (kind : Kind) (before behind
   named_by d old new (first_part index at is lo hi is_before) = subst IsNamedKind (sym is) old
   named_by d old new (last_part index at is lo hi is_behind) = subst IsNamedKind (sym is) new
 
-  named_of : (d : Change) → IsOf d span (page_of addr) (end_page addr len) kind (protected_kind prot kind) → IsNamedKind kind → IsNamedKind (protected_kind prot kind) → IsOneStore row before behind d → IsNamedKind d.kind
+  named_of : (d : Change) → IsOf d span (page_of addr) (end_page addr len) kind (protected_kind prot kind) → IsNamedKind kind
+      → IsNamedKind (protected_kind prot kind) → IsOneStore row before behind d → IsNamedKind d.kind
   named_of d o old new store = named_by d (subst IsNamedKind (sym o.old_is) old) (subst IsNamedKind (sym o.new_is) new) store
 
-  pub plan_says : (chosen : Change) (plan : AreaPlan) → IsOf chosen span (page_of addr) (end_page addr len) kind (protected_kind prot kind) → IsNamedKind kind → IsNamedKind (protected_kind prot kind) → IsChosen row chosen before behind plan → c.change ≡ planned_change plan
+  pub plan_says : (chosen : Change) (plan : AreaPlan)
+      → IsOf chosen span (page_of addr) (end_page addr len) kind (protected_kind prot kind) → IsNamedKind kind
+      → IsNamedKind (protected_kind prot kind) → IsChosen row chosen before behind plan → c.change ≡ planned_change plan
       → IsAreaPlan c (Protect addr len prot) span (page_of addr) (end_page addr len) plan
   plan_says chosen NotSimple o old new is kept = λ start history state words m.
       let row_is = shows start history state words m in (
-        one_kind c.seat span row kind before behind addr len prot held rest round limit is_kind read read_before read_behind undecided some_page from until start history state words m row_is,
-        not_simple c.seat span row kind before behind addr len prot held rest round limit is_kind read read_before read_behind undecided some_page from until start history state words m row_is
-            (λ way. is state (own c.seat span row kind before behind addr len prot held rest round limit is_kind read read_before read_behind undecided some_page from until start history state words m row_is)
-            (subst (λ (k : Kind). IsAmong state (own c.seat span row kind before behind addr len prot held rest round limit is_kind read read_before read_behind undecided some_page from until start history state words m row_is) row k before behind) (sym o.old_is)
-            (among c.seat span row kind before behind addr len prot held rest round limit is_kind read read_before read_behind undecided some_page from until start history state words m row_is))
-            (cases_to state (own c.seat span row kind before behind addr len prot held rest round limit is_kind read read_before read_behind undecided some_page from until start history state words m row_is) chosen span (page_of addr) (end_page addr len) kind (protected_kind prot kind) o way)),
+        one_kind c.seat span row kind before behind addr len prot held rest round limit is_kind read read_before read_behind
+            undecided some_page from until start history state words m row_is,
+        not_simple c.seat span row kind before behind addr len prot held rest round limit is_kind read read_before read_behind
+            undecided some_page from until start history state words m row_is
+            (λ way. is state (own c.seat span row kind before behind addr len prot held rest round limit is_kind read read_before
+            read_behind undecided some_page from until start history state words m row_is)
+            (subst (λ (k : Kind). IsAmong state (own c.seat span row kind before behind addr len prot held rest round limit
+            is_kind read read_before read_behind undecided some_page from until start history state words m row_is) row k
+            before behind) (sym o.old_is)
+            (among c.seat span row kind before behind addr len prot held rest round limit is_kind read read_before read_behind
+            undecided some_page from until start history state words m row_is))
+            (cases_to state (own c.seat span row kind before behind addr len prot held rest round limit is_kind read read_before
+            read_behind undecided some_page from until start history state words m row_is) chosen span (page_of addr)
+            (end_page addr len) kind (protected_kind prot kind) o way)),
       )
   plan_says chosen Same o old new is kept =
       let same : protected_kind prot kind ≡ kind = sym o.new_is ∙ (is ∙ o.old_is) in
@@ -364,15 +421,24 @@ module _ (c : CallerView) (span : Span) (row : Row) (kind : Kind) (before behind
       one_store d kept of_d is.1 (other_kind chosen d is.0 is.2) (named_of d of_d old new is.1)
 
 -- the same of a caller that has read the count once more and the kinds beside its row
-pub plan_made : (old a b : Known Pass) (v : CallerView) (span : Span) (row : Row) (kind : Kind) (before behind : Option Kind) (addr len count : ℕ) (prot : Prot) → old.held ≡ Some (alone span) → IsAtRest old.pass → IsRound row span → row.hi ≤ LIMIT → row.kind ≡ Some kind → (read : IsAsRead old.pass row)
-    → read.count ≤ ROWS → plain_reply (Protect addr len prot) ≡ None → page_of addr < end_page addr len → row.lo ≤ page_of addr → end_page addr len ≤ row.hi → Shows old (RowIs old.held (page_of addr) row) → count ≡ read.count → IsReading old a → IsReading a b → IsReading b v.seat
-    → IsReadBefore b.pass.rows row.index before → IsReadBehind v.seat.pass.rows count row.index behind → (chosen : Change) (plan : AreaPlan) → IsOf chosen span (page_of addr) (end_page addr len) kind (protected_kind prot kind) → IsNamedKind kind → IsNamedKind (protected_kind prot kind) → IsChosen row chosen before behind plan
+pub plan_made : (old a b : Known Pass) (v : CallerView) (span : Span) (row : Row) (kind : Kind) (before behind : Option Kind)
+    (addr len count : ℕ) (prot : Prot) → old.held ≡ Some (alone span) → IsAtRest old.pass → IsRound row span → row.hi ≤ LIMIT
+    → row.kind ≡ Some kind → (read : IsAsRead old.pass row)
+    → read.count ≤ ROWS → plain_reply (Protect addr len prot) ≡ None → page_of addr < end_page addr len → row.lo ≤ page_of addr
+    → end_page addr len ≤ row.hi → Shows old (RowIs old.held (page_of addr) row) → count ≡ read.count → IsReading old a
+    → IsReading a b → IsReading b v.seat
+    → IsReadBefore b.pass.rows row.index before → IsReadBehind v.seat.pass.rows count row.index behind
+    → (chosen : Change) (plan : AreaPlan) → IsOf chosen span (page_of addr) (end_page addr len) kind
+    (protected_kind prot kind) → IsNamedKind kind → IsNamedKind (protected_kind prot kind)
+    → IsChosen row chosen before behind plan
     → v.change ≡ planned_change plan → IsAreaPlan v (Protect addr len prot) span (page_of addr) (end_page addr len) plan
-plan_made old a b v span row kind before behind addr len count prot held rest round limit is_kind read few undecided some_page from until shows counted one two three read_before read_behind chosen plan of_call named named_new is kept =
+plan_made old a b v span row kind before behind addr len count prot held rest round limit is_kind read few undecided some_page
+    from until shows counted one two three read_before read_behind chosen plan of_call named named_new is kept =
     let on : IsReading old v.seat = reading_on old b v.seat (reading_on old a b one two) three in
     let now : IsAsRead v.seat.pass row = as_read_on old.pass v.seat.pass row on.read read in
     let same : old.held ≡ v.seat.held = sym on.held in
-    plan_says v span row kind before behind addr len prot (on.held ∙ held) (on.read.pending ∙ rest) round limit is_kind now few (before_on b.pass v.seat.pass row.index before three.read read_before)
+    plan_says v span row kind before behind addr len prot (on.held ∙ held) (on.read.pending ∙ rest) round limit is_kind now few
+    (before_on b.pass v.seat.pass row.index before three.read read_before)
     (subst (λ (n : ℕ). IsReadBehind v.seat.pass.rows n row.index behind) counted read_behind)
     undecided some_page from until
     (subst (λ (h : Option Held). Shows v.seat (RowIs h (page_of addr) row)) same (shows_on old v.seat (RowIs old.held (page_of addr) row) on shows))

@@ -1,5 +1,6 @@
 -- A space at its opening: its words and its callers meet the guard, and the callers come in order.
-use Rattle.std.proofs.Common.{◌≡◌, ℕ, zero, suc, ◌+◌, ◌-◌, ◌<◌, ◌≤◌, List, [], ◌∷◌, ◌++◌, take, length, get_or, replicate, sym, refl, ap, ◌∙◌, subst, arith, inl, length-append}
+use Rattle.std.proofs.Common.{◌≡◌, ℕ, zero, suc, ◌+◌, ◌-◌, ◌<◌, ◌≤◌, List, [], ◌∷◌, ◌++◌, take, length, get_or}
+use Rattle.std.proofs.Common.{replicate, sym, refl, ap, ◌∙◌, subst, arith, inl, length-append}
 use Rattle.std.proofs.lemmas.List.{length-replicate, take_all}
 use Rattle.std.proofs.lemmas.List.Elements.{All-nil}
 use Rattle.std.proofs.lemmas.List.Sums.{sum_by-cons}
@@ -24,19 +25,24 @@ use Rattle.area_rows.specs.Parts.{none_is}
 use Rattle.area_rows.specs.Reads.{StillStands}
 use Rattle.row_plans.specs.RowLists.{rows_from, areas_from, ShowFrom, IsBareGap}
 use Rattle.area_rows.specs.Rows.{rows_in, RowsShow}
-use Rattle.area_rows.specs.History.{IsPart, own_planned, planned_count, ShowsBefore, IsShown, IsRunningSpace, IsBacked, AreBacked, HasHistory, own_count, entry_count, newcomer}
+use Rattle.area_rows.specs.History.{IsPart, own_planned, planned_count, ShowsBefore, IsShown, IsRunningSpace, IsBacked}
+use Rattle.area_rows.specs.History.{AreBacked, HasHistory, own_count, entry_count, newcomer}
 use Rattle.row_plans.specs.Plans.{planned_rows}
 use Rattle.area_rows.specs.Callers.{CallerView, AreNewCallers, new_pass, opening_words}
 use Rattle.row_plans.proofs.RowLists.{length-rows, shows_from, areas_back, bare_from}
 
 -- the words so far, with zeros up to the end
-pub padded : (start : List Area) (all : ℕ) (words : List ℕ) (wide : ℕ) → all ≡ 3 + ROWS → words ≡ 0 ∷ 0 ∷ row_count start ∷ rows_from 0 start → wide ≡ length words → row_count start ≤ ROWS → take all words ++ replicate (all - wide) 0 ≡ opening_words start
+pub padded : (start : List Area) (all : ℕ) (words : List ℕ) (wide : ℕ) → all ≡ 3 + ROWS
+    → words ≡ 0 ∷ 0 ∷ row_count start ∷ rows_from 0 start → wide ≡ length words → row_count start ≤ ROWS
+    → take all words ++ replicate (all - wide) 0 ≡ opening_words start
 padded start all words wide e is w few =
     let l : length words ≡ 3 + row_count start = ap length is ∙ (let r = length-rows start in omega arith) in
-    (λ i. take_all all words (omega arith) i ++ replicate (all - wide) 0) ∙ (λ i. is i ++ replicate ((let z : all - wide ≡ ROWS - row_count start = omega arith in z) i) 0)
+    (λ i. take_all all words (omega arith) i ++ replicate (all - wide) 0)
+    ∙ (λ i. is i ++ replicate ((let z : all - wide ≡ ROWS - row_count start = omega arith in z) i) 0)
 
 rows_back : (start : List Area) → rows_in (opening_words start) ≡ rows_from 0 start
-rows_back start = ap (λ n. take n (rows_from 0 start ++ replicate (ROWS - row_count start) 0)) (sym (length-rows start)) ∙ take-append_seam (rows_from 0 start) (replicate (ROWS - row_count start) 0)
+rows_back start = ap (λ n. take n (rows_from 0 start ++ replicate (ROWS - row_count start) 0)) (sym (length-rows start))
+    ∙ take-append_seam (rows_from 0 start) (replicate (ROWS - row_count start) 0)
 
 some_rows : (rows : List ℕ) (kinds : _) → ShowFrom 0 rows kinds → 0 < length rows
 some_rows [] kinds s = absurd (omega arith)
@@ -51,7 +57,9 @@ opens_rows start areas named few =
     let more = some_rows (rows_from 0 start) (kind_at start) s in
     let l = length-rows start in
     record {
-      room = let a = length-append (rows_from 0 start) (replicate (ROWS - row_count start) 0) in let z : length (replicate {A = ℕ} (ROWS - row_count start) 0) ≡ ROWS - row_count start = length-replicate (ROWS - row_count start) 0 in omega arith;
+      room = let a = length-append (rows_from 0 start) (replicate (ROWS - row_count start) 0) in
+          let z : length (replicate {A = ℕ} (ROWS - row_count start) 0) ≡ ROWS - row_count start =
+          length-replicate (ROWS - row_count start) 0 in omega arith;
       some = omega arith;
       few = few;
       show = subst (λ rows. ShowFrom 0 rows (kind_at start)) (sym (rows_back start)) s;
@@ -88,7 +96,8 @@ shown_new start callers = record {
   elsewhere = λ page free. refl;
 }
 
-runs_new : (start : List Area) (callers : ℕ) → IsAreaList start → HasNamedKinds start → row_count start ≤ ROWS → callers ≤ 16 → IsRunningSpace start [] start (opening_words start) (first_passes (λ (_ : ℕ). new_pass start) 0 callers)
+runs_new : (start : List Area) (callers : ℕ) → IsAreaList start → HasNamedKinds start → row_count start ≤ ROWS → callers ≤ 16
+    → IsRunningSpace start [] start (opening_words start) (first_passes (λ (_ : ℕ). new_pass start) 0 callers)
 runs_new start callers areas named few most = record {
   callers = let l = length-passes (new_pass start) 0 callers in omega arith;
   runs = (tt, refl);
@@ -107,15 +116,20 @@ runs_new start callers areas named few most = record {
   total = sym (no_entries start 0 callers);
 }
 
-backs_new : (grants : Grants) (words : List ℕ) (start : List Area) (callers : ℕ) → AreBacked grants words start (first_passes (λ (_ : ℕ). new_pass start) 0 callers)
+backs_new : (grants : Grants) (words : List ℕ) (start : List Area) (callers : ℕ)
+    → AreBacked grants words start (first_passes (λ (_ : ℕ). new_pass start) 0 callers)
 backs_new grants words start callers worker pass at =
-    subst (λ (q : Pass). IsBacked grants words start worker q) (passes_at (new_pass start) 0 callers worker pass at) (record { reads = inl (refl, refl, refl); rows = λ held has. All-nil (StillStands held words); pending = tt })
+    subst (λ (q : Pass). IsBacked grants words start worker q) (passes_at (new_pass start) 0 callers worker pass at)
+    (record { reads = inl (refl, refl, refl); rows = λ held has. All-nil (StillStands held words); pending = tt })
 
 -- the words of an opening meet the guard
-pub opens : (grants : Grants) (start : List Area) (callers : ℕ) (words : List ℕ) → words ≡ opening_words start → IsAreaList start → HasNamedKinds start → row_count start ≤ ROWS → callers ≤ 16 → HasHistory grants words (first_passes (λ (_ : ℕ). newcomer words) 0 callers)
+pub opens : (grants : Grants) (start : List Area) (callers : ℕ) (words : List ℕ) → words ≡ opening_words start → IsAreaList start
+    → HasNamedKinds start → row_count start ≤ ROWS → callers ≤ 16
+    → HasHistory grants words (first_passes (λ (_ : ℕ). newcomer words) 0 callers)
 opens grants start callers words is areas named few most =
     subst (λ (w : List ℕ). HasHistory grants w (first_passes (λ (_ : ℕ). newcomer w) 0 callers)) (sym is)
-    (let both = subst (λ (p : Pass). IsRunningSpace start [] start (opening_words start) (first_passes (λ (_ : ℕ). p) 0 callers) × AreBacked grants (opening_words start) start (first_passes (λ (_ : ℕ). p) 0 callers)) (sym (began start areas named))
+    (let both = subst (λ (p : Pass). IsRunningSpace start [] start (opening_words start) (first_passes (λ (_ : ℕ). p) 0 callers)
+    × AreBacked grants (opening_words start) start (first_passes (λ (_ : ℕ). p) 0 callers)) (sym (began start areas named))
     (runs_new start callers areas named few most, backs_new grants (opening_words start) start callers) in
     (start, [], start, both.0, both.1))
 
@@ -123,14 +137,22 @@ abbrev pub caller_with : Known Pass → ℕ → List ℕ → List ℕ → Caller
 caller_with s left read plan = record { seat = s; left = left; read = read; plan = planned_rows read plan; change = None }
 
 -- before the first caller all seats wait
-pub first_seats : (table : TableId) (p : Pass) (seats : List (Known Pass)) → ((k : ℕ) (x : Known Pass) → get_elem? seats k ≡ some x → x ≡ new_seat table (λ (_ : ℕ). p) k) → (k : ℕ) (x : Known Pass) → get_elem? seats k ≡ some x → x ≡ new_seat table (λ (_ : ℕ). p) (0 + k)
+pub first_seats : (table : TableId) (p : Pass) (seats : List (Known Pass))
+    → ((k : ℕ) (x : Known Pass) → get_elem? seats k ≡ some x → x ≡ new_seat table (λ (_ : ℕ). p) k) → (k : ℕ) (x : Known Pass)
+    → get_elem? seats k ≡ some x → x ≡ new_seat table (λ (_ : ℕ). p) (0 + k)
 first_seats table p seats all k x at = let z : k ≡ 0 + k = omega arith in all k x at ∙ ap (new_seat table (λ (_ : ℕ). p)) z
 
 -- the seat that is next
-pub next_seat : (table : TableId) (p : Pass) (worker : ℕ) (seats : List (Known Pass)) (s : Known Pass) → ((k : ℕ) (x : Known Pass) → get_elem? seats k ≡ some x → x ≡ new_seat table (λ (_ : ℕ). p) (worker + k)) → 0 < length seats → s ≡ get_or seats 0 s → s ≡ new_seat table (λ (_ : ℕ). p) worker
-next_seat table p worker seats s rest more is = let z : worker + 0 ≡ worker = omega arith in rest 0 s (at_index seats 0 s more is) ∙ ap (new_seat table (λ (_ : ℕ). p)) z
+pub next_seat : (table : TableId) (p : Pass) (worker : ℕ) (seats : List (Known Pass)) (s : Known Pass)
+    → ((k : ℕ) (x : Known Pass) → get_elem? seats k ≡ some x → x ≡ new_seat table (λ (_ : ℕ). p) (worker + k)) → 0 < length seats
+    → s ≡ get_or seats 0 s → s ≡ new_seat table (λ (_ : ℕ). p) worker
+next_seat table p worker seats s rest more is = let z : worker + 0 ≡ worker = omega arith in
+    rest 0 s (at_index seats 0 s more is) ∙ ap (new_seat table (λ (_ : ℕ). p)) z
 
-pub seats_on : (table : TableId) (p : Pass) (worker : ℕ) (seats left : List (Known Pass)) → ((k : ℕ) (x : Known Pass) → get_elem? seats k ≡ some x → x ≡ new_seat table (λ (_ : ℕ). p) (worker + k)) → left ≡ remove seats 0 → (k : ℕ) (x : Known Pass) → get_elem? left k ≡ some x → x ≡ new_seat table (λ (_ : ℕ). p) (worker + 1 + k)
+pub seats_on : (table : TableId) (p : Pass) (worker : ℕ) (seats left : List (Known Pass))
+    → ((k : ℕ) (x : Known Pass) → get_elem? seats k ≡ some x → x ≡ new_seat table (λ (_ : ℕ). p) (worker + k))
+    → left ≡ remove seats 0 → (k : ℕ) (x : Known Pass) → get_elem? left k ≡ some x
+    → x ≡ new_seat table (λ (_ : ℕ). p) (worker + 1 + k)
 seats_on table p worker seats left rest is k x at =
     let z : worker + suc k ≡ worker + 1 + k = omega arith in
     rest (suc k) x (sym (at_removed seats k) ∙ (ap (λ l. get_elem? l k) (sym is) ∙ at)) ∙ ap (new_seat table (λ (_ : ℕ). p)) z
@@ -139,5 +161,20 @@ seats_on table p worker seats left rest is k x at =
 pub new_caller : (s t : Known Pass) (left : ℕ) (read plan : List ℕ) → s ≡ t → read ≡ [] → plan ≡ [] → caller_with s left read plan ≡ caller_with t left [] []
 new_caller s t left read plan e r p = λ k. caller_with (e k) left (r k) (p k)
 
-pub one_caller : (table : TableId) (start : List Area) (calls : List ℕ) (made : List CallerView) (c : CallerView) (n : ℕ) → length made ≡ n → AreNewCallers table start calls made → c ≡ record { seat = new_seat table (λ (_ : ℕ). new_pass start) n; left = slice_index calls n; read = []; plan = []; change = None } → AreNewCallers table start calls (made ++ c ∷ [])
-one_caller table start calls made c n e all is = pushed_all (λ k x. x ≡ record { seat = new_seat table (λ (_ : ℕ). new_pass start) k; left = slice_index calls k; read = []; plan = []; change = None }) made c n e all is
+pub one_caller : (table : TableId) (start : List Area) (calls : List ℕ) (made : List CallerView) (c : CallerView) (n : ℕ)
+    → length made ≡ n → AreNewCallers table start calls made
+    → c ≡ record {
+      seat = new_seat table (λ (_ : ℕ). new_pass start) n;
+      left = slice_index calls n;
+      read = [];
+      plan = [];
+      change = None;
+    } → AreNewCallers table start calls (made ++ c ∷ [])
+one_caller table start calls made c n e all is =
+    pushed_all (λ k x. x ≡ record {
+      seat = new_seat table (λ (_ : ℕ). new_pass start) k;
+      left = slice_index calls k;
+      read = [];
+      plan = [];
+      change = None;
+    }) made c n e all is

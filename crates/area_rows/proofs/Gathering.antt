@@ -1,5 +1,7 @@
 -- The history is what the callers stored, each entry at the place of its number.
-use Rattle.std.proofs.Common.{◌≡◌, ℕ, zero, suc, ◌+◌, ◌<◌, ◌≤◌, Bool, true, false, cond, eqb, List, [], ◌∷◌, ◌++◌, drop, length, map, get_or, set, sym, refl, ap, ◌∙◌, subst, arith, eq-eqb, add-one, drop-cons, append_assoc, inl, inr}
+use Rattle.std.proofs.Common.{◌≡◌, ℕ, zero, suc, ◌+◌, ◌<◌, ◌≤◌, Bool, true, false, cond, eqb, List, [], ◌∷◌, ◌++◌, drop}
+use Rattle.std.proofs.Common.{length, map, get_or, set, sym, refl, ap, ◌∙◌, subst, arith, eq-eqb, add-one, drop-cons}
+use Rattle.std.proofs.Common.{append_assoc, inl, inr}
 use Rattle.std.proofs.lemmas.Bool.{cases_lt, eqb-true}
 use Rattle.std.specs.Prelude.{Option, Some, None, replicate, slice_index}
 use mathlib.Core.Logic.{dite}
@@ -32,13 +34,15 @@ use Rattle.row_plans.specs.RowWords.{row_start, row_kind}
 use Rattle.row_plans.proofs.RowLists.{areas_back}
 use Rattle.area_rows.proofs.Moments.{at_row, none_planned, rows_agree}
 
-kept_at : (kept : List Kept) (callers : List CallerView) (k : ℕ) (c : Kept) → AreKept kept callers → get_elem? kept k ≡ some c → (v : CallerView) × (get_elem? callers k ≡ some v) × (c.mine.items ≡ v.seat.pass.mine)
+kept_at : (kept : List Kept) (callers : List CallerView) (k : ℕ) (c : Kept) → AreKept kept callers → get_elem? kept k ≡ some c
+    → (v : CallerView) × (get_elem? callers k ≡ some v) × (c.mine.items ≡ v.seat.pass.mine)
 kept_at [] callers k c all at = absurd (some-ne-none c (sym at))
 kept_at (x ∷ xs) [] k c all at = absurd all
 kept_at (x ∷ xs) (y ∷ ys) zero c all at = (y, refl, subst (λ (z : Kept). z.mine.items ≡ y.seat.pass.mine) (some-injective x c at) all.0)
 kept_at (x ∷ xs) (y ∷ ys) (suc k) c all at = kept_at xs ys k c all.1 at
 
-at_kept : (kept : List Kept) (callers : List CallerView) (k : ℕ) (v : CallerView) → AreKept kept callers → get_elem? callers k ≡ some v → (c : Kept) × (get_elem? kept k ≡ some c) × (c.mine.items ≡ v.seat.pass.mine)
+at_kept : (kept : List Kept) (callers : List CallerView) (k : ℕ) (v : CallerView) → AreKept kept callers
+    → get_elem? callers k ≡ some v → (c : Kept) × (get_elem? kept k ≡ some c) × (c.mine.items ≡ v.seat.pass.mine)
 at_kept [] [] k v all at = absurd (some-ne-none v (sym at))
 at_kept [] (y ∷ ys) k v all at = absurd all
 at_kept (x ∷ xs) [] k v all at = absurd all
@@ -60,35 +64,48 @@ idle_shown n state worker page (Planned rows) b lags = lags
 idle_shown n state worker page (OneRow c) b lags = nobody_holds n worker (alone c.span) b.0
 
 -- and the rows show the state
-pub idle_rows : (n : ℕ) (start : List Area) (history : List Entry) (state : List Area) (words : List ℕ) (passes : List Pass) → IsRunningSpace start history state words passes → AreBacked (replicate n None) words state passes → RowsShow words (kind_at state)
+pub idle_rows : (n : ℕ) (start : List Area) (history : List Entry) (state : List Area) (words : List ℕ) (passes : List Pass)
+    → IsRunningSpace start history state words passes → AreBacked (replicate n None) words state passes
+    → RowsShow words (kind_at state)
 idle_rows n start history state words passes r backed =
     let none = none_planned passes (λ other x at. idle_rest n state other x.pending (backed other x at).pending) in
     let s : RowsStandFor state passes words = r.rows none in
-    rows_agree words s.0 (kind_at state) (λ page low. sym (s.1.elsewhere page (λ other x at lags. idle_shown n state other page x.pending (backed other x at).pending lags))) s.2
+    rows_agree words s.0 (kind_at state) (λ page low. sym
+    (s.1.elsewhere page (λ other x at lags. idle_shown n state other page x.pending (backed other x at).pending lags))) s.2
 
 pub runs_number : (history : List Entry) (n : ℕ) (A B : List Area) (i : ℕ) (e : Entry) → Runs n A history B → get_elem? history i ≡ some e → e.number ≡ n + i
 runs_number history n A B i e r at = numbered_at n history i e r.0 at
 
-own_here : (worker : ℕ) (x : Entry) (xs mine : List Entry) (b : Bool) → eqb x.worker worker ≡ b → ((j : ℕ) (e : Entry) → get_elem? mine j ≡ some e → (i : ℕ) × (get_elem? xs i ≡ some e) × (e.worker ≡ worker))
+own_here : (worker : ℕ) (x : Entry) (xs mine : List Entry) (b : Bool) → eqb x.worker worker ≡ b
+    → ((j : ℕ) (e : Entry) → get_elem? mine j ≡ some e → (i : ℕ) × (get_elem? xs i ≡ some e) × (e.worker ≡ worker))
     → (j : ℕ) (e : Entry) → get_elem? (cond b (x ∷ mine) mine) j ≡ some e → (i : ℕ) × (get_elem? (x ∷ xs) i ≡ some e) × (e.worker ≡ worker)
 own_here worker x xs mine true is rest zero e at = (0, at, ap (λ (y : Entry). y.worker) (sym (some-injective x e at)) ∙ eqb-true x.worker worker is)
 own_here worker x xs mine true is rest (suc j) e at = let r = rest j e at in (suc r.0, r.1, r.2)
 own_here worker x xs mine false is rest j e at = let r = rest j e at in (suc r.0, r.1, r.2)
 
 -- an entry of a caller stands in the history
-pub own_at : (worker : ℕ) (history : List Entry) (j : ℕ) (e : Entry) → get_elem? (entries_of worker history) j ≡ some e → (i : ℕ) × (get_elem? history i ≡ some e) × (e.worker ≡ worker)
+pub own_at : (worker : ℕ) (history : List Entry) (j : ℕ) (e : Entry) → get_elem? (entries_of worker history) j ≡ some e
+    → (i : ℕ) × (get_elem? history i ≡ some e) × (e.worker ≡ worker)
 own_at worker [] j e at = absurd (some-ne-none e (sym at))
 own_at worker (x ∷ xs) j e at = own_here worker x xs (entries_of worker xs) (eqb x.worker worker) refl (own_at worker xs) j e at
 
 -- an entry of the history stands among those of its caller
-pub at_own : (worker : ℕ) (history : List Entry) (i : ℕ) (e : Entry) → get_elem? history i ≡ some e → e.worker ≡ worker → (j : ℕ) × (get_elem? (entries_of worker history) j ≡ some e)
+pub at_own : (worker : ℕ) (history : List Entry) (i : ℕ) (e : Entry) → get_elem? history i ≡ some e → e.worker ≡ worker
+    → (j : ℕ) × (get_elem? (entries_of worker history) j ≡ some e)
 at_own worker [] i e at is = absurd (some-ne-none e (sym at))
-at_own worker (x ∷ xs) zero e at is = (0, ap (λ b. get_elem? (cond b (x ∷ entries_of worker xs) (entries_of worker xs)) 0) (eq-eqb x.worker worker (ap (λ (y : Entry). y.worker) (some-injective x e at) ∙ is)) ∙ at)
+at_own worker (x ∷ xs) zero e at is = (
+  0,
+  ap (λ b. get_elem? (cond b (x ∷ entries_of worker xs) (entries_of worker xs)) 0)
+      (eq-eqb x.worker worker (ap (λ (y : Entry). y.worker) (some-injective x e at) ∙ is)) ∙ at,
+)
 at_own worker (x ∷ xs) (suc i) e at is =
     let r = at_own worker xs i e at is in
-    elim (eqb x.worker worker) as (λ b. (j : ℕ) × (get_elem? (cond b (x ∷ entries_of worker xs) (entries_of worker xs)) j ≡ some e)) [ true ↦ (suc r.0, r.1) | false ↦ r ]
+    elim (eqb x.worker worker)
+    as (λ b. (j : ℕ) × (get_elem? (cond b (x ∷ entries_of worker xs) (entries_of worker xs)) j ≡ some e))
+    [ true ↦ (suc r.0, r.1) | false ↦ r ]
 
-module _ (start : List Area) (history : List Entry) (state : List Area) (words : List ℕ) (callers : List CallerView) (r : IsRunningSpace start history state words (map caller_pass callers)) where
+module _ (start : List Area) (history : List Entry) (state : List Area) (words : List ℕ) (callers : List CallerView)
+    (r : IsRunningSpace start history state words (map caller_pass callers)) where
   -- each caller's entries stand at the places of their numbers
   own_stand : (k : ℕ) (c : CallerView) → get_elem? callers k ≡ some c → AllStand history c.seat.pass.mine
   own_stand k c at j e there =
@@ -114,7 +131,8 @@ module _ (start : List Area) (history : List Entry) (state : List Area) (words :
     pub kept_below : (bound : ℕ) → bound ≡ callers_count callers → (k : ℕ) (c : Kept) → get_elem? kept k ≡ some c → AreBelow bound c.mine.items
     kept_below bound b k c at j e there = let t = r.total in let l = below history e.number e (kept_stand k c at j e there) in omega arith
 
-    history_is : (out : List Entry) → length out ≡ length history → ((k : ℕ) (c : Kept) → get_elem? kept k ≡ some c → ArePlaced history c.mine.items out) → out ≡ history
+    history_is : (out : List Entry) → length out ≡ length history
+        → ((k : ℕ) (c : Kept) → get_elem? kept k ≡ some c → ArePlaced history c.mine.items out) → out ≡ history
     history_is out wide placed = same_lists out history wide (λ i e at.
         let v = there callers e.worker (its_caller i e at) in
         let c = at_kept kept callers e.worker v.0 all v.1 in
@@ -124,7 +142,9 @@ module _ (start : List Area) (history : List Entry) (state : List Area) (words :
         subst (AgreesAt history out) n (placed e.worker c.0 c.1 o.0 e (ap (λ l. get_elem? l o.0) (c.2 ∙ sym part.mine) ∙ o.1)) ∙ at)
 
     -- the whole history, and the state that the rows stand for
-    pub whole : RowsShow words (kind_at state) → (out : List Entry) (areas : List Area) → length out ≡ callers_count callers → ((k : ℕ) (c : Kept) → get_elem? kept k ≡ some c → ArePlaced history c.mine.items out) → areas ≡ areas_from (rows_in words) → IsWhole callers out areas
+    pub whole : RowsShow words (kind_at state) → (out : List Entry) (areas : List Area) → length out ≡ callers_count callers
+        → ((k : ℕ) (c : Kept) → get_elem? kept k ≡ some c → ArePlaced history c.mine.items out)
+        → areas ≡ areas_from (rows_in words) → IsWhole callers out areas
     whole rows out areas wide placed is =
         let e : out ≡ history = history_is out (wide ∙ sym r.total) placed in
         let s : areas ≡ state = is ∙ areas_back (rows_in words) state rows.show r.in_order in
@@ -140,16 +160,19 @@ module _ (start : List Area) (history : List Entry) (state : List Area) (words :
         })
 
 -- one entry more at its place
-pub place_keeps : (history out : List Entry) (e : Entry) (i : ℕ) → get_elem? history e.number ≡ some e → e.number < length out → AgreesAt history out i → AgreesAt history (set out e.number e) i
+pub place_keeps : (history out : List Entry) (e : Entry) (i : ℕ) → get_elem? history e.number ≡ some e → e.number < length out
+    → AgreesAt history out i → AgreesAt history (set out e.number e) i
 place_keeps history out e i stands lt old = dite (ℕ_discrete i e.number)
     (λ same. ap (get_elem? (set out e.number e)) same ∙ (set_here out e.number e lt ∙ (sym stands ∙ ap (get_elem? history) (sym same))))
     (λ other. set_else out e.number i e other ∙ old)
 
-pub place_there : (history out : List Entry) (e : Entry) → get_elem? history e.number ≡ some e → e.number < length out → AgreesAt history (set out e.number e) e.number
+pub place_there : (history out : List Entry) (e : Entry) → get_elem? history e.number ≡ some e → e.number < length out
+    → AgreesAt history (set out e.number e) e.number
 place_there history out e stands lt = set_here out e.number e lt ∙ sym stands
 
 -- each entry so far is at its place, and now one more
-pub place_step : (history mine out : List Entry) (j : ℕ) (e : Entry) → get_elem? mine j ≡ some e → AllStand history mine → e.number < length out → ((k : ℕ) (f : Entry) → k < j → get_elem? mine k ≡ some f → AgreesAt history out f.number)
+pub place_step : (history mine out : List Entry) (j : ℕ) (e : Entry) → get_elem? mine j ≡ some e → AllStand history mine
+    → e.number < length out → ((k : ℕ) (f : Entry) → k < j → get_elem? mine k ≡ some f → AgreesAt history out f.number)
     → (k : ℕ) (f : Entry) → k < j + 1 → get_elem? mine k ≡ some f → AgreesAt history (set out e.number e) f.number
 place_step history mine out j e at all lt before k f le there = elim (cases_lt k j) [
   | inl less ↦ place_keeps history out e f.number (all j e at) lt (before k f less there)
@@ -160,9 +183,13 @@ place_step history mine out j e at all lt before k f le there = elim (cases_lt k
 ]
 
 -- each caller's entries so far are at their places, and now those of one more
-pub caller_step : (history : List Entry) (kept : List Kept) (old new mine : List Entry) (n : ℕ) (c : Kept) → get_elem? kept n ≡ some c → mine ≡ c.mine.items → ((k : ℕ) (d : Kept) → get_elem? kept k ≡ some d → AllStand history d.mine.items)
-    → ((history : List Entry) (i : ℕ) → AllStand history mine → AgreesAt history old i → AgreesAt history new i) → ((history : List Entry) → AllStand history mine → ArePlaced history mine new)
-    → ((k : ℕ) (d : Kept) → k < n → get_elem? kept k ≡ some d → ArePlaced history d.mine.items old) → (k : ℕ) (d : Kept) → k < n + 1 → get_elem? kept k ≡ some d → ArePlaced history d.mine.items new
+pub caller_step : (history : List Entry) (kept : List Kept) (old new mine : List Entry) (n : ℕ) (c : Kept)
+    → get_elem? kept n ≡ some c → mine ≡ c.mine.items
+    → ((k : ℕ) (d : Kept) → get_elem? kept k ≡ some d → AllStand history d.mine.items)
+    → ((history : List Entry) (i : ℕ) → AllStand history mine → AgreesAt history old i → AgreesAt history new i)
+    → ((history : List Entry) → AllStand history mine → ArePlaced history mine new)
+    → ((k : ℕ) (d : Kept) → k < n → get_elem? kept k ≡ some d → ArePlaced history d.mine.items old) → (k : ℕ) (d : Kept)
+    → k < n + 1 → get_elem? kept k ≡ some d → ArePlaced history d.mine.items new
 caller_step history kept old new mine n c at is all keeps places before k d lt there j e inside =
     let stand : AllStand history mine = subst (AllStand history) (sym is) (all n c at) in
     elim (cases_lt k n) [
@@ -184,29 +211,36 @@ row_apart : (lo : ℕ) (kind : Option Kind) (hi : ℕ) (rest : List Area) → wi
 row_apart lo None hi rest = refl
 row_apart lo (Some kind) hi rest = refl
 
-pub row_step : (words : List ℕ) (i lo hi : ℕ) (kind : Option Kind) (out new all : List Area) → length words ≡ 3 + ROWS → slice_index words 2 ≤ ROWS → i < slice_index words 2 → lo ≡ row_start (slice_index words (3 + i)) → kind ≡ row_kind (slice_index words (3 + i)) → hi ≡ rows_start (drop (i + 1) (rows_in words))
+pub row_step : (words : List ℕ) (i lo hi : ℕ) (kind : Option Kind) (out new all : List Area) → length words ≡ 3 + ROWS
+    → slice_index words 2 ≤ ROWS → i < slice_index words 2 → lo ≡ row_start (slice_index words (3 + i))
+    → kind ≡ row_kind (slice_index words (3 + i)) → hi ≡ rows_start (drop (i + 1) (rows_in words))
     → new ≡ out ++ with_row lo kind hi [] → out ++ areas_from (drop i (rows_in words)) ≡ all → new ++ areas_from (drop (i + 1) (rows_in words)) ≡ all
 row_step words i lo hi kind out new all wide few lt l k h is before =
     let rows = rows_in words in
     let rest = areas_from (drop (i + 1) rows) in
     let w = slice_index words (3 + i) in
     let here : get_or rows i 0 ≡ w = at_row words i lt in
-    let head : drop i rows ≡ w ∷ drop (i + 1) rows = drop_next rows i (let n = length-rows words wide few in omega arith) ∙ ap (λ x. x ∷ drop (i + 1) rows) here in
+    let head : drop i rows ≡ w ∷ drop (i + 1) rows = drop_next rows i (let n = length-rows words wide few in omega arith)
+    ∙ ap (λ x. x ∷ drop (i + 1) rows) here in
     let one : with_row lo kind hi rest ≡ areas_from (drop i rows) = (λ j. with_row (l j) (k j) (h j) rest) ∙ sym (ap areas_from head) in
     ap (λ x. x ++ rest) is ∙ (append_assoc out (with_row lo kind hi []) rest ∙ (ap (λ x. out ++ x) (sym (row_apart lo kind hi rest) ∙ one) ∙ before))
 
-pub rows_done : (words : List ℕ) (i : ℕ) (out all : List Area) → length words ≡ 3 + ROWS → slice_index words 2 ≤ ROWS → ¬ (i < slice_index words 2) → out ++ areas_from (drop i (rows_in words)) ≡ all → out ≡ all
+pub rows_done : (words : List ℕ) (i : ℕ) (out all : List Area) → length words ≡ 3 + ROWS → slice_index words 2 ≤ ROWS
+    → ¬ (i < slice_index words 2) → out ++ areas_from (drop i (rows_in words)) ≡ all → out ≡ all
 rows_done words i out all wide few not_more before =
     sym (append-nil out) ∙ (ap (λ l. out ++ areas_from l) (sym (drop_all i (rows_in words) (let n = length-rows words wide few in omega arith))) ∙ before)
 
-pub next_start : (words : List ℕ) (i : ℕ) → 3 + slice_index words 2 ≤ length words → i + 1 < slice_index words 2 → rows_start (drop (i + 1) (rows_in words)) ≡ row_start (slice_index words (3 + (i + 1)))
+pub next_start : (words : List ℕ) (i : ℕ) → 3 + slice_index words 2 ≤ length words → i + 1 < slice_index words 2
+    → rows_start (drop (i + 1) (rows_in words)) ≡ row_start (slice_index words (3 + (i + 1)))
 next_start words i wide lt =
     let d = length-drop 3 words in
     let n = length-take-le (slice_index words 2) (drop 3 words) (omega arith) in
     ap rows_start (drop_next (rows_in words) (i + 1) (omega arith)) ∙ ap row_start (at_row words (i + 1) lt)
 
 -- the numbers of what was kept are below the number of all entries
-pub closes_below : (n : ℕ) (words : List ℕ) (callers : List CallerView) (kept : List Kept) (passes : List Pass) (bound : ℕ) → passes ≡ map caller_pass callers → HasHistory (replicate n None) words passes → AreKept kept callers → bound ≡ callers_count callers → (k : ℕ) (c : Kept) → get_elem? kept k ≡ some c → AreBelow bound c.mine.items
+pub closes_below : (n : ℕ) (words : List ℕ) (callers : List CallerView) (kept : List Kept) (passes : List Pass) (bound : ℕ)
+    → passes ≡ map caller_pass callers → HasHistory (replicate n None) words passes → AreKept kept callers
+    → bound ≡ callers_count callers → (k : ℕ) (c : Kept) → get_elem? kept k ≡ some c → AreBelow bound c.mine.items
 closes_below n words callers kept passes bound is h all b =
     let r = subst (λ (ps : List Pass). HasHistory (replicate n None) words ps) is h in
     kept_below r.0 r.1 r.2 words callers r.3 kept all bound b

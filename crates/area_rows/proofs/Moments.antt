@@ -29,7 +29,8 @@ use Rattle.row_plans.specs.RowLists.{rows_start, ShowFrom, IsBareGap, areas_from
 use Rattle.area_rows.specs.Rows.{rows_in, RowsShow}
 use Rattle.row_plans.specs.Plans.{PlanShows, IsRowList}
 use Rattle.area_rows.specs.Reads.{everything, IsHeldPage, HasRead, StillStands}
-use Rattle.area_rows.specs.History.{planned_calls, own_planned, planned_count, LagsAt, IsShown, RowsStandFor, IsRunningSpace, HasHistory, HoldsPages, Backs, AreBacked, IsAtRest, Here}
+use Rattle.area_rows.specs.History.{planned_calls, own_planned, planned_count, LagsAt, IsShown, RowsStandFor}
+use Rattle.area_rows.specs.History.{IsRunningSpace, HasHistory, HoldsPages, Backs, AreBacked, IsAtRest, Here}
 use Rattle.area_rows.specs.Callers.{IsHeldPages, IsMoment}
 use Rattle.area_rows.specs.Parts.{planned_set}
 use Rattle.area_rows.specs.Writes.{everything_pages, clash}
@@ -59,11 +60,14 @@ first_start [] kinds s l = absurd (omega arith)
 first_start (w ∷ rest) kinds s l = s.0
 
 pub first_row : (words : List ℕ) (kinds : ℕ → Option Kind) → RowsShow words kinds → row_start (slice_index words 3) ≡ 0
-first_row words kinds s = let some = s.some in let l = length-rows_in words kinds s in ap row_start (sym (at_row words 0 some)) ∙ first_start (rows_in words) kinds s.show (omega arith)
+first_row words kinds s = let some = s.some in let l = length-rows_in words kinds s in
+    ap row_start (sym (at_row words 0 some)) ∙ first_start (rows_in words) kinds s.show (omega arith)
 
 -- a row starts below the limit
-pub row_below : (words : List ℕ) (kinds : ℕ → Option Kind) (i : ℕ) → RowsShow words kinds → i < slice_index words 2 → row_start (slice_index words (3 + i)) < LIMIT
-row_below words kinds i s lt = let l = length-rows_in words kinds s in subst (λ w. row_start w < LIMIT) (at_row words i lt) (row_says 0 (rows_in words) kinds i s.show (omega arith)).below
+pub row_below : (words : List ℕ) (kinds : ℕ → Option Kind) (i : ℕ) → RowsShow words kinds → i < slice_index words 2
+    → row_start (slice_index words (3 + i)) < LIMIT
+row_below words kinds i s lt = let l = length-rows_in words kinds s in
+    subst (λ w. row_start w < LIMIT) (at_row words i lt) (row_says 0 (rows_in words) kinds i s.show (omega arith)).below
 
 -- lists that agree at each place
 pub same_by : (a b : List ℕ) → length a ≡ length b → ((i : ℕ) → i < length b → get_or a i 0 ≡ get_or b i 0) → a ≡ b
@@ -76,37 +80,49 @@ same_by (x ∷ xs) (y ∷ ys) l all =
     λ i. first i ∷ rest i
 
 -- row words that are known one by one are all the rows that there are
-pub rows_known : (words rows : List ℕ) → length words ≡ 3 + ROWS → length rows ≤ ROWS → slice_index words 2 ≡ length rows → ((i : ℕ) → i < length rows → slice_index words (3 + i) ≡ slice_index rows i) → rows_in words ≡ rows
+pub rows_known : (words rows : List ℕ) → length words ≡ 3 + ROWS → length rows ≤ ROWS → slice_index words 2 ≡ length rows
+    → ((i : ℕ) → i < length rows → slice_index words (3 + i) ≡ slice_index rows i) → rows_in words ≡ rows
 rows_known words rows room few count all = same_by (rows_in words) rows
     (length-take-le (slice_index words 2) (drop 3 words) (let d = length-drop 3 words in omega arith) ∙ count)
     (λ i lt. at_row words i (omega arith) ∙ all i lt)
 
 -- rows that show kinds show others that are the same below the limit
-shows_agree : (page : ℕ) (rows : List ℕ) (kinds other : ℕ → Option Kind) → ((p : ℕ) → p < LIMIT → other p ≡ kinds p) → ShowFrom page rows kinds → ShowFrom page rows other
+shows_agree : (page : ℕ) (rows : List ℕ) (kinds other : ℕ → Option Kind) → ((p : ℕ) → p < LIMIT → other p ≡ kinds p)
+    → ShowFrom page rows kinds → ShowFrom page rows other
 shows_agree page [] kinds other same s = s
 shows_agree page (w ∷ rest) kinds other same s =
     let l = starts_low (rows_start rest) rest kinds s.4 in
     (s.0, s.1, s.2, λ p from below. same p (omega arith) ∙ s.3 p from below, shows_agree (rows_start rest) rest kinds other same s.4)
 
 pub rows_agree : (words : List ℕ) (kinds other : ℕ → Option Kind) → ((p : ℕ) → p < LIMIT → other p ≡ kinds p) → RowsShow words kinds → RowsShow words other
-rows_agree words kinds other same s = record { room = s.room; some = s.some; few = s.few; show = shows_agree 0 (rows_in words) kinds other same s.show; gaps = s.gaps }
+rows_agree words kinds other same s = record {
+  room = s.room;
+  some = s.some;
+  few = s.few;
+  show = shows_agree 0 (rows_in words) kinds other same s.show;
+  gaps = s.gaps;
+}
 
 -- rows that show the kinds of an area list are that list's
 pub row_list : (rows : List ℕ) (A : List Area) → PlanShows rows (kind_at A) → areas_from rows ≡ A → IsRowList rows
 row_list rows A shows is = subst (λ (B : List Area). PlanShows rows (kind_at B)) (sym is) shows
 
 -- a row that was read stands still
-pub stands : (held : Option Held) (words : List ℕ) (rows : List ReadRow) (i w : ℕ) → All (StillStands held words) rows → HasRead rows i w → StillStands held words (record { index = i; word = w })
+pub stands : (held : Option Held) (words : List ℕ) (rows : List ReadRow) (i w : ℕ) → All (StillStands held words) rows
+    → HasRead rows i w → StillStands held words (record { index = i; word = w })
 stands held words [] i w all h = absurd h
 stands held words (r ∷ rest) i w all h = ⊎_elim
-    (λ t. subst (λ (z : ℕ × ℕ). StillStands held words (record { index = z.0; word = z.1 })) (λ k. (t.0 k, t.1 k)) (All-head (StillStands held words) r rest all))
+    (λ t. subst (λ (z : ℕ × ℕ). StillStands held words (record { index = z.0; word = z.1 })) (λ k. (t.0 k, t.1 k))
+    (All-head (StillStands held words) r rest all))
     (λ t. stands held words rest i w (All-tail (StillStands held words) r rest all) t) h
 
 pub none_planned : (passes : List Pass) → ((other : ℕ) (x : Pass) → get_elem? passes other ≡ some x → planned_calls x.pending ≡ 0) → planned_count passes ≡ 0
 none_planned [] all = refl
-none_planned (x ∷ xs) all = let a = all 0 x refl in let r = none_planned xs (λ other y at. all (suc other) y at) in let s = sum_by-cons own_planned x xs in omega arith
+none_planned (x ∷ xs) all = let a = all 0 x refl in let r = none_planned xs (λ other y at. all (suc other) y at) in
+    let s = sum_by-cons own_planned x xs in omega arith
 
-rest_of_other : (grants : Grants) (state : List Area) (worker other : ℕ) (pending : Pending) → IsExclusive grants → (other ≡ worker → ⊥) → HoldsPages grants worker → Backs grants state other pending → planned_calls pending ≡ 0
+rest_of_other : (grants : Grants) (state : List Area) (worker other : ℕ) (pending : Pending) → IsExclusive grants
+    → (other ≡ worker → ⊥) → HoldsPages grants worker → Backs grants state other pending → planned_calls pending ≡ 0
 rest_of_other grants state worker other AtRest exclusive differ h b = refl
 rest_of_other grants state worker other (Planned rows) exclusive differ h b = absurd (clash grants other worker exclusive (λ e. differ (sym e)) b.0 h)
 rest_of_other grants state worker other (OneRow c) exclusive differ h b = refl
@@ -129,13 +145,16 @@ module _ (grants : Grants) (words : List ℕ) (state : List Area) (passes : List
   nobody_plans rest h = only_own_plan h ∙ ap planned_calls rest
 
   -- no row of another lags behind at a page that a caller holds
-  keeps_off : (held : Option Held) → get_elem? grants worker ≡ some held → (page : ℕ) → IsHeldPage held page → (other : ℕ) (pending : Pending) → (other ≡ worker → ⊥) → Backs grants state other pending → LagsAt pending page → ⊥
+  keeps_off : (held : Option Held) → get_elem? grants worker ≡ some held → (page : ℕ) → IsHeldPage held page
+      → (other : ℕ) (pending : Pending) → (other ≡ worker → ⊥) → Backs grants state other pending → LagsAt pending page → ⊥
   keeps_off held has page here other AtRest differ b lags = lags
   keeps_off held has page here other (Planned rows) differ b lags = lags
-  keeps_off held has page here other (OneRow c) differ b lags = apart_pages grants other worker c.span exclusive (λ e. differ (sym e)) b.0 held has page here (in_span c page b.1 lags)
+  keeps_off held has page here other (OneRow c) differ b lags =
+      apart_pages grants other worker c.span exclusive (λ e. differ (sym e)) b.0 held has page here (in_span c page b.1 lags)
 
   -- and none of its own where it is at rest
-  nowhere : IsAtRest p → (held : Option Held) → get_elem? grants worker ≡ some held → (page : ℕ) → IsHeldPage held page → (other : ℕ) (x : Pass) → get_elem? passes other ≡ some x → LagsAt x.pending page → ⊥
+  nowhere : IsAtRest p → (held : Option Held) → get_elem? grants worker ≡ some held → (page : ℕ) → IsHeldPage held page
+      → (other : ℕ) (x : Pass) → get_elem? passes other ≡ some x → LagsAt x.pending page → ⊥
   nowhere rest held has page here other x there lags = dite (ℕ_discrete other worker)
       (λ same.
       let mine : x ≡ p = some-injective x p (sym there ∙ (ap (get_elem? passes) same ∙ at)) in
@@ -143,7 +162,8 @@ module _ (grants : Grants) (words : List ℕ) (state : List Area) (passes : List
       (λ differ. keeps_off held has page here other x.pending differ (backed other x there).pending lags)
 
   -- so the rows show the state there
-  pub shows_held : IsAtRest p → (held : Option Held) → get_elem? grants worker ≡ some held → (kinds : ℕ → Option Kind) → IsShown state passes kinds → (page : ℕ) → IsHeldPage held page → kinds page ≡ kind_at state page
+  pub shows_held : IsAtRest p → (held : Option Held) → get_elem? grants worker ≡ some held → (kinds : ℕ → Option Kind)
+      → IsShown state passes kinds → (page : ℕ) → IsHeldPage held page → kinds page ≡ kind_at state page
   shows_held rest held has kinds shown page here = shown.elsewhere page (λ other x there lags. nowhere rest held has page here other x there lags)
 
 -- every page is held where everything is
@@ -151,30 +171,50 @@ in_everything : (page : ℕ) → page < LIMIT → IsHeldPage (Some everything) p
 in_everything page low = (everything, refl, omega arith, low)
 
 -- where a caller at rest holds everything and knows all row words, they show the state
-pub rows_are : (grants : Grants) (start : List Area) (history : List Entry) (state : List Area) (words : List ℕ) (passes : List Pass) (worker : ℕ) (p : Pass) (rows : List ℕ) → IsRunningSpace start history state words passes → AreBacked grants words state passes → IsExclusive grants → get_elem? passes worker ≡ some p
-    → Holds grants worker everything → IsAtRest p → slice_index words 2 ≡ length rows → ((i : ℕ) → i < length rows → slice_index words (3 + i) ≡ slice_index rows i) → PlanShows rows (kind_at state) × (areas_from rows ≡ state)
+pub rows_are : (grants : Grants) (start : List Area) (history : List Entry) (state : List Area) (words : List ℕ)
+    (passes : List Pass) (worker : ℕ) (p : Pass) (rows : List ℕ) → IsRunningSpace start history state words passes
+    → AreBacked grants words state passes → IsExclusive grants → get_elem? passes worker ≡ some p
+    → Holds grants worker everything → IsAtRest p → slice_index words 2 ≡ length rows
+    → ((i : ℕ) → i < length rows → slice_index words (3 + i) ≡ slice_index rows i)
+    → PlanShows rows (kind_at state) × (areas_from rows ≡ state)
 rows_are grants start history state words passes worker p rows r backed exclusive at held rest count all =
     let pages : HoldsPages grants worker = (everything, held, everything_pages) in
     let s : RowsStandFor state passes words = r.rows (nobody_plans grants words state passes worker p exclusive backed at rest pages) in
     let few = s.2.few in
     let some_row = s.2.some in
     let is : rows_in words ≡ rows = rows_known words rows r.room (omega arith) count all in
-    let agree : (page : ℕ) → page < LIMIT → kind_at state page ≡ s.0 page = λ page low. sym (shows_held grants words state passes worker p exclusive backed at rest (Some everything) held s.0 s.1 page (in_everything page low)) in
+    let agree : (page : ℕ) → page < LIMIT → kind_at state page ≡ s.0 page =
+    λ page low. sym (shows_held grants words state passes worker p exclusive backed at rest (Some everything) held s.0 s.1
+    page (in_everything page low)) in
     let show : ShowFrom 0 rows (kind_at state) = shows_agree 0 rows s.0 (kind_at state) agree (subst (λ (l : List ℕ). ShowFrom 0 l s.0) is s.2.show) in
     let gaps : All IsBareGap rows = subst (All IsBareGap) is s.2.gaps in
     (record { some = omega arith; few = omega arith; show = show; gaps = gaps }, areas_back rows state show r.in_order)
 
 -- the moment of a step
-abbrev pub here_at : (grants : Grants) (words : List ℕ) (passes : List Pass) (seat : ℕ) (held : Option Held) (pass : Pass) → Moment HasHistory seat held pass grants words passes → Here grants words passes seat
-here_at grants words passes seat held pass m = record { start = m.met.0; history = m.met.1; state = m.met.2; pass = pass; running = m.met.3; backed = m.met.4; exclusive = m.exclusive; own = m.own }
+abbrev pub here_at : (grants : Grants) (words : List ℕ) (passes : List Pass) (seat : ℕ) (held : Option Held) (pass : Pass)
+    → Moment HasHistory seat held pass grants words passes → Here grants words passes seat
+here_at grants words passes seat held pass m =
+    record {
+      start = m.met.0;
+      history = m.met.1;
+      state = m.met.2;
+      pass = pass;
+      running = m.met.3;
+      backed = m.met.4;
+      exclusive = m.exclusive;
+      own = m.own;
+    }
 
 -- the moment of a step, as its caller's seat has it
-pub moment_of : (grants : Grants) (words : List ℕ) (passes : List Pass) (seat : ℕ) (here : Here grants words passes seat) (s : Known Pass) → get_elem? grants seat ≡ some s.held → s.number ≡ seat → here.pass ≡ s.pass → IsMoment s s.pass.start here.history here.state words
+pub moment_of : (grants : Grants) (words : List ℕ) (passes : List Pass) (seat : ℕ) (here : Here grants words passes seat)
+    (s : Known Pass) → get_elem? grants seat ≡ some s.held → s.number ≡ seat → here.pass ≡ s.pass
+    → IsMoment s s.pass.start here.history here.state words
 moment_of grants words passes seat here s granted n same = record {
   grants = grants;
   passes = passes;
   pass = here.pass;
-  running = subst (λ a. IsRunningSpace a here.history here.state words passes) (sym (here.running.parts seat here.pass here.own).began ∙ ap (λ (x : Pass). x.start) same) here.running;
+  running = subst (λ a. IsRunningSpace a here.history here.state words passes)
+      (sym (here.running.parts seat here.pass here.own).began ∙ ap (λ (x : Pass). x.start) same) here.running;
   backed = here.backed;
   exclusive = here.exclusive;
   granted = ap (get_elem? grants) n ∙ granted;

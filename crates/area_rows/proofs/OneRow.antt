@@ -1,6 +1,7 @@
 -- One row word of a list is replaced: its start moves between those of its neighbours, or its kind changes to one that
 -- neither has. The rows then show the changed kinds.
-use Rattle.std.proofs.Common.{◌≡◌, ◌≢◌, ℕ, zero, suc, ◌+◌, ◌-◌, ◌<◌, ◌≤◌, ◌⊎◌, List, [], ◌∷◌, drop, length, get_or, set, sym, refl, ap, ◌∙◌, subst, arith, inl, inr, ⊎_elim}
+use Rattle.std.proofs.Common.{◌≡◌, ◌≢◌, ℕ, zero, suc, ◌+◌, ◌-◌, ◌<◌, ◌≤◌, ◌⊎◌, List, [], ◌∷◌, drop, length, get_or, set}
+use Rattle.std.proofs.Common.{sym, refl, ap, ◌∙◌, subst, arith, inl, inr, ⊎_elim}
 use Rattle.std.proofs.lemmas.Bool.{cases_lt}
 use Rattle.std.specs.Prelude.{Option, Some, None}
 use Rattle.page_types.specs.declared.calls.Kind.{Kind}
@@ -15,7 +16,8 @@ use Rattle.row_plans.proofs.RowLists.{some_none}
 use Rattle.area_rows.proofs.Moments.{first_start}
 
 -- kinds that agree from a page on are shown alike
-same_from : (page : ℕ) (rows : List ℕ) (kinds others : ℕ → Option Kind) → ((p : ℕ) → page ≤ p → others p ≡ kinds p) → ShowFrom page rows kinds → ShowFrom page rows others
+same_from : (page : ℕ) (rows : List ℕ) (kinds others : ℕ → Option Kind) → ((p : ℕ) → page ≤ p → others p ≡ kinds p)
+    → ShowFrom page rows kinds → ShowFrom page rows others
 same_from page [] kinds others same show = show
 same_from page (w ∷ rest) kinds others same show = let l = show.1 in
     (show.0, show.1, show.2, λ p low high. same p low ∙ show.3 p low high, same_from (rows_start rest) rest kinds others (λ p low. same p (omega arith)) show.4)
@@ -37,7 +39,8 @@ first_low page [] kinds i show lt = absurd (omega arith)
 first_low page (w ∷ rest) kinds zero show lt = let e = show.0 in omega arith
 first_low page (w ∷ rest) kinds (suc i) show lt = let r = first_low (rows_start rest) rest kinds i show.4 (omega arith) in let l = show.1 in omega arith
 
-set_row_shows : (page : ℕ) (rows : List ℕ) (i word : ℕ) (kinds others : ℕ → Option Kind) → ShowFrom page rows kinds → suc i < length rows → Fits rows i word kinds others → ShowFrom page (set rows (suc i) word) others
+set_row_shows : (page : ℕ) (rows : List ℕ) (i word : ℕ) (kinds others : ℕ → Option Kind) → ShowFrom page rows kinds
+    → suc i < length rows → Fits rows i word kinds others → ShowFrom page (set rows (suc i) word) others
 set_row_shows page [] i word kinds others show lt f = absurd (omega arith)
 set_row_shows page (v ∷ []) i word kinds others show lt f = absurd (omega arith)
 set_row_shows page (v ∷ w ∷ rest) zero word kinds others show lt f =
@@ -54,13 +57,26 @@ set_row_shows page (v ∷ w ∷ rest) (suc i) word kinds others show lt f =
       show.1,
       show.2,
       (λ p low high. f.low p (omega arith) ∙ show.3 p low high),
-      set_row_shows (row_start w) (w ∷ rest) i word kinds others show.4 (omega arith) (record { above = f.above; under = f.under; differs = f.differs; next = f.next; left = f.left; own = f.own; low = f.low; high = f.high }),
+      set_row_shows (row_start w) (w ∷ rest) i word kinds others show.4 (omega arith)
+          (record {
+            above = f.above;
+            under = f.under;
+            differs = f.differs;
+            next = f.next;
+            left = f.left;
+            own = f.own;
+            low = f.low;
+            high = f.high;
+          }),
     )
 
 -- the first row keeps its start
-set_first_shows : (rows : List ℕ) (word : ℕ) (kinds others : ℕ → Option Kind) → ShowFrom 0 rows kinds → 0 < length rows → row_start word ≡ 0 → DiffersFrom word (drop 1 rows) → ((p : ℕ) → p < rows_start (drop 1 rows) → others p ≡ row_kind word) → ((p : ℕ) → rows_start (drop 1 rows) ≤ p → others p ≡ kinds p) → ShowFrom 0 (set rows 0 word) others
+set_first_shows : (rows : List ℕ) (word : ℕ) (kinds others : ℕ → Option Kind) → ShowFrom 0 rows kinds → 0 < length rows
+    → row_start word ≡ 0 → DiffersFrom word (drop 1 rows) → ((p : ℕ) → p < rows_start (drop 1 rows) → others p ≡ row_kind word)
+    → ((p : ℕ) → rows_start (drop 1 rows) ≤ p → others p ≡ kinds p) → ShowFrom 0 (set rows 0 word) others
 set_first_shows [] word kinds others show lt start differs own high = absurd (omega arith)
-set_first_shows (w ∷ rest) word kinds others show lt start differs own high = (start, show.1, differs, λ p low less. own p less, same_from (rows_start rest) rest kinds others high show.4)
+set_first_shows (w ∷ rest) word kinds others show lt start differs own high =
+    (start, show.1, differs, λ p low less. own p less, same_from (rows_start rest) rest kinds others high show.4)
 
 -- a row ends behind its start, its pages have its kind, and the next one differs
 pub record ShownAt (rows : List ℕ) (kinds : ℕ → Option Kind) (i : ℕ) : Type 0 where
@@ -70,8 +86,14 @@ pub record ShownAt (rows : List ℕ) (kinds : ℕ → Option Kind) (i : ℕ) : T
 
 pub shown_at : (page : ℕ) (rows : List ℕ) (kinds : ℕ → Option Kind) (i : ℕ) → ShowFrom page rows kinds → i < length rows → ShownAt rows kinds i
 shown_at page [] kinds i show lt = absurd (omega arith)
-shown_at page (w ∷ rest) kinds zero show lt = record { grows = (let e = show.0 in let l = show.1 in omega arith); within = λ p low high. show.3 p (let e = show.0 in omega arith) high; differs = show.2 }
-shown_at page (w ∷ rest) kinds (suc i) show lt = let r = shown_at (rows_start rest) rest kinds i show.4 (omega arith) in record { grows = r.grows; within = r.within; differs = r.differs }
+shown_at page (w ∷ rest) kinds zero show lt =
+    record {
+      grows = (let e = show.0 in let l = show.1 in omega arith);
+      within = λ p low high. show.3 p (let e = show.0 in omega arith) high;
+      differs = show.2;
+    }
+shown_at page (w ∷ rest) kinds (suc i) show lt = let r = shown_at (rows_start rest) rest kinds i show.4 (omega arith) in
+    record { grows = r.grows; within = r.within; differs = r.differs }
 
 -- the next row starts where this one ends
 pub next_is : (rows : List ℕ) (i : ℕ) → i < length rows → rows_start (drop i rows) ≡ row_start (get_or rows i 0)
@@ -108,8 +130,10 @@ pub first_or : (n : ℕ) → (n ≡ 0) ⊎ ((i : ℕ) × (suc i ≡ n))
 first_or zero = inl refl
 first_or (suc i) = inr (i, refl)
 
-module _ (rows : List ℕ) (kinds : ℕ → Option Kind) (row : Row) (before behind : Option Kind) (c : Change) (word : ℕ) (show : ShowFrom 0 rows kinds) (f : IsRowIn rows row before behind)
-    (old : row.kind ≡ Some c.old) (start : row_start word ≡ c.start) (kind : row_kind word ≡ Some c.kind) (from : row.lo ≤ c.place.lo) (pages : c.place.lo < c.place.hi) (until : c.place.hi ≤ row.hi) where
+module _ (rows : List ℕ) (kinds : ℕ → Option Kind) (row : Row) (before behind : Option Kind) (c : Change) (word : ℕ)
+    (show : ShowFrom 0 rows kinds) (f : IsRowIn rows row before behind)
+    (old : row.kind ≡ Some c.old) (start : row_start word ≡ c.start) (kind : row_kind word ≡ Some c.kind)
+    (from : row.lo ≤ c.place.lo) (pages : c.place.lo < c.place.hi) (until : c.place.hi ≤ row.hi) where
   -- pages beside the row keep their kind
   below_row : (p : ℕ) → p < row.lo → with_change c kinds p ≡ kinds p
   below_row p lt = out_of_change c kinds p (λ i. let l = i.0 in absurd (omega arith))
@@ -140,18 +164,21 @@ module _ (rows : List ℕ) (kinds : ℕ → Option Kind) (row : Row) (before beh
       f.right)
 
   -- the whole row gets another kind
-  whole_shows : c.start ≡ row.lo → c.kind ≡ c.new → c.place.lo ≡ row.lo → c.place.hi ≡ row.hi → before ≢ Some c.new → behind ≢ Some c.new → ShowFrom 0 (set rows row.index word) (with_change c kinds)
+  whole_shows : c.start ≡ row.lo → c.kind ≡ c.new → c.place.lo ≡ row.lo → c.place.hi ≡ row.hi → before ≢ Some c.new
+      → behind ≢ Some c.new → ShowFrom 0 (set rows row.index word) (with_change c kinds)
   whole_shows at new lo hi not_before not_behind =
       let is_new : row_kind word ≡ Some c.new = kind ∙ ap Some new in
       let next : DiffersFrom word (drop (suc row.index) rows) = differs_behind (λ e. not_behind (e ∙ ap Some new)) in
-      let mine : (p : ℕ) → row.lo ≤ p → p < row.hi → with_change c kinds p ≡ row_kind word = λ p low high. in_change c kinds p (omega arith, omega arith) ∙ sym is_new in
+      let mine : (p : ℕ) → row.lo ≤ p → p < row.hi → with_change c kinds p ≡ row_kind word =
+      λ p low high. in_change c kinds p (omega arith, omega arith) ∙ sym is_new in
       let end = f.hi in
       ⊎_elim
       (λ (z : row.index ≡ 0).
       let none : row.lo ≡ 0 = sym f.lo ∙ (ap (λ n. row_start (get_or rows n 0)) z ∙ first_start rows kinds show (let t = f.there in omega arith)) in
       let end_z : rows_start (drop 1 rows) ≡ row.hi = ap (λ n. rows_start (drop (suc n) rows)) (sym z) ∙ f.hi in
       subst (λ n. ShowFrom 0 (set rows n word) (with_change c kinds)) (sym z)
-      (set_first_shows rows word kinds (with_change c kinds) show (let t = f.there in omega arith) (start ∙ (at ∙ none)) (subst (λ n. DiffersFrom word (drop (suc n) rows)) z next)
+      (set_first_shows rows word kinds (with_change c kinds) show (let t = f.there in omega arith) (start ∙ (at ∙ none))
+      (subst (λ n. DiffersFrom word (drop (suc n) rows)) z next)
       (λ p less. mine p (omega arith) (omega arith)) (λ p ge. above_row p (omega arith))))
       (λ (t : (i : ℕ) × (suc i ≡ row.index)).
       let i = t.0 in
@@ -174,7 +201,8 @@ module _ (rows : List ℕ) (kinds : ℕ → Option Kind) (row : Row) (before beh
       (first_or row.index)
 
   -- the row's first pages go to the row before it
-  first_shows : c.start ≡ c.place.hi → c.kind ≡ c.old → c.place.lo ≡ row.lo → c.place.hi < row.hi → before ≡ Some c.new → ShowFrom 0 (set rows row.index word) (with_change c kinds)
+  first_shows : c.start ≡ c.place.hi → c.kind ≡ c.old → c.place.lo ≡ row.lo → c.place.hi < row.hi → before ≡ Some c.new
+      → ShowFrom 0 (set rows row.index word) (with_change c kinds)
   first_shows at same_kind lo hi is_before =
       let as_was : row_kind word ≡ row_kind (get_or rows row.index 0) = kind ∙ (ap Some same_kind ∙ (sym old ∙ sym f.kind)) in
       ⊎_elim
@@ -186,26 +214,31 @@ module _ (rows : List ℕ) (kinds : ℕ → Option Kind) (row : Row) (before beh
       let grows = b.grows in
       let k : row_kind (get_or rows i 0) ≡ Some c.new = kind_before_is i t.1 ∙ is_before in
       let after : rows_start (drop (suc (suc i)) rows) ≡ row.hi = ap (λ n. rows_start (drop (suc n) rows)) t.1 ∙ f.hi in
-      let was : row_kind (get_or rows i 0) ≢ row_kind (get_or rows row.index 0) = subst (λ n. row_kind (get_or rows i 0) ≢ row_kind (get_or rows n 0)) t.1 (differs_at rows (suc i) (get_or rows i 0) (let there = f.there in let s = t.1 in omega arith) b.differs) in
+      let was : row_kind (get_or rows i 0) ≢ row_kind (get_or rows row.index 0) =
+      subst (λ n. row_kind (get_or rows i 0) ≢ row_kind (get_or rows n 0)) t.1
+      (differs_at rows (suc i) (get_or rows i 0) (let there = f.there in let s = t.1 in omega arith) b.differs) in
       let own_start = f.lo in
       subst (λ n. ShowFrom 0 (set rows n word) (with_change c kinds)) t.1
       (set_row_shows 0 rows i word kinds (with_change c kinds) show (let there = f.there in let s = t.1 in omega arith) (record {
         above = omega arith;
         under = omega arith;
         differs = λ same. was (same ∙ as_was);
-        next = subst (λ n. DiffersFrom word (drop (suc n) rows)) (sym t.1) (differs_like (drop (suc row.index) rows) (get_or rows row.index 0) word as_was own_row.differs);
+        next = subst (λ n. DiffersFrom word (drop (suc n) rows)) (sym t.1)
+            (differs_like (drop (suc row.index) rows) (get_or rows row.index 0) word as_was own_row.differs);
         left = λ p low high. elim (cases_lt p row.lo) [
           | inl less ↦ below_row p less ∙ b.within p low (omega arith)
           | inr ge ↦ in_change c kinds p (omega arith, omega arith) ∙ sym k
         ];
-        own = λ p low high. out_of_change c kinds p (λ j. let h = j.1 in absurd (omega arith)) ∙ (own_row.within p (omega arith) (let h = f.hi in omega arith) ∙ sym as_was);
+        own = λ p low high. out_of_change c kinds p (λ j. let h = j.1 in absurd (omega arith))
+            ∙ (own_row.within p (omega arith) (let h = f.hi in omega arith) ∙ sym as_was);
         low = λ p less. below_row p (omega arith);
         high = λ p ge. above_row p (omega arith);
       })))
       (first_or row.index)
 
   -- the row's last pages go to the row behind it
-  last_shows : c.start ≡ c.place.lo → c.kind ≡ c.new → row.lo < c.place.lo → c.place.hi ≡ row.hi → behind ≡ Some c.new → ShowFrom 0 (set rows (suc row.index) word) (with_change c kinds)
+  last_shows : c.start ≡ c.place.lo → c.kind ≡ c.new → row.lo < c.place.lo → c.place.hi ≡ row.hi → behind ≡ Some c.new
+      → ShowFrom 0 (set rows (suc row.index) word) (with_change c kinds)
   last_shows at new lo hi is_behind = ⊎_elim
       (λ (t : (suc row.index ≡ length rows) × (behind ≡ None)). absurd (some_none c.new behind t.1 is_behind))
       (λ (t : (suc row.index < length rows) × (row_kind (get_or rows (suc row.index) 0) ≡ behind)).
@@ -233,6 +266,10 @@ module _ (rows : List ℕ) (kinds : ℕ → Option Kind) (row : Row) (before beh
 
   -- so the rows show the changed kinds
   pub replaced_shows : IsOneStore row before behind c → ShowFrom 0 (set rows c.index word) (with_change c kinds)
-  replaced_shows (whole index at new lo hi not_before not_behind) = subst (λ n. ShowFrom 0 (set rows n word) (with_change c kinds)) (sym index) (whole_shows at new lo hi not_before not_behind)
-  replaced_shows (first_part index at same_kind lo hi is_before) = subst (λ n. ShowFrom 0 (set rows n word) (with_change c kinds)) (sym index) (first_shows at same_kind lo hi is_before)
-  replaced_shows (last_part index at new lo hi is_behind) = subst (λ n. ShowFrom 0 (set rows n word) (with_change c kinds)) (sym (let s : row.index + 1 ≡ suc row.index = omega arith in index ∙ s)) (last_shows at new lo hi is_behind)
+  replaced_shows (whole index at new lo hi not_before not_behind) =
+      subst (λ n. ShowFrom 0 (set rows n word) (with_change c kinds)) (sym index) (whole_shows at new lo hi not_before not_behind)
+  replaced_shows (first_part index at same_kind lo hi is_before) =
+      subst (λ n. ShowFrom 0 (set rows n word) (with_change c kinds)) (sym index) (first_shows at same_kind lo hi is_before)
+  replaced_shows (last_part index at new lo hi is_behind) =
+      subst (λ n. ShowFrom 0 (set rows n word) (with_change c kinds))
+      (sym (let s : row.index + 1 ≡ suc row.index = omega arith in index ∙ s)) (last_shows at new lo hi is_behind)

@@ -1,5 +1,6 @@
 -- What the rows that a caller has read show of the history's state, also while others move boundaries beside its range.
-use Rattle.std.proofs.Common.{◌≡◌, ◌≢◌, ℕ, zero, suc, ◌+◌, ◌-◌, ◌<◌, ◌≤◌, List, ◌∷◌, drop, length, get_or, sym, refl, ap, ◌∙◌, subst, arith, ◌⊎◌, inl, inr, ⊎_elim}
+use Rattle.std.proofs.Common.{◌≡◌, ◌≢◌, ℕ, zero, suc, ◌+◌, ◌-◌, ◌<◌, ◌≤◌, List, ◌∷◌, drop, length, get_or, sym, refl}
+use Rattle.std.proofs.Common.{ap, ◌∙◌, subst, arith, ◌⊎◌, inl, inr, ⊎_elim}
 use Rattle.std.proofs.lemmas.Bool.{cases_lt}
 use Rattle.std.proofs.lemmas.List.{drop_all}
 use Rattle.std.specs.Prelude.{All, Option, Some, slice_index}
@@ -27,7 +28,9 @@ use Rattle.area_rows.proofs.Gathering.{next_start}
 -- what the word of a row says, of those that show kinds
 pub record WordSays (words : List ℕ) (kinds : ℕ → Option Kind) (i : ℕ) : Type 0 where
   pub below : row_start (slice_index words (3 + i)) < LIMIT
-  pub within : (p : ℕ) → row_start (slice_index words (3 + i)) ≤ p → p < LIMIT → (i + 1 < slice_index words 2 → p < row_start (slice_index words (3 + (i + 1)))) → kinds p ≡ row_kind (slice_index words (3 + i))
+  pub within : (p : ℕ) → row_start (slice_index words (3 + i)) ≤ p → p < LIMIT
+      → (i + 1 < slice_index words 2 → p < row_start (slice_index words (3 + (i + 1))))
+      → kinds p ≡ row_kind (slice_index words (3 + i))
   pub rises : i + 1 < slice_index words 2 → row_start (slice_index words (3 + i)) < row_start (slice_index words (3 + (i + 1)))
   pub differs : i + 1 < slice_index words 2 → row_kind (slice_index words (3 + i)) ≢ row_kind (slice_index words (3 + (i + 1)))
 
@@ -39,7 +42,9 @@ word_says words kinds i s lt =
     let here : get_or rows i 0 ≡ slice_index words (3 + i) = at_row words i lt in
     record {
       below = row_below words kinds i s lt;
-      within = λ p from low next. subst (λ w. kinds p ≡ row_kind w) here (r.within p (subst (λ w. row_start w ≤ p) (sym here) from) low (λ l. subst (λ w. p < row_start w) (sym (at_row words (i + 1) (omega arith))) (next (omega arith))));
+      within = λ p from low next. subst (λ w. kinds p ≡ row_kind w) here
+          (r.within p (subst (λ w. row_start w ≤ p) (sym here) from) low
+          (λ l. subst (λ w. p < row_start w) (sym (at_row words (i + 1) (omega arith))) (next (omega arith))));
       rises = λ l. subst (λ (z : ℕ × ℕ). row_start z.0 < row_start z.1) (λ k. (here k, at_row words (i + 1) l k)) (r.rises (omega arith));
       differs = λ l. subst (λ (z : ℕ × ℕ). row_kind z.0 ≢ row_kind z.1) (λ k. (here k, at_row words (i + 1) l k)) (r.differs (omega arith));
     }
@@ -61,20 +66,25 @@ module _ (words : List ℕ) (kinds : ℕ → Option Kind) (s : RowsShow words ki
       let at : row_start (slice_index words (3 + index)) ≡ lo = ap row_start is in
       let low : row_start (slice_index words (3 + index)) < LIMIT = (word_says words kinds index s (omega arith)).below in
       ⊎_elim
-      (λ (none : index ≡ 0). let z : row_start word ≡ 0 = sym at ∙ (ap (λ n. row_start (slice_index words (3 + n))) none ∙ first_row words kinds s) in absurd (omega arith))
+      (λ (none : index ≡ 0). let z : row_start word ≡ 0 = sym at
+      ∙ (ap (λ n. row_start (slice_index words (3 + n))) none ∙ first_row words kinds s) in absurd (omega arith))
       (λ (some_row : 0 < index).
       let j = index - 1 in
       let back : j + 1 ≡ index = omega arith in
       let w = word_says words kinds j s (omega arith) in
       let next : slice_index words (3 + (j + 1)) ≡ word = ap (λ n. slice_index words (3 + n)) back ∙ is in
       let up : row_start (slice_index words (3 + j)) < lo = subst (λ x. row_start (slice_index words (3 + j)) < row_start x) next (w.rises (omega arith)) in
-      w.differs (omega arith) (sym (w.within (lo - 1) (omega arith) (omega arith) (λ l. subst (λ x. lo - 1 < row_start x) (sym next) (omega arith))) ∙ (e ∙ ap row_kind (sym next))))
+      w.differs (omega arith)
+      (sym (w.within (lo - 1) (omega arith) (omega arith) (λ l. subst (λ x. lo - 1 < row_start x) (sym next) (omega arith)))
+      ∙ (e ∙ ap row_kind (sym next))))
       (zero_or_more index)
 
   -- the pages of the row are of its kind
-  in_row : (hi p : ℕ) → (index + 1 < count → hi ≡ row_start (slice_index words (3 + (index + 1)))) → row_start word ≤ p → p < hi → p < LIMIT → kinds p ≡ row_kind word
+  in_row : (hi p : ℕ) → (index + 1 < count → hi ≡ row_start (slice_index words (3 + (index + 1)))) → row_start word ≤ p → p < hi
+      → p < LIMIT → kinds p ≡ row_kind word
   in_row hi p ends from below low =
-      subst (λ w. kinds p ≡ row_kind w) is ((word_says words kinds index s (omega arith)).within p (subst (λ w. row_start w ≤ p) (sym is) from) low (λ l. let e = ends (omega arith) in omega arith))
+      subst (λ w. kinds p ≡ row_kind w) is ((word_says words kinds index s (omega arith)).within p
+      (subst (λ w. row_start w ≤ p) (sym is) from) low (λ l. let e = ends (omega arith) in omega arith))
 
   -- the page after the row isn't of its kind
   after_row_page : (hi : ℕ) → index + 1 < count → hi ≡ row_start (slice_index words (3 + (index + 1))) → kinds hi ≢ row_kind word
@@ -85,7 +95,8 @@ module _ (words : List ℕ) (kinds : ℕ → Option Kind) (s : RowsShow words ki
       (ap row_kind is ∙ (sym same ∙ v.within hi (omega arith) (omega arith) (λ l. let r = v.rises l in omega arith)))
 
 -- the row ends where the next one starts, or at the limit
-end_is : (words : List ℕ) (kinds : ℕ → Option Kind) → RowsShow words kinds → (count index hi : ℕ) → slice_index words 2 ≡ count → (index + 1 < count → hi ≡ row_start (slice_index words (3 + (index + 1))))
+end_is : (words : List ℕ) (kinds : ℕ → Option Kind) → RowsShow words kinds → (count index hi : ℕ) → slice_index words 2 ≡ count
+    → (index + 1 < count → hi ≡ row_start (slice_index words (3 + (index + 1))))
     → (index + 1 < count) ⊎ ((index + 1 ≡ count) × (hi ≡ LIMIT)) → rows_start (drop (index + 1) (rows_in words)) ≡ hi
 end_is words kinds s count index hi counts next ends =
     let wide = s.room in let few = s.few in let l = length-rows_in words kinds s in
@@ -96,10 +107,12 @@ end_is words kinds s count index hi counts next ends =
 
 -- what a row that was read says, from what still stands of it and of the next one
 module _ (held : Option Held) (words : List ℕ) (kinds : ℕ → Option Kind) (s : RowsShow words kinds) (page count index word hi : ℕ)
-    (counts : slice_index words 2 ≡ count) (lt : index < count) (here : IsHeldPage held page) (from : row_start word ≤ page) (until : page < hi) (limit : hi ≤ LIMIT)
+    (counts : slice_index words 2 ≡ count) (lt : index < count) (here : IsHeldPage held page) (from : row_start word ≤ page)
+    (until : page < hi) (limit : hi ≤ LIMIT)
     (pages : IsHeldPages held)
     (still : StillStands held words (record { index = index; word = word }))
-    (ends : ((index + 1 < count) × (next : ℕ) × (hi ≡ row_start next) × StillStands held words (record { index = index + 1; word = next })) ⊎ ((index + 1 ≡ count) × (hi ≡ LIMIT))) where
+    (ends : ((index + 1 < count) × (next : ℕ) × (hi ≡ row_start next)
+    × StillStands held words (record { index = index + 1; word = next })) ⊎ ((index + 1 ≡ count) × (hi ≡ LIMIT))) where
   -- a held page between the ends as they were read is in this row still
   row_of_page : (p : ℕ) → IsHeldPage held p → row_start word ≤ p → p < hi → IsRowOf words p index
   row_of_page p h low high = record {
@@ -116,10 +129,13 @@ module _ (held : Option Held) (words : List ℕ) (kinds : ℕ → Option Kind) (
   kind_now : row_kind (slice_index words (3 + index)) ≡ row_kind word
   kind_now = still.kind page here (row_of_page page here from until)
 
-  pub row_is_still : (state : List Area) → ((p : ℕ) → IsHeldPage held p → kinds p ≡ kind_at state p) → RowIs held page (record { index = index; lo = row_start word; hi = hi; kind = row_kind word }) words state
+  pub row_is_still : (state : List Area) → ((p : ℕ) → IsHeldPage held p → kinds p ≡ kind_at state p)
+      → RowIs held page (record { index = index; lo = row_start word; hi = hi; kind = row_kind word }) words state
   row_is_still state same = record {
     index = row_of_page page here from until;
-    kind = λ p h low high. let r = row_of_page p h low high in sym (same p h) ∙ ((word_says words kinds index s (omega arith)).within p r.from (below_end held p pages h) r.last ∙ kind_now);
+    kind = λ p h low high. let r = row_of_page p h low high in
+        sym (same p h) ∙ ((word_says words kinds index s (omega arith)).within p r.from (below_end held p pages h) r.last
+        ∙ kind_now);
     next = λ h e. ⊎_elim
         (λ t. let at : row_start (slice_index words (3 + (index + 1))) ≡ row_start t.1 = t.3.start hi h (inl t.2) in
         after_row_page words kinds s page count index (slice_index words (3 + index)) counts refl lt hi t.0 (t.2 ∙ sym at) (same hi h ∙ (e ∙ sym kind_now)))
@@ -141,39 +157,73 @@ module _ (held : Option Held) (words : List ℕ) (kinds : ℕ → Option Kind) (
         );
   }
 
-row_is : (seat : Known Pass) (held : Option Held) (page count index word hi : ℕ) → seat.held ≡ held → IsHeldPages held → IsAtRest seat.pass → seat.pass.count ≡ Some count → HasRead seat.pass.rows index word → index < count → IsHeldPage held page → row_start word ≤ page → page < hi → hi ≤ LIMIT
+row_is : (seat : Known Pass) (held : Option Held) (page count index word hi : ℕ) → seat.held ≡ held → IsHeldPages held
+    → IsAtRest seat.pass → seat.pass.count ≡ Some count → HasRead seat.pass.rows index word → index < count → IsHeldPage held page
+    → row_start word ≤ page → page < hi → hi ≤ LIMIT
     → IsRowEnd seat.pass.rows count index hi → Shows seat (RowIs held page (record { index = index; lo = row_start word; hi = hi; kind = row_kind word }))
 row_is seat held page count index word hi same pages rest counted read lt here from until limit ends start history state words m =
     let part = m.running.parts seat.number m.pass m.own in
     let granted : get_elem? m.grants seat.number ≡ some held = m.granted ∙ ap some same in
     let holds : HoldsPages m.grants seat.number = (here.0, granted ∙ ap some here.1, pages here.0 here.1) in
     let rested : IsAtRest m.pass = m.read.pending ∙ rest in
-    let rows : RowsStandFor state m.passes words = m.running.rows (nobody_plans m.grants words state m.passes seat.number m.pass m.exclusive m.backed m.own rested holds) in
+    let rows : RowsStandFor state m.passes words =
+    m.running.rows (nobody_plans m.grants words state m.passes seat.number m.pass m.exclusive m.backed m.own rested holds) in
     let stood : All (StillStands held words) m.pass.rows = (m.backed seat.number m.pass m.own).rows held granted in
     row_is_still held words rows.0 rows.2 page count index word hi (part.count count (m.read.count count counted)) lt here from until limit pages
     (stands held words m.pass.rows index word stood (m.read.rows index word read))
     (⊎_elim (λ t. inl (t.0, t.1, t.3, stands held words m.pass.rows (index + 1) t.1 stood (m.read.rows (index + 1) t.1 t.2))) (λ t. inr t) ends)
     state (shows_held m.grants words state m.passes seat.number m.pass m.exclusive m.backed m.own rested held granted rows.0 rows.1)
 
-shows_row : (seat : Known Pass) (held : Option Held) (page count index word lo hi : ℕ) (kind : Option Kind) → lo ≡ row_start word → kind ≡ row_kind word → seat.held ≡ held → IsHeldPages held → IsAtRest seat.pass → seat.pass.count ≡ Some count → HasRead seat.pass.rows index word → index < count
-    → IsHeldPage held page → row_start word ≤ page → page < hi → hi ≤ LIMIT → IsRowEnd seat.pass.rows count index hi → Shows seat (RowIs held page (record { index = index; lo = lo; hi = hi; kind = kind }))
+shows_row : (seat : Known Pass) (held : Option Held) (page count index word lo hi : ℕ) (kind : Option Kind) → lo ≡ row_start word
+    → kind ≡ row_kind word → seat.held ≡ held → IsHeldPages held → IsAtRest seat.pass → seat.pass.count ≡ Some count
+    → HasRead seat.pass.rows index word → index < count
+    → IsHeldPage held page → row_start word ≤ page → page < hi → hi ≤ LIMIT → IsRowEnd seat.pass.rows count index hi
+    → Shows seat (RowIs held page (record { index = index; lo = lo; hi = hi; kind = kind }))
 shows_row seat held page count index word lo hi kind l k same pages rest counted read lt here from until limit ends =
-    subst (λ (z : ℕ × Option Kind). Shows seat (RowIs held page (record { index = index; lo = z.0; hi = hi; kind = z.1 }))) (λ i. (sym l i, sym k i)) (row_is seat held page count index word hi same pages rest counted read lt here from until limit ends)
+    subst (λ (z : ℕ × Option Kind). Shows seat (RowIs held page (record { index = index; lo = z.0; hi = hi; kind = z.1 })))
+    (λ i. (sym l i, sym k i)) (row_is seat held page count index word hi same pages rest counted read lt here from until limit
+    ends)
 
 -- what was read stays read
 pub keeps_on : (a b c : Pass) → KeepsRead a b → KeepsRead b c → KeepsRead a c
-keeps_on a b c f g = record { count = λ n e. g.count n (f.count n e); rows = λ index word h. g.rows index word (f.rows index word h); sequence = λ n e. g.sequence n (f.sequence n e); pending = g.pending ∙ f.pending }
+keeps_on a b c f g = record {
+  count = λ n e. g.count n (f.count n e);
+  rows = λ index word h. g.rows index word (f.rows index word h);
+  sequence = λ n e. g.sequence n (f.sequence n e);
+  pending = g.pending ∙ f.pending;
+}
 
 pub reading_on : (a b c : Known Pass) → IsReading a b → IsReading b c → IsReading a c
-reading_on a b c f g = record { table = g.table ∙ f.table; number = g.number ∙ f.number; held = g.held ∙ f.held; pools = g.pools ∙ f.pools; start = g.start ∙ f.start; seen = g.seen ∙ f.seen; mine = g.mine ∙ f.mine; taken = let l = f.taken in let m = g.taken in omega arith; read = keeps_on a.pass b.pass c.pass f.read g.read }
+reading_on a b c f g = record {
+  table = g.table ∙ f.table;
+  number = g.number ∙ f.number;
+  held = g.held ∙ f.held;
+  pools = g.pools ∙ f.pools;
+  start = g.start ∙ f.start;
+  seen = g.seen ∙ f.seen;
+  mine = g.mine ∙ f.mine;
+  taken = let l = f.taken in let m = g.taken in omega arith;
+  read = keeps_on a.pass b.pass c.pass f.read g.read;
+}
 
 pub no_reading : (a : Known Pass) → IsReading a a
-no_reading a = record { table = refl; number = refl; held = refl; pools = refl; start = refl; seen = refl; mine = refl; taken = omega arith; read = record { count = λ n e. e; rows = λ index word h. h; sequence = λ n e. e; pending = refl } }
+no_reading a = record {
+  table = refl;
+  number = refl;
+  held = refl;
+  pools = refl;
+  start = refl;
+  seen = refl;
+  mine = refl;
+  taken = omega arith;
+  read = record { count = λ n e. e; rows = λ index word h. h; sequence = λ n e. e; pending = refl };
+}
 
 pub step_taken : (a b : Known Pass) (place : ℕ) (p : Pass) → IsClientStep a place p b → b.trace.taken ≡ a.trace.taken + 1
 step_taken a b place p s = ap (λ (r : Record). r.taken) s.trace
 
-pub step_reads : (a b : Known Pass) (place : ℕ) (p : Pass) → IsClientStep a place p b → p.start ≡ a.pass.start → p.seen ≡ a.pass.seen → p.mine ≡ a.pass.mine → KeepsRead a.pass p → IsReading a b
+pub step_reads : (a b : Known Pass) (place : ℕ) (p : Pass) → IsClientStep a place p b → p.start ≡ a.pass.start
+    → p.seen ≡ a.pass.seen → p.mine ≡ a.pass.mine → KeepsRead a.pass p → IsReading a b
 step_reads a b place p s x y z k = record {
   table = s.table;
   number = s.number;
@@ -190,10 +240,12 @@ same_some : (n m : ℕ) → n ≡ m → Some n ≡ Some m
 same_some n m e = ap Some e
 
 pub count_reads : (a b : Known Pass) (n : ℕ) → IsClientStep a 2 (after_count n a.pass) b → ((m : ℕ) → a.pass.count ≡ Some m → n ≡ m) → IsReading a b
-count_reads a b n s again = step_reads a b 2 (after_count n a.pass) s refl refl refl (record { count = λ m e. same_some n m (again m e); rows = λ index word h. h; sequence = λ m e. e; pending = refl })
+count_reads a b n s again = step_reads a b 2 (after_count n a.pass) s refl refl refl
+    (record { count = λ m e. same_some n m (again m e); rows = λ index word h. h; sequence = λ m e. e; pending = refl })
 
 pub row_reads : (a b : Known Pass) (index word : ℕ) → IsClientStep a (3 + index) (after_row index word a.pass) b → IsReading a b
-row_reads a b index word s = step_reads a b (3 + index) (after_row index word a.pass) s refl refl refl (record { count = λ n e. e; rows = λ i w h. inr h; sequence = λ n e. e; pending = refl })
+row_reads a b index word s = step_reads a b (3 + index) (after_row index word a.pass) s refl refl refl
+    (record { count = λ n e. e; rows = λ i w h. inr h; sequence = λ n e. e; pending = refl })
 
 -- what a range has shown lasts while the caller reads more rows
 pub shows_on : (a b : Known Pass) (what : List ℕ → List Area → Type 0) → IsReading a b → Shows a what → Shows b what
@@ -210,22 +262,34 @@ shows_on a b what r shows start history state words m = shows start history stat
 })
 
 -- the row before one that starts above the page
-pub found_row : (old new : Known Pass) (held : Option Held) (page count index word next lo hi : ℕ) (kind : Option Kind) → IsClientStep old (3 + (index + 1)) (after_row (index + 1) next old.pass) new → lo ≡ row_start word → kind ≡ row_kind word → hi ≡ row_start next → new.held ≡ held → IsHeldPages held
-    → IsAtRest old.pass → old.pass.count ≡ Some count → HasRead old.pass.rows index word → index + 1 < count → IsHeldPage held page → row_start word ≤ page → page < hi → hi ≤ LIMIT → Shows new (RowIs held page (record { index = index; lo = lo; hi = hi; kind = kind }))
+pub found_row : (old new : Known Pass) (held : Option Held) (page count index word next lo hi : ℕ) (kind : Option Kind)
+    → IsClientStep old (3 + (index + 1)) (after_row (index + 1) next old.pass) new → lo ≡ row_start word → kind ≡ row_kind word
+    → hi ≡ row_start next → new.held ≡ held → IsHeldPages held
+    → IsAtRest old.pass → old.pass.count ≡ Some count → HasRead old.pass.rows index word → index + 1 < count
+    → IsHeldPage held page → row_start word ≤ page → page < hi → hi ≤ LIMIT
+    → Shows new (RowIs held page (record { index = index; lo = lo; hi = hi; kind = kind }))
 found_row old new held page count index word next lo hi kind step l k h same pages rest counted read lt here from until limit =
     let rows : record { index = index + 1; word = next } ∷ old.pass.rows ≡ new.pass.rows = sym (ap (λ (p : Pass). p.rows) step.pass) in
-    shows_row new held page count index word lo hi kind l k same pages (ap (λ (p : Pass). p.pending) step.pass ∙ rest) (ap (λ (p : Pass). p.count) step.pass ∙ counted) (subst (λ r. HasRead r index word) rows (inr read)) (omega arith) here from until limit
+    shows_row new held page count index word lo hi kind l k same pages (ap (λ (p : Pass). p.pending) step.pass ∙ rest)
+    (ap (λ (p : Pass). p.count) step.pass ∙ counted) (subst (λ r. HasRead r index word) rows (inr read)) (omega arith) here
+    from until limit
     (inl (lt, next, subst (λ r. HasRead r (index + 1) next) rows (inl (refl, refl)), h))
 
 -- the last row
-pub last_row : (seat : Known Pass) (held : Option Held) (page count index word lo : ℕ) (kind : Option Kind) → lo ≡ row_start word → kind ≡ row_kind word → seat.held ≡ held → IsHeldPages held → IsAtRest seat.pass → IsHeldPage held page
-    → seat.pass.count ≡ Some count → HasRead seat.pass.rows index word → index < count → ¬ (index + 1 < count) → row_start word ≤ page → Shows seat (RowIs held page (record { index = index; lo = lo; hi = LIMIT; kind = kind }))
+pub last_row : (seat : Known Pass) (held : Option Held) (page count index word lo : ℕ) (kind : Option Kind) → lo ≡ row_start word
+    → kind ≡ row_kind word → seat.held ≡ held → IsHeldPages held → IsAtRest seat.pass → IsHeldPage held page
+    → seat.pass.count ≡ Some count → HasRead seat.pass.rows index word → index < count → ¬ (index + 1 < count)
+    → row_start word ≤ page → Shows seat (RowIs held page (record { index = index; lo = lo; hi = LIMIT; kind = kind }))
 last_row seat held page count index word lo kind l k same pages rest h counted read lt not_more from =
-    shows_row seat held page count index word lo LIMIT kind l k same pages rest counted read lt h from (below_end held page pages h) (omega arith) (inr (omega arith, refl))
+    shows_row seat held page count index word lo LIMIT kind l k same pages rest counted read lt h from
+    (below_end held page pages h) (omega arith) (inr (omega arith, refl))
 
 -- the ends of a row as they were read
-pub found_read : (old new : Known Pass) (count index word next lo hi : ℕ) (kind : Option Kind) → IsClientStep old (3 + (index + 1)) (after_row (index + 1) next old.pass) new → lo ≡ row_start word → kind ≡ row_kind word → hi ≡ row_start next
-    → old.pass.count ≡ Some count → HasRead old.pass.rows index word → index + 1 < count → IsAsRead new.pass (record { index = index; lo = lo; hi = hi; kind = kind })
+pub found_read : (old new : Known Pass) (count index word next lo hi : ℕ) (kind : Option Kind)
+    → IsClientStep old (3 + (index + 1)) (after_row (index + 1) next old.pass) new → lo ≡ row_start word → kind ≡ row_kind word
+    → hi ≡ row_start next
+    → old.pass.count ≡ Some count → HasRead old.pass.rows index word → index + 1 < count
+    → IsAsRead new.pass (record { index = index; lo = lo; hi = hi; kind = kind })
 found_read old new count index word next lo hi kind step l k h counted read lt =
     let rows : record { index = index + 1; word = next } ∷ old.pass.rows ≡ new.pass.rows = sym (ap (λ (p : Pass). p.rows) step.pass) in
     record {
@@ -239,15 +303,28 @@ found_read old new count index word next lo hi kind step l k h counted read lt =
       hi = inl (lt, next, subst (λ r. HasRead r (index + 1) next) rows (inl (refl, refl)), h);
     }
 
-pub last_read : (seat : Known Pass) (count index word lo : ℕ) (kind : Option Kind) → lo ≡ row_start word → kind ≡ row_kind word → seat.pass.count ≡ Some count → HasRead seat.pass.rows index word → index < count → ¬ (index + 1 < count)
+pub last_read : (seat : Known Pass) (count index word lo : ℕ) (kind : Option Kind) → lo ≡ row_start word → kind ≡ row_kind word
+    → seat.pass.count ≡ Some count → HasRead seat.pass.rows index word → index < count → ¬ (index + 1 < count)
     → IsAsRead seat.pass (record { index = index; lo = lo; hi = LIMIT; kind = kind })
-last_read seat count index word lo kind l k counted read lt not_more = record { count = count; counted = counted; there = lt; word = word; read = read; lo = l; kind = k; hi = inr (omega arith, refl) }
+last_read seat count index word lo kind l k counted read lt not_more =
+    record {
+      count = count;
+      counted = counted;
+      there = lt;
+      word = word;
+      read = read;
+      lo = l;
+      kind = k;
+      hi = inr (omega arith, refl);
+    }
 
 -- the kinds of the rows beside a row, as they are read now
-pub before_read : (a b : Known Pass) (index word : ℕ) (kind : Option Kind) → 0 < index → kind ≡ row_kind word → IsClientStep a (3 + (index - 1)) (after_row (index - 1) word a.pass) b → IsReadBefore b.pass.rows index kind
+pub before_read : (a b : Known Pass) (index word : ℕ) (kind : Option Kind) → 0 < index → kind ≡ row_kind word
+    → IsClientStep a (3 + (index - 1)) (after_row (index - 1) word a.pass) b → IsReadBefore b.pass.rows index kind
 before_read a b index word kind more is s = inr (more, word, subst (λ (p : Pass). HasRead p.rows (index - 1) word) (sym s.pass) (inl (refl, refl)), is)
 
-pub behind_read : (a b : Known Pass) (count index word : ℕ) (kind : Option Kind) → index + 1 < count → kind ≡ row_kind word → IsClientStep a (3 + (index + 1)) (after_row (index + 1) word a.pass) b → IsReadBehind b.pass.rows count index kind
+pub behind_read : (a b : Known Pass) (count index word : ℕ) (kind : Option Kind) → index + 1 < count → kind ≡ row_kind word
+    → IsClientStep a (3 + (index + 1)) (after_row (index + 1) word a.pass) b → IsReadBehind b.pass.rows count index kind
 behind_read a b count index word kind more is s = inr (more, word, subst (λ (p : Pass). HasRead p.rows (index + 1) word) (sym s.pass) (inl (refl, refl)), is)
 
 -- what was read of a row and of the one before it is read still

@@ -40,26 +40,36 @@ use Rattle.area_rows.proofs.Reading.{row_is_still}
 use Rattle.area_rows.proofs.OneRow.{IsRowIn, ShownAt, shown_at, next_is, replaced_shows}
 
 -- the rows among the client words, after a row word was stored
-rows_set : (words : List ℕ) (index word : ℕ) → length words ≡ 3 + ROWS → slice_index words 2 ≤ ROWS → index < slice_index words 2 → rows_in (set words (3 + index) word) ≡ set (rows_in words) index word
+rows_set : (words : List ℕ) (index word : ℕ) → length words ≡ 3 + ROWS → slice_index words 2 ≤ ROWS → index < slice_index words 2
+    → rows_in (set words (3 + index) word) ≡ set (rows_in words) index word
 rows_set words index word room few lt =
     let count : slice_index (set words (3 + index) word) 2 ≡ slice_index words 2 = get_or-set_other words (3 + index) 2 word 0 (λ e. omega arith) in
     let wide : length (rows_in words) ≡ slice_index words 2 = length-rows words room few in
     let room_after : length (set words (3 + index) word) ≡ 3 + ROWS = length-set words (3 + index) word ∙ room in
-    let wide_after : length (rows_in (set words (3 + index) word)) ≡ slice_index words 2 = length-rows (set words (3 + index) word) room_after (omega arith) ∙ count in
+    let wide_after : length (rows_in (set words (3 + index) word)) ≡ slice_index words 2 =
+    length-rows (set words (3 + index) word) room_after (omega arith) ∙ count in
     let same_length : length (set (rows_in words) index word) ≡ length (rows_in words) = length-set (rows_in words) index word in
     same_by (rows_in (set words (3 + index) word)) (set (rows_in words) index word) (omega arith) (λ i below. dite (ℕ_discrete i index)
     (λ same.
-    let stored : slice_index (set words (3 + index) word) (3 + i) ≡ word = ap (λ n. slice_index (set words (3 + index) word) (3 + n)) same ∙ get_or-set_same words (3 + index) word 0 (omega arith) in
-    let listed : get_or (set (rows_in words) index word) i 0 ≡ word = ap (λ n. get_or (set (rows_in words) index word) n 0) same ∙ get_or-set_same (rows_in words) index word 0 (omega arith) in
+    let stored : slice_index (set words (3 + index) word) (3 + i) ≡ word =
+    ap (λ n. slice_index (set words (3 + index) word) (3 + n)) same
+    ∙ get_or-set_same words (3 + index) word 0 (omega arith) in
+    let listed : get_or (set (rows_in words) index word) i 0 ≡ word = ap (λ n. get_or (set (rows_in words) index word) n 0) same
+    ∙ get_or-set_same (rows_in words) index word 0 (omega arith) in
     at_row (set words (3 + index) word) i (omega arith) ∙ (stored ∙ sym listed))
     (λ differ.
-    let stays : slice_index (set words (3 + index) word) (3 + i) ≡ slice_index words (3 + i) = get_or-set_other words (3 + index) (3 + i) word 0 (λ e. differ (omega arith)) in
-    let listed : get_or (set (rows_in words) index word) i 0 ≡ slice_index words (3 + i) = get_or-set_other (rows_in words) index i word 0 differ ∙ at_row words i (omega arith) in
+    let stays : slice_index (set words (3 + index) word) (3 + i) ≡ slice_index words (3 + i) =
+    get_or-set_other words (3 + index) (3 + i) word 0 (λ e. differ (omega arith)) in
+    let listed : get_or (set (rows_in words) index word) i 0 ≡ slice_index words (3 + i) =
+    get_or-set_other (rows_in words) index i word 0 differ ∙ at_row words i (omega arith) in
     at_row (set words (3 + index) word) i (omega arith) ∙ (stays ∙ sym listed)))
 
 -- the row and its neighbours, by what was read under the range that is held, at a moment at which the rows show kinds
-module _ (span : Span) (words : List ℕ) (kinds : ℕ → Option Kind) (s : RowsShow words kinds) (read : List ReadRow) (stood : All (StillStands (Some (alone span)) words) read) (row : Row) (before behind : Option Kind) (count word : ℕ)
-    (round : IsRound row span) (pages : row.lo < row.hi) (limit : row.hi ≤ LIMIT) (counts : slice_index words 2 ≡ count) (lt : row.index < count) (has : HasRead read row.index word) (lo : row.lo ≡ row_start word) (kind : row.kind ≡ row_kind word)
+module _ (span : Span) (words : List ℕ) (kinds : ℕ → Option Kind) (s : RowsShow words kinds) (read : List ReadRow)
+    (stood : All (StillStands (Some (alone span)) words) read) (row : Row) (before behind : Option Kind) (count word : ℕ)
+    (round : IsRound row span) (pages : row.lo < row.hi) (limit : row.hi ≤ LIMIT) (counts : slice_index words 2 ≡ count)
+    (lt : row.index < count) (has : HasRead read row.index word) (lo : row.lo ≡ row_start word)
+    (kind : row.kind ≡ row_kind word)
     (end : IsRowEnd read count row.index row.hi) (left : IsReadBefore read row.index before) (right : IsReadBehind read count row.index behind) where
   -- pages round the row are held
   is_held : (page : ℕ) → row.lo - 1 ≤ page → page ≤ row.hi → page < LIMIT → IsHeldPage (Some (alone span)) page
@@ -72,10 +82,18 @@ module _ (span : Span) (words : List ℕ) (kinds : ℕ → Option Kind) (s : Row
   first = stands (Some (alone span)) words read row.index word stood has
 
   -- by kinds, the row is as it was read
-  row_now : RowIs (Some (alone span)) row.lo (record { index = row.index; lo = row_start word; hi = row.hi; kind = row_kind word }) words (areas_from (rows_in words))
-  row_now = row_is_still (Some (alone span)) words kinds s row.lo count row.index word row.hi counts lt (is_held row.lo (omega arith) (omega arith) (omega arith)) (omega arith) pages limit held_pages_alone first
+  row_now : RowIs (Some (alone span)) row.lo (record {
+    index = row.index;
+    lo = row_start word;
+    hi = row.hi;
+    kind = row_kind word;
+  }) words (areas_from (rows_in words))
+  row_now = row_is_still (Some (alone span)) words kinds s row.lo count row.index word row.hi counts lt
+      (is_held row.lo (omega arith) (omega arith) (omega arith)) (omega arith) pages limit held_pages_alone first
       (⊎_elim (λ t. inl (t.0, t.1, t.3, stands (Some (alone span)) words read (row.index + 1) t.1 stood t.2)) (λ t. inr t) end)
-      (areas_from (rows_in words)) (λ p h. sym ((are_next 0 (rows_in words) kinds s.show).same p (omega arith) (let b = (held_pages_alone h.0 h.1).1 in let l = h.3 in omega arith)))
+      (areas_from (rows_in words))
+      (λ p h. sym ((are_next 0 (rows_in words) kinds s.show).same p (omega arith) (let b = (held_pages_alone h.0 h.1).1 in
+      let l = h.3 in omega arith)))
 
   ends_now : (row_start (slice_index words (3 + row.index)) ≡ row_start word) × (rows_start (drop (row.index + 1) (rows_in words)) ≡ row.hi)
   ends_now = row_now.ends (alone span, refl, refl, (let a = round.0 in omega arith), (let b = round.1 in omega arith))
@@ -118,7 +136,12 @@ module _ (span : Span) (words : List ℕ) (kinds : ℕ → Option Kind) (s : Row
       let next : i + 1 ≡ row.index = omega arith in
       let grows = (shown i (omega arith)).grows in
       let at_i = listed i (omega arith) in
-      let up : row_start (slice_index words (3 + i)) < row.lo = subst (λ (z : ℕ × ℕ). row_start z.0 < z.1) (λ k. (at_i k, (ap (λ n. rows_start (drop n (rows_in words))) (let e : suc i ≡ row.index = omega arith in e) ∙ (starts row.index lt ∙ own_start)) k)) grows in
+      let up : row_start (slice_index words (3 + i)) < row.lo =
+      subst (λ (z : ℕ × ℕ). row_start z.0 < z.1) (λ k. (
+        at_i k,
+        (ap (λ n. rows_start (drop n (rows_in words))) (let e : suc i ≡ row.index = omega arith in e)
+            ∙ (starts row.index lt ∙ own_start)) k,
+      )) grows in
       (stands (Some (alone span)) words read i w stood h).kind (row.lo - 1) (is_held (row.lo - 1) (omega arith) (omega arith) (omega arith)) (record {
         there = omega arith;
         from = omega arith;
@@ -133,11 +156,13 @@ module _ (span : Span) (words : List ℕ) (kinds : ℕ → Option Kind) (s : Row
       let begins : row_start (slice_index words (3 + i)) ≡ row.hi = sym (starts i more) ∙ ends_now.1 in
       let grows = (shown i more).grows in
       let at_i = listed i more in
-      let up : row_start (slice_index words (3 + i)) < rows_start (drop (suc i) (rows_in words)) = subst (λ w. row_start w < rows_start (drop (suc i) (rows_in words))) at_i grows in
+      let up : row_start (slice_index words (3 + i)) < rows_start (drop (suc i) (rows_in words)) =
+      subst (λ w. row_start w < rows_start (drop (suc i) (rows_in words))) at_i grows in
       (stands (Some (alone span)) words read i w stood h).kind row.hi (is_held row.hi (omega arith) (omega arith) (omega arith)) (record {
         there = omega arith;
         from = omega arith;
-        last = λ next. let e = starts (i + 1) (omega arith) in let z : suc i ≡ i + 1 = omega arith in let same = ap (λ n. rows_start (drop n (rows_in words))) z in omega arith;
+        last = λ next. let e = starts (i + 1) (omega arith) in let z : suc i ≡ i + 1 = omega arith in
+            let same = ap (λ n. rows_start (drop n (rows_in words))) z in omega arith;
       })
 
   pub row_in : IsRowIn (rows_in words) row before behind
@@ -153,7 +178,11 @@ module _ (span : Span) (words : List ℕ) (kinds : ℕ → Option Kind) (s : Row
     right = ⊎_elim
         (λ t. inl (let e = t.0 in let w = wide in omega arith, t.1))
         (λ t. let z : suc row.index ≡ row.index + 1 = omega arith in
-        inr (let n = t.0 in let w = wide in omega arith, ap (λ n. row_kind (get_or (rows_in words) n 0)) z ∙ (ap row_kind (listed (row.index + 1) t.0) ∙ (behind_now t.0 t.1 t.2 ∙ sym t.3))))
+        inr (
+          let n = t.0 in let w = wide in omega arith,
+          ap (λ n. row_kind (get_or (rows_in words) n 0)) z
+              ∙ (ap row_kind (listed (row.index + 1) t.0) ∙ (behind_now t.0 t.1 t.2 ∙ sym t.3)),
+        ))
         right;
   }
 
@@ -171,13 +200,15 @@ module _ (span : Span) (words : List ℕ) (kinds : ℕ → Option Kind) (s : Row
   is_behind = behind_now
 
 -- the pages of a change lie in the row
-place_in : (c : Change) (row : Row) (before behind : Option Kind) → row.lo < row.hi → c.place.lo < c.place.hi → IsOneStore row before behind c → (row.lo ≤ c.place.lo) × (c.place.hi ≤ row.hi)
+place_in : (c : Change) (row : Row) (before behind : Option Kind) → row.lo < row.hi → c.place.lo < c.place.hi
+    → IsOneStore row before behind c → (row.lo ≤ c.place.lo) × (c.place.hi ≤ row.hi)
 place_in c row before behind pages some_page (whole index at new lo hi not_before not_behind) = (omega arith, omega arith)
 place_in c row before behind pages some_page (first_part index at same_kind lo hi is_before) = (omega arith, omega arith)
 place_in c row before behind pages some_page (last_part index at new lo hi is_behind_new) = (omega arith, omega arith)
 
 -- so the change may be stored
-module _ (words : List ℕ) (kinds : ℕ → Option Kind) (s : RowsShow words kinds) (c : Change) (seat : Known Pass) (r : IsReadRound seat c) (inside : IsInside c) (stood : All (StillStands (Some (alone c.span)) words) seat.pass.rows)
+module _ (words : List ℕ) (kinds : ℕ → Option Kind) (s : RowsShow words kinds) (c : Change) (seat : Known Pass)
+    (r : IsReadRound seat c) (inside : IsInside c) (stood : All (StillStands (Some (alone c.span)) words) seat.pass.rows)
     (counts : slice_index words 2 ≡ r.read.count) (from : r.row.lo ≤ c.place.lo) (until : c.place.hi ≤ r.row.hi) where
   named_word : row_start (new_word c) ≡ c.start
   named_word = start_back c.start (Some c.kind) r.named
@@ -186,37 +217,50 @@ module _ (words : List ℕ) (kinds : ℕ → Option Kind) (s : RowsShow words ki
   kind_word = kind_back c.start (Some c.kind) r.named
 
   found : IsRowIn (rows_in words) r.row r.before r.behind
-  found = row_in c.span words kinds s seat.pass.rows stood r.row r.before r.behind r.read.count r.read.word r.round r.pages r.limit counts r.read.there r.read.read r.read.lo r.read.kind r.read.hi r.read_before r.read_behind
+  found = row_in c.span words kinds s seat.pass.rows stood r.row r.before r.behind r.read.count r.read.word r.round r.pages
+      r.limit counts r.read.there r.read.read r.read.lo r.read.kind r.read.hi r.read_before r.read_behind
 
   there_is : IsOneStore r.row r.before r.behind c → c.index < slice_index words 2
   there_is (whole index at new lo hi not_before not_behind) = let t = r.read.there in omega arith
   there_is (first_part index at same_kind lo hi is_before) = let t = r.read.there in omega arith
-  there_is (last_part index at new lo hi is_behind_new) = ⊎_elim (λ t. absurd (some_none c.new r.behind t.1 is_behind_new)) (λ t. let n = t.0 in omega arith) r.read_behind
+  there_is (last_part index at new lo hi is_behind_new) =
+      ⊎_elim (λ t. absurd (some_none c.new r.behind t.1 is_behind_new)) (λ t. let n = t.0 in omega arith) r.read_behind
 
-  shows_after : c.index < slice_index words 2 → (others : ℕ → Option Kind) → RowsShow words others → RowsShow (set words (3 + c.index) (new_word c)) (with_change c others)
+  shows_after : c.index < slice_index words 2 → (others : ℕ → Option Kind) → RowsShow words others
+      → RowsShow (set words (3 + c.index) (new_word c)) (with_change c others)
   shows_after lt others o =
-      let count : slice_index (set words (3 + c.index) (new_word c)) 2 ≡ slice_index words 2 = get_or-set_other words (3 + c.index) 2 (new_word c) 0 (λ e. omega arith) in
+      let count : slice_index (set words (3 + c.index) (new_word c)) 2 ≡ slice_index words 2 =
+      get_or-set_other words (3 + c.index) 2 (new_word c) 0 (λ e. omega arith) in
       let some_row = o.some in let few = o.few in
-      let rows : rows_in (set words (3 + c.index) (new_word c)) ≡ set (rows_in words) c.index (new_word c) = rows_set words c.index (new_word c) o.room o.few lt in
+      let rows : rows_in (set words (3 + c.index) (new_word c)) ≡ set (rows_in words) c.index (new_word c) =
+      rows_set words c.index (new_word c) o.room o.few lt in
       record {
         room = length-set words (3 + c.index) (new_word c) ∙ o.room;
         some = omega arith;
         few = omega arith;
-        show = subst (λ l. ShowFrom 0 l (with_change c others)) (sym rows) (replaced_shows (rows_in words) others r.row r.before r.behind c (new_word c) o.show found r.kind named_word kind_word from c.place.ordered until r.store);
-        gaps = subst (All IsBareGap) (sym rows) (All-set IsBareGap (rows_in words) c.index (new_word c) (λ none. absurd (some_none c.kind (row_kind (new_word c)) none kind_word)) o.gaps);
+        show = subst (λ l. ShowFrom 0 l (with_change c others)) (sym rows)
+            (replaced_shows (rows_in words) others r.row r.before r.behind c (new_word c) o.show found r.kind named_word kind_word
+            from c.place.ordered until r.store);
+        gaps = subst (All IsBareGap) (sym rows) (All-set IsBareGap (rows_in words) c.index (new_word c)
+            (λ none. absurd (some_none c.kind (row_kind (new_word c)) none kind_word)) o.gaps);
       }
 
   start_here : row_start (slice_index words (3 + r.row.index)) ≡ r.row.lo
-  start_here = starts_now c.span words kinds s seat.pass.rows stood r.row r.before r.behind r.read.count r.read.word r.round r.pages r.limit counts r.read.there r.read.read r.read.lo r.read.kind r.read.hi r.read_before r.read_behind
+  start_here = starts_now c.span words kinds s seat.pass.rows stood r.row r.before r.behind r.read.count r.read.word r.round
+      r.pages r.limit counts r.read.there r.read.read r.read.lo r.read.kind r.read.hi r.read_before r.read_behind
 
   start_next : r.row.index + 1 < r.read.count → row_start (slice_index words (3 + (r.row.index + 1))) ≡ r.row.hi
-  start_next = starts_behind c.span words kinds s seat.pass.rows stood r.row r.before r.behind r.read.count r.read.word r.round r.pages r.limit counts r.read.there r.read.read r.read.lo r.read.kind r.read.hi r.read_before r.read_behind
+  start_next = starts_behind c.span words kinds s seat.pass.rows stood r.row r.before r.behind r.read.count r.read.word r.round
+      r.pages r.limit counts r.read.there r.read.read r.read.lo r.read.kind r.read.hi r.read_before r.read_behind
 
   kind_here : row_kind (slice_index words (3 + r.row.index)) ≡ r.row.kind
-  kind_here = is_kind c.span words kinds s seat.pass.rows stood r.row r.before r.behind r.read.count r.read.word r.round r.pages r.limit counts r.read.there r.read.read r.read.lo r.read.kind r.read.hi r.read_before r.read_behind
+  kind_here = is_kind c.span words kinds s seat.pass.rows stood r.row r.before r.behind r.read.count r.read.word r.round r.pages
+      r.limit counts r.read.there r.read.read r.read.lo r.read.kind r.read.hi r.read_before r.read_behind
 
-  kind_next : r.row.index + 1 < r.read.count → (w : ℕ) → HasRead seat.pass.rows (r.row.index + 1) w → row_kind (slice_index words (3 + (r.row.index + 1))) ≡ row_kind w
-  kind_next = is_behind c.span words kinds s seat.pass.rows stood r.row r.before r.behind r.read.count r.read.word r.round r.pages r.limit counts r.read.there r.read.read r.read.lo r.read.kind r.read.hi r.read_before r.read_behind
+  kind_next : r.row.index + 1 < r.read.count → (w : ℕ) → HasRead seat.pass.rows (r.row.index + 1) w
+      → row_kind (slice_index words (3 + (r.row.index + 1))) ≡ row_kind w
+  kind_next = is_behind c.span words kinds s seat.pass.rows stood r.row r.before r.behind r.read.count r.read.word r.round r.pages
+      r.limit counts r.read.there r.read.read r.read.lo r.read.kind r.read.hi r.read_before r.read_behind
 
   -- a page of the row, or next to it, is held
   in_round : (page : ℕ) → r.row.lo - 1 ≤ page → page < r.row.hi → IsIn c.span page
@@ -261,8 +305,10 @@ module _ (words : List ℕ) (kinds : ℕ → Option Kind) (s : RowsShow words ki
         there = omega arith;
         up = λ page low high. in_round page (omega arith) (omega arith);
         down = λ page low high. absurd (let p = c.place.ordered in omega arith);
-        stood = λ moves page beside. in_round page (⊎_elim (λ e. omega arith) (λ e. omega arith) beside) (let p = r.pages in ⊎_elim (λ e. omega arith) (λ e. omega arith) beside);
-        recoloured = λ differ. absurd (differ (kind_word ∙ (ap Some same_kind ∙ (sym r.kind ∙ (sym kind_here ∙ ap (λ n. row_kind (slice_index words (3 + n))) (sym index))))));
+        stood = λ moves page beside. in_round page (⊎_elim (λ e. omega arith) (λ e. omega arith) beside) (let p = r.pages in
+            ⊎_elim (λ e. omega arith) (λ e. omega arith) beside);
+        recoloured = λ differ. absurd (differ (kind_word
+            ∙ (ap Some same_kind ∙ (sym r.kind ∙ (sym kind_here ∙ ap (λ n. row_kind (slice_index words (3 + n))) (sym index))))));
         shows = shows_after lt;
       }
   may_by (last_part index at new lo hi is_behind_new) lt =
@@ -276,8 +322,14 @@ module _ (words : List ℕ) (kinds : ℕ → Option Kind) (s : RowsShow words ki
         there = omega arith;
         up = λ page low high. absurd (let p = c.place.ordered in omega arith);
         down = λ page low high. in_round page (omega arith) (omega arith);
-        stood = λ moves page beside. (let a = r.round.0 in let p = r.pages in ⊎_elim (λ e. omega arith) (λ e. omega arith) beside, ⊎_elim (λ e. omega arith) (λ e. omega arith) beside);
-        recoloured = λ differ. absurd (differ (kind_word ∙ (ap Some new ∙ (sym is_behind_new ∙ (same_behind more ∙ ap (λ n. row_kind (slice_index words (3 + n))) (sym index))))));
+        stood = λ moves page beside. (
+          let a = r.round.0 in let p = r.pages in
+              ⊎_elim (λ e. omega arith) (λ e. omega arith) beside,
+          ⊎_elim (λ e. omega arith) (λ e. omega arith) beside,
+        );
+        recoloured = λ differ. absurd (differ (kind_word
+            ∙ (ap Some new ∙ (sym is_behind_new ∙ (same_behind more
+            ∙ ap (λ n. row_kind (slice_index words (3 + n))) (sym index))))));
         shows = shows_after lt;
       }
 
@@ -296,19 +348,23 @@ start_low s c r = low_start s c r r.store
 low_index : (s : Known Pass) (c : Change) (r : IsReadRound s c) → IsOneStore r.row r.before r.behind c → c.index < ROWS
 low_index s c r (whole index at new lo hi not_before not_behind) = let t = r.read.there in let f = r.few in omega arith
 low_index s c r (first_part index at same_kind lo hi is_before) = let t = r.read.there in let f = r.few in omega arith
-low_index s c r (last_part index at new lo hi is_behind) = let f = r.few in ⊎_elim (λ t. absurd (some_none c.new r.behind t.1 is_behind)) (λ t. let n = t.0 in omega arith) r.read_behind
+low_index s c r (last_part index at new lo hi is_behind) = let f = r.few in
+    ⊎_elim (λ t. absurd (some_none c.new r.behind t.1 is_behind)) (λ t. let n = t.0 in omega arith) r.read_behind
 
 pub index_low : (s : Known Pass) (c : Change) → IsReadRound s c → c.index < ROWS
 index_low s c r = low_index s c r r.store
 
 -- the guard allows the store of a change
-pub may_store_change : (note : Note) (s : Known Pass) (c : Change) → s.pass.pending ≡ OneRow c → IsReadRound s c → (index word : ℕ) → c.index ≡ index → word ≡ new_word c → IsAllowed HasHistory Allowed note s.number s.held s.pass (stores (3 + index) word)
+pub may_store_change : (note : Note) (s : Known Pass) (c : Change) → s.pass.pending ≡ OneRow c → IsReadRound s c
+    → (index word : ℕ) → c.index ≡ index → word ≡ new_word c
+    → IsAllowed HasHistory Allowed note s.number s.held s.pass (stores (3 + index) word)
 may_store_change note s c pends r index word at is grants words passes m there small =
     let here = here_at grants words passes s.number s.held s.pass m in
     let granted : get_elem? grants s.number ≡ some (Some (alone c.span)) = m.grant ∙ ap some r.held in
     let backed = here.backed s.number s.pass here.own in
     let backs : Backs grants here.state s.number (OneRow c) = subst (Backs grants here.state s.number) pends backed.pending in
-    let none = only_own_plan grants words here.state passes s.number s.pass here.exclusive here.backed here.own (alone c.span, granted, span_pages c.span) ∙ ap planned_calls pends in
+    let none = only_own_plan grants words here.state passes s.number s.pass here.exclusive here.backed here.own
+    (alone c.span, granted, span_pages c.span) ∙ ap planned_calls pends in
     let rows : RowsStandFor here.state passes words = here.running.rows none in
     let stood : All (StillStands (Some (alone c.span)) words) s.pass.rows = backed.rows (Some (alone c.span)) granted in
     let part = here.running.parts s.number s.pass here.own in
@@ -323,10 +379,13 @@ may_store_change note s c pends r index word at is grants words passes m there s
     )
 
 -- what the store tells of the pass
-row_changed : (words : List ℕ) (pending : Pending) (c : Change) (place word : ℕ) (p after : Pass) → pending ≡ OneRow c → MayWrite words pending place word p after → after ≡ after_change p
+row_changed : (words : List ℕ) (pending : Pending) (c : Change) (place word : ℕ) (p after : Pass) → pending ≡ OneRow c
+    → MayWrite words pending place word p after → after ≡ after_change p
 row_changed words pending c place word p after is may = (subst (λ (q : Pending). MayWrite words q place word p after) is may).3
 
-pub change_stored : (s u : Known Pass) (c : Change) (index word : ℕ) → s.pass.pending ≡ OneRow c → IsClientCall s (3 + index) u → ((found : ℕ) × IsMade HasHistory Allowed no_note s.number s.held s.pass (stores (3 + index) word) found u.pass) → IsClientStep s (3 + index) (after_change s.pass) u
+pub change_stored : (s u : Known Pass) (c : Change) (index word : ℕ) → s.pass.pending ≡ OneRow c → IsClientCall s (3 + index) u
+    → ((found : ℕ) × IsMade HasHistory Allowed no_note s.number s.held s.pass (stores (3 + index) word) found u.pass)
+    → IsClientStep s (3 + index) (after_change s.pass) u
 change_stored s u c index word pends call made =
     let m = made.1.3 in let may = made.1.5 in let here = may.0 in
     let same : here.pass ≡ s.pass = some-injective here.pass s.pass (sym here.own ∙ m.own) in
@@ -335,7 +394,8 @@ change_stored s u c index word pends call made =
       number = call.number;
       held = call.held;
       pools = call.pools;
-      pass = row_changed made.1.1 here.pass.pending c (3 + index) word here.pass u.pass (ap (λ (x : Pass). x.pending) same ∙ pends) may.1 ∙ ap after_change same;
+      pass = row_changed made.1.1 here.pass.pending c (3 + index) word here.pass u.pass
+          (ap (λ (x : Pass). x.pending) same ∙ pends) may.1 ∙ ap after_change same;
       trace = call.trace;
     }
 
@@ -355,7 +415,9 @@ row_written s u index step = record {
 }
 
 -- so is the store of a caller that has its row to store, where the word is that of the change which it has chosen
-pub chosen_store : (u v : CallerView) (c d : Change) (index word : ℕ) → u ≡ v → HasToStore v c → c.index ≡ index → u.change ≡ Some d → (d ≡ c → word ≡ new_word c) → (x : Change) × (u.seat.pass.pending ≡ OneRow x) × IsReadRound u.seat x × (x.index ≡ index) × (word ≡ new_word x)
+pub chosen_store : (u v : CallerView) (c d : Change) (index word : ℕ) → u ≡ v → HasToStore v c → c.index ≡ index
+    → u.change ≡ Some d → (d ≡ c → word ≡ new_word c)
+    → (x : Change) × (u.seat.pass.pending ≡ OneRow x) × IsReadRound u.seat x × (x.index ≡ index) × (word ≡ new_word x)
 chosen_store u v c d index word same has at own is =
     let h : HasToStore u c = subst (λ (x : CallerView). HasToStore x c) (sym same) has in
     let o = h.chosen in

@@ -24,10 +24,14 @@ use Rattle.row_plans.specs.RowWords.{row_start}
 use Rattle.row_plans.specs.Plans.{IsRowList}
 use Rattle.area_rows.specs.Halving.{IsOnSameSide}
 use Rattle.area_rows.specs.Reads.{everything, IsHeldPage, HasRead, HasRows, StillStands}
-use Rattle.area_rows.specs.History.{Runs, StartsWith, planned_calls, RowsStandFor, HasHistory, Allowed, Here, MayLoad, MayAdd, IsAtRest, IsRight, Leaves, HoldsFor, pending_of, entry_of, after_look, after_count, after_sequence, after_row, after_draw}
+use Rattle.area_rows.specs.History.{Runs, StartsWith, planned_calls, RowsStandFor, HasHistory, Allowed, Here, MayLoad}
+use Rattle.area_rows.specs.History.{MayAdd, IsAtRest, IsRight, Leaves, HoldsFor, pending_of, entry_of, after_look}
+use Rattle.area_rows.specs.History.{after_count, after_sequence, after_row, after_draw}
 use Rattle.area_rows.specs.History.MayLoad.{number, glance, sequence, count, row}
 use Rattle.area_rows.specs.History.MayAdd.{draw, raise}
-use Rattle.area_rows.specs.Callers.{CallerView, HasToWrite, HasToStore, IsReadRound, IsReadBefore, IsReadBehind, IsRowEnd, IsHeldPages, IsMoment, Shows, KeepsRead, KeepsRows, CountsWhole, IsReading, IsLook, IsNumbered, IsDrawn}
+use Rattle.area_rows.specs.Callers.{CallerView, HasToWrite, HasToStore, IsReadRound, IsReadBefore, IsReadBehind}
+use Rattle.area_rows.specs.Callers.{IsRowEnd, IsHeldPages, IsMoment, Shows, KeepsRead, KeepsRows, CountsWhole}
+use Rattle.area_rows.specs.Callers.{IsReading, IsLook, IsNumbered, IsDrawn}
 use Rattle.area_rows.specs.Draws.{draw_pending, draw_mine, draw_seen, draw_start, draw_drew}
 use Rattle.area_rows.specs.Keeping.{no_note}
 use Rattle.area_rows.specs.Parts.{none_is}
@@ -72,22 +76,40 @@ draw_keeps history e (OneRow c) held p = (refl, refl)
 -- a caller that holds a range remembers the sequence word
 pub may_sequence : (note : Note) (seat : ℕ) (held : Option Held) (pass : Pass) → IsHeldPages held → IsAllowed HasHistory Allowed note seat held pass (loads 1)
 may_sequence note seat None pass pages grants words passes m lt small = (pass, (here_at grants words passes seat None pass m, glance m.grant refl refl))
-may_sequence note seat (Some h) pass pages grants words passes m lt small = (after_sequence (slice_index words 1) pass, (here_at grants words passes seat (Some h) pass m, sequence (h, m.grant, pages h refl) refl refl))
+may_sequence note seat (Some h) pass pages grants words passes m lt small = (
+  after_sequence (slice_index words 1) pass,
+  (
+    here_at grants words passes seat (Some h) pass m,
+    sequence (h, m.grant, pages h refl) refl refl,
+  ),
+)
 
 module _ (note : Note) (seat : ℕ) (held : Option Held) (pass : Pass) where
   pub may_look : IsAllowed HasHistory Allowed note seat held pass (loads 0)
   may_look grants words passes m lt small = (after_look m.met.1 pass, (here_at grants words passes seat held pass m, number refl refl))
 
   pub may_count : IsSome held → IsHeldPages held → IsAllowed HasHistory Allowed note seat held pass (loads 2)
-  may_count some_held pages grants words passes m lt small =
-      (after_count (slice_index words 2) pass, (here_at grants words passes seat held pass m, count (held_pages grants seat held m.grant some_held pages) refl refl))
+  may_count some_held pages grants words passes m lt small = (
+    after_count (slice_index words 2) pass,
+    (
+      here_at grants words passes seat held pass m,
+      count (held_pages grants seat held m.grant some_held pages) refl refl,
+    ),
+  )
 
   pub may_row : (index : ℕ) → index < ROWS → IsSome held → IsHeldPages held → IsAllowed HasHistory Allowed note seat held pass (loads (3 + index))
-  may_row index few some_held pages grants words passes m lt small =
-      (after_row index (slice_index words (3 + index)) pass, (here_at grants words passes seat held pass m, row index (held_pages grants seat held m.grant some_held pages) few refl refl))
+  may_row index few some_held pages grants words passes m lt small = (
+    after_row index (slice_index words (3 + index)) pass,
+    (
+      here_at grants words passes seat held pass m,
+      row index (held_pages grants seat held m.grant some_held pages) few refl refl,
+    ),
+  )
 
-  pub may_draw : (s : Known Pass) → s.number ≡ seat → s.held ≡ held → s.pass ≡ pass → length pass.mine + 1 < 2 ^ 32 → IsNamedCall note.call → IsAtRest pass → HoldsFor held note.under
-      → Shows s (λ (words : List ℕ) (state : List Area). (left : List Area) × IsRight state note.call note.reply note.under left × Leaves state note.under note.pending left) → IsAllowed HasHistory Allowed note seat held pass (adds 0 1)
+  pub may_draw : (s : Known Pass) → s.number ≡ seat → s.held ≡ held → s.pass ≡ pass → length pass.mine + 1 < 2 ^ 32
+      → IsNamedCall note.call → IsAtRest pass → HoldsFor held note.under
+      → Shows s (λ (words : List ℕ) (state : List Area). (left : List Area) × IsRight state note.call note.reply note.under left
+      × Leaves state note.under note.pending left) → IsAllowed HasHistory Allowed note seat held pass (adds 0 1)
   may_draw s n h p few named rest holds shows grants words passes m lt small =
       let here = here_at grants words passes seat held pass m in
       let right = shows _ here.history here.state words (moment_of grants words passes seat here s (m.grant ∙ ap some (sym h)) n (sym p)) in (
@@ -100,12 +122,16 @@ module _ (note : Note) (seat : ℕ) (held : Option Held) (pass : Pass) where
       )
 
   -- at a moment at which a caller at rest holds pages the rows show kinds
-  rows_here : (grants : Grants) (words : List ℕ) (passes : List Pass) (here : Here grants words passes seat) → IsSome held → IsHeldPages held → get_elem? grants seat ≡ some held → IsAtRest here.pass → RowsStandFor here.state passes words
+  rows_here : (grants : Grants) (words : List ℕ) (passes : List Pass) (here : Here grants words passes seat) → IsSome held
+      → IsHeldPages held → get_elem? grants seat ≡ some held → IsAtRest here.pass → RowsStandFor here.state passes words
   rows_here grants words passes here some_held pages at rest =
-      here.running.rows (nobody_plans grants words here.state passes seat here.pass here.exclusive here.backed here.own rest (held_pages grants seat held at some_held pages))
+      here.running.rows (nobody_plans grants words here.state passes seat here.pass here.exclusive here.backed here.own rest
+      (held_pages grants seat held at some_held pages))
 
   module _ (found : ℕ) (after : Pass) where
-    pub counts : IsSome held → IsHeldPages held → IsAtRest pass → IsMade HasHistory Allowed note seat held pass (loads 2) found after → (after ≡ after_count found pass) × (0 < found) × (found ≤ ROWS) × ((n : ℕ) → pass.count ≡ Some n → found ≡ n)
+    pub counts : IsSome held → IsHeldPages held → IsAtRest pass
+        → IsMade HasHistory Allowed note seat held pass (loads 2) found after
+        → (after ≡ after_count found pass) × (0 < found) × (found ≤ ROWS) × ((n : ℕ) → pass.count ≡ Some n → found ≡ n)
     counts some_held pages rest s =
         let m = s.3 in let here = s.5.0 in
         let same : here.pass ≡ pass = some-injective here.pass pass (sym here.own ∙ m.own) in
@@ -117,7 +143,10 @@ module _ (note : Note) (seat : ℕ) (held : Option Held) (pass : Pass) where
           λ n counted. sym e ∙ (here.running.parts seat here.pass here.own).count n (ap (λ (x : Pass). x.count) same ∙ counted),
         )
 
-    pub reads : (index : ℕ) → IsSome held → IsHeldPages held → IsAtRest pass → IsMade HasHistory Allowed note seat held pass (loads (3 + index)) found after → (after ≡ after_row index found pass) × (index ≡ 0 → row_start found ≡ 0) × ((n : ℕ) → pass.count ≡ Some n → index < n → row_start found < LIMIT)
+    pub reads : (index : ℕ) → IsSome held → IsHeldPages held → IsAtRest pass
+        → IsMade HasHistory Allowed note seat held pass (loads (3 + index)) found after
+        → (after ≡ after_row index found pass) × (index ≡ 0 → row_start found ≡ 0)
+        × ((n : ℕ) → pass.count ≡ Some n → index < n → row_start found < LIMIT)
     reads index some_held pages rest s =
         let m = s.3 in let here = s.5.0 in
         let same : here.pass ≡ pass = some-injective here.pass pass (sym here.own ∙ m.own) in
@@ -131,7 +160,8 @@ module _ (note : Note) (seat : ℕ) (held : Option Held) (pass : Pass) where
         )
 
     -- a row that was read before starts on the same side of each held page
-    pub reads_side : (index : ℕ) → IsMade HasHistory Allowed note seat held pass (loads (3 + index)) found after → (page : ℕ) → IsHeldPage held page → IsOnSameSide pass.rows index found page
+    pub reads_side : (index : ℕ) → IsMade HasHistory Allowed note seat held pass (loads (3 + index)) found after → (page : ℕ)
+        → IsHeldPage held page → IsOnSameSide pass.rows index found page
     reads_side index s page h old has =
         let m = s.3 in let here = s.5.0 in
         let same : here.pass ≡ pass = some-injective here.pass pass (sym here.own ∙ m.own) in
@@ -140,11 +170,14 @@ module _ (note : Note) (seat : ℕ) (held : Option Held) (pass : Pass) where
         subst (λ w. (row_start old ≤ page) ↔ (row_start w ≤ page)) s.4 (still.side page h)
 
     -- where everything is held and all rows are read, with this one, they are a row list
-    pub reads_all : (index : ℕ) → held ≡ Some everything → IsAtRest pass → IsMade HasHistory Allowed note seat held pass (loads (3 + index)) found after → (new : Pass) → new ≡ after → (rows : List ℕ) → HasRows new rows → IsRowList rows
+    pub reads_all : (index : ℕ) → held ≡ Some everything → IsAtRest pass
+        → IsMade HasHistory Allowed note seat held pass (loads (3 + index)) found after → (new : Pass) → new ≡ after
+        → (rows : List ℕ) → HasRows new rows → IsRowList rows
     reads_all index all rest s new new_is rows has =
         let m = s.3 in let here = s.5.0 in
         let same : here.pass ≡ pass = some-injective here.pass pass (sym here.own ∙ m.own) in
-        let is : new ≡ after_row index found here.pass = new_is ∙ (row_tells _ _ s.1 here.history here.pass after index s.5.1 ∙ (λ i. after_row index (s.4 i) here.pass)) in
+        let is : new ≡ after_row index found here.pass = new_is
+        ∙ (row_tells _ _ s.1 here.history here.pass after index s.5.1 ∙ (λ i. after_row index (s.4 i) here.pass)) in
         let holds : get_elem? s.0 seat ≡ some (Some everything) = m.grant ∙ ap some all in
         let stood : All (StillStands (Some everything) s.1) here.pass.rows = (here.backed seat here.pass here.own).rows (Some everything) holds in
         let part = here.running.parts seat here.pass here.own in
@@ -153,10 +186,13 @@ module _ (note : Note) (seat : ℕ) (held : Option Held) (pass : Pass) where
         (λ t. ap (λ n. slice_index s.1 (3 + n)) (sym t.0) ∙ (s.4 ∙ t.1))
         (λ t. (stands (Some everything) s.1 here.pass.rows i (slice_index rows i) stood t).word refl)
         (subst (λ (x : Pass). HasRead x.rows i (slice_index rows i)) is (has.1 i lt)) in
-        let are = rows_are s.0 here.start here.history here.state s.1 s.2 seat here.pass rows here.running here.backed here.exclusive here.own holds (ap (λ (x : Pass). x.pending) same ∙ rest) counted word in
+        let are = rows_are s.0 here.start here.history here.state s.1 s.2 seat here.pass rows here.running here.backed
+        here.exclusive here.own holds (ap (λ (x : Pass). x.pending) same ∙ rest) counted word in
         row_list rows here.state are.0 are.1
 
-    drawn_as : (t u : Known Pass) → t.number ≡ seat → t.held ≡ held → t.pass ≡ pass → u.pass ≡ after → IsClientCall t 0 u → (s : IsMade HasHistory Allowed note seat held pass (adds 0 1) found after) → MayAdd s.0 s.1 s.2 seat note s.5.1 0 after → IsDrawn t (entry_of found seat note) note.pending u
+    drawn_as : (t u : Known Pass) → t.number ≡ seat → t.held ≡ held → t.pass ≡ pass → u.pass ≡ after → IsClientCall t 0 u
+        → (s : IsMade HasHistory Allowed note seat held pass (adds 0 1) found after) → MayAdd s.0 s.1 s.2 seat note s.5.1 0 after
+        → IsDrawn t (entry_of found seat note) note.pending u
     drawn_as t u n h p q call s (raise rows e pends written is) = absurd (omega arith)
     drawn_as t u n h p q call s (draw e d is) =
         let m = s.3 in let here = s.5.1 in
@@ -165,7 +201,8 @@ module _ (note : Note) (seat : ℕ) (held : Option Held) (pass : Pass) where
         let part = here.running.parts seat here.pass here.own in
         let old : here.pass ≡ t.pass = same ∙ sym p in
         let f : Entry = entry_of found seat note in
-        let new : u.pass ≡ after_draw here.history f note.pending d.held.0 t.pass = q ∙ (is ∙ (λ i. after_draw here.history (entry_of (num i) seat note) note.pending d.held.0 (old i))) in
+        let new : u.pass ≡ after_draw here.history f note.pending d.held.0 t.pass = q
+        ∙ (is ∙ (λ i. after_draw here.history (entry_of (num i) seat note) note.pending d.held.0 (old i))) in
         let granted : get_elem? s.0 seat ≡ some t.held = m.grant ∙ ap some (sym h) in
         let drew : u.pass.drew ≡ d.held.0 = ap (λ (x : Pass). x.drew) new ∙ draw_drew here.history f d.held.0 t.pass note.pending in
         let held_then : d.held.0 ≡ t.held = some-injective d.held.0 t.held (sym d.held.1 ∙ granted) in
@@ -198,10 +235,13 @@ module _ (note : Note) (seat : ℕ) (held : Option Held) (pass : Pass) where
           trace = call.trace;
         }
 
-    pub draws : (t u : Known Pass) → t.number ≡ seat → t.held ≡ held → t.pass ≡ pass → u.pass ≡ after → IsClientCall t 0 u → IsMade HasHistory Allowed note seat held pass (adds 0 1) found after → IsDrawn t (entry_of found seat note) note.pending u
+    pub draws : (t u : Known Pass) → t.number ≡ seat → t.held ≡ held → t.pass ≡ pass → u.pass ≡ after → IsClientCall t 0 u
+        → IsMade HasHistory Allowed note seat held pass (adds 0 1) found after
+        → IsDrawn t (entry_of found seat note) note.pending u
     draws t u n h p q call s = drawn_as t u n h p q call s s.5.2
 
-pub look_is : (s u : Known Pass) (found : ℕ) → IsClientCall s 0 u → IsMade HasHistory Allowed no_note s.number s.held s.pass (loads 0) found u.pass → IsLook s found u
+pub look_is : (s u : Known Pass) (found : ℕ) → IsClientCall s 0 u
+    → IsMade HasHistory Allowed no_note s.number s.held s.pass (loads 0) found u.pass → IsLook s found u
 look_is s u found call made =
     let m = made.3 in let here = made.5.0 in
     let same : here.pass ≡ s.pass = some-injective here.pass s.pass (sym here.own ∙ m.own) in
@@ -211,8 +251,16 @@ look_is s u found call made =
       state = here.state;
       words = made.1;
       moment = subst (λ h. IsMoment s s.pass.start h here.state made.1) (sym seen) (moment_of made.0 made.1 made.2 s.number here s m.grant refl same);
-      step = record { table = call.table; number = call.number; held = call.held; pools = call.pools; pass = is ∙ ap (λ h. after_look h s.pass) (sym seen); trace = call.trace };
-      more = subst (λ h. StartsWith h s.pass.seen) (sym seen) (subst (λ (x : Pass). StartsWith here.history x.seen) same (here.running.parts s.number here.pass here.own).seen);
+      step = record {
+        table = call.table;
+        number = call.number;
+        held = call.held;
+        pools = call.pools;
+        pass = is ∙ ap (λ h. after_look h s.pass) (sym seen);
+        trace = call.trace;
+      };
+      more = subst (λ h. StartsWith h s.pass.seen) (sym seen)
+          (subst (λ (x : Pass). StartsWith here.history x.seen) same (here.running.parts s.number here.pass here.own).seen);
       count = ap length seen ∙ (sym here.running.number ∙ made.4);
     }
 
@@ -228,12 +276,15 @@ counts_whole : (u : Known Pass) (found : ℕ) → u.pass.sequence ≡ Some found
 counts_whole u found known some_held pages start history state words m =
     let part = m.running.parts u.number m.pass m.own in
     let word : slice_index words 1 ≡ found = part.sequence found (m.read.sequence found known) in
-    let only = only_own_plan m.grants words state m.passes u.number m.pass m.exclusive m.backed m.own (held_pages m.grants u.number u.held m.granted some_held pages) in
+    let only = only_own_plan m.grants words state m.passes u.number m.pass m.exclusive m.backed m.own
+    (held_pages m.grants u.number u.held m.granted some_held pages) in
     let mine : planned_calls m.pass.pending ≡ planned_calls u.pass.pending = ap planned_calls m.read.pending in
     let s = m.running.sequence in
     omega arith
 
-pub sequence_is : (s u : Known Pass) (found : ℕ) → IsHeldPages s.held → IsClientCall s 1 u → IsMade HasHistory Allowed no_note s.number s.held s.pass (loads 1) found u.pass → IsReading s u × (IsSome s.held → CountsWhole u found)
+pub sequence_is : (s u : Known Pass) (found : ℕ) → IsHeldPages s.held → IsClientCall s 1 u
+    → IsMade HasHistory Allowed no_note s.number s.held s.pass (loads 1) found u.pass
+    → IsReading s u × (IsSome s.held → CountsWhole u found)
 sequence_is s u found pages call made =
     let m = made.3 in let here = made.5.0 in
     let same : here.pass ≡ s.pass = some-injective here.pass s.pass (sym here.own ∙ m.own) in
@@ -243,28 +294,48 @@ sequence_is s u found pages call made =
     (λ t.
     let is : u.pass ≡ s.pass = t.1 ∙ same in
     let free : s.held ≡ None = some-injective s.held None (sym m.grant ∙ t.0) in (
-      step_reads s u 1 s.pass (record { table = call.table; number = call.number; held = call.held; pools = call.pools; pass = is; trace = call.trace }) refl refl refl (keeps_all s.pass),
+      step_reads s u 1 s.pass (record {
+        table = call.table;
+        number = call.number;
+        held = call.held;
+        pools = call.pools;
+        pass = is;
+        trace = call.trace;
+      }) refl refl refl (keeps_all s.pass),
       λ some_held. let h = held_some s.held some_held in absurd (none_is h.0 (sym free ∙ h.1)),
     ))
     (λ is_then.
     let is : u.pass ≡ after_sequence found s.pass = is_then ∙ (λ i. after_sequence (made.4 i) (same i)) in (
-      step_reads s u 1 (after_sequence found s.pass) (record { table = call.table; number = call.number; held = call.held; pools = call.pools; pass = is; trace = call.trace }) refl refl refl (remembers s.pass found again),
+      step_reads s u 1 (after_sequence found s.pass)
+          (record {
+            table = call.table;
+            number = call.number;
+            held = call.held;
+            pools = call.pools;
+            pass = is;
+            trace = call.trace;
+          }) refl refl refl (remembers s.pass found again),
       λ some_held. counts_whole u found (ap (λ (x : Pass). x.sequence) is) (subst IsSome (sym call.held) some_held) (subst IsHeldPages (sym call.held) pages),
     ))
     (sequence_tells _ _ made.1 here.history here.pass u.pass made.5.1)
 
 -- a caller that has drawn a number under everything has its plan to write
-pub writes_plan : (before after : CallerView) (e : Entry) (under : Under) → after.read ≡ before.read → after.plan ≡ before.plan → IsDrawn before.seat e (pending_of under before.plan before.change) after.seat → under ≡ Whole → HasRows before.seat.pass before.read → HasToWrite after
+pub writes_plan : (before after : CallerView) (e : Entry) (under : Under) → after.read ≡ before.read → after.plan ≡ before.plan
+    → IsDrawn before.seat e (pending_of under before.plan before.change) after.seat → under ≡ Whole
+    → HasRows before.seat.pass before.read → HasToWrite after
 writes_plan before after e under read plan d whole has =
-    let is : pending_of under before.plan before.change ≡ Planned after.plan = ap (λ (w : Under). pending_of w before.plan before.change) whole ∙ ap Planned (sym plan) in
-    let k : KeepsRows (Planned after.plan) before.seat.pass after.seat.pass = subst (λ (q : Pending). KeepsRows q before.seat.pass after.seat.pass) is d.keeps in
+    let is : pending_of under before.plan before.change ≡ Planned after.plan =
+    ap (λ (w : Under). pending_of w before.plan before.change) whole ∙ ap Planned (sym plan) in
+    let k : KeepsRows (Planned after.plan) before.seat.pass after.seat.pass =
+    subst (λ (q : Pending). KeepsRows q before.seat.pass after.seat.pass) is d.keeps in
     record {
       pending = d.writes ∙ is;
       read = subst (HasRows after.seat.pass) (sym read) (k.0 ∙ has.0, λ i lt. subst (λ r. HasRead r i (slice_index before.read i)) (sym k.1) (has.1 i lt));
     }
 
 -- what was read round a change is read still where the range and the rows are the same
-pub round_on : (a b : Known Pass) (change : Change) → b.held ≡ a.held → b.pass.count ≡ a.pass.count → b.pass.rows ≡ a.pass.rows → IsReadRound a change → IsReadRound b change
+pub round_on : (a b : Known Pass) (change : Change) → b.held ≡ a.held → b.pass.count ≡ a.pass.count → b.pass.rows ≡ a.pass.rows
+    → IsReadRound a change → IsReadRound b change
 round_on a b change same_held same_count same_rows r =
     let read = r.read in
     record {
@@ -294,7 +365,9 @@ round_on a b change same_held same_count same_rows r =
     }
 
 -- a caller that has drawn a number over its area has the row that it has chosen to store
-pub writes_row : (before after : CallerView) (e : Entry) (under : Under) (span : Span) (change : Change) → after.change ≡ before.change → IsDrawn before.seat e (pending_of under before.plan before.change) after.seat → under ≡ OverArea span → before.change ≡ Some change → IsReadRound before.seat change → HasToStore after change
+pub writes_row : (before after : CallerView) (e : Entry) (under : Under) (span : Span) (change : Change)
+    → after.change ≡ before.change → IsDrawn before.seat e (pending_of under before.plan before.change) after.seat
+    → under ≡ OverArea span → before.change ≡ Some change → IsReadRound before.seat change → HasToStore after change
 writes_row before after e under span change same d over chosen round =
     let is : pending_of under before.plan before.change ≡ OneRow change = λ i. pending_of (over i) before.plan (chosen i) in
     let k : KeepsRows (OneRow change) before.seat.pass after.seat.pass = subst (λ (q : Pending). KeepsRows q before.seat.pass after.seat.pass) is d.keeps in

@@ -1,5 +1,6 @@
 -- A run is legal, and the history of the rule is stored once.
-use Rattle.std.proofs.Common.{◌≡◌, ℕ, zero, suc, ◌+◌, ◌<◌, Bool, true, false, cond, eqb, List, [], ◌∷◌, ◌++◌, length, sym, refl, ap, ◌∙◌, subst, arith, inl, inr}
+use Rattle.std.proofs.Common.{◌≡◌, ℕ, zero, suc, ◌+◌, ◌<◌, Bool, true, false, cond, eqb, List, [], ◌∷◌, ◌++◌, length}
+use Rattle.std.proofs.Common.{sym, refl, ap, ◌∙◌, subst, arith, inl, inr}
 use Rattle.std.proofs.lemmas.Bool.{cases_lt}
 use mathlib.Core.Option.{some, some-injective, some-ne-none}
 use lib.ListN.{get_elem?}
@@ -11,7 +12,8 @@ use Rattle.area_rows.specs.declared.guard.Pass.{Pass}
 use Rattle.area_rows.specs.declared.guard.Note.{Note}
 use Rattle.area_rows.specs.declared.guard.Pending.{Pending}
 use Rattle.area_rows.specs.declared.guard.Pending.TheVariants.{AtRest, Planned, OneRow}
-use Rattle.area_rows.specs.History.{FitsAndReplies, entries_of, entry_of, HoldsFor, IsRunningSpace, AreBacked, Here, Allowed, MayLoad, MayStore, MayWrite, MayAdd}
+use Rattle.area_rows.specs.History.{FitsAndReplies, entries_of, entry_of, HoldsFor, IsRunningSpace, AreBacked, Here}
+use Rattle.area_rows.specs.History.{Allowed, MayLoad, MayStore, MayWrite, MayAdd}
 use Rattle.area_rows.specs.History.MayLoad.{number, glance, sequence, count, row}
 use Rattle.area_rows.specs.History.MayStore.{store_row, store_count}
 use Rattle.area_rows.specs.History.MayAdd.{draw, raise}
@@ -30,7 +32,8 @@ all_legal A B entries r =
     ((r.0, (B, replied)), replied_state A entries B replied)
 
 -- an entry is not the one before all of these
-not_later : (worker : ℕ) (x e : Entry) (xs : List Entry) (n j : ℕ) → IsNumberedFrom (n + 1) xs → x.number ≡ n → x ≡ e → get_elem? (entries_of worker xs) j ≡ some e → ⊥
+not_later : (worker : ℕ) (x e : Entry) (xs : List Entry) (n j : ℕ) → IsNumberedFrom (n + 1) xs → x.number ≡ n → x ≡ e
+    → get_elem? (entries_of worker xs) j ≡ some e → ⊥
 not_later worker x e xs n j r num same at =
     let f = own_at worker xs j e at in
     let later : e.number ≡ n + 1 + f.0 = numbered_at (n + 1) xs f.0 e r f.1 in
@@ -39,7 +42,8 @@ not_later worker x e xs n j r num same at =
 
 one_here : (worker : ℕ) (x e : Entry) (xs : List Entry) (n : ℕ) (b : Bool) → IsNumberedFrom (n + 1) xs → x.number ≡ n
     → ((i j : ℕ) → get_elem? (entries_of worker xs) i ≡ some e → get_elem? (entries_of worker xs) j ≡ some e → i ≡ j)
-    → (i j : ℕ) → get_elem? (cond b (x ∷ entries_of worker xs) (entries_of worker xs)) i ≡ some e → get_elem? (cond b (x ∷ entries_of worker xs) (entries_of worker xs)) j ≡ some e → i ≡ j
+    → (i j : ℕ) → get_elem? (cond b (x ∷ entries_of worker xs) (entries_of worker xs)) i ≡ some e
+    → get_elem? (cond b (x ∷ entries_of worker xs) (entries_of worker xs)) j ≡ some e → i ≡ j
 one_here worker x e xs n true r num rest zero zero p q = refl
 one_here worker x e xs n true r num rest zero (suc j) p q = absurd (not_later worker x e xs n j r num (some-injective x e p) q)
 one_here worker x e xs n true r num rest (suc i) zero p q = absurd (not_later worker x e xs n i r num (some-injective x e q) p)
@@ -47,11 +51,13 @@ one_here worker x e xs n true r num rest (suc i) (suc j) p q = ap suc (rest i j 
 one_here worker x e xs n false r num rest i j p q = rest i j p q
 
 -- an entry stands at one place among those of its caller
-one_place : (worker : ℕ) (e : Entry) (history : List Entry) (n : ℕ) → IsNumberedFrom n history → (i j : ℕ) → get_elem? (entries_of worker history) i ≡ some e → get_elem? (entries_of worker history) j ≡ some e → i ≡ j
+one_place : (worker : ℕ) (e : Entry) (history : List Entry) (n : ℕ) → IsNumberedFrom n history → (i j : ℕ)
+    → get_elem? (entries_of worker history) i ≡ some e → get_elem? (entries_of worker history) j ≡ some e → i ≡ j
 one_place worker e [] n r i j p q = absurd (some-ne-none e (sym p))
 one_place worker e (x ∷ xs) n r i j p q = one_here worker x e xs n (eqb x.worker worker) r.1 r.0 (one_place worker e xs (n + 1) r.1) i j p q
 
-module _ (grants : Grants) (start : List Area) (history : List Entry) (state : List Area) (words : List ℕ) (passes : List Pass) (r : IsRunningSpace start history state words passes) (backed : AreBacked grants words state passes) where
+module _ (grants : Grants) (start : List Area) (history : List Entry) (state : List Area) (words : List ℕ) (passes : List Pass)
+    (r : IsRunningSpace start history state words passes) (backed : AreBacked grants words state passes) where
   number_at : (n : ℕ) (e : Entry) → get_elem? history n ≡ some e → e.number ≡ n
   number_at n e at = runs_number history 0 start state n e r.runs at ∙ omega arith
 
@@ -98,8 +104,10 @@ module _ (grants : Grants) (start : List Area) (history : List Entry) (state : L
 pub all_stored : HistoryIsStored
 all_stored grants words passes h = (h.1, h.0, h.2, is_stored grants h.0 h.1 h.2 words passes h.3 h.4)
 
-hold_of : (grants : Grants) (words : List ℕ) (passes : List Pass) (worker : ℕ) (note : Note) (here : Here grants words passes worker) (after : Pass) → MayAdd grants words passes worker note here 0 after
-    → (held : Option Held) × (get_elem? grants worker ≡ some held) × HoldsFor held note.under × (after.drew ≡ held) × (history : List Entry) × (after.seen ≡ history ++ entry_of (length history) worker note ∷ [])
+hold_of : (grants : Grants) (words : List ℕ) (passes : List Pass) (worker : ℕ) (note : Note)
+    (here : Here grants words passes worker) (after : Pass) → MayAdd grants words passes worker note here 0 after
+    → (held : Option Held) × (get_elem? grants worker ≡ some held) × HoldsFor held note.under × (after.drew ≡ held)
+    × (history : List Entry) × (after.seen ≡ history ++ entry_of (length history) worker note ∷ [])
 hold_of grants words passes worker note here after (raise rows e pends written is) = absurd (omega arith)
 hold_of grants words passes worker note here after (draw e d is) =
     let f = entry_of (length here.history) worker note in (
@@ -118,7 +126,8 @@ all_hold grants words passes worker by note after may = hold_of grants words pas
 same_draw : (p q after : Pass) → after ≡ q → q.mine ≡ p.mine → q.drew ≡ p.drew → KeepsDraw p after
 same_draw p q after is m d = record { mine = ap (λ (x : Pass). x.mine) is ∙ m; drew = ap (λ (x : Pass). x.drew) is ∙ d }
 
-load_keeps : (free held : Type 0) (words : List ℕ) (history : List Entry) (place : ℕ) (p after : Pass) → MayLoad free held words history place p after → KeepsDraw p after
+load_keeps : (free held : Type 0) (words : List ℕ) (history : List Entry) (place : ℕ) (p after : Pass)
+    → MayLoad free held words history place p after → KeepsDraw p after
 load_keeps free held words history place p after (number e is) = same_draw p _ after is refl refl
 load_keeps free held words history place p after (glance f e is) = same_draw p _ after is refl refl
 load_keeps free held words history place p after (sequence h e is) = same_draw p _ after is refl refl
@@ -134,12 +143,16 @@ write_keeps words AtRest place value p after may = absurd may
 write_keeps words (Planned rows) place value p after may = store_keeps rows place value p after may
 write_keeps words (OneRow c) place value p after may = same_draw p _ after may.3 refl refl
 
-raise_keeps : (grants : Grants) (words : List ℕ) (passes : List Pass) (worker place : ℕ) (note : Note) (here : Here grants words passes worker) (after : Pass) → (place ≡ 0 → ⊥) → MayAdd grants words passes worker note here place after → KeepsDraw here.pass after
+raise_keeps : (grants : Grants) (words : List ℕ) (passes : List Pass) (worker place : ℕ) (note : Note)
+    (here : Here grants words passes worker) (after : Pass) → (place ≡ 0 → ⊥)
+    → MayAdd grants words passes worker note here place after → KeepsDraw here.pass after
 raise_keeps grants words passes worker place note here after differ (draw e d is) = absurd (differ e)
 raise_keeps grants words passes worker place note here after differ (raise rows e pends written is) = same_draw here.pass _ after is refl refl
 
 -- a step of a caller at a moment, from the pass that it has there
-step_keeps : (grants : Grants) (words : List ℕ) (passes : List Pass) (worker : ℕ) (step : ClientStep) (note : Note) (after : Pass) → IsNoDraw step → Allowed grants words passes worker step note after → (here : Here grants words passes worker) × KeepsDraw here.pass after
+step_keeps : (grants : Grants) (words : List ℕ) (passes : List Pass) (worker : ℕ) (step : ClientStep) (note : Note) (after : Pass)
+    → IsNoDraw step → Allowed grants words passes worker step note after
+    → (here : Here grants words passes worker) × KeepsDraw here.pass after
 step_keeps grants words passes worker (loads i) note after other may = (may.0, load_keeps _ _ words may.0.history i may.0.pass after may.1)
 step_keeps grants words passes worker (stores i value) note after other may = (may.0, write_keeps words may.0.pass.pending i value may.0.pass after may.1)
 step_keeps grants words passes worker (adds i by) note after other may = (may.1, raise_keeps grants words passes worker i note may.1 after other may.2)

@@ -1,5 +1,6 @@
 -- The guard allows the stores of a call that has a plan, and lets it raise the sequence word where the plan is written.
-use Rattle.std.proofs.Common.{◌≡◌, ℕ, ◌+◌, ◌<◌, ◌≤◌, Bool, true, false, not, cond, eqb, List, [], ◌∷◌, length, sym, refl, ap, ◌∙◌, subst, arith, ◌⊎◌, inl, inr, ⊎_elim}
+use Rattle.std.proofs.Common.{◌≡◌, ℕ, ◌+◌, ◌<◌, ◌≤◌, Bool, true, false, not, cond, eqb, List, [], ◌∷◌, length, sym}
+use Rattle.std.proofs.Common.{refl, ap, ◌∙◌, subst, arith, ◌⊎◌, inl, inr, ⊎_elim}
 use Rattle.std.proofs.lemmas.Bool.{eqb-true}
 use Rattle.std.specs.Prelude.{All, Option, Some, slice_index}
 use mathlib.Core.Option.{some-injective}
@@ -31,25 +32,41 @@ module _ (note : Note) (seat : ℕ) (held : Option Held) (pass : Pass) (plan : L
   may_write : (words : List ℕ) (place value : ℕ) (after : Pass) → MayStore plan place value pass after → MayWrite words pass.pending place value pass after
   may_write words place value after may = subst (λ (q : Pending). MayWrite words q place value pass after) (sym planned) may
 
-  pub may_store_row : (index value : ℕ) → index < length plan → value ≡ slice_index plan index → IsAllowed HasHistory Allowed note seat held pass (stores (3 + index) value)
-  may_store_row index value lt is grants words passes m there small = (after_store index value pass, (here_at grants words passes seat held pass m, may_write words (3 + index) value (after_store index value pass) (store_row index lt refl is refl)))
+  pub may_store_row : (index value : ℕ) → index < length plan → value ≡ slice_index plan index
+      → IsAllowed HasHistory Allowed note seat held pass (stores (3 + index) value)
+  may_store_row index value lt is grants words passes m there small = (
+    after_store index value pass,
+    (
+      here_at grants words passes seat held pass m,
+      may_write words (3 + index) value (after_store index value pass) (store_row index lt refl is refl),
+    ),
+  )
 
   pub may_store_count : (value : ℕ) → value ≡ length plan → IsAllowed HasHistory Allowed note seat held pass (stores 2 value)
-  may_store_count value is grants words passes m there small = (after_count value pass, (here_at grants words passes seat held pass m, may_write words 2 value (after_count value pass) (store_count refl is refl)))
+  may_store_count value is grants words passes m there small = (
+    after_count value pass,
+    (
+      here_at grants words passes seat held pass m,
+      may_write words 2 value (after_count value pass) (store_count refl is refl),
+    ),
+  )
 
   -- the rows that are written show the last state
-  written_shows : (grants : Grants) (words : List ℕ) (passes : List Pass) (here : Here grants words passes seat) → here.pass ≡ pass → HasRows pass plan → RowsShow words (kind_at here.state)
+  written_shows : (grants : Grants) (words : List ℕ) (passes : List Pass) (here : Here grants words passes seat)
+      → here.pass ≡ pass → HasRows pass plan → RowsShow words (kind_at here.state)
   written_shows grants words passes here same has =
       let part = here.running.parts seat here.pass here.own in
       let backed = here.backed seat here.pass here.own in
-      let backs : Backs grants here.state seat (Planned plan) = subst (Backs grants here.state seat) (ap (λ (x : Pass). x.pending) same ∙ planned) backed.pending in
+      let backs : Backs grants here.state seat (Planned plan) =
+      subst (Backs grants here.state seat) (ap (λ (x : Pass). x.pending) same ∙ planned) backed.pending in
       let shows = backs.1 in
       let stood : All (StillStands (Some everything) words) here.pass.rows = backed.rows (Some everything) backs.0 in
       let count : slice_index words 2 ≡ length plan = part.count (length plan) (ap (λ (x : Pass). x.count) same ∙ has.0) in
       let room = here.running.room in
       let few = shows.few in
       let rows : rows_in words ≡ plan = rows_known words plan room few count
-      (λ i lt. (stands (Some everything) words here.pass.rows i (slice_index plan i) stood (subst (λ (x : Pass). HasRead x.rows i (slice_index plan i)) (sym same) (has.1 i lt))).word refl) in
+      (λ i lt. (stands (Some everything) words here.pass.rows i (slice_index plan i) stood
+      (subst (λ (x : Pass). HasRead x.rows i (slice_index plan i)) (sym same) (has.1 i lt))).word refl) in
       record {
         room = room;
         some = let s = shows.some in omega arith;
@@ -73,48 +90,60 @@ count_after plan value p after (store_row i lt e v is) = absurd (omega arith)
 count_after plan value p after (store_count e v is) = is
 
 -- a caller with a plan makes the stores of that plan
-of_plan : (words : List ℕ) (pending : Pending) (plan : List ℕ) (place value : ℕ) (p after : Pass) → pending ≡ Planned plan → MayWrite words pending place value p after → MayStore plan place value p after
+of_plan : (words : List ℕ) (pending : Pending) (plan : List ℕ) (place value : ℕ) (p after : Pass) → pending ≡ Planned plan
+    → MayWrite words pending place value p after → MayStore plan place value p after
 of_plan words pending plan place value p after is may = subst (λ (q : Pending). MayWrite words q place value p after) is may
 
 step_of : (s u : Known Pass) (place : ℕ) (p : Pass) → IsClientCall s place u → u.pass ≡ p → IsClientStep s place p u
 step_of s u place p call is = record { table = call.table; number = call.number; held = call.held; pools = call.pools; pass = is; trace = call.trace }
 
 module _ (s u : Known Pass) (plan : List ℕ) (planned : s.pass.pending ≡ Planned plan) (value : ℕ) where
-  pub row_stored : (index : ℕ) → IsClientCall s (3 + index) u → ((found : ℕ) × IsMade HasHistory Allowed no_note s.number s.held s.pass (stores (3 + index) value) found u.pass) → IsClientStep s (3 + index) (after_store index value s.pass) u
+  pub row_stored : (index : ℕ) → IsClientCall s (3 + index) u
+      → ((found : ℕ) × IsMade HasHistory Allowed no_note s.number s.held s.pass (stores (3 + index) value) found u.pass)
+      → IsClientStep s (3 + index) (after_store index value s.pass) u
   row_stored index call made =
       let m = made.1.3 in let may = made.1.5 in let here = may.0 in
       let same : here.pass ≡ s.pass = some-injective here.pass s.pass (sym here.own ∙ m.own) in
       step_of s u (3 + index) (after_store index value s.pass) call
-      (row_after plan index value here.pass u.pass (of_plan made.1.1 here.pass.pending plan (3 + index) value here.pass u.pass (ap (λ (x : Pass). x.pending) same ∙ planned) may.1) ∙ ap (after_store index value) same)
+      (row_after plan index value here.pass u.pass (of_plan made.1.1 here.pass.pending plan (3 + index) value here.pass u.pass
+      (ap (λ (x : Pass). x.pending) same ∙ planned) may.1) ∙ ap (after_store index value) same)
 
-  pub count_stored : IsClientCall s 2 u → ((found : ℕ) × IsMade HasHistory Allowed no_note s.number s.held s.pass (stores 2 value) found u.pass) → IsClientStep s 2 (after_count value s.pass) u
+  pub count_stored : IsClientCall s 2 u → ((found : ℕ)
+      × IsMade HasHistory Allowed no_note s.number s.held s.pass (stores 2 value) found u.pass)
+      → IsClientStep s 2 (after_count value s.pass) u
   count_stored call made =
       let m = made.1.3 in let may = made.1.5 in let here = may.0 in
       let same : here.pass ≡ s.pass = some-injective here.pass s.pass (sym here.own ∙ m.own) in
       step_of s u 2 (after_count value s.pass) call
-      (count_after plan value here.pass u.pass (of_plan made.1.1 here.pass.pending plan 2 value here.pass u.pass (ap (λ (x : Pass). x.pending) same ∙ planned) may.1) ∙ ap (after_count value) same)
+      (count_after plan value here.pass u.pass (of_plan made.1.1 here.pass.pending plan 2 value here.pass u.pass
+      (ap (λ (x : Pass). x.pending) same ∙ planned) may.1) ∙ ap (after_count value) same)
 
-raise_after : (grants : Grants) (words : List ℕ) (passes : List Pass) (worker : ℕ) (here : Here grants words passes worker) (after : Pass) → MayAdd grants words passes worker no_note here 1 after → after ≡ after_raise here.pass
+raise_after : (grants : Grants) (words : List ℕ) (passes : List Pass) (worker : ℕ) (here : Here grants words passes worker)
+    (after : Pass) → MayAdd grants words passes worker no_note here 1 after → after ≡ after_raise here.pass
 raise_after grants words passes worker here after (draw e d is) = absurd (omega arith)
 raise_after grants words passes worker here after (raise rows e pends written is) = is
 
-pub sequence_raised : (s u : Known Pass) (found : ℕ) → IsClientCall s 1 u → IsMade HasHistory Allowed no_note s.number s.held s.pass (adds 1 1) found u.pass → IsClientStep s 1 (after_raise s.pass) u
+pub sequence_raised : (s u : Known Pass) (found : ℕ) → IsClientCall s 1 u
+    → IsMade HasHistory Allowed no_note s.number s.held s.pass (adds 1 1) found u.pass → IsClientStep s 1 (after_raise s.pass) u
 sequence_raised s u found call made =
     let m = made.3 in let here = made.5.1 in
     let same : here.pass ≡ s.pass = some-injective here.pass s.pass (sym here.own ∙ m.own) in
     step_of s u 1 (after_raise s.pass) call (raise_after made.0 made.1 made.2 s.number here u.pass made.5.2 ∙ ap after_raise same)
 
 -- rows that are read, after one was stored
-has_one : (index i w : ℕ) (r : ReadRow) (kept : List ReadRow) (b : Bool) → eqb r.index index ≡ b → (i ≡ index → ⊥) → ((r.index ≡ i) × (r.word ≡ w)) ⊎ HasRead kept i w → HasRead (cond (not b) (r ∷ kept) kept) i w
+has_one : (index i w : ℕ) (r : ReadRow) (kept : List ReadRow) (b : Bool) → eqb r.index index ≡ b → (i ≡ index → ⊥)
+    → ((r.index ≡ i) × (r.word ≡ w)) ⊎ HasRead kept i w → HasRead (cond (not b) (r ∷ kept) kept) i w
 has_one index i w r kept true is differ h = ⊎_elim (λ t. absurd (differ (sym t.0 ∙ eqb-true r.index index is))) (λ t. t) h
 has_one index i w r kept false is differ h = h
 
 has_others : (index i w : ℕ) (rows : List ReadRow) → (i ≡ index → ⊥) → HasRead rows i w → HasRead (without index rows) i w
 has_others index i w [] differ h = absurd h
-has_others index i w (r ∷ rest) differ h = has_one index i w r (without index rest) (eqb r.index index) refl differ (⊎_elim (λ t. inl t) (λ t. inr (has_others index i w rest differ t)) h)
+has_others index i w (r ∷ rest) differ h = has_one index i w r (without index rest) (eqb r.index index) refl differ
+    (⊎_elim (λ t. inl t) (λ t. inr (has_others index i w rest differ t)) h)
 
 -- one row more is the plan's
-pub mixed_stored : (rows : List ReadRow) (old plan : List ℕ) (index : ℕ) → IsMixed rows old plan index → IsMixed (record { index = index; word = slice_index plan index } ∷ without index rows) old plan (index + 1)
+pub mixed_stored : (rows : List ReadRow) (old plan : List ℕ) (index : ℕ) → IsMixed rows old plan index
+    → IsMixed (record { index = index; word = slice_index plan index } ∷ without index rows) old plan (index + 1)
 mixed_stored rows old plan index m = record {
   below = λ i lt. dite (ℕ_discrete i index)
       (λ same. inl (sym same, ap (slice_index plan) (sym same)))
@@ -122,7 +151,8 @@ mixed_stored rows old plan index m = record {
   above = λ i le lt. inr (has_others index i (slice_index old i) rows (λ e. omega arith) (m.above i (omega arith) lt));
 }
 
-pub mixed_same : (rows : List ReadRow) (old plan : List ℕ) (index : ℕ) → IsMixed rows old plan index → index < length old → slice_index old index ≡ slice_index plan index → IsMixed rows old plan (index + 1)
+pub mixed_same : (rows : List ReadRow) (old plan : List ℕ) (index : ℕ) → IsMixed rows old plan index → index < length old
+    → slice_index old index ≡ slice_index plan index → IsMixed rows old plan (index + 1)
 mixed_same rows old plan index m there same = record {
   below = λ i lt. dite (ℕ_discrete i index)
       (λ e. subst (λ (n : ℕ). HasRead rows n (slice_index plan n)) (sym e) (subst (λ (w : ℕ). HasRead rows index w) same (m.above index (omega arith) there)))
@@ -132,19 +162,63 @@ mixed_same rows old plan index m there same = record {
 
 -- steps of writing, one after another
 pub writing_on : (a b c : Known Pass) → IsWriting a b → IsWriting b c → IsWriting a c
-writing_on a b c f g = record { table = g.table ∙ f.table; number = g.number ∙ f.number; held = g.held ∙ f.held; pools = g.pools ∙ f.pools; start = g.start ∙ f.start; seen = g.seen ∙ f.seen; mine = g.mine ∙ f.mine; drew = g.drew ∙ f.drew; pending = g.pending ∙ f.pending; taken = let l = f.taken in let m = g.taken in omega arith }
+writing_on a b c f g = record {
+  table = g.table ∙ f.table;
+  number = g.number ∙ f.number;
+  held = g.held ∙ f.held;
+  pools = g.pools ∙ f.pools;
+  start = g.start ∙ f.start;
+  seen = g.seen ∙ f.seen;
+  mine = g.mine ∙ f.mine;
+  drew = g.drew ∙ f.drew;
+  pending = g.pending ∙ f.pending;
+  taken = let l = f.taken in let m = g.taken in omega arith;
+}
 
 pub no_writing : (a : Known Pass) → IsWriting a a
-no_writing a = record { table = refl; number = refl; held = refl; pools = refl; start = refl; seen = refl; mine = refl; drew = refl; pending = refl; taken = omega arith }
+no_writing a = record {
+  table = refl;
+  number = refl;
+  held = refl;
+  pools = refl;
+  start = refl;
+  seen = refl;
+  mine = refl;
+  drew = refl;
+  pending = refl;
+  taken = omega arith;
+}
 
 step_more : (a b : Known Pass) (place : ℕ) (p : Pass) → IsClientStep a place p b → a.trace.taken ≤ b.trace.taken
 step_more a b place p s = let l : b.trace.taken ≡ a.trace.taken + 1 = ap (λ (r : Record). r.taken) s.trace in omega arith
 
 pub store_writes : (a b : Known Pass) (index value : ℕ) → IsClientStep a (3 + index) (after_store index value a.pass) b → IsWriting a b
-store_writes a b index value s = record { table = s.table; number = s.number; held = s.held; pools = s.pools; start = ap (λ (x : Pass). x.start) s.pass; seen = ap (λ (x : Pass). x.seen) s.pass; mine = ap (λ (x : Pass). x.mine) s.pass; drew = ap (λ (x : Pass). x.drew) s.pass; pending = ap (λ (x : Pass). x.pending) s.pass; taken = step_more a b (3 + index) (after_store index value a.pass) s }
+store_writes a b index value s = record {
+  table = s.table;
+  number = s.number;
+  held = s.held;
+  pools = s.pools;
+  start = ap (λ (x : Pass). x.start) s.pass;
+  seen = ap (λ (x : Pass). x.seen) s.pass;
+  mine = ap (λ (x : Pass). x.mine) s.pass;
+  drew = ap (λ (x : Pass). x.drew) s.pass;
+  pending = ap (λ (x : Pass). x.pending) s.pass;
+  taken = step_more a b (3 + index) (after_store index value a.pass) s;
+}
 
 pub count_writes : (a b : Known Pass) (value : ℕ) → IsClientStep a 2 (after_count value a.pass) b → IsWriting a b
-count_writes a b value s = record { table = s.table; number = s.number; held = s.held; pools = s.pools; start = ap (λ (x : Pass). x.start) s.pass; seen = ap (λ (x : Pass). x.seen) s.pass; mine = ap (λ (x : Pass). x.mine) s.pass; drew = ap (λ (x : Pass). x.drew) s.pass; pending = ap (λ (x : Pass). x.pending) s.pass; taken = step_more a b 2 (after_count value a.pass) s }
+count_writes a b value s = record {
+  table = s.table;
+  number = s.number;
+  held = s.held;
+  pools = s.pools;
+  start = ap (λ (x : Pass). x.start) s.pass;
+  seen = ap (λ (x : Pass). x.seen) s.pass;
+  mine = ap (λ (x : Pass). x.mine) s.pass;
+  drew = ap (λ (x : Pass). x.drew) s.pass;
+  pending = ap (λ (x : Pass). x.pending) s.pass;
+  taken = step_more a b 2 (after_count value a.pass) s;
+}
 
 -- all is written where the sequence word is raised behind the rows
 pub all_written : (a b c : Known Pass) → IsWriting a b → IsClientStep b 1 (after_raise b.pass) c → IsWritten a c

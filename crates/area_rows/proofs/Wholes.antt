@@ -54,7 +54,8 @@ fits_whole A (Protect addr len prot) no_fault = inl refl
 fits_whole A (Fault addr access) no_fault = absurd (no_fault tt)
 
 -- and may be numbered with what its plan says
-pub planned_right : (c : CallerView) (call : Call) (reply : Reply) (count : ℕ) → HasPlanned call reply count c → plain_reply call ≡ None → (IsFault call → ⊥) → MayNumber c call reply Whole
+pub planned_right : (c : CallerView) (call : Call) (reply : Reply) (count : ℕ) → HasPlanned call reply count c
+    → plain_reply call ≡ None → (IsFault call → ⊥) → MayNumber c call reply Whole
 planned_right c call reply count planned undecided no_fault start history state words m =
     let p = planned.shows start history state words m in (
       p.left,
@@ -66,7 +67,8 @@ planned_right c call reply count planned undecided no_fault start history state 
     )
 
 -- the plan of a call on the rows that were read is its plan at every moment until they change
-pub plan_shows : (c : CallerView) (call : Call) (reply : Reply) (count : ℕ) → c.seat.held ≡ Some everything → IsAtRest c.seat.pass → HasRows c.seat.pass c.read → IsPlan call reply count c.plan (areas_from c.read) → HasPlanned call reply count c
+pub plan_shows : (c : CallerView) (call : Call) (reply : Reply) (count : ℕ) → c.seat.held ≡ Some everything → IsAtRest c.seat.pass
+    → HasRows c.seat.pass c.read → IsPlan call reply count c.plan (areas_from c.read) → HasPlanned call reply count c
 plan_shows c call reply count held rest has plan = record {
   shows = λ start history state words m.
       let granted : get_elem? m.grants c.seat.number ≡ some (Some everything) = m.granted ∙ ap some held in
@@ -75,7 +77,8 @@ plan_shows c call reply count held rest has plan = record {
       let counted : slice_index words 2 ≡ length c.read = part.count (length c.read) (m.read.count (length c.read) has.0) in
       let word : (i : ℕ) → i < length c.read → slice_index words (3 + i) ≡ slice_index c.read i = λ i lt.
       (stands (Some everything) words m.pass.rows i (slice_index c.read i) stood (m.read.rows i (slice_index c.read i) (has.1 i lt))).word refl in
-      let are = rows_are m.grants start history state words m.passes c.seat.number m.pass c.read m.running m.backed m.exclusive m.own granted (m.read.pending ∙ rest) counted word in
+      let are = rows_are m.grants start history state words m.passes c.seat.number m.pass c.read m.running m.backed m.exclusive
+      m.own granted (m.read.pending ∙ rest) counted word in
       subst (λ (A : List Area). IsPlan call reply count c.plan A) are.1 plan;
   read = has;
 }
@@ -93,7 +96,8 @@ pub record IsReadSoFar (before now : CallerView) (count index : ℕ) : Type 0 wh
   pub rows : (i : ℕ) → i < index → HasRead now.seat.pass.rows i (slice_index now.read i)
   pub list : index ≡ count → IsRowList now.read
 
-pub none_read : (c : CallerView) (count : ℕ) → IsAtRest c.seat.pass → c.seat.pass.count ≡ Some count → 0 < count → count ≤ ROWS → c.read ≡ [] → IsReadSoFar c c count 0
+pub none_read : (c : CallerView) (count : ℕ) → IsAtRest c.seat.pass → c.seat.pass.count ≡ Some count → 0 < count → count ≤ ROWS
+    → c.read ≡ [] → IsReadSoFar c c count 0
 none_read c count rest counted positive few empty = record {
   reading = no_reading c.seat;
   left = refl;
@@ -107,20 +111,34 @@ none_read c count rest counted positive few empty = record {
   list = λ e. absurd (omega arith);
 }
 
-one_read : (old new : Known Pass) (index word : ℕ) (read : List ℕ) → IsClientStep old (3 + index) (after_row index word old.pass) new → length read ≡ index → ((i : ℕ) → i < index → HasRead old.pass.rows i (slice_index read i)) → (i : ℕ) → i < index + 1 → HasRead new.pass.rows i (slice_index (read ++ word ∷ []) i)
-one_read old new index word read step wide all i lt = subst (λ (p : Pass). HasRead p.rows i (slice_index (read ++ word ∷ []) i)) (sym step.pass) (elim (cases_lt i index) [
-  | inl less ↦ inr (subst (HasRead old.pass.rows i) (sym (get_or_append_left read (word ∷ []) 0 i (omega arith))) (all i less))
-  | inr ge ↦ let same : i ≡ index = omega arith in inl (sym same, sym (get_or-append_right read (word ∷ []) index i 0 wide ge ∙ ap (λ n. get_or (word ∷ []) n 0) (let z : i - index ≡ 0 = omega arith in z)))
-])
+one_read : (old new : Known Pass) (index word : ℕ) (read : List ℕ)
+    → IsClientStep old (3 + index) (after_row index word old.pass) new → length read ≡ index
+    → ((i : ℕ) → i < index → HasRead old.pass.rows i (slice_index read i)) → (i : ℕ) → i < index + 1
+    → HasRead new.pass.rows i (slice_index (read ++ word ∷ []) i)
+one_read old new index word read step wide all i lt =
+    subst (λ (p : Pass). HasRead p.rows i (slice_index (read ++ word ∷ []) i)) (sym step.pass) (elim (cases_lt i index) [
+      | inl less ↦ inr (subst (HasRead old.pass.rows i) (sym (get_or_append_left read (word ∷ []) 0 i (omega arith))) (all i less))
+      | inr ge ↦ let same : i ≡ index = omega arith in
+          inl (
+            sym same,
+            sym (get_or-append_right read (word ∷ []) index i 0 wide ge
+                ∙ ap (λ n. get_or (word ∷ []) n 0) (let z : i - index ≡ 0 = omega arith in z)),
+          )
+    ])
 
 -- one row more is read
-pub one_more_read : (before old mid new : CallerView) (count index word : ℕ) → IsReadSoFar before old count index → index < count → old.seat.held ≡ Some everything → IsClientStep old.seat (3 + index) (after_row index word old.seat.pass) mid.seat → mid.left ≡ old.left → mid.read ≡ old.read
-    → (old.seat.held ≡ Some everything → (rows : List ℕ) → HasRows mid.seat.pass rows → IsRowList rows) → new.seat ≡ mid.seat → new.left ≡ mid.left → new.read ≡ mid.read ++ word ∷ [] → IsReadSoFar before new count (index + 1)
+pub one_more_read : (before old mid new : CallerView) (count index word : ℕ) → IsReadSoFar before old count index → index < count
+    → old.seat.held ≡ Some everything → IsClientStep old.seat (3 + index) (after_row index word old.seat.pass) mid.seat
+    → mid.left ≡ old.left → mid.read ≡ old.read
+    → (old.seat.held ≡ Some everything → (rows : List ℕ) → HasRows mid.seat.pass rows → IsRowList rows) → new.seat ≡ mid.seat
+    → new.left ≡ mid.left → new.read ≡ mid.read ++ word ∷ [] → IsReadSoFar before new count (index + 1)
 one_more_read before old mid new count index word s lt held step left read whole same same_left more =
     let is : new.read ≡ old.read ++ word ∷ [] = more ∙ ap (λ l. l ++ word ∷ []) read in
     let wide : length new.read ≡ index + 1 = ap length is ∙ (let l = length-append old.read (word ∷ []) in let w = s.wide in omega arith) in
     let counted : mid.seat.pass.count ≡ Some count = ap (λ (p : Pass). p.count) step.pass ∙ s.counted in
-    let rows : (i : ℕ) → i < index + 1 → HasRead mid.seat.pass.rows i (slice_index new.read i) = λ i below. subst (λ l. HasRead mid.seat.pass.rows i (slice_index l i)) (sym is) (one_read old.seat mid.seat index word old.read step s.wide s.rows i below) in
+    let rows : (i : ℕ) → i < index + 1 → HasRead mid.seat.pass.rows i (slice_index new.read i) =
+    λ i below. subst (λ l. HasRead mid.seat.pass.rows i (slice_index l i)) (sym is)
+    (one_read old.seat mid.seat index word old.read step s.wide s.rows i below) in
     record {
       reading = subst (IsReading before.seat) (sym same) (reading_on before.seat old.seat mid.seat s.reading (row_reads old.seat mid.seat index word step));
       left = same_left ∙ (left ∙ s.left);
@@ -135,7 +153,8 @@ one_more_read before old mid new count index word s lt held step left read whole
     }
 
 -- all rows are read
-pub all_read : (before now : CallerView) (count index : ℕ) → IsReadSoFar before now count index → ¬ (index < count) → HasRows now.seat.pass now.read × IsRowList now.read
+pub all_read : (before now : CallerView) (count index : ℕ) → IsReadSoFar before now count index → ¬ (index < count)
+    → HasRows now.seat.pass now.read × IsRowList now.read
 all_read before now count index s done =
     let bound = s.bound in
     let all : index ≡ count = omega (arith, bound, done) in
@@ -143,7 +162,8 @@ all_read before now count index s done =
     ((s.counted ∙ ap Some (sym all ∙ sym wide), λ i lt. s.rows i (omega arith)), s.list all)
 
 -- what the lock does before leaves the call as it is
-pub called_from : (a b c : CallerView) (e : Entry) (line : ℕ) (call : Call) → a.seat.held ≡ None → IsLockCall a.seat b.seat → b.left ≡ a.left → IsCalled (record b { seat = record b.seat { held = None } }) line call e c → IsCalled a line call e c
+pub called_from : (a b c : CallerView) (e : Entry) (line : ℕ) (call : Call) → a.seat.held ≡ None → IsLockCall a.seat b.seat
+    → b.left ≡ a.left → IsCalled (record b { seat = record b.seat { held = None } }) line call e c → IsCalled a line call e c
 called_from a b c e line call free lock same called =
     let num = called.numbered in
     record {
@@ -181,7 +201,8 @@ called_from a b c e line call free lock same called =
     }
 
 -- holding, numbering, writing and giving back are one numbering
-pub numbered_whole : (a b p n w d : Known Pass) (e : Entry) (pending : Pending) → a.held ≡ None → IsLockCall a b → IsReading b p → IsDrawn p e pending n → IsWritten n w → IsRelease rest_of w d → IsNumbered a e d
+pub numbered_whole : (a b p n w d : Known Pass) (e : Entry) (pending : Pending) → a.held ≡ None → IsLockCall a b → IsReading b p
+    → IsDrawn p e pending n → IsWritten n w → IsRelease rest_of w d → IsNumbered a e d
 numbered_whole a b p n w d e pending free call reading drawn written release =
     let num = drawn.numbered in
     record {
@@ -204,13 +225,16 @@ numbered_whole a b p n w d e pending free call reading drawn written release =
     }
 
 -- and its last step on a client word raised the sequence word
-pub last_whole : (a b p n w d : Known Pass) (e : Entry) (pending : Pending) → IsLockCall a b → IsReading b p → IsDrawn p e pending n → IsWritten n w → IsRelease rest_of w d → IsLastStep a Whole d
+pub last_whole : (a b p n w d : Known Pass) (e : Entry) (pending : Pending) → IsLockCall a b → IsReading b p
+    → IsDrawn p e pending n → IsWritten n w → IsRelease rest_of w d → IsLastStep a Whole d
 last_whole a b p n w d e pending call reading drawn written release = record {
   place = 1;
   step = written.step;
   word = refl;
   client = release.client ∙ written.client;
-  since = let c = call.taken in let r = reading.taken in let t : n.trace.taken ≡ p.trace.taken + 1 = ap (λ (x : Record). x.taken) drawn.trace in let s = written.since in omega arith;
+  since = let c = call.taken in let r = reading.taken in
+      let t : n.trace.taken ≡ p.trace.taken + 1 = ap (λ (x : Record). x.taken) drawn.trace in let s = written.since in
+      omega arith;
   until = let u = written.until in let l = release.least in omega arith;
 }
 

@@ -36,7 +36,9 @@ use Rattle.area_rows.specs.Rows.{IsRowOf, rows_in}
 use Rattle.row_plans.specs.Plans.{IsPlan}
 use Rattle.area_rows.specs.Reads.{IsHeldPage, HasRead, HasRows}
 use Rattle.area_rows.specs.Changes.{alone, IsOneStore, IsRound}
-use Rattle.area_rows.specs.History.{Runs, StartsWith, entries_of, HasNamedReplies, whole_count, planned_calls, IsRunningSpace, AreBacked, HasPages, IsAtRest, IsRight, Leaves, pending_of, HoldsFor}
+use Rattle.area_rows.specs.History.{Runs, StartsWith, entries_of, HasNamedReplies, whole_count, planned_calls}
+use Rattle.area_rows.specs.History.{IsRunningSpace, AreBacked, HasPages, IsAtRest, IsRight, Leaves, pending_of}
+use Rattle.area_rows.specs.History.{HoldsFor}
 
 -- a caller: its seat in the lock's table, whose pass is what it knows of the space; how many numbers it may still draw;
 -- the row words that it read for its last plan, and those that this plan leaves; and the row that its last plan over an
@@ -98,13 +100,15 @@ Shows seat what = (start : List Area) (history : List Entry) (state : List Area)
 -- so many entries of the history were numbered under everything, the caller's own aside where it isn't written yet, at
 -- every moment at which the caller of this seat holds its range and has read what it has read
 abbrev pub CountsWhole : Known Pass → ℕ → Type 0
-CountsWhole seat n = (start : List Area) (history : List Entry) (state : List Area) (words : List ℕ) → IsMoment seat start history state words → n + planned_calls seat.pass.pending ≡ whole_count history
+CountsWhole seat n = (start : List Area) (history : List Entry) (state : List Area) (words : List ℕ)
+    → IsMoment seat start history state words → n + planned_calls seat.pass.pending ≡ whole_count history
 
 -- a caller may number a call with this reply under this range: at every moment at which it holds its range and has read
 -- what it has read the entry is right, and its plan is what the call leaves: rows under everything, one row over an
 -- area
 abbrev pub MayNumber : CallerView → Call → Reply → Under → Type 0
-MayNumber c call reply under = Shows c.seat (λ _ state. (left : List Area) × IsRight state call reply under left × Leaves state under (pending_of under c.plan c.change) left)
+MayNumber c call reply under = Shows c.seat (λ _ state. (left : List Area) × IsRight state call reply under left
+    × Leaves state under (pending_of under c.plan c.change) left)
 
 -- a caller's plan is of this call: under everything, at every moment at which it still holds it and has read those
 -- rows, the call has this reply and leaves so many rows, and the plan has their words; the caller has read all rows
@@ -155,7 +159,8 @@ IsReadBefore rows index kind = ((index ≡ 0) × (kind ≡ None)) ⊎ ((0 < inde
 
 -- the kind of the row behind this one, as the caller has read it, or None where there is no row behind it
 abbrev pub IsReadBehind : List ReadRow → ℕ → ℕ → Option Kind → Type 0
-IsReadBehind rows count index kind = ((index + 1 ≡ count) × (kind ≡ None)) ⊎ ((index + 1 < count) × (word : ℕ) × HasRead rows (index + 1) word × (kind ≡ row_kind word))
+IsReadBehind rows count index kind = ((index + 1 ≡ count) × (kind ≡ None))
+    ⊎ ((index + 1 < count) × (word : ℕ) × HasRead rows (index + 1) word × (kind ≡ row_kind word))
 
 -- a caller holds an area and a page on each side as a writer, has read the area's row and those on both sides, and the
 -- change is one store on one of them
@@ -206,7 +211,14 @@ opening_words start = 0 ∷ 0 ∷ row_count start ∷ (rows_from 0 start ++ repl
 
 -- the callers of a new space, in order of their numbers, each with as many numbers to draw as was asked
 abbrev pub AreNewCallers : TableId → List Area → List ℕ → List CallerView → Type 0
-AreNewCallers table start calls callers = (k : ℕ) (c : CallerView) → get_elem? callers k ≡ some c → c ≡ record { seat = new_seat table (λ _. new_pass start) k; left = slice_index calls k; read = []; plan = []; change = None }
+AreNewCallers table start calls callers = (k : ℕ) (c : CallerView) → get_elem? callers k ≡ some c
+    → c ≡ record {
+      seat = new_seat table (λ _. new_pass start) k;
+      left = slice_index calls k;
+      read = [];
+      plan = [];
+      change = None;
+    }
 
 -- why no space is opened for so many callers over so many rows
 abbrev pub IsSpaceFault : ℕ → ℕ → SpaceFault → Type 0

@@ -1,7 +1,8 @@
 -- That a draw of a number keeps the rule: the history grows by the entry, and what its call leaves is to be written.
 -- These are parts of the proofs in `Keeping`; a reader who trusts the check may pass them over.
 use Rattle.std.specs.Prelude.{Option, slice_index}
-use Rattle.std.proofs.Common.{◌≡◌, ◌≢◌, ℕ, ◌+◌, ◌%◌, ◌^◌, ◌<◌, inl, inr, List, [], ◌∷◌, ◌++◌, length, set, sym, refl, ap, ◌∙◌, subst, arith, length-set, length-append, append_assoc, ⊎_elim}
+use Rattle.std.proofs.Common.{◌≡◌, ◌≢◌, ℕ, ◌+◌, ◌%◌, ◌^◌, ◌<◌, inl, inr, List, [], ◌∷◌, ◌++◌, length, set, sym, refl}
+use Rattle.std.proofs.Common.{ap, ◌∙◌, subst, arith, length-set, length-append, append_assoc, ⊎_elim}
 use Rattle.std.proofs.lemmas.List.{append-nil, get_or-set_same, get_or-set_other}
 use Rattle.std.proofs.lemmas.List.Elements.{All-nil}
 use mathlib.Core.Option.{some}
@@ -29,7 +30,9 @@ use Rattle.area_rows.specs.declared.guard.Pending.TheVariants.{AtRest, Planned, 
 use Rattle.row_plans.specs.Plans.{PlanShows}
 use Rattle.area_rows.specs.Reads.{everything, StillStands}
 use Rattle.area_rows.specs.Changes.{alone, IsChange}
-use Rattle.area_rows.specs.History.{FitsAndReplies, Runs, with_whole, IsPart, planned_calls, planned_count, IsShown, RowsStandFor, IsRunningSpace, Backs, IsBacked, AreBacked, HoldsFor, Leaves, after_draw}
+use Rattle.area_rows.specs.History.{FitsAndReplies, Runs, with_whole, IsPart, planned_calls, planned_count, IsShown}
+use Rattle.area_rows.specs.History.{RowsStandFor, IsRunningSpace, Backs, IsBacked, AreBacked, HoldsFor, Leaves}
+use Rattle.area_rows.specs.History.{after_draw}
 use Rattle.area_rows.specs.Replies.{all_more, reply_named, left_named, left_few}
 use Rattle.area_rows.specs.Stands.{all_stand, same_low, low_rows, shown_set}
 use Rattle.area_rows.specs.Parts.{own_more, own_same, count_set, no_wrap, whole_more, planned_set, resting_of, none_is}
@@ -37,7 +40,8 @@ use Rattle.area_rows.specs.Writes.{everything_pages, span_pages, clash}
 use Rattle.area_rows.specs.RowStores.{shown_after_draw, others_back}
 
 -- one entry more
-pub runs_more : (history : List Entry) (n : ℕ) (A B C : List Areas) (e : Entry) → Runs n A history B → e.number ≡ n + length history → FitsUnder B e.call e.under → Answers B e.call e.reply C → Runs n A (history ++ e ∷ []) C
+pub runs_more : (history : List Entry) (n : ℕ) (A B C : List Areas) (e : Entry) → Runs n A history B
+    → e.number ≡ n + length history → FitsUnder B e.call e.under → Answers B e.call e.reply C → Runs n A (history ++ e ∷ []) C
 runs_more history n A B C e r num fits answers = (numbered_more n history e r.0 num, chains_more FitsAndReplies A history B e C r.1 (fits, answers))
 
 -- what is to be written goes with what is held
@@ -63,21 +67,24 @@ leaves_same state left (Area span) l = l
 leaves_same state left Whole l = absurd l
 
 -- a plan is of a call under everything
-leaves_plan : (state left : List Areas) (under : Under) (rows : List ℕ) → Leaves state under (Planned rows) left → (under ≡ Whole) × PlanShows rows (kind_at left)
+leaves_plan : (state left : List Areas) (under : Under) (rows : List ℕ) → Leaves state under (Planned rows) left
+    → (under ≡ Whole) × PlanShows rows (kind_at left)
 leaves_plan state left Nothing rows l = absurd l
 leaves_plan state left (Reader span) rows l = absurd l
 leaves_plan state left (Area span) rows l = absurd l
 leaves_plan state left Whole rows l = (refl, l)
 
 -- the change of one row is of a call over its area
-leaves_change : (state left : List Areas) (under : Under) (c : Change) → Leaves state under (OneRow c) left → (span : Span) × (under ≡ Area span) × IsChange state span c left
+leaves_change : (state left : List Areas) (under : Under) (c : Change) → Leaves state under (OneRow c) left
+    → (span : Span) × (under ≡ Area span) × IsChange state span c left
 leaves_change state left Nothing c l = absurd l
 leaves_change state left (Reader span) c l = absurd l
 leaves_change state left (Area span) c l = (span, refl, l)
 leaves_change state left Whole c l = absurd l
 
 -- whose caller holds its span
-held_alone : (grants : Grants) (worker : ℕ) (h : Option Held) (under : Under) (span : Span) → under ≡ Area span → get_elem? grants worker ≡ some h → HoldsFor h under → Holds grants worker (alone span)
+held_alone : (grants : Grants) (worker : ℕ) (h : Option Held) (under : Under) (span : Span) → under ≡ Area span
+    → get_elem? grants worker ≡ some h → HoldsFor h under → Holds grants worker (alone span)
 held_alone grants worker h under span is at holds = let e : HoldsFor h (Area span) = subst (HoldsFor h) is holds in at ∙ ap some e
 
 module _ (history : List Entry) (e : Entry) (held : Option Held) (p : Pass) where
@@ -107,7 +114,8 @@ module _ (history : List Entry) (e : Entry) (held : Option Held) (p : Pass) wher
   draw_drew (OneRow c) = refl
 
 -- another caller's part, or the caller's own
-others_part : (start : List Areas) (history : List Entry) (words : List ℕ) (value worker : ℕ) (p : Pass) (e : Entry) → e.worker ≢ worker → IsPart start history words worker p → IsPart start (history ++ e ∷ []) (set words 0 value) worker p
+others_part : (start : List Areas) (history : List Entry) (words : List ℕ) (value worker : ℕ) (p : Pass) (e : Entry)
+    → e.worker ≢ worker → IsPart start history words worker p → IsPart start (history ++ e ∷ []) (set words 0 value) worker p
 others_part start history words value worker p e differ own = record {
   began = own.began;
   seen = (own.seen.0 ++ e ∷ [], ap (λ l. l ++ e ∷ []) own.seen.1 ∙ append_assoc p.seen own.seen.0 (e ∷ []));
@@ -117,7 +125,10 @@ others_part start history words value worker p e differ own = record {
   sequence = λ n c. get_or-set_other words 0 1 value 0 (λ same. omega arith) ∙ own.sequence n c;
 }
 
-own_part : (start : List Areas) (history : List Entry) (words : List ℕ) (value worker : ℕ) (p : Pass) (e : Entry) (pending : Pending) (held : Option Held) → e.worker ≡ worker → length p.mine + 1 < 2 ^ 32 → IsPart start history words worker p → IsPart start (history ++ e ∷ []) (set words 0 value) worker (after_draw history e pending held p)
+own_part : (start : List Areas) (history : List Entry) (words : List ℕ) (value worker : ℕ) (p : Pass) (e : Entry)
+    (pending : Pending) (held : Option Held) → e.worker ≡ worker → length p.mine + 1 < 2 ^ 32
+    → IsPart start history words worker p → IsPart start (history ++ e ∷ []) (set words 0 value) worker
+    (after_draw history e pending held p)
 own_part start history words value worker p e AtRest held is few own = record {
   began = own.began;
   seen = ([], sym (append-nil (history ++ e ∷ [])));
@@ -144,12 +155,17 @@ own_part start history words value worker p e (OneRow c) held is few own = recor
 }
 
 -- what the rows show after a draw, where no plan is to be written
-shown_drawn : (grants : Grants) (history : List Entry) (state left : List Areas) (words : List ℕ) (passes : List Pass) (worker value : ℕ) (p : Pass) (e : Entry) (pending : Pending) (held : Option Held) → AreBacked grants words state passes → IsExclusive grants → get_elem? grants worker ≡ some held → HoldsFor held e.under
-    → get_elem? passes worker ≡ some p → p.pending ≡ AtRest → Leaves state e.under pending left → planned_calls pending ≡ 0 → RowsStandFor state passes words → RowsStandFor left (set passes worker (after_draw history e pending held p)) (set words 0 value)
+shown_drawn : (grants : Grants) (history : List Entry) (state left : List Areas) (words : List ℕ) (passes : List Pass)
+    (worker value : ℕ) (p : Pass) (e : Entry) (pending : Pending) (held : Option Held) → AreBacked grants words state passes
+    → IsExclusive grants → get_elem? grants worker ≡ some held → HoldsFor held e.under
+    → get_elem? passes worker ≡ some p → p.pending ≡ AtRest → Leaves state e.under pending left → planned_calls pending ≡ 0
+    → RowsStandFor state passes words → RowsStandFor left (set passes worker (after_draw history e pending held p))
+    (set words 0 value)
 shown_drawn grants history state left words passes worker value p e AtRest held backed exclusive has holds at rest leaves none s =
     let q : Pass = after_draw history e AtRest held p in (
       s.0,
-      subst (λ (A : List Areas). IsShown A (set passes worker q) s.0) (sym (leaves_same state left e.under leaves)) (shown_set state passes worker p q s.0 at (sym rest) s.1),
+      subst (λ (A : List Areas). IsShown A (set passes worker q) s.0) (sym (leaves_same state left e.under leaves))
+          (shown_set state passes worker p q s.0 at (sym rest) s.1),
       low_rows words 0 value s.0 (omega arith) s.2,
     )
 shown_drawn grants history state left words passes worker value p e (Planned rows) held backed exclusive has holds at rest leaves none s = absurd (omega arith)
@@ -157,21 +173,29 @@ shown_drawn grants history state left words passes worker value p e (OneRow c) h
     let q : Pass = after_draw history e (OneRow c) held p in
     let l = leaves_change state left e.under c leaves in (
       s.0,
-      shown_after_draw grants state left passes worker p q l.0 c words backed exclusive at (held_alone grants worker held e.under l.0 l.1 has holds) l.2 s.0 rest refl s.1,
+      shown_after_draw grants state left passes worker p q l.0 c words backed exclusive at
+          (held_alone grants worker held e.under l.0 l.1 has holds) l.2 s.0 rest refl s.1,
       low_rows words 0 value s.0 (omega arith) s.2,
     )
 
 -- a draw of a number
-module _ (grants : Grants) (start : List Areas) (history : List Entry) (state left : List Areas) (words : List ℕ) (passes : List Pass) (worker : ℕ) (p : Pass) (e : Entry) (pending : Pending) (held : Option Held)
-    (r : IsRunningSpace start history state words passes) (backed : AreBacked grants words state passes) (exclusive : IsExclusive grants) (has : get_elem? grants worker ≡ some held) (holds : HoldsFor held e.under)
-    (at : get_elem? passes worker ≡ some p) (num : e.number ≡ length history) (is : e.worker ≡ worker) (leaves : Leaves state e.under pending left) (rest : p.pending ≡ AtRest) where
-  pub drawn : IsNamedCall e.call → FitsUnder state e.call e.under → Answers state e.call e.reply left → length p.mine + 1 < 2 ^ 32 → IsRunningSpace start (history ++ e ∷ []) left (words_after words (adds 0 1)) (set passes worker (after_draw history e pending held p))
+module _ (grants : Grants) (start : List Areas) (history : List Entry) (state left : List Areas) (words : List ℕ)
+    (passes : List Pass) (worker : ℕ) (p : Pass) (e : Entry) (pending : Pending) (held : Option Held)
+    (r : IsRunningSpace start history state words passes) (backed : AreBacked grants words state passes)
+    (exclusive : IsExclusive grants) (has : get_elem? grants worker ≡ some held) (holds : HoldsFor held e.under)
+    (at : get_elem? passes worker ≡ some p) (num : e.number ≡ length history) (is : e.worker ≡ worker)
+    (leaves : Leaves state e.under pending left) (rest : p.pending ≡ AtRest) where
+  pub drawn : IsNamedCall e.call → FitsUnder state e.call e.under → Answers state e.call e.reply left → length p.mine + 1 < 2 ^ 32
+      → IsRunningSpace start (history ++ e ∷ []) left (words_after words (adds 0 1))
+      (set passes worker (after_draw history e pending held p))
   drawn call fits answers few =
       let q : Pass = after_draw history e pending held p in
       let value = (slice_index words 0 + 1) % 2 ^ 64 in
       let wide : length (set passes worker q) ≡ length passes = length-set passes worker q in
       let more : length (history ++ e ∷ []) ≡ length history + 1 = length-append history (e ∷ []) in
-      let pends : planned_count (set passes worker q) ≡ planned_count passes + planned_calls pending = let s = planned_set passes worker p q at in let z = resting_of p.pending rest in let c = ap planned_calls (draw_pending history e held p pending) in omega arith in
+      let pends : planned_count (set passes worker q) ≡ planned_count passes + planned_calls pending = let s =
+      planned_set passes worker p q at in let z = resting_of p.pending rest in
+      let c = ap planned_calls (draw_pending history e held p pending) in omega arith in
       let grown : length q.mine ≡ length p.mine + 1 = ap length (draw_mine history e held p pending) ∙ length-append p.mine (e ∷ []) in
       let room = r.room in
       let there : 0 < length words = omega arith in
@@ -183,12 +207,17 @@ module _ (grants : Grants) (start : List Areas) (history : List Entry) (state le
         in_order = leaves_areas state e.call e.reply left r.in_order answers;
         named = left_named state left e.call e.reply r.named call answers;
         limit = left_few state left e.call e.reply r.limit answers;
-        number = let g : slice_index (set words 0 value) 0 ≡ value = get_or-set_same words 0 value 0 there in let n = r.number in let w = no_wrap start history state words passes r in omega arith;
-        sequence = let g : slice_index (set words 0 value) 1 ≡ slice_index words 1 = get_or-set_other words 0 1 value 0 (λ same. omega arith) in let s = r.sequence in let m = whole_more history e in let c = leaves_counts state left e.under pending leaves in omega arith;
+        number = let g : slice_index (set words 0 value) 0 ≡ value = get_or-set_same words 0 value 0 there in let n = r.number in
+            let w = no_wrap start history state words passes r in omega arith;
+        sequence = let g : slice_index (set words 0 value) 1 ≡ slice_index words 1 =
+            get_or-set_other words 0 1 value 0 (λ same. omega arith) in let s = r.sequence in let m = whole_more history e in
+            let c = leaves_counts state left e.under pending leaves in omega arith;
         room = length-set words 0 value ∙ r.room;
-        rows = λ none. shown_drawn grants history state left words passes worker value p e pending held backed exclusive has holds at rest leaves (omega arith) (r.rows (omega arith));
+        rows = λ none. shown_drawn grants history state left words passes worker value p e pending held backed exclusive has holds
+            at rest leaves (omega arith) (r.rows (omega arith));
         parts = λ other x there. ⊎_elim
-            (λ t. subst (λ (z : ℕ × Pass). IsPart start (history ++ e ∷ []) (set words 0 value) z.0 z.1) (λ i. (sym t.0 i, t.1 i)) (own_part start history words value worker p e pending held is few (r.parts worker p at)))
+            (λ t. subst (λ (z : ℕ × Pass). IsPart start (history ++ e ∷ []) (set words 0 value) z.0 z.1) (λ i. (sym t.0 i, t.1 i))
+            (own_part start history words value worker p e pending held is few (r.parts worker p at)))
             (λ t. others_part start history words value other x e (λ w. t.0 (sym w ∙ is)) (r.parts other x t.1))
             (at_set passes worker other q x there);
         no_other = λ other le. let b = below passes worker p at in own_same other history e (λ w. omega arith) ∙ r.no_other other (omega arith);
@@ -198,7 +227,8 @@ module _ (grants : Grants) (start : List Areas) (history : List Entry) (state le
 -- the rule's part on grants, after a draw
 module _ (grants : Grants) (state left : List Areas) (words : List ℕ) (value : ℕ) where
   -- a caller that makes no step
-  other_backed : (worker : ℕ) (x : Pass) → Backs grants left worker x.pending → IsBacked grants words state worker x → IsBacked grants (set words 0 value) left worker x
+  other_backed : (worker : ℕ) (x : Pass) → Backs grants left worker x.pending → IsBacked grants words state worker x
+      → IsBacked grants (set words 0 value) left worker x
   other_backed worker x backs b = record {
     reads = b.reads;
     rows = λ held has. all_stand held words (set words 0 value) (same_low words 0 value (omega arith)) x.rows (b.rows held has);
@@ -206,20 +236,31 @@ module _ (grants : Grants) (state left : List Areas) (words : List ℕ) (value :
   }
 
   -- nobody else has a plan where one caller holds everything
-  others_rest : (worker other : ℕ) (pending : Pending) → IsExclusive grants → other ≢ worker → Holds grants worker everything → Backs grants state other pending → Backs grants left other pending
+  others_rest : (worker other : ℕ) (pending : Pending) → IsExclusive grants → other ≢ worker → Holds grants worker everything
+      → Backs grants state other pending → Backs grants left other pending
   others_rest worker other AtRest exclusive differ held b = tt
   others_rest worker other (Planned rows) exclusive differ held b = absurd (clash grants worker other exclusive differ held (everything, b.0, everything_pages))
   others_rest worker other (OneRow c) exclusive differ held b = absurd (clash grants worker other exclusive differ held (alone c.span, b.0, span_pages c.span))
 
-  held_whole : (worker : ℕ) (h : Option Held) (under : Under) → under ≡ Whole → get_elem? grants worker ≡ some h → HoldsFor h under → Holds grants worker everything
+  held_whole : (worker : ℕ) (h : Option Held) (under : Under) → under ≡ Whole → get_elem? grants worker ≡ some h
+      → HoldsFor h under → Holds grants worker everything
   held_whole worker h under whole at holds = let is : HoldsFor h Whole = subst (HoldsFor h) whole holds in at ∙ ap some is
 
-  pub drawn_backed : (history : List Entry) (passes : List Pass) (worker : ℕ) (p : Pass) (e : Entry) (under : Under) (pending : Pending) (h : Option Held) → AreBacked grants words state passes → IsExclusive grants → get_elem? passes worker ≡ some p
-      → get_elem? grants worker ≡ some h → HoldsFor h under → Leaves state under pending left → AreBacked grants (set words 0 value) left (set passes worker (after_draw history e pending h p))
+  pub drawn_backed : (history : List Entry) (passes : List Pass) (worker : ℕ) (p : Pass) (e : Entry) (under : Under)
+      (pending : Pending) (h : Option Held) → AreBacked grants words state passes → IsExclusive grants
+      → get_elem? passes worker ≡ some p
+      → get_elem? grants worker ≡ some h → HoldsFor h under → Leaves state under pending left
+      → AreBacked grants (set words 0 value) left (set passes worker (after_draw history e pending h p))
   drawn_backed history passes worker p e under AtRest h all exclusive at has holds leaves other x there =
       ⊎_elim
-      (λ t. subst (λ (z : ℕ × Pass). IsBacked grants (set words 0 value) left z.0 z.1) (λ i. (sym t.0 i, t.1 i)) (record { reads = inl (refl, refl, refl); rows = λ held own. All-nil (StillStands held (set words 0 value)); pending = tt }))
-      (λ t. other_backed other x (subst (λ (A : List Areas). Backs grants A other x.pending) (sym (leaves_same state left under leaves)) (all other x t.1).pending) (all other x t.1))
+      (λ t. subst (λ (z : ℕ × Pass). IsBacked grants (set words 0 value) left z.0 z.1) (λ i. (sym t.0 i, t.1 i))
+      (record {
+        reads = inl (refl, refl, refl);
+        rows = λ held own. All-nil (StillStands held (set words 0 value));
+        pending = tt;
+      }))
+      (λ t. other_backed other x (subst (λ (A : List Areas). Backs grants A other x.pending)
+      (sym (leaves_same state left under leaves)) (all other x t.1).pending) (all other x t.1))
       (at_set passes worker other (after_draw history e AtRest h p) x there)
   drawn_backed history passes worker p e under (Planned rows) h all exclusive at has holds leaves other x there =
       let plan = leaves_plan state left under rows leaves in
@@ -242,5 +283,6 @@ module _ (grants : Grants) (state left : List Areas) (words : List ℕ) (value :
         rows = λ held own_held. all_stand held words (set words 0 value) (same_low words 0 value (omega arith)) p.rows ((all worker p at).rows held own_held);
         pending = (mine, l.2.inside, l.2.after);
       }))
-      (λ t. other_backed other x (others_back grants state left passes worker p p l.0 c words all exclusive at own l.2 other x.pending t.0 (all other x t.1).pending) (all other x t.1))
+      (λ t. other_backed other x (others_back grants state left passes worker p p l.0 c words all exclusive at own l.2 other
+      x.pending t.0 (all other x t.1).pending) (all other x t.1))
       (at_set passes worker other (after_draw history e (OneRow c) h p) x there)

@@ -165,7 +165,8 @@ HasReadNothing pass = (pass.count ≡ None) × (pass.rows ≡ []) × (pass.seque
 abbrev pub Backs : Grants → List Areas → ℕ → Pending → Type 0
 Backs grants state worker AtRest = Unit {0}
 Backs grants state worker (Planned rows) = Holds grants worker everything × PlanShows rows (kind_at state)
-Backs grants state worker (OneRow change) = Holds grants worker (alone change.span) × IsInside change × ((page : ℕ) → IsIn change.place page → kind_at state page ≡ Some change.new)
+Backs grants state worker (OneRow change) = Holds grants worker (alone change.span) × IsInside change
+    × ((page : ℕ) → IsIn change.place page → kind_at state page ≡ Some change.new)
 
 -- what a caller has read was read under pages that it still holds, the rows stand still as far as these tell, and the
 -- caller holds what it needs for what it has to write
@@ -180,7 +181,8 @@ AreBacked grants words state passes = (worker : ℕ) (pass : Pass) → get_elem?
 
 -- the rule of the guard
 abbrev pub HasHistory : Grants → List ℕ → List Pass → Type 0
-HasHistory grants words passes = (start : List Areas) × (history : List Entry) × (state : List Areas) × IsRunningSpace start history state words passes × AreBacked grants words state passes
+HasHistory grants words passes = (start : List Areas) × (history : List Entry) × (state : List Areas)
+    × IsRunningSpace start history state words passes × AreBacked grants words state passes
 
 -- the pass of a new caller, over the client words of the opening
 abbrev pub newcomer : List ℕ → Pass
@@ -282,9 +284,37 @@ after_store index word p = record p { rows = record { index = index; word = word
 -- the pass after an entry was numbered. A caller that has rows to write keeps what it has read of them, which only
 -- itself may change until then
 abbrev pub after_draw : List Entry → Entry → Pending → Option Held → Pass → Pass
-after_draw history e AtRest held p = record { start = p.start; seen = history ++ e ∷ []; mine = p.mine ++ e ∷ []; count = None; rows = []; sequence = None; pending = AtRest; drew = held }
-after_draw history e (Planned rows) held p = record { start = p.start; seen = history ++ e ∷ []; mine = p.mine ++ e ∷ []; count = p.count; rows = p.rows; sequence = p.sequence; pending = Planned rows; drew = held }
-after_draw history e (OneRow change) held p = record { start = p.start; seen = history ++ e ∷ []; mine = p.mine ++ e ∷ []; count = p.count; rows = p.rows; sequence = p.sequence; pending = OneRow change; drew = held }
+after_draw history e AtRest held p = record {
+  start = p.start;
+  seen = history ++ e ∷ [];
+  mine = p.mine ++ e ∷ [];
+  count = None;
+  rows = [];
+  sequence = None;
+  pending = AtRest;
+  drew = held;
+}
+after_draw history e (Planned rows) held p = record {
+  start = p.start;
+  seen = history ++ e ∷ [];
+  mine = p.mine ++ e ∷ [];
+  count = p.count;
+  rows = p.rows;
+  sequence = p.sequence;
+  pending = Planned rows;
+  drew = held;
+}
+after_draw history e (OneRow change) held p =
+    record {
+      start = p.start;
+      seen = history ++ e ∷ [];
+      mine = p.mine ++ e ∷ [];
+      count = p.count;
+      rows = p.rows;
+      sequence = p.sequence;
+      pending = OneRow change;
+      drew = held;
+    }
 
 -- the pass after the sequence word was raised: all is written
 abbrev pub after_raise : Pass → Pass
@@ -301,7 +331,8 @@ pub data MayLoad (free held : Type 0) (words : List ℕ) (history : List Entry) 
   glance : free → place ≡ 1 → after ≡ p → MayLoad free held words history place p after
   sequence : held → place ≡ 1 → after ≡ after_sequence (slice_index words 1) p → MayLoad free held words history place p after
   count : held → place ≡ 2 → after ≡ after_count (slice_index words 2) p → MayLoad free held words history place p after
-  row : (index : ℕ) → held → index < ROWS → place ≡ 3 + index → after ≡ after_row index (slice_index words (3 + index)) p → MayLoad free held words history place p after
+  row : (index : ℕ) → held → index < ROWS → place ≡ 3 + index → after ≡ after_row index (slice_index words (3 + index)) p
+      → MayLoad free held words history place p after
 
 -- the caller of that number holds nothing
 abbrev pub HoldsNothing : Grants → ℕ → Type 0
@@ -320,7 +351,8 @@ pub record MayDraw (grants : Grants) (words : List ℕ) (passes : List Pass) (wo
 
 -- the stores of a call under everything: a row of its plan, or the count of its rows
 pub data MayStore (rows : List ℕ) (place value : ℕ) (p after : Pass) : Type 0 where
-  store_row : (index : ℕ) → index < length rows → place ≡ 3 + index → value ≡ slice_index rows index → after ≡ after_store index value p → MayStore rows place value p after
+  store_row : (index : ℕ) → index < length rows → place ≡ 3 + index → value ≡ slice_index rows index
+      → after ≡ after_store index value p → MayStore rows place value p after
   store_count : place ≡ 2 → value ≡ length rows → after ≡ after_count value p → MayStore rows place value p after
 
 -- what a caller that has something to write may store
@@ -331,9 +363,13 @@ MayWrite words (OneRow change) place value p after = (place ≡ 3 + change.index
 
 -- the additions: a draw of a number, and the raising of the sequence word where the rows show what a call under
 -- everything has left
-pub data MayAdd (grants : Grants) (words : List ℕ) (passes : List Pass) (worker : ℕ) (note : Note) (here : Here grants words passes worker) (place : ℕ) (after : Pass) : Type 0 where
-  draw : place ≡ 0 → (may : MayDraw grants words passes worker note here) → after ≡ after_draw here.history (entry_of (length here.history) worker note) note.pending may.held.0 here.pass → MayAdd grants words passes worker note here place after
-  raise : (rows : List ℕ) → place ≡ 1 → here.pass.pending ≡ Planned rows → RowsShow words (kind_at here.state) → after ≡ after_raise here.pass → MayAdd grants words passes worker note here place after
+pub data MayAdd (grants : Grants) (words : List ℕ) (passes : List Pass) (worker : ℕ) (note : Note)
+    (here : Here grants words passes worker) (place : ℕ) (after : Pass) : Type 0 where
+  draw : place ≡ 0 → (may : MayDraw grants words passes worker note here)
+      → after ≡ after_draw here.history (entry_of (length here.history) worker note) note.pending may.held.0 here.pass
+      → MayAdd grants words passes worker note here place after
+  raise : (rows : List ℕ) → place ≡ 1 → here.pass.pending ≡ Planned rows → RowsShow words (kind_at here.state)
+      → after ≡ after_raise here.pass → MayAdd grants words passes worker note here place after
 
 -- the steps on client words that the guard allows
 abbrev pub Allowed : Grants → List ℕ → List Pass → ℕ → ClientStep → Note → Pass → Type 0

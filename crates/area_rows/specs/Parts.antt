@@ -1,7 +1,8 @@
 -- How many entries and how many unwritten calls the callers have together, and one caller's part of the rule, after its
 -- pass has changed. These are parts of the proofs in `Keeping`; a reader who trusts the check may pass them over.
 use Rattle.std.specs.Prelude.{Some, None, slice_index, sum_by}
-use Rattle.std.proofs.Common.{◌≡◌, ◌≢◌, ℕ, suc, ◌+◌, ◌*◌, ◌^◌, ◌<◌, ◌≤◌, Bool, true, false, cond, eqb, List, [], ◌∷◌, ◌++◌, length, set, sym, refl, ap, ◌∙◌, subst, arith, length-set, eq-eqb, ne_eqb, ⊎_elim}
+use Rattle.std.proofs.Common.{◌≡◌, ◌≢◌, ℕ, suc, ◌+◌, ◌*◌, ◌^◌, ◌<◌, ◌≤◌, Bool, true, false, cond, eqb, List, [], ◌∷◌}
+use Rattle.std.proofs.Common.{◌++◌, length, set, sym, refl, ap, ◌∙◌, subst, arith, length-set, eq-eqb, ne_eqb, ⊎_elim}
 use Rattle.std.proofs.lemmas.List.{append-nil, get_or-set_same, get_or-set_other}
 use Rattle.std.proofs.lemmas.List.Sums.{sum_by-cons, sum_by-set}
 use mathlib.Core.Option.{some}
@@ -15,7 +16,10 @@ use Rattle.space_model.specs.declared.entries.Under.TheVariants.{Nothing, Reader
 use Rattle.area_rows.specs.declared.guard.Pass.{Pass}
 use Rattle.area_rows.specs.declared.guard.Pending.{Pending}
 use Rattle.area_rows.specs.declared.guard.Pending.TheVariants.{AtRest, Planned}
-use Rattle.area_rows.specs.History.{entries_of, with_whole, whole_count, own_count, entry_count, IsPart, planned_calls, own_planned, planned_count, RowsStandFor, IsRunningSpace, HasReadNothing, rest_of, after_look, after_count, after_sequence, after_row, after_store, after_raise, after_change}
+use Rattle.area_rows.specs.History.{entries_of, with_whole, whole_count, own_count, entry_count, IsPart, planned_calls}
+use Rattle.area_rows.specs.History.{own_planned, planned_count, RowsStandFor, IsRunningSpace, HasReadNothing, rest_of}
+use Rattle.area_rows.specs.History.{after_look, after_count, after_sequence, after_row, after_store, after_raise}
+use Rattle.area_rows.specs.History.{after_change}
 use Rattle.area_rows.specs.Stands.{shown_set}
 
 keep_end : {A : Type 0} (b : Bool) (x : A) (xs ys zs : List A) → ys ≡ xs ++ zs → cond b (x ∷ ys) ys ≡ cond b (x ∷ xs) xs ++ zs
@@ -28,25 +32,31 @@ own_more worker (x ∷ xs) e is = keep_end (eqb x.worker worker) x (entries_of w
 
 pub own_same : (worker : ℕ) (history : List Entry) (e : Entry) → e.worker ≢ worker → entries_of worker (history ++ e ∷ []) ≡ entries_of worker history
 own_same worker [] e not = ap (λ b. cond b (e ∷ []) []) (ne_eqb e.worker worker not)
-own_same worker (x ∷ xs) e not = keep_end (eqb x.worker worker) x (entries_of worker xs) (entries_of worker (xs ++ e ∷ [])) [] (own_same worker xs e not ∙ sym (append-nil (entries_of worker xs))) ∙ append-nil (cond (eqb x.worker worker) (x ∷ entries_of worker xs) (entries_of worker xs))
+own_same worker (x ∷ xs) e not = keep_end (eqb x.worker worker) x (entries_of worker xs) (entries_of worker (xs ++ e ∷ [])) []
+    (own_same worker xs e not ∙ sym (append-nil (entries_of worker xs)))
+    ∙ append-nil (cond (eqb x.worker worker) (x ∷ entries_of worker xs) (entries_of worker xs))
 
 -- a sum over the callers, after one caller's pass has changed
-sum_set : (f : Pass → ℕ) (passes : List Pass) (worker : ℕ) (p q : Pass) → get_elem? passes worker ≡ some p → sum_by f (set passes worker q) + f p ≡ sum_by f passes + f q
+sum_set : (f : Pass → ℕ) (passes : List Pass) (worker : ℕ) (p q : Pass) → get_elem? passes worker ≡ some p
+    → sum_by f (set passes worker q) + f p ≡ sum_by f passes + f q
 sum_set f passes worker p q at =
     let s = sum_by-set f passes worker q p (below passes worker p at) in
     let same = ap f (at_or passes worker p p at) in
     omega arith
 
 -- the callers' entries together, after one caller's list has grown
-pub count_set : (passes : List Pass) (worker : ℕ) (p q : Pass) (k : ℕ) → get_elem? passes worker ≡ some p → length q.mine ≡ length p.mine + k → entry_count (set passes worker q) ≡ entry_count passes + k
+pub count_set : (passes : List Pass) (worker : ℕ) (p q : Pass) (k : ℕ) → get_elem? passes worker ≡ some p
+    → length q.mine ≡ length p.mine + k → entry_count (set passes worker q) ≡ entry_count passes + k
 count_set passes worker p q k at e = let s = sum_set own_count passes worker p q at in omega arith
 
-count_bound : (passes : List Pass) → ((worker : ℕ) (p : Pass) → get_elem? passes worker ≡ some p → length p.mine < 2 ^ 32) → entry_count passes ≤ length passes * 2 ^ 32
+count_bound : (passes : List Pass) → ((worker : ℕ) (p : Pass) → get_elem? passes worker ≡ some p → length p.mine < 2 ^ 32)
+    → entry_count passes ≤ length passes * 2 ^ 32
 count_bound [] all = omega arith
 count_bound (x ∷ xs) all = let h = all 0 x refl in let r = count_bound xs (λ i p at. all (suc i) p at) in let s = sum_by-cons own_count x xs in omega arith
 
 -- the number word doesn't wrap: 16 callers have below 2^32 entries each
-pub no_wrap : (start : List Areas) (history : List Entry) (state : List Areas) (words : List ℕ) (passes : List Pass) → IsRunningSpace start history state words passes → length history + 1 < 2 ^ 64
+pub no_wrap : (start : List Areas) (history : List Entry) (state : List Areas) (words : List ℕ) (passes : List Pass)
+    → IsRunningSpace start history state words passes → length history + 1 < 2 ^ 64
 no_wrap start history state words passes r =
     let b = count_bound passes (λ i p at. (r.parts i p at).few) in let t = r.total in let c = r.callers in omega arith
 
@@ -72,7 +82,8 @@ whole_few [] = omega arith
 whole_few (x ∷ xs) = let r = whole_few xs in let w = with_one x.under (whole_count xs) in omega arith
 
 -- how many calls are unwritten, after one caller's pass has changed
-pub planned_set : (passes : List Pass) (worker : ℕ) (p q : Pass) → get_elem? passes worker ≡ some p → planned_count (set passes worker q) + planned_calls p.pending ≡ planned_count passes + planned_calls q.pending
+pub planned_set : (passes : List Pass) (worker : ℕ) (p q : Pass) → get_elem? passes worker ≡ some p
+    → planned_count (set passes worker q) + planned_calls p.pending ≡ planned_count passes + planned_calls q.pending
 planned_set passes worker p q at = sum_set own_planned passes worker p q at
 
 pub planned_le : (passes : List Pass) (worker : ℕ) (p : Pass) → get_elem? passes worker ≡ some p → planned_calls p.pending ≤ planned_count passes
@@ -94,7 +105,8 @@ pub none_is : {A : Type 0} (a : A) → None ≡ Some a → ⊥
 none_is a e = cc
 
 -- the part of a caller that has read nothing of what changes
-pub blank_part : (start : List Areas) (history : List Entry) (words others : List ℕ) (worker : ℕ) (x : Pass) → HasReadNothing x → IsPart start history words worker x → IsPart start history others worker x
+pub blank_part : (start : List Areas) (history : List Entry) (words others : List ℕ) (worker : ℕ) (x : Pass) → HasReadNothing x
+    → IsPart start history words worker x → IsPart start history others worker x
 blank_part start history words others worker x n own = record {
   began = own.began;
   seen = own.seen;
@@ -105,7 +117,8 @@ blank_part start history words others worker x n own = record {
 }
 
 -- the part of a caller that makes no step while another stores a row
-pub beside_part : (start : List Areas) (history : List Entry) (words : List ℕ) (worker index value : ℕ) (x : Pass) → IsPart start history words worker x → IsPart start history (set words (3 + index) value) worker x
+pub beside_part : (start : List Areas) (history : List Entry) (words : List ℕ) (worker index value : ℕ) (x : Pass)
+    → IsPart start history words worker x → IsPart start history (set words (3 + index) value) worker x
 beside_part start history words worker index value x own = record {
   began = own.began;
   seen = own.seen;
@@ -115,12 +128,20 @@ beside_part start history words worker index value x own = record {
   sequence = λ n e. get_or-set_other words (3 + index) 1 value 0 (λ same. omega arith) ∙ own.sequence n e;
 }
 
-module _ (start : List Areas) (history : List Entry) (state : List Areas) (words : List ℕ) (worker : ℕ) (p : Pass) (own : IsPart start history words worker p) where
+module _ (start : List Areas) (history : List Entry) (state : List Areas) (words : List ℕ) (worker : ℕ) (p : Pass)
+    (own : IsPart start history words worker p) where
   pub looked : IsPart start history words worker (after_look history p)
   looked = record { began = own.began; seen = ([], sym (append-nil history)); mine = own.mine; few = own.few; count = own.count; sequence = own.sequence }
 
   pub counted : IsPart start history words worker (after_count (slice_index words 2) p)
-  counted = record { began = own.began; seen = own.seen; mine = own.mine; few = own.few; count = λ n e. some_is (slice_index words 2) n e; sequence = own.sequence }
+  counted = record {
+    began = own.began;
+    seen = own.seen;
+    mine = own.mine;
+    few = own.few;
+    count = λ n e. some_is (slice_index words 2) n e;
+    sequence = own.sequence;
+  }
 
   pub raised : IsPart start history words worker (after_sequence (slice_index words 1) p)
   raised = record { began = own.began; seen = own.seen; mine = own.mine; few = own.few; count = own.count; sequence = λ n e. some_is (slice_index words 1) n e }
@@ -129,7 +150,14 @@ module _ (start : List Areas) (history : List Entry) (state : List Areas) (words
   read index word = record { began = own.began; seen = own.seen; mine = own.mine; few = own.few; count = own.count; sequence = own.sequence }
 
   pub rested : IsPart start history words worker (rest_of p)
-  rested = record { began = own.began; seen = own.seen; mine = own.mine; few = own.few; count = λ n e. absurd (none_is n e); sequence = λ n e. absurd (none_is n e) }
+  rested = record {
+    began = own.began;
+    seen = own.seen;
+    mine = own.mine;
+    few = own.few;
+    count = λ n e. absurd (none_is n e);
+    sequence = λ n e. absurd (none_is n e);
+  }
 
   pub stored : (index value : ℕ) → IsPart start history (set words (3 + index) value) worker (after_store index value p)
   stored index value = record {
@@ -162,13 +190,23 @@ module _ (start : List Areas) (history : List Entry) (state : List Areas) (words
   }
 
   pub changed : (others : List ℕ) → IsPart start history others worker (after_change p)
-  changed others = record { began = own.began; seen = own.seen; mine = own.mine; few = own.few; count = λ n e. absurd (none_is n e); sequence = λ n e. absurd (none_is n e) }
+  changed others = record {
+    began = own.began;
+    seen = own.seen;
+    mine = own.mine;
+    few = own.few;
+    count = λ n e. absurd (none_is n e);
+    sequence = λ n e. absurd (none_is n e);
+  }
 
   -- another pass of this caller with as many entries and as much to write
-  pub replaced : (passes : List Pass) (q : Pass) → IsRunningSpace start history state words passes → get_elem? passes worker ≡ some p → IsPart start history words worker q → length q.mine ≡ length p.mine → q.pending ≡ p.pending → IsRunningSpace start history state words (set passes worker q)
+  pub replaced : (passes : List Pass) (q : Pass) → IsRunningSpace start history state words passes
+      → get_elem? passes worker ≡ some p → IsPart start history words worker q → length q.mine ≡ length p.mine
+      → q.pending ≡ p.pending → IsRunningSpace start history state words (set passes worker q)
   replaced passes q r at part same pends =
       let wide : length (set passes worker q) ≡ length passes = length-set passes worker q in
-      let pending : planned_count (set passes worker q) ≡ planned_count passes = let s = planned_set passes worker p q at in let t = ap planned_calls pends in omega arith in
+      let pending : planned_count (set passes worker q) ≡ planned_count passes = let s = planned_set passes worker p q at in
+      let t = ap planned_calls pends in omega arith in
       record {
         callers = let c = r.callers in omega arith;
         runs = r.runs;

@@ -33,6 +33,7 @@ HasRows pass rows = (pass.count ≡ Some (length rows)) × ((i : ℕ) → i < le
 -- held, its word is the same
 pub record StillStands (held : Option Held) (words : List ℕ) (r : ReadRow) : Type 0 where
   pub side : (page : ℕ) → IsHeldPage held page → (row_start r.word ≤ page) ↔ (row_start (slice_index words (3 + r.index)) ≤ page)
-  pub start : (page : ℕ) → IsHeldPage held page → (page ≡ row_start r.word) ⊎ (page + 1 ≡ row_start r.word) → row_start (slice_index words (3 + r.index)) ≡ row_start r.word
+  pub start : (page : ℕ) → IsHeldPage held page → (page ≡ row_start r.word) ⊎ (page + 1 ≡ row_start r.word)
+      → row_start (slice_index words (3 + r.index)) ≡ row_start r.word
   pub kind : (page : ℕ) → IsHeldPage held page → IsRowOf words page r.index → row_kind (slice_index words (3 + r.index)) ≡ row_kind r.word
   pub word : held ≡ Some everything → slice_index words (3 + r.index) ≡ r.word

@@ -27,7 +27,8 @@ use Rattle.area_rows.specs.declared.guard.Pending.{Pending}
 use Rattle.area_rows.specs.declared.guard.Pending.TheVariants.{AtRest, Planned, OneRow}
 use Rattle.area_rows.specs.Reads.{IsHeldPage, StillStands}
 use Rattle.area_rows.specs.Changes.{IsIn, alone, new_word, IsInside, with_change, IsChange, MayReplace}
-use Rattle.area_rows.specs.History.{IsPart, planned_calls, planned_count, LagsAt, ShowsBefore, IsShown, RowsStandFor, IsRunningSpace, Backs, IsBacked, AreBacked, HasReadNothing, after_change}
+use Rattle.area_rows.specs.History.{IsPart, planned_calls, planned_count, LagsAt, ShowsBefore, IsShown, RowsStandFor}
+use Rattle.area_rows.specs.History.{IsRunningSpace, Backs, IsBacked, AreBacked, HasReadNothing, after_change}
 use Rattle.area_rows.specs.Parts.{some_is, count_set, planned_set, beside_part, changed}
 use Rattle.area_rows.specs.Writes.{span_pages, clash}
 use Rattle.area_rows.specs.Beside.{apart_pages, all_stand_on}
@@ -59,7 +60,9 @@ pub in_span : (c : Change) (page : ℕ) → IsInside c → IsIn c.place page →
 in_span c page inside i = let l = inside.0 in let h = inside.1 in let a = i.0 in let b = i.1 in (omega arith, omega arith)
 
 -- the pages of two callers' changes are apart
-apart_lags : (grants : Grants) (state : List Areas) (worker other : ℕ) (span : Span) (pending : Pending) → IsExclusive grants → (other ≡ worker → ⊥) → Holds grants worker (alone span) → Backs grants state other pending → (page : ℕ) → LagsAt pending page → IsIn span page → ⊥
+apart_lags : (grants : Grants) (state : List Areas) (worker other : ℕ) (span : Span) (pending : Pending) → IsExclusive grants
+    → (other ≡ worker → ⊥) → Holds grants worker (alone span) → Backs grants state other pending → (page : ℕ)
+    → LagsAt pending page → IsIn span page → ⊥
 apart_lags grants state worker other span AtRest exclusive differ holds b page lags i = lags
 apart_lags grants state worker other span (Planned rows) exclusive differ holds b page lags i = lags
 apart_lags grants state worker other span (OneRow d) exclusive differ holds b page lags i =
@@ -67,7 +70,8 @@ apart_lags grants state worker other span (OneRow d) exclusive differ holds b pa
     apart_pages grants worker other span exclusive differ holds (Some (alone d.span)) b.0 page (alone d.span, refl, in_d.0, in_d.1) i
 
 -- what rows show where they lag behind, by kinds that are the same there
-shown_alike : (pending : Pending) (kinds others : ℕ → Option Kind) → ((page : ℕ) → LagsAt pending page → others page ≡ kinds page) → ShowsBefore pending kinds → ShowsBefore pending others
+shown_alike : (pending : Pending) (kinds others : ℕ → Option Kind) → ((page : ℕ) → LagsAt pending page → others page ≡ kinds page)
+    → ShowsBefore pending kinds → ShowsBefore pending others
 shown_alike AtRest kinds others same s = tt
 shown_alike (Planned rows) kinds others same s = tt
 shown_alike (OneRow d) kinds others same s = λ page i. same page i ∙ s page i
@@ -78,7 +82,8 @@ rest_lags pending page rest lags = subst (λ (z : Pending). LagsAt z page) rest 
 
 -- the draw of a call over its area
 module _ (grants : Grants) (state left : List Areas) (passes : List Pass) (worker : ℕ) (p q : Pass) (span : Span) (c : Change) (words : List ℕ)
-    (backed : AreBacked grants words state passes) (exclusive : IsExclusive grants) (at : get_elem? passes worker ≡ some p) (holds : Holds grants worker (alone span)) (change : IsChange state span c left) where
+    (backed : AreBacked grants words state passes) (exclusive : IsExclusive grants) (at : get_elem? passes worker ≡ some p)
+    (holds : Holds grants worker (alone span)) (change : IsChange state span c left) where
   own_holds : Holds grants worker (alone c.span)
   own_holds = subst (λ (s : Span). Holds grants worker (alone s)) (sym change.held) holds
 
@@ -89,10 +94,12 @@ module _ (grants : Grants) (state left : List Areas) (passes : List Pass) (worke
   none_lags : p.pending ≡ AtRest → (page : ℕ) → IsIn c.place page → (other : ℕ) (x : Pass) → get_elem? passes other ≡ some x → LagsAt x.pending page → ⊥
   none_lags rest page i other x there lags = dite (ℕ_discrete other worker)
       (λ is. rest_lags x.pending page (ap (λ (y : Pass). y.pending) (own_at other x is there) ∙ rest) lags)
-      (λ differ. apart_lags grants state worker other c.span x.pending exclusive differ own_holds (backed other x there).pending page lags (in_span c page change.inside i))
+      (λ differ. apart_lags grants state worker other c.span x.pending exclusive differ own_holds (backed other x there).pending
+      page lags (in_span c page change.inside i))
 
   -- the rows show what they showed: they lag behind at the pages of the change
-  pub shown_after_draw : (kinds : ℕ → Option Kind) → p.pending ≡ AtRest → q.pending ≡ OneRow c → IsShown state passes kinds → IsShown left (set passes worker q) kinds
+  pub shown_after_draw : (kinds : ℕ → Option Kind) → p.pending ≡ AtRest → q.pending ≡ OneRow c → IsShown state passes kinds
+      → IsShown left (set passes worker q) kinds
   shown_after_draw kinds rest pends s = record {
     lagging = λ other x there. ⊎_elim
         (λ t. subst (λ (y : Pass). ShowsBefore y.pending kinds) t.1 (subst (λ (z : Pending). ShowsBefore z kinds) (sym pends)
@@ -103,21 +110,26 @@ module _ (grants : Grants) (state left : List Areas) (passes : List Pass) (worke
         s.elsewhere page (λ other x there lags. dite (ℕ_discrete other worker)
         (λ is. rest_lags x.pending page (ap (λ (y : Pass). y.pending) (own_at other x is there) ∙ rest) lags)
         (λ differ. free other x (set_else passes worker other q differ ∙ there) lags))
-        ∙ sym (change.elsewhere page (λ i. free worker q (set_here passes worker q (below passes worker p at)) (subst (λ (z : Pending). LagsAt z page) (sym pends) i)));
+        ∙ sym (change.elsewhere page (λ i. free worker q (set_here passes worker q (below passes worker p at))
+        (subst (λ (z : Pending). LagsAt z page) (sym pends) i)));
   }
 
   -- what others have to write is right for the state that is left
   pub others_back : (other : ℕ) (pending : Pending) → (other ≡ worker → ⊥) → Backs grants state other pending → Backs grants left other pending
   others_back other AtRest differ b = tt
-  others_back other (Planned rows) differ b = absurd (clash grants other worker exclusive (λ e. differ (sym e)) b.0 (alone c.span, own_holds, span_pages c.span))
+  others_back other (Planned rows) differ b = absurd
+      (clash grants other worker exclusive (λ e. differ (sym e)) b.0 (alone c.span, own_holds, span_pages c.span))
   others_back other (OneRow d) differ b = (
     b.0,
     b.1,
-    λ page i. change.elsewhere page (λ j. apart_lags grants state worker other c.span (OneRow d) exclusive differ own_holds b page i (in_span c page change.inside j)) ∙ b.2 page i,
+    λ page i. change.elsewhere page (λ j. apart_lags grants state worker other c.span (OneRow d) exclusive differ own_holds b page
+        i (in_span c page change.inside j)) ∙ b.2 page i,
   )
 
 -- a held page of a caller that has read something is below the limit
-held_below : (grants : Grants) (words : List ℕ) (state : List Areas) (other : ℕ) (x : Pass) → IsBacked grants words state other x → (held : Option Held) → get_elem? grants other ≡ some held → HasReadNothing x ⊎ ((page : ℕ) → IsHeldPage held page → page < LIMIT)
+held_below : (grants : Grants) (words : List ℕ) (state : List Areas) (other : ℕ) (x : Pass) → IsBacked grants words state other x
+    → (held : Option Held) → get_elem? grants other ≡ some held
+    → HasReadNothing x ⊎ ((page : ℕ) → IsHeldPage held page → page < LIMIT)
 held_below grants words state other x b held at = ⊎_elim
     (λ n. inl n)
     (λ h. inr (λ page i.
@@ -127,8 +139,10 @@ held_below grants words state other x b held at = ⊎_elim
     b.reads
 
 -- the store of the row
-module _ (grants : Grants) (start : List Areas) (history : List Entry) (state : List Areas) (words : List ℕ) (passes : List Pass) (worker : ℕ) (p : Pass) (c : Change)
-    (r : IsRunningSpace start history state words passes) (backed : AreBacked grants words state passes) (exclusive : IsExclusive grants) (at : get_elem? passes worker ≡ some p) (pends : p.pending ≡ OneRow c) where
+module _ (grants : Grants) (start : List Areas) (history : List Entry) (state : List Areas) (words : List ℕ) (passes : List Pass)
+    (worker : ℕ) (p : Pass) (c : Change)
+    (r : IsRunningSpace start history state words passes) (backed : AreBacked grants words state passes)
+    (exclusive : IsExclusive grants) (at : get_elem? passes worker ≡ some p) (pends : p.pending ≡ OneRow c) where
   change_backs : Holds grants worker (alone c.span) × IsInside c × ((page : ℕ) → IsIn c.place page → kind_at state page ≡ Some c.new)
   change_backs = subst (Backs grants state worker) pends (backed worker p at).pending
 
@@ -138,7 +152,8 @@ module _ (grants : Grants) (start : List Areas) (history : List Entry) (state : 
     lagging = λ other x there. ⊎_elim
         (λ t. subst (λ (y : Pass). ShowsBefore y.pending (with_change c kinds)) t.1 tt)
         (λ t. shown_alike x.pending kinds (with_change c kinds)
-        (λ page lags. out_of_change c kinds page (λ i. apart_lags grants state worker other c.span x.pending exclusive t.0 change_backs.0 (backed other x t.1).pending page lags (in_span c page change_backs.1 i)))
+        (λ page lags. out_of_change c kinds page (λ i. apart_lags grants state worker other c.span x.pending exclusive t.0
+        change_backs.0 (backed other x t.1).pending page lags (in_span c page change_backs.1 i)))
         (s.lagging other x t.1))
         (at_set passes worker other (after_change p) x there);
     elsewhere = λ page free. in_or_out c.place page (with_change c kinds page ≡ kind_at state page)
@@ -167,11 +182,15 @@ module _ (grants : Grants) (start : List Areas) (history : List Entry) (state : 
         named = r.named;
         limit = r.limit;
         number = get_or-set_other words (3 + c.index) 0 value 0 (λ e. omega arith) ∙ r.number;
-        sequence = ap (λ n. n + planned_count (set passes worker q)) (get_or-set_other words (3 + c.index) 1 value 0 (λ e. omega arith)) ∙ (ap (λ n. slice_index words 1 + n) pending ∙ r.sequence);
+        sequence = ap (λ n. n + planned_count (set passes worker q))
+            (get_or-set_other words (3 + c.index) 1 value 0 (λ e. omega arith))
+            ∙ (ap (λ n. slice_index words 1 + n) pending ∙ r.sequence);
         room = length-set words (3 + c.index) value ∙ r.room;
-        rows = λ no_plan. let s : RowsStandFor state passes words = r.rows (sym pending ∙ no_plan) in (with_change c s.0, shown_after_store s.0 s.1, may.shows s.0 s.2);
+        rows = λ no_plan. let s : RowsStandFor state passes words = r.rows (sym pending ∙ no_plan) in
+            (with_change c s.0, shown_after_store s.0 s.1, may.shows s.0 s.2);
         parts = λ other x there. ⊎_elim
-            (λ t. subst (λ (z : ℕ × Pass). IsPart start history (set words (3 + c.index) value) z.0 z.1) (λ i. (sym t.0 i, t.1 i)) (changed start history state words worker p (r.parts worker p at) (set words (3 + c.index) value)))
+            (λ t. subst (λ (z : ℕ × Pass). IsPart start history (set words (3 + c.index) value) z.0 z.1) (λ i. (sym t.0 i, t.1 i))
+            (changed start history state words worker p (r.parts worker p at) (set words (3 + c.index) value)))
             (λ t. beside_part start history words other c.index value x (r.parts other x t.1))
             (at_set passes worker other q x there);
         no_other = λ other le. r.no_other other (omega arith);
@@ -179,15 +198,19 @@ module _ (grants : Grants) (start : List Areas) (history : List Entry) (state : 
       }
 
   -- what others have read still stands
-  stood_beside : MayReplace words c → (other : ℕ) (x : Pass) → (other ≡ worker → ⊥) → get_elem? passes other ≡ some x → IsBacked grants (set words (3 + c.index) (new_word c)) state other x
+  stood_beside : MayReplace words c → (other : ℕ) (x : Pass) → (other ≡ worker → ⊥) → get_elem? passes other ≡ some x
+      → IsBacked grants (set words (3 + c.index) (new_word c)) state other x
   stood_beside may other x differ there =
       let b = backed other x there in
       let room = r.room in let few = may.there in
       record {
         reads = b.reads;
         rows = λ held has. ⊎_elim
-            (λ n. subst (All (StillStands held (set words (3 + c.index) (new_word c)))) (sym n.1) (All-nil (StillStands held (set words (3 + c.index) (new_word c)))))
-            (λ low. all_stand_on held words c may (omega arith) low (λ page h i. apart_pages grants worker other c.span exclusive differ change_backs.0 held has page h i) x.rows (b.rows held has))
+            (λ n. subst (All (StillStands held (set words (3 + c.index) (new_word c)))) (sym n.1)
+            (All-nil (StillStands held (set words (3 + c.index) (new_word c)))))
+            (λ low. all_stand_on held words c may (omega arith) low
+            (λ page h i. apart_pages grants worker other c.span exclusive differ change_backs.0 held has page h i) x.rows
+            (b.rows held has))
             (held_below grants words state other x b held has);
         pending = b.pending;
       }

@@ -2,7 +2,8 @@
 -- a caller's pass is replaced by one with as much to write. These are parts of the proofs in `Keeping`; a reader who
 -- trusts the check may pass them over.
 use Rattle.std.specs.Prelude.{All, Option, Some, slice_index}
-use Rattle.std.proofs.Common.{◌≡◌, ℕ, zero, suc, ◌+◌, ◌<◌, ◌≤◌, Bool, true, false, not, cond, eqb, List, [], ◌∷◌, length, set, sym, refl, ap, ◌∙◌, subst, arith, ⊎_elim}
+use Rattle.std.proofs.Common.{◌≡◌, ℕ, zero, suc, ◌+◌, ◌<◌, ◌≤◌, Bool, true, false, not, cond, eqb, List, [], ◌∷◌}
+use Rattle.std.proofs.Common.{length, set, sym, refl, ap, ◌∙◌, subst, arith, ⊎_elim}
 use Rattle.std.proofs.lemmas.Bool.{eqb-false}
 use Rattle.std.proofs.lemmas.List.{get_or-set_same, get_or-set_other}
 use Rattle.std.proofs.lemmas.List.Elements.{All-nil, All-cons, All-head, All-tail, All-weaker}
@@ -41,7 +42,8 @@ module _ (held : Option Held) (words others : List ℕ) (same : HasSameWords wor
   row_back page i row = record {
     there = subst (λ (n : ℕ). i < n) (same 2 (omega arith)) row.there;
     from = subst (λ (w : ℕ). row_start w ≤ page) (same (3 + i) (omega arith)) row.from;
-    last = λ more. subst (λ (w : ℕ). page < row_start w) (same (3 + (i + 1)) (omega arith)) (row.last (subst (λ (n : ℕ). i + 1 < n) (sym (same 2 (omega arith))) more));
+    last = λ more. subst (λ (w : ℕ). page < row_start w) (same (3 + (i + 1)) (omega arith))
+        (row.last (subst (λ (n : ℕ). i + 1 < n) (sym (same 2 (omega arith))) more));
   }
 
   -- a row stands still where other words change
@@ -49,7 +51,10 @@ module _ (held : Option Held) (words others : List ℕ) (same : HasSameWords wor
   stands_same r s =
       let e : slice_index others (3 + r.index) ≡ slice_index words (3 + r.index) = same (3 + r.index) (omega arith) in
       record {
-        side = λ page h. (λ le. subst (λ (w : ℕ). row_start w ≤ page) (sym e) ((s.side page h).0 le), λ le. (s.side page h).1 (subst (λ (w : ℕ). row_start w ≤ page) e le));
+        side = λ page h. (
+          λ le. subst (λ (w : ℕ). row_start w ≤ page) (sym e) ((s.side page h).0 le),
+          λ le. (s.side page h).1 (subst (λ (w : ℕ). row_start w ≤ page) e le),
+        );
         start = λ page h at. ap row_start e ∙ s.start page h at;
         kind = λ page h row. ap row_kind e ∙ s.kind page h (row_back page r.index row);
         word = λ all. e ∙ s.word all;
@@ -71,28 +76,39 @@ low_rows (w ∷ ws) (suc (suc i)) value kinds l s = absurd (omega arith)
 
 -- a store by the caller who holds everything: of a row
 module _ (words : List ℕ) (index value : ℕ) where
-  stored_one : (r : ReadRow) (kept : List ReadRow) (b : Bool) → eqb r.index index ≡ b → StillStands (Some everything) words r → All (StillStands (Some everything) (set words (3 + index) value)) kept
+  stored_one : (r : ReadRow) (kept : List ReadRow) (b : Bool) → eqb r.index index ≡ b → StillStands (Some everything) words r
+      → All (StillStands (Some everything) (set words (3 + index) value)) kept
       → All (StillStands (Some everything) (set words (3 + index) value)) (cond (not b) (r ∷ kept) kept)
   stored_one r kept true is s all = all
   stored_one r kept false is s all = All-cons (StillStands (Some everything) (set words (3 + index) value)) r kept
-      (exact_stands (Some everything) (set words (3 + index) value) r (get_or-set_other words (3 + index) (3 + r.index) value 0 (λ same. eqb-false r.index index is (omega arith)) ∙ s.word refl)) all
+      (exact_stands (Some everything) (set words (3 + index) value) r
+      (get_or-set_other words (3 + index) (3 + r.index) value 0 (λ same. eqb-false r.index index is (omega arith))
+      ∙ s.word refl)) all
 
-  stored_rest : (rows : List ReadRow) → All (StillStands (Some everything) words) rows → All (StillStands (Some everything) (set words (3 + index) value)) (without index rows)
+  stored_rest : (rows : List ReadRow) → All (StillStands (Some everything) words) rows
+      → All (StillStands (Some everything) (set words (3 + index) value)) (without index rows)
   stored_rest [] all = All-nil (StillStands (Some everything) (set words (3 + index) value))
   stored_rest (r ∷ rest) all = stored_one r (without index rest) (eqb r.index index) refl
       (All-head (StillStands (Some everything) words) r rest all) (stored_rest rest (All-tail (StillStands (Some everything) words) r rest all))
 
-  pub stored_all : (rows : List ReadRow) → 3 + index < length words → All (StillStands (Some everything) words) rows → All (StillStands (Some everything) (set words (3 + index) value)) (record { index = index; word = value } ∷ without index rows)
-  stored_all rows there all = All-cons (StillStands (Some everything) (set words (3 + index) value)) (record { index = index; word = value }) (without index rows)
-      (exact_stands (Some everything) (set words (3 + index) value) (record { index = index; word = value }) (get_or-set_same words (3 + index) value 0 there)) (stored_rest rows all)
+  pub stored_all : (rows : List ReadRow) → 3 + index < length words → All (StillStands (Some everything) words) rows
+      → All (StillStands (Some everything) (set words (3 + index) value))
+      (record { index = index; word = value } ∷ without index rows)
+  stored_all rows there all = All-cons (StillStands (Some everything) (set words (3 + index) value))
+      (record { index = index; word = value }) (without index rows)
+      (exact_stands (Some everything) (set words (3 + index) value) (record { index = index; word = value })
+      (get_or-set_same words (3 + index) value 0 there)) (stored_rest rows all)
 
 -- and of the row count
-pub counted_all : (words : List ℕ) (value : ℕ) (rows : List ReadRow) → All (StillStands (Some everything) words) rows → All (StillStands (Some everything) (set words 2 value)) rows
+pub counted_all : (words : List ℕ) (value : ℕ) (rows : List ReadRow) → All (StillStands (Some everything) words) rows
+    → All (StillStands (Some everything) (set words 2 value)) rows
 counted_all words value rows all = All-weaker (StillStands (Some everything) words) (StillStands (Some everything) (set words 2 value))
     (λ r s. exact_stands (Some everything) (set words 2 value) r (get_or-set_other words 2 (3 + r.index) value 0 (λ e. omega arith) ∙ s.word refl)) rows all
 
 -- the kinds that the rows show, after a caller's pass has changed to one with as much to write
-pub shown_set : (state : List Area) (passes : List Pass) (worker : ℕ) (p q : Pass) (kinds : ℕ → Option Kind) → get_elem? passes worker ≡ some p → q.pending ≡ p.pending → IsShown state passes kinds → IsShown state (set passes worker q) kinds
+pub shown_set : (state : List Area) (passes : List Pass) (worker : ℕ) (p q : Pass) (kinds : ℕ → Option Kind)
+    → get_elem? passes worker ≡ some p → q.pending ≡ p.pending → IsShown state passes kinds
+    → IsShown state (set passes worker q) kinds
 shown_set state passes worker p q kinds at same s = record {
   lagging = λ other x there. ⊎_elim
       (λ t. subst (λ (y : Pass). ShowsBefore y.pending kinds) t.1 (subst (λ (z : Pending). ShowsBefore z kinds) (sym same) (s.lagging worker p at)))
@@ -101,6 +117,7 @@ shown_set state passes worker p q kinds at same s = record {
   elsewhere = λ page free. s.elsewhere page (λ other x there lags. dite (ℕ_discrete other worker)
       (λ is.
       let mine : x ≡ p = some-injective x p (sym there ∙ (ap (get_elem? passes) is ∙ at)) in
-      free worker q (set_here passes worker q (below passes worker p at)) (subst (λ (z : Pending). LagsAt z page) (ap (λ (y : Pass). y.pending) mine ∙ sym same) lags))
+      free worker q (set_here passes worker q (below passes worker p at))
+      (subst (λ (z : Pending). LagsAt z page) (ap (λ (y : Pass). y.pending) mine ∙ sym same) lags))
       (λ differ. free other x (set_else passes worker other q differ ∙ there) lags));
 }

@@ -43,7 +43,8 @@ pub record IsStored (grants : Grants) (words : List ℕ) (passes : List Pass) (h
 
 -- the rule of the guard stores one history, and its rows show the last state
 abbrev pub HistoryIsStored : Type 0
-HistoryIsStored = (grants : Grants) (words : List ℕ) (passes : List Pass) → HasHistory grants words passes → (history : List Entry) × (start : List Area) × (state : List Area) × IsStored grants words passes history start state
+HistoryIsStored = (grants : Grants) (words : List ℕ) (passes : List Pass) → HasHistory grants words passes
+    → (history : List Entry) × (start : List Area) × (state : List Area) × IsStored grants words passes history start state
 
 -- a run is legal, and leaves its last state
 abbrev pub RunsAreLegal : Type 0
@@ -57,7 +58,8 @@ pub record KeepsDraw (before after : Pass) : Type 0 where
 -- a step that draws a number is made while its caller holds what the entry names. The pass keeps what was held then,
 -- and the caller sees the entry behind the history
 abbrev pub DrawsHold : Type 0
-DrawsHold = (grants : Grants) (words : List ℕ) (passes : List Pass) (worker by : ℕ) (note : Note) (after : Pass) → Allowed grants words passes worker (adds 0 by) note after
+DrawsHold = (grants : Grants) (words : List ℕ) (passes : List Pass) (worker by : ℕ) (note : Note) (after : Pass)
+    → Allowed grants words passes worker (adds 0 by) note after
     → (held : Option Held) × (get_elem? grants worker ≡ some held) × HoldsFor held note.under × (after.drew ≡ held)
     × (history : List Entry) × (after.seen ≡ history ++ entry_of (length history) worker note ∷ [])
 
@@ -70,5 +72,6 @@ IsNoDraw (exchanges place expected new) = Unit {0}
 
 -- every other step of a caller, and giving its range back, keep what was held at its last draw, and its own entries
 abbrev pub LastDrawIsKept : Type 0
-LastDrawIsKept = (grants : Grants) (words : List ℕ) (passes : List Pass) (worker : ℕ) (step : ClientStep) (note : Note) (pass after : Pass) → get_elem? passes worker ≡ some pass → IsNoDraw step
+LastDrawIsKept = (grants : Grants) (words : List ℕ) (passes : List Pass) (worker : ℕ) (step : ClientStep) (note : Note)
+    (pass after : Pass) → get_elem? passes worker ≡ some pass → IsNoDraw step
     → Allowed grants words passes worker step note after → KeepsDraw pass after × KeepsDraw pass (rest_of pass)

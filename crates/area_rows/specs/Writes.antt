@@ -23,7 +23,9 @@ use Rattle.area_rows.specs.Rows.{RowsShow}
 use Rattle.row_plans.specs.Plans.{PlanShows}
 use Rattle.area_rows.specs.Reads.{everything, StillStands}
 use Rattle.area_rows.specs.Changes.{alone}
-use Rattle.area_rows.specs.History.{IsPart, planned_calls, planned_count, ShowsBefore, IsShown, IsRunningSpace, HasPages, HoldsPages, HasReadNothing, Backs, IsBacked, AreBacked, after_count, after_store, after_raise, MayStore}
+use Rattle.area_rows.specs.History.{IsPart, planned_calls, planned_count, ShowsBefore, IsShown, IsRunningSpace}
+use Rattle.area_rows.specs.History.{HasPages, HoldsPages, HasReadNothing, Backs, IsBacked, AreBacked, after_count}
+use Rattle.area_rows.specs.History.{after_store, after_raise, MayStore}
 use Rattle.area_rows.specs.History.MayStore.{store_row, store_count}
 use Rattle.area_rows.specs.Stands.{all_stand, same_low, low_rows, stored_all, counted_all}
 use Rattle.area_rows.specs.Parts.{count_set, no_wrap, whole_few, planned_set, planned_le, planned_of, blank_part, stored, stored_count, raised_after}
@@ -41,17 +43,23 @@ pub span_pages : (span : Span) → HasPages (alone span)
 span_pages span = (span.ordered, span.in_range)
 
 -- and nobody else has read anything
-pub others_blank : (grants : Grants) (words : List ℕ) (state : List Areas) (worker other : ℕ) (x : Pass) → IsExclusive grants → other ≢ worker → Holds grants worker everything → IsBacked grants words state other x → HasReadNothing x
-others_blank grants words state worker other x exclusive differ held b = ⊎_elim (λ n. n) (λ h. absurd (clash grants worker other exclusive differ held h)) b.reads
+pub others_blank : (grants : Grants) (words : List ℕ) (state : List Areas) (worker other : ℕ) (x : Pass) → IsExclusive grants
+    → other ≢ worker → Holds grants worker everything → IsBacked grants words state other x → HasReadNothing x
+others_blank grants words state worker other x exclusive differ held b =
+    ⊎_elim (λ n. n) (λ h. absurd (clash grants worker other exclusive differ held h)) b.reads
 
 -- nobody else's pages lag behind
-others_shown : (grants : Grants) (state : List Areas) (worker other : ℕ) (pending : Pending) (kinds : ℕ → Option Kind) → IsExclusive grants → other ≢ worker → Holds grants worker everything → Backs grants state other pending → ShowsBefore pending kinds
+others_shown : (grants : Grants) (state : List Areas) (worker other : ℕ) (pending : Pending) (kinds : ℕ → Option Kind)
+    → IsExclusive grants → other ≢ worker → Holds grants worker everything → Backs grants state other pending
+    → ShowsBefore pending kinds
 others_shown grants state worker other AtRest kinds exclusive differ held b = tt
 others_shown grants state worker other (Planned rows) kinds exclusive differ held b = tt
-others_shown grants state worker other (OneRow c) kinds exclusive differ held b = absurd (clash grants worker other exclusive differ held (alone c.span, b.0, span_pages c.span))
+others_shown grants state worker other (OneRow c) kinds exclusive differ held b =
+    absurd (clash grants worker other exclusive differ held (alone c.span, b.0, span_pages c.span))
 
 -- who has read nothing is backed whatever the words are
-pub blank_backed : (grants : Grants) (words others : List ℕ) (state : List Areas) (worker : ℕ) (x : Pass) → HasReadNothing x → IsBacked grants words state worker x → IsBacked grants others state worker x
+pub blank_backed : (grants : Grants) (words others : List ℕ) (state : List Areas) (worker : ℕ) (x : Pass) → HasReadNothing x
+    → IsBacked grants words state worker x → IsBacked grants others state worker x
 blank_backed grants words others state worker x n b = record {
   reads = inl n;
   rows = λ held at. subst (All (StillStands held others)) (sym n.1) (All-nil (StillStands held others));
@@ -63,8 +71,10 @@ pub held_is : (grants : Grants) (worker : ℕ) (h : Held) (held : Option Held) �
 held_is grants worker h held holds at = some-injective held (Some h) (sym at ∙ holds)
 
 -- a store by the caller of an unwritten call under everything
-module _ (grants : Grants) (start : List Areas) (history : List Entry) (state : List Areas) (words : List ℕ) (passes : List Pass) (worker : ℕ) (p : Pass) (rows : List ℕ)
-    (r : IsRunningSpace start history state words passes) (backed : AreBacked grants words state passes) (exclusive : IsExclusive grants) (at : get_elem? passes worker ≡ some p) (pends : p.pending ≡ Planned rows) where
+module _ (grants : Grants) (start : List Areas) (history : List Entry) (state : List Areas) (words : List ℕ) (passes : List Pass)
+    (worker : ℕ) (p : Pass) (rows : List ℕ)
+    (r : IsRunningSpace start history state words passes) (backed : AreBacked grants words state passes)
+    (exclusive : IsExclusive grants) (at : get_elem? passes worker ≡ some p) (pends : p.pending ≡ Planned rows) where
   plan_held : Holds grants worker everything × PlanShows rows (kind_at state)
   plan_held = subst (Backs grants state worker) pends (backed worker p at).pending
 
@@ -77,11 +87,15 @@ module _ (grants : Grants) (start : List Areas) (history : List Entry) (state : 
   other_part : (others : List ℕ) (other : ℕ) (x : Pass) → other ≢ worker → get_elem? passes other ≡ some x → IsPart start history others other x
   other_part others other x differ there = blank_part start history words others other x (other_blank other x differ there) (r.parts other x there)
 
-  store_keeps : (place value : ℕ) (q : Pass) → 1 < place → IsPart start history (set words place value) worker q → length q.mine ≡ length p.mine → q.pending ≡ p.pending → IsRunningSpace start history state (set words place value) (set passes worker q)
+  store_keeps : (place value : ℕ) (q : Pass) → 1 < place → IsPart start history (set words place value) worker q
+      → length q.mine ≡ length p.mine → q.pending ≡ p.pending
+      → IsRunningSpace start history state (set words place value) (set passes worker q)
   store_keeps place value q high part same pended =
       let wide : length (set passes worker q) ≡ length passes = length-set passes worker q in
-      let pending : planned_count (set passes worker q) ≡ planned_count passes = let s = planned_set passes worker p q at in let t = ap planned_calls pended in omega arith in
-      let some_one : 0 < planned_count (set passes worker q) = let least = planned_le passes worker p at in let t = planned_of p.pending rows pends in omega arith in
+      let pending : planned_count (set passes worker q) ≡ planned_count passes = let s = planned_set passes worker p q at in
+      let t = ap planned_calls pended in omega arith in
+      let some_one : 0 < planned_count (set passes worker q) = let least = planned_le passes worker p at in
+      let t = planned_of p.pending rows pends in omega arith in
       record {
         callers = let c = r.callers in omega arith;
         runs = r.runs;
@@ -91,7 +105,8 @@ module _ (grants : Grants) (start : List Areas) (history : List Entry) (state : 
         named = r.named;
         limit = r.limit;
         number = get_or-set_other words place 0 value 0 (λ e. omega arith) ∙ r.number;
-        sequence = ap (λ n. n + planned_count (set passes worker q)) (get_or-set_other words place 1 value 0 (λ e. omega arith)) ∙ (ap (λ n. slice_index words 1 + n) pending ∙ r.sequence);
+        sequence = ap (λ n. n + planned_count (set passes worker q)) (get_or-set_other words place 1 value 0 (λ e. omega arith))
+            ∙ (ap (λ n. slice_index words 1 + n) pending ∙ r.sequence);
         room = length-set words place value ∙ r.room;
         rows = λ none. absurd (omega arith);
         parts = λ other x there. ⊎_elim
@@ -103,7 +118,8 @@ module _ (grants : Grants) (start : List Areas) (history : List Entry) (state : 
       }
 
   -- the rule's part on grants: the own rows stand, and nobody else has read any
-  store_backed : (others : List ℕ) (q : Pass) → All (StillStands (Some everything) others) q.rows → Backs grants state worker q.pending → AreBacked grants others state (set passes worker q)
+  store_backed : (others : List ℕ) (q : Pass) → All (StillStands (Some everything) others) q.rows
+      → Backs grants state worker q.pending → AreBacked grants others state (set passes worker q)
   store_backed others q stands backs other x there = ⊎_elim
       (λ t. subst (λ (z : ℕ × Pass). IsBacked grants others state z.0 z.1) (λ i. (sym t.0 i, t.1 i)) (record {
         reads = inr (everything, plan_held.0, everything_pages);
@@ -113,17 +129,24 @@ module _ (grants : Grants) (start : List Areas) (history : List Entry) (state : 
       (λ t. blank_backed grants words others state other x (other_blank other x t.0 t.1) (backed other x t.1))
       (at_set passes worker other q x there)
 
-  pub stores_keep : (place value : ℕ) (after : Pass) → MayStore rows place value p after → IsRunningSpace start history state (set words place value) (set passes worker after) × AreBacked grants (set words place value) state (set passes worker after)
+  pub stores_keep : (place value : ℕ) (after : Pass) → MayStore rows place value p after
+      → IsRunningSpace start history state (set words place value) (set passes worker after)
+      × AreBacked grants (set words place value) state (set passes worker after)
   stores_keep place value after (store_row index few e v is) =
       let room = r.room in let plan = plan_held.1.few in
-      subst (λ (z : ℕ × Pass). IsRunningSpace start history state (set words z.0 value) (set passes worker z.1) × AreBacked grants (set words z.0 value) state (set passes worker z.1)) (λ i. (sym e i, sym is i)) (
-        store_keeps (3 + index) value (after_store index value p) (omega arith) (stored start history state words worker p (r.parts worker p at) index value) refl refl,
-        store_backed (set words (3 + index) value) (after_store index value p) (stored_all words index value p.rows (omega arith) own_rows) (backed worker p at).pending,
+      subst (λ (z : ℕ × Pass). IsRunningSpace start history state (set words z.0 value) (set passes worker z.1)
+      × AreBacked grants (set words z.0 value) state (set passes worker z.1)) (λ i. (sym e i, sym is i)) (
+        store_keeps (3 + index) value (after_store index value p) (omega arith)
+            (stored start history state words worker p (r.parts worker p at) index value) refl refl,
+        store_backed (set words (3 + index) value) (after_store index value p)
+            (stored_all words index value p.rows (omega arith) own_rows) (backed worker p at).pending,
       )
   stores_keep place value after (store_count e v is) =
       let room = r.room in
-      subst (λ (z : ℕ × Pass). IsRunningSpace start history state (set words z.0 value) (set passes worker z.1) × AreBacked grants (set words z.0 value) state (set passes worker z.1)) (λ i. (sym e i, sym is i)) (
-        store_keeps 2 value (after_count value p) (omega arith) (stored_count start history state words worker p (r.parts worker p at) value (omega arith)) refl refl,
+      subst (λ (z : ℕ × Pass). IsRunningSpace start history state (set words z.0 value) (set passes worker z.1)
+      × AreBacked grants (set words z.0 value) state (set passes worker z.1)) (λ i. (sym e i, sym is i)) (
+        store_keeps 2 value (after_count value p) (omega arith)
+            (stored_count start history state words worker p (r.parts worker p at) value (omega arith)) refl refl,
         store_backed (set words 2 value) (after_count value p) (counted_all words value p.rows own_rows) (backed worker p at).pending,
       )
 
@@ -155,11 +178,13 @@ module _ (grants : Grants) (start : List Areas) (history : List Entry) (state : 
         named = r.named;
         limit = r.limit;
         number = get_or-set_other words 1 0 value 0 (λ e. omega arith) ∙ r.number;
-        sequence = let g : slice_index (set words 1 value) 1 ≡ value = get_or-set_same words 1 value 0 there in let s = r.sequence in let f = whole_few history in let w = no_wrap start history state words passes r in omega arith;
+        sequence = let g : slice_index (set words 1 value) 1 ≡ value = get_or-set_same words 1 value 0 there in
+            let s = r.sequence in let f = whole_few history in let w = no_wrap start history state words passes r in omega arith;
         room = length-set words 1 value ∙ r.room;
         rows = λ none. (kind_at state, shown_after, low_rows words 1 value (kind_at state) (omega arith) written);
         parts = λ other x there. ⊎_elim
-            (λ t. subst (λ (z : ℕ × Pass). IsPart start history (set words 1 value) z.0 z.1) (λ i. (sym t.0 i, t.1 i)) (raised_after start history state words worker p (r.parts worker p at) value))
+            (λ t. subst (λ (z : ℕ × Pass). IsPart start history (set words 1 value) z.0 z.1) (λ i. (sym t.0 i, t.1 i))
+            (raised_after start history state words worker p (r.parts worker p at) value))
             (λ t. other_part (set words 1 value) other x t.0 t.1)
             (at_set passes worker other q x there);
         no_other = λ other le. r.no_other other (omega arith);
@@ -169,4 +194,5 @@ module _ (grants : Grants) (start : List Areas) (history : List Entry) (state : 
   pub raise_backed : AreBacked grants (words_after words (adds 1 1)) state (set passes worker (after_raise p))
   raise_backed =
       let value = (slice_index words 1 + 1) % 2 ^ 64 in
-      store_backed (set words 1 value) (after_raise p) (all_stand (Some everything) words (set words 1 value) (same_low words 1 value (omega arith)) p.rows own_rows) tt
+      store_backed (set words 1 value) (after_raise p)
+      (all_stand (Some everything) words (set words 1 value) (same_low words 1 value (omega arith)) p.rows own_rows) tt

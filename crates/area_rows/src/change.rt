@@ -20,7 +20,8 @@ impl Space {
     /// Stores the word of the row that a change is about.
     fn store_change(&self, seat: &mut Seat<RowGuard>, index: u32, word: u64)
         requires table { seat.old.table ≡ self.now.table }
-        requires change { (change : Change) × (seat.old.pass.pending ≡ OneRow change) × IsReadRound seat.old change × (change.index ≡ index) × (word ≡ new_word change) }
+        requires change { (change : Change) × (seat.old.pass.pending ≡ OneRow change) × IsReadRound seat.old change
+            × (change.index ≡ index) × (word ≡ new_word change) }
         ensures step { IsClientStep seat.old (3 + index) (after_change seat.old.pass) seat.new }
     {
         self.table.store::<By<Brand>>(seat, FIRST_ROW + index, word);

@@ -59,11 +59,14 @@ impl<'a> SpaceScan<'a> {
         ensures space { self.new.space.now ≡ self.old.space.now }
         ensures call { IsScanCall self.old.caller.now.seat self.new.caller.now.seat }
         ensures next { (was : OpenScan) → self.old.caller.now.seat.scan ≡ Some was → IsNext self.old.caller.now.seat self.new.caller.now.seat was result }
-        ensures ended { (was : OpenScan) → self.old.caller.now.seat.scan ≡ Some was → was.ended ≡ true → (self.new.caller.now.seat ≡ self.old.caller.now.seat) × (result ≡ End) }
-        ensures spent { (was : OpenScan) → self.old.caller.now.seat.scan ≡ Some was → was.nodes ≡ was.most → (self.new.caller.now.seat ≡ self.old.caller.now.seat) × (result ≡ Long was.most) }
+        ensures ended { (was : OpenScan) → self.old.caller.now.seat.scan ≡ Some was → was.ended ≡ true
+            → (self.new.caller.now.seat ≡ self.old.caller.now.seat) × (result ≡ End) }
+        ensures spent { (was : OpenScan) → self.old.caller.now.seat.scan ≡ Some was → was.nodes ≡ was.most
+            → (self.new.caller.now.seat ≡ self.old.caller.now.seat) × (result ≡ Long was.most) }
         ensures left { self.new.caller.now.left ≡ self.old.caller.now.left }
         ensures rows { HasSameRows self.old.caller.now self.new.caller.now }
-        ensures bound { (was : OpenScan) → self.old.caller.now.seat.scan ≡ Some was → self.new.caller.now.seat.trace.taken ≤ self.old.caller.now.seat.trace.taken + 2 + 3 * was.most }
+        ensures bound { (was : OpenScan) → self.old.caller.now.seat.scan ≡ Some was
+            → self.new.caller.now.seat.trace.taken ≤ self.old.caller.now.seat.trace.taken + 2 + 3 * was.most }
     {
         let space = self.space;
         let caller = &mut *self.caller;

@@ -68,7 +68,10 @@ impl Model for Caller {
 
     ghost view = { λ c. record { seat = c.seat; left = c.left; read = c.read.items; plan = planned_rows c.read.items c.plan.items; change = c.change } };
 
-    ghost invariant = { λ c. (c.seat.number ≡ c.worker) × (c.mine.items ≡ c.seat.pass.mine) × (vec_len c.mine + c.left ≤ vec_capacity c.mine) × (vec_len c.mine + c.left < 2 ^ 32) × (ROWS ≤ vec_capacity c.read) × (ROWS + 2 ≤ vec_capacity c.plan) × (vec_len c.plan ≤ ROWS) × IsHeldPages c.seat.held × (c.seat.held ≡ None → IsAtRest c.seat.pass) };
+    ghost invariant = { λ c. (c.seat.number ≡ c.worker) × (c.mine.items ≡ c.seat.pass.mine)
+        × (vec_len c.mine + c.left ≤ vec_capacity c.mine) × (vec_len c.mine + c.left < 2 ^ 32) × (ROWS ≤ vec_capacity c.read)
+        × (ROWS + 2 ≤ vec_capacity c.plan) × (vec_len c.plan ≤ ROWS) × IsHeldPages c.seat.held
+        × (c.seat.held ≡ None → IsAtRest c.seat.pass) };
 }
 
 impl Caller {

@@ -14,7 +14,8 @@ ghost use Rattle.row_plans.specs.Plans.{IsRowList, planned_rows};
 ghost use Rattle.area_rows.specs.Halving.{IsOnSameSide};
 ghost use Rattle.area_rows.specs.Reads.{everything, HasRows, IsHeldPage};
 ghost use Rattle.area_rows.specs.History.{HoldsFor, IsAtRest, IsRight, Leaves, pending_of, after_count, after_row, entry_note};
-ghost use Rattle.area_rows.specs.Callers.{HasSameRows, HasToWrite, HasToStore, IsReadRound, CountsWhole, IsReading, IsClientStep, IsLook, IsDrawn, MayNumber, Shows};
+ghost use Rattle.area_rows.specs.Callers.{HasSameRows, HasToWrite, HasToStore, IsReadRound, CountsWhole, IsReading};
+ghost use Rattle.area_rows.specs.Callers.{IsClientStep, IsLook, IsDrawn, MayNumber, Shows};
 
 use crate::guard::{By, Change, Noted, RowGuard};
 use crate::space::{Caller, Space};
@@ -105,7 +106,9 @@ impl Space {
         requires named { IsNamedCall draft.now.call }
         requires rest { IsAtRest seat.old.pass }
         requires held { HoldsFor seat.old.held draft.now.under }
-        requires right { Shows seat.old (λ _ state. (left : List Area) × IsRight state draft.now.call draft.now.reply draft.now.under left × Leaves state draft.now.under (pending_of draft.now.under (planned_rows read.now plan.now) change) left) }
+        requires right { Shows seat.old (λ _ state. (left : List Area)
+            × IsRight state draft.now.call draft.now.reply draft.now.under left
+            × Leaves state draft.now.under (pending_of draft.now.under (planned_rows read.now plan.now) change) left) }
         ensures drawn { IsDrawn seat.old (record draft.now { number = result }) (pending_of draft.now.under (planned_rows read.now plan.now) change) seat.new }
         ensures taken { seat.new.trace.taken ≡ seat.old.trace.taken + 1 }
     {
@@ -136,7 +139,8 @@ impl Space {
         ensures left { caller.new.left + 1 ≡ caller.old.left }
         ensures rows { HasSameRows caller.old caller.new }
         ensures write { under ≡ Whole → HasRows caller.old.seat.pass caller.old.read → HasToWrite caller.new }
-        ensures store { (span : Span) (change : Change) → under ≡ OverArea span → caller.old.change ≡ Some change → IsReadRound caller.old.seat change → HasToStore caller.new change }
+        ensures store { (span : Span) (change : Change) → under ≡ OverArea span → caller.old.change ≡ Some change
+            → IsReadRound caller.old.seat change → HasToStore caller.new change }
         ensures taken { caller.new.seat.trace.taken ≡ caller.old.seat.trace.taken + 1 }
     {
         let mut entry = Entry {
@@ -191,7 +195,8 @@ impl Space {
         ensures left { caller.new.left + 1 ≡ caller.old.left }
         ensures rows { HasSameRows caller.old caller.new }
         ensures write { under ≡ Whole → HasRows caller.old.seat.pass caller.old.read → HasToWrite caller.new }
-        ensures store { (span : Span) (change : Change) → under ≡ OverArea span → caller.old.change ≡ Some change → IsReadRound caller.old.seat change → HasToStore caller.new change }
+        ensures store { (span : Span) (change : Change) → under ≡ OverArea span → caller.old.change ≡ Some change
+            → IsReadRound caller.old.seat change → HasToStore caller.new change }
         ensures taken { caller.new.seat.trace.taken ≡ caller.old.seat.trace.taken + 1 }
         ensures counted { steps.new ≡ steps.old + 1 }
     {

@@ -40,7 +40,8 @@ AppendsPrefix-more more h = record {
 }
 
 -- a whole text and then all but a rest of another
-pub AppendsAllBut-after : (a : Option (List ℕ)) {b c : Option (List ℕ)} (bs : List ℕ) {cs rest : List ℕ} → Appends a b bs → AppendsAllBut b c cs rest → AppendsAllBut a c (bs ++ cs) rest
+pub AppendsAllBut-after : (a : Option (List ℕ)) {b c : Option (List ℕ)} (bs : List ℕ) {cs rest : List ℕ} → Appends a b bs
+    → AppendsAllBut b c cs rest → AppendsAllBut a c (bs ++ cs) rest
 AppendsAllBut-after a {b = b} {c = c} bs {rest = rest} h k = record {
   front = bs ++ k.front;
   whole = ap (λ l. bs ++ l) k.whole ∙ sym (append_assoc bs k.front rest);
@@ -48,7 +49,8 @@ AppendsAllBut-after a {b = b} {c = c} bs {rest = rest} h k = record {
 }
 
 -- a whole text and then a first part of another
-pub AppendsPrefix-after : (a : Option (List ℕ)) {b c : Option (List ℕ)} (bs : List ℕ) {cs : List ℕ} → Appends a b bs → AppendsPrefix b c cs → AppendsPrefix a c (bs ++ cs)
+pub AppendsPrefix-after : (a : Option (List ℕ)) {b c : Option (List ℕ)} (bs : List ℕ) {cs : List ℕ} → Appends a b bs
+    → AppendsPrefix b c cs → AppendsPrefix a c (bs ++ cs)
 AppendsPrefix-after a bs h k = record { rest = k.rest; first = AppendsAllBut-after a bs h k.first }
 
 -- what holds anyway holds where a call failed

@@ -1,7 +1,8 @@
 //! A source and a sink over bytes in memory that fail as seldom as they can: the source never, the sink only where a
 //! write that isn't empty finds its store full. With them a caller shows that work comes to its end where no port gets
 //! in its way. A reader may rely on every result: the clauses here say how much each call moves.
-ghost use Rattle.std.specs.Prelude.{◌≡◌, ◌↔◌, ◌+◌, ◌-◌, ◌<◌, ◌≤◌, ◌^◌, length, take, drop, min, Ok, Some, IfOk, OnOk, OnErr, IsOk, IsErr, vec_len, if◌then◌else◌, is_ok};
+ghost use Rattle.std.specs.Prelude.{◌≡◌, ◌↔◌, ◌+◌, ◌-◌, ◌<◌, ◌≤◌, ◌^◌, length, take, drop, min, Ok, Some, IfOk, OnOk};
+ghost use Rattle.std.specs.Prelude.{OnErr, IsOk, IsErr, vec_len, if◌then◌else◌, is_ok};
 ghost use Rattle.std.specs.Io.{ReadsAtMost, WritesAtMost};
 ghost use Rattle.std.specs.Io.KnownBytes.{Appends, Consumes, IsAtEnd, Keeps};
 ghost use Rattle.byte_ports.specs.Counts.{Rose, one_more};

@@ -29,11 +29,13 @@ ends_if own f true is h =
     let hi = known_by f.hi h.1 in
     record { node = f; is = is; lo = lo.0; hi = hi.0; low = lo.1; high = hi.1 }
 
-pub fresh_if : (v : View) (f : Filled) (o : Option ℕ) → v.own ≡ filling f → v.cursor ≡ None → IfSome o (λ n. (n ≡ f.node) × (f.aimed ≡ None)) → IfSome o (λ n. MayFill v n)
+pub fresh_if : (v : View) (f : Filled) (o : Option ℕ) → v.own ≡ filling f → v.cursor ≡ None
+    → IfSome o (λ n. (n ≡ f.node) × (f.aimed ≡ None)) → IfSome o (λ n. MayFill v n)
 fresh_if v f None is none h = tt
 fresh_if v f (Some n) is none h = record { own = f; is = is; node = sym h.0; aimed = h.1; cursor = none }
 
-pub due_if : (own : Own) (k : Listed) (o : Option Todo) → own ≡ listed k → IfSome o (λ t. (t ≡ k.todo) × (k.todo ≡ todo_of k.mode)) → IfSome o (λ t. IsDue own t)
+pub due_if : (own : Own) (k : Listed) (o : Option Todo) → own ≡ listed k
+    → IfSome o (λ t. (t ≡ k.todo) × (k.todo ≡ todo_of k.mode)) → IfSome o (λ t. IsDue own t)
 due_if own k None is h = tt
 due_if own k (Some t) is h = record { node = k; is = is; first = h.1; due = h.0 }
 
@@ -52,7 +54,8 @@ module _ (seats : ℕ) (v : View) (t : Todo) (d : IsDue v.own t) (inside : IsIns
   validates_again : (c : Cursor) → v.cursor ≡ Some c → t ≡ Forward → IsAtKnownNode seats c → MayValidate seats v
   validates_again c is forward at =
       let todo : d.node.todo ≡ Forward = sym d.due ∙ forward in
-      let ahead : IsAhead v.own at.node = subst (λ (o : Own). IsAhead o at.node) (sym d.is) (subst (λ (x : Todo). IsAhead (Linked d.node.node d.node.range d.node.mode x) at.node) (sym todo) tt) in
+      let ahead : IsAhead v.own at.node = subst (λ (o : Own). IsAhead o at.node) (sym d.is)
+      (subst (λ (x : Todo). IsAhead (Linked d.node.node d.node.range d.node.mode x) at.node) (sym todo) tt) in
       let stands : StandsInConflict seats v = record {
         word = at.word;
         knows = record {

@@ -1,7 +1,10 @@
 -- The spellings of the command line are read in one way: an option's third letter tells which it is, and its name has
 -- no `=` in it. Options are asked for one by one: what was asked for so far, with what is left, is what all of them
 -- ask.
-use Rattle.std.proofs.Common.{◌≡◌, ℕ, ◌+◌, ◌<◌, ◌≤◌, ◌^◌, Bool, true, false, List, [], ◌∷◌, ◌++◌, length, get_or, take, drop, Option, Some, None, inl, inr, refl, sym, subst, ap, ◌∙◌, arith, append_assoc, append-nil, add-one, length-append, codes, option_to_list, unwrap_or, is_some, IsNone, IfSome, if◌then◌else◌}
+use Rattle.std.proofs.Common.{◌≡◌, ℕ, ◌+◌, ◌<◌, ◌≤◌, ◌^◌, Bool, true, false, List, [], ◌∷◌, ◌++◌, length, get_or, take}
+use Rattle.std.proofs.Common.{drop, Option, Some, None, inl, inr, refl, sym, subst, ap, ◌∙◌, arith, append_assoc}
+use Rattle.std.proofs.Common.{append-nil, add-one, length-append, codes, option_to_list, unwrap_or, is_some, IsNone}
+use Rattle.std.proofs.Common.{IfSome, if◌then◌else◌}
 use Rattle.std.proofs.Math.Seq.{drop-cons, take-length}
 use Rattle.std.proofs.lemmas.List.{append_cancel_left, take-append-drop, get_or_append_left}
 use Rattle.std.proofs.lemmas.List.Sums.{passes_at_first}
@@ -15,7 +18,9 @@ use Rattle.command_words.specs.declared.commands.Command.{Command}
 use Rattle.command_words.specs.declared.commands.Command.TheVariants.{Play, Load}
 use Rattle.command_words.specs.declared.commands.Given.{Given}
 use Rattle.command_words.specs.declared.commands.Given.TheVariants.{Opening, Log, Threads, Seed, Calls}
-use Rattle.command_words.specs.Commands.{name_of, number_of, IsInRange, AreWritten, BeginsWith, AreSpellings, Kind, of_opening, of_log, of_threads, of_seed, of_calls, value_for, asked_for, DoAsk, IsCommand, HasRanges, Spells, IsFlag, IsNamed, IsNumbered, Adds, IsAsked}
+use Rattle.command_words.specs.Commands.{name_of, number_of, IsInRange, AreWritten, BeginsWith, AreSpellings, Kind}
+use Rattle.command_words.specs.Commands.{of_opening, of_log, of_threads, of_seed, of_calls, value_for, asked_for, DoAsk}
+use Rattle.command_words.specs.Commands.{IsCommand, HasRanges, Spells, IsFlag, IsNamed, IsNumbered, Adds, IsAsked}
 
 -- the third letter of a word
 abbrev letter : List ℕ → ℕ

@@ -4,7 +4,8 @@
 ghost use Rattle.std.specs.Prelude.{◌≡◌, ℕ, ◌+◌, ◌-◌, ◌<◌, ◌≤◌, ◌^◌, ◌↔◌, map, drop, codes, List, [], length, Some, None, false, IsTrue, IfSome, IsNone};
 ghost use Rattle.std.specs.Fmt.{decimal};
 ghost use Rattle.std.specs.String.{string_bytes};
-ghost use Rattle.command_words.specs.Commands.{Spells, RefusesWords, AskForOne, HasRanges, IsCommand, DoAsk, BeginsWith, IsFlag, IsNamed, IsNumbered, IsInRange, Adds, IsAsked};
+ghost use Rattle.command_words.specs.Commands.{Spells, RefusesWords, AskForOne, HasRanges, IsCommand, DoAsk};
+ghost use Rattle.command_words.specs.Commands.{BeginsWith, IsFlag, IsNamed, IsNumbered, IsInRange, Adds, IsAsked};
 ghost use Rattle.command_words.specs.declared.commands.Asked.{Asked};
 ghost use Rattle.command_words.specs.declared.commands.Command.{Command};
 ghost use Rattle.command_words.specs.declared.commands.Given.{Given};

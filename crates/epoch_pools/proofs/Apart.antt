@@ -12,7 +12,8 @@ use Rattle.epoch_pools.specs.declared.views.ListView.{ListView}
 use Rattle.epoch_pools.specs.Running.{core_of, Ruled}
 use Rattle.epoch_pools.specs.Apart.{IsSeen, AreSeen}
 
-module _ {P : Type 0} (seats clients : ℕ) (holds : Grants → List ℕ → List P → Type 0) (s : State (Unit {0}) (ListView P)) (parts : List (Part P)) (owner : ℕ → ℕ) (r : Ruled seats clients holds s parts owner) where
+module _ {P : Type 0} (seats clients : ℕ) (holds : Grants → List ℕ → List P → Type 0) (s : State (Unit {0}) (ListView P))
+    (parts : List (Part P)) (owner : ℕ → ℕ) (r : Ruled seats clients holds s parts owner) where
   -- what is seen of a number is its part
   pub seen_part : (p : Part P) → IsSeen s.views p → get_elem? parts p.number ≡ some p
   seen_part p i = (r.owned i.id i.view i.at i.place p i.has).0

@@ -24,11 +24,15 @@ kept_again rested None pass = refl
 kept_again rested (Some h) pass = refl
 
 module _ {P : Type 0} (holds : Grants → List ℕ → List P → Type 0) (rested : P → P) (is_at_rest : P → Type 0)
-    (gains : (grants : Grants) (words : List ℕ) (passes : List P) (seat : ℕ) (h : Held) → holds grants words passes → get_elem? grants seat ≡ some None → IsFree grants seat h → holds (set grants seat (Some h)) words passes)
-    (loses : (grants : Grants) (words : List ℕ) (passes : List P) (seat : ℕ) (pass : P) → holds grants words passes → get_elem? passes seat ≡ some pass → is_at_rest pass → holds (set grants seat None) words (set passes seat (rested pass))) where
+    (gains : (grants : Grants) (words : List ℕ) (passes : List P) (seat : ℕ) (h : Held) → holds grants words passes
+    → get_elem? grants seat ≡ some None → IsFree grants seat h → holds (set grants seat (Some h)) words passes)
+    (loses : (grants : Grants) (words : List ℕ) (passes : List P) (seat : ℕ) (pass : P) → holds grants words passes
+    → get_elem? passes seat ≡ some pass → is_at_rest pass
+    → holds (set grants seat None) words (set passes seat (rested pass))) where
   module _ (m next : Machine) (s : ℕ) (step : Step) (v now : View) (client : List ℕ) (passes : List P) (pass : P)
       (lock : IsLock next) (at : slice_get m.views s ≡ Some v) (at' : slice_get next.views s ≡ Some now)
-      (own : get_elem? passes s ≡ some pass) (rests : IsGiving step → (h : Held) → held_at v.own ≡ Some h → is_at_rest pass) (g : holds (held_by_seat m) client passes) where
+      (own : get_elem? passes s ≡ some pass) (rests : IsGiving step → (h : Held) → held_at v.own ≡ Some h → is_at_rest pass)
+      (g : holds (held_by_seat m) client passes) where
     before : get_elem? (held_by_seat m) s ≡ some (held_at v.own)
     before = from_get (held_by_seat m) s (held_at v.own) (held_there m.views s v at)
 
@@ -56,18 +60,26 @@ module _ {P : Type 0} (holds : Grants → List ℕ → List P → Type 0) (reste
     gained t =
         let none : held_at v.own ≡ None = let a = sym (held_there m.views s v at) ∙ t.nothing in cc in
         stays _ (ap (λ o. pass_kept rested o (held_at now.own) pass) none)
-        (subst (λ l. holds l client passes) (sym t.gained) (gains (held_by_seat m) client passes s t.held g (from_get (held_by_seat m) s None t.nothing) (free t.held t.gained)))
+        (subst (λ l. holds l client passes) (sym t.gained)
+        (gains (held_by_seat m) client passes s t.held g (from_get (held_by_seat m) s None t.nothing) (free t.held t.gained)))
 
     given_back : IsGiving step → GivesBack m next s → Good
     given_back giving q =
-        let gone : held_at now.own ≡ None = let a = sym behind ∙ (ap (λ l. get_elem? l s) q ∙ set_here (held_by_seat m) s None (at_below (held_by_seat m) s (held_at v.own) before)) in cc in
+        let gone : held_at now.own ≡ None = let a = sym behind
+        ∙ (ap (λ l. get_elem? l s) q ∙ set_here (held_by_seat m) s None
+        (at_below (held_by_seat m) s (held_at v.own) before)) in cc in
         by_held (held_at v.own) refl gone
       where
         by_held : (o : Option Held) → held_at v.own ≡ o → held_at now.own ≡ None → Good
         by_held None e gone = stays _ (ap (λ o. pass_kept rested o (held_at now.own) pass) e)
             (subst (λ l. holds l client passes) (sym (q ∙ set_again (held_by_seat m) s None (before ∙ ap some e))) g)
         by_held (Some h) e gone =
-            subst (λ (z : Grants × P). holds z.0 client (set passes s z.1)) (λ i. (sym q i, (sym (ap (λ o. pass_kept rested o (held_at now.own) pass) e ∙ ap (λ o. pass_kept rested (Some h) o pass) gone)) i))
+            subst (λ (z : Grants × P). holds z.0 client (set passes s z.1))
+            (λ i. (
+              sym q i,
+              (sym (ap (λ o. pass_kept rested o (held_at now.own) pass) e
+                  ∙ ap (λ o. pass_kept rested (Some h) o pass) gone)) i,
+            ))
             (loses (held_by_seat m) client passes s pass g own (rests giving h e))
 
     -- a seat that holds something holds it still, but for a step of a giving kind

@@ -21,7 +21,8 @@ only q x zero e = some-injective q x e
 only q x (suc k) e = absurd (some-ne-none x (sym e))
 
 module _ {P : Type 0} where
-  owned_after : (views : List (ListView P)) (parts : List (Part P)) (owner : ℕ → ℕ) (id : ℕ) (p q : Part P) → IsOwned views parts owner → get_elem? views id ≡ some (view (p ∷ [])) → q.number ≡ p.number
+  owned_after : (views : List (ListView P)) (parts : List (Part P)) (owner : ℕ → ℕ) (id : ℕ) (p q : Part P)
+      → IsOwned views parts owner → get_elem? views id ≡ some (view (p ∷ [])) → q.number ≡ p.number
       → IsOwned (set views id (view (q ∷ []))) (set parts p.number q) owner
   owned_after views parts owner id p q o at same id' v at' k x there =
       let here = o id (view (p ∷ [])) at 0 p refl in
@@ -34,7 +35,8 @@ module _ {P : Type 0} where
       (set_else parts p.number x.number q (λ e. t.0 (sym r.1 ∙ (ap owner e ∙ here.1))) ∙ r.0, r.1))
       (at_set views id id' (view (q ∷ [])) v at')
 
-  stands_after : (views : List (ListView P)) (id own n : ℕ) (p q : Part P) → get_elem? views id ≡ some (view (p ∷ [])) → q.number ≡ p.number → Stands views own n → Stands (set views id (view (q ∷ []))) own n
+  stands_after : (views : List (ListView P)) (id own n : ℕ) (p q : Part P) → get_elem? views id ≡ some (view (p ∷ []))
+      → q.number ≡ p.number → Stands views own n → Stands (set views id (view (q ∷ []))) own n
   stands_after views id own n p q at same st = dite (ℕ_discrete own id)
       (λ e. let is : view (p ∷ []) ≡ st.holder = some-injective _ _ (sym at ∙ (ap (get_elem? views) (sym e) ∙ st.at)) in
       let one : p ≡ st.part = only p st.part st.place (subst (λ (z : ListView P). get_elem? z.parts st.place ≡ some st.part) (sym is) st.has) in
@@ -46,21 +48,34 @@ module _ {P : Type 0} where
         has = refl;
         number = same ∙ (ap (λ (x : Part P). x.number) one ∙ st.number);
       })
-      (λ differ. record { holder = st.holder; at = set_else views id own (view (q ∷ [])) differ ∙ st.at; place = st.place; part = st.part; has = st.has; number = st.number })
+      (λ differ. record {
+        holder = st.holder;
+        at = set_else views id own (view (q ∷ [])) differ ∙ st.at;
+        place = st.place;
+        part = st.part;
+        has = st.has;
+        number = st.number;
+      })
 
-  same_after : (seats : ℕ) (parts : List (Part P)) (i : ℕ) (q : Part P) → q.seats ≡ seats → ((n : ℕ) (p : Part P) → get_elem? parts n ≡ some p → p.seats ≡ seats) → (n : ℕ) (p : Part P) → get_elem? (set parts i q) n ≡ some p → p.seats ≡ seats
+  same_after : (seats : ℕ) (parts : List (Part P)) (i : ℕ) (q : Part P) → q.seats ≡ seats
+      → ((n : ℕ) (p : Part P) → get_elem? parts n ≡ some p → p.seats ≡ seats) → (n : ℕ) (p : Part P)
+      → get_elem? (set parts i q) n ≡ some p → p.seats ≡ seats
   same_after seats parts i q mine rest n p at = ⊎_elim (λ t. subst (λ (x : Part P). x.seats ≡ seats) t.1 mine) (λ t. rest n p t.1) (at_set parts i n q p at)
 
 module _ {P : Type 0} (seats clients : ℕ) (holds : Grants → List ℕ → List P → Type 0) where
   -- the seat's part is the one of its number
-  pub part_here : (s : State (Unit {0}) (ListView P)) (parts : List (Part P)) (owner : ℕ → ℕ) → Ruled seats clients holds s parts owner → (id : ℕ) (p : Part P) → get_elem? s.views id ≡ some (view (p ∷ [])) → get_elem? parts p.number ≡ some p
+  pub part_here : (s : State (Unit {0}) (ListView P)) (parts : List (Part P)) (owner : ℕ → ℕ)
+      → Ruled seats clients holds s parts owner → (id : ℕ) (p : Part P) → get_elem? s.views id ≡ some (view (p ∷ []))
+      → get_elem? parts p.number ≡ some p
   part_here s parts owner r id p at = (r.owned id (view (p ∷ [])) at 0 p refl).0
 
   -- the rule holds after a step that leaves the part q where p was, if the lock's rule and the guard's do
-  pub placed : (s : State (Unit {0}) (ListView P)) (parts : List (Part P)) (owner : ℕ → ℕ) (r : Ruled seats clients holds s parts owner) (i n id : ℕ) (c : List (ℕ × Unit {0})) (p q : Part P)
+  pub placed : (s : State (Unit {0}) (ListView P)) (parts : List (Part P)) (owner : ℕ → ℕ)
+      (r : Ruled seats clients holds s parts owner) (i n id : ℕ) (c : List (ℕ × Unit {0})) (p q : Part P)
       → get_elem? s.views id ≡ some (view (p ∷ [])) → q.number ≡ p.number → q.seats ≡ p.seats
       → IsLock (machine seats (set s.words i n) (set parts p.number q))
-      → holds (held_by_seat (machine seats (set s.words i n) (set parts p.number q))) (drop (word_count seats) (set s.words i n)) (map pass_of (set parts p.number q))
+      → holds (held_by_seat (machine seats (set s.words i n) (set parts p.number q))) (drop (word_count seats) (set s.words i n))
+      (map pass_of (set parts p.number q))
       → IsRunningList seats clients holds (stepped s i n id c (view (q ∷ [])) keeps)
   placed s parts owner r i n id c p q at number many lock guard = (
     set parts p.number q,

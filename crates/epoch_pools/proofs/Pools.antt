@@ -4,12 +4,16 @@ use Rattle.std.specs.Prelude.{Option, ◌==◌, if◌then◌else◌}
 use Rattle.lock_core.specs.declared.views.View.{View}
 use Rattle.lock_core.specs.declared.views.Cursor.{Cursor}
 use Rattle.lock_core.specs.declared.steps.Step.{Step}
-use Rattle.lock_core.specs.declared.steps.Step.TheVariants.{Enter, Leave, ReadEpoch, ReadHome, GiveHome, FillLo, FillHi, Aim, ClearHome, Walk, ReadLo, ReadHi, Link, Unlink, Mark, QuickLink, QuickUnlink, Settle}
+use Rattle.lock_core.specs.declared.steps.Step.TheVariants.{Enter, Leave, ReadEpoch, ReadHome, GiveHome, FillLo, FillHi}
+use Rattle.lock_core.specs.declared.steps.Step.TheVariants.{Aim, ClearHome, Walk, ReadLo, ReadHi, Link, Unlink, Mark}
+use Rattle.lock_core.specs.declared.steps.Step.TheVariants.{QuickLink, QuickUnlink, Settle}
 use Rattle.lock_core.specs.declared.compare.Verdict.{Verdict}
 use Rattle.lock_core.specs.declared.compare.Verdict.TheVariants.{Past, Stop, Conflict}
 use Rattle.lock_core.specs.Views.{released, came_home, walked, hi_judged, linked, unlinked, dropped, todo_of, quick_linked, quick_unlinked, settled}
 use Rattle.lock_core.specs.Compare.{verdict_of}
-use Rattle.lock_core.specs.StepTable.{Plan, IsLine, enter, leave, read_epoch, read_home, give_home, fill_lo, fill_hi, aim, clear_home, walk, read_lo, read_hi, link, unlink, mark, quick_link, quick_unlink, settle}
+use Rattle.lock_core.specs.StepTable.{Plan, IsLine, enter, leave, read_epoch, read_home, give_home, fill_lo, fill_hi}
+use Rattle.lock_core.specs.StepTable.{aim, clear_home, walk, read_lo, read_hi, link, unlink, mark, quick_link}
+use Rattle.lock_core.specs.StepTable.{quick_unlink, settle}
 use Rattle.lock_core.specs.Operations.{planned, IsEnabled}
 use Rattle.lock_core.proofs.Enabled.{line_of}
 use Rattle.epoch_pools.specs.Pools.{IsWhole, IsPooled}
@@ -29,14 +33,16 @@ homes_judged v c y n Stop = refl
 homes_judged v c y n Conflict = refl
 
 -- with one seat a node that came home is ready at once
-homes_home : (seats : ℕ) (v : View) (n w : ℕ) → seats ≡ 1 → v.homes ≡ [] → (if w == 1 then (if seats == 1 then released (came_home seats v n) else came_home seats v n) else v).homes ≡ []
+homes_home : (seats : ℕ) (v : View) (n w : ℕ) → seats ≡ 1 → v.homes ≡ []
+    → (if w == 1 then (if seats == 1 then released (came_home seats v n) else came_home seats v n) else v).homes ≡ []
 homes_home seats v n w one none =
     homes_if (w == 1) (if seats == 1 then released (came_home seats v n) else came_home seats v n) v []
     (ap (λ (b : Bool). (if b then released (came_home seats v n) else came_home seats v n).homes) (eq-eqb seats 1 one))
     none
 
 -- a seat that is alone reads no other epoch
-alone_line : (seats s : ℕ) (v : View) (step : Step) (p : Plan) → IsLine seats s v step p → s < seats → seats ≡ 1 → v.homes ≡ [] → (w : ℕ) → (p.view w).homes ≡ []
+alone_line : (seats s : ℕ) (v : View) (step : Step) (p : Plan) → IsLine seats s v step p → s < seats → seats ≡ 1 → v.homes ≡ []
+    → (w : ℕ) → (p.view w).homes ≡ []
 alone_line seats s v Enter p (enter even hand) below one none w = none
 alone_line seats s v Leave p (leave odd hand own) below one none w = none
 alone_line seats s v (ReadEpoch k) p (read_epoch j even some less other) below one none w = absurd (some none)
@@ -62,7 +68,8 @@ alone_line seats s v Settle p (settle c cursor prev odd) below one none w =
     homes_if (w == c.cur) (settled v c) (dropped v) [] none none
 
 -- a step that the hand's view enables leaves its pools so, where the running rule tells that no node was lost
-pub pooled_after : (seats s : ℕ) (v : View) (step : Step) (w : ℕ) → s < seats → IsEnabled seats s v step → IsPooled seats s v → IsWhole s ((planned seats s v step).view w) → IsPooled seats s ((planned seats s v step).view w)
+pub pooled_after : (seats s : ℕ) (v : View) (step : Step) (w : ℕ) → s < seats → IsEnabled seats s v step → IsPooled seats s v
+    → IsWhole s ((planned seats s v step).view w) → IsPooled seats s ((planned seats s v step).view w)
 pooled_after seats s v step w below may pooled whole = record {
   whole = whole;
   alone = λ one. alone_line seats s v step (planned seats s v step) (line_of seats s v step may) below one (pooled.alone one) w;

@@ -8,7 +8,9 @@ use Rattle.lock_core.specs.declared.views.Cursor.{Cursor}
 use Rattle.lock_core.specs.declared.views.Own.{Own}
 use Rattle.lock_core.specs.declared.views.Own.TheVariants.{Nothing, Filling, Linked}
 use Rattle.lock_core.specs.declared.steps.Step.{Step}
-use Rattle.lock_core.specs.declared.steps.Step.TheVariants.{Enter, Leave, ReadEpoch, ReadHome, GiveHome, FillLo, FillHi, Aim, ClearHome, Walk, ReadLo, ReadHi, Link, Unlink, Mark, QuickLink, QuickUnlink, Settle}
+use Rattle.lock_core.specs.declared.steps.Step.TheVariants.{Enter, Leave, ReadEpoch, ReadHome, GiveHome, FillLo, FillHi}
+use Rattle.lock_core.specs.declared.steps.Step.TheVariants.{Aim, ClearHome, Walk, ReadLo, ReadHi, Link, Unlink, Mark}
+use Rattle.lock_core.specs.declared.steps.Step.TheVariants.{QuickLink, QuickUnlink, Settle}
 use Rattle.lock_core.specs.declared.ops.Act.{Act}
 use Rattle.lock_core.specs.declared.ops.Act.TheVariants.{Load, Store, Add, Exchange}
 use Rattle.lock_core.specs.Words.{epoch_place}
@@ -30,7 +32,8 @@ use Rattle.epoch_pools.proofs.Granting.{kept_again}
 use Rattle.epoch_pools.proofs.Pools.{pooled_after}
 
 -- after a store the record doesn't depend on what the word was
-record_same : (t : Record) (v now : View) (step : Step) (place found answer : ℕ) → IsStoring step → record_after t v step place found now ≡ record_after t v step place answer now
+record_same : (t : Record) (v now : View) (step : Step) (place found answer : ℕ) → IsStoring step
+    → record_after t v step place found now ≡ record_after t v step place answer now
 record_same t v now GiveHome place found answer s = refl
 record_same t v now (FillLo lo) place found answer s = refl
 record_same t v now (FillHi hi mode) place found answer s = refl
@@ -79,21 +82,25 @@ not_mark : (step : Step) (w : ℕ) → IsStoring step → step ≡ Mark → w % 
 not_mark step w st e = absurd (subst IsStoring e st)
 
 -- the line of a step, by the seat's number, the number of seats and the view that a call has
-pub line_again : {P : Type 0} (p : Part P) (seats number : ℕ) (v : View) (step : Step) → p.seats ≡ seats → p.number ≡ number → p.core ≡ v → planned seats number v step ≡ line_for p step
+pub line_again : {P : Type 0} (p : Part P) (seats number : ℕ) (v : View) (step : Step) → p.seats ≡ seats → p.number ≡ number
+    → p.core ≡ v → planned seats number v step ≡ line_for p step
 line_again p seats number v step many is core = λ i. planned (sym many i) (sym is i) (sym core i) step
 
 module _ {P : Type 0} (rested : P → P) (p : Part P) (step : Step) where
   -- what a step leaves, by what its operation returns
-  pub answered : (act : Act) (found answer : ℕ) → Writes step (line_for p step) act → IsAnswer act found answer → part_after rested p step found ≡ part_after rested p step answer
+  pub answered : (act : Act) (found answer : ℕ) → Writes step (line_for p step) act → IsAnswer act found answer
+      → part_after rested p step found ≡ part_after rested p step answer
   answered Load found answer w f = ap (part_after rested p step) (sym f)
   answered Add found answer w f = ap (part_after rested p step) (sym f)
   answered (Exchange old new) found answer w f = ap (part_after rested p step) (sym f)
   answered (Store value) found answer w f =
       let e : core_after p step found ≡ core_after p step answer = w.1 found answer in
-      let t = ap (record_after p.trace p.core step (line_for p step).place found) e ∙ record_same p.trace p.core (core_after p step answer) step (line_for p step).place found answer w.2 in
+      let t = ap (record_after p.trace p.core step (line_for p step).place found) e
+      ∙ record_same p.trace p.core (core_after p step answer) step (line_for p step).place found answer w.2 in
       λ i. record { number = p.number; seats = p.seats; core = e i; pass = pass_kept rested (held_at p.core.own) (held_at (e i).own) p.pass; trace = t i }
 
-  pub told_again : (seats : ℕ) (act : Act) (found answer : ℕ) → Writes step (line_for p step) act → IsAnswer act found answer → Told seats p step found → Told seats p step answer
+  pub told_again : (seats : ℕ) (act : Act) (found answer : ℕ) → Writes step (line_for p step) act → IsAnswer act found answer
+      → Told seats p step found → Told seats p step answer
   told_again seats Load found answer w f t = subst (Told seats p step) (sym f) t
   told_again seats Add found answer w f t = subst (Told seats p step) (sym f) t
   told_again seats (Exchange old new) found answer w f t = subst (Told seats p step) (sym f) t
@@ -126,11 +133,16 @@ module _ {P : Type 0} (rested : P → P) (p : Part P) (step : Step) where
 
   -- a step that is no exchange, and after which the seat holds what it held
   quiet : (found : ℕ) (now : View) → core_after p step found ≡ now → held_at now.own ≡ held_at p.core.own
-      → ((v : View) → record_after p.trace p.core step (line_for p step).place found v ≡ record_after p.trace p.core step 0 0 v) → part_after rested p step found ≡ quiet_after p step now
+      → ((v : View) → record_after p.trace p.core step (line_for p step).place found v ≡ record_after p.trace p.core step 0 0 v)
+      → part_after rested p step found ≡ quiet_after p step now
   quiet found now is same trace =
-      let pass : pass_kept rested (held_at p.core.own) (held_at now.own) p.pass ≡ p.pass = ap (λ (o : Option Held). pass_kept rested (held_at p.core.own) o p.pass) same ∙ kept_again rested (held_at p.core.own) p.pass in
-      let rests : pass_kept rested (held_at p.core.own) (held_at (core_after p step found).own) p.pass ≡ p.pass = ap (λ (c : View). pass_kept rested (held_at p.core.own) (held_at c.own) p.pass) is ∙ pass in
-      let steps : record_after p.trace p.core step (line_for p step).place found (core_after p step found) ≡ record_after p.trace p.core step 0 0 now = trace (core_after p step found) ∙ ap (record_after p.trace p.core step 0 0) is in
+      let pass : pass_kept rested (held_at p.core.own) (held_at now.own) p.pass ≡ p.pass =
+      ap (λ (o : Option Held). pass_kept rested (held_at p.core.own) o p.pass) same
+      ∙ kept_again rested (held_at p.core.own) p.pass in
+      let rests : pass_kept rested (held_at p.core.own) (held_at (core_after p step found).own) p.pass ≡ p.pass =
+      ap (λ (c : View). pass_kept rested (held_at p.core.own) (held_at c.own) p.pass) is ∙ pass in
+      let steps : record_after p.trace p.core step (line_for p step).place found (core_after p step found) ≡ record_after p.trace
+      p.core step 0 0 now = trace (core_after p step found) ∙ ap (record_after p.trace p.core step 0 0) is in
       λ i. record { number = p.number; seats = p.seats; core = is i; pass = rests i; trace = steps i }
 
 -- what a linked node holds stays when its seat leaves its epoch
@@ -145,7 +157,8 @@ module _ (seats s : ℕ) (v : View) where
   may_enter even hand = ap is_some (plan_of_line seats s v Enter _ (enter even hand))
 
   pub may_leave_now : v.epoch % 2 ≡ 1 → v.hand ≡ None → may_leave v.own ≡ true → IsEnabled seats s v Leave
-  may_leave_now odd hand settled = ap is_some (when-is _ (counts_on (epoch_place s) (left v)) (together _ _ (together _ _ (eq-eqb _ _ odd) (ap is_none hand)) settled))
+  may_leave_now odd hand settled = ap is_some (when-is _ (counts_on (epoch_place s) (left v))
+      (together _ _ (together _ _ (eq-eqb _ _ odd) (ap is_none hand)) settled))
 
   pub may_give : (n : ℕ) → v.hand ≡ Some n → IsEnabled seats s v GiveHome
   may_give n hand = ap is_some (plan_of_line seats s v GiveHome _ (give_home n hand))
@@ -177,7 +190,8 @@ or_last true b e = refl
 or_last false b e = e
 
 -- what a cursor has looked at is in the record after a step, if it was before
-looked_kept : (t : Record) (before now : Option Cursor) (judging gained : Bool) → ((c : Cursor) → before ≡ Some c → (l : Looked) × (t.looked ≡ Some l) × (l.nodes ≡ c.seen) × (c.cur ≡ 0 → l.ended ≡ true))
+looked_kept : (t : Record) (before now : Option Cursor) (judging gained : Bool)
+    → ((c : Cursor) → before ≡ Some c → (l : Looked) × (t.looked ≡ Some l) × (l.nodes ≡ c.seen) × (c.cur ≡ 0 → l.ended ≡ true))
     → (c : Cursor) → now ≡ Some c → (l : Looked) × (looked_with t before now judging gained ≡ Some l) × (l.nodes ≡ c.seen) × (c.cur ≡ 0 → l.ended ≡ true)
 looked_kept t before None judging gained old c e = absurd (cc)
 looked_kept t None (Some d) judging gained old c e =
@@ -197,7 +211,8 @@ looked_kept t (Some b) (Some d) judging gained old c e =
 
 module _ {P : Type 0} (p : Part P) where
   -- what a hand may rely on after a step of the lock, and after one on a client word
-  pub hand_after : (rested : P → P) (step : Step) (found seats : ℕ) → p.number < p.seats → Enables p step → IsHandView p → Told seats p step found → IsHandView (part_after rested p step found)
+  pub hand_after : (rested : P → P) (step : Step) (found seats : ℕ) → p.number < p.seats → Enables p step → IsHandView p
+      → Told seats p step found → IsHandView (part_after rested p step found)
   hand_after rested step found seats below may view told = record {
     sound = told.sound;
     pooled = pooled_after p.seats p.number p.core step found below may view.pooled told.whole;

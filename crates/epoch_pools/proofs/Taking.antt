@@ -1,6 +1,8 @@
 -- What the steps of take leave: the first ready node is the own node, a home word was read, or an epoch was. What is
 -- known of one node or of one seat stays known while others are looked at.
-use Rattle.std.proofs.Common.{◌≡◌, ◌≢◌, ◌⊎◌, ℕ, zero, suc, ◌+◌, ◌*◌, ◌/◌, ◌%◌, ◌<◌, ◌≤◌, Bool, true, false, List, [], ◌∷◌, ◌++◌, take, drop, length, cond, Some, None, inl, inr, ⊎_elim, refl, sym, ap, ◌∙◌, subst, arith, eqb-true, eq-eqb, ne_eqb, add-one}
+use Rattle.std.proofs.Common.{◌≡◌, ◌≢◌, ◌⊎◌, ℕ, zero, suc, ◌+◌, ◌*◌, ◌/◌, ◌%◌, ◌<◌, ◌≤◌, Bool, true, false, List, []}
+use Rattle.std.proofs.Common.{◌∷◌, ◌++◌, take, drop, length, cond, Some, None, inl, inr, ⊎_elim, refl, sym, ap, ◌∙◌}
+use Rattle.std.proofs.Common.{subst, arith, eqb-true, eq-eqb, ne_eqb, add-one}
 use Rattle.std.specs.Prelude.{Option, slice_get, slice_set, unwrap_or, is_some, ◌==◌, ◌&&◌, ◌||◌, not, if◌then◌else◌, find}
 use Rattle.std.specs.List.{list_all}
 use Rattle.std.proofs.lemmas.Bool.{cases_eq, eqb-false}
@@ -32,7 +34,9 @@ use Rattle.epoch_pools.specs.Running.{pass_kept, Enables, part_after, core_after
 use Rattle.epoch_pools.specs.declared.stuck.Stuck.{Stuck}
 use Rattle.epoch_pools.specs.declared.stuck.Stuck.TheVariants.{Inside, Away as IsAway}
 use Rattle.epoch_pools.specs.Pools.{IsWhole, IsPooled}
-use Rattle.epoch_pools.specs.Taking.{IsFree, IsPoolCall, IsLooking, IsReadAway, IsReadInside, IsHomeLook, IsHomeKnown, IsSeatKnown, IsSeatLook, IsEpochLook, IsBarred, IsFirstInside, IsInside, IsHeldUp, IsStuck, TakesFirst, TakesFilled}
+use Rattle.epoch_pools.specs.Taking.{IsFree, IsPoolCall, IsLooking, IsReadAway, IsReadInside, IsHomeLook, IsHomeKnown}
+use Rattle.epoch_pools.specs.Taking.{IsSeatKnown, IsSeatLook, IsEpochLook, IsBarred, IsFirstInside, IsInside, IsHeldUp}
+use Rattle.epoch_pools.specs.Taking.{IsStuck, TakesFirst, TakesFilled}
 
 -- ---- the last entry with a key
 
@@ -48,14 +52,16 @@ pass_none : {P : Type 0} (rested : P → P) (own : Own) (now : Option Held) (pas
 pass_none rested own now pass e = ap (λ (o : Own). pass_kept rested (held_at o) now pass) e
 
 -- without a cursor before and after, what the last one looked at stays
-none_looked : (t : Record) (before now : Option Cursor) (judging gained : Bool) → before ≡ None → now ≡ before → looked_with t before now judging gained ≡ t.looked
+none_looked : (t : Record) (before now : Option Cursor) (judging gained : Bool) → before ≡ None → now ≡ before
+    → looked_with t before now judging gained ≡ t.looked
 none_looked t before now judging gained none same = ap (λ (o : Option Cursor). looked_with t before o judging gained) (same ∙ none) ∙ gone before
   where
     gone : (b : Option Cursor) → looked_with t b None judging gained ≡ t.looked
     gone None = refl
     gone (Some c) = refl
 
-pub pool_call : {P : Type 0} (rested : P → P) (p q : Part P) (step : Step) (w : ℕ) (u : View) → q ≡ part_after rested p step w → p.core.own ≡ Nothing → q.core ≡ u
+pub pool_call : {P : Type 0} (rested : P → P) (p q : Part P) (step : Step) (w : ℕ) (u : View) → q ≡ part_after rested p step w
+    → p.core.own ≡ Nothing → q.core ≡ u
     → u.epoch ≡ p.core.epoch → u.cursor ≡ p.core.cursor → u.hand ≡ p.core.hand → IsPoolCall p q
 pool_call {P} rested p q step w u made own core epoch cursor hand = record {
   number = ap (λ (x : Part P). x.number) made;
@@ -65,13 +71,25 @@ pool_call {P} rested p q step w u made own core epoch cursor hand = record {
   epoch = ap (λ (v : View). v.epoch) core ∙ epoch;
   cursor = ap (λ (v : View). v.cursor) core ∙ cursor;
   hand = ap (λ (v : View). v.hand) core ∙ hand;
-  looked = λ none. ap (λ (x : Part P). x.trace.looked) made ∙ none_looked p.trace p.core.cursor (core_after p step w).cursor (is_judging step) (gained_by p.core (core_after p step w)) none
+  looked = λ none. ap (λ (x : Part P). x.trace.looked) made
+      ∙ none_looked p.trace p.core.cursor (core_after p step w).cursor (is_judging step) (gained_by p.core (core_after p step w))
+      none
       (ap (λ (x : Part P). x.core.cursor) (sym made) ∙ (ap (λ (v : View). v.cursor) core ∙ cursor));
   taken = let t = ap (λ (x : Part P). x.trace.taken) made in omega arith;
 }
 
 pub no_call : {P : Type 0} (p : Part P) → IsPoolCall p p
-no_call p = record { number = refl; seats = refl; pass = refl; client = refl; epoch = refl; cursor = refl; hand = refl; looked = λ none. refl; taken = omega arith }
+no_call p = record {
+  number = refl;
+  seats = refl;
+  pass = refl;
+  client = refl;
+  epoch = refl;
+  cursor = refl;
+  hand = refl;
+  looked = λ none. refl;
+  taken = omega arith;
+}
 
 pub both_calls : {P : Type 0} (p q r : Part P) → IsPoolCall p q → IsPoolCall q r → IsPoolCall p r
 both_calls p q r a b = record {
@@ -112,7 +130,8 @@ takes_first {P} rested p q n w may made =
     let t = clear_home_on p.seats p.number p.core n w may in
     record { rest = t.0; ready = t.1; core = ap (λ (x : Part P). x.core) made ∙ t.2 }
 
-pub takes_call : {P : Type 0} (rested : P → P) (p q : Part P) (n w : ℕ) → IsFree p.core → Enables p (ClearHome n) → q ≡ part_after rested p (ClearHome n) w → IsPoolCall p q
+pub takes_call : {P : Type 0} (rested : P → P) (p q : Part P) (n w : ℕ) → IsFree p.core → Enables p (ClearHome n)
+    → q ≡ part_after rested p (ClearHome n) w → IsPoolCall p q
 takes_call rested p q n w free may made =
     let t = takes_first rested p q n w may made in
     pool_call rested p q (ClearHome n) w (taken p.core n t.rest) made free.own t.core refl refl refl
@@ -126,7 +145,9 @@ read_home_on seats s v n w may = by_line _ (line_of seats s v (ReadHome n) may)
     by_line p (read_home m even used new) = refl
 
 -- a node whose home word may not be read is no used one, or came home already
-unread : {A : Type 0} (v : View) (n : ℕ) (a : A) → v.epoch % 2 ≡ 0 → is_some (when (v.epoch % 2 == 0 && not (times n v.used == 0) && times n v.homes == 0) a) ≡ false → 1 ≤ times n v.used → 1 ≤ times n v.homes
+unread : {A : Type 0} (v : View) (n : ℕ) (a : A) → v.epoch % 2 ≡ 0
+    → is_some (when (v.epoch % 2 == 0 && not (times n v.used == 0) && times n v.homes == 0) a) ≡ false → 1 ≤ times n v.used
+    → 1 ≤ times n v.homes
 unread v n a even off used = split (v.epoch % 2 == 0) (times n v.used == 0) (times n v.homes == 0) (eq-eqb _ _ even) (ne_eqb _ _ (λ z. omega arith)) refl off
   where
     split : (b c d : Bool) → b ≡ true → c ≡ false → (times n v.homes == 0) ≡ d → is_some (when (b && not c && d) a) ≡ false → 1 ≤ times n v.homes
@@ -143,7 +164,8 @@ no_home_look p n free off = record {
   this = λ u. inl (unread p.core n _ free.outside off u);
 }
 
-module _ {P : Type 0} (rested : P → P) (p q : Part P) (n w : ℕ) (free : IsFree p.core) (may : Enables p (ReadHome n)) (made : q ≡ part_after rested p (ReadHome n) w) where
+module _ {P : Type 0} (rested : P → P) (p q : Part P) (n w : ℕ) (free : IsFree p.core) (may : Enables p (ReadHome n))
+    (made : q ≡ part_after rested p (ReadHome n) w) where
   abbrev entry : Away
   entry = record { node = n; step = p.trace.taken }
 
@@ -181,12 +203,15 @@ module _ {P : Type 0} (rested : P → P) (p q : Part P) (n w : ℕ) (free : IsFr
   pub home_look : IsHomeLook p q n
   home_look = split (w == 1) (p.seats == 1) core away
     where
-      split : (b c : Bool) → q.core ≡ (if b then (if c then released came else came) else p.core) → q.trace.away ≡ (if b then p.trace.away else entry ∷ p.trace.away) → IsHomeLook p q n
+      split : (b c : Bool) → q.core ≡ (if b then (if c then released came else came) else p.core)
+          → q.trace.away ≡ (if b then p.trace.away else entry ∷ p.trace.away) → IsHomeLook p q n
       split true true e e' = record {
         used = λ x. let u = ap (λ (v : View). times x v.used) e in let l = left_out x in omega arith;
-        homes = λ x h u. absurd (let k = ap (λ (v : View). times x v.used) e in let j = joined x in let z = without_some x (p.core.homes ++ n ∷ []) p.core.used (omega arith) in omega arith);
+        homes = λ x h u. absurd (let k = ap (λ (v : View). times x v.used) e in let j = joined x in
+            let z = without_some x (p.core.homes ++ n ∷ []) p.core.used (omega arith) in omega arith);
         away = λ x d. ap (λ (l : List Away). find (λ a. a.node == x) l) e';
-        this = λ u. absurd (let k = ap (λ (v : View). times n v.used) e in let j = joined n in let o = times_itself n in let z = without_some n (p.core.homes ++ n ∷ []) p.core.used (omega arith) in omega arith);
+        this = λ u. absurd (let k = ap (λ (v : View). times n v.used) e in let j = joined n in let o = times_itself n in
+            let z = without_some n (p.core.homes ++ n ∷ []) p.core.used (omega arith) in omega arith);
       }
       split true false e e' = record {
         used = λ x. let u = ap (λ (v : View). times x v.used) e in omega arith;
@@ -207,19 +232,22 @@ module _ {P : Type 0} (rested : P → P) (p q : Part P) (n w : ℕ) (free : IsFr
       }
 
 -- what is known of the nodes that were looked at stays known, and this node is known
-pub home_known : {P : Type 0} (p q r : Part P) (n x : ℕ) → p.trace.taken ≤ q.trace.taken → q.trace.taken ≤ r.trace.taken → IsHomeLook q r n → (x ≢ n → IsHomeKnown p q x) → IsHomeKnown p r x
+pub home_known : {P : Type 0} (p q r : Part P) (n x : ℕ) → p.trace.taken ≤ q.trace.taken → q.trace.taken ≤ r.trace.taken
+    → IsHomeLook q r n → (x ≢ n → IsHomeKnown p q x) → IsHomeKnown p r x
 home_known p q r n x from on look known used =
     ⊎_elim
     (λ (e : x ≡ n).
     subst (λ y. (1 ≤ times y r.core.homes) ⊎ IsReadAway p.trace.taken r.trace.taken r.trace.away y) (sym e)
     (⊎_elim
     (λ (h : 1 ≤ times n r.core.homes). inl h)
-    (λ (a : IsReadAway q.trace.taken r.trace.taken r.trace.away n). inr (record { entry = a.entry; last = a.last; from = let f = a.from in omega arith; before = a.before }))
+    (λ (a : IsReadAway q.trace.taken r.trace.taken r.trace.away n). inr
+    (record { entry = a.entry; last = a.last; from = let f = a.from in omega arith; before = a.before }))
     (look.this (subst (λ y. 1 ≤ times y r.core.used) e used))))
     (λ (d : x ≢ n).
     ⊎_elim
     (λ (h : 1 ≤ times x q.core.homes). inl (look.homes x h used))
-    (λ (a : IsReadAway p.trace.taken q.trace.taken q.trace.away x). inr (record { entry = a.entry; last = look.away x d ∙ a.last; from = a.from; before = let b = a.before in omega arith }))
+    (λ (a : IsReadAway p.trace.taken q.trace.taken q.trace.away x). inr
+    (record { entry = a.entry; last = look.away x d ∙ a.last; from = a.from; before = let b = a.before in omega arith }))
     (known d (let u = look.used x in omega arith)))
     (cases_eq x n)
 
@@ -335,7 +363,8 @@ none_after : (a b : List ℕ) → a ++ b ≡ [] → b ≡ []
 none_after [] b e = e
 none_after (x ∷ a) b e = absurd (cc)
 
-module _ {P : Type 0} (rested : P → P) (p q : Part P) (j w : ℕ) (free : IsFree p.core) (may : Enables p (ReadEpoch j)) (made : q ≡ part_after rested p (ReadEpoch j) w)
+module _ {P : Type 0} (rested : P → P) (p q : Part P) (j w : ℕ) (free : IsFree p.core) (may : Enables p (ReadEpoch j))
+    (made : q ≡ part_after rested p (ReadEpoch j) w)
     (flags : j < length p.core.passed) (noting : j < length p.core.notes) where
   abbrev u : View
   u = looked_at p.core j w
@@ -359,13 +388,17 @@ module _ {P : Type 0} (rested : P → P) (p q : Part P) (j w : ℕ) (free : IsFr
   epoch_looking = split (are_others_passed p.number u.passed) epoch_core
     where
       split : (b : Bool) → q.core ≡ (if b then released u else u) → IsLooking p q
-      split true e = record { call = pool_call rested p q (ReadEpoch j) w (released u) made free.own e l.epoch l.cursor l.hand; own = ap (λ (v : View). v.own) e ∙ l.own }
+      split true e = record {
+        call = pool_call rested p q (ReadEpoch j) w (released u) made free.own e l.epoch l.cursor l.hand;
+        own = ap (λ (v : View). v.own) e ∙ l.own;
+      }
       split false e = record { call = pool_call rested p q (ReadEpoch j) w u made free.own e l.epoch l.cursor l.hand; own = ap (λ (v : View). v.own) e ∙ l.own }
 
   noted_else : (k : ℕ) → k ≢ j → find (λ n. n.seat == k) q.trace.noted ≡ find (λ n. n.seat == k) p.trace.noted
   noted_else k d = split (w % 2 == 0 || is_passed q.core j) noted_now
     where
-      split : (b : Bool) → q.trace.noted ≡ (if b then p.trace.noted else heard ∷ p.trace.noted) → find (λ n. n.seat == k) q.trace.noted ≡ find (λ n. n.seat == k) p.trace.noted
+      split : (b : Bool) → q.trace.noted ≡ (if b then p.trace.noted else heard ∷ p.trace.noted)
+          → find (λ n. n.seat == k) q.trace.noted ≡ find (λ n. n.seat == k) p.trace.noted
       split true e = ap (λ (ns : List Noted). find (λ n. n.seat == k) ns) e
       split false e = ap (λ (ns : List Noted). find (λ n. n.seat == k) ns) e ∙ find_skip (λ (n : Noted). n.seat) heard p.trace.noted k (λ s. d (sym s))
 
@@ -408,14 +441,24 @@ module _ {P : Type 0} (rested : P → P) (p q : Part P) (j w : ℕ) (free : IsFr
       })
 
 -- what is known of the seats that were looked at stays known, and this seat is known
-pub seat_known : {P : Type 0} (p q r : Part P) (j k : ℕ) → p.trace.taken ≤ q.trace.taken → q.trace.taken ≤ r.trace.taken → IsSeatLook q r j → (k ≢ j → IsSeatKnown p q k) → IsSeatKnown p r k
+pub seat_known : {P : Type 0} (p q r : Part P) (j k : ℕ) → p.trace.taken ≤ q.trace.taken → q.trace.taken ≤ r.trace.taken
+    → IsSeatLook q r j → (k ≢ j → IsSeatKnown p q k) → IsSeatKnown p r k
 seat_known p q r j k from on look known =
     ⊎_elim
     (λ (e : k ≡ j).
     subst (IsSeatKnown p r) (sym e)
     (⊎_elim
     (λ (t : is_passed r.core j ≡ true). inl t)
-    (λ (a : IsReadInside q.trace.taken r.trace.taken r.trace.noted r.core j). inr (record { entry = a.entry; last = a.last; from = let f = a.from in omega arith; before = a.before; odd = a.odd; only = a.only; inside = a.inside }))
+    (λ (a : IsReadInside q.trace.taken r.trace.taken r.trace.noted r.core j). inr
+    (record {
+      entry = a.entry;
+      last = a.last;
+      from = let f = a.from in omega arith;
+      before = a.before;
+      odd = a.odd;
+      only = a.only;
+      inside = a.inside;
+    }))
     look.this))
     (λ (d : k ≢ j).
     ⊎_elim
@@ -437,11 +480,21 @@ pub seat_known_since : {P : Type 0} (p q r : Part P) (k : ℕ) → p.trace.taken
 seat_known_since p q r k from known =
     ⊎_elim
     (λ (t : is_passed r.core k ≡ true). inl t)
-    (λ (a : IsReadInside q.trace.taken r.trace.taken r.trace.noted r.core k). inr (record { entry = a.entry; last = a.last; from = let f = a.from in omega arith; before = a.before; odd = a.odd; only = a.only; inside = a.inside }))
+    (λ (a : IsReadInside q.trace.taken r.trace.taken r.trace.noted r.core k). inr
+    (record {
+      entry = a.entry;
+      last = a.last;
+      from = let f = a.from in omega arith;
+      before = a.before;
+      odd = a.odd;
+      only = a.only;
+      inside = a.inside;
+    }))
     known
 
 -- a seat that is known and isn't passed has a note
-pub known_note : {P : Type 0} (p q : Part P) (k : ℕ) → IsSeatKnown p q k → is_passed q.core k ≡ false → IsReadInside p.trace.taken q.trace.taken q.trace.noted q.core k
+pub known_note : {P : Type 0} (p q : Part P) (k : ℕ) → IsSeatKnown p q k → is_passed q.core k ≡ false
+    → IsReadInside p.trace.taken q.trace.taken q.trace.noted q.core k
 known_note p q k known unpassed =
     ⊎_elim
     (λ (t : is_passed q.core k ≡ true). absurd (let e = sym unpassed ∙ t in cc))
@@ -454,7 +507,8 @@ all_set : (l : List Bool) → ((k : ℕ) → k < length l → unwrap_or (slice_g
 all_set [] h = refl
 all_set (x ∷ xs) h = together x (list_all (λ b. b) xs) (h 0 (omega arith)) (all_set xs (λ k less. h (suc k) (omega arith)))
 
-others_set : (s : ℕ) (l : List Bool) → ((k : ℕ) → k < length l → k ≢ s → unwrap_or (slice_get l k) false ≡ true) → (list_all (λ b. b) (take s l) && list_all (λ b. b) (drop (suc s) l)) ≡ true
+others_set : (s : ℕ) (l : List Bool) → ((k : ℕ) → k < length l → k ≢ s → unwrap_or (slice_get l k) false ≡ true)
+    → (list_all (λ b. b) (take s l) && list_all (λ b. b) (drop (suc s) l)) ≡ true
 others_set zero [] h = refl
 others_set (suc s) [] h = refl
 others_set zero (x ∷ l) h = all_set l (λ k less. h (suc k) (omega arith) (λ z. omega arith))
@@ -480,7 +534,8 @@ some_home [] d = absurd (d refl)
 some_home (x ∷ xs) d = (x, let one : ◌≡◌ {A = ℕ} (if x == x then 1 else 0) 1 = ap (λ (b : Bool). if b then 1 else 0) (eq-eqb x x refl) in omega arith)
 
 -- the first seat that isn't passed holds the nodes up that wait
-pub held_up_by : {P : Type 0} (p q r : Part P) (seat epoch : ℕ) → p.trace.taken ≤ q.trace.taken → IsBarred q r → q.core.homes ≢ [] → IsViewSized r.seats r.number r.core → IsFirstInside r.core r.seats r.number seat epoch → IsHeldUp p r seat epoch
+pub held_up_by : {P : Type 0} (p q r : Part P) (seat epoch : ℕ) → p.trace.taken ≤ q.trace.taken → IsBarred q r → q.core.homes ≢ []
+    → IsViewSized r.seats r.number r.core → IsFirstInside r.core r.seats r.number seat epoch → IsHeldUp p r seat epoch
 held_up_by p q r seat epoch from barred some sized first =
     let h = some_home r.core.homes (λ none. some (sym barred.waiting.homes ∙ none)) in
     let read = known_note p r seat (seat_known_since p q r seat from (barred.known seat first.there first.other)) first.inside in
@@ -495,12 +550,14 @@ held_up_by p q r seat epoch from barred some sized first =
       lowest = first.lowest;
     }
 
-pub stuck_on : {P : Type 0} (p q r : Part P) (s : Stuck) → p.trace.taken ≤ q.trace.taken → IsBarred q r → q.core.homes ≢ [] → IsViewSized r.seats r.number r.core → IsInside r s → IsStuck p r s
+pub stuck_on : {P : Type 0} (p q r : Part P) (s : Stuck) → p.trace.taken ≤ q.trace.taken → IsBarred q r → q.core.homes ≢ []
+    → IsViewSized r.seats r.number r.core → IsInside r s → IsStuck p r s
 stuck_on p q r (Inside seat epoch) from barred some sized first = held_up_by p q r seat epoch from barred some sized first
 stuck_on p q r (IsAway node) from barred some sized first = absurd first
 
 -- a node that is taken after looks was made ready by them
-pub takes_filled : {P : Type 0} (p q r : Part P) (n : ℕ) → IsLooking p q → p.core.ready ≡ [] → p.core.own ≡ Nothing → IsWhole p.number p.core → IsWhole q.number q.core → TakesFirst q r n → TakesFilled p r n
+pub takes_filled : {P : Type 0} (p q r : Part P) (n : ℕ) → IsLooking p q → p.core.ready ≡ [] → p.core.own ≡ Nothing
+    → IsWhole p.number p.core → IsWhole q.number q.core → TakesFirst q r n → TakesFilled p r n
 takes_filled {P} p q r n look empty own was is first = record {
   empty = empty;
   nodes = λ x.
@@ -512,6 +569,7 @@ takes_filled {P} p q r n look empty own was is first = record {
       let ready = ap (times x) first.ready in
       let left = ap (λ (v : View). times x v.ready) first.core in
       let used = ap (λ (v : View). times x v.used) first.core in
-      let seat : ◌≡◌ {A = ℕ} (if x / 16 == q.number then 1 else 0) (if x / 16 == p.number then 1 else 0) = ap (λ (m : ℕ). if x / 16 == m then 1 else 0) look.call.number in
+      let seat : ◌≡◌ {A = ℕ} (if x / 16 == q.number then 1 else 0) (if x / 16 == p.number then 1 else 0) =
+      ap (λ (m : ℕ). if x / 16 == m then 1 else 0) look.call.number in
       omega arith;
 }

@@ -42,7 +42,8 @@ module _ {P : Type 0} where
 
   -- a moment between two steps, by seat number: no two held ranges of different seats conflict, the guard's rule
   -- holds, and each seat's held range and pass are those of the one view that it is in
-  pub record IsApart (seats : ℕ) (holds : Grants → List ℕ → List P → Type 0) (words : List ℕ) (views : List (ListView P)) (grants : Grants) (passes : List P) : Type 0 where
+  pub record IsApart (seats : ℕ) (holds : Grants → List ℕ → List P → Type 0) (words : List ℕ) (views : List (ListView P))
+      (grants : Grants) (passes : List P) : Type 0 where
     pub grant_count : length grants ≡ seats
     pub pass_count : length passes ≡ seats
     pub exclusive : IsExclusive grants

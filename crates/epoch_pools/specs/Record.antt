@@ -2,7 +2,8 @@
 -- stepping seat alone; a contract reads in it at which step of a call a node was met, an exchange was lost, or a home
 -- word or an epoch was read. An entry's number is how many steps the seat had made before its step, so an entry of a
 -- call has a number from the count at the call's entry on. This project's own profile.
-use Rattle.std.specs.Prelude.{ℕ, suc, ◌+◌, ◌-◌, ◌*◌, ◌/◌, ◌%◌, ◌==◌, ◌||◌, ◌&&◌, Bool, true, false, if◌then◌else◌, List, [], ◌∷◌, Option, Some, None, unwrap_or, is_some, is_none}
+use Rattle.std.specs.Prelude.{ℕ, suc, ◌+◌, ◌-◌, ◌*◌, ◌/◌, ◌%◌, ◌==◌, ◌||◌, ◌&&◌, Bool, true, false, if◌then◌else◌, List}
+use Rattle.std.specs.Prelude.{[], ◌∷◌, Option, Some, None, unwrap_or, is_some, is_none}
 use Rattle.lock_core.specs.declared.views.View.{View}
 use Rattle.lock_core.specs.declared.views.Cursor.{Cursor}
 use Rattle.lock_core.specs.declared.steps.Step.{Step}

@@ -67,7 +67,8 @@ module _ {P : Type 0} where
     pub number : part.number ≡ n
 
   -- the rule, with the parts by seat number and the view that each number is in
-  pub record Ruled (seats clients : ℕ) (holds : Grants → List ℕ → List P → Type 0) (s : State (Unit {0}) (ListView P)) (parts : List (Part P)) (owner : ℕ → ℕ) : Type 0 where
+  pub record Ruled (seats clients : ℕ) (holds : Grants → List ℕ → List P → Type 0) (s : State (Unit {0}) (ListView P))
+      (parts : List (Part P)) (owner : ℕ → ℕ) : Type 0 where
     pub wide : length s.words ≡ word_count seats + clients
     -- the number part; each part knows how many seats there are
     pub count : length parts ≡ seats
@@ -129,7 +130,8 @@ module _ {P : Type 0} where
 
   -- a step of the lock says to its seat what belongs to it after
   abbrev pub lock_play : (P → P) → ℕ → Step → Me (Unit {0}) (ListView P) → ℕ → Me (Unit {0}) (ListView P) → Type 0
-  lock_play rested seats step me found me' = (p : Part P) × (me.0 ≡ view (p ∷ [])) × (me'.1 ≡ me.1) × (me'.0 ≡ view (part_after rested p step found ∷ [])) × Told seats p step found
+  lock_play rested seats step me found me' = (p : Part P) × (me.0 ≡ view (p ∷ [])) × (me'.1 ≡ me.1)
+      × (me'.0 ≡ view (part_after rested p step found ∷ [])) × Told seats p step found
 
   -- what belongs to the seat after a step on client word i that left that pass
   abbrev pub client_part : Part P → ℕ → P → Part P
@@ -137,6 +139,9 @@ module _ {P : Type 0} where
 
   -- a step on a client word says to its seat that it was made at a moment of the running table, with the value found
   -- there
-  abbrev pub client_play : {N : Type 0} → (Grants → List ℕ → List P → Type 0) → (Grants → List ℕ → List P → ℕ → ClientStep → N → P → Type 0) → N → ClientStep → Me (Unit {0}) (ListView P) → ℕ → Me (Unit {0}) (ListView P) → Type 0
-  client_play holds allows note step me found me' = (p : Part P) × (pass : P) × (me.0 ≡ view (p ∷ [])) × (me'.1 ≡ me.1) × (me'.0 ≡ view (client_part p (place_of step) pass ∷ []))
+  abbrev pub client_play : {N : Type 0} → (Grants → List ℕ → List P → Type 0)
+      → (Grants → List ℕ → List P → ℕ → ClientStep → N → P → Type 0) → N → ClientStep → Me (Unit {0}) (ListView P) → ℕ
+      → Me (Unit {0}) (ListView P) → Type 0
+  client_play holds allows note step me found me' = (p : Part P) × (pass : P) × (me.0 ≡ view (p ∷ [])) × (me'.1 ≡ me.1)
+      × (me'.0 ≡ view (client_part p (place_of step) pass ∷ []))
       × IsMade holds allows note p.number (held_at p.core.own) p.pass step found pass

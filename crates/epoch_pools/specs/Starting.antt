@@ -45,7 +45,8 @@ module _ {P : Type 0} (f : ℕ → Part P) where
   last_part s = let z : (s + 1) - s ≡ 1 = omega arith in ap (λ k. parts_from f s k) z
 
   module _ (numbered : (n : ℕ) → (f n).number ≡ n) (views : List (ListView P)) (parts : List (Part P)) (owner : ℕ → ℕ) (seats s id : ℕ)
-      (count : length parts ≡ seats) (o : IsOwned views parts owner) (more : s + 1 < seats) (at : get_elem? views id ≡ some (view (parts_from f s (seats - s)))) where
+      (count : length parts ≡ seats) (o : IsOwned views parts owner) (more : s + 1 < seats)
+      (at : get_elem? views id ≡ some (view (parts_from f s (seats - s)))) where
     -- every number from s on stands in the view that is cut
     mine : (n : ℕ) → s ≤ n → n < seats → (get_elem? parts n ≡ some (f n)) × (owner n ≡ id)
     mine n le lt = let i = n - s in let back : s + i ≡ n = omega arith in
@@ -79,13 +80,17 @@ module _ {P : Type 0} (f : ℕ → Part P) where
         (λ le. (r.0, kept p.number le ∙ r.1))
         (λ no. absurd (t.0 (sym r.1 ∙ (mine p.number (omega arith) (omega arith)).1))))
         (at_set views id id' (view (f s ∷ [])) v old))
-        (λ new. let e : get_elem? (parts_from f (s + 1) (seats - (s + 1))) k ≡ some p = subst (λ (z : ListView P). get_elem? z.parts k ≡ some p) (sym new.1) there in
+        (λ new. let e : get_elem? (parts_from f (s + 1) (seats - (s + 1))) k ≡ some p =
+        subst (λ (z : ListView P). get_elem? z.parts k ≡ some p) (sym new.1) there in
         let q = parts_at (s + 1) (seats - (s + 1)) k p e in
         let n = (s + 1) + k in
         let num : p.number ≡ n = ap (λ (x : Part P). x.number) q.1 ∙ numbered n in
         let lt = q.0 in
-        let m = mine n (omega arith) (omega arith) in
-        (ap (get_elem? parts) num ∙ (m.0 ∙ ap some (sym q.1)), ap owner' num ∙ (above n (omega arith) ∙ (sym (length-set views id (view (f s ∷ []))) ∙ sym new.0))))
+        let m = mine n (omega arith) (omega arith) in (
+          ap (get_elem? parts) num ∙ (m.0 ∙ ap some (sym q.1)),
+          ap owner' num
+              ∙ (above n (omega arith) ∙ (sym (length-set views id (view (f s ∷ []))) ∙ sym new.0)),
+        ))
         (snoc_at (set views id (view (f s ∷ []))) (view (parts_from f (s + 1) (seats - (s + 1)))) v id' at')
 
     abbrev views' : List (ListView P)
@@ -93,7 +98,8 @@ module _ {P : Type 0} (f : ℕ → Part P) where
 
     -- the view that was cut
     here : get_elem? views' id ≡ some (view (f s ∷ []))
-    here = at_longer (set views id (view (f s ∷ []))) (view (parts_from f (s + 1) (seats - (s + 1))) ∷ []) id (view (f s ∷ [])) (set_here views id (view (f s ∷ [])) (below views id (view (parts_from f s (seats - s))) at))
+    here = at_longer (set views id (view (f s ∷ []))) (view (parts_from f (s + 1) (seats - (s + 1))) ∷ []) id (view (f s ∷ []))
+        (set_here views id (view (f s ∷ [])) (below views id (view (parts_from f s (seats - s))) at))
 
     pub cut_stands : (n : ℕ) → n < seats → Stands views (owner n) n → Stands views' (owner' n) n
     cut_stands n lt st = dite (dec_le n s)
@@ -102,10 +108,19 @@ module _ {P : Type 0} (f : ℕ → Part P) where
         let is : view (parts_from f s (seats - s)) ≡ st.holder = some-injective _ _ (sym at ∙ (ap (get_elem? views) (sym e) ∙ st.at)) in
         let q = parts_at s (seats - s) st.place st.part (subst (λ (z : ListView P). get_elem? z.parts st.place ≡ some st.part) (sym is) st.has) in
         let num : s + st.place ≡ n = sym (numbered (s + st.place)) ∙ (ap (λ (x : Part P). x.number) (sym q.1) ∙ st.number) in
-        record { holder = view (f s ∷ []); at = ap (get_elem? views') (kept n le ∙ e) ∙ here; place = 0; part = f s; has = refl; number = let first : s ≡ n = omega arith in numbered s ∙ first })
+        record {
+          holder = view (f s ∷ []);
+          at = ap (get_elem? views') (kept n le ∙ e) ∙ here;
+          place = 0;
+          part = f s;
+          has = refl;
+          number = let first : s ≡ n = omega arith in numbered s ∙ first;
+        })
         (λ differ. record {
           holder = st.holder;
-          at = ap (get_elem? views') (kept n le) ∙ at_longer (set views id (view (f s ∷ []))) (view (parts_from f (s + 1) (seats - (s + 1))) ∷ []) (owner n) st.holder (set_else views id (owner n) (view (f s ∷ [])) differ ∙ st.at);
+          at = ap (get_elem? views') (kept n le) ∙ at_longer (set views id (view (f s ∷ [])))
+              (view (parts_from f (s + 1) (seats - (s + 1))) ∷ []) (owner n) st.holder
+              (set_else views id (owner n) (view (f s ∷ [])) differ ∙ st.at);
           place = st.place;
           part = st.part;
           has = st.has;
@@ -114,7 +129,9 @@ module _ {P : Type 0} (f : ℕ → Part P) where
         (λ no. let back : (s + 1) + (n - (s + 1)) ≡ n = omega arith in
         record {
           holder = view (parts_from f (s + 1) (seats - (s + 1)));
-          at = ap (get_elem? views') (above n (omega arith)) ∙ at_last (set views id (view (f s ∷ []))) (view (parts_from f (s + 1) (seats - (s + 1)))) (length views) (length-set views id (view (f s ∷ [])));
+          at = ap (get_elem? views') (above n (omega arith))
+              ∙ at_last (set views id (view (f s ∷ []))) (view (parts_from f (s + 1) (seats - (s + 1)))) (length views)
+              (length-set views id (view (f s ∷ [])));
           place = n - (s + 1);
           part = f n;
           has = at_parts (s + 1) (seats - (s + 1)) (n - (s + 1)) (omega arith) ∙ ap (λ m. some (f m)) back;
@@ -123,7 +140,8 @@ module _ {P : Type 0} (f : ℕ → Part P) where
 
 -- one seat can be cut off
 pub cuts : {P : Type 0} (first : List ℕ → ℕ → P) (holds : Grants → List ℕ → List P → Type 0) (seats clients : ℕ) (words : List ℕ) (s id : ℕ) → s + 1 < seats
-    → Splits (IsRunningList seats clients holds) id (view (parts_from (begin first seats words) s (seats - s))) (view (begin first seats words s ∷ [])) (view (parts_from (begin first seats words) (s + 1) (seats - (s + 1))))
+    → Splits (IsRunningList seats clients holds) id (view (parts_from (begin first seats words) s (seats - s)))
+    (view (begin first seats words s ∷ [])) (view (parts_from (begin first seats words) (s + 1) (seats - (s + 1))))
 cuts first holds seats clients words s id more st running at = let r = running.2 in (
   running.0,
   owner' (begin first seats words) (λ n. refl) st.views running.0 running.1 seats s id r.count r.owned more at,
@@ -139,5 +157,6 @@ cuts first holds seats clients words s id more st running at = let r = running.2
 )
 
 -- what is left for the last seat is its own view
-pub last_view : {P : Type 0} (first : List ℕ → ℕ → P) (words : List ℕ) (s : ℕ) → view (parts_from (begin first (s + 1) words) s ((s + 1) - s)) ≡ view (begin first (s + 1) words s ∷ [])
+pub last_view : {P : Type 0} (first : List ℕ → ℕ → P) (words : List ℕ) (s : ℕ)
+    → view (parts_from (begin first (s + 1) words) s ((s + 1) - s)) ≡ view (begin first (s + 1) words s ∷ [])
 last_view first words s = ap view (last_part (begin first (s + 1) words) s)

@@ -6,7 +6,8 @@ ghost use Rattle.std.specs.Prelude.{◌≡◌, ◌≢◌, ◌⊎◌, ℕ, ◌+�
 ghost use Rattle.view_lists.specs.Counted.{is_empty, are_others_passed};
 ghost use Rattle.lock_core.specs.Views.{is_passed, note_of};
 ghost use Rattle.epoch_pools.specs.Hands.{IsHandView};
-ghost use Rattle.epoch_pools.specs.Taking.{IsFree, IsPoolCall, IsLooking, IsHomeLook, IsHomeKnown, IsEpochLook, IsBarred, IsFirstInside, IsInside, IsRefill, TakesFirst, IsTaken};
+ghost use Rattle.epoch_pools.specs.Taking.{IsFree, IsPoolCall, IsLooking, IsHomeLook, IsHomeKnown, IsEpochLook};
+ghost use Rattle.epoch_pools.specs.Taking.{IsBarred, IsFirstInside, IsInside, IsRefill, TakesFirst, IsTaken};
 
 use crate::hand::Hand;
 use crate::list::List;
@@ -159,7 +160,8 @@ impl<G: Guard> Hand<G> {
     /// Says which seat hinders the nodes that wait.
     fn held_up(&self) -> Stuck
         requires barred { are_others_passed self.now.part.number self.now.part.core.passed ≡ false }
-        requires noted { (k : ℕ) → k < self.now.part.seats → k ≢ self.now.part.number → is_passed self.now.part.core k ≡ false → is_some (note_of self.now.part.core k) ≡ true }
+        requires noted { (k : ℕ) → k < self.now.part.seats → k ≢ self.now.part.number → is_passed self.now.part.core k ≡ false
+            → is_some (note_of self.now.part.core k) ≡ true }
         ensures { IsInside self.now.part result }
     {
         let (seat, epoch) = first_inside(self.view(), self.seats(), self.number());

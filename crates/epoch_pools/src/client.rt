@@ -30,7 +30,8 @@ impl<G: Guard> List<G> {
         requires allowed { IsAllowed G.holds G.allows M.note token.old.part.number (held_at token.old.part.core.own) token.old.part.pass C.acting }
         ensures table { token.new.table ≡ token.old.table }
         ensures part { token.new.part ≡ client_part token.old.part i token.new.part.pass }
-        ensures made { IsMade G.holds G.allows M.note token.old.part.number (held_at token.old.part.core.own) token.old.part.pass C.acting result token.new.part.pass }
+        ensures made { IsMade G.holds G.allows M.note token.old.part.number (held_at token.old.part.core.own) token.old.part.pass
+            C.acting result token.new.part.pass }
     {
         let word = self.client_word(i);
         self.table
@@ -45,7 +46,8 @@ impl<G: Guard> List<G> {
         requires allowed { IsAllowed G.holds G.allows M.note token.old.part.number (held_at token.old.part.core.own) token.old.part.pass C.acting }
         ensures table { token.new.table ≡ token.old.table }
         ensures part { token.new.part ≡ client_part token.old.part i token.new.part.pass }
-        ensures made { (found : ℕ) × IsMade G.holds G.allows M.note token.old.part.number (held_at token.old.part.core.own) token.old.part.pass C.acting found token.new.part.pass }
+        ensures made { (found : ℕ) × IsMade G.holds G.allows M.note token.old.part.number (held_at token.old.part.core.own)
+            token.old.part.pass C.acting found token.new.part.pass }
     {
         let word = self.client_word(i);
         self.table
@@ -60,7 +62,8 @@ impl<G: Guard> List<G> {
         requires allowed { IsAllowed G.holds G.allows M.note token.old.part.number (held_at token.old.part.core.own) token.old.part.pass C.acting }
         ensures table { token.new.table ≡ token.old.table }
         ensures part { token.new.part ≡ client_part token.old.part i token.new.part.pass }
-        ensures made { IsMade G.holds G.allows M.note token.old.part.number (held_at token.old.part.core.own) token.old.part.pass C.acting result token.new.part.pass }
+        ensures made { IsMade G.holds G.allows M.note token.old.part.number (held_at token.old.part.core.own) token.old.part.pass
+            C.acting result token.new.part.pass }
     {
         let word = self.client_word(i);
         self.table
@@ -81,7 +84,8 @@ impl<G: Guard> List<G> {
         requires allowed { IsAllowed G.holds G.allows M.note token.old.part.number (held_at token.old.part.core.own) token.old.part.pass C.acting }
         ensures table { token.new.table ≡ token.old.table }
         ensures part { token.new.part ≡ client_part token.old.part i token.new.part.pass }
-        ensures made { IsMade G.holds G.allows M.note token.old.part.number (held_at token.old.part.core.own) token.old.part.pass C.acting result token.new.part.pass }
+        ensures made { IsMade G.holds G.allows M.note token.old.part.number (held_at token.old.part.core.own) token.old.part.pass
+            C.acting result token.new.part.pass }
     {
         let word = self.client_word(i);
         self.table
@@ -109,7 +113,8 @@ pub fn client_store<G: Guard, M: Means<G>>(list: &List<G>, hand: &mut Hand<G>, i
     requires allowed { IsAllowed G.holds G.allows M.note hand.old.part.number (held_at hand.old.part.core.own) hand.old.part.pass (stores i value) }
     ensures table { hand.new.table ≡ hand.old.table }
     ensures part { hand.new.part ≡ client_part hand.old.part i hand.new.part.pass }
-    ensures made { (found : ℕ) × IsMade G.holds G.allows M.note hand.old.part.number (held_at hand.old.part.core.own) hand.old.part.pass (stores i value) found hand.new.part.pass }
+    ensures made { (found : ℕ) × IsMade G.holds G.allows M.note hand.old.part.number (held_at hand.old.part.core.own)
+        hand.old.part.pass (stores i value) found hand.new.part.pass }
 {
     list.store_at_client::<M, Brand>(&mut hand.token, i, value);
 }
@@ -121,7 +126,8 @@ pub fn client_add<G: Guard, M: Means<G>>(list: &List<G>, hand: &mut Hand<G>, i: 
     requires allowed { IsAllowed G.holds G.allows M.note hand.old.part.number (held_at hand.old.part.core.own) hand.old.part.pass (adds i by) }
     ensures table { hand.new.table ≡ hand.old.table }
     ensures part { hand.new.part ≡ client_part hand.old.part i hand.new.part.pass }
-    ensures made { IsMade G.holds G.allows M.note hand.old.part.number (held_at hand.old.part.core.own) hand.old.part.pass (adds i by) result hand.new.part.pass }
+    ensures made { IsMade G.holds G.allows M.note hand.old.part.number (held_at hand.old.part.core.own) hand.old.part.pass
+        (adds i by) result hand.new.part.pass }
 {
     list.add_at_client::<M, Brand>(&mut hand.token, i, by)
 }
@@ -140,7 +146,10 @@ pub fn client_exchange<G: Guard, M: Means<G>>(
     requires allowed { IsAllowed G.holds G.allows M.note hand.old.part.number (held_at hand.old.part.core.own) hand.old.part.pass (exchanges i expected new) }
     ensures table { hand.new.table ≡ hand.old.table }
     ensures part { hand.new.part ≡ client_part hand.old.part i hand.new.part.pass }
-    ensures made { MatchResult result (λ _. IsMade G.holds G.allows M.note hand.old.part.number (held_at hand.old.part.core.own) hand.old.part.pass (exchanges i expected new) expected hand.new.part.pass) (λ found. (found ≢ expected) × IsMade G.holds G.allows M.note hand.old.part.number (held_at hand.old.part.core.own) hand.old.part.pass (exchanges i expected new) found hand.new.part.pass) }
+    ensures made { MatchResult result (λ _. IsMade G.holds G.allows M.note hand.old.part.number (held_at hand.old.part.core.own)
+        hand.old.part.pass (exchanges i expected new) expected hand.new.part.pass)
+        (λ found. (found ≢ expected) × IsMade G.holds G.allows M.note hand.old.part.number (held_at hand.old.part.core.own)
+        hand.old.part.pass (exchanges i expected new) found hand.new.part.pass) }
 {
     let found = list.exchange_at_client::<M, Brand>(&mut hand.token, i, expected, new);
     if found == expected {

@@ -32,7 +32,8 @@ impl<G: Guard> Model for List<G> {
 
     ghost view = { λ t. record { table = t.table.shared.table_id; seats = t.seats; client = t.client } };
 
-    ghost invariant = { λ t. IsTable t.table.shared.key.seats (length t.table.shared.key.words.items) t.table.shared.table_id.words t.table.shared.table_id.slots t.seats t.client };
+    ghost invariant = { λ t. IsTable t.table.shared.key.seats (length t.table.shared.key.words.items)
+        t.table.shared.table_id.words t.table.shared.table_id.slots t.seats t.client };
 }
 
 /// How many words the lock has. The client words follow them.

@@ -22,5 +22,8 @@ impl<G: Guard> Model for Token<G> {
 
     ghost view = { λ t. record { table = t.seat.table_id; part = part_in (G.first [] 0) t.seat.me.0.parts } };
 
-    ghost invariant = { λ t. (t.seat.me.1 ≡ []) × (t.seat.me.0.parts ≡ part_in (G.first [] 0) t.seat.me.0.parts ∷ []) × ((part_in (G.first [] 0) t.seat.me.0.parts).number ≡ t.number) × ((part_in (G.first [] 0) t.seat.me.0.parts).seats ≡ t.seats) × (t.number < t.seats) × (t.seats ≤ 16) × (word_count t.seats ≤ t.seat.table_id.words) };
+    ghost invariant = { λ t. (t.seat.me.1 ≡ []) × (t.seat.me.0.parts ≡ part_in (G.first [] 0) t.seat.me.0.parts ∷ [])
+        × ((part_in (G.first [] 0) t.seat.me.0.parts).number ≡ t.number)
+        × ((part_in (G.first [] 0) t.seat.me.0.parts).seats ≡ t.seats) × (t.number < t.seats) × (t.seats ≤ 16)
+        × (word_count t.seats ≤ t.seat.table_id.words) };
 }

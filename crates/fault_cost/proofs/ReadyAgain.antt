@@ -8,6 +8,12 @@ use Rattle.area_protect.specs.declared.path.Protected.TheVariants.{Given, Spent}
 use Rattle.area_protect.specs.Protects.{IsAnswer}
 use Rattle.fault_cost.specs.Ready.{IsReady}
 
-pub ready_again : (space : Shape) (before after : CallerView) (line addr len : ℕ) (prot : Prot) (protected : Protected) → IsReady space before → IsAnswer before line addr len prot protected after → IsReady space after
-ready_again space before after line addr len prot (Given e path) ready is = let n = is.1.called.numbered in record { table = n.table ∙ ready.table; free = n.held ∙ ready.free }
-ready_again space before after line addr len prot Spent ready is = record { table = ap (λ (c : CallerView). c.seat.table) is.1 ∙ ready.table; free = ap (λ (c : CallerView). c.seat.held) is.1 ∙ ready.free }
+pub ready_again : (space : Shape) (before after : CallerView) (line addr len : ℕ) (prot : Prot) (protected : Protected)
+    → IsReady space before → IsAnswer before line addr len prot protected after → IsReady space after
+ready_again space before after line addr len prot (Given e path) ready is = let n = is.1.called.numbered in
+    record { table = n.table ∙ ready.table; free = n.held ∙ ready.free }
+ready_again space before after line addr len prot Spent ready is =
+    record {
+      table = ap (λ (c : CallerView). c.seat.table) is.1 ∙ ready.table;
+      free = ap (λ (c : CallerView). c.seat.held) is.1 ∙ ready.free;
+    }

@@ -14,7 +14,8 @@ starts_front test [] (a ∷ x) [] h = absurd h
 starts_front test [] (a ∷ x) (b ∷ y) h = ap test h
 starts_front test (c ∷ front) more rest h = refl
 
-choice_took : {A : Type 0} (test : ℕ → Bool) (one other : Part A) (text : List ℕ) (v : A) (rest : List ℕ) → Took (arm one other (starts test text)) text v rest → Took (choice test one other) text v rest
+choice_took : {A : Type 0} (test : ℕ → Bool) (one other : Part A) (text : List ℕ) (v : A) (rest : List ℕ)
+    → Took (arm one other (starts test text)) text v rest → Took (choice test one other) text v rest
 choice_took test one other text v rest t = record {
   front = t.front;
   parts = t.parts;
@@ -33,7 +34,8 @@ choice_begins test one other follow text [] over parts some h = some
 choice_begins test one other follow text (c ∷ front) over parts some h =
     (h.0, h.1, λ q hq. subst (λ (x : Bool). (arm one other x).takes ((c ∷ front) ++ h.0) q h.1) (ap (starts test) parts) (h.2 q hq))
 
-choice_stuck : {A : Type 0} (test : ℕ → Bool) (one other : Part A) (follow : A → List ℕ → Type 0) (text : List ℕ) (f : Refusal) → Fine (choice test one other) follow
+choice_stuck : {A : Type 0} (test : ℕ → Bool) (one other : Part A) (follow : A → List ℕ → Type 0) (text : List ℕ) (f : Refusal)
+    → Fine (choice test one other) follow
     → Stuck (arm one other (starts test text)) follow text f → Stuck (choice test one other) follow text f
 choice_stuck test one other follow text f fine s = record {
   front = s.front;
@@ -45,12 +47,14 @@ choice_stuck test one other follow text f fine s = record {
   begins = choice_begins test one other follow text s.front (s.over ++ s.rest) s.parts fine.some s.begins;
   ends = λ p q more w h e alike.
       let whole : (s.front ++ s.over) ++ s.rest ≡ text = append_assoc s.front s.over s.rest ∙ sym s.parts in
-      let guard : starts test (p ++ q) ≡ starts test text = ap (starts test) e ∙ starts_front test (s.front ++ s.over) more s.rest alike ∙ ap (starts test) whole in
+      let guard : starts test (p ++ q) ≡ starts test text = ap (starts test) e
+      ∙ starts_front test (s.front ++ s.over) more s.rest alike ∙ ap (starts test) whole in
       s.ends p q more w (subst (λ (x : Bool). (arm one other x).takes p q w) guard h) e alike;
   one = λ g o r w h e. s.one g o r w (subst (λ (x : List ℕ). (arm one other (starts test x)).refuses g o r w) (sym e) h) e;
 }
 
-pub choice_reads : {A : Type 0} (test : ℕ → Bool) (one other : Part A) (follow : A → List ℕ → Type 0) (text : List ℕ) (r : Result (A × List ℕ) Refusal) → Fine (choice test one other) follow
+pub choice_reads : {A : Type 0} (test : ℕ → Bool) (one other : Part A) (follow : A → List ℕ → Type 0) (text : List ℕ)
+    (r : Result (A × List ℕ) Refusal) → Fine (choice test one other) follow
     → Reads (arm one other (starts test text)) follow text r → Reads (choice test one other) follow text r
 choice_reads test one other follow text (Ok x) fine t = choice_took test one other text x.0 x.1 t
 choice_reads test one other follow text (Err f) fine s = choice_stuck test one other follow text f fine s
@@ -89,29 +93,37 @@ letters_full b word due = chain_full (byte b due) (λ u. letters word due) (byte
 pub run_full : (first later : ℕ → Bool) (due : What) → Full (run first later due)
 run_full first later due rest v h = h.1
 
-empty_stays : {A : Type 0} (test : ℕ → Bool) (one other : Part A) (follow : A → List ℕ → Type 0) (rest q : List ℕ) (v : A) (b : Bool) → starts test rest ≡ b → Fine other follow → Nonempty test one → Stays test other follow
+empty_stays : {A : Type 0} (test : ℕ → Bool) (one other : Part A) (follow : A → List ℕ → Type 0) (rest q : List ℕ) (v : A)
+    (b : Bool) → starts test rest ≡ b → Fine other follow → Nonempty test one → Stays test other follow
     → (arm one other b).takes [] rest v → follow v q → (arm one other (starts test q)).takes [] q v
 empty_stays test one other follow rest q v true e fine never stays h hq = absurd (never rest v h e)
-empty_stays test one other follow rest q v false e fine never stays h hq = subst (λ (x : Bool). (arm one other x).takes [] q v) (sym (stays rest q v h hq)) (fine.before [] rest q v h hq)
+empty_stays test one other follow rest q v false e fine never stays h hq =
+    subst (λ (x : Bool). (arm one other x).takes [] q v) (sym (stays rest q v h hq)) (fine.before [] rest q v h hq)
 
-arm_before : {A : Type 0} (one other : Part A) (follow : A → List ℕ → Type 0) → Fine one follow → Fine other follow → (b : Bool) (a rest q : List ℕ) (v : A) → (arm one other b).takes a rest v → follow v q → (arm one other b).takes a q v
+arm_before : {A : Type 0} (one other : Part A) (follow : A → List ℕ → Type 0) → Fine one follow → Fine other follow
+    → (b : Bool) (a rest q : List ℕ) (v : A) → (arm one other b).takes a rest v → follow v q → (arm one other b).takes a q v
 arm_before one other follow f g true a rest q v h hq = f.before a rest q v h hq
 arm_before one other follow f g false a rest q v h hq = g.before a rest q v h hq
 
-choice_before : {A : Type 0} (test : ℕ → Bool) (one other : Part A) (follow : A → List ℕ → Type 0) → Fine one follow → Fine other follow → Nonempty test one → Stays test other follow
+choice_before : {A : Type 0} (test : ℕ → Bool) (one other : Part A) (follow : A → List ℕ → Type 0) → Fine one follow
+    → Fine other follow → Nonempty test one → Stays test other follow
     → (a rest q : List ℕ) (v : A) → (choice test one other).takes a rest v → follow v q → (choice test one other).takes a q v
 choice_before test one other follow f g never stays [] rest q v h hq = empty_stays test one other follow rest q v (starts test rest) refl g never stays h hq
 choice_before test one other follow f g never stays (c ∷ a) rest q v h hq = arm_before one other follow f g (test c) (c ∷ a) rest q v h hq
 
-arm_reads : {A : Type 0} {one other : Part A} {follow : A → List ℕ → Type 0} {r s : List ℕ → Result (A × List ℕ) Refusal} → Good one follow r → Good other follow s → (text : List ℕ) (b : Bool) → Reads (arm one other b) follow text (if b then r text else s text)
+arm_reads : {A : Type 0} {one other : Part A} {follow : A → List ℕ → Type 0} {r s : List ℕ → Result (A × List ℕ) Refusal}
+    → Good one follow r → Good other follow s → (text : List ℕ) (b : Bool)
+    → Reads (arm one other b) follow text (if b then r text else s text)
 arm_reads g h text true = g.reads text
 arm_reads g h text false = h.reads text
 
-pub fine_choice : {A : Type 0} {one other : Part A} {follow : A → List ℕ → Type 0} (test : ℕ → Bool) → Fine one follow → Fine other follow → Nonempty test one → Stays test other follow
+pub fine_choice : {A : Type 0} {one other : Part A} {follow : A → List ℕ → Type 0} (test : ℕ → Bool) → Fine one follow
+    → Fine other follow → Nonempty test one → Stays test other follow
     → ((b : List ℕ) × (w : A) × ((q : List ℕ) → follow w q → (choice test one other).takes b q w)) → Fine (choice test one other) follow
 fine_choice {A} {one} {other} {follow} test f g never stays some = record { some = some; before = choice_before test one other follow f g never stays }
 
-pub good_choice : {A : Type 0} {one other : Part A} {follow : A → List ℕ → Type 0} {r s : List ℕ → Result (A × List ℕ) Refusal} (test : ℕ → Bool) → Good one follow r → Good other follow s → Nonempty test one → Stays test other follow
+pub good_choice : {A : Type 0} {one other : Part A} {follow : A → List ℕ → Type 0} {r s : List ℕ → Result (A × List ℕ) Refusal}
+    (test : ℕ → Bool) → Good one follow r → Good other follow s → Nonempty test one → Stays test other follow
     → ((b : List ℕ) × (w : A) × ((q : List ℕ) → follow w q → (choice test one other).takes b q w))
     → Good (choice test one other) follow (λ text. if starts test text then r text else s text)
 good_choice {A} {one} {other} {follow} {r} {s} test g h never stays some =
@@ -121,7 +133,8 @@ good_choice {A} {one} {other} {follow} {r} {s} test g h never stays some =
       reads = λ text. choice_reads test one other follow text (if starts test text then r text else s text) fine (arm_reads g h text (starts test text));
     }
 
-narrow_reads : {A : Type 0} (part : Part A) (wide narrow : A → List ℕ → Type 0) (text : List ℕ) (r : Result (A × List ℕ) Refusal) → ((v : A) (q : List ℕ) → narrow v q → wide v q) → Reads part wide text r → Reads part narrow text r
+narrow_reads : {A : Type 0} (part : Part A) (wide narrow : A → List ℕ → Type 0) (text : List ℕ) (r : Result (A × List ℕ) Refusal)
+    → ((v : A) (q : List ℕ) → narrow v q → wide v q) → Reads part wide text r → Reads part narrow text r
 narrow_reads part wide narrow text (Ok x) widen t = t
 narrow_reads part wide narrow text (Err f) widen s = record {
   front = s.front;
@@ -136,7 +149,8 @@ narrow_reads part wide narrow text (Err f) widen s = record {
 }
 
 -- What is good before some texts is good before fewer.
-pub narrower : {A : Type 0} {part : Part A} {wide narrow : A → List ℕ → Type 0} {r : List ℕ → Result (A × List ℕ) Refusal} → ((v : A) (q : List ℕ) → narrow v q → wide v q) → Good part wide r → Good part narrow r
+pub narrower : {A : Type 0} {part : Part A} {wide narrow : A → List ℕ → Type 0} {r : List ℕ → Result (A × List ℕ) Refusal}
+    → ((v : A) (q : List ℕ) → narrow v q → wide v q) → Good part wide r → Good part narrow r
 narrower {A} {part} {wide} {narrow} {r} widen g = record {
   fine = record {
     some = (g.fine.some.0, g.fine.some.1, λ q hq. g.fine.some.2 q (widen g.fine.some.1 q hq));

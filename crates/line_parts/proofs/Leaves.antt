@@ -6,7 +6,8 @@ use Rattle.std.proofs.Math.Seq.{take-append_seam}
 use Rattle.std.proofs.lemmas.List.{append-nil, length-append}
 use Rattle.line_parts.specs.declared.refusal.What.{What}
 use Rattle.line_parts.specs.Parts.{Alike, starts, done}
-use Rattle.line_parts.specs.Leaves.{is, AtFirst, byte, letters, EachIs, IsRun, run, is_digit, is_capital, is_word_byte, many_digits, spaces, NoPair, until, end, anything}
+use Rattle.line_parts.specs.Leaves.{is, AtFirst, byte, letters, EachIs, IsRun, run, is_digit, is_capital, is_word_byte}
+use Rattle.line_parts.specs.Leaves.{many_digits, spaces, NoPair, until, end, anything}
 use Rattle.line_parts.specs.Reading.{refusal_at, byte_at, letters_at, taken, after_spaces, run_at, digits_end, until_at, end_at}
 use Rattle.line_parts.proofs.Sequence.{Took, Stuck, Reads, Fine, Good, good_then}
 use Rattle.line_parts.proofs.Choices.{starts_front}
@@ -33,10 +34,12 @@ pub not_both : {b : Bool} → b ≡ true → b ≡ false → ⊥
 not_both h k = cc
 
 -- a refusal at the first byte is the only one there
-pub first_one : (test : ℕ → Bool) (due : What) (text g o r : List ℕ) (w : What) → AtFirst test due g o r w → text ≡ g ++ (o ++ r) → (length (o ++ r) ≡ length text) × (w ≡ due)
+pub first_one : (test : ℕ → Bool) (due : What) (text g o r : List ℕ) (w : What) → AtFirst test due g o r w → text ≡ g ++ (o ++ r)
+    → (length (o ++ r) ≡ length text) × (w ≡ due)
 first_one test due text g o r w h e = (sym (ap length (e ∙ ap (λ (x : List ℕ). x ++ (o ++ r)) h.0)), h.2)
 
-pub first_clean : (test : ℕ → Bool) (due : What) (text g o r : List ℕ) (w : What) → AtFirst test due g o r w → text ≡ g ++ (o ++ r) → starts test text ≡ true → ⊥
+pub first_clean : (test : ℕ → Bool) (due : What) (text g o r : List ℕ) (w : What) → AtFirst test due g o r w
+    → text ≡ g ++ (o ++ r) → starts test text ≡ true → ⊥
 first_clean test due text g o r w h e yes_ =
     let is : text ≡ r = e ∙ ap (λ (x : List ℕ). x ++ (o ++ r)) h.0 ∙ ap (λ (x : List ℕ). x ++ r) h.1 in
     not_both yes_ (ap (starts test) is ∙ h.3)
@@ -96,7 +99,9 @@ letters_good (b ∷ word) due = good_then (byte_good b due) (λ u. letters_good 
 
 -- ---- runs and spaces
 
-pub taken_is : (test : ℕ → Bool) (text : List ℕ) → EachIs test (taken test text).0 × (text ≡ (taken test text).0 ++ (taken test text).1) × (starts test (taken test text).1 ≡ false)
+pub taken_is : (test : ℕ → Bool) (text : List ℕ)
+    → EachIs test (taken test text).0 × (text ≡ (taken test text).0 ++ (taken test text).1)
+    × (starts test (taken test text).1 ≡ false)
 unfolding taken
 taken_is test [] = (tt, refl, refl)
 taken_is test (c ∷ rest) =
@@ -106,7 +111,8 @@ taken_is test (c ∷ rest) =
     ]
 
 -- Two runs to their end that go on alike are one.
-pub same_run : (test : ℕ → Bool) (rest p front q more : List ℕ) → EachIs test p → EachIs test front → starts test q ≡ false → starts test rest ≡ false → p ++ q ≡ front ++ more → Alike more rest → p ≡ front
+pub same_run : (test : ℕ → Bool) (rest p front q more : List ℕ) → EachIs test p → EachIs test front → starts test q ≡ false
+    → starts test rest ≡ false → p ++ q ≡ front ++ more → Alike more rest → p ≡ front
 same_run test rest [] [] q more hp hf hq hr e alike = refl
 same_run test rest [] (c ∷ front) q more hp hf hq hr e alike = absurd (not_both (ap (starts test) e ∙ hf.0) hq)
 same_run test rest (b ∷ p) [] q more hp hf hq hr e alike = absurd (first_ends test rest (b ∷ (p ++ q)) more hr hp.0 e alike)
@@ -120,7 +126,8 @@ pub run_starts : (first later : ℕ → Bool) (p q : List ℕ) → IsRun first l
 run_starts first later [] q h = absurd h
 run_starts first later (b ∷ p) q h = h.0
 
-run_same : (first later : ℕ → Bool) (rest p front q more : List ℕ) → IsRun first later p → IsRun first later front → starts later q ≡ false → starts later rest ≡ false → p ++ q ≡ front ++ more → Alike more rest → p ≡ front
+run_same : (first later : ℕ → Bool) (rest p front q more : List ℕ) → IsRun first later p → IsRun first later front
+    → starts later q ≡ false → starts later rest ≡ false → p ++ q ≡ front ++ more → Alike more rest → p ≡ front
 run_same first later rest [] front q more hp hf hq hr e alike = absurd hp
 run_same first later rest (b ∷ p) [] q more hp hf hq hr e alike = absurd hf
 run_same first later rest (b ∷ p) (c ∷ front) q more hp hf hq hr e alike =
@@ -129,7 +136,8 @@ run_same first later rest (b ∷ p) (c ∷ front) q more hp hf hq hr e alike =
     let h : b ≡ c = cc in
     cc
 
-run_stuck : (first later : ℕ → Bool) (due : What) (b : ℕ) (text : List ℕ) → first b ≡ true → starts first text ≡ false → Stuck (run first later due) (λ v q. starts later q ≡ false) text (refusal_at text due)
+run_stuck : (first later : ℕ → Bool) (due : What) (b : ℕ) (text : List ℕ) → first b ≡ true → starts first text ≡ false
+    → Stuck (run first later due) (λ v q. starts later q ≡ false) text (refusal_at text due)
 run_stuck first later due b text sample none = record {
   front = [];
   over = [];
@@ -142,7 +150,8 @@ run_stuck first later due b text sample none = record {
   one = λ g o r w h e. first_one first due text g o r w h e;
 }
 
-run_took : (first later : ℕ → Bool) (due : What) (text front rest : List ℕ) → text ≡ front ++ rest → IsRun first later front → starts later rest ≡ false → Took (run first later due) text front rest
+run_took : (first later : ℕ → Bool) (due : What) (text front rest : List ℕ) → text ≡ front ++ rest → IsRun first later front
+    → starts later rest ≡ false → Took (run first later due) text front rest
 run_took first later due text front rest parts run_is ended = record {
   front = front;
   parts = parts;
@@ -151,17 +160,21 @@ run_took first later due text front rest parts run_is ended = record {
   clean = λ g o r w h e. first_clean first due text g o r w h e (ap (starts first) parts ∙ run_starts first later front rest run_is);
 }
 
-run_reads : (first later : ℕ → Bool) (due : What) (b : ℕ) → first b ≡ true → (text : List ℕ) → Reads (run first later due) (λ v q. starts later q ≡ false) text (run_at first later due text)
+run_reads : (first later : ℕ → Bool) (due : What) (b : ℕ) → first b ≡ true → (text : List ℕ)
+    → Reads (run first later due) (λ v q. starts later q ≡ false) text (run_at first later due text)
 unfolding run_at
 run_reads first later due b sample [] = run_stuck first later due b [] sample refl
 run_reads first later due b sample (c ∷ rest) =
     elim (bool_cases (first c)) [
-      | inl h ↦ let r = taken_is later rest in rw h (run_took first later due (c ∷ rest) (c ∷ (taken later rest).0) (taken later rest).1 (ap (λ (x : List ℕ). c ∷ x) r.1) (h, r.0) r.2)
+      | inl h ↦ let r = taken_is later rest in rw h
+          (run_took first later due (c ∷ rest) (c ∷ (taken later rest).0) (taken later rest).1 (ap (λ (x : List ℕ). c ∷ x) r.1)
+          (h, r.0) r.2)
       | inr h ↦ rw h (run_stuck first later due b (c ∷ rest) sample h)
     ]
 
 -- A run is good, where b is a byte that begins one.
-pub run_good : (first later : ℕ → Bool) (due : What) (b : ℕ) → first b ≡ true → Good (run first later due) (λ v q. starts later q ≡ false) (run_at first later due)
+pub run_good : (first later : ℕ → Bool) (due : What) (b : ℕ) → first b ≡ true
+    → Good (run first later due) (λ v q. starts later q ≡ false) (run_at first later due)
 run_good first later due b sample = record {
   fine = record { some = (b ∷ [], b ∷ [], λ q h. (refl, (sample, tt), h)); before = λ a rest q v h hq. (h.0, h.1, hq) };
   reads = run_reads first later due b sample;
@@ -169,7 +182,8 @@ run_good first later due b sample = record {
 
 pub digits_good : (due : What) → Good (many_digits due) (λ v q. starts is_digit q ≡ false) (digits_end due)
 unfolding digits_end
-digits_good due = good_then (run_good is_digit is_digit due 48 refl) (λ d. done_good tt (λ v q. starts is_digit q ≡ false)) (λ v b q w h hq. ap (λ (y : List ℕ). starts is_digit (y ++ q)) h.0 ∙ hq)
+digits_good due = good_then (run_good is_digit is_digit due 48 refl) (λ d. done_good tt (λ v q. starts is_digit q ≡ false))
+    (λ v b q w h hq. ap (λ (y : List ℕ). starts is_digit (y ++ q)) h.0 ∙ hq)
 
 pub taken_shorter : (test : ℕ → Bool) (text : List ℕ) → length (taken test text).1 ≤ length text
 taken_shorter test text =
@@ -186,13 +200,15 @@ taken_front test text =
     let n : length text - length after ≡ length front = omega arith in
     ap (λ (x : ℕ). take x text) n ∙ ap (λ (x : List ℕ). take (length front) x) r.1 ∙ take-append_seam front after
 
-run_is_taken : (first later : ℕ → Bool) (due : What) (text : List ℕ) → ((b : ℕ) → first b ≡ true → later b ≡ true) → starts first text ≡ true → run_at first later due text ≡ Ok ((taken later text).0, (taken later text).1)
+run_is_taken : (first later : ℕ → Bool) (due : What) (text : List ℕ) → ((b : ℕ) → first b ≡ true → later b ≡ true)
+    → starts first text ≡ true → run_at first later due text ≡ Ok ((taken later text).0, (taken later text).1)
 unfolding run_at taken
 run_is_taken first later due [] sub h = absurd cc
 run_is_taken first later due (c ∷ rest) sub h = rw h (rw (sub c h) refl)
 
 -- a run as the code cuts it off
-pub run_cut : (first later : ℕ → Bool) (due : What) (text rest : List ℕ) → ((b : ℕ) → first b ≡ true → later b ≡ true) → starts first text ≡ true → rest ≡ (taken later text).1
+pub run_cut : (first later : ℕ → Bool) (due : What) (text rest : List ℕ) → ((b : ℕ) → first b ≡ true → later b ≡ true)
+    → starts first text ≡ true → rest ≡ (taken later text).1
     → run_at first later due text ≡ Ok (take (length text - length rest) text, rest)
 run_cut first later due text rest sub h e =
     rw e (run_is_taken first later due text sub h ∙ ap (λ (x : List ℕ). Ok (x, (taken later text).1)) (sym (taken_front later text)))
@@ -242,7 +258,8 @@ end_reads due v (c ∷ rest) = record {
   left = refl;
   due = (refl, refl, refl, λ e. cc);
   begins = ([], v, λ q h. (refl, h, refl));
-  ends = λ p q more w h e alike. let none : [] ≡ more = sym (ap (λ (x : List ℕ). x ++ q) h.0 ∙ h.1) ∙ e in subst (λ (x : List ℕ). Alike x (c ∷ rest)) (sym none) alike;
+  ends = λ p q more w h e alike. let none : [] ≡ more = sym (ap (λ (x : List ℕ). x ++ q) h.0 ∙ h.1) ∙ e in
+      subst (λ (x : List ℕ). Alike x (c ∷ rest)) (sym none) alike;
   one = λ g o r w h e. (sym (ap length (e ∙ ap (λ (x : List ℕ). x ++ (o ++ r)) h.0)), h.2);
 }
 
@@ -261,7 +278,11 @@ anything_took test v text none = record {
   front = text;
   parts = sym (append-nil text);
   takes = (refl, refl, none);
-  only = λ p q more w h e alike. (sym (append-nil p) ∙ ap (λ (x : List ℕ). p ++ x) (sym h.0) ∙ e ∙ ap (λ (x : List ℕ). text ++ x) (alike_end more alike) ∙ append-nil text, h.1);
+  only = λ p q more w h e alike. (
+    sym (append-nil p) ∙ ap (λ (x : List ℕ). p ++ x) (sym h.0) ∙ e
+        ∙ ap (λ (x : List ℕ). text ++ x) (alike_end more alike) ∙ append-nil text,
+    h.1,
+  );
   clean = λ g o r w h e. h;
 }
 
@@ -277,7 +298,9 @@ anything_good v = record { fine = anything_fine (λ b. false) v; reads = λ text
 
 -- ---- bytes to a pair
 
-pub until_same : (x y : ℕ) (rest p front q more : List ℕ) → is y x ≡ false → NoPair x y p → NoPair x y front → starts (is y) q ≡ true → starts (is y) rest ≡ true → (p ++ (x ∷ [])) ++ q ≡ (front ++ (x ∷ [])) ++ more → Alike more rest → p ≡ front
+pub until_same : (x y : ℕ) (rest p front q more : List ℕ) → is y x ≡ false → NoPair x y p → NoPair x y front
+    → starts (is y) q ≡ true → starts (is y) rest ≡ true → (p ++ (x ∷ [])) ++ q ≡ (front ++ (x ∷ [])) ++ more → Alike more rest
+    → p ≡ front
 until_same x y rest [] [] q more apart hp hf hq hr e alike = refl
 until_same x y rest [] (c ∷ []) q more apart hp hf hq hr e alike =
     let k : q ≡ x ∷ more = cc in
@@ -314,7 +337,8 @@ pub record Before (x y : ℕ) (due : What) (text : List ℕ) (body rest : List �
   pub next : starts (is y) rest ≡ true
   pub is_read : until_at x y due text ≡ Ok (tt, rest)
 
-body_starts : (test : ℕ → Bool) (body : List ℕ) (x : ℕ) (rest text : List ℕ) → text ≡ (body ++ (x ∷ [])) ++ rest → starts test text ≡ false → starts test body ≡ false
+body_starts : (test : ℕ → Bool) (body : List ℕ) (x : ℕ) (rest text : List ℕ) → text ≡ (body ++ (x ∷ [])) ++ rest
+    → starts test text ≡ false → starts test body ≡ false
 body_starts test [] x rest text e h = refl
 body_starts test (b ∷ body) x rest text e h = sym (ap (starts test) e) ∙ h
 
@@ -333,7 +357,9 @@ until_on x y due c text none on (inl h) = inl (
 )
 until_on x y due c text none on (inr h) = inr ((none, h.0), on ∙ h.1)
 
-until_cases : (x y : ℕ) (due : What) (text : List ℕ) → ((body rest : List ℕ) × Before x y due text body rest) ⊎ (NoPair x y text × (until_at x y due text ≡ Err (refusal_at [] due)))
+until_cases : (x y : ℕ) (due : What) (text : List ℕ)
+    → ((body rest : List ℕ) × Before x y due text body rest)
+    ⊎ (NoPair x y text × (until_at x y due text ≡ Err (refusal_at [] due)))
 unfolding until_at
 until_cases x y due [] = inr (tt, refl)
 until_cases x y due (c ∷ text) =
@@ -368,7 +394,8 @@ until_stuck x y due text none = record {
   due = (refl, refl, refl, none);
   begins = (x ∷ [], tt, λ q h. (text, refl, none, h));
   ends = λ p q more v h e alike.
-      until_none x y h.0 q text none h.3 (ap (λ (t : List ℕ). t ++ q) (sym h.1) ∙ e ∙ ap (λ (t : List ℕ). (text ++ []) ++ t) (alike_end more alike) ∙ append-nil (text ++ []) ∙ append-nil text);
+      until_none x y h.0 q text none h.3 (ap (λ (t : List ℕ). t ++ q) (sym h.1) ∙ e
+      ∙ ap (λ (t : List ℕ). (text ++ []) ++ t) (alike_end more alike) ∙ append-nil (text ++ []) ∙ append-nil text);
   one = λ g o r w h e. (ap (λ (t : List ℕ). length (t ++ r)) h.0 ∙ ap length h.1, h.2);
 }
 

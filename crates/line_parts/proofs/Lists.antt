@@ -1,6 +1,7 @@
 -- A list of items is read item by item: its part is that of one item with the rest of the list behind
 -- it, and a reading of that part is a reading of the list.
-use Rattle.std.proofs.Common.{◌≡◌, ℕ, ◌+◌, ◌<◌, ◌≤◌, zero, suc, List, [], ◌∷◌, ◌++◌, length, Result, Ok, Err, Option, Some, None, Bool, true, false, refl, sym, ap, subst, ◌∙◌, append_assoc, inl, inr, arith}
+use Rattle.std.proofs.Common.{◌≡◌, ℕ, ◌+◌, ◌<◌, ◌≤◌, zero, suc, List, [], ◌∷◌, ◌++◌, length, Result, Ok, Err, Option}
+use Rattle.std.proofs.Common.{Some, None, Bool, true, false, refl, sym, ap, subst, ◌∙◌, append_assoc, inl, inr, arith}
 use Rattle.std.specs.Prelude.{◌⊎◌, if◌then◌else◌}
 use Rattle.std.specs.Int.RustNames.{bit_or}
 use Rattle.std.proofs.lemmas.List.{append-nil, length-append}
@@ -24,7 +25,8 @@ pub record Same {A : Type 0} (one other : Part A) : Type 0 where
   pub refuses_to : (front over rest : List ℕ) (w : What) → one.refuses front over rest w → other.refuses front over rest w
   pub refuses_back : (front over rest : List ℕ) (w : What) → other.refuses front over rest w → one.refuses front over rest w
 
-pub reads_same : {A : Type 0} (one other : Part A) (follow : A → List ℕ → Type 0) (text : List ℕ) (r : Result (A × List ℕ) Refusal) → Same one other → Reads one follow text r → Reads other follow text r
+pub reads_same : {A : Type 0} (one other : Part A) (follow : A → List ℕ → Type 0) (text : List ℕ)
+    (r : Result (A × List ℕ) Refusal) → Same one other → Reads one follow text r → Reads other follow text r
 reads_same one other follow text (Ok x) same t = record {
   front = t.front;
   parts = t.parts;
@@ -86,7 +88,8 @@ bar_joins : (q : List ℕ) → starts (is 124) q ≡ true → starts is_join q �
 bar_joins [] h = cc
 bar_joins (c ∷ q) h = rw h refl
 
-join_cases : (c : ℕ) (a b d : Bool) → is 124 c ≡ a → is 44 c ≡ b → is 41 c ≡ d → (if a then true else if b then true else d) ≡ true → (c ≡ 124) ⊎ ((c ≡ 44) ⊎ (c ≡ 41))
+join_cases : (c : ℕ) (a b d : Bool) → is 124 c ≡ a → is 44 c ≡ b → is 41 c ≡ d
+    → (if a then true else if b then true else d) ≡ true → (c ≡ 124) ⊎ ((c ≡ 44) ⊎ (c ≡ 41))
 join_cases c true b d ea eb ed h = inl (same_is 124 c ea)
 join_cases c false true d ea eb ed h = inr (inl (same_is 44 c eb))
 join_cases c false false true ea eb ed h = inr (inr (same_is 41 c ed))
@@ -103,7 +106,11 @@ join_fails test x y z (c ∷ q) h = elim (join_byte c h) [ inl k ↦ ap test k �
 pub join_no_numeral : (q : List ℕ) → starts is_join q ≡ true → NoNumeral q
 unfolding worth
 join_no_numeral [] h = tt
-join_no_numeral (c ∷ q) h = elim (join_byte c h) [ inl k ↦ rw k (omega arith, omega arith) | inr k ↦ elim k [ inl l ↦ rw l (omega arith, omega arith) | inr l ↦ rw l (omega arith, omega arith) ] ]
+join_no_numeral (c ∷ q) h = elim (join_byte c h) [
+  | inl k ↦ rw k (omega arith, omega arith)
+  | inr k ↦
+      elim k [ inl l ↦ rw l (omega arith, omega arith) | inr l ↦ rw l (omega arith, omega arith) ]
+]
 
 -- ---- the list is an item with the rest of the list behind it
 
@@ -114,7 +121,8 @@ behind item bits (Some n) = choice (is 124) (chain (byte 124 Comma) (λ u. liste
 abbrev pub unrolled : Part (Option ℕ) → ℕ → Part (Option ℕ)
 unrolled item bits = chain item (behind item bits)
 
-fold_choice : (item : Part (Option ℕ)) (bits n : ℕ) (a b front rest : List ℕ) (v : Option ℕ) (x : Bool) → front ≡ a ++ b → item.takes a (b ++ rest) (Some n) → starts (is 124) (b ++ rest) ≡ x
+fold_choice : (item : Part (Option ℕ)) (bits n : ℕ) (a b front rest : List ℕ) (v : Option ℕ) (x : Bool) → front ≡ a ++ b
+    → item.takes a (b ++ rest) (Some n) → starts (is 124) (b ++ rest) ≡ x
     → (arm (chain (byte 124 Comma) (λ u. listed item (bit_or bits n))) (done (Some (bit_or bits n))) x).takes b rest v → (listed item bits).takes front rest v
 fold_choice item bits n a b front rest v true e h bar k =
     let is_b : b ≡ 124 ∷ k.1 = k.3 ∙ ap (λ (y : List ℕ). y ++ k.1) k.4 in
@@ -124,24 +132,36 @@ fold_choice item bits n a b front rest v false e h bar k =
     let h1 : item.takes a rest (Some n) = subst (λ (y : List ℕ). item.takes a (y ++ rest) (Some n)) k.0 h in
     ([], (Some n, subst (λ (y : List ℕ). item.takes y rest (Some n)) (sym is_front) h1, sym (ap (λ (y : List ℕ). starts (is 124) (y ++ rest)) k.0) ∙ bar, k.1))
 
-fold_takes : (item : Part (Option ℕ)) (bits : ℕ) (front rest : List ℕ) (v : Option ℕ) (a b : List ℕ) (u : Option ℕ) → front ≡ a ++ b → item.takes a (b ++ rest) u → (behind item bits u).takes b rest v → (listed item bits).takes front rest v
+fold_takes : (item : Part (Option ℕ)) (bits : ℕ) (front rest : List ℕ) (v : Option ℕ) (a b : List ℕ) (u : Option ℕ)
+    → front ≡ a ++ b → item.takes a (b ++ rest) u → (behind item bits u).takes b rest v → (listed item bits).takes front rest v
 fold_takes item bits front rest v a b None e h k =
     let is_front : front ≡ a = e ∙ ap (λ (y : List ℕ). a ++ y) k.0 ∙ append-nil a in
     let h1 : item.takes a rest None = subst (λ (y : List ℕ). item.takes a (y ++ rest) None) k.0 h in
     ([], (None, subst (λ (y : List ℕ). item.takes y rest None) (sym is_front) h1, tt, k.1))
 fold_takes item bits front rest v a b (Some n) e h k = fold_choice item bits n a b front rest v (starts (is 124) (b ++ rest)) e h refl k
 
-unfold_last : (item : Part (Option ℕ)) (bits : ℕ) (front rest : List ℕ) (v u : Option ℕ) → item.takes front rest u → NoBar u rest → v ≡ with_more bits u → (unrolled item bits).takes front rest v
+unfold_last : (item : Part (Option ℕ)) (bits : ℕ) (front rest : List ℕ) (v u : Option ℕ) → item.takes front rest u → NoBar u rest
+    → v ≡ with_more bits u → (unrolled item bits).takes front rest v
 unfold_last item bits front rest v None h bar e = (front, [], None, sym (append-nil front), h, (refl, e))
-unfold_last item bits front rest v (Some n) h bar e =
-    (front, [], Some n, sym (append-nil front), h, subst (λ (x : Bool). (arm (chain (byte 124 Comma) (λ u. listed item (bit_or bits n))) (done (Some (bit_or bits n))) x).takes [] rest v) (sym bar) (refl, e))
+unfold_last item bits front rest v (Some n) h bar e = (
+  front,
+  [],
+  Some n,
+  sym (append-nil front),
+  h,
+  subst (λ (x : Bool). (arm (chain (byte 124 Comma) (λ u. listed item (bit_or bits n))) (done (Some (bit_or bits n)))
+      x).takes [] rest v) (sym bar) (refl, e),
+)
 
-unfold_takes : (item : Part (Option ℕ)) (bits : ℕ) (front rest : List ℕ) (v : Option ℕ) (before : List ℕ) → Items item bits before front rest v → (unrolled item bits).takes front rest v
+unfold_takes : (item : Part (Option ℕ)) (bits : ℕ) (front rest : List ℕ) (v : Option ℕ) (before : List ℕ)
+    → Items item bits before front rest v → (unrolled item bits).takes front rest v
 unfold_takes item bits front rest v [] h = unfold_last item bits front rest v h.0 h.1 h.2 h.3
 unfold_takes item bits front rest v (n ∷ before) h = (h.0, 124 ∷ h.1, Some n, h.2, h.3, (124 ∷ [], h.1, tt, refl, refl, (before, h.4)))
 
-fold_choice_refuses : (item : Part (Option ℕ)) (bits n : ℕ) (a b front over rest : List ℕ) (w : What) (x : Bool) → front ≡ a ++ b → item.takes a (b ++ (over ++ rest)) (Some n) → starts (is 124) (b ++ (over ++ rest)) ≡ x
-    → (arm (chain (byte 124 Comma) (λ u. listed item (bit_or bits n))) (done (Some (bit_or bits n))) x).refuses b over rest w → (listed item bits).refuses front over rest w
+fold_choice_refuses : (item : Part (Option ℕ)) (bits n : ℕ) (a b front over rest : List ℕ) (w : What) (x : Bool) → front ≡ a ++ b
+    → item.takes a (b ++ (over ++ rest)) (Some n) → starts (is 124) (b ++ (over ++ rest)) ≡ x
+    → (arm (chain (byte 124 Comma) (λ u. listed item (bit_or bits n))) (done (Some (bit_or bits n))) x).refuses b over rest w
+    → (listed item bits).refuses front over rest w
 fold_choice_refuses item bits n a b front over rest w true e h bar (inl k) =
     let is_rest : b ++ (over ++ rest) ≡ rest = ap (λ (y : List ℕ). y ++ (over ++ rest)) k.0 ∙ ap (λ (y : List ℕ). y ++ rest) k.1 in
     let none : starts (is 124) (b ++ (over ++ rest)) ≡ false = ap (starts (is 124)) is_rest ∙ k.3 in
@@ -151,15 +171,20 @@ fold_choice_refuses item bits n a b front over rest w true e h bar (inr k) =
     (n ∷ k.5.0, (a, k.1, e ∙ ap (λ (y : List ℕ). a ++ y) is_b, subst (λ (y : List ℕ). item.takes a (y ++ (over ++ rest)) (Some n)) is_b h, k.5.1))
 fold_choice_refuses item bits n a b front over rest w false e h bar k = absurd k
 
-fold_behind_refuses : (item : Part (Option ℕ)) (bits : ℕ) (front over rest : List ℕ) (w : What) (a b : List ℕ) (u : Option ℕ) → front ≡ a ++ b → item.takes a (b ++ (over ++ rest)) u → (behind item bits u).refuses b over rest w → (listed item bits).refuses front over rest w
+fold_behind_refuses : (item : Part (Option ℕ)) (bits : ℕ) (front over rest : List ℕ) (w : What) (a b : List ℕ) (u : Option ℕ)
+    → front ≡ a ++ b → item.takes a (b ++ (over ++ rest)) u → (behind item bits u).refuses b over rest w
+    → (listed item bits).refuses front over rest w
 fold_behind_refuses item bits front over rest w a b None e h k = absurd k
-fold_behind_refuses item bits front over rest w a b (Some n) e h k = fold_choice_refuses item bits n a b front over rest w (starts (is 124) (b ++ (over ++ rest))) e h refl k
+fold_behind_refuses item bits front over rest w a b (Some n) e h k =
+    fold_choice_refuses item bits n a b front over rest w (starts (is 124) (b ++ (over ++ rest))) e h refl k
 
-fold_refuses : (item : Part (Option ℕ)) (bits : ℕ) (front over rest : List ℕ) (w : What) → (unrolled item bits).refuses front over rest w → (listed item bits).refuses front over rest w
+fold_refuses : (item : Part (Option ℕ)) (bits : ℕ) (front over rest : List ℕ) (w : What)
+    → (unrolled item bits).refuses front over rest w → (listed item bits).refuses front over rest w
 fold_refuses item bits front over rest w (inl h) = ([], h)
 fold_refuses item bits front over rest w (inr h) = fold_behind_refuses item bits front over rest w h.0 h.1 h.2 h.3 h.4 h.5
 
-unfold_refuses : (item : Part (Option ℕ)) (bits : ℕ) (front over rest : List ℕ) (w : What) (before : List ℕ) → ItemRefuses item before front over rest w → (unrolled item bits).refuses front over rest w
+unfold_refuses : (item : Part (Option ℕ)) (bits : ℕ) (front over rest : List ℕ) (w : What) (before : List ℕ)
+    → ItemRefuses item before front over rest w → (unrolled item bits).refuses front over rest w
 unfold_refuses item bits front over rest w [] h = inl h
 unfold_refuses item bits front over rest w (n ∷ before) h = inr (h.0, 124 ∷ h.1, Some n, h.2, h.3, inr (124 ∷ [], h.1, tt, refl, refl, (before, h.4)))
 
@@ -171,7 +196,8 @@ unrolled_same item bits = record {
   refuses_back = λ front over rest w h. unfold_refuses item bits front over rest w h.0 h.1;
 }
 
-items_head : (test : ℕ → Bool) (item : Part (Option ℕ)) (bits : ℕ) → Heads test item → (b q : List ℕ) (w : Option ℕ) (before : List ℕ) → Items item bits before b q w → starts test (b ++ q) ≡ true
+items_head : (test : ℕ → Bool) (item : Part (Option ℕ)) (bits : ℕ) → Heads test item
+    → (b q : List ℕ) (w : Option ℕ) (before : List ℕ) → Items item bits before b q w → starts test (b ++ q) ≡ true
 items_head test item bits heads b q w [] h = heads b q h.0 h.1
 items_head test item bits heads b q w (n ∷ before) h =
     let e : b ++ q ≡ h.0 ++ (124 ∷ (h.1 ++ q)) = ap (λ (y : List ℕ). y ++ q) h.2 ∙ append_assoc h.0 (124 ∷ h.1) q in
@@ -187,12 +213,18 @@ more_ends : (bits : ℕ) (u : Option ℕ) (q : List ℕ) → ListEnds (with_more
 more_ends bits None q h = (h, tt)
 more_ends bits (Some n) q h = (close_joins q h, close_no_bar q h)
 
-items_before : (item : Part (Option ℕ)) → Fine item ItemEnds → (before : List ℕ) (bits : ℕ) (a rest q : List ℕ) (v : Option ℕ) → Items item bits before a rest v → ListEnds v q → Items item bits before a q v
+items_before : (item : Part (Option ℕ)) → Fine item ItemEnds → (before : List ℕ) (bits : ℕ) (a rest q : List ℕ) (v : Option ℕ)
+    → Items item bits before a rest v → ListEnds v q → Items item bits before a q v
 items_before item fine [] bits a rest q v h hq =
     let k = more_ends bits h.0 q (subst (λ (x : Option ℕ). ListEnds x q) h.3 hq) in
     (h.0, fine.before a rest q h.0 h.1 k.0, k.1, h.3)
-items_before item fine (n ∷ before) bits a rest q v h hq =
-    (h.0, h.1, h.2, fine.before h.0 (124 ∷ (h.1 ++ rest)) (124 ∷ (h.1 ++ q)) (Some n) h.3 refl, items_before item fine before (bit_or bits n) h.1 rest q v h.4 hq)
+items_before item fine (n ∷ before) bits a rest q v h hq = (
+  h.0,
+  h.1,
+  h.2,
+  fine.before h.0 (124 ∷ (h.1 ++ rest)) (124 ∷ (h.1 ++ q)) (Some n) h.3 refl,
+  items_before item fine before (bit_or bits n) h.1 rest q v h.4 hq,
+)
 
 pub listed_fine : (item : Part (Option ℕ)) → Fine item ItemEnds → (bits : ℕ) → Fine (listed item bits) ListEnds
 listed_fine item fine bits =
@@ -208,14 +240,23 @@ bar_nonempty next rest v h bar = let e : [] ≡ 124 ∷ h.1 = h.3 ∙ ap (λ (y 
 behind_fine : (item : Part (Option ℕ)) → Fine item ItemEnds → (bits : ℕ) (u : Option ℕ) → Fine (behind item bits u) ListEnds
 behind_fine item fine bits None = (done_good None ListEnds).fine
 behind_fine item fine bits (Some n) =
-    fine_choice (is 124) (fine_then (byte 124 Comma) (λ u. listed item (bit_or bits n)) Any ListEnds (λ v b q w h hq. tt) (byte_good 124 Comma).fine (λ u. listed_fine item fine (bit_or bits n)))
-    (done_good (Some (bit_or bits n)) ListEnds).fine (bar_nonempty (λ u. listed item (bit_or bits n))) (λ rest q v h hq. close_no_bar q (subst (λ (x : Option ℕ). ListEnds x q) h.1 hq))
-    ([], Some (bit_or bits n), λ q hq. subst (λ (x : Bool). (arm (chain (byte 124 Comma) (λ u. listed item (bit_or bits n))) (done (Some (bit_or bits n))) x).takes [] q (Some (bit_or bits n))) (sym (close_no_bar q hq)) (refl, refl))
+    fine_choice (is 124) (fine_then (byte 124 Comma) (λ u. listed item (bit_or bits n)) Any ListEnds (λ v b q w h hq. tt)
+    (byte_good 124 Comma).fine (λ u. listed_fine item fine (bit_or bits n)))
+    (done_good (Some (bit_or bits n)) ListEnds).fine (bar_nonempty (λ u. listed item (bit_or bits n)))
+    (λ rest q v h hq. close_no_bar q (subst (λ (x : Option ℕ). ListEnds x q) h.1 hq)) (
+      [],
+      Some (bit_or bits n),
+      λ q hq. subst (λ (x : Bool).
+          (arm (chain (byte 124 Comma) (λ u. listed item (bit_or bits n))) (done (Some (bit_or bits n))) x).takes [] q
+          (Some (bit_or bits n))) (sym (close_no_bar q hq)) (refl, refl),
+    )
 
 behind_follows_choice : (item : Part (Option ℕ)) (bits n : ℕ) (b q : List ℕ) (w : Option ℕ) (x : Bool) → starts (is 124) (b ++ q) ≡ x
-    → (arm (chain (byte 124 Comma) (λ u. listed item (bit_or bits n))) (done (Some (bit_or bits n))) x).takes b q w → ListEnds w q → starts is_join (b ++ q) ≡ true
+    → (arm (chain (byte 124 Comma) (λ u. listed item (bit_or bits n))) (done (Some (bit_or bits n))) x).takes b q w → ListEnds w q
+    → starts is_join (b ++ q) ≡ true
 behind_follows_choice item bits n b q w true bar h hq = bar_joins (b ++ q) bar
-behind_follows_choice item bits n b q w false bar h hq = ap (λ (y : List ℕ). starts is_join (y ++ q)) h.0 ∙ close_joins q (subst (λ (x : Option ℕ). ListEnds x q) h.1 hq)
+behind_follows_choice item bits n b q w false bar h hq = ap (λ (y : List ℕ). starts is_join (y ++ q)) h.0
+    ∙ close_joins q (subst (λ (x : Option ℕ). ListEnds x q) h.1 hq)
 
 behind_follows : (item : Part (Option ℕ)) (bits : ℕ) → Follows ItemEnds (behind item bits) ListEnds
 behind_follows item bits None b q w h hq = ap (λ (y : List ℕ). y ++ q) h.0 ∙ subst (λ (x : Option ℕ). ListEnds x q) h.1 hq
@@ -240,20 +281,27 @@ bar_behind : (item : Part (Option ℕ)) (bits : ℕ) (rest : List ℕ) (r : Resu
     → Reads (listed item bits) ListEnds (behind_first rest) r → Reads (chain (byte 124 Comma) (λ u. listed item bits)) ListEnds rest r
 bar_behind item bits rest r fine bar h =
     reads_then (byte 124 Comma) (λ u. listed item bits) Any ListEnds rest (Ok (tt, behind_first rest)) (λ u. r) (λ v b q w k hq. tt)
-    (byte_good 124 Comma).fine (λ u. listed_fine item fine bits) (subst (Reads (byte 124 Comma) Any rest) (byte_taken rest bar) ((byte_good 124 Comma).reads rest))
-    (λ x t. let e : behind_first rest ≡ x.1 = ap behind_first (t.parts ∙ ap (λ (y : List ℕ). y ++ x.1) t.takes) in subst (λ (y : List ℕ). Reads (listed item bits) ListEnds y r) e h)
+    (byte_good 124 Comma).fine (λ u. listed_fine item fine bits)
+    (subst (Reads (byte 124 Comma) Any rest) (byte_taken rest bar) ((byte_good 124 Comma).reads rest))
+    (λ x t. let e : behind_first rest ≡ x.1 = ap behind_first (t.parts ∙ ap (λ (y : List ℕ). y ++ x.1) t.takes) in
+    subst (λ (y : List ℕ). Reads (listed item bits) ListEnds y r) e h)
 
-bar_reads : (item : Part (Option ℕ)) (read : List ℕ → Result (Option ℕ × List ℕ) Refusal) (k bits n : ℕ) (rest : List ℕ) (x : Bool) → Fine item ItemEnds → ListReads item read k → length rest ≤ k → starts (is 124) rest ≡ x
-    → Reads (arm (chain (byte 124 Comma) (λ u. listed item (bit_or bits n))) (done (Some (bit_or bits n))) x) ListEnds rest (if x then list_at read k (bit_or bits n) (behind_first rest) else Ok (Some (bit_or bits n), rest))
+bar_reads : (item : Part (Option ℕ)) (read : List ℕ → Result (Option ℕ × List ℕ) Refusal) (k bits n : ℕ) (rest : List ℕ)
+    (x : Bool) → Fine item ItemEnds → ListReads item read k → length rest ≤ k → starts (is 124) rest ≡ x
+    → Reads (arm (chain (byte 124 Comma) (λ u. listed item (bit_or bits n))) (done (Some (bit_or bits n))) x) ListEnds rest
+    (if x then list_at read k (bit_or bits n) (behind_first rest) else Ok (Some (bit_or bits n), rest))
 bar_reads item read k bits n rest true fine on le bar =
     let s = behind_shorter rest bar in
     bar_behind item (bit_or bits n) rest (list_at read k (bit_or bits n) (behind_first rest)) fine bar (on (bit_or bits n) (behind_first rest) (omega arith))
 bar_reads item read k bits n rest false fine on le bar = (done_good (Some (bit_or bits n)) ListEnds).reads rest
 
-next_reads : (item : Part (Option ℕ)) (read : List ℕ → Result (Option ℕ × List ℕ) Refusal) (k bits : ℕ) (u : Option ℕ) (rest : List ℕ) → Fine item ItemEnds → ListReads item read k → length rest ≤ k → Reads (behind item bits u) ListEnds rest (list_next (list_at read k) bits u rest)
+next_reads : (item : Part (Option ℕ)) (read : List ℕ → Result (Option ℕ × List ℕ) Refusal) (k bits : ℕ) (u : Option ℕ)
+    (rest : List ℕ) → Fine item ItemEnds → ListReads item read k → length rest ≤ k
+    → Reads (behind item bits u) ListEnds rest (list_next (list_at read k) bits u rest)
 next_reads item read k bits None rest fine on le = (done_good None ListEnds).reads rest
 next_reads item read k bits (Some n) rest fine on le =
-    choice_reads (is 124) (chain (byte 124 Comma) (λ u. listed item (bit_or bits n))) (done (Some (bit_or bits n))) ListEnds rest (list_next (list_at read k) bits (Some n) rest) (behind_fine item fine bits (Some n))
+    choice_reads (is 124) (chain (byte 124 Comma) (λ u. listed item (bit_or bits n))) (done (Some (bit_or bits n))) ListEnds rest
+    (list_next (list_at read k) bits (Some n) rest) (behind_fine item fine bits (Some n))
     (bar_reads item read k bits n rest (starts (is 124) rest) fine on le refl)
 
 took_shorter : (item : Part (Option ℕ)) (text : List ℕ) (v : Option ℕ) (rest : List ℕ) (k : ℕ) → Took item text v rest → length text < suc k → length rest ≤ k
@@ -264,60 +312,76 @@ unfolding list_at
 list_reads item read good zero bits text lt = absurd (omega arith)
 list_reads item read good (suc k) bits text lt =
     reads_same (unrolled item bits) (listed item bits) ListEnds text (read text >>= λ x. list_next (list_at read k) bits x.0 x.1) (unrolled_same item bits)
-    (reads_then item (behind item bits) ItemEnds ListEnds text (read text) (λ x. list_next (list_at read k) bits x.0 x.1) (behind_follows item bits) good.fine (behind_fine item good.fine bits) (good.reads text)
+    (reads_then item (behind item bits) ItemEnds ListEnds text (read text) (λ x. list_next (list_at read k) bits x.0 x.1)
+    (behind_follows item bits) good.fine (behind_fine item good.fine bits) (good.reads text)
     (λ x t. next_reads item read k bits x.0 x.1 good.fine (list_reads item read good k) (took_shorter item text x.0 x.1 k t lt)))
 
 -- a list, of as many items as the text has bytes
-pub listed_good : (item : Part (Option ℕ)) (read : List ℕ → Result (Option ℕ × List ℕ) Refusal) → Good item ItemEnds read → (bits : ℕ) → Good (listed item bits) ListEnds (λ text. list_at read (suc (length text)) bits text)
+pub listed_good : (item : Part (Option ℕ)) (read : List ℕ → Result (Option ℕ × List ℕ) Refusal) → Good item ItemEnds read
+    → (bits : ℕ) → Good (listed item bits) ListEnds (λ text. list_at read (suc (length text)) bits text)
 listed_good item read good bits = record {
   fine = listed_fine item good.fine bits;
   reads = λ text. list_reads item read good (suc (length text)) bits text (omega arith);
 }
 
-any_bar : (read : List ℕ → Result (Option ℕ × List ℕ) Refusal) (j k bits n : ℕ) (rest : List ℕ) (x : Bool) → ((b : ℕ) (t : List ℕ) → length t < j → length t < k → list_at read j b t ≡ list_at read k b t)
+any_bar : (read : List ℕ → Result (Option ℕ × List ℕ) Refusal) (j k bits n : ℕ) (rest : List ℕ) (x : Bool)
+    → ((b : ℕ) (t : List ℕ) → length t < j → length t < k → list_at read j b t ≡ list_at read k b t)
     → length rest ≤ j → length rest ≤ k → starts (is 124) rest ≡ x
-    → (if x then list_at read j (bit_or bits n) (behind_first rest) else Ok (Some (bit_or bits n), rest)) ≡ (if x then list_at read k (bit_or bits n) (behind_first rest) else Ok (Some (bit_or bits n), rest))
+    → (if x then list_at read j (bit_or bits n) (behind_first rest) else Ok (Some (bit_or bits n), rest))
+    ≡ (if x then list_at read k (bit_or bits n) (behind_first rest) else Ok (Some (bit_or bits n), rest))
 any_bar read j k bits n rest true on lj lk bar = let s = behind_shorter rest bar in on (bit_or bits n) (behind_first rest) (omega arith) (omega arith)
 any_bar read j k bits n rest false on lj lk bar = refl
 
-any_next : (read : List ℕ → Result (Option ℕ × List ℕ) Refusal) (j k bits : ℕ) (text : List ℕ) (r : Result (Option ℕ × List ℕ) Refusal) → ((b : ℕ) (t : List ℕ) → length t < j → length t < k → list_at read j b t ≡ list_at read k b t)
+any_next : (read : List ℕ → Result (Option ℕ × List ℕ) Refusal) (j k bits : ℕ) (text : List ℕ)
+    (r : Result (Option ℕ × List ℕ) Refusal) → ((b : ℕ) (t : List ℕ) → length t < j → length t < k
+    → list_at read j b t ≡ list_at read k b t)
     → ((v : Option ℕ) (rest : List ℕ) → r ≡ Ok (v, rest) → (length rest ≤ j) × (length rest ≤ k))
     → (r >>= λ x. list_next (list_at read j) bits x.0 x.1) ≡ (r >>= λ x. list_next (list_at read k) bits x.0 x.1)
 any_next read j k bits text (Err f) on short = refl
 any_next read j k bits text (Ok (None, rest)) on short = refl
-any_next read j k bits text (Ok (Some n, rest)) on short = let s = short (Some n) rest refl in any_bar read j k bits n rest (starts (is 124) rest) on s.0 s.1 refl
+any_next read j k bits text (Ok (Some n, rest)) on short = let s = short (Some n) rest refl in
+    any_bar read j k bits n rest (starts (is 124) rest) on s.0 s.1 refl
 
 -- the count of items doesn't matter where it is above the bytes
-pub any_count : (read : List ℕ → Result (Option ℕ × List ℕ) Refusal) → ((text rest : List ℕ) (v : Option ℕ) → read text ≡ Ok (v, rest) → length rest ≤ length text)
+pub any_count : (read : List ℕ → Result (Option ℕ × List ℕ) Refusal)
+    → ((text rest : List ℕ) (v : Option ℕ) → read text ≡ Ok (v, rest) → length rest ≤ length text)
     → (j k bits : ℕ) (text : List ℕ) → length text < j → length text < k → list_at read j bits text ≡ list_at read k bits text
 unfolding list_at
 any_count read short zero k bits text lj lk = absurd (omega arith)
 any_count read short (suc j) zero bits text lj lk = absurd (omega arith)
-any_count read short (suc j) (suc k) bits text lj lk = any_next read j k bits text (read text) (λ b t l m. any_count read short j k b t l m) (λ v rest e. let s = short text rest v e in (omega arith, omega arith))
+any_count read short (suc j) (suc k) bits text lj lk =
+    any_next read j k bits text (read text) (λ b t l m. any_count read short j k b t l m)
+    (λ v rest e. let s = short text rest v e in (omega arith, omega arith))
 
 -- ---- a list in a loop, item by item
 
 abbrev pub Shortens : (List ℕ → Result (Option ℕ × List ℕ) Refusal) → Type 0
 Shortens read = (text rest : List ℕ) (v : Option ℕ) → read text ≡ Ok (v, rest) → length rest ≤ length text
 
-pub on_shorter : (read : List ℕ → Result (Option ℕ × List ℕ) Refusal) → Shortens read → (left rest : List ℕ) (v : Option ℕ) → read left ≡ Ok (v, rest) → starts (is 124) rest ≡ true → length (behind_first rest) < length left
+pub on_shorter : (read : List ℕ → Result (Option ℕ × List ℕ) Refusal) → Shortens read → (left rest : List ℕ) (v : Option ℕ)
+    → read left ≡ Ok (v, rest) → starts (is 124) rest ≡ true → length (behind_first rest) < length left
 on_shorter read short left rest v e bar = let s = short left rest v e in let t = behind_shorter rest bar in omega arith
 
-pub list_on : (read : List ℕ → Result (Option ℕ × List ℕ) Refusal) → Shortens read → (bits more : ℕ) (left rest : List ℕ) → read left ≡ Ok (Some more, rest) → starts (is 124) rest ≡ true
+pub list_on : (read : List ℕ → Result (Option ℕ × List ℕ) Refusal) → Shortens read → (bits more : ℕ) (left rest : List ℕ)
+    → read left ≡ Ok (Some more, rest) → starts (is 124) rest ≡ true
     → list_at read (suc (length left)) bits left ≡ list_at read (suc (length (behind_first rest))) (bit_or bits more) (behind_first rest)
 unfolding list_at
 list_on read short bits more left rest e bar =
     let s = on_shorter read short left rest (Some more) e bar in
     rw e (rw bar (any_count read short (length left) (suc (length (behind_first rest))) (bit_or bits more) (behind_first rest) s (omega arith)))
 
-pub list_last : (read : List ℕ → Result (Option ℕ × List ℕ) Refusal) (bits more : ℕ) (left rest : List ℕ) → read left ≡ Ok (Some more, rest) → starts (is 124) rest ≡ false → list_at read (suc (length left)) bits left ≡ Ok (Some (bit_or bits more), rest)
+pub list_last : (read : List ℕ → Result (Option ℕ × List ℕ) Refusal) (bits more : ℕ) (left rest : List ℕ)
+    → read left ≡ Ok (Some more, rest) → starts (is 124) rest ≡ false
+    → list_at read (suc (length left)) bits left ≡ Ok (Some (bit_or bits more), rest)
 unfolding list_at
 list_last read bits more left rest e bar = rw e (rw bar refl)
 
-pub list_left : (read : List ℕ → Result (Option ℕ × List ℕ) Refusal) (bits : ℕ) (left rest : List ℕ) → read left ≡ Ok (None, rest) → list_at read (suc (length left)) bits left ≡ Ok (None, rest)
+pub list_left : (read : List ℕ → Result (Option ℕ × List ℕ) Refusal) (bits : ℕ) (left rest : List ℕ) → read left ≡ Ok (None, rest)
+    → list_at read (suc (length left)) bits left ≡ Ok (None, rest)
 unfolding list_at
 list_left read bits left rest e = rw e refl
 
-pub list_refusal : (read : List ℕ → Result (Option ℕ × List ℕ) Refusal) (bits : ℕ) (left : List ℕ) (f : Refusal) → read left ≡ Err f → list_at read (suc (length left)) bits left ≡ Err f
+pub list_refusal : (read : List ℕ → Result (Option ℕ × List ℕ) Refusal) (bits : ℕ) (left : List ℕ) (f : Refusal)
+    → read left ≡ Err f → list_at read (suc (length left)) bits left ≡ Err f
 unfolding list_at
 list_refusal read bits left f e = rw e refl

@@ -1,5 +1,6 @@
 -- A number is read as its part says: all the digits that come, in 64 bits, or a refusal.
-use Rattle.std.proofs.Common.{◌≡◌, ◌≢◌, ℕ, ◌+◌, ◌*◌, ◌^◌, ◌<◌, ◌≤◌, List, [], ◌∷◌, ◌++◌, length, Result, Ok, Err, true, Some, None, refl, sym, ap, subst, ◌∙◌, inl, inr, arith}
+use Rattle.std.proofs.Common.{◌≡◌, ◌≢◌, ℕ, ◌+◌, ◌*◌, ◌^◌, ◌<◌, ◌≤◌, List, [], ◌∷◌, ◌++◌, length, Result, Ok, Err, true}
+use Rattle.std.proofs.Common.{Some, None, refl, sym, ap, subst, ◌∙◌, inl, inr, arith}
 use Rattle.std.specs.Prelude.{◌⊎◌}
 use Rattle.std.proofs.lemmas.Bool.Decides.{eqb_tells, nat_tests}
 use Rattle.std.proofs.lemmas.Bool.{cases_lt, lt-ltb, le-ltb}
@@ -54,7 +55,8 @@ run_takes base n (c ∷ rest) =
     ]
 
 -- Digits are taken while they come: two runs that go on alike are one.
-pub same_digits : (base : ℕ) (rest p front q more : List ℕ) → AllDigits base p → AllDigits base front → NoDigit base q → NoDigit base rest → p ++ q ≡ front ++ more → Alike more rest → p ≡ front
+pub same_digits : (base : ℕ) (rest p front q more : List ℕ) → AllDigits base p → AllDigits base front → NoDigit base q
+    → NoDigit base rest → p ++ q ≡ front ++ more → Alike more rest → p ≡ front
 same_digits base rest [] [] q more hp hf hq hr e alike = refl
 same_digits base rest [] (c ∷ front) [] more hp hf hq hr e alike = absurd cc
 same_digits base rest [] (c ∷ front) (d ∷ q) more hp hf hq hr e alike =
@@ -100,7 +102,8 @@ same_value : (base : ℕ) (a b : List ℕ) (m n : ℕ) → a ≡ b → m ≡ val
 same_value base a b m n e h k = h ∙ ap (value base 0) e ∙ sym k
 
 -- The one numeral at the front of such a text, of decimal digits.
-one_decimal : (front rest p q more : List ℕ) (v w : ℕ) → Digits 10 front v → NoDigit 10 rest → No0x (front ++ rest) → Numeral p q w → p ++ q ≡ front ++ more → Alike more rest → (p ≡ front) × (w ≡ v)
+one_decimal : (front rest p q more : List ℕ) (v w : ℕ) → Digits 10 front v → NoDigit 10 rest → No0x (front ++ rest)
+    → Numeral p q w → p ++ q ≡ front ++ more → Alike more rest → (p ≡ front) × (w ≡ v)
 one_decimal front rest p q more v w hv hr never (inl h) e alike =
     let s = same_digits 10 rest p front q more h.0.1 hv.1 h.1 hr e alike in
     (s, same_value 10 p front w v s h.0.2 hv.2)
@@ -108,7 +111,8 @@ one_decimal front rest p q more v w hv hr never (inr h) e alike =
     absurd (run_no_0x front more rest (h.0 ++ q) hv.1 alike never hv.0 (sym e ∙ ap (λ (x : List ℕ). x ++ q) h.1))
 
 -- the same of hexadecimal digits
-one_hex : (digits rest p q more : List ℕ) (v w : ℕ) → Digits 16 digits v → NoDigit 16 rest → Numeral p q w → p ++ q ≡ (48 ∷ 120 ∷ digits) ++ more → Alike more rest → (p ≡ 48 ∷ 120 ∷ digits) × (w ≡ v)
+one_hex : (digits rest p q more : List ℕ) (v w : ℕ) → Digits 16 digits v → NoDigit 16 rest → Numeral p q w
+    → p ++ q ≡ (48 ∷ 120 ∷ digits) ++ more → Alike more rest → (p ≡ 48 ∷ 120 ∷ digits) × (w ≡ v)
 one_hex digits rest p q more v w hv hr (inl h) e alike = absurd (h.2 (digits ++ more) e)
 one_hex digits rest p q more v w hv hr (inr h) e alike =
     let both : 48 ∷ 120 ∷ (h.0 ++ q) ≡ 48 ∷ 120 ∷ (digits ++ more) = ap (λ (x : List ℕ). x ++ q) (sym h.1) ∙ e in
@@ -166,7 +170,8 @@ not_missing due text front rest g o r v parts num (inr k) none e =
     let whole : text ≡ 48 ∷ 120 ∷ r = e ∙ ap (λ (x : List ℕ). x ++ (o ++ r)) k.0 ∙ ap (λ (x : List ℕ). 48 ∷ 120 ∷ (x ++ r)) none in
     hex_ends front rest r r v k.1 num (sym parts ∙ whole) (alike_same r)
 
-number_clean : (due : What) (text front rest g o r : List ℕ) (v : ℕ) (w : What) → text ≡ front ++ rest → Numeral front rest v → v < 2 ^ 64 → OneNumeral front rest v → DueNumber due g o r w → text ≡ g ++ (o ++ r) → ⊥
+number_clean : (due : What) (text front rest g o r : List ℕ) (v : ℕ) (w : What) → text ≡ front ++ rest → Numeral front rest v
+    → v < 2 ^ 64 → OneNumeral front rest v → DueNumber due g o r w → text ≡ g ++ (o ++ r) → ⊥
 number_clean due text front rest g o r v w parts num lt one (inl h) e = not_missing due text front rest g o r v parts num h.2 h.1 e
 number_clean due text front rest g o r v w parts num lt one (inr h) e =
     let whole : o ++ r ≡ front ++ rest = sym (e ∙ ap (λ (x : List ℕ). x ++ (o ++ r)) h.1) ∙ parts in
@@ -175,7 +180,8 @@ number_clean due text front rest g o r v w parts num lt one (inr h) e =
     let le = h.3 in
     omega arith
 
-took_number : (due : What) (text front rest : List ℕ) (v : ℕ) → text ≡ front ++ rest → Numeral front rest v → v < 2 ^ 64 → OneNumeral front rest v → Took (number due) text v rest
+took_number : (due : What) (text front rest : List ℕ) (v : ℕ) → text ≡ front ++ rest → Numeral front rest v → v < 2 ^ 64
+    → OneNumeral front rest v → Took (number due) text v rest
 took_number due text front rest v parts num lt one = record {
   front = front;
   parts = parts;
@@ -188,11 +194,13 @@ no_empty : (p q : List ℕ) (n : ℕ) → p ≡ [] → Numeral p q n → ⊥
 no_empty p q n e (inl h) = let k = ap length e in omega (arith, h.0.0)
 no_empty p q n e (inr h) = cc (h.1)
 
-wide_one : (due : What) (text front rest g o r : List ℕ) (v : ℕ) (w : What) → text ≡ front ++ rest → Numeral front rest v → DueNumber due g o r w → text ≡ g ++ (o ++ r) → (length (o ++ r) ≡ length text) × (w ≡ Wide)
+wide_one : (due : What) (text front rest g o r : List ℕ) (v : ℕ) (w : What) → text ≡ front ++ rest → Numeral front rest v
+    → DueNumber due g o r w → text ≡ g ++ (o ++ r) → (length (o ++ r) ≡ length text) × (w ≡ Wide)
 wide_one due text front rest g o r v w parts num (inl h) e = absurd (not_missing due text front rest g o r v parts num h.2 h.1 e)
 wide_one due text front rest g o r v w parts num (inr h) e = (sym (ap length (e ∙ ap (λ (x : List ℕ). x ++ (o ++ r)) h.1)), h.0)
 
-stuck_wide : (due : What) (text front rest : List ℕ) (v : ℕ) → text ≡ front ++ rest → Numeral front rest v → 2 ^ 64 ≤ v → OneNumeral front rest v → Stuck (number due) NumberEnds text (refusal_at text Wide)
+stuck_wide : (due : What) (text front rest : List ℕ) (v : ℕ) → text ≡ front ++ rest → Numeral front rest v → 2 ^ 64 ≤ v
+    → OneNumeral front rest v → Stuck (number due) NumberEnds text (refusal_at text Wide)
 stuck_wide due text front rest v parts num le one = record {
   front = [];
   over = front;
@@ -205,7 +213,8 @@ stuck_wide due text front rest v parts num le one = record {
   one = λ g o r w h e. wide_one due text front rest g o r v w parts num h e;
 }
 
-decimal_one : (due : What) (text g o r : List ℕ) (w : What) → NoDigit 10 text → DueNumber due g o r w → text ≡ g ++ (o ++ r) → (length (o ++ r) ≡ length text) × (w ≡ due)
+decimal_one : (due : What) (text g o r : List ℕ) (w : What) → NoDigit 10 text → DueNumber due g o r w → text ≡ g ++ (o ++ r)
+    → (length (o ++ r) ≡ length text) × (w ≡ due)
 decimal_one due text g o r w none (inl h) e =
     elim (h.2) [
       | inl k ↦ (sym (ap length (e ∙ ap (λ (x : List ℕ). x ++ (o ++ r)) k.0)), h.0)
@@ -231,7 +240,8 @@ stuck_decimal due text none = record {
   one = λ g o r w h e. decimal_one due text g o r w none h e;
 }
 
-hex_one : (due : What) (text digits g o r : List ℕ) (w : What) → text ≡ 48 ∷ 120 ∷ digits → NoDigit 16 digits → DueNumber due g o r w → text ≡ g ++ (o ++ r) → (length (o ++ r) ≡ length digits) × (w ≡ due)
+hex_one : (due : What) (text digits g o r : List ℕ) (w : What) → text ≡ 48 ∷ 120 ∷ digits → NoDigit 16 digits
+    → DueNumber due g o r w → text ≡ g ++ (o ++ r) → (length (o ++ r) ≡ length digits) × (w ≡ due)
 hex_one due text digits g o r w is none (inl h) e =
     elim (h.2) [
       | inl k ↦
@@ -291,15 +301,20 @@ decimal_reads : (due : What) (text : List ℕ) → No0x text → Reads (number d
 decimal_reads due text never =
     digits_cases due 10 text text (Reads (number due) NumberEnds text)
     (λ none. stuck_decimal due text none)
-    (λ ds rest v parts d ended lt. took_number due text ds rest v parts (inl (d, ended, subst No0x parts never)) lt (λ p q more w h e alike. one_decimal ds rest p q more v w d ended (subst No0x parts never) h e alike))
-    (λ ds rest v parts d ended le. stuck_wide due text ds rest v parts (inl (d, ended, subst No0x parts never)) le (λ p q more w h e alike. one_decimal ds rest p q more v w d ended (subst No0x parts never) h e alike))
+    (λ ds rest v parts d ended lt. took_number due text ds rest v parts (inl (d, ended, subst No0x parts never)) lt
+    (λ p q more w h e alike. one_decimal ds rest p q more v w d ended (subst No0x parts never) h e alike))
+    (λ ds rest v parts d ended le. stuck_wide due text ds rest v parts (inl (d, ended, subst No0x parts never)) le
+    (λ p q more w h e alike. one_decimal ds rest p q more v w d ended (subst No0x parts never) h e alike))
 
-hex_reads : (due : What) (text digits : List ℕ) → text ≡ 48 ∷ 120 ∷ digits → Reads (number due) NumberEnds text (digits_read due text digits (digits_of 16 0 digits))
+hex_reads : (due : What) (text digits : List ℕ) → text ≡ 48 ∷ 120 ∷ digits
+    → Reads (number due) NumberEnds text (digits_read due text digits (digits_of 16 0 digits))
 hex_reads due text digits is =
     digits_cases due 16 text digits (Reads (number due) NumberEnds text)
     (λ none. stuck_hex due text digits is none)
-    (λ ds rest v parts d ended lt. took_number due text (48 ∷ 120 ∷ ds) rest v (is ∙ ap (λ (x : List ℕ). 48 ∷ 120 ∷ x) parts) (inr (ds, refl, d, ended)) lt (λ p q more w h e alike. one_hex ds rest p q more v w d ended h e alike))
-    (λ ds rest v parts d ended le. stuck_wide due text (48 ∷ 120 ∷ ds) rest v (is ∙ ap (λ (x : List ℕ). 48 ∷ 120 ∷ x) parts) (inr (ds, refl, d, ended)) le (λ p q more w h e alike. one_hex ds rest p q more v w d ended h e alike))
+    (λ ds rest v parts d ended lt. took_number due text (48 ∷ 120 ∷ ds) rest v (is ∙ ap (λ (x : List ℕ). 48 ∷ 120 ∷ x) parts)
+    (inr (ds, refl, d, ended)) lt (λ p q more w h e alike. one_hex ds rest p q more v w d ended h e alike))
+    (λ ds rest v parts d ended le. stuck_wide due text (48 ∷ 120 ∷ ds) rest v (is ∙ ap (λ (x : List ℕ). 48 ∷ 120 ∷ x) parts)
+    (inr (ds, refl, d, ended)) le (λ p q more w h e alike. one_hex ds rest p q more v w d ended h e alike))
 
 behind_cases : (text : List ℕ) → ((behind_0x text ≡ None) × No0x text) ⊎ ((t : List ℕ) × (behind_0x text ≡ Some t) × (text ≡ 48 ∷ 120 ∷ t))
 unfolding behind_0x

@@ -55,13 +55,15 @@ split_takes p a b q x e h = sym (append_assoc a b q) ∙ ap (λ (y : List ℕ). 
 split_back : (p a b q : List ℕ) → p ≡ a ++ b → p ++ q ≡ a ++ (b ++ q)
 split_back p a b q e = ap (λ (y : List ℕ). y ++ q) e ∙ append_assoc a b q
 
-took_both : {A B : Type 0} (first : Part A) (next : A → Part B) (text rest last : List ℕ) (v : A) (w : B) → Took first text v rest → Took (next v) rest w last → Took (chain first next) text w last
+took_both : {A B : Type 0} (first : Part A) (next : A → Part B) (text rest last : List ℕ) (v : A) (w : B) → Took first text v rest
+    → Took (next v) rest w last → Took (chain first next) text w last
 took_both {A} first next text rest last v w t u = record {
   front = t.front ++ u.front;
   parts = t.parts ∙ ap (λ (x : List ℕ). t.front ++ x) u.parts ∙ sym (append_assoc t.front u.front last);
   takes = (t.front, u.front, v, refl, subst (λ (x : List ℕ). first.takes t.front x v) u.parts t.takes, u.takes);
   only = λ p q more w1 h e alike.
-      let e1 : h.0 ++ (h.1 ++ q) ≡ t.front ++ (u.front ++ more) = split_takes p h.0 h.1 q (t.front ++ (u.front ++ more)) h.3 (e ∙ append_assoc t.front u.front more) in
+      let e1 : h.0 ++ (h.1 ++ q) ≡ t.front ++ (u.front ++ more) =
+      split_takes p h.0 h.1 q (t.front ++ (u.front ++ more)) h.3 (e ∙ append_assoc t.front u.front more) in
       let alike1 = subst (λ (x : List ℕ). Alike (u.front ++ more) x) (sym u.parts) (alike_behind u.front more last alike) in
       let one = t.only h.0 (h.1 ++ q) (u.front ++ more) h.2 h.4 e1 alike1 in
       let e2 = append_cancel_left t.front (h.1 ++ q) (u.front ++ more) (ap (λ (x : List ℕ). x ++ (h.1 ++ q)) (sym one.0) ∙ e1) in
@@ -78,7 +80,8 @@ took_both {A} first next text rest last v w t u = record {
       ];
 }
 
-stuck_behind : {A B : Type 0} (first : Part A) (next : A → Part B) (follow : A → List ℕ → Type 0) (last : B → List ℕ → Type 0) (text rest : List ℕ) (v : A) (f : Refusal)
+stuck_behind : {A B : Type 0} (first : Part A) (next : A → Part B) (follow : A → List ℕ → Type 0) (last : B → List ℕ → Type 0)
+    (text rest : List ℕ) (v : A) (f : Refusal)
     → Follows follow next last → Fine first follow → Took first text v rest → Stuck (next v) last rest f → Stuck (chain first next) last text f
 stuck_behind {A} {B} first next follow last text rest v f follows fine t s =
     let is : rest ≡ (s.front ++ s.over) ++ s.rest = s.parts ∙ sym (append_assoc s.front s.over s.rest) in
@@ -95,12 +98,19 @@ stuck_behind {A} {B} first next follow last text rest v f follows fine t s =
         more,
         w,
         λ q hq.
-            let k = s.begins.2 q hq in
-            (t.front, s.front ++ more, v, append_assoc t.front s.front more, fine.before t.front rest ((s.front ++ more) ++ q) v t.takes (follows v (s.front ++ more) q w k hq), k),
+            let k = s.begins.2 q hq in (
+              t.front,
+              s.front ++ more,
+              v,
+              append_assoc t.front s.front more,
+              fine.before t.front rest ((s.front ++ more) ++ q) v t.takes (follows v (s.front ++ more) q w k hq),
+              k,
+            ),
       );
       ends = λ p q after w1 h e alike.
           let place : (t.front ++ s.front) ++ s.over ≡ t.front ++ (s.front ++ s.over) = append_assoc t.front s.front s.over in
-          let whole : p ++ q ≡ t.front ++ ((s.front ++ s.over) ++ after) = e ∙ ap (λ (x : List ℕ). x ++ after) place ∙ append_assoc t.front (s.front ++ s.over) after in
+          let whole : p ++ q ≡ t.front ++ ((s.front ++ s.over) ++ after) = e ∙ ap (λ (x : List ℕ). x ++ after) place
+          ∙ append_assoc t.front (s.front ++ s.over) after in
           let e1 = split_takes p h.0 h.1 q (t.front ++ ((s.front ++ s.over) ++ after)) h.3 whole in
           let alike1 = subst (λ (x : List ℕ). Alike ((s.front ++ s.over) ++ after) x) (sym is) (alike_behind (s.front ++ s.over) after s.rest alike) in
           let one = t.only h.0 (h.1 ++ q) ((s.front ++ s.over) ++ after) h.2 h.4 e1 alike1 in
@@ -146,14 +156,18 @@ stuck_before {A} first next follow last text f follows fine s =
           ];
     }
 
-reads_behind : {A B : Type 0} (first : Part A) (next : A → Part B) (follow : A → List ℕ → Type 0) (last : B → List ℕ → Type 0) (text rest : List ℕ) (v : A) (r : Result (B × List ℕ) Refusal)
+reads_behind : {A B : Type 0} (first : Part A) (next : A → Part B) (follow : A → List ℕ → Type 0) (last : B → List ℕ → Type 0)
+    (text rest : List ℕ) (v : A) (r : Result (B × List ℕ) Refusal)
     → Follows follow next last → Fine first follow → Took first text v rest → Reads (next v) last rest r → Reads (chain first next) last text r
 reads_behind first next follow last text rest v (Ok x) follows fine t u = took_both first next text rest x.1 v x.0 t u
 reads_behind first next follow last text rest v (Err f) follows fine t s = stuck_behind first next follow last text rest v f follows fine t s
 
 -- The lemma of composition.
-pub reads_then : {A B : Type 0} (first : Part A) (next : A → Part B) (follow : A → List ℕ → Type 0) (last : B → List ℕ → Type 0) (text : List ℕ) (r : Result (A × List ℕ) Refusal) (f : A × List ℕ → Result (B × List ℕ) Refusal)
-    → Follows follow next last → Fine first follow → ((v : A) → Fine (next v) last) → Reads first follow text r → ((x : A × List ℕ) → Took first text x.0 x.1 → Reads (next x.0) last x.1 (f x)) → Reads (chain first next) last text (r >>= f)
+pub reads_then : {A B : Type 0} (first : Part A) (next : A → Part B) (follow : A → List ℕ → Type 0) (last : B → List ℕ → Type 0)
+    (text : List ℕ) (r : Result (A × List ℕ) Refusal) (f : A × List ℕ → Result (B × List ℕ) Refusal)
+    → Follows follow next last → Fine first follow → ((v : A) → Fine (next v) last) → Reads first follow text r
+    → ((x : A × List ℕ) → Took first text x.0 x.1 → Reads (next x.0) last x.1 (f x))
+    → Reads (chain first next) last text (r >>= f)
 reads_then first next follow last text (Ok x) f follows one fine t others = reads_behind first next follow last text x.1 x.0 (f x) follows one t (others x t)
 reads_then first next follow last text (Err e) f follows one fine s others = stuck_before first next follow last text e follows fine s
 
@@ -174,21 +188,25 @@ pub record Good {A : Type 0} (part : Part A) (follow : A → List ℕ → Type 0
   pub fine : Fine part follow
   pub reads : (text : List ℕ) → Reads part follow text (read text)
 
-pub good_then : {A B : Type 0} {first : Part A} {next : A → Part B} {follow : A → List ℕ → Type 0} {last : B → List ℕ → Type 0} {r : List ℕ → Result (A × List ℕ) Refusal} {f : A → List ℕ → Result (B × List ℕ) Refusal}
+pub good_then : {A B : Type 0} {first : Part A} {next : A → Part B} {follow : A → List ℕ → Type 0} {last : B → List ℕ → Type 0}
+    {r : List ℕ → Result (A × List ℕ) Refusal} {f : A → List ℕ → Result (B × List ℕ) Refusal}
     → Good first follow r → ((v : A) → Good (next v) last (f v)) → Follows follow next last → Good (chain first next) last (λ text. r text >>= λ x. f x.0 x.1)
 good_then {A} {B} {first} {next} {follow} {last} {r} {f} one others follows = record {
   fine = fine_then first next follow last follows one.fine (λ v. (others v).fine);
-  reads = λ text. reads_then first next follow last text (r text) (λ x. f x.0 x.1) follows one.fine (λ v. (others v).fine) (one.reads text) (λ x t. (others x.0).reads x.1);
+  reads = λ text. reads_then first next follow last text (r text) (λ x. f x.0 x.1) follows one.fine (λ v. (others v).fine)
+      (one.reads text) (λ x t. (others x.0).reads x.1);
 }
 
 -- What is left behind what was read is not longer than the text.
-pub shorter : {A : Type 0} {part : Part A} {follow : A → List ℕ → Type 0} {read : List ℕ → Result (A × List ℕ) Refusal} → Good part follow read → (text rest : List ℕ) (v : A) → read text ≡ Ok (v, rest) → length rest ≤ length text
+pub shorter : {A : Type 0} {part : Part A} {follow : A → List ℕ → Type 0} {read : List ℕ → Result (A × List ℕ) Refusal}
+    → Good part follow read → (text rest : List ℕ) (v : A) → read text ≡ Ok (v, rest) → length rest ≤ length text
 shorter {A} {part} {follow} {read} good text rest v e =
     let t : Took part text v rest = subst (Reads part follow text) e (good.reads text) in
     let k = ap length t.parts ∙ length-append t.front rest in
     omega arith
 
-pub refusal_within : {A : Type 0} {part : Part A} {follow : A → List ℕ → Type 0} {read : List ℕ → Result (A × List ℕ) Refusal} → Good part follow read → (text : List ℕ) (f : Refusal) → read text ≡ Err f → f.left ≤ length text
+pub refusal_within : {A : Type 0} {part : Part A} {follow : A → List ℕ → Type 0} {read : List ℕ → Result (A × List ℕ) Refusal}
+    → Good part follow read → (text : List ℕ) (f : Refusal) → read text ≡ Err f → f.left ≤ length text
 refusal_within {A} {part} {follow} {read} good text f e =
     let s : Stuck part follow text f = subst (Reads part follow text) e (good.reads text) in
     let k = ap length s.parts ∙ length-append s.front (s.over ++ s.rest) in
@@ -202,5 +220,7 @@ Heads {A} test part = (b q : List ℕ) (w : A) → part.takes b q w → starts t
 pub heads_then : {A B : Type 0} (test : ℕ → Bool) (first : Part A) (next : A → Part B) → Heads test first → Heads test (chain first next)
 heads_then test first next heads b q w h = ap (starts test) (split_back b h.0 h.1 q h.3) ∙ heads h.0 (h.1 ++ q) h.2 h.4
 
-pub follows_heads : {A B : Type 0} (follow : A → List ℕ → Type 0) (next : A → Part B) (last : B → List ℕ → Type 0) (test : ℕ → Bool) → ((v : A) → Heads test (next v)) → ((v : A) (q : List ℕ) → starts test q ≡ true → follow v q) → Follows follow next last
+pub follows_heads : {A B : Type 0} (follow : A → List ℕ → Type 0) (next : A → Part B) (last : B → List ℕ → Type 0) (test : ℕ
+    → Bool) → ((v : A) → Heads test (next v)) → ((v : A) (q : List ℕ) → starts test q ≡ true → follow v q)
+    → Follows follow next last
 follows_heads follow next last test heads may v b q w h hq = may v (b ++ q) (heads v b q w h)

@@ -23,7 +23,8 @@ pub record Part (A : Type 0) : Type 1 where
 abbrev pub chain : {A B : Type 0} → Part A → (A → Part B) → Part B
 chain {A} first next = record {
   takes = λ front rest w. (a b : List ℕ) × (v : A) × (front ≡ a ++ b) × first.takes a (b ++ rest) v × (next v).takes b rest w;
-  refuses = λ front over rest w. first.refuses front over rest w ⊎ ((a b : List ℕ) × (v : A) × (front ≡ a ++ b) × first.takes a (b ++ (over ++ rest)) v × (next v).refuses b over rest w);
+  refuses = λ front over rest w. first.refuses front over rest w
+      ⊎ ((a b : List ℕ) × (v : A) × (front ≡ a ++ b) × first.takes a (b ++ (over ++ rest)) v × (next v).refuses b over rest w);
 }
 
 -- whether the text begins with a byte that passes the test

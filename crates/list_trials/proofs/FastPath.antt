@@ -28,16 +28,20 @@ module _ (seats s : ℕ) (v : View) (f : Filled) (is : IsFilling v f) where
   filled_lo lo w aimed = by_line _ (line_of seats s v (FillLo lo) (may_fill_lo lo aimed))
     where
       by_line : (p : Plan) → IsLine seats s v (FillLo lo) p → IsFilling (p.view w) (record f { lo = Some lo; hi = None })
-      by_line p (fill_lo g l own a c) = subst (λ (x : Filled). IsFilling (lo_filled v x l) (record f { lo = Some l; hi = None })) (sym (same g own)) (record { own = refl; cursor = is.cursor; outside = is.outside; hand = is.hand })
+      by_line p (fill_lo g l own a c) = subst (λ (x : Filled). IsFilling (lo_filled v x l) (record f { lo = Some l; hi = None }))
+          (sym (same g own)) (record { own = refl; cursor = is.cursor; outside = is.outside; hand = is.hand })
 
   pub may_fill_hi : (lo hi : ℕ) → f.lo ≡ Some lo → lo < hi → hi ≤ 2 ^ 62 → f.aimed ≡ None → IsEnabled seats s v (FillHi hi Writer)
   may_fill_hi lo hi low less most aimed = ap is_some (plan_of_line seats s v (FillHi hi Writer) _ (fill_hi f lo hi Writer is.own low less most aimed is.cursor))
 
-  pub filled_hi : (hi w : ℕ) → IsEnabled seats s v (FillHi hi Writer) → IsFilling ((planned seats s v (FillHi hi Writer)).view w) (record f { hi = Some hi; mode = Writer })
+  pub filled_hi : (hi w : ℕ) → IsEnabled seats s v (FillHi hi Writer)
+      → IsFilling ((planned seats s v (FillHi hi Writer)).view w) (record f { hi = Some hi; mode = Writer })
   filled_hi hi w may = by_line _ (line_of seats s v (FillHi hi Writer) may)
     where
       by_line : (p : Plan) → IsLine seats s v (FillHi hi Writer) p → IsFilling (p.view w) (record f { hi = Some hi; mode = Writer })
-      by_line p (fill_hi g l h m own low less most a c) = subst (λ (x : Filled). IsFilling (hi_filled v x h m) (record f { hi = Some h; mode = m })) (sym (same g own)) (record { own = refl; cursor = is.cursor; outside = is.outside; hand = is.hand })
+      by_line p (fill_hi g l h m own low less most a c) =
+          subst (λ (x : Filled). IsFilling (hi_filled v x h m) (record f { hi = Some h; mode = m })) (sym (same g own))
+          (record { own = refl; cursor = is.cursor; outside = is.outside; hand = is.hand })
 
   aims_none : Aims v.cursor 0
   aims_none = subst (λ (o : Option Cursor). Aims o 0) (sym is.cursor) refl
@@ -52,7 +56,8 @@ module _ (seats s : ℕ) (v : View) (f : Filled) (is : IsFilling v f) where
       by_line p (aim g l h x own low high at) =
           let zero : x ≡ 0 = subst (λ (o : Option Cursor). Aims o x) is.cursor at in
           subst (λ (y : Filled). IsFilling (aimed_at v y x) (record f { aimed = Some 0 })) (sym (same g own))
-          (subst (λ n. IsFilling (aimed_at v f n) (record f { aimed = Some 0 })) (sym zero) (record { own = refl; cursor = is.cursor; outside = is.outside; hand = is.hand }))
+          (subst (λ n. IsFilling (aimed_at v f n) (record f { aimed = Some 0 })) (sym zero)
+          (record { own = refl; cursor = is.cursor; outside = is.outside; hand = is.hand }))
 
   pub may_quick_link : (lo hi : ℕ) → f.lo ≡ Some lo → f.hi ≡ Some hi → f.aimed ≡ Some 0 → IsEnabled seats s v QuickLink
   may_quick_link lo hi low high at = ap is_some (plan_of_line seats s v QuickLink _ (quick_link f lo hi is.own low high at is.outside))
@@ -63,7 +68,13 @@ module _ (seats s : ℕ) (v : View) (f : Filled) (is : IsFilling v f) where
       by_line : (p : Plan) → IsLine seats s v QuickLink p → IsHolding (p.view w)
       by_line p (quick_link g lo hi own low high at even) =
           subst (λ (b : Bool). IsHolding (if b then quick_linked v g.node lo hi g.mode else v)) (sym (eq-eqb w 0 zero))
-          (record { own = record { node = g.node; range = record { lo = lo; hi = hi }; mode = g.mode; todo = Done }; is = refl; done = refl; outside = is.outside; hand = is.hand })
+          (record {
+            own = record { node = g.node; range = record { lo = lo; hi = hi }; mode = g.mode; todo = Done };
+            is = refl;
+            done = refl;
+            outside = is.outside;
+            hand = is.hand;
+          })
 
   -- and where it found another value nothing is said
   pub quick_held_if : (u : View) (w : ℕ) → IsEnabled seats s v QuickLink → u ≡ (planned seats s v QuickLink).view w → OnTrue (w == 0) (IsHolding u)

@@ -21,8 +21,11 @@ module _ {P : Type 0} (table : TableId) (hands : List (Standing P)) (i : ℕ) (d
   pub order_set : (h : Standing P) → IsSameHand (get_or hands i d) h → AreInOrder table (set hands i h)
   order_set h same k b at =
       ⊎_elim
-      (λ (t : (k ≡ i) × (h ≡ b)).
-      (sym (ap (λ (x : Standing P). x.table) t.1) ∙ (same.table ∙ at_place.0), sym (ap (λ (x : Standing P). x.part.number) t.1) ∙ (same.number ∙ (at_place.1 ∙ sym t.0))))
+      (λ (t : (k ≡ i) × (h ≡ b)). (
+        sym (ap (λ (x : Standing P). x.table) t.1) ∙ (same.table ∙ at_place.0),
+        sym (ap (λ (x : Standing P). x.part.number) t.1)
+            ∙ (same.number ∙ (at_place.1 ∙ sym t.0)),
+      ))
       (λ (t : (k ≢ i) × (get_elem? hands k ≡ some b)). order k b t.1)
       (at_set hands i k h b at)
 
@@ -31,7 +34,9 @@ pub idle_in_order : {P : Type 0} (table : TableId) (hands : List (Standing P)) �
 idle_in_order table hands order idle k h at = let o = order k h at in (o.0, o.1, idle k h at)
 
 -- one idle hand more
-pub idle_more : {P : Type 0} (hands : List (Standing P)) (i : ℕ) (a : Standing P) → ((k : ℕ) (h : Standing P) → k < i → get_elem? hands k ≡ some h → IsIdle h.part.core) → i < length hands → a ≡ get_or hands i a → IsIdle a.part.core
+pub idle_more : {P : Type 0} (hands : List (Standing P)) (i : ℕ) (a : Standing P)
+    → ((k : ℕ) (h : Standing P) → k < i → get_elem? hands k ≡ some h → IsIdle h.part.core) → i < length hands
+    → a ≡ get_or hands i a → IsIdle a.part.core
     → (k : ℕ) (h : Standing P) → k < i + 1 → get_elem? hands k ≡ some h → IsIdle h.part.core
 idle_more {P} hands i a before less is here k h low at =
     ⊎_elim
@@ -41,11 +46,16 @@ idle_more {P} hands i a before less is here k h low at =
 
 -- hands in order of which each is of the same list and number, and idle
 pub hands_back : {P : Type 0} (table : TableId) (old new : List (Standing P)) → length new ≡ length old → AreInOrder table old
-    → ((k : ℕ) (d : Standing P) → k < length old → (a : Standing P) × (b : Standing P) × (a ≡ get_or old k d) × IsSameHand a b × IsIdle b.part.core × (b ≡ get_or new k d)) → AreIdleHands table new
+    → ((k : ℕ) (d : Standing P) → k < length old → (a : Standing P) × (b : Standing P) × (a ≡ get_or old k d) × IsSameHand a b
+    × IsIdle b.part.core × (b ≡ get_or new k d)) → AreIdleHands table new
 hands_back {P} table old new same order each k h at =
     let less = below new k h at in
     let e = each k h (omega arith) in
     let was : get_elem? old k ≡ some e.0 = at_index old k e.0 (omega arith) (e.2 ∙ same_or old k h e.0 (omega arith)) in
     let o = order k e.0 was in
-    let now : e.1 ≡ h = e.5 ∙ at_or new k h h at in
-    (sym (ap (λ (x : Standing P). x.table) now) ∙ (e.3.table ∙ o.0), sym (ap (λ (x : Standing P). x.part.number) now) ∙ (e.3.number ∙ o.1), subst (λ (x : Standing P). IsIdle x.part.core) now e.4)
+    let now : e.1 ≡ h = e.5 ∙ at_or new k h h at in (
+      sym (ap (λ (x : Standing P). x.table) now) ∙ (e.3.table ∙ o.0),
+      sym (ap (λ (x : Standing P). x.part.number) now)
+          ∙ (e.3.number ∙ o.1),
+      subst (λ (x : Standing P). IsIdle x.part.core) now e.4,
+    )

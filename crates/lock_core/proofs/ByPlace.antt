@@ -53,7 +53,8 @@ module _ {A : Type 0} where
   same_lists [] [] e all = refl
   same_lists [] (y ∷ ys) e all = absurd (omega arith)
   same_lists (x ∷ xs) [] e all = absurd (omega arith)
-  same_lists (x ∷ xs) (y ∷ ys) e all = let h = some-injective x y (all 0 y refl) in let t = same_lists xs ys (omega arith) (λ k a at. all (suc k) a at) in λ i. h i ∷ t i
+  same_lists (x ∷ xs) (y ∷ ys) e all = let h = some-injective x y (all 0 y refl) in
+      let t = same_lists xs ys (omega arith) (λ k a at. all (suc k) a at) in λ i. h i ∷ t i
 
   -- the two ways to read a place
   pub to_get : (l : List A) (i : ℕ) (a : A) → get_elem? l i ≡ some a → slice_get l i ≡ Some a

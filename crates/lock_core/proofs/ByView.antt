@@ -37,7 +37,8 @@ is_view l i j a b e e' q = same_view l i a b e (subst (λ k. slice_get l k ≡ S
 
 module _ {A : Type 0} (l : List A) (i : ℕ) (a : A) where
   -- what holds of each view after the step
-  pub each : (P : ℕ → A → Type 0) → P i a → ((j : ℕ) (b : A) → j ≢ i → slice_get l j ≡ Some b → P j b) → (j : ℕ) (b : A) → slice_get (set l i a) j ≡ Some b → P j b
+  pub each : (P : ℕ → A → Type 0) → P i a → ((j : ℕ) (b : A) → j ≢ i → slice_get l j ≡ Some b → P j b) → (j : ℕ) (b : A)
+      → slice_get (set l i a) j ≡ Some b → P j b
   each P mine rest j b e =
       ⊎_elim
       (λ (t : (j ≡ i) × (a ≡ b)). subst (λ (z : ℕ × A). P z.0 z.1) (λ z. (sym t.0 z, t.1 z)) mine)

@@ -27,7 +27,8 @@ times_other x y d = ap (λ n. n + 0) (times_first x y (y == x) refl d)
 pub times_itself : (x : ℕ) → times x (x ∷ []) ≡ 1
 times_itself x = ap (λ (b : Bool). (if b then 1 else 0) + 0) (eq-eqb x x refl)
 
-keep_none : (x y : ℕ) (hs rest ys : List ℕ) (b c : Bool) → (times y hs == 0) ≡ b → (y == x) ≡ c → times x hs ≡ 0 → times x rest ≡ times x ys → times x (if b then y ∷ rest else rest) ≡ (if c then 1 else 0) + times x ys
+keep_none : (x y : ℕ) (hs rest ys : List ℕ) (b c : Bool) → (times y hs == 0) ≡ b → (y == x) ≡ c → times x hs ≡ 0
+    → times x rest ≡ times x ys → times x (if b then y ∷ rest else rest) ≡ (if c then 1 else 0) + times x ys
 keep_none x y hs rest ys true c eb ec e ih = ap (λ (d : Bool). (if d then 1 else 0) + times x rest) ec ∙ ap (λ n. (if c then 1 else 0) + n) ih
 keep_none x y hs rest ys false true eb ec e ih =
     let same : y ≡ x = eqb-true y x ec in absurd (let f : (times y hs == 0) ≡ true = eq-eqb (times y hs) 0 (ap (λ a. times a hs) same ∙ e) in cc)
@@ -38,9 +39,11 @@ pub without_none : (x : ℕ) (hs l : List ℕ) → times x hs ≡ 0 → times x 
 without_none x hs [] e = refl
 without_none x hs (y ∷ ys) e = keep_none x y hs (without hs ys) ys (times y hs == 0) (y == x) refl refl e (without_none x hs ys e)
 
-keep_some : (x y : ℕ) (hs rest : List ℕ) (b c : Bool) → (times y hs == 0) ≡ b → (y == x) ≡ c → 1 ≤ times x hs → times x rest ≡ 0 → times x (if b then y ∷ rest else rest) ≡ 0
+keep_some : (x y : ℕ) (hs rest : List ℕ) (b c : Bool) → (times y hs == 0) ≡ b → (y == x) ≡ c → 1 ≤ times x hs → times x rest ≡ 0
+    → times x (if b then y ∷ rest else rest) ≡ 0
 keep_some x y hs rest false c eb ec e ih = ih
-keep_some x y hs rest true true eb ec e ih = absurd (let z = eqb-true (times y hs) 0 eb in let same : y ≡ x = eqb-true y x ec in let t = ap (λ a. times a hs) same in omega arith)
+keep_some x y hs rest true true eb ec e ih = absurd (let z = eqb-true (times y hs) 0 eb in let same : y ≡ x = eqb-true y x ec in
+    let t = ap (λ a. times a hs) same in omega arith)
 keep_some x y hs rest true false eb ec e ih = ap (λ (d : Bool). (if d then 1 else 0) + times x rest) ec ∙ omega arith
 
 -- and one that is in it isn't there
@@ -49,7 +52,8 @@ without_some x hs [] e = refl
 without_some x hs (y ∷ ys) e = keep_some x y hs (without hs ys) (times y hs == 0) (y == x) refl refl e (without_some x hs ys e)
 
 -- the counts after the homes became ready
-pub once_after : (x own one : ℕ) (ready homes used : List ℕ) → own + times x ready + times x used ≡ one → one ≤ 1 → times x homes ≤ times x used → own + times x (ready ++ homes) + times x (without homes used) ≡ one
+pub once_after : (x own one : ℕ) (ready homes used : List ℕ) → own + times x ready + times x used ≡ one → one ≤ 1
+    → times x homes ≤ times x used → own + times x (ready ++ homes) + times x (without homes used) ≡ one
 once_after x own one ready homes used e few le =
     ⊎_elim
     (λ (z : times x homes ≡ 0). let a = without_none x homes used z in let b = times_joined x ready homes in omega arith)
@@ -62,7 +66,8 @@ module _ (v : View) (k : Listed) (own : v.own ≡ listed k) where
   counts_moved x = let a = times_joined x v.used (k.node ∷ []) in let b = ap (own_times x) own in omega arith
 
   pub used_or_own : (x : ℕ) → times x (v.used ++ k.node ∷ []) ≡ 1 → (x ≡ k.node) ⊎ (times x v.used ≡ 1)
-  used_or_own x e = ⊎_elim inl (λ (d : x ≢ k.node). inr (let a = times_joined x v.used (k.node ∷ []) in let z = times_other x k.node d in omega arith)) (cases_eq x k.node)
+  used_or_own x e = ⊎_elim inl (λ (d : x ≢ k.node). inr (let a = times_joined x v.used (k.node ∷ []) in
+      let z = times_other x k.node d in omega arith)) (cases_eq x k.node)
 
   pub used_grows : (x : ℕ) → times x v.used ≤ times x (v.used ++ k.node ∷ [])
   used_grows x = let a = times_joined x v.used (k.node ∷ []) in omega arith

@@ -31,7 +31,8 @@ module _ (seats s : ℕ) (v : View) where
       by_line : (p : Plan) → IsLine seats s v GiveHome p → p.view w ≡ gave_home v
       by_line p (give_home n hand) = refl
 
-  pub clear_home_on : (n w : ℕ) → IsEnabled seats s v (ClearHome n) → (rest : List ℕ) × (v.ready ≡ n ∷ rest) × ((planned seats s v (ClearHome n)).view w ≡ taken v n rest)
+  pub clear_home_on : (n w : ℕ) → IsEnabled seats s v (ClearHome n)
+      → (rest : List ℕ) × (v.ready ≡ n ∷ rest) × ((planned seats s v (ClearHome n)).view w ≡ taken v n rest)
   clear_home_on n w may = by_line _ (line_of (ClearHome n) may)
     where
       by_line : (p : Plan) → IsLine seats s v (ClearHome n) p → (rest : List ℕ) × (v.ready ≡ n ∷ rest) × (p.view w ≡ taken v n rest)

@@ -1,5 +1,7 @@
 -- The state before any step: its lists, its sizes, and what is held in it.
-use Rattle.std.proofs.Common.{◌≡◌, ◌≢◌, ℕ, zero, suc, ◌+◌, ◌*◌, ◌/◌, ◌<◌, ◌≤◌, Bool, true, false, List, [], ◌∷◌, ◌++◌, length, map, take, Some, None, refl, sym, ap, ◌∙◌, subst, ⊎_elim, arith, append_assoc, append-nil, length-take-le, eqb-true}
+use Rattle.std.proofs.Common.{◌≡◌, ◌≢◌, ℕ, zero, suc, ◌+◌, ◌*◌, ◌/◌, ◌<◌, ◌≤◌, Bool, true, false, List, [], ◌∷◌, ◌++◌}
+use Rattle.std.proofs.Common.{length, map, take, Some, None, refl, sym, ap, ◌∙◌, subst, ⊎_elim, arith, append_assoc}
+use Rattle.std.proofs.Common.{append-nil, length-take-le, eqb-true}
 use Rattle.std.proofs.lemmas.Bool.{eqb-false, cases_lt}
 use Rattle.std.proofs.lemmas.List.{length-replicate, length-map, map-append, take_more}
 use Rattle.std.proofs.lemmas.Option.{slice_get_within, get_or_from_slice_get}
@@ -32,7 +34,8 @@ grants-append s [] ps = ap (λ n. grants_from n ps) (omega arith)
 grants-append s (o ∷ os) ps =
     let ih = grants-append (s + 1) os ps in
     let e : s + 1 + length os ≡ s + suc (length os) = omega arith in
-    ap (λ l. grant_of s o ++ l) (ih ∙ ap (λ n. grants_from (s + 1) os ++ grants_from n ps) e) ∙ sym (append_assoc (grant_of s o) (grants_from (s + 1) os) (grants_from (s + suc (length os)) ps))
+    ap (λ l. grant_of s o ++ l) (ih ∙ ap (λ n. grants_from (s + 1) os ++ grants_from n ps) e)
+    ∙ sym (append_assoc (grant_of s o) (grants_from (s + 1) os) (grants_from (s + suc (length os)) ps))
 
 -- where the numbers of a run of numbers stand
 times_before : (x a k : ℕ) → x < a → times x (numbers_from a k) ≡ 0
@@ -110,11 +113,15 @@ start_sized seats some few = record {
 
 -- one view more in the list of grants
 pub grants_more : (views : List View) (i : ℕ) (v : View) → slice_get views i ≡ Some v →
-    grants_from 0 (map (λ (u : View). held_at u.own) (take i views)) ++ grant_of i (held_at v.own) ≡ grants_from 0 (map (λ (u : View). held_at u.own) (take (i + 1) views))
+    grants_from 0 (map (λ (u : View). held_at u.own) (take i views)) ++ grant_of i (held_at v.own) ≡ grants_from 0
+    (map (λ (u : View). held_at u.own) (take (i + 1) views))
 grants_more views i v at =
     let within = slice_get_within views i v at in
     let more = take_more views i v within ∙ ap (λ (u : View). take i views ++ u ∷ []) (get_or_from_slice_get views i v v at) in
     let held : View → Option Held = λ u. held_at u.own in
-    let long : 0 + length (map held (take i views)) ≡ i = let l = length-map (take i views) held in let t = length-take-le i views (omega arith) in omega arith in
-    sym (ap (λ l. grants_from 0 (map held l)) more ∙ ap (grants_from 0) (map-append held (take i views) (v ∷ [])) ∙ grants-append 0 (map held (take i views)) (held v ∷ [])
-    ∙ ap (λ n. grants_from 0 (map held (take i views)) ++ grants_from n (held v ∷ [])) long ∙ ap (λ l. grants_from 0 (map held (take i views)) ++ l) (append-nil (grant_of i (held v))))
+    let long : 0 + length (map held (take i views)) ≡ i = let l = length-map (take i views) held in
+    let t = length-take-le i views (omega arith) in omega arith in
+    sym (ap (λ l. grants_from 0 (map held l)) more ∙ ap (grants_from 0) (map-append held (take i views) (v ∷ []))
+    ∙ grants-append 0 (map held (take i views)) (held v ∷ [])
+    ∙ ap (λ n. grants_from 0 (map held (take i views)) ++ grants_from n (held v ∷ [])) long
+    ∙ ap (λ l. grants_from 0 (map held (take i views)) ++ l) (append-nil (grant_of i (held v))))

@@ -33,15 +33,19 @@ writes_as step p Add w h fits even = sym (h w fits even)
 writes_as step p (Exchange old new) w h fits even = sym (h w)
 
 -- a Mark finds an even word
-even_at : (seats s : ℕ) (v : View) (step : Step) (op : Op) (words : List ℕ) → IsOpOf step (plan seats s v step) (Some op) → IsOwnEven (heap_of seats words) v.own → step ≡ Mark → slice_index words op.place % 2 ≡ 0
+even_at : (seats s : ℕ) (v : View) (step : Step) (op : Op) (words : List ℕ) → IsOpOf step (plan seats s v step) (Some op)
+    → IsOwnEven (heap_of seats words) v.own → step ≡ Mark → slice_index words op.place % 2 ≡ 0
 even_at seats s v step op words h even e = by_own v.own (subst (λ (st : Step). IsOpOf st (plan seats s v st) (Some op)) e h) even
   where
-    by_own : (own : Own) → IsOpOf Mark (given (listed_of own) (λ k. Some (adds_one (cell_place seats (suc k.node)) (marked v k.node)))) (Some op) → IsOwnEven (heap_of seats words) own → slice_index words op.place % 2 ≡ 0
+    by_own : (own : Own)
+        → IsOpOf Mark (given (listed_of own) (λ k. Some (adds_one (cell_place seats (suc k.node)) (marked v k.node)))) (Some op)
+        → IsOwnEven (heap_of seats words) own → slice_index words op.place % 2 ≡ 0
     by_own Nothing h even = absurd h
     by_own (Filling node lo hi mode aimed) h even = absurd h
     by_own (Linked node range mode todo) h even = ap (λ n. slice_index words n % 2) h.0 ∙ even node refl
 
-carried : (step : Step) (o : Option Plan) (d : Plan) (op : Op) (words new : List ℕ) (now : View) (found : ℕ) → IsOpOf step o (Some op) → (step ≡ Mark → found % 2 ≡ 0) → found ≡ slice_index words op.place → found < 2 ^ 64
+carried : (step : Step) (o : Option Plan) (d : Plan) (op : Op) (words new : List ℕ) (now : View) (found : ℕ)
+    → IsOpOf step o (Some op) → (step ≡ Mark → found % 2 ≡ 0) → found ≡ slice_index words op.place → found < 2 ^ 64
     → new ≡ slice_set words op.place (written op.act found) → now ≡ (unwrap_or o d).view found → made words o ≡ Some (new, now)
 carried step None d op words new now found h even is fits wrote n = absurd h
 carried step (Some p) d op words new now found h even is fits wrote n =
@@ -51,7 +55,10 @@ carried step (Some p) d op words new now found h even is fits wrote n =
     λ i. Some (sym (wrote ∙ w) i, sym (n ∙ ap p.view at) i)
 
 -- an operation that was made, with the view that follows, carries the plan out
-pub made_by : (seats s : ℕ) (v now : View) (step : Step) (op : Op) (words new : List ℕ) (found : ℕ) → IsOpOf step (plan seats s v step) (Some op) → IsOwnEven (heap_of seats words) v.own → found ≡ slice_index words op.place → found < 2 ^ 64
+pub made_by : (seats s : ℕ) (v now : View) (step : Step) (op : Op) (words new : List ℕ) (found : ℕ)
+    → IsOpOf step (plan seats s v step) (Some op) → IsOwnEven (heap_of seats words) v.own → found ≡ slice_index words op.place
+    → found < 2 ^ 64
     → new ≡ slice_set words op.place (written op.act found) → now ≡ (planned seats s v step).view found → made words (plan seats s v step) ≡ Some (new, now)
 made_by seats s v now step op words new found h even is fits wrote n =
-    carried step (plan seats s v step) (loads 0 (λ _. v)) op words new now found h (λ e. ap (λ w. w % 2) is ∙ even_at seats s v step op words h even e) is fits wrote n
+    carried step (plan seats s v step) (loads 0 (λ _. v)) op words new now found h
+    (λ e. ap (λ w. w % 2) is ∙ even_at seats s v step op words h even e) is fits wrote n

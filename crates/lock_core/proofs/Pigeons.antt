@@ -1,6 +1,7 @@
 -- A list of different numbers of an interval is no longer than the interval; so a list of different nodes of one seat
 -- has at most sixteen.
-use Rattle.std.proofs.Common.{◌≡◌, ◌≢◌, ℕ, zero, suc, ◌+◌, ◌*◌, ◌/◌, ◌<◌, ◌≤◌, Bool, true, false, List, [], ◌∷◌, length, ⊎_elim, refl, ap, ◌∙◌, arith, eqb-true, eq-eqb}
+use Rattle.std.proofs.Common.{◌≡◌, ◌≢◌, ℕ, zero, suc, ◌+◌, ◌*◌, ◌/◌, ◌<◌, ◌≤◌, Bool, true, false, List, [], ◌∷◌, length}
+use Rattle.std.proofs.Common.{⊎_elim, refl, ap, ◌∙◌, arith, eqb-true, eq-eqb}
 use Rattle.std.specs.Prelude.{◌==◌, if◌then◌else◌}
 use Rattle.std.proofs.lemmas.Bool.{cases_eq}
 use Rattle.view_lists.specs.Counted.{times}
@@ -15,7 +16,8 @@ others_length : (b : ℕ) (l : List ℕ) → length l ≡ times b l + length (ot
 others_length b [] = refl
 others_length b (y ∷ ys) = step (y == b) (others_length b ys)
   where
-    step : (c : Bool) → length ys ≡ times b ys + length (others b ys) → suc (length ys) ≡ (if c then 1 else 0) + times b ys + length (if c then others b ys else y ∷ others b ys)
+    step : (c : Bool) → length ys ≡ times b ys + length (others b ys)
+        → suc (length ys) ≡ (if c then 1 else 0) + times b ys + length (if c then others b ys else y ∷ others b ys)
     step true ih = omega arith
     step false ih = omega arith
 

@@ -1,5 +1,6 @@
 -- What a seat may rely on when it makes a step follows from what its view keeps.
-use Rattle.std.proofs.Common.{◌≡◌, ℕ, ◌+◌, ◌/◌, ◌<◌, ◌≤◌, Bool, true, false, List, [], ◌∷◌, ◌++◌, length, Some, refl, sym, ap, subst, arith, eqb-true, eq-eqb, length-append}
+use Rattle.std.proofs.Common.{◌≡◌, ℕ, ◌+◌, ◌/◌, ◌<◌, ◌≤◌, Bool, true, false, List, [], ◌∷◌, ◌++◌, length, Some, refl}
+use Rattle.std.proofs.Common.{sym, ap, subst, arith, eqb-true, eq-eqb, length-append}
 use Rattle.std.specs.Prelude.{◌==◌, if◌then◌else◌, slice_get}
 use Rattle.view_lists.specs.Counted.{times}
 use Rattle.lock_core.specs.Range.{IsRange}
@@ -67,5 +68,6 @@ module _ (seats s : ℕ) (v : View) (few : seats ≤ 16) (there : s < seats) (ol
     used_room = λ node range mode todo e.
         let l = room (node ∷ v.used) (λ x. let o = own_counts node x (ap (own_times x) e) v.used in omega arith) in omega arith;
     release_room = let l = room (v.ready ++ v.homes) homes_counted in let e = length-append v.ready v.homes in omega arith;
-    home_room = λ n used homes. let l = room (n ∷ v.ready ++ v.homes) (λ x. came_counted n x used homes) in let e = length-append v.ready v.homes in omega arith;
+    home_room = λ n used homes. let l = room (n ∷ v.ready ++ v.homes) (λ x. came_counted n x used homes) in
+        let e = length-append v.ready v.homes in omega arith;
   }

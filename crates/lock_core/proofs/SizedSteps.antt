@@ -1,5 +1,7 @@
 -- Every line of the table keeps the sizes of a state.
-use Rattle.std.proofs.Common.{◌≡◌, ◌≢◌, ◌⊎◌, ℕ, zero, suc, ◌+◌, ◌-◌, ◌*◌, ◌/◌, ◌%◌, ◌<◌, ◌≤◌, Bool, true, false, List, ◌∷◌, length, set, Some, None, inl, inr, ⊎_elim, refl, sym, ap, ◌∙◌, subst, arith, eqb-true, eq-eqb, length-set}
+use Rattle.std.proofs.Common.{◌≡◌, ◌≢◌, ◌⊎◌, ℕ, zero, suc, ◌+◌, ◌-◌, ◌*◌, ◌/◌, ◌%◌, ◌<◌, ◌≤◌, Bool, true, false, List}
+use Rattle.std.proofs.Common.{◌∷◌, length, set, Some, None, inl, inr, ⊎_elim, refl, sym, ap, ◌∙◌, subst, arith}
+use Rattle.std.proofs.Common.{eqb-true, eq-eqb, length-set}
 use Rattle.std.proofs.lemmas.Bool.{eqb-false}
 use Rattle.std.specs.Prelude.{Option, ◌==◌, if◌then◌else◌, slice_get, slice_index, option_map}
 use Rattle.std.proofs.lemmas.Bool.{cases_eq}
@@ -19,13 +21,17 @@ use Rattle.lock_core.specs.Words.{Heap, heap_of, to, cell_of, cell_place, epoch_
 use Rattle.lock_core.specs.Nodes.{Filled, Listed, filling, listed, own_times}
 use Rattle.lock_core.specs.Compare.{verdict_of}
 use Rattle.lock_core.specs.Views.{entered, left, kept_own, looked_at, start_of, walk_cell, walked, todo_of, marked}
-use Rattle.lock_core.specs.StepTable.{Plan, IsLine, Aims, enter, leave, read_epoch, read_home, give_home, fill_lo, fill_hi, aim, clear_home, walk, read_lo, read_hi, link, unlink, mark, quick_link, quick_unlink, settle}
+use Rattle.lock_core.specs.StepTable.{Plan, IsLine, Aims, enter, leave, read_epoch, read_home, give_home, fill_lo}
+use Rattle.lock_core.specs.StepTable.{fill_hi, aim, clear_home, walk, read_lo, read_hi, link, unlink, mark, quick_link}
+use Rattle.lock_core.specs.StepTable.{quick_unlink, settle}
 use Rattle.lock_core.specs.Machine.{Machine, heap, after, carried_out}
 use Rattle.lock_core.specs.Sizes.{IsNode, NamesNode, IsOwnSized, IsViewSized, bound_node, IsOwnEven, IsSized}
 use Rattle.lock_core.proofs.ByView.{set_view}
 use Rattle.lock_core.proofs.Words.{WroteCell, wrote_cell, wrote_lo, wrote_hi, wrote_home, wrote_epoch}
 use Rattle.lock_core.proofs.OwnNodes.{own_epoch, own_home}
-use Rattle.lock_core.proofs.Sizing.{even_kept, left_bound, own_at_bound, judged_bound, nothing_sized, linked_sized, filling_sized, left_nodes, used_nodes, taken_nodes, dropped_sized, looked_sized, epoch_sized, home_sized, came_sized, cursor_sized, own_sized, judged_sized}
+use Rattle.lock_core.proofs.Sizing.{even_kept, left_bound, own_at_bound, judged_bound, nothing_sized, linked_sized}
+use Rattle.lock_core.proofs.Sizing.{filling_sized, left_nodes, used_nodes, taken_nodes, dropped_sized, looked_sized}
+use Rattle.lock_core.proofs.Sizing.{epoch_sized, home_sized, came_sized, cursor_sized, own_sized, judged_sized}
 use Rattle.lock_core.proofs.Stepping.{stepped}
 
 -- a word that names node y, and has no low bit
@@ -59,7 +65,8 @@ module _ (m : Machine) (s : ℕ) (v : View) (z : IsSized m) (at : slice_get m.vi
 
   -- an own node is of its seat, and there
   owner_is : (i x : ℕ) (u : View) → slice_get m.views i ≡ Some u → own_times x u.own ≡ 1 → x / 16 ≡ i
-  owner_is i x u e own = let l = (z.each i u e).nodes.nodes x in eqb-true _ _ (is_true (x / 16 == i) (own_times x u.own + times x u.ready + times x u.used) l (omega arith))
+  owner_is i x u e own = let l = (z.each i u e).nodes.nodes x in
+      eqb-true _ _ (is_true (x / 16 == i) (own_times x u.own + times x u.ready + times x u.used) l (omega arith))
 
   own_there : (x : ℕ) → own_times x v.own ≡ 1 → IsNode m.seats x
   own_there x own = let q = owner_is s x v at own in let l = seat_there in omega arith
@@ -72,7 +79,8 @@ module _ (m : Machine) (s : ℕ) (v : View) (z : IsSized m) (at : slice_get m.vi
 
   -- a state with other words and another view of the seat
   resized : (ws : List ℕ) (w : View) → length ws ≡ length m.words → ((c : ℕ) → c ≤ 16 * m.seats → to (heap_of m.seats ws) c ≤ 16 * m.seats) →
-      ((i : ℕ) (u : View) → i ≢ s → slice_get m.views i ≡ Some u → IsOwnEven (heap_of m.seats ws) u.own) → IsViewSized m.seats s w → IsOwnEven (heap_of m.seats ws) w.own →
+      ((i : ℕ) (u : View) → i ≢ s → slice_get m.views i ≡ Some u → IsOwnEven (heap_of m.seats ws) u.own) → IsViewSized m.seats s w
+      → IsOwnEven (heap_of m.seats ws) w.own →
       IsSized (record { seats = m.seats; words = ws; views = set m.views s w })
   resized ws w e cells others mine even = record {
     some = z.some;
@@ -98,7 +106,8 @@ module _ (m : Machine) (s : ℕ) (v : View) (z : IsSized m) (at : slice_get m.vi
   same_bound n q = q
 
   -- a step that leaves the words
-  by_load : (place : ℕ) (w : View) → IsViewSized m.seats s w → StaysBound w → IsSized (record { seats = m.seats; words = set m.words place (slice_index m.words place); views = set m.views s w })
+  by_load : (place : ℕ) (w : View) → IsViewSized m.seats s w → StaysBound w
+      → IsSized (record { seats = m.seats; words = set m.words place (slice_index m.words place); views = set m.views s w })
   by_load place w mine bound =
       subst (λ (ws : List ℕ). IsSized (record { seats = m.seats; words = ws; views = set m.views s w })) (sym (set-get_or m.words place 0))
       (resized m.words w refl z.cells (λ i u d e. z.even i u e) mine (λ n q. z.even s v at n (bound n q)))
@@ -124,7 +133,8 @@ module _ (m : Machine) (s : ℕ) (v : View) (z : IsSized m) (at : slice_get m.vi
   wrote p x l = wrote_cell m.seats x m.words p (cell_there p l)
 
   -- a step that writes a next word: an odd one only in the head or in the own node
-  by_cell : (p x : ℕ) (w : View) → p ≤ 16 * m.seats → x / 2 ≤ 16 * m.seats → ((n : ℕ) → p ≡ suc n → (x % 2 ≡ 0) ⊎ (n / 16 ≡ s)) → IsViewSized m.seats s w → IsOwnEven (now p x) w.own →
+  by_cell : (p x : ℕ) (w : View) → p ≤ 16 * m.seats → x / 2 ≤ 16 * m.seats → ((n : ℕ) → p ≡ suc n → (x % 2 ≡ 0) ⊎ (n / 16 ≡ s))
+      → IsViewSized m.seats s w → IsOwnEven (now p x) w.own →
       IsSized (record { seats = m.seats; words = set m.words (cell_place m.seats p) x; views = set m.views s w })
   by_cell p x w there names even mine own =
       resized (set m.words (cell_place m.seats p) x) w (length-set m.words (cell_place m.seats p) x)
@@ -142,7 +152,8 @@ module _ (m : Machine) (s : ℕ) (v : View) (z : IsSized m) (at : slice_get m.vi
   stays_even p x there even = even_kept m.seats (heap m) (now p x) v.own p x (wrote p x there) (λ n q own. even n q) (z.even s v at)
 
   -- an aimed node that is linked keeps its next word
-  linked_even : (p x : ℕ) (f : Filled) (w : ℕ) → p ≤ 16 * m.seats → ((n : ℕ) → p ≡ suc n → x % 2 ≡ 0) → v.own ≡ filling f → f.aimed ≡ Some w → (n : ℕ) → ◌≡◌ {A = Option ℕ} (Some f.node) (Some n) → (now p x).next (suc n) % 2 ≡ 0
+  linked_even : (p x : ℕ) (f : Filled) (w : ℕ) → p ≤ 16 * m.seats → ((n : ℕ) → p ≡ suc n → x % 2 ≡ 0) → v.own ≡ filling f
+      → f.aimed ≡ Some w → (n : ℕ) → ◌≡◌ {A = Option ℕ} (Some f.node) (Some n) → (now p x).next (suc n) % 2 ≡ 0
   linked_even p x f w there even own aimed n q = stays_even p x there even n (ap bound_node own ∙ ap (option_map (λ (_ : ℕ). f.node)) aimed ∙ q)
 
   prev_there : (c : Cursor) → v.cursor ≡ Some c → cell_of c.prev ≤ 16 * m.seats
@@ -193,15 +204,22 @@ module _ (m : Machine) (s : ℕ) (v : View) (z : IsSized m) (at : slice_get m.vi
   cell_of_there None there = omega arith
   cell_of_there (Some n) there = let l = there n refl in omega arith
 
-  walked_sized : (o : Option Cursor) (cell : ℕ) → v.cursor ≡ o → walk_cell v.own o ≡ Some cell → IsViewSized m.seats s (walked v o (slice_index m.words (cell_place m.seats cell)))
+  walked_sized : (o : Option Cursor) (cell : ℕ) → v.cursor ≡ o → walk_cell v.own o ≡ Some cell
+      → IsViewSized m.seats s (walked v o (slice_index m.words (cell_place m.seats cell)))
   walked_sized None cell e q =
       let same : cell_of (start_of v.own) ≡ cell = cc in
       let l = cell_of_there (start_of v.own) (start_there v.own refl) in
-      came_sized m.seats s v (start_of v.own) (slice_index m.words (cell_place m.seats cell)) 0 (start_there v.own refl) (z.cells cell (subst (λ (c : ℕ). c ≤ 16 * m.seats) same l)) old
+      came_sized m.seats s v (start_of v.own) (slice_index m.words (cell_place m.seats cell)) 0 (start_there v.own refl)
+      (z.cells cell (subst (λ (c : ℕ). c ≤ 16 * m.seats) same l)) old
   walked_sized (Some c) cell e q =
       let there = old.cursor c e in
       cursor_sized m.seats s v (record c { next = Some (slice_index m.words (cell_place m.seats cell)); lo = None })
-      (record { prev = there.prev; cur = there.cur; next = λ w r. let same : slice_index m.words (cell_place m.seats cell) ≡ w = cc in subst (NamesNode m.seats) same (z.cells cell (cell_le c there.cur q)) })
+      (record {
+        prev = there.prev;
+        cur = there.cur;
+        next = λ w r. let same : slice_index m.words (cell_place m.seats cell) ≡ w = cc in
+            subst (NamesNode m.seats) same (z.cells cell (cell_le c there.cur q));
+      })
       old
     where
       cell_le : (c : Cursor) → NamesNode m.seats c.cur → option_map (λ n. suc n) (plain_node_of c.cur) ≡ Some cell → cell ≤ 16 * m.seats
@@ -217,10 +235,12 @@ module _ (m : Machine) (s : ℕ) (v : View) (z : IsSized m) (at : slice_get m.vi
 
   -- an exchange: the state where it succeeds, and where it fails
   by_exchange : (p old_word new : ℕ) (won lost : View) →
-      IsSized (record { seats = m.seats; words = set m.words (cell_place m.seats p) new; views = set m.views s won }) → IsViewSized m.seats s lost → StaysBound lost →
+      IsSized (record { seats = m.seats; words = set m.words (cell_place m.seats p) new; views = set m.views s won })
+      → IsViewSized m.seats s lost → StaysBound lost →
       IsSized (record {
         seats = m.seats;
-        words = set m.words (cell_place m.seats p) (if slice_index m.words (cell_place m.seats p) == old_word then new else slice_index m.words (cell_place m.seats p));
+        words = set m.words (cell_place m.seats p) (if slice_index m.words (cell_place m.seats p) == old_word then new
+            else slice_index m.words (cell_place m.seats p));
         views = set m.views s (if slice_index m.words (cell_place m.seats p) == old_word then won else lost);
       })
   by_exchange p old_word new won lost done failed bound = split (slice_index m.words (cell_place m.seats p) == old_word)
@@ -240,13 +260,22 @@ module _ (m : Machine) (s : ℕ) (v : View) (z : IsSized m) (at : slice_get m.vi
       same_bound
   sized_line step p (leave odd hand todo) =
       by_store (epoch_place s) _ (left v) (wrote_epoch m.seats _ m.words s seat_there (let w = z.words in let l = seat_there in omega arith)).next
-      (record { notes = old.notes; passed = old.passed; nodes = left_nodes s v.own v.ready v.used v.homes old.nodes; own = kept_sized v.own old.own; hand = old.hand; cursor = λ c q. absurd (cc) })
+      (record {
+        notes = old.notes;
+        passed = old.passed;
+        nodes = left_nodes s v.own v.ready v.used v.homes old.nodes;
+        own = kept_sized v.own old.own;
+        hand = old.hand;
+        cursor = λ c q. absurd (cc);
+      })
       (left_bound v.own)
   sized_line step p (read_epoch j even homes less other) =
-      by_load (epoch_place j) _ (epoch_sized m.seats s s (looked_at v j (slice_index m.words (epoch_place j))) (looked_sized m.seats s v j (slice_index m.words (epoch_place j)) old))
+      by_load (epoch_place j) _ (epoch_sized m.seats s s (looked_at v j (slice_index m.words (epoch_place j)))
+      (looked_sized m.seats s v j (slice_index m.words (epoch_place j)) old))
       (λ n q. sym (ap bound_node (own_epoch s v j (slice_index m.words (epoch_place j)))) ∙ q)
   sized_line step p (read_home n even used homes) =
-      by_load (home_place m.seats n) _ (home_sized m.seats s v n _ used homes old) (λ k q. sym (ap bound_node (own_home m.seats v n (slice_index m.words (home_place m.seats n)))) ∙ q)
+      by_load (home_place m.seats n) _ (home_sized m.seats s v n _ used homes old)
+      (λ k q. sym (ap bound_node (own_home m.seats v n (slice_index m.words (home_place m.seats n)))) ∙ q)
   sized_line step p (give_home n hand) =
       by_store (home_place m.seats n) 1 _ (wrote_home m.seats 1 m.words n (let w = z.words in let l = old.hand n hand in omega arith)).next
       (record { notes = old.notes; passed = old.passed; nodes = old.nodes; own = old.own; hand = λ x q. absurd (cc); cursor = old.cursor })
@@ -262,7 +291,11 @@ module _ (m : Machine) (s : ℕ) (v : View) (z : IsSized m) (at : slice_get m.vi
       let t = filling_there f own in
       by_store (hi_place m.seats f.node) _ _ (wrote_hi m.seats _ m.words f.node (let w = z.words in let l = t.1 in omega arith)).next
       (own_sized m.seats s v _ (filling_times f (record f { hi = Some hi; mode = mode }) own refl)
-      (filling_sized m.seats (record f { hi = Some hi; mode = mode }) (record { hi = λ h q. let same : hi ≡ h = cc in (lo, low, subst (IsRange lo) same (less, most)); aimed = λ w q. absurd (cc) }) (λ w q. absurd (cc)))
+      (filling_sized m.seats (record f { hi = Some hi; mode = mode })
+      (record {
+        hi = λ h q. let same : hi ≡ h = cc in (lo, low, subst (IsRange lo) same (less, most));
+        aimed = λ w q. absurd (cc);
+      }) (λ w q. absurd (cc)))
       old)
       (λ n q. absurd (not_aimed f n aimed q))
   sized_line step p (aim f lo hi w own low high at) =
@@ -280,16 +313,19 @@ module _ (m : Machine) (s : ℕ) (v : View) (z : IsSized m) (at : slice_get m.vi
         notes = old.notes;
         passed = old.passed;
         nodes = taken_nodes s n v.own v.ready rest v.used v.homes own ready old.nodes;
-        own = filling_sized m.seats (record { node = n; lo = None; hi = None; mode = Writer; aimed = None }) (record { hi = λ h q. absurd (cc); aimed = λ w q. absurd (cc) }) (λ w q. absurd (cc));
+        own = filling_sized m.seats (record { node = n; lo = None; hi = None; mode = Writer; aimed = None })
+            (record { hi = λ h q. absurd (cc); aimed = λ w q. absurd (cc) }) (λ w q. absurd (cc));
         hand = old.hand;
         cursor = old.cursor;
       })
       (λ k q. absurd (cc))
   sized_line step p (walk cell odd hand at) =
-      by_load (cell_place m.seats cell) _ (walked_sized v.cursor cell refl at) (λ n q. sym (walked_bound v.cursor (slice_index m.words (cell_place m.seats cell))) ∙ q)
+      by_load (cell_place m.seats cell) _ (walked_sized v.cursor cell refl at)
+      (λ n q. sym (walked_bound v.cursor (slice_index m.words (cell_place m.seats cell))) ∙ q)
   sized_line step p (read_lo c y n cursor node next plain) =
       let there = old.cursor c cursor in
-      by_load (lo_place m.seats y) _ (cursor_sized m.seats s v (record c { lo = Some (slice_index m.words (lo_place m.seats y)) }) (record { prev = there.prev; cur = there.cur; next = there.next }) old) same_bound
+      by_load (lo_place m.seats y) _ (cursor_sized m.seats s v (record c { lo = Some (slice_index m.words (lo_place m.seats y)) })
+      (record { prev = there.prev; cur = there.cur; next = there.next }) old) same_bound
   sized_line step p (read_hi c y n lo cursor node next plain low own) =
       let there = old.cursor c cursor in let verdict = verdict_of v.own lo (slice_index m.words (hi_place m.seats y)) in
       by_load (hi_place m.seats y) _ (judged_sized m.seats s v c y n verdict (node_there c y cursor node) (there.next n next) there old)
@@ -309,13 +345,28 @@ module _ (m : Machine) (s : ℕ) (v : View) (z : IsSized m) (at : slice_get m.vi
       let came = came_sized m.seats s v c.prev (n - 1) c.seen there.prev (omega arith) old in
       by_exchange (cell_of c.prev) c.cur (n - 1) _ _
       (by_cell (cell_of c.prev) (n - 1) _ l (omega arith) (λ k q. inl (omega arith))
-      (record { notes = came.notes; passed = came.passed; nodes = came.nodes; own = came.own; hand = λ x q. let same : y ≡ x = cc in subst (IsNode m.seats) same (node_there c y cursor node); cursor = came.cursor })
+      (record {
+        notes = came.notes;
+        passed = came.passed;
+        nodes = came.nodes;
+        own = came.own;
+        hand = λ x q. let same : y ≡ x = cc in subst (IsNode m.seats) same (node_there c y cursor node);
+        cursor = came.cursor;
+      })
       (λ k q. stays_even (cell_of c.prev) (n - 1) l (λ k q. omega arith) k (sym (own_at_bound v.own (n - 1)) ∙ q)))
       (dropped_sized m.seats s v old) same_bound
   sized_line step p (mark k own) =
       let t = linked_there k own in let l : suc k.node ≤ 16 * m.seats = let l = t.1 in omega arith in
-      by_cell (suc k.node) _ _ l (let c = z.cells (suc k.node) l in let e = z.even s v at k.node (ap bound_node own) in omega arith) (λ n q. inr (let i = owner_is s k.node v at t.0 in omega arith))
-      (record { notes = old.notes; passed = old.passed; nodes = used_nodes s v.own k.node v.ready v.used v.homes (λ x. ap (own_times x) own) old.nodes; own = nothing_sized m.seats; hand = old.hand; cursor = old.cursor })
+      by_cell (suc k.node) _ _ l (let c = z.cells (suc k.node) l in let e = z.even s v at k.node (ap bound_node own) in
+      omega arith) (λ n q. inr (let i = owner_is s k.node v at t.0 in omega arith))
+      (record {
+        notes = old.notes;
+        passed = old.passed;
+        nodes = used_nodes s v.own k.node v.ready v.used v.homes (λ x. ap (own_times x) own) old.nodes;
+        own = nothing_sized m.seats;
+        hand = old.hand;
+        cursor = old.cursor;
+      })
       (λ n q. absurd (cc))
   sized_line step p (quick_link f lo hi own low high aimed even) =
       let t = filling_there f own in
@@ -330,7 +381,14 @@ module _ (m : Machine) (s : ℕ) (v : View) (z : IsSized m) (at : slice_get m.vi
       let t = linked_there k own in
       by_exchange 0 (2 * suc k.node + 1) 0 _ _
       (by_cell 0 0 _ (omega arith) (omega arith) (λ n q. absurd (omega arith))
-      (record { notes = old.notes; passed = old.passed; nodes = used_nodes s v.own k.node v.ready v.used v.homes (λ x. ap (own_times x) own) old.nodes; own = nothing_sized m.seats; hand = λ x q. let same : k.node ≡ x = cc in subst (IsNode m.seats) same t.1; cursor = old.cursor })
+      (record {
+        notes = old.notes;
+        passed = old.passed;
+        nodes = used_nodes s v.own k.node v.ready v.used v.homes (λ x. ap (own_times x) own) old.nodes;
+        own = nothing_sized m.seats;
+        hand = λ x q. let same : k.node ≡ x = cc in subst (IsNode m.seats) same t.1;
+        cursor = old.cursor;
+      })
       (λ n q. absurd (cc)))
       old same_bound
   sized_line step p (settle c cursor prev low) =

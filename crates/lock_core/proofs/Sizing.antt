@@ -1,5 +1,6 @@
 -- Every step keeps the sizes of a state: what the type of a state keeps, it keeps after any line of the table.
-use Rattle.std.proofs.Common.{◌≡◌, ◌≢◌, ℕ, suc, ◌+◌, ◌*◌, ◌/◌, ◌%◌, ◌≤◌, Bool, true, false, List, [], ◌∷◌, ◌++◌, length, Some, None, ⊎_elim, refl, sym, ap, ◌∙◌, subst, arith, eqb-true, eq-eqb, length-set}
+use Rattle.std.proofs.Common.{◌≡◌, ◌≢◌, ℕ, suc, ◌+◌, ◌*◌, ◌/◌, ◌%◌, ◌≤◌, Bool, true, false, List, [], ◌∷◌, ◌++◌, length}
+use Rattle.std.proofs.Common.{Some, None, ⊎_elim, refl, sym, ap, ◌∙◌, subst, arith, eqb-true, eq-eqb, length-set}
 use Rattle.std.specs.Prelude.{Option, ◌==◌, if◌then◌else◌}
 use Rattle.std.proofs.lemmas.Bool.{cases_eq}
 use Rattle.std.proofs.lemmas.List.{length-replicate}
@@ -14,7 +15,9 @@ use Rattle.lock_core.specs.declared.compare.Verdict.{Verdict}
 use Rattle.lock_core.specs.declared.compare.Verdict.TheVariants.{Past, Stop, Conflict}
 use Rattle.lock_core.specs.Words.{Heap}
 use Rattle.lock_core.specs.Nodes.{Filled, Listed, filling, listed, filled_of, own_times}
-use Rattle.lock_core.specs.Views.{kept_own, ready_left, released, is_passed, note_of, passes, noted, looked_at, released_if_passed, came_home, home_read, own_at, own_stopped, came_to, seen_after, hi_judged, dropped}
+use Rattle.lock_core.specs.Views.{kept_own, ready_left, released, is_passed, note_of, passes, noted, looked_at}
+use Rattle.lock_core.specs.Views.{released_if_passed, came_home, home_read, own_at, own_stopped, came_to, seen_after}
+use Rattle.lock_core.specs.Views.{hi_judged, dropped}
 use Rattle.lock_core.specs.Sizes.{IsNode, NamesNode, IsCursorThere, IsFilledInOrder, AreNodesSized, IsOwnSized, IsViewSized, bound_node, IsOwnEven}
 use Rattle.lock_core.proofs.Counts.{times_joined, once_after}
 use Rattle.lock_core.proofs.Words.{WroteCell}
@@ -42,7 +45,8 @@ bound_mine (Filling node lo hi mode None) n e = absurd (cc)
 bound_mine (Filling node lo hi mode (Some w)) n e = let same : node ≡ n = cc in ap (λ (b : Bool). if b then 1 else 0) (eq-eqb node n same)
 bound_mine (Linked node range mode todo) n e = let same : node ≡ n = cc in ap (λ (b : Bool). if b then 1 else 0) (eq-eqb node n same)
 
-pub even_kept : (seats : ℕ) (h now : Heap) (own : Own) (p x : ℕ) → WroteCell seats h now p x → ((n : ℕ) → p ≡ suc n → own_times n own ≡ 1 → x % 2 ≡ 0) → IsOwnEven h own → IsOwnEven now own
+pub even_kept : (seats : ℕ) (h now : Heap) (own : Own) (p x : ℕ) → WroteCell seats h now p x
+    → ((n : ℕ) → p ≡ suc n → own_times n own ≡ 1 → x % 2 ≡ 0) → IsOwnEven h own → IsOwnEven now own
 even_kept seats h now own p x wrote even o n q =
     ⊎_elim
     (λ (e : suc n ≡ p). ap (λ c. now.next c % 2) e ∙ ap (λ w. w % 2) wrote.is ∙ even n (sym e) (bound_mine own n q))
@@ -127,43 +131,53 @@ judged_bound v c y n Stop = own_stopped_bound v.own
 judged_bound v c y n Conflict = refl
 
 -- the lists of a view
-same_nodes : (i : ℕ) (own own' : Own) (ready used homes : List ℕ) → ((x : ℕ) → own_times x own' ≡ own_times x own) → AreNodesSized i own ready used homes → AreNodesSized i own' ready used homes
+same_nodes : (i : ℕ) (own own' : Own) (ready used homes : List ℕ) → ((x : ℕ) → own_times x own' ≡ own_times x own)
+    → AreNodesSized i own ready used homes → AreNodesSized i own' ready used homes
 same_nodes i own own' ready used homes e n = record { nodes = λ x. let q = e x in omega (arith, n.nodes x); homes_used = n.homes_used }
 
 at_most_one : (b : Bool) → (if b then 1 else 0) ≤ 1
 at_most_one true = omega arith
 at_most_one false = omega arith
 
-pub left_nodes : (i : ℕ) (own : Own) (ready used homes : List ℕ) → AreNodesSized i own ready used homes → AreNodesSized i (kept_own own) (ready_left own ready) used homes
+pub left_nodes : (i : ℕ) (own : Own) (ready used homes : List ℕ) → AreNodesSized i own ready used homes
+    → AreNodesSized i (kept_own own) (ready_left own ready) used homes
 left_nodes i Nothing ready used homes n = n
 left_nodes i (Filling node lo hi mode aimed) ready used homes n = record { nodes = λ x. let l = n.nodes x in omega arith; homes_used = n.homes_used }
 left_nodes i (Linked node range mode todo) ready used homes n = n
 
-released_nodes : (i : ℕ) (own : Own) (ready used homes : List ℕ) → AreNodesSized i own ready used homes → AreNodesSized i own (ready ++ homes) (without homes used) []
+released_nodes : (i : ℕ) (own : Own) (ready used homes : List ℕ) → AreNodesSized i own ready used homes
+    → AreNodesSized i own (ready ++ homes) (without homes used) []
 released_nodes i own ready used homes n = record {
   nodes = λ x.
       let l = n.nodes x in let most = at_most_one (x / 16 == i) in
-      let e = once_after x (own_times x own) (own_times x own + times x ready + times x used) ready homes used refl (omega arith) (n.homes_used x) in omega arith;
+      let e = once_after x (own_times x own) (own_times x own + times x ready + times x used) ready homes used refl (omega arith)
+      (n.homes_used x) in omega arith;
   homes_used = λ x. omega arith;
 }
 
-came_nodes : (i n : ℕ) (own : Own) (ready used homes : List ℕ) → 1 ≤ times n used → times n homes ≡ 0 → AreNodesSized i own ready used homes → AreNodesSized i own ready used (homes ++ n ∷ [])
+came_nodes : (i n : ℕ) (own : Own) (ready used homes : List ℕ) → 1 ≤ times n used → times n homes ≡ 0
+    → AreNodesSized i own ready used homes → AreNodesSized i own ready used (homes ++ n ∷ [])
 came_nodes i n own ready used homes is_used not_home a = record {
   nodes = a.nodes;
   homes_used = λ x. let j = times_joined x homes (n ∷ []) in let l = a.homes_used x in split x (n == x) refl j l;
 }
   where
-    split : (x : ℕ) (b : Bool) → (n == x) ≡ b → times x (homes ++ n ∷ []) ≡ times x homes + ((if b then 1 else 0) + 0) → times x homes ≤ times x used → times x (homes ++ n ∷ []) ≤ times x used
+    split : (x : ℕ) (b : Bool) → (n == x) ≡ b → times x (homes ++ n ∷ []) ≡ times x homes + ((if b then 1 else 0) + 0)
+        → times x homes ≤ times x used → times x (homes ++ n ∷ []) ≤ times x used
     split x true e j l = let q = eqb-true n x e in let u = ap (λ a. times a used) q in let z = ap (λ a. times a homes) q in omega arith
     split x false e j l = omega arith
 
-pub used_nodes : (i : ℕ) (own : Own) (node : ℕ) (ready used homes : List ℕ) → ((x : ℕ) → own_times x own ≡ (if node == x then 1 else 0)) → AreNodesSized i own ready used homes → AreNodesSized i Nothing ready (used ++ node ∷ []) homes
+pub used_nodes : (i : ℕ) (own : Own) (node : ℕ) (ready used homes : List ℕ)
+    → ((x : ℕ) → own_times x own ≡ (if node == x then 1 else 0)) → AreNodesSized i own ready used homes
+    → AreNodesSized i Nothing ready (used ++ node ∷ []) homes
 used_nodes i own node ready used homes e n = record {
   nodes = λ x. let j = times_joined x used (node ∷ []) in let q = e x in let l = n.nodes x in omega arith;
   homes_used = λ x. let j = times_joined x used (node ∷ []) in let l = n.homes_used x in omega arith;
 }
 
-pub taken_nodes : (i n : ℕ) (own : Own) (ready rest used homes : List ℕ) → own ≡ Nothing → ready ≡ n ∷ rest → AreNodesSized i own ready used homes → AreNodesSized i (filling (record { node = n; lo = None; hi = None; mode = Writer; aimed = None })) rest used homes
+pub taken_nodes : (i n : ℕ) (own : Own) (ready rest used homes : List ℕ) → own ≡ Nothing → ready ≡ n ∷ rest
+    → AreNodesSized i own ready used homes → AreNodesSized i
+    (filling (record { node = n; lo = None; hi = None; mode = Writer; aimed = None })) rest used homes
 taken_nodes i n own ready rest used homes e e' a = record {
   nodes = λ x. let q = ap (own_times x) e in let r = ap (times x) e' in let l = a.nodes x in omega arith;
   homes_used = a.homes_used;
@@ -181,7 +195,14 @@ module _ (seats i : ℕ) where
   passes_sized v j o = record { notes = o.notes; passed = passed_length v j seats o.passed; nodes = o.nodes; own = o.own; hand = o.hand; cursor = o.cursor }
 
   noted_sized : (v : View) (j w : ℕ) (note : Option ℕ) → IsViewSized seats i v → IsViewSized seats i (noted v j w note)
-  noted_sized v j w None o = record { notes = length-set v.notes j (Some w) ∙ o.notes; passed = o.passed; nodes = o.nodes; own = o.own; hand = o.hand; cursor = o.cursor }
+  noted_sized v j w None o = record {
+    notes = length-set v.notes j (Some w) ∙ o.notes;
+    passed = o.passed;
+    nodes = o.nodes;
+    own = o.own;
+    hand = o.hand;
+    cursor = o.cursor;
+  }
   noted_sized v j w (Some n) o = split (n == w)
     where
       split : (b : Bool) → IsViewSized seats i (if b then v else passes v j)
@@ -197,7 +218,14 @@ module _ (seats i : ℕ) where
       split false false = noted_sized v j w (note_of v j) o
 
   released_sized : (v : View) → IsViewSized seats i v → IsViewSized seats i (released v)
-  released_sized v o = record { notes = o.notes; passed = o.passed; nodes = released_nodes i v.own v.ready v.used v.homes o.nodes; own = o.own; hand = o.hand; cursor = o.cursor }
+  released_sized v o = record {
+    notes = o.notes;
+    passed = o.passed;
+    nodes = released_nodes i v.own v.ready v.used v.homes o.nodes;
+    own = o.own;
+    hand = o.hand;
+    cursor = o.cursor;
+  }
 
   pub epoch_sized : (s : ℕ) (v : View) → IsViewSized seats i v → IsViewSized seats i (released_if_passed s v)
   epoch_sized s v o = split (are_others_passed s v.passed)
@@ -207,7 +235,14 @@ module _ (seats i : ℕ) where
       split false = o
 
   came_home_sized : (v : View) (n : ℕ) → 1 ≤ times n v.used → times n v.homes ≡ 0 → IsViewSized seats i v → IsViewSized seats i (came_home seats v n)
-  came_home_sized v n used homes o = record { notes = length-replicate seats None; passed = length-replicate seats false; nodes = came_nodes i n v.own v.ready v.used v.homes used homes o.nodes; own = o.own; hand = o.hand; cursor = o.cursor }
+  came_home_sized v n used homes o = record {
+    notes = length-replicate seats None;
+    passed = length-replicate seats false;
+    nodes = came_nodes i n v.own v.ready v.used v.homes used homes o.nodes;
+    own = o.own;
+    hand = o.hand;
+    cursor = o.cursor;
+  }
 
   pub home_sized : (v : View) (n w : ℕ) → 1 ≤ times n v.used → times n v.homes ≡ 0 → IsViewSized seats i v → IsViewSized seats i (home_read seats v n w)
   home_sized v n w used homes o = split (w == 1) (seats == 1)
@@ -217,7 +252,8 @@ module _ (seats i : ℕ) where
       split true false = came_home_sized v n used homes o
       split false d = o
 
-  pub came_sized : (v : View) (prev : Option ℕ) (w seen : ℕ) → ((n : ℕ) → prev ≡ Some n → IsNode seats n) → NamesNode seats w → IsViewSized seats i v → IsViewSized seats i (came_to v prev w seen)
+  pub came_sized : (v : View) (prev : Option ℕ) (w seen : ℕ) → ((n : ℕ) → prev ≡ Some n → IsNode seats n) → NamesNode seats w
+      → IsViewSized seats i v → IsViewSized seats i (came_to v prev w seen)
   came_sized v prev w seen p there o = record {
     notes = o.notes;
     passed = o.passed;
@@ -240,7 +276,8 @@ module _ (seats i : ℕ) where
   }
 
   -- the own node changed, and not which it is
-  pub own_sized : (v : View) (own : Own) → ((x : ℕ) → own_times x own ≡ own_times x v.own) → IsOwnSized seats own → IsViewSized seats i v → IsViewSized seats i (record v { own = own })
+  pub own_sized : (v : View) (own : Own) → ((x : ℕ) → own_times x own ≡ own_times x v.own) → IsOwnSized seats own
+      → IsViewSized seats i v → IsViewSized seats i (record v { own = own })
   own_sized v own e new o = record {
     notes = o.notes;
     passed = o.passed;
@@ -250,7 +287,8 @@ module _ (seats i : ℕ) where
     cursor = o.cursor;
   }
 
-  pub judged_sized : (v : View) (c : Cursor) (y n : ℕ) (verdict : Verdict) → IsNode seats y → NamesNode seats n → IsCursorThere seats c → IsViewSized seats i v → IsViewSized seats i (hi_judged v c y n verdict)
+  pub judged_sized : (v : View) (c : Cursor) (y n : ℕ) (verdict : Verdict) → IsNode seats y → NamesNode seats n
+      → IsCursorThere seats c → IsViewSized seats i v → IsViewSized seats i (hi_judged v c y n verdict)
   judged_sized v c y n Past node next there o = came_sized v (Some y) n c.seen (λ m q. let same : y ≡ m = cc in subst (IsNode seats) same node) next o
   judged_sized v c y n Stop node next there o =
       cursor_sized (record v { own = own_stopped v.own }) (record c { next = None }) (record { prev = there.prev; cur = there.cur; next = λ w q. absurd (cc) })

@@ -11,9 +11,13 @@ use Rattle.lock_core.specs.declared.views.Todo.TheVariants.{Forward, FromHead, D
 use Rattle.lock_core.specs.declared.views.Own.{Own}
 use Rattle.lock_core.specs.declared.views.Own.TheVariants.{Nothing, Filling, Linked}
 use Rattle.lock_core.specs.declared.steps.Step.{Step}
-use Rattle.lock_core.specs.declared.steps.Step.TheVariants.{Enter, Leave, ReadEpoch, ReadHome, GiveHome, FillLo, FillHi, Aim, ClearHome, Walk, ReadLo, ReadHi, Link, Unlink, Mark, QuickLink, QuickUnlink, Settle}
+use Rattle.lock_core.specs.declared.steps.Step.TheVariants.{Enter, Leave, ReadEpoch, ReadHome, GiveHome, FillLo, FillHi}
+use Rattle.lock_core.specs.declared.steps.Step.TheVariants.{Aim, ClearHome, Walk, ReadLo, ReadHi, Link, Unlink, Mark}
+use Rattle.lock_core.specs.declared.steps.Step.TheVariants.{QuickLink, QuickUnlink, Settle}
 use Rattle.lock_core.specs.Nodes.{Filled, Listed, filling, listed, filled_of, listed_of}
-use Rattle.lock_core.specs.StepTable.{Plan, IsLine, IsAtPlace, Aims, enter, leave, read_epoch, read_home, give_home, fill_lo, fill_hi, aim, clear_home, walk, read_lo, read_hi, link, unlink, mark, quick_link, quick_unlink, settle}
+use Rattle.lock_core.specs.StepTable.{Plan, IsLine, IsAtPlace, Aims, enter, leave, read_epoch, read_home, give_home}
+use Rattle.lock_core.specs.StepTable.{fill_lo, fill_hi, aim, clear_home, walk, read_lo, read_hi, link, unlink, mark}
+use Rattle.lock_core.specs.StepTable.{quick_link, quick_unlink, settle}
 use Rattle.lock_core.specs.Machine.{given, when, plan, is_done, may_leave, may_judge, is_at_place, aim_of, first_of_list, is_nothing}
 
 pub given-some : {A B : Type 0} (o : Option A) (f : A → Option B) (b : B) → given o f ≡ Some b → (a : A) × (o ≡ Some a) × (f a ≡ Some b)
@@ -173,14 +177,17 @@ module _ (seats s : ℕ) (v : View) (p : Plan) where
   line (FillHi hi mode) e =
       let f = given-some _ _ _ e in let lo = given-some _ _ _ f.2 in let t = when-some _ _ _ lo.2 in
       let a = both _ _ t.0 in let b = both _ _ a.0 in let d = both _ _ b.0 in
-      subst (IsLine seats s v (FillHi hi mode)) t.1 (fill_hi f.0 lo.0 hi mode (is_filling v.own f.0 f.1) lo.1 (ltb-true _ _ d.0) (leb-true _ _ d.1) (none _ b.1) (none _ a.1))
+      subst (IsLine seats s v (FillHi hi mode)) t.1
+      (fill_hi f.0 lo.0 hi mode (is_filling v.own f.0 f.1) lo.1 (ltb-true _ _ d.0) (leb-true _ _ d.1) (none _ b.1)
+      (none _ a.1))
   line Aim e =
       let f = given-some _ _ _ e in let lo = given-some _ _ _ f.2 in let hi = given-some _ _ _ lo.2 in let w = given-some _ _ _ hi.2 in
       subst (IsLine seats s v Aim) (cc) (aim f.0 lo.0 hi.0 w.0 (is_filling v.own f.0 f.1) lo.1 hi.1 (aiming v.cursor w.0 w.1))
   line (ClearHome n) e =
       let l = given-some _ _ _ e in let t = when-some _ _ _ l.2 in
       let a = both _ _ t.0 in let b = both _ _ a.0 in
-      subst (IsLine seats s v (ClearHome n)) t.1 (clear_home n l.0.1 (nothing v.own b.0) (eqb-true _ _ b.1) (first_is v.ready l.0 l.1 ∙ ap (λ (m : ℕ). m ∷ l.0.1) (eqb-true _ _ a.1)))
+      subst (IsLine seats s v (ClearHome n)) t.1 (clear_home n l.0.1 (nothing v.own b.0) (eqb-true _ _ b.1)
+      (first_is v.ready l.0 l.1 ∙ ap (λ (m : ℕ). m ∷ l.0.1) (eqb-true _ _ a.1)))
   line Walk e =
       let cell = given-some _ _ _ e in let t = when-some _ _ _ cell.2 in let a = both _ _ t.0 in
       subst (IsLine seats s v Walk) t.1 (walk cell.0 (eqb-true _ _ a.0) (none _ a.1) cell.1)
@@ -192,9 +199,11 @@ module _ (seats s : ℕ) (v : View) (p : Plan) where
       let t = when-some _ _ _ lo.2 in let a = both _ _ t.0 in
       subst (IsLine seats s v ReadHi) t.1 (read_hi c.0 y.0 n.0 lo.0 c.1 y.1 n.1 (eqb-true _ _ a.0) lo.1 (judging v.own a.1))
   line Link e =
-      let f = given-some _ _ _ e in let c = given-some _ _ _ f.2 in let lo = given-some _ _ _ c.2 in let hi = given-some _ _ _ lo.2 in let w = given-some _ _ _ hi.2 in
+      let f = given-some _ _ _ e in let c = given-some _ _ _ f.2 in let lo = given-some _ _ _ c.2 in
+      let hi = given-some _ _ _ lo.2 in let w = given-some _ _ _ hi.2 in
       let t = when-some _ _ _ w.2 in let a = both _ _ t.0 in let b = both _ _ a.0 in
-      subst (IsLine seats s v Link) t.1 (link f.0 c.0 lo.0 hi.0 (is_filling v.own f.0 f.1) c.1 lo.1 hi.1 (w.1 ∙ ap (λ (n : ℕ). Some n) (eqb-true _ _ b.0)) (eqb-true _ _ b.1) (placed c.0 a.1))
+      subst (IsLine seats s v Link) t.1 (link f.0 c.0 lo.0 hi.0 (is_filling v.own f.0 f.1) c.1 lo.1 hi.1
+      (w.1 ∙ ap (λ (n : ℕ). Some n) (eqb-true _ _ b.0)) (eqb-true _ _ b.1) (placed c.0 a.1))
   line Unlink e =
       let c = given-some _ _ _ e in let y = given-some _ _ _ c.2 in let n = given-some _ _ _ y.2 in
       let t = when-some _ _ _ n.2 in let a = both _ _ t.0 in
@@ -205,7 +214,8 @@ module _ (seats s : ℕ) (v : View) (p : Plan) where
   line QuickLink e =
       let f = given-some _ _ _ e in let lo = given-some _ _ _ f.2 in let hi = given-some _ _ _ lo.2 in let w = given-some _ _ _ hi.2 in
       let t = when-some _ _ _ w.2 in let a = both _ _ t.0 in
-      subst (IsLine seats s v QuickLink) t.1 (quick_link f.0 lo.0 hi.0 (is_filling v.own f.0 f.1) lo.1 hi.1 (w.1 ∙ ap (λ (n : ℕ). Some n) (eqb-true _ _ a.0)) (eqb-true _ _ a.1))
+      subst (IsLine seats s v QuickLink) t.1 (quick_link f.0 lo.0 hi.0 (is_filling v.own f.0 f.1) lo.1 hi.1
+      (w.1 ∙ ap (λ (n : ℕ). Some n) (eqb-true _ _ a.0)) (eqb-true _ _ a.1))
   line QuickUnlink e =
       let k = given-some _ _ _ e in let t = when-some _ _ _ k.2 in let a = both _ _ t.0 in
       subst (IsLine seats s v QuickUnlink) t.1 (quick_unlink k.0 (is_listed v.own k.0 k.1) (done _ a.0) (none _ a.1))
@@ -225,7 +235,8 @@ plan_of_line seats s v step p (read_epoch j even homes less other) =
 plan_of_line seats s v step p (read_home n even used homes) =
     when-is _ _ (together _ _ (together _ _ (eq-eqb _ _ even) (apart_is _ _ (λ q. omega arith))) (eq-eqb _ _ homes))
 plan_of_line seats s v step p (give_home n hand) = given-is _ _ n _ hand refl
-plan_of_line seats s v step p (fill_lo f lo own aimed cursor) = given-is _ _ f _ (ap filled_of own) (when-is _ _ (together _ _ (none_is _ aimed) (none_is _ cursor)))
+plan_of_line seats s v step p (fill_lo f lo own aimed cursor) =
+    given-is _ _ f _ (ap filled_of own) (when-is _ _ (together _ _ (none_is _ aimed) (none_is _ cursor)))
 plan_of_line seats s v step p (fill_hi f lo hi mode own low less most aimed cursor) =
     given-is _ _ f _ (ap filled_of own) (given-is _ _ lo _ low
     (when-is _ _ (together _ _ (together _ _ (together _ _ (lt-ltb _ _ less) (le-leb _ _ most)) (none_is _ aimed)) (none_is _ cursor))))
@@ -237,7 +248,8 @@ plan_of_line seats s v step p (walk cell odd hand at) = given-is _ _ cell _ at (
 plan_of_line seats s v step p (read_lo c y n cursor node next plain) =
     given-is _ _ c _ cursor (given-is _ _ y _ node (given-is _ _ n _ next (when-is _ _ (eq-eqb _ _ plain))))
 plan_of_line seats s v step p (read_hi c y n lo cursor node next plain low own) =
-    given-is _ _ c _ cursor (given-is _ _ y _ node (given-is _ _ n _ next (given-is _ _ lo _ low (when-is _ _ (together _ _ (eq-eqb _ _ plain) (judging_is v.own own))))))
+    given-is _ _ c _ cursor (given-is _ _ y _ node
+    (given-is _ _ n _ next (given-is _ _ lo _ low (when-is _ _ (together _ _ (eq-eqb _ _ plain) (judging_is v.own own))))))
 plan_of_line seats s v step p (link f c lo hi own cursor low high aimed plain place) =
     given-is _ _ f _ (ap filled_of own) (given-is _ _ c _ cursor (given-is _ _ lo _ low (given-is _ _ hi _ high (given-is _ _ c.cur _ aimed
     (when-is _ _ (together _ _ (together _ _ (eq-eqb _ _ refl) (eq-eqb _ _ plain)) (placed_is c place)))))))
@@ -245,7 +257,8 @@ plan_of_line seats s v step p (unlink c y n cursor node next marked hand) =
     given-is _ _ c _ cursor (given-is _ _ y _ node (given-is _ _ n _ next (when-is _ _ (together _ _ (eq-eqb _ _ marked) (none_is _ hand)))))
 plan_of_line seats s v step p (mark k own) = given-is _ _ k _ (ap listed_of own) refl
 plan_of_line seats s v step p (quick_link f lo hi own low high aimed even) =
-    given-is _ _ f _ (ap filled_of own) (given-is _ _ lo _ low (given-is _ _ hi _ high (given-is _ _ 0 _ aimed (when-is _ _ (together _ _ (eq-eqb 0 0 refl) (eq-eqb _ _ even))))))
+    given-is _ _ f _ (ap filled_of own) (given-is _ _ lo _ low
+    (given-is _ _ hi _ high (given-is _ _ 0 _ aimed (when-is _ _ (together _ _ (eq-eqb 0 0 refl) (eq-eqb _ _ even))))))
 plan_of_line seats s v step p (quick_unlink k own todo hand) =
     given-is _ _ k _ (ap listed_of own) (when-is _ _ (together _ _ (ap is_done todo) (none_is _ hand)))
 plan_of_line seats s v step p (settle c cursor prev low) =

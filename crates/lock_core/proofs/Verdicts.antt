@@ -16,7 +16,8 @@ abbrev held : ℕ → ℕ → Mode → Held
 held lo hi mode = record { range = record { lo = lo; hi = hi }; mode = mode }
 
 conflict_is : (m n : Mode) (lo hi node_lo e : ℕ) (a b c d : Bool) → nat_le e lo ≡ a → nat_lt node_lo lo ≡ b → nat_le hi node_lo ≡ c → nat_le lo node_lo ≡ d →
-    (if a then Past else if is_reader m && is_reader n && b then Past else if c then Stop else if is_reader m && is_reader n && d then Stop else Conflict) ≡ Conflict → Conflicts (held lo hi m) (held node_lo e n)
+    (if a then Past else if is_reader m && is_reader n && b then Past else if c then Stop
+    else if is_reader m && is_reader n && d then Stop else Conflict) ≡ Conflict → Conflicts (held lo hi m) (held node_lo e n)
 conflict_is m n lo hi node_lo e true b c d ea eb ec ed q = absurd (cc)
 conflict_is Reader Reader lo hi node_lo e false true c d ea eb ec ed q = absurd (cc)
 conflict_is Reader Reader lo hi node_lo e false false true d ea eb ec ed q = absurd (cc)
@@ -28,33 +29,46 @@ conflict_is Reader Writer lo hi node_lo e false b true d ea eb ec ed q = absurd 
 conflict_is Reader Writer lo hi node_lo e false b false d ea eb ec ed q = ((omega (arith, leb-false _ _ ea), omega (arith, leb-false _ _ ec)), inr refl)
 
 is_conflict : (m n : Mode) (lo hi node_lo e : ℕ) (b d : Bool) → lo < e → node_lo < hi → (m ≡ Writer) ⊎ (n ≡ Writer) →
-    (if nat_le e lo then Past else if is_reader m && is_reader n && b then Past else if nat_le hi node_lo then Stop else if is_reader m && is_reader n && d then Stop else Conflict) ≡ Conflict
+    (if nat_le e lo then Past else if is_reader m && is_reader n && b then Past else if nat_le hi node_lo then Stop
+    else if is_reader m && is_reader n && d then Stop else Conflict) ≡ Conflict
 is_conflict Reader Reader lo hi node_lo e b d low high w = absurd (⊎_elim (λ (q : Reader ≡ Writer). cc) (λ (q : Reader ≡ Writer). cc) w)
-is_conflict Writer n lo hi node_lo e b d low high w = ap (λ a. if a then Past else if nat_le hi node_lo then Stop else Conflict) (lt-leb e lo low) ∙ ap (λ c. if c then Stop else Conflict) (lt-leb hi node_lo high)
-is_conflict Reader Writer lo hi node_lo e b d low high w = ap (λ a. if a then Past else if nat_le hi node_lo then Stop else Conflict) (lt-leb e lo low) ∙ ap (λ c. if c then Stop else Conflict) (lt-leb hi node_lo high)
+is_conflict Writer n lo hi node_lo e b d low high w =
+    ap (λ a. if a then Past else if nat_le hi node_lo then Stop else Conflict) (lt-leb e lo low)
+    ∙ ap (λ c. if c then Stop else Conflict) (lt-leb hi node_lo high)
+is_conflict Reader Writer lo hi node_lo e b d low high w =
+    ap (λ a. if a then Past else if nat_le hi node_lo then Stop else Conflict) (lt-leb e lo low)
+    ∙ ap (λ c. if c then Stop else Conflict) (lt-leb hi node_lo high)
 
-forward_is : (n : Mode) (lo hi node_lo e : ℕ) (a b : Bool) → nat_le hi node_lo ≡ a → nat_lt lo e ≡ b → (if a then Stop else if is_reader n then Past else if b then Conflict else Past) ≡ Conflict → Conflicts (held lo hi Reader) (held node_lo e n)
+forward_is : (n : Mode) (lo hi node_lo e : ℕ) (a b : Bool) → nat_le hi node_lo ≡ a → nat_lt lo e ≡ b
+    → (if a then Stop else if is_reader n then Past else if b then Conflict else Past) ≡ Conflict
+    → Conflicts (held lo hi Reader) (held node_lo e n)
 forward_is n lo hi node_lo e true b ea eb q = absurd (cc)
 forward_is Reader lo hi node_lo e false b ea eb q = absurd (cc)
 forward_is Writer lo hi node_lo e false true ea eb q = ((ltb-true _ _ eb, omega (arith, leb-false _ _ ea)), inr refl)
 forward_is Writer lo hi node_lo e false false ea eb q = absurd (cc)
 
-is_forward : (n : Mode) (lo hi node_lo e : ℕ) → lo < e → node_lo < hi → (Reader ≡ Writer) ⊎ (n ≡ Writer) → (if nat_le hi node_lo then Stop else if is_reader n then Past else if nat_lt lo e then Conflict else Past) ≡ Conflict
+is_forward : (n : Mode) (lo hi node_lo e : ℕ) → lo < e → node_lo < hi → (Reader ≡ Writer) ⊎ (n ≡ Writer)
+    → (if nat_le hi node_lo then Stop else if is_reader n then Past else if nat_lt lo e then Conflict else Past) ≡ Conflict
 is_forward Reader lo hi node_lo e low high w = absurd (⊎_elim (λ (q : Reader ≡ Writer). cc) (λ (q : Reader ≡ Writer). cc) w)
-is_forward Writer lo hi node_lo e low high w = ap (λ a. if a then Stop else if nat_lt lo e then Conflict else Past) (lt-leb hi node_lo high) ∙ ap (λ b. if b then Conflict else Past) (lt-ltb lo e low)
+is_forward Writer lo hi node_lo e low high w =
+    ap (λ a. if a then Stop else if nat_lt lo e then Conflict else Past) (lt-leb hi node_lo high)
+    ∙ ap (λ b. if b then Conflict else Past) (lt-ltb lo e low)
 
-from_head_is : (n : Mode) (lo hi node_lo e : ℕ) (a b : Bool) → nat_lt lo e ≡ a → nat_lt node_lo hi ≡ b → (if a && b then Conflict else Past) ≡ Conflict → Conflicts (held lo hi Writer) (held node_lo e n)
+from_head_is : (n : Mode) (lo hi node_lo e : ℕ) (a b : Bool) → nat_lt lo e ≡ a → nat_lt node_lo hi ≡ b
+    → (if a && b then Conflict else Past) ≡ Conflict → Conflicts (held lo hi Writer) (held node_lo e n)
 from_head_is n lo hi node_lo e true true ea eb q = ((ltb-true _ _ ea, ltb-true _ _ eb), inl refl)
 from_head_is n lo hi node_lo e true false ea eb q = absurd (cc)
 from_head_is n lo hi node_lo e false b ea eb q = absurd (cc)
 
 is_from_head : (lo hi node_lo e : ℕ) → lo < e → node_lo < hi → (if nat_lt lo e && nat_lt node_lo hi then Conflict else Past) ≡ Conflict
-is_from_head lo hi node_lo e low high = ap (λ a. if a && nat_lt node_lo hi then Conflict else Past) (lt-ltb lo e low) ∙ ap (λ b. if b then Conflict else Past) (lt-ltb node_lo hi high)
+is_from_head lo hi node_lo e low high = ap (λ a. if a && nat_lt node_lo hi then Conflict else Past) (lt-ltb lo e low)
+    ∙ ap (λ b. if b then Conflict else Past) (lt-ltb node_lo hi high)
 
 pub judges_by_conflict_law : JudgesByConflict
 judges_by_conflict_law = record {
   filling = λ node lo hi mode aimed node_lo w. (
-    (λ q. conflict_is mode (mode_of w) lo hi node_lo (w / 2) (nat_le (w / 2) lo) (nat_lt node_lo lo) (nat_le hi node_lo) (nat_le lo node_lo) refl refl refl refl q),
+    (λ q. conflict_is mode (mode_of w) lo hi node_lo (w / 2) (nat_le (w / 2) lo) (nat_lt node_lo lo) (nat_le hi node_lo)
+        (nat_le lo node_lo) refl refl refl refl q),
     (λ c. is_conflict mode (mode_of w) lo hi node_lo (w / 2) (nat_lt node_lo lo) (nat_le lo node_lo) c.0.0 c.0.1 c.1),
   );
   reader = λ node range mode node_lo w. (

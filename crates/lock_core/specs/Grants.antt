@@ -35,4 +35,5 @@ IsFree grants seat h = (other : ℕ) (g : Held) → other ≢ seat → Holds gra
 
 -- a list of grants with their seats excludes: no two conflict, and no seat has two
 abbrev pub AreExclusive : List Grant → Type 0
-AreExclusive grants = (i j : ℕ) (a b : Grant) → i ≢ j → get_elem? grants i ≡ some a → get_elem? grants j ≡ some b → (a.seat ≢ b.seat) × ¬ (Conflicts (held_of a) (held_of b))
+AreExclusive grants = (i j : ℕ) (a b : Grant) → i ≢ j → get_elem? grants i ≡ some a → get_elem? grants j ≡ some b
+    → (a.seat ≢ b.seat) × ¬ (Conflicts (held_of a) (held_of b))

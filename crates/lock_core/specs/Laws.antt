@@ -28,7 +28,8 @@ node_held node_lo word = record { range = record { lo = node_lo; hi = word / 2 }
 -- seat fills a node whose ends are known, while a reader validates forward, and while a writer validates from the head
 pub record JudgesByConflict : Type 0 where
   pub filling : (node lo hi : ℕ) (mode : Mode) (aimed : Option ℕ) (node_lo word : ℕ) →
-      (verdict_of (Filling node (Some lo) (Some hi) mode aimed) node_lo word ≡ Conflict) ↔ Conflicts (record { range = record { lo = lo; hi = hi }; mode = mode }) (node_held node_lo word)
+      (verdict_of (Filling node (Some lo) (Some hi) mode aimed) node_lo word ≡ Conflict) ↔ Conflicts
+      (record { range = record { lo = lo; hi = hi }; mode = mode }) (node_held node_lo word)
   pub reader : (node : ℕ) (range : Interval) (mode : Mode) (node_lo word : ℕ) →
       (verdict_of (Linked node range mode Forward) node_lo word ≡ Conflict) ↔ Conflicts (record { range = range; mode = Reader }) (node_held node_lo word)
   pub writer : (node : ℕ) (range : Interval) (mode : Mode) (node_lo word : ℕ) →

@@ -1,7 +1,9 @@
 -- The list lock as a pure machine: its state, and a step of a seat as a function. `plan` computes the line of the
 -- table that a view enables; that it is the relation `IsLine`, for every step, is proved. A state with all its words
 -- and views is a `Machine`; `start` is the state before any step. This project's own profile.
-use Rattle.std.specs.Prelude.{◌≡◌, ℕ, zero, suc, ◌+◌, ◌-◌, ◌*◌, ◌%◌, ◌^◌, ◌==◌, ◌&&◌, nat_lt, nat_le, Bool, true, false, not, if◌then◌else◌, List, [], ◌∷◌, map, replicate, slice_get, slice_index, slice_set, is_some, is_none, unwrap_or, option_map, Option, Some, None, ◌++◌}
+use Rattle.std.specs.Prelude.{◌≡◌, ℕ, zero, suc, ◌+◌, ◌-◌, ◌*◌, ◌%◌, ◌^◌, ◌==◌, ◌&&◌, nat_lt, nat_le, Bool, true, false}
+use Rattle.std.specs.Prelude.{not, if◌then◌else◌, List, [], ◌∷◌, map, replicate, slice_get, slice_index, slice_set}
+use Rattle.std.specs.Prelude.{is_some, is_none, unwrap_or, option_map, Option, Some, None, ◌++◌}
 use Rattle.view_lists.specs.Counted.{times, is_empty}
 use Rattle.lock_core.specs.declared.range.Held.{Held}
 use Rattle.lock_core.specs.declared.range.Grant.{Grant}
@@ -12,10 +14,14 @@ use Rattle.lock_core.specs.declared.views.Todo.TheVariants.{Forward, FromHead, D
 use Rattle.lock_core.specs.declared.views.Own.{Own}
 use Rattle.lock_core.specs.declared.views.Own.TheVariants.{Nothing, Filling, Linked}
 use Rattle.lock_core.specs.declared.steps.Step.{Step}
-use Rattle.lock_core.specs.declared.steps.Step.TheVariants.{Enter, Leave, ReadEpoch, ReadHome, GiveHome, FillLo, FillHi, Aim, ClearHome, Walk, ReadLo, ReadHi, Link, Unlink, Mark, QuickLink, QuickUnlink, Settle}
+use Rattle.lock_core.specs.declared.steps.Step.TheVariants.{Enter, Leave, ReadEpoch, ReadHome, GiveHome, FillLo, FillHi}
+use Rattle.lock_core.specs.declared.steps.Step.TheVariants.{Aim, ClearHome, Walk, ReadLo, ReadHi, Link, Unlink, Mark}
+use Rattle.lock_core.specs.declared.steps.Step.TheVariants.{QuickLink, QuickUnlink, Settle}
 use Rattle.lock_core.specs.Words.{Heap, heap_of, word_count, cell_place, epoch_place, lo_place, hi_place, home_place, hi_word, cell_of, plain_node_of}
 use Rattle.lock_core.specs.Nodes.{filled_of, listed_of}
-use Rattle.lock_core.specs.Views.{entered, left, epoch_read, home_read, gave_home, lo_filled, hi_filled, aimed_at, taken, walk_cell, walked, lo_read, hi_read, dropped, todo_of, linked, unlinked, marked, quick_linked, quick_unlinked, settled}
+use Rattle.lock_core.specs.Views.{entered, left, epoch_read, home_read, gave_home, lo_filled, hi_filled, aimed_at}
+use Rattle.lock_core.specs.Views.{taken, walk_cell, walked, lo_read, hi_read, dropped, todo_of, linked, unlinked}
+use Rattle.lock_core.specs.Views.{marked, quick_linked, quick_unlinked, settled}
 use Rattle.lock_core.specs.StepTable.{Plan, loads, stores, adds_one, counts_on, exchanges}
 
 -- what follows where there is a value
@@ -71,7 +77,8 @@ plan seats s v GiveHome = given v.hand (λ n. Some (stores (home_place seats n) 
 plan seats s v (FillLo lo) = given (filled_of v.own) (λ f. when (is_none f.aimed && is_none v.cursor) (stores (lo_place seats f.node) lo (lo_filled v f lo)))
 plan seats s v (FillHi hi mode) =
     given (filled_of v.own) (λ f. given f.lo (λ lo.
-    when (nat_lt lo hi && nat_le hi (2 ^ 62) && is_none f.aimed && is_none v.cursor) (stores (hi_place seats f.node) (hi_word hi mode) (hi_filled v f hi mode))))
+    when (nat_lt lo hi && nat_le hi (2 ^ 62) && is_none f.aimed && is_none v.cursor)
+    (stores (hi_place seats f.node) (hi_word hi mode) (hi_filled v f hi mode))))
 plan seats s v Aim =
     given (filled_of v.own) (λ f. given f.lo (λ _. given f.hi (λ _. given (aim_of v.cursor) (λ w.
     Some (stores (cell_place seats (suc f.node)) w (aimed_at v f w))))))

@@ -11,10 +11,14 @@ use Rattle.lock_core.specs.declared.views.Cursor.{Cursor}
 use Rattle.lock_core.specs.declared.views.Todo.TheVariants.{Done}
 use Rattle.lock_core.specs.declared.views.Own.TheVariants.{Nothing}
 use Rattle.lock_core.specs.declared.steps.Step.{Step}
-use Rattle.lock_core.specs.declared.steps.Step.TheVariants.{Enter, Leave, ReadEpoch, ReadHome, GiveHome, FillLo, FillHi, Aim, ClearHome, Walk, ReadLo, ReadHi, Link, Unlink, Mark, QuickLink, QuickUnlink, Settle}
+use Rattle.lock_core.specs.declared.steps.Step.TheVariants.{Enter, Leave, ReadEpoch, ReadHome, GiveHome, FillLo, FillHi}
+use Rattle.lock_core.specs.declared.steps.Step.TheVariants.{Aim, ClearHome, Walk, ReadLo, ReadHi, Link, Unlink, Mark}
+use Rattle.lock_core.specs.declared.steps.Step.TheVariants.{QuickLink, QuickUnlink, Settle}
 use Rattle.lock_core.specs.Words.{cell_place, epoch_place, lo_place, hi_place, home_place, hi_word, cell_of, plain_node_of}
 use Rattle.lock_core.specs.Nodes.{Filled, Listed, filling, listed}
-use Rattle.lock_core.specs.Views.{next_epoch, entered, left, epoch_read, home_read, gave_home, lo_filled, hi_filled, aimed_at, taken, walk_cell, walked, lo_read, hi_read, dropped, todo_of, linked, unlinked, marked, quick_linked, quick_unlinked, settled}
+use Rattle.lock_core.specs.Views.{next_epoch, entered, left, epoch_read, home_read, gave_home, lo_filled, hi_filled}
+use Rattle.lock_core.specs.Views.{aimed_at, taken, walk_cell, walked, lo_read, hi_read, dropped, todo_of, linked}
+use Rattle.lock_core.specs.Views.{unlinked, marked, quick_linked, quick_unlinked, settled}
 
 -- one operation on one word, and the view afterwards by what the word was
 pub record Plan : Type 0 where
@@ -93,7 +97,8 @@ pub data IsLine (seats s : ℕ) (v : View) : Step → Plan → Type 0 where
       ((f : Filled) → v.own ≡ filling f → (f.lo ≢ None) × (f.hi ≢ None)) →
       IsLine seats s v ReadHi (loads (hi_place seats y) (hi_read v c y n lo))
   -- exchanges the cursor's word for the own node, at the cursor's place and where the own node is aimed at that word
-  link : (f : Filled) (c : Cursor) (lo hi : ℕ) → v.own ≡ filling f → v.cursor ≡ Some c → f.lo ≡ Some lo → f.hi ≡ Some hi → f.aimed ≡ Some c.cur → c.cur % 2 ≡ 0 → IsAtPlace c →
+  link : (f : Filled) (c : Cursor) (lo hi : ℕ) → v.own ≡ filling f → v.cursor ≡ Some c → f.lo ≡ Some lo → f.hi ≡ Some hi
+      → f.aimed ≡ Some c.cur → c.cur % 2 ≡ 0 → IsAtPlace c →
       IsLine seats s v Link (exchanges (cell_place seats (cell_of c.prev)) c.cur (2 * suc f.node) (linked v f.node lo hi f.mode (todo_of f.mode)) (dropped v))
   -- exchanges the cursor's word for the next word of the cursor's node, which is marked, without the mark
   unlink : (c : Cursor) (y n : ℕ) → v.cursor ≡ Some c → plain_node_of c.cur ≡ Some y → c.next ≡ Some n → n % 2 ≡ 1 → v.hand ≡ None →

@@ -2,7 +2,8 @@
 -- steps alone. The definitions stand in the order of the steps; the lines of the table and the computing plan both
 -- cite them. Cursors follow Kogan, Dice and Issa 2020; epochs, homes, notes and the barrier are this project's own
 -- profile.
-use Rattle.std.specs.Prelude.{ℕ, suc, ◌+◌, ◌-◌, ◌*◌, ◌/◌, ◌%◌, ◌^◌, ◌==◌, min, Bool, true, false, if◌then◌else◌, List, [], ◌∷◌, ◌++◌, replicate, slice_get, slice_set, unwrap_or, option_map, Option, Some, None}
+use Rattle.std.specs.Prelude.{ℕ, suc, ◌+◌, ◌-◌, ◌*◌, ◌/◌, ◌%◌, ◌^◌, ◌==◌, min, Bool, true, false, if◌then◌else◌, List}
+use Rattle.std.specs.Prelude.{[], ◌∷◌, ◌++◌, replicate, slice_get, slice_set, unwrap_or, option_map, Option, Some, None}
 use Rattle.view_lists.specs.Counted.{without, are_others_passed}
 use Rattle.lock_core.specs.declared.range.Mode.{Mode}
 use Rattle.lock_core.specs.declared.range.Mode.TheVariants.{Reader, Writer}

@@ -43,7 +43,8 @@ pub trait Guard {
     /// The law of loss: the rule stays where a grant is given back whose seat's pass is at rest, and that pass
     /// becomes `rested` of it.
     ghost loses: { (grants : Grants) (words : List ℕ) (passes : List Self.Pass) (seat : ℕ) (pass : Self.Pass)
-        → holds grants words passes → get_elem? passes seat ≡ some pass → is_at_rest pass → holds (slice_set grants seat None) words (slice_set passes seat (rested pass)) };
+        → holds grants words passes → get_elem? passes seat ≡ some pass → is_at_rest pass
+        → holds (slice_set grants seat None) words (slice_set passes seat (rested pass)) };
 
     /// A rested pass is at rest.
     ghost stays_at_rest: { (pass : Self.Pass) → is_at_rest pass → is_at_rest (rested pass) };

@@ -14,7 +14,9 @@ in_line to w q t here b = in_line_at to w q b
     in_line_at to w q (there r) = inr (inr r)
 in_line to w q t (there {n = n} r) b = in_line_on to w q n r b (in_line to w q (to (suc n)) r)
   where
-    in_line_on : (to : ℕ → ℕ) (w q n : ℕ) → Reach to w (to (suc n)) → Reach to q (suc n) → (Reach to q (to (suc n)) → Reach to w (to (suc q)) ⊎ ((w ≡ q) ⊎ Reach to q (to (suc w)))) → Reach to w (to (suc q)) ⊎ ((w ≡ q) ⊎ Reach to q (to (suc w)))
+    in_line_on : (to : ℕ → ℕ) (w q n : ℕ) → Reach to w (to (suc n)) → Reach to q (suc n)
+        → (Reach to q (to (suc n)) → Reach to w (to (suc q)) ⊎ ((w ≡ q) ⊎ Reach to q (to (suc w))))
+        → Reach to w (to (suc q)) ⊎ ((w ≡ q) ⊎ Reach to q (to (suc w)))
     in_line_on to w q n r here ih = inl r
     in_line_on to w q n r (there s) ih = ih s
 
@@ -23,7 +25,8 @@ pub reach_next : (h : Heap) (x w t : ℕ) → Reach (to h) x t → to h (suc x) 
 reach_next h x w t r e = reach_on (to h) w x t r (subst (Reach (to h) w) (sym e) here)
 
 -- where each node of a path starts no later than the next, what bounds the first bounds all
-pub along : (h : Heap) (low q t : ℕ) → ((x y : ℕ) → Reach (to h) x t → to h (suc x) ≡ suc y → IsBefore h x y) → ((n : ℕ) → t ≡ suc n → low ≤ h.lo n) → Reach (to h) q t → low ≤ h.lo q
+pub along : (h : Heap) (low q t : ℕ) → ((x y : ℕ) → Reach (to h) x t → to h (suc x) ≡ suc y → IsBefore h x y)
+    → ((n : ℕ) → t ≡ suc n → low ≤ h.lo n) → Reach (to h) q t → low ≤ h.lo q
 along h low q t order first here = first q refl
 along h low q t order first (there {n = n} r) =
     along h low q (to h (suc n)) (λ x y s. order x y (there s)) (λ m e. le_trans (first n refl) (order n m here e).starts) r

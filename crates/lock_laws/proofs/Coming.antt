@@ -32,17 +32,33 @@ coming (Filling node lo hi mode aimed) w = inl refl
 coming (Linked node range mode Done) w = inl refl
 coming (Linked node range mode Forward) w = go (w == 0) refl
   where
-    go : (b : Bool) → (w == 0) ≡ b → ((if b then Linked node range mode Done else Linked node range mode Forward) ≡ Linked node range mode Forward) ⊎ CameHome (Linked node range mode Forward) w (if b then Linked node range mode Done else Linked node range mode Forward)
-    go true e = inr (record { was = record { node = node; range = range; mode = mode; todo = Forward }; is = refl; now = refl; way = inl (refl, eqb-true w 0 e) })
+    go : (b : Bool) → (w == 0) ≡ b
+        → ((if b then Linked node range mode Done else Linked node range mode Forward) ≡ Linked node range mode Forward)
+        ⊎ CameHome (Linked node range mode Forward) w (if b then Linked node range mode Done else Linked node range mode Forward)
+    go true e = inr (record {
+      was = record { node = node; range = range; mode = mode; todo = Forward };
+      is = refl;
+      now = refl;
+      way = inl (refl, eqb-true w 0 e);
+    })
     go false e = inl refl
 coming (Linked node range mode FromHead) w = go (w == 2 * suc node) refl
   where
-    go : (b : Bool) → (w == 2 * suc node) ≡ b → ((if b then Linked node range mode Done else Linked node range mode FromHead) ≡ Linked node range mode FromHead) ⊎ CameHome (Linked node range mode FromHead) w (if b then Linked node range mode Done else Linked node range mode FromHead)
-    go true e = inr (record { was = record { node = node; range = range; mode = mode; todo = FromHead }; is = refl; now = refl; way = inr (refl, eqb-true w (2 * suc node) e) })
+    go : (b : Bool) → (w == 2 * suc node) ≡ b
+        → ((if b then Linked node range mode Done else Linked node range mode FromHead) ≡ Linked node range mode FromHead)
+        ⊎ CameHome (Linked node range mode FromHead) w
+        (if b then Linked node range mode Done else Linked node range mode FromHead)
+    go true e = inr (record {
+      was = record { node = node; range = range; mode = mode; todo = FromHead };
+      is = refl;
+      now = refl;
+      way = inr (refl, eqb-true w (2 * suc node) e);
+    })
     go false e = inl refl
 
 -- a writer that has come to its own node has no other overlapping node behind it
-pub writer_blind : (h : Heap) (k r : Listed) → IsOrdered h (to h 0) → InChain h k.node → IsWritten h k → IsWritten h r → r.node ≢ k.node → k.mode ≡ Writer → Overlaps r.range k.range → Reach (to h) r.node (suc k.node) → ⊥
+pub writer_blind : (h : Heap) (k r : Listed) → IsOrdered h (to h 0) → InChain h k.node → IsWritten h k → IsWritten h r
+    → r.node ≢ k.node → k.mode ≡ Writer → Overlaps r.range k.range → Reach (to h) r.node (suc k.node) → ⊥
 writer_blind h k r ordered at known known' apart writer over reach =
     ⊎_elim apart
     (λ (b : Reach (to h) r.node (to h (suc k.node))).

@@ -37,17 +37,25 @@ holding (Linked node range mode Forward) g e = absurd (cc)
 holding (Linked node range mode FromHead) g e = absurd (cc)
 holding (Linked node range mode Done) g e =
     let same : record { range = range; mode = mode } ≡ g = cc in
-    record { node = record { node = node; range = range; mode = mode; todo = Done }; is = refl; done = refl; range = ap (λ (h : Held). h.range) same; mode = ap (λ (h : Held). h.mode) same }
+    record {
+      node = record { node = node; range = range; mode = mode; todo = Done };
+      is = refl;
+      done = refl;
+      range = ap (λ (h : Held). h.range) same;
+      mode = ap (λ (h : Held). h.mode) same;
+    }
 
 -- the view of a seat that holds something
-pub holder : (views : List View) (a : ℕ) (g : Held) → get_elem? (map (λ (v : View). held_at v.own) views) a ≡ some (Some g) → (v : View) × (slice_get views a ≡ Some v) × (held_at v.own ≡ Some g)
+pub holder : (views : List View) (a : ℕ) (g : Held) → get_elem? (map (λ (v : View). held_at v.own) views) a ≡ some (Some g)
+    → (v : View) × (slice_get views a ≡ Some v) × (held_at v.own ≡ Some g)
 holder [] a g e = absurd (cc)
 holder (v ∷ vs) zero g e = (v, refl, cc)
 holder (v ∷ vs) (suc a) g e = holder vs a g e
 
 module _ (h : Heap) (views : List View) (l : LockInvariant h views) where
   -- two writers in the chain don't overlap
-  writers : (i j : ℕ) (v u : View) (a b : Listed) → i ≢ j → IsViewOf views i v → IsViewOf views j u → v.own ≡ listed a → u.own ≡ listed b → a.mode ≡ Writer → b.mode ≡ Writer → Overlaps a.range b.range → ⊥
+  writers : (i j : ℕ) (v u : View) (a b : Listed) → i ≢ j → IsViewOf views i v → IsViewOf views j u → v.own ≡ listed a
+      → u.own ≡ listed b → a.mode ≡ Writer → b.mode ≡ Writer → Overlaps a.range b.range → ⊥
   writers i j v u a b d at at' own own' w w' over =
       let wa = l.fields.linked i v a at own in let wb = l.fields.linked j u b at' own' in
       let ca = (l.places.linked i v a at own).0 in let cb = (l.places.linked j u b at' own').0 in
@@ -65,11 +73,14 @@ module _ (h : Heap) (views : List View) (l : LockInvariant h views) where
       (in_line (to h) a.node b.node (to h 0) ca cb)
 
   -- a reader and a writer that overlap aren't both done
-  mixed : (i j : ℕ) (v u : View) (r w : Listed) → IsViewOf views i v → IsViewOf views j u → v.own ≡ listed r → u.own ≡ listed w → r.mode ≡ Reader → w.mode ≡ Writer → r.todo ≡ Done → w.todo ≡ Done → Overlaps r.range w.range → ⊥
+  mixed : (i j : ℕ) (v u : View) (r w : Listed) → IsViewOf views i v → IsViewOf views j u → v.own ≡ listed r → u.own ≡ listed w
+      → r.mode ≡ Reader → w.mode ≡ Writer → r.todo ≡ Done → w.todo ≡ Done → Overlaps r.range w.range → ⊥
   mixed i j v u r w at at' own own' reader writer done done' over =
       ⊎_elim (λ t. let e = t.0 in cc) (λ t. let e = t.0 in cc) (l.pairs i j v u r w at at' own own' reader writer over)
 
-  apart : (i j : ℕ) (v u : View) (a b : Listed) (m n : Mode) → i ≢ j → IsViewOf views i v → IsViewOf views j u → v.own ≡ listed a → u.own ≡ listed b → a.todo ≡ Done → b.todo ≡ Done → a.mode ≡ m → b.mode ≡ n → Overlaps a.range b.range → (m ≡ Writer) ⊎ (n ≡ Writer) → ⊥
+  apart : (i j : ℕ) (v u : View) (a b : Listed) (m n : Mode) → i ≢ j → IsViewOf views i v → IsViewOf views j u → v.own ≡ listed a
+      → u.own ≡ listed b → a.todo ≡ Done → b.todo ≡ Done → a.mode ≡ m → b.mode ≡ n → Overlaps a.range b.range
+      → (m ≡ Writer) ⊎ (n ≡ Writer) → ⊥
   apart i j v u a b Reader Reader d at at' own own' done done' e e' over w = ⊎_elim (λ q. cc) (λ q. cc) w
   apart i j v u a b Reader Writer d at at' own own' done done' e e' over w = mixed i j v u a b at at' own own' e e' done done' over
   apart i j v u a b Writer Reader d at at' own own' done done' e e' over w = mixed j i u v b a at' at own' own e' e done' done (over.1, over.0)
@@ -84,7 +95,9 @@ exclusive m l i j g k d at at' c =
     apart (heap m) m.views l.invariant i j a.0 b.0 x.node y.node g.mode k.mode d a.1 b.1 x.is y.is x.done y.done x.mode y.mode over c.1
 
 -- of a linked reader and a linked writer that overlap the reader stands first
-pub reader_first : (m : Machine) (i j : ℕ) (v u : View) (r w : Listed) → IsLock m → slice_get m.views i ≡ Some v → slice_get m.views j ≡ Some u → v.own ≡ listed r → u.own ≡ listed w → r.mode ≡ Reader → w.mode ≡ Writer → Overlaps r.range w.range → Reach (to (heap m)) w.node (to (heap m) (suc r.node))
+pub reader_first : (m : Machine) (i j : ℕ) (v u : View) (r w : Listed) → IsLock m → slice_get m.views i ≡ Some v
+    → slice_get m.views j ≡ Some u → v.own ≡ listed r → u.own ≡ listed w → r.mode ≡ Reader → w.mode ≡ Writer
+    → Overlaps r.range w.range → Reach (to (heap m)) w.node (to (heap m) (suc r.node))
 reader_first m i j v u r w l at at' own own' reader writer over =
     let p = l.invariant.places in
     let wr = l.invariant.fields.linked i v r at own in let ww = l.invariant.fields.linked j u w at' own' in
@@ -95,6 +108,8 @@ reader_first m i j v u r w l at at' own own' reader writer over =
     (λ (b : Reach (to (heap m)) w.node (to (heap m) (suc r.node))). b)
     (λ (s : (w.node ≡ r.node) ⊎ Reach (to (heap m)) r.node (to (heap m) (suc w.node))). absurd (⊎_elim
     (λ (e : w.node ≡ r.node). let same = ap (λ n. (heap m).hi n) e in omega arith)
-    (λ (b : Reach (to (heap m)) r.node (to (heap m) (suc w.node))). let q = clear_behind (heap m) w.node r.node (to (heap m) 0) l.invariant.order.chain cw (omega arith) b in let k = over.1 in omega arith)
+    (λ (b : Reach (to (heap m)) r.node (to (heap m) (suc w.node))). let q =
+    clear_behind (heap m) w.node r.node (to (heap m) 0) l.invariant.order.chain cw (omega arith) b in let k = over.1 in
+    omega arith)
     s))
     (in_line (to (heap m)) w.node r.node (to (heap m) 0) cw cr)

@@ -1,5 +1,6 @@
 -- The held ranges after a step: only the stepping seat's may change, and by its own node alone.
-use Rattle.std.proofs.Common.{◌≡◌, ◌≢◌, eqb-true, ℕ, zero, suc, ◌-◌, ◌*◌, ◌+◌, Bool, true, false, List, [], ◌∷◌, map, set, Some, None, inl, inr, ⊎_elim, refl, sym, ap, ◌∙◌, subst}
+use Rattle.std.proofs.Common.{◌≡◌, ◌≢◌, eqb-true, ℕ, zero, suc, ◌-◌, ◌*◌, ◌+◌, Bool, true, false, List, [], ◌∷◌, map}
+use Rattle.std.proofs.Common.{set, Some, None, inl, inr, ⊎_elim, refl, sym, ap, ◌∙◌, subst}
 use Rattle.std.specs.Prelude.{slice_get, slice_index, Option, ◌==◌, if◌then◌else◌}
 use Rattle.std.proofs.lemmas.Bool.{eqb-false}
 use Rattle.std.proofs.lemmas.List.{map-set}
@@ -30,7 +31,8 @@ held_there (x ∷ xs) zero v e = let same : x ≡ v = cc in ap (λ (u : View). S
 held_there (x ∷ xs) (suc s) v e = held_there xs s v e
 
 -- the held ranges after a plan was carried out
-pub held_after : (m : Machine) (s : ℕ) (p : Plan) → held_by_seat (carried_out m s p) ≡ set (held_by_seat m) s (held_at (p.view (slice_index m.words p.place)).own)
+pub held_after : (m : Machine) (s : ℕ) (p : Plan)
+    → held_by_seat (carried_out m s p) ≡ set (held_by_seat m) s (held_at (p.view (slice_index m.words p.place)).own)
 held_after m s p = map-set (λ (v : View). held_at v.own) m.views s (p.view (slice_index m.words p.place))
 
 -- the outcomes of a step, as it is carried out
@@ -63,14 +65,16 @@ not_arrived : (m next : Machine) (s : ℕ) → HoldsOn m next → Arrives m next
 not_arrived m next s q a =
     let before = held_there m.views s a.before a.at ∙ ap (λ (o : Own). Some (held_at o)) a.was ∙ ap (λ (o : Option Held). Some o) (undone a.own a.todo) in
     let after = held_there next.views s a.view a.now ∙ ap (λ (o : Own). Some (held_at o)) a.is in
-    let same : ◌≡◌ {A = Option (Option Held)} (Some (Some (record { range = a.own.range; mode = a.own.mode }))) (Some None) = sym after ∙ ap (λ l. slice_get l s) q ∙ before in cc
+    let same : ◌≡◌ {A = Option (Option Held)} (Some (Some (record { range = a.own.range; mode = a.own.mode }))) (Some None) =
+    sym after ∙ ap (λ l. slice_get l s) q ∙ before in cc
 
 module _ (m : Machine) (s : ℕ) (v : View) (at : slice_get m.views s ≡ Some v) where
   -- where the own view holds what it held, nothing changes
   pub holds_on : (p : Plan) → held_at (p.view (slice_index m.words p.place)).own ≡ held_at v.own → HoldsOn m (carried_out m s p)
   holds_on p e = held_after m s p ∙ ap (set (held_by_seat m) s) e ∙ set_there (held_by_seat m) s (held_at v.own) (held_there m.views s v at)
 
-  pub gains : (p : Plan) (h : Held) → OwnHeld v.own h → held_at v.own ≡ None → held_at (p.view (slice_index m.words p.place)).own ≡ Some h → Gains m (carried_out m s p) s
+  pub gains : (p : Plan) (h : Held) → OwnHeld v.own h → held_at v.own ≡ None
+      → held_at (p.view (slice_index m.words p.place)).own ≡ Some h → Gains m (carried_out m s p) s
   gains p h own nothing e = record {
     view = v;
     at = at;
@@ -84,7 +88,8 @@ module _ (m : Machine) (s : ℕ) (v : View) (at : slice_get m.views s ≡ Some v
   gives_back p e = held_after m s p ∙ ap (set (held_by_seat m) s) e
 
   -- of an exchange the view is the one that it leaves where it succeeds, or the other
-  view_is : (place old : ℕ) (won lost : View) (b : Bool) → (slice_index m.words place == old) ≡ b → held_at (if slice_index m.words place == old then won else lost).own ≡ held_at (if b then won else lost).own
+  view_is : (place old : ℕ) (won lost : View) (b : Bool) → (slice_index m.words place == old) ≡ b
+      → held_at (if slice_index m.words place == old then won else lost).own ≡ held_at (if b then won else lost).own
   view_is place old won lost b e = ap (λ (b : Bool). held_at (if b then won else lost).own) e
 
   -- the own node's holding stays, and so does every grant
@@ -94,14 +99,25 @@ module _ (m : Machine) (s : ℕ) (v : View) (at : slice_get m.views s ≡ Some v
   -- the validation of the own node comes to its end
   pub arrives : (p : Plan) (k : Listed) → v.own ≡ listed k → k.todo ≢ Done → (p.view (slice_index m.words p.place)).own ≡ listed (done k) → Arriving m s p
   arrives p k own todo e = inl (
-    record { before = v; at = at; view = p.view (slice_index m.words p.place); now = new_view m.views s (p.view (slice_index m.words p.place)) v at; own = k; was = own; todo = todo; is = e },
+    record {
+      before = v;
+      at = at;
+      view = p.view (slice_index m.words p.place);
+      now = new_view m.views s (p.view (slice_index m.words p.place)) v at;
+      own = k;
+      was = own;
+      todo = todo;
+      is = e;
+    },
     gains p (record { range = k.range; mode = k.mode }) (inl (k, own, refl)) (ap held_at own ∙ undone k todo) (ap held_at e),
   )
 
   link_holds : (p : Plan) → IsLine m.seats s v Link p → HoldsOn m (carried_out m s p)
   link_holds p (link f c lo hi eo ec el eh ea low place) = holds_on p (split (slice_index m.words (cell_place m.seats (cell_of c.prev)) == c.cur) f.mode)
     where
-      split : (b : Bool) (mode : Mode) → held_at (if b then record v { own = Linked f.node (record { lo = lo; hi = hi }) mode (todo_of mode); cursor = None } else record v { cursor = None }).own ≡ held_at v.own
+      split : (b : Bool) (mode : Mode)
+          → held_at (if b then record v { own = Linked f.node (record { lo = lo; hi = hi }) mode (todo_of mode); cursor = None }
+          else record v { cursor = None }).own ≡ held_at v.own
       split false mode = refl
       split true Reader = sym (ap held_at eo)
       split true Writer = sym (ap held_at eo)
@@ -112,7 +128,8 @@ module _ (m : Machine) (s : ℕ) (v : View) (at : slice_get m.views s ≡ Some v
       split : (b : Bool) → (slice_index m.words (cell_place m.seats (cell_of c.prev)) == c.cur) ≡ b → Arriving m s p
       split false e = stays p (view_is (cell_place m.seats (cell_of c.prev)) c.cur (unlinked v c y (n - 1)) (dropped v) false e)
       split true e = ⊎_elim
-          (λ (q : own_at v.own (n - 1) ≡ v.own). stays p (view_is (cell_place m.seats (cell_of c.prev)) c.cur (unlinked v c y (n - 1)) (dropped v) true e ∙ ap held_at q))
+          (λ (q : own_at v.own (n - 1) ≡ v.own). stays p
+          (view_is (cell_place m.seats (cell_of c.prev)) c.cur (unlinked v c y (n - 1)) (dropped v) true e ∙ ap held_at q))
           (λ (q : CameHome v.own (n - 1) (own_at v.own (n - 1))). arrives p q.was q.is (came_undone v.own (n - 1) q)
           (ap (λ (b : Bool). (if b then unlinked v c y (n - 1) else dropped v).own) e ∙ q.now))
           (coming v.own (n - 1))
@@ -121,7 +138,11 @@ module _ (m : Machine) (s : ℕ) (v : View) (at : slice_get m.views s ≡ Some v
   mark_gives_back p (mark k eo) = by_held (held_at v.own) refl
     where
       by_held : (o : Option Held) → held_at v.own ≡ o → MayGiveBack (IsHolding m s) m (carried_out m s p) s
-      by_held None e = inr ((λ t. let same : ◌≡◌ {A = Option (Option Held)} (Some (Some t.0)) (Some None) = sym t.1 ∙ held_there m.views s v at ∙ ap (λ (o : Option Held). Some o) e in cc), holds_on p (sym e))
+      by_held None e = inr (
+        (λ t. let same : ◌≡◌ {A = Option (Option Held)} (Some (Some t.0)) (Some None) = sym t.1
+            ∙ held_there m.views s v at ∙ ap (λ (o : Option Held). Some o) e in cc),
+        holds_on p (sym e),
+      )
       by_held (Some h) e = inl ((h, held_there m.views s v at ∙ ap (λ (o : Option Held). Some o) e), gives_back p refl)
 
   quick_link_gains : (p : Plan) → IsLine m.seats s v QuickLink p → Where (FindsEmpty m) (Gains m (carried_out m s p) s) (HoldsOn m (carried_out m s p))
@@ -129,7 +150,11 @@ module _ (m : Machine) (s : ℕ) (v : View) (at : slice_get m.views s ≡ Some v
     where
       split : (b : Bool) → (slice_index m.words 0 == 0) ≡ b → Where (FindsEmpty m) (Gains m (carried_out m s p) s) (HoldsOn m (carried_out m s p))
       split false e = inr (eqb-false _ _ e, holds_on p (view_is 0 0 (quick_linked v f.node lo hi f.mode) v false e))
-      split true e = inl (eqb-true _ _ e, gains p (record { range = record { lo = lo; hi = hi }; mode = f.mode }) (inr (f, lo, hi, eo, el, eh, refl)) (ap held_at eo) (view_is 0 0 (quick_linked v f.node lo hi f.mode) v true e))
+      split true e = inl (
+        eqb-true _ _ e,
+        gains p (record { range = record { lo = lo; hi = hi }; mode = f.mode })
+            (inr (f, lo, hi, eo, el, eh, refl)) (ap held_at eo) (view_is 0 0 (quick_linked v f.node lo hi f.mode) v true e),
+      )
 
   quick_unlink_gives_back : (p : Plan) → IsLine m.seats s v QuickUnlink p → MayGiveBack (StandsAlone m s) m (carried_out m s p) s
   quick_unlink_gives_back p (quick_unlink k eo done empty) = split _ refl
@@ -143,10 +168,15 @@ module _ (m : Machine) (s : ℕ) (v : View) (at : slice_get m.views s ≡ Some v
             eqb-false _ _ e (t.head ∙ ap (λ (x : Listed). 2 * suc x.node + 1) (sym same))),
         holds_on p (view_is 0 (2 * suc k.node + 1) (quick_unlinked v k.node) v false e),
       )
-      split true e = inl (record { view = v; at = at; own = k; is = eo; head = eqb-true _ _ e }, gives_back p (view_is 0 (2 * suc k.node + 1) (quick_unlinked v k.node) v true e))
+      split true e = inl (
+        record { view = v; at = at; own = k; is = eo; head = eqb-true _ _ e },
+        gives_back p (view_is 0 (2 * suc k.node + 1) (quick_unlinked v k.node) v true e),
+      )
 
 -- a law from what each line does
-pub each_line : (step : Step) (does : Machine → Machine → ℕ → Type 0) → ((m : Machine) (s : ℕ) (v : View) → slice_get m.views s ≡ Some v → (p : Plan) → IsLine m.seats s v step p → does m (carried_out m s p) s) → EachStep step does
+pub each_line : (step : Step) (does : Machine → Machine → ℕ → Type 0)
+    → ((m : Machine) (s : ℕ) (v : View) → slice_get m.views s ≡ Some v → (p : Plan) → IsLine m.seats s v step p
+    → does m (carried_out m s p) s) → EachStep step does
 each_line step does lines m next s e = let t = stepped m next s step e in subst (λ (n : Machine). does m n s) t.is (lines m s t.view t.at t.plan t.line)
 
 pub link_grants : EachStep Link Stays

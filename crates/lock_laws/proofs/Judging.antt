@@ -48,7 +48,8 @@ past_means m lo hi node_lo w e =
     (λ (a : nat_le (w / 2) lo ≡ true). inl (leb-true (w / 2) lo a))
     (λ (b : (is_reader m && is_reader (mode_of w) && nat_lt node_lo lo) ≡ true).
     let t = all_three _ _ _ b in inr (reader_is m t.0, reader_even w (w % 2 == 1) refl t.1, ltb-true node_lo lo t.2))
-    (judged_past (nat_le (w / 2) lo) (is_reader m && is_reader (mode_of w) && nat_lt node_lo lo) (nat_le hi node_lo) (is_reader m && is_reader (mode_of w) && nat_le lo node_lo) e)
+    (judged_past (nat_le (w / 2) lo) (is_reader m && is_reader (mode_of w) && nat_lt node_lo lo) (nat_le hi node_lo)
+    (is_reader m && is_reader (mode_of w) && nat_le lo node_lo) e)
 
 pub stop_means : (m : Mode) (lo hi node_lo w : ℕ) → compared m lo hi node_lo w ≡ Stop → (hi ≤ node_lo) ⊎ ((m ≡ Reader) × (w % 2 ≡ 0) × (lo ≤ node_lo))
 stop_means m lo hi node_lo w e =
@@ -56,7 +57,8 @@ stop_means m lo hi node_lo w e =
     (λ (a : nat_le hi node_lo ≡ true). inl (leb-true hi node_lo a))
     (λ (b : (is_reader m && is_reader (mode_of w) && nat_le lo node_lo) ≡ true).
     let t = all_three _ _ _ b in inr (reader_is m t.0, reader_even w (w % 2 == 1) refl t.1, leb-true lo node_lo t.2))
-    (judged_stop (nat_le (w / 2) lo) (is_reader m && is_reader (mode_of w) && nat_lt node_lo lo) (nat_le hi node_lo) (is_reader m && is_reader (mode_of w) && nat_le lo node_lo) e)
+    (judged_stop (nat_le (w / 2) lo) (is_reader m && is_reader (mode_of w) && nat_lt node_lo lo) (nat_le hi node_lo)
+    (is_reader m && is_reader (mode_of w) && nat_le lo node_lo) e)
 
 -- a hi word tells its end and its mode
 pub hi_is : (hi : ℕ) (m : Mode) → hi_word hi m / 2 ≡ hi
@@ -78,7 +80,8 @@ past_before h x o lo hi m past e r =
     (λ (b : (m ≡ Reader) × (h.hi x % 2 ≡ 0) × (h.lo x < lo)). let c = b.1 in let d = b.2 in record { starts = omega arith; clear = λ w. absurd (omega arith) })
     (past_means m lo hi (h.lo x) (h.hi x) past)
 
-pub stop_before : (h : Heap) (o y lo hi : ℕ) (m : Mode) → compared m lo hi (h.lo y) (h.hi y) ≡ Stop → h.lo o ≡ lo → h.hi o ≡ hi_word hi m → lo < hi → IsBefore h o y
+pub stop_before : (h : Heap) (o y lo hi : ℕ) (m : Mode) → compared m lo hi (h.lo y) (h.hi y) ≡ Stop → h.lo o ≡ lo
+    → h.hi o ≡ hi_word hi m → lo < hi → IsBefore h o y
 stop_before h o y lo hi m stop e e' r =
     let half : h.hi o / 2 ≡ hi = ap (λ w. w / 2) e' ∙ hi_is hi m in
     ⊎_elim
@@ -90,9 +93,13 @@ stop_before h o y lo hi m stop e e' r =
 -- the order speaks of lo and hi alone
 module _ (h now : Heap) (lo_is : (n : ℕ) → now.lo n ≡ h.lo n) (hi_same : (n : ℕ) → now.hi n ≡ h.hi n) where
   pub before_same : (x y : ℕ) → IsBefore h x y → IsBefore now x y
-  before_same x y b = record { starts = omega (arith, lo_is x, lo_is y, b.starts); clear = λ w. omega (arith, lo_is y, hi_same x, b.clear (sym (ap (λ k. k % 2) (hi_same x)) ∙ w)) }
+  before_same x y b = record {
+    starts = omega (arith, lo_is x, lo_is y, b.starts);
+    clear = λ w. omega (arith, lo_is y, hi_same x, b.clear (sym (ap (λ k. k % 2) (hi_same x)) ∙ w));
+  }
 
-  pub compared_same : (m : Mode) (lo hi x : ℕ) (verdict : Verdict) → compared m lo hi (h.lo x) (h.hi x) ≡ verdict → compared m lo hi (now.lo x) (now.hi x) ≡ verdict
+  pub compared_same : (m : Mode) (lo hi x : ℕ) (verdict : Verdict) → compared m lo hi (h.lo x) (h.hi x) ≡ verdict
+      → compared m lo hi (now.lo x) (now.hi x) ≡ verdict
   compared_same m lo hi x verdict e = (λ z. compared m lo hi (lo_is x z) (hi_same x z)) ∙ e
 
 pub before_on : (h : Heap) (x y z : ℕ) → IsBefore h x y → IsBefore h y z → IsBefore h x z

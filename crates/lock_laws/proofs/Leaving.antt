@@ -1,5 +1,6 @@
 -- A node leaves the ready ones of a seat only by that seat's ClearHome of it.
-use Rattle.std.proofs.Common.{◌≡◌, ◌≢◌, ℕ, suc, ◌+◌, ◌-◌, ◌*◌, ◌<◌, ◌≤◌, Bool, true, false, List, ◌∷◌, Some, None, ⊎_elim, refl, sym, ap, ◌∙◌, subst, arith, eqb-true}
+use Rattle.std.proofs.Common.{◌≡◌, ◌≢◌, ℕ, suc, ◌+◌, ◌-◌, ◌*◌, ◌<◌, ◌≤◌, Bool, true, false, List, ◌∷◌, Some, None}
+use Rattle.std.proofs.Common.{⊎_elim, refl, sym, ap, ◌∙◌, subst, arith, eqb-true}
 use Rattle.std.specs.Prelude.{Option, slice_get, slice_index, slice_set, ◌==◌, ◌%◌, if◌then◌else◌}
 use Rattle.lock_core.specs.Counted.{are_others_passed, times}
 use Rattle.lock_core.specs.declared.views.View.{View}
@@ -11,8 +12,11 @@ use Rattle.lock_core.specs.declared.compare.Verdict.TheVariants.{Past, Stop, Con
 use Rattle.lock_core.specs.declared.steps.Step.{Step}
 use Rattle.lock_core.specs.declared.steps.Step.TheVariants.{ClearHome}
 use Rattle.lock_core.specs.Compare.{verdict_of}
-use Rattle.lock_core.specs.Views.{ready_left, released, is_passed, note_of, passes, noted, looked_at, came_home, walked, hi_judged, dropped, linked, todo_of, unlinked, quick_linked, quick_unlinked, settled}
-use Rattle.lock_core.specs.StepTable.{Plan, IsLine, enter, leave, read_epoch, read_home, give_home, fill_lo, fill_hi, aim, clear_home, walk, read_lo, read_hi, link, unlink, mark, quick_link, quick_unlink, settle}
+use Rattle.lock_core.specs.Views.{ready_left, released, is_passed, note_of, passes, noted, looked_at, came_home, walked}
+use Rattle.lock_core.specs.Views.{hi_judged, dropped, linked, todo_of, unlinked, quick_linked, quick_unlinked, settled}
+use Rattle.lock_core.specs.StepTable.{Plan, IsLine, enter, leave, read_epoch, read_home, give_home, fill_lo, fill_hi}
+use Rattle.lock_core.specs.StepTable.{aim, clear_home, walk, read_lo, read_hi, link, unlink, mark, quick_link}
+use Rattle.lock_core.specs.StepTable.{quick_unlink, settle}
 use Rattle.lock_core.specs.Machine.{Machine, after}
 use Rattle.lock_core.proofs.ByView.{set_view, same_view}
 use Rattle.lock_core.proofs.Counts.{times_joined}
@@ -75,9 +79,13 @@ module _ (seats s x : ℕ) (v : View) where
   by_line step p w (enter even hand) l = absurd (omega arith)
   by_line step p w (leave odd hand todo) l = absurd (let e = at_leave v.own in omega arith)
   by_line step p w (read_epoch j even homes less other) l =
-      absurd (let r = ap (times x) (at_look j w) in let e = either (are_others_passed s (looked_at v j w).passed) (released (looked_at v j w)) (looked_at v j w) (at_release (looked_at v j w) (omega arith)) (omega arith) in omega arith)
+      absurd (let r = ap (times x) (at_look j w) in
+      let e = either (are_others_passed s (looked_at v j w).passed) (released (looked_at v j w)) (looked_at v j w)
+      (at_release (looked_at v j w) (omega arith)) (omega arith) in omega arith)
   by_line step p w (read_home n even used homes) l =
-      absurd (let e = either (w == 1) (if seats == 1 then released (came_home seats v n) else came_home seats v n) v (either (seats == 1) (released (came_home seats v n)) (came_home seats v n) (at_release (came_home seats v n) same) same) same in omega arith)
+      absurd (let e = either (w == 1) (if seats == 1 then released (came_home seats v n) else came_home seats v n) v
+      (either (seats == 1) (released (came_home seats v n)) (came_home seats v n) (at_release (came_home seats v n) same)
+      same) same in omega arith)
   by_line step p w (give_home n hand) l = absurd (omega arith)
   by_line step p w (fill_lo f lo own aimed cursor) l = absurd (omega arith)
   by_line step p w (fill_hi f lo hi mode own low less most aimed cursor) l = absurd (omega arith)
@@ -86,14 +94,18 @@ module _ (seats s x : ℕ) (v : View) where
   by_line step p w (walk cell odd hand at) l = absurd (let e = at_walk v.cursor w in omega arith)
   by_line step p w (read_lo c y n cursor node next plain) l = absurd (omega arith)
   by_line step p w (read_hi c y n lo cursor node next plain low own) l = absurd (let e = at_judge c y n (verdict_of v.own lo w) in omega arith)
-  by_line step p w (link f c lo hi own cursor low high aimed plain place) l = absurd (let e = either (w == c.cur) (linked v f.node lo hi f.mode (todo_of f.mode)) (dropped v) same same in omega arith)
-  by_line step p w (unlink c y n cursor node next marked hand) l = absurd (let e = either (w == c.cur) (unlinked v c y (n - 1)) (dropped v) same same in omega arith)
+  by_line step p w (link f c lo hi own cursor low high aimed plain place) l =
+      absurd (let e = either (w == c.cur) (linked v f.node lo hi f.mode (todo_of f.mode)) (dropped v) same same in omega arith)
+  by_line step p w (unlink c y n cursor node next marked hand) l =
+      absurd (let e = either (w == c.cur) (unlinked v c y (n - 1)) (dropped v) same same in omega arith)
   by_line step p w (mark k own) l = absurd (omega arith)
-  by_line step p w (quick_link f lo hi own low high aimed even) l = absurd (let e = either (w == 0) (quick_linked v f.node lo hi f.mode) v same same in omega arith)
+  by_line step p w (quick_link f lo hi own low high aimed even) l =
+      absurd (let e = either (w == 0) (quick_linked v f.node lo hi f.mode) v same same in omega arith)
   by_line step p w (quick_unlink k own done hand) l = absurd (let e = either (w == 2 * suc k.node + 1) (quick_unlinked v k.node) v same same in omega arith)
   by_line step p w (settle c cursor prev low) l = absurd (let e = either (w == c.cur) (settled v c) (dropped v) same same in omega arith)
 
-pub leaves : (m next : Machine) (s i x : ℕ) (step : Step) (v u : View) → after m s step ≡ Some next → slice_get m.views i ≡ Some v → slice_get next.views i ≡ Some u → times x u.ready < times x v.ready → (i ≡ s) × (step ≡ ClearHome x)
+pub leaves : (m next : Machine) (s i x : ℕ) (step : Step) (v u : View) → after m s step ≡ Some next → slice_get m.views i ≡ Some v
+    → slice_get next.views i ≡ Some u → times x u.ready < times x v.ready → (i ≡ s) × (step ≡ ClearHome x)
 leaves m next s i x step v u e at at' l =
     let t = stepped m next s step e in
     let w = slice_index m.words t.plan.place in
@@ -101,7 +113,9 @@ leaves m next s i x step v u e at at' l =
     ⊎_elim
     (λ (q : (i ≡ s) × (t.plan.view w ≡ u)).
     let old : t.view ≡ v = same_view m.views i t.view v (subst (λ k. slice_get m.views k ≡ Some t.view) (sym q.0) t.at) at in
-    let less : times x (t.plan.view w).ready < times x t.view.ready = let a = ap (λ (z : View). times x z.ready) q.1 in let b = ap (λ (z : View). times x z.ready) old in omega arith in
+    let less : times x (t.plan.view w).ready < times x t.view.ready = let a = ap (λ (z : View). times x z.ready) q.1 in
+    let b = ap (λ (z : View). times x z.ready) old in omega arith in
     (q.0, by_line m.seats s x t.view step t.plan w t.line less))
-    (λ (q : (i ≢ s) × (slice_get m.views i ≡ Some u)). absurd (let old = same_view m.views i v u at q.1 in let a = ap (λ (z : View). times x z.ready) old in omega arith))
+    (λ (q : (i ≢ s) × (slice_get m.views i ≡ Some u)). absurd (let old = same_view m.views i v u at q.1 in
+    let a = ap (λ (z : View). times x z.ready) old in omega arith))
     (set_view m.views s i (t.plan.view w) u there)

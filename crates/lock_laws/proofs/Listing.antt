@@ -11,7 +11,8 @@ use Rattle.lock_core.specs.declared.range.Grant.{Grant}
 use Rattle.lock_core.specs.Machine.{grants_from}
 
 -- a grant of the list is held by its seat
-granted : (os : List (Option Held)) (s i : ℕ) (a : Grant) → get_elem? (grants_from s os) i ≡ some a → (k : ℕ) × (a.seat ≡ s + k) × (get_elem? os k ≡ some (Some (held_of a)))
+granted : (os : List (Option Held)) (s i : ℕ) (a : Grant) → get_elem? (grants_from s os) i ≡ some a
+    → (k : ℕ) × (a.seat ≡ s + k) × (get_elem? os k ≡ some (Some (held_of a)))
 granted [] s i a e = absurd (some-ne-none a (sym e))
 granted (None ∷ os) s i a e = let r = granted os (s + 1) i a e in let n = r.1 in (suc r.0, omega arith, r.2)
 granted (Some h ∷ os) s zero a e =
@@ -21,7 +22,8 @@ granted (Some h ∷ os) s zero a e =
 granted (Some h ∷ os) s (suc i) a e = let r = granted os (s + 1) i a e in let n = r.1 in (suc r.0, omega arith, r.2)
 
 -- of two places the later has the higher seat
-rising : (os : List (Option Held)) (s i j : ℕ) (a b : Grant) → i < j → get_elem? (grants_from s os) i ≡ some a → get_elem? (grants_from s os) j ≡ some b → a.seat < b.seat
+rising : (os : List (Option Held)) (s i j : ℕ) (a b : Grant) → i < j → get_elem? (grants_from s os) i ≡ some a
+    → get_elem? (grants_from s os) j ≡ some b → a.seat < b.seat
 rising [] s i j a b lt e f = absurd (some-ne-none a (sym e))
 rising (None ∷ os) s i j a b lt e f = rising os (s + 1) i j a b lt e f
 rising (Some h ∷ os) s i zero a b lt e f = absurd (omega arith)

@@ -4,7 +4,9 @@ use Rattle.std.proofs.Common.{ℕ, set, inl, inr, ⊎_elim, ap, ◌∙◌}
 use Rattle.std.specs.Prelude.{Some, None}
 use lib.ListN.{get_elem?}
 use Rattle.lock_core.specs.declared.steps.Step.{Step}
-use Rattle.lock_core.specs.declared.steps.Step.TheVariants.{Enter, Leave, ReadEpoch, ReadHome, GiveHome, FillLo, FillHi, Aim, ClearHome, Walk, ReadLo, ReadHi, Link, Unlink, Mark, QuickLink, QuickUnlink, Settle}
+use Rattle.lock_core.specs.declared.steps.Step.TheVariants.{Enter, Leave, ReadEpoch, ReadHome, GiveHome, FillLo, FillHi}
+use Rattle.lock_core.specs.declared.steps.Step.TheVariants.{Aim, ClearHome, Walk, ReadLo, ReadHi, Link, Unlink, Mark}
+use Rattle.lock_core.specs.declared.steps.Step.TheVariants.{QuickLink, QuickUnlink, Settle}
 use Rattle.lock_core.specs.Grants.{IsFree}
 use Rattle.lock_core.specs.Machine.{Machine, held_by_seat}
 use Rattle.lock_laws.specs.Laws.{IsLock}
@@ -14,7 +16,9 @@ use Rattle.lock_core.proofs.ByView.{kept_view, new_view}
 use Rattle.lock_laws.proofs.Exclusion.{exclusive}
 use Rattle.lock_laws.proofs.Running.{every_step_keeps}
 use Rattle.lock_laws.proofs.Holding.{link_grants, unlink_grants, mark_grants, quick_link_grants, quick_unlink_grants}
-use Rattle.lock_laws.proofs.WordGrants.{enter_grants, leave_grants, read_epoch_grants, read_home_grants, give_home_grants, clear_home_grants, fill_lo_grants, fill_hi_grants, aim_grants, walk_grants, read_lo_grants, read_hi_grants, settle_grants}
+use Rattle.lock_laws.proofs.WordGrants.{enter_grants, leave_grants, read_epoch_grants, read_home_grants}
+use Rattle.lock_laws.proofs.WordGrants.{give_home_grants, clear_home_grants, fill_lo_grants, fill_hi_grants, aim_grants}
+use Rattle.lock_laws.proofs.WordGrants.{walk_grants, read_lo_grants, read_hi_grants, settle_grants}
 
 may_gain : (step : Step) (m next : Machine) (s : ℕ) {P : Type 0} → Where P (Gains m next s) (HoldsOn m next) → Change step m next s
 may_gain step m next s t = ⊎_elim (λ g. inr (inl g.1)) (λ h. inl h.1) t
@@ -43,8 +47,10 @@ change Settle m next s e = inl (settle_grants m next s e)
 free : (m next : Machine) (s : ℕ) → IsLock next → (g : Gains m next s) → IsFree (held_by_seat m) s g.held
 free m next s lock g other k differ there c =
     exclusive next lock other s k g.held differ
-    (ap (λ l. get_elem? l other) g.gained ∙ from_get (set (held_by_seat m) s (Some g.held)) other (Some k) (kept_view (held_by_seat m) s other (Some g.held) (Some k) differ (to_get (held_by_seat m) other (Some k) there)))
-    (ap (λ l. get_elem? l s) g.gained ∙ from_get (set (held_by_seat m) s (Some g.held)) s (Some g.held) (new_view (held_by_seat m) s (Some g.held) None g.nothing))
+    (ap (λ l. get_elem? l other) g.gained ∙ from_get (set (held_by_seat m) s (Some g.held)) other (Some k)
+    (kept_view (held_by_seat m) s other (Some g.held) (Some k) differ (to_get (held_by_seat m) other (Some k) there)))
+    (ap (λ l. get_elem? l s) g.gained ∙ from_get (set (held_by_seat m) s (Some g.held)) s (Some g.held)
+    (new_view (held_by_seat m) s (Some g.held) None g.nothing))
     c
 
 gains_free : (P : Type 0) (m next : Machine) (s : ℕ) → IsLock next → Where P (Gains m next s) (HoldsOn m next) → MayGain P m next s

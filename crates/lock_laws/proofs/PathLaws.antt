@@ -37,10 +37,13 @@ abbrev pub Holds : Machine → Type 0
 Holds m = LockInvariant (heap m) m.views
 
 -- an exchange keeps the invariant where it does so if it succeeds and if it fails
-pub exchanged : (m : Machine) (s place old new : ℕ) (won lost : View) → (slice_index m.words place ≡ old → Holds (state_after m (set m.words place new) s won)) → Holds (state_after m m.words s lost) → Holds (carried_out m s (exchanges place old new won lost))
+pub exchanged : (m : Machine) (s place old new : ℕ) (won lost : View)
+    → (slice_index m.words place ≡ old → Holds (state_after m (set m.words place new) s won))
+    → Holds (state_after m m.words s lost) → Holds (carried_out m s (exchanges place old new won lost))
 exchanged m s place old new won lost succeeds fails = split (slice_index m.words place == old) refl
   where
-    split : (b : Bool) → (slice_index m.words place == old) ≡ b → Holds (state_after m (set m.words place (if b then new else slice_index m.words place)) s (if b then won else lost))
+    split : (b : Bool) → (slice_index m.words place == old) ≡ b
+        → Holds (state_after m (set m.words place (if b then new else slice_index m.words place)) s (if b then won else lost))
     split true e = succeeds (eqb-true _ _ e)
     split false e = subst (λ (ws : List ℕ). Holds (state_after m ws s lost)) (sym (set-get_or m.words place 0)) fails
 
@@ -53,8 +56,10 @@ pub dropped_holds : (m : Machine) (s : ℕ) (v : View) → IsLock m → IsViewOf
 dropped_holds m s v l at = invariant_now (heap m) (heap m) m.views s v (dropped v) _ _ _ (D.step (heap m) m.views s v l.invariant at)
 
 -- a node in a seat's lists is there
-pub node_there : (m : Machine) (i x : ℕ) (v : View) → IsLock m → IsViewOf m.views i v → 1 ≤ own_times x v.own + times x v.ready + times x v.used → IsNode m.seats x
-node_there m i x v l at few = let s = seat_is (heap m) m.views l.invariant.places i x v at few in let w = slice_get_within m.views i v at in let z = l.sized.views in omega arith
+pub node_there : (m : Machine) (i x : ℕ) (v : View) → IsLock m → IsViewOf m.views i v
+    → 1 ≤ own_times x v.own + times x v.ready + times x v.used → IsNode m.seats x
+node_there m i x v l at few = let s = seat_is (heap m) m.views l.invariant.places i x v at few in
+    let w = slice_get_within m.views i v at in let z = l.sized.views in omega arith
 
 -- the cell of a node that is there has a place
 pub cell_there : (m : Machine) (prev : Option ℕ) → IsSized m → ((n : ℕ) → prev ≡ Some n → IsNode m.seats n) → cell_place m.seats (cell_of prev) < length m.words
@@ -76,7 +81,8 @@ module _ (m : Machine) (s : ℕ) (v : View) (l : IsLock m) (at : IsViewOf m.view
   head_there = cell_there m None l.sized (λ n e. absurd (cc))
 
   own_there : (g : Listed) → v.own ≡ listed g → cell_place m.seats (suc g.node) < length m.words
-  own_there g e = cell_there m (Some g.node) l.sized (λ n q. let same : g.node ≡ n = cc in let o = own_linked v g e in subst (IsNode m.seats) same (node_there m s g.node v l at (omega arith)))
+  own_there g e = cell_there m (Some g.node) l.sized (λ n q. let same : g.node ≡ n = cc in let o = own_linked v g e in
+      subst (IsNode m.seats) same (node_there m s g.node v l at (omega arith)))
 
   pub link_holds : (p : Plan) → IsLine m.seats s v Link p → Holds (carried_out m s p)
   link_holds p (link f c lo hi eo ec el eh ea low place) =

@@ -1,7 +1,8 @@
 -- A step that changes the paths keeps every part of the invariant, where it is known which nodes the paths gain and
 -- lose by it. A kind of step says how it changes the paths (`Change`) and what is special to its own view
 -- (`PathStep`); all that the other views know follows here, once.
-use Rattle.std.proofs.Common.{◌≡◌, ◌≢◌, ◌⊎◌, ℕ, zero, suc, ◌+◌, ◌*◌, ◌/◌, ◌%◌, ◌≤◌, true, List, set, Some, None, inl, inr, ⊎_elim, refl, sym, ap, ◌∙◌, subst, arith}
+use Rattle.std.proofs.Common.{◌≡◌, ◌≢◌, ◌⊎◌, ℕ, zero, suc, ◌+◌, ◌*◌, ◌/◌, ◌%◌, ◌≤◌, true, List, set, Some, None, inl}
+use Rattle.std.proofs.Common.{inr, ⊎_elim, refl, sym, ap, ◌∙◌, subst, arith}
 use Rattle.std.specs.Prelude.{slice_get, Option}
 use Rattle.std.proofs.lemmas.Bool.{cases_eq}
 use Rattle.lock_core.specs.Counted.{times}
@@ -13,7 +14,10 @@ use Rattle.lock_core.specs.declared.views.Todo.TheVariants.{Forward, FromHead}
 use Rattle.lock_laws.specs.Paths.{Reach}
 use Rattle.lock_core.specs.Words.{Heap, to, IsMarked, IsUnmarked}
 use Rattle.lock_core.specs.Nodes.{Filled, Listed, filling, listed, own_times}
-use Rattle.lock_laws.specs.Invariant.{IsViewOf, InChain, Names, MayReach, IsOrdered, Order, InHand, IsUsed, IsLinked, Places, IsKnown, IsWritten, HasRange, IsRead, Fields, IsAlone, FastPath, Way, SeesFrom, HasToSee, first_cell_of, ToSee, Pairs, IsOut, Barrier, IsIdle, NoReuse, LockInvariant}
+use Rattle.lock_laws.specs.Invariant.{IsViewOf, InChain, Names, MayReach, IsOrdered, Order, InHand, IsUsed, IsLinked}
+use Rattle.lock_laws.specs.Invariant.{Places, IsKnown, IsWritten, HasRange, IsRead, Fields, IsAlone, FastPath, Way}
+use Rattle.lock_laws.specs.Invariant.{SeesFrom, HasToSee, first_cell_of, ToSee, Pairs, IsOut, Barrier, IsIdle, NoReuse}
+use Rattle.lock_laws.specs.Invariant.{LockInvariant}
 use Rattle.lock_core.proofs.ByView.{kept_view, new_view, is_view, each, each_two}
 use Rattle.lock_core.proofs.Counts.{own_filling, own_linked}
 use Rattle.lock_laws.proofs.Seats.{only_once, one_seat, own_not_used}
@@ -72,12 +76,14 @@ pub record PathStep (h now : Heap) (views : List View) (s : ℕ) (v w : View) (G
   pub change : Change h now Gained Lost Marked
   pub epochs : (i : ℕ) (u : View) → IsViewOf views i u → now.epoch i ≡ h.epoch i
   pub gained : (x : ℕ) → Gained x → IsNew now v w x
-  pub gained_next : (j n x : ℕ) (u : View) (d : Cursor) → IsViewOf views j u → u.cursor ≡ Some d → d.next ≡ Some n → Gained x → Reach (to now) x (n / 2) → Reach (to now) x (to now (d.cur / 2))
+  pub gained_next : (j n x : ℕ) (u : View) (d : Cursor) → IsViewOf views j u → u.cursor ≡ Some d → d.next ≡ Some n → Gained x
+      → Reach (to now) x (n / 2) → Reach (to now) x (to now (d.cur / 2))
   pub lost_chain : (x : ℕ) → Lost x → InChain h x
   pub lost_gone : (x : ℕ) → Lost x → InChain now x → ⊥
   pub lost_hand : (x : ℕ) → Lost x → w.hand ≡ Some x
   pub lost_used : (x : ℕ) → Lost x → IsUsed (set views s w) x
-  pub lost_seen : (j x : ℕ) (u : View) (d : Cursor) → IsViewOf views j u → u.cursor ≡ Some d → MayReach h d x → Lost x → IsMarked now x ⊎ (d.cur ≡ 2 * suc x + 1)
+  pub lost_seen : (j x : ℕ) (u : View) (d : Cursor) → IsViewOf views j u → u.cursor ≡ Some d → MayReach h d x → Lost x
+      → IsMarked now x ⊎ (d.cur ≡ 2 * suc x + 1)
   pub apart : (j : ℕ) (u : View) (g : Listed) → j ≢ s → IsViewOf views j u → u.own ≡ listed g → Lost g.node ⊎ Marked g.node → ⊥
   pub alone : now.next 0 % 2 ≡ 1 → IsAlone now (set views s w)
   pub rest : w ≡ record v { own = w.own; cursor = w.cursor; used = w.used; hand = w.hand }
@@ -88,12 +94,15 @@ pub record PathStep (h now : Heap) (views : List View) (s : ℕ) (v w : View) (G
   pub hand_more : (x : ℕ) → v.hand ≡ Some x → w.hand ≡ Some x
   pub fills : (f : Filled) → w.own ≡ filling f → v.own ≡ filling f
   pub lists : (g : Listed) → w.own ≡ listed g → InChain now g.node × IsUnmarked now g.node × IsWritten now g
-  pub listed_was : (g : Listed) → v.own ≡ listed g → InChain now g.node → (IsMarked now g.node × IsUsed (set views s w) g.node) ⊎ (IsUnmarked now g.node × IsLinked (set views s w) g.node)
+  pub listed_was : (g : Listed) → v.own ≡ listed g → InChain now g.node
+      → (IsMarked now g.node × IsUsed (set views s w) g.node) ⊎ (IsUnmarked now g.node × IsLinked (set views s w) g.node)
   pub cursor : (d : Cursor) → w.cursor ≡ Some d → (c : Cursor) × (v.cursor ≡ Some c) × ((c ≡ d) ⊎ Fresh c d)
   pub sees_own : (g : Listed) → w.own ≡ listed g → g.todo ≡ FromHead → HasToSee now g w.cursor g.node
-  pub as_reader : (j : ℕ) (u : View) (r g : Listed) → j ≢ s → IsViewOf views j u → w.own ≡ listed r → u.own ≡ listed g → r.mode ≡ Reader → g.mode ≡ Writer → Overlaps r.range g.range →
+  pub as_reader : (j : ℕ) (u : View) (r g : Listed) → j ≢ s → IsViewOf views j u → w.own ≡ listed r → u.own ≡ listed g
+      → r.mode ≡ Reader → g.mode ≡ Writer → Overlaps r.range g.range →
       ((r.todo ≡ Forward) × HasToSee now r w.cursor g.node) ⊎ ((g.todo ≡ FromHead) × HasToSee now g u.cursor r.node)
-  pub as_writer : (j : ℕ) (u : View) (r g : Listed) → j ≢ s → IsViewOf views j u → u.own ≡ listed r → w.own ≡ listed g → r.mode ≡ Reader → g.mode ≡ Writer → Overlaps r.range g.range →
+  pub as_writer : (j : ℕ) (u : View) (r g : Listed) → j ≢ s → IsViewOf views j u → u.own ≡ listed r → w.own ≡ listed g
+      → r.mode ≡ Reader → g.mode ≡ Writer → Overlaps r.range g.range →
       ((r.todo ≡ Forward) × HasToSee now r u.cursor g.node) ⊎ ((g.todo ≡ FromHead) × HasToSee now g w.cursor r.node)
 
 module _ (h now : Heap) (views : List View) (s : ℕ) (v w : View) (Gained Lost Marked : ℕ → Type 0) (k : PathStep h now views s v w Gained Lost Marked) where
@@ -229,7 +238,8 @@ module _ (h now : Heap) (views : List View) (s : ℕ) (v w : View) (Gained Lost 
   marked_word x m =
       ⊎_elim (λ (e : suc x ≡ 0). absurd (omega arith))
       (⊎_elim
-      (λ (t : (q : ℕ) × (suc x ≡ suc q) × InChain h q × IsUnmarked h q). absurd (let e : t.0 ≡ x = let a = t.1 in omega arith in not_both h x m (subst (IsUnmarked h) e t.3)))
+      (λ (t : (q : ℕ) × (suc x ≡ suc q) × InChain h q × IsUnmarked h q). absurd (let e : t.0 ≡ x = let a = t.1 in omega arith in
+      not_both h x m (subst (IsUnmarked h) e t.3)))
       (λ e. e))
       (k.change.written (suc x))
 
@@ -237,13 +247,16 @@ module _ (h now : Heap) (views : List View) (s : ℕ) (v w : View) (Gained Lost 
   marked_now x m = ap (λ a. a % 2) (marked_word x m) ∙ m
 
   unmarked_was : (x : ℕ) → IsUnmarked now x → IsUnmarked h x
-  unmarked_was x u = ⊎_elim (λ (e : h.next (suc x) % 2 ≡ 0). e) (λ (d : h.next (suc x) % 2 ≢ 0). let m : IsMarked h x = omega arith in absurd (not_both now x (marked_now x m) u)) (cases_eq (h.next (suc x) % 2) 0)
+  unmarked_was x u = ⊎_elim (λ (e : h.next (suc x) % 2 ≡ 0). e)
+      (λ (d : h.next (suc x) % 2 ≢ 0). let m : IsMarked h x = omega arith in absurd (not_both now x (marked_now x m) u))
+      (cases_eq (h.next (suc x) % 2) 0)
 
   -- a node that is being filled isn't in the chain, and its next word stays
   filling_apart : (j : ℕ) (u : View) (f : Filled) → IsViewOf views j u → u.own ≡ filling f → InChain h f.node → ⊥
   filling_apart j u f e own r =
       ⊎_elim
-      (λ (t : IsMarked h f.node × IsUsed views f.node). let a = t.1 in let b = a.used in own_not_used h views places j a.seat f.node u a.view e a.at (own_filling u f own) (omega arith))
+      (λ (t : IsMarked h f.node × IsUsed views f.node). let a = t.1 in let b = a.used in
+      own_not_used h views places j a.seat f.node u a.view e a.at (own_filling u f own) (omega arith))
       (λ (t : IsUnmarked h f.node × IsLinked views f.node).
       let a = t.1 in
       let p : own_times f.node a.view.own ≡ 1 = subst (λ n. own_times n a.view.own ≡ 1) a.node (own_linked a.view a.own a.is) in
@@ -257,7 +270,8 @@ module _ (h now : Heap) (views : List View) (s : ℕ) (v w : View) (Gained Lost 
   filling_word j u f e own =
       ⊎_elim (λ (q : suc f.node ≡ 0). absurd (omega arith))
       (⊎_elim
-      (λ (t : (q : ℕ) × (suc f.node ≡ suc q) × InChain h q × IsUnmarked h q). absurd (let q : t.0 ≡ f.node = let a = t.1 in omega arith in filling_apart j u f e own (subst (InChain h) q t.2)))
+      (λ (t : (q : ℕ) × (suc f.node ≡ suc q) × InChain h q × IsUnmarked h q). absurd (let q : t.0 ≡ f.node = let a = t.1 in
+      omega arith in filling_apart j u f e own (subst (InChain h) q t.2)))
       (λ q. q))
       (k.change.written (suc f.node))
 
@@ -273,18 +287,22 @@ module _ (h now : Heap) (views : List View) (s : ℕ) (v w : View) (Gained Lost 
     chain = k.change.chain;
     seen = λ i u d t e q n.
         let o = old i u e in let f = o.from d q in
-        k.change.ordered t (k.invariant.order.seen i o.view f.cursor t o.at f.is (f.names t n)) (λ x r. k.invariant.fields.range i x o.view f.cursor o.at f.is (record { target = t; named = f.names t n; reach = r }));
+        k.change.ordered t (k.invariant.order.seen i o.view f.cursor t o.at f.is (f.names t n))
+        (λ x r. k.invariant.fields.range i x o.view f.cursor o.at f.is
+        (record { target = t; named = f.names t n; reach = r }));
   }
 
   -- places
-  chain_place : (x : ℕ) → InChain now x → InChain h x → (IsMarked h x × IsUsed views x) ⊎ (IsUnmarked h x × IsLinked views x) → (IsMarked now x × IsUsed later x) ⊎ (IsUnmarked now x × IsLinked later x)
+  chain_place : (x : ℕ) → InChain now x → InChain h x → (IsMarked h x × IsUsed views x) ⊎ (IsUnmarked h x × IsLinked views x)
+      → (IsMarked now x × IsUsed later x) ⊎ (IsUnmarked now x × IsLinked later x)
   chain_place x r o (inl t) = inl (marked_now x t.0, used_now x t.1)
   chain_place x r o (inr t) = by_seat t.1 (cases_eq t.1.seat s)
     where
       by_seat : (a : IsLinked views x) → (a.seat ≡ s) ⊎ (a.seat ≢ s) → (IsMarked now x × IsUsed later x) ⊎ (IsUnmarked now x × IsLinked later x)
       by_seat a (inl q) =
           let own = ap (λ (z : View). z.own) (is_view views s a.seat v a.view k.at a.at q) ∙ a.is in
-          subst (λ n. (IsMarked now n × IsUsed later n) ⊎ (IsUnmarked now n × IsLinked later n)) a.node (k.listed_was a.own own (subst (InChain now) (sym a.node) r))
+          subst (λ n. (IsMarked now n × IsUsed later n) ⊎ (IsUnmarked now n × IsLinked later n)) a.node
+          (k.listed_was a.own own (subst (InChain now) (sym a.node) r))
       by_seat a (inr d) = inr (
         ⊎_elim (λ (m : Marked x). absurd (k.apart a.seat a.view a.own d a.at a.is (inr (subst Marked (sym a.node) m)))) (λ u. u) (k.change.stays x t.0),
         record { seat = a.seat; view = a.view; at = kept_view views s a.seat w a.view d a.at; own = a.own; is = a.is; node = a.node },
@@ -311,9 +329,12 @@ module _ (h now : Heap) (views : List View) (s : ℕ) (v w : View) (Gained Lost 
 
   -- a hand after the step was one before it, or has the lost node
   hand_was : (x : ℕ) → InHand later x → InHand views x ⊎ Lost x
-  hand_was x a = let o = old a.seat a.view a.at in ⊎_elim (λ e. inl (record { seat = a.seat; view = o.view; at = o.at; hand = e })) (λ (t : (a.seat ≡ s) × Lost x). inr t.1) (o.hand x a.hand)
+  hand_was x a = let o = old a.seat a.view a.at in
+      ⊎_elim (λ e. inl (record { seat = a.seat; view = o.view; at = o.at; hand = e })) (λ (t : (a.seat ≡ s) × Lost x). inr t.1)
+      (o.hand x a.hand)
 
-  used_place : (x : ℕ) → (InChain h x × IsMarked h x) ⊎ (InHand views x ⊎ (h.home x ≡ 1)) → (InChain now x × IsMarked now x) ⊎ (InHand later x ⊎ (now.home x ≡ 1))
+  used_place : (x : ℕ) → (InChain h x × IsMarked h x) ⊎ (InHand views x ⊎ (h.home x ≡ 1))
+      → (InChain now x × IsMarked now x) ⊎ (InHand later x ⊎ (now.home x ≡ 1))
   used_place x (inl t) = ⊎_elim (λ (l : Lost x). inr (inl (lost_in_hand x l))) (λ r. inl (r, marked_now x t.1)) (k.change.keeps_from x 0 t.0)
   used_place x (inr (inl a)) = inr (inl (hand_now x a))
   used_place x (inr (inr e)) = inr (inr (k.change.home x ∙ e))
@@ -334,7 +355,17 @@ module _ (h now : Heap) (views : List View) (s : ℕ) (v w : View) (Gained Lost 
     at_home = λ i x u e l. let o = old i u e in k.change.home x ∙ places.at_home i x o.view o.at (subst (λ a. 1 ≤ times x a) o.homes l);
     linked = linked_now;
     chain = λ x r. ⊎_elim
-        (λ (g : Gained x). let n = k.gained x g in inr (n.unmarked, record { seat = s; view = w; at = new_view views s w v k.at; own = n.own; is = n.is; node = n.own_node }))
+        (λ (g : Gained x). let n = k.gained x g in inr (
+          n.unmarked,
+          record {
+            seat = s;
+            view = w;
+            at = new_view views s w v k.at;
+            own = n.own;
+            is = n.is;
+            node = n.own_node;
+          },
+        ))
         (λ (o : InChain h x). chain_place x r o (places.chain x o))
         (chain_adds x r);
     in_hand = λ x a. ⊎_elim
@@ -369,7 +400,8 @@ module _ (h now : Heap) (views : List View) (s : ℕ) (v w : View) (Gained Lost 
     in_order = a.in_order;
   }
 
-  next_was : (j n x : ℕ) (u : View) (d : Cursor) → IsViewOf views j u → u.cursor ≡ Some d → d.next ≡ Some n → InChain now x → IsUnmarked now x → Reach (to now) x (n / 2) → Reach (to now) x (to now (d.cur / 2))
+  next_was : (j n x : ℕ) (u : View) (d : Cursor) → IsViewOf views j u → u.cursor ≡ Some d → d.next ≡ Some n → InChain now x
+      → IsUnmarked now x → Reach (to now) x (n / 2) → Reach (to now) x (to now (d.cur / 2))
   next_was j n x u d e q m r low far =
       ⊎_elim (λ (g : Gained x). k.gained_next j n x u d e q m g far)
       (λ (o : InChain h x). ⊎_elim (λ (g : Gained x). k.gained_next j n x u d e q m g far)
@@ -410,21 +442,30 @@ module _ (h now : Heap) (views : List View) (s : ℕ) (v w : View) (Gained Lost 
 
   -- what a cursor may reach after the step
   reaches : (j x : ℕ) (u : View) (d : Cursor) (o : Old j u) (q : u.cursor ≡ Some d) → MayReach now d x → Gained x ⊎ MayReach h (o.from d q).cursor x
-  reaches j x u d o q m = ⊎_elim inl (λ (r : MayReach h d x). inr (record { target = r.target; named = (o.from d q).names r.target r.named; reach = r.reach })) (may_adds d x m)
+  reaches j x u d o q m = ⊎_elim inl (λ (r : MayReach h d x). inr
+      (record { target = r.target; named = (o.from d q).names r.target r.named; reach = r.reach })) (may_adds d x m)
 
   pub fields_now : Fields now later
   fields_now = record {
     epoch = λ i u e. let o = old i u e in o.epoch ∙ k.invariant.fields.epoch i o.view o.at ∙ sym (k.epochs i o.view o.at);
     filled = λ i u f e own. let o = old i u e in known_now i o.view f o.at (o.fills f own);
-    linked = λ i u g e own. each views s w (λ i u. (g : Listed) → u.own ≡ listed g → IsWritten now g) (λ g own. (k.lists g own).2) (λ j u d e g own. let a = k.invariant.fields.linked j u g e own in record { lo = k.change.lo g.node ∙ a.lo; hi = k.change.hi g.node ∙ a.hi }) i u e g own;
-    cursor = λ i u d e q. let o = old i u e in let f = o.from d q in ⊎_elim (λ (z : f.cursor ≡ d). subst (IsRead now) z (read_now i o.view f.cursor o.at f.is)) (fresh_read f.cursor d) f.way;
+    linked = λ i u g e own. each views s w (λ i u. (g : Listed) → u.own ≡ listed g → IsWritten now g) (λ g own. (k.lists g own).2)
+        (λ j u d e g own. let a = k.invariant.fields.linked j u g e own in
+        record { lo = k.change.lo g.node ∙ a.lo; hi = k.change.hi g.node ∙ a.hi }) i u e g own;
+    cursor = λ i u d e q. let o = old i u e in let f = o.from d q in
+        ⊎_elim (λ (z : f.cursor ≡ d). subst (IsRead now) z (read_now i o.view f.cursor o.at f.is)) (fresh_read f.cursor d) f.way;
     even = λ i u e z. let o = old i u e in no_cursor i u o (k.invariant.fields.even i o.view o.at (subst (λ a. a % 2 ≡ 0) o.epoch z)) u.cursor refl;
-    chain_range = λ x r. ⊎_elim (λ (g : Gained x). (k.gained x g).range) (λ (o : InChain h x). range_now x (k.invariant.fields.chain_range x o)) (chain_adds x r);
-    range = λ i x u d e q m. let o = old i u e in ⊎_elim (λ (g : Gained x). (k.gained x g).range) (λ (r : MayReach h (o.from d q).cursor x). range_now x (k.invariant.fields.range i x o.view (o.from d q).cursor o.at (o.from d q).is r)) (reaches i x u d o q m);
+    chain_range = λ x r. ⊎_elim (λ (g : Gained x). (k.gained x g).range)
+        (λ (o : InChain h x). range_now x (k.invariant.fields.chain_range x o)) (chain_adds x r);
+    range = λ i x u d e q m. let o = old i u e in
+        ⊎_elim (λ (g : Gained x). (k.gained x g).range)
+        (λ (r : MayReach h (o.from d q).cursor x). range_now x
+        (k.invariant.fields.range i x o.view (o.from d q).cursor o.at (o.from d q).is r)) (reaches i x u d o q m);
   }
 
   -- fast path
-  kept_now : (i x : ℕ) (u : View) (d : Cursor) → IsViewOf later i u → u.cursor ≡ Some d → MayReach now d x → InChain now x ⊎ (IsMarked now x ⊎ (d.cur ≡ 2 * suc x + 1))
+  kept_now : (i x : ℕ) (u : View) (d : Cursor) → IsViewOf later i u → u.cursor ≡ Some d → MayReach now d x
+      → InChain now x ⊎ (IsMarked now x ⊎ (d.cur ≡ 2 * suc x + 1))
   kept_now i x u d e q m =
       ⊎_elim (λ (g : Gained x). inl (k.gained x g).chain)
       (λ r. go (o.from d q) r (k.invariant.fast_path.kept i x o.view (o.from d q).cursor o.at (o.from d q).is r))
@@ -434,10 +475,13 @@ module _ (h now : Heap) (views : List View) (s : ℕ) (v w : View) (Gained Lost 
       o = old i u e
 
       low : (f : From o.view d) → f.cursor.cur ≡ 2 * suc x + 1 → d.cur ≡ 2 * suc x + 1
-      low f z = ⊎_elim (λ (a : f.cursor ≡ d). ap (λ (b : Cursor). b.cur) (sym a) ∙ z) (λ (a : Fresh f.cursor d). absurd (let b = a.was_even in omega arith)) f.way
+      low f z = ⊎_elim (λ (a : f.cursor ≡ d). ap (λ (b : Cursor). b.cur) (sym a) ∙ z)
+          (λ (a : Fresh f.cursor d). absurd (let b = a.was_even in omega arith)) f.way
 
-      go : (f : From o.view d) → MayReach h f.cursor x → InChain h x ⊎ (IsMarked h x ⊎ (f.cursor.cur ≡ 2 * suc x + 1)) → InChain now x ⊎ (IsMarked now x ⊎ (d.cur ≡ 2 * suc x + 1))
-      go f r (inl a) = ⊎_elim (λ (l : Lost x). ⊎_elim (λ b. inr (inl b)) (λ b. inr (inr (low f b))) (k.lost_seen i x o.view f.cursor o.at f.is r l)) inl (k.change.keeps_from x 0 a)
+      go : (f : From o.view d) → MayReach h f.cursor x → InChain h x ⊎ (IsMarked h x ⊎ (f.cursor.cur ≡ 2 * suc x + 1))
+          → InChain now x ⊎ (IsMarked now x ⊎ (d.cur ≡ 2 * suc x + 1))
+      go f r (inl a) = ⊎_elim (λ (l : Lost x). ⊎_elim (λ b. inr (inl b)) (λ b. inr (inr (low f b)))
+          (k.lost_seen i x o.view f.cursor o.at f.is r l)) inl (k.change.keeps_from x 0 a)
       go f r (inr (inl a)) = inr (inl (marked_now x a))
       go f r (inr (inr a)) = inr (inr (low f a))
 
@@ -456,10 +500,13 @@ module _ (h now : Heap) (views : List View) (s : ℕ) (v w : View) (Gained Lost 
   pub way_now : Way now later
   way_now = record {
     past = λ i u d f lo hi p e q own el eh ep. let o = old i u e in let b = o.from d q in
-        compared_same h now k.change.lo k.change.hi f.mode lo hi p _ (k.invariant.way.past i o.view b.cursor f lo hi p o.at b.is (o.fills f own) el eh (⊎_elim (λ (z : b.cursor ≡ d). ap (λ (a : Cursor). a.prev) z) (λ (z : Fresh b.cursor d). sym z.prev) b.way ∙ ep));
+        compared_same h now k.change.lo k.change.hi f.mode lo hi p _
+        (k.invariant.way.past i o.view b.cursor f lo hi p o.at b.is (o.fills f own) el eh
+        (⊎_elim (λ (z : b.cursor ≡ d). ap (λ (a : Cursor). a.prev) z) (λ (z : Fresh b.cursor d). sym z.prev) b.way ∙ ep));
     stop = λ i u d f lo hi y e q own el eh at ey. let o = old i u e in let b = o.from d q in
         ⊎_elim
-        (λ (z : b.cursor ≡ d). compared_same h now k.change.lo k.change.hi f.mode lo hi y _ (k.invariant.way.stop i o.view d f lo hi y o.at (b.is ∙ ap (λ (a : Cursor). Some a) z) (o.fills f own) el eh at ey))
+        (λ (z : b.cursor ≡ d). compared_same h now k.change.lo k.change.hi f.mode lo hi y _
+        (k.invariant.way.stop i o.view d f lo hi y o.at (b.is ∙ ap (λ (a : Cursor). Some a) z) (o.fills f own) el eh at ey))
         (λ (z : Fresh b.cursor d). absurd (⊎_elim (λ (a : d.cur ≡ 0). omega arith) (λ (a : (d.next ≡ None) × (d.lo ≢ None)). a.1 z.lo) at))
         b.way;
   }
@@ -475,7 +522,8 @@ module _ (h now : Heap) (views : List View) (s : ℕ) (v w : View) (Gained Lost 
   sees_now g (Some d) x r = sees_from d.cur d.next x r
 
   -- a linked node of another seat isn't lost
-  still_sees : (j : ℕ) (u : View) (g b : Listed) (c : Option Cursor) → j ≢ s → IsViewOf views j u → u.own ≡ listed b → HasToSee h g c b.node → HasToSee now g c b.node
+  still_sees : (j : ℕ) (u : View) (g b : Listed) (c : Option Cursor) → j ≢ s → IsViewOf views j u → u.own ≡ listed b
+      → HasToSee h g c b.node → HasToSee now g c b.node
   still_sees j u g b c d e own r = ⊎_elim (λ (l : Lost b.node). absurd (k.apart j u b d e own (inl l))) (λ z. z) (sees_now g c b.node r)
 
   pub to_see_now : ToSee now later
@@ -485,12 +533,17 @@ module _ (h now : Heap) (views : List View) (s : ℕ) (v w : View) (Gained Lost 
       i u e g own todo
 
   abbrev Pair : ℕ → View → ℕ → View → Type 0
-  Pair i a j b = (r g : Listed) → a.own ≡ listed r → b.own ≡ listed g → r.mode ≡ Reader → g.mode ≡ Writer → Overlaps r.range g.range → ((r.todo ≡ Forward) × HasToSee now r a.cursor g.node) ⊎ ((g.todo ≡ FromHead) × HasToSee now g b.cursor r.node)
+  Pair i a j b = (r g : Listed) → a.own ≡ listed r → b.own ≡ listed g → r.mode ≡ Reader → g.mode ≡ Writer
+      → Overlaps r.range g.range → ((r.todo ≡ Forward) × HasToSee now r a.cursor g.node)
+      ⊎ ((g.todo ≡ FromHead) × HasToSee now g b.cursor r.node)
 
   pub pairs_now : Pairs now later
   pairs_now i j a b r g e f own own' reader writer over = each_two views s w Pair
       (λ r g own own' reader writer over. absurd (let q = ap (λ (z : Listed). z.mode) (listed_one r g (sym own ∙ own')) in cc))
-      (λ j u d e. (λ r g own own' reader writer over. k.as_reader j u r g d e own own' reader writer over, λ r g own own' reader writer over. k.as_writer j u r g d e own own' reader writer over))
+      (λ j u d e. (
+        λ r g own own' reader writer over. k.as_reader j u r g d e own own' reader writer over,
+        λ r g own own' reader writer over. k.as_writer j u r g d e own own' reader writer over,
+      ))
       (λ i a j b d e d' e' r g own own' reader writer over.
       ⊎_elim
       (λ (t : (r.todo ≡ Forward) × HasToSee h r a.cursor g.node). inl (t.0, still_sees j b r g a.cursor d' e' own' t.1))
@@ -509,7 +562,8 @@ module _ (h now : Heap) (views : List View) (s : ℕ) (v w : View) (Gained Lost 
       let l' = subst (λ z. 1 ≤ times x z) o.homes l in
       ⊎_elim
       (λ (g : Gained x). let c = places.homes i x o.view o.at in gained_not_used i x o.view o.at g (omega arith))
-      (λ (r : MayReach h (p.from d q).cursor x). k.invariant.barrier i j x o.view p.view (p.from d q).cursor o.at p.at (p.from d q).is l' (was_out i j a b o p out o.view o.at o.passed o.notes) r)
+      (λ (r : MayReach h (p.from d q).cursor x). k.invariant.barrier i j x o.view p.view (p.from d q).cursor o.at p.at
+      (p.from d q).is l' (was_out i j a b o p out o.view o.at o.passed o.notes) r)
       (reaches j x b d p q m)
 
   pub no_reuse_now : NoReuse now later

@@ -23,13 +23,15 @@ nothing_at_end to q r = elim r [ ]
 -- a node of a path that ends isn't reached from itself
 pub no_cycle : (to : ℕ → ℕ) (q t : ℕ) → PathEnds to t → Reach to q t → Reach to q (to (suc q)) → ⊥
 no_cycle to q t end r c = nothing_at_end to q r
-no_cycle to q t (on {n = n} e) r c = ⊎_elim (λ (s : q ≡ n). no_cycle to q (to (suc n)) e (subst (λ a. Reach to q (to (suc a))) s c) c) (λ s. no_cycle to q (to (suc n)) e s c) (unreach to q n r)
+no_cycle to q t (on {n = n} e) r c = ⊎_elim (λ (s : q ≡ n). no_cycle to q (to (suc n)) e
+    (subst (λ a. Reach to q (to (suc a))) s c) c) (λ s. no_cycle to q (to (suc n)) e s c) (unreach to q n r)
 
 -- paths that meet none of the nodes of which T says that their next words change stay as they are
 module _ (to now : ℕ → ℕ) (T : ℕ → Type 0) (others : (n : ℕ) → (T n → ⊥) → now (suc n) ≡ to (suc n)) where
   pub keeps_reach : (x t : ℕ) → ((y : ℕ) → T y → Reach to y t → ⊥) → Reach to x t → Reach now x t
   keeps_reach x t far here = here
-  keeps_reach x t far (there {n = n} r) = there (subst (Reach now x) (sym (others n (λ q. far n q here))) (keeps_reach x (to (suc n)) (λ y q s. far y q (there s)) r))
+  keeps_reach x t far (there {n = n} r) = there
+      (subst (Reach now x) (sym (others n (λ q. far n q here))) (keeps_reach x (to (suc n)) (λ y q s. far y q (there s)) r))
 
   pub adds_reach : (x t : ℕ) → Reach now x t → ((y : ℕ) → T y → Reach to y t → ⊥) → Reach to x t
   adds_reach x t here far = here
@@ -72,7 +74,8 @@ module _ (to now : ℕ → ℕ) (p o : ℕ) (others : (c : ℕ) → c ≢ p → 
       ⊎_elim inl
       (λ (old : Reach to x (now (suc n))).
       ⊎_elim
-      (λ (e : suc n ≡ p). ⊎_elim inl (λ (far : Reach to x (to (suc o))). inr (there (subst (Reach to x) (was ∙ sym (ap to e)) far))) (unreach to x o (subst (Reach to x) (ap now e ∙ is) old)))
+      (λ (e : suc n ≡ p). ⊎_elim inl (λ (far : Reach to x (to (suc o))). inr
+      (there (subst (Reach to x) (was ∙ sym (ap to e)) far))) (unreach to x o (subst (Reach to x) (ap now e ∙ is) old)))
       (λ (d : suc n ≢ p). inr (there (subst (Reach to x) (others (suc n) d) old)))
       (cases_eq (suc n) p))
       ih
@@ -100,7 +103,8 @@ module _ (to now : ℕ → ℕ) (p o : ℕ) (others : (c : ℕ) → c ≢ p → 
       ⊎_elim inl
       (λ (old : Reach to x (now k)).
       ⊎_elim
-      (λ (e : k ≡ p). ⊎_elim inl (λ (far : Reach to x (to (suc o))). inr (subst (Reach to x) (was ∙ sym (ap to e)) far)) (unreach to x o (subst (Reach to x) (ap now e ∙ is) old)))
+      (λ (e : k ≡ p). ⊎_elim inl (λ (far : Reach to x (to (suc o))). inr (subst (Reach to x) (was ∙ sym (ap to e)) far))
+      (unreach to x o (subst (Reach to x) (ap now e ∙ is) old)))
       (λ (d : k ≢ p). inr (subst (Reach to x) (others k d) old))
       (cases_eq k p))
       (put_adds x (now k) r)
@@ -178,7 +182,8 @@ module _ (to now : ℕ → ℕ) (p c : ℕ) (others : (k : ℕ) → k ≢ p → 
       (unreach to q c has'))
       (λ (far : Reach now c (now (suc n))).
       ⊎_elim
-      (λ (s : suc n ≡ p). no_cycle to c (suc n) (on e') (there (subst (Reach to c) (sym (ap to s ∙ was)) here)) (cut_adds c (to (suc c)) (subst (Reach now c) (ap now s ∙ is) far)))
+      (λ (s : suc n ≡ p). no_cycle to c (suc n) (on e') (there (subst (Reach to c) (sym (ap to s ∙ was)) here))
+      (cut_adds c (to (suc c)) (subst (Reach now c) (ap now s ∙ is) far)))
       (λ (d : suc n ≢ p).
       ⊎_elim
       (λ (s : q ≡ n). d (ap suc (sym s) ∙ sym e))

@@ -2,7 +2,9 @@
 use Rattle.std.proofs.Common.{◌≡◌, ℕ, List, [], ◌∷◌, refl, subst}
 use Rattle.std.specs.Prelude.{Option, Some, None, unwrap_or}
 use Rattle.lock_core.specs.declared.steps.Step.{Step}
-use Rattle.lock_core.specs.declared.steps.Step.TheVariants.{Enter, Leave, ReadEpoch, ReadHome, GiveHome, FillLo, FillHi, Aim, ClearHome, Walk, ReadLo, ReadHi, Link, Unlink, Mark, QuickLink, QuickUnlink, Settle}
+use Rattle.lock_core.specs.declared.steps.Step.TheVariants.{Enter, Leave, ReadEpoch, ReadHome, GiveHome, FillLo, FillHi}
+use Rattle.lock_core.specs.declared.steps.Step.TheVariants.{Aim, ClearHome, Walk, ReadLo, ReadHi, Link, Unlink, Mark}
+use Rattle.lock_core.specs.declared.steps.Step.TheVariants.{QuickLink, QuickUnlink, Settle}
 use Rattle.lock_core.specs.declared.views.View.{View}
 use Rattle.lock_core.specs.StepTable.{Plan, IsLine}
 use Rattle.lock_core.specs.Machine.{Machine, carried_out, after, after_or_same, run, start, held_by_seat}
@@ -14,10 +16,13 @@ use Rattle.lock_laws.proofs.Exclusion.{exclusive}
 use Rattle.lock_laws.proofs.Listing.{listed_apart}
 use Rattle.lock_laws.proofs.PathLaws.{Holds, link_holds, unlink_holds, mark_holds, quick_link_holds, quick_unlink_holds}
 use Rattle.lock_laws.proofs.Starting.{start_lock}
-use Rattle.lock_laws.proofs.WordLaws.{enter_holds, leave_holds, read_epoch_holds, read_home_holds, give_home_holds, fill_lo_holds, fill_hi_holds, aim_holds, clear_home_holds, walk_holds, read_lo_holds, read_hi_holds, settle_holds}
+use Rattle.lock_laws.proofs.WordLaws.{enter_holds, leave_holds, read_epoch_holds, read_home_holds, give_home_holds}
+use Rattle.lock_laws.proofs.WordLaws.{fill_lo_holds, fill_hi_holds, aim_holds, clear_home_holds, walk_holds}
+use Rattle.lock_laws.proofs.WordLaws.{read_lo_holds, read_hi_holds, settle_holds}
 
 -- each line of the step table leads from a lock to the invariant
-line_holds : (step : Step) (m : Machine) (s : ℕ) (v : View) → IsLock m → IsViewOf m.views s v → (p : Plan) → IsLine m.seats s v step p → Holds (carried_out m s p)
+line_holds : (step : Step) (m : Machine) (s : ℕ) (v : View) → IsLock m → IsViewOf m.views s v → (p : Plan)
+    → IsLine m.seats s v step p → Holds (carried_out m s p)
 line_holds Enter m s v l at = enter_holds m s v l at
 line_holds Leave m s v l at = leave_holds m s v l at
 line_holds (ReadEpoch j) m s v l at = read_epoch_holds m s v l at j

@@ -27,7 +27,9 @@ module _ (h : Heap) (views : List View) (places : Places h views) where
   only_once i x v at = let e = places.once i x v at in let l = at_most (x / 16 == i) in omega arith
 
   -- two seats that have one node are one seat
-  pub one_seat : (i j x : ℕ) (v u : View) → IsViewOf views i v → IsViewOf views j u → 1 ≤ own_times x v.own + times x v.ready + times x v.used → 1 ≤ own_times x u.own + times x u.ready + times x u.used → i ≡ j
+  pub one_seat : (i j x : ℕ) (v u : View) → IsViewOf views i v → IsViewOf views j u
+      → 1 ≤ own_times x v.own + times x v.ready + times x v.used → 1 ≤ own_times x u.own + times x u.ready + times x u.used
+      → i ≡ j
   one_seat i j x v u at at' l l' = sym (seat_is i x v at l) ∙ seat_is j x u at' l'
 
   -- so a node that one seat has as its own isn't any seat's used node
@@ -39,5 +41,7 @@ module _ (h : Heap) (views : List View) (places : Places h views) where
       let l = only_once i x v at in omega arith
 
 -- an own node that is used from now on stands there once
-pub own_is_used : (v : View) (k : Listed) → v.own ≡ listed k → (h : Heap) (views : List View) (i : ℕ) → Places h views → IsViewOf views i v → times k.node (v.used ++ k.node ∷ []) ≡ 1
-own_is_used v k own h views i places at = let a = counts_moved v k own k.node in let b = own_linked v k own in let l = only_once h views places i k.node v at in omega arith
+pub own_is_used : (v : View) (k : Listed) → v.own ≡ listed k → (h : Heap) (views : List View) (i : ℕ) → Places h views
+    → IsViewOf views i v → times k.node (v.used ++ k.node ∷ []) ≡ 1
+own_is_used v k own h views i places at = let a = counts_moved v k own k.node in let b = own_linked v k own in
+    let l = only_once h views places i k.node v at in omega arith

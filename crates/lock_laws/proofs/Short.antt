@@ -10,7 +10,8 @@ use Rattle.lock_laws.specs.PathLengths.{path_nodes, PathsAreShort}
 use Rattle.lock_laws.proofs.Paths.{no_cycle}
 use Rattle.lock_core.proofs.Pigeons.{pigeons}
 
-reached_step : (to : ℕ → ℕ) (x n : ℕ) (rest : List ℕ) (b : Bool) → (n == x) ≡ b → (1 ≤ times x rest → Reach to x (to (suc n))) → 1 ≤ (if b then 1 else 0) + times x rest → Reach to x (suc n)
+reached_step : (to : ℕ → ℕ) (x n : ℕ) (rest : List ℕ) (b : Bool) → (n == x) ≡ b → (1 ≤ times x rest → Reach to x (to (suc n)))
+    → 1 ≤ (if b then 1 else 0) + times x rest → Reach to x (suc n)
 reached_step to x n rest true e ih l = subst (λ a. Reach to x (suc a)) (sym (eqb-true n x e)) here
 reached_step to x n rest false e ih l = there (ih (omega arith))
 
@@ -19,16 +20,20 @@ pub reached : (to : ℕ → ℕ) (x t : ℕ) (e : PathEnds to t) → 1 ≤ times
 reached to x t end l = absurd (omega arith)
 reached to x t (on {n = n} e) l = reached_step to x n (path_nodes to (to (suc n)) e) (n == x) refl (reached to x (to (suc n)) e) l
 
-once_step : (to : ℕ → ℕ) (x n : ℕ) (rest : List ℕ) (b : Bool) → (n == x) ≡ b → (1 ≤ times x rest → Reach to x (to (suc n))) → (Reach to n (to (suc n)) → ⊥) → times x rest ≤ 1 → (if b then 1 else 0) + times x rest ≤ 1
+once_step : (to : ℕ → ℕ) (x n : ℕ) (rest : List ℕ) (b : Bool) → (n == x) ≡ b → (1 ≤ times x rest → Reach to x (to (suc n)))
+    → (Reach to n (to (suc n)) → ⊥) → times x rest ≤ 1 → (if b then 1 else 0) + times x rest ≤ 1
 once_step to x n rest true e got away ih =
-    ⊎_elim (λ (z : times x rest ≡ 0). omega arith) (λ (d : times x rest ≢ 0). absurd (away (subst (λ a. Reach to a (to (suc n))) (sym (eqb-true n x e)) (got (omega arith))))) (cases_eq (times x rest) 0)
+    ⊎_elim (λ (z : times x rest ≡ 0). omega arith)
+    (λ (d : times x rest ≢ 0). absurd (away (subst (λ a. Reach to a (to (suc n))) (sym (eqb-true n x e))
+    (got (omega arith))))) (cases_eq (times x rest) 0)
 once_step to x n rest false e got away ih = omega arith
 
 -- and stand there once
 pub nodes_once : (to : ℕ → ℕ) (x t : ℕ) (e : PathEnds to t) → times x (path_nodes to t e) ≤ 1
 nodes_once to x t end = omega arith
 nodes_once to x t (on {n = n} e) =
-    once_step to x n (path_nodes to (to (suc n)) e) (n == x) refl (reached to x (to (suc n)) e) (λ r. no_cycle to n (suc n) (on e) here r) (nodes_once to x (to (suc n)) e)
+    once_step to x n (path_nodes to (to (suc n)) e) (n == x) refl (reached to x (to (suc n)) e)
+    (λ r. no_cycle to n (suc n) (on e) here r) (nodes_once to x (to (suc n)) e)
 
 -- where every target is there, so is each reached node
 reach_there : (to : ℕ → ℕ) (n x t : ℕ) → ((c : ℕ) → c ≤ n → to c ≤ n) → t ≤ n → Reach to x t → x < n

@@ -54,7 +54,9 @@ module _ (m : Machine) (l : IsLock m) (i : ℕ) (v : View) (at : slice_get m.vie
 
     -- a node that is found unmarked is another seat's, or the own linked one
     pub finds_other : IsUnmarked (heap m) y → (y / 16 ≢ i) ⊎ (k : Listed) × (v.own ≡ listed k) × (k.node ≡ y)
-    finds_other even = ⊎_elim in_chain (λ t. absurd (⊎_elim (λ (marked : IsMarked (heap m) y). let a = even in omega arith) (λ (odd : c.cur ≡ 2 * suc y + 1). let e = cur in omega arith) t)) (l.invariant.fast_path.kept i y v c at is reaches)
+    finds_other even = ⊎_elim in_chain (λ t. absurd
+        (⊎_elim (λ (marked : IsMarked (heap m) y). let a = even in omega arith) (λ (odd : c.cur ≡ 2 * suc y + 1). let e = cur in
+        omega arith) t)) (l.invariant.fast_path.kept i y v c at is reaches)
       where
         linked : IsLinked m.views y → (y / 16 ≢ i) ⊎ (k : Listed) × (v.own ≡ listed k) × (k.node ≡ y)
         linked t = dite (ℕ_discrete t.seat i)

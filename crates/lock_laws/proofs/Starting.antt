@@ -46,7 +46,8 @@ module _ (seats : ℕ) where
     };
     places = record {
       once = λ i x v at.
-          subst (λ (u : View). own_times x u.own + times x u.ready + times x u.used ≡ (if x / 16 == i then 1 else 0)) (started seats i v at) (let e = start_once i x in omega arith);
+          subst (λ (u : View). own_times x u.own + times x u.ready + times x u.used ≡ (if x / 16 == i then 1 else 0))
+          (started seats i v at) (let e = start_once i x in omega arith);
       homes = λ i x v at. let z = no_homes i x v at in omega arith;
       at_home = λ i x v at l. absurd (let z = no_homes i x v at in omega arith);
       linked = λ i v k at q. absurd (let z = no_own i v at in cc);

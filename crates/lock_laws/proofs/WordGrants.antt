@@ -10,10 +10,12 @@ use Rattle.lock_core.specs.declared.views.Cursor.{Cursor}
 use Rattle.lock_core.specs.declared.views.Own.{Own}
 use Rattle.lock_core.specs.declared.views.Own.TheVariants.{Nothing, Filling, Linked}
 use Rattle.lock_core.specs.declared.views.Todo.TheVariants.{Forward, FromHead, Done}
-use Rattle.lock_core.specs.declared.steps.Step.TheVariants.{Enter, Leave, ReadEpoch, ReadHome, GiveHome, FillLo, FillHi, Aim, ClearHome, Walk, ReadLo, ReadHi, Settle}
+use Rattle.lock_core.specs.declared.steps.Step.TheVariants.{Enter, Leave, ReadEpoch, ReadHome, GiveHome, FillLo, FillHi}
+use Rattle.lock_core.specs.declared.steps.Step.TheVariants.{Aim, ClearHome, Walk, ReadLo, ReadHi, Settle}
 use Rattle.lock_core.specs.Compare.{verdict_of}
 use Rattle.lock_core.specs.Views.{kept_own, own_at, own_stopped, walked, hi_read, hi_judged, settled, dropped}
-use Rattle.lock_core.specs.StepTable.{Plan, IsLine, enter, leave, read_epoch, read_home, give_home, fill_lo, fill_hi, aim, clear_home, walk, read_lo, read_hi, settle}
+use Rattle.lock_core.specs.StepTable.{Plan, IsLine, enter, leave, read_epoch, read_home, give_home, fill_lo, fill_hi}
+use Rattle.lock_core.specs.StepTable.{aim, clear_home, walk, read_lo, read_hi, settle}
 use Rattle.lock_core.specs.Machine.{Machine, carried_out, held_at}
 use Rattle.lock_laws.specs.HeldSteps.{HoldsOn, EachStep}
 use Rattle.lock_core.proofs.OwnNodes.{own_if, own_epoch, own_home}
@@ -47,7 +49,8 @@ module _ (m : Machine) (s : ℕ) (v : View) (at : slice_get m.views s ≡ Some v
       by_own : (o : Own) → v.own ≡ o → Arriving m s p
       by_own Nothing q = stays m s v at p (ap held_at (e ∙ ap own_stopped q ∙ sym q))
       by_own (Filling node lo hi mode aimed) q = stays m s v at p (ap held_at (e ∙ ap own_stopped q ∙ sym q))
-      by_own (Linked node range mode Forward) q = arrives m s v at p (record { node = node; range = range; mode = mode; todo = Forward }) q (λ t. cc) (e ∙ ap own_stopped q)
+      by_own (Linked node range mode Forward) q = arrives m s v at p
+          (record { node = node; range = range; mode = mode; todo = Forward }) q (λ t. cc) (e ∙ ap own_stopped q)
       by_own (Linked node range mode FromHead) q = stays m s v at p (ap held_at (e ∙ ap own_stopped q ∙ sym q))
       by_own (Linked node range mode Done) q = stays m s v at p (ap held_at (e ∙ ap own_stopped q ∙ sym q))
 
@@ -91,7 +94,8 @@ module _ (m : Machine) (s : ℕ) (v : View) (at : slice_get m.views s ≡ Some v
   read_hi_gains : (p : Plan) → IsLine m.seats s v ReadHi p → Arriving m s p
   read_hi_gains p (read_hi c y n lo cursor node next plain low ends) = by_verdict (verdict_of v.own lo (slice_index m.words p.place)) refl
     where
-      view_is : (t : Verdict) → verdict_of v.own lo (slice_index m.words p.place) ≡ t → (hi_read v c y n lo (slice_index m.words p.place)).own ≡ (hi_judged v c y n t).own
+      view_is : (t : Verdict) → verdict_of v.own lo (slice_index m.words p.place) ≡ t
+          → (hi_read v c y n lo (slice_index m.words p.place)).own ≡ (hi_judged v c y n t).own
       view_is t e = ap (λ (a : Verdict). (hi_judged v c y n a).own) e
 
       by_verdict : (t : Verdict) → verdict_of v.own lo (slice_index m.words p.place) ≡ t → Arriving m s p

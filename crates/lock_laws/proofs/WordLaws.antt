@@ -1,5 +1,6 @@
 -- The steps that change no path, whole: from a lock, each where it is enabled, to a lock.
-use Rattle.std.proofs.Common.{◌≡◌, ℕ, suc, ◌+◌, ◌-◌, ◌/◌, ◌%◌, ◌<◌, ◌≤◌, Bool, true, false, List, length, Some, None, refl, sym, ap, ◌∙◌, subst, arith, eqb-true, eq-eqb}
+use Rattle.std.proofs.Common.{◌≡◌, ℕ, suc, ◌+◌, ◌-◌, ◌/◌, ◌%◌, ◌<◌, ◌≤◌, Bool, true, false, List, length, Some, None}
+use Rattle.std.proofs.Common.{refl, sym, ap, ◌∙◌, subst, arith, eqb-true, eq-eqb}
 use Rattle.std.specs.Prelude.{slice_set, slice_index, option_map, Option, ◌==◌, if◌then◌else◌}
 use Rattle.std.proofs.lemmas.List.{set-get_or}
 use Rattle.std.proofs.lemmas.Option.{slice_get_within}
@@ -7,11 +8,13 @@ use Rattle.lock_core.specs.Counted.{times}
 use Rattle.lock_core.specs.declared.range.Mode.{Mode}
 use Rattle.lock_core.specs.declared.views.View.{View}
 use Rattle.lock_core.specs.declared.views.Cursor.{Cursor}
-use Rattle.lock_core.specs.declared.steps.Step.TheVariants.{Enter, Leave, ReadEpoch, ReadHome, GiveHome, FillLo, FillHi, Aim, ClearHome, Walk, ReadLo, ReadHi, Settle}
+use Rattle.lock_core.specs.declared.steps.Step.TheVariants.{Enter, Leave, ReadEpoch, ReadHome, GiveHome, FillLo, FillHi}
+use Rattle.lock_core.specs.declared.steps.Step.TheVariants.{Aim, ClearHome, Walk, ReadLo, ReadHi, Settle}
 use Rattle.lock_core.specs.Words.{Heap, heap_of, cell_of, cell_place, epoch_place, lo_place, hi_place, home_place, plain_node_of}
 use Rattle.lock_core.specs.Nodes.{Filled, filling, own_times}
 use Rattle.lock_core.specs.Views.{next_epoch, epoch_read, home_read, lo_read, hi_read, walk_cell, walked, start_of, dropped, settled}
-use Rattle.lock_core.specs.StepTable.{Plan, IsLine, loads, enter, leave, read_epoch, read_home, give_home, fill_lo, fill_hi, aim, clear_home, walk, read_lo, read_hi, settle}
+use Rattle.lock_core.specs.StepTable.{Plan, IsLine, loads, enter, leave, read_epoch, read_home, give_home, fill_lo}
+use Rattle.lock_core.specs.StepTable.{fill_hi, aim, clear_home, walk, read_lo, read_hi, settle}
 use Rattle.lock_core.specs.Machine.{Machine, heap, carried_out}
 use Rattle.lock_core.specs.Sizes.{IsNode}
 use Rattle.lock_laws.specs.Invariant.{IsViewOf}
@@ -118,12 +121,14 @@ module _ (m : Machine) (s : ℕ) (v : View) (l : IsLock m) (at : IsViewOf m.view
   pub fill_hi_holds : (hi : ℕ) (mode : Mode) (p : Plan) → IsLine m.seats s v (FillHi hi mode) p → Holds (carried_out m s p)
   fill_hi_holds _ _ p (fill_hi f lo hi mode own low less most aimed cursor) =
       by_parts p
-      (fills_hi m.seats h _ m.views s lo hi mode v f seats parts at own low less most aimed cursor (wrote_hi m.seats _ m.words f.node (hi_there f.node (filled_there f own))))
+      (fills_hi m.seats h _ m.views s lo hi mode v f seats parts at own low less most aimed cursor
+      (wrote_hi m.seats _ m.words f.node (hi_there f.node (filled_there f own))))
 
   pub aim_holds : (p : Plan) → IsLine m.seats s v Aim p → Holds (carried_out m s p)
   aim_holds p (aim f lo hi w own low high place) =
       by_parts p
-      (aims_at m.seats h _ m.views s lo hi w v f seats parts at own low high (wrote_cell m.seats w m.words (suc f.node) (cell_there f.node (filled_there f own))))
+      (aims_at m.seats h _ m.views s lo hi w v f seats parts at own low high
+      (wrote_cell m.seats w m.words (suc f.node) (cell_there f.node (filled_there f own))))
 
   pub walk_holds : (p : Plan) → IsLine m.seats s v Walk p → Holds (carried_out m s p)
   walk_holds p (walk cell odd hand there) =
@@ -139,7 +144,8 @@ module _ (m : Machine) (s : ℕ) (v : View) (l : IsLock m) (at : IsViewOf m.view
           by_node None q r = absurd (cc)
           by_node (Some y) q r =
               let t = plain_parts c.cur y q in
-              subst (λ a. Parts h (slice_set m.views s (walked v (Some c) (h.next a)))) (same_some (suc y) cell r) (loads_next h m.views s v c y parts at e t.0 t.1)
+              subst (λ a. Parts h (slice_set m.views s (walked v (Some c) (h.next a)))) (same_some (suc y) cell r)
+              (loads_next h m.views s v c y parts at e t.0 t.1)
 
   pub read_lo_holds : (p : Plan) → IsLine m.seats s v ReadLo p → Holds (carried_out m s p)
   read_lo_holds p (read_lo c y n cursor node next plain) =
@@ -155,6 +161,10 @@ module _ (m : Machine) (s : ℕ) (v : View) (l : IsLock m) (at : IsViewOf m.view
   settle_holds p (settle c cursor prev odd) =
       by_parts p (by_found (h.next 0 == c.cur) refl)
     where
-      by_found : (t : Bool) → h.next 0 == c.cur ≡ t → Parts (heap_of m.seats (slice_set m.words 0 (if t then c.cur - 1 else h.next 0))) (slice_set m.views s (if t then settled v c else dropped v))
-      by_found true e = settles m.seats h _ m.views s v c seats parts at cursor prev odd (eqb-true (h.next 0) c.cur e) (wrote_cell m.seats (c.cur - 1) m.words 0 (let b = l.sized.words in omega (arith, b)))
-      by_found false e = subst (λ (ws : List ℕ). Parts (heap_of m.seats ws) (slice_set m.views s (dropped v))) (sym (set-get_or m.words 0 0)) (parts_of h (slice_set m.views s (dropped v)) (dropped_holds m s v l at))
+      by_found : (t : Bool) → h.next 0 == c.cur ≡ t
+          → Parts (heap_of m.seats (slice_set m.words 0 (if t then c.cur - 1 else h.next 0)))
+          (slice_set m.views s (if t then settled v c else dropped v))
+      by_found true e = settles m.seats h _ m.views s v c seats parts at cursor prev odd (eqb-true (h.next 0) c.cur e)
+          (wrote_cell m.seats (c.cur - 1) m.words 0 (let b = l.sized.words in omega (arith, b)))
+      by_found false e = subst (λ (ws : List ℕ). Parts (heap_of m.seats ws) (slice_set m.views s (dropped v)))
+          (sym (set-get_or m.words 0 0)) (parts_of h (slice_set m.views s (dropped v)) (dropped_holds m s v l at))

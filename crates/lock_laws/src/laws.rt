@@ -1,7 +1,8 @@
 //! The laws of the lock's invariant: it holds at the start, every step keeps it, and it gives exclusion, no reuse, and
 //! what a seat may rely on of its own view. Each function names a statement of `specs/`. Kogan, Dice and Issa 2020
 //! argue for their list in prose; the barrier before reuse is this project's own profile.
-ghost use Rattle.lock_laws.specs.Laws.{StartIsLock, StepsKeep, LockIsExclusive, ReaderStandsFirst, LockHasNoReuse, LeavesReadyByClearHome, ViewsAreSound, ReadsRange, FindsOther};
+ghost use Rattle.lock_laws.specs.Laws.{StartIsLock, StepsKeep, LockIsExclusive, ReaderStandsFirst, LockHasNoReuse};
+ghost use Rattle.lock_laws.specs.Laws.{LeavesReadyByClearHome, ViewsAreSound, ReadsRange, FindsOther};
 ghost use Rattle.lock_laws.specs.HeldSteps.{StepsChangeOneGrant, StepsChangeGrants};
 ghost use Rattle.lock_laws.specs.PathLengths.{PathsAreShort};
 

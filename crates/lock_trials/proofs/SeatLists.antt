@@ -11,7 +11,9 @@ use Rattle.lock_trials.specs.Turnstile.{IsInside, IsCounted}
 use Rattle.lock_trials.specs.Turns.{IsOutside}
 
 -- nobody is inside where each seat came back with nobody inside
-pub outside_after : (old new : List (Known Visits)) → length new ≡ length old → ((k : ℕ) (d : Known Visits) → k < length old → (b : Known Visits) × (b.pass.inside ≡ false) × (b ≡ get_or new k d)) → IsOutside new
+pub outside_after : (old new : List (Known Visits)) → length new ≡ length old
+    → ((k : ℕ) (d : Known Visits) → k < length old → (b : Known Visits) × (b.pass.inside ≡ false) × (b ≡ get_or new k d))
+    → IsOutside new
 outside_after old new same each k s at =
     let lt = at_below new k s at in
     let e = each k s (omega arith) in
@@ -19,9 +21,12 @@ outside_after old new same each k s at =
     sym (ap (λ (x : Known Visits). x.pass.inside) now) ∙ e.1
 
 -- a turnstile with nobody inside
-pub nobody_yet : (first : ℕ → Visits) (grants : Grants) (seats : ℕ) → ((k : ℕ) → (first k).inside ≡ false) → IsCounted grants (0 ∷ []) (first_passes first 0 seats)
+pub nobody_yet : (first : ℕ → Visits) (grants : Grants) (seats : ℕ) → ((k : ℕ) → (first k).inside ≡ false)
+    → IsCounted grants (0 ∷ []) (first_passes first 0 seats)
 nobody_yet first grants seats out =
-    let none_in : (n : ℕ) → ¬ (IsInside (first_passes first 0 seats) n) = λ n inside. let m = at_firsts first 0 seats n inside.0 inside.1 in false≢true (sym (ap (λ (v : Visits). v.inside) m.1 ∙ out m.0) ∙ inside.2) in
+    let none_in : (n : ℕ) → ¬ (IsInside (first_passes first 0 seats) n) = λ n inside. let m =
+    at_firsts first 0 seats n inside.0 inside.1 in
+    false≢true (sym (ap (λ (v : Visits). v.inside) m.1 ∙ out m.0) ∙ inside.2) in
     record {
       word = omega arith;
       inside = λ n inside. absurd (none_in n inside);

@@ -21,8 +21,10 @@ module _ (seat : ℕ) (held : Option Held) (pass : Brought) where
   pub may_read : IsWriterIn held → IsAllowed IsTallied IsTallyStep tt seat held pass (loads 0)
   may_read h grants words passes m there small = (has_read pass (slice_index words 0), (refl, (h.0, m.grant ∙ ap some h.1, h.2, h.3), (pass, m.own, refl)))
 
-  pub may_write : (value : ℕ) → IsWriterIn held → pass.sure ≡ true → value ≡ (pass.seen + 1) % 2 ^ 64 → IsAllowed IsTallied IsTallyStep tt seat held pass (stores 0 value)
-  may_write value h sure next grants words passes m there small = (has_written pass value, (refl, m.exclusive, (h.0, m.grant ∙ ap some h.1, h.2, h.3), (pass, m.own, sure, next, refl)))
+  pub may_write : (value : ℕ) → IsWriterIn held → pass.sure ≡ true → value ≡ (pass.seen + 1) % 2 ^ 64
+      → IsAllowed IsTallied IsTallyStep tt seat held pass (stores 0 value)
+  may_write value h sure next grants words passes m there small =
+      (has_written pass value, (refl, m.exclusive, (h.0, m.grant ∙ ap some h.1, h.2, h.3), (pass, m.own, sure, next, refl)))
 
   pub was_read : (found : ℕ) (after : Brought) → IsMade IsTallied IsTallyStep tt seat held pass (loads 0) found after → after ≡ has_read pass found
   was_read found after made =
@@ -32,7 +34,8 @@ module _ (seat : ℕ) (held : Option Held) (pass : Brought) where
       let same : step.0 ≡ pass = some-injective _ _ (sym step.1 ∙ m.own) in
       step.2 ∙ (λ i. has_read (same i) (here i))
 
-  pub was_written : (value found : ℕ) (after : Brought) → IsMade IsTallied IsTallyStep tt seat held pass (stores 0 value) found after → after ≡ has_written pass value
+  pub was_written : (value found : ℕ) (after : Brought)
+      → IsMade IsTallied IsTallyStep tt seat held pass (stores 0 value) found after → after ≡ has_written pass value
   was_written value found after made =
       let m = made.3 in
       let step = made.5.3 in
@@ -55,7 +58,8 @@ total_first word (suc k) more =
     omega arith
 
 -- the rule holds at the opening
-pub tally_begins : (word seats : ℕ) (grants : Grants) → 0 < seats → word < 2 ^ 64 → IsTallied grants (word ∷ []) (first_passes (first_share (word ∷ [])) 0 seats)
+pub tally_begins : (word seats : ℕ) (grants : Grants) → 0 < seats → word < 2 ^ 64
+    → IsTallied grants (word ∷ []) (first_passes (first_share (word ∷ [])) 0 seats)
 tally_begins word seats grants more small = record {
   there = omega arith;
   count = sym (ap (λ n. n % 2 ^ 64) (total_first word seats more) ∙ mod-eq_of_lt small);
@@ -63,7 +67,8 @@ tally_begins word seats grants more small = record {
 }
 
 -- what seats bring in once each has added so many times
-total_added : (n : ℕ) (old new : List (Known Brought)) → length new ≡ length old → HaveAdded n old new → total (map pass_in new) ≡ total (map pass_in old) + length old * n
+total_added : (n : ℕ) (old new : List (Known Brought)) → length new ≡ length old → HaveAdded n old new
+    → total (map pass_in new) ≡ total (map pass_in old) + length old * n
 total_added n [] [] same all = omega arith
 total_added n [] (y ∷ ys) same all = absurd (omega arith)
 total_added n (x ∷ xs) [] same all = absurd (omega arith)
@@ -77,7 +82,8 @@ total_added n (x ∷ xs) (y ∷ ys) same all =
 
 -- what the word is at the closing
 pub tally_left : (table : TableId) (word n : ℕ) (old new : List (Known Brought)) (grants : Grants) (words : List ℕ) → 0 < length old → length new ≡ length old
-    → AreNewSeats table (first_share (word ∷ [])) old → HaveAdded n old new → IsTallied grants words (map pass_in new) → slice_index words 0 ≡ (word + length old * n) % 2 ^ 64
+    → AreNewSeats table (first_share (word ∷ [])) old → HaveAdded n old new → IsTallied grants words (map pass_in new)
+    → slice_index words 0 ≡ (word + length old * n) % 2 ^ 64
 tally_left table word n old new grants words more same begun added tallied =
     let passes : map pass_in old ≡ first_passes (first_share (word ∷ [])) 0 (length old) = new_passes table (first_share (word ∷ [])) old begun in
     let first : total (map pass_in old) ≡ word = ap total passes ∙ total_first word (length old) more in

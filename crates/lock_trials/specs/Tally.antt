@@ -67,7 +67,9 @@ total_set passes seat p q at =
     omega arith
 
 -- a load keeps the rule, since nothing is brought in
-load_keeps : (grants : Grants) (words : List ℕ) (passes : List Brought) (seat : ℕ) (p after : Brought) → IsTallied grants words passes → MayEnter grants seat → get_elem? passes seat ≡ some p → after ≡ has_read p (get_or words 0 0)
+load_keeps : (grants : Grants) (words : List ℕ) (passes : List Brought) (seat : ℕ) (p after : Brought)
+    → IsTallied grants words passes → MayEnter grants seat → get_elem? passes seat ≡ some p
+    → after ≡ has_read p (get_or words 0 0)
     → IsTallied grants words (set passes seat after)
 load_keeps grants words passes seat p after t may own is =
     let as_now : after.seen ≡ get_or words 0 0 = ap (λ (q : Brought). q.seen) is in
@@ -83,8 +85,10 @@ load_keeps grants words passes seat p after t may own is =
     }
 
 -- so does a store of one more, since nobody else can be sure beside a writer
-store_keeps : (grants : Grants) (words : List ℕ) (passes : List Brought) (seat value : ℕ) (p after : Brought) → IsTallied grants words passes → IsExclusive grants → MayEnter grants seat
-    → get_elem? passes seat ≡ some p → p.sure ≡ true → value ≡ (p.seen + 1) % 2 ^ 64 → after ≡ has_written p value → IsTallied grants (set words 0 value) (set passes seat after)
+store_keeps : (grants : Grants) (words : List ℕ) (passes : List Brought) (seat value : ℕ) (p after : Brought)
+    → IsTallied grants words passes → IsExclusive grants → MayEnter grants seat
+    → get_elem? passes seat ≡ some p → p.sure ≡ true → value ≡ (p.seen + 1) % 2 ^ 64 → after ≡ has_written p value
+    → IsTallied grants (set words 0 value) (set passes seat after)
 store_keeps grants words passes seat value p after t exclusive may own sure_now next is =
     let long = length-set words 0 value in
     let now : get_or (set words 0 value) 0 0 ≡ value = get_or-set_same words 0 value 0 t.there in
@@ -98,21 +102,25 @@ store_keeps grants words passes seat value p after t exclusive may own sure_now 
       count = now ∙ (next ∙ (count ∙ ap (λ n. n % 2 ^ 64) more));
       sure = λ n q at yes. ⊎_elim
           (λ e. (subst (MayEnter grants) (sym e.0) may, ap (λ (r : Brought). r.seen) (sym e.1) ∙ (as_now ∙ sym now)))
-          (λ e. let r = (t.sure n q e.1 yes).0 in let a = r.2 in let b = may.2 in absurd (exclusive n seat r.0 may.0 e.0 r.1 may.1 ((omega arith, omega arith), inl r.3)))
+          (λ e. let r = (t.sure n q e.1 yes).0 in let a = r.2 in let b = may.2 in
+          absurd (exclusive n seat r.0 may.0 e.0 r.1 may.1 ((omega arith, omega arith), inl r.3)))
           (at_set passes seat n after q at);
     }
 
 -- the law of steps
-pub keeps_tally : (grants : Grants) (words : List ℕ) (passes : List Brought) (seat : ℕ) (step : ClientStep) (note : Unit {0}) (after : Brought) → IsTallied grants words passes → IsTallyStep grants words passes seat step note after
+pub keeps_tally : (grants : Grants) (words : List ℕ) (passes : List Brought) (seat : ℕ) (step : ClientStep) (note : Unit {0})
+    (after : Brought) → IsTallied grants words passes → IsTallyStep grants words passes seat step note after
     → IsTallied grants (words_after words step) (slice_set passes seat after)
 keeps_tally grants words passes seat (loads i) note after t may = load_keeps grants words passes seat may.2.0 after t may.1 may.2.1 may.2.2
-keeps_tally grants words passes seat (stores i value) note after t may = subst (λ (z : ℕ). IsTallied grants (set words z value) (set passes seat after)) (sym may.0)
+keeps_tally grants words passes seat (stores i value) note after t may =
+    subst (λ (z : ℕ). IsTallied grants (set words z value) (set passes seat after)) (sym may.0)
     (store_keeps grants words passes seat value may.3.0 after t may.1 may.2 may.3.1 may.3.2 may.3.3 may.3.4)
 keeps_tally grants words passes seat (adds i by) note after t never = absurd never
 keeps_tally grants words passes seat (exchanges i expected new) note after t never = absurd never
 
 -- the law of gain
-pub gains_tally : (grants : Grants) (words : List ℕ) (passes : List Brought) (seat : ℕ) (h : Held) → IsTallied grants words passes → get_elem? grants seat ≡ some None → IsFree grants seat h → IsTallied (slice_set grants seat (Some h)) words passes
+pub gains_tally : (grants : Grants) (words : List ℕ) (passes : List Brought) (seat : ℕ) (h : Held) → IsTallied grants words passes
+    → get_elem? grants seat ≡ some None → IsFree grants seat h → IsTallied (slice_set grants seat (Some h)) words passes
 gains_tally grants words passes seat h t nothing free = record {
   there = t.there;
   count = t.count;
@@ -122,7 +130,9 @@ gains_tally grants words passes seat h t nothing free = record {
 }
 
 -- the law of loss
-pub loses_tally : (grants : Grants) (words : List ℕ) (passes : List Brought) (seat : ℕ) (pass : Brought) → IsTallied grants words passes → get_elem? passes seat ≡ some pass → IsTallied (slice_set grants seat None) words (slice_set passes seat (forgets pass))
+pub loses_tally : (grants : Grants) (words : List ℕ) (passes : List Brought) (seat : ℕ) (pass : Brought)
+    → IsTallied grants words passes → get_elem? passes seat ≡ some pass
+    → IsTallied (slice_set grants seat None) words (slice_set passes seat (forgets pass))
 loses_tally grants words passes seat pass t own =
     let kept : total passes ≡ total (set passes seat (forgets pass)) = let s = total_set passes seat pass (forgets pass) own in omega arith in
     record {

@@ -61,16 +61,20 @@ pass_outside v = record { inside = false; log = v.log }
 abbrev pub IsPassage : Grants → List ℕ → List Visits → ℕ → ClientStep → ℕ → Visits → Type 0
 IsPassage grants words passes seat (loads i) note after = get_elem? passes seat ≡ some after
 IsPassage grants words passes seat (stores i value) note after = ⊥
-IsPassage grants words passes seat (adds i by) note after = (i ≡ 0) × IsExclusive grants × MayEnter grants seat × ((v : Visits) × (get_elem? passes seat ≡ some v)
+IsPassage grants words passes seat (adds i by) note after = (i ≡ 0) × IsExclusive grants × MayEnter grants seat
+    × ((v : Visits) × (get_elem? passes seat ≡ some v)
     × (((by ≡ 1) × (v.inside ≡ false) × (after ≡ pass_inside v note)) ⊎ ((by ≡ 2 ^ 64 - 1) × (v.inside ≡ true) × (after ≡ pass_outside v))))
 IsPassage grants words passes seat (exchanges i expected new) note after = ⊥
 
 -- where a seat holds a range with the door in it and isn't inside, nobody is
-pub nobody_inside : (grants : Grants) (words : List ℕ) (passes : List Visits) (seat : ℕ) (h : Held) (v : Visits) → IsCounted grants words passes → IsExclusive grants → Holds grants seat h → HasDoor h → get_elem? passes seat ≡ some v → v.inside ≡ false
+pub nobody_inside : (grants : Grants) (words : List ℕ) (passes : List Visits) (seat : ℕ) (h : Held) (v : Visits)
+    → IsCounted grants words passes → IsExclusive grants → Holds grants seat h → HasDoor h → get_elem? passes seat ≡ some v
+    → v.inside ≡ false
     → slice_index words 0 ≡ 0
 nobody_inside grants words passes seat h v counted exclusive held covers own outside = ⊎_elim
     (λ one. let n = one.1.0 in let inside = one.1.1 in
-    let differ : n ≢ seat = λ e. let same : inside.0 ≡ v = some-injective _ _ (sym inside.1 ∙ (ap (get_elem? passes) e ∙ own)) in absurd (false≢true (sym outside ∙ (ap (λ (x : Visits). x.inside) (sym same) ∙ inside.2))) in
+    let differ : n ≢ seat = λ e. let same : inside.0 ≡ v = some-injective _ _ (sym inside.1 ∙ (ap (get_elem? passes) e ∙ own)) in
+    absurd (false≢true (sym outside ∙ (ap (λ (x : Visits). x.inside) (sym same) ∙ inside.2))) in
     let may = counted.inside n inside in
     let c = may.2 in
     absurd (exclusive n seat may.0 h differ may.1 held ((omega arith, omega arith), inl may.3)))
@@ -78,12 +82,14 @@ nobody_inside grants words passes seat h v counted exclusive held covers own out
     counted.count
 
 -- nobody else is inside where a seat may enter
-nobody_else : (grants : Grants) (words : List ℕ) (passes : List Visits) (seat n : ℕ) → IsCounted grants words passes → IsExclusive grants → MayEnter grants seat → n ≢ seat → ¬ (IsInside passes n)
+nobody_else : (grants : Grants) (words : List ℕ) (passes : List Visits) (seat n : ℕ) → IsCounted grants words passes
+    → IsExclusive grants → MayEnter grants seat → n ≢ seat → ¬ (IsInside passes n)
 nobody_else grants words passes seat n counted exclusive may differ inside =
     let other = counted.inside n inside in let c = other.2 in let d = may.2 in
     exclusive n seat other.0 may.0 differ other.1 may.1 ((omega arith, omega arith), inl other.3)
 
-goes_in : (grants : Grants) (words : List ℕ) (passes : List Visits) (seat : ℕ) (v after : Visits) → IsCounted grants words passes → IsExclusive grants → MayEnter grants seat → get_elem? passes seat ≡ some v → v.inside ≡ false → after.inside ≡ true
+goes_in : (grants : Grants) (words : List ℕ) (passes : List Visits) (seat : ℕ) (v after : Visits) → IsCounted grants words passes
+    → IsExclusive grants → MayEnter grants seat → get_elem? passes seat ≡ some v → v.inside ≡ false → after.inside ≡ true
     → IsCounted grants (set words 0 ((get_or words 0 0 + 1) % 2 ^ 64)) (set passes seat after)
 goes_in grants words passes seat v after counted exclusive may own outside now =
     let zero_now : get_or words 0 0 ≡ 0 = nobody_inside grants words passes seat may.0 v counted exclusive may.1 may.2 own outside in
@@ -91,11 +97,13 @@ goes_in grants words passes seat v after counted exclusive may own outside now =
     let one : (get_or words 0 0 + 1) % 2 ^ 64 ≡ 1 = ap (λ n. (n + 1) % 2 ^ 64) zero_now in
     record {
       word = let l = length-set words 0 ((get_or words 0 0 + 1) % 2 ^ 64) in let w = counted.word in omega arith;
-      inside = λ n inside. ⊎_elim (λ t. subst (MayEnter grants) (sym t.0) may) (λ t. counted.inside n (inside.0, t.1, inside.2)) (at_set passes seat n after inside.0 inside.1);
+      inside = λ n inside. ⊎_elim (λ t. subst (MayEnter grants) (sym t.0) may) (λ t. counted.inside n (inside.0, t.1, inside.2))
+          (at_set passes seat n after inside.0 inside.1);
       count = inl (get_or-set_same words 0 ((get_or words 0 0 + 1) % 2 ^ 64) 0 counted.word ∙ one, (seat, (after, set_here passes seat after there, now)));
     }
 
-goes_out : (grants : Grants) (words : List ℕ) (passes : List Visits) (seat : ℕ) (v after : Visits) → IsCounted grants words passes → IsExclusive grants → MayEnter grants seat → get_elem? passes seat ≡ some v → v.inside ≡ true → after.inside ≡ false
+goes_out : (grants : Grants) (words : List ℕ) (passes : List Visits) (seat : ℕ) (v after : Visits) → IsCounted grants words passes
+    → IsExclusive grants → MayEnter grants seat → get_elem? passes seat ≡ some v → v.inside ≡ true → after.inside ≡ false
     → IsCounted grants (set words 0 ((get_or words 0 0 + (2 ^ 64 - 1)) % 2 ^ 64)) (set passes seat after)
 goes_out grants words passes seat v after counted exclusive may own within now =
     let one_now : get_or words 0 0 ≡ 1 = ⊎_elim (λ one. one.0) (λ none. absurd (none.1 seat (v, own, within))) counted.count in
@@ -111,7 +119,8 @@ goes_out grants words passes seat v after counted exclusive may own within now =
     }
 
 -- the law of steps
-pub keeps_count : (grants : Grants) (words : List ℕ) (passes : List Visits) (seat : ℕ) (step : ClientStep) (note : ℕ) (after : Visits) → IsCounted grants words passes → IsPassage grants words passes seat step note after
+pub keeps_count : (grants : Grants) (words : List ℕ) (passes : List Visits) (seat : ℕ) (step : ClientStep) (note : ℕ)
+    (after : Visits) → IsCounted grants words passes → IsPassage grants words passes seat step note after
     → IsCounted grants (words_after words step) (slice_set passes seat after)
 keeps_count grants words passes seat (loads i) note after counted own = subst (IsCounted grants words) (sym (set_again passes seat after own)) counted
 keeps_count grants words passes seat (stores i value) note after counted never = absurd never
@@ -124,7 +133,8 @@ keeps_count grants words passes seat (adds i by) note after counted may = ⊎_el
     may.3.2
 
 -- the law of gain
-pub gains_count : (grants : Grants) (words : List ℕ) (passes : List Visits) (seat : ℕ) (h : Held) → IsCounted grants words passes → get_elem? grants seat ≡ some None → IsFree grants seat h → IsCounted (slice_set grants seat (Some h)) words passes
+pub gains_count : (grants : Grants) (words : List ℕ) (passes : List Visits) (seat : ℕ) (h : Held) → IsCounted grants words passes
+    → get_elem? grants seat ≡ some None → IsFree grants seat h → IsCounted (slice_set grants seat (Some h)) words passes
 gains_count grants words passes seat h counted nothing free = record {
   word = counted.word;
   inside = λ n inside. let may = counted.inside n inside in
@@ -134,11 +144,15 @@ gains_count grants words passes seat h counted nothing free = record {
 }
 
 -- the law of loss
-pub loses_count : (grants : Grants) (words : List ℕ) (passes : List Visits) (seat : ℕ) (pass : Visits) → IsCounted grants words passes → get_elem? passes seat ≡ some pass → pass.inside ≡ false → IsCounted (slice_set grants seat None) words (slice_set passes seat pass)
+pub loses_count : (grants : Grants) (words : List ℕ) (passes : List Visits) (seat : ℕ) (pass : Visits)
+    → IsCounted grants words passes → get_elem? passes seat ≡ some pass → pass.inside ≡ false
+    → IsCounted (slice_set grants seat None) words (slice_set passes seat pass)
 loses_count grants words passes seat pass counted own outside = subst (IsCounted (set grants seat None) words) (sym (set_again passes seat pass own)) (record {
   word = counted.word;
   inside = λ n inside. let may = counted.inside n inside in
-      let differ : n ≢ seat = λ e. let same : inside.0 ≡ pass = some-injective _ _ (sym inside.1 ∙ (ap (get_elem? passes) e ∙ own)) in absurd (false≢true (sym outside ∙ (ap (λ (x : Visits). x.inside) (sym same) ∙ inside.2))) in
+      let differ : n ≢ seat = λ e. let same : inside.0 ≡ pass =
+      some-injective _ _ (sym inside.1 ∙ (ap (get_elem? passes) e ∙ own)) in
+      absurd (false≢true (sym outside ∙ (ap (λ (x : Visits). x.inside) (sym same) ∙ inside.2))) in
       (may.0, set_else grants seat n None differ ∙ may.1, may.2, may.3);
   count = counted.count;
 })

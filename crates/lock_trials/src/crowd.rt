@@ -95,7 +95,8 @@ pub fn visit_all<R: Threads + Wait + Sync>(
 {
     let turn = |i: usize, seat: &mut Seat<Turnstile>|
         requires { (seat.now.table ≡ table.now.table) × (seat.now.held ≡ None) × (seat.now.pass.inside ≡ false) × (0 < table.now.client) }
-        ensures { IsGivenBack seat.entry.now seat.exit.now × HasMade (2 * turns) seat.entry.now seat.exit.now × HasVisited (mode_at i) turns seat.entry.now seat.exit.now × (seat.exit.now.pass.inside ≡ false) }
+        ensures { IsGivenBack seat.entry.now seat.exit.now × HasMade (2 * turns) seat.entry.now seat.exit.now
+            × HasVisited (mode_at i) turns seat.entry.now seat.exit.now × (seat.exit.now.pass.inside ≡ false) }
     { visit_from(rt, table, seat, i, turns, most) };
     thread::for_each_mut(rt, seats, 16, &turn);
 }

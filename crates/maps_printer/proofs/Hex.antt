@@ -1,5 +1,6 @@
 -- The digits of a number in lower hexadecimal, one at a time, and how many there are.
-use Rattle.std.proofs.Common.{◌≡◌, ◌≢◌, ℕ, zero, suc, ◌+◌, ◌-◌, ◌*◌, ◌/◌, ◌%◌, ◌^◌, ◌<◌, ◌≤◌, false, List, [], ◌∷◌, ◌++◌, length, arith, refl, sym, ap, ◌∙◌, append_assoc, length-append, replicate, ⊎_elim}
+use Rattle.std.proofs.Common.{◌≡◌, ◌≢◌, ℕ, zero, suc, ◌+◌, ◌-◌, ◌*◌, ◌/◌, ◌%◌, ◌^◌, ◌<◌, ◌≤◌, false, List, [], ◌∷◌}
+use Rattle.std.proofs.Common.{◌++◌, length, arith, refl, sym, ap, ◌∙◌, append_assoc, length-append, replicate, ⊎_elim}
 use Rattle.std.proofs.lemmas.Bool.{cases_lt}
 use Rattle.std.specs.Fmt.{digits, digits_onto, digit_glyph}
 use Rattle.maps_printer.specs.Numbers.{hex_digits, page_address}
@@ -75,7 +76,8 @@ hex_digits-page page some small =
     let e : page * 4096 ≡ page * 16 * 16 * 16 = omega arith in
     ap hex_digits e
     ∙ hex_digits-times_16 (page * 16 * 16) (omega arith) (omega arith)
-    ∙ ap (λ l. l ++ 48 ∷ []) (hex_digits-times_16 (page * 16) (omega arith) (omega arith) ∙ ap (λ l. l ++ 48 ∷ []) (hex_digits-times_16 page some (omega arith)))
+    ∙ ap (λ l. l ++ 48 ∷ []) (hex_digits-times_16 (page * 16) (omega arith) (omega arith)
+    ∙ ap (λ l. l ++ 48 ∷ []) (hex_digits-times_16 page some (omega arith)))
     ∙ append_assoc (hex_digits page ++ 48 ∷ []) (48 ∷ []) (48 ∷ [])
     ∙ append_assoc (hex_digits page) (48 ∷ []) (48 ∷ 48 ∷ [])
 

@@ -18,10 +18,33 @@ use Rattle.marked_list.proofs.Stepping.{free_go, nodes_seen}
 use Rattle.marked_list.specs.Going.{seen_of, IsWithin, Outcome}
 
 met_from : {P : Type 0} (first later : ℕ) (q : Part P) (owner : ℕ) (held : Held) → first ≤ later → IsMet later q owner held → IsMet first q owner held
-met_from first later q owner held le m = record { met = m.met; is = m.is; from = let f = m.from in omega arith; below = m.below; owned = m.owned; holds = m.holds; other = m.other; asked = m.asked; asks = m.asks; conflicts = m.conflicts }
+met_from first later q owner held le m = record {
+  met = m.met;
+  is = m.is;
+  from = let f = m.from in omega arith;
+  below = m.below;
+  owned = m.owned;
+  holds = m.holds;
+  other = m.other;
+  asked = m.asked;
+  asks = m.asks;
+  conflicts = m.conflicts;
+}
 
-pub lost_from : {P : Type 0} (first later : ℕ) (q : Part P) (Kind : Step → Type 0) (place expected found : ℕ) → first ≤ later → IsLost later q Kind place expected found → IsLost first q Kind place expected found
-lost_from first later q Kind place expected found le l = record { lost = l.lost; is = l.is; kind = l.kind; from = let f = l.from in omega arith; below = l.below; placed = l.placed; wanted = l.wanted; had = l.had; differ = l.differ }
+pub lost_from : {P : Type 0} (first later : ℕ) (q : Part P) (Kind : Step → Type 0) (place expected found : ℕ) → first ≤ later
+    → IsLost later q Kind place expected found → IsLost first q Kind place expected found
+lost_from first later q Kind place expected found le l =
+    record {
+      lost = l.lost;
+      is = l.is;
+      kind = l.kind;
+      from = let f = l.from in omega arith;
+      below = l.below;
+      placed = l.placed;
+      wanted = l.wanted;
+      had = l.had;
+      differ = l.differ;
+    }
 
 pub answers_from : {P : Type 0} (first later : ℕ) (own : Own) (q : Part P) (a : Walked) → first ≤ later → Answers later own q a → Answers first own q a
 answers_from first later own q Place le x = x
@@ -30,10 +53,12 @@ answers_from first later own q (Lost l) le x = (lost_from first later q IsWalkLo
 answers_from first later own q (Long visits) le x = x
 
 -- an answer of a later part of the call, before which the own node stayed
-pub answers_on : {P : Type 0} (first later : ℕ) (own now : Own) (q : Part P) (a : Walked) → first ≤ later → now ≡ own → Answers later now q a → Answers first own q a
+pub answers_on : {P : Type 0} (first later : ℕ) (own now : Own) (q : Part P) (a : Walked) → first ≤ later → now ≡ own
+    → Answers later now q a → Answers first own q a
 answers_on first later own now q a le e x = subst (λ (o : Own). Answers first o q a) e (answers_from first later now q a le x)
 
-pub outcome_on : {P : Type 0} (first later : ℕ) (v w : View) (q : Part P) (o : Option Walked) → first ≤ later → w.own ≡ v.own → seen_of w.cursor ≡ seen_of v.cursor → Outcome later w q o → Outcome first v q o
+pub outcome_on : {P : Type 0} (first later : ℕ) (v w : View) (q : Part P) (o : Option Walked) → first ≤ later → w.own ≡ v.own
+    → seen_of w.cursor ≡ seen_of v.cursor → Outcome later w q o → Outcome first v q o
 outcome_on first later v w q None le own seen g = record { stands = g.stands; own = g.own ∙ own; seen = g.seen ∙ ap (λ n. n + 1) seen }
 outcome_on first later v w q (Some a) le own seen x = (answers_on first later v.own w.own q a le own x.0, x.1)
 
@@ -42,7 +67,11 @@ new_on first q r new same le = let s = same new.0 new.1 in let f = new.2 in let 
 
 -- an answer that isn't Long comes where the walk isn't spent
 pub long_within : {P : Type 0} (first : ℕ) (own : Own) (q : Part P) (a : Walked) → Answers first own q a → IsWithin q → IsLong a ↔ IsSpent q
-long_within first own q a x within = (spent a x, λ s. absurd (⊎_elim (λ (le : nodes_in q.trace.looked ≤ 16 * q.seats). let e = s.0 in omega arith) (λ (held : held_at q.core.own ≢ None). held s.1) within))
+long_within first own q a x within = (
+  spent a x,
+  λ s. absurd (⊎_elim (λ (le : nodes_in q.trace.looked ≤ 16 * q.seats). let e = s.0 in omega arith)
+      (λ (held : held_at q.core.own ≢ None). held s.1) within),
+)
   where
     spent : (b : Walked) → Answers first own q b → IsLong b → IsSpent q
     spent Place y l = absurd l
@@ -51,6 +80,7 @@ long_within first own q a x within = (spent a x, λ s. absurd (⊎_elim (λ (le 
     spent (Long visits) y l = y.2
 
 -- a walk that has looked at as many nodes as it may
-pub spent_is : {P : Type 0} (first most : ℕ) (own : Own) (q : Part P) → StandsAt q.core → IsHandView q → q.core.own ≡ own → most ≡ 16 * q.seats + 1 → seen_of q.core.cursor ≤ most → most ≤ seen_of q.core.cursor → Answers first own q (Long most)
+pub spent_is : {P : Type 0} (first most : ℕ) (own : Own) (q : Part P) → StandsAt q.core → IsHandView q → q.core.own ≡ own
+    → most ≡ 16 * q.seats + 1 → seen_of q.core.cursor ≤ most → most ≤ seen_of q.core.cursor → Answers first own q (Long most)
 spent_is first most own q st view same many below reached =
     (many, same, ((let n = nodes_seen q view st.cursor st.is in let s = ap seen_of st.is in omega arith), free_go q.core.own st.own))

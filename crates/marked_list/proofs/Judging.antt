@@ -34,7 +34,8 @@ use Rattle.marked_list.specs.Order.{MayGo, IsAhead, IsInside, StandsAt, KnowsNex
 use Rattle.marked_list.specs.Leaves.{IsSamePools, IsOn, IsSameWalk, HasJudged}
 use Rattle.marked_list.specs.Causes.{IsMet, asked_of, judged_in}
 use Rattle.marked_list.specs.Answers.{Arrives}
-use Rattle.marked_list.specs.Going.{seen_of, has_arrived, arrival_at, judgement_at, conflict_with, KnowsLo, Came, IsOthers, IsElsewhere, IsWithin, HasRoom, Outcome, IsLoad}
+use Rattle.marked_list.specs.Going.{seen_of, has_arrived, arrival_at, judgement_at, conflict_with, KnowsLo, Came}
+use Rattle.marked_list.specs.Going.{IsOthers, IsElsewhere, IsWithin, HasRoom, Outcome, IsLoad}
 use Rattle.marked_list.specs.Scanning.{IsSeen, PassesFrom, found_with}
 use Rattle.marked_list.proofs.Lines.{enables, line_is, Made, made_by, same_walk, same_judged, more_judged, on_made}
 use Rattle.marked_list.proofs.Stepping.{free_go, judges_go, nodes_seen, came_outcome}
@@ -67,7 +68,18 @@ module _ {P : Type 0} (p : Part P) (st : StandsAt p.core) where
 
     pub next_known : KnowsNext q.core w
     next_known = subst (λ (v : View). KnowsNext v w) (sym core_next)
-        (record { stands = record { inside = record { odd = st.inside.odd; hand = st.inside.hand }; own = st.own; cursor = next_cursor; is = refl; node = st.node; at = st.at; ahead = st.ahead }; next = refl })
+        (record {
+          stands = record {
+            inside = record { odd = st.inside.odd; hand = st.inside.hand };
+            own = st.own;
+            cursor = next_cursor;
+            is = refl;
+            node = st.node;
+            at = st.at;
+            ahead = st.ahead;
+          };
+          next = refl;
+        })
 
     pub next_loaded : IsLoad p q
     next_loaded = record {
@@ -95,7 +107,8 @@ module _ {P : Type 0} (p : Part P) (st : StandsAt p.core) where
         let y_is : st.node ≡ y = let e = sym st.at ∙ (ap (λ (x : Cursor). plain_node_of x.cur) same ∙ node) in cc in
         let o = found_other p w st.cursor st.node (told.moment (λ x. x)) (ap (λ (x : Plan). x.place) (line_is p Walk walk_plan walk_line)) st.is st.at even in
         subst (IsOthers q.number q.core.own) y_is
-        (subst (λ (own : Own). IsOthers q.number own st.node) (sym (ap (λ (v : View). v.own) core_next)) (subst (λ a. IsOthers a p.core.own st.node) (sym m.number) o))
+        (subst (λ (own : Own). IsOthers q.number own st.node) (sym (ap (λ (v : View). v.own) core_next))
+        (subst (λ a. IsOthers a p.core.own st.node) (sym m.number) o))
 
 -- the lower end
 module _ {P : Type 0} (p : Part P) (n : ℕ) (k : KnowsNext p.core n) (even : n % 2 ≡ 0) where
@@ -123,7 +136,15 @@ module _ {P : Type 0} (p : Part P) (n : ℕ) (k : KnowsNext p.core n) (even : n 
         (record {
           knows =
               record {
-                stands = record { inside = record { odd = k.stands.inside.odd; hand = k.stands.inside.hand }; own = k.stands.own; cursor = lo_cursor; is = refl; node = k.stands.node; at = k.stands.at; ahead = k.stands.ahead };
+                stands = record {
+                  inside = record { odd = k.stands.inside.odd; hand = k.stands.inside.hand };
+                  own = k.stands.own;
+                  cursor = lo_cursor;
+                  is = refl;
+                  node = k.stands.node;
+                  at = k.stands.at;
+                  ahead = k.stands.ahead;
+                };
                 next = k.next;
               };
           lo = refl;
@@ -169,18 +190,33 @@ asked_conflict Nothing lo w g e = absurd (cc)
 asked_conflict (Filling node low high mode aimed) lo w g e =
     let l : low ≡ Some g.lo = let i = g.is in let k = g.low in cc in
     let h : high ≡ Some g.hi = let i = g.is in let k = g.high in cc in
-    let v : verdict_of (Filling node low high mode aimed) lo w ≡ verdict_of (Filling node (Some g.lo) (Some g.hi) mode aimed) lo w = λ i. verdict_of (Filling node (l i) (h i) mode aimed) lo w in
-    let a : asked_of (Filling node low high mode aimed) ≡ asked_of (Filling node (Some g.lo) (Some g.hi) mode aimed) = λ i. asked_of (Filling node (l i) (h i) mode aimed) in
+    let v : verdict_of (Filling node low high mode aimed) lo w ≡ verdict_of (Filling node (Some g.lo) (Some g.hi) mode aimed) lo
+    w = λ i. verdict_of (Filling node (l i) (h i) mode aimed) lo w in
+    let a : asked_of (Filling node low high mode aimed) ≡ asked_of (Filling node (Some g.lo) (Some g.hi) mode aimed) =
+    λ i. asked_of (Filling node (l i) (h i) mode aimed) in
     (record { range = record { lo = g.lo; hi = g.hi }; mode = mode }, a, (judges_by_conflict_law.filling node g.lo g.hi mode aimed lo w).0 (sym v ∙ e))
-asked_conflict (Linked node range mode Forward) lo w g e = (record { range = range; mode = mode }, refl, subst (λ m. Conflicts (record { range = range; mode = m }) (node_held lo w)) (sym (forward_only mode g)) ((judges_by_conflict_law.reader node range mode lo w).0 e))
-asked_conflict (Linked node range mode FromHead) lo w g e = (record { range = range; mode = mode }, refl, subst (λ m. Conflicts (record { range = range; mode = m }) (node_held lo w)) (sym (from_head_only mode g)) ((judges_by_conflict_law.writer node range mode lo w).0 e))
+asked_conflict (Linked node range mode Forward) lo w g e = (
+  record { range = range; mode = mode },
+  refl,
+  subst (λ m. Conflicts (record { range = range; mode = m }) (node_held lo w)) (sym (forward_only mode g))
+      ((judges_by_conflict_law.reader node range mode lo w).0 e),
+)
+asked_conflict (Linked node range mode FromHead) lo w g e = (
+  record { range = range; mode = mode },
+  refl,
+  subst (λ m. Conflicts (record { range = range; mode = m }) (node_held lo w)) (sym (from_head_only mode g))
+      ((judges_by_conflict_law.writer node range mode lo w).0 e),
+)
 asked_conflict (Linked node range mode Done) lo w g e = done_never mode g
 
 -- and is never the own one: a reader's own node says Reader, and a writer hasn't come to its own
-own_never : (own : Own) (lo w : ℕ) (k : Listed) → MayGo own → own ≡ listed k → IsAhead own k.node → w ≡ hi_word k.range.hi k.mode → verdict_of own lo w ≡ Conflict → ⊥
+own_never : (own : Own) (lo w : ℕ) (k : Listed) → MayGo own → own ≡ listed k → IsAhead own k.node → w ≡ hi_word k.range.hi k.mode
+    → verdict_of own lo w ≡ Conflict → ⊥
 own_never Nothing lo w k g is ahead word e = cc
 own_never (Filling node low high mode aimed) lo w k g is ahead word e = cc
-own_never (Linked node range mode Forward) lo w k g is ahead word e = by_end (nat_le range.hi lo) (ap (λ m. if nat_le range.hi lo then Stop else if is_reader m then Past else if nat_lt range.lo (w / 2) then Conflict else Past) (sym reads) ∙ e)
+own_never (Linked node range mode Forward) lo w k g is ahead word e =
+    by_end (nat_le range.hi lo) (ap (λ m. if nat_le range.hi lo then Stop else if is_reader m then Past
+    else if nat_lt range.lo (w / 2) then Conflict else Past) (sym reads) ∙ e)
   where
     reader : k.mode ≡ Reader
     reader = let same : mode ≡ k.mode = cc in sym same ∙ forward_only mode g
@@ -198,7 +234,8 @@ own_never (Linked node range mode FromHead) lo w k g is ahead word e = ahead (le
 own_never (Linked node range mode Done) lo w k g is ahead word e = done_never mode g
 
 -- a seat that stops before a node has come to its place, or holds its range
-stop_arrives : (own : Own) (lo w : ℕ) (v : View) (c : Cursor) → MayGo own → verdict_of own lo w ≡ Stop → v.own ≡ own_stopped own → v.cursor ≡ Some c → c.cur % 2 ≡ 0 → c.next ≡ None → c.lo ≢ None → Arrives own v
+stop_arrives : (own : Own) (lo w : ℕ) (v : View) (c : Cursor) → MayGo own → verdict_of own lo w ≡ Stop → v.own ≡ own_stopped own
+    → v.cursor ≡ Some c → c.cur % 2 ≡ 0 → c.next ≡ None → c.lo ≢ None → Arrives own v
 stop_arrives Nothing lo w v c g e own is even next low = absurd (cc)
 stop_arrives (Filling node a b mode aimed) lo w v c g e own is even next low = (own, record { cursor = c; is = is; even = even; place = inr (next, low) })
 stop_arrives (Linked node range mode Forward) lo w v c g e own is even next low = own
@@ -234,7 +271,8 @@ judged_pools v c y n Stop = record { ready = refl; used = refl; homes = refl; no
 judged_pools v c y n Conflict = record { ready = refl; used = refl; homes = refl; notes = refl; passed = refl }
 
 -- a cursor that knows its node's next word is at a node
-pub names_node : (seats i : ℕ) (v : View) → IsViewSound seats i v → seats ≤ 16 → (c : Cursor) → v.cursor ≡ Some c → is_some c.next ≡ true → (2 ≤ c.cur) × (c.cur / 2 ≤ 256)
+pub names_node : (seats i : ℕ) (v : View) → IsViewSound seats i v → seats ≤ 16 → (c : Cursor) → v.cursor ≡ Some c
+    → is_some c.next ≡ true → (2 ≤ c.cur) × (c.cur / 2 ≤ 256)
 names_node seats i v sound few c is knows = by_next c.next refl knows
   where
     by_next : (o : Option ℕ) → c.next ≡ o → is_some o ≡ true → (2 ≤ c.cur) × (c.cur / 2 ≤ 256)
@@ -310,7 +348,8 @@ module _ {P : Type 0} (p : Part P) (n lo : ℕ) (k : KnowsLo p.core n lo) (even 
             let is : q.core.cursor ≡ Some c = ap (λ (v : View). v.cursor) core in
             let plain = plain_is st.cursor.cur st.node st.at in
             let arrived = lo_arrives q.core.own c lo k.lo in
-            let a : Arrives p.core.own q.core = stop_arrives p.core.own lo w q.core c st.own e (ap (λ (v : View). v.own) core) is (omega arith) refl (λ z. let q : ◌≡◌ {A = Option ℕ} (Some lo) None = sym k.lo ∙ z in cc) in
+            let a : Arrives p.core.own q.core = stop_arrives p.core.own lo w q.core c st.own e (ap (λ (v : View). v.own) core) is
+            (omega arith) refl (λ z. let q : ◌≡◌ {A = Option ℕ} (Some lo) None = sym k.lo ∙ z in cc) in
             subst (λ (x : Option Cursor). Outcome p.trace.walked p.core q (judgement_at q.core.own x lo w)) (sym is)
             (subst (λ (b : Bool). Outcome p.trace.walked p.core q (if b then Some Place else None)) (sym arrived) (a, few c is refl))
 
@@ -322,14 +361,22 @@ module _ {P : Type 0} (p : Part P) (n lo : ℕ) (k : KnowsLo p.core n lo) (even 
             (others st.cursor st.node st.is st.at)
 
         abbrev met_from : ℕ → Option Met
-        met_from low = Some (record { owner = (st.cursor.cur / 2 - 1) / 16; held = record { range = record { lo = low; hi = w / 2 }; mode = mode_of w }; step = p.trace.walked })
+        met_from low = Some (record {
+          owner = (st.cursor.cur / 2 - 1) / 16;
+          held = record { range = record { lo = low; hi = w / 2 }; mode = mode_of w };
+          step = p.trace.walked;
+        })
 
         met : verdict ≡ Conflict → IsMet p.trace.walked q ((st.cursor.cur / 2 - 1) / 16) (record { range = record { lo = lo; hi = w / 2 }; mode = mode_of w })
         met e =
             let core = core_by Conflict e in
             let a = asked_conflict p.core.own lo w st.own e in
             record {
-              met = record { owner = (st.cursor.cur / 2 - 1) / 16; held = record { range = record { lo = lo; hi = w / 2 }; mode = mode_of w }; step = p.trace.walked };
+              met = record {
+                owner = (st.cursor.cur / 2 - 1) / 16;
+                held = record { range = record { lo = lo; hi = w / 2 }; mode = mode_of w };
+                step = p.trace.walked;
+              };
               is = hi_made.met ∙ (ap (λ (o : Option Cursor). met_at p.trace o w) st.is ∙ ap (λ (l : Option ℕ). met_from (unwrap_or l 0)) k.lo);
               from = omega arith;
               below = let t = hi_made.taken in omega arith;
@@ -345,9 +392,17 @@ module _ {P : Type 0} (p : Part P) (n lo : ℕ) (k : KnowsLo p.core n lo) (even 
         conflict e =
             let core = core_by Conflict e in
             let is : q.core.cursor ≡ Some st.cursor = ap (λ (v : View). v.cursor) core ∙ st.is in
-            let stands : StandsInConflict q.seats q.core = subst (StandsInConflict q.seats) (sym core) (record { word = n; knows = k.knows; few = let b = room.seen in let s = ap seen_of st.is in let m = hi_made.seats in omega arith }) in
+            let stands : StandsInConflict q.seats q.core =
+            subst (StandsInConflict q.seats) (sym core) (record {
+              word = n;
+              knows = k.knows;
+              few = let b = room.seen in
+                  let s = ap seen_of st.is in let m = hi_made.seats in omega arith;
+            }) in
             subst (λ (x : Option Cursor). Outcome p.trace.walked p.core q (judgement_at q.core.own x lo w)) (sym is)
-            (subst (λ (o : Option ℕ). Outcome p.trace.walked p.core q (if is_some o then Some (conflict_with st.cursor.cur lo w) else if has_arrived q.core.own st.cursor then Some Place else None)) (sym k.knows.next)
+            (subst (λ (o : Option ℕ). Outcome p.trace.walked p.core q
+            (if is_some o then Some (conflict_with st.cursor.cur lo w)
+            else if has_arrived q.core.own st.cursor then Some Place else None)) (sym k.knows.next)
             ((met e, ap (λ (v : View). v.own) core, stands), few st.cursor is refl))
 
         by_verdict : (d : Verdict) → verdict ≡ d → Outcome p.trace.walked p.core q (judgement_at q.core.own q.core.cursor lo w)
@@ -378,7 +433,8 @@ module _ {P : Type 0} (p : Part P) (n lo : ℕ) (k : KnowsLo p.core n lo) (even 
       }
 
       scan_judged : HasJudged 1 p q
-      scan_judged = more_judged rested p q ReadHi hi_plan w hi_made refl (ap is_some st.is) (ap (λ (o : Own). is_some (hi_judged p.core st.cursor st.node n (verdict_of o lo w)).cursor) bare)
+      scan_judged = more_judged rested p q ReadHi hi_plan w hi_made refl (ap is_some st.is)
+          (ap (λ (o : Own). is_some (hi_judged p.core st.cursor st.node n (verdict_of o lo w)).cursor) bare)
 
       pub past_own : q.core.own ≡ Nothing
       past_own = ap (λ (v : View). v.own) core_past ∙ ap (λ (o : Own). own_at o n) bare
@@ -402,7 +458,8 @@ module _ {P : Type 0} (p : Part P) (n lo : ℕ) (k : KnowsLo p.core n lo) (even 
         past_found = (
           scan_seen,
           judged_on_from 1 p q st.cursor st.is before scan_judged,
-          scanning_at p.trace.walked p q bare view room hi_made.seats past_inside (came_outcome p.trace.walked p q past_came st.own past_inside view hi_made.seats room),
+          scanning_at p.trace.walked p q bare view room hi_made.seats past_inside
+              (came_outcome p.trace.walked p q past_came st.own past_inside view hi_made.seats room),
         )
 
         -- the same, in the words of the cursor that was read before the step

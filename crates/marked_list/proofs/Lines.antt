@@ -34,8 +34,11 @@ pub record Made {P : Type 0} (rested : P → P) (p q : Part P) (step : Step) (pl
   pub lost : q.trace.lost ≡ lost_by p.trace step plan.place (expected_by p.core step) found
   pub looked : q.trace.looked ≡ looked_with p.trace p.core.cursor (plan.view found).cursor (is_judging step) (gained_by p.core (plan.view found))
 
-pub made_by : {P : Type 0} (rested : P → P) (p q : Part P) (step : Step) (plan : Plan) (found : ℕ) → IsLine p.seats p.number p.core step plan → q ≡ part_after rested p step found → Made rested p q step plan found
-made_by {P} rested p q step plan found line made = subst (λ (x : Plan). Made rested p q step x found) (line_is p step plan line) (subst (λ (x : Part P). Made rested p x step (line_for p step) found) (sym made)
+pub made_by : {P : Type 0} (rested : P → P) (p q : Part P) (step : Step) (plan : Plan) (found : ℕ)
+    → IsLine p.seats p.number p.core step plan → q ≡ part_after rested p step found → Made rested p q step plan found
+made_by {P} rested p q step plan found line made =
+    subst (λ (x : Plan). Made rested p q step x found) (line_is p step plan line)
+    (subst (λ (x : Part P). Made rested p x step (line_for p step) found) (sym made)
     (record { number = refl; seats = refl; core = refl; pass = refl; client = refl; taken = refl; walked = refl; met = refl; lost = refl; looked = refl }))
 
 -- where nothing was held the pass stays
@@ -43,7 +46,8 @@ pub pass_stays : {P : Type 0} (rested : P → P) (before now : Option Held) (pas
 pass_stays rested before now pass e = ap (λ (o : Option Held). pass_kept rested o now pass) e
 
 -- what a cursor has looked at stays with it
-pub same_looked : (t : Record) (b now : Option Cursor) (j g : Bool) → is_some b ≡ true → (l : Looked) → t.looked ≡ Some l → (m : Looked) × (looked_with t b now j g ≡ Some m) × (m.step ≡ l.step)
+pub same_looked : (t : Record) (b now : Option Cursor) (j g : Bool) → is_some b ≡ true → (l : Looked) → t.looked ≡ Some l
+    → (m : Looked) × (looked_with t b now j g ≡ Some m) × (m.step ≡ l.step)
 same_looked t None now j g e l is = absurd (cc)
 same_looked t (Some b) None j g e l is = (l, is, refl)
 same_looked t (Some b) (Some c) j g e l is = by_looked t.looked is
@@ -53,35 +57,52 @@ same_looked t (Some b) (Some c) j g e l is = by_looked t.looked is
     by_looked (Some k) e' = let same : k ≡ l = cc in (_, refl, ap (λ (x : Looked). x.step) same)
 
 -- a step with a cursor judges one node or none
-judged_on : (t : Record) (b now : Option Cursor) (j g : Bool) → is_some b ≡ true → (l : Looked) → t.looked ≡ Some l → is_some now ≡ true → (m : Looked) × (looked_with t b now j g ≡ Some m) × (m.step ≡ l.step) × (m.judged ≡ (if j then l.judged + 1 else l.judged))
+judged_on : (t : Record) (b now : Option Cursor) (j g : Bool) → is_some b ≡ true → (l : Looked) → t.looked ≡ Some l
+    → is_some now ≡ true → (m : Looked) × (looked_with t b now j g ≡ Some m) × (m.step ≡ l.step)
+    × (m.judged ≡ (if j then l.judged + 1 else l.judged))
 judged_on t None now j g e l is there = absurd (cc)
 judged_on t (Some b) None j g e l is there = absurd (cc)
 judged_on t (Some b) (Some c) j g e l is there = by_looked t.looked is
   where
-    by_looked : (o : Option Looked) → o ≡ Some l → (m : Looked) × (looked_on o c j g ≡ Some m) × (m.step ≡ l.step) × (m.judged ≡ (if j then l.judged + 1 else l.judged))
+    by_looked : (o : Option Looked) → o ≡ Some l → (m : Looked) × (looked_on o c j g ≡ Some m) × (m.step ≡ l.step)
+        × (m.judged ≡ (if j then l.judged + 1 else l.judged))
     by_looked None e' = absurd (cc)
     by_looked (Some k) e' = let same : k ≡ l = cc in (_, refl, ap (λ (x : Looked). x.step) same, ap (λ (x : Looked). if j then x.judged + 1 else x.judged) same)
 
-pub judges_none : (t : Record) (b now : Option Cursor) (g : Bool) → is_some b ≡ true → (l : Looked) → t.looked ≡ Some l → (m : Looked) × (looked_with t b now false g ≡ Some m) × (m.step ≡ l.step) × (m.judged ≡ l.judged + 0)
+pub judges_none : (t : Record) (b now : Option Cursor) (g : Bool) → is_some b ≡ true → (l : Looked) → t.looked ≡ Some l
+    → (m : Looked) × (looked_with t b now false g ≡ Some m) × (m.step ≡ l.step) × (m.judged ≡ l.judged + 0)
 judges_none t None now g e l is = absurd (cc)
 judges_none t (Some b) None g e l is = (l, is, refl, (let z : l.judged ≡ l.judged + 0 = omega arith in z))
-judges_none t (Some b) (Some c) g e l is = let r = judged_on t (Some b) (Some c) false g refl l is refl in (r.0, r.1, r.2, (let z : l.judged ≡ l.judged + 0 = omega arith in r.3 ∙ z))
+judges_none t (Some b) (Some c) g e l is = let r = judged_on t (Some b) (Some c) false g refl l is refl in
+    (r.0, r.1, r.2, (let z : l.judged ≡ l.judged + 0 = omega arith in r.3 ∙ z))
 
 module _ {P : Type 0} (rested : P → P) (p q : Part P) (step : Step) (plan : Plan) (found : ℕ) (m : Made rested p q step plan found) where
   pub same_judged : is_judging step ≡ false → is_some p.core.cursor ≡ true → HasJudged 0 p q
   same_judged none there l is =
-      let r = judges_none p.trace p.core.cursor (plan.view found).cursor (gained_by p.core (plan.view found)) there l is in
-      (r.0, m.looked ∙ (ap (λ (b : Bool). looked_with p.trace p.core.cursor (plan.view found).cursor b (gained_by p.core (plan.view found))) none ∙ r.1), r.2, r.3)
+      let r = judges_none p.trace p.core.cursor (plan.view found).cursor (gained_by p.core (plan.view found)) there l is in (
+        r.0,
+        m.looked ∙ (ap (λ (b : Bool). looked_with p.trace p.core.cursor (plan.view found).cursor b
+            (gained_by p.core (plan.view found))) none ∙ r.1),
+        r.2,
+        r.3,
+      )
 
   pub more_judged : is_judging step ≡ true → is_some p.core.cursor ≡ true → is_some (plan.view found).cursor ≡ true → HasJudged 1 p q
   more_judged one there now l is =
-      let r = judged_on p.trace p.core.cursor (plan.view found).cursor true (gained_by p.core (plan.view found)) there l is now in
-      (r.0, m.looked ∙ (ap (λ (b : Bool). looked_with p.trace p.core.cursor (plan.view found).cursor b (gained_by p.core (plan.view found))) one ∙ r.1), r.2, r.3)
+      let r = judged_on p.trace p.core.cursor (plan.view found).cursor true (gained_by p.core (plan.view found)) there l is now in (
+        r.0,
+        m.looked ∙ (ap (λ (b : Bool). looked_with p.trace p.core.cursor (plan.view found).cursor b
+            (gained_by p.core (plan.view found))) one ∙ r.1),
+        r.2,
+        r.3,
+      )
 
   pub same_walk : is_some p.core.cursor ≡ true → IsSameWalk p q
-  same_walk there l is = let r = same_looked p.trace p.core.cursor (plan.view found).cursor (is_judging step) (gained_by p.core (plan.view found)) there l is in (r.0, m.looked ∙ r.1, r.2)
+  same_walk there l is = let r = same_looked p.trace p.core.cursor (plan.view found).cursor (is_judging step)
+      (gained_by p.core (plan.view found)) there l is in (r.0, m.looked ∙ r.1, r.2)
 
-  pub on_made : held_at p.core.own ≡ None → (plan.view found).epoch ≡ p.core.epoch → IsSamePools p.core (plan.view found) → (plan.view found).hand ≡ None → IsOn p q
+  pub on_made : held_at p.core.own ≡ None → (plan.view found).epoch ≡ p.core.epoch → IsSamePools p.core (plan.view found)
+      → (plan.view found).hand ≡ None → IsOn p q
   on_made free epoch pools hand = record {
     number = m.number;
     seats = m.seats;
@@ -116,7 +137,13 @@ on_on p q r a b = record {
 }
   where
     pools_on : (u v w : View) → IsSamePools u v → IsSamePools v w → IsSamePools u w
-    pools_on u v w a b = record { ready = b.ready ∙ a.ready; used = b.used ∙ a.used; homes = b.homes ∙ a.homes; notes = b.notes ∙ a.notes; passed = b.passed ∙ a.passed }
+    pools_on u v w a b = record {
+      ready = b.ready ∙ a.ready;
+      used = b.used ∙ a.used;
+      homes = b.homes ∙ a.homes;
+      notes = b.notes ∙ a.notes;
+      passed = b.passed ∙ a.passed;
+    }
 
 pub walk_on_walk : {P : Type 0} (p q r : Part P) → IsSameWalk p q → IsSameWalk q r → IsSameWalk p r
 walk_on_walk p q r a b l is = let s = a l is in let t = b s.0 s.1 in (t.0, t.1, t.2 ∙ s.2)

@@ -1,5 +1,6 @@
 -- The own node on its way: filled, aimed, linked, marked, and by the fast path.
-use Rattle.std.proofs.Common.{◌≡◌, ◌≢◌, ◌⊎◌, ℕ, suc, ◌+◌, ◌*◌, ◌%◌, ◌^◌, ◌≤◌, ◌<◌, Bool, true, false, inl, inr, ⊎_elim, refl, sym, ap, ◌∙◌, subst, arith, eq-eqb, ne_eqb}
+use Rattle.std.proofs.Common.{◌≡◌, ◌≢◌, ◌⊎◌, ℕ, suc, ◌+◌, ◌*◌, ◌%◌, ◌^◌, ◌≤◌, ◌<◌, Bool, true, false, inl, inr, ⊎_elim}
+use Rattle.std.proofs.Common.{refl, sym, ap, ◌∙◌, subst, arith, eq-eqb, ne_eqb}
 use Rattle.std.specs.Prelude.{Option, Some, None, unwrap_or, if◌then◌else◌, ◌==◌}
 use Rattle.lock_core.specs.declared.range.Held.{Held}
 use Rattle.lock_core.specs.declared.range.Mode.{Mode}
@@ -45,8 +46,10 @@ pub look_on_look : {P : Type 0} (p q r : Part P) → IsSameLook p q → IsSameLo
 look_on_look p q r a b = (b.0 ∙ a.0, walk_on_walk p q r a.1 b.1)
 
 -- a step that lets the cursor be or takes it away leaves the count of its nodes and the step that made it
-look_stays : (t : Record) (b now : Option Cursor) (j g : Bool) → ((c : Cursor) → b ≡ Some c → (l : Looked) × (t.looked ≡ Some l) × (l.nodes ≡ c.seen)) → (now ≡ None) ⊎ (now ≡ b)
-    → (nodes_in (looked_with t b now j g) ≡ nodes_in t.looked) × ((l : Looked) → t.looked ≡ Some l → (m : Looked) × (looked_with t b now j g ≡ Some m) × (m.step ≡ l.step))
+look_stays : (t : Record) (b now : Option Cursor) (j g : Bool)
+    → ((c : Cursor) → b ≡ Some c → (l : Looked) × (t.looked ≡ Some l) × (l.nodes ≡ c.seen)) → (now ≡ None) ⊎ (now ≡ b)
+    → (nodes_in (looked_with t b now j g) ≡ nodes_in t.looked)
+    × ((l : Looked) → t.looked ≡ Some l → (m : Looked) × (looked_with t b now j g ≡ Some m) × (m.step ≡ l.step))
 look_stays t b None j g on way = (ap nodes_in (gone_looked t b j g), λ l is. (l, gone_looked t b j g ∙ is, refl))
 look_stays t None (Some d) j g on way = absurd (⊎_elim (λ e. some_none d e) (λ e. some_none d e) way)
   where
@@ -63,7 +66,8 @@ look_stays t (Some c) (Some d) j g on way =
 module _ {P : Type 0} (rested : P → P) (p q : Part P) (step : Step) (plan : Plan) (found : ℕ) (m : Made rested p q step plan found) (view : IsHandView p) where
   same_look : ((plan.view found).cursor ≡ None) ⊎ ((plan.view found).cursor ≡ p.core.cursor) → IsSameLook p q
   same_look way =
-      let r = look_stays p.trace p.core.cursor (plan.view found).cursor (is_judging step) (gained_by p.core (plan.view found)) (λ c is. let l = view.looked c is in (l.0, l.1, l.2)) way in
+      let r = look_stays p.trace p.core.cursor (plan.view found).cursor (is_judging step) (gained_by p.core (plan.view found))
+      (λ c is. let l = view.looked c is in (l.0, l.1, l.2)) way in
       (ap nodes_in m.looked ∙ r.0, λ l is. let s = r.1 l is in (s.0, m.looked ∙ s.1, s.2))
 
 module _ {P : Type 0} (p : Part P) (n lo : ℕ) (may : MayFill p.core n) where
@@ -132,9 +136,11 @@ module _ {P : Type 0} (p : Part P) (may : MayAim p.core) where
       }
 
 -- the own node that was linked
-linked_is : (todo : Mode → Todo) (own : Own) (e : HasEnds own) → Linked e.node.node (record { lo = e.lo; hi = e.hi }) e.node.mode (todo e.node.mode) ≡ linked_own todo own
+linked_is : (todo : Mode → Todo) (own : Own) (e : HasEnds own)
+    → Linked e.node.node (record { lo = e.lo; hi = e.hi }) e.node.mode (todo e.node.mode) ≡ linked_own todo own
 linked_is todo own e =
-    (λ i. Linked e.node.node (record { lo = unwrap_or (sym e.low i) 0; hi = unwrap_or (sym e.high i) 0 }) e.node.mode (todo e.node.mode)) ∙ ap (linked_own todo) (sym e.is)
+    (λ i. Linked e.node.node (record { lo = unwrap_or (sym e.low i) 0; hi = unwrap_or (sym e.high i) 0 }) e.node.mode
+    (todo e.node.mode)) ∙ ap (linked_own todo) (sym e.is)
 
 module _ {P : Type 0} (p q : Part P) (a : IsAimed p q) where
   module _ (may : MayLink p.core) where
@@ -148,7 +154,8 @@ module _ {P : Type 0} (p q : Part P) (a : IsAimed p q) where
     cursor_link = ap (λ (v : View). v.cursor) a.core ∙ may.place.is
 
     abbrev link_plan : Plan
-    link_plan = exchanges (cell_place q.seats (cell_of may.place.cursor.prev)) may.place.cursor.cur (2 * suc full.node) (linked q.core full.node may.own.lo may.own.hi full.mode (todo_of full.mode)) (dropped q.core)
+    link_plan = exchanges (cell_place q.seats (cell_of may.place.cursor.prev)) may.place.cursor.cur (2 * suc full.node)
+        (linked q.core full.node may.own.lo may.own.hi full.mode (todo_of full.mode)) (dropped q.core)
 
     link_line : IsLine q.seats q.number q.core Link link_plan
     link_line = link full may.place.cursor may.own.lo may.own.hi own_link cursor_link may.own.low may.own.high refl may.place.even may.place.place
@@ -180,17 +187,24 @@ module _ {P : Type 0} (p q : Part P) (a : IsAimed p q) where
         pub link_done : w ≡ d.cur → r.core ≡ record p.core { own = linked_own todo_of p.core.own; cursor = None }
         link_done e =
             link_made.core ∙ (ap linked_by (eq-eqb _ _ (e ∙ ap (λ (x : Cursor). x.cur) same_place))
-            ∙ (ap (λ (v : View). record v { own = Linked full.node (record { lo = may.own.lo; hi = may.own.hi }) full.mode (todo_of full.mode); cursor = None }) a.core
+            ∙ (ap (λ (v : View). record v {
+              own = Linked full.node (record { lo = may.own.lo; hi = may.own.hi }) full.mode
+                  (todo_of full.mode);
+              cursor = None;
+            }) a.core
             ∙ ap (λ (o : Own). record p.core { own = o; cursor = None }) (linked_is todo_of p.core.own may.own)))
 
         pub link_lost : w ≢ d.cur → (s : ℕ) → s ≡ r.seats → (l : Lost) → l.place ≡ cell_place s (cell_of d.prev) → l.expected ≡ d.cur → l.found ≡ w
-            → IsLost p.trace.taken r (λ kind. kind ≡ Link) l.place l.expected l.found × (r.core ≡ record p.core { own = aimed_own (cursor_word p.core.cursor) p.core.own; cursor = None })
+            → IsLost p.trace.taken r (λ kind. kind ≡ Link) l.place l.expected l.found
+            × (r.core ≡ record p.core { own = aimed_own (cursor_word p.core.cursor) p.core.own; cursor = None })
         link_lost far s seats l placed wanted had =
             let apart = ne_eqb w may.place.cursor.cur (λ z. far (z ∙ ap (λ (x : Cursor). x.cur) (sym same_place))) in
             let many : s ≡ q.seats = seats ∙ link_made.seats in (
               lost_from p.trace.taken q.trace.taken r (λ kind. kind ≡ Link) l.place l.expected l.found (let t = a.call.taken in omega arith)
-                  (lost_made rested q r Link link_plan w may.place.cursor.cur link_made (λ kind. kind ≡ Link) refl (ap (λ (o : Option Cursor). Some (cursor_word o)) cursor_link) apart
-                  l.place l.expected l.found (placed ∙ (λ i. cell_place (many i) (cell_of (same_place i).prev))) (wanted ∙ ap (λ (x : Cursor). x.cur) same_place) had),
+                  (lost_made rested q r Link link_plan w may.place.cursor.cur link_made (λ kind. kind ≡ Link) refl
+                  (ap (λ (o : Option Cursor). Some (cursor_word o)) cursor_link) apart
+                  l.place l.expected l.found (placed ∙ (λ i. cell_place (many i) (cell_of (same_place i).prev)))
+                  (wanted ∙ ap (λ (x : Cursor). x.cur) same_place) had),
               link_made.core ∙ (ap linked_by apart ∙ ap (λ (v : View). record v { cursor = None }) a.core),
             )
 
@@ -230,8 +244,10 @@ module _ {P : Type 0} (p q : Part P) (a : IsAimed p q) where
           → IsLost p.trace.taken r (λ kind. kind ≡ QuickLink) l.place l.expected l.found × (r.core ≡ record p.core { own = aimed_own 0 p.core.own })
       quick_lost far l placed wanted had = (
         lost_from p.trace.taken q.trace.taken r (λ kind. kind ≡ QuickLink) l.place l.expected l.found (let t = a.call.taken in omega arith)
-            (lost_made rested q r QuickLink quick_plan w 0 quick_made (λ kind. kind ≡ QuickLink) refl refl (ne_eqb _ _ far) l.place l.expected l.found placed wanted had),
-        quick_made.core ∙ (ap quick_by (ne_eqb _ _ far) ∙ (a.core ∙ ap (λ (o : Option Cursor). record p.core { own = aimed_own (cursor_word o) p.core.own }) none)),
+            (lost_made rested q r QuickLink quick_plan w 0 quick_made (λ kind. kind ≡ QuickLink) refl refl (ne_eqb _ _ far)
+            l.place l.expected l.found placed wanted had),
+        quick_made.core ∙ (ap quick_by (ne_eqb _ _ far)
+            ∙ (a.core ∙ ap (λ (o : Option Cursor). record p.core { own = aimed_own (cursor_word o) p.core.own }) none)),
       )
 
 -- the pass stays where the same is held
@@ -287,11 +303,13 @@ module _ {P : Type 0} (is_at_rest : P → Type 0) (p : Part P) (may : MayQuickUn
     held_own = ap held_at may.is ∙ ap (λ t. held_at (Linked may.node.node may.node.range may.node.mode t)) may.held
 
     module _ (n : ℕ) (is_node : n ≡ may.node.node) where
-      pub back_done : w ≡ 2 * suc n + 1 → IsQuickCall p q × ((k : Listed) → p.core.own ≡ listed k → q.core ≡ quick_unlinked p.core k.node) × (q.pass ≡ rested p.pass)
+      pub back_done : w ≡ 2 * suc n + 1 → IsQuickCall p q
+          × ((k : Listed) → p.core.own ≡ listed k → q.core ≡ quick_unlinked p.core k.node) × (q.pass ≡ rested p.pass)
       back_done e =
           let won : back_plan.view w ≡ quick_unlinked p.core may.node.node = ap back_by (eq-eqb _ _ (e ∙ ap (λ a. 2 * suc a + 1) is_node)) in (
             back_call,
-            (λ k is. let same : listed may.node ≡ listed k = sym may.is ∙ is in let node : may.node.node ≡ k.node = cc in back_made.core ∙ (won ∙ ap (quick_unlinked p.core) node)),
+            (λ k is. let same : listed may.node ≡ listed k = sym may.is ∙ is in let node : may.node.node ≡ k.node = cc in
+                back_made.core ∙ (won ∙ ap (quick_unlinked p.core) node)),
             back_made.pass ∙ (λ i. pass_kept rested (held_own i) (held_at (won i).own) p.pass),
           )
 
@@ -301,8 +319,10 @@ module _ {P : Type 0} (is_at_rest : P → Type 0) (p : Part P) (may : MayQuickUn
           let apart = ne_eqb w (2 * suc may.node.node + 1) (λ z. far (z ∙ ap (λ a. 2 * suc a + 1) (sym is_node))) in
           let still : back_plan.view w ≡ p.core = ap back_by apart in (
             back_call,
-            lost_made rested p q QuickUnlink back_plan w (2 * suc may.node.node + 1) back_made (λ kind. kind ≡ QuickUnlink) refl (ap (λ (o : Own). Some (own_word (listed_of o))) may.is) apart
+            lost_made rested p q QuickUnlink back_plan w (2 * suc may.node.node + 1) back_made (λ kind. kind ≡ QuickUnlink) refl
+                (ap (λ (o : Own). Some (own_word (listed_of o))) may.is) apart
                 l.place l.expected l.found placed (wanted ∙ ap (λ a. 2 * suc a + 1) is_node) had,
             back_made.core ∙ still,
-            back_made.pass ∙ (ap (λ (v : View). pass_kept rested (held_at p.core.own) (held_at v.own) p.pass) still ∙ kept_same rested (held_at p.core.own) p.pass),
+            back_made.pass ∙ (ap (λ (v : View). pass_kept rested (held_at p.core.own) (held_at v.own) p.pass) still
+                ∙ kept_same rested (held_at p.core.own) p.pass),
           )

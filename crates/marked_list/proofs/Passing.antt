@@ -29,12 +29,14 @@ pub notes_are : {P : Type 0} (q : Part P) → IsHandView q → length q.core.not
 notes_are q view = view.sound.sized.notes
 
 -- the count of judgements, where there is a cursor
-pub judged_on_from : {P : Type 0} (count : ℕ) (p q : Part P) (c : Cursor) → p.core.cursor ≡ Some c → IsHandView p → HasJudged count p q → judged_in q.trace.looked ≡ judged_in p.trace.looked + count
+pub judged_on_from : {P : Type 0} (count : ℕ) (p q : Part P) (c : Cursor) → p.core.cursor ≡ Some c → IsHandView p
+    → HasJudged count p q → judged_in q.trace.looked ≡ judged_in p.trace.looked + count
 judged_on_from count p q c is view j =
     let l = view.looked c is in let m = j l.0 l.1 in
     ap judged_in m.1 ∙ (m.3 ∙ ap (λ (o : Option Looked). judged_in o + count) (sym l.1))
 
-pub judged_same_from : {P : Type 0} (p q : Part P) (c : Cursor) → p.core.cursor ≡ Some c → IsHandView p → HasJudged 0 p q → judged_in q.trace.looked ≡ judged_in p.trace.looked
+pub judged_same_from : {P : Type 0} (p q : Part P) (c : Cursor) → p.core.cursor ≡ Some c → IsHandView p → HasJudged 0 p q
+    → judged_in q.trace.looked ≡ judged_in p.trace.looked
 judged_same_from p q c is view j = let e = judged_on_from 0 p q c is view j in omega arith
 
 module _ {P : Type 0} (first : ℕ) (p q : Part P) (bare : p.core.own ≡ Nothing) (view : IsHandView q) (room : HasRoom p) (seats : q.seats ≡ p.seats) where
@@ -46,7 +48,12 @@ module _ {P : Type 0} (first : ℕ) (p q : Part P) (bare : p.core.own ≡ Nothin
   pub at_last : Outcome first p.core q (Some Place) → IsInside q.core → IsAtLast q.core
   at_last x inside =
       let a : Arrives Nothing q.core = subst (λ (o : Own). Arrives o q.core) bare x.0 in
-      record { inside = inside; end = a.1; seen = ⊎_elim (λ (le : nodes_in q.trace.looked ≤ 16 * q.seats). counts a.1 le) (λ (h : held_at q.core.own ≢ None). absurd (h (ap held_at a.0))) x.1 }
+      record {
+        inside = inside;
+        end = a.1;
+        seen = ⊎_elim (λ (le : nodes_in q.trace.looked ≤ 16 * q.seats). counts a.1 le)
+            (λ (h : held_at q.core.own ≢ None). absurd (h (ap held_at a.0))) x.1;
+      }
     where
       counts : IsAtEnd q.core.cursor → nodes_in q.trace.looked ≤ 16 * q.seats → seen_of q.core.cursor ≤ 16 * length q.core.notes
       counts e le = let n = notes_are q view in let s = nodes_seen q view e.0 e.1 in let z = ap seen_of e.1 in omega arith
@@ -70,7 +77,8 @@ module _ {P : Type 0} (first : ℕ) (p q : Part P) (bare : p.core.own ≡ Nothin
   short w own = ⊎_elim (λ le. le) (λ (h : held_at q.core.own ≢ None). absurd (h (ap held_at own))) w
 
   -- the answer of a walk without an own node, which is never in conflict
-  pub passes_out : (before : ℕ) (a : Walked) → IsInside q.core → judged_in q.trace.looked ≡ before → Outcome first p.core q (Some a) → PassesFrom first before q (passed_from a)
+  pub passes_out : (before : ℕ) (a : Walked) → IsInside q.core → judged_in q.trace.looked ≡ before
+      → Outcome first p.core q (Some a) → PassesFrom first before q (passed_from a)
   passes_out before Place inside judged x = (at_last x inside, judged, short x.1 (own_at_last x))
   passes_out before (Conflict owner range mode) inside judged x =
       let m = x.0.0 in let own = x.0.1 ∙ bare in
@@ -85,11 +93,23 @@ module _ {P : Type 0} (first : ℕ) (p q : Part P) (bare : p.core.own ≡ Nothin
   own_out (Long visits) x = x.0.1 ∙ bare
 
 -- an answer of a later part of the call
-pub passes_later : {P : Type 0} (first later before now : ℕ) (q : Part P) (a : Passed) → first ≤ later → now ≡ before → PassesFrom later now q a → PassesFrom first before q a
+pub passes_later : {P : Type 0} (first later before now : ℕ) (q : Part P) (a : Passed) → first ≤ later → now ≡ before
+    → PassesFrom later now q a → PassesFrom first before q a
 passes_later {P} first later before now q a le e x = subst (λ (n : ℕ). PassesFrom first n q a) e (earlier a x)
   where
     earlier : (b : Passed) → PassesFrom later now q b → PassesFrom first now q b
-    earlier (Found owner range mode) y = let s = y.0 in (record { met = s.met; is = s.is; from = let f = s.from in omega arith; below = s.below; owned = s.owned; holds = s.holds }, y.1, y.2)
+    earlier (Found owner range mode) y = let s = y.0 in (
+      record {
+        met = s.met;
+        is = s.is;
+        from = let f = s.from in omega arith;
+        below = s.below;
+        owned = s.owned;
+        holds = s.holds;
+      },
+      y.1,
+      y.2,
+    )
     earlier End y = y
     earlier (Gone l) y = (lost_from first later q IsWalkLoss l.place l.expected l.found le y.0, y.1, y.2, y.3)
     earlier (TooLong visits) y = y
@@ -102,17 +122,22 @@ passes_rests first before q (Gone l) own x = inl x.3
 passes_rests first before q (TooLong visits) own x = inr (record { own = own; at = inl x.3 })
 
 -- the look of a scan: behind the load of the next word, and with the marked node unlinked
-pub sees_later : {P : Type 0} (first : ℕ) (p q r : Part P) (o : Option Passed) → StandsAt p.core → IsHandView p → IsLoad p q → first ≤ q.trace.taken → Sees q.trace.taken q r o → Sees first p r o
+pub sees_later : {P : Type 0} (first : ℕ) (p q r : Part P) (o : Option Passed) → StandsAt p.core → IsHandView p → IsLoad p q
+    → first ≤ q.trace.taken → Sees q.trace.taken q r o → Sees first p r o
 sees_later first p q r None st view load le x =
     let same = judged_same_from p q st.cursor st.is view load.judged in
     (record { stands = x.0.stands; own = x.0.own ∙ load.own; seen = x.0.seen ∙ ap (λ n. n + 1) load.seen }, x.1 ∙ same)
-sees_later first p q r (Some a) st view load le x = passes_later first q.trace.taken (judged_in p.trace.looked) (judged_in q.trace.looked) r a le (judged_same_from p q st.cursor st.is view load.judged) x
+sees_later first p q r (Some a) st view load le x =
+    passes_later first q.trace.taken (judged_in p.trace.looked) (judged_in q.trace.looked) r a le
+    (judged_same_from p q st.cursor st.is view load.judged) x
 
 pub goes_bare : {P : Type 0} (p q : Part P) → p.core.own ≡ Nothing → GoesOn p.core q.core → q.core.own ≡ Nothing
 goes_bare p q bare g = g.own ∙ bare
 
 -- the end of the loop: the cursor is at a node, and has looked at as many nodes as it may
-pub passes_spent : {P : Type 0} (first most before : ℕ) (q : Part P) → StandsAt q.core → IsHandView q → judged_in q.trace.looked ≡ before → most ≡ 16 * q.seats + 1 → seen_of q.core.cursor ≤ most → most ≤ seen_of q.core.cursor → PassesFrom first before q (TooLong most)
+pub passes_spent : {P : Type 0} (first most before : ℕ) (q : Part P) → StandsAt q.core → IsHandView q
+    → judged_in q.trace.looked ≡ before → most ≡ 16 * q.seats + 1 → seen_of q.core.cursor ≤ most → most ≤ seen_of q.core.cursor
+    → PassesFrom first before q (TooLong most)
 passes_spent first most before q st view judged many below reached = (
   many,
   judged,
@@ -122,7 +147,8 @@ passes_spent first most before q st view judged many below reached = (
 
 -- a cursor at the end isn't at a node
 node_not_end : (v : View) (c : Cursor) → v.cursor ≡ Some c → c.cur ≡ 0 → StandsAt v → ⊥
-node_not_end v c is z st = let same : c ≡ st.cursor = let e : ◌≡◌ {A = Option Cursor} (Some c) (Some st.cursor) = sym is ∙ st.is in cc in let plain = plain_is st.cursor.cur st.node st.at in let s = ap (λ (x : Cursor). x.cur) same in omega arith
+node_not_end v c is z st = let same : c ≡ st.cursor = let e : ◌≡◌ {A = Option Cursor} (Some c) (Some st.cursor) = sym is
+    ∙ st.is in cc in let plain = plain_is st.cursor.cur st.node st.at in let s = ap (λ (x : Cursor). x.cur) same in omega arith
 
 end_is : (v : View) (c : Cursor) → v.cursor ≡ Some c → IsAtEnd v.cursor → c.cur ≡ 0
 end_is v c is e = let same : c ≡ e.0 = let f : ◌≡◌ {A = Option Cursor} (Some c) (Some e.0) = sym is ∙ e.1 in cc in ap (λ (x : Cursor). x.cur) same ∙ e.2
@@ -130,7 +156,8 @@ end_is v c is e = let same : c ≡ e.0 = let f : ◌≡◌ {A = Option Cursor} (
 -- the cursor of a scan that rests
 module _ {P : Type 0} (p : Part P) (view : IsHandView p) (rests : IsResting p.core) (c : Cursor) (is : p.core.cursor ≡ Some c) where
   scanning : IsScanning p.core
-  scanning = ⊎_elim (λ (n : p.core.cursor ≡ None). absurd (let e : ◌≡◌ {A = Option Cursor} (Some c) None = sym is ∙ n in cc)) (λ (s : IsScanning p.core). s) rests
+  scanning = ⊎_elim (λ (n : p.core.cursor ≡ None). absurd (let e : ◌≡◌ {A = Option Cursor} (Some c) None = sym is ∙ n in cc))
+      (λ (s : IsScanning p.core). s) rests
 
   pub rests_last : c.cur ≡ 0 → IsAtLast p.core
   rests_last z = ⊎_elim (λ (n : IsAtNode p.core). absurd (node_not_end p.core c is z n.stands)) (λ (l : IsAtLast p.core). l) scanning.at

@@ -73,18 +73,28 @@ module _ {P : Type 0} (p : Part P) (may : MaySetOut p.core) where
     pub set_out_is : IsSetOut p q w
     set_out_is = record {
       on = on_made rested p q Walk out_plan w m (free_go p.core.own may.own) (ap (λ (v : View). v.epoch) view_is)
-          (subst (IsSamePools p.core) (sym view_is) (record { ready = refl; used = refl; homes = refl; notes = refl; passed = refl })) (ap (λ (v : View). v.hand) view_is ∙ may.inside.hand);
+          (subst (IsSamePools p.core) (sym view_is) (record {
+            ready = refl;
+            used = refl;
+            homes = refl;
+            notes = refl;
+            passed = refl;
+          })) (ap (λ (v : View). v.hand) view_is ∙ may.inside.hand);
       cursor = ap (λ (v : View). v.cursor) core;
       own = ap (λ (v : View). v.own) core;
       walk = (
         _,
         m.looked ∙ (ap (λ (b : Option Cursor). looked_with p.trace b (out_plan.view w).cursor (is_judging Walk) (gained_by p.core (out_plan.view w))) may.cursor
-            ∙ ap (λ (b : Option Cursor). looked_with p.trace None b (is_judging Walk) (gained_by p.core (out_plan.view w))) (ap (λ (v : View). v.cursor) view_is)),
+            ∙ ap (λ (b : Option Cursor). looked_with p.trace None b (is_judging Walk) (gained_by p.core (out_plan.view w)))
+            (ap (λ (v : View). v.cursor) view_is)),
         omega arith,
         (let t = m.taken in omega arith),
       );
-      judged = ap judged_in (m.looked ∙ (ap (λ (b : Option Cursor). looked_with p.trace b (out_plan.view w).cursor (is_judging Walk) (gained_by p.core (out_plan.view w))) may.cursor
-          ∙ ap (λ (b : Option Cursor). looked_with p.trace None b (is_judging Walk) (gained_by p.core (out_plan.view w))) (ap (λ (v : View). v.cursor) view_is)));
+      judged = ap judged_in
+          (m.looked ∙ (ap (λ (b : Option Cursor). looked_with p.trace b (out_plan.view w).cursor (is_judging Walk)
+          (gained_by p.core (out_plan.view w))) may.cursor
+          ∙ ap (λ (b : Option Cursor). looked_with p.trace None b (is_judging Walk) (gained_by p.core (out_plan.view w)))
+          (ap (λ (v : View). v.cursor) view_is)));
       unlinked = unlinked;
       seats = let c = seat_count p Walk w (told.moment (λ x. x)) in let a = c.0 in let b = c.1 in let s = m.seats in (omega arith, omega arith);
       taken = m.taken;
@@ -124,17 +134,26 @@ module _ {P : Type 0} (p : Part P) (head : IsAtOddHead p.core) where
         let core : q.core ≡ settled p.core head.cursor = m'.core ∙ view in
         record {
           on = on_made rested p q Settle settle_plan w m' (free_unlinked p.core.own head.unlinked) (ap (λ (v : View). v.epoch) view)
-              (subst (IsSamePools p.core) (sym view) (record { ready = refl; used = refl; homes = refl; notes = refl; passed = refl })) (ap (λ (v : View). v.hand) view ∙ head.inside.hand);
-          cursor = λ c is. let same : head.cursor ≡ c = let h = sym head.is ∙ is in cc in ap (λ (v : View). v.cursor) core ∙ ap (λ (x : Cursor). Some (record x { cur = x.cur - 1 })) same;
+              (subst (IsSamePools p.core) (sym view) (record {
+                ready = refl;
+                used = refl;
+                homes = refl;
+                notes = refl;
+                passed = refl;
+              })) (ap (λ (v : View). v.hand) view ∙ head.inside.hand);
+          cursor = λ c is. let same : head.cursor ≡ c = let h = sym head.is ∙ is in cc in
+              ap (λ (v : View). v.cursor) core ∙ ap (λ (x : Cursor). Some (record x { cur = x.cur - 1 })) same;
           own = ap (λ (v : View). v.own) core;
           walk = same_walk rested p q Settle settle_plan w m' (ap is_some head.is);
           judged = same_judged rested p q Settle settle_plan w m' refl (ap is_some head.is);
           taken = m'.taken;
         }
 
-    settle_fails : w ≢ head.cursor.cur → IsHandView p → HasRoom p → (l : Lost) → l.place ≡ cell_place p.seats (cell_of head.cursor.prev) → l.expected ≡ head.cursor.cur → l.found ≡ w → IsFailed p q l
+    settle_fails : w ≢ head.cursor.cur → IsHandView p → HasRoom p → (l : Lost)
+        → l.place ≡ cell_place p.seats (cell_of head.cursor.prev) → l.expected ≡ head.cursor.cur → l.found ≡ w → IsFailed p q l
     settle_fails d view room l placed wanted had =
-        failed rested p q Settle settle_plan w m' head.cursor head.is tt refl (ap settled_by (ne_eqb _ _ d)) (ne_eqb _ _ d) (free_unlinked p.core.own head.unlinked) head.inside.hand view room l
+        failed rested p q Settle settle_plan w m' head.cursor head.is tt refl (ap settled_by (ne_eqb _ _ d)) (ne_eqb _ _ d)
+        (free_unlinked p.core.own head.unlinked) head.inside.hand view room l
         (placed ∙ ap (λ (o : Option ℕ). cell_place p.seats (cell_of o)) head.prev) wanted had
 
     -- the same, in the words of the cursor that was read before the step
@@ -145,10 +164,12 @@ module _ {P : Type 0} (p : Part P) (head : IsAtOddHead p.core) where
       pub settle_is : w ≡ d.cur → IsSettled p q
       settle_is e = settle_won (e ∙ ap (λ (x : Cursor). x.cur) same)
 
-      pub settle_lost : w ≢ d.cur → IsHandView p → HasRoom p → (s : ℕ) → s ≡ q.seats → (l : Lost) → l.place ≡ cell_place s (cell_of d.prev) → l.expected ≡ d.cur → l.found ≡ w → IsFailed p q l
+      pub settle_lost : w ≢ d.cur → IsHandView p → HasRoom p → (s : ℕ) → s ≡ q.seats → (l : Lost)
+          → l.place ≡ cell_place s (cell_of d.prev) → l.expected ≡ d.cur → l.found ≡ w → IsFailed p q l
       settle_lost far view room s seats l placed wanted had =
           let many : s ≡ p.seats = seats ∙ m'.seats in
-          settle_fails (λ e. far (e ∙ ap (λ (x : Cursor). x.cur) (sym same))) view room l (placed ∙ (λ i. cell_place (many i) (cell_of (same i).prev))) (wanted ∙ ap (λ (x : Cursor). x.cur) same) had
+          settle_fails (λ e. far (e ∙ ap (λ (x : Cursor). x.cur) (sym same))) view room l
+          (placed ∙ (λ i. cell_place (many i) (cell_of (same i).prev))) (wanted ∙ ap (λ (x : Cursor). x.cur) same) had
 
 -- the way out: at once, or once the head is settled
 module _ {P : Type 0} (p q : Part P) (w : ℕ) (may : MaySetOut p.core) (out : IsSetOut p q w) where
@@ -170,7 +191,15 @@ module _ {P : Type 0} (p q : Part P) (w : ℕ) (may : MaySetOut p.core) (out : I
 
   pub out_even : w % 2 ≡ 0 → IsHandView q → Outcome p.trace.taken p.core q (arrival_at q.core.own q.core.cursor)
   out_even even view = came_outcome p.trace.taken p q
-      (record { cursor = _; is = out.cursor; even = even; next = refl; lo = refl; seen = ap (λ a. seen_after a w) (sym (ap seen_of may.cursor)); own = out.own })
+      (record {
+        cursor = _;
+        is = out.cursor;
+        even = even;
+        next = refl;
+        lo = refl;
+        seen = ap (λ a. seen_after a w) (sym (ap seen_of may.cursor));
+        own = out.own;
+      })
       may.own inside_out view out.on.seats room_out
 
   pub out_odd : w % 2 ≡ 1 → IsAtOddHead q.core
@@ -200,10 +229,16 @@ module _ {P : Type 0} (p q : Part P) (w : ℕ) (may : MaySetOut p.core) (out : I
           even = omega arith;
           next = refl;
           lo = refl;
-          seen = let h : w / 2 ≡ (w - 1) / 2 = omega arith in ap (λ n. if n == 0 then 0 else min (0 + 1) (2 ^ 32 - 1)) h ∙ ap (λ a. seen_after a (w - 1)) (sym (ap seen_of may.cursor));
+          seen = let h : w / 2 ≡ (w - 1) / 2 = omega arith in
+              ap (λ n. if n == 0 then 0 else min (0 + 1) (2 ^ 32 - 1)) h
+              ∙ ap (λ a. seen_after a (w - 1)) (sym (ap seen_of may.cursor));
           own = s.own ∙ (own_out ∙ sym (own_at_any p.core.own (w - 1) (out.unlinked odd)));
         })
         may.own (record { odd = ap (λ n. n % 2) s.on.epoch ∙ inside_out.odd; hand = s.on.hand }) view (s.on.seats ∙ out.on.seats) room_out
 
     pub failed_outcome : (l : Lost) → IsFailed q r l → Outcome p.trace.taken p.core r (Some (Gone l))
-    failed_outcome l f = (answers_on p.trace.taken q.trace.taken p.core.own q.core.own r (Gone l) (let t = out.taken in omega arith) own_out f.outcome.0, f.outcome.1)
+    failed_outcome l f = (
+      answers_on p.trace.taken q.trace.taken p.core.own q.core.own r (Gone l) (let t = out.taken in
+          omega arith) own_out f.outcome.0,
+      f.outcome.1,
+    )

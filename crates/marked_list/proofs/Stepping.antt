@@ -1,5 +1,6 @@
 -- A cursor that came to another word: the walk goes on, or it has come to its end. Then the loads at a cursor's node.
-use Rattle.std.proofs.Common.{◌≡◌, ◌≢◌, ℕ, suc, ◌+◌, ◌-◌, ◌*◌, ◌/◌, ◌%◌, ◌^◌, ◌<◌, true, false, Bool, inl, inr, refl, sym, ap, ◌∙◌, subst, arith, eqb-true, eq-eqb, ne_eqb}
+use Rattle.std.proofs.Common.{◌≡◌, ◌≢◌, ℕ, suc, ◌+◌, ◌-◌, ◌*◌, ◌/◌, ◌%◌, ◌^◌, ◌<◌, true, false, Bool, inl, inr, refl}
+use Rattle.std.proofs.Common.{sym, ap, ◌∙◌, subst, arith, eqb-true, eq-eqb, ne_eqb}
 use Rattle.std.proofs.lemmas.Bool.{eqb-false}
 use Rattle.std.specs.Prelude.{Option, Some, None, is_some, ◌==◌, ◌||◌, if◌then◌else◌, min}
 use Rattle.lock_core.specs.declared.range.Held.{Held}
@@ -76,7 +77,8 @@ own_stays Nothing n g even d free = (refl, tt)
 own_stays (Filling node lo hi mode aimed) n g even d free = (refl, tt)
 own_stays (Linked node range mode Forward) n g even d free = (by_end (n == 0) free, tt)
   where
-    by_end : (b : Bool) → held_at (if b then Linked node range mode Done else Linked node range mode Forward) ≡ None → (if b then Linked node range mode Done else Linked node range mode Forward) ≡ Linked node range mode Forward
+    by_end : (b : Bool) → held_at (if b then Linked node range mode Done else Linked node range mode Forward) ≡ None
+        → (if b then Linked node range mode Done else Linked node range mode Forward) ≡ Linked node range mode Forward
     by_end true e = absurd (cc)
     by_end false e = refl
 own_stays (Linked node range mode FromHead) n g even d free = by_own (n == 2 * suc node) refl free
@@ -88,20 +90,23 @@ own_stays (Linked node range mode FromHead) n g even d free = by_own (n == 2 * s
 own_stays (Linked node range mode Done) n g even d free = absurd (done_not mode g)
 
 -- at the end of its way a validation holds its range
-arrives_came : (seats i : ℕ) (own : Own) (w : View) (c : Cursor) → MayGo own → w.cursor ≡ Some c → w.own ≡ own_at own c.cur → c.cur % 2 ≡ 0 → c.lo ≡ None → has_arrived w.own c ≡ true → IsViewSound seats i w → Arrives own w
+arrives_came : (seats i : ℕ) (own : Own) (w : View) (c : Cursor) → MayGo own → w.cursor ≡ Some c → w.own ≡ own_at own c.cur
+    → c.cur % 2 ≡ 0 → c.lo ≡ None → has_arrived w.own c ≡ true → IsViewSound seats i w → Arrives own w
 arrives_came seats i Nothing w c g is own even lo e sound = (own, (c, is, at_zero w.own c lo (ap held_at own) e))
 arrives_came seats i (Filling node low hi mode aimed) w c g is own even lo e sound =
     (own, record { cursor = c; is = is; even = even; place = inl (at_zero w.own c lo (ap held_at own) e) })
 arrives_came seats i (Linked node range mode Forward) w c g is own even lo e sound = by_end (c.cur == 0) refl own
   where
-    by_end : (b : Bool) → (c.cur == 0) ≡ b → w.own ≡ (if b then Linked node range mode Done else Linked node range mode Forward) → w.own ≡ Linked node range mode Done
+    by_end : (b : Bool) → (c.cur == 0) ≡ b → w.own ≡ (if b then Linked node range mode Done else Linked node range mode Forward)
+        → w.own ≡ Linked node range mode Done
     by_end true z o = o
     by_end false z o = absurd (eqb-false _ _ z (at_zero w.own c lo (ap held_at o) e))
 arrives_came seats i (Linked node range mode FromHead) w c g is own even lo e sound = by_own (c.cur == 2 * suc node) own
   where
     by_own : (b : Bool) → w.own ≡ (if b then Linked node range mode Done else Linked node range mode FromHead) → w.own ≡ Linked node range mode Done
     by_own true o = o
-    by_own false o = absurd (sound.not_at_end (record { node = node; range = range; mode = mode; todo = FromHead }) c o refl is (let z = at_zero w.own c lo (ap held_at o) e in omega arith))
+    by_own false o = absurd (sound.not_at_end (record { node = node; range = range; mode = mode; todo = FromHead }) c o refl is
+        (let z = at_zero w.own c lo (ap held_at o) e in omega arith))
 arrives_came seats i (Linked node range mode Done) w c g is own even lo e sound = absurd (done_not mode g)
 
 -- a word without the low bit that isn't the end names a node
@@ -118,7 +123,8 @@ no_more a w z = let h : w / 2 ≡ 0 = omega arith in ap (λ (b : Bool). if b the
 pub nodes_seen : {P : Type 0} (q : Part P) → IsHandView q → (c : Cursor) → q.core.cursor ≡ Some c → nodes_in q.trace.looked ≡ c.seen
 nodes_seen q view c is = let l = view.looked c is in ap nodes_in l.1 ∙ l.2
 
-pub came_outcome : {P : Type 0} (first : ℕ) (p q : Part P) → Came p.core q.core → MayGo p.core.own → IsInside q.core → IsHandView q → q.seats ≡ p.seats → HasRoom p → Outcome first p.core q (arrival_at q.core.own q.core.cursor)
+pub came_outcome : {P : Type 0} (first : ℕ) (p q : Part P) → Came p.core q.core → MayGo p.core.own → IsInside q.core
+    → IsHandView q → q.seats ≡ p.seats → HasRoom p → Outcome first p.core q (arrival_at q.core.own q.core.cursor)
 came_outcome {P} first p q came go inside view seats room =
     subst (λ (o : Option Cursor). Outcome first p.core q (arrival_at q.core.own o)) (sym came.is) (by_arrival (has_arrived q.core.own came.cursor) refl)
   where

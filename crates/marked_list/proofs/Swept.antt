@@ -78,7 +78,8 @@ module _ {P : Type 0} (p e : Part P) (may : MaySweep p.core) (entering : e ≡ q
       where
         by_answer : (b : Walked) → Answers e.trace.taken Nothing q b → Sweeps p.trace.taken r b
         by_answer Place x = let l = view.looked x.1.0 x.1.1 in (l.0, looked_out ∙ l.1, l.3 x.1.2)
-        by_answer (Conflict owner range mode) x = let asks = x.0.asks in let own = ap asked_of own_out in absurd (let n : ◌≡◌ {A = Option Held} None (Some x.0.asked) = sym own ∙ asks in cc)
+        by_answer (Conflict owner range mode) x = let asks = x.0.asks in let own = ap asked_of own_out in
+            absurd (let n : ◌≡◌ {A = Option Held} None (Some x.0.asked) = sym own ∙ asks in cc)
         by_answer (Lost l) x = record {
           lost = x.0.lost;
           is = ap (λ (z : Part P). z.trace.lost) leaving ∙ x.0.is;
@@ -99,7 +100,9 @@ module _ {P : Type 0} (p e : Part P) (may : MaySweep p.core) (entering : e ≡ q
       pass = ap (λ (x : Part P). x.pass) leaving ∙ (on.pass ∙ ap (λ (x : Part P). x.pass) entering);
       client = ap (λ (x : Part P). x.trace.client) leaving ∙ (on.client ∙ ap (λ (x : Part P). x.trace.client) entering);
       pools = record {
-        ready = ap (λ (x : Part P). x.core.ready) leaving ∙ (ap (λ (o : Own). ready_left o q.core.ready) own_out ∙ (on.pools.ready ∙ ap (λ (x : Part P). x.core.ready) entering));
+        ready = ap (λ (x : Part P). x.core.ready) leaving
+            ∙ (ap (λ (o : Own). ready_left o q.core.ready) own_out
+            ∙ (on.pools.ready ∙ ap (λ (x : Part P). x.core.ready) entering));
         used = ap (λ (x : Part P). x.core.used) leaving ∙ (on.pools.used ∙ ap (λ (x : Part P). x.core.used) entering);
         homes = ap (λ (x : Part P). x.core.homes) leaving ∙ (on.pools.homes ∙ ap (λ (x : Part P). x.core.homes) entering);
         notes = ap (λ (x : Part P). x.core.notes) leaving ∙ (on.pools.notes ∙ ap (λ (x : Part P). x.core.notes) entering);

@@ -6,7 +6,9 @@ use Rattle.std.specs.Prelude.{Option, Some, None, is_some, ◌==◌, if◌then�
 use Rattle.lock_core.specs.declared.views.View.{View}
 use Rattle.lock_core.specs.declared.views.Cursor.{Cursor}
 use Rattle.lock_core.specs.declared.steps.Step.{Step}
-use Rattle.lock_core.specs.declared.steps.Step.TheVariants.{Enter, Leave, ReadEpoch, ReadHome, GiveHome, FillLo, FillHi, Aim, ClearHome, Walk, ReadLo, ReadHi, Link, Unlink, Mark, QuickLink, QuickUnlink, Settle}
+use Rattle.lock_core.specs.declared.steps.Step.TheVariants.{Enter, Leave, ReadEpoch, ReadHome, GiveHome, FillLo, FillHi}
+use Rattle.lock_core.specs.declared.steps.Step.TheVariants.{Aim, ClearHome, Walk, ReadLo, ReadHi, Link, Unlink, Mark}
+use Rattle.lock_core.specs.declared.steps.Step.TheVariants.{QuickLink, QuickUnlink, Settle}
 use Rattle.lock_core.specs.Words.{cell_place, cell_of}
 use Rattle.lock_core.specs.Views.{gave_home, unlinked, dropped, seen_after}
 use Rattle.lock_core.specs.StepTable.{Plan, IsLine, exchanges, unlink}
@@ -25,11 +27,14 @@ use Rattle.marked_list.proofs.Lines.{enables, Made, made_by, same_looked, judges
 use Rattle.marked_list.proofs.Stepping.{free_go, nodes_seen, came_outcome}
 
 -- an exchange that found another value is in the record
-pub lost_made : {P : Type 0} (rested : P → P) (p q : Part P) (step : Step) (plan : Plan) (w e : ℕ) → Made rested p q step plan w → (Kind : Step → Type 0) → Kind step → expected_by p.core step ≡ Some e → (w == e) ≡ false
+pub lost_made : {P : Type 0} (rested : P → P) (p q : Part P) (step : Step) (plan : Plan) (w e : ℕ) → Made rested p q step plan w
+    → (Kind : Step → Type 0) → Kind step → expected_by p.core step ≡ Some e → (w == e) ≡ false
     → (place expected found : ℕ) → place ≡ plan.place → expected ≡ e → found ≡ w → IsLost p.trace.taken q Kind place expected found
 lost_made rested p q step plan w e m Kind kind expects far place expected found placed wanted had = record {
   lost = record { kind = step; place = plan.place; expected = e; found = w; step = p.trace.taken };
-  is = m.lost ∙ (ap (λ (o : Option ℕ). lost_by p.trace step plan.place o w) expects ∙ ap (λ (b : Bool). if b then p.trace.lost else Some (record { kind = step; place = plan.place; expected = e; found = w; step = p.trace.taken })) far);
+  is = m.lost ∙ (ap (λ (o : Option ℕ). lost_by p.trace step plan.place o w) expects
+      ∙ ap (λ (b : Bool). if b then p.trace.lost else Some
+      (record { kind = step; place = plan.place; expected = e; found = w; step = p.trace.taken })) far);
   kind = kind;
   from = omega arith;
   below = let t = m.taken in omega arith;
@@ -63,14 +68,19 @@ pub gone_looked : (t : Record) (b : Option Cursor) (j g : Bool) → looked_with 
 gone_looked t None j g = refl
 gone_looked t (Some c) j g = refl
 
-module _ {P : Type 0} (rested : P → P) (p q : Part P) (step : Step) (plan : Plan) (w : ℕ) (m : Made rested p q step plan w) (c : Cursor) (is : p.core.cursor ≡ Some c) where
-  pub failed : IsWalkLoss step → expected_by p.core step ≡ Some (cursor_word p.core.cursor) → plan.view w ≡ dropped p.core → (w == c.cur) ≡ false → held_at p.core.own ≡ None → p.core.hand ≡ None → IsHandView p → HasRoom p
+module _ {P : Type 0} (rested : P → P) (p q : Part P) (step : Step) (plan : Plan) (w : ℕ) (m : Made rested p q step plan w)
+    (c : Cursor) (is : p.core.cursor ≡ Some c) where
+  pub failed : IsWalkLoss step → expected_by p.core step ≡ Some (cursor_word p.core.cursor) → plan.view w ≡ dropped p.core
+      → (w == c.cur) ≡ false → held_at p.core.own ≡ None → p.core.hand ≡ None → IsHandView p → HasRoom p
       → (l : Lost) → l.place ≡ plan.place → l.expected ≡ c.cur → l.found ≡ w → IsFailed p q l
   failed kind expects gone far free hand view room l placed wanted had = record {
-    on = on_made rested p q step plan w m free (ap (λ (v : View). v.epoch) gone) (subst (IsSamePools p.core) (sym gone) (record { ready = refl; used = refl; homes = refl; notes = refl; passed = refl })) (ap (λ (v : View). v.hand) gone ∙ hand);
+    on = on_made rested p q step plan w m free (ap (λ (v : View). v.epoch) gone)
+        (subst (IsSamePools p.core) (sym gone) (record { ready = refl; used = refl; homes = refl; notes = refl; passed = refl }))
+        (ap (λ (v : View). v.hand) gone ∙ hand);
     outcome = (
       (
-        lost_made rested p q step plan w c.cur m IsWalkLoss kind (expects ∙ ap (λ (o : Option Cursor). Some (cursor_word o)) is) far l.place l.expected l.found placed wanted had,
+        lost_made rested p q step plan w c.cur m IsWalkLoss kind (expects ∙ ap (λ (o : Option Cursor). Some (cursor_word o)) is)
+            far l.place l.expected l.found placed wanted had,
         ap (λ (v : View). v.own) core,
         ap (λ (v : View). v.cursor) core,
       ),
@@ -85,7 +95,9 @@ module _ {P : Type 0} (rested : P → P) (p q : Part P) (step : Step) (plan : Pl
       core = m.core ∙ gone
 
       nodes : nodes_in q.trace.looked ≡ c.seen
-      nodes = ap nodes_in (m.looked ∙ (ap (λ (o : Option Cursor). looked_with p.trace p.core.cursor o (is_judging step) (gained_by p.core (plan.view w))) (ap (λ (v : View). v.cursor) gone) ∙ gone_looked p.trace p.core.cursor (is_judging step) (gained_by p.core (plan.view w)))) ∙ nodes_seen p view c is
+      nodes = ap nodes_in (m.looked ∙ (ap (λ (o : Option Cursor). looked_with p.trace p.core.cursor o (is_judging step)
+          (gained_by p.core (plan.view w))) (ap (λ (v : View). v.cursor) gone)
+          ∙ gone_looked p.trace p.core.cursor (is_judging step) (gained_by p.core (plan.view w)))) ∙ nodes_seen p view c is
 
 module _ {P : Type 0} (p : Part P) (n : ℕ) (k : KnowsNext p.core n) (odd : n % 2 ≡ 1) where
   abbrev st : StandsAt p.core
@@ -133,17 +145,21 @@ module _ {P : Type 0} (p : Part P) (n : ℕ) (k : KnowsNext p.core n) (odd : n %
       where
         by_value : (b : Bool) → (w == st.cursor.cur) ≡ b → IsUnlinked p q x
         by_value true e = let u = won e in let same : st.node ≡ x = let h = sym u.hand ∙ hand in cc in subst (IsUnlinked p q) same u
-        by_value false e = absurd (let h : ◌≡◌ {A = Option ℕ} None (Some x) = sym st.inside.hand ∙ (sym (ap (λ (v : View). v.hand) (m.core ∙ ap view_by e)) ∙ hand) in cc)
+        by_value false e = absurd (let h : ◌≡◌ {A = Option ℕ} None (Some x) = sym st.inside.hand
+            ∙ (sym (ap (λ (v : View). v.hand) (m.core ∙ ap view_by e)) ∙ hand) in cc)
 
-    pub unlink_none : q.core.hand ≡ None → IsHandView p → HasRoom p → (l : Lost) → l.place ≡ cell_place p.seats (cell_of st.cursor.prev) → l.expected ≡ st.cursor.cur → l.found ≡ w → IsFailed p q l
+    pub unlink_none : q.core.hand ≡ None → IsHandView p → HasRoom p → (l : Lost)
+        → l.place ≡ cell_place p.seats (cell_of st.cursor.prev) → l.expected ≡ st.cursor.cur → l.found ≡ w → IsFailed p q l
     unlink_none hand view room l placed wanted had = by_value (w == st.cursor.cur) refl
       where
         by_value : (b : Bool) → (w == st.cursor.cur) ≡ b → IsFailed p q l
         by_value true e = absurd (let h : ◌≡◌ {A = Option ℕ} (Some st.node) None = sym (won e).hand ∙ hand in cc)
-        by_value false e = failed rested p q Unlink unlink_plan w m st.cursor st.is tt refl (ap view_by e) e (free_go p.core.own st.own) st.inside.hand view room l placed wanted had
+        by_value false e = failed rested p q Unlink unlink_plan w m st.cursor st.is tt refl (ap view_by e) e
+            (free_go p.core.own st.own) st.inside.hand view room l placed wanted had
 
     -- the same, in the words of the cursor that was read before the step
-    pub unlink_lost : q.core.hand ≡ None → IsHandView p → HasRoom p → (d : Cursor) → p.core.cursor ≡ Some d → (s : ℕ) → s ≡ q.seats → (l : Lost) → l.place ≡ cell_place s (cell_of d.prev) → l.expected ≡ d.cur → l.found ≡ w → IsFailed p q l
+    pub unlink_lost : q.core.hand ≡ None → IsHandView p → HasRoom p → (d : Cursor) → p.core.cursor ≡ Some d → (s : ℕ)
+        → s ≡ q.seats → (l : Lost) → l.place ≡ cell_place s (cell_of d.prev) → l.expected ≡ d.cur → l.found ≡ w → IsFailed p q l
     unlink_lost hand view room d is s seats l placed wanted had =
         let same : d ≡ st.cursor = let e : ◌≡◌ {A = Option Cursor} (Some d) (Some st.cursor) = sym is ∙ st.is in cc in
         let many : s ≡ p.seats = seats ∙ m.seats in
@@ -161,7 +177,14 @@ module _ {P : Type 0} (p q r : Part P) (x : ℕ) (u : IsUnlinked p q x) (made : 
     pass = ap (λ (z : Part P). z.pass) made ∙ u.call.pass;
     client = ap (λ (z : Part P). z.trace.client) made ∙ u.call.client;
     epoch = ap (λ (v : View). v.epoch) core_home ∙ u.epoch;
-    pools = subst (IsSamePools p.core) (sym core_home) (record { ready = u.pools.ready; used = u.pools.used; homes = u.pools.homes; notes = u.pools.notes; passed = u.pools.passed });
+    pools = subst (IsSamePools p.core) (sym core_home)
+        (record {
+          ready = u.pools.ready;
+          used = u.pools.used;
+          homes = u.pools.homes;
+          notes = u.pools.notes;
+          passed = u.pools.passed;
+        });
     hand = ap (λ (v : View). v.hand) core_home;
     taken = let a = ap (λ (z : Part P). z.trace.taken) made in let b = u.call.taken in omega arith;
   }
@@ -172,7 +195,8 @@ module _ {P : Type 0} (p q r : Part P) (x : ℕ) (u : IsUnlinked p q x) (made : 
   pub home_walk : IsSameWalk p r
   home_walk l is =
       let s = u.walk l is in
-      let t = same_looked q.trace q.core.cursor (gave_home q.core).cursor (is_judging GiveHome) (gained_by q.core (gave_home q.core)) (ap is_some u.came.is) s.0 s.1 in
+      let t = same_looked q.trace q.core.cursor (gave_home q.core).cursor (is_judging GiveHome)
+      (gained_by q.core (gave_home q.core)) (ap is_some u.came.is) s.0 s.1 in
       (t.0, ap (λ (z : Part P). z.trace.looked) made ∙ t.1, t.2 ∙ s.2)
 
   pub home_judged : HasJudged 0 p r

@@ -58,7 +58,8 @@ module _ {P : Type 0} where
   -- why a walk of a hand with that own node, which began with the step of that number, gives an answer
   abbrev pub Answers : ℕ → Own → Part P → Walked → Type 0
   Answers first own q Place = Arrives own q.core
-  Answers first own q (Conflict owner range mode) = IsMet first q owner (record { range = range; mode = mode }) × (q.core.own ≡ own) × StandsInConflict q.seats q.core
+  Answers first own q (Conflict owner range mode) = IsMet first q owner (record { range = range; mode = mode })
+      × (q.core.own ≡ own) × StandsInConflict q.seats q.core
   Answers first own q (Lost l) = IsLost first q IsWalkLoss l.place l.expected l.found × (q.core.own ≡ own) × (q.core.cursor ≡ None)
   Answers first own q (Long visits) = (visits ≡ 16 * q.seats + 1) × (q.core.own ≡ own) × IsSpent q
 
@@ -113,4 +114,5 @@ module _ {P : Type 0} where
 
   abbrev pub QuickUnlinks : (P → P) → Part P → Part P → Linked → Type 0
   QuickUnlinks rested p q Done = IsQuickCall p q × ((k : Listed) → p.core.own ≡ listed k → q.core ≡ quick_unlinked p.core k.node) × (q.pass ≡ rested p.pass)
-  QuickUnlinks rested p q (NotLinked l) = IsQuickCall p q × IsLost p.trace.taken q (λ kind. kind ≡ QuickUnlink) l.place l.expected l.found × (q.core ≡ p.core) × (q.pass ≡ p.pass)
+  QuickUnlinks rested p q (NotLinked l) = IsQuickCall p q
+      × IsLost p.trace.taken q (λ kind. kind ≡ QuickUnlink) l.place l.expected l.found × (q.core ≡ p.core) × (q.pass ≡ p.pass)

@@ -73,10 +73,13 @@ module _ {P : Type 0} where
   -- went past a node, `End` and `Long` where it went past none and the end was read, or the walk has looked at as many
   -- nodes as it may
   abbrev pub PassesFrom : ℕ → ℕ → Part P → Passed → Type 0
-  PassesFrom first before q (Found owner range mode) = IsSeen first q owner (record { range = range; mode = mode }) × (judged_in q.trace.looked ≡ before + 1) × IsScanning q.core
+  PassesFrom first before q (Found owner range mode) = IsSeen first q owner (record { range = range; mode = mode })
+      × (judged_in q.trace.looked ≡ before + 1) × IsScanning q.core
   PassesFrom first before q End = IsAtLast q.core × (judged_in q.trace.looked ≡ before) × (nodes_in q.trace.looked ≤ 16 * q.seats)
-  PassesFrom first before q (Lost l) = IsLost first q IsWalkLoss l.place l.expected l.found × (judged_in q.trace.looked ≡ before) × (nodes_in q.trace.looked ≤ 16 * q.seats) × (q.core.cursor ≡ None)
-  PassesFrom first before q (Long visits) = (visits ≡ 16 * q.seats + 1) × (judged_in q.trace.looked ≡ before) × (nodes_in q.trace.looked ≡ 16 * q.seats + 1) × IsAtNode q.core
+  PassesFrom first before q (Lost l) = IsLost first q IsWalkLoss l.place l.expected l.found × (judged_in q.trace.looked ≡ before)
+      × (nodes_in q.trace.looked ≤ 16 * q.seats) × (q.core.cursor ≡ None)
+  PassesFrom first before q (Long visits) = (visits ≡ 16 * q.seats + 1) × (judged_in q.trace.looked ≡ before)
+      × (nodes_in q.trace.looked ≡ 16 * q.seats + 1) × IsAtNode q.core
 
   -- why a scan gives an answer, from the hand before the call and after it
   abbrev pub Passes : Part P → Part P → Passed → Type 0

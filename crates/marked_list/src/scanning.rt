@@ -182,7 +182,8 @@ pub fn pass<G: Guard, L: Ledger>(list: &List<G>, hand: &mut Hand<G>, steps: &mut
     ensures resting { IsResting hand.new.part.core }
     ensures answer { Passes hand.old.part hand.new.part result }
     ensures ended { IsAtEnd hand.old.part.core.cursor → (hand.new.part ≡ hand.old.part) × (result ≡ End) }
-    ensures spent { seen_of hand.old.part.core.cursor ≡ 16 * hand.old.part.seats + 1 → (hand.new.part ≡ hand.old.part) × (result ≡ Long (16 * hand.old.part.seats + 1)) }
+    ensures spent { seen_of hand.old.part.core.cursor ≡ 16 * hand.old.part.seats + 1
+        → (hand.new.part ≡ hand.old.part) × (result ≡ Long (16 * hand.old.part.seats + 1)) }
     ensures bound { hand.new.part.trace.taken ≤ hand.old.part.trace.taken + 2 + 3 * (16 * hand.old.part.seats + 1) }
     ensures counted { steps.new + hand.old.part.trace.taken ≡ steps.old + hand.new.part.trace.taken }
 {

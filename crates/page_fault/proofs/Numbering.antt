@@ -30,20 +30,28 @@ use Rattle.area_rows.specs.Called.{IsCalled, IsLastPlace}
 use Rattle.area_rows.proofs.Wholes.{match_none}
 
 -- the page's kind decides
-held_right : (state : List Area) (addr : ℕ) (access : Access) (kind : Option Kind) (reply : Reply) (span : Span) → plain_reply (Fault addr access) ≡ None → span.lo ≡ page_of addr → span.hi ≡ page_of addr + 1 → kind_at state (page_of addr) ≡ kind → AnswersFault kind (page_of addr) access reply → IsRight state (Fault addr access) reply (Reader span) state
+held_right : (state : List Area) (addr : ℕ) (access : Access) (kind : Option Kind) (reply : Reply) (span : Span)
+    → plain_reply (Fault addr access) ≡ None → span.lo ≡ page_of addr → span.hi ≡ page_of addr + 1
+    → kind_at state (page_of addr) ≡ kind → AnswersFault kind (page_of addr) access reply
+    → IsRight state (Fault addr access) reply (Reader span) state
 held_right state addr access kind reply span undecided lo hi is answers = record {
   fits = match_none (plain_reply (Fault addr access)) (FitsByState state (Fault addr access) (Reader span)) (λ _. Reader span ≡ Nothing) undecided (lo, hi);
   answers = fault-answers state (Fault addr access) addr access reply refl undecided (subst (λ k. AnswersFault k (page_of addr) access reply) (sym is) answers);
 }
 
-pub shows_fault : (c : CallerView) (held : Option Held) (row : Row) (addr : ℕ) (access : Access) (reply : Reply) (span : Span) → Shows c.seat (RowIs held (page_of addr) row) → IsHeldPage held (page_of addr) → row.lo ≤ page_of addr → page_of addr < row.hi
-    → plain_reply (Fault addr access) ≡ None → span.lo ≡ page_of addr → span.hi ≡ page_of addr + 1 → AnswersFault row.kind (page_of addr) access reply → MayNumber c (Fault addr access) reply (Reader span)
+pub shows_fault : (c : CallerView) (held : Option Held) (row : Row) (addr : ℕ) (access : Access) (reply : Reply) (span : Span)
+    → Shows c.seat (RowIs held (page_of addr) row) → IsHeldPage held (page_of addr) → row.lo ≤ page_of addr
+    → page_of addr < row.hi
+    → plain_reply (Fault addr access) ≡ None → span.lo ≡ page_of addr → span.hi ≡ page_of addr + 1
+    → AnswersFault row.kind (page_of addr) access reply → MayNumber c (Fault addr access) reply (Reader span)
 shows_fault c held row addr access reply span shows here from until undecided lo hi answers start history state words moment =
     let r = shows start history state words moment in
     (state, held_right state addr access row.kind reply span undecided lo hi (r.kind (page_of addr) here from until) answers, refl)
 
 -- reading, numbering and giving back are one call that held nothing before
-pub called_held : (b r n d : CallerView) (e : Entry) (line : ℕ) (call : Call) (span : Span) → IsReading b.seat r.seat → r.left ≡ b.left → e.line ≡ line → e.call ≡ call → e.under ≡ Reader span → IsNamedReply e.reply → IsDrawn r.seat e AtRest n.seat → n.left + 1 ≡ r.left → IsRelease rest_of n.seat d.seat → d.left ≡ n.left
+pub called_held : (b r n d : CallerView) (e : Entry) (line : ℕ) (call : Call) (span : Span) → IsReading b.seat r.seat
+    → r.left ≡ b.left → e.line ≡ line → e.call ≡ call → e.under ≡ Reader span → IsNamedReply e.reply
+    → IsDrawn r.seat e AtRest n.seat → n.left + 1 ≡ r.left → IsRelease rest_of n.seat d.seat → d.left ≡ n.left
     → IsCalled (record b { seat = record b.seat { held = None } }) line call e d
 called_held b r n d e line call span reading same line_is call_is under named drawn left release same_left =
     let num = drawn.numbered in

@@ -2,7 +2,9 @@
 -- was.
 use Rattle.std.proofs.Common.{◌≡◌, ℕ, ◌<◌, Option, Some, None, refl, sym, ap, subst, arith}
 use Rattle.range_c.specs.declared.answers.Answer.{Answer}
-use Rattle.range_c.specs.declared.answers.Answer.TheVariants.{Done, Refused, NotTried, BadRange, HasOne, HasNone, Closed, Open, Memory, Seats, Words, NoneLeft, NoWord, Other}
+use Rattle.range_c.specs.declared.answers.Answer.TheVariants.{Done, Refused, NotTried, BadRange, HasOne, HasNone}
+use Rattle.range_c.specs.declared.answers.Answer.TheVariants.{Closed, Open, Memory, Seats, Words, NoneLeft, NoWord}
+use Rattle.range_c.specs.declared.answers.Answer.TheVariants.{Other}
 use Rattle.range_c.specs.Behind.{Behind, IsOpen, IsNotOpened, IsShared, IsUnshared, IsNotShared}
 use Rattle.range_c.specs.Calls.{Between, OnHandle, IsOpenRefusal, HandleShared, IsShareRefusal, IsEnd}
 use Rattle.range_c.specs.Codes.{Says, code_of}
@@ -39,7 +41,8 @@ unshared_code spare NoneLeft h = omega arith
 unshared_code spare NoWord h = absurd h
 unshared_code spare Other h = absurd h
 
-pub sharing_refused : (why : Answer) (from left : Option Behind) → OnHandle IsNotShared why from left → (0 < code_of why) × ((left ≡ from) × IsShareRefusal from None why)
+pub sharing_refused : (why : Answer) (from left : Option Behind) → OnHandle IsNotShared why from left
+    → (0 < code_of why) × ((left ≡ from) × IsShareRefusal from None why)
 sharing_refused why None None h = (subst (λ w. 0 < code_of w) (sym h) (omega arith), (refl, h))
 sharing_refused why (Some b) (Some a) h = (unshared_code b.spare why h.0, (ap Some h.1, h.0))
 sharing_refused why None (Some a) h = absurd h
@@ -48,7 +51,8 @@ sharing_refused why (Some b) None h = absurd h
 pub opening_of_open : (seats count code : ℕ) (h : Option Behind) → IsOpen h → code ≡ code_of Open → Says (IsOpenRefusal seats count h) code
 opening_of_open seats count code h is e = (Open, e, subst (λ x. IsOpenRefusal seats count x Open) (sym is.1) refl)
 
-pub opening_of_closed : (seats count code : ℕ) (h : Option Behind) (why : Answer) → h ≡ None → IsNotOpened seats count why → code ≡ code_of why → Says (IsOpenRefusal seats count h) code
+pub opening_of_closed : (seats count code : ℕ) (h : Option Behind) (why : Answer) → h ≡ None → IsNotOpened seats count why
+    → code ≡ code_of why → Says (IsOpenRefusal seats count h) code
 opening_of_closed seats count code h why is cause e = (why, e, subst (λ x. IsOpenRefusal seats count x why) (sym is) cause)
 
 shares_open : (from : Option Behind) (b : Behind) → IsShareRefusal from (Some b) Open
@@ -58,7 +62,8 @@ shares_open (Some f) b = refl
 pub sharing_of_open : (code : ℕ) (from h : Option Behind) → IsOpen h → code ≡ code_of Open → Says (IsShareRefusal from h) code
 sharing_of_open code from h is e = (Open, e, subst (λ x. IsShareRefusal from x Open) (sym is.1) (shares_open from is.0))
 
-pub sharing_of_closed : (code : ℕ) (from left h : Option Behind) (why : Answer) → h ≡ None → OnHandle IsNotShared why from left → code ≡ code_of why → Says (IsShareRefusal from h) code
+pub sharing_of_closed : (code : ℕ) (from left h : Option Behind) (why : Answer) → h ≡ None → OnHandle IsNotShared why from left
+    → code ≡ code_of why → Says (IsShareRefusal from h) code
 sharing_of_closed code from left h why is cause e = (why, e, subst (λ x. IsShareRefusal from x why) (sym is) (sharing_refused why from left cause).1.1)
 
 pub shared_over : (from left h : Option Behind) (b : Behind) → Between (λ old new. IsShared old new b) from left → h ≡ Some b → HandleShared from left h

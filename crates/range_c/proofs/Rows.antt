@@ -28,7 +28,8 @@ abbrev pub behind : Known (Unit {0}) → ℕ → ℕ → ℕ → Behind
 behind seat spare words seats = record { seat = seat; spare = spare; words = words; seats = seats }
 
 -- the seat that is taken from the end
-pub taken : (t : TableId) (old new : Row) (s : Known (Unit {0})) → old ≡ new ++ s ∷ [] → AreNewSeats t (λ _. tt) old → (s ≡ new_seat t (λ _. tt) (length new)) × AreNewSeats t (λ _. tt) new
+pub taken : (t : TableId) (old new : Row) (s : Known (Unit {0})) → old ≡ new ++ s ∷ [] → AreNewSeats t (λ _. tt) old
+    → (s ≡ new_seat t (λ _. tt) (length new)) × AreNewSeats t (λ _. tt) new
 taken t old new s e all = popped (λ k (x : Known (Unit {0})). x ≡ new_seat t (λ _. tt) k) old new s e all
 
 -- a seat put back at the end
@@ -39,7 +40,8 @@ own_table : (t : TableId) (k : ℕ) (s : Known (Unit {0})) → s ≡ new_seat t 
 own_table t k s e = subst (λ x. s ≡ new_seat x (λ _. tt) k) (sym (ap (λ (x : Known (Unit {0})). x.table) e)) e
 
 -- what is behind the first handle of a new table
-pub opens : (t : TableId) (seats count n : ℕ) (old new : Row) (s : Known (Unit {0})) (b : Behind) → IsSeatCount seats → count ≤ 2 ^ 20 → length old ≡ seats → old ≡ new ++ s ∷ []
+pub opens : (t : TableId) (seats count n : ℕ) (old new : Row) (s : Known (Unit {0})) (b : Behind) → IsSeatCount seats
+    → count ≤ 2 ^ 20 → length old ≡ seats → old ≡ new ++ s ∷ []
     → AreNewSeats t (λ _. tt) old → n ≡ seats → b ≡ behind s (length new) count n → IsNewBehind seats count b
 opens t seats count n old new s b counted most len e all same is = subst (λ x. IsNewBehind seats count x) (sym is) (record {
   seat_count = counted;
@@ -51,7 +53,8 @@ opens t seats count n old new s b counted most len e all same is = subst (λ x. 
 })
 
 -- what is behind a handle that shares, and behind the new one
-pub shares : (t : TableId) (old new rest : Row) (mine s : Known (Unit {0})) (words seats : ℕ) (before b : Behind) → behind mine (length old) words seats ≡ before → mine.table ≡ t
+pub shares : (t : TableId) (old new rest : Row) (mine s : Known (Unit {0})) (words seats : ℕ) (before b : Behind)
+    → behind mine (length old) words seats ≡ before → mine.table ≡ t
     → old ≡ new ++ s ∷ [] → AreNewSeats t (λ _. tt) old → length rest ≡ 0 → b ≡ behind s (length rest) words seats
     → IsShared before (behind mine (length new) words seats) b
 shares t old new rest mine s words seats before b was table e all none is =

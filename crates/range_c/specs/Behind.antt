@@ -117,7 +117,8 @@ IsTried lo hi writer tries answer before after = IsTriedFor lo hi writer tries a
 
 -- what a release answers and leaves
 abbrev pub IsReleased : Answer → Behind → Behind → Type 0
-IsReleased Done before after = (before.seat.held ≢ None) × IsRelease (λ p. p) before.seat after.seat × (after.spare ≡ before.spare) × (after.words ≡ before.words) × (after.seats ≡ before.seats)
+IsReleased Done before after = (before.seat.held ≢ None) × IsRelease (λ p. p) before.seat after.seat
+    × (after.spare ≡ before.spare) × (after.words ≡ before.words) × (after.seats ≡ before.seats)
 IsReleased HasNone before after = (before.seat.held ≡ None) × (after ≡ before)
 IsReleased _ before after = ⊥
 

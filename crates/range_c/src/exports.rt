@@ -78,7 +78,8 @@ pub extern "C" fn gz_range_try(
     tries: u32,
     busy: &mut GzBusy,
 ) -> u32
-    ensures tried { Says (λ answer. (busy.new ≡ shown_of answer) × OnHandle (IsTried lo hi writer tries) answer handle.old.pointer.behind handle.new.pointer.behind) result }
+    ensures tried { Says (λ answer. (busy.new ≡ shown_of answer)
+        × OnHandle (IsTried lo hi writer tries) answer handle.old.pointer.behind handle.new.pointer.behind) result }
 {
     let asked = Asked {
         lo,
@@ -152,7 +153,8 @@ pub extern "C" fn gz_range_exchange(
     expected: &mut u64,
     new: u64,
 ) -> u32
-    ensures exchanged { Says (λ answer. OnWord i (Exchange expected.old new) expected.old expected.new answer handle.old.pointer.behind handle.new.pointer.behind) result }
+    ensures exchanged { Says (λ answer. OnWord i (Exchange expected.old new) expected.old expected.new answer
+        handle.old.pointer.behind handle.new.pointer.behind) result }
 {
     let call = WordCall {
         i,

@@ -32,7 +32,8 @@ impl Model for State {
 
     ghost view = { λ s. record { seat = s.seat; spare = length s.spare.items; words = s.words; seats = (arc_value s.table).seats } };
 
-    ghost invariant = { λ s. (s.seat.table ≡ (arc_value s.table).table) × AreNewSeats (arc_value s.table).table (λ _. tt) s.spare.items × ((arc_value s.table).client ≡ s.words) };
+    ghost invariant = { λ s. (s.seat.table ≡ (arc_value s.table).table)
+        × AreNewSeats (arc_value s.table).table (λ _. tt) s.spare.items × ((arc_value s.table).client ≡ s.words) };
 }
 
 /// The range that a call of C's asks for, and how often it is to try.

@@ -1,7 +1,9 @@
 -- Runs whose sinks have room: no sink is ever full, so no count rises, and the run ends as it is called for. A sized
 -- sink's meaning is the length of its store and then the bytes that it holds, so it tells that the store is as long
 -- afterwards as before.
-use Rattle.std.proofs.Common.{◌≡◌, ◌⊎◌, inl, inr, ℕ, ◌+◌, ◌-◌, ◌^◌, ◌<◌, ◌≤◌, List, [], ◌∷◌, ◌++◌, length, take, vec_len, codes, decimal, Option, None, Some, refl, sym, ap, ◌∙◌, subst, arith, length-append}
+use Rattle.std.proofs.Common.{◌≡◌, ◌⊎◌, inl, inr, ℕ, ◌+◌, ◌-◌, ◌^◌, ◌<◌, ◌≤◌, List, [], ◌∷◌, ◌++◌, length, take}
+use Rattle.std.proofs.Common.{vec_len, codes, decimal, Option, None, Some, refl, sym, ap, ◌∙◌, subst, arith}
+use Rattle.std.proofs.Common.{length-append}
 use Rattle.std.proofs.lemmas.Fmt.{length-decimal-le}
 use Rattle.std.proofs.lemmas.List.{length-take-le}
 use Rattle.std.specs.Io.KnownBytes.{Appends, Keeps}
@@ -141,7 +143,8 @@ module _ (before after : CleanSink) where
   -- nor does the other one, whose line is short
   no_fault_err : (status : Status) → length (error_line status) ≤ 200 → HasRoomForLine before
       → Complains (told before) (told after) before.faults after.faults status → after.faults ≡ 0
-  no_fault_err status short some (inl h) = no_fault (error_line status) (AppendsPrefix-itself (told before) (told after) (error_line status) h) (omega (arith, short, some))
+  no_fault_err status short some (inl h) = no_fault (error_line status)
+      (AppendsPrefix-itself (told before) (told after) (error_line status) h) (omega (arith, short, some))
   no_fault_err status short some (inr h) = no_fault (error_line status) h.0 (omega (arith, short, some))
 
   -- so it has the whole line
@@ -151,7 +154,8 @@ module _ (before after : CleanSink) where
   line_where_none status none (inr h) = absurd (never_rose before.faults after.faults none h.1)
 
 -- the run ended as it is called for, or for want of memory
-called_for : (words : List (List ℕ)) (bytes : List ℕ) (before after : ℕ) (status : Status) → after ≡ 0 → IsOnlyOutcome words bytes status ⊎ IsHindered (0, 0) (before, after) status → EndsAsCalledFor words bytes status
+called_for : (words : List (List ℕ)) (bytes : List ℕ) (before after : ℕ) (status : Status) → after ≡ 0
+    → IsOnlyOutcome words bytes status ⊎ IsHindered (0, 0) (before, after) status → EndsAsCalledFor words bytes status
 called_for words bytes before after status none (inl h) = inl h
 called_for words bytes before after (Done closed) none (inr h) = absurd h
 called_for words bytes before after Usage none (inr h) = absurd h
@@ -193,7 +197,8 @@ module _ (before taken after : CleanSink) (same : taken ≡ before) (some : HasR
     pub err_line : Appends (Some (held_by before)) (Some (held_by after)) (error_line status)
     err_line = line_where_none before after status (no_fault_err before after status short some complained) complained
 
-  module _ (words : List (List ℕ)) (bytes : List ℕ) (j : Option (List ℕ)) (status : Status) (room : HasRoomForReports words bytes before) (h : Wrote words (Some bytes) j (told taken) (told after) status) where
+  module _ (words : List (List ℕ)) (bytes : List ℕ) (j : Option (List ℕ)) (status : Status)
+      (room : HasRoomForReports words bytes before) (h : Wrote words (Some bytes) j (told taken) (told after) status) where
     out_none : after.faults ≡ 0
     out_none = no_fault_out before after words bytes j status some room (subst (λ sink. Wrote words (Some bytes) j (told sink) (told after) status) same h)
 

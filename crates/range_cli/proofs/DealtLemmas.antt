@@ -1,5 +1,6 @@
 -- Lines are dealt out one by one, and workers get their lists one by one.
-use Rattle.std.proofs.Common.{◌≡◌, ℕ, zero, suc, ◌+◌, ◌<◌, Bool, true, false, cond, List, [], ◌∷◌, ◌++◌, length, get_or, map, take, All, refl, sym, ap, subst, ◌∙◌, arith}
+use Rattle.std.proofs.Common.{◌≡◌, ℕ, zero, suc, ◌+◌, ◌<◌, Bool, true, false, cond, List, [], ◌∷◌, ◌++◌, length, get_or}
+use Rattle.std.proofs.Common.{map, take, All, refl, sym, ap, subst, ◌∙◌, arith}
 use Rattle.std.specs.Prelude.{◌==◌}
 use Rattle.std.specs.List.{filter, range_with_len}
 use Rattle.std.proofs.lemmas.List.{map-append}
@@ -14,7 +15,8 @@ one_or_none true line = refl
 one_or_none false line = refl
 
 -- one line more
-pub dealt_more : (threads worker i : ℕ) (lines : List Line) (d : Line) (own new : List Turn) → i < length lines → own ≡ worker_lines threads (take i lines) worker
+pub dealt_more : (threads worker i : ℕ) (lines : List Line) (d : Line) (own new : List Turn) → i < length lines
+    → own ≡ worker_lines threads (take i lines) worker
     → new ≡ own ++ own_line threads worker (get_or lines i d) → new ≡ worker_lines threads (take (i + 1) lines) worker
 dealt_more threads worker i lines d own new low so_far is =
     let mine : Line → Bool = λ line. worker_of threads line == worker in
@@ -25,7 +27,8 @@ dealt_more threads worker i lines d own new low so_far is =
     ∙ ap (map played_line) (sym (filter_more mine lines i d low))
 
 -- one worker more
-pub lists_more : (threads worker : ℕ) (lines : List Line) (lists new : List (List Turn)) (own : List Turn) → lists ≡ map (worker_lines threads lines) (range_with_len 0 worker)
+pub lists_more : (threads worker : ℕ) (lines : List Line) (lists new : List (List Turn)) (own : List Turn)
+    → lists ≡ map (worker_lines threads lines) (range_with_len 0 worker)
     → new ≡ lists ++ own ∷ [] → own ≡ worker_lines threads lines worker → new ≡ map (worker_lines threads lines) (range_with_len 0 (worker + 1))
 lists_more threads worker lines lists new own so_far more is =
     more

@@ -1,6 +1,8 @@
 -- Replies are compared one by one, each with what its line recorded. The lines' numbers rise, so a number is that of
 -- one line at most, which is found by halving.
-use Rattle.std.proofs.Common.{◌≡◌, ◌↔◌, Bool, true, false, ℕ, zero, suc, ◌+◌, ◌<◌, ◌≤◌, inl, inr, List, [], ◌∷◌, ◌++◌, length, get_or, drop, drop-cons, Result, Ok, Err, IfOk, IfErr, refl, sym, ap, subst, ◌∙◌, arith, add-one, add-zero}
+use Rattle.std.proofs.Common.{◌≡◌, ◌↔◌, Bool, true, false, ℕ, zero, suc, ◌+◌, ◌<◌, ◌≤◌, inl, inr, List, [], ◌∷◌, ◌++◌}
+use Rattle.std.proofs.Common.{length, get_or, drop, drop-cons, Result, Ok, Err, IfOk, IfErr, refl, sym, ap, subst, ◌∙◌}
+use Rattle.std.proofs.Common.{arith, add-one, add-zero}
 use Rattle.std.specs.Prelude.{All}
 use Rattle.std.proofs.Math.ListN.{drop_of_length-le}
 use Rattle.std.specs.Bool.{IsTrue}
@@ -53,14 +55,16 @@ completed lines entries i count above so_far =
 -- ---- the line of an entry
 
 -- two lines of one number are one
-one_place : (lines : List Line) (i j : ℕ) (d : Line) → Rise lines → i < length lines → j < length lines → (get_or lines i d).number ≡ (get_or lines j d).number → i ≡ j
+one_place : (lines : List Line) (i j : ℕ) (d : Line) → Rise lines → i < length lines → j < length lines
+    → (get_or lines i d).number ≡ (get_or lines j d).number → i ≡ j
 one_place lines i j d rise low high same = elim (cases_lt i j) [
   | inl below ↦ absurd (omega (arith, rise i j d below high, same))
   | inr above ↦ elim (cases_lt j i) [ inl below ↦ absurd (omega (arith, rise j i d below low, same)) | inr up ↦ omega arith ]
 ]
 
 -- the line at the entry's place is the only one of its number, so it tells whether the entry differs
-pub tells_at : (is : Bool) (lines : List Line) (entry : Entry) (place : ℕ) (d : Line) → Rise lines → place < length lines → (get_or lines place d).number ≡ entry.line
+pub tells_at : (is : Bool) (lines : List Line) (entry : Entry) (place : ℕ) (d : Line) → Rise lines → place < length lines
+    → (get_or lines place d).number ≡ entry.line
     → IsTrue is ↔ Differs entry.reply (get_or lines place d).recorded → IsTrue is ↔ DiffersFromLine lines entry
 tells_at is lines entry place d rise low number tells = (
   (λ yes. (get_or lines place d, (place, low, get_or_default lines place (get_or lines place d) d low), number, tells.0 yes)),
@@ -117,10 +121,12 @@ from_first : (number : ℕ) (first : Line) (lines : List Line) → first.number 
 from_first number first lines is all zero d low = omega arith
 from_first number first lines is all (suc k) d low = from_next number lines all k d (omega arith)
 
-rise_on : (stand : Standing) (answer : Fed) (lines : List Line) → Rise lines → AreFrom (stand.number + 1) lines → Rise (lines_by stand answer ++ lines) × AreFrom stand.number (lines_by stand answer ++ lines)
+rise_on : (stand : Standing) (answer : Fed) (lines : List Line) → Rise lines → AreFrom (stand.number + 1) lines
+    → Rise (lines_by stand answer ++ lines) × AreFrom stand.number (lines_by stand answer ++ lines)
 rise_on stand (Played pid call recorded skipped) lines rise from =
     let first : Line = record { number = stand.number; process = index_among stand.seen pid; call = call; recorded = recorded } in (
-      AllPairs-cons (λ (one other : Line). one.number < other.number) first lines (λ k d low. let up : stand.number + 1 ≤ (get_or lines k d).number = from k d low in omega arith) rise,
+      AllPairs-cons (λ (one other : Line). one.number < other.number) first lines
+          (λ k d low. let up : stand.number + 1 ≤ (get_or lines k d).number = from k d low in omega arith) rise,
       from_first stand.number first lines refl from,
     )
 rise_on stand (Kept skipped) lines rise from = (rise, from_next stand.number lines from)
@@ -128,6 +134,7 @@ rise_on stand (Skipped skipped) lines rise from = (rise, from_next stand.number 
 rise_on stand Blank lines rise from = (rise, from_next stand.number lines from)
 
 -- they rise
-pub reads_rise : {stand : Standing} {texts : List (List ℕ)} {lines : List Line} {skipped : ℕ} → Reads stand texts lines skipped → Rise lines × AreFrom stand.number lines
+pub reads_rise : {stand : Standing} {texts : List (List ℕ)} {lines : List Line} {skipped : ℕ} → Reads stand texts lines skipped
+    → Rise lines × AreFrom stand.number lines
 reads_rise (nothing left) = ((λ i j d below low. absurd (omega arith)), (λ k d low. absurd (omega arith)))
 reads_rise (line {stand = s} {lines = ls} answer asks reads) = let rest = reads_rise reads in rise_on s answer ls rest.0 rest.1

@@ -14,5 +14,6 @@ made_count seed threads (suc made) =
     let more = length-append (lines_of seed threads made) (line_at (state_after seed (4 * made)) threads made ∷ []) in
     omega (arith, before, more)
 
-pub load_count : (seed threads calls : ℕ) (made : List MadeLine) (lines : List Line) → made ≡ lines_of seed threads calls → lines ≡ map line_of made → length lines ≡ calls
+pub load_count : (seed threads calls : ℕ) (made : List MadeLine) (lines : List Line) → made ≡ lines_of seed threads calls
+    → lines ≡ map line_of made → length lines ≡ calls
 load_count seed threads calls made lines same is = ap length is ∙ length-map made line_of ∙ ap length same ∙ made_count seed threads calls

@@ -42,7 +42,8 @@ agrees worker (t ∷ ts) (e ∷ es) h =
     }
 
 -- the same calls leave the same areas
-one_end : (A : List Area) (xs ys : List Entry) (B C : List Area) → map (λ (e : Entry). e.call) xs ≡ map (λ (e : Entry). e.call) ys → StateAfter A xs B → StateAfter A ys C → B ≡ C
+one_end : (A : List Area) (xs ys : List Entry) (B C : List Area) → map (λ (e : Entry). e.call) xs ≡ map (λ (e : Entry). e.call) ys
+    → StateAfter A xs B → StateAfter A ys C → B ≡ C
 one_end A [] [] B C same s t = s ∙ sym t
 one_end A [] (y ∷ ys) B C same s t = absurd cc
 one_end A (x ∷ xs) [] B C same s t = absurd cc

@@ -1,5 +1,6 @@
 -- Maps lines are read one by one, as the lines of a trace are; and what was read is in order and in range.
-use Rattle.std.proofs.Common.{◌≡◌, Bool, true, false, nat_eq, ℕ, ◌+◌, ◌*◌, ◌<◌, ◌≤◌, ◌^◌, List, [], ◌∷◌, ◌++◌, length, subst, arith, add-zero, append-nil, append_assoc, length-append}
+use Rattle.std.proofs.Common.{◌≡◌, Bool, true, false, nat_eq, ℕ, ◌+◌, ◌*◌, ◌<◌, ◌≤◌, ◌^◌, List, [], ◌∷◌, ◌++◌, length}
+use Rattle.std.proofs.Common.{subst, arith, add-zero, append-nil, append_assoc, length-append}
 use Rattle.std.proofs.lemmas.List.Elements.{All-push}
 use Rattle.std.proofs.lemmas.Bool.{eqb-true}
 use Rattle.std.proofs.lemmas.List.{nil_from_length}
@@ -23,7 +24,8 @@ spells_fit text (Past start stop) h = (h.2, h.1.stops_at.fits)
 -- before maps line `number`, behind a line that ends at this address, these areas were read, and so many lines past the
 -- user addresses; these texts are left
 pub record MapsSoFar (all : List (List ℕ)) (number from : ℕ) (left : List (List ℕ)) (areas : List Area) (past : ℕ) : Type 0 where
-  pub reads : (more : List Area) (p next : ℕ) (rest : List (List ℕ)) → ReadsMaps number from left more p next rest → ReadsMaps 1 0 all (areas ++ more) (past + p) next rest
+  pub reads : (more : List Area) (p next : ℕ) (rest : List (List ℕ)) → ReadsMaps number from left more p next rest
+      → ReadsMaps 1 0 all (areas ++ more) (past + p) next rest
   pub ends : (end : EarlyEnd) → EndsMaps number from left end → EndsMaps 1 0 all end
 
 pub maps_start : (all : List (List ℕ)) → MapsSoFar all 1 0 all [] 0

@@ -1,6 +1,7 @@
 -- The words and the bytes of an input have one outcome: what reads an input and what ends a run exclude each other, and
 -- an input ends a run in one way. It rests on each text having one outcome, and on one area list having given kinds.
-use Rattle.std.proofs.Common.{◌≡◌, ◌⊎◌, Bool, true, false, ℕ, ◌+◌, ◌*◌, ◌≤◌, List, [], length, drop, Option, None, Some, subst, inl, inr, refl, sym, ap, ◌∙◌, arith}
+use Rattle.std.proofs.Common.{◌≡◌, ◌⊎◌, Bool, true, false, ℕ, ◌+◌, ◌*◌, ◌≤◌, List, [], length, drop, Option, None, Some}
+use Rattle.std.proofs.Common.{subst, inl, inr, refl, sym, ap, ◌∙◌, arith}
 use Rattle.page_types.specs.declared.calls.Kind.{Kind}
 use Rattle.area_rows.specs.Callers.{ClosedView}
 use Rattle.space_model.specs.declared.areas.Area.{Area}
@@ -194,7 +195,8 @@ same_maps (mapped {from = f} {text = t} {area = x} a r) (past_end {start = u} {s
     absurd (let is : Mapped x ≡ Past u v = next_same f t (Mapped x) (Past u v) a b in cc)
 same_maps (past_end {from = f} {start = u} {stop = v} {text = t} a r) (mapped {area = x} b q) =
     absurd (let is : Mapped x ≡ Past u v = next_same f t (Mapped x) (Past u v) b a in cc)
-same_maps (past_end {number = n} {from = f} {start = u} {stop = v} {text = t} {texts = ts} a r) (past_end {past = p} {next = m} {start = w} {stop = z} {left = l} {areas = ys} b q) =
+same_maps (past_end {number = n} {from = f} {start = u} {stop = v} {text = t} {texts = ts} a r)
+    (past_end {past = p} {next = m} {start = w} {stop = z} {left = l} {areas = ys} b q) =
     let is : Past w z ≡ Past u v = next_same f t (Past w z) (Past u v) b a in
     let same : z ≡ v = cc in
     let s = same_maps r (subst (λ k. ReadsMaps (n + 1) k ts ys p m l) same q) in
@@ -256,7 +258,8 @@ same_options : (words : List (List ℕ)) → AskForOne words → (o p : Options)
 same_options words one o p m n a b = let same : Play o m ≡ Play p n = one (Play o m) (Play p n) a b in cc same
 
 -- and not for a load too
-no_load : (words : List (List ℕ)) → AskForOne words → (o : Options) (m seed threads calls : ℕ) → Spells words (Play o m) → Spells words (Load seed threads calls) → ⊥
+no_load : (words : List (List ℕ)) → AskForOne words → (o : Options) (m seed threads calls : ℕ) → Spells words (Play o m)
+    → Spells words (Load seed threads calls) → ⊥
 no_load words one o m seed threads calls a b = let same : Play o m ≡ Load seed threads calls = one (Play o m) (Load seed threads calls) a b in absurd (cc same)
 
 -- words and an input have one outcome, but for the history that it carries
@@ -273,21 +276,27 @@ one_status one (too_long acc high) (done acc2 fits script) = absurd (omega (arit
 one_status {words = words} one (too_long (o, n, acc) high) (loaded {seed = x} {threads = m} {calls = k} acc2) = absurd (no_load words one o n x m k acc acc2)
 one_status one (early {options = o} {threads = n} acc fits ends is) (usage b) = absurd (b (Play o n) acc)
 one_status one (early acc fits ends is) (too_long acc2 high) = absurd (omega (arith, high, fits))
-one_status {words = words} {bytes = bytes} one (early {options = o} {threads = m} {end = e} acc fits ends is) (early {options = p} {threads = n} {end = f} acc2 fits2 ends2 is2) =
+one_status {words = words} {bytes = bytes} one (early {options = o} {threads = m} {end = e} acc fits ends is)
+    (early {options = p} {threads = n} {end = f} acc2 fits2 ends2 is2) =
     let same = same_options words one p o n m acc2 acc in
     ap ending (is ∙ ap status_of (input_ends_same o bytes e f ends (subst (λ q. EndsInput q bytes f) same ends2)) ∙ sym is2)
-one_status {words = words} {bytes = bytes} one (early {options = o} {threads = m} {end = e} acc fits ends is) (done {options = p} {threads = n} {start = x} {lines = l} {skipped = k} acc2 fits2 script) =
+one_status {words = words} {bytes = bytes} one (early {options = o} {threads = m} {end = e} acc fits ends is)
+    (done {options = p} {threads = n} {start = x} {lines = l} {skipped = k} acc2 fits2 script) =
     absurd (script_ends p bytes x l k e script (subst (λ q. EndsInput q bytes e) (same_options words one o p m n acc acc2) ends))
-one_status {words = words} one (early {options = o} {threads = n} acc fits ends is) (loaded {seed = x} {threads = m} {calls = k} acc2) = absurd (no_load words one o n x m k acc acc2)
+one_status {words = words} one (early {options = o} {threads = n} acc fits ends is)
+    (loaded {seed = x} {threads = m} {calls = k} acc2) = absurd (no_load words one o n x m k acc acc2)
 one_status one (done {options = o} {threads = n} acc fits script) (usage b) = absurd (b (Play o n) acc)
 one_status one (done acc fits script) (too_long acc2 high) = absurd (omega (arith, high, fits))
-one_status {words = words} {bytes = bytes} one (done {options = p} {threads = n} {start = x} {lines = l} {skipped = k} acc2 fits2 script) (early {options = o} {threads = m} {end = e} acc fits ends is) =
+one_status {words = words} {bytes = bytes} one
+    (done {options = p} {threads = n} {start = x} {lines = l} {skipped = k} acc2 fits2 script)
+    (early {options = o} {threads = m} {end = e} acc fits ends is) =
     absurd (script_ends p bytes x l k e script (subst (λ q. EndsInput q bytes e) (same_options words one o p m n acc acc2) ends))
 one_status one (done acc fits script) (done acc2 fits2 script2) = refl
 one_status one (done acc fits script) (loaded acc2) = refl
 one_status one (loaded {seed = x} {threads = n} {calls = k} acc) (usage b) = absurd (b (Load x n k) acc)
 one_status {words = words} one (loaded {seed = x} {threads = m} {calls = k} acc) (too_long (o, n, acc2) high) = absurd (no_load words one o n x m k acc2 acc)
-one_status {words = words} one (loaded {seed = x} {threads = m} {calls = k} acc) (early {options = o} {threads = n} acc2 fits ends is) = absurd (no_load words one o n x m k acc2 acc)
+one_status {words = words} one (loaded {seed = x} {threads = m} {calls = k} acc)
+    (early {options = o} {threads = n} acc2 fits ends is) = absurd (no_load words one o n x m k acc2 acc)
 one_status one (loaded acc) (done acc2 fits script) = refl
 one_status one (loaded acc) (loaded acc2) = refl
 

@@ -59,7 +59,8 @@ module _ {X : Type 0} (key : X → ℕ) where
   NoneAbove n xs = (k : ℕ) → n ≤ k → part xs k ≡ []
 
   part_length : (x : X) (xs : List X) (k : ℕ) → length (part (x ∷ xs) k) ≡ one_at (key x) k + length (part xs k)
-  part_length x xs k = elim (key x == k) as (λ b. length (cond b (x ∷ part xs k) (part xs k)) ≡ cond b 1 0 + length (part xs k)) [ true ↦ omega arith | false ↦ omega arith ]
+  part_length x xs k = elim (key x == k) as (λ b. length (cond b (x ∷ part xs k) (part xs k)) ≡ cond b 1 0 + length (part xs k))
+      [ true ↦ omega arith | false ↦ omega arith ]
 
   cond_none : (b : Bool) (x : X) (xs : List X) → cond b (x ∷ xs) xs ≡ [] → (b ≡ false) × (xs ≡ [])
   cond_none true x xs e = absurd cc
@@ -71,7 +72,10 @@ module _ {X : Type 0} (key : X → ℕ) where
   first_below : (n : ℕ) (x : X) (xs : List X) → NoneAbove n (x ∷ xs) → key x < n
   first_below n x xs none = elim (cases_lt (key x) n) [
     | inl below ↦ below
-    | inr above ↦ elim (eqb_tells (key x) (key x)) [ inl h ↦ absurd (let no = (cond_none (key x == key x) x (part xs (key x)) (none (key x) above)).0 in let yes = h.0 in cc) | inr h ↦ absurd (h.1 refl) ]
+    | inr above ↦ elim (eqb_tells (key x) (key x)) [
+      | inl h ↦ absurd (let no = (cond_none (key x == key x) x (part xs (key x)) (none (key x) above)).0 in let yes = h.0 in cc)
+      | inr h ↦ absurd (h.1 refl)
+    ]
   ]
 
   -- the parts are together as long as the whole

@@ -40,7 +40,9 @@ as_many threads lines entries some_threads h =
     let count = dealt_length threads lines in
     sym (parts_whole (λ (e : Entry). e.worker) threads entries (λ k above. h.no_other k (omega arith)))
     ∙ total_same threads (λ k. length (entries_of k entries)) (λ k. length (own_lines threads lines k))
-    (λ k low. entries_length k (worker_lines threads lines k) (entries_of k entries) (h.lines k (worker_lines threads lines k) (numbered_list (worker_lines threads lines) 0 threads k k low (omega arith))) ∙ length-map (own_lines threads lines k) played_line)
+    (λ k low. entries_length k (worker_lines threads lines k) (entries_of k entries)
+    (h.lines k (worker_lines threads lines k) (numbered_list (worker_lines threads lines) 0 threads k k low (omega arith)))
+    ∙ length-map (own_lines threads lines k) played_line)
     ∙ parts_whole (worker_of threads) threads lines (none_above (worker_of threads) threads (λ line. mod-lt line.process some_threads) lines)
 
 -- what workers have played is what `run` says of it

@@ -1,5 +1,6 @@
 -- A process that is new gets the next place, and each other keeps its own.
-use Rattle.std.proofs.Common.{◌≡◌, ◌≢◌, ℕ, ◌+◌, Bool, true, false, List, [], ◌∷◌, ◌++◌, length, Option, None, Some, ap, subst, sym, refl, ◌∙◌, arith, inl, inr, length-append}
+use Rattle.std.proofs.Common.{◌≡◌, ◌≢◌, ℕ, ◌+◌, Bool, true, false, List, [], ◌∷◌, ◌++◌, length, Option, None, Some, ap}
+use Rattle.std.proofs.Common.{subst, sym, refl, ◌∙◌, arith, inl, inr, length-append}
 use Rattle.std.specs.Prelude.{◌==◌, if◌then◌else◌}
 use Rattle.std.proofs.lemmas.Bool.{cases_eq}
 use Rattle.std.proofs.lemmas.Bool.Decides.{eqb_tells}
@@ -47,12 +48,14 @@ place_new (first ∷ seen) pid e =
     ap (λ (b : Bool). found_at b (place_among (seen ++ pid ∷ []) pid)) k.0 ∙ ap one_on (place_new seen pid k.1) ∙ ap Some (omega arith)
 
 -- a process that has its index keeps it
-pub indexed_found : (processes : Processes) (seen : List ℕ) (pid place : ℕ) → get nat_cmp processes.indexes pid ≡ Some place → IsIndexed processes seen → IsIndexed processes (seen_with seen pid)
+pub indexed_found : (processes : Processes) (seen : List ℕ) (pid place : ℕ) → get nat_cmp processes.indexes pid ≡ Some place
+    → IsIndexed processes seen → IsIndexed processes (seen_with seen pid)
 indexed_found processes seen pid place e h = subst (IsIndexed processes) (seen_found seen pid place (sym (h.places pid) ∙ e)) h
 
 -- a new one has the next
 pub indexed_new : (old new : Processes) (seen : List ℕ) (pid : ℕ) → get nat_cmp old.indexes pid ≡ None → get nat_cmp new.indexes pid ≡ Some old.count
-    → ((q : ℕ) → q ≢ pid → get nat_cmp new.indexes q ≡ get nat_cmp old.indexes q) → new.count ≡ old.count + 1 → IsIndexed old seen → IsIndexed new (seen_with seen pid)
+    → ((q : ℕ) → q ≢ pid → get nat_cmp new.indexes q ≡ get nat_cmp old.indexes q) → new.count ≡ old.count + 1 → IsIndexed old seen
+    → IsIndexed new (seen_with seen pid)
 indexed_new old new seen pid none some others more h =
     let at_none = sym (h.places pid) ∙ none in
     subst (IsIndexed new) (seen_new seen pid at_none) (record {

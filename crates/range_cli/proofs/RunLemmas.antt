@@ -83,10 +83,12 @@ never_usage (Above which value) is = cc
 -- its bytes ended the run
 by_bytes : (words : List (List ℕ)) (options : Options) (threads : ℕ) (a b : Option (List ℕ)) (end : EarlyEnd) → Spells words (Play options threads)
     → ((bytes : List ℕ) × IsInput a b bytes × EndsInput options bytes end) → EndsByInput words a b end
-by_bytes words options threads a b end accepted (bytes, input, h) = record { options = options; threads = threads; accepted = accepted; bytes = bytes; input = input; holds = h }
+by_bytes words options threads a b end accepted (bytes, input, h) =
+    record { options = options; threads = threads; accepted = accepted; bytes = bytes; input = input; holds = h }
 
 -- an early end has its cause
-pub has_cause : (words : List (List ℕ)) (options : Options) (threads : ℕ) (a b : Option (List ℕ)) (m n : ℕ) (failures : ℕ × ℕ) (end : EarlyEnd) → Spells words (Play options threads)
+pub has_cause : (words : List (List ℕ)) (options : Options) (threads : ℕ) (a b : Option (List ℕ)) (m n : ℕ) (failures : ℕ × ℕ)
+    (end : EarlyEnd) → Spells words (Play options threads)
     → OrMemory (EndsEarly options a b m n) end → HasCause words a b (m, n) failures (status_of end)
 has_cause words options threads a b m n failures (Refused line column what) accepted (inl h) = absurd cc
 has_cause words options threads a b m n failures (Refused line column what) accepted (inr (inl h)) = absurd h

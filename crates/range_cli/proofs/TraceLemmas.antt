@@ -1,5 +1,6 @@
 -- Lines are read one by one: what becomes of those that are left completes what became of those before them.
-use Rattle.std.proofs.Common.{◌≡◌, ℕ, ◌+◌, ◌≤◌, List, [], ◌∷◌, ◌++◌, length, Result, Ok, Err, ap, subst, sym, refl, ◌∙◌, inl, inr, arith, append-nil, append_assoc}
+use Rattle.std.proofs.Common.{◌≡◌, ℕ, ◌+◌, ◌≤◌, List, [], ◌∷◌, ◌++◌, length, Result, Ok, Err, ap, subst, sym, refl, ◌∙◌}
+use Rattle.std.proofs.Common.{inl, inr, arith, append-nil, append_assoc}
 use Rattle.std.specs.Prelude.{OnOk}
 use Rattle.strace_reader.specs.declared.joiner.Fed.{Fed}
 use Rattle.strace_reader.specs.declared.joiner.Fed.TheVariants.{Played, Kept, Skipped, Blank}
@@ -45,8 +46,10 @@ is_named fed text (Skipped count) h = tt
 is_named fed text Blank h = tt
 
 -- the reader that was fed the text, and added its answer, took it
-pub takes_by : (stand : Standing) (text : List ℕ) (old new : TraceReader) (answer : Fed) → IsShort text → StandsAt old stand → IsAnswer stand.fed text answer → IsFed new.joiner (text ∷ stand.fed)
-    → new.lines.items ≡ old.lines.items ++ lines_by stand answer → IsIndexed new.processes (seen_by stand.seen answer) → length new.lines.items ≡ length old.lines.items + played_by answer
+pub takes_by : (stand : Standing) (text : List ℕ) (old new : TraceReader) (answer : Fed) → IsShort text → StandsAt old stand
+    → IsAnswer stand.fed text answer → IsFed new.joiner (text ∷ stand.fed)
+    → new.lines.items ≡ old.lines.items ++ lines_by stand answer → IsIndexed new.processes (seen_by stand.seen answer)
+    → length new.lines.items ≡ length old.lines.items + played_by answer
     → length new.lines.items ≤ 1048576 → new.skipped ≡ old.skipped + skipped_by answer → Takes stand text old new
 takes_by stand text old new answer short at is fed lines indexed len few skipped =
     let played = at.played in record {
@@ -59,17 +62,22 @@ takes_by stand text old new answer short at is fed lines indexed len few skipped
 
 -- so it did where adding the answer succeeded
 pub takes_on : {X : Type 0} (r : Result X EarlyEnd) (text : List ℕ) (number : ℕ) (old new : TraceReader) (joiner : Joiner) (answer : Fed) → IsShort text
-    → ((fed : List (List ℕ)) → IsFed old.joiner fed → IsAnswer fed text answer) → ((fed : List (List ℕ)) → IsFed old.joiner fed → IsFed joiner (text ∷ fed)) → OnOk r (new.joiner ≡ joiner)
+    → ((fed : List (List ℕ)) → IsFed old.joiner fed → IsAnswer fed text answer)
+    → ((fed : List (List ℕ)) → IsFed old.joiner fed → IsFed joiner (text ∷ fed)) → OnOk r (new.joiner ≡ joiner)
     → OnOk r ((stand : Standing) → stand.number ≡ number → IsIndexed old.processes stand.seen → new.lines.items ≡ old.lines.items ++ lines_by stand answer)
-    → OnOk r ((seen : List ℕ) → IsIndexed old.processes seen → IsIndexed new.processes (seen_by seen answer)) → OnOk r (length new.lines.items ≡ length old.lines.items + played_by answer)
-    → OnOk r (length new.lines.items ≤ 1048576) → OnOk r (new.skipped ≡ old.skipped + skipped_by answer) → OnOk r ((stand : Standing) → StandsAt old stand → stand.number ≡ number → Takes stand text old new)
+    → OnOk r ((seen : List ℕ) → IsIndexed old.processes seen → IsIndexed new.processes (seen_by seen answer))
+    → OnOk r (length new.lines.items ≡ length old.lines.items + played_by answer)
+    → OnOk r (length new.lines.items ≤ 1048576) → OnOk r (new.skipped ≡ old.skipped + skipped_by answer)
+    → OnOk r ((stand : Standing) → StandsAt old stand → stand.number ≡ number → Takes stand text old new)
 takes_on (Ok x) text number old new joiner answer short answers next same lines seen len few skipped = λ stand at is.
-    takes_by stand text old new answer short at (answers stand.fed at.fed) (subst (λ (j : Joiner). IsFed j (text ∷ stand.fed)) (sym same) (next stand.fed at.fed)) (lines stand is at.indexed)
+    takes_by stand text old new answer short at (answers stand.fed at.fed)
+    (subst (λ (j : Joiner). IsFed j (text ∷ stand.fed)) (sym same) (next stand.fed at.fed)) (lines stand is at.indexed)
     (seen stand.seen at.indexed) len few skipped
 takes_on (Err e) text number old new joiner answer short answers next same lines seen len few skipped = tt
 
 -- an answer that is not taken ends the run
-pub full_ends : (stand : Standing) (text : List ℕ) (reader : TraceReader) (answer : Fed) (end : EarlyEnd) → IsShort text → StandsAt reader stand → IsAnswer stand.fed text answer
+pub full_ends : (stand : Standing) (text : List ℕ) (reader : TraceReader) (answer : Fed) (end : EarlyEnd) → IsShort text
+    → StandsAt reader stand → IsAnswer stand.fed text answer
     → IsFull (length reader.lines.items) answer end → OrMemory (Ends stand text) end
 full_ends stand text reader answer end short at is (inl h) = inl h
 full_ends stand text reader answer end short at is (inr h) =
@@ -87,17 +95,20 @@ pub record SoFar (first : ℕ) (all : List (List ℕ)) (number : ℕ) (left : Li
   pub reads : (more : List Line) (s : ℕ) → Reads stand left more s → Reads (start_at first) all (reader.lines.items ++ more) (reader.skipped + s)
   pub ends : (end : EarlyEnd) → EndsAt stand left end → EndsAt (start_at first) all end
 
-pub so_far_start : (first : ℕ) (all : List (List ℕ)) (reader : TraceReader) → StandsAt reader (start_at first) → reader.lines.items ≡ [] → reader.skipped ≡ 0 → SoFar first all first all reader
+pub so_far_start : (first : ℕ) (all : List (List ℕ)) (reader : TraceReader) → StandsAt reader (start_at first)
+    → reader.lines.items ≡ [] → reader.skipped ≡ 0 → SoFar first all first all reader
 so_far_start first all reader at none zero = record {
   stand = start_at first;
   stands = at;
   numbered = refl;
   counted = omega arith;
-  reads = λ more s h. subst (λ (x : List Line). Reads (start_at first) all (x ++ more) (reader.skipped + s)) (sym none) (subst (λ (n : ℕ). Reads (start_at first) all more n) (omega (arith, zero)) h);
+  reads = λ more s h. subst (λ (x : List Line). Reads (start_at first) all (x ++ more) (reader.skipped + s)) (sym none)
+      (subst (λ (n : ℕ). Reads (start_at first) all more n) (omega (arith, zero)) h);
   ends = λ end h. h;
 }
 
-pub so_far_step : (first : ℕ) (all : List (List ℕ)) (number : ℕ) (text : List ℕ) (texts : List (List ℕ)) (old new : TraceReader) (so_far : SoFar first all number (text ∷ texts) old) → Takes so_far.stand text old new
+pub so_far_step : (first : ℕ) (all : List (List ℕ)) (number : ℕ) (text : List ℕ) (texts : List (List ℕ)) (old new : TraceReader)
+    (so_far : SoFar first all number (text ∷ texts) old) → Takes so_far.stand text old new
     → SoFar first all (number + 1) texts new
 so_far_step first all number text texts old new so_far takes =
     let stand = so_far.stand in
@@ -111,21 +122,30 @@ so_far_step first all number text texts old new so_far takes =
       counted = omega (arith, counted);
       reads = λ more s h.
           let g = so_far.reads (lines_by stand takes.answer ++ more) (skipped_by takes.answer + s) (line takes.answer takes.asks h) in
-          let lines : old.lines.items ++ (lines_by stand takes.answer ++ more) ≡ new.lines.items ++ more = sym (append_assoc old.lines.items (lines_by stand takes.answer) more) ∙ ap (λ (x : List Line). x ++ more) (sym is_lines) in
+          let lines : old.lines.items ++ (lines_by stand takes.answer ++ more) ≡ new.lines.items ++ more =
+          sym (append_assoc old.lines.items (lines_by stand takes.answer) more)
+          ∙ ap (λ (x : List Line). x ++ more) (sym is_lines) in
           let skipped : old.skipped + (skipped_by takes.answer + s) ≡ new.skipped + s = omega (arith, is_skipped) in
-          subst (λ (n : ℕ). Reads (start_at first) all (new.lines.items ++ more) n) skipped (subst (λ (x : List Line). Reads (start_at first) all x (old.skipped + (skipped_by takes.answer + s))) lines g);
+          subst (λ (n : ℕ). Reads (start_at first) all (new.lines.items ++ more) n) skipped
+          (subst (λ (x : List Line). Reads (start_at first) all x (old.skipped + (skipped_by takes.answer + s))) lines g);
       ends = λ end h. so_far.ends end (later takes.answer takes.asks h);
     }
 
-pub so_far_all : (first : ℕ) (all : List (List ℕ)) (number left : ℕ) (reader : TraceReader) (so_far : SoFar first all number [] reader) → CountsKept so_far.stand.fed left → Reads (start_at first) all reader.lines.items (reader.skipped + left)
-so_far_all first all number left reader so_far kept = subst (λ (x : List Line). Reads (start_at first) all x (reader.skipped + left)) (append-nil reader.lines.items) (so_far.reads [] left (nothing kept))
+pub so_far_all : (first : ℕ) (all : List (List ℕ)) (number left : ℕ) (reader : TraceReader)
+    (so_far : SoFar first all number [] reader) → CountsKept so_far.stand.fed left
+    → Reads (start_at first) all reader.lines.items (reader.skipped + left)
+so_far_all first all number left reader so_far kept =
+    subst (λ (x : List Line). Reads (start_at first) all x (reader.skipped + left)) (append-nil reader.lines.items)
+    (so_far.reads [] left (nothing kept))
 
-pub so_far_ends : (first : ℕ) (all : List (List ℕ)) (number : ℕ) (text : List ℕ) (texts : List (List ℕ)) (reader : TraceReader) (end : EarlyEnd) (so_far : SoFar first all number (text ∷ texts) reader)
+pub so_far_ends : (first : ℕ) (all : List (List ℕ)) (number : ℕ) (text : List ℕ) (texts : List (List ℕ)) (reader : TraceReader)
+    (end : EarlyEnd) (so_far : SoFar first all number (text ∷ texts) reader)
     → OrMemory (Ends so_far.stand text) end → OrMemory (EndsAt (start_at first) all) end
 so_far_ends first all number text texts reader end so_far (inl h) = inl h
 so_far_ends first all number text texts reader end so_far (inr h) = inr (so_far.ends end (here h))
 
 -- no more halves are left than lines were read
-pub left_few : (first : ℕ) (all : List (List ℕ)) (number : ℕ) (left : List (List ℕ)) (reader : TraceReader) (count : ℕ) (so_far : SoFar first all number left reader) → CountsKept so_far.stand.fed count
+pub left_few : (first : ℕ) (all : List (List ℕ)) (number : ℕ) (left : List (List ℕ)) (reader : TraceReader) (count : ℕ)
+    (so_far : SoFar first all number left reader) → CountsKept so_far.stand.fed count
     → count + first ≤ number
 left_few first all number left reader count so_far kept = let counted = so_far.counted in omega (arith, counted, few_kept so_far.stand.fed count kept)

@@ -71,9 +71,11 @@ Reports words input_old input_new closed report =
 -- written the status carries the closed space whose history it is.
 abbrev pub Wrote : List (List ℕ) → Option (List ℕ) → Option (List ℕ) → Option (List ℕ) → Option (List ℕ) → Status → Type 0
 Wrote words input_old input_new out_old out_new (Done None) = ⊥
-Wrote words input_old input_new out_old out_new (Done (Some closed)) = (report : List ℕ) × Reports words input_old input_new closed report × Appends out_old out_new report
+Wrote words input_old input_new out_old out_new (Done (Some closed)) = (report : List ℕ)
+    × Reports words input_old input_new closed report × Appends out_old out_new report
 Wrote words input_old input_new out_old out_new (WriteFault None) = ⊥
-Wrote words input_old input_new out_old out_new (WriteFault (Some closed)) = (report : List ℕ) × Reports words input_old input_new closed report × AppendsPrefix out_old out_new report
+Wrote words input_old input_new out_old out_new (WriteFault (Some closed)) = (report : List ℕ)
+    × Reports words input_old input_new closed report × AppendsPrefix out_old out_new report
 Wrote words input_old input_new out_old out_new Usage = Keeps out_old out_new
 Wrote words input_old input_new out_old out_new (BadLine line column what) = Keeps out_old out_new
 Wrote words input_old input_new out_old out_new ReadFault = Keeps out_old out_new
@@ -131,7 +133,8 @@ pub data IsOutcome (words : List (List ℕ)) (bytes : List ℕ) : Status → Typ
   early : {options : Options} {threads : ℕ} {end : EarlyEnd} {status : Status} → Spells words (Play options threads) → length bytes ≤ 67108864 →
       EndsInput options bytes end → status ≡ status_of end → IsOutcome words bytes status
   -- every line is readable and all limits are kept
-  done : {options : Options} {threads : ℕ} {start : List Area} {lines : List Line} {skipped : ℕ} {closed : Option ClosedView} → Spells words (Play options threads) →
+  done : {options : Options} {threads : ℕ} {start : List Area} {lines : List Line} {skipped : ℕ} {closed : Option ClosedView}
+      → Spells words (Play options threads) →
       length bytes ≤ 67108864 → IsScript options bytes start lines skipped → IsOutcome words bytes (Done closed)
   -- a load is asked for, whatever the input is
   loaded : {seed threads calls : ℕ} {closed : Option ClosedView} → Spells words (Load seed threads calls) → IsOutcome words bytes (Done closed)

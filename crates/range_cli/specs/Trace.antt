@@ -81,14 +81,20 @@ seen_by seen Blank = seen
 -- The line that is played where the next text answers so. It has that text's number, also where the text is a second
 -- half.
 abbrev pub lines_by : Standing → Fed → List Line
-lines_by stand (Played pid call recorded skipped) = record { number = stand.number; process = index_among stand.seen pid; call = call; recorded = recorded } ∷ []
+lines_by stand (Played pid call recorded skipped) =
+    record { number = stand.number; process = index_among stand.seen pid; call = call; recorded = recorded } ∷ []
 lines_by stand (Kept skipped) = []
 lines_by stand (Skipped skipped) = []
 lines_by stand Blank = []
 
 -- where the reading stands behind a text that answered so
 abbrev pub after : Standing → List ℕ → Fed → Standing
-after stand text answer = record { number = stand.number + 1; played = stand.played + played_by answer; fed = text ∷ stand.fed; seen = seen_by stand.seen answer }
+after stand text answer = record {
+  number = stand.number + 1;
+  played = stand.played + played_by answer;
+  fed = text ∷ stand.fed;
+  seen = seen_by stand.seen answer;
+}
 
 -- ---- one line
 
@@ -108,7 +114,8 @@ Asks stand text answer = IsShort text × IsAnswer stand.fed text answer × (stan
 abbrev pub Passes : Standing → List ℕ → Which → ℕ → Type 0
 Passes stand text Input value = ⊥
 Passes stand text OfLine value = IsTooLongLine text value
-Passes stand text OfLines value = IsShort text × (value ≡ 1048577) × ((answer : Fed) × IsAnswer stand.fed text answer × (1048576 < stand.played + played_by answer))
+Passes stand text OfLines value = IsShort text × (value ≡ 1048577)
+    × ((answer : Fed) × IsAnswer stand.fed text answer × (1048576 < stand.played + played_by answer))
 Passes stand text Rows value = ⊥
 
 -- The next line ends the run so. Halves that are refused together have the number of the second, and a column in both.

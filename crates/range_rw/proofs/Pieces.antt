@@ -11,7 +11,9 @@ use Rattle.lock_core.specs.declared.views.Own.TheVariants.{Nothing, Filling, Lin
 use Rattle.lock_core.specs.declared.views.Todo.{Todo}
 use Rattle.lock_core.specs.declared.views.Todo.TheVariants.{Forward, FromHead, Done}
 use Rattle.lock_core.specs.declared.steps.Step.{Step}
-use Rattle.lock_core.specs.declared.steps.Step.TheVariants.{Enter, Leave, ReadEpoch, ReadHome, GiveHome, FillLo, FillHi, Aim, ClearHome, Walk, ReadLo, ReadHi, Link, Unlink, Mark, QuickLink, QuickUnlink, Settle}
+use Rattle.lock_core.specs.declared.steps.Step.TheVariants.{Enter, Leave, ReadEpoch, ReadHome, GiveHome, FillLo, FillHi}
+use Rattle.lock_core.specs.declared.steps.Step.TheVariants.{Aim, ClearHome, Walk, ReadLo, ReadHi, Link, Unlink, Mark}
+use Rattle.lock_core.specs.declared.steps.Step.TheVariants.{QuickLink, QuickUnlink, Settle}
 use Rattle.lock_core.specs.Views.{todo_of, marked, entered, left, kept_own, ready_left}
 use Rattle.lock_core.specs.Machine.{held_at, may_leave, given}
 use Rattle.epoch_pools.specs.declared.views.Part.{Part}
@@ -75,8 +77,21 @@ new_after first p q look le new =
     let s = m.2 in let f = new.2 in let b = new.3 in
     (m.0, m.1, omega arith, omega arith)
 
-lost_after : {P : Type 0} (first : ℕ) (p q : Part P) (Kind : Step → Type 0) (place expected found : ℕ) → q.trace.lost ≡ p.trace.lost → p.trace.taken ≤ q.trace.taken → IsLost first p Kind place expected found → IsLost first q Kind place expected found
-lost_after first p q Kind place expected found same le l = record { lost = l.lost; is = same ∙ l.is; kind = l.kind; from = l.from; below = let b = l.below in omega arith; placed = l.placed; wanted = l.wanted; had = l.had; differ = l.differ }
+lost_after : {P : Type 0} (first : ℕ) (p q : Part P) (Kind : Step → Type 0) (place expected found : ℕ)
+    → q.trace.lost ≡ p.trace.lost → p.trace.taken ≤ q.trace.taken → IsLost first p Kind place expected found
+    → IsLost first q Kind place expected found
+lost_after first p q Kind place expected found same le l =
+    record {
+      lost = l.lost;
+      is = same ∙ l.is;
+      kind = l.kind;
+      from = l.from;
+      below = let b = l.below in omega arith;
+      placed = l.placed;
+      wanted = l.wanted;
+      had = l.had;
+      differ = l.differ;
+    }
 
 pub refuses_after : {P : Type 0} (first : ℕ) (asked : Option Held) (p q : Part P) (a : Walked) → Keeps p q → Refuses first asked p a → Refuses first asked q a
 refuses_after first asked p q Place k x = x
@@ -95,7 +110,8 @@ refuses_after first asked p q (Conflict owner range mode) k x = record {
 refuses_after first asked p q (Lost l) k x = lost_after first p q RefusesTry l.place l.expected l.found k.lost k.taken x
 refuses_after first asked p q (Long visits) k x = (x.0 ∙ ap (λ n. 16 * n + 1) (sym k.seats), new_after first p q k.look k.taken x.1)
 
-pub refuses_from : {P : Type 0} (first later : ℕ) (asked now : Option Held) (q : Part P) (a : Walked) → first ≤ later → now ≡ asked → Refuses later now q a → Refuses first asked q a
+pub refuses_from : {P : Type 0} (first later : ℕ) (asked now : Option Held) (q : Part P) (a : Walked) → first ≤ later
+    → now ≡ asked → Refuses later now q a → Refuses first asked q a
 refuses_from first later asked now q Place le same x = x
 refuses_from first later asked now q (Conflict owner range mode) le same x = record {
   met = x.met;
@@ -109,7 +125,18 @@ refuses_from first later asked now q (Conflict owner range mode) le same x = rec
   asks = sym same ∙ x.asks;
   conflicts = x.conflicts;
 }
-refuses_from first later asked now q (Lost l) le same x = record { lost = x.lost; is = x.is; kind = x.kind; from = let f = x.from in omega arith; below = x.below; placed = x.placed; wanted = x.wanted; had = x.had; differ = x.differ }
+refuses_from first later asked now q (Lost l) le same x =
+    record {
+      lost = x.lost;
+      is = x.is;
+      kind = x.kind;
+      from = let f = x.from in omega arith;
+      below = x.below;
+      placed = x.placed;
+      wanted = x.wanted;
+      had = x.had;
+      differ = x.differ;
+    }
 refuses_from first later asked now q (Long visits) le same x = let new = x.1 in let f = new.2 in (x.0, (new.0, new.1, omega arith, new.3))
 
 pub walk_loss : (s : Step) → IsWalkLoss s → RefusesTry s
@@ -133,7 +160,8 @@ walk_loss QuickLink k = absurd k
 walk_loss QuickUnlink k = absurd k
 
 -- an answer of a walk or a validation that isn't its end
-pub walk_refuses : {P : Type 0} (first : ℕ) (own : Own) (q : Part P) (a : Walked) → has_come a ≡ false → Answers first own q a → IsNewWalk first q → (q.core.own ≡ own) × Refuses first (asked_of own) q a
+pub walk_refuses : {P : Type 0} (first : ℕ) (own : Own) (q : Part P) (a : Walked) → has_come a ≡ false → Answers first own q a
+    → IsNewWalk first q → (q.core.own ≡ own) × Refuses first (asked_of own) q a
 walk_refuses first own q Place isnt x new = absurd (let e : ◌≡◌ {A = Bool} true false = isnt in cc)
 walk_refuses first own q (Conflict owner range mode) isnt x new = (
   x.1,
@@ -150,7 +178,20 @@ walk_refuses first own q (Conflict owner range mode) isnt x new = (
     conflicts = x.0.conflicts;
   },
 )
-walk_refuses first own q (Lost l) isnt x new = (x.1, record { lost = x.0.lost; is = x.0.is; kind = walk_loss x.0.lost.kind x.0.kind; from = x.0.from; below = x.0.below; placed = x.0.placed; wanted = x.0.wanted; had = x.0.had; differ = x.0.differ })
+walk_refuses first own q (Lost l) isnt x new = (
+  x.1,
+  record {
+    lost = x.0.lost;
+    is = x.0.is;
+    kind = walk_loss x.0.lost.kind x.0.kind;
+    from = x.0.from;
+    below = x.0.below;
+    placed = x.0.placed;
+    wanted = x.0.wanted;
+    had = x.0.had;
+    differ = x.0.differ;
+  },
+)
 walk_refuses first own q (Long visits) isnt x new = (x.1, (x.0, new))
 
 -- the count of a walk that is looked at later
@@ -160,7 +201,8 @@ spent_look p q look seats free s = (sym look.0 ∙ (s.0 ∙ ap (λ n. 16 * n + 1
 look_spent : {P : Type 0} (p q : Part P) → IsSameLook p q → q.seats ≡ p.seats → held_at q.core.own ≡ None → IsSpent p → IsSpent q
 look_spent p q look seats free s = (look.0 ∙ (s.0 ∙ ap (λ n. 16 * n + 1) (sym seats)), free)
 
-pub long_after : {P : Type 0} (p q : Part P) (a : Walked) → IsSameLook p q → q.seats ≡ p.seats → held_at p.core.own ≡ None → held_at q.core.own ≡ None → (IsLong a ↔ IsSpent p) → (IsLong a ↔ IsSpent q)
+pub long_after : {P : Type 0} (p q : Part P) (a : Walked) → IsSameLook p q → q.seats ≡ p.seats → held_at p.core.own ≡ None
+    → held_at q.core.own ≡ None → (IsLong a ↔ IsSpent p) → (IsLong a ↔ IsSpent q)
 long_after p q a look seats before now long = (λ l. look_spent p q look seats now (long.0 l), λ s. long.1 (spent_look p q look seats before s))
 
 -- ---- the walk and the link
@@ -169,7 +211,8 @@ long_after p q a look seats before now long = (λ l. look_spent p q look seats n
 fill_free : (own : Own) → HasEnds own → held_at own ≡ None
 fill_free own e = ap held_at e.is
 
-came_by : {P : Type 0} (first : ℕ) (p q : Part P) (a : Walked) → has_come a ≡ true → HasEnds p.core.own → Answers first p.core.own q a → (q.core.own ≡ p.core.own) × StandsAtPlace q.core.cursor
+came_by : {P : Type 0} (first : ℕ) (p q : Part P) (a : Walked) → has_come a ≡ true → HasEnds p.core.own
+    → Answers first p.core.own q a → (q.core.own ≡ p.core.own) × StandsAtPlace q.core.cursor
 came_by first p q Place came e x = let y = subst (λ (o : Own). Arrives o q.core) e.is x in (y.0 ∙ sym e.is, y.1)
 came_by first p q (Conflict owner range mode) came e x = absurd (let z : ◌≡◌ {A = Bool} false true = came in cc)
 came_by first p q (Lost l) came e x = absurd (let z : ◌≡◌ {A = Bool} false true = came in cc)
@@ -266,7 +309,8 @@ unheld own h = ap held_at h.is ∙ (ap (λ (t : Todo). held_at (Linked h.node.no
 pub may_validate_on : {P : Type 0} (p : Part P) → IsInside p.core → HasToValidate p.core.own → p.core.cursor ≡ None → MayValidate p.seats p.core
 may_validate_on p in_epoch own none = record { inside = in_epoch; own = own; begins = inl none }
 
-module _ {P : Type 0} (p q : Part P) (a : Walked) (own : HasToValidate p.core.own) (on : IsOn p q) (answer : Answers p.trace.taken p.core.own q a) (new : IsNewWalk p.trace.taken q) where
+module _ {P : Type 0} (p q : Part P) (a : Walked) (own : HasToValidate p.core.own) (on : IsOn p q)
+    (answer : Answers p.trace.taken p.core.own q a) (new : IsNewWalk p.trace.taken q) where
   pub valid_ends : has_come a ≡ true → ValidEnds p q a
   valid_ends came = by_answer a came answer
     where
@@ -306,7 +350,13 @@ module _ {P : Type 0} (p q : Part P) (a : Walked) (own : HasToValidate p.core.ow
 
       pub marked_still : IsStill p r
       marked_still = still_on p q r (walk_still p q on) (record {
-        piece = record { number = mark.number; seats = mark.seats; pass = mark.free unheld_now; client = mark.client; taken = let t = mark.taken in omega arith };
+        piece = record {
+          number = mark.number;
+          seats = mark.seats;
+          pass = mark.free unheld_now;
+          client = mark.client;
+          taken = let t = mark.taken in omega arith;
+        };
         epoch = ap (λ (v : View). v.epoch) core_marked;
         hand = ap (λ (v : View). v.hand) core_marked ∙ on.hand;
         ready = ap (λ (v : View). v.ready) core_marked;
@@ -321,11 +371,17 @@ asks_linked : (own now : Own) → HasEnds own → now ≡ linked_own todo_of own
 asks_linked own now e same =
     ap asked_of (same ∙ ap (linked_own todo_of) e.is)
     ∙ ((λ i. Some (record { range = record { lo = unwrap_or (e.low i) 0; hi = unwrap_or (e.high i) 0 }; mode = e.node.mode }))
-    ∙ ((λ i. given (sym e.low i) (λ low. given (sym e.high i) (λ high. Some (record { range = record { lo = low; hi = high }; mode = e.node.mode })))) ∙ ap asked_of (sym e.is)))
+    ∙ ((λ i. given (sym e.low i) (λ low. given (sym e.high i)
+    (λ high. Some (record { range = record { lo = low; hi = high }; mode = e.node.mode })))) ∙ ap asked_of (sym e.is)))
 
 validates_linked : (own now : Own) → HasEnds own → now ≡ linked_own todo_of own → HasToValidate now
 validates_linked own now e same = record {
-  node = record { node = e.node.node; range = record { lo = unwrap_or e.node.lo 0; hi = unwrap_or e.node.hi 0 }; mode = e.node.mode; todo = todo_of e.node.mode };
+  node = record {
+    node = e.node.node;
+    range = record { lo = unwrap_or e.node.lo 0; hi = unwrap_or e.node.hi 0 };
+    mode = e.node.mode;
+    todo = todo_of e.node.mode;
+  };
   is = same ∙ ap (linked_own todo_of) e.is;
   todo = refl;
 }
@@ -480,7 +536,8 @@ module _ {P : Type 0} (p e : Part P) (own : HasEnds p.core.own) (entering : e �
           (λ g. let h = g node (at.0, own_in ∙ at.1, at.2) in inr (ready_out ∙ (ap (λ (o : Own). ready_left o f.core.ready) h.1 ∙ (λ i. h.2 i ∷ ready_in i)))) x
 
       back_refuses : (b : Walked) → Refuses e.trace.taken (asked_of e.core.own) f b → Refuses p.trace.taken (asked_of p.core.own) q b
-      back_refuses b x = refuses_from p.trace.taken e.trace.taken (asked_of p.core.own) (asked_of e.core.own) q b piece_in.taken (ap asked_of own_in) (refuses_after e.trace.taken (asked_of e.core.own) f q b keeps_out x)
+      back_refuses b x = refuses_from p.trace.taken e.trace.taken (asked_of p.core.own) (asked_of e.core.own) q b piece_in.taken
+          (ap asked_of own_in) (refuses_after e.trace.taken (asked_of e.core.own) f q b keeps_out x)
 
       pub way_ends : WayEnds p q a
       way_ends = by_answer a ends

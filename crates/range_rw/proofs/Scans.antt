@@ -28,7 +28,8 @@ use Rattle.range_rw.specs.Trying.{IsPiece}
 use Rattle.range_rw.specs.Scan.{scanned_as, IsScanCall, Gives, IsNext, GoesIn, GoesOut}
 
 -- a hand that is outside goes in, and one that has come out stays there
-pub goes_in : {P : Type 0} (p e q : Part P) → IsPiece p e → MaySweep e.core → e.core.ready ≡ p.core.ready → q ≡ quiet_after e Enter (entered e.core) → GoesIn p q
+pub goes_in : {P : Type 0} (p e q : Part P) → IsPiece p e → MaySweep e.core → e.core.ready ≡ p.core.ready
+    → q ≡ quiet_after e Enter (entered e.core) → GoesIn p q
 goes_in {P} p e q a may ready made = record {
   piece = record {
     number = ap (λ (x : Part P). x.number) made ∙ a.number;
@@ -45,7 +46,14 @@ goes_in {P} p e q a may ready made = record {
 }
 
 pub goes_out : {P : Type 0} (p q : Part P) → IsPiece p q → MaySweep q.core → q.core.ready ≡ p.core.ready → IsHandView q → GoesOut p q
-goes_out p q a may ready view = record { piece = a; even = may.outside.even; hand = may.outside.hand; own = may.own; cursor = view.sound.outside may.outside.even; ready = ready }
+goes_out p q a may ready view = record {
+  piece = a;
+  even = may.outside.even;
+  hand = may.outside.hand;
+  own = may.own;
+  cursor = view.sound.outside may.outside.even;
+  ready = ready;
+}
 
 bare_settled : (own : Own) → own ≡ Nothing → IsSettled own
 bare_settled own e = subst IsSettled (sym e) tt
@@ -56,18 +64,22 @@ module _ {P : Type 0} (p : Part P) where
   scan_none even = ap (λ (b : Bool). if b then None else Some (walk_of (16 * p.seats + 1) p.core.cursor p.trace.looked)) (eq-eqb _ _ even)
 
   pub scan_some : p.core.epoch % 2 ≡ 1 → scan_of p ≡ Some (walk_of (16 * p.seats + 1) p.core.cursor p.trace.looked)
-  scan_some odd = ap (λ (b : Bool). if b then None else Some (walk_of (16 * p.seats + 1) p.core.cursor p.trace.looked)) (ne_eqb (p.core.epoch % 2) 0 (λ z. let o = odd in omega arith))
+  scan_some odd = ap (λ (b : Bool). if b then None else Some (walk_of (16 * p.seats + 1) p.core.cursor p.trace.looked))
+      (ne_eqb (p.core.epoch % 2) 0 (λ z. let o = odd in omega arith))
 
   pub scan_inside : IsSome (scan_of p) → p.core.hand ≡ None → IsInside p.core
   scan_inside some hand = record { odd = by_even (p.core.epoch % 2 == 0) refl some; hand = hand }
     where
-      by_even : (b : Bool) → (p.core.epoch % 2 == 0) ≡ b → IsSome (if b then None else Some (walk_of (16 * p.seats + 1) p.core.cursor p.trace.looked)) → p.core.epoch % 2 ≡ 1
+      by_even : (b : Bool) → (p.core.epoch % 2 == 0) ≡ b
+          → IsSome (if b then None else Some (walk_of (16 * p.seats + 1) p.core.cursor p.trace.looked)) → p.core.epoch % 2 ≡ 1
       by_even true e s = absurd (cc)
       by_even false e s = let far : p.core.epoch % 2 ≢ 0 = λ z. let t = eq-eqb _ _ z in let f : ◌≡◌ {A = Bool} true false = sym t ∙ e in cc in omega arith
 
   -- what the seat shows of the walk
   pub was_is : (was : OpenScan) → scan_of p ≡ Some was → IsInside p.core → walk_of (16 * p.seats + 1) p.core.cursor p.trace.looked ≡ was
-  was_is was e inside = let s = scan_some inside.odd in let f : ◌≡◌ {A = Option OpenScan} (Some (walk_of (16 * p.seats + 1) p.core.cursor p.trace.looked)) (Some was) = sym s ∙ e in cc
+  was_is was e inside = let s = scan_some inside.odd in
+      let f : ◌≡◌ {A = Option OpenScan} (Some (walk_of (16 * p.seats + 1) p.core.cursor p.trace.looked)) (Some was) = sym s ∙ e in
+      cc
 
 walk_most : (m : ℕ) (o : Option Cursor) (l : Option Looked) → (walk_of m o l).most ≡ m
 walk_most m None l = refl
@@ -106,10 +118,19 @@ module _ {P : Type 0} (table : TableId) (p q : Part P) where
   out_call g = piece_call g.piece g.own g.ready
 
   pub on_call : IsOn p q → q.core.own ≡ Nothing → IsScanCall (known_in table p) (known_in table q)
-  on_call on own = record { table = refl; number = on.number; held = ap held_at own; ready = on.pools.ready; pass = on.pass; client = on.client; taken = on.taken }
+  on_call on own = record {
+    table = refl;
+    number = on.number;
+    held = ap held_at own;
+    ready = on.pools.ready;
+    pass = on.pass;
+    client = on.client;
+    taken = on.taken;
+  }
 
   pub in_begun : (seats : ℕ) → q.seats ≡ seats → GoesIn p q → scan_of q ≡ Some (fresh_scan (16 * seats + 1))
-  in_begun seats e g = scan_some q g.odd ∙ ((λ i. Some (walk_of (16 * q.seats + 1) (g.cursor i) q.trace.looked)) ∙ ap (λ (n : ℕ). Some (fresh_scan (16 * n + 1))) e)
+  in_begun seats e g = scan_some q g.odd ∙ ((λ i. Some (walk_of (16 * q.seats + 1) (g.cursor i) q.trace.looked))
+      ∙ ap (λ (n : ℕ). Some (fresh_scan (16 * n + 1))) e)
 
   pub out_none : GoesOut p q → scan_of q ≡ None
   out_none g = scan_none q g.even
@@ -151,14 +172,30 @@ module _ {P : Type 0} (table : TableId) (p q : Part P) where
 
     gives_by : (a : Passed) → Passes p q a → Gives (known_in table p) (known_in table q) was now (scanned_as a)
     gives_by (NodeFound owner range mode) x =
-        let s = x.0 in let c = cursor_of x.2 in
-        (record { met = s.met; is = s.is; from = s.from; below = s.below; owned = s.owned; holds = s.holds }, now_passed c.0 c.1 ∙ (x.1 ∙ ap (λ n. n + 1) was_passed))
+        let s = x.0 in let c = cursor_of x.2 in (
+          record { met = s.met; is = s.is; from = s.from; below = s.below; owned = s.owned; holds = s.holds },
+          now_passed c.0 c.1
+              ∙ (x.1 ∙ ap (λ n. n + 1) was_passed),
+        )
     gives_by ListEnd x =
-        let e = x.0.end in
-        (now_ended e.0 e.1 ∙ eq-eqb _ _ e.2, now_passed e.0 e.1 ∙ (x.1 ∙ was_passed), (let n = now_nodes e.0 e.1 in let m = now_most in let le = x.2 in omega arith))
+        let e = x.0.end in (
+          now_ended e.0 e.1 ∙ eq-eqb _ _ e.2,
+          now_passed e.0 e.1 ∙ (x.1 ∙ was_passed),
+          (let n = now_nodes e.0 e.1 in let m = now_most in let le = x.2 in omega arith),
+        )
     gives_by (NotWon l) x =
         let s = x.0 in (
-          record { lost = s.lost; is = s.is; kind = s.kind; from = s.from; below = s.below; placed = s.placed; wanted = s.wanted; had = s.had; differ = s.differ },
+          record {
+            lost = s.lost;
+            is = s.is;
+            kind = s.kind;
+            from = s.from;
+            below = s.below;
+            placed = s.placed;
+            wanted = s.wanted;
+            had = s.had;
+            differ = s.differ;
+          },
           x.1 ∙ was_passed,
           (let n = x.2 in let e = on.seats in let w = was_most in omega arith),
           ap (λ (o : Option Cursor). walk_of (16 * q.seats + 1) o q.trace.looked) x.3 ∙ ap fresh_scan (sym now_most ∙ same_most),
@@ -172,18 +209,27 @@ module _ {P : Type 0} (table : TableId) (p q : Part P) where
         )
 
     pub next_is : (a : Passed) (answer : Scanned) → answer ≡ scanned_as a → Passes p q a → IsNext (known_in table p) (known_in table q) was answer
-    next_is a answer e x = record { now = now; is = now_is; same = same_most; gives = subst (Gives (known_in table p) (known_in table q) was now) (sym e) (gives_by a x) }
+    next_is a answer e x = record {
+      now = now;
+      is = now_is;
+      same = same_most;
+      gives = subst (Gives (known_in table p) (known_in table q) was now) (sym e) (gives_by a x);
+    }
 
     pub next_bound : q.trace.taken ≤ p.trace.taken + 2 + 3 * (16 * p.seats + 1) → q.trace.taken ≤ p.trace.taken + 2 + 3 * was.most
     next_bound b = let w = was_most in omega arith
 
     -- a walk that is at the end, or has looked at as many nodes as it may, stays
-    pub next_ended : (a : Passed) (answer : Scanned) → answer ≡ scanned_as a → was.ended ≡ true → (IsAtEnd p.core.cursor → (q ≡ p) × (a ≡ ListEnd)) → (known_in table q ≡ known_in table p) × (answer ≡ scanned_as ListEnd)
+    pub next_ended : (a : Passed) (answer : Scanned) → answer ≡ scanned_as a → was.ended ≡ true
+        → (IsAtEnd p.core.cursor → (q ≡ p) × (a ≡ ListEnd))
+        → (known_in table q ≡ known_in table p) × (answer ≡ scanned_as ListEnd)
     next_ended a answer e ended stays =
         let s = stays (walk_ended (16 * p.seats + 1) p.core.cursor p.trace.looked (ap (λ (w : OpenScan). w.ended) was_walk ∙ ended)) in
         (ap (known_in table) s.0, e ∙ ap scanned_as s.1)
 
-    pub next_spent : (a : Passed) (answer : Scanned) → answer ≡ scanned_as a → was.nodes ≡ was.most → (seen_of p.core.cursor ≡ 16 * p.seats + 1 → (q ≡ p) × (a ≡ TooLong (16 * p.seats + 1))) → (known_in table q ≡ known_in table p) × (answer ≡ scanned_as (TooLong was.most))
+    pub next_spent : (a : Passed) (answer : Scanned) → answer ≡ scanned_as a → was.nodes ≡ was.most
+        → (seen_of p.core.cursor ≡ 16 * p.seats + 1 → (q ≡ p) × (a ≡ TooLong (16 * p.seats + 1)))
+        → (known_in table q ≡ known_in table p) × (answer ≡ scanned_as (TooLong was.most))
     next_spent a answer e spent stays =
         let n = walk_nodes (16 * p.seats + 1) p.core.cursor p.trace.looked in let w = ap (λ (x : OpenScan). x.nodes) was_walk in let m = was_most in
         let s = stays (omega arith) in

@@ -11,7 +11,8 @@ use Rattle.range_rw.specs.Contract.{Known, AreNewSeats, AreIdleSeats, IsGivenBac
 
 -- idle seats of which each is back are idle seats again
 pub seats_back : {P : Type 0} (table : TableId) (old new : List (Known P)) → length new ≡ length old → AreIdleSeats table old
-    → ((k : ℕ) (d : Known P) → k < length old → (a : Known P) × (b : Known P) × (a ≡ get_or old k d) × IsGivenBack a b × (b ≡ get_or new k d)) → AreIdleSeats table new
+    → ((k : ℕ) (d : Known P) → k < length old → (a : Known P) × (b : Known P) × (a ≡ get_or old k d) × IsGivenBack a b
+    × (b ≡ get_or new k d)) → AreIdleSeats table new
 seats_back table old new same idle each k s at =
     let lt = at_below new k s at in
     let e = each k s (omega arith) in
@@ -23,17 +24,21 @@ seats_back table old new same idle each k s at =
 
 module _ {P : Type 0} (table : TableId) where
   -- the first seat of a new table, and the second of two
-  pub first_new : (first : ℕ → P) (seats : List (Known P)) (s : Known P) → 0 < length seats → AreNewSeats table first seats → s ≡ get_or seats 0 s → s ≡ new_seat table first 0
+  pub first_new : (first : ℕ → P) (seats : List (Known P)) (s : Known P) → 0 < length seats → AreNewSeats table first seats
+      → s ≡ get_or seats 0 s → s ≡ new_seat table first 0
   first_new first seats s more new is = new 0 s (at_index seats 0 s more is)
 
-  pub second_new : (first : ℕ → P) (seats left : List (Known P)) (s : Known P) → length seats ≡ 2 → AreNewSeats table first seats → left ≡ remove seats 0 → s ≡ get_or left 0 s → s ≡ new_seat table first 1
+  pub second_new : (first : ℕ → P) (seats left : List (Known P)) (s : Known P) → length seats ≡ 2 → AreNewSeats table first seats
+      → left ≡ remove seats 0 → s ≡ get_or left 0 s → s ≡ new_seat table first 1
   second_new first [] left s two new rest is = absurd (omega arith)
   second_new first (x ∷ []) left s two new rest is = absurd (omega arith)
   second_new first (x ∷ y ∷ zs) left s two new rest is = new 1 s (ap some (sym (is ∙ ap (λ l. get_or l 0 s) rest)))
 
 module _ {P : Type 0} where
   -- what is so of each seat before and after is so at each place of the two lists
-  pub seats_each : (R : ℕ → Known P → Known P → Type 0) (old new : List (Known P)) → ((k : ℕ) (d : Known P) → k < length old → (a : Known P) × (b : Known P) × (a ≡ get_or old k d) × R k a b × (b ≡ get_or new k d))
+  pub seats_each : (R : ℕ → Known P → Known P → Type 0) (old new : List (Known P))
+      → ((k : ℕ) (d : Known P) → k < length old → (a : Known P) × (b : Known P) × (a ≡ get_or old k d) × R k a b
+      × (b ≡ get_or new k d))
       → (k : ℕ) (a b : Known P) → get_elem? old k ≡ some a → get_elem? new k ≡ some b → R k a b
   seats_each R old new each k a b at_a at_b =
       let e = each k a (at_below old k a at_a) in
@@ -47,12 +52,16 @@ module _ {P : Type 0} where
   at_firsts first n (suc k) zero p e = (n, sym (some-injective (first n) p e))
   at_firsts first n (suc k) (suc i) p e = at_firsts first (suc n) k i p e
 
-  passes_from : (first : ℕ → P) (n : ℕ) (seats : List (Known P)) → ((k : ℕ) (s : Known P) → get_elem? seats k ≡ some s → s.pass ≡ first (n + k)) → map pass_in seats ≡ first_passes first n (length seats)
+  passes_from : (first : ℕ → P) (n : ℕ) (seats : List (Known P))
+      → ((k : ℕ) (s : Known P) → get_elem? seats k ≡ some s → s.pass ≡ first (n + k))
+      → map pass_in seats ≡ first_passes first n (length seats)
   passes_from first n [] all = refl
   passes_from first n (s ∷ rest) all =
       let head : s.pass ≡ first n = let z : n + 0 ≡ n = omega arith in all 0 s refl ∙ ap first z in
       let more = passes_from first (suc n) rest (λ k t at. let z : n + suc k ≡ suc n + k = omega arith in all (suc k) t at ∙ ap first z) in
       λ i. head i ∷ more i
 
-  pub new_passes : (table : TableId) (first : ℕ → P) (seats : List (Known P)) → AreNewSeats table first seats → map pass_in seats ≡ first_passes first 0 (length seats)
-  new_passes table first seats new = passes_from first 0 seats (λ k s at. let z : k ≡ 0 + k = omega arith in ap (λ (x : Known P). x.pass) (new k s at) ∙ ap first z)
+  pub new_passes : (table : TableId) (first : ℕ → P) (seats : List (Known P)) → AreNewSeats table first seats
+      → map pass_in seats ≡ first_passes first 0 (length seats)
+  new_passes table first seats new = passes_from first 0 seats (λ k s at. let z : k ≡ 0 + k = omega arith in
+      ap (λ (x : Known P). x.pass) (new k s at) ∙ ap first z)

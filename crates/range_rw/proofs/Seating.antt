@@ -32,16 +32,22 @@ module _ {P : Type 0} (table : TableId) (first : ℕ → P) (seats : ℕ) where
   all_new hands new k h at = let z : k ≡ 0 + k = omega arith in new k h at ∙ ap (new_hand table first seats) z
 
   pub seat_is : (n : ℕ) (h : Standing P) → h ≡ new_hand table first seats n → known_of h ≡ new_seat table first n
-  seat_is n h e = ap known_of e ∙ (λ i. record (new_seat table first n) { pools = record (first_pools n) { waits = no_waits seats 0 (replicate seats false) i } })
+  seat_is n h e = ap known_of e
+      ∙ (λ i. record (new_seat table first n) {
+        pools =
+            record (first_pools n) { waits = no_waits seats 0 (replicate seats false) i };
+      })
 
   -- the hand that comes next, and that it has no node of its own
-  pub next_hand : (n : ℕ) (hands : List (Standing P)) (h : Standing P) → IsNewFrom n hands → 0 < length hands → h ≡ get_or hands 0 h → h ≡ new_hand table first seats n
+  pub next_hand : (n : ℕ) (hands : List (Standing P)) (h : Standing P) → IsNewFrom n hands → 0 < length hands
+      → h ≡ get_or hands 0 h → h ≡ new_hand table first seats n
   next_hand n hands h rest more is = let z : n + 0 ≡ n = omega arith in rest 0 h (at_index hands 0 h more is) ∙ ap (new_hand table first seats) z
 
   pub new_between : (n : ℕ) (h : Standing P) → h ≡ new_hand table first seats n → IsBetween h.part.core
   new_between n h e = subst (λ (x : Standing P). IsBetween x.part.core) (sym e) (record { own = tt; hand = refl; cursor = inl refl })
 
-  pub next_new : (n : ℕ) (hands : List (Standing P)) (h : Standing P) → IsNewFrom n hands → 0 < length hands → h ≡ get_or hands 0 h → known_of h ≡ new_seat table first n
+  pub next_new : (n : ℕ) (hands : List (Standing P)) (h : Standing P) → IsNewFrom n hands → 0 < length hands
+      → h ≡ get_or hands 0 h → known_of h ≡ new_seat table first n
   next_new n hands h rest more is = let z : n + 0 ≡ n = omega arith in seat_is n h (rest 0 h (at_index hands 0 h more is) ∙ ap (new_hand table first seats) z)
 
   pub new_on : (n : ℕ) (hands left : List (Standing P)) → IsNewFrom n hands → left ≡ remove hands 0 → IsNewFrom (n + 1) left
@@ -57,7 +63,8 @@ module _ {P : Type 0} (table : TableId) where
   pub all_idle : (seats : List (Known P)) → AreIdleSeats table seats → IsIdleFrom 0 seats
   all_idle seats idle k s at = let i = idle k s at in let z : k ≡ 0 + k = omega arith in (i.0, i.1 ∙ z, i.2)
 
-  pub next_idle : (n : ℕ) (seats : List (Known P)) (s : Known P) → IsIdleFrom n seats → 0 < length seats → s ≡ get_or seats 0 s → (s.table ≡ table) × (s.number ≡ n) × (s.held ≡ None)
+  pub next_idle : (n : ℕ) (seats : List (Known P)) (s : Known P) → IsIdleFrom n seats → 0 < length seats → s ≡ get_or seats 0 s
+      → (s.table ≡ table) × (s.number ≡ n) × (s.held ≡ None)
   next_idle n seats s rest more is = let i = rest 0 s (at_index seats 0 s more is) in let z : n + 0 ≡ n = omega arith in (i.0, i.1 ∙ z, i.2)
 
   pub idle_on : (n : ℕ) (seats left : List (Known P)) → IsIdleFrom n seats → left ≡ remove seats 0 → IsIdleFrom (n + 1) left
@@ -71,7 +78,9 @@ map_append : {A B : Type 0} (f : A → B) (l m : List A) → map f (l ++ m) ≡ 
 map_append f [] m = refl
 map_append f (x ∷ xs) m = ap (λ l. f x ∷ l) (map_append f xs m)
 
-pub passes_on : {P : Type 0} (hands : List (Standing P)) (h : Standing P) (seats left : List (Known P)) (s : Known P) (all : List P) → map hand_pass hands ++ map pass_in seats ≡ all → 0 < length seats → s ≡ get_or seats 0 s → left ≡ remove seats 0 → h.part.pass ≡ s.pass
+pub passes_on : {P : Type 0} (hands : List (Standing P)) (h : Standing P) (seats left : List (Known P)) (s : Known P)
+    (all : List P) → map hand_pass hands ++ map pass_in seats ≡ all → 0 < length seats → s ≡ get_or seats 0 s
+    → left ≡ remove seats 0 → h.part.pass ≡ s.pass
     → map hand_pass (hands ++ h ∷ []) ++ map pass_in left ≡ all
 passes_on {P} hands h seats left s all before more is rest same =
     let whole : seats ≡ s ∷ left = first_of_list seats s more is ∙ ap (λ l. s ∷ l) (sym rest) in

@@ -184,7 +184,8 @@ module _ {P : Type 0} where
   -- why there is no node to take: this call read each of the seat's sixteen nodes as away, of which the lowest is
   -- named; or another seat is named that hinders one that came home
   abbrev pub IsStuckIn : Known P → Known P → Stuck → Type 0
-  IsStuckIn before after (Away node) = (node ≡ 16 * after.number) × ((x : ℕ) → x / 16 ≡ after.number → IsReadAway before.trace.taken after.trace.taken after.trace.away x)
+  IsStuckIn before after (Away node) = (node ≡ 16 * after.number)
+      × ((x : ℕ) → x / 16 ≡ after.number → IsReadAway before.trace.taken after.trace.taken after.trace.away x)
   IsStuckIn before after (Inside seat epoch) = IsHeldUp before after seat epoch
 
   -- why a try for that range was refused: at a step of this call another seat's node was in conflict; or an exchange of
@@ -194,7 +195,8 @@ module _ {P : Type 0} where
   abbrev pub IsCause : Known P → Known P → Held → NotHeld → Type 0
   IsCause before after asked (Busy owner range mode) = (m : Met) × (after.trace.met ≡ Some m) × (before.trace.taken ≤ m.step) × (m.step < after.trace.taken)
       × (m.owner ≡ owner) × (m.held ≡ record { range = range; mode = mode }) × (owner ≢ before.number) × Conflicts m.held asked
-  IsCause before after asked (Again place expected found) = (l : Lost) × (after.trace.lost ≡ Some l) × (before.trace.taken ≤ l.step) × (l.step < after.trace.taken)
+  IsCause before after asked (Again place expected found) = (l : Lost) × (after.trace.lost ≡ Some l)
+      × (before.trace.taken ≤ l.step) × (l.step < after.trace.taken)
       × RefusesTry l.kind × (l.place ≡ place) × (l.expected ≡ expected) × (l.found ≡ found) × (found ≢ expected)
   IsCause before after asked (Long visits) = (w : IsWalkOf before after) × (w.walk.nodes ≡ visits)
   IsCause before after asked (NoNode stuck) = (before.pools.ready ≡ []) × ((w : IsWalkOf before after) × (w.walk.ended ≡ true)) × IsStuckIn before after stuck

@@ -59,7 +59,8 @@ module _ {P : Type 0} where
   abbrev pub Gives : Known P → Known P → OpenScan → OpenScan → Scanned → Type 0
   Gives before after was now (Found owner range mode) = IsFound before after owner (record { range = range; mode = mode }) × (now.passed ≡ was.passed + 1)
   Gives before after was now End = (now.ended ≡ true) × (now.passed ≡ was.passed) × (now.nodes < now.most)
-  Gives before after was now (Again place expected found) = IsAgain before after place expected found × (judged_in after.trace.looked ≡ was.passed) × (nodes_in after.trace.looked < was.most) × (now ≡ fresh_scan was.most)
+  Gives before after was now (Again place expected found) = IsAgain before after place expected found
+      × (judged_in after.trace.looked ≡ was.passed) × (nodes_in after.trace.looked < was.most) × (now ≡ fresh_scan was.most)
   Gives before after was now (Long visits) = (visits ≡ now.most) × (now.nodes ≡ now.most) × (now.passed ≡ was.passed) × (now.ended ≡ false)
 
   -- the call of a scan that had come to this before it

@@ -51,7 +51,15 @@ pub record IsBetween (v : View) : Type 0 where
 
 -- what contracts see of a seat, from its hand
 abbrev pub known_of : {P : Type 0} → Standing P → Known P
-known_of s = record { table = s.table; number = s.part.number; held = held_at s.part.core.own; pools = pools_of s.part.core; scan = scan_of s.part; pass = s.part.pass; trace = s.part.trace }
+known_of s = record {
+  table = s.table;
+  number = s.part.number;
+  held = held_at s.part.core.own;
+  pools = pools_of s.part.core;
+  scan = scan_of s.part;
+  pass = s.part.pass;
+  trace = s.part.trace;
+}
 
 abbrev pub known_in : {P : Type 0} → TableId → Part P → Known P
 known_in table p = known_of (record { table = table; part = p })

@@ -114,7 +114,10 @@ impl<G: Guard> RangeTable<G> {
         requires place { i < self.now.client }
         requires allowed { IsAllowed G.holds G.allows M.note seat.old.number seat.old.held seat.old.pass (exchanges i expected new) }
         ensures call { IsClientCall seat.old i seat.new }
-        ensures made { MatchResult result (λ _. IsMade G.holds G.allows M.note seat.old.number seat.old.held seat.old.pass (exchanges i expected new) expected seat.new.pass) (λ found. (found ≢ expected) × IsMade G.holds G.allows M.note seat.old.number seat.old.held seat.old.pass (exchanges i expected new) found seat.new.pass) }
+        ensures made { MatchResult result (λ _. IsMade G.holds G.allows M.note seat.old.number seat.old.held seat.old.pass
+            (exchanges i expected new) expected seat.new.pass)
+            (λ found. (found ≢ expected) × IsMade G.holds G.allows M.note seat.old.number seat.old.held seat.old.pass
+            (exchanges i expected new) found seat.new.pass) }
     {
         client_exchange::<G, M>(&self.list, &mut seat.hand, i, expected, new)
     }
@@ -132,7 +135,10 @@ impl<G: Guard> RangeTable<G> {
         requires place { i < self.now.client }
         requires allowed { IsAllowed G.holds G.allows M.note seat.old.number seat.old.held seat.old.pass (exchanges i expected new) }
         ensures call { IsClientCall seat.old i seat.new }
-        ensures made { MatchResult result (λ _. IsMade G.holds G.allows M.note seat.old.number seat.old.held seat.old.pass (exchanges i expected new) expected seat.new.pass) (λ found. (found ≢ expected) × IsMade G.holds G.allows M.note seat.old.number seat.old.held seat.old.pass (exchanges i expected new) found seat.new.pass) }
+        ensures made { MatchResult result (λ _. IsMade G.holds G.allows M.note seat.old.number seat.old.held seat.old.pass
+            (exchanges i expected new) expected seat.new.pass)
+            (λ found. (found ≢ expected) × IsMade G.holds G.allows M.note seat.old.number seat.old.held seat.old.pass
+            (exchanges i expected new) found seat.new.pass) }
         ensures counted { steps.new ≡ steps.old + 1 }
     {
         steps.tick();

@@ -180,8 +180,10 @@ impl<'a, G: Guard> Scan<'a, G> {
         ensures call { IsScanCall self.old.seat.now self.new.seat.now }
         ensures next { (was : OpenScan) → self.old.seat.now.scan ≡ Some was → IsNext self.old.seat.now self.new.seat.now was result }
         ensures ended { (was : OpenScan) → self.old.seat.now.scan ≡ Some was → was.ended ≡ true → (self.new.seat.now ≡ self.old.seat.now) × (result ≡ End) }
-        ensures spent { (was : OpenScan) → self.old.seat.now.scan ≡ Some was → was.nodes ≡ was.most → (self.new.seat.now ≡ self.old.seat.now) × (result ≡ Long was.most) }
-        ensures bound { (was : OpenScan) → self.old.seat.now.scan ≡ Some was → self.new.seat.now.trace.taken ≤ self.old.seat.now.trace.taken + 2 + 3 * was.most }
+        ensures spent { (was : OpenScan) → self.old.seat.now.scan ≡ Some was → was.nodes ≡ was.most
+            → (self.new.seat.now ≡ self.old.seat.now) × (result ≡ Long was.most) }
+        ensures bound { (was : OpenScan) → self.old.seat.now.scan ≡ Some was
+            → self.new.seat.now.trace.taken ≤ self.old.seat.now.trace.taken + 2 + 3 * was.most }
     {
         let table = self.table;
         let seat = &mut *self.seat;

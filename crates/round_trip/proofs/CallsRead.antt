@@ -1,5 +1,7 @@
 -- The text of a call is read as the call: each argument with the comma behind it, and then the end of the line.
-use Rattle.std.proofs.Common.{rules, ◌≡◌, ◌≢◌, ℕ, zero, suc, ◌^◌, ◌<◌, ◌≤◌, List, [], ◌∷◌, ◌++◌, length, get_or, codes, decimal, if◌then◌else◌, ◌==◌, false, Option, Some, None, refl, sym, ap, subst, ◌∙◌, arith, append_assoc, append-nil}
+use Rattle.std.proofs.Common.{rules, ◌≡◌, ◌≢◌, ℕ, zero, suc, ◌^◌, ◌<◌, ◌≤◌, List, [], ◌∷◌, ◌++◌, length, get_or, codes}
+use Rattle.std.proofs.Common.{decimal, if◌then◌else◌, ◌==◌, false, Option, Some, None, refl, sym, ap, subst, ◌∙◌, arith}
+use Rattle.std.proofs.Common.{append_assoc, append-nil}
 use Rattle.std.proofs.lemmas.List.{length-append}
 use Rattle.std.proofs.lemmas.Bool.Decides.{nat_tests}
 use Rattle.std.proofs.lemmas.Fmt.{length-decimal-le}
@@ -19,7 +21,9 @@ use Rattle.strace_reader.specs.declared.item.Item.TheVariants.{Played}
 use Rattle.strace_reader.specs.declared.item.Name.{Name}
 use Rattle.strace_reader.specs.declared.item.Name.TheVariants.{Mmap, Munmap, Mprotect, Fault as FaultName}
 use Rattle.strace_reader.specs.Words.{call_head, access_of}
-use Rattle.strace_reader.specs.Calls.{call, arguments, unrecorded, addr, comma, access, closing, map_tail, descriptor, prot, flags, protect_behind_prot, map_behind_prot, map_behind_flags, munmap_arguments, mprotect_arguments, fault_arguments, mmap_arguments}
+use Rattle.strace_reader.specs.Calls.{call, arguments, unrecorded, addr, comma, access, closing, map_tail, descriptor}
+use Rattle.strace_reader.specs.Calls.{prot, flags, protect_behind_prot, map_behind_prot, map_behind_flags}
+use Rattle.strace_reader.specs.Calls.{munmap_arguments, mprotect_arguments, fault_arguments, mmap_arguments}
 use Rattle.strace_reader.specs.Grammar.{Spells, IsBody, NeverReturned, EndsWith, unfinished}
 use Rattle.strace_reader.proofs.BodyAnswers.{call_cut}
 use Rattle.maps_printer.specs.Calls.{call_text}
@@ -79,7 +83,8 @@ then_length next n more w small ends h =
 munmap_takes : (a n : ℕ) → a < 2 ^ 64 → n < 2 ^ 64
     → munmap_arguments.takes (address_text a ++ (codes ", " ++ (decimal n ++ codes ")"))) [] (unrecorded (Unmap a n))
 munmap_takes a n small_a small_n =
-    then_addr (λ a. chain comma (λ u. chain (number Number) (λ n. closing (Unmap a n)))) a (codes ", " ++ (decimal n ++ codes ")")) _ small_a (comma_ends_number [])
+    then_addr (λ a. chain comma (λ u. chain (number Number) (λ n. closing (Unmap a n)))) a
+    (codes ", " ++ (decimal n ++ codes ")")) _ small_a (comma_ends_number [])
     (then_length (λ n. closing (Unmap a n)) n (codes ")") _ small_n close_ends_number (closing_takes (Unmap a n)))
 
 -- a comma and a protection, and what is read behind them
@@ -91,9 +96,12 @@ then_prot next bits more w small ends h =
     then_comma (chain prot next) (text ++ more) w (rw append_assoc read.1) (text, more, Some bits, refl, read.0, h)
 
 mprotect_takes : (a n p : ℕ) → a < 2 ^ 64 → n < 2 ^ 64 → p < 8
-    → mprotect_arguments.takes (address_text a ++ (codes ", " ++ (decimal n ++ (codes ", " ++ (prot_text (record { 0 = p }) ++ codes ")"))))) [] (unrecorded (Protect a n (record { 0 = p })))
+    → mprotect_arguments.takes
+    (address_text a ++ (codes ", " ++ (decimal n ++ (codes ", " ++ (prot_text (record { 0 = p }) ++ codes ")"))))) []
+    (unrecorded (Protect a n (record { 0 = p })))
 mprotect_takes a n p small_a small_n small_p =
-    then_addr (λ a. chain comma (λ u. chain (number Number) (λ n. chain comma (λ v. chain prot (protect_behind_prot a n))))) a _ _ small_a (comma_ends_number [])
+    then_addr (λ a. chain comma (λ u. chain (number Number) (λ n. chain comma (λ v. chain prot (protect_behind_prot a n))))) a _ _
+    small_a (comma_ends_number [])
     (then_length (λ n. chain comma (λ v. chain prot (protect_behind_prot a n))) n _ _ small_n (comma_ends_number [])
     (then_prot (protect_behind_prot a n) p (codes ")") _ small_p close_ends (closing_takes (Protect a n (record { 0 = p })))))
 
@@ -123,11 +131,27 @@ fault_takes a which small =
 -- the descriptor -1 and the offset 0
 dropped_takes : (c : Call) → (map_tail c).takes (codes ", -1, 0)") [] (unrecorded c)
 dropped_takes c =
-    then_comma (chain descriptor (λ v. chain comma (λ w. chain (number Number) (λ o. closing c)))) (codes "-1, 0)") _ refl
-    (codes "-1", codes ", 0)", tt, refl, (codes "-1", [], tt, refl, letters_take (codes "-1") (codes ", 0)") Number, (refl, refl)), (then_comma (chain (number Number) (λ o. closing c)) (codes "0)") _ refl (codes "0", codes ")", 0, refl, zero_number (codes ")") close_ends_number, closing_takes c)))
+    then_comma (chain descriptor (λ v. chain comma (λ w. chain (number Number) (λ o. closing c)))) (codes "-1, 0)") _ refl (
+      codes "-1",
+      codes ", 0)",
+      tt,
+      refl,
+      (
+        codes "-1",
+        [],
+        tt,
+        refl,
+        letters_take (codes "-1") (codes ", 0)") Number,
+        (refl, refl),
+      ),
+      (then_comma (chain (number Number) (λ o. closing c)) (codes "0)") _ refl
+          (codes "0", codes ")", 0, refl, zero_number (codes ")") close_ends_number, closing_takes c)),
+    )
 
 mmap_takes : (a n p f : ℕ) → a < 2 ^ 64 → n < 2 ^ 64 → p < 8 → f < 16
-    → mmap_arguments.takes (address_text a ++ (codes ", " ++ (decimal n ++ (codes ", " ++ (prot_text (record { 0 = p }) ++ (codes ", " ++ (flags_text (record { 0 = f }) ++ codes ", -1, 0)"))))))) []
+    → mmap_arguments.takes
+    (address_text a ++ (codes ", " ++ (decimal n ++ (codes ", "
+    ++ (prot_text (record { 0 = p }) ++ (codes ", " ++ (flags_text (record { 0 = f }) ++ codes ", -1, 0)"))))))) []
     (unrecorded (Map a n (record { 0 = p }) (record { 0 = f })))
 mmap_takes a n p f small_a small_n small_p small_f =
     let c = Map a n (record { 0 = p }) (record { 0 = f }) in
@@ -136,7 +160,8 @@ mmap_takes a n p f small_a small_n small_p small_f =
     then_addr (λ a. chain comma (λ u. chain (number Number) (λ n. chain comma (λ v. chain prot (map_behind_prot a n))))) a _ _ small_a (comma_ends_number [])
     (then_length (λ n. chain comma (λ v. chain prot (map_behind_prot a n))) n _ _ small_n (comma_ends_number [])
     (then_prot (map_behind_prot a n) p _ _ small_p (comma_ends _)
-    (then_comma (chain flags (map_behind_flags a n p)) (text ++ codes ", -1, 0)") _ (rw append_assoc read.1) (text, codes ", -1, 0)", Some f, refl, read.0, dropped_takes c))))
+    (then_comma (chain flags (map_behind_flags a n p)) (text ++ codes ", -1, 0)") _ (rw append_assoc read.1)
+    (text, codes ", -1, 0)", Some f, refl, read.0, dropped_takes c))))
 
 -- ---- the whole line
 
@@ -159,7 +184,8 @@ did_return text body e h =
     last_differs body before 41 63 (sym e ∙ h.3 ∙ simp append_assoc) (λ x. omega arith)
 
 -- a line of the name and arguments that are read
-spelled : (name : Name) (args text body : List ℕ) (c : Call) → (arguments name).takes args [] (unrecorded c) → text ≡ call_head name ++ args → text ≡ body ++ codes ")" → Spells text (Played 0 c None)
+spelled : (name : Name) (args text body : List ℕ) (c : Call) → (arguments name).takes args [] (unrecorded c)
+    → text ≡ call_head name ++ args → text ≡ body ++ codes ")" → Spells text (Played 0 c None)
 unfolding Spells IsBody call
 spelled name args text body c h e ends = (
   text,

@@ -1,6 +1,8 @@
 -- The text of a log tells its entries. Each part of a line ends at the first byte that it can't have itself: a space
 -- behind a number, the closing parenthesis of a call, the `u` of `under` behind a reply, and the newline.
-use Rattle.std.proofs.Common.{◌≡◌, ◌≢◌, ℕ, zero, suc, ◌+◌, ◌^◌, ◌<◌, ◌≤◌, Bool, true, false, not, cond, ◌&&◌, List, [], ◌∷◌, ◌++◌, length, get_or, drop, codes, decimal, if◌then◌else◌, All, None, refl, sym, ap, subst, ◌∙◌, inl, inr, arith, append_assoc}
+use Rattle.std.proofs.Common.{◌≡◌, ◌≢◌, ℕ, zero, suc, ◌+◌, ◌^◌, ◌<◌, ◌≤◌, Bool, true, false, not, cond, ◌&&◌, List, []}
+use Rattle.std.proofs.Common.{◌∷◌, ◌++◌, length, get_or, drop, codes, decimal, if◌then◌else◌, All, None, refl, sym, ap}
+use Rattle.std.proofs.Common.{subst, ◌∙◌, inl, inr, arith, append_assoc}
 use Rattle.std.specs.Prelude.{◌==◌}
 use Rattle.std.proofs.Math.Bridge.{le_prop}
 use Rattle.std.proofs.lemmas.Bool.{cases_lt}
@@ -65,7 +67,8 @@ differ x b h = elim (eqb_tells x b) [ inl t ↦ absurd (let no : not (x == b) �
 
 lacks_both : (b : ℕ) (xs ys : List ℕ) → lacks b xs ≡ true → lacks b ys ≡ true → lacks b (xs ++ ys) ≡ true
 lacks_both b [] ys p q = q
-lacks_both b (x ∷ xs) ys p q = both (not (x == b)) (lacks b (xs ++ ys)) (first_of (not (x == b)) (lacks b xs) p) (lacks_both b xs ys (second_of (not (x == b)) (lacks b xs) p) q)
+lacks_both b (x ∷ xs) ys p q = both (not (x == b)) (lacks b (xs ++ ys)) (first_of (not (x == b)) (lacks b xs) p)
+    (lacks_both b xs ys (second_of (not (x == b)) (lacks b xs) p) q)
 
 -- a text that lacks the byte
 pub record Clean (b : ℕ) : Type 0 where
@@ -145,15 +148,19 @@ line_ends = omega arith
 -- a number with a space behind it
 cut_number : (n m : ℕ) (r s : List ℕ) → n < 2 ^ 64 → m < 2 ^ 64 → decimal n ++ 32 ∷ r ≡ decimal m ++ 32 ∷ s → (n ≡ m) × (r ≡ s)
 cut_number n m r s low high e =
-    let parts = cut 32 (decimal n) (decimal m) r s (decimal_lacks 32 n low (omega (arith, space_ends))) (decimal_lacks 32 m high (omega (arith, space_ends))) e in
+    let parts = cut 32 (decimal n) (decimal m) r s (decimal_lacks 32 n low (omega (arith, space_ends)))
+    (decimal_lacks 32 m high (omega (arith, space_ends))) e in
     (decimal_injective n m low high parts.0, parts.1)
 
 -- ---- calls
 
 address_lacks : (b n : ℕ) → n < 2 ^ 64 → lacks b (codes "NULL") ≡ true → lacks b (codes "0x") ≡ true → 16 ≤ worth b → lacks b (address_text n) ≡ true
-address_lacks b n small null x none = elim (n == 0) as (λ t. lacks b (cond t (codes "NULL") (prefixed_hex n)) ≡ true) [ true ↦ null | false ↦ lacks_both b (codes "0x") (hex_digits n) x (hex_lacks b n small none) ]
+address_lacks b n small null x none = elim (n == 0) as (λ t. lacks b (cond t (codes "NULL") (prefixed_hex n)) ≡ true)
+    [ true ↦ null | false ↦ lacks_both b (codes "0x") (hex_digits n) x (hex_lacks b n small none) ]
 
-prot_words_lack : (a b c : Bool) → lacks 41 (words_or (codes "PROT_NONE") (word_if a (codes "PROT_READ") ++ word_if b (codes "PROT_WRITE") ++ word_if c (codes "PROT_EXEC"))) ≡ true
+prot_words_lack : (a b c : Bool)
+    → lacks 41 (words_or (codes "PROT_NONE") (word_if a (codes "PROT_READ") ++ word_if b (codes "PROT_WRITE") ++ word_if c
+    (codes "PROT_EXEC"))) ≡ true
 prot_words_lack true true true = refl
 prot_words_lack true true false = refl
 prot_words_lack true false true = refl
@@ -166,7 +173,9 @@ prot_words_lack false false false = refl
 prot_lacks : (p : Prot) → lacks 41 (prot_text p) ≡ true
 prot_lacks p = prot_words_lack (has_bits (prot_bits p) 1) (has_bits (prot_bits p) 2) (has_bits (prot_bits p) 4)
 
-flag_words_lack : (a b c d : Bool) → lacks 41 (words_or (codes "0") (word_if a (codes "MAP_SHARED") ++ word_if b (codes "MAP_PRIVATE") ++ word_if c (codes "MAP_FIXED") ++ word_if d (codes "MAP_FIXED_NOREPLACE"))) ≡ true
+flag_words_lack : (a b c d : Bool) → lacks 41
+    (words_or (codes "0") (word_if a (codes "MAP_SHARED") ++ word_if b (codes "MAP_PRIVATE") ++ word_if c (codes "MAP_FIXED")
+    ++ word_if d (codes "MAP_FIXED_NOREPLACE"))) ≡ true
 flag_words_lack true true true true = refl
 flag_words_lack true true true false = refl
 flag_words_lack true true false true = refl
@@ -239,9 +248,19 @@ cut_call c d r s named_c named_d fits_c fits_d e =
 -- ---- replies: each is told back from its text
 
 kind_back : List ℕ → Kind
-kind_back text = record { prot = record { 0 = cond (get_or text 0 0 == 114) 1 0 + cond (get_or text 1 0 == 119) 2 0 + cond (get_or text 2 0 == 120) 4 0 }; shared = get_or text 3 0 == 115 }
+kind_back text = record {
+  prot = record {
+    0 =
+        cond (get_or text 0 0 == 114) 1 0 + cond (get_or text 1 0 == 119) 2 0 + cond (get_or text 2 0 == 120) 4 0;
+  };
+  shared = get_or text 3 0 == 115;
+}
 
-kind_at_bits : (bits : ℕ) (shared : Bool) → bits < 8 → kind_back (kind_text (record { prot = record { 0 = bits }; shared = shared })) ≡ record { prot = record { 0 = bits }; shared = shared }
+kind_at_bits : (bits : ℕ) (shared : Bool) → bits < 8
+    → kind_back (kind_text (record { prot = record { 0 = bits }; shared = shared })) ≡ record {
+      prot = record { 0 = bits };
+      shared = shared;
+    }
 unfolding kind_back
 kind_at_bits zero true low = refl
 kind_at_bits zero false low = refl
@@ -332,7 +351,9 @@ why_tells (AccErr p k) (Einval g) a b c d e = absurd (apart 3 _ _ (λ x. omega (
 why_tells (AccErr p k) (Enomem g) a b c d e = absurd (apart 3 _ _ (λ x. omega (arith, x)) e)
 why_tells (AccErr p k) (Eexist q) a b c d e = absurd (apart 3 _ _ (λ x. omega (arith, x)) e)
 why_tells (AccErr p k) (MapErr q) a b c d e = absurd (apart 8 _ _ (λ x. omega (arith, x)) e)
-why_tells (AccErr p k) (AccErr q j) a b c d e = let h = cut 32 (hex_digits p) (hex_digits q) (kind_text k) (kind_text j) (hex_lacks 32 p a space_ends) (hex_lacks 32 q b space_ends) (acc_err p q k j e) in λ i. AccErr (hex_tells p q a b h.0 i) (kind_tells k j c d h.1 i)
+why_tells (AccErr p k) (AccErr q j) a b c d e = let h =
+    cut 32 (hex_digits p) (hex_digits q) (kind_text k) (kind_text j) (hex_lacks 32 p a space_ends) (hex_lacks 32 q b space_ends)
+    (acc_err p q k j e) in λ i. AccErr (hex_tells p q a b h.0 i) (kind_tells k j c d h.1 i)
 
 minus : (w : Why) → get_or (why_text w) 0 0 ≡ 45
 minus (Einval f) = refl
@@ -371,7 +392,8 @@ same_ends lo hi a b x p y q =
 
 span_tells : (s t : Span) → s.lo < 2 ^ 64 → s.hi < 2 ^ 64 → t.lo < 2 ^ 64 → t.hi < 2 ^ 64 → span_text s ≡ span_text t → s ≡ t
 span_tells s t a b c d e =
-    let parts = cut 45 (hex_digits s.lo) (hex_digits t.lo) (prefixed_hex s.hi) (prefixed_hex t.hi) (hex_lacks 45 s.lo a dash_ends) (hex_lacks 45 t.lo c dash_ends) (dashes s t e) in
+    let parts = cut 45 (hex_digits s.lo) (hex_digits t.lo) (prefixed_hex s.hi) (prefixed_hex t.hi) (hex_lacks 45 s.lo a dash_ends)
+    (hex_lacks 45 t.lo c dash_ends) (dashes s t e) in
     let lo = hex_tells s.lo t.lo a c parts.0 in
     let hi = hex_tells s.hi t.hi b d (ap (drop 2) parts.1) in
     whole s t lo hi
@@ -380,7 +402,8 @@ span_tells s t a b c d e =
     whole s t lo hi = same_ends s.lo s.hi s.ordered s.in_range t.lo lo t.hi hi t.ordered t.in_range
 
     dashes : (s t : Span) → span_text s ≡ span_text t → hex_digits s.lo ++ 45 ∷ prefixed_hex s.hi ≡ hex_digits t.lo ++ 45 ∷ prefixed_hex t.hi
-    dashes s t e = sym (append_assoc (hex_digits s.lo) (codes "-") (prefixed_hex s.hi)) ∙ ap (drop 2) e ∙ append_assoc (hex_digits t.lo) (codes "-") (prefixed_hex t.hi)
+    dashes s t e = sym (append_assoc (hex_digits s.lo) (codes "-") (prefixed_hex s.hi)) ∙ ap (drop 2) e
+        ∙ append_assoc (hex_digits t.lo) (codes "-") (prefixed_hex t.hi)
 
 under_tells : (u v : Under) → FitsHeld u → FitsHeld v → under_text u ≡ under_text v → u ≡ v
 under_tells Nothing Nothing a b e = refl
@@ -414,7 +437,8 @@ under_lacks Whole a = refl
 -- ---- a reply has no `u`
 
 letter_lacks : (a b c d : Bool) → lacks 117 (letter_if a 114 ∷ letter_if b 119 ∷ letter_if c 120 ∷ (if d then 115 else 112) ∷ []) ≡ true
-letter_lacks a b c d = four (not (letter_if a 114 == 117)) (not (letter_if b 119 == 117)) (not (letter_if c 120 == 117)) (not ((if d then 115 else 112) == 117)) (first a) (second b) (third c) (last d)
+letter_lacks a b c d = four (not (letter_if a 114 == 117)) (not (letter_if b 119 == 117)) (not (letter_if c 120 == 117))
+    (not ((if d then 115 else 112) == 117)) (first a) (second b) (third c) (last d)
   where
     four : (p q r s : Bool) → p ≡ true → q ≡ true → r ≡ true → s ≡ true → p && (q && (r && (s && true))) ≡ true
     four p q r s a b c d = both p _ a (both q _ b (both r _ c (both s true d refl)))
@@ -444,7 +468,9 @@ page_lacks n a = lacks_both 117 (codes "0x") (hex_digits n) refl (hex_lacks 117 
 short_lacks : (s : Short) → FitsShort s → lacks 117 (short_text s) ≡ true
 short_lacks (Missing p) a = lacks_both 117 (codes "missing page ") (prefixed_hex p) refl (page_lacks p a)
 short_lacks (PastEnd p) a = lacks_both 117 (codes "end page ") (prefixed_hex p) refl (page_lacks p a)
-short_lacks (NoGap n) a = (onto (onto (clean 117 (codes "no gap of ") refl) (decimal n) (decimal_lacks 117 n a (omega (arith, u_ends)))) (codes " pages") refl).lacks_it
+short_lacks (NoGap n) a =
+    (onto (onto (clean 117 (codes "no gap of ") refl) (decimal n) (decimal_lacks 117 n a (omega (arith, u_ends))))
+    (codes " pages") refl).lacks_it
 short_lacks (Rows n) a = lacks_both 117 (codes "rows ") (decimal n) refl (decimal_lacks 117 n a (omega (arith, u_ends)))
 
 why_lacks : (w : Why) → FitsWhy w → lacks 117 (why_text w) ≡ true
@@ -468,22 +494,27 @@ reply_lacks (Refused w) a = why_lacks w a
 -- ---- a line
 
 -- joined from the left or from the right, the parts of a line are one text
-nest_line : (sp n w l c q r u h nl rest : List ℕ) → n ++ sp ++ w ++ sp ++ l ++ sp ++ c ++ q ++ r ++ u ++ h ++ nl ++ rest ≡ n ++ (sp ++ (w ++ (sp ++ (l ++ (sp ++ (c ++ (q ++ (r ++ (u ++ (h ++ (nl ++ rest)))))))))))
+nest_line : (sp n w l c q r u h nl rest : List ℕ)
+    → n ++ sp ++ w ++ sp ++ l ++ sp ++ c ++ q ++ r ++ u ++ h ++ nl ++ rest ≡ n
+    ++ (sp ++ (w ++ (sp ++ (l ++ (sp ++ (c ++ (q ++ (r ++ (u ++ (h ++ (nl ++ rest)))))))))))
 nest_line sp n w l c q r u h nl rest = simp append_assoc
 
 -- what stands behind the call of a line
 behind_call : Entry → List ℕ → List ℕ
 behind_call e rest = codes " = " ++ (reply_text e.reply ++ (codes " under " ++ (under_text e.under ++ 10 ∷ rest)))
 
-line_parts : (e : Entry) (rest : List ℕ) → entry_line e ++ rest ≡ decimal e.number ++ 32 ∷ (decimal e.worker ++ 32 ∷ (decimal e.line ++ 32 ∷ (call_text e.call ++ behind_call e rest)))
+line_parts : (e : Entry) (rest : List ℕ) → entry_line e ++ rest ≡ decimal e.number ++ 32
+    ∷ (decimal e.worker ++ 32 ∷ (decimal e.line ++ 32 ∷ (call_text e.call ++ behind_call e rest)))
 unfolding behind_call
-line_parts e rest = nest_line (codes " ") (decimal e.number) (decimal e.worker) (decimal e.line) (call_text e.call) (codes " = ") (reply_text e.reply) (codes " under ") (under_text e.under) (codes "\n") rest
+line_parts e rest = nest_line (codes " ") (decimal e.number) (decimal e.worker) (decimal e.line) (call_text e.call) (codes " = ")
+    (reply_text e.reply) (codes " under ") (under_text e.under) (codes "\n") rest
 
 reply_parts : (r rest : List ℕ) → r ++ (codes " under " ++ rest) ≡ (r ++ 32 ∷ []) ++ 117 ∷ (codes "nder " ++ rest)
 reply_parts r rest = sym (append_assoc r (32 ∷ []) (117 ∷ (codes "nder " ++ rest)))
 
 -- what is behind the call tells the reply and what was held
-cut_behind : (e f : Entry) (r s : List ℕ) → FitsReply e.reply → FitsReply f.reply → FitsHeld e.under → FitsHeld f.under → IsNamedReply e.reply → IsNamedReply f.reply
+cut_behind : (e f : Entry) (r s : List ℕ) → FitsReply e.reply → FitsReply f.reply → FitsHeld e.under → FitsHeld f.under
+    → IsNamedReply e.reply → IsNamedReply f.reply
     → behind_call e r ≡ behind_call f s → (e.reply ≡ f.reply) × (e.under ≡ f.under) × (r ≡ s)
 unfolding behind_call
 cut_behind e f r s a b c d named_e named_f is =
@@ -491,11 +522,15 @@ cut_behind e f r s a b c d named_e named_f is =
     let parts = cut 117 (reply_text e.reply ++ 32 ∷ []) (reply_text f.reply ++ 32 ∷ []) _ _
     (lacks_both 117 (reply_text e.reply) (32 ∷ []) (reply_lacks e.reply a) refl) (lacks_both 117 (reply_text f.reply) (32 ∷ []) (reply_lacks f.reply b) refl)
     (sym (reply_parts (reply_text e.reply) (under_text e.under ++ 10 ∷ r)) ∙ reply ∙ reply_parts (reply_text f.reply) (under_text f.under ++ 10 ∷ s)) in
-    let held = cut 10 (under_text e.under) (under_text f.under) r s (under_lacks e.under c) (under_lacks f.under d) (ap (drop 5) parts.1) in
-    (reply_tells e.reply f.reply a b named_e named_f (last_off 32 (reply_text e.reply) (reply_text f.reply) parts.0), under_tells e.under f.under c d held.0, held.1)
+    let held = cut 10 (under_text e.under) (under_text f.under) r s (under_lacks e.under c) (under_lacks f.under d) (ap (drop 5) parts.1) in (
+      reply_tells e.reply f.reply a b named_e named_f (last_off 32 (reply_text e.reply) (reply_text f.reply) parts.0),
+      under_tells e.under f.under c d held.0,
+      held.1,
+    )
 
 -- a line tells its entry
-cut_line : (e f : Entry) (r s : List ℕ) → HasWordNumbers e → HasWordNumbers f → IsNamedEntry e → IsNamedEntry f → entry_line e ++ r ≡ entry_line f ++ s → (e ≡ f) × (r ≡ s)
+cut_line : (e f : Entry) (r s : List ℕ) → HasWordNumbers e → HasWordNumbers f → IsNamedEntry e → IsNamedEntry f
+    → entry_line e ++ r ≡ entry_line f ++ s → (e ≡ f) × (r ≡ s)
 cut_line e f r s a b c d is =
     let number = cut_number e.number f.number _ _ a.number b.number (sym (line_parts e r) ∙ is ∙ line_parts f s) in
     let worker = cut_number e.worker f.worker _ _ a.worker b.worker number.1 in
@@ -521,18 +556,22 @@ all_rest : {X : Type 0} (P : X → Type 0) (x : X) (xs : List X) → All P (x �
 all_rest P x xs all k d low = all (suc k) d (omega arith)
 
 -- a log tells its entries
-pub log_tells : (entries others : List Entry) → All HasWordNumbers entries → All HasWordNumbers others → All IsNamedEntry entries → All IsNamedEntry others → log_text entries ≡ log_text others → entries ≡ others
+pub log_tells : (entries others : List Entry) → All HasWordNumbers entries → All HasWordNumbers others → All IsNamedEntry entries
+    → All IsNamedEntry others → log_text entries ≡ log_text others → entries ≡ others
 log_tells [] [] a b c d is = refl
 log_tells [] (f ∷ fs) a b c d is = absurd (no_empty_line f (log_text fs) (sym is))
 log_tells (e ∷ es) [] a b c d is = absurd (no_empty_line e (log_text es) is)
 log_tells (e ∷ es) (f ∷ fs) a b c d is =
-    let first = cut_line e f (log_text es) (log_text fs) (all_first HasWordNumbers e es a) (all_first HasWordNumbers f fs b) (all_first IsNamedEntry e es c) (all_first IsNamedEntry f fs d) is in
-    let rest = log_tells es fs (all_rest HasWordNumbers e es a) (all_rest HasWordNumbers f fs b) (all_rest IsNamedEntry e es c) (all_rest IsNamedEntry f fs d) first.1 in
+    let first = cut_line e f (log_text es) (log_text fs) (all_first HasWordNumbers e es a) (all_first HasWordNumbers f fs b)
+    (all_first IsNamedEntry e es c) (all_first IsNamedEntry f fs d) is in
+    let rest = log_tells es fs (all_rest HasWordNumbers e es a) (all_rest HasWordNumbers f fs b) (all_rest IsNamedEntry e es c)
+    (all_rest IsNamedEntry f fs d) first.1 in
     λ i. first.0 i ∷ rest i
 
 -- ---- the numbers of one entry more fit
 
-pub words_next : (entries : List Entry) (i : ℕ) (e : Entry) → i < length entries → ((k : ℕ) (d : Entry) → k < i → HasWordNumbers (get_or entries k d)) → e ≡ get_or entries i e → HasWordNumbers e
+pub words_next : (entries : List Entry) (i : ℕ) (e : Entry) → i < length entries
+    → ((k : ℕ) (d : Entry) → k < i → HasWordNumbers (get_or entries k d)) → e ≡ get_or entries i e → HasWordNumbers e
     → (k : ℕ) (d : Entry) → k < i + 1 → HasWordNumbers (get_or entries k d)
 words_next entries i e low so_far is fits k d below = elim (cases_lt k i) [
   | inl before ↦ so_far k d before

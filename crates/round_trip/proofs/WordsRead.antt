@@ -63,7 +63,9 @@ unfolding prot_of
 prot_none rest ends = known_reads prot_of (codes "PROT_NONE") rest 0 (search rules) refl ends
 
 -- each protection is read as its bits, begins with no space, and has at most 30 bytes
-pub prot_takes : (bits : ℕ) (rest : List ℕ) → bits < 8 → Ends rest → prot.takes (prot_text (record { 0 = bits })) rest (Some bits) × (starts (is 32) (prot_text (record { 0 = bits }) ++ rest) ≡ false) × (length (prot_text (record { 0 = bits })) ≤ 30)
+pub prot_takes : (bits : ℕ) (rest : List ℕ) → bits < 8 → Ends rest
+    → prot.takes (prot_text (record { 0 = bits })) rest (Some bits)
+    × (starts (is 32) (prot_text (record { 0 = bits }) ++ rest) ≡ false) × (length (prot_text (record { 0 = bits })) ≤ 30)
 prot_takes zero rest small ends = (joined prot_word 0 (codes "PROT_NONE", 0) [] rest (prot_none, tt) ends, refl, omega arith)
 prot_takes (suc zero) rest small ends = (joined prot_word 0 (codes "PROT_READ", 1) [] rest (prot_reads, tt) ends, refl, omega arith)
 prot_takes (suc (suc zero)) rest small ends = (joined prot_word 0 (codes "PROT_WRITE", 2) [] rest (prot_writes, tt) ends, refl, omega arith)
@@ -74,8 +76,12 @@ prot_takes (suc (suc (suc (suc (suc zero))))) rest small ends =
     (joined prot_word 0 (codes "PROT_READ", 1) ((codes "PROT_EXEC", 4) ∷ []) rest (prot_reads, (prot_execs, tt)) ends, refl, omega arith)
 prot_takes (suc (suc (suc (suc (suc (suc zero)))))) rest small ends =
     (joined prot_word 0 (codes "PROT_WRITE", 2) ((codes "PROT_EXEC", 4) ∷ []) rest (prot_writes, (prot_execs, tt)) ends, refl, omega arith)
-prot_takes (suc (suc (suc (suc (suc (suc (suc zero))))))) rest small ends =
-    (joined prot_word 0 (codes "PROT_READ", 1) ((codes "PROT_WRITE", 2) ∷ (codes "PROT_EXEC", 4) ∷ []) rest (prot_reads, (prot_writes, (prot_execs, tt))) ends, refl, omega arith)
+prot_takes (suc (suc (suc (suc (suc (suc (suc zero))))))) rest small ends = (
+  joined prot_word 0 (codes "PROT_READ", 1) ((codes "PROT_WRITE", 2) ∷ (codes "PROT_EXEC", 4) ∷ []) rest
+      (prot_reads, (prot_writes, (prot_execs, tt))) ends,
+  refl,
+  omega arith,
+)
 prot_takes (suc (suc (suc (suc (suc (suc (suc (suc k)))))))) rest small ends = absurd (omega arith)
 
 flag_shared : ReadsAs flag_word (codes "MAP_SHARED", 1)
@@ -109,36 +115,79 @@ flags_none rest =
     ([], (Some 0, (48 ∷ [], [], 0, refl, zero_is, ([], [], tt, refl, (refl, refl), (refl, refl))), refl, refl))
 
 -- all flags are read as their bits, begin with no space, and have at most 52 bytes
-pub flags_takes : (bits : ℕ) (rest : List ℕ) → bits < 16 → flags.takes (flags_text (record { 0 = bits })) (44 ∷ rest) (Some bits) × (starts (is 32) (flags_text (record { 0 = bits }) ++ 44 ∷ rest) ≡ false) × (length (flags_text (record { 0 = bits })) ≤ 52)
+pub flags_takes : (bits : ℕ) (rest : List ℕ) → bits < 16
+    → flags.takes (flags_text (record { 0 = bits })) (44 ∷ rest) (Some bits)
+    × (starts (is 32) (flags_text (record { 0 = bits }) ++ 44 ∷ rest) ≡ false) × (length (flags_text (record { 0 = bits })) ≤ 52)
 flags_takes zero rest small = (flags_none rest, refl, omega arith)
 flags_takes (suc zero) rest small =
     (joined flag_word 0 (codes "MAP_SHARED", 1) [] (44 ∷ rest) (flag_shared, tt) (comma_ends rest), refl, omega arith)
 flags_takes (suc (suc zero)) rest small =
     (joined flag_word 0 (codes "MAP_PRIVATE", 2) [] (44 ∷ rest) (flag_private, tt) (comma_ends rest), refl, omega arith)
-flags_takes (suc (suc (suc zero))) rest small =
-    (joined flag_word 0 (codes "MAP_SHARED", 1) ((codes "MAP_PRIVATE", 2) ∷ []) (44 ∷ rest) (flag_shared, (flag_private, tt)) (comma_ends rest), refl, omega arith)
+flags_takes (suc (suc (suc zero))) rest small = (
+  joined flag_word 0 (codes "MAP_SHARED", 1) ((codes "MAP_PRIVATE", 2) ∷ []) (44 ∷ rest) (flag_shared, (flag_private, tt))
+      (comma_ends rest),
+  refl,
+  omega arith,
+)
 flags_takes (suc (suc (suc (suc zero)))) rest small =
     (joined flag_word 0 (codes "MAP_FIXED", 4) [] (44 ∷ rest) (flag_fixed, tt) (comma_ends rest), refl, omega arith)
 flags_takes (suc (suc (suc (suc (suc zero))))) rest small =
     (joined flag_word 0 (codes "MAP_SHARED", 1) ((codes "MAP_FIXED", 4) ∷ []) (44 ∷ rest) (flag_shared, (flag_fixed, tt)) (comma_ends rest), refl, omega arith)
-flags_takes (suc (suc (suc (suc (suc (suc zero)))))) rest small =
-    (joined flag_word 0 (codes "MAP_PRIVATE", 2) ((codes "MAP_FIXED", 4) ∷ []) (44 ∷ rest) (flag_private, (flag_fixed, tt)) (comma_ends rest), refl, omega arith)
-flags_takes (suc (suc (suc (suc (suc (suc (suc zero))))))) rest small =
-    (joined flag_word 0 (codes "MAP_SHARED", 1) ((codes "MAP_PRIVATE", 2) ∷ (codes "MAP_FIXED", 4) ∷ []) (44 ∷ rest) (flag_shared, (flag_private, (flag_fixed, tt))) (comma_ends rest), refl, omega arith)
+flags_takes (suc (suc (suc (suc (suc (suc zero)))))) rest small = (
+  joined flag_word 0 (codes "MAP_PRIVATE", 2) ((codes "MAP_FIXED", 4) ∷ []) (44 ∷ rest) (flag_private, (flag_fixed, tt))
+      (comma_ends rest),
+  refl,
+  omega arith,
+)
+flags_takes (suc (suc (suc (suc (suc (suc (suc zero))))))) rest small = (
+  joined flag_word 0 (codes "MAP_SHARED", 1) ((codes "MAP_PRIVATE", 2) ∷ (codes "MAP_FIXED", 4) ∷ []) (44 ∷ rest)
+      (flag_shared, (flag_private, (flag_fixed, tt))) (comma_ends rest),
+  refl,
+  omega arith,
+)
 flags_takes (suc (suc (suc (suc (suc (suc (suc (suc zero)))))))) rest small =
     (joined flag_word 0 (codes "MAP_FIXED_NOREPLACE", 8) [] (44 ∷ rest) (flag_noreplace, tt) (comma_ends rest), refl, omega arith)
-flags_takes (suc (suc (suc (suc (suc (suc (suc (suc (suc zero))))))))) rest small =
-    (joined flag_word 0 (codes "MAP_SHARED", 1) ((codes "MAP_FIXED_NOREPLACE", 8) ∷ []) (44 ∷ rest) (flag_shared, (flag_noreplace, tt)) (comma_ends rest), refl, omega arith)
-flags_takes (suc (suc (suc (suc (suc (suc (suc (suc (suc (suc zero)))))))))) rest small =
-    (joined flag_word 0 (codes "MAP_PRIVATE", 2) ((codes "MAP_FIXED_NOREPLACE", 8) ∷ []) (44 ∷ rest) (flag_private, (flag_noreplace, tt)) (comma_ends rest), refl, omega arith)
-flags_takes (suc (suc (suc (suc (suc (suc (suc (suc (suc (suc (suc zero))))))))))) rest small =
-    (joined flag_word 0 (codes "MAP_SHARED", 1) ((codes "MAP_PRIVATE", 2) ∷ (codes "MAP_FIXED_NOREPLACE", 8) ∷ []) (44 ∷ rest) (flag_shared, (flag_private, (flag_noreplace, tt))) (comma_ends rest), refl, omega arith)
-flags_takes (suc (suc (suc (suc (suc (suc (suc (suc (suc (suc (suc (suc zero)))))))))))) rest small =
-    (joined flag_word 0 (codes "MAP_FIXED", 4) ((codes "MAP_FIXED_NOREPLACE", 8) ∷ []) (44 ∷ rest) (flag_fixed, (flag_noreplace, tt)) (comma_ends rest), refl, omega arith)
-flags_takes (suc (suc (suc (suc (suc (suc (suc (suc (suc (suc (suc (suc (suc zero))))))))))))) rest small =
-    (joined flag_word 0 (codes "MAP_SHARED", 1) ((codes "MAP_FIXED", 4) ∷ (codes "MAP_FIXED_NOREPLACE", 8) ∷ []) (44 ∷ rest) (flag_shared, (flag_fixed, (flag_noreplace, tt))) (comma_ends rest), refl, omega arith)
-flags_takes (suc (suc (suc (suc (suc (suc (suc (suc (suc (suc (suc (suc (suc (suc zero)))))))))))))) rest small =
-    (joined flag_word 0 (codes "MAP_PRIVATE", 2) ((codes "MAP_FIXED", 4) ∷ (codes "MAP_FIXED_NOREPLACE", 8) ∷ []) (44 ∷ rest) (flag_private, (flag_fixed, (flag_noreplace, tt))) (comma_ends rest), refl, omega arith)
-flags_takes (suc (suc (suc (suc (suc (suc (suc (suc (suc (suc (suc (suc (suc (suc (suc zero))))))))))))))) rest small =
-    (joined flag_word 0 (codes "MAP_SHARED", 1) ((codes "MAP_PRIVATE", 2) ∷ (codes "MAP_FIXED", 4) ∷ (codes "MAP_FIXED_NOREPLACE", 8) ∷ []) (44 ∷ rest) (flag_shared, (flag_private, (flag_fixed, (flag_noreplace, tt)))) (comma_ends rest), refl, omega arith)
+flags_takes (suc (suc (suc (suc (suc (suc (suc (suc (suc zero))))))))) rest small = (
+  joined flag_word 0 (codes "MAP_SHARED", 1) ((codes "MAP_FIXED_NOREPLACE", 8) ∷ []) (44 ∷ rest)
+      (flag_shared, (flag_noreplace, tt)) (comma_ends rest),
+  refl,
+  omega arith,
+)
+flags_takes (suc (suc (suc (suc (suc (suc (suc (suc (suc (suc zero)))))))))) rest small = (
+  joined flag_word 0 (codes "MAP_PRIVATE", 2) ((codes "MAP_FIXED_NOREPLACE", 8) ∷ []) (44 ∷ rest)
+      (flag_private, (flag_noreplace, tt)) (comma_ends rest),
+  refl,
+  omega arith,
+)
+flags_takes (suc (suc (suc (suc (suc (suc (suc (suc (suc (suc (suc zero))))))))))) rest small = (
+  joined flag_word 0 (codes "MAP_SHARED", 1) ((codes "MAP_PRIVATE", 2) ∷ (codes "MAP_FIXED_NOREPLACE", 8) ∷ []) (44 ∷ rest)
+      (flag_shared, (flag_private, (flag_noreplace, tt))) (comma_ends rest),
+  refl,
+  omega arith,
+)
+flags_takes (suc (suc (suc (suc (suc (suc (suc (suc (suc (suc (suc (suc zero)))))))))))) rest small = (
+  joined flag_word 0 (codes "MAP_FIXED", 4) ((codes "MAP_FIXED_NOREPLACE", 8) ∷ []) (44 ∷ rest)
+      (flag_fixed, (flag_noreplace, tt)) (comma_ends rest),
+  refl,
+  omega arith,
+)
+flags_takes (suc (suc (suc (suc (suc (suc (suc (suc (suc (suc (suc (suc (suc zero))))))))))))) rest small = (
+  joined flag_word 0 (codes "MAP_SHARED", 1) ((codes "MAP_FIXED", 4) ∷ (codes "MAP_FIXED_NOREPLACE", 8) ∷ []) (44 ∷ rest)
+      (flag_shared, (flag_fixed, (flag_noreplace, tt))) (comma_ends rest),
+  refl,
+  omega arith,
+)
+flags_takes (suc (suc (suc (suc (suc (suc (suc (suc (suc (suc (suc (suc (suc (suc zero)))))))))))))) rest small = (
+  joined flag_word 0 (codes "MAP_PRIVATE", 2) ((codes "MAP_FIXED", 4) ∷ (codes "MAP_FIXED_NOREPLACE", 8) ∷ []) (44 ∷ rest)
+      (flag_private, (flag_fixed, (flag_noreplace, tt))) (comma_ends rest),
+  refl,
+  omega arith,
+)
+flags_takes (suc (suc (suc (suc (suc (suc (suc (suc (suc (suc (suc (suc (suc (suc (suc zero))))))))))))))) rest small = (
+  joined flag_word 0 (codes "MAP_SHARED", 1) ((codes "MAP_PRIVATE", 2) ∷ (codes "MAP_FIXED", 4)
+      ∷ (codes "MAP_FIXED_NOREPLACE", 8) ∷ []) (44 ∷ rest) (flag_shared, (flag_private, (flag_fixed, (flag_noreplace, tt))))
+      (comma_ends rest),
+  refl,
+  omega arith,
+)
 flags_takes (suc (suc (suc (suc (suc (suc (suc (suc (suc (suc (suc (suc (suc (suc (suc (suc k)))))))))))))))) rest small = absurd (omega arith)

@@ -1,6 +1,7 @@
 -- Rows that are put together show what was put: a stretch at the end, the rows before a page copied, and those behind a
 -- page behind them.
-use Rattle.std.proofs.Common.{◌≡◌, ◌≢◌, ℕ, zero, suc, ◌<◌, ◌≤◌, List, [], ◌∷◌, ◌++◌, ◌-◌, get_or, take, drop, length, Bool, true, false, cond, sym, refl, ap, ◌∙◌, subst, arith, inl, inr}
+use Rattle.std.proofs.Common.{◌≡◌, ◌≢◌, ℕ, zero, suc, ◌<◌, ◌≤◌, List, [], ◌∷◌, ◌++◌, ◌-◌, get_or, take, drop, length}
+use Rattle.std.proofs.Common.{Bool, true, false, cond, sym, refl, ap, ◌∙◌, subst, arith, inl, inr}
 use Rattle.std.proofs.lemmas.Bool.{cases_lt}
 use Rattle.std.specs.Prelude.{Option}
 use Rattle.page_types.specs.declared.TheConstants.{LIMIT}
@@ -22,7 +23,9 @@ true_false e = cc
 -- what is put leaves the first row's start and kind
 module _ (page end : ℕ) (kind : Option Kind) where
   put_head : (word : ℕ) (rest : List ℕ) → (more : List ℕ) × (put (word ∷ rest) page kind ≡ word ∷ more)
-  put_head word [] = elim (same_option (row_kind word) kind) as (λ b. (more : List ℕ) × (cond b (word ∷ []) (word ∷ row_word page kind ∷ []) ≡ word ∷ more)) [ true ↦ ([], refl) | false ↦ (row_word page kind ∷ [], refl) ]
+  put_head word [] = elim (same_option (row_kind word) kind)
+      as (λ b. (more : List ℕ) × (cond b (word ∷ []) (word ∷ row_word page kind ∷ []) ≡ word ∷ more))
+      [ true ↦ ([], refl) | false ↦ (row_word page kind ∷ [], refl) ]
   put_head word (next ∷ rest) = (put (next ∷ rest) page kind, refl)
 
   put_start : (word : ℕ) (rest : List ℕ) → start_or (put (word ∷ rest) page kind) end ≡ row_start word
@@ -32,7 +35,8 @@ module _ (page end : ℕ) (kind : Option Kind) where
   put_differs before word rest d = subst (DiffersFrom before) (sym (put_head word rest).1) d
 
 -- a stretch that is put at the end is shown as well
-module _ (page end : ℕ) (kind : Option Kind) (kinds : ℕ → Option Kind) (named : IsNamedOption kind) (some : page < end) (all : (p : ℕ) → page ≤ p → p < end → kinds p ≡ kind) where
+module _ (page end : ℕ) (kind : Option Kind) (kinds : ℕ → Option Kind) (named : IsNamedOption kind) (some : page < end)
+    (all : (p : ℕ) → page ≤ p → p < end → kinds p ≡ kind) where
   put_new : ShowTo page (row_word page kind ∷ []) end kinds
   put_new = (start_back page kind named, some, tt, λ p from below. all p from below ∙ sym (kind_back page kind named), refl)
 
@@ -58,13 +62,15 @@ module _ (page end : ℕ) (kind : Option Kind) (kinds : ℕ → Option Kind) (na
         subst (λ (x : ℕ). ShowTo x (row_word page kind ∷ []) end kinds) (sym start) put_new,
       )
 
-  put_last : (from word : ℕ) (b : Bool) → (b ≡ true → row_kind word ≡ kind) → (b ≡ false → row_kind word ≢ kind) → ShowTo from (word ∷ []) page kinds → ShowTo from (cond b (word ∷ []) (word ∷ row_word page kind ∷ [])) end kinds
+  put_last : (from word : ℕ) (b : Bool) → (b ≡ true → row_kind word ≡ kind) → (b ≡ false → row_kind word ≢ kind)
+      → ShowTo from (word ∷ []) page kinds → ShowTo from (cond b (word ∷ []) (word ∷ row_word page kind ∷ [])) end kinds
   put_last from word true is other show = put_same from word show (is refl)
   put_last from word false is other show = put_other from word show (other refl)
 
   pub put_shows : (from : ℕ) (rows : List ℕ) → ShowTo from rows page kinds → ShowTo from (put rows page kind) end kinds
   put_shows from [] show = subst (λ (x : ℕ). ShowTo x (row_word page kind ∷ []) end kinds) (sym show) put_new
-  put_shows from (word ∷ []) show = put_last from word (same_option (row_kind word) kind) (same_option-true (row_kind word) kind) (λ e same. true_false (sym (same_option-same (row_kind word)) ∙ (ap (same_option (row_kind word)) same ∙ e))) show
+  put_shows from (word ∷ []) show = put_last from word (same_option (row_kind word) kind) (same_option-true (row_kind word) kind)
+      (λ e same. true_false (sym (same_option-same (row_kind word)) ∙ (ap (same_option (row_kind word)) same ∙ e))) show
   put_shows from (word ∷ next ∷ rest) show =
       let start : start_or (put (next ∷ rest) page kind) end ≡ row_start next = put_start page end kind next rest in (
         show.0,
@@ -81,7 +87,8 @@ below_end_of from (word ∷ []) end kinds show = let l = show.1 in omega arith
 below_end_of from (word ∷ next ∷ rest) end kinds show = let l = show.1 in let r = below_end_of (row_start next) (next ∷ rest) end kinds show.4 in omega arith
 
 -- rows that are copied: those before a page show what they showed
-same_below : (from : ℕ) (rows : List ℕ) (end : ℕ) (kinds others : ℕ → Option Kind) → ((p : ℕ) → p < end → others p ≡ kinds p) → ShowTo from rows end kinds → ShowTo from rows end others
+same_below : (from : ℕ) (rows : List ℕ) (end : ℕ) (kinds others : ℕ → Option Kind) → ((p : ℕ) → p < end → others p ≡ kinds p)
+    → ShowTo from rows end kinds → ShowTo from rows end others
 same_below from [] end kinds others same show = show
 same_below from (word ∷ []) end kinds others same show = (show.0, show.1, tt, λ p low high. same p high ∙ show.3 p low high, refl)
 same_below from (word ∷ next ∷ rest) end kinds others same show =
@@ -94,7 +101,8 @@ front_shows zero from (word ∷ rest) kinds show = sym show.0
 front_shows (suc i) from [] kinds show = show
 front_shows (suc zero) from (word ∷ rest) kinds show = (show.0, show.1, tt, show.3, refl)
 front_shows (suc (suc i)) from (word ∷ []) kinds show = (show.0, show.1, tt, show.3, refl)
-front_shows (suc (suc i)) from (word ∷ next ∷ rest) kinds show = (show.0, show.1, show.2, show.3, front_shows (suc i) (row_start next) (next ∷ rest) kinds show.4)
+front_shows (suc (suc i)) from (word ∷ next ∷ rest) kinds show =
+    (show.0, show.1, show.2, show.3, front_shows (suc i) (row_start next) (next ∷ rest) kinds show.4)
 
 inside : (word : ℕ) (rows : List ℕ) (new : ℕ) (b : Bool) → word ∷ cond b rows (rows ++ new ∷ []) ≡ cond b (word ∷ rows) (word ∷ rows ++ new ∷ [])
 inside word rows new true = refl
@@ -104,7 +112,8 @@ inside word rows new false = refl
 put_if : (rows : List ℕ) (page : ℕ) (kind : Option Kind) → put rows page kind ≡ cond (ends_with rows kind) rows (rows ++ row_word page kind ∷ [])
 put_if [] page kind = refl
 put_if (word ∷ []) page kind = refl
-put_if (word ∷ next ∷ rest) page kind = ap (λ l. word ∷ l) (put_if (next ∷ rest) page kind) ∙ inside word (next ∷ rest) (row_word page kind) (ends_with (next ∷ rest) kind)
+put_if (word ∷ next ∷ rest) page kind = ap (λ l. word ∷ l) (put_if (next ∷ rest) page kind)
+    ∙ inside word (next ∷ rest) (row_word page kind) (ends_with (next ∷ rest) kind)
 
 pub put_kept : (rows : List ℕ) (page : ℕ) (kind : Option Kind) → ends_with rows kind ≡ true → put rows page kind ≡ rows
 put_kept rows page kind e = put_if rows page kind ∙ ap (λ b. cond b rows (rows ++ row_word page kind ∷ [])) e
@@ -120,8 +129,10 @@ last_at (word ∷ []) kind (suc n) e = absurd (omega arith)
 last_at (word ∷ next ∷ rest) kind zero e = absurd (omega arith)
 last_at (word ∷ next ∷ rest) kind (suc n) e = last_at (next ∷ rest) kind n (omega arith)
 
-pub last_ends : (rows : List ℕ) (kind : Option Kind) (last : ℕ) → 0 < length rows → last ≡ get_or rows (length rows - 1) 0 → ends_with rows kind ≡ same_option (row_kind last) kind
-last_ends rows kind last more is = let e : length rows ≡ suc (length rows - 1) = omega arith in last_at rows kind (length rows - 1) e ∙ ap (λ w. same_option (row_kind w) kind) (sym is)
+pub last_ends : (rows : List ℕ) (kind : Option Kind) (last : ℕ) → 0 < length rows → last ≡ get_or rows (length rows - 1) 0
+    → ends_with rows kind ≡ same_option (row_kind last) kind
+last_ends rows kind last more is = let e : length rows ≡ suc (length rows - 1) = omega arith in
+    last_at rows kind (length rows - 1) e ∙ ap (λ w. same_option (row_kind w) kind) (sym is)
 
 pub none_ends : (rows : List ℕ) (kind : Option Kind) → length rows ≡ 0 → ends_with rows kind ≡ false
 none_ends [] kind e = refl
@@ -138,9 +149,17 @@ ends_other (word ∷ []) kind other e differs = same_option-false (row_kind word
 ends_other (word ∷ next ∷ rest) kind other e differs = ends_other (next ∷ rest) kind other e differs
 
 -- rows of other kinds go on after those before a page
-append_shows : (from : ℕ) (rows more : List ℕ) (page end : ℕ) (kinds : ℕ → Option Kind) → 0 < length rows → ShowTo from rows page kinds → ((next : ℕ) (rest : List ℕ) → more ≡ next ∷ rest → ends_with rows (row_kind next) ≡ false) → ShowTo page more end kinds → ShowTo from (rows ++ more) end kinds
+append_shows : (from : ℕ) (rows more : List ℕ) (page end : ℕ) (kinds : ℕ → Option Kind) → 0 < length rows
+    → ShowTo from rows page kinds → ((next : ℕ) (rest : List ℕ) → more ≡ next ∷ rest → ends_with rows (row_kind next) ≡ false)
+    → ShowTo page more end kinds → ShowTo from (rows ++ more) end kinds
 append_shows from [] more page end kinds some show differs then = absurd (omega arith)
-append_shows from (word ∷ []) [] page end kinds some show differs then = (show.0, subst (λ (x : ℕ). from < x) then show.1, tt, (λ p low high. show.3 p low (subst (λ (x : ℕ). p < x) (sym then) high)), refl)
+append_shows from (word ∷ []) [] page end kinds some show differs then = (
+  show.0,
+  subst (λ (x : ℕ). from < x) then show.1,
+  tt,
+  (λ p low high. show.3 p low (subst (λ (x : ℕ). p < x) (sym then) high)),
+  refl,
+)
 append_shows from (word ∷ []) (next ∷ rest) page end kinds some show differs then =
     let start : row_start next ≡ page = then.0 in (
       show.0,
@@ -162,18 +181,25 @@ differs_first : (word : ℕ) (rest : List ℕ) (next : ℕ) (more : List ℕ) �
 differs_first word rest next more d e = subst (DiffersFrom word) e d
 
 -- the rows behind a page, where their first one isn't of the kind before it, or there is none
-pub rest_added : (rows more : List ℕ) (page : ℕ) (kinds : ℕ → Option Kind) → 0 < length rows → ((next : ℕ) (rest : List ℕ) → more ≡ next ∷ rest → ends_with rows (row_kind next) ≡ false) → ShowTo 0 rows page kinds → ShowFrom page more kinds → ShowTo 0 (rows ++ more) LIMIT kinds
+pub rest_added : (rows more : List ℕ) (page : ℕ) (kinds : ℕ → Option Kind) → 0 < length rows
+    → ((next : ℕ) (rest : List ℕ) → more ≡ next ∷ rest → ends_with rows (row_kind next) ≡ false) → ShowTo 0 rows page kinds
+    → ShowFrom page more kinds → ShowTo 0 (rows ++ more) LIMIT kinds
 rest_added rows more page kinds some differs show then = append_shows 0 rows more page LIMIT kinds some show differs (all_shown page more kinds then)
 
 -- and where it is: it lengthens the last row
-pub rest_joined : (rows : List ℕ) (word : ℕ) (rest : List ℕ) (page : ℕ) (kinds : ℕ → Option Kind) → IsNamedOption (row_kind word) → 0 < length rows → ends_with rows (row_kind word) ≡ true → ShowTo 0 rows page kinds → ShowFrom page (word ∷ rest) kinds → ShowTo 0 (rows ++ rest) LIMIT kinds
+pub rest_joined : (rows : List ℕ) (word : ℕ) (rest : List ℕ) (page : ℕ) (kinds : ℕ → Option Kind) → IsNamedOption (row_kind word)
+    → 0 < length rows → ends_with rows (row_kind word) ≡ true → ShowTo 0 rows page kinds → ShowFrom page (word ∷ rest) kinds
+    → ShowTo 0 (rows ++ rest) LIMIT kinds
 rest_joined rows word rest page kinds named some same show then =
-    let longer : ShowTo 0 (put rows page (row_kind word)) (rows_start rest) kinds = put_shows page (rows_start rest) (row_kind word) kinds named then.1 then.3 0 rows show in
-    rest_added rows rest (rows_start rest) kinds some (λ next more e. ends_other rows (row_kind word) (row_kind next) same (differs_first word rest next more then.2 e))
+    let longer : ShowTo 0 (put rows page (row_kind word)) (rows_start rest) kinds =
+    put_shows page (rows_start rest) (row_kind word) kinds named then.1 then.3 0 rows show in
+    rest_added rows rest (rows_start rest) kinds some
+    (λ next more e. ends_other rows (row_kind word) (row_kind next) same (differs_first word rest next more then.2 e))
     (subst (λ (l : List ℕ). ShowTo 0 l (rows_start rest) kinds) (put_kept rows page (row_kind word) same) longer) then.4
 
 -- the rows behind a page show what they showed
-same_above : (page : ℕ) (rows : List ℕ) (kinds others : ℕ → Option Kind) → ((p : ℕ) → page ≤ p → others p ≡ kinds p) → ShowFrom page rows kinds → ShowFrom page rows others
+same_above : (page : ℕ) (rows : List ℕ) (kinds others : ℕ → Option Kind) → ((p : ℕ) → page ≤ p → others p ≡ kinds p)
+    → ShowFrom page rows kinds → ShowFrom page rows others
 same_above page [] kinds others same show = show
 same_above page (word ∷ rest) kinds others same show = (
   show.0,
@@ -190,20 +216,28 @@ drop_shows (suc i) page [] kinds show = refl
 drop_shows (suc i) page (word ∷ rest) kinds show = drop_shows i (rows_start rest) rest kinds show.4
 
 -- the rows before the row of the span's first page, and those behind the row of its last one, show the changed kinds
-pub front_changed : (rows : List ℕ) (i : ℕ) (kinds : ℕ → Option Kind) (c : Call) (lo hi : ℕ) → rows_start (drop i rows) ≤ lo → ShowFrom 0 rows kinds → ShowTo 0 (take i rows) (rows_start (drop i rows)) (changed kinds c lo hi)
+pub front_changed : (rows : List ℕ) (i : ℕ) (kinds : ℕ → Option Kind) (c : Call) (lo hi : ℕ) → rows_start (drop i rows) ≤ lo
+    → ShowFrom 0 rows kinds → ShowTo 0 (take i rows) (rows_start (drop i rows)) (changed kinds c lo hi)
 front_changed rows i kinds c lo hi le show =
-    same_below 0 (take i rows) (rows_start (drop i rows)) kinds (changed kinds c lo hi) (λ p high. within-before lo hi p (new_kind c (kinds p)) (kinds p) (omega arith)) (front_shows i 0 rows kinds show)
+    same_below 0 (take i rows) (rows_start (drop i rows)) kinds (changed kinds c lo hi)
+    (λ p high. within-before lo hi p (new_kind c (kinds p)) (kinds p) (omega arith)) (front_shows i 0 rows kinds show)
 
-pub rest_changed : (rows : List ℕ) (i : ℕ) (kinds : ℕ → Option Kind) (c : Call) (lo hi : ℕ) → hi ≤ rows_start (drop i rows) → ShowFrom 0 rows kinds → ShowFrom (rows_start (drop i rows)) (drop i rows) (changed kinds c lo hi)
+pub rest_changed : (rows : List ℕ) (i : ℕ) (kinds : ℕ → Option Kind) (c : Call) (lo hi : ℕ) → hi ≤ rows_start (drop i rows)
+    → ShowFrom 0 rows kinds → ShowFrom (rows_start (drop i rows)) (drop i rows) (changed kinds c lo hi)
 rest_changed rows i kinds c lo hi le show =
-    same_above (rows_start (drop i rows)) (drop i rows) kinds (changed kinds c lo hi) (λ p low. within-after lo hi p (new_kind c (kinds p)) (kinds p) (omega arith)) (drop_shows i 0 rows kinds show)
+    same_above (rows_start (drop i rows)) (drop i rows) kinds (changed kinds c lo hi)
+    (λ p low. within-after lo hi p (new_kind c (kinds p)) (kinds p) (omega arith)) (drop_shows i 0 rows kinds show)
 
 -- both, where the first of the rows behind a page was read
-pub rest_after : (rows more : List ℕ) (kind : Option Kind) → kind ≡ row_kind (get_or more 0 0) → 0 < length rows → ends_with rows kind ≡ false → (page : ℕ) (kinds : ℕ → Option Kind) → ShowTo 0 rows page kinds → ShowFrom page more kinds → ShowTo 0 (rows ++ more) LIMIT kinds
+pub rest_after : (rows more : List ℕ) (kind : Option Kind) → kind ≡ row_kind (get_or more 0 0) → 0 < length rows
+    → ends_with rows kind ≡ false → (page : ℕ) (kinds : ℕ → Option Kind) → ShowTo 0 rows page kinds → ShowFrom page more kinds
+    → ShowTo 0 (rows ++ more) LIMIT kinds
 rest_after rows more kind is some other page kinds show then =
     rest_added rows more page kinds some (λ next rest e. ap (ends_with rows) (ap (λ l. row_kind (get_or l 0 0)) (sym e) ∙ sym is) ∙ other) show then
 
-pub rest_same : (rows more : List ℕ) (kind : Option Kind) → kind ≡ row_kind (get_or more 0 0) → IsNamedOption kind → 0 < length more → 0 < length rows → ends_with rows kind ≡ true → (page : ℕ) (kinds : ℕ → Option Kind) → ShowTo 0 rows page kinds → ShowFrom page more kinds → ShowTo 0 (rows ++ drop 1 more) LIMIT kinds
+pub rest_same : (rows more : List ℕ) (kind : Option Kind) → kind ≡ row_kind (get_or more 0 0) → IsNamedOption kind
+    → 0 < length more → 0 < length rows → ends_with rows kind ≡ true → (page : ℕ) (kinds : ℕ → Option Kind)
+    → ShowTo 0 rows page kinds → ShowFrom page more kinds → ShowTo 0 (rows ++ drop 1 more) LIMIT kinds
 rest_same rows [] kind is named more some same page kinds show then = absurd (omega arith)
 rest_same rows (word ∷ rest) kind is named more some same page kinds show then =
     rest_joined rows word rest page kinds (subst IsNamedOption is named) some (ap (ends_with rows) (sym is) ∙ same) show then

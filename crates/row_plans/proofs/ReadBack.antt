@@ -21,9 +21,12 @@ said mapped shared prot = cond (eqb mapped 1) (Some (record { prot = record { 0 
 said_is : (m s p m' s' p' : ℕ) → m ≡ m' → s ≡ s' → p ≡ p' → said m s p ≡ said m' s' p'
 said_is m s p m' s' p' a b c = λ i. said (a i) (b i) (c i)
 
-said_kind : (start prot : ℕ) (shared : Bool) → prot < 8 → row_kind (start * 32 + (16 + cond shared 8 0 + prot)) ≡ Some (record { prot = record { 0 = prot }; shared = shared })
-said_kind start prot true named = let w = start * 32 + (16 + 8 + prot) in said_is (w / 16 % 2) (w / 8 % 2) (w % 8) 1 1 prot (omega arith) (omega arith) (omega arith)
-said_kind start prot false named = let w = start * 32 + (16 + 0 + prot) in said_is (w / 16 % 2) (w / 8 % 2) (w % 8) 1 0 prot (omega arith) (omega arith) (omega arith)
+said_kind : (start prot : ℕ) (shared : Bool) → prot < 8
+    → row_kind (start * 32 + (16 + cond shared 8 0 + prot)) ≡ Some (record { prot = record { 0 = prot }; shared = shared })
+said_kind start prot true named = let w = start * 32 + (16 + 8 + prot) in
+    said_is (w / 16 % 2) (w / 8 % 2) (w % 8) 1 1 prot (omega arith) (omega arith) (omega arith)
+said_kind start prot false named = let w = start * 32 + (16 + 0 + prot) in
+    said_is (w / 16 % 2) (w / 8 % 2) (w % 8) 1 0 prot (omega arith) (omega arith) (omega arith)
 
 pub kind_back : (start : ℕ) (kind : Option Kind) → IsNamedOption kind → row_kind (row_word start kind) ≡ kind
 kind_back start None named = let w = start * 32 + 0 in said_is (w / 16 % 2) (w / 8 % 2) (w % 8) 0 0 0 (omega arith) (omega arith) (omega arith)

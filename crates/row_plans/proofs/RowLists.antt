@@ -1,6 +1,7 @@
 -- Row words and area lists: the rows of an area list show its kinds, and rows that show kinds are those of one area
 -- list.
-use Rattle.std.proofs.Common.{◌≡◌, ◌≢◌, ℕ, zero, suc, ◌+◌, ◌<◌, ◌≤◌, List, [], ◌∷◌, ◌++◌, length, get_or, true, false, cond, sym, refl, ap, ◌∙◌, subst, arith, inl, inr, length-append}
+use Rattle.std.proofs.Common.{◌≡◌, ◌≢◌, ℕ, zero, suc, ◌+◌, ◌<◌, ◌≤◌, List, [], ◌∷◌, ◌++◌, length, get_or, true, false}
+use Rattle.std.proofs.Common.{cond, sym, refl, ap, ◌∙◌, subst, arith, inl, inr, length-append}
 use Rattle.std.proofs.lemmas.Bool.{cases_lt, lt-ltb, le-ltb}
 use Rattle.std.proofs.lemmas.List.Elements.{All-nil, All-cons, All-append, All-head, All-tail}
 use Rattle.std.specs.Prelude.{All, Option, Some, None, nat_lt}
@@ -31,13 +32,16 @@ length-gap lo hi = elim (nat_lt lo hi) as (λ b. length (cond b (row_word lo Non
 length-from : (page : ℕ) (A : List Area) → length (rows_from page A) ≡ length A + gaps_from page A
 length-from page [] = length-gap page LIMIT ∙ omega arith
 length-from page (a ∷ rest) =
-    let r = length-from a.hi rest in let g = length-gap page a.lo in let e = length-append (gap_rows page a.lo) (row_word a.lo (Some a.kind) ∷ rows_from a.hi rest) in omega arith
+    let r = length-from a.hi rest in let g = length-gap page a.lo in
+    let e = length-append (gap_rows page a.lo) (row_word a.lo (Some a.kind) ∷ rows_from a.hi rest) in omega arith
 
 pub length-rows : (A : List Area) → length (rows_from 0 A) ≡ row_count A
 length-rows A = length-from 0 A
 
 -- a gap, and then rows that show on
-with_gap : (lo hi : ℕ) (rest : List ℕ) (kinds : ℕ → Option Kind) → lo < hi → rows_start rest ≡ hi → ((p : ℕ) → lo ≤ p → p < hi → kinds p ≡ None) → DiffersFrom (row_word lo None) rest → ShowFrom hi rest kinds → ShowFrom lo (row_word lo None ∷ rest) kinds
+with_gap : (lo hi : ℕ) (rest : List ℕ) (kinds : ℕ → Option Kind) → lo < hi → rows_start rest ≡ hi
+    → ((p : ℕ) → lo ≤ p → p < hi → kinds p ≡ None) → DiffersFrom (row_word lo None) rest → ShowFrom hi rest kinds
+    → ShowFrom lo (row_word lo None ∷ rest) kinds
 with_gap lo hi rest kinds l s free differs show = (
   start_back lo None tt,
   omega (arith, l, s),
@@ -54,26 +58,30 @@ start_from page [] le above named = elim (cases_lt page LIMIT) [
 ]
 start_from page (a ∷ rest) le above named = elim (cases_lt page a.lo) [
   | inl lt ↦ ap (λ l. rows_start (l ++ row_word a.lo (Some a.kind) ∷ rows_from a.hi rest)) (gap_there page a.lo lt) ∙ start_back page None tt
-  | inr ge ↦ ap (λ l. rows_start (l ++ row_word a.lo (Some a.kind) ∷ rows_from a.hi rest)) (no_gap page a.lo ge) ∙ (start_back a.lo (Some a.kind) (All-head (λ x. IsNamedKind x.kind) a rest named) ∙ omega arith)
+  | inr ge ↦ ap (λ l. rows_start (l ++ row_word a.lo (Some a.kind) ∷ rows_from a.hi rest)) (no_gap page a.lo ge)
+      ∙ (start_back a.lo (Some a.kind) (All-head (λ x. IsNamedKind x.kind) a rest named) ∙ omega arith)
 ]
 
 not_none : (word : ℕ) (k : Kind) → row_kind word ≡ Some k → (lo : ℕ) → row_kind word ≢ row_kind (row_word lo None)
 not_none word k is lo e = let n = kind_back lo None tt in cc
 
 -- the row after an area isn't of its kind
-area_differs : (a : Area) (rest : List Area) (word : ℕ) → row_kind word ≡ Some a.kind → LeadsTo a rest → HasNamedKinds rest → DiffersFrom word (rows_from a.hi rest)
+area_differs : (a : Area) (rest : List Area) (word : ℕ) → row_kind word ≡ Some a.kind → LeadsTo a rest → HasNamedKinds rest
+    → DiffersFrom word (rows_from a.hi rest)
 area_differs a [] word is leads named = elim (cases_lt a.hi LIMIT) [
   | inl lt ↦ subst (DiffersFrom word) (sym (gap_there a.hi LIMIT lt)) (not_none word a.kind is a.hi)
   | inr ge ↦ subst (DiffersFrom word) (sym (no_gap a.hi LIMIT ge)) tt
 ]
 area_differs a (b ∷ more) word is leads named = elim (cases_lt a.hi b.lo) [
-  | inl lt ↦ subst (λ l. DiffersFrom word (l ++ row_word b.lo (Some b.kind) ∷ rows_from b.hi more)) (sym (gap_there a.hi b.lo lt)) (not_none word a.kind is a.hi)
+  | inl lt ↦ subst (λ l. DiffersFrom word (l ++ row_word b.lo (Some b.kind) ∷ rows_from b.hi more)) (sym (gap_there a.hi b.lo lt))
+      (not_none word a.kind is a.hi)
   | inr ge ↦ subst (λ l. DiffersFrom word (l ++ row_word b.lo (Some b.kind) ∷ rows_from b.hi more)) (sym (no_gap a.hi b.lo ge))
       (λ e. let k = kind_back b.lo (Some b.kind) (All-head (λ x. IsNamedKind x.kind) b more named) in leads.differs (let o = leads.after in omega arith) cc)
 ]
 
 -- the rows of an area list show its kinds
-pub shows_from : (page : ℕ) (A : List Area) (kinds : ℕ → Option Kind) → page ≤ LIMIT → IsAreaList A → IsAbove page A → HasNamedKinds A → ((p : ℕ) → page ≤ p → kinds p ≡ kind_at A p) → ShowFrom page (rows_from page A) kinds
+pub shows_from : (page : ℕ) (A : List Area) (kinds : ℕ → Option Kind) → page ≤ LIMIT → IsAreaList A → IsAbove page A
+    → HasNamedKinds A → ((p : ℕ) → page ≤ p → kinds p ≡ kind_at A p) → ShowFrom page (rows_from page A) kinds
 shows_from page [] kinds le areas above named same = elim (cases_lt page LIMIT) [
   | inl lt ↦ subst (λ l. ShowFrom page l kinds) (sym (gap_there page LIMIT lt)) (with_gap page LIMIT [] kinds lt refl (λ p from below. same p from) tt refl)
   | inr ge ↦ subst (λ l. ShowFrom page l kinds) (sym (no_gap page LIMIT ge)) (omega arith)
@@ -91,7 +99,9 @@ shows_from page (a ∷ rest) kinds le areas above named same =
       omega (arith, next),
       area_differs a rest word says areas.1 others,
       λ p from below. same p (omega arith) ∙ (kind_at-here a rest p from (omega (arith, next)) ∙ sym says),
-      subst (λ x. ShowFrom x (rows_from a.hi rest) kinds) (sym next) (shows_from a.hi rest kinds fits areas.2 (LeadsTo-above a rest areas.1) others (λ p from. same p (omega arith) ∙ kind_at-after a rest p from)),
+      subst (λ x. ShowFrom x (rows_from a.hi rest) kinds) (sym next)
+          (shows_from a.hi rest kinds fits areas.2 (LeadsTo-above a rest areas.1) others
+          (λ p from. same p (omega arith) ∙ kind_at-after a rest p from)),
     ) in
     elim (cases_lt page a.lo) [
       | inl lt ↦ subst (λ l. ShowFrom page (l ++ word ∷ rows_from a.hi rest) kinds) (sym (gap_there page a.lo lt))
@@ -114,7 +124,9 @@ bare_from page [] named = bare_gap page LIMIT
 bare_from page (a ∷ rest) named =
     let says : row_kind (row_word a.lo (Some a.kind)) ≡ Some a.kind = kind_back a.lo (Some a.kind) (All-head (λ x. IsNamedKind x.kind) a rest named) in
     All-append IsBareGap (gap_rows page a.lo) (row_word a.lo (Some a.kind) ∷ rows_from a.hi rest) (bare_gap page a.lo)
-    (All-cons IsBareGap (row_word a.lo (Some a.kind)) (rows_from a.hi rest) (λ none. absurd (some_none a.kind (row_kind (row_word a.lo (Some a.kind))) none says)) (bare_from a.hi rest (All-tail (λ x. IsNamedKind x.kind) a rest named)))
+    (All-cons IsBareGap (row_word a.lo (Some a.kind)) (rows_from a.hi rest)
+    (λ none. absurd (some_none a.kind (row_kind (row_word a.lo (Some a.kind))) none says))
+    (bare_from a.hi rest (All-tail (λ x. IsNamedKind x.kind) a rest named)))
 
 -- what the areas of rows are
 pub record AreNext (page : ℕ) (rows : List ℕ) (kinds : ℕ → Option Kind) (A : List Area) : Type 0 where
@@ -143,12 +155,16 @@ starts_low page [] kinds show = omega arith
 starts_low page (w ∷ rest) kinds show = let l = below_limit page w rest kinds show in omega arith
 
 -- the kind at the start of the rows after one isn't that one's
-next_differs : (word : ℕ) (rest : List ℕ) (kinds : ℕ → Option Kind) (A : List Area) (k : Kind) → row_kind word ≡ Some k → DiffersFrom word rest → ShowFrom (rows_start rest) rest kinds → AreNext (rows_start rest) rest kinds A → kind_at A (rows_start rest) ≢ Some k
+next_differs : (word : ℕ) (rest : List ℕ) (kinds : ℕ → Option Kind) (A : List Area) (k : Kind) → row_kind word ≡ Some k
+    → DiffersFrom word rest → ShowFrom (rows_start rest) rest kinds → AreNext (rows_start rest) rest kinds A
+    → kind_at A (rows_start rest) ≢ Some k
 next_differs word [] kinds A k is differs show next e = some_none k (kind_at A LIMIT) (kind_at-limit A next.areas LIMIT (omega arith)) e
 next_differs word (v ∷ rest) kinds A k is differs show next e =
     differs (is ∙ (sym e ∙ (next.same (row_start v) (omega arith) (below_limit (row_start v) v rest kinds show) ∙ show.3 (row_start v) (omega arith) show.1)))
 
-one_more : (page word : ℕ) (rest : List ℕ) (kinds : ℕ → Option Kind) (A : List Area) (o : Option Kind) → row_kind word ≡ o → ShowFrom page (word ∷ rest) kinds → AreNext (rows_start rest) rest kinds A → AreNext page (word ∷ rest) kinds (with_row (row_start word) o (rows_start rest) A)
+one_more : (page word : ℕ) (rest : List ℕ) (kinds : ℕ → Option Kind) (A : List Area) (o : Option Kind) → row_kind word ≡ o
+    → ShowFrom page (word ∷ rest) kinds → AreNext (rows_start rest) rest kinds A
+    → AreNext page (word ∷ rest) kinds (with_row (row_start word) o (rows_start rest) A)
 one_more page word rest kinds A None is show next = let l = show.1 in record {
   areas = next.areas;
   above = above_less page (rows_start rest) A (omega arith) next.above;
@@ -163,7 +179,11 @@ one_more page word rest kinds A (Some k) is show next =
     let low = starts_low (rows_start rest) rest kinds show.4 in
     let a : Area = record { lo = row_start word; hi = rows_start rest; kind = k } in
     record {
-      areas = (record { has_page = omega arith; below_limit = low }, leads_to a A next.areas next.above (next_differs word rest kinds A k is show.2 show.4 next), next.areas);
+      areas = (
+        record { has_page = omega arith; below_limit = low },
+        leads_to a A next.areas next.above (next_differs word rest kinds A k is show.2 show.4 next),
+        next.areas,
+      );
       above = omega arith;
       same = λ p from below. elim (cases_lt p (rows_start rest)) [
         | inl lt ↦ kind_at-here a A p (omega arith) lt ∙ sym (show.3 p from lt ∙ is)
@@ -173,7 +193,8 @@ one_more page word rest kinds A (Some k) is show next =
 
 pub are_next : (page : ℕ) (rows : List ℕ) (kinds : ℕ → Option Kind) → ShowFrom page rows kinds → AreNext page rows kinds (areas_from rows)
 are_next page [] kinds show = record { areas = tt; above = tt; same = λ p from below. absurd (omega arith) }
-are_next page (word ∷ rest) kinds show = one_more page word rest kinds (areas_from rest) (row_kind word) refl show (are_next (rows_start rest) rest kinds show.4)
+are_next page (word ∷ rest) kinds show = one_more page word rest kinds (areas_from rest) (row_kind word) refl show
+    (are_next (rows_start rest) rest kinds show.4)
 
 -- rows that show an area list's kinds are those of that list
 pub areas_back : (rows : List ℕ) (A : List Area) → ShowFrom 0 rows (kind_at A) → IsAreaList A → areas_from rows ≡ A
@@ -187,7 +208,8 @@ areas_back rows A show areas =
 -- what one row of those that show kinds says
 pub record RowSays (rows : List ℕ) (kinds : ℕ → Option Kind) (i : ℕ) : Type 0 where
   pub below : row_start (get_or rows i 0) < LIMIT
-  pub within : (p : ℕ) → row_start (get_or rows i 0) ≤ p → p < LIMIT → (i + 1 < length rows → p < row_start (get_or rows (i + 1) 0)) → kinds p ≡ row_kind (get_or rows i 0)
+  pub within : (p : ℕ) → row_start (get_or rows i 0) ≤ p → p < LIMIT
+      → (i + 1 < length rows → p < row_start (get_or rows (i + 1) 0)) → kinds p ≡ row_kind (get_or rows i 0)
   pub rises : i + 1 < length rows → row_start (get_or rows i 0) < row_start (get_or rows (i + 1) 0)
   pub differs : i + 1 < length rows → row_kind (get_or rows i 0) ≢ row_kind (get_or rows (i + 1) 0)
 

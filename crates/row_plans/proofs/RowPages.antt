@@ -1,6 +1,7 @@
 -- What one row of those that show kinds says of its pages, and what a search over the rows knows when it has come to
 -- it.
-use Rattle.std.proofs.Common.{◌≡◌, ◌≢◌, ℕ, zero, suc, ◌+◌, ◌<◌, ◌≤◌, List, [], ◌∷◌, ◌-◌, max, get_or, drop, length, Bool, true, false, sym, refl, ap, ◌∙◌, subst, arith, ◌⊎◌, ⊎_elim, inl, inr}
+use Rattle.std.proofs.Common.{◌≡◌, ◌≢◌, ℕ, zero, suc, ◌+◌, ◌<◌, ◌≤◌, List, [], ◌∷◌, ◌-◌, max, get_or, drop, length}
+use Rattle.std.proofs.Common.{Bool, true, false, sym, refl, ap, ◌∙◌, subst, arith, ◌⊎◌, ⊎_elim, inl, inr}
 use Rattle.std.proofs.lemmas.Bool.{cases_lt}
 use Rattle.std.specs.Prelude.{Option, Some, None, MatchOption}
 use Rattle.page_types.specs.declared.TheConstants.{LIMIT}
@@ -21,18 +22,29 @@ pub record RowPages (rows : List ℕ) (kinds : ℕ → Option Kind) (i start end
   pub low : end ≤ LIMIT
   pub all : (p : ℕ) → start ≤ p → p < end → kinds p ≡ kind
 
-row_pages_at : (page : ℕ) (rows : List ℕ) (kinds : ℕ → Option Kind) (i : ℕ) → ShowFrom page rows kinds → i < length rows → RowPages rows kinds i (row_start (get_or rows i 0)) (rows_start (drop (i + 1) rows)) (row_kind (get_or rows i 0))
+row_pages_at : (page : ℕ) (rows : List ℕ) (kinds : ℕ → Option Kind) (i : ℕ) → ShowFrom page rows kinds → i < length rows
+    → RowPages rows kinds i (row_start (get_or rows i 0)) (rows_start (drop (i + 1) rows)) (row_kind (get_or rows i 0))
 row_pages_at page [] kinds i show lt = absurd (omega arith)
-row_pages_at page (w ∷ rest) kinds zero show lt = record { begins = refl; ends = refl; some = subst (λ (x : ℕ). x < rows_start rest) (sym show.0) show.1; low = starts_low (rows_start rest) rest kinds show.4; all = λ p low high. show.3 p (subst (λ (x : ℕ). x ≤ p) show.0 low) high }
+row_pages_at page (w ∷ rest) kinds zero show lt =
+    record {
+      begins = refl;
+      ends = refl;
+      some = subst (λ (x : ℕ). x < rows_start rest) (sym show.0) show.1;
+      low = starts_low (rows_start rest) rest kinds show.4;
+      all = λ p low high. show.3 p (subst (λ (x : ℕ). x ≤ p) show.0 low) high;
+    }
 row_pages_at page (w ∷ rest) kinds (suc i) show lt =
     let r = row_pages_at (rows_start rest) rest kinds i show.4 (omega arith) in
     let e : suc i + 1 ≡ suc (i + 1) = omega arith in
     subst (λ (n : ℕ). RowPages (w ∷ rest) kinds (suc i) (row_start (get_or rest i 0)) (rows_start (drop n (w ∷ rest))) (row_kind (get_or rest i 0))) (sym e)
     (record { begins = r.begins; ends = ap (λ n. rows_start (drop n (w ∷ rest))) (sym e); some = r.some; low = r.low; all = r.all })
 
-pub row_pages : (rows : List ℕ) (kinds : ℕ → Option Kind) (i word start end : ℕ) (kind : Option Kind) → ShowFrom 0 rows kinds → i < length rows → word ≡ get_or rows i 0 → start ≡ row_start word → kind ≡ row_kind word → end ≡ rows_start (drop (i + 1) rows) → RowPages rows kinds i start end kind
+pub row_pages : (rows : List ℕ) (kinds : ℕ → Option Kind) (i word start end : ℕ) (kind : Option Kind) → ShowFrom 0 rows kinds
+    → i < length rows → word ≡ get_or rows i 0 → start ≡ row_start word → kind ≡ row_kind word
+    → end ≡ rows_start (drop (i + 1) rows) → RowPages rows kinds i start end kind
 row_pages rows kinds i word start end kind show lt w s k e =
-    subst (λ (z : ℕ × ℕ × Option Kind). RowPages rows kinds i z.0 z.1 z.2) (λ j. (sym (s ∙ ap row_start w) j, sym e j, sym (k ∙ ap row_kind w) j)) (row_pages_at 0 rows kinds i show lt)
+    subst (λ (z : ℕ × ℕ × Option Kind). RowPages rows kinds i z.0 z.1 z.2)
+    (λ j. (sym (s ∙ ap row_start w) j, sym e j, sym (k ∙ ap row_kind w) j)) (row_pages_at 0 rows kinds i show lt)
 
 pub ends_all : (rows : List ℕ) (i : ℕ) → length rows ≤ i → rows_start (drop i rows) ≡ LIMIT
 ends_all [] zero le = refl
@@ -41,7 +53,9 @@ ends_all (w ∷ rest) zero le = absurd (omega arith)
 ends_all (w ∷ rest) (suc i) le = ends_all rest i (omega arith)
 
 -- one row more has no such page
-pub none_more : (rows : List ℕ) (kinds : ℕ → Option Kind) (mapped : Bool) (lo i start end : ℕ) (kind : Option Kind) → RowPages rows kinds i start end kind → (end ≤ lo) ⊎ (is_mapped mapped kind ≡ false) → NoneSuch kinds mapped lo (rows_start (drop i rows)) → NoneSuch kinds mapped lo (rows_start (drop (i + 1) rows))
+pub none_more : (rows : List ℕ) (kinds : ℕ → Option Kind) (mapped : Bool) (lo i start end : ℕ) (kind : Option Kind)
+    → RowPages rows kinds i start end kind → (end ≤ lo) ⊎ (is_mapped mapped kind ≡ false)
+    → NoneSuch kinds mapped lo (rows_start (drop i rows)) → NoneSuch kinds mapped lo (rows_start (drop (i + 1) rows))
 none_more rows kinds mapped lo i start end kind r passed none page from high =
     let b = r.begins in let e = r.ends in
     elim (cases_lt page start) [
@@ -50,18 +64,22 @@ none_more rows kinds mapped lo i start end kind r passed none page from high =
     ]
 
 -- or it has the lowest one
-pub lowest_here : (rows : List ℕ) (kinds : ℕ → Option Kind) (mapped : Bool) (lo hi i start end page : ℕ) (kind : Option Kind) (result : Option ℕ) → RowPages rows kinds i start end kind → lo < end → is_mapped mapped kind ≡ true → NoneSuch kinds mapped lo (rows_start (drop i rows)) → page ≡ max start lo
+pub lowest_here : (rows : List ℕ) (kinds : ℕ → Option Kind) (mapped : Bool) (lo hi i start end page : ℕ) (kind : Option Kind)
+    (result : Option ℕ) → RowPages rows kinds i start end kind → lo < end → is_mapped mapped kind ≡ true
+    → NoneSuch kinds mapped lo (rows_start (drop i rows)) → page ≡ max start lo
     → MatchOption result (hi ≤ page) (λ p. (p ≡ page) × (page < hi)) → MatchOption result (NoneSuch kinds mapped lo hi) (IsLowestSuch kinds mapped lo hi)
 lowest_here rows kinds mapped lo hi i start end page kind None r some such none is over = let b = r.begins in λ p from high. none p from (omega arith)
-lowest_here rows kinds mapped lo hi i start end page kind (Some p) r some such none is found = let b = r.begins in let s = r.some in let e = found.0 in let l = found.1 in record {
-  from = omega arith;
-  within = omega arith;
-  such = ap (is_mapped mapped) (r.all p (omega arith) (omega arith)) ∙ such;
-  none_below = λ q from high. none q from (omega arith);
-}
+lowest_here rows kinds mapped lo hi i start end page kind (Some p) r some such none is found = let b = r.begins in
+    let s = r.some in let e = found.0 in let l = found.1 in record {
+      from = omega arith;
+      within = omega arith;
+      such = ap (is_mapped mapped) (r.all p (omega arith) (omega arith)) ∙ such;
+      none_below = λ q from high. none q from (omega arith);
+    }
 
 -- the page before a row isn't of its kind
-row_before_at : (page : ℕ) (rows : List ℕ) (kinds : ℕ → Option Kind) (i : ℕ) → ShowFrom page rows kinds → suc i < length rows → kinds (row_start (get_or rows (suc i) 0) - 1) ≢ row_kind (get_or rows (suc i) 0)
+row_before_at : (page : ℕ) (rows : List ℕ) (kinds : ℕ → Option Kind) (i : ℕ) → ShowFrom page rows kinds → suc i < length rows
+    → kinds (row_start (get_or rows (suc i) 0) - 1) ≢ row_kind (get_or rows (suc i) 0)
 row_before_at page [] kinds i show lt e = absurd (omega arith)
 row_before_at page (w ∷ []) kinds i show lt e = absurd (omega arith)
 row_before_at page (w ∷ v ∷ rest) kinds zero show lt e = let l = show.1 in show.2 (sym (show.3 (row_start v - 1) (omega arith) (omega arith)) ∙ e)
@@ -71,17 +89,23 @@ first_at_zero : (rows : List ℕ) (kinds : ℕ → Option Kind) → ShowFrom 0 r
 first_at_zero [] kinds show lt = absurd (omega arith)
 first_at_zero (w ∷ rest) kinds show lt = show.0
 
-row_before_by : (rows : List ℕ) (kinds : ℕ → Option Kind) (i : ℕ) → ShowFrom 0 rows kinds → i < length rows → 0 < row_start (get_or rows i 0) → kinds (row_start (get_or rows i 0) - 1) ≢ row_kind (get_or rows i 0)
+row_before_by : (rows : List ℕ) (kinds : ℕ → Option Kind) (i : ℕ) → ShowFrom 0 rows kinds → i < length rows
+    → 0 < row_start (get_or rows i 0) → kinds (row_start (get_or rows i 0) - 1) ≢ row_kind (get_or rows i 0)
 row_before_by rows kinds zero show lt more = let z = first_at_zero rows kinds show lt in absurd (omega arith)
 row_before_by rows kinds (suc i) show lt more = row_before_at 0 rows kinds i show lt
 
-pub row_before : (rows : List ℕ) (kinds : ℕ → Option Kind) (i word start : ℕ) (kind : Option Kind) → ShowFrom 0 rows kinds → i < length rows → word ≡ get_or rows i 0 → start ≡ row_start word → kind ≡ row_kind word → 0 < start → kinds (start - 1) ≢ kind
+pub row_before : (rows : List ℕ) (kinds : ℕ → Option Kind) (i word start : ℕ) (kind : Option Kind) → ShowFrom 0 rows kinds
+    → i < length rows → word ≡ get_or rows i 0 → start ≡ row_start word → kind ≡ row_kind word → 0 < start
+    → kinds (start - 1) ≢ kind
 row_before rows kinds i word start kind show lt w s k =
-    subst (λ (z : ℕ × Option Kind). 0 < z.0 → kinds (z.0 - 1) ≢ z.1) (λ j. (sym (s ∙ ap row_start w) j, sym (k ∙ ap row_kind w) j)) (row_before_by rows kinds i show lt)
+    subst (λ (z : ℕ × Option Kind). 0 < z.0 → kinds (z.0 - 1) ≢ z.1)
+    (λ j. (sym (s ∙ ap row_start w) j, sym (k ∙ ap row_kind w) j)) (row_before_by rows kinds i show lt)
 
 -- a place that ends in a row lies in it, and the row is free: where none fits in the row each place ends before it, and
 -- otherwise the row's end has the highest one
-module _ (kinds : ℕ → Option Kind) (pages start end : ℕ) (kind : Option Kind) (all : (p : ℕ) → start ≤ p → p < end → kinds p ≡ kind) (before : 0 < start → kinds (start - 1) ≢ kind) (some : 0 < pages) (grows : start < end) (ended : NoneEndsAbove kinds pages end) where
+module _ (kinds : ℕ → Option Kind) (pages start end : ℕ) (kind : Option Kind) (all : (p : ℕ) → start ≤ p → p < end
+    → kinds p ≡ kind) (before : 0 < start → kinds (start - 1) ≢ kind) (some : 0 < pages) (grows : start < end)
+    (ended : NoneEndsAbove kinds pages end) where
   in_the_row : (s : ℕ) → s + pages ≤ end → ¬ (s + pages ≤ start) → FreeAt kinds pages s → (kind ≡ None) × (start ≤ s)
   in_the_row s fits new f =
       let last : kinds (s + pages - 1) ≡ None = f.free (s + pages - 1) (omega arith) (omega arith) in
@@ -131,20 +155,26 @@ next_start rows kinds i show = elim (cases_lt i (length rows)) [
 ]
 
 -- the kinds of the pages of a row that lie in the span
-pub in_span : (kinds : ℕ → Option Kind) (c : Call) (lo hi from to : ℕ) (kind new : Option Kind) → lo ≤ from → to ≤ hi → ((p : ℕ) → from ≤ p → p < to → kinds p ≡ kind) → new ≡ new_kind c kind → (p : ℕ) → from ≤ p → p < to → changed kinds c lo hi p ≡ new
+pub in_span : (kinds : ℕ → Option Kind) (c : Call) (lo hi from to : ℕ) (kind new : Option Kind) → lo ≤ from → to ≤ hi
+    → ((p : ℕ) → from ≤ p → p < to → kinds p ≡ kind) → new ≡ new_kind c kind → (p : ℕ) → from ≤ p → p < to
+    → changed kinds c lo hi p ≡ new
 in_span kinds c lo hi from to kind new low high all is p above below =
     within-inside lo hi p (new_kind c (kinds p)) (kinds p) (omega arith) (omega arith) ∙ (ap (new_kind c) (all p above below) ∙ sym is)
 
 -- those before it
-pub before_span : (kinds : ℕ → Option Kind) (c : Call) (lo hi from : ℕ) (kind : Option Kind) → ((p : ℕ) → from ≤ p → p < lo → kinds p ≡ kind) → (p : ℕ) → from ≤ p → p < lo → changed kinds c lo hi p ≡ kind
+pub before_span : (kinds : ℕ → Option Kind) (c : Call) (lo hi from : ℕ) (kind : Option Kind)
+    → ((p : ℕ) → from ≤ p → p < lo → kinds p ≡ kind) → (p : ℕ) → from ≤ p → p < lo → changed kinds c lo hi p ≡ kind
 before_span kinds c lo hi from kind all p above below = within-before lo hi p (new_kind c (kinds p)) (kinds p) below ∙ all p above below
 
 -- and those behind it
-pub behind_span : (kinds : ℕ → Option Kind) (c : Call) (lo hi to : ℕ) (kind : Option Kind) → ((p : ℕ) → hi ≤ p → p < to → kinds p ≡ kind) → (p : ℕ) → hi ≤ p → p < to → changed kinds c lo hi p ≡ kind
+pub behind_span : (kinds : ℕ → Option Kind) (c : Call) (lo hi to : ℕ) (kind : Option Kind)
+    → ((p : ℕ) → hi ≤ p → p < to → kinds p ≡ kind) → (p : ℕ) → hi ≤ p → p < to → changed kinds c lo hi p ≡ kind
 behind_span kinds c lo hi to kind all p above below = within-after lo hi p (new_kind c (kinds p)) (kinds p) above ∙ all p above below
 
 -- the pages of the last of the rows that are left
-pub last_pages : (rows : List ℕ) (kinds : ℕ → Option Kind) (i start end : ℕ) (kind : Option Kind) → ShowFrom 0 rows kinds → 0 < i → i ≤ length rows → start ≡ row_start (get_or rows (i - 1) 0) → kind ≡ row_kind (get_or rows (i - 1) 0) → end ≡ rows_start (drop i rows) → RowPages rows kinds (i - 1) start end kind
+pub last_pages : (rows : List ℕ) (kinds : ℕ → Option Kind) (i start end : ℕ) (kind : Option Kind) → ShowFrom 0 rows kinds → 0 < i
+    → i ≤ length rows → start ≡ row_start (get_or rows (i - 1) 0) → kind ≡ row_kind (get_or rows (i - 1) 0)
+    → end ≡ rows_start (drop i rows) → RowPages rows kinds (i - 1) start end kind
 last_pages rows kinds i start end kind show more there s k e =
     let n : i ≡ i - 1 + 1 = omega arith in
     row_pages rows kinds (i - 1) (get_or rows (i - 1) 0) start end kind show (omega arith) refl s k (e ∙ ap (λ j. rows_start (drop j rows)) n)

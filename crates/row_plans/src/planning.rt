@@ -46,7 +46,8 @@ fn put_row(rows: &mut Vec<u64>, page: u64, kind: Option<Kind>)
     ensures few { length rows.new.items ≤ length rows.old.items + 1 }
     ensures some { 0 < length rows.new.items }
     ensures gaps { All IsBareGap rows.new.items }
-    ensures shows { (end : ℕ) (kinds : ℕ → Option Kind) → page < end → ((p : ℕ) → page ≤ p → p < end → kinds p ≡ kind) → ShowTo 0 rows.old.items page kinds → ShowTo 0 rows.new.items end kinds }
+    ensures shows { (end : ℕ) (kinds : ℕ → Option Kind) → page < end → ((p : ℕ) → page ≤ p → p < end → kinds p ≡ kind)
+        → ShowTo 0 rows.old.items page kinds → ShowTo 0 rows.new.items end kinds }
 {
     if !ends_with(rows.as_slice(), kind) {
         rows.push_reserved(write_row(page, kind));
@@ -63,7 +64,8 @@ fn put_part(rows: &mut Vec<u64>, from: u64, to: u64, kind: Option<Kind>)
     ensures few { length rows.new.items ≤ length rows.old.items + 1 }
     ensures some { 0 < length rows.old.items → 0 < length rows.new.items }
     ensures gaps { All IsBareGap rows.new.items }
-    ensures shows { (kinds : ℕ → Option Kind) → from ≤ to → ((p : ℕ) → from ≤ p → p < to → kinds p ≡ kind) → ShowTo 0 rows.old.items from kinds → ShowTo 0 rows.new.items to kinds }
+    ensures shows { (kinds : ℕ → Option Kind) → from ≤ to → ((p : ℕ) → from ≤ p → p < to → kinds p ≡ kind)
+        → ShowTo 0 rows.old.items from kinds → ShowTo 0 rows.new.items to kinds }
 {
     if from < to {
         put_row(rows, from, kind);
@@ -142,7 +144,9 @@ fn put_span(rows: &mut Vec<u64>, old: &[u64], first: usize, call: &Call, span: S
     ensures some { 0 < length rows.new.items }
     ensures room { vec_capacity rows.old ≤ vec_capacity rows.new }
     ensures gaps { All IsBareGap rows.new.items }
-    ensures shows { (kinds : ℕ → Option Kind) → ShowFrom 0 old.now kinds → ShowTo 0 rows.old.items span.lo (changed kinds call.now span.lo span.hi) → ShowTo 0 rows.new.items (rows_start (drop result old.now)) (changed kinds call.now span.lo span.hi) }
+    ensures shows { (kinds : ℕ → Option Kind) → ShowFrom 0 old.now kinds
+        → ShowTo 0 rows.old.items span.lo (changed kinds call.now span.lo span.hi)
+        → ShowTo 0 rows.new.items (rows_start (drop result old.now)) (changed kinds call.now span.lo span.hi) }
 {
     let mut next = first;
     let mut at = span.lo();
@@ -168,7 +172,8 @@ fn put_rest(rows: &mut Vec<u64>, more: &[u64])
     ensures few { length rows.new.items ≤ length rows.old.items + length more.now }
     ensures room { vec_capacity rows.old ≤ vec_capacity rows.new }
     ensures gaps { All IsBareGap rows.new.items }
-    ensures shows { (page : ℕ) (kinds : ℕ → Option Kind) → ShowTo 0 rows.old.items page kinds → ShowFrom page more.now kinds → ShowTo 0 rows.new.items LIMIT kinds }
+    ensures shows { (page : ℕ) (kinds : ℕ → Option Kind) → ShowTo 0 rows.old.items page kinds → ShowFrom page more.now kinds
+        → ShowTo 0 rows.new.items LIMIT kinds }
 {
     if more.is_empty() {
         return;

@@ -1,5 +1,6 @@
 -- When a call is refused for its rows, and when a fault is granted.
-use Rattle.std.proofs.Common.{◌≡◌, ◌≢◌, ℕ, Bool, true, false, if◌then◌else◌, not, ◌&&◌, ◌==◌, nat_lt, List, [], ◌∷◌, Option, Some, None, ◌∙◌, ap, subst, refl, arith, inl, inr}
+use Rattle.std.proofs.Common.{◌≡◌, ◌≢◌, ℕ, Bool, true, false, if◌then◌else◌, not, ◌&&◌, ◌==◌, nat_lt, List, [], ◌∷◌}
+use Rattle.std.proofs.Common.{Option, Some, None, ◌∙◌, ap, subst, refl, arith, inl, inr}
 use Rattle.std.specs.Prelude.{nat_le}
 use Rattle.std.proofs.lemmas.Bool.{cases_lt, lt-leb}
 use Rattle.page_types.specs.declared.TheConstants.{LIMIT}

@@ -1,5 +1,7 @@
 -- Areas and gaps counted by the pages at which they start.
-use Rattle.std.proofs.Common.{◌≡◌, ◌≢◌, ℕ, zero, suc, ◌+◌, ◌-◌, ◌<◌, ◌≤◌, inl, inr, Bool, true, false, not, ◌&&◌, ◌==◌, nat_lt, nat_le, if◌then◌else◌, List, [], ◌∷◌, length, Option, Some, None, is_some, is_none, sym, ◌∙◌, ap, subst, refl, zero-add, add_assoc, arith}
+use Rattle.std.proofs.Common.{◌≡◌, ◌≢◌, ℕ, zero, suc, ◌+◌, ◌-◌, ◌<◌, ◌≤◌, inl, inr, Bool, true, false, not, ◌&&◌, ◌==◌}
+use Rattle.std.proofs.Common.{nat_lt, nat_le, if◌then◌else◌, List, [], ◌∷◌, length, Option, Some, None, is_some}
+use Rattle.std.proofs.Common.{is_none, sym, ◌∙◌, ap, subst, refl, zero-add, add_assoc, arith}
 use Rattle.std.proofs.lemmas.Bool.{cases_lt, cases_eq, cases_Bool, lt-ltb, le-ltb, ne_eqb, not-false, and_from, and_left, and_right, le-leb, lt-leb}
 use Rattle.std.proofs.lemmas.Bool.Decides.{nat_tests}
 use Rattle.page_types.specs.declared.TheConstants.{LIMIT}
@@ -181,7 +183,8 @@ rows_from sort f (a ∷ rest) e limit is w above l start same =
     λ p g. same p (omega arith) ∙ kind_at-after a rest p g in
     let area_start : starts_row f a.lo ≡ true =
     elim (cases_lt e a.lo) [
-      | inl lt ↦ starts_row-if f a.lo (λ g same'. differ (f (a.lo - 1)) (f a.lo) a.kind (none (a.lo - 1) (omega arith) (omega arith)) same' (some a.lo (omega arith) n))
+      | inl lt ↦ starts_row-if f a.lo (λ g same'. differ (f (a.lo - 1)) (f a.lo) a.kind
+          (none (a.lo - 1) (omega arith) (omega arith)) same' (some a.lo (omega arith) n))
       | inr ge ↦ let e_is : e ≡ a.lo = omega (arith, above) in subst (λ x. starts_row f x ≡ true) e_is (start (omega arith))
     ] in
     let next_start : starts_row f a.hi ≡ true =

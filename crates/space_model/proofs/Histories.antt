@@ -19,12 +19,14 @@ module _ (Step : List Area → Entry → List Area → Type 0) where
   chains_join A (x ∷ xs) ys B C (D, g, s) t = (D, g, chains_join D xs ys B C s t)
 
   -- one chain is two
-  pub chains_split : (A : List Area) (xs ys : List Entry) (C : List Area) → Chains Step A (xs ++ ys) C → (B : List Area) × Chains Step A xs B × Chains Step B ys C
+  pub chains_split : (A : List Area) (xs ys : List Entry) (C : List Area) → Chains Step A (xs ++ ys) C
+      → (B : List Area) × Chains Step A xs B × Chains Step B ys C
   chains_split A [] ys C s = (A, refl, s)
   chains_split A (x ∷ xs) ys C (D, g, s) = let (B, t, u) = chains_split D xs ys C s in (B, (D, g, t), u)
 
   -- a step more
-  pub chains_more : (A : List Area) (xs : List Entry) (B : List Area) (e : Entry) (C : List Area) → Chains Step A xs B → Step B e C → Chains Step A (xs ++ e ∷ []) C
+  pub chains_more : (A : List Area) (xs : List Entry) (B : List Area) (e : Entry) (C : List Area) → Chains Step A xs B
+      → Step B e C → Chains Step A (xs ++ e ∷ []) C
   chains_more A xs B e C s h = chains_join A xs (e ∷ []) B C s (C, h, refl)
 
 -- each step is one of a weaker kind

@@ -16,7 +16,9 @@ use Rattle.page_types.specs.Sets.{has_bits, flag_bits}
 use Rattle.space_model.specs.declared.areas.Area.{Area}
 use Rattle.space_model.specs.Areas.{HasKinds, kind_at, row_count}
 use Rattle.space_model.specs.Effect.{effect_of, done_reply}
-use Rattle.space_model.specs.Answers.{IsLowestMapped, IsLowestMissing, IsHighestFit, NoReplace, Replaces, Hints, StartsAt, IsPlace, RefusesMap, LetsThrough, RefusesAccess, RefusesByState, GrantsAccess, Answers}
+use Rattle.space_model.specs.Answers.{IsLowestMapped, IsLowestMissing, IsHighestFit, NoReplace, Replaces, Hints}
+use Rattle.space_model.specs.Answers.{StartsAt, IsPlace, RefusesMap, LetsThrough, RefusesAccess, RefusesByState}
+use Rattle.space_model.specs.Answers.{GrantsAccess, Answers}
 use Rattle.space_model.specs.Answers.StartsAt.{free, replacing, hinted, highest}
 use Rattle.space_model.specs.Answers.RefusesMap.{exists, no_gap}
 use Rattle.space_model.specs.Answers.Answers.{by_arguments, refused, granted, done, too_many_rows}

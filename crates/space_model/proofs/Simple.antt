@@ -1,5 +1,6 @@
 -- When a Protect within one area keeps the number of areas and of gaps.
-use Rattle.std.proofs.Common.{◌≡◌, ◌≢◌, ℕ, zero, suc, ◌+◌, ◌-◌, ◌<◌, ◌≤◌, inl, inr, Bool, true, false, not, ◌&&◌, List, [], ◌∷◌, length, Option, Some, None, is_some, is_none, sym, ◌∙◌, ap, subst, refl, arith}
+use Rattle.std.proofs.Common.{◌≡◌, ◌≢◌, ℕ, zero, suc, ◌+◌, ◌-◌, ◌<◌, ◌≤◌, inl, inr, Bool, true, false, not, ◌&&◌, List}
+use Rattle.std.proofs.Common.{[], ◌∷◌, length, Option, Some, None, is_some, is_none, sym, ◌∙◌, ap, subst, refl, arith}
 use Rattle.std.specs.List.{Contains}
 use Rattle.std.specs.Option.{option_map}
 use Rattle.std.proofs.lemmas.Bool.{cases_lt, cases_eq}
@@ -17,7 +18,8 @@ use Rattle.space_model.specs.Building.{changed_list}
 use Rattle.space_model.proofs.AreaKinds.{kind_at-here, kind_at-after, kind_at-below, LeadsTo-above, side_of}
 use Rattle.space_model.proofs.AreaKinds.Side.{before, inside, after}
 use Rattle.space_model.proofs.Changing.{within-before, within-inside, within-after, changed_list-kinds, kind_at-limit}
-use Rattle.space_model.proofs.Counting.{sum_from, sum-same, sum-add, only_at, only_at-same, only_at-other, sum-only_at, sum-only_past, starts_row-not, row_at, length-rows, gaps-rows}
+use Rattle.space_model.proofs.Counting.{sum_from, sum-same, sum-add, only_at, only_at-same, only_at-other, sum-only_at}
+use Rattle.space_model.proofs.Counting.{sum-only_past, starts_row-not, row_at, length-rows, gaps-rows}
 
 -- an area of a list is in range
 pub member_in_range : (A : List Area) (a : Area) → IsAreaList A → Contains A a → IsInRange a
@@ -280,7 +282,8 @@ keeps_borders A B addr len prot lo hi a w lies l k =
 
 -- the same, of the span of the call
 pub simple_in : (A : List Area) (addr len : ℕ) (prot : Prot) (lo hi : ℕ) (a : Area) → lo ≡ page_of addr →
-    hi ≡ end_page addr len → IsAreaList A → LiesIn A a lo hi → lo < hi → hi ≤ LIMIT → KeepsRows (kind_before A lo) a.kind (protected_kind prot a.kind) (kind_at A hi) →
+    hi ≡ end_page addr len → IsAreaList A → LiesIn A a lo hi → lo < hi → hi ≤ LIMIT
+    → KeepsRows (kind_before A lo) a.kind (protected_kind prot a.kind) (kind_at A hi) →
     IsSimpleIn A (Protect addr len prot) a
 simple_in A addr len prot lo hi a e f w lies l h b =
     let c = Protect addr len prot in

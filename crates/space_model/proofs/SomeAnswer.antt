@@ -1,6 +1,7 @@
 -- Each call has an answer on an area list: of the pages below a bound there is a lowest and a highest of a sort, or
 -- none.
-use Rattle.std.proofs.Common.{◌≡◌, ℕ, zero, suc, ◌+◌, ◌<◌, ◌≤◌, ◌≢◌, ◌⊎◌, inl, inr, Bool, true, false, ◌||◌, IsTrue, IsSome, List, Option, Some, None, sym, ◌∙◌, ap, subst, refl, arith}
+use Rattle.std.proofs.Common.{◌≡◌, ℕ, zero, suc, ◌+◌, ◌<◌, ◌≤◌, ◌≢◌, ◌⊎◌, inl, inr, Bool, true, false, ◌||◌, IsTrue}
+use Rattle.std.proofs.Common.{IsSome, List, Option, Some, None, sym, ◌∙◌, ap, subst, refl, arith}
 use Rattle.std.proofs.lemmas.Bool.{cases_lt, cases_Bool, true≢false}
 use Rattle.page_types.specs.declared.TheConstants.{LIMIT, ROWS}
 use Rattle.page_types.specs.declared.sets.Access.{Access}
@@ -22,7 +23,8 @@ use Rattle.space_model.specs.Areas.{IsAreaList, kind_at, row_count}
 use Rattle.space_model.specs.Effect.{done_reply}
 use Rattle.space_model.specs.Building.{changed_list}
 use Rattle.space_model.specs.Laws.{HasSomeAnswer}
-use Rattle.space_model.specs.Answers.{IsUnmapped, IsMapped, IsLowestMapped, IsLowestMissing, FitsAt, Hints, StartsAt, IsPlace, RefusesMap, RefusesAccess, Answers}
+use Rattle.space_model.specs.Answers.{IsUnmapped, IsMapped, IsLowestMapped, IsLowestMissing, FitsAt, Hints, StartsAt}
+use Rattle.space_model.specs.Answers.{IsPlace, RefusesMap, RefusesAccess, Answers}
 use Rattle.space_model.specs.Answers.StartsAt.{free as unmapped, replacing, hinted, highest}
 use Rattle.space_model.specs.Answers.RefusesMap.{exists, no_gap}
 use Rattle.space_model.specs.Answers.Answers.{by_arguments, refused, granted, done, too_many_rows}

@@ -1,6 +1,8 @@
 -- Areas that a change doesn't touch stay: the list with only the middle built anew has the kinds of the effect, and its
 -- rows are those before, counted anew between the two cuts.
-use Rattle.std.proofs.Common.{◌≡◌, ◌≢◌, ℕ, zero, suc, ◌+◌, ◌-◌, ◌<◌, ◌≤◌, inl, inr, if◌then◌else◌, List, [], ◌∷◌, ◌++◌, length, length-append, append_assoc, take, drop, get_or, slice_get, Option, Some, None, MatchOption, All, sym, ◌∙◌, ap, subst, refl, arith}
+use Rattle.std.proofs.Common.{◌≡◌, ◌≢◌, ℕ, zero, suc, ◌+◌, ◌-◌, ◌<◌, ◌≤◌, inl, inr, if◌then◌else◌, List, [], ◌∷◌, ◌++◌}
+use Rattle.std.proofs.Common.{length, length-append, append_assoc, take, drop, get_or, slice_get, Option, Some, None}
+use Rattle.std.proofs.Common.{MatchOption, All, sym, ◌∙◌, ap, subst, refl, arith}
 use Rattle.std.specs.List.{splice}
 use Rattle.std.proofs.lemmas.Bool.{cases_lt}
 use Rattle.std.proofs.lemmas.List.{append-nil, take_at, drop_at}

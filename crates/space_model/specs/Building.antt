@@ -1,7 +1,8 @@
 -- How the bodies of this crate put an area list together: areas are appended in order, and one that touches the last
 -- and is of its kind lengthens it. This is the project's own way; only private functions speak of it, and what callers
 -- see is the kinds of pages.
-use Rattle.std.specs.Prelude.{ℕ, ◌-◌, ◌<◌, slice_index_or, Bool, false, ◌&&◌, ◌==◌, nat_lt, if◌then◌else◌, min, max, ◌≡◌, ◌↔◌, IsTrue, Option, Some, None, List, [], ◌∷◌}
+use Rattle.std.specs.Prelude.{ℕ, ◌-◌, ◌<◌, slice_index_or, Bool, false, ◌&&◌, ◌==◌, nat_lt, if◌then◌else◌, min, max}
+use Rattle.std.specs.Prelude.{◌≡◌, ◌↔◌, IsTrue, Option, Some, None, List, [], ◌∷◌}
 use Rattle.page_types.specs.declared.TheConstants.{LIMIT}
 use Rattle.page_types.specs.declared.sets.Prot.{Prot}
 use Rattle.page_types.specs.declared.calls.Kind.{Kind}

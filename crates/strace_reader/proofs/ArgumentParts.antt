@@ -1,5 +1,6 @@
 -- The arguments of a call are read as their parts say.
-use Rattle.std.proofs.Common.{◌≡◌, ℕ, ◌<◌, ◌^◌, List, [], ◌∷◌, ◌++◌, length, codes, Result, Ok, Err, Option, Some, None, Bool, true, false, refl, sym, ap, subst, ◌∙◌, append_assoc, inl, inr, arith}
+use Rattle.std.proofs.Common.{◌≡◌, ℕ, ◌<◌, ◌^◌, List, [], ◌∷◌, ◌++◌, length, codes, Result, Ok, Err, Option, Some, None}
+use Rattle.std.proofs.Common.{Bool, true, false, refl, sym, ap, subst, ◌∙◌, append_assoc, inl, inr, arith}
 use Rattle.std.specs.Prelude.{if◌then◌else◌}
 use Rattle.std.proofs.lemmas.List.{append-nil}
 use Rattle.std.proofs.lemmas.Nat.{or_lt}
@@ -14,7 +15,8 @@ use Rattle.std.specs.Str.{bytes_eq}
 use Rattle.line_parts.specs.Reading.{◌>>=◌, refusal_at, byte_at}
 use Rattle.line_parts.proofs.Sequence.{Took, Stuck, Reads, Fine, Good, Follows, Heads, reads_then, fine_then, good_then, shorter, heads_then, alike_same}
 use Rattle.line_parts.proofs.Choices.{Nonempty, Full, good_choice, narrower, full_nonempty, full_stays, chain_full, byte_full, letters_full, run_full}
-use Rattle.line_parts.proofs.Leaves.{byte_good, done_good, letters_good, run_good, spaces_good, until_good, digits_good, anything_took, same_is, is_same, run_starts, no_byte_starts}
+use Rattle.line_parts.proofs.Leaves.{byte_good, done_good, letters_good, run_good, spaces_good, until_good, digits_good}
+use Rattle.line_parts.proofs.Leaves.{anything_took, same_is, is_same, run_starts, no_byte_starts}
 use Rattle.line_parts.proofs.Numerals.{NoNumeral, number_good, number_full, zero_number}
 use Rattle.line_parts.proofs.Lists.{is_join, is_close, ItemEnds, ListEnds, Shortens, listed_good, listed_heads, join_fails, join_no_numeral, close_joins}
 use Rattle.page_types.specs.declared.sets.Access.{Access}
@@ -23,7 +25,9 @@ use Rattle.strace_reader.specs.Words.{prot_of, flag_of, access_of}
 use Rattle.strace_reader.specs.declared.arguments.WordList.{WordList}
 use Rattle.strace_reader.specs.declared.arguments.WordList.TheVariants.{Prot, Flags}
 use Rattle.strace_reader.specs.Calls.{comma, addr, word, known, prot_word, prot, commented, operand, shifted, flag_word, flags, path, descriptor, access}
-use Rattle.strace_reader.specs.Reading.{comma_at, addr_at, word_at, known_at, prot_word_at, prot_at, commented_at, operand_at, shifted_at, flag_word_at, flags_at, listed_word_at, listed_at, path_at, descriptor_at, access_read, access_at}
+use Rattle.strace_reader.specs.Reading.{comma_at, addr_at, word_at, known_at, prot_word_at, prot_at, commented_at}
+use Rattle.strace_reader.specs.Reading.{operand_at, shifted_at, flag_word_at, flags_at, listed_word_at, listed_at}
+use Rattle.strace_reader.specs.Reading.{path_at, descriptor_at, access_read, access_at}
 
 -- ---- what may follow
 
@@ -107,7 +111,8 @@ comma_no_numeral q h = join_no_numeral q (comma_joins q h)
 pub addr_good : Good addr CommaEnds addr_at
 unfolding addr_at
 addr_good =
-    good_choice (is 78) (good_then (letters_good (codes "NULL") Number) (λ u. done_good 0 CommaEnds) (λ v b q w h hq. tt)) (narrower (λ v q h. comma_no_numeral q h) (number_good Number))
+    good_choice (is 78) (good_then (letters_good (codes "NULL") Number) (λ u. done_good 0 CommaEnds) (λ v b q w h hq. tt))
+    (narrower (λ v q h. comma_no_numeral q h) (number_good Number))
     (full_nonempty (is 78) (chain (letters (codes "NULL") Number) (λ u. done 0)) null_full) (full_stays (is 78) (number Number) CommaEnds (number_full Number))
     (48 ∷ [], 0, λ q h. zero_number q (comma_no_numeral q h))
 
@@ -118,7 +123,8 @@ word_good = run_good is_capital is_word_byte Word 65 refl
 
 known_follows : (x : Option ℕ) (b q : List ℕ) (u : Option ℕ) → (known x).takes b q u → ItemEnds u q → starts is_word_byte (b ++ q) ≡ false
 known_follows None b q u h hq = ap (λ (y : List ℕ). starts is_word_byte (b ++ y)) h.0 ∙ ap (starts is_word_byte) (append-nil b) ∙ h.2
-known_follows (Some n) b q u h hq = ap (λ (y : List ℕ). starts is_word_byte (y ++ q)) h.0 ∙ join_fails is_word_byte refl refl refl q (subst (λ (x : Option ℕ). ItemEnds x q) h.1 hq)
+known_follows (Some n) b q u h hq = ap (λ (y : List ℕ). starts is_word_byte (y ++ q)) h.0
+    ∙ join_fails is_word_byte refl refl refl q (subst (λ (x : Option ℕ). ItemEnds x q) h.1 hq)
 
 known_fine : (x : Option ℕ) → Fine (known x) ItemEnds
 known_fine None = record { some = ([], None, λ q h. (h, refl, refl)); before = λ a rest q v h hq. (subst (λ (x : Option ℕ). ItemEnds x q) h.1 hq, h.1, h.2) }
@@ -133,7 +139,8 @@ known_word f =
     let follows : Follows WordEnds (λ w. known (f w)) ItemEnds = λ v b q u h hq. known_follows (f v) b q u h hq in
     record {
       fine = fine_then word (λ w. known (f w)) WordEnds ItemEnds follows word_good.fine (λ w. known_fine (f w));
-      reads = λ text. reads_then word (λ w. known (f w)) WordEnds ItemEnds text (word_at text) (λ w. known_at (f w.0) w.1) follows word_good.fine (λ w. known_fine (f w)) (word_good.reads text) (λ x t. known_reads (f x.0) x.1 t.takes.2);
+      reads = λ text. reads_then word (λ w. known (f w)) WordEnds ItemEnds text (word_at text) (λ w. known_at (f w.0) w.1) follows
+          word_good.fine (λ w. known_fine (f w)) (word_good.reads text) (λ x t. known_reads (f x.0) x.1 t.takes.2);
     }
 
 known_word_full : (f : List ℕ → Option ℕ) → Full (chain word (λ w. known (f w)))
@@ -156,14 +163,16 @@ rest_nonempty test v rest w h e = let k : starts test rest ≡ false = ap (start
 pub prot_word_good : Good prot_word ItemEnds prot_word_at
 unfolding prot_word_at
 prot_word_good =
-    good_choice is_digit rest_good (known_word prot_of) (rest_nonempty is_digit None) (full_stays is_digit (chain word (λ w. known (prot_of w))) ItemEnds (known_word_full prot_of))
+    good_choice is_digit rest_good (known_word prot_of) (rest_nonempty is_digit None)
+    (full_stays is_digit (chain word (λ w. known (prot_of w))) ItemEnds (known_word_full prot_of))
     (48 ∷ [], None, λ q h. (h, refl, refl))
 
 pub prot_good : Good prot ListEnds prot_at
 unfolding prot_at listed_at
 prot_good = listed_good prot_word prot_word_at prot_word_good 0
 
-digit_or_word : (one : Part (Option ℕ)) (f : List ℕ → Option ℕ) (b q : List ℕ) (w : Option ℕ) (x : Bool) → starts is_digit (b ++ q) ≡ x → (arm one (chain word (λ w. known (f w))) x).takes b q w → starts not_space (b ++ q) ≡ true
+digit_or_word : (one : Part (Option ℕ)) (f : List ℕ → Option ℕ) (b q : List ℕ) (w : Option ℕ) (x : Bool)
+    → starts is_digit (b ++ q) ≡ x → (arm one (chain word (λ w. known (f w))) x).takes b q w → starts not_space (b ++ q) ≡ true
 digit_or_word one f b q w true e h = digit_not_space (b ++ q) e
 digit_or_word one f b q w false e h = heads_then not_space word (λ w. known (f w)) word_heads b q w h
 
@@ -188,7 +197,9 @@ commented_good : Good commented JoinEnds commented_at
 unfolding commented_at
 commented_good =
     let end_good : Good (byte 47 Comma) JoinEnds (byte_at 47 Comma) = narrower (λ v q h. tt) (byte_good 47 Comma) in
-    good_choice (is 32) (good_then (letters_good (codes " /*") Comma) (λ u. good_then (until_good 42 47 Comma refl) (λ v. end_good) (λ v b q w h hq. byte_heads 47 Comma b q w h)) (λ v b q w h hq. tt)) (done_good tt JoinEnds)
+    good_choice (is 32) (good_then (letters_good (codes " /*") Comma)
+    (λ u. good_then (until_good 42 47 Comma refl) (λ v. end_good) (λ v b q w h hq. byte_heads 47 Comma b q w h))
+    (λ v b q w h hq. tt)) (done_good tt JoinEnds)
     (full_nonempty (is 32) comment comment_full) (λ rest q v h hq. join_fails (is 32) refl refl refl q hq) ([], tt, commented_empty)
 
 -- an operand ends before a space, a comma, a parenthesis or a bar
@@ -198,11 +209,13 @@ is_operand_end c = if is 32 c then true else is_join c
 abbrev pub OperandEnds : {A : Type 0} → A → List ℕ → Type 0
 OperandEnds v q = starts is_operand_end q ≡ true
 
-operand_byte : (test : ℕ → Bool) → test 32 ≡ false → test 124 ≡ false → test 44 ≡ false → test 41 ≡ false → (c : ℕ) (q : List ℕ) (b : Bool) → is 32 c ≡ b → (if b then true else is_join c) ≡ true → test c ≡ false
+operand_byte : (test : ℕ → Bool) → test 32 ≡ false → test 124 ≡ false → test 44 ≡ false → test 41 ≡ false
+    → (c : ℕ) (q : List ℕ) (b : Bool) → is 32 c ≡ b → (if b then true else is_join c) ≡ true → test c ≡ false
 operand_byte test s x y z c q true e h = ap test (same_is 32 c e) ∙ s
 operand_byte test s x y z c q false e h = join_fails test x y z (c ∷ q) h
 
-operand_fails : (test : ℕ → Bool) → test 32 ≡ false → test 124 ≡ false → test 44 ≡ false → test 41 ≡ false → (q : List ℕ) → starts is_operand_end q ≡ true → starts test q ≡ false
+operand_fails : (test : ℕ → Bool) → test 32 ≡ false → test 124 ≡ false → test 44 ≡ false → test 41 ≡ false → (q : List ℕ)
+    → starts is_operand_end q ≡ true → starts test q ≡ false
 operand_fails test s x y z [] h = refl
 operand_fails test s x y z (c ∷ q) h = operand_byte test s x y z c q (is 32 c) refl h
 
@@ -218,9 +231,15 @@ operand_no_numeral (c ∷ q) h = operand_numeral_byte c q (is 32 c) refl h
 pub operand_good : Good operand OperandEnds operand_at
 unfolding operand_at
 operand_good =
-    good_choice is_digit (good_then (number_good Number) (λ n. done_good tt OperandEnds) (λ v b q w h hq. subst NoNumeral (sym (ap (λ (y : List ℕ). y ++ q) h.0)) (operand_no_numeral q hq)))
-    (good_then word_good (λ w. done_good tt OperandEnds) (λ v b q w h hq. ap (λ (y : List ℕ). starts is_word_byte (y ++ q)) h.0 ∙ operand_fails is_word_byte refl refl refl refl q hq))
-    (full_nonempty is_digit (chain (number Number) (λ n. done tt)) (chain_full (number Number) (λ n. done tt) (number_full Number))) (full_stays is_digit (chain word (λ w. done tt)) OperandEnds (chain_full word (λ w. done tt) (run_full is_capital is_word_byte Word)))
+    good_choice is_digit (good_then (number_good Number) (λ n. done_good tt OperandEnds)
+    (λ v b q w h hq. subst NoNumeral (sym (ap (λ (y : List ℕ). y ++ q) h.0)) (operand_no_numeral q hq)))
+    (good_then word_good (λ w. done_good tt OperandEnds)
+    (λ v b q w h hq. ap (λ (y : List ℕ). starts is_word_byte (y ++ q)) h.0
+    ∙ operand_fails is_word_byte refl refl refl refl q hq))
+    (full_nonempty is_digit (chain (number Number) (λ n. done tt))
+    (chain_full (number Number) (λ n. done tt) (number_full Number)))
+    (full_stays is_digit (chain word (λ w. done tt)) OperandEnds
+    (chain_full word (λ w. done tt) (run_full is_capital is_word_byte Word)))
     (65 ∷ [], tt, λ q h. (65 ∷ [], [], 65 ∷ [], refl, (refl, (refl, tt), operand_fails is_word_byte refl refl refl refl q h), (refl, refl)))
 
 space_ends : (q : List ℕ) → starts (is 32) q ≡ true → starts is_operand_end q ≡ true
@@ -232,7 +251,8 @@ join_ends [] h = h
 join_ends (c ∷ q) h = either_close (is 32 c) (is_join c) h
 
 -- behind an operand stands a comment, or what ends an item
-commented_starts : (b q : List ℕ) (w : Unit {0}) (x : Bool) → starts (is 32) (b ++ q) ≡ x → (arm comment (done tt) x).takes b q w → starts is_join q ≡ true → starts is_operand_end (b ++ q) ≡ true
+commented_starts : (b q : List ℕ) (w : Unit {0}) (x : Bool) → starts (is 32) (b ++ q) ≡ x → (arm comment (done tt) x).takes b q w
+    → starts is_join q ≡ true → starts is_operand_end (b ++ q) ≡ true
 commented_starts b q w true e h hq = space_ends (b ++ q) e
 commented_starts b q w false e h hq = ap (λ (y : List ℕ). starts is_operand_end (y ++ q)) h.0 ∙ join_ends q hq
 
@@ -245,15 +265,19 @@ shifted_empty q h = subst (λ (x : Bool). (arm shift commented x).takes [] q tt)
 shifted_good : Good shifted JoinEnds shifted_at
 unfolding shifted_at
 shifted_good =
-    good_choice (is 60) (good_then (letters_good (codes "<<") Comma) (λ u. good_then operand_good (λ v. commented_good) (λ v b q w h hq. commented_starts b q w (starts (is 32) (b ++ q)) refl h hq)) (λ v b q w h hq. tt)) commented_good
-    (full_nonempty (is 60) shift (chain_full (letters (codes "<<") Comma) (λ u. chain operand (λ v. commented)) (letters_full 60 (codes "<") Comma))) (λ rest q v h hq. join_fails (is 60) refl refl refl q hq) ([], tt, shifted_empty)
+    good_choice (is 60) (good_then (letters_good (codes "<<") Comma)
+    (λ u. good_then operand_good (λ v. commented_good)
+    (λ v b q w h hq. commented_starts b q w (starts (is 32) (b ++ q)) refl h hq)) (λ v b q w h hq. tt)) commented_good
+    (full_nonempty (is 60) shift (chain_full (letters (codes "<<") Comma) (λ u. chain operand (λ v. commented))
+    (letters_full 60 (codes "<") Comma))) (λ rest q v h hq. join_fails (is 60) refl refl refl q hq) ([], tt, shifted_empty)
 
 angle_no_numeral : (q : List ℕ) → starts (is 60) q ≡ true → NoNumeral q
 unfolding worth
 angle_no_numeral [] h = tt
 angle_no_numeral (c ∷ q) h = rw (same_is 60 c h) (omega arith, omega arith)
 
-shifted_starts : (b q : List ℕ) (w : Unit {0}) (x : Bool) → starts (is 60) (b ++ q) ≡ x → (arm shift commented x).takes b q w → starts is_join q ≡ true → NoNumeral (b ++ q)
+shifted_starts : (b q : List ℕ) (w : Unit {0}) (x : Bool) → starts (is 60) (b ++ q) ≡ x → (arm shift commented x).takes b q w
+    → starts is_join q ≡ true → NoNumeral (b ++ q)
 shifted_starts b q w true e h hq = angle_no_numeral (b ++ q) e
 shifted_starts b q w false e h hq = operand_no_numeral (b ++ q) (commented_starts b q w (starts (is 32) (b ++ q)) refl h hq)
 
@@ -268,8 +292,12 @@ number_follows b q w h hq =
 pub flag_word_good : Good flag_word ItemEnds flag_word_at
 unfolding flag_word_at flag_of
 flag_word_good =
-    good_choice is_digit (good_then (number_good Number) (λ n. good_then shifted_good (λ u. done_good (Some 0) ItemEnds) (λ v b q w h hq. ap (λ (y : List ℕ). starts is_join (y ++ q)) h.0 ∙ subst (λ (x : Option ℕ). ItemEnds x q) h.1 hq)) (λ v b q w h hq. number_follows b q w h hq)) (known_word flag_of)
-    (full_nonempty is_digit (chain (number Number) (λ n. chain shifted (λ u. done (Some 0)))) (chain_full (number Number) (λ n. chain shifted (λ u. done (Some 0))) (number_full Number)))
+    good_choice is_digit (good_then (number_good Number)
+    (λ n. good_then shifted_good (λ u. done_good (Some 0) ItemEnds)
+    (λ v b q w h hq. ap (λ (y : List ℕ). starts is_join (y ++ q)) h.0 ∙ subst (λ (x : Option ℕ). ItemEnds x q) h.1 hq))
+    (λ v b q w h hq. number_follows b q w h hq)) (known_word flag_of)
+    (full_nonempty is_digit (chain (number Number) (λ n. chain shifted (λ u. done (Some 0))))
+    (chain_full (number Number) (λ n. chain shifted (λ u. done (Some 0))) (number_full Number)))
     (full_stays is_digit (chain word (λ w. known (flag_of w))) ItemEnds (known_word_full flag_of))
     (65 ∷ [], Some 0, λ q h. (65 ∷ [], [], 65 ∷ [], refl, (refl, (refl, tt), join_fails is_word_byte refl refl refl q h), (refl, refl)))
 
@@ -283,7 +311,9 @@ listed_word_shortens Prot text rest v e = shorter prot_word_good text rest v e
 listed_word_shortens Flags text rest v e = shorter flag_word_good text rest v e
 
 pub flags_heads : Heads not_space flags
-flags_heads = listed_heads not_space flag_word 0 (λ b q w h. digit_or_word (chain (number Number) (λ n. chain shifted (λ u. done (Some 0)))) flag_of b q w (starts is_digit (b ++ q)) refl h)
+flags_heads = listed_heads not_space flag_word 0
+    (λ b q w h. digit_or_word (chain (number Number) (λ n. chain shifted (λ u. done (Some 0)))) flag_of b q w
+    (starts is_digit (b ++ q)) refl h)
 
 -- ---- descriptors
 
@@ -300,14 +330,17 @@ path_empty q h = subst (λ (x : Bool). (arm named (done tt) x).takes [] q tt) (s
 path_good : Good path CommaEnds path_at
 unfolding path_at
 path_good =
-    good_choice (is 60) (good_then (byte_good 60 Comma) (λ u. until_good 62 44 Comma refl) (λ v b q w h hq. tt)) (done_good tt CommaEnds) (full_nonempty (is 60) named (chain_full (byte 60 Comma) (λ u. until 62 44 Comma) (byte_full 60 Comma)))
+    good_choice (is 60) (good_then (byte_good 60 Comma) (λ u. until_good 62 44 Comma refl) (λ v b q w h hq. tt))
+    (done_good tt CommaEnds) (full_nonempty (is 60) named
+    (chain_full (byte 60 Comma) (λ u. until 62 44 Comma) (byte_full 60 Comma)))
     (λ rest q v h hq. comma_fails (is 60) refl q hq) ([], tt, path_empty)
 
 angle_no_digit : (q : List ℕ) → starts (is 60) q ≡ true → starts is_digit q ≡ false
 angle_no_digit [] h = refl
 angle_no_digit (c ∷ q) h = ap is_digit (same_is 60 c h)
 
-path_starts : (b q : List ℕ) (w : Unit {0}) (x : Bool) → starts (is 60) (b ++ q) ≡ x → (arm named (done tt) x).takes b q w → starts (is 44) q ≡ true → starts is_digit (b ++ q) ≡ false
+path_starts : (b q : List ℕ) (w : Unit {0}) (x : Bool) → starts (is 60) (b ++ q) ≡ x → (arm named (done tt) x).takes b q w
+    → starts (is 44) q ≡ true → starts is_digit (b ++ q) ≡ false
 path_starts b q w true e h hq = angle_no_digit (b ++ q) e
 path_starts b q w false e h hq = ap (λ (y : List ℕ). starts is_digit (y ++ q)) h.0 ∙ comma_fails is_digit refl q hq
 
@@ -317,8 +350,10 @@ digits_full = chain_full (run is_digit is_digit Number) (λ d. done tt) (run_ful
 pub descriptor_good : Good descriptor CommaEnds descriptor_at
 unfolding descriptor_at
 descriptor_good =
-    good_choice (is 45) (good_then (letters_good (codes "-1") Number) (λ u. path_good) (λ v b q w h hq. tt)) (good_then (digits_good Number) (λ u. path_good) (λ v b q w h hq. path_starts b q w (starts (is 60) (b ++ q)) refl h hq))
-    (full_nonempty (is 45) (chain (letters (codes "-1") Number) (λ u. path)) (chain_full (letters (codes "-1") Number) (λ u. path) (letters_full 45 (codes "1") Number)))
+    good_choice (is 45) (good_then (letters_good (codes "-1") Number) (λ u. path_good) (λ v b q w h hq. tt))
+    (good_then (digits_good Number) (λ u. path_good) (λ v b q w h hq. path_starts b q w (starts (is 60) (b ++ q)) refl h hq))
+    (full_nonempty (is 45) (chain (letters (codes "-1") Number) (λ u. path))
+    (chain_full (letters (codes "-1") Number) (λ u. path) (letters_full 45 (codes "1") Number)))
     (full_stays (is 45) (chain (many_digits Number) (λ u. path)) CommaEnds (chain_full (many_digits Number) (λ u. path) digits_full))
     (48 ∷ [], tt, λ q h. (48 ∷ [], [], tt, refl, (48 ∷ [], [], 48 ∷ [], refl, (refl, (refl, tt), comma_fails is_digit refl q h), (refl, refl)), path_empty q h))
 
@@ -326,9 +361,13 @@ minus_not_space : (q : List ℕ) → starts (is 45) q ≡ true → starts not_sp
 minus_not_space [] h = h
 minus_not_space (c ∷ q) h = ap not_space (same_is 45 c h)
 
-descriptor_starts : (b q : List ℕ) (w : Unit {0}) (x : Bool) → starts (is 45) (b ++ q) ≡ x → (arm (chain (letters (codes "-1") Number) (λ u. path)) (chain (many_digits Number) (λ u. path)) x).takes b q w → starts not_space (b ++ q) ≡ true
+descriptor_starts : (b q : List ℕ) (w : Unit {0}) (x : Bool) → starts (is 45) (b ++ q) ≡ x
+    → (arm (chain (letters (codes "-1") Number) (λ u. path)) (chain (many_digits Number) (λ u. path)) x).takes b q w
+    → starts not_space (b ++ q) ≡ true
 descriptor_starts b q w true e h = minus_not_space (b ++ q) e
-descriptor_starts b q w false e h = heads_then not_space (many_digits Number) (λ u. path) (heads_then not_space (run is_digit is_digit Number) (λ d. done tt) (λ a t v k. digit_not_space (a ++ t) (run_starts is_digit is_digit a t k.1))) b q w h
+descriptor_starts b q w false e h = heads_then not_space (many_digits Number) (λ u. path)
+    (heads_then not_space (run is_digit is_digit Number) (λ d. done tt)
+    (λ a t v k. digit_not_space (a ++ t) (run_starts is_digit is_digit a t k.1))) b q w h
 
 pub descriptor_heads : Heads not_space descriptor
 descriptor_heads b q w h = descriptor_starts b q w (starts (is 45) (b ++ q)) refl h
@@ -346,7 +385,8 @@ access_word p q v h = (refl, h.0, h.1)
 some_same : {a b : Access} → Some a ≡ Some b → a ≡ b
 some_same e = cc
 
-access_clean : (text w rest : List ℕ) (a : Access) (g o r : List ℕ) (x : What) → access_of w ≡ Some a → Took word text w rest → access.refuses g o r x → text ≡ g ++ (o ++ r) → ⊥
+access_clean : (text w rest : List ℕ) (a : Access) (g o r : List ℕ) (x : What) → access_of w ≡ Some a → Took word text w rest
+    → access.refuses g o r x → text ≡ g ++ (o ++ r) → ⊥
 access_clean text w rest a g o r x found t h e =
     elim (h.2) [
       | inl k ↦ t.clean g o r Word (h.0, k.0, refl, k.1) e
@@ -379,7 +419,8 @@ access_other text w rest none t =
       left = ap length t.parts;
       due = (refl, refl, inr (t.takes.1, t.takes.2, same));
       begins = (codes "PROT_READ", Read, access_some);
-      ends = λ p q more v h e alike. let s = t.only p q more p (access_word p q v h) e alike in let k : access_of p ≡ None = ap access_of s.1 ∙ none in let l = h.2 in cc;
+      ends = λ p q more v h e alike. let s = t.only p q more p (access_word p q v h) e alike in
+          let k : access_of p ≡ None = ap access_of s.1 ∙ none in let l = h.2 in cc;
       one = λ g o r x h e. (sym (ap length (e ∙ ap (λ (y : List ℕ). y ++ (o ++ r)) h.0)), h.1);
     }
 
@@ -402,7 +443,8 @@ access_found : (text w rest : List ℕ) (r : Option Access) → access_of w ≡ 
 access_found text w rest None e t = access_other text w rest e t
 access_found text w rest (Some a) e t = access_took text w rest a e t
 
-access_reads : (text : List ℕ) (r : Result (List ℕ × List ℕ) Refusal) → Reads word WordEnds text r → Reads access WordEnds text (r >>= λ w. access_read text w.1 (access_of w.0))
+access_reads : (text : List ℕ) (r : Result (List ℕ × List ℕ) Refusal) → Reads word WordEnds text r
+    → Reads access WordEnds text (r >>= λ w. access_read text w.1 (access_of w.0))
 access_reads text (Ok x) t = access_found text x.0 x.1 (access_of x.0) refl t
 access_reads text (Err f) s = access_none text f s
 
@@ -443,7 +485,9 @@ prot_word_end p q v false h e = known_end (prot_of h.2) h.1 q v h.5 e
 pub prot_end : NoneEnds prot
 prot_end p q v h e = items_end prot_word 0 (λ p q v h e. prot_word_end p q v (starts is_digit (p ++ q)) h e) h.0 p q v h.1 e
 
-flag_word_end : (p q : List ℕ) (v : Option ℕ) (x : Bool) → (arm (chain (number Number) (λ n. chain shifted (λ u. done (Some 0)))) (chain word (λ w. known (flag_of w))) x).takes p q v → v ≡ None → q ≡ []
+flag_word_end : (p q : List ℕ) (v : Option ℕ) (x : Bool)
+    → (arm (chain (number Number) (λ n. chain shifted (λ u. done (Some 0)))) (chain word (λ w. known (flag_of w))) x).takes p q v
+    → v ≡ None → q ≡ []
 flag_word_end p q v true h e = absurd (some_bits 0 (sym h.5.5.1 ∙ e))
 flag_word_end p q v false h e = known_end (flag_of h.2) h.1 q v h.5 e
 
@@ -460,9 +504,12 @@ more_below : (k bits : ℕ) (u : Option ℕ) → bits < 2 ^ k → Below k u → 
 more_below k bits None b h = tt
 more_below k bits (Some n) b h = or_lt k bits n b h
 
-items_below : (k : ℕ) (item : Part (Option ℕ)) → ((p q : List ℕ) (v : Option ℕ) → item.takes p q v → Below k v) → (bits : ℕ) → bits < 2 ^ k → (before p q : List ℕ) (v : Option ℕ) → Items item bits before p q v → Below k v
+items_below : (k : ℕ) (item : Part (Option ℕ)) → ((p q : List ℕ) (v : Option ℕ) → item.takes p q v → Below k v) → (bits : ℕ)
+    → bits < 2 ^ k → (before p q : List ℕ) (v : Option ℕ) → Items item bits before p q v → Below k v
 items_below k item each bits b [] p q v h = subst (Below k) (sym h.3) (more_below k bits h.0 b (each p q h.0 h.1))
-items_below k item each bits b (n ∷ before) p q v h = items_below k item each (bit_or bits n) (more_below k bits (Some n) b (each h.0 (124 ∷ (h.1 ++ q)) (Some n) h.3)) before h.1 q v h.4
+items_below k item each bits b (n ∷ before) p q v h =
+    items_below k item each (bit_or bits n) (more_below k bits (Some n) b (each h.0 (124 ∷ (h.1 ++ q)) (Some n) h.3)) before h.1 q
+    v h.4
 
 known_below : (k : ℕ) (x : Option ℕ) (p q : List ℕ) (v : Option ℕ) → Below k x → (known x).takes p q v → Below k v
 known_below k None p q v b h = subst (Below k) (sym h.1) tt
@@ -477,7 +524,8 @@ prot_cases false false false false = tt
 
 prot_of_below : (w : List ℕ) → Below 3 (prot_of w)
 unfolding prot_of
-prot_of_below w = prot_cases (bytes_eq w (codes "PROT_READ")) (bytes_eq w (codes "PROT_WRITE")) (bytes_eq w (codes "PROT_EXEC")) (bytes_eq w (codes "PROT_NONE"))
+prot_of_below w = prot_cases (bytes_eq w (codes "PROT_READ")) (bytes_eq w (codes "PROT_WRITE")) (bytes_eq w (codes "PROT_EXEC"))
+    (bytes_eq w (codes "PROT_NONE"))
 
 flag_cases : (a b c d e : Bool) → Below 4 (if a then Some 1 else if b then Some 2 else if c then Some 4 else if d then Some 8 else if e then None else Some 0)
 flag_cases true b c d e = omega arith
@@ -489,7 +537,8 @@ flag_cases false false false false false = omega arith
 
 flag_of_below : (w : List ℕ) → Below 4 (flag_of w)
 unfolding flag_of
-flag_of_below w = flag_cases (bytes_eq w (codes "MAP_SHARED")) (bytes_eq w (codes "MAP_PRIVATE")) (bytes_eq w (codes "MAP_FIXED")) (bytes_eq w (codes "MAP_FIXED_NOREPLACE")) (bytes_eq w (codes "MAP_SHARED_VALIDATE"))
+flag_of_below w = flag_cases (bytes_eq w (codes "MAP_SHARED")) (bytes_eq w (codes "MAP_PRIVATE")) (bytes_eq w (codes "MAP_FIXED"))
+    (bytes_eq w (codes "MAP_FIXED_NOREPLACE")) (bytes_eq w (codes "MAP_SHARED_VALIDATE"))
 
 prot_word_below : (p q : List ℕ) (v : Option ℕ) (x : Bool) → (arm (anything no_byte None) (chain word (λ w. known (prot_of w))) x).takes p q v → Below 3 v
 prot_word_below p q v true h = subst (Below 3) (sym h.1) tt
@@ -498,7 +547,9 @@ prot_word_below p q v false h = known_below 3 (prot_of h.2) h.1 q v (prot_of_bel
 pub prot_below : (p q : List ℕ) (v : Option ℕ) → prot.takes p q v → Below 3 v
 prot_below p q v h = items_below 3 prot_word (λ p q v h. prot_word_below p q v (starts is_digit (p ++ q)) h) 0 (omega arith) h.0 p q v h.1
 
-flag_word_below : (p q : List ℕ) (v : Option ℕ) (x : Bool) → (arm (chain (number Number) (λ n. chain shifted (λ u. done (Some 0)))) (chain word (λ w. known (flag_of w))) x).takes p q v → Below 4 v
+flag_word_below : (p q : List ℕ) (v : Option ℕ) (x : Bool)
+    → (arm (chain (number Number) (λ n. chain shifted (λ u. done (Some 0)))) (chain word (λ w. known (flag_of w))) x).takes p q v
+    → Below 4 v
 flag_word_below p q v true h = subst (Below 4) (sym h.5.5.1) (omega arith)
 flag_word_below p q v false h = known_below 4 (flag_of h.2) h.1 q v (flag_of_below h.2) h.5
 

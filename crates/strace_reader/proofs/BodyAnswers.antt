@@ -1,6 +1,7 @@
 -- What the reader of bodies owes at each of its returns: the forms exclude each other, since a body's first bytes tell
 -- most of them apart, and a call has one name.
-use Rattle.std.proofs.Common.{◌≡◌, ◌≢◌, ℕ, ◌+◌, ◌-◌, ◌<◌, ◌≤◌, List, [], ◌∷◌, ◌++◌, length, drop, codes, Result, Ok, Err, true, refl, sym, ap, subst, ◌∙◌, append_assoc, inl, inr, arith}
+use Rattle.std.proofs.Common.{◌≡◌, ◌≢◌, ℕ, ◌+◌, ◌-◌, ◌<◌, ◌≤◌, List, [], ◌∷◌, ◌++◌, length, drop, codes, Result, Ok}
+use Rattle.std.proofs.Common.{Err, true, refl, sym, ap, subst, ◌∙◌, append_assoc, inl, inr, arith}
 use Rattle.std.specs.Prelude.{◌⊎◌, IfOk, IfErr, if◌then◌else◌}
 use Rattle.std.proofs.lemmas.Bool.Decides.{nat_tests}
 use Rattle.std.proofs.lemmas.List.{length-append, append_cancel_left}
@@ -16,7 +17,9 @@ use Rattle.strace_reader.specs.declared.item.Name.{Name}
 use Rattle.strace_reader.specs.declared.item.Name.TheVariants.{Mmap, Munmap, Mprotect, Fault}
 use Rattle.strace_reader.specs.Words.{call_head, resumed_head}
 use Rattle.strace_reader.specs.Calls.{call}
-use Rattle.strace_reader.specs.Grammar.{BeginsWith, EndsWith, unfinished, NeverReturned, IsPid, IsPrefixed, IsBehindSpaces, IsCut, IsCall, IsHalf, IsResumption, NoForm, IsOther, IsBody, RefusesBody, IsNamedBody}
+use Rattle.strace_reader.specs.Grammar.{BeginsWith, EndsWith, unfinished, NeverReturned, IsPid, IsPrefixed}
+use Rattle.strace_reader.specs.Grammar.{IsBehindSpaces, IsCut, IsCall, IsHalf, IsResumption, NoForm, IsOther, IsBody}
+use Rattle.strace_reader.specs.Grammar.{RefusesBody, IsNamedBody}
 use Rattle.strace_reader.specs.Reading.{arguments_at}
 use Rattle.strace_reader.proofs.ResultParts.{IsSound}
 use Rattle.strace_reader.proofs.WholeCalls.{IsWhole, IsRefused, call_values, call_whole, call_refused, arguments_good}
@@ -42,7 +45,8 @@ pub record BodyAnswers (text : List ℕ) (r : Result Body Refusal) : Type 0 wher
 -- 0 at the end, 1 a signal or an exit, 2 a prefix, 3 a resumed_head, 4 a call
 abbrev kind : List ℕ → ℕ
 kind [] = 0
-kind (c ∷ text) = if is 45 c then 1 else if is 43 c then 1 else if is 60 c then 3 else if is 109 c then 4 else if is 102 c then 4 else if is 91 c then 2 else if is_digit c then 2 else 5
+kind (c ∷ text) = if is 45 c then 1 else if is 43 c then 1 else if is 60 c then 3 else if is 109 c then 4 else if is 102 c then 4
+    else if is 91 c then 2 else if is_digit c then 2 else 5
 
 call_head_kind : (name : Name) (text : List ℕ) → BeginsWith (call_head name) text → kind text ≡ 4
 call_head_kind Mmap text h = ap kind h.1
@@ -127,7 +131,9 @@ no_same a b h g e = omega arith
 two_ends : (text : List ℕ) → NeverReturned text → EndsWith unfinished text → ⊥
 two_ends text h g =
     let one : List ℕ = h.0 ++ (codes "<unfinished ...>)" ++ ((32 ∷ h.1) ++ codes "= ")) in
-    let e1 : text ≡ one ++ (63 ∷ []) = h.3 ∙ ap (λ (x : List ℕ). h.0 ++ (codes "<unfinished ...>)" ++ x)) (sym (append_assoc (32 ∷ h.1) (codes "= ") (63 ∷ []))) ∙ sym (append_assoc h.0 (codes "<unfinished ...>)" ++ ((32 ∷ h.1) ++ codes "= ")) (63 ∷ [])) in
+    let e1 : text ≡ one ++ (63 ∷ []) = h.3 ∙ ap (λ (x : List ℕ). h.0 ++ (codes "<unfinished ...>)" ++ x))
+    (sym (append_assoc (32 ∷ h.1) (codes "= ") (63 ∷ [])))
+    ∙ sym (append_assoc h.0 (codes "<unfinished ...>)" ++ ((32 ∷ h.1) ++ codes "= ")) (63 ∷ [])) in
     let e2 : text ≡ (g.0 ++ codes "<unfinished ...") ++ (62 ∷ []) = g.1 ∙ sym (append_assoc g.0 (codes "<unfinished ...") (62 ∷ [])) in
     no_same 63 62 refl refl (last_same one (g.0 ++ codes "<unfinished ...") 63 62 (sym e1 ∙ e2))
 
@@ -148,7 +154,9 @@ signal_form text (inl h) = inl h
 signal_form text (inr h) = inr (inl h)
 
 -- what is passed over and has none of the other forms is that alone
-other_only : (text : List ℕ) → ((name : Name) → IsCall name text → ⊥) → ((name : Name) → BeginsWith (call_head name) text → EndsWith unfinished text → ⊥) → ((name : Name) → BeginsWith (resumed_head name) text → ⊥)
+other_only : (text : List ℕ) → ((name : Name) → IsCall name text → ⊥)
+    → ((name : Name) → BeginsWith (call_head name) text → EndsWith unfinished text → ⊥)
+    → ((name : Name) → BeginsWith (resumed_head name) text → ⊥)
     → (body : Body) → IsBody text body → is_body Other ≡ is_body body
 unfolding IsBody
 other_only text none first second_half (Called c r) h = absurd (none h.0 h.1)
@@ -156,7 +164,9 @@ other_only text none first second_half (FirstHalf name len) h = absurd (first na
 other_only text none first second_half (SecondHalf name left) h = absurd (second_half name (h.1.0, h.1.1))
 other_only text none first second_half Other h = refl
 
-other_body : (text : List ℕ) → IsOther text → ((name : Name) → IsCall name text → ⊥) → ((name : Name) → BeginsWith (call_head name) text → EndsWith unfinished text → ⊥) → ((name : Name) → BeginsWith (resumed_head name) text → ⊥)
+other_body : (text : List ℕ) → IsOther text → ((name : Name) → IsCall name text → ⊥)
+    → ((name : Name) → BeginsWith (call_head name) text → EndsWith unfinished text → ⊥)
+    → ((name : Name) → BeginsWith (resumed_head name) text → ⊥)
     → BodyAnswers text (Ok Other)
 unfolding IsBody RefusesBody
 other_body text form none first second_half = record {
@@ -171,12 +181,14 @@ other_body text form none first second_half = record {
 pub signal_body : (text : List ℕ) → BeginsWith (codes "---") text ⊎ BeginsWith (codes "+++") text → BodyAnswers text (Ok Other)
 signal_body text h =
     let k = signal_kind text h in
-    other_body text (signal_form text h) (λ n c. not_call text 1 k (omega arith) n c.names) (λ n c e. not_call text 1 k (omega arith) n c) (λ n c. not_resumed text 1 k (omega arith) n c)
+    other_body text (signal_form text h) (λ n c. not_call text 1 k (omega arith) n c.names)
+    (λ n c e. not_call text 1 k (omega arith) n c) (λ n c. not_resumed text 1 k (omega arith) n c)
 
 pub never_body : (name : Name) (text : List ℕ) → BeginsWith (call_head name) text → NeverReturned text → BodyAnswers text (Ok Other)
 never_body name text h never =
     let k = call_head_kind name text h in
-    other_body text (inr (inr (inl (name, h, never)))) (λ n c. c.returned never) (λ n c e. two_ends text never e) (λ n c. not_resumed text 4 k (omega arith) n c)
+    other_body text (inr (inr (inl (name, h, never)))) (λ n c. c.returned never) (λ n c e. two_ends text never e)
+    (λ n c. not_resumed text 4 k (omega arith) n c)
 
 pub no_form_body : (text : List ℕ) → NoForm text → BodyAnswers text (Ok Other)
 no_form_body text f = other_body text (inr (inr (inr (inr f)))) (λ n c. f.no_call n c.names) (λ n c e. f.no_call n c) (λ n c. f.no_resumption n c)
@@ -197,7 +209,8 @@ second_same m n text a b h g =
     let k : h.0 ≡ g.0 = append_cancel_left (resumed_head n) h.0 g.0 (ap (λ (x : Name). resumed_head x ++ h.0) (sym e) ∙ sym h.1 ∙ g.1) in
     (e, behind_same g.0 a b (subst (λ (x : List ℕ). IsBehindSpaces x a) k h.2) g.2)
 
-second_only : (name : Name) (text rest : List ℕ) → IsResumption name text rest → (body : Body) → IsBody text body → is_body (SecondHalf name (length rest)) ≡ is_body body
+second_only : (name : Name) (text rest : List ℕ) → IsResumption name text rest → (body : Body) → IsBody text body
+    → is_body (SecondHalf name (length rest)) ≡ is_body body
 unfolding IsBody
 second_only name text rest r (Called c d) h = absurd (not_resumed text 4 (call_head_kind h.0 text h.1.names) (omega arith) name (r.0, r.1))
 second_only name text rest r (FirstHalf n len) h = absurd (not_resumed text 4 (call_head_kind n text h.1) (omega arith) name (r.0, r.1))
@@ -224,7 +237,8 @@ first_other name text b e (inr (inr (inl h))) = two_ends text h.2 e
 first_other name text b e (inr (inr (inr (inl h)))) = h.1.whole e
 first_other name text b e (inr (inr (inr (inr f)))) = f.no_call name b
 
-first_only : (name : Name) (text half : List ℕ) → BeginsWith (call_head name) text → IsHalf text half → (body : Body) → IsBody text body → is_body (FirstHalf name (length half)) ≡ is_body body
+first_only : (name : Name) (text half : List ℕ) → BeginsWith (call_head name) text → IsHalf text half → (body : Body)
+    → IsBody text body → is_body (FirstHalf name (length half)) ≡ is_body body
 unfolding IsBody
 first_only name text half b i (Called c d) h = absurd (h.1.whole (half_ends text half i))
 first_only name text half b i (FirstHalf n len) h =
@@ -275,7 +289,8 @@ sound_named (SecondHalf n left) s = tt
 sound_named Other s = tt
 
 -- where a call's body is refused by the call that it names
-refused_there : (name : Name) (text : List ℕ) (refusal : Refusal) → IsCall name text → RefusesBody text refusal → (column : ℕ) × Refused (call name) text column refusal.what × (column + refusal.left ≡ length text + 1)
+refused_there : (name : Name) (text : List ℕ) (refusal : Refusal) → IsCall name text → RefusesBody text refusal
+    → (column : ℕ) × Refused (call name) text column refusal.what × (column + refusal.left ≡ length text + 1)
 unfolding RefusesBody
 refused_there name text refusal c h = (h.1, subst (λ (x : Name). Refused (call x) text h.1 refusal.what) (one_name h.0 name text h.2.names c.names) h.3, h.4)
 
@@ -297,7 +312,8 @@ bad_same a b w v e f = ap (λ (x : ℕ). is_bad x w) e ∙ ap (λ (x : What). is
 left_same : (n a b c d : ℕ) → c ≡ a → a + b ≡ n → c + d ≡ n → b ≡ d
 left_same n a b c d e h g = omega arith
 
-pub refused_body : (name : Name) (text : List ℕ) (column left : ℕ) (what : What) → IsCall name text → column + left ≡ length text + 1 → left ≤ length text → IsRefused (call name) text column what
+pub refused_body : (name : Name) (text : List ℕ) (column left : ℕ) (what : What) → IsCall name text
+    → column + left ≡ length text + 1 → left ≤ length text → IsRefused (call name) text column what
     → BodyAnswers text (Err (record { left = left; what = what }))
 unfolding RefusesBody
 refused_body name text column left what c place le r = record {
@@ -317,8 +333,10 @@ refused_body name text column left what c place le r = record {
 pub is_call : (name : Name) (text rest : List ℕ) → text ≡ call_head name ++ rest → (NeverReturned text → ⊥) → (EndsWith unfinished text → ⊥) → IsCall name text
 is_call name text rest e never first_half = record { names = (rest, e); returned = never; whole = first_half }
 
-pub read_call : (name : Name) (text rest after : List ℕ) (body : Body) → text ≡ call_head name ++ rest → IsCall name text → arguments_at name rest ≡ Ok (body, after) → BodyAnswers text (Ok body)
-read_call name text rest after body e c read = call_body name text body c (subst (λ (x : List ℕ). IsWhole (call name) x body) (sym e) (call_whole name rest after body read))
+pub read_call : (name : Name) (text rest after : List ℕ) (body : Body) → text ≡ call_head name ++ rest → IsCall name text
+    → arguments_at name rest ≡ Ok (body, after) → BodyAnswers text (Ok body)
+read_call name text rest after body e c read =
+    call_body name text body c (subst (λ (x : List ℕ). IsWhole (call name) x body) (sym e) (call_whole name rest after body read))
 
 left_within : (name : Name) (text rest : List ℕ) (f : Refusal) → text ≡ call_head name ++ rest → arguments_at name rest ≡ Err f → f.left ≤ length text
 left_within name text rest f e read =
@@ -329,13 +347,15 @@ left_within name text rest f e read =
 column_of : (n left : ℕ) → left ≤ n → (n - left + 1) + left ≡ n + 1
 column_of n left h = omega arith
 
-pub refused_call : (name : Name) (text rest : List ℕ) (f : Refusal) → text ≡ call_head name ++ rest → IsCall name text → arguments_at name rest ≡ Err f → BodyAnswers text (Err f)
+pub refused_call : (name : Name) (text rest : List ℕ) (f : Refusal) → text ≡ call_head name ++ rest → IsCall name text
+    → arguments_at name rest ≡ Err f → BodyAnswers text (Err f)
 refused_call name text rest f e c read =
     let within = left_within name text rest f e read in
     let column = length text - f.left + 1 in
     let place = column_of (length text) f.left within in
     refused_body name text column f.left f.what c place within
-    (subst (λ (x : List ℕ). IsRefused (call name) x column f.what) (sym e) (call_refused name rest f column read (subst (λ (x : List ℕ). column + f.left ≡ length x + 1) e place)))
+    (subst (λ (x : List ℕ). IsRefused (call name) x column f.what) (sym e)
+    (call_refused name rest f column read (subst (λ (x : List ℕ). column + f.left ≡ length x + 1) e place)))
 
 -- ---- what is not empty
 

@@ -1,5 +1,6 @@
 -- How a line begins and ends: each form is found where it stands, and nowhere else.
-use Rattle.std.proofs.Common.{◌≡◌, ◌≢◌, ℕ, ◌^◌, ◌<◌, ◌≤◌, List, [], ◌∷◌, ◌++◌, length, codes, Option, Some, None, Bool, true, false, refl, sym, ap, subst, ◌∙◌, append_assoc, inl, inr, arith}
+use Rattle.std.proofs.Common.{◌≡◌, ◌≢◌, ℕ, ◌^◌, ◌<◌, ◌≤◌, List, [], ◌∷◌, ◌++◌, length, codes, Option, Some, None, Bool}
+use Rattle.std.proofs.Common.{true, false, refl, sym, ap, subst, ◌∙◌, append_assoc, inl, inr, arith}
 use Rattle.std.specs.Prelude.{MatchOption}
 use Rattle.std.proofs.lemmas.Bool.{cases_lt, lt-ltb, le-ltb}
 use Rattle.std.proofs.lemmas.List.{append-nil, length-append, append_cancel_left, append_cancel_right}
@@ -29,7 +30,8 @@ narrow_none n h =
       | inr le ↦ le
     ]
 
-pub pid_found : (word text behind rest : List ℕ) (pid : ℕ) → pid ≡ (digits_of 10 0 text).0 → behind ≡ (digits_of 10 0 text).1 → pid < 2 ^ 32 → length behind ≢ length text → behind ≡ word ++ rest → PidThen word text pid rest
+pub pid_found : (word text behind rest : List ℕ) (pid : ℕ) → pid ≡ (digits_of 10 0 text).0 → behind ≡ (digits_of 10 0 text).1
+    → pid < 2 ^ 32 → length behind ≢ length text → behind ≡ word ++ rest → PidThen word text pid rest
 pid_found word text behind rest pid en er lt long w =
     let r = run_takes 10 0 text in
     let ds = r.0 in
@@ -51,7 +53,9 @@ pub record PidRead (word text behind : List ℕ) (n pid : ℕ) (rest : List ℕ)
   pub long : length behind < length text
   pub is : behind ≡ word ++ rest
 
-pub pid_read : (word text behind : List ℕ) (n pid : ℕ) (rest : List ℕ) → n ≡ (digits_of 10 0 text).0 → behind ≡ (digits_of 10 0 text).1 → NoDigit 10 word → word ≢ [] → PidThen word text pid rest → PidRead word text behind n pid rest
+pub pid_read : (word text behind : List ℕ) (n pid : ℕ) (rest : List ℕ) → n ≡ (digits_of 10 0 text).0
+    → behind ≡ (digits_of 10 0 text).1 → NoDigit 10 word → word ≢ [] → PidThen word text pid rest
+    → PidRead word text behind n pid rest
 pid_read word text behind n pid rest en er none some h =
     let r = run_takes 10 0 text in
     let ds = r.0 in
@@ -102,7 +106,8 @@ behind_same text a b h g =
 
 -- ---- prefixes
 
-pub bracket_yes : (text rest : List ℕ) (pid : ℕ) (after : List ℕ) → text ≡ codes "[pid " ++ rest → PidThen (codes "] ") (after_spaces rest) pid after → IsBracketed text pid after
+pub bracket_yes : (text rest : List ℕ) (pid : ℕ) (after : List ℕ) → text ≡ codes "[pid " ++ rest
+    → PidThen (codes "] ") (after_spaces rest) pid after → IsBracketed text pid after
 bracket_yes text rest pid after e h =
     let b = behind_spaces rest in
     (b.0, after_spaces rest, b.1, e ∙ ap (λ (x : List ℕ). codes "[pid " ++ x) b.2, h)
@@ -120,10 +125,13 @@ pid_no_space (b ∷ digits) rest pid h = no_space_digit b (is 32 b) refl h.0.1.0
 digits_no_space : (word text : List ℕ) (pid : ℕ) (rest : List ℕ) → PidThen word text pid rest → starts (is 32) text ≡ false
 digits_no_space word text pid rest h = ap (starts (is 32)) h.2 ∙ pid_no_space h.0 (word ++ rest) pid h.1
 
-pub bracket_no : (text rest : List ℕ) (pid : ℕ) (behind : List ℕ) → text ≡ codes "[pid " ++ rest → (more after : List ℕ) → EachIs (is 32) more → text ≡ codes "[pid " ++ (more ++ after) → PidThen (codes "] ") after pid behind → PidThen (codes "] ") (after_spaces rest) pid behind
+pub bracket_no : (text rest : List ℕ) (pid : ℕ) (behind : List ℕ) → text ≡ codes "[pid " ++ rest → (more after : List ℕ)
+    → EachIs (is 32) more → text ≡ codes "[pid " ++ (more ++ after) → PidThen (codes "] ") after pid behind
+    → PidThen (codes "] ") (after_spaces rest) pid behind
 bracket_no text rest pid behind e more after each whole h =
     let same : rest ≡ more ++ after = append_cancel_left (codes "[pid ") rest (more ++ after) (sym e ∙ whole) in
-    let k : after_spaces rest ≡ after = behind_same rest (after_spaces rest) after (behind_spaces rest) (more, each, same, digits_no_space (codes "] ") after pid behind h) in
+    let k : after_spaces rest ≡ after = behind_same rest (after_spaces rest) after (behind_spaces rest)
+    (more, each, same, digits_no_space (codes "] ") after pid behind h) in
     subst (λ (x : List ℕ). PidThen (codes "] ") x pid behind) (sym k) h
 
 pub space_no_digit : NoDigit 10 (codes " ")
@@ -199,7 +207,8 @@ last_same (c ∷ d ∷ a) [] x y e = cc
 last_same (c ∷ a) (d ∷ b) x y e = last_same a b x y cc
 
 -- the bytes before all the spaces at the end
-trailing : (a b s t : List ℕ) → EachIs (is 32) s → EachIs (is 32) t → ((f : List ℕ) → a ≢ f ++ (32 ∷ [])) → ((f : List ℕ) → b ≢ f ++ (32 ∷ [])) → a ++ s ≡ b ++ t → a ≡ b
+trailing : (a b s t : List ℕ) → EachIs (is 32) s → EachIs (is 32) t → ((f : List ℕ) → a ≢ f ++ (32 ∷ []))
+    → ((f : List ℕ) → b ≢ f ++ (32 ∷ [])) → a ++ s ≡ b ++ t → a ≡ b
 trailing a b [] [] hs ht na nb e = sym (append-nil a) ∙ e ∙ append-nil b
 trailing a b [] (c ∷ t) hs ht na nb e =
     let k : c ∷ t ≡ t ++ (32 ∷ []) = ap (λ (x : ℕ). x ∷ t) (same_is 32 c ht.0) ∙ sym (rotate t ht.1) in
@@ -210,7 +219,8 @@ trailing a b (c ∷ s) [] hs ht na nb e =
 trailing a b (c ∷ s) (d ∷ t) hs ht na nb e =
     let k : c ∷ s ≡ s ++ (32 ∷ []) = ap (λ (x : ℕ). x ∷ s) (same_is 32 c hs.0) ∙ sym (rotate s hs.1) in
     let l : d ∷ t ≡ t ++ (32 ∷ []) = ap (λ (x : ℕ). x ∷ t) (same_is 32 d ht.0) ∙ sym (rotate t ht.1) in
-    let e1 : (a ++ s) ++ (32 ∷ []) ≡ (b ++ t) ++ (32 ∷ []) = append_assoc a s (32 ∷ []) ∙ ap (λ (x : List ℕ). a ++ x) (sym k) ∙ e ∙ ap (λ (x : List ℕ). b ++ x) l ∙ sym (append_assoc b t (32 ∷ [])) in
+    let e1 : (a ++ s) ++ (32 ∷ []) ≡ (b ++ t) ++ (32 ∷ []) = append_assoc a s (32 ∷ []) ∙ ap (λ (x : List ℕ). a ++ x) (sym k) ∙ e
+    ∙ ap (λ (x : List ℕ). b ++ x) l ∙ sym (append_assoc b t (32 ∷ [])) in
     trailing a b s t hs.1 ht.1 na nb (append_cancel_right (a ++ s) (b ++ t) (32 ∷ []) e1)
 
 abbrev cut : List ℕ
@@ -229,11 +239,18 @@ cut_end front f e =
 never_parts : (text front more : List ℕ) → text ≡ front ++ (cut ++ ((32 ∷ more) ++ nothing)) → text ≡ ((front ++ cut) ++ (32 ∷ more)) ++ nothing
 never_parts text front more e = e ∙ sym (append_assoc front cut ((32 ∷ more) ++ nothing)) ∙ sym (append_assoc (front ++ cut) (32 ∷ more) nothing)
 
-pub never_yes : (text one two three spaces : List ℕ) → text ≡ one ++ nothing → one ≡ two ++ (32 ∷ []) → two ≡ three ++ spaces → EachIs (is 32) spaces → EndsWith cut three → NeverReturned text
+pub never_yes : (text one two three spaces : List ℕ) → text ≡ one ++ nothing → one ≡ two ++ (32 ∷ []) → two ≡ three ++ spaces
+    → EachIs (is 32) spaces → EndsWith cut three → NeverReturned text
 never_yes text one two three spaces e1 e2 e3 each w =
-    let k : one ≡ three ++ (32 ∷ spaces) = e2 ∙ ap (λ (x : List ℕ). x ++ (32 ∷ [])) e3 ∙ append_assoc three spaces (32 ∷ []) ∙ ap (λ (x : List ℕ). three ++ x) (rotate spaces each) in
-    let l : one ≡ (w.0 ++ cut) ++ (32 ∷ spaces) = k ∙ ap (λ (x : List ℕ). x ++ (32 ∷ spaces)) w.1 in
-    (w.0, spaces, each, e1 ∙ ap (λ (x : List ℕ). x ++ nothing) l ∙ append_assoc (w.0 ++ cut) (32 ∷ spaces) nothing ∙ append_assoc w.0 cut ((32 ∷ spaces) ++ nothing))
+    let k : one ≡ three ++ (32 ∷ spaces) = e2 ∙ ap (λ (x : List ℕ). x ++ (32 ∷ [])) e3 ∙ append_assoc three spaces (32 ∷ [])
+    ∙ ap (λ (x : List ℕ). three ++ x) (rotate spaces each) in
+    let l : one ≡ (w.0 ++ cut) ++ (32 ∷ spaces) = k ∙ ap (λ (x : List ℕ). x ++ (32 ∷ spaces)) w.1 in (
+      w.0,
+      spaces,
+      each,
+      e1 ∙ ap (λ (x : List ℕ). x ++ nothing) l ∙ append_assoc (w.0 ++ cut) (32 ∷ spaces) nothing
+          ∙ append_assoc w.0 cut ((32 ∷ spaces) ++ nothing),
+    )
 
 pub never_one : (text : List ℕ) → ((front : List ℕ) → text ≢ front ++ nothing) → NeverReturned text → ⊥
 never_one text none h = none ((h.0 ++ cut) ++ (32 ∷ h.1)) (never_parts text h.0 h.1 h.3)
@@ -242,20 +259,29 @@ never_before : (text one : List ℕ) → text ≡ one ++ nothing → (h : NeverR
 never_before text one e h = append_cancel_right one ((h.0 ++ cut) ++ (32 ∷ h.1)) nothing (sym e ∙ never_parts text h.0 h.1 h.3)
 
 never_spaced : (text one : List ℕ) → text ≡ one ++ nothing → (h : NeverReturned text) → one ≡ ((h.0 ++ cut) ++ h.1) ++ (32 ∷ [])
-never_spaced text one e h = never_before text one e h ∙ ap (λ (x : List ℕ). (h.0 ++ cut) ++ x) (sym (rotate h.1 h.2)) ∙ sym (append_assoc (h.0 ++ cut) h.1 (32 ∷ []))
+never_spaced text one e h = never_before text one e h ∙ ap (λ (x : List ℕ). (h.0 ++ cut) ++ x) (sym (rotate h.1 h.2))
+    ∙ sym (append_assoc (h.0 ++ cut) h.1 (32 ∷ []))
 
 pub never_two : (text one : List ℕ) → text ≡ one ++ nothing → ((front : List ℕ) → one ≢ front ++ (32 ∷ [])) → NeverReturned text → ⊥
 never_two text one e none h = none ((h.0 ++ cut) ++ h.1) (never_spaced text one e h)
 
-pub never_three : (text one two three spaces : List ℕ) → text ≡ one ++ nothing → one ≡ two ++ (32 ∷ []) → two ≡ three ++ spaces → EachIs (is 32) spaces → ((f : List ℕ) → three ≢ f ++ (32 ∷ [])) → NeverReturned text → EndsWith cut three
+pub never_three : (text one two three spaces : List ℕ) → text ≡ one ++ nothing → one ≡ two ++ (32 ∷ []) → two ≡ three ++ spaces
+    → EachIs (is 32) spaces → ((f : List ℕ) → three ≢ f ++ (32 ∷ [])) → NeverReturned text → EndsWith cut three
 never_three text one two three spaces e1 e2 e3 each none h =
     let k : two ≡ (h.0 ++ cut) ++ h.1 = append_cancel_right two ((h.0 ++ cut) ++ h.1) (32 ∷ []) (sym e2 ∙ never_spaced text one e1 h) in
     (h.0, trailing three (h.0 ++ cut) spaces h.1 each h.2 none (cut_end h.0) (sym e3 ∙ k))
 
 -- ---- halves
 
-pub half_yes : (text front half spaces : List ℕ) → text ≡ front ++ unfinished → front ≡ half ++ spaces → EachIs (is 32) spaces → ((f : List ℕ) → half ≢ f ++ (32 ∷ [])) → IsHalf text half
-half_yes text front half spaces e k each ended = record { spaces = spaces; only_spaces = each; parts = e ∙ ap (λ (x : List ℕ). x ++ unfinished) k ∙ append_assoc half spaces unfinished; ended = ended }
+pub half_yes : (text front half spaces : List ℕ) → text ≡ front ++ unfinished → front ≡ half ++ spaces → EachIs (is 32) spaces
+    → ((f : List ℕ) → half ≢ f ++ (32 ∷ [])) → IsHalf text half
+half_yes text front half spaces e k each ended =
+    record {
+      spaces = spaces;
+      only_spaces = each;
+      parts = e ∙ ap (λ (x : List ℕ). x ++ unfinished) k ∙ append_assoc half spaces unfinished;
+      ended = ended;
+    }
 
 half_front : (text half : List ℕ) → (h : IsHalf text half) → text ≡ (half ++ h.spaces) ++ unfinished
 half_front text half h = h.parts ∙ sym (append_assoc half h.spaces unfinished)

@@ -1,5 +1,6 @@
 -- What a joiner answers and keeps, from what its parts do: by process, over the texts that were fed.
-use Rattle.std.proofs.Common.{◌≡◌, ◌≢◌, ℕ, ◌-◌, ◌<◌, ◌≤◌, List, [], ◌∷◌, ◌++◌, length, take, drop, codes, Option, Some, None, Result, Ok, Err, refl, sym, ap, subst, ◌∙◌, append_assoc, inl, inr, arith}
+use Rattle.std.proofs.Common.{◌≡◌, ◌≢◌, ℕ, ◌-◌, ◌<◌, ◌≤◌, List, [], ◌∷◌, ◌++◌, length, take, drop, codes, Option, Some}
+use Rattle.std.proofs.Common.{None, Result, Ok, Err, refl, sym, ap, subst, ◌∙◌, append_assoc, inl, inr, arith}
 use Rattle.std.specs.Prelude.{◌⊎◌, is_some, if◌then◌else◌}
 use Rattle.std.proofs.lemmas.Bool.{cases_eq}
 use Rattle.std.proofs.lemmas.List.{length-append}
@@ -64,7 +65,8 @@ no_unfinished p i q n from to other e = other (subst (IsOf q) (sym e) refl)
 not_of : (text : List ℕ) (i : Item) (q : ℕ) → Spells text i → (IsOf q i → ⊥) → (item : Item) → Spells text item → IsOf q item → ⊥
 not_of text i q s other item h of = other (subst (IsOf q) (one_item text item i h s) of)
 
-kept_less : (text : List ℕ) (i : Item) (fed : List (List ℕ)) (q : ℕ) (n : Name) (half : List ℕ) → Spells text i → (IsOf q i → ⊥) → (later : List (List ℕ)) (t : List ℕ) (earlier : List (List ℕ)) (from to : ℕ)
+kept_less : (text : List ℕ) (i : Item) (fed : List (List ℕ)) (q : ℕ) (n : Name) (half : List ℕ) → Spells text i → (IsOf q i → ⊥)
+    → (later : List (List ℕ)) (t : List ℕ) (earlier : List (List ℕ)) (from to : ℕ)
     → text ∷ fed ≡ later ++ (t ∷ earlier) → Spells t (Unfinished q n from to) → half ≡ take (to - from) (drop from t) → IsSilent q later → IsKept fed q n half
 kept_less text i fed q n half s other [] t earlier from to e u b silent =
     let k : text ≡ t = cc in
@@ -73,10 +75,12 @@ kept_less text i fed q n half s other (x ∷ later) t earlier from to e u b sile
     let k : fed ≡ later ++ (t ∷ earlier) = cc in
     record { later = later; text = t; earlier = earlier; from = from; to = to; parts = k; is_half = u; bytes = b; silent = silent.1 }
 
-pub kept_step : (text : List ℕ) (i : Item) (fed : List (List ℕ)) (q : ℕ) (n : Name) (half : List ℕ) → Spells text i → (IsOf q i → ⊥) → IsKept (text ∷ fed) q n half → IsKept fed q n half
+pub kept_step : (text : List ℕ) (i : Item) (fed : List (List ℕ)) (q : ℕ) (n : Name) (half : List ℕ) → Spells text i
+    → (IsOf q i → ⊥) → IsKept (text ∷ fed) q n half → IsKept fed q n half
 kept_step text i fed q n half s other k = kept_less text i fed q n half s other k.later k.text k.earlier k.from k.to k.parts k.is_half k.bytes k.silent
 
-kept_more : (text : List ℕ) (i : Item) (fed : List (List ℕ)) (q : ℕ) (n : Name) (half : List ℕ) → Spells text i → (IsOf q i → ⊥) → IsKept fed q n half → IsKept (text ∷ fed) q n half
+kept_more : (text : List ℕ) (i : Item) (fed : List (List ℕ)) (q : ℕ) (n : Name) (half : List ℕ) → Spells text i → (IsOf q i → ⊥)
+    → IsKept fed q n half → IsKept (text ∷ fed) q n half
 kept_more text i fed q n half s other k = record {
   later = text ∷ k.later;
   text = k.text;
@@ -89,13 +93,25 @@ kept_more text i fed q n half s other k = record {
   silent = (not_of text i q s other, k.silent);
 }
 
-kept_new : (text : List ℕ) (fed : List (List ℕ)) (p : ℕ) (n : Name) (from to : ℕ) (half : List ℕ) → Spells text (Unfinished p n from to) → half ≡ take (to - from) (drop from text) → IsKept (text ∷ fed) p n half
-kept_new text fed p n from to half s b = record { later = []; text = text; earlier = fed; from = from; to = to; parts = refl; is_half = s; bytes = b; silent = tt }
+kept_new : (text : List ℕ) (fed : List (List ℕ)) (p : ℕ) (n : Name) (from to : ℕ) (half : List ℕ)
+    → Spells text (Unfinished p n from to) → half ≡ take (to - from) (drop from text) → IsKept (text ∷ fed) p n half
+kept_new text fed p n from to half s b = record {
+  later = [];
+  text = text;
+  earlier = fed;
+  from = from;
+  to = to;
+  parts = refl;
+  is_half = s;
+  bytes = b;
+  silent = tt;
+}
 
 abbrev IsHead : List ℕ → ℕ → Name → List ℕ → Type 0
 IsHead text q n half = (from to : ℕ) × Spells text (Unfinished q n from to) × (half ≡ take (to - from) (drop from text))
 
-kept_first : (text : List ℕ) (i : Item) (fed : List (List ℕ)) (q : ℕ) (n : Name) (half : List ℕ) → Spells text i → IsOf q i → (later : List (List ℕ)) (t : List ℕ) (earlier : List (List ℕ)) (from to : ℕ)
+kept_first : (text : List ℕ) (i : Item) (fed : List (List ℕ)) (q : ℕ) (n : Name) (half : List ℕ) → Spells text i → IsOf q i
+    → (later : List (List ℕ)) (t : List ℕ) (earlier : List (List ℕ)) (from to : ℕ)
     → text ∷ fed ≡ later ++ (t ∷ earlier) → Spells t (Unfinished q n from to) → half ≡ take (to - from) (drop from t) → IsSilent q later → IsHead text q n half
 kept_first text i fed q n half s of [] t earlier from to e u b silent =
     let k : t ≡ text = cc in
@@ -104,7 +120,8 @@ kept_first text i fed q n half s of (x ∷ later) t earlier from to e u b silent
     let k : text ≡ x = cc in
     absurd (silent.0 i (subst (λ (y : List ℕ). Spells y i) k s) of)
 
-kept_head : (text : List ℕ) (i : Item) (fed : List (List ℕ)) (q : ℕ) (n : Name) (half : List ℕ) → Spells text i → IsOf q i → IsKept (text ∷ fed) q n half → IsHead text q n half
+kept_head : (text : List ℕ) (i : Item) (fed : List (List ℕ)) (q : ℕ) (n : Name) (half : List ℕ) → Spells text i → IsOf q i
+    → IsKept (text ∷ fed) q n half → IsHead text q n half
 kept_head text i fed q n half s of k = kept_first text i fed q n half s of k.later k.text k.earlier k.from k.to k.parts k.is_half k.bytes k.silent
 
 one_process : (i : Item) (p q : ℕ) → IsOf p i → IsOf q i → p ≡ q
@@ -129,13 +146,16 @@ no_holds : (j : Joiner) (q : ℕ) (n : Name) (half : List ℕ) → half_of j q �
 no_holds j q n half e h = let k = sym e ∙ h.1 in cc
 
 -- a call or a second half of the process: nothing is kept for it any more
-pub fed_gone : (text : List ℕ) (i : Item) (p : ℕ) (fed : List (List ℕ)) (old new : Joiner) → Spells text i → IsOf p i → ((n : Name) (from to : ℕ) → i ≢ Unfinished p n from to) → half_of new p ≡ None → ((q : ℕ) → q ≢ p → half_of new q ≡ half_of old q)
+pub fed_gone : (text : List ℕ) (i : Item) (p : ℕ) (fed : List (List ℕ)) (old new : Joiner) → Spells text i → IsOf p i
+    → ((n : Name) (from to : ℕ) → i ≢ Unfinished p n from to) → half_of new p ≡ None
+    → ((q : ℕ) → q ≢ p → half_of new q ≡ half_of old q)
     → IsFed old fed → IsFed new (text ∷ fed)
 fed_gone text i p fed old new s of none gone others f = record {
   kept = λ q n half k. elim (cases_eq q p) [
     | inl e ↦
         let head = kept_head text i fed q n half s (subst (λ (x : ℕ). IsOf x i) (sym e) of) k in
-        absurd (none n head.0 head.1 (one_item text i (Unfinished p n head.0 head.1) s (subst (λ (x : ℕ). Spells text (Unfinished x n head.0 head.1)) e head.2)))
+        absurd (none n head.0 head.1 (one_item text i (Unfinished p n head.0 head.1) s
+        (subst (λ (x : ℕ). Spells text (Unfinished x n head.0 head.1)) e head.2)))
     | inr apart ↦
         same_holds old new q n half (others q apart) (f.kept q n half (kept_step text i fed q n half s (λ g. apart (one_process i q p g of)) k))
   ];
@@ -170,22 +190,30 @@ pub same_places : (p : ℕ) (n m : Name) (a b c d : ℕ) → Unfinished p n a c 
 same_places p n m a b c d e = record { name = cc; from = cc; to = cc }
 
 -- a first half of the process: it is kept
-pub fed_half : (text : List ℕ) (p : ℕ) (name : Name) (from to : ℕ) (fed : List (List ℕ)) (old new : Joiner) (bytes : List ℕ) → Spells text (Unfinished p name from to) → bytes ≡ take (to - from) (drop from text) → Holds new p name bytes
+pub fed_half : (text : List ℕ) (p : ℕ) (name : Name) (from to : ℕ) (fed : List (List ℕ)) (old new : Joiner) (bytes : List ℕ)
+    → Spells text (Unfinished p name from to) → bytes ≡ take (to - from) (drop from text) → Holds new p name bytes
     → ((q : ℕ) → q ≢ p → half_of new q ≡ half_of old q) → IsFed old fed → IsFed new (text ∷ fed)
 fed_half text p name from to fed old new bytes s b holds others f = record {
   kept = λ q n half k. elim (cases_eq q p) [
     | inl e ↦
         let head = kept_head text (Unfinished p name from to) fed q n half s (sym e) k in
-        let same = same_places p name n from head.0 to head.1 (one_item text (Unfinished p name from to) (Unfinished p n head.0 head.1) s (subst (λ (x : ℕ). Spells text (Unfinished x n head.0 head.1)) e head.2)) in
-        let is : half ≡ bytes = head.3 ∙ ap (λ (x : ℕ). take (x - head.0) (drop head.0 text)) (sym same.to) ∙ ap (λ (x : ℕ). take (to - x) (drop x text)) (sym same.from) ∙ sym b in
-        subst (λ (x : ℕ). Holds new x n half) (sym e) (subst (λ (x : List ℕ). Holds new p n x) (sym is) (subst (λ (x : Name). Holds new p x bytes) same.name holds))
-    | inr apart ↦ same_holds old new q n half (others q apart) (f.kept q n half (kept_step text (Unfinished p name from to) fed q n half s (λ g. apart (sym g)) k))
+        let same = same_places p name n from head.0 to head.1
+        (one_item text (Unfinished p name from to) (Unfinished p n head.0 head.1) s
+        (subst (λ (x : ℕ). Spells text (Unfinished x n head.0 head.1)) e head.2)) in
+        let is : half ≡ bytes = head.3 ∙ ap (λ (x : ℕ). take (x - head.0) (drop head.0 text)) (sym same.to)
+        ∙ ap (λ (x : ℕ). take (to - x) (drop x text)) (sym same.from) ∙ sym b in
+        subst (λ (x : ℕ). Holds new x n half) (sym e)
+        (subst (λ (x : List ℕ). Holds new p n x) (sym is) (subst (λ (x : Name). Holds new p x bytes) same.name holds))
+    | inr apart ↦ same_holds old new q n half (others q apart)
+        (f.kept q n half (kept_step text (Unfinished p name from to) fed q n half s (λ g. apart (sym g)) k))
   ];
   held = λ q n half h. elim (cases_eq q p) [
     | inl e ↦
         let one = holds_one new p n name half bytes (subst (λ (x : ℕ). Holds new x n half) e h) holds in
-        subst (λ (x : ℕ). IsKept (text ∷ fed) x n half) (sym e) (subst (λ (x : Name). IsKept (text ∷ fed) p x half) (sym one.0) (kept_new text fed p name from to half s (one.1 ∙ b)))
-    | inr apart ↦ kept_more text (Unfinished p name from to) fed q n half s (λ g. apart (sym g)) (f.held q n half (same_holds new old q n half (sym (others q apart)) h))
+        subst (λ (x : ℕ). IsKept (text ∷ fed) x n half) (sym e)
+        (subst (λ (x : Name). IsKept (text ∷ fed) p x half) (sym one.0) (kept_new text fed p name from to half s (one.1 ∙ b)))
+    | inr apart ↦ kept_more text (Unfinished p name from to) fed q n half s (λ g. apart (sym g))
+        (f.held q n half (same_holds new old q n half (sym (others q apart)) h))
   ];
 }
 
@@ -201,7 +229,8 @@ fed_nothing j none = record {
 
 -- ---- what is dropped
 
-drops_by : (j : Joiner) (fed : List (List ℕ)) (p : ℕ) (count : ℕ) (o : Option Half) → half_of j p ≡ o → IsFed j fed → count ≡ (if is_some o then 1 else 0) → Drops fed p count
+drops_by : (j : Joiner) (fed : List (List ℕ)) (p : ℕ) (count : ℕ) (o : Option Half) → half_of j p ≡ o → IsFed j fed
+    → count ≡ (if is_some o then 1 else 0) → Drops fed p count
 drops_by j fed p count (Some k) e f c = inl (k.name, k.text.items, f.held p k.name k.text.items (k, e, refl, refl), c)
 drops_by j fed p count None e f c = inr (λ n half k. no_holds j p n half e (f.kept p n half k), c)
 
@@ -216,10 +245,52 @@ NoEnding [] = Unit {0}
 NoEnding (b ∷ text) = ((b ≢ 32) × (b ≢ 60)) × NoEnding text
 
 head_no_ending : (n : Name) → NoEnding (call_head n)
-head_no_ending Mmap = ((omega arith, omega arith), ((omega arith, omega arith), ((omega arith, omega arith), ((omega arith, omega arith), ((omega arith, omega arith), tt)))))
-head_no_ending Munmap = ((omega arith, omega arith), ((omega arith, omega arith), ((omega arith, omega arith), ((omega arith, omega arith), ((omega arith, omega arith), ((omega arith, omega arith), ((omega arith, omega arith), tt)))))))
-head_no_ending Mprotect = ((omega arith, omega arith), ((omega arith, omega arith), ((omega arith, omega arith), ((omega arith, omega arith), ((omega arith, omega arith), ((omega arith, omega arith), ((omega arith, omega arith), ((omega arith, omega arith), ((omega arith, omega arith), tt)))))))))
-head_no_ending Fault = ((omega arith, omega arith), ((omega arith, omega arith), ((omega arith, omega arith), ((omega arith, omega arith), ((omega arith, omega arith), ((omega arith, omega arith), tt))))))
+head_no_ending Mmap = (
+  (omega arith, omega arith),
+  ((omega arith, omega arith), ((omega arith, omega arith), ((omega arith, omega arith), ((omega arith, omega arith), tt)))),
+)
+head_no_ending Munmap = (
+  (omega arith, omega arith),
+  (
+    (omega arith, omega arith),
+    (
+      (omega arith, omega arith),
+      ((omega arith, omega arith), ((omega arith, omega arith), ((omega arith, omega arith), ((omega arith, omega arith), tt)))),
+    ),
+  ),
+)
+head_no_ending Mprotect = (
+  (omega arith, omega arith),
+  (
+    (omega arith, omega arith),
+    (
+      (omega arith, omega arith),
+      (
+        (omega arith, omega arith),
+        (
+          (omega arith, omega arith),
+          (
+            (omega arith, omega arith),
+            (
+              (omega arith, omega arith),
+              ((omega arith, omega arith), ((omega arith, omega arith), tt)),
+            ),
+          ),
+        ),
+      ),
+    ),
+  ),
+)
+head_no_ending Fault = (
+  (omega arith, omega arith),
+  (
+    (omega arith, omega arith),
+    (
+      (omega arith, omega arith),
+      ((omega arith, omega arith), ((omega arith, omega arith), ((omega arith, omega arith), tt))),
+    ),
+  ),
+)
 
 front_of : (word a half spaces : List ℕ) → NoEnding word → EachIs (is 32) spaces → word ++ a ≡ half ++ (spaces ++ unfinished) → BeginsWith word half
 front_of [] a half spaces w each e = (half, refl)
@@ -237,8 +308,12 @@ pid_front word text pid rest h = (h.0 ++ word, h.2 ∙ sym (append_assoc h.0 wor
 prefix_front : (text : List ℕ) (pid : ℕ) (rest : List ℕ) → IsPrefixed text pid rest → (front : List ℕ) × (text ≡ front ++ rest)
 prefix_front text pid rest (inl h) = pid_front (codes " ") text pid rest h
 prefix_front text pid rest (inr h) =
-    let k = pid_front (codes "] ") h.1 pid rest h.4 in
-    (codes "[pid " ++ (h.0 ++ k.0), h.3 ∙ ap (λ (x : List ℕ). codes "[pid " ++ (h.0 ++ x)) k.1 ∙ ap (λ (x : List ℕ). codes "[pid " ++ x) (sym (append_assoc h.0 k.0 rest)) ∙ sym (append_assoc (codes "[pid ") (h.0 ++ k.0) rest))
+    let k = pid_front (codes "] ") h.1 pid rest h.4 in (
+      codes "[pid " ++ (h.0 ++ k.0),
+      h.3 ∙ ap (λ (x : List ℕ). codes "[pid " ++ (h.0 ++ x)) k.1
+          ∙ ap (λ (x : List ℕ). codes "[pid " ++ x) (sym (append_assoc h.0 k.0 rest))
+          ∙ sym (append_assoc (codes "[pid ") (h.0 ++ k.0) rest),
+    )
 
 cut_front : (text : List ℕ) (pid : ℕ) (body : List ℕ) → IsCut text pid body → (front : List ℕ) × (text ≡ front ++ body)
 cut_front text pid body (inl h) =
@@ -246,12 +321,14 @@ cut_front text pid body (inl h) =
     (k.0 ++ h.2.0, k.1 ∙ ap (λ (x : List ℕ). k.0 ++ x) h.2.2 ∙ sym (append_assoc k.0 h.2.0 body))
 cut_front text pid body (inr h) = ([], sym h.1)
 
-slice_is : (text front body half behind : List ℕ) (from to : ℕ) → text ≡ front ++ body → body ≡ half ++ behind → from ≡ length front → to - from ≡ length half → take (to - from) (drop from text) ≡ half
+slice_is : (text front body half behind : List ℕ) (from to : ℕ) → text ≡ front ++ body → body ≡ half ++ behind
+    → from ≡ length front → to - from ≡ length half → take (to - from) (drop from text) ≡ half
 slice_is text front body half behind from to e b f t =
     let d : drop from text ≡ body = ap (λ (x : ℕ). drop x text) f ∙ ap (drop (length front)) e ∙ drop-append_seam front body in
     ap (take (to - from)) (d ∙ b) ∙ ap (λ (x : ℕ). take x (half ++ behind)) t ∙ take-append_seam half behind
 
-slice_half : (text : List ℕ) (p : ℕ) (n : Name) (from to : ℕ) → Spells text (Unfinished p n from to) → BeginsWith (call_head n) (take (to - from) (drop from text))
+slice_half : (text : List ℕ) (p : ℕ) (n : Name) (from to : ℕ) → Spells text (Unfinished p n from to)
+    → BeginsWith (call_head n) (take (to - from) (drop from text))
 unfolding Spells IsBody
 slice_half text p n from to h =
     let body = h.0 in
@@ -297,13 +374,18 @@ no_blank : (n : Name) (text : List ℕ) → BeginsWith (call_head n) text → Sp
 unfolding Spells
 no_blank n text b h = let k = ap length h in let l = ap length b.1 ∙ length-append (call_head n) b.0 in let m = head_some n in omega arith
 
-joined_is : (j : Joiner) (fed : List (List ℕ)) (text : List ℕ) (p : ℕ) (n : Name) (from : ℕ) (k : Half) → Spells text (Resumed p n from) → half_of j p ≡ Some k → k.name ≡ n → IsFed j fed → IsJoined fed text p (k.text.items ++ drop from text)
+joined_is : (j : Joiner) (fed : List (List ℕ)) (text : List ℕ) (p : ℕ) (n : Name) (from : ℕ) (k : Half)
+    → Spells text (Resumed p n from) → half_of j p ≡ Some k → k.name ≡ n → IsFed j fed
+    → IsJoined fed text p (k.text.items ++ drop from text)
 joined_is j fed text p n from k s e same f = (n, from, k.text.items, s, f.held p n k.text.items (k, e, same, refl), refl)
 
-joined_begins : (j : Joiner) (fed : List (List ℕ)) (rest : List ℕ) (p : ℕ) (n : Name) (k : Half) → half_of j p ≡ Some k → k.name ≡ n → IsFed j fed → BeginsWith (call_head n) (k.text.items ++ rest)
-joined_begins j fed rest p n k e same f = more_begins (call_head n) k.text.items rest (kept_begins fed p n k.text.items (f.held p n k.text.items (k, e, same, refl)))
+joined_begins : (j : Joiner) (fed : List (List ℕ)) (rest : List ℕ) (p : ℕ) (n : Name) (k : Half) → half_of j p ≡ Some k
+    → k.name ≡ n → IsFed j fed → BeginsWith (call_head n) (k.text.items ++ rest)
+joined_begins j fed rest p n k e same f = more_begins (call_head n) k.text.items rest
+    (kept_begins fed p n k.text.items (f.held p n k.text.items (k, e, same, refl)))
 
-answer_is : (fed : List (List ℕ)) (text joined : List ℕ) (p : ℕ) (n : Name) (item : Item) → IsJoined fed text p joined → BeginsWith (call_head n) joined → Spells joined item → IsAnswer fed text (answer_of p item)
+answer_is : (fed : List (List ℕ)) (text joined : List ℕ) (p : ℕ) (n : Name) (item : Item) → IsJoined fed text p joined
+    → BeginsWith (call_head n) joined → Spells joined item → IsAnswer fed text (answer_of p item)
 answer_is fed text joined p n (Played pid c r) i b s =
     inr (joined, i, subst (λ (x : ℕ). Spells joined (Played x c r)) (process_of n joined pid (Played pid c r) b refl s) s, refl)
 answer_is fed text joined p n (Unfinished pid m from to) i b s = inr (inr (inr (inr (p, joined, i, (pid, m, from, to, s), refl))))
@@ -311,19 +393,34 @@ answer_is fed text joined p n (Resumed pid m from) i b s = absurd (no_resumed n 
 answer_is fed text joined p n Passed i b s = inr (inr (inr (inl (p, joined, i, s, refl))))
 answer_is fed text joined p n Nothing i b s = absurd (no_blank n joined b s)
 
-pub join_answer : (j : Joiner) (fed : List (List ℕ)) (text : List ℕ) (p : ℕ) (n : Name) (from : ℕ) (rest : List ℕ) (answer : Fed) → Spells text (Resumed p n from) → rest ≡ drop from text → IsFed j fed → IsJoinAnswer j p n rest answer → IsAnswer fed text answer
+pub join_answer : (j : Joiner) (fed : List (List ℕ)) (text : List ℕ) (p : ℕ) (n : Name) (from : ℕ) (rest : List ℕ) (answer : Fed)
+    → Spells text (Resumed p n from) → rest ≡ drop from text → IsFed j fed → IsJoinAnswer j p n rest answer
+    → IsAnswer fed text answer
 join_answer j fed text p n from rest answer s d f (inl (none, e)) =
     subst (IsAnswer fed text) (sym e) (inr (inl ((p, n, from, s, λ m half k. no_holds j p m half none (f.kept p m half k)), refl)))
 join_answer j fed text p n from rest answer s d f (inr (inl h)) =
-    subst (IsAnswer fed text) (sym h.3) (inr (inr (inl ((p, n, h.0.name, from, h.0.text.items, s, f.held p h.0.name h.0.text.items (h.0, h.1, refl, refl), h.2), refl))))
+    subst (IsAnswer fed text) (sym h.3)
+    (inr (inr (inl (
+      (p, n, h.0.name, from, h.0.text.items, s, f.held p h.0.name h.0.text.items (h.0, h.1, refl, refl), h.2),
+      refl,
+    ))))
 join_answer j fed text p n from rest answer s d f (inr (inr h)) =
     let joined = h.0.text.items ++ rest in
-    let i : IsJoined fed text p joined = subst (λ (x : List ℕ). IsJoined fed text p (h.0.text.items ++ x)) (sym d) (joined_is j fed text p n from h.0 s h.2 h.3 f) in
+    let i : IsJoined fed text p joined = subst (λ (x : List ℕ). IsJoined fed text p (h.0.text.items ++ x)) (sym d)
+    (joined_is j fed text p n from h.0 s h.2 h.3 f) in
     subst (IsAnswer fed text) (sym h.5) (answer_is fed text joined p n h.1 i (joined_begins j fed rest p n h.0 h.2 h.3 f) h.4)
 
-pub join_fault : (j : Joiner) (fed : List (List ℕ)) (text : List ℕ) (p : ℕ) (n : Name) (from : ℕ) (rest : List ℕ) (fault : FeedFault) → Spells text (Resumed p n from) → rest ≡ drop from text → IsFed j fed → IsJoinFault j p n rest fault → IsFeedFault fed text fault
+pub join_fault : (j : Joiner) (fed : List (List ℕ)) (text : List ℕ) (p : ℕ) (n : Name) (from : ℕ) (rest : List ℕ)
+    (fault : FeedFault) → Spells text (Resumed p n from) → rest ≡ drop from text → IsFed j fed → IsJoinFault j p n rest fault
+    → IsFeedFault fed text fault
 join_fault j fed text p n from rest (Bad bad) s d f h =
-    inr (p, h.0.text.items ++ rest, subst (λ (x : List ℕ). IsJoined fed text p (h.0.text.items ++ x)) (sym d) (joined_is j fed text p n from h.0 s h.1 h.2 f), h.3)
+    inr (
+      p,
+      h.0.text.items ++ rest,
+      subst (λ (x : List ℕ). IsJoined fed text p (h.0.text.items ++ x)) (sym d)
+          (joined_is j fed text p n from h.0 s h.1 h.2 f),
+      h.3,
+    )
 join_fault j fed text p n from rest Memory s d f h = (p, n, from, 0, inr s)
 
 -- ---- how many are left
@@ -338,7 +435,8 @@ some_of j fed p None e f s = absurd cc
 is_some_half : (j : Joiner) (p : ℕ) (k : Half) → half_of j p ≡ Some k → IsSome (half_of j p)
 is_some_half j p k e = rw e refl
 
-pub counts : (j : Joiner) (fed : List (List ℕ)) (count n : ℕ) → IsFed j fed → IsOrdered nat_cmp j.halves → n ≡ length j.halves.entries → ((count ≡ n) ⊎ ((count ≡ 2 ^ 32 - 1) × (count < n))) → CountsKept fed count
+pub counts : (j : Joiner) (fed : List (List ℕ)) (count n : ℕ) → IsFed j fed → IsOrdered nat_cmp j.halves
+    → n ≡ length j.halves.entries → ((count ≡ n) ⊎ ((count ≡ 2 ^ 32 - 1) × (count < n))) → CountsKept fed count
 counts j fed count n f ordered len is =
     let long : n ≡ length (keys j.halves) = len ∙ sym (length-keys_of j.halves.entries) in
     record {
@@ -347,5 +445,6 @@ counts j fed count n f ordered len is =
       each = λ p.
           let k = btree_map_contains_key_iff nat_cmp_total exact_unsigned j.halves p in
           (λ h. some_of j fed p (half_of j p) refl f (k.1 h), λ h. let held = f.kept p h.0 h.1 h.2 in k.0 (is_some_half j p held.0 held.1));
-      is = elim is as (λ x. (count ≡ length (keys j.halves)) ⊎ ((count ≡ 2 ^ 32 - 1) × (count < length (keys j.halves)))) [ inl a ↦ inl (a ∙ long) | inr a ↦ inr (a.0, omega (arith, long, a.1)) ];
+      is = elim is as (λ x. (count ≡ length (keys j.halves)) ⊎ ((count ≡ 2 ^ 32 - 1) × (count < length (keys j.halves))))
+          [ inl a ↦ inl (a ∙ long) | inr a ↦ inr (a.0, omega (arith, long, a.1)) ];
     }

@@ -21,8 +21,10 @@ AreApart (p ∷ ps) = All (λ q. p ≢ q) ps × AreApart ps
 abbrev IsHalfOf : List ℕ → ℕ → Type 0
 IsHalfOf text p = (name : Name) × (from to : ℕ) × Spells text (Unfinished p name from to)
 
-kept_cases : (text : List ℕ) (fed : List (List ℕ)) (p : ℕ) (n : Name) (half : List ℕ) (later : List (List ℕ)) (t : List ℕ) (earlier : List (List ℕ)) (from to : ℕ)
-    → text ∷ fed ≡ later ++ (t ∷ earlier) → Spells t (Unfinished p n from to) → half ≡ take (to - from) (drop from t) → IsSilent p later → IsHalfOf text p ⊎ HasHalf fed p
+kept_cases : (text : List ℕ) (fed : List (List ℕ)) (p : ℕ) (n : Name) (half : List ℕ) (later : List (List ℕ)) (t : List ℕ)
+    (earlier : List (List ℕ)) (from to : ℕ)
+    → text ∷ fed ≡ later ++ (t ∷ earlier) → Spells t (Unfinished p n from to) → half ≡ take (to - from) (drop from t)
+    → IsSilent p later → IsHalfOf text p ⊎ HasHalf fed p
 kept_cases text fed p n half [] t earlier from to e u b silent =
     let same : t ≡ text = cc in
     inl (n, from, to, subst (λ (x : List ℕ). Spells x (Unfinished p n from to)) same u)
@@ -34,7 +36,8 @@ half_cases : (text : List ℕ) (fed : List (List ℕ)) (p : ℕ) → HasHalf (te
 half_cases text fed p (n, half, k) = kept_cases text fed p n half k.later k.text k.earlier k.from k.to k.parts k.is_half k.bytes k.silent
 
 -- the halves of other processes were kept before
-others_kept : (text : List ℕ) (fed : List (List ℕ)) (p : ℕ) → IsHalfOf text p → (ps : List ℕ) → All (λ q. p ≢ q) ps → All (HasHalf (text ∷ fed)) ps → All (HasHalf fed) ps
+others_kept : (text : List ℕ) (fed : List (List ℕ)) (p : ℕ) → IsHalfOf text p → (ps : List ℕ) → All (λ q. p ≢ q) ps
+    → All (HasHalf (text ∷ fed)) ps → All (HasHalf fed) ps
 others_kept text fed p is [] apart all = λ k d l. absurd (omega (arith, l))
 others_kept text fed p is (q ∷ ps) apart all =
     let h = All-head (HasHalf (text ∷ fed)) q ps all in
@@ -82,7 +85,10 @@ no_more (text ∷ fed) ps apart all =
 
 are_apart : (ps : List ℕ) → AllPairs (λ x y. x < y) ps → AreApart ps
 are_apart [] h = tt
-are_apart (p ∷ ps) h = (λ k d l e. omega (arith, h 0 (suc k) d (omega arith) (omega (arith, l)), e), are_apart ps (λ i j d a b. h (suc i) (suc j) d (omega (arith, a)) (omega (arith, b))))
+are_apart (p ∷ ps) h = (
+  λ k d l e. omega (arith, h 0 (suc k) d (omega arith) (omega (arith, l)), e),
+  are_apart ps (λ i j d a b. h (suc i) (suc j) d (omega (arith, a)) (omega (arith, b))),
+)
 
 -- no more are left than were fed
 pub few_kept : (fed : List (List ℕ)) (count : ℕ) → CountsKept fed count → count ≤ length fed

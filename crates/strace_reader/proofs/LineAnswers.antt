@@ -92,7 +92,8 @@ of_body text some Blank h = absurd (some h)
 back : (n m : ℕ) → m ≤ n → n - m + m ≡ n
 back n m h = omega arith
 
-pub spelled : (text body : List ℕ) (pid : ℕ) (b : Body) → text ≢ [] → IsCut text pid body → IsBody body b → Spells text (item_of (length text) pid (length body) b)
+pub spelled : (text body : List ℕ) (pid : ℕ) (b : Body) → text ≢ [] → IsCut text pid body → IsBody body b
+    → Spells text (item_of (length text) pid (length body) b)
 unfolding Spells
 spelled text body pid (Called c r) some cut is = (body, cut, is)
 spelled text body pid (FirstHalf name len) some cut is = (body, len, cut, is, back (length text) (length body) (cut_length text pid body cut), refl)
@@ -118,12 +119,15 @@ same_err : (a b : Refusal) → as_err a ≡ as_err b → a ≡ b
 same_err a b e = cc
 
 -- another item of the line is of the same body
-line_only : (text body : List ℕ) (pid : ℕ) (b : Body) → text ≢ [] → IsCut text pid body → BodyAnswers body (Ok b) → (item : Item) → Spells text item → is_item (item_of (length text) pid (length body) b) ≡ is_item item
+line_only : (text body : List ℕ) (pid : ℕ) (b : Body) → text ≢ [] → IsCut text pid body → BodyAnswers body (Ok b) → (item : Item)
+    → Spells text item → is_item (item_of (length text) pid (length body) b) ≡ is_item item
 line_only text body pid b some cut a item h =
     let o = of_body text some item h in
     let k = cut_same text pid o.pid body o.body cut o.cut in
     let e : b ≡ o.it = same_ok b o.it (a.only o.it (subst (λ (x : List ℕ). IsBody x o.it) (sym k.1) o.is)) in
-    ap is_item (ap (λ (x : Body). item_of (length text) pid (length body) x) e ∙ ap (λ (x : ℕ). item_of (length text) x (length body) o.it) k.0 ∙ ap (λ (x : List ℕ). item_of (length text) o.pid (length x) o.it) k.1 ∙ sym o.same)
+    ap is_item (ap (λ (x : Body). item_of (length text) pid (length body) x) e
+    ∙ ap (λ (x : ℕ). item_of (length text) x (length body) o.it) k.0
+    ∙ ap (λ (x : List ℕ). item_of (length text) o.pid (length x) o.it) k.1 ∙ sym o.same)
 
 named_item : (n pid m : ℕ) (b : Body) → IsNamedBody b → IsNamedItem (item_of n pid m b)
 named_item n pid m (Called c r) h = h
@@ -137,7 +141,8 @@ line_bad text body pid b cut a bad h =
     let k = cut_same text pid h.0 body h.1 cut h.3 in
     ok_no_err b h.2 (a.only_there h.2 (subst (λ (x : List ℕ). RefusesBody x h.2) (sym k.1) h.4))
 
-pub read_body_line : (text body : List ℕ) (pid : ℕ) (b : Body) → text ≢ [] → IsCut text pid body → BodyAnswers body (Ok b) → LineAnswers text (Ok (item_of (length text) pid (length body) b))
+pub read_body_line : (text body : List ℕ) (pid : ℕ) (b : Body) → text ≢ [] → IsCut text pid body → BodyAnswers body (Ok b)
+    → LineAnswers text (Ok (item_of (length text) pid (length body) b))
 read_body_line text body pid b some cut a = record {
   found = spelled text body pid b some cut a.found;
   only = line_only text body pid b some cut a;
@@ -161,16 +166,21 @@ refused_only text body pid f some cut a item h =
 bad_is : (a b : ℕ) (w v : What) → a ≡ b → w ≡ v → is_bad a w ≡ is_bad b v
 bad_is a b w v e f = ap (λ (x : ℕ). is_bad x w) e ∙ ap (λ (x : What). is_bad b x) f
 
-refused_there : (text body : List ℕ) (pid : ℕ) (f : Refusal) → IsCut text pid body → BodyAnswers body (Err f) → f.left ≤ length text → (bad : BadCall) → Refuses text bad → is_bad (length text - f.left + 1) f.what ≡ is_bad bad.column bad.what
+refused_there : (text body : List ℕ) (pid : ℕ) (f : Refusal) → IsCut text pid body → BodyAnswers body (Err f)
+    → f.left ≤ length text → (bad : BadCall) → Refuses text bad
+    → is_bad (length text - f.left + 1) f.what ≡ is_bad bad.column bad.what
 unfolding Refuses
 refused_there text body pid f cut a le bad h =
     let k = cut_same text pid h.0 body h.1 cut h.3 in
     let e : f ≡ h.2 = same_err f h.2 (a.only_there h.2 (subst (λ (x : List ℕ). RefusesBody x h.2) (sym k.1) h.4)) in
     let l : f.left ≡ h.2.left = ap (λ (x : Refusal). x.left) e in
     let place = h.5 in
-    bad_is (length text - f.left + 1) bad.column f.what bad.what (column_is (length text) f.left bad.column (ap (λ (x : ℕ). bad.column + x) l ∙ place) le) (ap (λ (x : Refusal). x.what) e ∙ sym h.6)
+    bad_is (length text - f.left + 1) bad.column f.what bad.what
+    (column_is (length text) f.left bad.column (ap (λ (x : ℕ). bad.column + x) l ∙ place) le)
+    (ap (λ (x : Refusal). x.what) e ∙ sym h.6)
 
-pub refused_body_line : (text body : List ℕ) (pid : ℕ) (f : Refusal) → text ≢ [] → IsCut text pid body → BodyAnswers body (Err f) → LineAnswers text (Err (record { column = length text - f.left + 1; what = f.what }))
+pub refused_body_line : (text body : List ℕ) (pid : ℕ) (f : Refusal) → text ≢ [] → IsCut text pid body → BodyAnswers body (Err f)
+    → LineAnswers text (Err (record { column = length text - f.left + 1; what = f.what }))
 unfolding Refuses
 refused_body_line text body pid f some cut a =
     let m = cut_length text pid body cut in

@@ -1,5 +1,6 @@
 -- A maps line is read as its relation says: what is found is such a line, and each such line is found.
-use Rattle.std.proofs.Common.{◌≡◌, ◌≢◌, ℕ, ◌*◌, ◌/◌, ◌%◌, ◌^◌, ◌<◌, ◌≤◌, List, [], ◌∷◌, ◌++◌, length, Result, Ok, Err, Option, Some, None, Bool, true, false, refl, sym, ap, subst, ◌∙◌, inl, inr, arith}
+use Rattle.std.proofs.Common.{◌≡◌, ◌≢◌, ℕ, ◌*◌, ◌/◌, ◌%◌, ◌^◌, ◌<◌, ◌≤◌, List, [], ◌∷◌, ◌++◌, length, Result, Ok, Err}
+use Rattle.std.proofs.Common.{Option, Some, None, Bool, true, false, refl, sym, ap, subst, ◌∙◌, inl, inr, arith}
 use Rattle.std.specs.Prelude.{◌⊎◌, IfOk, IfErr}
 use Rattle.std.specs.Int.RustNames.{bit_or}
 use Rattle.std.proofs.lemmas.Bool.Decides.{eqb_tells}
@@ -31,7 +32,8 @@ then_yes (Some x) f y h = (x, refl, h)
 some_pair : (p q : ℕ × List ℕ) → Some p ≡ Some q → p ≡ q
 some_pair p q h = cc
 
-address_some : (text : List ℕ) (p : ℕ × List ℕ) (n : ℕ) (rest : List ℕ) → address_of text p ≡ Some (n, rest) → (length p.1 ≢ length text) × (p.0 < 2 ^ 64) × (p.0 % 4096 ≡ 0) × (p ≡ (n, rest))
+address_some : (text : List ℕ) (p : ℕ × List ℕ) (n : ℕ) (rest : List ℕ) → address_of text p ≡ Some (n, rest)
+    → (length p.1 ≢ length text) × (p.0 < 2 ^ 64) × (p.0 % 4096 ≡ 0) × (p ≡ (n, rest))
 address_some text p n rest h =
     elim (eqb_tells (length p.1) (length text)) [
       | inl a ↦ let k = rw a.0 at h in absurd cc
@@ -60,8 +62,15 @@ address_yes text rest n h =
     let long = s.0 in
     let fits = s.1 in
     let aligned = s.2 in
-    let some : 0 < length ds = omega arith in
-    (ds, record { hexadecimal = (some, r.2.all, sym is_n); fits = omega arith; aligned = ap (λ (x : ℕ). x % 4096) (sym is_p) ∙ aligned }, r.2.parts ∙ ap (λ (x : List ℕ). ds ++ x) is_rest)
+    let some : 0 < length ds = omega arith in (
+      ds,
+      record {
+        hexadecimal = (some, r.2.all, sym is_n);
+        fits = omega arith;
+        aligned = ap (λ (x : ℕ). x % 4096) (sym is_p) ∙ aligned;
+      },
+      r.2.parts ∙ ap (λ (x : List ℕ). ds ++ x) is_rest,
+    )
 
 address_is : (text rest : List ℕ) (n : ℕ) → length rest ≢ length text → n < 2 ^ 64 → n % 4096 ≡ 0 → address_of text (n, rest) ≡ Some (n, rest)
 address_is text rest n long fits aligned =
@@ -101,9 +110,11 @@ unfolding mark_at
 mark_yes letter bit [] rest v h = absurd cc
 mark_yes letter bit (c ∷ text) rest v h =
     elim (eqb_tells c letter) [
-      | inl k ↦ let g : (bit, text) ≡ (v, rest) = some_pair (bit, text) (v, rest) (rw k.0 at h) in (c, ap (λ (x : ℕ × List ℕ). c ∷ x.1) g, inl (k.1, sym (ap (λ (x : ℕ × List ℕ). x.0) g)))
+      | inl k ↦ let g : (bit, text) ≡ (v, rest) = some_pair (bit, text) (v, rest) (rw k.0 at h) in
+          (c, ap (λ (x : ℕ × List ℕ). c ∷ x.1) g, inl (k.1, sym (ap (λ (x : ℕ × List ℕ). x.0) g)))
       | inr k ↦ elim (eqb_tells c 45) [
-        | inl l ↦ let g : (0, text) ≡ (v, rest) = some_pair (0, text) (v, rest) (rw (k.0, l.0) at h) in (c, ap (λ (x : ℕ × List ℕ). c ∷ x.1) g, inr (l.1, sym (ap (λ (x : ℕ × List ℕ). x.0) g)))
+        | inl l ↦ let g : (0, text) ≡ (v, rest) = some_pair (0, text) (v, rest) (rw (k.0, l.0) at h) in
+            (c, ap (λ (x : ℕ × List ℕ). c ∷ x.1) g, inr (l.1, sym (ap (λ (x : ℕ × List ℕ). x.0) g)))
         | inr l ↦ let g = rw (k.0, l.0) at h in absurd cc
       ]
     ]
@@ -120,14 +131,17 @@ mark_no letter bit c v rest other (inr h) = rw (h.0, h.1) (dash_no letter bit re
 some_shared : (p q : Bool × List ℕ) → Some p ≡ Some q → p ≡ q
 some_shared p q h = cc
 
-sharing_yes : (text rest : List ℕ) (v : Bool) → sharing_at text ≡ Some (v, rest) → (c : ℕ) × (text ≡ c ∷ rest) × (((c ≡ 115) × (v ≡ true)) ⊎ ((c ≡ 112) × (v ≡ false)))
+sharing_yes : (text rest : List ℕ) (v : Bool) → sharing_at text ≡ Some (v, rest)
+    → (c : ℕ) × (text ≡ c ∷ rest) × (((c ≡ 115) × (v ≡ true)) ⊎ ((c ≡ 112) × (v ≡ false)))
 unfolding sharing_at
 sharing_yes [] rest v h = absurd cc
 sharing_yes (c ∷ text) rest v h =
     elim (eqb_tells c 115) [
-      | inl k ↦ let g : (true, text) ≡ (v, rest) = some_shared (true, text) (v, rest) (rw k.0 at h) in (c, ap (λ (x : Bool × List ℕ). c ∷ x.1) g, inl (k.1, sym (ap (λ (x : Bool × List ℕ). x.0) g)))
+      | inl k ↦ let g : (true, text) ≡ (v, rest) = some_shared (true, text) (v, rest) (rw k.0 at h) in
+          (c, ap (λ (x : Bool × List ℕ). c ∷ x.1) g, inl (k.1, sym (ap (λ (x : Bool × List ℕ). x.0) g)))
       | inr k ↦ elim (eqb_tells c 112) [
-        | inl l ↦ let g : (false, text) ≡ (v, rest) = some_shared (false, text) (v, rest) (rw (k.0, l.0) at h) in (c, ap (λ (x : Bool × List ℕ). c ∷ x.1) g, inr (l.1, sym (ap (λ (x : Bool × List ℕ). x.0) g)))
+        | inl l ↦ let g : (false, text) ≡ (v, rest) = some_shared (false, text) (v, rest) (rw (k.0, l.0) at h) in
+            (c, ap (λ (x : Bool × List ℕ). c ∷ x.1) g, inr (l.1, sym (ap (λ (x : Bool × List ℕ). x.0) g)))
         | inr l ↦ let g = rw (k.0, l.0) at h in absurd cc
       ]
     ]
@@ -160,7 +174,8 @@ pub record KindFound (text : List ℕ) (kind : Kind) : Type 0 where
 
 -- what is read behind the first character, the second and the third
 abbrev behind_third : ℕ → ℕ → ℕ → List ℕ → Option Kind
-behind_third read write exec text = then_some (sharing_at text) (λ s. ended_at (record { prot = record { 0 = bit_or (bit_or read write) exec }; shared = s.0 }) s.1)
+behind_third read write exec text = then_some (sharing_at text)
+    (λ s. ended_at (record { prot = record { 0 = bit_or (bit_or read write) exec }; shared = s.0 }) s.1)
 
 abbrev behind_second : ℕ → ℕ → List ℕ → Option Kind
 behind_second read write text = then_some (mark_at 120 4 text) (λ x. behind_third read write x.0 x.1)
@@ -177,8 +192,10 @@ pub record Fourth (read write exec : ℕ) (text : List ℕ) (kind : Kind) : Type
   pub sharing : ((s ≡ 115) × (kind.shared ≡ true)) ⊎ ((s ≡ 112) × (kind.shared ≡ false))
   pub behind : (tail ≡ []) ⊎ (starts (is 32) tail ≡ true)
 
-fourth_is : (read write exec s : ℕ) (shared : Bool) (text tail : List ℕ) (kind : Kind) → text ≡ s ∷ tail → ((s ≡ 115) × (shared ≡ true)) ⊎ ((s ≡ 112) × (shared ≡ false))
-    → record { prot = record { 0 = bit_or (bit_or read write) exec }; shared = shared } ≡ kind → (tail ≡ []) ⊎ (starts (is 32) tail ≡ true) → Fourth read write exec text kind
+fourth_is : (read write exec s : ℕ) (shared : Bool) (text tail : List ℕ) (kind : Kind) → text ≡ s ∷ tail
+    → ((s ≡ 115) × (shared ≡ true)) ⊎ ((s ≡ 112) × (shared ≡ false))
+    → record { prot = record { 0 = bit_or (bit_or read write) exec }; shared = shared } ≡ kind
+    → (tail ≡ []) ⊎ (starts (is 32) tail ≡ true) → Fourth read write exec text kind
 fourth_is read write exec s shared text tail kind parts sharing same behind = record {
   s = s;
   tail = tail;
@@ -224,7 +241,8 @@ second_yes read text kind h =
     let b = mark_yes 119 2 text a.0.1 a.0.0 a.1 in
     record { w = b.0; write = a.0.0; rest = a.0.1; parts = b.1; write_mark = b.2; third = third_yes read a.0.0 a.0.1 kind a.2 }
 
-four_parts : (text one two three tail : List ℕ) (r w x s : ℕ) → text ≡ r ∷ one → one ≡ w ∷ two → two ≡ x ∷ three → three ≡ s ∷ tail → text ≡ (r ∷ w ∷ x ∷ s ∷ []) ++ tail
+four_parts : (text one two three tail : List ℕ) (r w x s : ℕ) → text ≡ r ∷ one → one ≡ w ∷ two → two ≡ x ∷ three
+    → three ≡ s ∷ tail → text ≡ (r ∷ w ∷ x ∷ s ∷ []) ++ tail
 four_parts text one two three tail r w x s a b c d = rw (a, b, c, d) refl
 
 kind_is : (text rest : List ℕ) (r read : ℕ) (kind : Kind) → text ≡ r ∷ rest → IsMark 114 1 r read → Second read rest kind → KindFound text kind
@@ -268,8 +286,12 @@ kind_no chars tail kind k behind =
     let q = mark_no 119 2 k.w k.write (k.x ∷ k.s ∷ tail) (λ z. cc) k.write_mark in
     let r = mark_no 120 4 k.x k.exec (k.s ∷ tail) (λ z. cc) k.exec_mark in
     let s = sharing_no k.s kind.shared tail k.sharing in
-    let t : record { prot = record { 0 = bit_or (bit_or k.read k.write) k.exec }; shared = kind.shared } ≡ kind = ap (λ (x : Prot). record { prot = x; shared = kind.shared }) (sym k.rights) in
-    rw e (rw p (rw q (rw r (rw s (ended_no (record { prot = record { 0 = bit_or (bit_or k.read k.write) k.exec }; shared = kind.shared }) tail behind ∙ ap (λ (x : Kind). Some x) t)))))
+    let t : record { prot = record { 0 = bit_or (bit_or k.read k.write) k.exec }; shared = kind.shared } ≡ kind =
+    ap (λ (x : Prot). record { prot = x; shared = kind.shared }) (sym k.rights) in
+    rw e (rw p (rw q (rw r (rw s (ended_no (record {
+      prot = record { 0 = bit_or (bit_or k.read k.write) k.exec };
+      shared = kind.shared;
+    }) tail behind ∙ ap (λ (x : Kind). Some x) t)))))
 
 -- ---- lines
 
@@ -329,7 +351,8 @@ behind_dash_yes start text line h =
     let b = address_yes text a.0.1 a.0.0 a.1 in
     record { second = b.0; rest = a.0.1; stop = a.0.0; parts = b.2; is_address = b.1; found = behind_stop_yes start a.0.0 a.0.1 line a.2 }
 
-line_parts_are : (text first one two second three chars tail : List ℕ) → text ≡ first ++ one → one ≡ 45 ∷ two → two ≡ second ++ three → three ≡ 32 ∷ (chars ++ tail)
+line_parts_are : (text first one two second three chars tail : List ℕ) → text ≡ first ++ one → one ≡ 45 ∷ two
+    → two ≡ second ++ three → three ≡ 32 ∷ (chars ++ tail)
     → text ≡ first ++ (45 ∷ (second ++ (32 ∷ (chars ++ tail))))
 line_parts_are text first one two second three chars tail a b c d = rw (a, b, c, d) refl
 
@@ -417,7 +440,8 @@ form_line text h = record {
 
 order_only : (text : List ℕ) (a b : ℕ) (k : Kind) → maps_at text ≡ Some (a, b, k) → b ≤ a → (item : MapsItem) → SpellsMaps text item → ⊥
 unfolding SpellsMaps
-order_only text a b k h le (Area area) s = let o = one_line text a b (area.lo * 4096) (area.hi * 4096) k area.kind h s.0 in let lt = s.1 in let p = o.0 in let q = o.1 in omega arith
+order_only text a b k h le (Area area) s = let o = one_line text a b (area.lo * 4096) (area.hi * 4096) k area.kind h s.0 in
+    let lt = s.1 in let p = o.0 in let q = o.1 in omega arith
 order_only text a b k h le (Past c d) s = let o = one_line text a b c d k s.0 h s.1 in let lt = s.2 in let p = o.0 in let q = o.1 in omega arith
 
 pub order_line : (text : List ℕ) (a b : ℕ) (k : Kind) → maps_at text ≡ Some (a, b, k) → b ≤ a → MapsAnswers text (Err (record { column = 1; what = Order }))
@@ -435,10 +459,13 @@ unfolding RefusesMaps
 not_refused text a b k h lt bad (inl m) = m.0 a b k (maps_yes text a b k h)
 not_refused text a b k h lt bad (inr m) = let o = one_line text a b m.0 m.1 k m.2 h m.3 in let le = m.4 in let p = o.0 in let q = o.1 in omega arith
 
-past_only : (text : List ℕ) (a b : ℕ) (k : Kind) → maps_at text ≡ Some (a, b, k) → user_end < b → (item : MapsItem) → SpellsMaps text item → is_maps_item (Past a b) ≡ is_maps_item item
+past_only : (text : List ℕ) (a b : ℕ) (k : Kind) → maps_at text ≡ Some (a, b, k) → user_end < b → (item : MapsItem)
+    → SpellsMaps text item → is_maps_item (Past a b) ≡ is_maps_item item
 unfolding SpellsMaps
-past_only text a b k h past (Area area) s = let o = one_line text a b (area.lo * 4096) (area.hi * 4096) k area.kind h s.0 in let le = s.2 in let q = o.1 in absurd (omega arith)
-past_only text a b k h past (Past c d) s = let o = one_line text a b c d k s.0 h s.1 in ap (λ (x : ℕ). is_maps_item (Past x b)) (sym o.0) ∙ ap (λ (x : ℕ). is_maps_item (Past c x)) (sym o.1)
+past_only text a b k h past (Area area) s = let o = one_line text a b (area.lo * 4096) (area.hi * 4096) k area.kind h s.0 in
+    let le = s.2 in let q = o.1 in absurd (omega arith)
+past_only text a b k h past (Past c d) s = let o = one_line text a b c d k s.0 h s.1 in
+    ap (λ (x : ℕ). is_maps_item (Past x b)) (sym o.0) ∙ ap (λ (x : ℕ). is_maps_item (Past c x)) (sym o.1)
 
 pub past_line : (text : List ℕ) (a b : ℕ) (k : Kind) → maps_at text ≡ Some (a, b, k) → a < b → user_end < b → MapsAnswers text (Ok (Past a b))
 unfolding SpellsMaps
@@ -459,11 +486,14 @@ area_of a b k = record { lo = a; hi = b; kind = k }
 page_is : (p n : ℕ) → p * 4096 ≡ n → n / 4096 ≡ p
 page_is p n h = omega arith
 
-area_only : (text : List ℕ) (a b : ℕ) (k : Kind) → maps_at text ≡ Some (a, b, k) → b ≤ user_end → (item : MapsItem) → SpellsMaps text item → is_maps_item (Area (area_of (a / 4096) (b / 4096) k)) ≡ is_maps_item item
+area_only : (text : List ℕ) (a b : ℕ) (k : Kind) → maps_at text ≡ Some (a, b, k) → b ≤ user_end → (item : MapsItem)
+    → SpellsMaps text item → is_maps_item (Area (area_of (a / 4096) (b / 4096) k)) ≡ is_maps_item item
 unfolding SpellsMaps
 area_only text a b k h le (Area area) s =
     let o = one_line text a b (area.lo * 4096) (area.hi * 4096) k area.kind h s.0 in
-    ap (λ (x : ℕ). is_maps_item (Area (area_of x (b / 4096) k))) (page_is area.lo a o.0) ∙ ap (λ (x : ℕ). is_maps_item (Area (area_of area.lo x k))) (page_is area.hi b o.1) ∙ ap (λ (x : Kind). is_maps_item (Area (area_of area.lo area.hi x))) (sym o.2)
+    ap (λ (x : ℕ). is_maps_item (Area (area_of x (b / 4096) k))) (page_is area.lo a o.0)
+    ∙ ap (λ (x : ℕ). is_maps_item (Area (area_of area.lo x k))) (page_is area.hi b o.1)
+    ∙ ap (λ (x : Kind). is_maps_item (Area (area_of area.lo area.hi x))) (sym o.2)
 area_only text a b k h le (Past c d) s = let o = one_line text a b c d k s.0 h s.1 in let past = s.3 in let q = o.1 in absurd (omega arith)
 
 mark_small : (letter bit char v k : ℕ) → IsMark letter bit char v → bit < 2 ^ k → v < 2 ^ k
@@ -483,7 +513,8 @@ area_found text a b k m lt le =
     let q = page_of_start b m.stops_at.aligned in
     (subst (λ (x : ℕ). IsMapsLine text x ((b / 4096) * 4096) k) (sym p) (subst (λ (x : ℕ). IsMapsLine text a x k) (sym q) m), omega arith, omega arith)
 
-pub area_line : (text : List ℕ) (a b : ℕ) (k : Kind) → maps_at text ≡ Some (a, b, k) → a < b → b ≤ user_end → MapsAnswers text (Ok (Area (record { lo = a / 4096; hi = b / 4096; kind = k })))
+pub area_line : (text : List ℕ) (a b : ℕ) (k : Kind) → maps_at text ≡ Some (a, b, k) → a < b → b ≤ user_end
+    → MapsAnswers text (Ok (Area (record { lo = a / 4096; hi = b / 4096; kind = k })))
 area_line text a b k h lt le =
     let m = maps_yes text a b k h in
     record {

@@ -19,7 +19,8 @@ use Rattle.strace_reader.proofs.OneOutcome.{body_fixed}
 named_by : {text : List ℕ} (r : Result Item BadCall) → LineAnswers text r → (item : Item) → Spells text item → IsNamedItem item
 named_by r a item h = subst (λ (x : Result Item BadCall). IfOk x (λ i. IsNamedItem i)) (a.only item h) a.named
 
-named_body : (text body : List ℕ) (pid : ℕ) (r : Result Body Refusal) → text ≢ [] → IsCut text pid body → BodyAnswers body r → (item : Item) → Spells text item → IsNamedItem item
+named_body : (text body : List ℕ) (pid : ℕ) (r : Result Body Refusal) → text ≢ [] → IsCut text pid body → BodyAnswers body r
+    → (item : Item) → Spells text item → IsNamedItem item
 named_body text body pid (Ok b) some cut a item h = named_by _ (read_body_line text body pid b some cut a) item h
 named_body text body pid (Err f) some cut a item h = named_by _ (refused_body_line text body pid f some cut a) item h
 
@@ -33,6 +34,7 @@ named_item (c ∷ text) item h =
     named_body (c ∷ text) o.body o.pid r.0 some o.cut r.1 item h
 
 -- a call that a text answers behind others
-pub named_answer : (fed : List (List ℕ)) (text : List ℕ) (pid : ℕ) (call : Call) (recorded : Option Recorded) (skipped : ℕ) → IsAnswer fed text (Answered pid call recorded skipped) → IsNamedCall call
+pub named_answer : (fed : List (List ℕ)) (text : List ℕ) (pid : ℕ) (call : Call) (recorded : Option Recorded) (skipped : ℕ)
+    → IsAnswer fed text (Answered pid call recorded skipped) → IsNamedCall call
 named_answer fed text pid call recorded skipped (inl h) = named_item text (Played pid call recorded) h.0
 named_answer fed text pid call recorded skipped (inr h) = named_item h.0 (Played 0 call recorded) h.2

@@ -20,16 +20,19 @@ use Rattle.strace_reader.proofs.OneOutcome.{one_outcome}
 abbrev IsSameHalf : Name → Name → List ℕ → List ℕ → Type 0
 IsSameHalf n m h k = (n ≡ m) × (h ≡ k)
 
-slices_same : (text : List ℕ) (p : ℕ) (n m : Name) (a b c d : ℕ) (h k : List ℕ) → Spells text (Unfinished p n a c) → Spells text (Unfinished p m b d) → h ≡ take (c - a) (drop a text) → k ≡ take (d - b) (drop b text) → IsSameHalf n m h k
+slices_same : (text : List ℕ) (p : ℕ) (n m : Name) (a b c d : ℕ) (h k : List ℕ) → Spells text (Unfinished p n a c)
+    → Spells text (Unfinished p m b d) → h ≡ take (c - a) (drop a text) → k ≡ take (d - b) (drop b text) → IsSameHalf n m h k
 slices_same text p n m a b c d h k s t e g =
     let same = same_places p n m a b c d ((one_outcome text).item (Unfinished p n a c) (Unfinished p m b d) s t) in
     (same.name, e ∙ ap (λ (x : ℕ). take (x - a) (drop a text)) same.to ∙ ap (λ (x : ℕ). take (d - x) (drop x text)) same.from ∙ sym g)
 
 halves_same : (p : ℕ) (n m : Name) (h k : List ℕ) (fed later other : List (List ℕ)) (text t : List ℕ) (earlier e : List (List ℕ)) (a b c d : ℕ)
-    → fed ≡ later ++ (text ∷ earlier) → fed ≡ other ++ (t ∷ e) → Spells text (Unfinished p n a c) → Spells t (Unfinished p m b d) → h ≡ take (c - a) (drop a text) → k ≡ take (d - b) (drop b t) → IsSilent p later → IsSilent p other → IsSameHalf n m h k
+    → fed ≡ later ++ (text ∷ earlier) → fed ≡ other ++ (t ∷ e) → Spells text (Unfinished p n a c) → Spells t (Unfinished p m b d)
+    → h ≡ take (c - a) (drop a text) → k ≡ take (d - b) (drop b t) → IsSilent p later → IsSilent p other → IsSameHalf n m h k
 halves_same p n m h k fed [] [] text t earlier e a b c d x y s u g i v w =
     let same : t ≡ text = cc in
-    slices_same text p n m a b c d h k s (subst (λ (z : List ℕ). Spells z (Unfinished p m b d)) same u) g (i ∙ ap (λ (z : List ℕ). take (d - b) (drop b z)) same)
+    slices_same text p n m a b c d h k s (subst (λ (z : List ℕ). Spells z (Unfinished p m b d)) same u) g
+    (i ∙ ap (λ (z : List ℕ). take (d - b) (drop b z)) same)
 halves_same p n m h k fed [] (f ∷ other) text t earlier e a b c d x y s u g i v w =
     let same : text ≡ f = cc in
     absurd (w.0 (Unfinished p n a c) (subst (λ (z : List ℕ). Spells z (Unfinished p n a c)) same s) refl)
@@ -43,7 +46,8 @@ halves_same p n m h k (z ∷ fed) (f ∷ later) (l ∷ other) text t earlier e a
     halves_same p n m h k fed later other text t earlier e a b c d x2 y2 s u g i v.1 w.1
 
 kept_one : (fed : List (List ℕ)) (p : ℕ) (n m : Name) (h k : List ℕ) → IsKept fed p n h → IsKept fed p m k → IsSameHalf n m h k
-kept_one fed p n m h k x y = halves_same p n m h k fed x.later y.later x.text y.text x.earlier y.earlier x.from y.from x.to y.to x.parts y.parts x.is_half y.is_half x.bytes y.bytes x.silent y.silent
+kept_one fed p n m h k x y = halves_same p n m h k fed x.later y.later x.text y.text x.earlier y.earlier x.from y.from x.to y.to
+    x.parts y.parts x.is_half y.is_half x.bytes y.bytes x.silent y.silent
 
 drops_one : (fed : List (List ℕ)) (p c d : ℕ) → Drops fed p c → Drops fed p d → c ≡ d
 drops_one fed p c d (inl h) (inl g) = h.3 ∙ sym g.3
@@ -68,7 +72,9 @@ IsRead p joined r = ((item : Item) × Spells joined item × (r ≡ as_fed (answe
 
 -- what a second half comes to
 abbrev IsJoin : List (List ℕ) → ℕ → Name → List ℕ → Outcome → Type 0
-IsJoin fed p n rest r = (KeepsNone fed p × (r ≡ as_fed (Skipped 1))) ⊎ ((other : Name) × (half : List ℕ) × IsKept fed p other half × (other ≢ n) × (r ≡ as_fed (Skipped 2))) ⊎ ((half : List ℕ) × IsKept fed p n half × IsRead p (half ++ rest) r)
+IsJoin fed p n rest r = (KeepsNone fed p × (r ≡ as_fed (Skipped 1)))
+    ⊎ ((other : Name) × (half : List ℕ) × IsKept fed p other half × (other ≢ n) × (r ≡ as_fed (Skipped 2)))
+    ⊎ ((half : List ℕ) × IsKept fed p n half × IsRead p (half ++ rest) r)
 
 abbrev IsBy : List (List ℕ) → List ℕ → Item → Outcome → Type 0
 IsBy fed text (Played p c d) r = (count : ℕ) × Drops fed p count × (r ≡ as_fed (Answered p c d count))
@@ -112,15 +118,19 @@ joined_by fed text p joined r j h = (Resumed p j.0 j.1, j.3, inr (inr (j.2, j.4,
 skipped_by : (fed : List (List ℕ)) (text : List ℕ) (count : ℕ) → IsAnswer fed text (Skipped count) → HasItem fed text (as_fed (Skipped count))
 skipped_by fed text count (inl h) = (Passed, h.0, ap (λ (x : ℕ). as_fed (Skipped x)) h.1)
 skipped_by fed text count (inr (inl h)) = let a = h.0 in (Resumed a.0 a.1 a.2, a.3, inl (a.4, ap (λ (x : ℕ). as_fed (Skipped x)) h.1))
-skipped_by fed text count (inr (inr (inl h))) = let a = h.0 in (Resumed a.0 a.1 a.3, a.5, inr (inl (a.2, a.4, a.6, a.7, ap (λ (x : ℕ). as_fed (Skipped x)) h.1)))
-skipped_by fed text count (inr (inr (inr (inl h)))) = joined_by fed text h.0 h.1 (as_fed (Skipped count)) h.2 (inl (Passed, h.3, ap (λ (x : ℕ). as_fed (Skipped x)) h.4))
+skipped_by fed text count (inr (inr (inl h))) = let a = h.0 in
+    (Resumed a.0 a.1 a.3, a.5, inr (inl (a.2, a.4, a.6, a.7, ap (λ (x : ℕ). as_fed (Skipped x)) h.1)))
+skipped_by fed text count (inr (inr (inr (inl h)))) =
+    joined_by fed text h.0 h.1 (as_fed (Skipped count)) h.2 (inl (Passed, h.3, ap (λ (x : ℕ). as_fed (Skipped x)) h.4))
 skipped_by fed text count (inr (inr (inr (inr h)))) =
     let a = h.3 in
     joined_by fed text h.0 h.1 (as_fed (Skipped count)) h.2 (inl (Unfinished a.0 a.1 a.2 a.3, a.4, ap (λ (x : ℕ). as_fed (Skipped x)) h.4))
 
 answer_by : (fed : List (List ℕ)) (text : List ℕ) (a : Fed) → IsAnswer fed text a → HasItem fed text (as_fed a)
 answer_by fed text (Answered p c d count) (inl h) = (Played p c d, h.0, (count, h.1, refl))
-answer_by fed text (Answered p c d count) (inr h) = joined_by fed text p h.0 (as_fed (Answered p c d count)) h.1 (inl (Played 0 c d, h.2, ap (λ (x : ℕ). as_fed (Answered p c d x)) h.3))
+answer_by fed text (Answered p c d count) (inr h) =
+    joined_by fed text p h.0 (as_fed (Answered p c d count)) h.1
+    (inl (Played 0 c d, h.2, ap (λ (x : ℕ). as_fed (Answered p c d x)) h.3))
 answer_by fed text (Kept count) h = (Unfinished h.0 h.1 h.2 h.3, h.4, (count, h.5, refl))
 answer_by fed text (Skipped count) h = skipped_by fed text count h
 answer_by fed text Blank h = (Nothing, h, refl)
@@ -143,11 +153,14 @@ bad_one fed text a b (inl h) (inl g) = (one_outcome text).refusal a b h g
 bad_one fed text a b (inl h) (inr g) = absurd ((one_outcome text).never_both (Resumed g.0 g.2.0 g.2.1) a g.2.3 h)
 bad_one fed text a b (inr h) (inl g) = absurd ((one_outcome text).never_both (Resumed h.0 h.2.0 h.2.1) b h.2.3 g)
 bad_one fed text a b (inr h) (inr g) =
-    same_bad a b (item_one fed text (as_bad a) (as_bad b) (joined_by fed text h.0 h.1 (as_bad a) h.2 (inr (a, h.3, refl))) (joined_by fed text g.0 g.1 (as_bad b) g.2 (inr (b, g.3, refl))))
+    same_bad a b (item_one fed text (as_bad a) (as_bad b) (joined_by fed text h.0 h.1 (as_bad a) h.2 (inr (a, h.3, refl)))
+    (joined_by fed text g.0 g.1 (as_bad b) g.2 (inr (b, g.3, refl))))
 
 fed_or_bad : (fed : List (List ℕ)) (text : List ℕ) (a : Fed) (b : BadCall) → IsAnswer fed text a → RefusesFed fed text b → ⊥
 fed_or_bad fed text a b h (inl g) = let k = answer_by fed text a h in (one_outcome text).never_both k.0 b k.1 g
-fed_or_bad fed text a b h (inr g) = fed_no_bad a b (item_one fed text (as_fed a) (as_bad b) (answer_by fed text a h) (joined_by fed text g.0 g.1 (as_bad b) g.2 (inr (b, g.3, refl))))
+fed_or_bad fed text a b h (inr g) = fed_no_bad a b
+    (item_one fed text (as_fed a) (as_bad b) (answer_by fed text a h)
+    (joined_by fed text g.0 g.1 (as_bad b) g.2 (inr (b, g.3, refl))))
 
 -- a text that is fed has one outcome
 pub one_answer : (fed : List (List ℕ)) (text : List ℕ) → HasOneOutcome (IsAnswer fed text) (RefusesFed fed text)

@@ -43,7 +43,8 @@ not_both : {A : Type 0} (a : A) (bad : BadCall) → found_as a ≡ refused_as ba
 not_both a bad e = cc
 
 -- where each item and each refusal fixes the result, there is one of them
-one_of : {A : Type 0} (spells : A → Type 0) (refuses : BadCall → Type 0) → ((a : A) → spells a → IsFixed spells refuses) → ((bad : BadCall) → refuses bad → IsFixed spells refuses)
+one_of : {A : Type 0} (spells : A → Type 0) (refuses : BadCall → Type 0) → ((a : A) → spells a → IsFixed spells refuses)
+    → ((bad : BadCall) → refuses bad → IsFixed spells refuses)
     → HasOneOutcome spells refuses
 one_of {A} spells refuses by_item by_refusal = record {
   item = λ a b x y. let k = by_item a x in same_item a b (sym (k.only a x) ∙ k.only b y);
@@ -57,7 +58,8 @@ one_of {A} spells refuses by_item by_refusal = record {
 abbrev pub BodyIsRead : List ℕ → Type 0
 BodyIsRead body = (r : Result Body Refusal) × BodyAnswers body r
 
-read_fixed : (name : Name) (body rest : List ℕ) (r : Result (Body × List ℕ) Refusal) → body ≡ call_head name ++ rest → IsCall name body → arguments_at name rest ≡ r → BodyIsRead body
+read_fixed : (name : Name) (body rest : List ℕ) (r : Result (Body × List ℕ) Refusal) → body ≡ call_head name ++ rest
+    → IsCall name body → arguments_at name rest ≡ r → BodyIsRead body
 read_fixed name body rest (Ok x) e form read = (Ok x.0, read_call name body rest x.1 x.0 e form read)
 read_fixed name body rest (Err f) e form read = (Err f, refused_call name body rest f e form read)
 

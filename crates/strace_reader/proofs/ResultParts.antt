@@ -30,7 +30,8 @@ unfolding equals_at
 equals_good =
     good_then (byte_good 32 AtResult)
     (λ a. good_then spaces_good (λ b. good_then (letters_good (codes "= ") AtResult) (λ c. spaces_good) (λ v b q w h hq. tt))
-    (λ v b q w h hq. equals_no_space (b ++ q) (heads_then (is 61) (letters (codes "= ") AtResult) (λ c. spaces) (letters_heads 61 (codes " ") AtResult) b q w h)))
+    (λ v b q w h hq. equals_no_space (b ++ q) (heads_then (is 61) (letters (codes "= ") AtResult) (λ c. spaces)
+    (letters_heads 61 (codes " ") AtResult) b q w h)))
     (λ v b q w h hq. tt)
 
 -- ---- results
@@ -60,14 +61,23 @@ failed_good : Good failed ResultEnds failed_at
 unfolding failed_at
 failed_good =
     good_choice (is 45)
-    (good_then (letters_good (codes "-1 ") AtResult) (λ u. good_then (run_good is_word_byte is_word_byte AtResult 65 refl) (λ w. done_good (Some (Failed (errno_of w))) ResultEnds) (λ v b q w h hq. ap (λ (y : List ℕ). starts is_word_byte (y ++ q)) h.0 ∙ result_fails is_word_byte refl q hq)) (λ v b q w h hq. tt))
-    (good_then (number_good AtResult) (λ n. done_good (Some (Value n)) ResultEnds) (λ v b q w h hq. subst NoNumeral (sym (ap (λ (y : List ℕ). y ++ q) h.0)) (result_no_numeral q hq)))
-    (full_nonempty (is 45) minus (chain_full (letters (codes "-1 ") AtResult) (λ u. chain (run is_word_byte is_word_byte AtResult) (λ w. done (Some (Failed (errno_of w))))) (letters_full 45 (codes "1 ") AtResult)))
+    (good_then (letters_good (codes "-1 ") AtResult)
+    (λ u. good_then (run_good is_word_byte is_word_byte AtResult 65 refl)
+    (λ w. done_good (Some (Failed (errno_of w))) ResultEnds)
+    (λ v b q w h hq. ap (λ (y : List ℕ). starts is_word_byte (y ++ q)) h.0 ∙ result_fails is_word_byte refl q hq))
+    (λ v b q w h hq. tt))
+    (good_then (number_good AtResult) (λ n. done_good (Some (Value n)) ResultEnds)
+    (λ v b q w h hq. subst NoNumeral (sym (ap (λ (y : List ℕ). y ++ q) h.0)) (result_no_numeral q hq)))
+    (full_nonempty (is 45) minus (chain_full (letters (codes "-1 ") AtResult)
+    (λ u. chain (run is_word_byte is_word_byte AtResult) (λ w. done (Some (Failed (errno_of w)))))
+    (letters_full 45 (codes "1 ") AtResult)))
     (full_stays (is 45) plain ResultEnds (chain_full (number AtResult) (λ n. done (Some (Value n))) (number_full AtResult)))
     (48 ∷ [], Some (Value 0), λ q h. (48 ∷ [], [], 0, refl, zero_number q (result_no_numeral q h), (refl, refl)))
 
 failed_empty : (rest : List ℕ) (v : Option Recorded) (x : Bool) → (arm minus plain x).takes [] rest v → ⊥
-failed_empty rest v true h = chain_full (letters (codes "-1 ") AtResult) (λ u. chain (run is_word_byte is_word_byte AtResult) (λ w. done (Some (Failed (errno_of w))))) (letters_full 45 (codes "1 ") AtResult) rest v h
+failed_empty rest v true h = chain_full (letters (codes "-1 ") AtResult)
+    (λ u. chain (run is_word_byte is_word_byte AtResult) (λ w. done (Some (Failed (errno_of w)))))
+    (letters_full 45 (codes "1 ") AtResult) rest v h
 failed_empty rest v false h = chain_full (number AtResult) (λ n. done (Some (Value n))) (number_full AtResult) rest v h
 
 failed_full : Full failed
@@ -77,18 +87,22 @@ recorded_good : Good recorded ResultEnds recorded_at
 unfolding recorded_at
 recorded_good =
     good_choice (is 63) (good_then (byte_good 63 AtResult) (λ u. done_good None ResultEnds) (λ v b q w h hq. tt)) failed_good
-    (full_nonempty (is 63) (chain (byte 63 AtResult) (λ u. done None)) (chain_full (byte 63 AtResult) (λ u. done None) (byte_full 63 AtResult))) (full_stays (is 63) failed ResultEnds failed_full)
+    (full_nonempty (is 63) (chain (byte 63 AtResult) (λ u. done None))
+    (chain_full (byte 63 AtResult) (λ u. done None) (byte_full 63 AtResult)))
+    (full_stays (is 63) failed ResultEnds failed_full)
     (63 ∷ [], None, λ q h. (63 ∷ [], [], tt, refl, refl, (refl, refl)))
 
 mark_not_space : (b : ℕ) → not_space b ≡ true → (q : List ℕ) → starts (is b) q ≡ true → starts not_space q ≡ true
 mark_not_space b x [] h = h
 mark_not_space b x (c ∷ q) h = ap not_space (same_is b c h) ∙ x
 
-failed_starts : (b q : List ℕ) (v : Option Recorded) (x : Bool) → starts (is 45) (b ++ q) ≡ x → (arm minus plain x).takes b q v → starts not_space (b ++ q) ≡ true
+failed_starts : (b q : List ℕ) (v : Option Recorded) (x : Bool) → starts (is 45) (b ++ q) ≡ x → (arm minus plain x).takes b q v
+    → starts not_space (b ++ q) ≡ true
 failed_starts b q v true e h = mark_not_space 45 refl (b ++ q) e
 failed_starts b q v false e h = digit_not_space (b ++ q) (heads_then is_digit (number AtResult) (λ n. done (Some (Value n))) (number_heads AtResult) b q v h)
 
-recorded_starts : (b q : List ℕ) (v : Option Recorded) (x : Bool) → starts (is 63) (b ++ q) ≡ x → (arm (chain (byte 63 AtResult) (λ u. done None)) failed x).takes b q v → starts not_space (b ++ q) ≡ true
+recorded_starts : (b q : List ℕ) (v : Option Recorded) (x : Bool) → starts (is 63) (b ++ q) ≡ x
+    → (arm (chain (byte 63 AtResult) (λ u. done None)) failed x).takes b q v → starts not_space (b ++ q) ≡ true
 recorded_starts b q v true e h = mark_not_space 63 refl (b ++ q) e
 recorded_starts b q v false e h = failed_starts b q v (starts (is 45) (b ++ q)) refl h
 
@@ -104,9 +118,11 @@ last_end one item (c ∷ q) h = absurd cc
 tail_good : (item : Body) → Good (tail item) Last (tail_at item)
 unfolding tail_at
 tail_good item =
-    good_choice (is 32) (anything_good item) (end_good AtResult item) (rest_nonempty (is 32) item) (λ rest q v h hq. stays_end q v hq) ([], item, λ q h. last_end (anything no_byte item) item q h)
+    good_choice (is 32) (anything_good item) (end_good AtResult item) (rest_nonempty (is 32) item)
+    (λ rest q v h hq. stays_end q v hq) ([], item, λ q h. last_end (anything no_byte item) item q h)
 
-tail_starts : (item : Body) (b q : List ℕ) (w : Body) (x : Bool) → starts (is 32) (b ++ q) ≡ x → (arm (anything no_byte item) (end AtResult item) x).takes b q w → (b ++ q ≡ []) ⊎ (starts (is 32) (b ++ q) ≡ true)
+tail_starts : (item : Body) (b q : List ℕ) (w : Body) (x : Bool) → starts (is 32) (b ++ q) ≡ x
+    → (arm (anything no_byte item) (end AtResult item) x).takes b q w → (b ++ q ≡ []) ⊎ (starts (is 32) (b ++ q) ≡ true)
 tail_starts item b q w true e h = inr e
 tail_starts item b q w false e h = inl (ap (λ (y : List ℕ). y ++ q) h.0 ∙ h.1)
 
@@ -114,15 +130,20 @@ abbrev resulted : Call → Part Body
 resulted call = chain equals (λ u. chain recorded (λ r. tail (Called call r)))
 
 resulted_full : (call : Call) → Full (resulted call)
-resulted_full call = chain_full equals (λ u. chain recorded (λ r. tail (Called call r))) (chain_full (byte 32 AtResult) (λ a. chain spaces (λ b. chain (letters (codes "= ") AtResult) (λ c. spaces))) (byte_full 32 AtResult))
+resulted_full call = chain_full equals (λ u. chain recorded (λ r. tail (Called call r)))
+    (chain_full (byte 32 AtResult) (λ a. chain spaces (λ b. chain (letters (codes "= ") AtResult) (λ c. spaces)))
+    (byte_full 32 AtResult))
 
 outcome_good : (call : Call) → Good (outcome call) Last (outcome_at call)
 unfolding outcome_at
 outcome_good call =
     good_choice (is 32)
-    (good_then equals_good (λ u. good_then recorded_good (λ r. tail_good (Called call r)) (λ v b q w h hq. tail_starts (Called call v) b q w (starts (is 32) (b ++ q)) refl h))
-    (λ v b q w h hq. not_space_ends (b ++ q) (heads_then not_space recorded (λ r. tail (Called call r)) (λ a t x k. recorded_starts a t x (starts (is 63) (a ++ t)) refl k) b q w h)))
-    (end_good AtResult (Called call None)) (full_nonempty (is 32) (resulted call) (resulted_full call)) (λ rest q v h hq. stays_end q v hq) ([], Called call None, λ q h. last_end (resulted call) (Called call None) q h)
+    (good_then equals_good (λ u. good_then recorded_good (λ r. tail_good (Called call r))
+    (λ v b q w h hq. tail_starts (Called call v) b q w (starts (is 32) (b ++ q)) refl h))
+    (λ v b q w h hq. not_space_ends (b ++ q) (heads_then not_space recorded (λ r. tail (Called call r))
+    (λ a t x k. recorded_starts a t x (starts (is 63) (a ++ t)) refl k) b q w h)))
+    (end_good AtResult (Called call None)) (full_nonempty (is 32) (resulted call) (resulted_full call))
+    (λ rest q v h hq. stays_end q v hq) ([], Called call None, λ q h. last_end (resulted call) (Called call None) q h)
 
 pub closing_good : (call : Call) → Good (closing call) Last (closing_at call)
 unfolding closing_at
@@ -144,7 +165,9 @@ tail_end item p q v true h = h.0
 tail_end item p q v false h = h.1
 
 outcome_end : (call : Call) (p q : List ℕ) (v : Body) (x : Bool) → (arm (resulted call) (end AtResult (Called call None)) x).takes p q v → q ≡ []
-outcome_end call p q v true h = chain_ends equals (λ u. chain recorded (λ r. tail (Called call r))) (λ u. chain_ends recorded (λ r. tail (Called call r)) (λ r p q v h. tail_end (Called call r) p q v (starts (is 32) (p ++ q)) h)) p q v h
+outcome_end call p q v true h = chain_ends equals (λ u. chain recorded (λ r. tail (Called call r)))
+    (λ u. chain_ends recorded (λ r. tail (Called call r))
+    (λ r p q v h. tail_end (Called call r) p q v (starts (is 32) (p ++ q)) h)) p q v h
 outcome_end call p q v false h = h.1
 
 pub closing_ends : (call : Call) → Ends (closing call)
@@ -169,9 +192,12 @@ tail_value : (item : Body) (p q : List ℕ) (v : Body) (x : Bool) → (arm (anyt
 tail_value item p q v true h = h.1
 tail_value item p q v false h = h.2
 
-outcome_value : (call : Call) → IsNamedCall call → (p q : List ℕ) (v : Body) (x : Bool) → (arm (resulted call) (end AtResult (Called call None)) x).takes p q v → IsSound v
+outcome_value : (call : Call) → IsNamedCall call → (p q : List ℕ) (v : Body) (x : Bool)
+    → (arm (resulted call) (end AtResult (Called call None)) x).takes p q v → IsSound v
 outcome_value call named p q v true h =
-    chain_values IsSound equals (λ u. chain recorded (λ r. tail (Called call r))) (λ u. chain_values IsSound recorded (λ r. tail (Called call r)) (λ r p q v h. subst IsSound (sym (tail_value (Called call r) p q v (starts (is 32) (p ++ q)) h)) named)) p q v h
+    chain_values IsSound equals (λ u. chain recorded (λ r. tail (Called call r)))
+    (λ u. chain_values IsSound recorded (λ r. tail (Called call r))
+    (λ r p q v h. subst IsSound (sym (tail_value (Called call r) p q v (starts (is 32) (p ++ q)) h)) named)) p q v h
 outcome_value call named p q v false h = subst IsSound (sym h.2) named
 
 pub closing_values : (call : Call) → IsNamedCall call → Values IsSound (closing call)

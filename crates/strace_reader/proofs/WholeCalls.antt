@@ -1,5 +1,6 @@
 -- A whole line of a call is read as its part says, each refusal at its one place.
-use Rattle.std.proofs.Common.{◌≡◌, ℕ, ◌+◌, ◌<◌, ◌^◌, List, [], ◌∷◌, ◌++◌, length, Ok, Err, Option, Some, None, true, false, refl, sym, ap, subst, ◌∙◌, append_assoc, arith}
+use Rattle.std.proofs.Common.{◌≡◌, ℕ, ◌+◌, ◌<◌, ◌^◌, List, [], ◌∷◌, ◌++◌, length, Ok, Err, Option, Some, None, true}
+use Rattle.std.proofs.Common.{false, refl, sym, ap, subst, ◌∙◌, append_assoc, arith}
 use Rattle.std.proofs.lemmas.List.{append-nil, length-append, append_cancel_left}
 use Rattle.line_parts.specs.declared.refusal.Refusal.{Refusal}
 use Rattle.line_parts.specs.declared.refusal.What.{What}
@@ -20,15 +21,22 @@ use Rattle.strace_reader.specs.declared.item.Body.TheVariants.{Other}
 use Rattle.strace_reader.specs.declared.item.Name.{Name}
 use Rattle.strace_reader.specs.declared.item.Name.TheVariants.{Mmap, Munmap, Mprotect, Fault as FaultName}
 use Rattle.strace_reader.specs.Words.{call_head}
-use Rattle.strace_reader.specs.Calls.{comma, addr, prot, flags, descriptor, access, closing, munmap_arguments, protect_behind_prot, mprotect_arguments, fault_arguments, map_tail, map_behind_flags, map_behind_prot, mmap_arguments, arguments, call}
-use Rattle.strace_reader.specs.Reading.{munmap_at, protect_behind_prot_at, mprotect_at, fault_call_at, map_tail_at, map_behind_flags_at, map_behind_prot_at, mmap_at, arguments_at}
-use Rattle.strace_reader.proofs.ArgumentParts.{SpacesEnd, not_space, not_space_ends, digit_not_space, comma_closes, paren_closes, comma_good, comma_heads, addr_good, prot_good, prot_heads, flags_good, flags_heads, descriptor_good, descriptor_heads, access_good, access_heads, prot_end, flags_end, Below, prot_below, flags_below}
+use Rattle.strace_reader.specs.Calls.{comma, addr, prot, flags, descriptor, access, closing, munmap_arguments}
+use Rattle.strace_reader.specs.Calls.{protect_behind_prot, mprotect_arguments, fault_arguments, map_tail}
+use Rattle.strace_reader.specs.Calls.{map_behind_flags, map_behind_prot, mmap_arguments, arguments, call}
+use Rattle.strace_reader.specs.Reading.{munmap_at, protect_behind_prot_at, mprotect_at, fault_call_at, map_tail_at}
+use Rattle.strace_reader.specs.Reading.{map_behind_flags_at, map_behind_prot_at, mmap_at, arguments_at}
+use Rattle.strace_reader.proofs.ArgumentParts.{SpacesEnd, not_space, not_space_ends, digit_not_space, comma_closes}
+use Rattle.strace_reader.proofs.ArgumentParts.{paren_closes, comma_good, comma_heads, addr_good, prot_good, prot_heads}
+use Rattle.strace_reader.proofs.ArgumentParts.{flags_good, flags_heads, descriptor_good, descriptor_heads, access_good}
+use Rattle.strace_reader.proofs.ArgumentParts.{access_heads, prot_end, flags_end, Below, prot_below, flags_below}
 use Rattle.strace_reader.proofs.ResultParts.{closing_good, closing_heads, Ends, chain_ends, closing_ends, IsSound, Values, chain_values, closing_values}
 
 -- ---- what stands behind what
 
 -- behind a comma and its spaces stands no space
-spaced : {A : Type 0} (part : Part A) → Heads not_space part → {B : Type 0} (next : A → Part B) (last : B → List ℕ → Type 0) → Follows SpacesEnd (λ (u : Unit {0}). chain part next) last
+spaced : {A : Type 0} (part : Part A) → Heads not_space part → {B : Type 0} (next : A → Part B) (last : B → List ℕ → Type 0)
+    → Follows SpacesEnd (λ (u : Unit {0}). chain part next) last
 spaced part heads next last v b q w h hq = not_space_ends (b ++ q) (heads_then not_space part next heads b q w h)
 
 number_starts : Heads not_space (number Number)
@@ -57,7 +65,9 @@ pub munmap_good : Good munmap_arguments Last munmap_at
 unfolding munmap_at
 munmap_good =
     good_then addr_good
-    (λ a. good_then comma_good (λ u. good_then length_good (λ n. closing_good (Unmap a n)) (λ n b q w h hq. paren_closes (b ++ q) (closing_heads (Unmap a n) b q w h))) (spaced (number Number) number_starts (λ n. closing (Unmap a n)) Last))
+    (λ a. good_then comma_good (λ u. good_then length_good (λ n. closing_good (Unmap a n))
+    (λ n b q w h hq. paren_closes (b ++ q) (closing_heads (Unmap a n) b q w h)))
+    (spaced (number Number) number_starts (λ n. closing (Unmap a n)) Last))
     (λ a b q w h hq. comma_begins (λ u. chain (number Number) (λ n. closing (Unmap a n))) b q w h)
 
 -- ---- mprotect
@@ -75,7 +85,9 @@ unfolding mprotect_at
 mprotect_good =
     good_then addr_good
     (λ a. good_then comma_good
-    (λ u. good_then length_good (λ n. good_then comma_good (λ v. good_then prot_good (protect_behind_prot_good a n) (protect_behind_prot_follows a n)) (spaced prot prot_heads (protect_behind_prot a n) Last))
+    (λ u. good_then length_good (λ n. good_then comma_good
+    (λ v. good_then prot_good (protect_behind_prot_good a n) (protect_behind_prot_follows a n))
+    (spaced prot prot_heads (protect_behind_prot a n) Last))
     (λ n b q w h hq. comma_closes (b ++ q) (comma_begins (λ v. chain prot (protect_behind_prot a n)) b q w h)))
     (spaced (number Number) number_starts (λ n. chain comma (λ v. chain prot (protect_behind_prot a n))) Last))
     (λ a b q w h hq. comma_begins (λ u. chain (number Number) (λ n. chain comma (λ v. chain prot (protect_behind_prot a n)))) b q w h)
@@ -86,7 +98,9 @@ pub fault_good : Good fault_arguments Last fault_call_at
 unfolding fault_call_at
 fault_good =
     good_then addr_good
-    (λ a. good_then comma_good (λ u. good_then access_good (λ c. closing_good (FaultCall a c)) (λ c b q w h hq. paren_no_word (b ++ q) (closing_heads (FaultCall a c) b q w h))) (spaced access access_heads (λ c. closing (FaultCall a c)) Last))
+    (λ a. good_then comma_good (λ u. good_then access_good (λ c. closing_good (FaultCall a c))
+    (λ c b q w h hq. paren_no_word (b ++ q) (closing_heads (FaultCall a c) b q w h)))
+    (spaced access access_heads (λ c. closing (FaultCall a c)) Last))
     (λ a b q w h hq. comma_begins (λ u. chain access (λ c. closing (FaultCall a c))) b q w h)
 
 -- ---- mmap
@@ -96,7 +110,9 @@ unfolding map_tail_at
 map_tail_good c =
     good_then comma_good
     (λ u. good_then descriptor_good
-    (λ v. good_then comma_good (λ w. good_then length_good (λ o. closing_good c) (λ o b q x h hq. paren_closes (b ++ q) (closing_heads c b q x h))) (spaced (number Number) number_starts (λ o. closing c) Last))
+    (λ v. good_then comma_good (λ w. good_then length_good (λ o. closing_good c)
+    (λ o b q x h hq. paren_closes (b ++ q) (closing_heads c b q x h)))
+    (spaced (number Number) number_starts (λ o. closing c) Last))
     (λ v b q x h hq. comma_begins (λ w. chain (number Number) (λ o. closing c)) b q x h))
     (spaced descriptor descriptor_heads (λ v. chain comma (λ w. chain (number Number) (λ o. closing c))) Last)
 
@@ -106,11 +122,16 @@ map_behind_flags_good a n p (Some f) = map_tail_good (Map a n (record { 0 = p })
 
 map_behind_flags_follows : (a n p : ℕ) → Follows ListEnds (map_behind_flags a n p) Last
 map_behind_flags_follows a n p None b q w h hq = ap (λ (y : List ℕ). y ++ q) h.0 ∙ hq
-map_behind_flags_follows a n p (Some f) b q w h hq = comma_closes (b ++ q) (comma_begins (λ u. chain descriptor (λ v. chain comma (λ w. chain (number Number) (λ o. closing (Map a n (record { 0 = p }) (record { 0 = f })))))) b q w h)
+map_behind_flags_follows a n p (Some f) b q w h hq =
+    comma_closes (b ++ q)
+    (comma_begins (λ u. chain descriptor (λ v. chain comma
+    (λ w. chain (number Number) (λ o. closing (Map a n (record { 0 = p }) (record { 0 = f })))))) b q w h)
 
 map_behind_prot_good : (a n : ℕ) (p : Option ℕ) → Good (map_behind_prot a n p) Last (map_behind_prot_at a n p)
 map_behind_prot_good a n None = done_good Other Last
-map_behind_prot_good a n (Some p) = good_then comma_good (λ u. good_then flags_good (map_behind_flags_good a n p) (map_behind_flags_follows a n p)) (spaced flags flags_heads (map_behind_flags a n p) Last)
+map_behind_prot_good a n (Some p) = good_then comma_good
+    (λ u. good_then flags_good (map_behind_flags_good a n p) (map_behind_flags_follows a n p))
+    (spaced flags flags_heads (map_behind_flags a n p) Last)
 
 map_behind_prot_follows : (a n : ℕ) → Follows ListEnds (map_behind_prot a n) Last
 map_behind_prot_follows a n None b q w h hq = ap (λ (y : List ℕ). y ++ q) h.0 ∙ hq
@@ -121,7 +142,9 @@ unfolding mmap_at
 mmap_good =
     good_then addr_good
     (λ a. good_then comma_good
-    (λ u. good_then length_good (λ n. good_then comma_good (λ v. good_then prot_good (map_behind_prot_good a n) (map_behind_prot_follows a n)) (spaced prot prot_heads (map_behind_prot a n) Last))
+    (λ u. good_then length_good (λ n. good_then comma_good
+    (λ v. good_then prot_good (map_behind_prot_good a n) (map_behind_prot_follows a n))
+    (spaced prot prot_heads (map_behind_prot a n) Last))
     (λ n b q w h hq. comma_closes (b ++ q) (comma_begins (λ v. chain prot (map_behind_prot a n)) b q w h)))
     (spaced (number Number) number_starts (λ n. chain comma (λ v. chain prot (map_behind_prot a n))) Last))
     (λ a b q w h hq. comma_begins (λ u. chain (number Number) (λ n. chain comma (λ v. chain prot (map_behind_prot a n)))) b q w h)
@@ -146,36 +169,55 @@ begun_rest word rest after t = append_cancel_left word rest after (t.parts ∙ a
 call_reads : (name : Name) (rest : List ℕ) → Reads (call name) Last (call_head name ++ rest) (arguments_at name rest)
 unfolding call
 call_reads name rest =
-    reads_then (begun (call_head name)) (λ u. arguments name) Any Last (call_head name ++ rest) (Ok (tt, rest)) (λ u. arguments_at name rest) (λ v b q w h hq. tt) (begun_fine (call_head name)) (λ u. (arguments_good name).fine) (begun_took (call_head name) rest)
-    (λ x t. subst (λ (y : List ℕ). Reads (arguments name) Last y (arguments_at name rest)) (begun_rest (call_head name) rest x.1 t) ((arguments_good name).reads rest))
+    reads_then (begun (call_head name)) (λ u. arguments name) Any Last (call_head name ++ rest) (Ok (tt, rest))
+    (λ u. arguments_at name rest) (λ v b q w h hq. tt) (begun_fine (call_head name)) (λ u. (arguments_good name).fine)
+    (begun_took (call_head name) rest)
+    (λ x t. subst (λ (y : List ℕ). Reads (arguments name) Last y (arguments_at name rest))
+    (begun_rest (call_head name) rest x.1 t) ((arguments_good name).reads rest))
 
 behind_nothing : (b q : List ℕ) → b ≡ [] → b ++ q ≡ [] → q ≡ []
 behind_nothing [] q e h = h
 behind_nothing (c ∷ b) q e h = absurd cc
 
-protect_behind_prot_ends : (a n : ℕ) (p : Option ℕ) (f q : List ℕ) (v : Body) (b : List ℕ) → prot.takes f (b ++ q) p → (protect_behind_prot a n p).takes b q v → q ≡ []
+protect_behind_prot_ends : (a n : ℕ) (p : Option ℕ) (f q : List ℕ) (v : Body) (b : List ℕ) → prot.takes f (b ++ q) p
+    → (protect_behind_prot a n p).takes b q v → q ≡ []
 protect_behind_prot_ends a n None f q v b h k = behind_nothing b q k.0 (prot_end f (b ++ q) None h refl)
 protect_behind_prot_ends a n (Some p) f q v b h k = closing_ends (Protect a n (record { 0 = p })) b q v k
 
 map_tail_ends : (c : Call) → Ends (map_tail c)
 map_tail_ends c = chain_ends comma (λ u. chain descriptor (λ v. chain comma (λ w. chain (number Number) (λ o. closing c))))
-    (λ u. chain_ends descriptor (λ v. chain comma (λ w. chain (number Number) (λ o. closing c))) (λ v. chain_ends comma (λ w. chain (number Number) (λ o. closing c)) (λ w. chain_ends (number Number) (λ o. closing c) (λ o. closing_ends c))))
+    (λ u. chain_ends descriptor (λ v. chain comma (λ w. chain (number Number) (λ o. closing c)))
+    (λ v. chain_ends comma (λ w. chain (number Number) (λ o. closing c))
+    (λ w. chain_ends (number Number) (λ o. closing c) (λ o. closing_ends c))))
 
-map_behind_flags_ends : (a n p : ℕ) (x : Option ℕ) (f q : List ℕ) (v : Body) (b : List ℕ) → flags.takes f (b ++ q) x → (map_behind_flags a n p x).takes b q v → q ≡ []
+map_behind_flags_ends : (a n p : ℕ) (x : Option ℕ) (f q : List ℕ) (v : Body) (b : List ℕ) → flags.takes f (b ++ q) x
+    → (map_behind_flags a n p x).takes b q v → q ≡ []
 map_behind_flags_ends a n p None f q v b h k = behind_nothing b q k.0 (flags_end f (b ++ q) None h refl)
 map_behind_flags_ends a n p (Some x) f q v b h k = map_tail_ends (Map a n (record { 0 = p }) (record { 0 = x })) b q v k
 
 map_behind_prot_ends : (a n : ℕ) (p : Option ℕ) (f q : List ℕ) (v : Body) (b : List ℕ) → prot.takes f (b ++ q) p → (map_behind_prot a n p).takes b q v → q ≡ []
 map_behind_prot_ends a n None f q v b h k = behind_nothing b q k.0 (prot_end f (b ++ q) None h refl)
-map_behind_prot_ends a n (Some p) f q v b h k = chain_ends comma (λ u. chain flags (map_behind_flags a n p)) (λ u c q w m. map_behind_flags_ends a n p m.2 m.0 q w m.1 m.4 m.5) b q v k
+map_behind_prot_ends a n (Some p) f q v b h k =
+    chain_ends comma (λ u. chain flags (map_behind_flags a n p))
+    (λ u c q w m. map_behind_flags_ends a n p m.2 m.0 q w m.1 m.4 m.5) b q v k
 
 arguments_end : (name : Name) → Ends (arguments name)
 arguments_end Mmap = chain_ends addr (λ a. chain comma (λ u. chain (number Number) (λ n. chain comma (λ v. chain prot (map_behind_prot a n)))))
-    (λ a. chain_ends comma (λ u. chain (number Number) (λ n. chain comma (λ v. chain prot (map_behind_prot a n)))) (λ u. chain_ends (number Number) (λ n. chain comma (λ v. chain prot (map_behind_prot a n))) (λ n. chain_ends comma (λ v. chain prot (map_behind_prot a n)) (λ v c q w m. map_behind_prot_ends a n m.2 m.0 q w m.1 m.4 m.5))))
-arguments_end Munmap = chain_ends addr (λ a. chain comma (λ u. chain (number Number) (λ n. closing (Unmap a n)))) (λ a. chain_ends comma (λ u. chain (number Number) (λ n. closing (Unmap a n))) (λ u. chain_ends (number Number) (λ n. closing (Unmap a n)) (λ n. closing_ends (Unmap a n))))
+    (λ a. chain_ends comma (λ u. chain (number Number) (λ n. chain comma (λ v. chain prot (map_behind_prot a n))))
+    (λ u. chain_ends (number Number) (λ n. chain comma (λ v. chain prot (map_behind_prot a n)))
+    (λ n. chain_ends comma (λ v. chain prot (map_behind_prot a n))
+    (λ v c q w m. map_behind_prot_ends a n m.2 m.0 q w m.1 m.4 m.5))))
+arguments_end Munmap = chain_ends addr (λ a. chain comma (λ u. chain (number Number) (λ n. closing (Unmap a n))))
+    (λ a. chain_ends comma (λ u. chain (number Number) (λ n. closing (Unmap a n)))
+    (λ u. chain_ends (number Number) (λ n. closing (Unmap a n)) (λ n. closing_ends (Unmap a n))))
 arguments_end Mprotect = chain_ends addr (λ a. chain comma (λ u. chain (number Number) (λ n. chain comma (λ v. chain prot (protect_behind_prot a n)))))
-    (λ a. chain_ends comma (λ u. chain (number Number) (λ n. chain comma (λ v. chain prot (protect_behind_prot a n)))) (λ u. chain_ends (number Number) (λ n. chain comma (λ v. chain prot (protect_behind_prot a n))) (λ n. chain_ends comma (λ v. chain prot (protect_behind_prot a n)) (λ v c q w m. protect_behind_prot_ends a n m.2 m.0 q w m.1 m.4 m.5))))
-arguments_end FaultName = chain_ends addr (λ a. chain comma (λ u. chain access (λ c. closing (FaultCall a c)))) (λ a. chain_ends comma (λ u. chain access (λ c. closing (FaultCall a c))) (λ u. chain_ends access (λ c. closing (FaultCall a c)) (λ c. closing_ends (FaultCall a c))))
+    (λ a. chain_ends comma (λ u. chain (number Number) (λ n. chain comma (λ v. chain prot (protect_behind_prot a n))))
+    (λ u. chain_ends (number Number) (λ n. chain comma (λ v. chain prot (protect_behind_prot a n)))
+    (λ n. chain_ends comma (λ v. chain prot (protect_behind_prot a n))
+    (λ v c q w m. protect_behind_prot_ends a n m.2 m.0 q w m.1 m.4 m.5))))
+arguments_end FaultName = chain_ends addr (λ a. chain comma (λ u. chain access (λ c. closing (FaultCall a c))))
+    (λ a. chain_ends comma (λ u. chain access (λ c. closing (FaultCall a c)))
+    (λ u. chain_ends access (λ c. closing (FaultCall a c)) (λ c. closing_ends (FaultCall a c))))
 
 call_ends : (name : Name) → Ends (call name)
 unfolding call
@@ -203,7 +245,8 @@ whole_of {A} part text rest item ends t =
       clean = λ column what r. t.clean r.front r.over r.rest what r.due r.parts;
     }
 
-refused_of : {A : Type 0} (part : Part A) (text : List ℕ) (f : Refusal) (column : ℕ) → column + f.left ≡ length text + 1 → Stuck part Last text f → IsRefused part text column f.what
+refused_of : {A : Type 0} (part : Part A) (text : List ℕ) (f : Refusal) (column : ℕ) → column + f.left ≡ length text + 1
+    → Stuck part Last text f → IsRefused part text column f.what
 refused_of {A} part text f column place s =
     let k = ap length s.parts ∙ length-append s.front (s.over ++ s.rest) in
     let l = s.left in
@@ -227,11 +270,15 @@ refused_of {A} part text f column place s =
           (omega arith, e.1);
     }
 
-pub call_whole : (name : Name) (rest after : List ℕ) (item : Body) → arguments_at name rest ≡ Ok (item, after) → IsWhole (call name) (call_head name ++ rest) item
-call_whole name rest after item e = whole_of (call name) (call_head name ++ rest) after item (call_ends name) (subst (Reads (call name) Last (call_head name ++ rest)) e (call_reads name rest))
+pub call_whole : (name : Name) (rest after : List ℕ) (item : Body) → arguments_at name rest ≡ Ok (item, after)
+    → IsWhole (call name) (call_head name ++ rest) item
+call_whole name rest after item e = whole_of (call name) (call_head name ++ rest) after item (call_ends name)
+    (subst (Reads (call name) Last (call_head name ++ rest)) e (call_reads name rest))
 
-pub call_refused : (name : Name) (rest : List ℕ) (f : Refusal) (column : ℕ) → arguments_at name rest ≡ Err f → column + f.left ≡ length (call_head name ++ rest) + 1 → IsRefused (call name) (call_head name ++ rest) column f.what
-call_refused name rest f column e place = refused_of (call name) (call_head name ++ rest) f column place (subst (Reads (call name) Last (call_head name ++ rest)) e (call_reads name rest))
+pub call_refused : (name : Name) (rest : List ℕ) (f : Refusal) (column : ℕ) → arguments_at name rest ≡ Err f
+    → column + f.left ≡ length (call_head name ++ rest) + 1 → IsRefused (call name) (call_head name ++ rest) column f.what
+call_refused name rest f column e place = refused_of (call name) (call_head name ++ rest) f column place
+    (subst (Reads (call name) Last (call_head name ++ rest)) e (call_reads name rest))
 
 -- ---- the value of a call's line
 
@@ -241,7 +288,9 @@ protect_behind_prot_values a n (Some p) b f q v h = closing_values (Protect a n 
 
 map_tail_values : (c : Call) → IsNamedCall c → Values IsSound (map_tail c)
 map_tail_values c named = chain_values IsSound comma (λ u. chain descriptor (λ v. chain comma (λ w. chain (number Number) (λ o. closing c))))
-    (λ u. chain_values IsSound descriptor (λ v. chain comma (λ w. chain (number Number) (λ o. closing c))) (λ v. chain_values IsSound comma (λ w. chain (number Number) (λ o. closing c)) (λ w. chain_values IsSound (number Number) (λ o. closing c) (λ o. closing_values c named))))
+    (λ u. chain_values IsSound descriptor (λ v. chain comma (λ w. chain (number Number) (λ o. closing c)))
+    (λ v. chain_values IsSound comma (λ w. chain (number Number) (λ o. closing c))
+    (λ w. chain_values IsSound (number Number) (λ o. closing c) (λ o. closing_values c named))))
 
 map_behind_flags_values : (a n p : ℕ) (x : Option ℕ) → p < 2 ^ 3 → Below 4 x → Values IsSound (map_behind_flags a n p x)
 map_behind_flags_values a n p None b c f q v h = subst IsSound (sym h.1) tt
@@ -249,15 +298,28 @@ map_behind_flags_values a n p (Some x) b c f q v h = map_tail_values (Map a n (r
 
 map_behind_prot_values : (a n : ℕ) (p : Option ℕ) → Below 3 p → Values IsSound (map_behind_prot a n p)
 map_behind_prot_values a n None b f q v h = subst IsSound (sym h.1) tt
-map_behind_prot_values a n (Some p) b f q v h = chain_values IsSound comma (λ u. chain flags (map_behind_flags a n p)) (λ u g t w m. map_behind_flags_values a n p m.2 b (flags_below m.0 (m.1 ++ t) m.2 m.4) m.1 t w m.5) f q v h
+map_behind_prot_values a n (Some p) b f q v h =
+    chain_values IsSound comma (λ u. chain flags (map_behind_flags a n p))
+    (λ u g t w m. map_behind_flags_values a n p m.2 b (flags_below m.0 (m.1 ++ t) m.2 m.4) m.1 t w m.5) f q v h
 
 arguments_values : (name : Name) → Values IsSound (arguments name)
 arguments_values Mmap = chain_values IsSound addr (λ a. chain comma (λ u. chain (number Number) (λ n. chain comma (λ v. chain prot (map_behind_prot a n)))))
-    (λ a. chain_values IsSound comma (λ u. chain (number Number) (λ n. chain comma (λ v. chain prot (map_behind_prot a n)))) (λ u. chain_values IsSound (number Number) (λ n. chain comma (λ v. chain prot (map_behind_prot a n))) (λ n. chain_values IsSound comma (λ v. chain prot (map_behind_prot a n)) (λ v g t w m. map_behind_prot_values a n m.2 (prot_below m.0 (m.1 ++ t) m.2 m.4) m.1 t w m.5))))
-arguments_values Munmap = chain_values IsSound addr (λ a. chain comma (λ u. chain (number Number) (λ n. closing (Unmap a n)))) (λ a. chain_values IsSound comma (λ u. chain (number Number) (λ n. closing (Unmap a n))) (λ u. chain_values IsSound (number Number) (λ n. closing (Unmap a n)) (λ n. closing_values (Unmap a n) tt)))
-arguments_values Mprotect = chain_values IsSound addr (λ a. chain comma (λ u. chain (number Number) (λ n. chain comma (λ v. chain prot (protect_behind_prot a n)))))
-    (λ a. chain_values IsSound comma (λ u. chain (number Number) (λ n. chain comma (λ v. chain prot (protect_behind_prot a n)))) (λ u. chain_values IsSound (number Number) (λ n. chain comma (λ v. chain prot (protect_behind_prot a n))) (λ n. chain_values IsSound comma (λ v. chain prot (protect_behind_prot a n)) (λ v g t w m. protect_behind_prot_values a n m.2 (prot_below m.0 (m.1 ++ t) m.2 m.4) m.1 t w m.5))))
-arguments_values FaultName = chain_values IsSound addr (λ a. chain comma (λ u. chain access (λ c. closing (FaultCall a c)))) (λ a. chain_values IsSound comma (λ u. chain access (λ c. closing (FaultCall a c))) (λ u. chain_values IsSound access (λ c. closing (FaultCall a c)) (λ c. closing_values (FaultCall a c) tt)))
+    (λ a. chain_values IsSound comma (λ u. chain (number Number) (λ n. chain comma (λ v. chain prot (map_behind_prot a n))))
+    (λ u. chain_values IsSound (number Number) (λ n. chain comma (λ v. chain prot (map_behind_prot a n)))
+    (λ n. chain_values IsSound comma (λ v. chain prot (map_behind_prot a n))
+    (λ v g t w m. map_behind_prot_values a n m.2 (prot_below m.0 (m.1 ++ t) m.2 m.4) m.1 t w m.5))))
+arguments_values Munmap = chain_values IsSound addr (λ a. chain comma (λ u. chain (number Number) (λ n. closing (Unmap a n))))
+    (λ a. chain_values IsSound comma (λ u. chain (number Number) (λ n. closing (Unmap a n)))
+    (λ u. chain_values IsSound (number Number) (λ n. closing (Unmap a n)) (λ n. closing_values (Unmap a n) tt)))
+arguments_values Mprotect = chain_values IsSound addr
+    (λ a. chain comma (λ u. chain (number Number) (λ n. chain comma (λ v. chain prot (protect_behind_prot a n)))))
+    (λ a. chain_values IsSound comma (λ u. chain (number Number) (λ n. chain comma (λ v. chain prot (protect_behind_prot a n))))
+    (λ u. chain_values IsSound (number Number) (λ n. chain comma (λ v. chain prot (protect_behind_prot a n)))
+    (λ n. chain_values IsSound comma (λ v. chain prot (protect_behind_prot a n))
+    (λ v g t w m. protect_behind_prot_values a n m.2 (prot_below m.0 (m.1 ++ t) m.2 m.4) m.1 t w m.5))))
+arguments_values FaultName = chain_values IsSound addr (λ a. chain comma (λ u. chain access (λ c. closing (FaultCall a c))))
+    (λ a. chain_values IsSound comma (λ u. chain access (λ c. closing (FaultCall a c)))
+    (λ u. chain_values IsSound access (λ c. closing (FaultCall a c)) (λ c. closing_values (FaultCall a c) tt)))
 
 pub call_values : (name : Name) → Values IsSound (call name)
 unfolding call

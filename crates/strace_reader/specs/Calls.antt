@@ -4,7 +4,8 @@
 use Rattle.std.specs.Prelude.{◌≡◌, ◌⊎◌, ℕ, List, [], false, codes, Option, Some, None}
 use Rattle.line_parts.specs.declared.refusal.What.TheVariants.{Number, Word, Comma, Close, Result as AtResult}
 use Rattle.line_parts.specs.Parts.{Part, chain, choice, done, starts}
-use Rattle.line_parts.specs.Leaves.{is, byte, letters, IsRun, run, spaces, number, until, end, anything, begun, no_byte, many_digits, is_digit, is_capital, is_word_byte}
+use Rattle.line_parts.specs.Leaves.{is, byte, letters, IsRun, run, spaces, number, until, end, anything, begun, no_byte}
+use Rattle.line_parts.specs.Leaves.{many_digits, is_digit, is_capital, is_word_byte}
 use Rattle.line_parts.specs.Lists.{listed}
 use Rattle.page_types.specs.declared.calls.Call.{Call}
 use Rattle.page_types.specs.declared.calls.Call.TheVariants.{Map, Unmap, Protect, Fault}
@@ -76,14 +77,18 @@ descriptor = choice (is 45) (chain (letters (codes "-1") Number) (λ u. path)) (
 abbrev pub access : Part Access
 access = record {
   takes = λ front rest v. IsRun is_capital is_word_byte front × (starts is_word_byte rest ≡ false) × (access_of front ≡ Some v);
-  refuses = λ front over rest w. (front ≡ []) × (w ≡ Word) × (((over ≡ []) × (starts is_capital rest ≡ false)) ⊎ (IsRun is_capital is_word_byte over × (starts is_word_byte rest ≡ false) × (access_of over ≡ None)));
+  refuses = λ front over rest w. (front ≡ []) × (w ≡ Word)
+      × (((over ≡ []) × (starts is_capital rest ≡ false))
+      ⊎ (IsRun is_capital is_word_byte over × (starts is_word_byte rest ≡ false) × (access_of over ≡ None)));
 }
 
 -- ---- the result
 
 -- a number, or -1 and an error's name
 abbrev pub failed : Part (Option Recorded)
-failed = choice (is 45) (chain (letters (codes "-1 ") AtResult) (λ u. chain (run is_word_byte is_word_byte AtResult) (λ w. done (Some (Failed (errno_of w)))))) (chain (number AtResult) (λ n. done (Some (Value n))))
+failed = choice (is 45) (chain (letters (codes "-1 ") AtResult)
+    (λ u. chain (run is_word_byte is_word_byte AtResult) (λ w. done (Some (Failed (errno_of w))))))
+    (chain (number AtResult) (λ n. done (Some (Value n))))
 
 -- ?, or a number or an error
 abbrev pub recorded : Part (Option Recorded)

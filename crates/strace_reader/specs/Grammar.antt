@@ -57,7 +57,8 @@ IsBehindSpaces text rest = (spaces : List ℕ) × EachIs (is 32) spaces × (text
 -- The process of a line, and its body, which is what stands behind the prefix and all its spaces. A line with no
 -- prefix is its body, and its process is 0.
 abbrev pub IsCut : List ℕ → ℕ → List ℕ → Type 0
-IsCut text pid body = ((rest : List ℕ) × IsPrefixed text pid rest × IsBehindSpaces rest body) ⊎ ((pid ≡ 0) × (body ≡ text) × ((n : ℕ) (rest : List ℕ) → IsPrefixed text n rest → ⊥))
+IsCut text pid body = ((rest : List ℕ) × IsPrefixed text pid rest × IsBehindSpaces rest body)
+    ⊎ ((pid ≡ 0) × (body ≡ text) × ((n : ℕ) (rest : List ℕ) → IsPrefixed text n rest → ⊥))
 
 -- ---- the forms of a body
 
@@ -87,7 +88,9 @@ pub record NoForm (text : List ℕ) : Type 0 where
 
 -- the forms of a body that is passed over
 abbrev pub IsOther : List ℕ → Type 0
-IsOther text = BeginsWith (codes "---") text ⊎ BeginsWith (codes "+++") text ⊎ ((name : Name) × BeginsWith (call_head name) text × NeverReturned text) ⊎ ((name : Name) × IsCall name text × (call name).takes text [] Other) ⊎ NoForm text
+IsOther text = BeginsWith (codes "---") text ⊎ BeginsWith (codes "+++") text
+    ⊎ ((name : Name) × BeginsWith (call_head name) text × NeverReturned text)
+    ⊎ ((name : Name) × IsCall name text × (call name).takes text [] Other) ⊎ NoForm text
 
 -- a body and what it is
 unfoldable pub IsBody : List ℕ → Body → Type 0
@@ -98,21 +101,24 @@ IsBody text Other = IsOther text
 
 -- where a body is refused, and why
 unfoldable pub RefusesBody : List ℕ → Refusal → Type 0
-RefusesBody text refusal = (name : Name) × (column : ℕ) × IsCall name text × Refused (call name) text column refusal.what × (column + refusal.left ≡ length text + 1)
+RefusesBody text refusal = (name : Name) × (column : ℕ) × IsCall name text × Refused (call name) text column refusal.what
+    × (column + refusal.left ≡ length text + 1)
 
 -- ---- whole lines
 
 -- a whole line and what it is; places are counted from 0
 unfoldable pub Spells : List ℕ → Item → Type 0
 Spells text (Played pid done recorded) = (body : List ℕ) × IsCut text pid body × IsBody body (Called done recorded)
-Spells text (Unfinished pid name from to) = (body : List ℕ) × (len : ℕ) × IsCut text pid body × IsBody body (FirstHalf name len) × (from + length body ≡ length text) × (to ≡ from + len)
+Spells text (Unfinished pid name from to) = (body : List ℕ) × (len : ℕ) × IsCut text pid body × IsBody body (FirstHalf name len)
+    × (from + length body ≡ length text) × (to ≡ from + len)
 Spells text (Resumed pid name from) = (body : List ℕ) × (left : ℕ) × IsCut text pid body × IsBody body (SecondHalf name left) × (from + left ≡ length text)
 Spells text Skipped = (text ≢ []) × (pid : ℕ) × (body : List ℕ) × IsCut text pid body × IsBody body Other
 Spells text Blank = text ≡ []
 
 -- where a line is refused, and why; columns are counted from 1, in the whole line
 unfoldable pub Refuses : List ℕ → BadCall → Type 0
-Refuses text bad = (pid : ℕ) × (body : List ℕ) × (refusal : Refusal) × IsCut text pid body × RefusesBody body refusal × (bad.column + refusal.left ≡ length text + 1) × (bad.what ≡ refusal.what)
+Refuses text bad = (pid : ℕ) × (body : List ℕ) × (refusal : Refusal) × IsCut text pid body × RefusesBody body refusal
+    × (bad.column + refusal.left ≡ length text + 1) × (bad.what ≡ refusal.what)
 
 -- the sets of bits of a call have no bit but the named ones
 abbrev pub IsNamedBody : Body → Type 0

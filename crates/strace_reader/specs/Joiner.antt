@@ -44,7 +44,10 @@ answer_of process Nothing = Skipped 1
 
 -- what a second half answers, by the half that is held for its process
 abbrev pub IsJoinAnswer : Joiner → ℕ → Name → List ℕ → Fed → Type 0
-IsJoinAnswer joiner process name rest fed = ((half_of joiner process ≡ None) × (fed ≡ Skipped 1)) ⊎ ((kept : Half) × (half_of joiner process ≡ Some kept) × (kept.name ≢ name) × (fed ≡ Skipped 2)) ⊎ ((kept : Half) × (item : Item) × (half_of joiner process ≡ Some kept) × (kept.name ≡ name) × Spells (kept.text.items ++ rest) item × (fed ≡ answer_of process item))
+IsJoinAnswer joiner process name rest fed = ((half_of joiner process ≡ None) × (fed ≡ Skipped 1))
+    ⊎ ((kept : Half) × (half_of joiner process ≡ Some kept) × (kept.name ≢ name) × (fed ≡ Skipped 2))
+    ⊎ ((kept : Half) × (item : Item) × (half_of joiner process ≡ Some kept) × (kept.name ≡ name)
+    × Spells (kept.text.items ++ rest) item × (fed ≡ answer_of process item))
 
 -- why a joined text is not taken
 abbrev pub IsJoinRefusal : List ℕ → FeedFault → Type 0
@@ -53,5 +56,6 @@ IsJoinRefusal joined Memory = Unit {0}
 
 -- why a second half is not taken
 abbrev pub IsJoinFault : Joiner → ℕ → Name → List ℕ → FeedFault → Type 0
-IsJoinFault joiner process name rest (Bad bad) = (kept : Half) × (half_of joiner process ≡ Some kept) × (kept.name ≡ name) × Refuses (kept.text.items ++ rest) bad
+IsJoinFault joiner process name rest (Bad bad) = (kept : Half) × (half_of joiner process ≡ Some kept) × (kept.name ≡ name)
+    × Refuses (kept.text.items ++ rest) bad
 IsJoinFault joiner process name rest Memory = Unit {0}

@@ -48,11 +48,13 @@ Drops fed process count = ((name : Name) × (half : List ℕ) × IsKept fed proc
 
 -- the text is the second half of the call of the process whose first half is kept, and together they are joined
 abbrev pub IsJoined : List (List ℕ) → List ℕ → ℕ → List ℕ → Type 0
-IsJoined fed text process joined = (name : Name) × (from : ℕ) × (half : List ℕ) × Spells text (Resumed process name from) × IsKept fed process name half × (joined ≡ half ++ drop from text)
+IsJoined fed text process joined = (name : Name) × (from : ℕ) × (half : List ℕ) × Spells text (Resumed process name from)
+    × IsKept fed process name half × (joined ≡ half ++ drop from text)
 
 -- the text is a second half of the process, and a first half of another name is kept
 abbrev pub IsOfOtherName : List (List ℕ) → List ℕ → Type 0
-IsOfOtherName fed text = (process : ℕ) × (name other : Name) × (from : ℕ) × (half : List ℕ) × Spells text (Resumed process name from) × IsKept fed process other half × (other ≢ name)
+IsOfOtherName fed text = (process : ℕ) × (name other : Name) × (from : ℕ) × (half : List ℕ)
+    × Spells text (Resumed process name from) × IsKept fed process other half × (other ≢ name)
 
 -- the text is a second half of a process for which no first half is kept
 abbrev pub IsAlone : List (List ℕ) → List ℕ → Type 0
@@ -65,11 +67,15 @@ IsHalfAgain joined = (process : ℕ) × (name : Name) × (from to : ℕ) × Spel
 -- How many lines a text passes over that is neither kept nor played: a line that is passed over by itself, a second
 -- half alone, one whose first half has another name, and joined halves that are no call or a first half again.
 abbrev pub PassesOver : List (List ℕ) → List ℕ → ℕ → Type 0
-PassesOver fed text count = (Spells text Passed × (count ≡ 1)) ⊎ (IsAlone fed text × (count ≡ 1)) ⊎ (IsOfOtherName fed text × (count ≡ 2)) ⊎ ((process : ℕ) × (joined : List ℕ) × IsJoined fed text process joined × Spells joined Passed × (count ≡ 1)) ⊎ ((process : ℕ) × (joined : List ℕ) × IsJoined fed text process joined × IsHalfAgain joined × (count ≡ 2))
+PassesOver fed text count = (Spells text Passed × (count ≡ 1)) ⊎ (IsAlone fed text × (count ≡ 1))
+    ⊎ (IsOfOtherName fed text × (count ≡ 2)) ⊎ ((process : ℕ) × (joined : List ℕ) × IsJoined fed text process joined
+    × Spells joined Passed × (count ≡ 1)) ⊎ ((process : ℕ) × (joined : List ℕ) × IsJoined fed text process joined
+    × IsHalfAgain joined × (count ≡ 2))
 
 -- what a text answers behind those that were fed
 abbrev pub IsAnswer : List (List ℕ) → List ℕ → Fed → Type 0
-IsAnswer fed text (Answered pid done recorded count) = (Spells text (Played pid done recorded) × Drops fed pid count) ⊎ ((joined : List ℕ) × IsJoined fed text pid joined × Spells joined (Played 0 done recorded) × (count ≡ 0))
+IsAnswer fed text (Answered pid done recorded count) = (Spells text (Played pid done recorded) × Drops fed pid count)
+    ⊎ ((joined : List ℕ) × IsJoined fed text pid joined × Spells joined (Played 0 done recorded) × (count ≡ 0))
 IsAnswer fed text (Kept count) = (process : ℕ) × (name : Name) × (from to : ℕ) × Spells text (Unfinished process name from to) × Drops fed process count
 IsAnswer fed text (Skipped count) = PassesOver fed text count
 IsAnswer fed text Blank = Spells text Nothing
@@ -81,7 +87,8 @@ RefusesFed fed text bad = Refuses text bad ⊎ ((process : ℕ) × (joined : Lis
 -- why a text is not taken; out of memory may come for a half alone
 abbrev pub IsFeedFault : List (List ℕ) → List ℕ → FeedFault → Type 0
 IsFeedFault fed text (Bad bad) = RefusesFed fed text bad
-IsFeedFault fed text Memory = (process : ℕ) × (name : Name) × (from to : ℕ) × (Spells text (Unfinished process name from to) ⊎ Spells text (Resumed process name from))
+IsFeedFault fed text Memory = (process : ℕ) × (name : Name) × (from to : ℕ)
+    × (Spells text (Unfinished process name from to) ⊎ Spells text (Resumed process name from))
 
 -- so many processes have a first half that is kept; the count stands still at the end of 32 bits
 pub record CountsKept (fed : List (List ℕ)) (count : ℕ) : Type 0 where

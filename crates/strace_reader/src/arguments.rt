@@ -4,7 +4,9 @@
 
 ghost use Rattle.std.specs.Prelude.{◌≡◌};
 ghost use Rattle.line_parts.specs.Reading.{Gives};
-ghost use Rattle.strace_reader.specs.Reading.{comma_at, addr_at, prot_word_at, prot_at, commented_at, operand_at, shifted_at, flag_word_at, flags_at, listed_word_at, listed_at, path_at, descriptor_at, access_at};
+ghost use Rattle.strace_reader.specs.Reading.{comma_at, addr_at, prot_word_at, prot_at, commented_at, operand_at};
+ghost use Rattle.strace_reader.specs.Reading.{shifted_at, flag_word_at, flags_at, listed_word_at, listed_at, path_at};
+ghost use Rattle.strace_reader.specs.Reading.{descriptor_at, access_at};
 
 use crate::words::{access_named, flag_bits, prot_bits};
 use line_parts::{

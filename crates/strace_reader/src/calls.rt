@@ -6,7 +6,9 @@ ghost use Rattle.std.specs.Prelude.{◌≡◌};
 ghost use Rattle.line_parts.specs.Reading.{Gives, end_at};
 ghost use Rattle.line_parts.specs.declared.refusal.What.TheVariants.{Result as AtResult};
 ghost use Rattle.strace_reader.specs.declared.item.Body.TheVariants.{Called};
-ghost use Rattle.strace_reader.specs.Reading.{failed_at, recorded_at, equals_at, tail_at, outcome_at, closing_at, munmap_at, mprotect_at, fault_call_at, map_tail_at, mmap_at, arguments_at};
+ghost use Rattle.strace_reader.specs.Reading.{failed_at, recorded_at, equals_at, tail_at, outcome_at, closing_at};
+ghost use Rattle.strace_reader.specs.Reading.{munmap_at, mprotect_at, fault_call_at, map_tail_at, mmap_at};
+ghost use Rattle.strace_reader.specs.Reading.{arguments_at};
 
 use crate::arguments::{access, addr, comma, descriptor, flags, prot};
 use crate::item::{Body, Name, Recorded};

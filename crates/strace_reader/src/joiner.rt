@@ -3,7 +3,8 @@
 //! halves by process, and reads each with its second half as one line. `specs/Joining.antt` says what each text
 //! answers, from all the texts that were fed; the counts are this project's own profile.
 
-ghost use Rattle.std.specs.Prelude.{◌≡◌, ◌≤◌, ◌↔◌, ◌⊎◌, ◌++◌, ◌-◌, [], ◌∷◌, length, take, drop, ℕ, List, Option, Some, None, OnOk, OnErr, IfOk, IfErr, vec_len, if◌then◌else◌, ◌==◌, ◌≢◌, is_some};
+ghost use Rattle.std.specs.Prelude.{◌≡◌, ◌≤◌, ◌↔◌, ◌⊎◌, ◌++◌, ◌-◌, [], ◌∷◌, length, take, drop, ℕ, List, Option, Some};
+ghost use Rattle.std.specs.Prelude.{None, OnOk, OnErr, IfOk, IfErr, vec_len, if◌then◌else◌, ◌==◌, ◌≢◌, is_some};
 ghost use Rattle.strace_reader.specs.declared.item.Item.{Item as ItemOf};
 ghost use Rattle.strace_reader.specs.Grammar.{Spells};
 ghost use Rattle.strace_reader.specs.Joiner.{answer_of, IsJoinRefusal};

@@ -53,7 +53,8 @@ impl Visits {
     /// Counts the other owners of a slot as wrong, unless they may be there.
     fn look(&mut self, mode: Mode, others: u64)
         ensures right { (readers writers : ℕ) → IsCountOf readers writers others → MayShare mode readers writers → self.new.wrong ≡ self.old.wrong }
-        ensures wrong { (readers writers : ℕ) → IsCountOf readers writers others → ¬ (MayShare mode readers writers) → self.new.wrong ≡ one_more self.old.wrong }
+        ensures wrong { (readers writers : ℕ) → IsCountOf readers writers others → ¬ (MayShare mode readers writers)
+            → self.new.wrong ≡ one_more self.old.wrong }
     {
         if !may_share(mode, others) {
             count_one(&mut self.wrong);

@@ -41,14 +41,27 @@ reads_no_area page (Held span) reads holds = reads
 reads_no_area page Whole reads holds = holds
 
 -- a call that changes no protection holds no area, and none is simple for it
-area_of_other : (A : List Area) (call : Call) (under : Under) → IsOther call → FitsUnder A call under → HoldsSomeArea under ↔ ((plain_reply call ≡ None) × IsSimple A call)
-area_of_other A (Map addr len prot flags) under other fits = (λ holds. absurd (subst HoldsSomeArea (undecided (plain_reply (Map addr len prot flags)) (under ≡ Whole) under fits holds).1 holds), λ h. absurd h.1.1)
-area_of_other A (Unmap addr len) under other fits = (λ holds. absurd (subst HoldsSomeArea (undecided (plain_reply (Unmap addr len)) (under ≡ Whole) under fits holds).1 holds), λ h. absurd h.1.1)
+area_of_other : (A : List Area) (call : Call) (under : Under) → IsOther call → FitsUnder A call under
+    → HoldsSomeArea under ↔ ((plain_reply call ≡ None) × IsSimple A call)
+area_of_other A (Map addr len prot flags) under other fits = (
+  λ holds. absurd (subst HoldsSomeArea (undecided (plain_reply (Map addr len prot flags)) (under ≡ Whole) under fits holds).1
+      holds),
+  λ h. absurd h.1.1,
+)
+area_of_other A (Unmap addr len) under other fits = (
+  λ holds. absurd (subst HoldsSomeArea (undecided (plain_reply (Unmap addr len)) (under ≡ Whole) under fits holds).1 holds),
+  λ h. absurd h.1.1,
+)
 area_of_other A (Protect addr len prot) under other fits = absurd other
-area_of_other A (Fault addr access) under other fits = (λ holds. absurd (reads_no_area (page_of addr) under (undecided (plain_reply (Fault addr access)) (ReadsPage (page_of addr) under) under fits holds).1 holds), λ h. absurd h.1.1)
+area_of_other A (Fault addr access) under other fits = (
+  λ holds. absurd (reads_no_area (page_of addr) under
+      (undecided (plain_reply (Fault addr access)) (ReadsPage (page_of addr) under) under fits holds).1 holds),
+  λ h. absurd h.1.1,
+)
 
 -- the answer of such a call
-pub other_answer : (before : CallerView) (l : Line) (answer : Answer) (after : CallerView) → IsOther l.call → IsAnswered before l.line l.call answer after → IsLineAnswer before l answer after
+pub other_answer : (before : CallerView) (l : Line) (answer : Answer) (after : CallerView) → IsOther l.call
+    → IsAnswered before l.line l.call answer after → IsLineAnswer before l answer after
 other_answer before l (Given e) after other is =
     let num = is.1.numbered in (
       is.0,
@@ -59,23 +72,37 @@ other_answer before l (Given e) after other is =
     )
 other_answer before l Spent after other is = is
 
-area_of_protect : (A : List Area) (addr len : ℕ) (prot : Prot) (call : Call) (under : Under) → call ≡ Protect addr len prot → FitsUnder A call under → (plain_reply (Protect addr len prot) ≡ None → HoldsSomeArea under ↔ IsSimple A (Protect addr len prot))
+area_of_protect : (A : List Area) (addr len : ℕ) (prot : Prot) (call : Call) (under : Under) → call ≡ Protect addr len prot
+    → FitsUnder A call under → (plain_reply (Protect addr len prot) ≡ None
+    → HoldsSomeArea under ↔ IsSimple A (Protect addr len prot))
     → HoldsSomeArea under ↔ ((plain_reply call ≡ None) × IsSimple A call)
 area_of_protect A addr len prot call under is fits exact = subst (λ (c : Call). HoldsSomeArea under ↔ ((plain_reply c ≡ None) × IsSimple A c)) (sym is) (
-  λ holds. let none = (undecided (plain_reply (Protect addr len prot)) (FitsByState A (Protect addr len prot) under) under (subst (λ (c : Call). FitsUnder A c under) is fits) holds).0 in (none, (exact none).0 holds),
+  λ holds. let none = (undecided (plain_reply (Protect addr len prot)) (FitsByState A (Protect addr len prot) under) under
+      (subst (λ (c : Call). FitsUnder A c under) is fits) holds).0 in (none, (exact none).0 holds),
   λ h. (exact h.0).1 h.1,
 )
 
 -- the entry of a change of protection
-protect_entry : (before : CallerView) (line addr len : ℕ) (prot : Prot) (e : Entry) (path : Path) (after : CallerView) → IsProtected before line addr len prot e path after → IsPlayedAs before (record { line = line; call = Protect addr len prot }) e after
+protect_entry : (before : CallerView) (line addr len : ℕ) (prot : Prot) (e : Entry) (path : Path) (after : CallerView)
+    → IsProtected before line addr len prot e path after
+    → IsPlayedAs before (record { line = line; call = Protect addr len prot }) e after
 protect_entry before line addr len prot e path after p =
     let num = p.called.numbered in
     record {
       called = p.called;
-      alone = λ lone. record { fits = num.right.fits; area = area_of_protect num.state addr len prot e.call e.under p.called.call_is num.right.fits (λ none. lone_holds_area before after line addr len prot e path p none lone) };
+      alone = λ lone. record {
+        fits = num.right.fits;
+        area = area_of_protect num.state addr len prot e.call e.under p.called.call_is num.right.fits
+            (λ none. lone_holds_area before after line addr len prot e path p none lone);
+      };
     }
 
 -- the answer of a line that changes protection, where it has an entry
-pub protect_answer : (before : CallerView) (l : Line) (addr len : ℕ) (prot : Prot) (e : Entry) (path : Path) (after : CallerView) → l.call ≡ Protect addr len prot → (0 < before.left) × IsProtected before l.line addr len prot e path after → IsLineAnswer before l (Given e) after
-protect_answer before l addr len prot e path after is answer =
-    (answer.0, subst (λ (c : Call). IsPlayedAs before (record { line = l.line; call = c }) e after) (sym is) (protect_entry before l.line addr len prot e path after answer.1))
+pub protect_answer : (before : CallerView) (l : Line) (addr len : ℕ) (prot : Prot) (e : Entry) (path : Path) (after : CallerView)
+    → l.call ≡ Protect addr len prot → (0 < before.left) × IsProtected before l.line addr len prot e path after
+    → IsLineAnswer before l (Given e) after
+protect_answer before l addr len prot e path after is answer = (
+  answer.0,
+  subst (λ (c : Call). IsPlayedAs before (record { line = l.line; call = c }) e after) (sym is)
+      (protect_entry before l.line addr len prot e path after answer.1),
+)

@@ -26,14 +26,18 @@ own_rise worker n (e ∷ es) is =
     let rest = subst (λ h. Rise (n + 1) (entries_of worker es) h) hi (own_rise worker (n + 1) es is.1) in
     let next : e.number + 1 ≡ n + 1 = ap (λ k. k + 1) is.0 in
     let first : n ≤ e.number = (let same = is.0 in omega arith) in
-    elim (eqb e.worker worker) as (λ b. Rise n (cond b (e ∷ entries_of worker es) (entries_of worker es)) (n + length (e ∷ es)))
-    [ true ↦ (first, subst (λ k. Rise k (entries_of worker es) (n + length (e ∷ es))) (sym next) rest) | false ↦ rise_from (n + 1) n (entries_of worker es) (n + length (e ∷ es)) (omega arith) rest ]
+    elim (eqb e.worker worker) as (λ b. Rise n (cond b (e ∷ entries_of worker es) (entries_of worker es)) (n + length (e ∷ es))) [
+      | true ↦ (first, subst (λ k. Rise k (entries_of worker es) (n + length (e ∷ es))) (sym next) rest)
+      | false ↦
+          rise_from (n + 1) n (entries_of worker es) (n + length (e ∷ es)) (omega arith) rest
+    ]
 
 -- where no worker has an entry there is none
 no_entry : (es : List Entry) → ((k : ℕ) → entries_of k es ≡ []) → es ≡ []
 no_entry [] none = refl
 no_entry (e ∷ es) none =
-    let here : e ∷ entries_of e.worker es ≡ [] = subst (λ b. cond b (e ∷ entries_of e.worker es) (entries_of e.worker es) ≡ []) (eq-eqb e.worker e.worker refl) (none e.worker) in
+    let here : e ∷ entries_of e.worker es ≡ [] = subst (λ b. cond b (e ∷ entries_of e.worker es) (entries_of e.worker es) ≡ [])
+    (eq-eqb e.worker e.worker refl) (none e.worker) in
     absurd (let n = ap length here in omega arith)
 
 -- the history of a closing is numbered from 0
@@ -52,7 +56,8 @@ collected workers callers entries areas made whole =
           subst (λ es. AreEntriesOf k ls es) (sym (whole.mine k c.0 c.1)) (made.each k ls c.0 at c.1);
       no_other = λ k le. whole.no_other k (omega arith);
       numbered = all;
-      in_order = λ k. let end : 0 + length entries ≡ length entries = omega arith in subst (λ n. Rise 0 (entries_of k entries) n) end (own_rise k 0 entries all);
+      in_order = λ k. let end : 0 + length entries ≡ length entries = omega arith in
+          subst (λ n. Rise 0 (entries_of k entries) n) end (own_rise k 0 entries all);
     }
 
 pub made : PlaysAreMade

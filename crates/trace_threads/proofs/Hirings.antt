@@ -27,8 +27,11 @@ use Rattle.trace_threads.proofs.Collecting.{made, collected}
 -- ---- one worker after another
 
 -- the first caller gets the first list, and the rest is as ready
-pub first_hired : (cs : List CallerView) (lists : List (Vec Line Global)) (c : CallerView) (list : Vec Line Global) → AreReady cs (map vec_items lists) → 0 < length cs → c ≡ get_or cs 0 c → list ≡ get_or lists 0 list
-    → MayPlay c (vec_items list) × AreReady (remove cs 0) (map vec_items (remove lists 0)) × (hired cs (map vec_items lists) ≡ record { caller = c; lines = vec_items list } ∷ hired (remove cs 0) (map vec_items (remove lists 0)))
+pub first_hired : (cs : List CallerView) (lists : List (Vec Line Global)) (c : CallerView) (list : Vec Line Global)
+    → AreReady cs (map vec_items lists) → 0 < length cs → c ≡ get_or cs 0 c → list ≡ get_or lists 0 list
+    → MayPlay c (vec_items list) × AreReady (remove cs 0) (map vec_items (remove lists 0))
+    × (hired cs (map vec_items lists) ≡ record { caller = c; lines = vec_items list } ∷ hired (remove cs 0)
+    (map vec_items (remove lists 0)))
 first_hired [] lists c list ready more is_c is_list = absurd (omega arith)
 first_hired (d ∷ cs) [] c list ready more is_c is_list = absurd ready
 first_hired (d ∷ cs) (other ∷ lists) c list ready more is_c is_list = (
@@ -46,28 +49,40 @@ as_many (c ∷ cs) (ls ∷ lists) ready = ap suc (as_many cs lists ready.1)
 
 -- ---- callers of a new space
 
-ready_by_place : (cs : List CallerView) (lists : List (List Line)) → length cs ≡ length lists → ((k : ℕ) (c : CallerView) (ls : List Line) → get_elem? cs k ≡ some c → get_elem? lists k ≡ some ls → MayPlay c ls) → AreReady cs lists
+ready_by_place : (cs : List CallerView) (lists : List (List Line)) → length cs ≡ length lists
+    → ((k : ℕ) (c : CallerView) (ls : List Line) → get_elem? cs k ≡ some c → get_elem? lists k ≡ some ls → MayPlay c ls)
+    → AreReady cs lists
 ready_by_place [] [] same each = tt
 ready_by_place [] (ls ∷ lists) same each = absurd (omega arith)
 ready_by_place (c ∷ cs) [] same each = absurd (omega arith)
-ready_by_place (c ∷ cs) (ls ∷ lists) same each = (each 0 c ls refl refl, ready_by_place cs lists (omega arith) (λ k d ms at_d at_ms. each (suc k) d ms at_d at_ms))
+ready_by_place (c ∷ cs) (ls ∷ lists) same each =
+    (each 0 c ls refl refl, ready_by_place cs lists (omega arith) (λ k d ms at_d at_ms. each (suc k) d ms at_d at_ms))
 
 all_at : {A : Type 0} (P : A → Type 0) (l : List A) (k : ℕ) (a : A) → All P l → get_elem? l k ≡ some a → P a
 all_at P l k a all at = subst P (at_or l k a a at) (all k a (below l k a at))
 
 -- new callers that were opened for as many calls as their lists have lines may be given them
-pub new_ready : (table : TableId) (start : List Area) (calls : List ℕ) (lists : List (List Line)) (cs : List CallerView) → calls ≡ map length lists → length cs ≡ length lists → AreNewCallers table start calls cs → All (λ ls. All (λ l. IsNamedCall l.call) ls) lists → AreReady cs lists
+pub new_ready : (table : TableId) (start : List Area) (calls : List ℕ) (lists : List (List Line)) (cs : List CallerView)
+    → calls ≡ map length lists → length cs ≡ length lists → AreNewCallers table start calls cs
+    → All (λ ls. All (λ l. IsNamedCall l.call) ls) lists → AreReady cs lists
 new_ready table start calls lists cs is same new named = ready_by_place cs lists same (λ k c ls at_c at_ls.
     let e = new k c at_c in
-    let left : c.left ≡ length ls = ap (λ (x : CallerView). x.left) e ∙ (ap (λ l. slice_index l k) is ∙ at_or (map length lists) k (length ls) 0 (at_map length lists k ls at_ls)) in
-    record { left = omega arith; free = ap (λ (x : CallerView). x.seat.held) e; named = all_at (λ ms. All (λ l. IsNamedCall l.call) ms) lists k ls named at_ls })
+    let left : c.left ≡ length ls = ap (λ (x : CallerView). x.left) e
+    ∙ (ap (λ l. slice_index l k) is ∙ at_or (map length lists) k (length ls) 0 (at_map length lists k ls at_ls)) in
+    record {
+      left = omega arith;
+      free = ap (λ (x : CallerView). x.seat.held) e;
+      named = all_at (λ ms. All (λ l. IsNamedCall l.call) ms) lists k ls named at_ls;
+    })
 
 -- ---- the workers of a new space
 
-hired_at : (cs : List CallerView) (lists : List (List Line)) (k : ℕ) (w : WorkerView) → get_elem? (hired cs lists) k ≡ some w → (get_elem? cs k ≡ some w.caller) × (get_elem? lists k ≡ some w.lines)
+hired_at : (cs : List CallerView) (lists : List (List Line)) (k : ℕ) (w : WorkerView) → get_elem? (hired cs lists) k ≡ some w
+    → (get_elem? cs k ≡ some w.caller) × (get_elem? lists k ≡ some w.lines)
 hired_at [] lists k w at = absurd (some-ne-none w (sym at))
 hired_at (c ∷ cs) [] k w at = absurd (some-ne-none w (sym at))
-hired_at (c ∷ cs) (ls ∷ lists) zero w at = let e = some-injective (record { caller = c; lines = ls }) w at in (ap (λ (x : WorkerView). some x.caller) e, ap (λ (x : WorkerView). some x.lines) e)
+hired_at (c ∷ cs) (ls ∷ lists) zero w at = let e = some-injective (record { caller = c; lines = ls }) w at in
+    (ap (λ (x : WorkerView). some x.caller) e, ap (λ (x : WorkerView). some x.lines) e)
 hired_at (c ∷ cs) (ls ∷ lists) (suc k) w at = hired_at cs lists k w at
 
 pub length_hired : (cs : List CallerView) (lists : List (List Line)) → length cs ≡ length lists → length (hired cs lists) ≡ length lists
@@ -76,7 +91,9 @@ length_hired [] (ls ∷ lists) same = absurd (omega arith)
 length_hired (c ∷ cs) [] same = absurd (omega arith)
 length_hired (c ∷ cs) (ls ∷ lists) same = ap suc (length_hired cs lists (omega arith))
 
-pub new_workers : (table : TableId) (start : List Area) (calls : List ℕ) (lists : List (List Line)) (cs : List CallerView) (workers : List WorkerView) → workers ≡ hired cs lists → length cs ≡ length lists → 0 < length cs → AreNewCallers table start calls cs → AreNewWorkers table start lists workers
+pub new_workers : (table : TableId) (start : List Area) (calls : List ℕ) (lists : List (List Line)) (cs : List CallerView)
+    (workers : List WorkerView) → workers ≡ hired cs lists → length cs ≡ length lists → 0 < length cs
+    → AreNewCallers table start calls cs → AreNewWorkers table start lists workers
 new_workers table start calls lists cs workers is same some_there new =
     let count : length workers ≡ length lists = ap length is ∙ length_hired cs lists same in
     record {
@@ -97,23 +114,31 @@ new_workers table start calls lists cs workers is same some_there new =
     }
 
 -- the new worker of a place
-new_at : (table : TableId) (start : List Area) (lists : List (List Line)) (workers : List WorkerView) (k : ℕ) (w : WorkerView) → AreNewWorkers table start lists workers → get_elem? workers k ≡ some w → (ls : List Line) × IsNewWorker table start k ls w
+new_at : (table : TableId) (start : List Area) (lists : List (List Line)) (workers : List WorkerView) (k : ℕ) (w : WorkerView)
+    → AreNewWorkers table start lists workers → get_elem? workers k ≡ some w → (ls : List Line) × IsNewWorker table start k ls w
 new_at table start lists workers k w new at =
     let lt = below workers k w at in
     let count = new.count in
     let ls = there lists k (omega arith) in
     (ls.0, new.each k ls.0 w ls.1 at)
 
-pub of_table : (table : TableId) (start : List Area) (lists : List (List Line)) (workers : List WorkerView) → AreNewWorkers table start lists workers → AreOfTable table workers
+pub of_table : (table : TableId) (start : List Area) (lists : List (List Line)) (workers : List WorkerView)
+    → AreNewWorkers table start lists workers → AreOfTable table workers
 of_table table start lists workers new k w at = (new_at table start lists workers k w new at).1.table_is
 
-pub fresh_new : (table : TableId) (start : List Area) (lists : List (List Line)) (workers : List WorkerView) → AreNewWorkers table start lists workers → AreFresh lists workers
-fresh_new table start lists workers new = record { count = new.count; each = λ k ls w at_ls at_w. let n = new.each k ls w at_ls at_w in (n.lines, n.number, n.mine) }
+pub fresh_new : (table : TableId) (start : List Area) (lists : List (List Line)) (workers : List WorkerView)
+    → AreNewWorkers table start lists workers → AreFresh lists workers
+fresh_new table start lists workers new = record {
+  count = new.count;
+  each = λ k ls w at_ls at_w. let n = new.each k ls w at_ls at_w in (n.lines, n.number, n.mine);
+}
 
 -- ---- when they have played
 
 -- what stays of the caller of a new worker's place
-pub before_at : (table : TableId) (start : List Area) (lists : List (List Line)) (before after : List WorkerView) (k : ℕ) (c : CallerView) → AreNewWorkers table start lists before → HavePlayed before after → get_elem? (map caller_of after) k ≡ some c
+pub before_at : (table : TableId) (start : List Area) (lists : List (List Line)) (before after : List WorkerView) (k : ℕ)
+    (c : CallerView) → AreNewWorkers table start lists before → HavePlayed before after
+    → get_elem? (map caller_of after) k ≡ some c
     → (c.seat.table ≡ table) × (c.seat.number ≡ k) × (c.seat.held ≡ None) × (c.seat.pass.start ≡ start)
 before_at table start lists before after k c new played at =
     let b = from_map caller_of after k c at in
@@ -122,13 +147,17 @@ before_at table start lists before after k c new played at =
     let a = there before k (omega arith) in
     let n = (new_at table start lists before k a.0 new a.1).1 in
     let p = (played.each k a.0 b.0 a.1 b.1).played in
-    subst (λ (x : CallerView). (x.seat.table ≡ table) × (x.seat.number ≡ k) × (x.seat.held ≡ None) × (x.seat.pass.start ≡ start)) b.2 (p.table ∙ n.table_is, p.number ∙ n.number, p.held ∙ n.held, p.start ∙ n.start_is)
+    subst (λ (x : CallerView). (x.seat.table ≡ table) × (x.seat.number ≡ k) × (x.seat.held ≡ None) × (x.seat.pass.start ≡ start))
+    b.2 (p.table ∙ n.table_is, p.number ∙ n.number, p.held ∙ n.held, p.start ∙ n.start_is)
 
-pub played_idle : (table : TableId) (start : List Area) (lists : List (List Line)) (before after : List WorkerView) → AreNewWorkers table start lists before → HavePlayed before after → AreIdle table (map caller_of after)
+pub played_idle : (table : TableId) (start : List Area) (lists : List (List Line)) (before after : List WorkerView)
+    → AreNewWorkers table start lists before → HavePlayed before after → AreIdle table (map caller_of after)
 played_idle table start lists before after new played k c at = let b = before_at table start lists before after k c new played at in (b.0, b.1, b.2)
 
 -- where one worker alone has entries, each of its calls held what it had to hold
-all_held : (table : TableId) (start : List Area) (lists : List (List Line)) (before after : List WorkerView) (entries : List Entry) (areas : List Area) → AreNewWorkers table start lists before → HavePlayed before after → IsWhole (map caller_of after) entries areas
+all_held : (table : TableId) (start : List Area) (lists : List (List Line)) (before after : List WorkerView)
+    (entries : List Entry) (areas : List Area) → AreNewWorkers table start lists before → HavePlayed before after
+    → IsWhole (map caller_of after) entries areas
     → (worker : ℕ) → IsAlone worker entries → AllHeld start entries
 all_held table start lists before after entries areas new played whole worker alone =
     let own = only_own worker entries alone in
@@ -141,16 +170,22 @@ all_held table start lists before after entries areas new played whole worker al
     let a = there before worker (omega arith) in
     let n = (new_at table start lists before worker a.0 new a.1).1 in
     let d = (played.each worker a.0 b.0 a.1 b.1).played in
-    let mine : d.entries ≡ entries = ap (λ l. l ++ d.entries) (sym n.mine) ∙ (sym d.mine ∙ (ap (λ (x : CallerView). x.seat.pass.mine) b.2 ∙ (sym (whole.mine worker c.0 c.1) ∙ own))) in
+    let mine : d.entries ≡ entries = ap (λ l. l ++ d.entries) (sym n.mine)
+    ∙ (sym d.mine ∙ (ap (λ (x : CallerView). x.seat.pass.mine) b.2 ∙ (sym (whole.mine worker c.0 c.1) ∙ own))) in
     let began = (before_at table start lists before after worker c.0 new played c.1).3 in
-    let runs = subst (λ s. Runs 0 s entries areas) began (whole.runs worker c.0 c.1) in
-    (areas, held_chain a.0.lines a.0.caller entries b.0.caller start [] start areas (subst (λ es. Plays a.0.lines a.0.caller es b.0.caller) mine d.plays) n.seen n.start_is (tt, refl) runs.0 runs.1))
+    let runs = subst (λ s. Runs 0 s entries areas) began (whole.runs worker c.0 c.1) in (
+      areas,
+      held_chain a.0.lines a.0.caller entries b.0.caller start [] start areas
+          (subst (λ es. Plays a.0.lines a.0.caller es b.0.caller) mine d.plays) n.seen n.start_is (tt, refl) runs.0 runs.1,
+    ))
     (λ ge.
     let none : entries ≡ [] = sym own ∙ whole.no_other worker ge in
     (start, subst (λ es. Chains HeldAndReplies start es start) (sym none) refl))
     (cases_lt worker (length (map caller_of after)))
 
-pub all_played : (table : TableId) (start : List Area) (lists : List (List Line)) (before after : List WorkerView) (entries : List Entry) (areas : List Area) → AreNewWorkers table start lists before → HavePlayed before after → IsWhole (map caller_of after) entries areas → IsPlayed start lists entries areas
+pub all_played : (table : TableId) (start : List Area) (lists : List (List Line)) (before after : List WorkerView)
+    (entries : List Entry) (areas : List Area) → AreNewWorkers table start lists before → HavePlayed before after
+    → IsWhole (map caller_of after) entries areas → IsPlayed start lists entries areas
 all_played table start lists before after entries areas new played whole =
     let callers = map caller_of after in
     let long : length callers ≡ length before = length-map after caller_of ∙ played.count in

@@ -1,5 +1,6 @@
 -- Lines played one after another: the first one, and then the rest.
-use Rattle.std.proofs.Common.{◌≡◌, ℕ, ◌<◌, ◌≤◌, ◌+◌, List, [], ◌∷◌, ◌++◌, get_or, length, sym, refl, ap, ◌∙◌, subst, arith, append-nil, append_assoc, length-append}
+use Rattle.std.proofs.Common.{◌≡◌, ℕ, ◌<◌, ◌≤◌, ◌+◌, List, [], ◌∷◌, ◌++◌, get_or, length, sym, refl, ap, ◌∙◌, subst}
+use Rattle.std.proofs.Common.{arith, append-nil, append_assoc, length-append}
 use Rattle.lock_core.proofs.ByPlace.{below, at_or}
 use Rattle.space_model.specs.declared.entries.Entry.{Entry}
 use Rattle.area_rows.specs.declared.answer.Answer.{Answer}
@@ -10,7 +11,8 @@ use Rattle.trace_threads.specs.declared.worker.Line.{Line}
 use Rattle.trace_threads.specs.Workers.{WorkerView, AreEntriesOf, Rise, IsPlayedAs, IsLineAnswer, HasPlayed, HasDone, HavePlayed}
 
 -- a caller with a number left is answered with an entry
-pub given : (before : CallerView) (l : Line) (answer : Answer) (after : CallerView) → 0 < before.left → IsLineAnswer before l answer after → (e : Entry) × IsPlayedAs before l e after
+pub given : (before : CallerView) (l : Line) (answer : Answer) (after : CallerView) → 0 < before.left
+    → IsLineAnswer before l answer after → (e : Entry) × IsPlayedAs before l e after
 given before l (Given e) after more is = (e, is.1)
 given before l Spent after more is = absurd (let none = is.0 in omega arith)
 
@@ -49,7 +51,10 @@ played_more l ls a b c e p h =
     record {
       entries = e ∷ h.entries;
       plays = (b, p, h.plays);
-      theirs = (record { worker_is = n.worker; line_is = p.called.line_is; call_is = p.called.call_is }, subst (λ k. AreEntriesOf k ls h.entries) n.number h.theirs);
+      theirs = (
+        record { worker_is = n.worker; line_is = p.called.line_is; call_is = p.called.call_is },
+        subst (λ k. AreEntriesOf k ls h.entries) n.number h.theirs,
+      );
       rise = ((let count = n.counted in omega arith), subst (λ k. Rise k h.entries (length c.seat.pass.seen)) (sym next) h.rise);
       mine = h.mine ∙ (ap (λ m. m ++ h.entries) n.mine ∙ append_assoc a.seat.pass.mine (e ∷ []) h.entries);
       seen = starts_on a.seat.pass.seen n.history c.seat.pass.seen n.more (starts_on n.history b.seat.pass.seen c.seat.pass.seen seen_by h.seen);
@@ -61,7 +66,9 @@ played_more l ls a b c e p h =
     }
 
 -- the workers by place, as their calls left them
-pub have_played : (old new : List WorkerView) → length new ≡ length old → ((k : ℕ) (d : WorkerView) → k < length old → (a : WorkerView) × (b : WorkerView) × (a ≡ get_or old k d) × HasDone a b × (b ≡ get_or new k d)) → HavePlayed old new
+pub have_played : (old new : List WorkerView) → length new ≡ length old
+    → ((k : ℕ) (d : WorkerView) → k < length old → (a : WorkerView) × (b : WorkerView) × (a ≡ get_or old k d) × HasDone a b
+    × (b ≡ get_or new k d)) → HavePlayed old new
 have_played old new same each = record {
   count = same;
   each = λ k a b at_a at_b.

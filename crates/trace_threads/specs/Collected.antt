@@ -30,7 +30,8 @@ pub record AreMade (workers : List (List Line)) (callers : List CallerView) : Ty
 
 -- these then are what the closing collects
 abbrev pub OwnEntriesAreCollected : Type 0
-OwnEntriesAreCollected = (workers : List (List Line)) (callers : List CallerView) (entries : List Entry) (areas : List Area) → AreMade workers callers → IsWhole callers entries areas → IsCollected workers entries
+OwnEntriesAreCollected = (workers : List (List Line)) (callers : List CallerView) (entries : List Entry) (areas : List Area)
+    → AreMade workers callers → IsWhole callers entries areas → IsCollected workers entries
 
 -- a worker's caller
 abbrev pub caller_of : WorkerView → CallerView
@@ -39,11 +40,13 @@ caller_of w = w.caller
 -- the workers have these lists of lines, in order of their callers' numbers, and no caller has an entry yet
 pub record AreFresh (lines : List (List Line)) (workers : List WorkerView) : Type 0 where
   pub count : length workers ≡ length lines
-  pub each : (k : ℕ) (ls : List Line) (w : WorkerView) → get_elem? lines k ≡ some ls → get_elem? workers k ≡ some w → (w.lines ≡ ls) × (w.caller.seat.number ≡ k) × (w.caller.seat.pass.mine ≡ [])
+  pub each : (k : ℕ) (ls : List Line) (w : WorkerView) → get_elem? lines k ≡ some ls → get_elem? workers k ≡ some w
+      → (w.lines ≡ ls) × (w.caller.seat.number ≡ k) × (w.caller.seat.pass.mine ≡ [])
 
 -- when they have played, each caller has just the entries of its list
 abbrev pub PlaysAreMade : Type 0
-PlaysAreMade = (lines : List (List Line)) (before after : List WorkerView) → AreFresh lines before → HavePlayed before after → AreMade lines (map caller_of after)
+PlaysAreMade = (lines : List (List Line)) (before after : List WorkerView) → AreFresh lines before → HavePlayed before after
+    → AreMade lines (map caller_of after)
 
 -- what was held is right for the entry's call, and the reply is what the call answers, which leaves area list B
 abbrev pub HeldAndReplies : List Area → Entry → List Area → Type 0

@@ -17,17 +17,29 @@ module _ (seat : ℕ) (held : Option Held) (pass : Reading) where
   may_read h grants words passes m there small = (record { seen = slice_index words 0; sure = true }, (refl, (h.0, m.grant ∙ ap some h.1, h.2), refl))
 
   pub may_raise : (to : ℕ) → MayRaise held → pass.sure ≡ true → pass.seen ≤ to → IsAllowed IsHighWater IsMarkStep tt seat held pass (stores 0 to)
-  may_raise to h sure more grants words passes m there small = (record { seen = to; sure = true }, (refl, m.exclusive, (h.0, m.grant ∙ ap some h.1, h.2, h.3), (pass, m.own, sure, more), refl))
+  may_raise to h sure more grants words passes m there small = (
+    record { seen = to; sure = true },
+    (
+      refl,
+      m.exclusive,
+      (h.0, m.grant ∙ ap some h.1, h.2, h.3),
+      (pass, m.own, sure, more),
+      refl,
+    ),
+  )
 
-  pub was_read : (found : ℕ) (after : Reading) → IsMade IsHighWater IsMarkStep tt seat held pass (loads 0) found after → (pass.seen ≤ found) × (after ≡ record { seen = found; sure = true })
+  pub was_read : (found : ℕ) (after : Reading) → IsMade IsHighWater IsMarkStep tt seat held pass (loads 0) found after
+      → (pass.seen ≤ found) × (after ≡ record { seen = found; sure = true })
   was_read found after made = let m = made.3 in let old = m.met.seen seat pass m.own in let here = made.4 in
       (omega arith, made.5.2 ∙ (λ i. record { seen = here i; sure = true }))
 
-  pub was_raised : (to found : ℕ) (after : Reading) → IsMade IsHighWater IsMarkStep tt seat held pass (stores 0 to) found after → after ≡ record { seen = to; sure = true }
+  pub was_raised : (to found : ℕ) (after : Reading) → IsMade IsHighWater IsMarkStep tt seat held pass (stores 0 to) found after
+      → after ≡ record { seen = to; sure = true }
   was_raised to found after made = made.5.4
 
 -- the rule holds where no seat has read anything
-pub nothing_read : (first : ℕ → Reading) (grants : Grants) (seats : ℕ) → ((k : ℕ) → (first k).seen ≡ 0) → ((k : ℕ) → (first k).sure ≡ false) → IsHighWater grants (0 ∷ []) (first_passes first 0 seats)
+pub nothing_read : (first : ℕ → Reading) (grants : Grants) (seats : ℕ) → ((k : ℕ) → (first k).seen ≡ 0)
+    → ((k : ℕ) → (first k).sure ≡ false) → IsHighWater grants (0 ∷ []) (first_passes first 0 seats)
 nothing_read first grants seats none unsure = record {
   there = omega arith;
   seen = λ n p at. let m = at_firsts first 0 seats n p at in let z : p.seen ≡ 0 = ap (λ (q : Reading). q.seen) m.1 ∙ none m.0 in omega arith;

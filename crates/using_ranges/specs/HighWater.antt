@@ -50,11 +50,13 @@ abbrev pub unsure : Reading → Reading
 unsure p = record { seen = p.seen; sure = false }
 
 -- a new reading of the mark keeps the rule, where the mark is as it was
-reads : (grants : Grants) (words : List ℕ) (passes : List Reading) (seat : ℕ) (after : Reading) → IsHighWater grants words passes → ReadsMark grants seat → after ≡ record { seen = get_or words 0 0; sure = true }
+reads : (grants : Grants) (words : List ℕ) (passes : List Reading) (seat : ℕ) (after : Reading) → IsHighWater grants words passes
+    → ReadsMark grants seat → after ≡ record { seen = get_or words 0 0; sure = true }
     → IsHighWater grants words (set passes seat after)
 reads grants words passes seat after m may is = let as_now : after.seen ≡ get_or words 0 0 = ap (λ (p : Reading). p.seen) is in record {
   there = m.there;
-  seen = λ n p at. ⊎_elim (λ t. let own : p.seen ≡ after.seen = ap (λ (q : Reading). q.seen) (sym t.1) in omega arith) (λ t. m.seen n p t.1) (at_set passes seat n after p at);
+  seen = λ n p at. ⊎_elim (λ t. let own : p.seen ≡ after.seen = ap (λ (q : Reading). q.seen) (sym t.1) in omega arith)
+      (λ t. m.seen n p t.1) (at_set passes seat n after p at);
   sure = λ n p at yes. ⊎_elim
       (λ t. (subst (ReadsMark grants) (sym t.0) may, ap (λ (q : Reading). q.seen) (sym t.1) ∙ as_now))
       (λ t. m.sure n p t.1 yes)
@@ -62,8 +64,10 @@ reads grants words passes seat after m may is = let as_now : after.seen ≡ get_
 }
 
 -- so does a rise, since nobody else can be sure beside a writer
-rises : (grants : Grants) (words : List ℕ) (passes : List Reading) (seat value : ℕ) (before after : Reading) → IsHighWater grants words passes → IsExclusive grants → RaisesMark grants seat
-    → get_elem? passes seat ≡ some before → before.sure ≡ true → before.seen ≤ value → after ≡ record { seen = value; sure = true } → IsHighWater grants (set words 0 value) (set passes seat after)
+rises : (grants : Grants) (words : List ℕ) (passes : List Reading) (seat value : ℕ) (before after : Reading)
+    → IsHighWater grants words passes → IsExclusive grants → RaisesMark grants seat
+    → get_elem? passes seat ≡ some before → before.sure ≡ true → before.seen ≤ value
+    → after ≡ record { seen = value; sure = true } → IsHighWater grants (set words 0 value) (set passes seat after)
 rises grants words passes seat value before after m exclusive may own sure_now more is =
     let long = length-set words 0 value in
     let now : get_or (set words 0 value) 0 0 ≡ value = get_or-set_same words 0 value 0 m.there in
@@ -77,21 +81,26 @@ rises grants words passes seat value before after m exclusive may own sure_now m
           (at_set passes seat n after p at);
       sure = λ n p at yes. ⊎_elim
           (λ t. (subst (ReadsMark grants) (sym t.0) (may.0, may.1, may.2), ap (λ (q : Reading). q.seen) (sym t.1) ∙ (as_now ∙ sym now)))
-          (λ t. let r = (m.sure n p t.1 yes).0 in let a = r.2 in let b = may.2 in absurd (exclusive n seat r.0 may.0 t.0 r.1 may.1 ((omega arith, omega arith), inr may.3)))
+          (λ t. let r = (m.sure n p t.1 yes).0 in let a = r.2 in let b = may.2 in
+          absurd (exclusive n seat r.0 may.0 t.0 r.1 may.1 ((omega arith, omega arith), inr may.3)))
           (at_set passes seat n after p at);
     }
 
 -- the law of steps
-pub keeps_mark : (grants : Grants) (words : List ℕ) (passes : List Reading) (seat : ℕ) (step : ClientStep) (note : Unit {0}) (after : Reading) → IsHighWater grants words passes → IsMarkStep grants words passes seat step note after
+pub keeps_mark : (grants : Grants) (words : List ℕ) (passes : List Reading) (seat : ℕ) (step : ClientStep) (note : Unit {0})
+    (after : Reading) → IsHighWater grants words passes → IsMarkStep grants words passes seat step note after
     → IsHighWater grants (words_after words step) (slice_set passes seat after)
 keeps_mark grants words passes seat (loads i) note after m may = reads grants words passes seat after m may.1 may.2
-keeps_mark grants words passes seat (stores i value) note after m may = subst (λ (z : ℕ). IsHighWater grants (set words z value) (set passes seat after)) (sym may.0)
+keeps_mark grants words passes seat (stores i value) note after m may =
+    subst (λ (z : ℕ). IsHighWater grants (set words z value) (set passes seat after)) (sym may.0)
     (rises grants words passes seat value may.3.0 after m may.1 may.2 may.3.1 may.3.2 may.3.3 may.4)
 keeps_mark grants words passes seat (adds i by) note after m never = absurd never
 keeps_mark grants words passes seat (exchanges i expected new) note after m never = absurd never
 
 -- the law of gain
-pub gains_range : (grants : Grants) (words : List ℕ) (passes : List Reading) (seat : ℕ) (h : Held) → IsHighWater grants words passes → get_elem? grants seat ≡ some None → IsFree grants seat h → IsHighWater (slice_set grants seat (Some h)) words passes
+pub gains_range : (grants : Grants) (words : List ℕ) (passes : List Reading) (seat : ℕ) (h : Held)
+    → IsHighWater grants words passes → get_elem? grants seat ≡ some None → IsFree grants seat h
+    → IsHighWater (slice_set grants seat (Some h)) words passes
 gains_range grants words passes seat h m nothing free = record {
   there = m.there;
   seen = m.seen;
@@ -101,7 +110,9 @@ gains_range grants words passes seat h m nothing free = record {
 }
 
 -- the law of loss
-pub loses_range : (grants : Grants) (words : List ℕ) (passes : List Reading) (seat : ℕ) (pass : Reading) → IsHighWater grants words passes → get_elem? passes seat ≡ some pass → IsHighWater (slice_set grants seat None) words (slice_set passes seat (unsure pass))
+pub loses_range : (grants : Grants) (words : List ℕ) (passes : List Reading) (seat : ℕ) (pass : Reading)
+    → IsHighWater grants words passes → get_elem? passes seat ≡ some pass
+    → IsHighWater (slice_set grants seat None) words (slice_set passes seat (unsure pass))
 loses_range grants words passes seat pass m own = record {
   there = m.there;
   seen = λ n p at. ⊎_elim

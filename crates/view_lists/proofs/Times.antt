@@ -1,5 +1,7 @@
 -- Tests of a list by counts, and a list without another in parts.
-use Rattle.std.proofs.Common.{◌≡◌, ℕ, zero, suc, ◌+◌, ◌≤◌, Bool, true, false, List, [], ◌∷◌, ◌++◌, Some, length, take, drop, remove, ◌<◌, refl, sym, ap, subst, ◌∙◌, arith, zero-add, eqb-true, eq-eqb, append_assoc}
+use Rattle.std.proofs.Common.{◌≡◌, ℕ, zero, suc, ◌+◌, ◌≤◌, Bool, true, false, List, [], ◌∷◌, ◌++◌, Some, length, take}
+use Rattle.std.proofs.Common.{drop, remove, ◌<◌, refl, sym, ap, subst, ◌∙◌, arith, zero-add, eqb-true, eq-eqb}
+use Rattle.std.proofs.Common.{append_assoc}
 use Rattle.std.specs.Prelude.{◌==◌, ◌||◌, not, if◌then◌else◌, slice_get, get_or}
 use Rattle.std.specs.Bool.{OnTrue}
 use Rattle.std.specs.List.{list_any, All}
@@ -13,7 +15,8 @@ pub any_times : (node : ℕ) (l : List ℕ) → list_any (λ y. y == node) l ≡
 any_times node [] = refl
 any_times node (y ∷ ys) = split (y == node) (any_times node ys)
   where
-    split : (b : Bool) → list_any (λ z. z == node) ys ≡ not (times node ys == 0) → (b || list_any (λ z. z == node) ys) ≡ not ((if b then 1 else 0) + times node ys == 0)
+    split : (b : Bool) → list_any (λ z. z == node) ys ≡ not (times node ys == 0)
+        → (b || list_any (λ z. z == node) ys) ≡ not ((if b then 1 else 0) + times node ys == 0)
     split true e = grind (arith, nat_tests)
     split false e = e ∙ ap (λ n. not (n == 0)) (sym (zero-add (times node ys)))
 
@@ -21,7 +24,9 @@ pub without-append : (hs ls bs : List ℕ) → without hs (ls ++ bs) ≡ without
 without-append hs [] bs = refl
 without-append hs (y ∷ ys) bs = split (times y hs == 0) (without-append hs ys bs)
   where
-    split : (b : Bool) → without hs (ys ++ bs) ≡ without hs ys ++ without hs bs → (if b then y ∷ without hs (ys ++ bs) else without hs (ys ++ bs)) ≡ (if b then y ∷ without hs ys else without hs ys) ++ without hs bs
+    split : (b : Bool) → without hs (ys ++ bs) ≡ without hs ys ++ without hs bs
+        → (if b then y ∷ without hs (ys ++ bs) else without hs (ys ++ bs)) ≡ (if b then y ∷ without hs ys else without hs ys)
+        ++ without hs bs
     split true e = ap (λ l. y ∷ l) e
     split false e = e
 
@@ -50,7 +55,8 @@ without_longer : (front l : List ℕ) → without (front ++ l) l ≡ []
 without_longer front [] = refl
 without_longer front (y ∷ ys) = gone (times y (front ++ y ∷ ys) == 0) refl (without_longer (front ++ y ∷ []) ys)
   where
-    gone : (b : Bool) → (times y (front ++ y ∷ ys) == 0) ≡ b → without ((front ++ y ∷ []) ++ ys) ys ≡ [] → (if b then y ∷ without (front ++ y ∷ ys) ys else without (front ++ y ∷ ys) ys) ≡ []
+    gone : (b : Bool) → (times y (front ++ y ∷ ys) == 0) ≡ b → without ((front ++ y ∷ []) ++ ys) ys ≡ []
+        → (if b then y ∷ without (front ++ y ∷ ys) ys else without (front ++ y ∷ ys) ys) ≡ []
     gone true e rest = let none = eqb-true (times y (front ++ y ∷ ys)) 0 e in let some = counted_in front ys y in absurd (omega arith)
     gone false e rest = subst (λ l. without l ys ≡ []) (append_assoc front (y ∷ []) ys) rest
 
@@ -82,7 +88,8 @@ All-removed top xs new i low is = subst (All (λ x. x ≤ top)) (sym is) (remove
     removed ys k all = All-append (λ x. x ≤ top) (take k ys) (drop (suc k) ys) (All-take (λ x. x ≤ top) k ys all) (All-drop (λ x. x ≤ top) (suc k) ys all)
 
 -- to take a node of the first list out of another, at its place, changes nothing of what is left without the first
-pub removed_done : (gone xs : List ℕ) (i x : ℕ) → i < length xs → x ≡ get_or xs i x → not (times x gone == 0) ≡ true → take i (remove xs i) ++ without gone (drop i (remove xs i)) ≡ take i xs ++ without gone (drop i xs)
+pub removed_done : (gone xs : List ℕ) (i x : ℕ) → i < length xs → x ≡ get_or xs i x → not (times x gone == 0) ≡ true
+    → take i (remove xs i) ++ without gone (drop i (remove xs i)) ≡ take i xs ++ without gone (drop i xs)
 removed_done gone [] i x less at some = absurd (omega arith)
 removed_done gone (y ∷ ys) zero x less at some = by (times y gone == 0) refl
   where

@@ -71,7 +71,8 @@ pub fn open_words<R: StartRule>(
 ) -> Result<(Table<(), R::View, Start, R, Global>, Vec<Seat<(), R::View>>), AllocError>
     requires seats { (0 < seats) × (seats ≤ 16) }
     requires words { 0 < length words.now }
-    requires rule { (k : Start) → k.seats ≡ seats → k.words.items ≡ words.now → k.shares.items ≡ shares.now → R.holds k (opening words.now [] (R.rest seats words.now shares.now 0)) }
+    requires rule { (k : Start) → k.seats ≡ seats → k.words.items ≡ words.now → k.shares.items ≡ shares.now
+        → R.holds k (opening words.now [] (R.rest seats words.now shares.now 0)) }
     ensures counts { IfOk result (λ r. (length r.1.items ≡ seats) × (r.0.shared.table_id.words ≡ length words.now) × (r.0.shared.table_id.slots ≡ 0)) }
     ensures key { IfOk result (λ r. (r.0.shared.key.seats ≡ seats) × (r.0.shared.key.words.items ≡ words.now) × (r.0.shared.key.shares.items ≡ shares.now)) }
     ensures seated { IfOk result (λ r. IsSeated r.0.shared.table_id (R.one seats words.now shares.now) r.1.items) }

@@ -36,5 +36,6 @@ pub trait StartRule: TableRule<(), Self::View, Start> {
 
     /// A seat's own view can be cut off from what is left, and the rule still holds.
     ghost cuts: { (k : Start) (s id : ℕ) → s + 1 < k.seats
-        → Splits (Self.holds k) id (rest k.seats k.words.items k.shares.items s) (one k.seats k.words.items k.shares.items s) (rest k.seats k.words.items k.shares.items (s + 1)) };
+        → Splits (Self.holds k) id (rest k.seats k.words.items k.shares.items s) (one k.seats k.words.items k.shares.items s)
+        (rest k.seats k.words.items k.shares.items (s + 1)) };
 }

@@ -18,10 +18,13 @@ use Rattle.trace_threads.proofs.Collecting.{made, collected}
 use Rattle.trace_threads.proofs.Hirings.{new_workers, before_at, played_idle, fresh_new}
 
 -- the first two callers of a new space of three, with their lines
-pub two_workers : (table : TableId) (start : List Area) (calls : List ℕ) (a b h : CallerView) (f s : List Line) → AreNewCallers table start calls (a ∷ b ∷ h ∷ [])
+pub two_workers : (table : TableId) (start : List Area) (calls : List ℕ) (a b h : CallerView) (f s : List Line)
+    → AreNewCallers table start calls (a ∷ b ∷ h ∷ [])
     → AreNewWorkers table start (f ∷ s ∷ []) (record { caller = a; lines = f } ∷ record { caller = b; lines = s } ∷ [])
 two_workers table start calls a b h f s new =
-    new_workers table start calls (f ∷ s ∷ []) (a ∷ b ∷ []) (record { caller = a; lines = f } ∷ record { caller = b; lines = s } ∷ []) refl refl (omega arith) (λ k c at. new k c (at_longer (a ∷ b ∷ []) (h ∷ []) k c at))
+    new_workers table start calls (f ∷ s ∷ []) (a ∷ b ∷ [])
+    (record { caller = a; lines = f } ∷ record { caller = b; lines = s } ∷ []) refl refl (omega arith)
+    (λ k c at. new k c (at_longer (a ∷ b ∷ []) (h ∷ []) k c at))
 
 -- the third caller
 pub third_new : (table : TableId) (start : List Area) (calls : List ℕ) (a b h : CallerView) → AreNewCallers table start calls (a ∷ b ∷ h ∷ []) → IsThird table h
@@ -35,7 +38,9 @@ third_new table start calls a b h new =
     }
 
 -- callers that played, and one more behind them, are idle
-pub idle_with : (table : TableId) (start : List Area) (lists : List (List Line)) (before after : List WorkerView) (h : CallerView) → AreNewWorkers table start lists before → HavePlayed before after → h.seat.table ≡ table → h.seat.number ≡ length after → h.seat.held ≡ None
+pub idle_with : (table : TableId) (start : List Area) (lists : List (List Line)) (before after : List WorkerView) (h : CallerView)
+    → AreNewWorkers table start lists before → HavePlayed before after → h.seat.table ≡ table → h.seat.number ≡ length after
+    → h.seat.held ≡ None
     → AreIdle table (map caller_of after ++ h ∷ [])
 idle_with table start lists before after h new played of_table number free k c at =
     ⊎_elim
@@ -45,7 +50,8 @@ idle_with table start lists before after h new played of_table number free k c a
     (snoc_at (map caller_of after) h c k at)
 
 -- a caller with no entry made those of no line
-made_with : (lists : List (List Line)) (callers : List CallerView) (h : CallerView) → AreMade lists callers → h.seat.pass.mine ≡ [] → AreMade (lists ++ [] ∷ []) (callers ++ h ∷ [])
+made_with : (lists : List (List Line)) (callers : List CallerView) (h : CallerView) → AreMade lists callers
+    → h.seat.pass.mine ≡ [] → AreMade (lists ++ [] ∷ []) (callers ++ h ∷ [])
 made_with lists callers h m none = record {
   count = (let n = m.count in let long = length-append callers (h ∷ []) in let wide = length-append lists ([] ∷ []) in omega arith);
   each = λ k ls c at_ls at_c.
@@ -57,13 +63,16 @@ made_with lists callers h m none = record {
       (snoc_at callers h c k at_c))
       (λ l. ⊎_elim
       (λ t. let lt = below callers k c t in let end = l.0 in absurd (omega arith))
-      (λ t. subst (λ (z : List Line × CallerView). AreEntriesOf k z.0 z.1.seat.pass.mine) (λ i. (l.1 i, t.1 i)) (subst (λ es. AreEntriesOf k [] es) (sym none) tt))
+      (λ t. subst (λ (z : List Line × CallerView). AreEntriesOf k z.0 z.1.seat.pass.mine) (λ i. (l.1 i, t.1 i))
+      (subst (λ es. AreEntriesOf k [] es) (sym none) tt))
       (snoc_at callers h c k at_c))
       (snoc_at lists [] ls k at_ls);
 }
 
 -- and what the closing of them all collects is the workers' lines
-pub played_with : (table : TableId) (start : List Area) (lists : List (List Line)) (before after : List WorkerView) (h : CallerView) (entries : List Entry) (areas : List Area) → AreNewWorkers table start lists before → HavePlayed before after → h.seat.pass.mine ≡ []
+pub played_with : (table : TableId) (start : List Area) (lists : List (List Line)) (before after : List WorkerView)
+    (h : CallerView) (entries : List Entry) (areas : List Area) → AreNewWorkers table start lists before → HavePlayed before after
+    → h.seat.pass.mine ≡ []
     → IsWhole (map caller_of after ++ h ∷ []) entries areas → IsCollected (lists ++ [] ∷ []) entries × Runs 0 start entries areas
 played_with table start lists before after h entries areas new played none whole =
     let callers = map caller_of after in
@@ -71,12 +80,15 @@ played_with table start lists before after h entries areas new played none whole
     let more = new.any in
     let c = there callers 0 (omega arith) in
     let began = (before_at table start lists before after 0 c.0 new played c.1).3 in (
-      collected (lists ++ [] ∷ []) (callers ++ h ∷ []) entries areas (made_with lists callers h (made lists before after (fresh_new table start lists before new) played) none) whole,
+      collected (lists ++ [] ∷ []) (callers ++ h ∷ []) entries areas
+          (made_with lists callers h (made lists before after (fresh_new table start lists before new) played) none) whole,
       subst (λ a. Runs 0 a entries areas) began (whole.runs 0 c.0 (at_longer callers (h ∷ []) 0 c.0 c.1)),
     )
 
 -- what the first two callers may do
-pub two_new : (table : TableId) (start : List Area) (p q r : ℕ) (a b h : CallerView) → AreNewCallers table start (p ∷ q ∷ r ∷ []) (a ∷ b ∷ h ∷ []) → (a.left ≡ p) × (b.left ≡ q) × (a.seat.held ≡ None) × (b.seat.held ≡ None)
+pub two_new : (table : TableId) (start : List Area) (p q r : ℕ) (a b h : CallerView)
+    → AreNewCallers table start (p ∷ q ∷ r ∷ []) (a ∷ b ∷ h ∷ [])
+    → (a.left ≡ p) × (b.left ≡ q) × (a.seat.held ≡ None) × (b.seat.held ≡ None)
 two_new table start p q r a b h new =
     let e = new 0 a refl in
     let f = new 1 b refl in

@@ -17,15 +17,19 @@ pub all_more : {A : Type 0} (P : A → Type 0) (l new : List A) (a : A) → new 
 all_more P l new a is all h = subst (λ m. All P m) (sym is) (All-append P l (a ∷ []) all (all_one P a h))
 
 -- the lists as lists of lines, with one more
-pub items_more : (lists new : List (Vec Line Global)) (x : Vec Line Global) → new ≡ lists ++ x ∷ [] → map vec_items new ≡ map vec_items lists ++ vec_items x ∷ []
+pub items_more : (lists new : List (Vec Line Global)) (x : Vec Line Global) → new ≡ lists ++ x ∷ []
+    → map vec_items new ≡ map vec_items lists ++ vec_items x ∷ []
 items_more lists new x is = ap (map vec_items) is ∙ map-append vec_items lists (x ∷ [])
 
 -- their lengths, with those that are left
-pub counts_more : (lists new : List (Vec Line Global)) (x : Vec Line Global) (counts : List ℕ) (i n : ℕ) → new ≡ lists ++ x ∷ [] → i < length counts → n ≡ get_or counts i n → length (vec_items x) ≡ n
+pub counts_more : (lists new : List (Vec Line Global)) (x : Vec Line Global) (counts : List ℕ) (i n : ℕ) → new ≡ lists ++ x ∷ []
+    → i < length counts → n ≡ get_or counts i n → length (vec_items x) ≡ n
     → map length (map vec_items lists) ++ drop i counts ≡ counts → map length (map vec_items new) ++ drop (i + 1) counts ≡ counts
 counts_more lists new x counts i n is lt at long so_far =
     let done = map length (map vec_items lists) in
     let behind : drop i counts ≡ n ∷ drop (suc i) counts = drop_at counts i n (at_index counts i n lt at) in
     let next : suc i ≡ i + 1 = omega arith in
-    let more : map length (map vec_items new) ≡ done ++ n ∷ [] = ap (map length) (items_more lists new x is) ∙ (map-append length (map vec_items lists) (vec_items x ∷ []) ∙ ap (λ k. done ++ k ∷ []) long) in
-    ap (λ l. l ++ drop (i + 1) counts) more ∙ (append_one done n (drop (i + 1) counts) ∙ (ap (λ k. done ++ n ∷ drop k counts) (sym next) ∙ (ap (λ l. done ++ l) (sym behind) ∙ so_far)))
+    let more : map length (map vec_items new) ≡ done ++ n ∷ [] = ap (map length) (items_more lists new x is)
+    ∙ (map-append length (map vec_items lists) (vec_items x ∷ []) ∙ ap (λ k. done ++ k ∷ []) long) in
+    ap (λ l. l ++ drop (i + 1) counts) more ∙ (append_one done n (drop (i + 1) counts)
+    ∙ (ap (λ k. done ++ n ∷ drop k counts) (sym next) ∙ (ap (λ l. done ++ l) (sym behind) ∙ so_far)))

@@ -28,7 +28,8 @@ one_more seed threads made state xs ys line p q s l =
 
 pub loop-made-preserved : goal.loop-made-preserved
 loop-made-preserved c = record {
-  lines = one_more c.args.seed c.args.threads c.loop-made.made _ _ _ _ c.in_ok-push.ensures.items c.loop-made.invariant.lines c.loop-made.invariant.state c.next_line.ensures.line;
+  lines = one_more c.args.seed c.args.threads c.loop-made.made _ _ _ _ c.in_ok-push.ensures.items c.loop-made.invariant.lines
+      c.loop-made.invariant.state c.next_line.ensures.line;
   state = four_more c.args.seed c.loop-made.made _ _ c.loop-made.invariant.state c.next_line.ensures.state;
   bound = c.next_line.ensures.bound;
   named = All-same IsNamedLine _ _ c.in_ok-push.ensures.items (All-push IsNamedLine _ _ c.loop-made.invariant.named c.next_line.ensures.named);

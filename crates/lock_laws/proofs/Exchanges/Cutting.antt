@@ -27,7 +27,8 @@ module _ (h now : Heap) (p y : ℕ) (k : Cut h now p y) where
   others : (c : ℕ) → c ≢ p → to now c ≡ to h c
   others c d = ap (λ w. w / 2) (k.next c d)
 
-  edge : (x z : ℕ) → ((w : ℕ) → to h (suc x) ≡ suc w → IsBefore h x w) → (to h (suc x) ≡ suc y → (w : ℕ) → to h (suc y) ≡ suc w → IsBefore h y w) → to now (suc x) ≡ suc z → IsBefore now x z
+  edge : (x z : ℕ) → ((w : ℕ) → to h (suc x) ≡ suc w → IsBefore h x w)
+      → (to h (suc x) ≡ suc y → (w : ℕ) → to h (suc y) ≡ suc w → IsBefore h y w) → to now (suc x) ≡ suc z → IsBefore now x z
   edge x z old on_y e =
       before_same h now k.lo k.hi x z
       (⊎_elim
@@ -45,17 +46,21 @@ module _ (h now : Heap) (p y : ℕ) (k : Cut h now p y) where
     keeps_from = cut_keeps_from (to h) (to now) p y others k.was k.is k.apart;
     ordered = λ t ordered range. record {
       ends = cut_ends (to h) (to now) p y others k.was k.is k.apart t ordered.ends;
-      sorted = λ x z r e. let o = cut_adds (to h) (to now) p y others k.was k.is k.apart x t r in edge x z (λ w. ordered.sorted x w o) (λ l w. ordered.sorted y w (reach_next h x y t o l)) e;
+      sorted = λ x z r e. let o = cut_adds (to h) (to now) p y others k.was k.is k.apart x t r in
+          edge x z (λ w. ordered.sorted x w o) (λ l w. ordered.sorted y w (reach_next h x y t o l)) e;
     };
     chain = record {
       ends = cut_ends_from (to h) (to now) p y others k.was k.is k.apart 0 k.chain.ends;
-      sorted = λ x z r e. let o = cut_adds_from (to h) (to now) p y others k.was k.is k.apart x 0 r in edge x z (λ w. k.chain.sorted x w o) (λ l w. k.chain.sorted y w (reach_next h x y (to h 0) o l)) e;
+      sorted = λ x z r e. let o = cut_adds_from (to h) (to now) p y others k.was k.is k.apart x 0 r in
+          edge x z (λ w. k.chain.sorted x w o) (λ l w. k.chain.sorted y w (reach_next h x y (to h 0) o l)) e;
     };
     written = λ c. ⊎_elim
-        (λ (e : c ≡ p). ⊎_elim (λ (z : p ≡ 0). inl (e ∙ z)) (λ (q : (q : ℕ) × (p ≡ suc q) × InChain h q × IsUnmarked h q). inr (inl (q.0, e ∙ q.1, q.2, q.3))) k.live)
+        (λ (e : c ≡ p). ⊎_elim (λ (z : p ≡ 0). inl (e ∙ z))
+        (λ (q : (q : ℕ) × (p ≡ suc q) × InChain h q × IsUnmarked h q). inr (inl (q.0, e ∙ q.1, q.2, q.3))) k.live)
         (λ (d : c ≢ p). inr (inr (k.next c d)))
         (cases_eq c p);
-    stays = λ x low. inr (⊎_elim (λ (e : suc x ≡ p). ap (λ a. now.next a % 2) e ∙ k.even x (sym e)) (λ (d : suc x ≢ p). ap (λ w. w % 2) (k.next (suc x) d) ∙ low) (cases_eq (suc x) p));
+    stays = λ x low. inr (⊎_elim (λ (e : suc x ≡ p). ap (λ a. now.next a % 2) e ∙ k.even x (sym e))
+        (λ (d : suc x ≢ p). ap (λ w. w % 2) (k.next (suc x) d) ∙ low) (cases_eq (suc x) p));
     lo = k.lo;
     hi = k.hi;
     home = k.home;
@@ -74,7 +79,8 @@ module _ (h now : Heap) (p y : ℕ) (k : Cut h now p y) where
       ⊎_elim
       (λ (e : p ≡ 0).
       let at : to now 0 ≡ to h (suc y) = ap (to now) (sym e) ∙ k.is in
-      no_cycle (to h) y (to h 0) k.chain.ends cut_in_chain (cut_adds (to h) (to now) p y others k.was k.is k.apart y (to h (suc y)) (subst (Reach (to now) y) at r)))
+      no_cycle (to h) y (to h 0) k.chain.ends cut_in_chain
+      (cut_adds (to h) (to now) p y others k.was k.is k.apart y (to h (suc y)) (subst (Reach (to now) y) at r)))
       (λ (q : (q : ℕ) × (p ≡ suc q) × InChain h q × IsUnmarked h q).
       let at : to now 0 ≡ to h 0 = others 0 (λ e. let e' = q.1 in omega arith) in
       cut_gone (to h) (to now) p y others k.was k.is k.apart q.0 (to h 0) q.1 k.chain.ends q.2 (subst (Reach (to now) y) at r))

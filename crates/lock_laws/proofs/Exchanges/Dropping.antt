@@ -38,8 +38,24 @@ module _ (h : Heap) (views : List View) (s : ℕ) (v : View) (inv : LockInvarian
   held_now x a = by_seat (cases_eq a.seat s)
     where
       by_seat : (a.seat ≡ s) ⊎ (a.seat ≢ s) → IsHeldBy (set views s view_now) x
-      by_seat (inl q) = record { seat = s; view = view_now; at = new_view views s view_now v at; own = a.own; is = ap (λ (z : View). z.own) (is_view views s a.seat v a.view at a.at q) ∙ a.is; node = a.node; done = a.done }
-      by_seat (inr d) = record { seat = a.seat; view = a.view; at = kept_view views s a.seat view_now a.view d a.at; own = a.own; is = a.is; node = a.node; done = a.done }
+      by_seat (inl q) = record {
+        seat = s;
+        view = view_now;
+        at = new_view views s view_now v at;
+        own = a.own;
+        is = ap (λ (z : View). z.own) (is_view views s a.seat v a.view at a.at q) ∙ a.is;
+        node = a.node;
+        done = a.done;
+      }
+      by_seat (inr d) = record {
+        seat = a.seat;
+        view = a.view;
+        at = kept_view views s a.seat view_now a.view d a.at;
+        own = a.own;
+        is = a.is;
+        node = a.node;
+        done = a.done;
+      }
 
   alone : h.next 0 % 2 ≡ 1 → IsAlone h (set views s view_now)
   alone odd = let a = inv.fast_path.alone odd in record {
@@ -82,7 +98,10 @@ module _ (h : Heap) (views : List View) (s : ℕ) (v : View) (inv : LockInvarian
     hand_more = λ x e. e;
     fills = λ f e. e;
     lists = λ g e. let t = inv.places.linked s v g at e in (t.0, t.1, inv.fields.linked s v g at e);
-    listed_was = λ g e r. inr ((inv.places.linked s v g at e).1, record { seat = s; view = view_now; at = new_view views s view_now v at; own = g; is = e; node = refl });
+    listed_was = λ g e r. inr (
+      (inv.places.linked s v g at e).1,
+      record { seat = s; view = view_now; at = new_view views s view_now v at; own = g; is = e; node = refl },
+    );
     cursor = λ d e. absurd (cc);
     sees_own = λ g e todo. from_head g.node g.node g.todo todo (inv.places.linked s v g at e).0;
     as_reader = λ j u r g d e own own' reader writer over.
@@ -90,7 +109,8 @@ module _ (h : Heap) (views : List View) (s : ℕ) (v : View) (inv : LockInvarian
         (λ (t : (r.todo ≡ Forward) × HasToSee h r v.cursor g.node).
         inl (
           t.0,
-          forward g.node r.node r.todo t.0 (reader_first h r g inv.order.chain (inv.places.linked s v r at own).0 (inv.places.linked j u g e own').0 (inv.fields.linked s v r at own) (inv.fields.linked j u g e own')
+          forward g.node r.node r.todo t.0 (reader_first h r g inv.order.chain (inv.places.linked s v r at own).0
+              (inv.places.linked j u g e own').0 (inv.fields.linked s v r at own) (inv.fields.linked j u g e own')
               (own_apart h views j s u v g.node r.node inv.places e at (own_linked u g own') (own_linked v r own) d) writer over),
         ))
         inr

@@ -14,7 +14,8 @@ use Rattle.lock_core.specs.Words.{Heap, to, cell_of, hi_word, IsMarked, IsUnmark
 use Rattle.lock_core.specs.Nodes.{Filled, Listed, filling, listed, own_times}
 use Rattle.lock_core.specs.Views.{linked, todo_of}
 use Rattle.lock_core.specs.StepTable.{IsAtPlace}
-use Rattle.lock_laws.specs.Invariant.{IsViewOf, InChain, MayReach, IsBefore, IsOrdered, Places, IsKnown, IsWritten, HasRange, FastPath, HasToSee, first_cell_of, LockInvariant}
+use Rattle.lock_laws.specs.Invariant.{IsViewOf, InChain, MayReach, IsBefore, IsOrdered, Places, IsKnown, IsWritten}
+use Rattle.lock_laws.specs.Invariant.{HasRange, FastPath, HasToSee, first_cell_of, LockInvariant}
 use Rattle.lock_laws.proofs.Paths.{unreach, nothing_at_end}
 use Rattle.lock_laws.proofs.Along.{in_line, clear_behind}
 use Rattle.lock_core.proofs.Words.{WroteCell}
@@ -25,13 +26,15 @@ use Rattle.lock_laws.proofs.PathSteps.{PathStep, IsNew, listed_one}
 use Rattle.lock_laws.proofs.Exchanges.Putting.{IsLive, Put, put_change, put_next, own_in_chain, chain_keeps}
 
 -- the own nodes of different seats differ
-pub own_apart : (h : Heap) (views : List View) (i j : ℕ) (v u : View) (x y : ℕ) → Places h views → IsViewOf views i v → IsViewOf views j u → own_times x v.own ≡ 1 → own_times y u.own ≡ 1 → i ≢ j → x ≢ y
+pub own_apart : (h : Heap) (views : List View) (i j : ℕ) (v u : View) (x y : ℕ) → Places h views → IsViewOf views i v
+    → IsViewOf views j u → own_times x v.own ≡ 1 → own_times y u.own ≡ 1 → i ≢ j → x ≢ y
 own_apart h views i j v u x y places at at' a b d e =
     let b' : own_times x u.own ≡ 1 = subst (λ n. own_times n u.own ≡ 1) (sym e) b in
     d (one_seat h views places i j x v u at at' (omega arith) (omega arith))
 
 -- an overlapping reader stands before the writer
-pub reader_first : (h : Heap) (r w : Listed) → IsOrdered h (to h 0) → InChain h r.node → InChain h w.node → IsWritten h r → IsWritten h w → w.node ≢ r.node → w.mode ≡ Writer → Overlaps r.range w.range → Reach (to h) w.node (to h (suc r.node))
+pub reader_first : (h : Heap) (r w : Listed) → IsOrdered h (to h 0) → InChain h r.node → InChain h w.node → IsWritten h r
+    → IsWritten h w → w.node ≢ r.node → w.mode ≡ Writer → Overlaps r.range w.range → Reach (to h) w.node (to h (suc r.node))
 reader_first h r w ordered at at' known known' apart writer over =
     ⊎_elim (λ r. r)
     (λ t. absurd (⊎_elim apart
@@ -44,13 +47,24 @@ reader_first h r w ordered at at' known known' apart writer over =
 
 -- where a cursor's word has no low bit and its previous cell still has that word, that cell is the head or the next
 -- word of an unmarked chain node
-pub prev_live : (h : Heap) (views : List View) (i : ℕ) (v : View) (c : Cursor) (prev : Option ℕ) → FastPath h views → IsViewOf views i v → v.cursor ≡ Some c → c.prev ≡ prev → c.cur % 2 ≡ 0 → h.next (cell_of prev) % 2 ≡ 0 → IsLive h (cell_of prev)
+pub prev_live : (h : Heap) (views : List View) (i : ℕ) (v : View) (c : Cursor) (prev : Option ℕ) → FastPath h views
+    → IsViewOf views i v → v.cursor ≡ Some c → c.prev ≡ prev → c.cur % 2 ≡ 0 → h.next (cell_of prev) % 2 ≡ 0
+    → IsLive h (cell_of prev)
 prev_live h views i v c None fast at cursor e low even = inl refl
 prev_live h views i v c (Some q) fast at cursor e low even =
-    inr (q, refl, ⊎_elim (λ r. r) (λ t. absurd (⊎_elim (λ (m : IsMarked h q). omega arith) (λ (z : c.cur ≡ 2 * suc q + 1). omega arith) t)) (fast.kept i q v c at cursor (record { target = suc q; named = inl (sym (ap cell_of e)); reach = here })), even)
+    inr (
+      q,
+      refl,
+      ⊎_elim (λ r. r) (λ t. absurd (⊎_elim (λ (m : IsMarked h q). omega arith)
+          (λ (z : c.cur ≡ 2 * suc q + 1). omega arith) t))
+          (fast.kept i q v c at cursor (record { target = suc q; named = inl (sym (ap cell_of e)); reach = here })),
+      even,
+    )
 
 -- and then the head has no low bit
-pub head_even : (h : Heap) (views : List View) (i : ℕ) (v : View) (c : Cursor) (prev : Option ℕ) → FastPath h views → IsViewOf views i v → v.cursor ≡ Some c → c.prev ≡ prev → c.cur % 2 ≡ 0 → h.next (cell_of prev) % 2 ≡ 0 → h.next 0 % 2 ≡ 1 → ⊥
+pub head_even : (h : Heap) (views : List View) (i : ℕ) (v : View) (c : Cursor) (prev : Option ℕ) → FastPath h views
+    → IsViewOf views i v → v.cursor ≡ Some c → c.prev ≡ prev → c.cur % 2 ≡ 0 → h.next (cell_of prev) % 2 ≡ 0 → h.next 0 % 2 ≡ 1
+    → ⊥
 head_even h views i v c None fast at cursor e low even odd = omega arith
 head_even h views i v c (Some q) fast at cursor e low even odd =
     let alone = fast.alone odd in
@@ -92,7 +106,8 @@ pub record Case (seats : ℕ) (h now : Heap) (views : List View) (s : ℕ) (v : 
   pub found : h.next (cell_of c.prev) ≡ c.cur
   pub wrote : WroteCell seats h now (cell_of c.prev) (2 * suc f.node)
 
-module _ (seats : ℕ) (h now : Heap) (views : List View) (s : ℕ) (v : View) (f : Filled) (c : Cursor) (lo hi : ℕ) (k : Case seats h now views s v f c lo hi) where
+module _ (seats : ℕ) (h now : Heap) (views : List View) (s : ℕ) (v : View) (f : Filled) (c : Cursor) (lo hi : ℕ)
+    (k : Case seats h now views s v f c lo hi) where
   known : IsKnown h f
   known = k.invariant.fields.filled s v f k.at k.own
 
@@ -115,12 +130,14 @@ module _ (seats : ℕ) (h now : Heap) (views : List View) (s : ℕ) (v : View) (
   before_own q None e z r = absurd (omega arith)
   before_own q (Some p) e z r =
       let same : p ≡ q = omega arith in
-      past_before h q f.node lo hi f.mode (k.invariant.way.past s v c f lo hi q k.at k.cursor k.own k.lo_is k.hi_is (e ∙ ap (λ (a : ℕ). Some a) same)) rest.lo_is r.0
+      past_before h q f.node lo hi f.mode (k.invariant.way.past s v c f lo hi q k.at k.cursor k.own k.lo_is k.hi_is
+      (e ∙ ap (λ (a : ℕ). Some a) same)) rest.lo_is r.0
 
   after_own : (y : ℕ) → to h (suc f.node) ≡ suc y → IsBefore h f.node y
   after_own y e =
       let cur : c.cur / 2 ≡ suc y = ap (λ w. w / 2) (sym aim) ∙ e in
-      stop_before h f.node y lo hi f.mode (k.invariant.way.stop s v c f lo hi y k.at k.cursor k.own k.lo_is k.hi_is k.place cur) rest.lo_is rest.hi_is rest.range.0
+      stop_before h f.node y lo hi f.mode (k.invariant.way.stop s v c f lo hi y k.at k.cursor k.own k.lo_is k.hi_is k.place cur)
+      rest.lo_is rest.hi_is rest.range.0
 
   put : Put h now (cell_of c.prev) f.node
   put = record {
@@ -169,7 +186,8 @@ module _ (seats : ℕ) (h now : Heap) (views : List View) (s : ℕ) (v : View) (
     range = subst (HasRange now) (sym e) own_range;
   }
 
-  new_next : (j n x : ℕ) (u : View) (d : Cursor) → IsViewOf views j u → u.cursor ≡ Some d → d.next ≡ Some n → x ≡ f.node → Reach (to now) x (n / 2) → Reach (to now) x (to now (d.cur / 2))
+  new_next : (j n x : ℕ) (u : View) (d : Cursor) → IsViewOf views j u → u.cursor ≡ Some d → d.next ≡ Some n → x ≡ f.node
+      → Reach (to now) x (n / 2) → Reach (to now) x (to now (d.cur / 2))
   new_next j n x u d e q m z r =
       subst (λ a. Reach (to now) a (to now (d.cur / 2))) (sym z)
       (put_next h now (cell_of c.prev) f.node put n d.cur
@@ -181,7 +199,8 @@ module _ (seats : ℕ) (h now : Heap) (views : List View) (s : ℕ) (v : View) (
   head_low odd =
       ⊎_elim
       (λ (e : 0 ≡ cell_of c.prev). let a = ap now.next e in let b = k.wrote.is in omega arith)
-      (λ (d : 0 ≢ cell_of c.prev). head_even h views s v c c.prev k.invariant.fast_path k.at k.cursor refl k.low even (ap (λ w. w % 2) (sym (k.wrote.others 0 d)) ∙ odd))
+      (λ (d : 0 ≢ cell_of c.prev). head_even h views s v c c.prev k.invariant.fast_path k.at k.cursor refl k.low even
+      (ap (λ w. w % 2) (sym (k.wrote.others 0 d)) ∙ odd))
       (cases_eq 0 (cell_of c.prev))
 
   sees_itself : (m : Mode) → todo_of m ≡ FromHead → Reach (to now) f.node (to now (first_cell_of (todo_of m) f.node))
@@ -189,12 +208,16 @@ module _ (seats : ℕ) (h now : Heap) (views : List View) (s : ℕ) (v : View) (
   sees_itself Writer e = own_in_chain h now (cell_of c.prev) f.node put
 
   -- an overlapping writer is behind the reader that is linked now
-  reader_sees : (j : ℕ) (u : View) (g : Listed) (m : Mode) → f.mode ≡ m → m ≡ Reader → j ≢ s → IsViewOf views j u → u.own ≡ listed g → g.mode ≡ Writer → Overlaps own_now.range g.range → (todo_of m ≡ Forward) × Reach (to now) g.node (to now (first_cell_of (todo_of m) f.node))
+  reader_sees : (j : ℕ) (u : View) (g : Listed) (m : Mode) → f.mode ≡ m → m ≡ Reader → j ≢ s → IsViewOf views j u
+      → u.own ≡ listed g → g.mode ≡ Writer → Overlaps own_now.range g.range
+      → (todo_of m ≡ Forward) × Reach (to now) g.node (to now (first_cell_of (todo_of m) f.node))
   reader_sees j u g Writer is_m e d at own writer over = absurd (cc)
   reader_sees j u g Reader is_m e d at own writer over =
       let t = k.invariant.places.linked j u g at own in let a = k.invariant.fields.linked j u g at own in (
         refl,
-        reader_first now own_now g (put_change h now (cell_of c.prev) f.node put).chain (own_in_chain h now (cell_of c.prev) f.node put) (chain_keeps h now (cell_of c.prev) f.node put g.node t.0) own_written
+        reader_first now own_now g (put_change h now (cell_of c.prev) f.node put).chain
+            (own_in_chain h now (cell_of c.prev) f.node put) (chain_keeps h now (cell_of c.prev) f.node put g.node t.0)
+            own_written
             (record { lo = k.wrote.lo g.node ∙ a.lo; hi = k.wrote.hi g.node ∙ a.hi })
             (own_apart h views j s u v g.node f.node k.invariant.places at k.at (own_linked u g own) (own_filling v f k.own) d) writer over,
       )
@@ -226,14 +249,17 @@ module _ (seats : ℕ) (h now : Heap) (views : List View) (s : ℕ) (v : View) (
     hand = λ x e. inl e;
     hand_more = λ x e. e;
     fills = λ g e. absurd (cc);
-    lists = λ g e. subst (λ (a : Listed). InChain now a.node × IsUnmarked now a.node × IsWritten now a) (listed_one own_now g e) (own_in_chain h now (cell_of c.prev) f.node put, own_unmarked, own_written);
+    lists = λ g e. subst (λ (a : Listed). InChain now a.node × IsUnmarked now a.node × IsWritten now a) (listed_one own_now g e)
+        (own_in_chain h now (cell_of c.prev) f.node put, own_unmarked, own_written);
     listed_was = λ g e r. absurd (let o = k.own in cc);
     cursor = λ d e. absurd (cc);
-    sees_own = λ g e todo. let q = listed_one own_now g e in subst (λ (a : Listed). HasToSee now a None a.node) q (sees_itself f.mode (ap (λ (a : Listed). a.todo) q ∙ todo));
+    sees_own = λ g e todo. let q = listed_one own_now g e in
+        subst (λ (a : Listed). HasToSee now a None a.node) q (sees_itself f.mode (ap (λ (a : Listed). a.todo) q ∙ todo));
     as_reader = λ j u r g d at own own' reader writer over.
         let q = listed_one own_now r own in
         subst (λ (a : Listed). ((a.todo ≡ Forward) × HasToSee now a None g.node) ⊎ ((g.todo ≡ FromHead) × HasToSee now g u.cursor a.node)) q
-        (inl (reader_sees j u g f.mode refl (ap (λ (a : Listed). a.mode) q ∙ reader) d at own' writer (subst (λ (a : Listed). Overlaps a.range g.range) (sym q) over)));
+        (inl (reader_sees j u g f.mode refl (ap (λ (a : Listed). a.mode) q ∙ reader) d at own' writer
+        (subst (λ (a : Listed). Overlaps a.range g.range) (sym q) over)));
     as_writer = λ j u r g d at own own' reader writer over.
         let q = listed_one own_now g own' in
         subst (λ (a : Listed). ((r.todo ≡ Forward) × HasToSee now r u.cursor a.node) ⊎ ((a.todo ≡ FromHead) × HasToSee now a None r.node)) q

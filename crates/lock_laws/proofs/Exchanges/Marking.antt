@@ -30,7 +30,8 @@ module _ (seats : ℕ) (h now : Heap) (views : List View) (s : ℕ) (v : View) (
   mine = k.invariant.places.linked s v g k.at k.own
 
   same : (c : ℕ) → to now c ≡ to h c
-  same c = ⊎_elim (λ (e : c ≡ suc g.node). let a = ap now.next e in let b = ap h.next e in let w = k.wrote.is in let m = mine.1 in omega arith) (λ d. ap (λ w. w / 2) (k.wrote.others c d)) (cases_eq c (suc g.node))
+  same c = ⊎_elim (λ (e : c ≡ suc g.node). let a = ap now.next e in let b = ap h.next e in let w = k.wrote.is in let m = mine.1 in
+      omega arith) (λ d. ap (λ w. w / 2) (k.wrote.others c d)) (cases_eq c (suc g.node))
 
   back : (c : ℕ) → to h c ≡ to now c
   back c = sym (same c)
@@ -61,7 +62,8 @@ module _ (seats : ℕ) (h now : Heap) (views : List View) (s : ℕ) (v : View) (
       ends = subst (PathEnds (to now)) (back 0) (ends_same (to h) (to now) same (to h 0) o.ends);
       sorted = λ x y r e. before_same h now k.wrote.lo k.wrote.hi x y (o.sorted x y (back_from x 0 r) (back (suc x) ∙ e));
     };
-    written = λ c. ⊎_elim (λ (e : c ≡ suc g.node). inr (inl (g.node, e, mine.0, mine.1))) (λ (d : c ≢ suc g.node). inr (inr (k.wrote.others c d))) (cases_eq c (suc g.node));
+    written = λ c. ⊎_elim (λ (e : c ≡ suc g.node). inr (inl (g.node, e, mine.0, mine.1)))
+        (λ (d : c ≢ suc g.node). inr (inr (k.wrote.others c d))) (cases_eq c (suc g.node));
     stays = λ x low. ⊎_elim inl (λ (d : x ≢ g.node). inr (ap (λ w. w % 2) (k.wrote.others (suc x) (λ e. d (omega arith))) ∙ low)) (cases_eq x g.node);
     lo = k.wrote.lo;
     hi = k.wrote.hi;
@@ -84,7 +86,10 @@ module _ (seats : ℕ) (h now : Heap) (views : List View) (s : ℕ) (v : View) (
   alone : now.next 0 % 2 ≡ 1 → IsAlone now (set views s view_now)
   alone odd =
       let a = k.invariant.fast_path.alone (ap (λ w. w % 2) (sym (k.wrote.others 0 (λ e. omega arith))) ∙ odd) in
-      let mine_is : g.node ≡ a.node = ⊎_elim (λ e. e) (λ (r : Reach (to h) g.node (to h (suc a.node))). absurd (nothing_at_end (to h) g.node (subst (Reach (to h) g.node) a.last r))) (unreach (to h) g.node a.node (subst (Reach (to h) g.node) a.first mine.0)) in
+      let mine_is : g.node ≡ a.node = ⊎_elim (λ e. e)
+      (λ (r : Reach (to h) g.node (to h (suc a.node))). absurd
+      (nothing_at_end (to h) g.node (subst (Reach (to h) g.node) a.last r)))
+      (unreach (to h) g.node a.node (subst (Reach (to h) g.node) a.first mine.0)) in
       record {
         node = a.node;
         first = same 0 ∙ a.first;
@@ -109,17 +114,21 @@ module _ (seats : ℕ) (h now : Heap) (views : List View) (s : ℕ) (v : View) (
     lost_hand = λ x l. absurd l;
     lost_used = λ x l. absurd l;
     lost_seen = λ j x u d e q m l. absurd l;
-    apart = λ j u b d e own l. ⊎_elim (λ z. z) (own_apart h views j s u v b.node g.node k.invariant.places e k.at (own_linked u b own) (own_linked v g k.own) d) l;
+    apart = λ j u b d e own l. ⊎_elim (λ z. z) (own_apart h views j s u v b.node g.node k.invariant.places e k.at
+        (own_linked u b own) (own_linked v g k.own) d) l;
     alone = alone;
     rest = refl;
     once = counts_moved v g k.own;
-    used = λ x e. ⊎_elim (λ (q : x ≡ g.node). inr (inl (subst (λ a. InChain now a × IsMarked now a) (sym q) (now_from g.node 0 mine.0, is_marked)))) inl (used_or_own v g k.own x e);
+    used = λ x e. ⊎_elim (λ (q : x ≡ g.node). inr
+        (inl (subst (λ a. InChain now a × IsMarked now a) (sym q) (now_from g.node 0 mine.0, is_marked)))) inl
+        (used_or_own v g k.own x e);
     used_more = used_grows v g k.own;
     hand = λ x e. inl e;
     hand_more = λ x e. e;
     fills = λ f e. absurd (cc);
     lists = λ b e. absurd (cc);
-    listed_was = λ b own r. let q = listed_one g b (sym k.own ∙ own) in inl (subst (λ (a : Listed). IsMarked now a.node × IsUsed (set views s view_now) a.node) q (is_marked, is_used));
+    listed_was = λ b own r. let q = listed_one g b (sym k.own ∙ own) in
+        inl (subst (λ (a : Listed). IsMarked now a.node × IsUsed (set views s view_now) a.node) q (is_marked, is_used));
     cursor = λ d e. (d, e, inl refl);
     sees_own = λ b e. absurd (cc);
     as_reader = λ j u r b d e own. absurd (cc);

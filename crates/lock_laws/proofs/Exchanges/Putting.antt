@@ -43,7 +43,8 @@ module _ (h now : Heap) (p o : ℕ) (k : Put h now p o) where
   own_in_chain =
       ⊎_elim
       (λ (e : p ≡ 0). subst (λ a. Reach (to now) o (to now a)) e reach_own)
-      (λ (q : (q : ℕ) × (p ≡ suc q) × InChain h q × IsUnmarked h q). reach_on (to now) o q.0 (to now 0) (chain_keeps q.0 q.2) (subst (λ a. Reach (to now) o (to now a)) q.1 reach_own))
+      (λ (q : (q : ℕ) × (p ≡ suc q) × InChain h q × IsUnmarked h q). reach_on (to now) o q.0 (to now 0) (chain_keeps q.0 q.2)
+      (subst (λ a. Reach (to now) o (to now a)) q.1 reach_own))
       k.live
 
   edge : (x y : ℕ) → ((x ≡ o) ⊎ HasRange h x × ((z : ℕ) → to h (suc x) ≡ suc z → IsBefore h x z)) → to now (suc x) ≡ suc y → IsBefore now x y
@@ -66,24 +67,30 @@ module _ (h now : Heap) (p o : ℕ) (k : Put h now p o) where
     keeps_from = λ x c r. inr (put_keeps_from (to h) (to now) p o others k.was k.is k.apart x c r);
     ordered = λ t ordered range. record {
       ends = put_ends (to h) (to now) p o others k.was k.is k.apart t ordered.ends;
-      sorted = λ x y r e. edge x y (⊎_elim inl (λ (b : Reach (to h) x t). inr (range x b, λ z. ordered.sorted x z b)) (put_adds (to h) (to now) p o others k.was k.is k.apart x t r)) e;
+      sorted = λ x y r e. edge x y (⊎_elim inl (λ (b : Reach (to h) x t). inr (range x b, λ z. ordered.sorted x z b))
+          (put_adds (to h) (to now) p o others k.was k.is k.apart x t r)) e;
     };
     chain = record {
       ends = put_ends_from (to h) (to now) p o others k.was k.is k.apart 0 k.chain.ends;
-      sorted = λ x y r e. edge x y (⊎_elim inl (λ (b : InChain h x). inr (k.range x b, λ z. k.chain.sorted x z b)) (put_adds_from (to h) (to now) p o others k.was k.is k.apart x 0 r)) e;
+      sorted = λ x y r e. edge x y (⊎_elim inl (λ (b : InChain h x). inr (k.range x b, λ z. k.chain.sorted x z b))
+          (put_adds_from (to h) (to now) p o others k.was k.is k.apart x 0 r)) e;
     };
     written = λ c. ⊎_elim
-        (λ (e : c ≡ p). ⊎_elim (λ (z : p ≡ 0). inl (e ∙ z)) (λ (q : (q : ℕ) × (p ≡ suc q) × InChain h q × IsUnmarked h q). inr (inl (q.0, e ∙ q.1, q.2, q.3))) k.live)
+        (λ (e : c ≡ p). ⊎_elim (λ (z : p ≡ 0). inl (e ∙ z))
+        (λ (q : (q : ℕ) × (p ≡ suc q) × InChain h q × IsUnmarked h q). inr (inl (q.0, e ∙ q.1, q.2, q.3))) k.live)
         (λ (d : c ≢ p). inr (inr (k.next c d)))
         (cases_eq c p);
-    stays = λ x low. inr (⊎_elim (λ (e : suc x ≡ p). ap (λ a. now.next a % 2) e ∙ k.even x (sym e)) (λ (d : suc x ≢ p). ap (λ w. w % 2) (k.next (suc x) d) ∙ low) (cases_eq (suc x) p));
+    stays = λ x low. inr (⊎_elim (λ (e : suc x ≡ p). ap (λ a. now.next a % 2) e ∙ k.even x (sym e))
+        (λ (d : suc x ≢ p). ap (λ w. w % 2) (k.next (suc x) d) ∙ low) (cases_eq (suc x) p));
     lo = k.lo;
     hi = k.hi;
     home = k.home;
   }
 
   -- a cursor that can't reach the new node itself reaches it from its next word only through its node
-  pub put_next : (n cur : ℕ) → (Reach (to h) o (n / 2) → ⊥) → ((x : ℕ) → InChain h x → IsUnmarked h x → Reach (to h) x (n / 2) → Reach (to h) x (to h (cur / 2))) → Reach (to now) o (n / 2) → Reach (to now) o (to now (cur / 2))
+  pub put_next : (n cur : ℕ) → (Reach (to h) o (n / 2) → ⊥)
+      → ((x : ℕ) → InChain h x → IsUnmarked h x → Reach (to h) x (n / 2) → Reach (to h) x (to h (cur / 2)))
+      → Reach (to now) o (n / 2) → Reach (to now) o (to now (cur / 2))
   put_next n cur away read r =
       ⊎_elim
       (λ (old : Reach (to h) o (n / 2)). absurd (away old))
@@ -93,7 +100,8 @@ module _ (h now : Heap) (p o : ℕ) (k : Put h now p o) where
       (λ (q : (q : ℕ) × (p ≡ suc q) × InChain h q × IsUnmarked h q).
       let same : q.0 ≡ by.0 = let b = by.1 in let c = q.1 in omega arith in
       reach_on (to now) o by.0 (to now (cur / 2))
-      (put_keeps_from (to h) (to now) p o others k.was k.is k.apart by.0 (cur / 2) (read by.0 (subst (InChain h) same q.2) (subst (IsUnmarked h) same q.3) by.2))
+      (put_keeps_from (to h) (to now) p o others k.was k.is k.apart by.0 (cur / 2)
+      (read by.0 (subst (InChain h) same q.2) (subst (IsUnmarked h) same q.3) by.2))
       (subst (λ a. Reach (to now) o (to now a)) by.1 reach_own))
       k.live)
       (put_via (to h) (to now) p o others k.was k.is k.apart (n / 2) r)

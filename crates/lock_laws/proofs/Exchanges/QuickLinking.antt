@@ -93,7 +93,8 @@ module _ (seats : ℕ) (h now : Heap) (views : List View) (s : ℕ) (v : View) (
     range = subst (HasRange now) (sym e) own_range;
   }
 
-  new_next : (j n x : ℕ) (u : View) (d : Cursor) → IsViewOf views j u → u.cursor ≡ Some d → d.next ≡ Some n → x ≡ f.node → Reach (to now) x (n / 2) → Reach (to now) x (to now (d.cur / 2))
+  new_next : (j n x : ℕ) (u : View) (d : Cursor) → IsViewOf views j u → u.cursor ≡ Some d → d.next ≡ Some n → x ≡ f.node
+      → Reach (to now) x (n / 2) → Reach (to now) x (to now (d.cur / 2))
   new_next j n x u d e q m z r =
       subst (λ a. Reach (to now) a (to now (d.cur / 2))) (sym z)
       (put_next h now 0 f.node put n d.cur
@@ -115,7 +116,8 @@ module _ (seats : ℕ) (h now : Heap) (views : List View) (s : ℕ) (v : View) (
     first = put.is;
     last = ap (λ w. w / 2) last;
     rest = inr (record { seat = s; view = view_now; at = new_view views s view_now v k.at; own = own_now; is = refl; node = refl; done = refl });
-    unseen = λ i u d e q m. absurd (each views s view_now (λ i u. (d : Cursor) → u.cursor ≡ Some d → MayReach now d f.node → ⊥) (λ d q m. unseen s v d k.at q m) (λ j u _ e d q m. unseen j u d e q m) i u e d q m);
+    unseen = λ i u d e q m. absurd (each views s view_now (λ i u. (d : Cursor) → u.cursor ≡ Some d → MayReach now d f.node → ⊥)
+        (λ d q m. unseen s v d k.at q m) (λ j u _ e d q m. unseen j u d e q m) i u e d q m);
   }
 
   pub step : PathStep h now views s v view_now (λ x. x ≡ f.node) (λ _. ⊥) (λ _. ⊥)
@@ -140,7 +142,8 @@ module _ (seats : ℕ) (h now : Heap) (views : List View) (s : ℕ) (v : View) (
     hand = λ x e. inl e;
     hand_more = λ x e. e;
     fills = λ g e. absurd (cc);
-    lists = λ g e. subst (λ (a : Listed). InChain now a.node × IsUnmarked now a.node × IsWritten now a) (listed_one own_now g e) (own_in_chain h now 0 f.node put, ap (λ w. w % 2) last, own_written);
+    lists = λ g e. subst (λ (a : Listed). InChain now a.node × IsUnmarked now a.node × IsWritten now a) (listed_one own_now g e)
+        (own_in_chain h now 0 f.node put, ap (λ w. w % 2) last, own_written);
     listed_was = λ g e r. absurd (let o = k.own in cc);
     cursor = λ d e. (d, e, inl refl);
     sees_own = λ g e todo. absurd (let q = ap (λ (a : Listed). a.todo) (listed_one own_now g e) in cc);

@@ -62,8 +62,10 @@ module _ (seats : ℕ) (h now : Heap) (views : List View) (s : ℕ) (v : View) (
     lost_gone = λ x e r. cut_not_in_chain h now 0 g.node cut (subst (InChain now) e r);
     lost_hand = λ x e. ap (λ (a : ℕ). Some a) (sym e);
     lost_used = λ x e. subst (IsUsed (set views s view_now)) (sym e) is_used;
-    lost_seen = λ j x u d e q m l. inr (let same : x ≡ alone.node = l ∙ sym is_mine in alone.unseen j u d e q (subst (MayReach h d) same m) ∙ ap (λ a. 2 * suc a + 1) (sym same));
-    apart = λ j u b d e own l. ⊎_elim (own_apart h views j s u v b.node g.node k.invariant.places e k.at (own_linked u b own) (own_linked v g k.own) d) (λ z. z) l;
+    lost_seen = λ j x u d e q m l. inr (let same : x ≡ alone.node = l ∙ sym is_mine in
+        alone.unseen j u d e q (subst (MayReach h d) same m) ∙ ap (λ a. 2 * suc a + 1) (sym same));
+    apart = λ j u b d e own l. ⊎_elim (own_apart h views j s u v b.node g.node k.invariant.places e k.at (own_linked u b own)
+        (own_linked v g k.own) d) (λ z. z) l;
     alone = λ odd. absurd (let e = k.wrote.is in omega arith);
     rest = refl;
     once = counts_moved v g k.own;

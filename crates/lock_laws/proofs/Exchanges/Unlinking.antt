@@ -25,8 +25,11 @@ use Rattle.lock_laws.proofs.Exchanges.Linking.{own_apart, prev_live, head_even}
 use Rattle.lock_core.proofs.SizedSteps.{plain_is}
 
 -- an own node that a cursor came to its place with is as it was, or done
-pub own_after : (own : Own) (w : ℕ) (g : Listed) → own_at own w ≡ listed g → (own ≡ listed g) ⊎ ((k : Listed) × (own ≡ listed k) × (g ≡ done k) × (((k.todo ≡ Forward) × (w ≡ 0)) ⊎ ((k.todo ≡ FromHead) × (w ≡ 2 * suc k.node))))
-own_after own w g e = ⊎_elim (λ q. inl (sym q ∙ e)) (λ (c : CameHome own w (own_at own w)). inr (c.was, c.is, listed_one g (done c.was) (sym e ∙ c.now), c.way)) (coming own w)
+pub own_after : (own : Own) (w : ℕ) (g : Listed) → own_at own w ≡ listed g
+    → (own ≡ listed g) ⊎ ((k : Listed) × (own ≡ listed k) × (g ≡ done k)
+    × (((k.todo ≡ Forward) × (w ≡ 0)) ⊎ ((k.todo ≡ FromHead) × (w ≡ 2 * suc k.node))))
+own_after own w g e = ⊎_elim (λ q. inl (sym q ∙ e))
+    (λ (c : CameHome own w (own_at own w)). inr (c.was, c.is, listed_one g (done c.was) (sym e ∙ c.now), c.way)) (coming own w)
 
 pub own_fills : (own : Own) (w : ℕ) (f : Filled) → own_at own w ≡ filling f → own ≡ filling f
 own_fills own w f e = ⊎_elim (λ q. sym q ∙ e) (λ (c : CameHome own w (own_at own w)). absurd (let q = c.now in cc)) (coming own w)
@@ -114,7 +117,8 @@ module _ (seats : ℕ) (h now : Heap) (views : List View) (s : ℕ) (v : View) (
   head_low odd =
       ⊎_elim
       (λ (e : 0 ≡ cell_of c.prev). let a = ap now.next e in let b = k.wrote.is in let m = k.marked in omega arith)
-      (λ (d : 0 ≢ cell_of c.prev). head_even h views s v c c.prev k.invariant.fast_path k.at k.cursor refl low even (ap (λ w. w % 2) (sym (k.wrote.others 0 d)) ∙ odd))
+      (λ (d : 0 ≢ cell_of c.prev). head_even h views s v c c.prev k.invariant.fast_path k.at k.cursor refl low even
+      (ap (λ w. w % 2) (sym (k.wrote.others 0 d)) ∙ odd))
       (cases_eq 0 (cell_of c.prev))
 
   -- a linked node stays, with its words
@@ -150,7 +154,9 @@ module _ (seats : ℕ) (h now : Heap) (views : List View) (s : ℕ) (v : View) (
     seats_apart : (a b : Listed) → v.own ≡ listed a → u.own ≡ listed b → b.node ≢ a.node
     seats_apart a b own own' = own_apart h views j s u v b.node a.node k.invariant.places e k.at (own_linked u b own') (own_linked v a own) d
 
-    reader_now : (r g : Listed) → view_now.own ≡ listed r → u.own ≡ listed g → r.mode ≡ Reader → g.mode ≡ Writer → Overlaps r.range g.range → ((r.todo ≡ Forward) × HasToSee now r view_now.cursor g.node) ⊎ ((g.todo ≡ FromHead) × HasToSee now g u.cursor r.node)
+    reader_now : (r g : Listed) → view_now.own ≡ listed r → u.own ≡ listed g → r.mode ≡ Reader → g.mode ≡ Writer
+        → Overlaps r.range g.range → ((r.todo ≡ Forward) × HasToSee now r view_now.cursor g.node)
+        ⊎ ((g.todo ≡ FromHead) × HasToSee now g u.cursor r.node)
     reader_now r g own own' reader writer over =
         ⊎_elim
         (λ (q : v.own ≡ listed r).
@@ -173,7 +179,9 @@ module _ (seats : ℕ) (h now : Heap) (views : List View) (s : ℕ) (v : View) (
         (k.invariant.pairs s j v u b.0 g k.at e b.1 own' mode writer over'))
         (own_after v.own (n - 1) r own)
 
-    writer_now : (r g : Listed) → u.own ≡ listed r → view_now.own ≡ listed g → r.mode ≡ Reader → g.mode ≡ Writer → Overlaps r.range g.range → ((r.todo ≡ Forward) × HasToSee now r u.cursor g.node) ⊎ ((g.todo ≡ FromHead) × HasToSee now g view_now.cursor r.node)
+    writer_now : (r g : Listed) → u.own ≡ listed r → view_now.own ≡ listed g → r.mode ≡ Reader → g.mode ≡ Writer
+        → Overlaps r.range g.range → ((r.todo ≡ Forward) × HasToSee now r u.cursor g.node)
+        ⊎ ((g.todo ≡ FromHead) × HasToSee now g view_now.cursor r.node)
     writer_now r g own own' reader writer over =
         ⊎_elim
         (λ (q : v.own ≡ listed g).
@@ -185,14 +193,19 @@ module _ (seats : ℕ) (h now : Heap) (views : List View) (s : ℕ) (v : View) (
         let mode : b.0.mode ≡ Writer = ap (λ (z : Listed). z.mode) (sym b.2) ∙ writer in
         let over' : Overlaps r.range b.0.range = subst (λ (z : Listed). Overlaps r.range z.range) b.2 over in
         ⊎_elim
-        (λ (t : (r.todo ≡ Forward) × HasToSee h r u.cursor b.0.node). inl (t.0, subst (λ (z : Listed). HasToSee now r u.cursor z.node) (sym b.2) (sees r u.cursor b.0.node (not_y s v b.0 k.at b.1) t.1)))
+        (λ (t : (r.todo ≡ Forward) × HasToSee h r u.cursor b.0.node). inl (
+          t.0,
+          subst (λ (z : Listed). HasToSee now r u.cursor z.node) (sym b.2)
+              (sees r u.cursor b.0.node (not_y s v b.0 k.at b.1) t.1),
+        ))
         (λ (t : (b.0.todo ≡ FromHead) × HasToSee h b.0 v.cursor r.node).
         let z = sees_own b.0 r.node (not_y j u r e own) t.1 in
         absurd (⊎_elim
         (λ (w : (b.0.todo ≡ Forward) × (n - 1 ≡ 0)). let p = t.0 in let q = w.0 in cc)
         (λ (w : (b.0.todo ≡ FromHead) × (n - 1 ≡ 2 * suc b.0.node)).
         let m = stays s v b.0 k.at b.1 in
-        writer_blind now b.0 r change.chain m.0 m.2 (stays j u r e own).2 (seats_apart b.0 r b.1 own) mode over' (subst (Reach (to now) r.node) (let p = w.1 in omega arith) z))
+        writer_blind now b.0 r change.chain m.0 m.2 (stays j u r e own).2 (seats_apart b.0 r b.1 own) mode over'
+        (subst (Reach (to now) r.node) (let p = w.1 in omega arith) z))
         b.3))
         (k.invariant.pairs j s u v r b.0 e k.at own b.1 reader mode over'))
         (own_after v.own (n - 1) g own')
@@ -205,14 +218,26 @@ module _ (seats : ℕ) (h now : Heap) (views : List View) (s : ℕ) (v : View) (
       (k.invariant.places.chain y (cut_in_chain h now (cell_of c.prev) y cut))
     where
       by_seat : (a : IsUsed views y) → (a.seat ≡ s) ⊎ (a.seat ≢ s) → IsUsed (set views s view_now) y
-      by_seat a (inl q) = record { seat = s; view = view_now; at = new_view views s view_now v k.at; used = ap (λ (z : View). times y z.used) (is_view views s a.seat v a.view k.at a.at q) ∙ a.used }
+      by_seat a (inl q) = record {
+        seat = s;
+        view = view_now;
+        at = new_view views s view_now v k.at;
+        used = ap (λ (z : View). times y z.used) (is_view views s a.seat v a.view k.at a.at q) ∙ a.used;
+      }
       by_seat a (inr d) = record { seat = a.seat; view = a.view; at = kept_view views s a.seat view_now a.view d a.at; used = a.used }
 
   still_linked : (g : Listed) → v.own ≡ listed g → IsLinked (set views s view_now) g.node
   still_linked g own =
       ⊎_elim
       (λ (q : own_at v.own (n - 1) ≡ v.own). record { seat = s; view = view_now; at = new_view views s view_now v k.at; own = g; is = q ∙ own; node = refl })
-      (λ (b : CameHome v.own (n - 1) (own_at v.own (n - 1))). record { seat = s; view = view_now; at = new_view views s view_now v k.at; own = done b.was; is = b.now; node = ap (λ (z : Listed). z.node) (listed_one b.was g (sym b.is ∙ own)) })
+      (λ (b : CameHome v.own (n - 1) (own_at v.own (n - 1))). record {
+        seat = s;
+        view = view_now;
+        at = new_view views s view_now v k.at;
+        own = done b.was;
+        is = b.now;
+        node = ap (λ (z : Listed). z.node) (listed_one b.was g (sym b.is ∙ own));
+      })
       (coming v.own (n - 1))
 
   pub step : PathStep h now views s v view_now (λ _. ⊥) (λ x. x ≡ y) (λ _. ⊥)
@@ -247,7 +272,9 @@ module _ (seats : ℕ) (h now : Heap) (views : List View) (s : ℕ) (v : View) (
     cursor = λ d e. (c, k.cursor, inr (let q : cursor_now ≡ d = cc in subst (Fresh c) q fresh));
     sees_own = λ g e todo. ⊎_elim
         (λ (q : v.own ≡ listed g). sees_own g g.node (not_y s v g k.at q) (k.invariant.to_see s v g k.at q todo))
-        (λ (b : (a : Listed) × (v.own ≡ listed a) × (g ≡ done a) × (((a.todo ≡ Forward) × (n - 1 ≡ 0)) ⊎ ((a.todo ≡ FromHead) × (n - 1 ≡ 2 * suc a.node)))). absurd (let q = ap (λ (z : Listed). z.todo) b.2 in cc))
+        (λ (b : (a : Listed) × (v.own ≡ listed a) × (g ≡ done a)
+        × (((a.todo ≡ Forward) × (n - 1 ≡ 0)) ⊎ ((a.todo ≡ FromHead) × (n - 1 ≡ 2 * suc a.node)))). absurd
+        (let q = ap (λ (z : Listed). z.todo) b.2 in cc))
         (own_after v.own (n - 1) g e);
     as_reader = λ j u r g d e. reader_now j u d e r g;
     as_writer = λ j u r g d e. writer_now j u d e r g;

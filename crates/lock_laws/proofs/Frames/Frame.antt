@@ -1,6 +1,7 @@
 -- A step that leaves every path as it is.
 -- Only words of nodes that are idle in the stepping seat's view were written, so nothing that a view may reach changed.
-use Rattle.std.proofs.Common.{◌≡◌, ◌≢◌, ◌⊎◌, ℕ, zero, suc, ◌+◌, ◌*◌, ◌/◌, ◌%◌, ◌^◌, ◌<◌, ◌≤◌, List, Some, None, inl, inr, ⊎_elim, refl, sym, ap, ◌∙◌, subst, arith}
+use Rattle.std.proofs.Common.{◌≡◌, ◌≢◌, ◌⊎◌, ℕ, zero, suc, ◌+◌, ◌*◌, ◌/◌, ◌%◌, ◌^◌, ◌<◌, ◌≤◌, List, Some, None, inl}
+use Rattle.std.proofs.Common.{inr, ⊎_elim, refl, sym, ap, ◌∙◌, subst, arith}
 use Rattle.std.specs.Prelude.{Option}
 use Rattle.lock_core.specs.declared.views.View.{View}
 use Rattle.lock_core.specs.declared.views.Cursor.{Cursor}
@@ -111,14 +112,17 @@ module _ (h now : Heap) (views : List View) (s : ℕ) (v : View) (parts : Parts 
       next_node = r.next_node;
       lo_node = r.lo_node;
       lo = λ lo y e q. r.lo lo y e q ∙ sym (aside.lo y (cur_apart y q));
-      marked = λ n e q. let y = cell_at (c.cur / 2) (r.next_node n e) in r.marked n e q ∙ sym (ap now.next y.1 ∙ aside.next y.0 (cur_apart y.0 y.1) ∙ ap h.next (sym y.1));
+      marked = λ n e q. let y = cell_at (c.cur / 2) (r.next_node n e) in
+          r.marked n e q ∙ sym (ap now.next y.1 ∙ aside.next y.0 (cur_apart y.0 y.1) ∙ ap h.next (sym y.1));
       next = λ n x e ch un far.
           let y = cell_at (c.cur / 2) (r.next_node n e) in
           let old = chain_back x ch in
           let got = r.next n x e old (sym (mark_is x (chain_apart x old)) ∙ un) (back_reach x (n / 2) (clear (n / 2) (inr (inr (n, e, refl)))) far) in
           let cur : Reach (to h) y.0 (c.cur / 2) = subst (Reach (to h) y.0) (sym y.1) here in
           let from : IsClear h v (to h (suc y.0)) = clear_on y.0 (c.cur / 2) (clear (c.cur / 2) (inr (inl refl))) cur in
-          subst (λ a. Reach (to now) x (to now a)) (sym y.1) (subst (Reach (to now) x) (sym (others y.0 (cur_apart y.0 y.1))) (on_reach x (to h (suc y.0)) from (subst (λ a. Reach (to h) x (to h a)) y.1 got)));
+          subst (λ a. Reach (to now) x (to now a)) (sym y.1)
+          (subst (Reach (to now) x) (sym (others y.0 (cur_apart y.0 y.1)))
+          (on_reach x (to h (suc y.0)) from (subst (λ a. Reach (to h) x (to h a)) y.1 got)));
     }
 
     pub cursor_now : (own : Own) → IsCursorKept h own c → IsCursorKept now own c
@@ -129,7 +133,8 @@ module _ (h now : Heap) (views : List View) (s : ℕ) (v : View) (parts : Parts 
       kept = λ x m. let b = may_back x m in
           ⊎_elim
           (λ (r : InChain h x). inl (chain_on x r))
-          (λ (r : IsMarked h x ⊎ (c.cur ≡ 2 * suc x + 1)). ⊎_elim (λ (a : IsMarked h x). inr (inl (mark_is x (may_apart x b) ∙ a))) (λ (a : c.cur ≡ 2 * suc x + 1). inr (inr a)) r)
+          (λ (r : IsMarked h x ⊎ (c.cur ≡ 2 * suc x + 1)). ⊎_elim
+          (λ (a : IsMarked h x). inr (inl (mark_is x (may_apart x b) ∙ a))) (λ (a : c.cur ≡ 2 * suc x + 1). inr (inr a)) r)
           (k.kept x b);
       low = k.low;
       past = λ f lo hi p e1 e2 e3 e4. compared_now f lo hi p (prev_apart p e4) ∙ k.past f lo hi p e1 e2 e3 e4;
@@ -142,12 +147,14 @@ module _ (h now : Heap) (views : List View) (s : ℕ) (v : View) (parts : Parts 
   sees_start FromHead n x r q = chain_on x q
   sees_start Done n x r q = chain_on x q
 
-  sees_from : (cur : ℕ) (next : Option ℕ) (x : ℕ) → IsClear h v (cur / 2) → ((n : ℕ) → next ≡ Some n → IsClear h v (n / 2)) → SeesFrom h cur next x → SeesFrom now cur next x
+  sees_from : (cur : ℕ) (next : Option ℕ) (x : ℕ) → IsClear h v (cur / 2) → ((n : ℕ) → next ≡ Some n → IsClear h v (n / 2))
+      → SeesFrom h cur next x → SeesFrom now cur next x
   sees_from cur None x a b q = on_reach x (cur / 2) a q
   sees_from cur (Some n) x a b (inl e) = inl e
   sees_from cur (Some n) x a b (inr q) = inr (on_reach x (n / 2) (b n refl) q)
 
-  pub sees_on : (k : Listed) (o : Option Cursor) (x : ℕ) → InChain h k.node → ((c : Cursor) → o ≡ Some c → (t : ℕ) → Names c t → IsClear h v t) → HasToSee h k o x → HasToSee now k o x
+  pub sees_on : (k : Listed) (o : Option Cursor) (x : ℕ) → InChain h k.node
+      → ((c : Cursor) → o ≡ Some c → (t : ℕ) → Names c t → IsClear h v t) → HasToSee h k o x → HasToSee now k o x
   sees_on k None x r clear q = sees_start k.todo k.node x r q
   sees_on k (Some c) x r clear q = sees_from c.cur c.next x (clear c refl (c.cur / 2) (inr (inl refl))) (λ n e. clear c refl (n / 2) (inr (inr (n, e, refl)))) q
 

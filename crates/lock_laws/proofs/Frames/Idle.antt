@@ -50,4 +50,5 @@ module _ (h : Heap) (views : List View) (places : Places h views) where
 
   -- a node that one seat fills or has ready isn't idle at another seat
   pub idle_seat : (i j x : ℕ) (v u : View) → IsViewOf views i v → IsViewOf views j u → IsIdle v x → IsIdle u x → i ≡ j
-  idle_seat i j x v u at at' a b = let p = idle_times v x a in let q = idle_times u x b in one_seat h views places i j x v u at at' (omega (arith, p)) (omega (arith, q))
+  idle_seat i j x v u at at' a b = let p = idle_times v x a in let q = idle_times u x b in
+      one_seat h views places i j x v u at at' (omega (arith, p)) (omega (arith, q))

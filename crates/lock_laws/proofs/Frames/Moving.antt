@@ -29,7 +29,9 @@ pub record Moves (h now : Heap) (views : List View) (s : ℕ) (v u : View) : Typ
   pub to_see : (k : Listed) → u.own ≡ listed k → k.todo ≡ FromHead → HasToSee now k u.cursor k.node
   pub unseen : now.next 0 % 2 ≡ 1 → (a : IsAlone h views) (d : Cursor) → u.cursor ≡ Some d → MayReach now d a.node → d.cur ≡ 2 * suc a.node + 1
 
-module _ (h now : Heap) (views : List View) (s : ℕ) (v u : View) (parts : Parts h views) (at : IsViewOf views s v) (calm : Calm h now) (home : (x : ℕ) → now.home x ≡ h.home x) (epochs : (j : ℕ) (w : View) → IsViewOf views j w → now.epoch j ≡ h.epoch j) (low : now.next 0 % 2 ≡ 1 → h.next 0 % 2 ≡ 1) (moves : Moves h now views s v u) where
+module _ (h now : Heap) (views : List View) (s : ℕ) (v u : View) (parts : Parts h views) (at : IsViewOf views s v)
+    (calm : Calm h now) (home : (x : ℕ) → now.home x ≡ h.home x) (epochs : (j : ℕ) (w : View) → IsViewOf views j w
+    → now.epoch j ≡ h.epoch j) (low : now.next 0 % 2 ≡ 1 → h.next 0 % 2 ≡ 1) (moves : Moves h now views s v u) where
   ready : u.ready ≡ v.ready
   ready = ap (λ (z : View). z.ready) moves.rest
 
@@ -127,7 +129,8 @@ module _ (h now : Heap) (views : List View) (s : ℕ) (v u : View) (parts : Part
         };
         reach = moves.reach;
         idle = λ x idle. idle_alone h now views s v u parts at calm x (idle_back x idle);
-        out = λ j x w c same home' out e has m. stays_out h now views s v parts at (λ j w e d. epochs j w e) s j x v w c same at (subst (λ (l : List ℕ). 1 ≤ times x l) homes home') (out_same j out) e has m;
+        out = λ j x w c same home' out e has m. stays_out h now views s v parts at (λ j w e d. epochs j w e) s j x v w c same at
+            (subst (λ (l : List ℕ). 1 ≤ times x l) homes home') (out_same j out) e has m;
         looks = looks;
         held = held_forth;
         unseen = moves.unseen;

@@ -11,7 +11,8 @@ use Rattle.lock_core.specs.Words.{Heap, to, IsMarked}
 use Rattle.lock_core.specs.Nodes.{Filled, Listed, filling, listed}
 use Rattle.lock_core.specs.Compare.{compared}
 use Rattle.lock_core.specs.StepTable.{IsAtPlace}
-use Rattle.lock_laws.specs.Invariant.{IsViewOf, InChain, Names, MayReach, IsOrdered, Places, IsKnown, IsWritten, HasRange, IsRead, IsAlone, HasToSee, Pairs, Barrier, NoReuse, LockInvariant}
+use Rattle.lock_laws.specs.Invariant.{IsViewOf, InChain, Names, MayReach, IsOrdered, Places, IsKnown, IsWritten}
+use Rattle.lock_laws.specs.Invariant.{HasRange, IsRead, IsAlone, HasToSee, Pairs, Barrier, NoReuse, LockInvariant}
 
 -- what is kept of a cursor beside this own node
 pub record IsCursorKept (h : Heap) (own : Own) (c : Cursor) : Type 0 where
@@ -21,7 +22,8 @@ pub record IsCursorKept (h : Heap) (own : Own) (c : Cursor) : Type 0 where
   pub kept : (x : ℕ) → MayReach h c x → InChain h x ⊎ (IsMarked h x ⊎ (c.cur ≡ 2 * suc x + 1))
   pub low : c.cur % 2 ≡ 1 → (c.prev ≡ None) × (c.next ≡ None) × (c.lo ≡ None)
   pub past : (f : Filled) (lo hi p : ℕ) → own ≡ filling f → f.lo ≡ Some lo → f.hi ≡ Some hi → c.prev ≡ Some p → compared f.mode lo hi (h.lo p) (h.hi p) ≡ Past
-  pub stop : (f : Filled) (lo hi y : ℕ) → own ≡ filling f → f.lo ≡ Some lo → f.hi ≡ Some hi → IsAtPlace c → c.cur / 2 ≡ suc y → compared f.mode lo hi (h.lo y) (h.hi y) ≡ Stop
+  pub stop : (f : Filled) (lo hi y : ℕ) → own ≡ filling f → f.lo ≡ Some lo → f.hi ≡ Some hi → IsAtPlace c → c.cur / 2 ≡ suc y
+      → compared f.mode lo hi (h.lo y) (h.hi y) ≡ Stop
 
 -- what is kept of the view of seat i alone
 pub record IsViewKept (h : Heap) (i : ℕ) (v : View) : Type 0 where

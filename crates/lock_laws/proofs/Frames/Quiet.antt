@@ -15,7 +15,9 @@ use Rattle.lock_laws.proofs.Frames.Frame.{Aside, cursor_now, clear_cursor, may_b
 use Rattle.lock_laws.proofs.Frames.Steady.{Mine, Stands}
 
 -- the nodes stay where they are
-pub stands_quiet : (h now : Heap) (views : List View) (s : ℕ) (v u : View) → Parts h views → IsViewOf views s v → ((x : ℕ) → now.home x ≡ h.home x) → u.own ≡ v.own → u.ready ≡ v.ready → u.used ≡ v.used → u.homes ≡ v.homes → u.hand ≡ v.hand → Stands h now views s v u
+pub stands_quiet : (h now : Heap) (views : List View) (s : ℕ) (v u : View) → Parts h views → IsViewOf views s v
+    → ((x : ℕ) → now.home x ≡ h.home x) → u.own ≡ v.own → u.ready ≡ v.ready → u.used ≡ v.used → u.homes ≡ v.homes
+    → u.hand ≡ v.hand → Stands h now views s v u
 stands_quiet h now views s v u parts at home own ready used homes hand = record {
   times_same = λ x z. own_times x (own z) + times x (ready z) + times x (used z);
   homes = λ x. let a = ap (times x) homes in let b = ap (times x) used in let l = parts.places.homes s x v at in omega (arith, a, b, l);
@@ -68,23 +70,28 @@ module _ (h now : Heap) (views : List View) (s : ℕ) (v u : View) (parts : Part
       even = even;
       filled = λ f e. known_on h now f calm (k.filled f (sym own ∙ e));
       linked = λ g e. written_on h now g calm (k.linked g (sym own ∙ e));
-      cursor = λ c e. let e' = old_cursor c e in subst (λ (o : Own). IsCursorKept now o c) (sym own) (cursor_now h now views s v parts at aside c (clear_cursor h now views s v parts at aside s v c at e') v.own (k.cursor c e'));
+      cursor = λ c e. let e' = old_cursor c e in subst (λ (o : Own). IsCursorKept now o c) (sym own)
+          (cursor_now h now views s v parts at aside c (clear_cursor h now views s v parts at aside s v c at e') v.own
+          (k.cursor c e'));
       to_see = λ g e todo. let e' = sym own ∙ e in subst (λ (o : Option Cursor). HasToSee now g o g.node) (sym cursor) (sees g g.node e' (k.to_see g e' todo));
     }
       where
         sees : (g : Listed) (x : ℕ) → v.own ≡ listed g → HasToSee h g v.cursor x → HasToSee now g v.cursor x
-        sees g x e q = sees_on h now views s v parts at aside g v.cursor x (parts.places.linked s v g at e).0 (λ c has. clear_cursor h now views s v parts at aside s v c at has) q
+        sees g x e q = sees_on h now views s v parts at aside g v.cursor x (parts.places.linked s v g at e).0
+            (λ c has. clear_cursor h now views s v parts at aside s v c at has) q
 
     pub mine_quiet : IsViewKept now s u
         → ((x : ℕ) → IsIdle u x → (InChain h x → ⊥) × ((j : ℕ) (w : View) (c : Cursor) → IsViewOf views j w → w.cursor ≡ Some c → MayReach h c x → ⊥))
-        → ((j x : ℕ) (w : View) (c : Cursor) → (j ≡ s → now.epoch s ≡ h.epoch s) → 1 ≤ times x u.homes → IsOut now u j → IsViewOf views j w → w.cursor ≡ Some c → MayReach h c x → ⊥)
+        → ((j x : ℕ) (w : View) (c : Cursor) → (j ≡ s → now.epoch s ≡ h.epoch s) → 1 ≤ times x u.homes → IsOut now u j
+        → IsViewOf views j w → w.cursor ≡ Some c → MayReach h c x → ⊥)
         → (now.next 0 % 2 ≡ 1 → h.next 0 % 2 ≡ 1)
         → ((j : ℕ) (w : View) → IsViewOf views j w → j ≢ s → now.epoch j ≡ h.epoch j)
         → (now.epoch s ≡ h.epoch s) ⊎ (u.cursor ≡ None)
         → Mine h now views s v u
     mine_quiet kept idle out low epochs epoch = record {
       kept = kept;
-      reach = λ d x e m. let e' = old_cursor d e in inr (d, e', may_back h now views s v parts at aside d (clear_cursor h now views s v parts at aside s v d at e') x m);
+      reach = λ d x e m. let e' = old_cursor d e in
+          inr (d, e', may_back h now views s v parts at aside d (clear_cursor h now views s v parts at aside s v d at e') x m);
       idle = idle;
       out = out;
       looks = λ k e. let e' = sym own ∙ e in record {
@@ -93,10 +100,17 @@ module _ (h now : Heap) (views : List View) (s : ℕ) (v u : View) (parts : Part
         node = refl;
         range = refl;
         mode = refl;
-        sees = λ g r q. (refl, subst (λ (o : Option Cursor). HasToSee now k o g.node) (sym cursor) (sees_on h now views s v parts at aside k v.cursor g.node (parts.places.linked s v k at e').0 (λ c has. clear_cursor h now views s v parts at aside s v c at has) q));
+        sees = λ g r q. (
+          refl,
+          subst (λ (o : Option Cursor). HasToSee now k o g.node) (sym cursor)
+              (sees_on h now views s v parts at aside k v.cursor g.node (parts.places.linked s v k at e').0
+              (λ c has. clear_cursor h now views s v parts at aside s v c at has) q),
+        );
       };
       held = λ k e done. own ∙ e;
-      unseen = λ odd a d e m. let e' = old_cursor d e in a.unseen s v d at e' (may_back h now views s v parts at aside d (clear_cursor h now views s v parts at aside s v d at e') a.node m);
+      unseen = λ odd a d e m. let e' = old_cursor d e in
+          a.unseen s v d at e' (may_back h now views s v parts at aside d
+          (clear_cursor h now views s v parts at aside s v d at e') a.node m);
       low = low;
       epochs = epochs;
       epoch = epoch;

@@ -30,9 +30,11 @@ reader_is h k w e = ap (λ a. a % 2) w.hi ∙ reader_low k.range.hi k.mode e
 
 -- a reader and a writer are two nodes
 pub two_nodes : (h : Heap) (r w : Listed) → IsWritten h r → IsWritten h w → r.mode ≡ Reader → w.mode ≡ Writer → r.node ≡ w.node → ⊥
-two_nodes h r w a b reader writer e = let x = reader_is h r a reader in let y = writer_is h w b writer in let z = ap (λ n. h.hi n % 2) e in omega (arith, x, y, z)
+two_nodes h r w a b reader writer e = let x = reader_is h r a reader in let y = writer_is h w b writer in
+    let z = ap (λ n. h.hi n % 2) e in omega (arith, x, y, z)
 
-module _ (h : Heap) (views : List View) (s : ℕ) (v : View) (k g : Listed) (parts : Parts h views) (at : IsViewOf views s v) (own : v.own ≡ listed k) (rival : Rival views k g) where
+module _ (h : Heap) (views : List View) (s : ℕ) (v : View) (k g : Listed) (parts : Parts h views) (at : IsViewOf views s v)
+    (own : v.own ≡ listed k) (rival : Rival views k g) where
   pub mine_written : IsWritten h k
   mine_written = (parts.each s v at).linked k own
 
@@ -68,19 +70,24 @@ module _ (h : Heap) (views : List View) (s : ℕ) (v : View) (k g : Listed) (par
   -- from where a validation begins it has every rival to see
   pub sees_anew : HasToSee h k None g.node
   sees_anew = ⊎_elim
-      (λ (t : (k.todo ≡ Forward) × (k.mode ≡ Reader) × (g.mode ≡ Writer)). subst (λ (a : Todo). Reach (to h) g.node (to h (first_cell_of a k.node))) (sym t.0) (behind t.2))
-      (λ (t : (k.todo ≡ FromHead) × (k.mode ≡ Writer) × (g.mode ≡ Reader)). subst (λ (a : Todo). Reach (to h) g.node (to h (first_cell_of a k.node))) (sym t.0) rival_chain)
+      (λ (t : (k.todo ≡ Forward) × (k.mode ≡ Reader) × (g.mode ≡ Writer)). subst
+      (λ (a : Todo). Reach (to h) g.node (to h (first_cell_of a k.node))) (sym t.0) (behind t.2))
+      (λ (t : (k.todo ≡ FromHead) × (k.mode ≡ Writer) × (g.mode ≡ Reader)). subst
+      (λ (a : Todo). Reach (to h) g.node (to h (first_cell_of a k.node))) (sym t.0) rival_chain)
       rival.way
     where
       behind : g.mode ≡ Writer → Reach (to h) g.node (to h (suc k.node))
       behind writer = ⊎_elim
           (λ (r : Reach (to h) g.node (to h (suc k.node))). r)
-          (λ (t : (g.node ≡ k.node) ⊎ Reach (to h) k.node (to h (suc g.node))). absurd (⊎_elim (λ (e : g.node ≡ k.node). apart (sym e)) (λ (r : Reach (to h) k.node (to h (suc g.node))). not_behind_rival writer r) t))
+          (λ (t : (g.node ≡ k.node) ⊎ Reach (to h) k.node (to h (suc g.node))). absurd
+          (⊎_elim (λ (e : g.node ≡ k.node). apart (sym e))
+          (λ (r : Reach (to h) k.node (to h (suc g.node))). not_behind_rival writer r) t))
           (in_line (to h) g.node k.node (to h 0) rival_chain mine_chain)
 
   -- at its own node a writer has nothing left to see
   pub blind_at_own : k.mode ≡ Writer → Reach (to h) g.node (suc k.node) → ⊥
-  blind_at_own writer r = ⊎_elim (λ (e : g.node ≡ k.node). apart (sym e)) (λ (b : Reach (to h) g.node (to h (suc k.node))). not_behind_mine writer b) (unreach (to h) g.node k.node r)
+  blind_at_own writer r = ⊎_elim (λ (e : g.node ≡ k.node). apart (sym e))
+      (λ (b : Reach (to h) g.node (to h (suc k.node))). not_behind_mine writer b) (unreach (to h) g.node k.node r)
 
   -- and a reader before a node that starts at its end or later
   pub blind_behind : (y : ℕ) → IsOrdered h (suc y) → k.range.hi ≤ h.lo y → Reach (to h) g.node (suc y) → ⊥

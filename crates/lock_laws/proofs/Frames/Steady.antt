@@ -12,7 +12,8 @@ use Rattle.lock_core.specs.declared.views.Todo.TheVariants.{Forward, FromHead, D
 use Rattle.lock_laws.specs.Paths.{Reach, here}
 use Rattle.lock_core.specs.Words.{Heap, to, IsMarked, IsUnmarked}
 use Rattle.lock_core.specs.Nodes.{Filled, Listed, filling, listed, own_times}
-use Rattle.lock_laws.specs.Invariant.{IsViewOf, InChain, MayReach, InHand, IsUsed, IsLinked, Places, IsHeldBy, IsAlone, HasToSee, Pairs, IsOut, Barrier, IsIdle, NoReuse}
+use Rattle.lock_laws.specs.Invariant.{IsViewOf, InChain, MayReach, InHand, IsUsed, IsLinked, Places, IsHeldBy, IsAlone}
+use Rattle.lock_laws.specs.Invariant.{HasToSee, Pairs, IsOut, Barrier, IsIdle, NoReuse}
 use Rattle.lock_core.proofs.ByView.{set_view, kept_view, new_view, is_view}
 use Rattle.lock_laws.proofs.PathSteps.{listed_one}
 use Rattle.lock_laws.proofs.Seats.{only_once}
@@ -95,7 +96,12 @@ module _ (h now : Heap) (views : List View) (s : ℕ) (v u : View) (parts : Part
     used_forth : (x : ℕ) → h.home x ≡ 0 → IsUsed views x → IsUsed after x
     used_forth x z a =
         ⊎_elim
-        (λ (q : a.seat ≡ s). record { seat = s; view = u; at = mine_after; used = st.used_on x (ap (λ (w : View). times x w.used) (mine_is a.seat a.view a.at q) ∙ a.used) z })
+        (λ (q : a.seat ≡ s). record {
+          seat = s;
+          view = u;
+          at = mine_after;
+          used = st.used_on x (ap (λ (w : View). times x w.used) (mine_is a.seat a.view a.at q) ∙ a.used) z;
+        })
         (λ (d : a.seat ≢ s). record { seat = a.seat; view = a.view; at = to_after a.seat a.view d a.at; used = a.used })
         (cases_eq a.seat s)
 
@@ -108,12 +114,18 @@ module _ (h now : Heap) (views : List View) (s : ℕ) (v u : View) (parts : Part
         (λ (d : a.seat ≢ s). record { seat = a.seat; view = a.view; at = to_after a.seat a.view d a.at; own = a.own; is = a.is; node = a.node })
         (cases_eq a.seat s)
 
-    used_way : (x : ℕ) → (InChain h x × IsMarked h x) ⊎ (InHand views x ⊎ (now.home x ≡ 1)) → (InChain now x × IsMarked now x) ⊎ (InHand after x ⊎ (now.home x ≡ 1))
-    used_way x (inl t) = inl (chain_on h now views s v parts at aside x t.0, mark_is h now views s v parts at aside x (chain_apart h now views s v parts at aside x t.0) ∙ t.1)
+    used_way : (x : ℕ) → (InChain h x × IsMarked h x) ⊎ (InHand views x ⊎ (now.home x ≡ 1))
+        → (InChain now x × IsMarked now x) ⊎ (InHand after x ⊎ (now.home x ≡ 1))
+    used_way x (inl t) = inl (
+      chain_on h now views s v parts at aside x t.0,
+      mark_is h now views s v parts at aside x (chain_apart h now views s v parts at aside x t.0) ∙ t.1,
+    )
     used_way x (inr (inl a)) = inr (hand_forth x a)
     used_way x (inr (inr e)) = inr (inr e)
 
-    used_home : (i x : ℕ) (w : View) → IsViewOf views i w → times x w.used ≡ 1 → (InChain h x × IsMarked h x) ⊎ (InHand views x ⊎ (h.home x ≡ 1)) → (InChain h x × IsMarked h x) ⊎ (InHand views x ⊎ (now.home x ≡ 1))
+    used_home : (i x : ℕ) (w : View) → IsViewOf views i w → times x w.used ≡ 1
+        → (InChain h x × IsMarked h x) ⊎ (InHand views x ⊎ (h.home x ≡ 1))
+        → (InChain h x × IsMarked h x) ⊎ (InHand views x ⊎ (now.home x ≡ 1))
     used_home i x w e q (inl t) = inl t
     used_home i x w e q (inr (inl a)) = inr (inl a)
     used_home i x w e q (inr (inr r)) = inr (inr (ho.home i x w e q r))
@@ -121,7 +133,8 @@ module _ (h now : Heap) (views : List View) (s : ℕ) (v u : View) (parts : Part
     pub places_now : Places now after
     places_now = record {
       once = λ i x w e. by_seat i w e
-          (λ q r. sym (ap (λ (z : View). own_times x z.own + times x z.ready + times x z.used) r) ∙ st.times_same x ∙ p.once s x v at ∙ ap (λ a. if x / 16 == a then 1 else 0) (sym q))
+          (λ q r. sym (ap (λ (z : View). own_times x z.own + times x z.ready + times x z.used) r) ∙ st.times_same x
+          ∙ p.once s x v at ∙ ap (λ a. if x / 16 == a then 1 else 0) (sym q))
           (λ d e'. p.once i x w e');
       homes = λ i x w e. by_seat i w e (λ q r. subst (λ (z : View). times x z.homes ≤ times x z.used) r (st.homes x)) (λ d e'. p.homes i x w e');
       at_home = λ i x w e l. by_seat i w e
@@ -152,7 +165,10 @@ module _ (h now : Heap) (views : List View) (s : ℕ) (v u : View) (parts : Part
         used_once i x w e l = let a = p.homes i x w e in let b = only_once h views p i x w e in omega (arith, a, b, l)
 
         linked_now : (i : ℕ) (w : View) (k : Listed) → IsViewOf views i w → w.own ≡ listed k → InChain now k.node × IsUnmarked now k.node
-        linked_now i w k e own = let t = p.linked i w k e own in (chain_on h now views s v parts at aside k.node t.0, mark_is h now views s v parts at aside k.node (chain_apart h now views s v parts at aside k.node t.0) ∙ t.1)
+        linked_now i w k e own = let t = p.linked i w k e own in (
+          chain_on h now views s v parts at aside k.node t.0,
+          mark_is h now views s v parts at aside k.node (chain_apart h now views s v parts at aside k.node t.0) ∙ t.1,
+        )
 
 -- a linked node of another seat and of the other mode that overlaps this one, at a moment when this one still looks
 -- for such
@@ -175,7 +191,8 @@ pub record Looks (h now : Heap) (views : List View) (v u : View) (k : Listed) : 
   pub sees : (g : Listed) → Rival views old g → HasToSee h old v.cursor g.node → (k.todo ≡ old.todo) × HasToSee now k u.cursor g.node
 
 -- no view of a seat whose epoch stays reaches what waits for the barrier of one that knows it to be out
-module _ (h now : Heap) (views : List View) (s : ℕ) (v : View) (parts : Parts h views) (at : IsViewOf views s v) (epochs : (j : ℕ) (w : View) → IsViewOf views j w → j ≢ s → now.epoch j ≡ h.epoch j) where
+module _ (h now : Heap) (views : List View) (s : ℕ) (v : View) (parts : Parts h views) (at : IsViewOf views s v)
+    (epochs : (j : ℕ) (w : View) → IsViewOf views j w → j ≢ s → now.epoch j ≡ h.epoch j) where
   -- a view that is known to be out afterwards was so before
   out_back : (j : ℕ) (w b : View) → IsViewOf views j b → (j ≡ s → now.epoch s ≡ h.epoch s) → IsOut now w j → IsOut h w j
   out_back j w b e same (inl p) = inl p
@@ -189,7 +206,8 @@ module _ (h now : Heap) (views : List View) (s : ℕ) (v : View) (parts : Parts 
             (cases_eq j s),
       )
 
-  pub stays_out : (i j x : ℕ) (w b : View) (c : Cursor) → (j ≡ s → now.epoch s ≡ h.epoch s) → IsViewOf views i w → 1 ≤ times x w.homes → IsOut now w j → IsViewOf views j b → b.cursor ≡ Some c → MayReach h c x → ⊥
+  pub stays_out : (i j x : ℕ) (w b : View) (c : Cursor) → (j ≡ s → now.epoch s ≡ h.epoch s) → IsViewOf views i w
+      → 1 ≤ times x w.homes → IsOut now w j → IsViewOf views j b → b.cursor ≡ Some c → MayReach h c x → ⊥
   stays_out i j x w b c same ew home out e has m = parts.barrier i j x w b c ew e has home (out_back j w b e same out) m
 
 -- what a step has to say of the stepping seat's view
@@ -199,7 +217,8 @@ pub record Mine (h now : Heap) (views : List View) (s : ℕ) (v u : View) : Type
   pub reach : (d : Cursor) (x : ℕ) → u.cursor ≡ Some d → MayReach now d x → InChain h x ⊎ ((c : Cursor) × (v.cursor ≡ Some c) × MayReach h c x)
   -- no view may reach its idle nodes, nor one that it knows to be out its homes
   pub idle : (x : ℕ) → IsIdle u x → (InChain h x → ⊥) × ((j : ℕ) (w : View) (c : Cursor) → IsViewOf views j w → w.cursor ≡ Some c → MayReach h c x → ⊥)
-  pub out : (j x : ℕ) (w : View) (c : Cursor) → (j ≡ s → now.epoch s ≡ h.epoch s) → 1 ≤ times x u.homes → IsOut now u j → IsViewOf views j w → w.cursor ≡ Some c → MayReach h c x → ⊥
+  pub out : (j x : ℕ) (w : View) (c : Cursor) → (j ≡ s → now.epoch s ≡ h.epoch s) → 1 ≤ times x u.homes → IsOut now u j
+      → IsViewOf views j w → w.cursor ≡ Some c → MayReach h c x → ⊥
   pub looks : (k : Listed) → u.own ≡ listed k → Looks h now views v u k
   pub held : (k : Listed) → v.own ≡ listed k → k.todo ≡ Done → u.own ≡ listed k
   -- while the fast path is taken, its cursor names a node that stands alone by the head's word only
@@ -209,7 +228,8 @@ pub record Mine (h now : Heap) (views : List View) (s : ℕ) (v u : View) : Type
   pub epochs : (j : ℕ) (w : View) → IsViewOf views j w → j ≢ s → now.epoch j ≡ h.epoch j
   pub epoch : (now.epoch s ≡ h.epoch s) ⊎ (u.cursor ≡ None)
 
-module _ (h now : Heap) (views : List View) (s : ℕ) (v u : View) (parts : Parts h views) (at : IsViewOf views s v) (aside : Aside h now v) (mine : Mine h now views s v u) (places : Places now (slice_set views s u)) where
+module _ (h now : Heap) (views : List View) (s : ℕ) (v u : View) (parts : Parts h views) (at : IsViewOf views s v)
+    (aside : Aside h now v) (mine : Mine h now views s v u) (places : Places now (slice_set views s u)) where
   abbrev these : List View
   these = slice_set views s u
 
@@ -224,9 +244,16 @@ module _ (h now : Heap) (views : List View) (s : ℕ) (v u : View) (parts : Part
   reach_after : (j x : ℕ) (w : View) (d : Cursor) → IsViewOf these j w → w.cursor ≡ Some d → MayReach now d x → InChain h x ⊎ Met j x
   reach_after j x w d e has m = by_seat h now views s v u parts at aside j w e
       (λ q r. ⊎_elim inl
-      (λ (t : (c : Cursor) × (v.cursor ≡ Some c) × MayReach h c x). inr (record { view = v; cursor = t.0; there = subst (λ a. IsViewOf views a v) (sym q) at; has = t.1; may = t.2 }))
+      (λ (t : (c : Cursor) × (v.cursor ≡ Some c) × MayReach h c x). inr
+      (record { view = v; cursor = t.0; there = subst (λ a. IsViewOf views a v) (sym q) at; has = t.1; may = t.2 }))
       (mine.reach d x (ap (λ (z : View). z.cursor) r ∙ has) m))
-      (λ n e'. inr (record { view = w; cursor = d; there = e'; has = has; may = may_back h now views s v parts at aside d (clear_cursor h now views s v parts at aside j w d e' has) x m }))
+      (λ n e'. inr (record {
+        view = w;
+        cursor = d;
+        there = e';
+        has = has;
+        may = may_back h now views s v parts at aside d (clear_cursor h now views s v parts at aside j w d e' has) x m;
+      }))
 
   each_now : (i : ℕ) (w : View) → IsViewOf these i w → IsViewKept now i w
   each_now i w e = by_seat h now views s v u parts at aside i w e
@@ -248,11 +275,13 @@ module _ (h now : Heap) (views : List View) (s : ℕ) (v u : View) (parts : Part
       let off : InChain h x → ⊥ = λ r. let z = places.chain_home x (chain_on h now views s v parts at aside x r) in omega (arith, one, z) in
       let same : j ≡ s → now.epoch s ≡ h.epoch s = λ q. ⊎_elim
       (λ (a : now.epoch s ≡ h.epoch s). a)
-      (λ (none : u.cursor ≡ None). absurd (let z = is_view these s j u y (mine_after h now views s v u parts at aside) e' q in let k = ap (λ (g : View). g.cursor) z in cc))
+      (λ (none : u.cursor ≡ None). absurd (let z = is_view these s j u y (mine_after h now views s v u parts at aside) e' q in
+      let k = ap (λ (g : View). g.cursor) z in cc))
       mine.epoch in
       ⊎_elim off
       (λ (b : Met j x). by_seat h now views s v u parts at aside i w e
-      (λ q r. mine.out j x b.view b.cursor same (subst (λ (z : View). 1 ≤ times x z.homes) (sym r) home) (subst (λ (z : View). IsOut now z j) (sym r) out) b.there b.has b.may)
+      (λ q r. mine.out j x b.view b.cursor same (subst (λ (z : View). 1 ≤ times x z.homes) (sym r) home)
+      (subst (λ (z : View). IsOut now z j) (sym r) out) b.there b.has b.may)
       (λ n ew. stays_out h now views s v parts at mine.epochs i j x w b.view b.cursor same ew home out b.there b.has b.may))
       (reach_after j x y d e' has m)
 
@@ -277,39 +306,75 @@ module _ (h now : Heap) (views : List View) (s : ℕ) (v u : View) (parts : Part
       held_now : (x : ℕ) → IsHeldBy views x → IsHeldBy these x
       held_now x b =
           ⊎_elim
-          (λ (q : b.seat ≡ s). record { seat = s; view = u; at = mine_after h now views s v u parts at aside; own = b.own; is = mine.held b.own (ap (λ (z : View). z.own) (mine_is h now views s v u parts at aside b.seat b.view b.at q) ∙ b.is) b.done; node = b.node; done = b.done })
-          (λ (d : b.seat ≢ s). record { seat = b.seat; view = b.view; at = to_after h now views s v u parts at aside b.seat b.view d b.at; own = b.own; is = b.is; node = b.node; done = b.done })
+          (λ (q : b.seat ≡ s). record {
+            seat = s;
+            view = u;
+            at = mine_after h now views s v u parts at aside;
+            own = b.own;
+            is = mine.held b.own (ap (λ (z : View). z.own) (mine_is h now views s v u parts at aside b.seat b.view b.at q)
+                ∙ b.is) b.done;
+            node = b.node;
+            done = b.done;
+          })
+          (λ (d : b.seat ≢ s). record {
+            seat = b.seat;
+            view = b.view;
+            at = to_after h now views s v u parts at aside b.seat b.view d b.at;
+            own = b.own;
+            is = b.is;
+            node = b.node;
+            done = b.done;
+          })
           (cases_eq b.seat s)
 
   -- what another seat has to see it still has
   other_sees : (j : ℕ) (w : View) (k : Listed) (x : ℕ) → IsViewOf views j w → w.own ≡ listed k → HasToSee h k w.cursor x → HasToSee now k w.cursor x
-  other_sees j w k x e own q = sees_on h now views s v parts at aside k w.cursor x (parts.places.linked j w k e own).0 (λ c has. clear_cursor h now views s v parts at aside j w c e has) q
+  other_sees j w k x e own q = sees_on h now views s v parts at aside k w.cursor x (parts.places.linked j w k e own).0
+      (λ c has. clear_cursor h now views s v parts at aside j w c e has) q
 
   abbrev Pair : View → View → Listed → Listed → Type 0
   Pair a b r w = ((r.todo ≡ Forward) × HasToSee now r a.cursor w.node) ⊎ ((w.todo ≡ FromHead) × HasToSee now w b.cursor r.node)
 
-  as_reader : (k : Listed) → Looks h now views v u k → (j : ℕ) (b : View) (w : Listed) → IsViewOf views j b → b.own ≡ listed w → k.mode ≡ Reader → w.mode ≡ Writer → Overlaps k.range w.range → Pair u b k w
+  as_reader : (k : Listed) → Looks h now views v u k → (j : ℕ) (b : View) (w : Listed) → IsViewOf views j b → b.own ≡ listed w
+      → k.mode ≡ Reader → w.mode ≡ Writer → Overlaps k.range w.range → Pair u b k w
   as_reader k o j b w e own reader writer over =
       let over' : Overlaps o.old.range w.range = subst (λ a. Overlaps a w.range) (sym o.range) over in
       ⊎_elim
       (λ (t : (o.old.todo ≡ Forward) × HasToSee h o.old v.cursor w.node).
-      let r = o.sees w (record { seat = j; view = b; there = e; own = own; way = inl (t.0, o.mode ∙ reader, writer); over = over' }) t.1 in inl (r.0 ∙ t.0, r.1))
+      let r = o.sees w (record {
+        seat = j;
+        view = b;
+        there = e;
+        own = own;
+        way = inl (t.0, o.mode ∙ reader, writer);
+        over = over';
+      }) t.1 in inl (r.0 ∙ t.0, r.1))
       (λ (t : (w.todo ≡ FromHead) × HasToSee h w b.cursor o.old.node). inr (t.0, other_sees j b w k.node e own (subst (HasToSee h w b.cursor) o.node t.1)))
       (parts.pairs s j v b o.old w at e o.own own (o.mode ∙ reader) writer over')
 
-  as_writer : (k : Listed) → Looks h now views v u k → (j : ℕ) (b : View) (r : Listed) → IsViewOf views j b → b.own ≡ listed r → r.mode ≡ Reader → k.mode ≡ Writer → Overlaps r.range k.range → Pair b u r k
+  as_writer : (k : Listed) → Looks h now views v u k → (j : ℕ) (b : View) (r : Listed) → IsViewOf views j b → b.own ≡ listed r
+      → r.mode ≡ Reader → k.mode ≡ Writer → Overlaps r.range k.range → Pair b u r k
   as_writer k o j b r e own reader writer over =
       let over' : Overlaps r.range o.old.range = subst (Overlaps r.range) (sym o.range) over in
       ⊎_elim
       (λ (t : (r.todo ≡ Forward) × HasToSee h r b.cursor o.old.node). inl (t.0, other_sees j b r k.node e own (subst (HasToSee h r b.cursor) o.node t.1)))
       (λ (t : (o.old.todo ≡ FromHead) × HasToSee h o.old v.cursor r.node).
-      let q = o.sees r (record { seat = j; view = b; there = e; own = own; way = inr (t.0, o.mode ∙ writer, reader); over = (over'.1, over'.0) }) t.1 in inr (q.0 ∙ t.0, q.1))
+      let q = o.sees r (record {
+        seat = j;
+        view = b;
+        there = e;
+        own = own;
+        way = inr (t.0, o.mode ∙ writer, reader);
+        over = (over'.1, over'.0);
+      }) t.1 in inr (q.0 ∙ t.0, q.1))
       (parts.pairs j s b v r o.old e at own o.own reader (o.mode ∙ writer) over')
 
   pairs_now : Pairs now these
   pairs_now i j a b r w ea eb er ew reader writer over = by_seat h now views s v u parts at aside i a ea
       (λ q1 q. by_seat h now views s v u parts at aside j b eb
-      (λ p1 p. absurd (let same : r ≡ w = listed_one r w (sym er ∙ sym (ap (λ (z : View). z.own) q) ∙ ap (λ (z : View). z.own) p ∙ ew) in let m = ap (λ (z : Listed). z.mode) same in cc))
+      (λ p1 p. absurd (let same : r ≡ w = listed_one r w
+      (sym er ∙ sym (ap (λ (z : View). z.own) q) ∙ ap (λ (z : View). z.own) p ∙ ew) in
+      let m = ap (λ (z : Listed). z.mode) same in cc))
       (λ d e. subst (λ (z : View). Pair z b r w) q (as_reader r (mine.looks r (ap (λ (z : View). z.own) q ∙ er)) j b w e ew reader writer over)))
       (λ d1 e1. by_seat h now views s v u parts at aside j b eb
       (λ p1 p. subst (λ (z : View). Pair a z r w) p (as_writer w (mine.looks w (ap (λ (z : View). z.own) p ∙ ew)) i a r e1 er reader writer over))

@@ -21,7 +21,8 @@ use Rattle.lock_laws.proofs.Frames.Owns.{own_is}
 calm_epoch : (h now : Heap) (s w : ℕ) → WroteEpoch h now s w → Calm h now
 calm_epoch h now s w wrote = record { head = ap (λ n. n / 2) (wrote.next 0); next = λ x. wrote.next (suc x); lo = wrote.lo; hi = wrote.hi }
 
-pub enters : (h now : Heap) (views : List View) (s : ℕ) (v : View) → Parts h views → IsViewOf views s v → v.epoch % 2 ≡ 0 → WroteEpoch h now s (next_epoch (h.epoch s)) → Parts now (slice_set views s (entered v))
+pub enters : (h now : Heap) (views : List View) (s : ℕ) (v : View) → Parts h views → IsViewOf views s v → v.epoch % 2 ≡ 0
+    → WroteEpoch h now s (next_epoch (h.epoch s)) → Parts now (slice_set views s (entered v))
 enters h now views s v parts at even wrote =
     let u = entered v in
     let calm = calm_epoch h now s _ wrote in
@@ -36,7 +37,9 @@ enters h now views s v parts at even wrote =
     (λ l. sym (ap (λ n. n % 2) (wrote.next 0)) ∙ l)
     epochs
     (inr refl))
-    (places_now h now views s v u parts at (aside_of h now v calm) parts.places (stands_quiet h now views s v u parts at wrote.home refl refl refl refl refl) (homes_same h now views (slice_set views s u) s wrote.home))
+    (places_now h now views s v u parts at (aside_of h now v calm) parts.places
+    (stands_quiet h now views s v u parts at wrote.home refl refl refl refl refl)
+    (homes_same h now views (slice_set views s u) s wrote.home))
 
 -- ---- Leave
 
@@ -72,7 +75,9 @@ left_idle v x (inl r) =
     first f own true e l = inr (f, own, eqb-true f.node x e)
     first f own false e l = inl (omega (arith, l))
 
-pub leaves : (h now : Heap) (views : List View) (s : ℕ) (v : View) → Parts h views → IsViewOf views s v → ((k : Listed) → v.own ≡ listed k → k.todo ≡ Done) → WroteEpoch h now s (next_epoch (h.epoch s)) → Parts now (slice_set views s (left v))
+pub leaves : (h now : Heap) (views : List View) (s : ℕ) (v : View) → Parts h views → IsViewOf views s v
+    → ((k : Listed) → v.own ≡ listed k → k.todo ≡ Done) → WroteEpoch h now s (next_epoch (h.epoch s))
+    → Parts now (slice_set views s (left v))
 leaves h now views s v parts at done wrote =
     let u = left v in
     let calm = calm_epoch h now s _ wrote in
@@ -118,6 +123,7 @@ leaves h now views s v parts at done wrote =
       hand_on = λ x e. inl e;
     }) (homes_same h now views (slice_set views s u) s wrote.home))
   where
-    not_looking : (g o : Listed) → ((g.todo ≡ Forward) × (g.mode ≡ Reader) × (o.mode ≡ Writer)) ⊎ ((g.todo ≡ FromHead) × (g.mode ≡ Writer) × (o.mode ≡ Reader)) → g.todo ≡ Done → ⊥
+    not_looking : (g o : Listed) → ((g.todo ≡ Forward) × (g.mode ≡ Reader) × (o.mode ≡ Writer))
+        ⊎ ((g.todo ≡ FromHead) × (g.mode ≡ Writer) × (o.mode ≡ Reader)) → g.todo ≡ Done → ⊥
     not_looking g o (inl t) e = let a = t.0 in cc
     not_looking g o (inr t) e = let a = t.0 in cc

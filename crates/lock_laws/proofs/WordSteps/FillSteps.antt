@@ -21,7 +21,11 @@ use Rattle.lock_laws.proofs.Frames.Idle.{idle_not_chain}
 use Rattle.lock_laws.proofs.WordSteps.Homing.{AreSeats}
 
 -- the own node g after the step is f before it, with other things known of its words
-module _ (seats : ℕ) (h now : Heap) (views : List View) (s : ℕ) (v : View) (f g : Filled) (few : AreSeats seats views) (parts : Parts h views) (at : IsViewOf views s v) (own : v.own ≡ filling f) (node : g.node ≡ f.node) (aside : Aside h now v) (known : IsKnown now g) (past_stop : (c : Cursor) → v.cursor ≡ Some c → IsCursorKept now v.own c → IsCursorKept now (filling g) c) (home : (x : ℕ) → now.home x ≡ h.home x) (epoch : (j : ℕ) → j < seats → now.epoch j ≡ h.epoch j) (low : now.next 0 % 2 ≡ 1 → h.next 0 % 2 ≡ 1) where
+module _ (seats : ℕ) (h now : Heap) (views : List View) (s : ℕ) (v : View) (f g : Filled) (few : AreSeats seats views)
+    (parts : Parts h views) (at : IsViewOf views s v) (own : v.own ≡ filling f) (node : g.node ≡ f.node) (aside : Aside h now v)
+    (known : IsKnown now g) (past_stop : (c : Cursor) → v.cursor ≡ Some c → IsCursorKept now v.own c
+    → IsCursorKept now (filling g) c) (home : (x : ℕ) → now.home x ≡ h.home x) (epoch : (j : ℕ) → j < seats
+    → now.epoch j ≡ h.epoch j) (low : now.next 0 % 2 ≡ 1 → h.next 0 % 2 ≡ 1) where
   abbrev pub refilled : View
   refilled = record v { own = filling g }
 
@@ -44,15 +48,20 @@ module _ (seats : ℕ) (h now : Heap) (views : List View) (s : ℕ) (v : View) (
           even = (parts.each s v at).even;
           filled = λ q e. subst (IsKnown now) (same_filled g q e) known;
           linked = λ q e. absurd (cc);
-          cursor = λ c e. past_stop c e (cursor_now h now views s v parts at aside c (clear_cursor h now views s v parts at aside s v c at e) v.own ((parts.each s v at).cursor c e));
+          cursor = λ c e. past_stop c e (cursor_now h now views s v parts at aside c
+              (clear_cursor h now views s v parts at aside s v c at e) v.own ((parts.each s v at).cursor c e));
           to_see = λ q e. absurd (cc);
         };
         reach = λ d x e m. inr (d, e, may_back h now views s v parts at aside d (clear_cursor h now views s v parts at aside s v d at e) x m);
-        idle = λ x idle. (idle_not_chain h views parts.places s x v at (was_idle x idle), λ j w c e has m. parts.no_reuse s j x v w c at e has (was_idle x idle) m);
+        idle = λ x idle. (
+          idle_not_chain h views parts.places s x v at (was_idle x idle),
+          λ j w c e has m. parts.no_reuse s j x v w c at e has (was_idle x idle) m,
+        );
         out = λ j x w c same here out e has m. stays_out h now views s v parts at epochs s j x v w c same at here out e has m;
         looks = λ q e. absurd (cc);
         held = λ q e todo. absurd (cc);
-        unseen = λ odd a d e m. a.unseen s v d at e (may_back h now views s v parts at aside d (clear_cursor h now views s v parts at aside s v d at e) a.node m);
+        unseen = λ odd a d e m. a.unseen s v d at e (may_back h now views s v parts at aside d
+            (clear_cursor h now views s v parts at aside s v d at e) a.node m);
         low = low;
         epochs = epochs;
         epoch = inl (epoch s (few s v at));
@@ -74,10 +83,17 @@ module _ (seats : ℕ) (h now : Heap) (views : List View) (s : ℕ) (v : View) (
 idle_apart : (v : View) (f : Filled) (x : ℕ) → v.own ≡ filling f → (IsIdle v x → ⊥) → x ≢ f.node
 idle_apart v f x own d e = d (inr (f, own, sym e))
 
-pub fills_lo : (seats : ℕ) (h now : Heap) (views : List View) (s lo : ℕ) (v : View) (f : Filled) → AreSeats seats views → Parts h views → IsViewOf views s v → v.own ≡ filling f → f.aimed ≡ None → v.cursor ≡ None → WroteLo seats h now f.node lo → Parts now (slice_set views s (lo_filled v f lo))
+pub fills_lo : (seats : ℕ) (h now : Heap) (views : List View) (s lo : ℕ) (v : View) (f : Filled) → AreSeats seats views
+    → Parts h views → IsViewOf views s v → v.own ≡ filling f → f.aimed ≡ None → v.cursor ≡ None → WroteLo seats h now f.node lo
+    → Parts now (slice_set views s (lo_filled v f lo))
 fills_lo seats h now views s lo v f few parts at own aimed cursor wrote =
     refills seats h now views s v f (record f { lo = Some lo; hi = None }) few parts at own refl
-    (record { head = ap (λ a. a / 2) (wrote.next 0); next = λ x d. wrote.next (suc x); lo = λ x d. wrote.others x (idle_apart v f x own d); hi = λ x d. wrote.hi x })
+    (record {
+      head = ap (λ a. a / 2) (wrote.next 0);
+      next = λ x d. wrote.next (suc x);
+      lo = λ x d. wrote.others x (idle_apart v f x own d);
+      hi = λ x d. wrote.hi x;
+    })
     (record {
       lo = λ a e. wrote.is ∙ same_some lo a e;
       hi = λ a e. absurd (cc);
@@ -88,26 +104,51 @@ fills_lo seats h now views s lo v f few parts at own aimed cursor wrote =
     wrote.home wrote.epoch
     (λ l. sym (ap (λ a. a % 2) (wrote.next 0)) ∙ l)
 
-pub fills_hi : (seats : ℕ) (h now : Heap) (views : List View) (s lo hi : ℕ) (mode : Mode) (v : View) (f : Filled) → AreSeats seats views → Parts h views → IsViewOf views s v → v.own ≡ filling f → f.lo ≡ Some lo → lo < hi → hi ≤ 2 ^ 62 → f.aimed ≡ None → v.cursor ≡ None → WroteHi seats h now f.node (hi_word hi mode) → Parts now (slice_set views s (hi_filled v f hi mode))
+pub fills_hi : (seats : ℕ) (h now : Heap) (views : List View) (s lo hi : ℕ) (mode : Mode) (v : View) (f : Filled)
+    → AreSeats seats views → Parts h views → IsViewOf views s v → v.own ≡ filling f → f.lo ≡ Some lo → lo < hi → hi ≤ 2 ^ 62
+    → f.aimed ≡ None → v.cursor ≡ None → WroteHi seats h now f.node (hi_word hi mode)
+    → Parts now (slice_set views s (hi_filled v f hi mode))
 fills_hi seats h now views s lo hi mode v f few parts at own low less most aimed cursor wrote =
     let k = (parts.each s v at).filled f own in
     refills seats h now views s v f (record f { hi = Some hi; mode = mode }) few parts at own refl
-    (record { head = ap (λ a. a / 2) (wrote.next 0); next = λ x d. wrote.next (suc x); lo = λ x d. wrote.lo x; hi = λ x d. wrote.others x (idle_apart v f x own d) })
+    (record {
+      head = ap (λ a. a / 2) (wrote.next 0);
+      next = λ x d. wrote.next (suc x);
+      lo = λ x d. wrote.lo x;
+      hi = λ x d. wrote.others x (idle_apart v f x own d);
+    })
     (record {
       lo = λ a e. wrote.lo f.node ∙ k.lo a e;
       hi = λ a e. wrote.is ∙ ap (λ b. hi_word b mode) (same_some hi a e);
       aimed = λ a e. absurd (cc);
-      in_order = record { hi = λ a e. (lo, low, (subst (λ b. lo < b) (same_some hi a e) less, subst (λ b. b ≤ 2 ^ 62) (same_some hi a e) most)); aimed = λ a e. absurd (cc) };
+      in_order = record {
+        hi = λ a e. (
+          lo,
+          low,
+          (
+            subst (λ b. lo < b) (same_some hi a e) less,
+            subst (λ b. b ≤ 2 ^ 62) (same_some hi a e) most,
+          ),
+        );
+        aimed = λ a e. absurd (cc);
+      };
     })
     (λ c e. absurd (cc))
     wrote.home wrote.epoch
     (λ l. sym (ap (λ a. a % 2) (wrote.next 0)) ∙ l)
 
-pub aims_at : (seats : ℕ) (h now : Heap) (views : List View) (s lo hi w : ℕ) (v : View) (f : Filled) → AreSeats seats views → Parts h views → IsViewOf views s v → v.own ≡ filling f → f.lo ≡ Some lo → f.hi ≡ Some hi → WroteCell seats h now (suc f.node) w → Parts now (slice_set views s (aimed_at v f w))
+pub aims_at : (seats : ℕ) (h now : Heap) (views : List View) (s lo hi w : ℕ) (v : View) (f : Filled) → AreSeats seats views
+    → Parts h views → IsViewOf views s v → v.own ≡ filling f → f.lo ≡ Some lo → f.hi ≡ Some hi
+    → WroteCell seats h now (suc f.node) w → Parts now (slice_set views s (aimed_at v f w))
 aims_at seats h now views s lo hi w v f few parts at own low high wrote =
     let k = (parts.each s v at).filled f own in
     refills seats h now views s v f (record f { aimed = Some w }) few parts at own refl
-    (record { head = ap (λ a. a / 2) (wrote.others 0 (λ e. omega arith)); next = λ x d. wrote.others (suc x) (λ e. idle_apart v f x own d (omega arith)); lo = λ x d. wrote.lo x; hi = λ x d. wrote.hi x })
+    (record {
+      head = ap (λ a. a / 2) (wrote.others 0 (λ e. omega arith));
+      next = λ x d. wrote.others (suc x) (λ e. idle_apart v f x own d (omega arith));
+      lo = λ x d. wrote.lo x;
+      hi = λ x d. wrote.hi x;
+    })
     (record {
       lo = λ a e. wrote.lo f.node ∙ k.lo a e;
       hi = λ a e. wrote.hi f.node ∙ k.hi a e;
@@ -121,9 +162,11 @@ aims_at seats h now views s lo hi w v f few parts at own low high wrote =
       kept = q.kept;
       low = q.low;
       past = λ g a b p e1 e2 e3 e4. let same = same_filled (record f { aimed = Some w }) g e1 in
-          (λ z. compared ((sym same z).mode) a b (now.lo p) (now.hi p)) ∙ q.past f a b p own (ap (λ (z : Filled). z.lo) same ∙ e2) (ap (λ (z : Filled). z.hi) same ∙ e3) e4;
+          (λ z. compared ((sym same z).mode) a b (now.lo p) (now.hi p))
+          ∙ q.past f a b p own (ap (λ (z : Filled). z.lo) same ∙ e2) (ap (λ (z : Filled). z.hi) same ∙ e3) e4;
       stop = λ g a b y e1 e2 e3 place e4. let same = same_filled (record f { aimed = Some w }) g e1 in
-          (λ z. compared ((sym same z).mode) a b (now.lo y) (now.hi y)) ∙ q.stop f a b y own (ap (λ (z : Filled). z.lo) same ∙ e2) (ap (λ (z : Filled). z.hi) same ∙ e3) place e4;
+          (λ z. compared ((sym same z).mode) a b (now.lo y) (now.hi y))
+          ∙ q.stop f a b y own (ap (λ (z : Filled). z.lo) same ∙ e2) (ap (λ (z : Filled). z.hi) same ∙ e3) place e4;
     })
     wrote.home wrote.epoch
     (λ l. sym (ap (λ a. a % 2) (wrote.others 0 (λ e. omega arith))) ∙ l)

@@ -31,7 +31,8 @@ AreSeats seats views = (j : ℕ) (w : View) → IsViewOf views j w → j < seats
 abbrev hand_of : (views : List View) (s n : ℕ) (v : View) → IsViewOf views s v → v.hand ≡ Some n → InHand views n
 hand_of views s n v at hand = record { seat = s; view = v; at = at; hand = hand }
 
-pub gives_home : (seats : ℕ) (h now : Heap) (views : List View) (s n : ℕ) (v : View) → AreSeats seats views → Parts h views → IsViewOf views s v → v.hand ≡ Some n → WroteHome seats h now n 1 → Parts now (slice_set views s (gave_home v))
+pub gives_home : (seats : ℕ) (h now : Heap) (views : List View) (s n : ℕ) (v : View) → AreSeats seats views → Parts h views
+    → IsViewOf views s v → v.hand ≡ Some n → WroteHome seats h now n 1 → Parts now (slice_set views s (gave_home v))
 gives_home seats h now views s n v few parts at hand wrote =
     let u = gave_home v in
     let calm = calm_home seats h now n 1 wrote in
@@ -70,13 +71,17 @@ gives_home seats h now views s n v few parts at hand wrote =
     zero_at x z d = wrote.others x d ∙ z
 
     not_filled : (j : ℕ) (w : View) (f : Filled) → IsViewOf views j w → w.own ≡ filling f → f.node ≡ n → ⊥
-    not_filled j w f e own q = let used = (parts.places.in_hand n (hand_of views s n v at hand)).0 in idle_not_used h views parts.places j used.seat f.node w used.view e used.at (inr (f, own, refl)) (subst (λ a. times a used.view.used ≡ 1) (sym q) used.used)
+    not_filled j w f e own q = let used = (parts.places.in_hand n (hand_of views s n v at hand)).0 in
+        idle_not_used h views parts.places j used.seat f.node w used.view e used.at (inr (f, own, refl))
+        (subst (λ a. times a used.view.used ≡ 1) (sym q) used.used)
 
     not_mine : (x : ℕ) → InHand (slice_set views s (gave_home v)) x → x ≡ n → ⊥
     not_mine x a q =
         ⊎_elim
         (λ (t : (a.seat ≡ s) × (gave_home v ≡ a.view)). let e = ap (λ (z : View). z.hand) t.1 in let b = a.hand in cc)
-        (λ (t : (a.seat ≢ s) × IsViewOf views a.seat a.view). t.0 (parts.places.one_hand n (record { seat = a.seat; view = a.view; at = t.1; hand = a.hand ∙ ap (λ (b : ℕ). Some b) q }) (hand_of views s n v at hand)))
+        (λ (t : (a.seat ≢ s) × IsViewOf views a.seat a.view). t.0
+        (parts.places.one_hand n (record { seat = a.seat; view = a.view; at = t.1; hand = a.hand ∙ ap (λ (b : ℕ). Some b) q })
+        (hand_of views s n v at hand)))
         (set_view views s a.seat (gave_home v) a.view a.at)
 
 -- ---- ClearHome
@@ -85,7 +90,9 @@ gives_home seats h now views s n v few parts at hand wrote =
 abbrev bare : ℕ → Filled
 bare n = record { node = n; lo = None; hi = None; mode = Writer; aimed = None }
 
-pub clears_home : (seats : ℕ) (h now : Heap) (views : List View) (s n : ℕ) (rest : List ℕ) (v : View) → AreSeats seats views → Parts h views → IsViewOf views s v → v.own ≡ Nothing → v.epoch % 2 ≡ 0 → v.ready ≡ n ∷ rest → WroteHome seats h now n 0 → Parts now (slice_set views s (taken v n rest))
+pub clears_home : (seats : ℕ) (h now : Heap) (views : List View) (s n : ℕ) (rest : List ℕ) (v : View) → AreSeats seats views
+    → Parts h views → IsViewOf views s v → v.own ≡ Nothing → v.epoch % 2 ≡ 0 → v.ready ≡ n ∷ rest → WroteHome seats h now n 0
+    → Parts now (slice_set views s (taken v n rest))
 clears_home seats h now views s n rest v few parts at own even ready wrote =
     let u = taken v n rest in
     let calm = calm_home seats h now n 0 wrote in
@@ -152,7 +159,9 @@ clears_home seats h now views s n rest v few parts at own even ready wrote =
     zero_at x z = ⊎_elim (λ (q : x ≡ n). ap now.home q ∙ wrote.is) (λ (d : x ≢ n). wrote.others x d ∙ z) (cases_eq x n)
 
     taken_once : (i x : ℕ) (w : View) → IsViewOf views i w → 1 ≤ times x w.used → x ≡ n → ⊥
-    taken_once i x w e l q = let f = only_once h views parts.places i x w e in idle_not_used h views parts.places s i x v w at e (inl (subst (λ a. 1 ≤ times a v.ready) (sym q) first)) (omega (arith, f, l))
+    taken_once i x w e l q = let f = only_once h views parts.places i x w e in
+        idle_not_used h views parts.places s i x v w at e (inl (subst (λ a. 1 ≤ times a v.ready) (sym q) first))
+        (omega (arith, f, l))
 
     one : (i x : ℕ) (w : View) → IsViewOf views i w → 1 ≤ times x w.used → h.home x ≡ 1 → now.home x ≡ 1
     one i x w e l r =

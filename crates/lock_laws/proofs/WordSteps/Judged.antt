@@ -1,5 +1,6 @@
 -- ReadHi: the cursor's node is judged, and the walk goes on past it, stops before it, or stays at a conflict.
-use Rattle.std.proofs.Common.{◌≡◌, ◌⊎◌, ℕ, suc, ◌+◌, ◌*◌, ◌/◌, ◌%◌, ◌<◌, ◌≤◌, ◌&&◌, nat_lt, nat_le, Bool, true, false, List, Some, None, inl, inr, ⊎_elim, refl, sym, ap, ◌∙◌, subst, arith, leb-true}
+use Rattle.std.proofs.Common.{◌≡◌, ◌⊎◌, ℕ, suc, ◌+◌, ◌*◌, ◌/◌, ◌%◌, ◌<◌, ◌≤◌, ◌&&◌, nat_lt, nat_le, Bool, true, false}
+use Rattle.std.proofs.Common.{List, Some, None, inl, inr, ⊎_elim, refl, sym, ap, ◌∙◌, subst, arith, leb-true}
 use Rattle.std.specs.Prelude.{Option, slice_set, ◌==◌, if◌then◌else◌}
 use Rattle.std.proofs.lemmas.Bool.{ltb-false, lt-ltb, eqb-false}
 use Rattle.lock_core.specs.Range.{Interval}
@@ -37,7 +38,8 @@ use Rattle.lock_laws.proofs.WordSteps.Reading.{not_alone}
 forward_past : (range : Interval) (lo w : ℕ) → w % 2 ≡ 1 → forward range lo w ≡ Past → w / 2 ≤ range.lo
 forward_past range lo w odd e = by_stop (nat_le range.hi lo) e
   where
-    by_mode : (t : Bool) → w % 2 == 1 ≡ t → (if is_reader (if t then Writer else Reader) then Past else if nat_lt range.lo (w / 2) then Conflict else Past) ≡ Past → w / 2 ≤ range.lo
+    by_mode : (t : Bool) → w % 2 == 1 ≡ t → (if is_reader (if t then Writer else Reader) then Past
+        else if nat_lt range.lo (w / 2) then Conflict else Past) ≡ Past → w / 2 ≤ range.lo
     by_mode true q e = by_end (nat_lt range.lo (w / 2)) refl e
       where
         by_end : (t : Bool) → nat_lt range.lo (w / 2) ≡ t → (if t then Conflict else Past) ≡ Past → w / 2 ≤ range.lo
@@ -45,7 +47,8 @@ forward_past range lo w odd e = by_stop (nat_le range.hi lo) e
         by_end false q e = ltb-false range.lo (w / 2) q
     by_mode false q e = absurd (eqb-false (w % 2) 1 q odd)
 
-    by_stop : (t : Bool) → (if t then Stop else if is_reader (mode_of w) then Past else if nat_lt range.lo (w / 2) then Conflict else Past) ≡ Past → w / 2 ≤ range.lo
+    by_stop : (t : Bool) → (if t then Stop else if is_reader (mode_of w) then Past else if nat_lt range.lo (w / 2) then Conflict
+        else Past) ≡ Past → w / 2 ≤ range.lo
     by_stop true e = absurd (cc)
     by_stop false e = by_mode (w % 2 == 1) refl e
 
@@ -53,7 +56,9 @@ forward_past range lo w odd e = by_stop (nat_le range.hi lo) e
 forward_stop : (range : Interval) (lo w : ℕ) → forward range lo w ≡ Stop → range.hi ≤ lo
 forward_stop range lo w e = by_stop (nat_le range.hi lo) refl e
   where
-    by_stop : (t : Bool) → nat_le range.hi lo ≡ t → (if t then Stop else if is_reader (mode_of w) then Past else if nat_lt range.lo (w / 2) then Conflict else Past) ≡ Stop → range.hi ≤ lo
+    by_stop : (t : Bool) → nat_le range.hi lo ≡ t
+        → (if t then Stop else if is_reader (mode_of w) then Past else if nat_lt range.lo (w / 2) then Conflict else Past) ≡ Stop
+        → range.hi ≤ lo
     by_stop true q e = leb-true range.hi lo q
     by_stop false q e = absurd (no_stop (is_reader (mode_of w)) (nat_lt range.lo (w / 2)) e)
       where
@@ -93,11 +98,15 @@ stopped_filling (Linked node range mode Done) f e = absurd (cc)
 stopped_listed : (o : Own) (k : Listed) → own_stopped o ≡ listed k → k.todo ≡ FromHead → o ≡ listed k
 stopped_listed Nothing k e t = absurd (cc)
 stopped_listed (Filling node lo hi mode aimed) k e t = absurd (cc)
-stopped_listed (Linked node range mode Forward) k e t = absurd (let q = ap (λ (z : Listed). z.todo) (listed_one (record { node = node; range = range; mode = mode; todo = Done }) k e) in cc)
+stopped_listed (Linked node range mode Forward) k e t =
+    absurd (let q = ap (λ (z : Listed). z.todo) (listed_one (record { node = node; range = range; mode = mode; todo = Done }) k
+    e) in cc)
 stopped_listed (Linked node range mode FromHead) k e t = e
 stopped_listed (Linked node range mode Done) k e t = e
 
-module _ (h : Heap) (views : List View) (s : ℕ) (v : View) (c : Cursor) (y n lo : ℕ) (parts : Parts h views) (at : IsViewOf views s v) (has : v.cursor ≡ Some c) (even : c.cur % 2 ≡ 0) (cur : c.cur / 2 ≡ suc y) (next : c.next ≡ Some n) (plain : n % 2 ≡ 0) (low : c.lo ≡ Some lo) where
+module _ (h : Heap) (views : List View) (s : ℕ) (v : View) (c : Cursor) (y n lo : ℕ) (parts : Parts h views)
+    (at : IsViewOf views s v) (has : v.cursor ≡ Some c) (even : c.cur % 2 ≡ 0) (cur : c.cur / 2 ≡ suc y) (next : c.next ≡ Some n)
+    (plain : n % 2 ≡ 0) (low : c.lo ≡ Some lo) where
   kept : IsCursorKept h v.own c
   kept = (parts.each s v at).cursor c has
 
@@ -108,8 +117,10 @@ module _ (h : Heap) (views : List View) (s : ℕ) (v : View) (c : Cursor) (y n l
   lo_is = kept.read.lo lo y low cur
 
   -- what the compare rule says of the cursor's node, where the own node is being filled
-  compared_is : (f : Filled) (a b : ℕ) (t : Verdict) → verdict_of v.own lo (h.hi y) ≡ t → v.own ≡ filling f → f.lo ≡ Some a → f.hi ≡ Some b → compared f.mode a b (h.lo y) (h.hi y) ≡ t
-  compared_is f a b t e own e1 e2 = ap (λ l. compared f.mode a b l (h.hi y)) (sym lo_is) ∙ sym (filling_verdict f a b lo (h.hi y) e1 e2) ∙ sym (ap (λ (o : Own). verdict_of o lo (h.hi y)) own) ∙ e
+  compared_is : (f : Filled) (a b : ℕ) (t : Verdict) → verdict_of v.own lo (h.hi y) ≡ t → v.own ≡ filling f → f.lo ≡ Some a
+      → f.hi ≡ Some b → compared f.mode a b (h.lo y) (h.hi y) ≡ t
+  compared_is f a b t e own e1 e2 = ap (λ l. compared f.mode a b l (h.hi y)) (sym lo_is)
+      ∙ sym (filling_verdict f a b lo (h.hi y) e1 e2) ∙ sym (ap (λ (o : Own). verdict_of o lo (h.hi y)) own) ∙ e
 
   verdict_is : (k : Listed) (t : Todo) (a : Verdict) → verdict_of v.own lo (h.hi y) ≡ a → v.own ≡ listed k → k.todo ≡ t → validated t k.range lo (h.hi y) ≡ a
   verdict_is k t a e own q = sym (listed_verdict k t lo (h.hi y) q) ∙ sym (ap (λ (o : Own). verdict_of o lo (h.hi y)) own) ∙ e
@@ -147,7 +158,8 @@ module _ (h : Heap) (views : List View) (s : ℕ) (v : View) (c : Cursor) (y n l
       let p = forward_past k.range lo (h.hi y) (ap (λ a. h.hi a % 2) (sym e) ∙ writer_is h g w t.2) (verdict_is k Forward Past past own t.0) in
       let o = r.over.0 in omega (arith, p, high, o))
       (λ (t : (k.todo ≡ FromHead) × (k.mode ≡ Writer) × (g.mode ≡ Reader)).
-      from_head_past k.range lo (h.hi y) (let o = r.over.0 in omega (arith, high, o)) (let o = r.over.1 in omega (arith, start, o)) (verdict_is k FromHead Past past own t.0))
+      from_head_past k.range lo (h.hi y) (let o = r.over.0 in omega (arith, high, o)) (let o = r.over.1 in
+      omega (arith, start, o)) (verdict_is k FromHead Past past own t.0))
       r.way
 
   not_own : verdict_of v.own lo (h.hi y) ≡ Past → (k : Listed) → v.own ≡ listed k → k.todo ≡ FromHead → k.node ≡ y → ⊥
@@ -158,7 +170,8 @@ module _ (h : Heap) (views : List View) (s : ℕ) (v : View) (c : Cursor) (y n l
       let long = (parts.chain.range k.node (parts.places.linked s v k at own).0).0 in
       let first = w.lo in
       let last = end_is h k w in
-      from_head_past k.range lo (h.hi y) (omega (arith, high, long, first, last)) (omega (arith, start, long, first, last)) (verdict_is k FromHead Past past own todo)
+      from_head_past k.range lo (h.hi y) (omega (arith, high, long, first, last)) (omega (arith, start, long, first, last))
+      (verdict_is k FromHead Past past own todo)
 
   kept_past : verdict_of v.own lo (h.hi y) ≡ Past → IsCursorKept h (own_at v.own n) d
   kept_past past = record {
@@ -200,7 +213,8 @@ module _ (h : Heap) (views : List View) (s : ℕ) (v : View) (c : Cursor) (y n l
         (λ (q : k.node ≡ y). absurd (not_own past k mine e q))
         (λ (far : Reach (to h) k.node (n / 2)). far)
         (seen_from k k.node ((parts.each s v at).to_see k mine e));
-    unseen = λ low' a b e m. absurd (not_alone h views s v c y parts at has even cur a (may_past a.node (subst (λ z. MayReach h z a.node) (sym (same_some d b e)) m)));
+    unseen = λ low' a b e m. absurd (not_alone h views s v c y parts at has even cur a
+        (may_past a.node (subst (λ z. MayReach h z a.node) (sym (same_some d b e)) m)));
   })
 
   -- ---- it stops before the node
@@ -252,7 +266,9 @@ module _ (h : Heap) (views : List View) (s : ℕ) (v : View) (c : Cursor) (y n l
     where
       from_node : (g.node ≡ y) ⊎ Reach (to h) g.node (n / 2) → Reach (to h) g.node (suc y)
       from_node (inl e) = subst (λ a. Reach (to h) g.node (suc a)) e here
-      from_node (inr far) = there (subst (λ a. Reach (to h) g.node (to h a)) cur (kept.read.next n g.node next (rival_chain h views s v k g parts at own r) (parts.places.linked r.seat r.view g r.there r.own).1 far))
+      from_node (inr far) = there (subst (λ a. Reach (to h) g.node (to h a)) cur
+          (kept.read.next n g.node next (rival_chain h views s v k g parts at own r)
+          (parts.places.linked r.seat r.view g r.there r.own).1 far))
 
   own_stop : verdict_of v.own lo (h.hi y) ≡ Stop → (own_stopped v.own ≡ v.own) ⊎ ((k : Listed) × (v.own ≡ listed k) × (own_stopped v.own ≡ listed (done k)))
   own_stop stop = by_own v.own refl
@@ -273,7 +289,8 @@ module _ (h : Heap) (views : List View) (s : ℕ) (v : View) (c : Cursor) (y n l
     reach = λ b x e m. inr (c, has, may_stop x (subst (λ z. MayReach h z x) (sym (same_some stopped b e)) m));
     sees = λ k g own r see. absurd (blind_at_stop stop k g own r see);
     to_see = λ k own e. absurd (let mine = stopped_listed v.own k own e in from_head_stop k.range lo (h.hi y) (verdict_is k FromHead Stop stop mine e));
-    unseen = λ low' a b e m. absurd (not_alone h views s v c y parts at has even cur a (may_stop a.node (subst (λ z. MayReach h z a.node) (sym (same_some stopped b e)) m)));
+    unseen = λ low' a b e m. absurd (not_alone h views s v c y parts at has even cur a
+        (may_stop a.node (subst (λ z. MayReach h z a.node) (sym (same_some stopped b e)) m)));
   })
 
   pub judges : Parts h (slice_set views s (hi_read v c y n lo (h.hi y)))

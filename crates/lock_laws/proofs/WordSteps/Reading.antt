@@ -16,7 +16,8 @@ use Rattle.lock_laws.proofs.Frames.Moving.{moves_kept}
 use Rattle.lock_laws.proofs.Frames.Seeing.{calm_same, rival_chain}
 use Rattle.lock_laws.proofs.WordSteps.Walking.{ordered_behind}
 
-module _ (h : Heap) (views : List View) (s : ℕ) (v : View) (c : Cursor) (y : ℕ) (parts : Parts h views) (at : IsViewOf views s v) (has : v.cursor ≡ Some c) (even : c.cur % 2 ≡ 0) (cur : c.cur / 2 ≡ suc y) where
+module _ (h : Heap) (views : List View) (s : ℕ) (v : View) (c : Cursor) (y : ℕ) (parts : Parts h views) (at : IsViewOf views s v)
+    (has : v.cursor ≡ Some c) (even : c.cur % 2 ≡ 0) (cur : c.cur / 2 ≡ suc y) where
   kept : IsCursorKept h v.own c
   kept = (parts.each s v at).cursor c has
 
@@ -47,7 +48,11 @@ module _ (h : Heap) (views : List View) (s : ℕ) (v : View) (c : Cursor) (y : �
   may_next : (x : ℕ) → MayReach h d x → MayReach h c x
   may_next x m = ⊎_elim
       (λ (n : Names c m.target). record { target = m.target; named = n; reach = m.reach })
-      (λ (e : m.target ≡ to h (suc y)). record { target = c.cur / 2; named = inr (inl refl); reach = subst (Reach (to h) x) (sym cur) (there_from (subst (Reach (to h) x) e m.reach)) })
+      (λ (e : m.target ≡ to h (suc y)). record {
+        target = c.cur / 2;
+        named = inr (inl refl);
+        reach = subst (Reach (to h) x) (sym cur) (there_from (subst (Reach (to h) x) e m.reach));
+      })
       (names_next m.target m.named)
     where
       there_from : Reach (to h) x (to h (suc y)) → Reach (to h) x (suc y)
@@ -57,7 +62,8 @@ module _ (h : Heap) (views : List View) (s : ℕ) (v : View) (c : Cursor) (y : �
   kept_next = record {
     seen = λ t n. ⊎_elim
         (λ (o : Names c t). kept.seen t o)
-        (λ (e : t ≡ to h (suc y)). subst (IsOrdered h) (sym e) (ordered_behind h y (suc y) (subst (IsOrdered h) cur (kept.seen (c.cur / 2) (inr (inl refl)))) here))
+        (λ (e : t ≡ to h (suc y)). subst (IsOrdered h) (sym e)
+        (ordered_behind h y (suc y) (subst (IsOrdered h) cur (kept.seen (c.cur / 2) (inr (inl refl)))) here))
         (names_next t n);
     read = record {
       next_node = λ n e z. omega (arith, cur, z);

@@ -19,7 +19,9 @@ use Rattle.lock_laws.proofs.Frames.Moving.{moves_kept}
 use Rattle.lock_laws.proofs.Frames.Seeing.{rival_chain}
 use Rattle.lock_laws.proofs.WordSteps.Walking.{ordered_end}
 
-module _ (seats : ℕ) (h now : Heap) (views : List View) (s : ℕ) (v : View) (c : Cursor) (few : AreSeats seats views) (parts : Parts h views) (at : IsViewOf views s v) (has : v.cursor ≡ Some c) (prev : c.prev ≡ None) (odd : c.cur % 2 ≡ 1) (found : h.next 0 ≡ c.cur) (wrote : WroteCell seats h now 0 (c.cur - 1)) where
+module _ (seats : ℕ) (h now : Heap) (views : List View) (s : ℕ) (v : View) (c : Cursor) (few : AreSeats seats views)
+    (parts : Parts h views) (at : IsViewOf views s v) (has : v.cursor ≡ Some c) (prev : c.prev ≡ None) (odd : c.cur % 2 ≡ 1)
+    (found : h.next 0 ≡ c.cur) (wrote : WroteCell seats h now 0 (c.cur - 1)) where
   calm : Calm h now
   calm = record {
     head = let w = wrote.is in omega (arith, w, found, odd);
@@ -88,13 +90,15 @@ module _ (seats : ℕ) (h now : Heap) (views : List View) (s : ℕ) (v : View) (
       by_next (Some n) e = absurd (cc)
 
   pub settles : Parts now (slice_set views s (settled v c))
-  settles = moves_kept h now views s v (settled v c) parts at calm wrote.home (λ j w e. wrote.epoch j (few j w e)) (λ l. absurd (let w = wrote.is in omega (arith, w, odd, l))) (record {
-    rest = refl;
-    own = inl refl;
-    odd = λ e. absurd (let n = (parts.each s v at).even e in cc);
-    cursor = λ b e. subst (IsCursorKept now v.own) (same_some d b e) kept_now;
-    reach = λ b x e m. inl (chain_back h now views s v parts at (aside_of h now v calm) x (inside x (subst (λ z. MayReach now z x) (sym (same_some d b e)) m)));
-    sees = λ k g own r see. (refl, sees_all k g.node (rival_chain h views s v k g parts at own r));
-    to_see = λ k own e. sees_all k k.node (parts.places.linked s v k at own).0;
-    unseen = λ low a b e m. absurd (let w = wrote.is in omega (arith, w, odd, low));
-  })
+  settles = moves_kept h now views s v (settled v c) parts at calm wrote.home (λ j w e. wrote.epoch j (few j w e))
+      (λ l. absurd (let w = wrote.is in omega (arith, w, odd, l))) (record {
+        rest = refl;
+        own = inl refl;
+        odd = λ e. absurd (let n = (parts.each s v at).even e in cc);
+        cursor = λ b e. subst (IsCursorKept now v.own) (same_some d b e) kept_now;
+        reach = λ b x e m. inl (chain_back h now views s v parts at (aside_of h now v calm) x
+            (inside x (subst (λ z. MayReach now z x) (sym (same_some d b e)) m)));
+        sees = λ k g own r see. (refl, sees_all k g.node (rival_chain h views s v k g parts at own r));
+        to_see = λ k own e. sees_all k k.node (parts.places.linked s v k at own).0;
+        unseen = λ low a b e m. absurd (let w = wrote.is in omega (arith, w, odd, low));
+      })

@@ -58,7 +58,8 @@ alone_is h views a x r = ⊎_elim
 -- ---- the own node once a cursor came to a word
 
 pub own_stays : (v u : View) (w : ℕ) → u.own ≡ own_at v.own w → OwnStays v u
-own_stays v u w e = ⊎_elim (λ (q : own_at v.own w ≡ v.own). inl (e ∙ q)) (λ (c : CameHome v.own w (own_at v.own w)). inr (c.was, c.is, e ∙ c.now)) (coming v.own w)
+own_stays v u w e = ⊎_elim (λ (q : own_at v.own w ≡ v.own). inl (e ∙ q))
+    (λ (c : CameHome v.own w (own_at v.own w)). inr (c.was, c.is, e ∙ c.now)) (coming v.own w)
 
 -- an own node that is being filled is so before and after
 pub fills_still : (o : Own) (w : ℕ) (f : Filled) → own_at o w ≡ filling f → o ≡ filling f
@@ -72,7 +73,8 @@ listed_still o w k e d = ⊎_elim
     (coming o w)
 
 -- as long as a rival is ahead the range isn't held
-pub not_yet : (h : Heap) (views : List View) (s w : ℕ) (v : View) (k g : Listed) → Parts h views → IsViewOf views s v → v.own ≡ listed k → Rival views k g → Reach (to h) g.node (w / 2) → own_at v.own w ≡ v.own
+pub not_yet : (h : Heap) (views : List View) (s w : ℕ) (v : View) (k g : Listed) → Parts h views → IsViewOf views s v
+    → v.own ≡ listed k → Rival views k g → Reach (to h) g.node (w / 2) → own_at v.own w ≡ v.own
 not_yet h views s w v k g parts at own rival r =
     ⊎_elim
     (λ (q : own_at v.own w ≡ v.own). q)
@@ -84,7 +86,8 @@ not_yet h views s w v k g parts at own rival r =
     let half : w / 2 ≡ suc k.node = let a = ap (λ (b : Listed). b.node) same in let z = t.1 in omega (arith, a, z) in
     ⊎_elim
     (λ (u : (k.todo ≡ Forward) × (k.mode ≡ Reader) × (g.mode ≡ Writer)). let a = ap (λ (b : Listed). b.todo) same in let f = u.0 in let b = t.0 in cc)
-    (λ (u : (k.todo ≡ FromHead) × (k.mode ≡ Writer) × (g.mode ≡ Reader)). blind_at_own h views s v k g parts at own rival u.1 (subst (Reach (to h) g.node) half r))
+    (λ (u : (k.todo ≡ FromHead) × (k.mode ≡ Writer) × (g.mode ≡ Reader)). blind_at_own h views s v k g parts at own rival u.1
+    (subst (Reach (to h) g.node) half r))
     rival.way)
     c.way))
     (coming v.own w)
@@ -100,10 +103,15 @@ starts : (o : Own) → Start o
 starts Nothing = at_head refl (λ k e. absurd (cc))
 starts (Filling node lo hi mode aimed) = at_head refl (λ k e. absurd (cc))
 starts (Linked node range mode Forward) = behind_own (record { node = node; range = range; mode = mode; todo = Forward }) refl refl refl
-starts (Linked node range mode FromHead) = at_head refl (λ k e q. let t = ap (λ (z : Listed). z.todo) (listed_one (record { node = node; range = range; mode = mode; todo = FromHead }) k e) in cc)
-starts (Linked node range mode Done) = at_head refl (λ k e q. let t = ap (λ (z : Listed). z.todo) (listed_one (record { node = node; range = range; mode = mode; todo = Done }) k e) in cc)
+starts (Linked node range mode FromHead) = at_head refl
+    (λ k e q. let t = ap (λ (z : Listed). z.todo)
+    (listed_one (record { node = node; range = range; mode = mode; todo = FromHead }) k e) in cc)
+starts (Linked node range mode Done) = at_head refl
+    (λ k e q. let t = ap (λ (z : Listed). z.todo)
+    (listed_one (record { node = node; range = range; mode = mode; todo = Done }) k e) in cc)
 
-module _ (h : Heap) (views : List View) (s : ℕ) (v : View) (parts : Parts h views) (at : IsViewOf views s v) (none : v.cursor ≡ None) (odd : v.epoch % 2 ≡ 1) where
+module _ (h : Heap) (views : List View) (s : ℕ) (v : View) (parts : Parts h views) (at : IsViewOf views s v)
+    (none : v.cursor ≡ None) (odd : v.epoch % 2 ≡ 1) where
   abbrev word : ℕ
   word = h.next (cell_of (start_of v.own))
 
@@ -149,7 +157,8 @@ module _ (h : Heap) (views : List View) (s : ℕ) (v : View) (parts : Parts h vi
   low_head : word % 2 ≡ 1 → start_of v.own ≡ None
   low_head e = ⊎_elim
       (λ (q : start_of v.own ≡ None). q)
-      (λ (t : (q : ℕ) × (start_of v.own ≡ Some q) × InChain h q × IsUnmarked h q). absurd (let a = ap (λ (o : Option ℕ). h.next (cell_of o) % 2) t.1 in let b = t.3 in omega (arith, a, b, e)))
+      (λ (t : (q : ℕ) × (start_of v.own ≡ Some q) × InChain h q × IsUnmarked h q). absurd
+      (let a = ap (λ (o : Option ℕ). h.next (cell_of o) % 2) t.1 in let b = t.3 in omega (arith, a, b, e)))
       (from_chain (starts v.own))
 
   kept : IsCursorKept h (own_at v.own word) d
@@ -219,14 +228,17 @@ module _ (h : Heap) (views : List View) (s : ℕ) (v : View) (parts : Parts h vi
       by_start (behind_own b e todo q) =
           let same = listed_one b k (sym e ∙ own) in
           subst (λ (o : Option ℕ). Reach (to h) x (to h (cell_of o))) (sym q)
-          (subst (λ (a : ℕ). Reach (to h) x (to h (suc a))) (sym (ap (λ (c : Listed). c.node) same)) (subst (λ (a : Todo). Reach (to h) x (to h (first_cell_of a k.node))) (sym (ap (λ (c : Listed). c.todo) same) ∙ todo) r))
+          (subst (λ (a : ℕ). Reach (to h) x (to h (suc a))) (sym (ap (λ (c : Listed). c.node) same))
+          (subst (λ (a : Todo). Reach (to h) x (to h (first_cell_of a k.node)))
+          (sym (ap (λ (c : Listed). c.todo) same) ∙ todo) r))
 
   sees : (k g : Listed) → v.own ≡ listed k → Rival views k g → (own_at v.own word ≡ v.own) × HasToSee h k (Some d) g.node
   sees k g mine r =
       let far = ahead k g.node mine (looking k g r.way) (sees_anew h views s v k g parts at mine r) in
       (not_yet h views s word v k g parts at mine r far, far)
     where
-      looking : (k g : Listed) → ((k.todo ≡ Forward) × (k.mode ≡ Reader) × (g.mode ≡ Writer)) ⊎ ((k.todo ≡ FromHead) × (k.mode ≡ Writer) × (g.mode ≡ Reader)) → k.todo ≢ Done
+      looking : (k g : Listed) → ((k.todo ≡ Forward) × (k.mode ≡ Reader) × (g.mode ≡ Writer))
+          ⊎ ((k.todo ≡ FromHead) × (k.mode ≡ Writer) × (g.mode ≡ Reader)) → k.todo ≢ Done
       looking k g (inl t) e = let a = t.0 in cc
       looking k g (inr t) e = let a = t.0 in cc
 
@@ -238,6 +250,7 @@ module _ (h : Heap) (views : List View) (s : ℕ) (v : View) (parts : Parts h vi
     cursor = λ c e. subst (IsCursorKept h (own_at v.own word)) (same_some d c e) kept;
     reach = λ c x e m. inl (inside x (subst (λ z. MayReach h z x) (sym (same_some d c e)) m));
     sees = λ k g own r see. sees k g own r;
-    to_see = λ k own e. let mine = listed_still v.own word k own (λ q. cc) in ahead k k.node mine (λ q. cc) (sees_own_anew h k (parts.places.linked s v k at mine).0 e);
+    to_see = λ k own e. let mine = listed_still v.own word k own (λ q. cc) in
+        ahead k k.node mine (λ q. cc) (sees_own_anew h k (parts.places.linked s v k at mine).0 e);
     unseen = λ low a c e m. sym (ap (λ (z : Cursor). z.cur) (same_some d c e)) ∙ unseen low a;
   })

@@ -9,5 +9,6 @@ returns-clause-attempt g c = elim c.match-next.branch [
   | in-Some+in-Done w ↦
       let a = w.one_attempt-last in
       same_attempt c.args.caller.now a.new.caller c.match-next.caller c.args.request a.result c.match-next.last w.caller-is w.last-is
-      (attempt_since c.args.caller.now c.loop.caller a.new.caller c.args.request a.result c.loop.invariant.looked (c.loop.invariant.held ∙ sym c.requires.free) a.ensures.attempt)
+      (attempt_since c.args.caller.now c.loop.caller a.new.caller c.args.request a.result c.loop.invariant.looked
+      (c.loop.invariant.held ∙ sym c.requires.free) a.ensures.attempt)
 ]

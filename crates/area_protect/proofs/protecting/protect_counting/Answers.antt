@@ -9,7 +9,8 @@ pub returns-in-Whole : goal.returns-in-Whole
 returns-in-Whole g c =
     let a = c.args.caller.now in let b = c.attempts.new.caller in let w = c.call_whole-entry in let q = c.args.request in
     let t = c.in-Whole.ensures.attempt in
-    let called : IsCalled b q.line (Protect q.addr q.len q.prot) w.result w.new.caller = subst (λ (call : Call). IsCalled b q.line call w.result w.new.caller) c.call.ensures w.ensures.called in
+    let called : IsCalled b q.line (Protect q.addr q.len q.prot) w.result w.new.caller =
+    subst (λ (call : Call). IsCalled b q.line call w.result w.new.caller) c.call.ensures w.ensures.called in
     record {
       protected = record {
         called = called_after a b w.new.caller q.line (Protect q.addr q.len q.prot) w.result t.0 (c.attempts.ensures.free ∙ sym c.requires.free) called;

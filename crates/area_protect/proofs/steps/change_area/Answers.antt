@@ -13,10 +13,14 @@ use Rattle.area_protect.proofs.Stages.{after_back, looked_round, changed_area, n
 use Rattle.area_protect.proofs.steps.change_area.Goals as goal
 
 pub number-entry-requires-clause-right : goal.number-entry-requires-clause-right
-number-entry-requires-clause-right g c = subst (λ (call : Call). MayNumber c.plan_area-plan.new.caller call Zero (OverArea c.args.wide)) (sym c.call-call.ensures) c.in-Same.ensures.plan.1
+number-entry-requires-clause-right g c = subst
+    (λ (call : Call). MayNumber c.plan_area-plan.new.caller call Zero (OverArea c.args.wide)) (sym c.call-call.ensures)
+    c.in-Same.ensures.plan.1
 
 pub number-entry-requires-in-SetKind-clause-right : goal.number-entry-requires-in-SetKind-clause-right
-number-entry-requires-in-SetKind-clause-right g c = subst (λ (call : Call). MayNumber c.plan_area-plan.new.caller call Zero (OverArea c.args.wide)) (sym c.call-call.ensures) c.in-SetKind.ensures.plan.number
+number-entry-requires-in-SetKind-clause-right g c =
+    subst (λ (call : Call). MayNumber c.plan_area-plan.new.caller call Zero (OverArea c.args.wide)) (sym c.call-call.ensures)
+    c.in-SetKind.ensures.plan.number
 
 pub set_kind-requires-clause-store : goal.set_kind-requires-clause-store
 set_kind-requires-clause-store g c =
@@ -24,7 +28,9 @@ set_kind-requires-clause-store g c =
     (c.in-SetKind.change, c.number-entry-in-SetKind.ensures.store c.args.wide c.in-SetKind.change refl plan.chosen plan.round, refl, refl)
 
 pub number-entry-requires-in-MoveStart-clause-right : goal.number-entry-requires-in-MoveStart-clause-right
-number-entry-requires-in-MoveStart-clause-right g c = subst (λ (call : Call). MayNumber c.plan_area-plan.new.caller call Zero (OverArea c.args.wide)) (sym c.call-call.ensures) c.in-MoveStart.ensures.plan.number
+number-entry-requires-in-MoveStart-clause-right g c =
+    subst (λ (call : Call). MayNumber c.plan_area-plan.new.caller call Zero (OverArea c.args.wide)) (sym c.call-call.ensures)
+    c.in-MoveStart.ensures.plan.number
 
 pub move_start-requires-clause-store : goal.move_start-requires-clause-store
 move_start-requires-clause-store g c =
@@ -34,31 +40,43 @@ move_start-requires-clause-store g c =
 pub returns-in-NotSimple-clause-rows : goal.returns-in-NotSimple-clause-rows
 returns-in-NotSimple-clause-rows g c =
     let b = c.args.caller.now in let r = c.plan_area-plan in let p = c.in-NotSimple.ensures in let l = c.look-at in let d = c.release in
-    let looked = looked_round b b r.new.caller l.new.caller d.new.caller l.result (no_lock_call b.seat) refl c.requires.rest p.reading p.left l.ensures.look l.ensures.left d.ensures.release d.ensures.left in
+    let looked = looked_round b b r.new.caller l.new.caller d.new.caller l.result (no_lock_call b.seat) refl c.requires.rest
+    p.reading p.left l.ensures.look l.ensures.left d.ensures.release d.ensures.left in
     record {
       looked = looked.0;
       when = looked.1;
-      state = after_back l.new.caller.seat d.new.caller.seat d.ensures.release l.result (λ A. IsOneKind A (page_of c.args.request.addr) (end_page c.args.request.addr c.args.request.len) × ¬ IsSimple A (Protect c.args.request.addr c.args.request.len c.args.request.prot))
-          (look_shows r.new.caller.seat l.new.caller.seat l.result (λ A. IsOneKind A (page_of c.args.request.addr) (end_page c.args.request.addr c.args.request.len) × ¬ IsSimple A (Protect c.args.request.addr c.args.request.len c.args.request.prot)) l.ensures.look p.plan);
+      state = after_back l.new.caller.seat d.new.caller.seat d.ensures.release l.result
+          (λ A. IsOneKind A (page_of c.args.request.addr) (end_page c.args.request.addr c.args.request.len)
+          × ¬ IsSimple A (Protect c.args.request.addr c.args.request.len c.args.request.prot))
+          (look_shows r.new.caller.seat l.new.caller.seat l.result
+          (λ A. IsOneKind A (page_of c.args.request.addr) (end_page c.args.request.addr c.args.request.len)
+          × ¬ IsSimple A (Protect c.args.request.addr c.args.request.len c.args.request.prot)) l.ensures.look p.plan);
     }
 
 pub returns-in-Same-clause-changed : goal.returns-in-Same-clause-changed
 returns-in-Same-clause-changed g c =
     let r = c.plan_area-plan in let p = c.in-Same.ensures in let n = c.number-entry in let d = c.release-in-Same in
     let e = n.ensures in
-    changed_area c.args.caller.now r.new.caller n.new.caller n.new.caller d.new.caller c.args.request n.result c.args.wide (change_pending r.new.caller.change) p.reading p.left c.requires.rest e.line (e.call ∙ c.call-call.ensures) e.under e.named e.drawn e.left
+    changed_area c.args.caller.now r.new.caller n.new.caller n.new.caller d.new.caller c.args.request n.result c.args.wide
+    (change_pending r.new.caller.change) p.reading p.left c.requires.rest e.line (e.call ∙ c.call-call.ensures) e.under
+    e.named e.drawn e.left
     (nothing_to_store n.new.caller.seat (e.drawn.writes ∙ ap change_pending p.plan.0)) refl d.ensures.release d.ensures.left
 
 pub returns-in-SetKind-clause-changed : goal.returns-in-SetKind-clause-changed
 returns-in-SetKind-clause-changed g c =
     let r = c.plan_area-plan in let p = c.in-SetKind.ensures in let n = c.number-entry-in-SetKind in let s = c.set_kind in let d = c.release-in-SetKind in
     let e = n.ensures in
-    changed_area c.args.caller.now r.new.caller n.new.caller s.new.caller d.new.caller c.args.request n.result c.args.wide (change_pending r.new.caller.change) p.reading p.left c.requires.rest e.line (e.call ∙ c.call-call.ensures) e.under e.named e.drawn e.left
+    changed_area c.args.caller.now r.new.caller n.new.caller s.new.caller d.new.caller c.args.request n.result c.args.wide
+    (change_pending r.new.caller.change) p.reading p.left c.requires.rest e.line (e.call ∙ c.call-call.ensures) e.under
+    e.named e.drawn e.left
     (stored_one n.new.caller.seat s.new.caller.seat c.in-SetKind.change.index s.ensures.stored) s.ensures.left d.ensures.release d.ensures.left
 
 pub returns-in-MoveStart-clause-changed : goal.returns-in-MoveStart-clause-changed
 returns-in-MoveStart-clause-changed g c =
-    let r = c.plan_area-plan in let p = c.in-MoveStart.ensures in let n = c.number-entry-in-MoveStart in let s = c.move_start in let d = c.release-in-MoveStart in
+    let r = c.plan_area-plan in let p = c.in-MoveStart.ensures in let n = c.number-entry-in-MoveStart in let s = c.move_start in
+    let d = c.release-in-MoveStart in
     let e = n.ensures in
-    changed_area c.args.caller.now r.new.caller n.new.caller s.new.caller d.new.caller c.args.request n.result c.args.wide (change_pending r.new.caller.change) p.reading p.left c.requires.rest e.line (e.call ∙ c.call-call.ensures) e.under e.named e.drawn e.left
+    changed_area c.args.caller.now r.new.caller n.new.caller s.new.caller d.new.caller c.args.request n.result c.args.wide
+    (change_pending r.new.caller.change) p.reading p.left c.requires.rest e.line (e.call ∙ c.call-call.ensures) e.under
+    e.named e.drawn e.left
     (stored_one n.new.caller.seat s.new.caller.seat c.in-MoveStart.change.index s.ensures.stored) s.ensures.left d.ensures.release d.ensures.left

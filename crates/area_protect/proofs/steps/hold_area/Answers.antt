@@ -13,10 +13,14 @@ pub returns-then-sequence-found-clause-held : goal.returns-then-sequence-found-c
 returns-then-sequence-found-clause-held g c =
     let a = c.acquire in let q = c.sequence-sequence in let l = c.look-second in let d = c.release in
     let some : IsSome a.new.caller.seat.held = subst (λ (h : Option Held). IsSome h) (sym a.ensures.held) refl in
-    let looked = looked_round c.args.caller.now a.new.caller q.new.caller l.new.caller d.new.caller l.result a.ensures.call a.ensures.left a.ensures.rest q.ensures.reading q.ensures.left l.ensures.look l.ensures.left d.ensures.release d.ensures.left in (
+    let looked = looked_round c.args.caller.now a.new.caller q.new.caller l.new.caller d.new.caller l.result a.ensures.call
+    a.ensures.left a.ensures.rest q.ensures.reading q.ensures.left l.ensures.look l.ensures.left d.ensures.release
+    d.ensures.left in (
       d.ensures.release.held,
       looked.1,
-      whole_back l.new.caller.seat d.new.caller.seat d.ensures.release l.result q.result (look_counts q.new.caller.seat l.new.caller.seat l.result q.result l.ensures.look (q.ensures.reading.read.pending ∙ a.ensures.rest) (q.ensures.counts some)),
+      whole_back l.new.caller.seat d.new.caller.seat d.ensures.release l.result q.result
+          (look_counts q.new.caller.seat l.new.caller.seat l.result q.result l.ensures.look
+          (q.ensures.reading.read.pending ∙ a.ensures.rest) (q.ensures.counts some)),
       c.if-sequence-found.true,
     )
 
@@ -34,5 +38,6 @@ returns-in-Some-clause-held g c =
       named = subst (λ (k : Option Kind). IsNamedOption k) c.in-Some.is r.ensures.named;
       read = r.ensures.read;
       shows = subst (λ (h : Option Held). Shows r.new.caller.seat (RowIs h c.args.page r.result)) (sym r.ensures.reading.held) r.ensures.shows;
-      whole = subst (λ n. CountsWhole r.new.caller.seat n) c.if-sequence-found.false (counts_on q.new.caller.seat r.new.caller.seat q.result r.ensures.reading (q.ensures.counts some));
+      whole = subst (λ n. CountsWhole r.new.caller.seat n) c.if-sequence-found.false
+          (counts_on q.new.caller.seat r.new.caller.seat q.result r.ensures.reading (q.ensures.counts some));
     }

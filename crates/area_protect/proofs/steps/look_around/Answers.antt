@@ -14,27 +14,49 @@ returns-in-Some-clause-found g c =
     let a = c.acquire in let q = c.sequence-sequence in let r = c.row_of-row in let l = c.look-at in let d = c.release in
     let some : IsSome a.new.caller.seat.held = subst (λ (h : Option Held). IsSome h) (sym a.ensures.held) refl in
     let read = reading_on a.new.caller.seat q.new.caller.seat r.new.caller.seat q.ensures.reading r.ensures.reading in
-    let looked = looked_round c.args.caller.now a.new.caller r.new.caller l.new.caller d.new.caller l.result a.ensures.call a.ensures.left a.ensures.rest read (r.ensures.left ∙ q.ensures.left) l.ensures.look l.ensures.left d.ensures.release d.ensures.left in
+    let looked = looked_round c.args.caller.now a.new.caller r.new.caller l.new.caller d.new.caller l.result a.ensures.call
+    a.ensures.left a.ensures.rest read (r.ensures.left ∙ q.ensures.left) l.ensures.look l.ensures.left d.ensures.release
+    d.ensures.left in
     record {
       area = record { has_page = (let f = r.ensures.from in let u = r.ensures.until in omega arith); below_limit = r.ensures.limit };
       from = (let f = r.ensures.from in let p = c.lo.ensures in omega arith);
       until = (let h = c.if-row-hi.true in let p = c.hi.ensures in omega arith);
       looked = looked.1;
-      whole = whole_back l.new.caller.seat d.new.caller.seat d.ensures.release l.result q.result (look_counts r.new.caller.seat l.new.caller.seat l.result q.result l.ensures.look (read.read.pending ∙ a.ensures.rest) (counts_on q.new.caller.seat r.new.caller.seat q.result r.ensures.reading (q.ensures.counts some)));
+      whole = whole_back l.new.caller.seat d.new.caller.seat d.ensures.release l.result q.result
+          (look_counts r.new.caller.seat l.new.caller.seat l.result q.result l.ensures.look (read.read.pending ∙ a.ensures.rest)
+          (counts_on q.new.caller.seat r.new.caller.seat q.result r.ensures.reading (q.ensures.counts some)));
     }
 
 pub returns-in_default-clause-other : goal.returns-in_default-clause-other
 returns-in_default-clause-other g c =
     let a = c.acquire in let q = c.sequence-sequence in let r = c.row_of-row in let l = c.look-at in let d = c.release in
     let read = reading_on a.new.caller.seat q.new.caller.seat r.new.caller.seat q.ensures.reading r.ensures.reading in
-    let looked = looked_round c.args.caller.now a.new.caller r.new.caller l.new.caller d.new.caller l.result a.ensures.call a.ensures.left a.ensures.rest read (r.ensures.left ∙ q.ensures.left) l.ensures.look l.ensures.left d.ensures.release d.ensures.left in
-    let other = other_shown r.new.caller.seat q.new.caller.seat.held (held_span c.args.pages Reader) c.lo.result c.args.pages r.result (q.ensures.reading.held ∙ a.ensures.held) refl refl c.lo.ensures r.ensures.shows r.ensures.from r.ensures.until (inr (let h = c.if-row-hi.false in let p = c.hi.ensures in omega arith)) in
-    (looked.1, after_back l.new.caller.seat d.new.caller.seat d.ensures.release l.result (λ A. ¬ IsOneKind A c.args.pages.lo c.args.pages.hi) (look_shows r.new.caller.seat l.new.caller.seat l.result (λ A. ¬ IsOneKind A c.args.pages.lo c.args.pages.hi) l.ensures.look other))
+    let looked = looked_round c.args.caller.now a.new.caller r.new.caller l.new.caller d.new.caller l.result a.ensures.call
+    a.ensures.left a.ensures.rest read (r.ensures.left ∙ q.ensures.left) l.ensures.look l.ensures.left d.ensures.release
+    d.ensures.left in
+    let other = other_shown r.new.caller.seat q.new.caller.seat.held (held_span c.args.pages Reader) c.lo.result c.args.pages
+    r.result (q.ensures.reading.held ∙ a.ensures.held) refl refl c.lo.ensures r.ensures.shows r.ensures.from r.ensures.until
+    (inr (let h = c.if-row-hi.false in let p = c.hi.ensures in omega arith)) in (
+      looked.1,
+      after_back l.new.caller.seat d.new.caller.seat d.ensures.release l.result
+          (λ A. ¬ IsOneKind A c.args.pages.lo c.args.pages.hi)
+          (look_shows r.new.caller.seat l.new.caller.seat l.result (λ A. ¬ IsOneKind A c.args.pages.lo c.args.pages.hi)
+          l.ensures.look other),
+    )
 
 pub returns-in_default-2-clause-other : goal.returns-in_default-2-clause-other
 returns-in_default-2-clause-other g c =
     let a = c.acquire in let q = c.sequence-sequence in let r = c.row_of-row in let l = c.look-at in let d = c.release in
     let read = reading_on a.new.caller.seat q.new.caller.seat r.new.caller.seat q.ensures.reading r.ensures.reading in
-    let looked = looked_round c.args.caller.now a.new.caller r.new.caller l.new.caller d.new.caller l.result a.ensures.call a.ensures.left a.ensures.rest read (r.ensures.left ∙ q.ensures.left) l.ensures.look l.ensures.left d.ensures.release d.ensures.left in
-    let other = other_shown r.new.caller.seat q.new.caller.seat.held (held_span c.args.pages Reader) c.lo.result c.args.pages r.result (q.ensures.reading.held ∙ a.ensures.held) refl refl c.lo.ensures r.ensures.shows r.ensures.from r.ensures.until (inl c.in_default.is) in
-    (looked.1, after_back l.new.caller.seat d.new.caller.seat d.ensures.release l.result (λ A. ¬ IsOneKind A c.args.pages.lo c.args.pages.hi) (look_shows r.new.caller.seat l.new.caller.seat l.result (λ A. ¬ IsOneKind A c.args.pages.lo c.args.pages.hi) l.ensures.look other))
+    let looked = looked_round c.args.caller.now a.new.caller r.new.caller l.new.caller d.new.caller l.result a.ensures.call
+    a.ensures.left a.ensures.rest read (r.ensures.left ∙ q.ensures.left) l.ensures.look l.ensures.left d.ensures.release
+    d.ensures.left in
+    let other = other_shown r.new.caller.seat q.new.caller.seat.held (held_span c.args.pages Reader) c.lo.result c.args.pages
+    r.result (q.ensures.reading.held ∙ a.ensures.held) refl refl c.lo.ensures r.ensures.shows r.ensures.from r.ensures.until
+    (inl c.in_default.is) in (
+      looked.1,
+      after_back l.new.caller.seat d.new.caller.seat d.ensures.release l.result
+          (λ A. ¬ IsOneKind A c.args.pages.lo c.args.pages.hi)
+          (look_shows r.new.caller.seat l.new.caller.seat l.result (λ A. ¬ IsOneKind A c.args.pages.lo c.args.pages.hi)
+          l.ensures.look other),
+    )

@@ -12,5 +12,9 @@ pub returns-in-Ok-change_area-clause-attempt : goal.returns-in-Ok-change_area-cl
 returns-in-Ok-change_area-clause-attempt g c =
     let h = c.in-Area.ensures in
     let look = looked_on c.args.caller.now c.look_around.new.caller c.hold_area.new.caller c.look_around.ensures.looked h.looked in
-    let d = c.in-Ok-change_area.ensures.changed in
-    (changed_after c.args.caller.now c.hold_area.new.caller c.change_area.new.caller c.args.request c.in-Ok-change_area.entry c.requires.free look d, d.area, d.whole c.in-Ok.found.sequence h.held.whole)
+    let d = c.in-Ok-change_area.ensures.changed in (
+      changed_after c.args.caller.now c.hold_area.new.caller c.change_area.new.caller c.args.request c.in-Ok-change_area.entry
+          c.requires.free look d,
+      d.area,
+      d.whole c.in-Ok.found.sequence h.held.whole,
+    )

@@ -6,8 +6,27 @@ use Rattle.area_rows.proofs.close.part.Goals as goal
 some_left : (c : goal.After-push_reserved-in-callers) → 0 < length c.callers.callers.items
 some_left c = search rules
 
-pair : (c : goal.After-push_reserved-in-callers) → IsPair c.seat.inside.seat (record { worker = c.seat.inside.worker; mine = c.seat.inside.mine; left = c.seat.inside.left; read = c.seat.inside.read; plan = c.seat.inside.plan; change = c.seat.inside.change }) c.remove.result
-pair c = let i = c.seat.invariant in record { whole = sym c.seat.view_is; number = i.0; mine = i.1; room = i.2; few = i.3; read = i.4; plan = i.5; planned = i.6; pages = i.7; rest = i.8 }
+pair : (c : goal.After-push_reserved-in-callers)
+    → IsPair c.seat.inside.seat (record {
+      worker = c.seat.inside.worker;
+      mine = c.seat.inside.mine;
+      left = c.seat.inside.left;
+      read = c.seat.inside.read;
+      plan = c.seat.inside.plan;
+      change = c.seat.inside.change;
+    }) c.remove.result
+pair c = let i = c.seat.invariant in record {
+  whole = sym c.seat.view_is;
+  number = i.0;
+  mine = i.1;
+  room = i.2;
+  few = i.3;
+  read = i.4;
+  plan = i.5;
+  planned = i.6;
+  pages = i.7;
+  rest = i.8;
+}
 
 pub callers-preserved : goal.callers-preserved
 callers-preserved c = record {

@@ -6,4 +6,5 @@ use Rattle.call_trials.proofs.asking.may_validate.Goals as goal
 pub returns-then-eq : goal.returns-then-eq
 returns-then-eq c =
     let forward : c.in-Some.todo ≡ Forward = search rules in
-    validates_if c.args.seats c.args.view.now c.in-Some.todo c.in-Some.ensures c.if-not-is_inside.ensures c.in-Some-cursor.cursor c.is_at_known_node.result c.in-Some-cursor.is forward c.is_at_known_node.ensures
+    validates_if c.args.seats c.args.view.now c.in-Some.todo c.in-Some.ensures c.if-not-is_inside.ensures c.in-Some-cursor.cursor
+    c.is_at_known_node.result c.in-Some-cursor.is forward c.is_at_known_node.ensures

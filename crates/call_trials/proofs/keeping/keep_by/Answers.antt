@@ -5,4 +5,7 @@ pub keep-requires : goal.keep-requires
 keep-requires c = record { table = table_at c.args.list.now.table c.args.hands.now c.args.number c.index-hands-number.result c.requires.order c.requires.there }
 
 pub returns : goal.returns
-returns c = record { order = order_set c.args.list.now.table c.args.hands.now c.args.number c.index-hands-number.result c.requires.order c.requires.there c.keep.new.hand c.keep.ensures.same }
+returns c = record {
+  order = order_set c.args.list.now.table c.args.hands.now c.args.number c.index-hands-number.result
+      c.requires.order c.requires.there c.keep.new.hand c.keep.ensures.same;
+}

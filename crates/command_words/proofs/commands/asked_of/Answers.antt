@@ -37,4 +37,5 @@ loop-rest-preserved c =
 pub returns-clause-only : goal.returns-clause-only
 returns-clause-only c other h =
     let none : length c.loop-rest.rest.now ≡ 0 = search rules in
-    ap (λ (asked : Asked). Some asked) (left_of_nothing c.loop-rest.asked other (map string_bytes c.loop-rest.rest.now) (simp length-map none) (c.loop-rest.invariant.from other h))
+    ap (λ (asked : Asked). Some asked) (left_of_nothing c.loop-rest.asked other (map string_bytes c.loop-rest.rest.now)
+    (simp length-map none) (c.loop-rest.invariant.from other h))

@@ -3,4 +3,5 @@ use Rattle.epoch_pools.proofs.Taking.{all_passed}
 use Rattle.epoch_pools.proofs.barrier.first_inside.Goals as goal
 
 pub unreachable-requires-2 : goal.unreachable-requires-2
-unreachable-requires-2 c = let all = all_passed c.args.number c.args.view.now (λ k less other. c.seats.invariant k (omega arith) other) in let not = c.requires.barred in cc
+unreachable-requires-2 c = let all = all_passed c.args.number c.args.view.now
+    (λ k less other. c.seats.invariant k (omega arith) other) in let not = c.requires.barred in cc

@@ -14,7 +14,8 @@ returns-clause-cause g c =
       elim c.if-not-has_ready.branch [
         | then-not-has_ready+in_default w ↦
             let empty : p.core.ready ≡ [] = search rules in
-            inr (takes_filled p w.refill.new.self.part r c.take_ready.result w.refill.ensures.on empty c.requires.free.own c.has_ready.ensures.sound.pooled.whole w.refill.ensures.sound.pooled.whole
+            inr (takes_filled p w.refill.new.self.part r c.take_ready.result w.refill.ensures.on empty c.requires.free.own
+            c.has_ready.ensures.sound.pooled.whole w.refill.ensures.sound.pooled.whole
             (subst (λ h. TakesFirst h.part r c.take_ready.result) w.hand-is first))
         | else-not-has_ready w ↦ inl (subst (λ h. TakesFirst h.part r c.take_ready.result) w.hand-is first)
       ],

@@ -8,8 +8,12 @@ pub returns-clause-guard : goal.returns-clause-guard
 returns-clause-guard g c =
     let shape = c.list.view_is in
     let seats = ap (λ s. s.seats) shape in
-    closed c.list.inside.table.shared.key.seats c.args.list.seats _ g.G.Guard.holds c.list.inside.table.shared.table_id c.args.list.table c.args.hands.items c.join_all-all.result.id c.join_all-all.result.me.0 _ c.copy_words.new.out.items _
-    (c.list.invariant.same_seats ∙ seats) (ap (λ s. s.table) shape) c.requires.count c.requires.idle c.join_all-all.ensures.parts (c.copy_words.ensures ∙ (ap (λ n. drop n (slots_items c.close_with-closed.result.words)) c.lock_word_count.ensures ∙ ap (λ n. drop (word_count n) (slots_items c.close_with-closed.result.words)) seats)) c.close_with-closed.ensures.values.2
+    closed c.list.inside.table.shared.key.seats c.args.list.seats _ g.G.Guard.holds c.list.inside.table.shared.table_id
+    c.args.list.table c.args.hands.items c.join_all-all.result.id c.join_all-all.result.me.0 _ c.copy_words.new.out.items _
+    (c.list.invariant.same_seats ∙ seats) (ap (λ s. s.table) shape) c.requires.count c.requires.idle c.join_all-all.ensures.parts
+    (c.copy_words.ensures ∙ (ap (λ n. drop n (slots_items c.close_with-closed.result.words)) c.lock_word_count.ensures
+    ∙ ap (λ n. drop (word_count n) (slots_items c.close_with-closed.result.words)) seats))
+    c.close_with-closed.ensures.values.2
 
 pub join_all-all-requires-clause-tables : goal.join_all-all-requires-clause-tables
 join_all-all-requires-clause-tables g c = λ k s at. (c.requires.idle k s at).0 ∙ sym (ap (λ l. l.table) c.list.view_is)

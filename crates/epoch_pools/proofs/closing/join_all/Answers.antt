@@ -9,7 +9,8 @@ all-init g c =
     record {
       table = ap (λ s. s.table) c.token-2.view_is ∙ (ap (λ k. k.table) c.token.view_is ∙ first);
       slots = c.token-2.invariant.0;
-      parts = next_joined c.args.shared.now.table_id [] _ c.token-2.inside.seat.me.0.parts _ c.args.hands.items _ c.remove.result _ refl c.requires.some c.remove.ensures.value c.remove.ensures.items refl c.token-2.invariant.1
+      parts = next_joined c.args.shared.now.table_id [] _ c.token-2.inside.seat.me.0.parts _ c.args.hands.items _ c.remove.result
+          _ refl c.requires.some c.remove.ensures.value c.remove.ensures.items refl c.token-2.invariant.1
           (hand_again c.args.shared.now.table_id c.token.inside.token c.remove.result _ c.token.view_is first (sym (ap (λ s. s.part) c.token-2.view_is)));
       rest = hands_without_first c.args.shared.now.table_id c.args.hands.items _ c.requires.tables c.remove.ensures.items;
     }
@@ -18,8 +19,13 @@ pub join_seat-requires : goal.join_seat-requires
 join_seat-requires g c =
     let i = c.all.invariant in
     let more : 0 < length c.all.hands.items = search rules in
-    let here = i.rest 0 c.remove-in-all.result (at_index _ 0 _ more c.remove-in-all.ensures.value) in
-    (i.table, ap (λ s. s.table) c.token-in-all-2.view_is ∙ (ap (λ k. k.table) c.token-in-all.view_is ∙ here), c.token-in-all-2.invariant.0, c.requires.words, joins _ _ g.G.Guard.holds _ _ _ _)
+    let here = i.rest 0 c.remove-in-all.result (at_index _ 0 _ more c.remove-in-all.ensures.value) in (
+      i.table,
+      ap (λ s. s.table) c.token-in-all-2.view_is ∙ (ap (λ k. k.table) c.token-in-all.view_is ∙ here),
+      c.token-in-all-2.invariant.0,
+      c.requires.words,
+      joins _ _ g.G.Guard.holds _ _ _ _,
+    )
 
 pub all-preserved : goal.all-preserved
 all-preserved g c =
@@ -29,7 +35,10 @@ all-preserved g c =
     record {
       table = c.join_seat.ensures.0 ∙ i.table;
       slots = ap (λ m. m.1) c.join_seat.ensures.2 ∙ i.slots;
-      parts = next_joined c.args.shared.now.table_id c.all.all.me.0.parts _ c.token-in-all-2.inside.seat.me.0.parts _ c.all.hands.items _ c.remove-in-all.result _ i.parts more c.remove-in-all.ensures.value c.remove-in-all.ensures.items (ap (λ m. m.0.parts) c.join_seat.ensures.2) c.token-in-all-2.invariant.1
-          (hand_again c.args.shared.now.table_id c.token-in-all.inside.token c.remove-in-all.result _ c.token-in-all.view_is here (sym (ap (λ s. s.part) c.token-in-all-2.view_is)));
+      parts = next_joined c.args.shared.now.table_id c.all.all.me.0.parts _ c.token-in-all-2.inside.seat.me.0.parts _
+          c.all.hands.items _ c.remove-in-all.result _ i.parts more c.remove-in-all.ensures.value c.remove-in-all.ensures.items
+          (ap (λ m. m.0.parts) c.join_seat.ensures.2) c.token-in-all-2.invariant.1
+          (hand_again c.args.shared.now.table_id c.token-in-all.inside.token c.remove-in-all.result _ c.token-in-all.view_is here
+          (sym (ap (λ s. s.part) c.token-in-all-2.view_is)));
       rest = hands_without_first c.args.shared.now.table_id c.all.hands.items _ i.rest c.remove-in-all.ensures.items;
     }

@@ -5,4 +5,5 @@ use Rattle.epoch_pools.proofs.list.first_views.Goals as goal
 
 pub loop-seat-preserved : goal.loop-seat-preserved
 loop-seat-preserved c =
-    (c.in_ok-push.ensures {u = tt}).items ∙ (λ i. c.loop-seat.invariant i ++ c.in_ok-first_view.ensures {u = tt} i ∷ []) ∙ map_more (start_view c.args.seats) c.loop-seat.seat
+    (c.in_ok-push.ensures {u = tt}).items ∙ (λ i. c.loop-seat.invariant i ++ c.in_ok-first_view.ensures {u = tt} i ∷ [])
+    ∙ map_more (start_view c.args.seats) c.loop-seat.seat

@@ -26,9 +26,12 @@ returns g c =
     let is : d ≡ slice_index_or c.args.callers.now 0 d = search rules in
     let f = first_of c.args.space.now.table c.args.space.now.seats c.args.callers.now d c.requires.crew is in
     let free = subst (λ (v : CallerView). v.seat.held ≡ None) is f.2 in
-    let back = answer_back (slice_index_or c.args.callers.now 0 d) c.make_call.new.caller c.args.line c.args.call c.make_call.result free c.make_call.ensures.answer in
+    let back = answer_back (slice_index_or c.args.callers.now 0 d) c.make_call.new.caller c.args.line c.args.call
+    c.make_call.result free c.make_call.ensures.answer in
     record {
-      crew = first_back c.args.space.now.table c.args.space.now.seats c.args.callers.now d c.make_call.new.caller c.requires.crew is (subst (λ (v : CallerView). IsIdleAgain v c.make_call.new.caller) (sym is) back);
-      answer = first_is c.args.callers.now d c.make_call.new.caller (λ before after. IsAnswered before c.args.line c.args.call c.make_call.result after) c.make_call.ensures.answer;
+      crew = first_back c.args.space.now.table c.args.space.now.seats c.args.callers.now d c.make_call.new.caller c.requires.crew
+          is (subst (λ (v : CallerView). IsIdleAgain v c.make_call.new.caller) (sym is) back);
+      answer = first_is c.args.callers.now d c.make_call.new.caller
+          (λ before after. IsAnswered before c.args.line c.args.call c.make_call.result after) c.make_call.ensures.answer;
       others = others_stay c.args.callers.now c.make_call.new.caller;
     }

@@ -19,6 +19,9 @@ returns c =
     let d = c.index-callers-0.result in
     let is : d ≡ slice_index_or c.args.callers.now 0 d = search rules in
     record {
-      crew = first_back c.args.space.now.table c.args.space.now.seats c.args.callers.now d c.try_read.new.caller c.requires.crew is (subst (λ (v : CallerView). IsIdleAgain v c.try_read.new.caller) (sym is) c.try_read.ensures.caller);
-      tried = first_is c.args.callers.now d c.try_read.new.caller (λ before after. IsTried c.args.space.now.seats before 1 c.args.addr Read c.try_read.result after) c.try_read.ensures.tried;
+      crew = first_back c.args.space.now.table c.args.space.now.seats c.args.callers.now d c.try_read.new.caller c.requires.crew
+          is (subst (λ (v : CallerView). IsIdleAgain v c.try_read.new.caller) (sym is) c.try_read.ensures.caller);
+      tried = first_is c.args.callers.now d c.try_read.new.caller
+          (λ before after. IsTried c.args.space.now.seats before 1 c.args.addr Read c.try_read.result after)
+          c.try_read.ensures.tried;
     }

@@ -7,7 +7,9 @@ pub slice_bounds-result-count : goal.slice_bounds-result-count
 slice_bounds-result-count c = rw c.skip_word_bytes-rest.ensures (taken_shorter is_word_byte c.args.text.now)
 
 pub returns : goal.returns
-returns c = run_cut is_word_byte is_word_byte c.args.due c.args.text.now c.skip_word_bytes-rest.result.now (λ b h. h) (sym c.begins_word_byte.ensures ∙ c.if-not-begins_word_byte.false) c.skip_word_bytes-rest.ensures
+returns c = run_cut is_word_byte is_word_byte c.args.due c.args.text.now c.skip_word_bytes-rest.result.now (λ b h. h)
+    (sym c.begins_word_byte.ensures ∙ c.if-not-begins_word_byte.false) c.skip_word_bytes-rest.ensures
 
 pub returns-then-not-begins_word_byte : goal.returns-then-not-begins_word_byte
-returns-then-not-begins_word_byte c = run_missing is_word_byte is_word_byte c.args.due c.args.text.now (sym c.begins_word_byte.ensures ∙ c.if-not-begins_word_byte.true)
+returns-then-not-begins_word_byte c = run_missing is_word_byte is_word_byte c.args.due c.args.text.now
+    (sym c.begins_word_byte.ensures ∙ c.if-not-begins_word_byte.true)

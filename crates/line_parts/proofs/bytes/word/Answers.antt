@@ -8,7 +8,8 @@ pub slice_bounds-result-count : goal.slice_bounds-result-count
 slice_bounds-result-count c = rw c.skip_word_bytes-rest.ensures (taken_shorter is_word_byte c.args.text.now)
 
 pub returns : goal.returns
-returns c = run_cut is_capital is_word_byte Word c.args.text.now c.skip_word_bytes-rest.result.now capital_is_word (sym c.begins_capital.ensures ∙ c.if-not-begins_capital.false) c.skip_word_bytes-rest.ensures
+returns c = run_cut is_capital is_word_byte Word c.args.text.now c.skip_word_bytes-rest.result.now capital_is_word
+    (sym c.begins_capital.ensures ∙ c.if-not-begins_capital.false) c.skip_word_bytes-rest.ensures
 
 pub returns-then-not-begins_capital : goal.returns-then-not-begins_capital
 returns-then-not-begins_capital c = run_missing is_capital is_word_byte Word c.args.text.now (sym c.begins_capital.ensures ∙ c.if-not-begins_capital.true)

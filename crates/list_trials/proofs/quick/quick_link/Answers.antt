@@ -14,5 +14,7 @@ returns-clause-held g c =
     let was = c.requires.filled.3 in
     let f = writing n (Some lo) (Some hi) None in
     let now = writing n (Some lo) (Some hi) (Some 0) in
-    let is : IsFilling q.core now = subst (λ (u : View). IsFilling u now) (sym (ap (λ x. x.core) c.step.ensures.made)) (aimed p.seats p.number p.core f was c.step.result (may_aim p.seats p.number p.core f was lo hi refl refl)) in
-    quick_held_if q.seats q.number q.core now is c.step-2.new.hand.part.core c.step-2.result (may_quick_link q.seats q.number q.core now is lo hi refl refl refl) (ap (λ x. x.core) c.step-2.ensures.made)
+    let is : IsFilling q.core now = subst (λ (u : View). IsFilling u now) (sym (ap (λ x. x.core) c.step.ensures.made))
+    (aimed p.seats p.number p.core f was c.step.result (may_aim p.seats p.number p.core f was lo hi refl refl)) in
+    quick_held_if q.seats q.number q.core now is c.step-2.new.hand.part.core c.step-2.result
+    (may_quick_link q.seats q.number q.core now is lo hi refl refl refl) (ap (λ x. x.core) c.step-2.ensures.made)

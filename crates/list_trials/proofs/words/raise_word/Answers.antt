@@ -5,4 +5,7 @@ pub raise-requires-clause-table : goal.raise-requires-clause-table
 raise-requires-clause-table c = table_at c.args.list.now.table c.args.hands.now c.args.number c.index-hands-number.result c.requires.order c.requires.there
 
 pub returns : goal.returns
-returns c = record { order = order_set c.args.list.now.table c.args.hands.now c.args.number c.index-hands-number.result c.requires.order c.requires.there c.raise.new.hand c.raise.ensures.same }
+returns c = record {
+  order = order_set c.args.list.now.table c.args.hands.now c.args.number c.index-hands-number.result
+      c.requires.order c.requires.there c.raise.new.hand c.raise.ensures.same;
+}

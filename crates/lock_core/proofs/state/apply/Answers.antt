@@ -20,7 +20,8 @@ invariant_of-state c =
     let at = at_seat _ c.args.seat c.index_mut.result.now c.state.invariant c.if-seat-state.false ∙ ap (λ (u : View). Some u) (sym c.index_mut.ensures.value) in
     let m = rw c.deref_mut.ensures.value at (c.if-make.ensures {u = tt}) in
     rw (rewritten c.state.inside.words.items c.make.new.words c.state.inside.words.len l k)
-    (sized_after _ _ c.args.seat c.args.step c.state.invariant (after_made _ c.args.seat c.args.step c.index_mut.result.now c.make.new.view c.make.new.words at m))
+    (sized_after _ _ c.args.seat c.args.step c.state.invariant
+    (after_made _ c.args.seat c.args.step c.index_mut.result.now c.make.new.view c.make.new.words at m))
 
 pub returns-then-make-clause-made : goal.returns-then-make-clause-made
 returns-then-make-clause-made c =

@@ -9,11 +9,13 @@ use Rattle.lock_core.proofs.state.fresh.Goals as goal
 
 pub loop-seat-preserved : goal.loop-seat-preserved
 loop-seat-preserved c =
-    (c.in_ok-push.ensures {u = tt}).items ∙ (λ i. c.loop-seat.invariant i ++ c.in_ok-first_view.ensures {u = tt} i ∷ []) ∙ map_more (start_view c.args.seats) c.loop-seat.seat
+    (c.in_ok-push.ensures {u = tt}).items ∙ (λ i. c.loop-seat.invariant i ++ c.in_ok-first_view.ensures {u = tt} i ∷ [])
+    ∙ map_more (start_view c.args.seats) c.loop-seat.seat
 
 pub invariant_of-result : goal.invariant_of-result
 invariant_of-result c =
     let all : c.loop-seat.seat ≡ c.args.seats = omega arith in
     let views = c.loop-seat.invariant ∙ ap (λ n. map (start_view c.args.seats) (numbers_from 0 n)) all in
     let words : c.in_ok-words.words.items ≡ replicate (word_count c.args.seats) 0 = search rules in
-    subst (λ (t : List ℕ × List View). IsSized (record { seats = c.args.seats; words = t.0; views = t.1 })) (λ i. (sym words i, sym views i)) (start_sized c.args.seats c.requires.some c.requires.few)
+    subst (λ (t : List ℕ × List View). IsSized (record { seats = c.args.seats; words = t.0; views = t.1 }))
+    (λ i. (sym words i, sym views i)) (start_sized c.args.seats c.requires.some c.requires.few)

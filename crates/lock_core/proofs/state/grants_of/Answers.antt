@@ -11,5 +11,6 @@ loop-view-preserved c = record {
   list =
       let v = c.view-item.result in
       let at = slice_get-get_or c.args.views.now c.loop-view.view-index v c.loop-view-test.true ∙ ap (λ (u : View). Some u) (sym c.view-item.is) in
-      c.in_ok-add_grant.ensures {u = tt} ∙ (λ i. c.loop-view.invariant.list i ++ grant_of (c.loop-view.invariant.seat i) (held_at v.own)) ∙ grants_more c.args.views.now c.loop-view.view-index v at;
+      c.in_ok-add_grant.ensures {u = tt} ∙ (λ i. c.loop-view.invariant.list i ++ grant_of (c.loop-view.invariant.seat i)
+      (held_at v.own)) ∙ grants_more c.args.views.now c.loop-view.view-index v at;
 }

@@ -3,7 +3,8 @@ use Rattle.lock_trials.proofs.Tallying.{may_write, was_written}
 use Rattle.lock_trials.proofs.adds.write_next.Goals as goal
 
 pub store-requires-clause-allowed : goal.store-requires-clause-allowed
-store-requires-clause-allowed c = may_write c.args.seat.now.number c.args.seat.now.held c.args.seat.now.pass ((c.args.count + 1) % 2 ^ 64) c.requires.held c.requires.known.0
+store-requires-clause-allowed c = may_write c.args.seat.now.number c.args.seat.now.held c.args.seat.now.pass
+    ((c.args.count + 1) % 2 ^ 64) c.requires.held c.requires.known.0
     (ap (λ n. (n + 1) % 2 ^ 64) (sym c.requires.known.1))
 
 pub returns-clause-known : goal.returns-clause-known

@@ -20,4 +20,5 @@ returns-in_err-make_room-clause-failed_prefix g c =
 
 pub returns-clause-failed_prefix : goal.returns-clause-failed_prefix
 returns-clause-failed_prefix g c =
-    on_err_weaker c.flush.result (AppendsAllBut-flush_failed _ (lines_done area_line _ _ _ _ _ c.loop-area-test.false c.loop-area.invariant.0)) c.flush.ensures.failed_prefix
+    on_err_weaker c.flush.result (AppendsAllBut-flush_failed _
+    (lines_done area_line _ _ _ _ _ c.loop-area-test.false c.loop-area.invariant.0)) c.flush.ensures.failed_prefix

@@ -15,7 +15,8 @@ returns-clause-text c =
     let digits = c.write_hex-start.new.digits in
     let page = c.args.page in
     let zeros : c.saturating_sub.result ≡ 5 - length (hex_digits page) = omega (arith, c.write_hex-start.ensures.start) in
-    let number = ap (λ n. take (n - start) (drop start digits)) (sym c.write_hex-start.array_long) ∙ take_rest digits start ∙ c.write_hex-start.ensures.written in
+    let number = ap (λ n. take (n - start) (drop start digits)) (sym c.write_hex-start.array_long) ∙ take_rest digits start
+    ∙ c.write_hex-start.ensures.written in
     three_join _ _ _ _ _ _ _ _
     (c.push_zeros.ensures ∙ ap (λ n. c.args.buffer.now ++ replicate n 48) zeros)
     (c.push.ensures ∙ ap (λ l. c.push_zeros.new.buffer ++ l) number)

@@ -10,16 +10,24 @@ pub step-word-requires-clause-enabled : goal.step-word-requires-clause-enabled
 step-word-requires-clause-enabled g c = let k = c.requires.knows in may_read_hi c.args.hand.now.part k.0 c.args.lo k.1 k.2
 
 pub judgement-requires-clause-range : goal.judgement-requires-clause-range
-judgement-requires-clause-range g c = let k = c.requires.knows in judged_range c.args.hand.now.part k.0 c.args.lo k.1 k.2 g.G.Guard.rested c.step-word.new.hand.part c.step-word.result c.step-word.ensures.made _ c.step-word.ensures.told
+judgement-requires-clause-range g c = let k = c.requires.knows in
+    judged_range c.args.hand.now.part k.0 c.args.lo k.1 k.2 g.G.Guard.rested c.step-word.new.hand.part c.step-word.result
+    c.step-word.ensures.made _ c.step-word.ensures.told
 
 pub returns-clause-on : goal.returns-clause-on
-returns-clause-on g c = let k = c.requires.knows in judged_on c.args.hand.now.part k.0 c.args.lo k.1 k.2 g.G.Guard.rested c.step-word.new.hand.part c.step-word.result c.step-word.ensures.made
+returns-clause-on g c = let k = c.requires.knows in
+    judged_on c.args.hand.now.part k.0 c.args.lo k.1 k.2 g.G.Guard.rested c.step-word.new.hand.part c.step-word.result
+    c.step-word.ensures.made
 
 pub returns-clause-walk : goal.returns-clause-walk
-returns-clause-walk g c = let k = c.requires.knows in judged_walk c.args.hand.now.part k.0 c.args.lo k.1 k.2 g.G.Guard.rested c.step-word.new.hand.part c.step-word.result c.step-word.ensures.made
+returns-clause-walk g c = let k = c.requires.knows in
+    judged_walk c.args.hand.now.part k.0 c.args.lo k.1 k.2 g.G.Guard.rested c.step-word.new.hand.part c.step-word.result
+    c.step-word.ensures.made
 
 pub returns-clause-taken : goal.returns-clause-taken
-returns-clause-taken g c = let k = c.requires.knows in judged_taken c.args.hand.now.part k.0 c.args.lo k.1 k.2 g.G.Guard.rested c.step-word.new.hand.part c.step-word.result c.step-word.ensures.made
+returns-clause-taken g c = let k = c.requires.knows in
+    judged_taken c.args.hand.now.part k.0 c.args.lo k.1 k.2 g.G.Guard.rested c.step-word.new.hand.part c.step-word.result
+    c.step-word.ensures.made
 
 pub judgement-requires-clause-node : goal.judgement-requires-clause-node
 judgement-requires-clause-node g c = names_node c.args.hand.now.part.seats c.args.hand.now.part.number c.view.result.now (search rules) (search rules)
@@ -27,5 +35,7 @@ judgement-requires-clause-node g c = names_node c.args.hand.now.part.seats c.arg
 pub returns-clause-outcome : goal.returns-clause-outcome
 returns-clause-outcome g c =
     let k = c.requires.knows in let p = c.args.hand.now.part in let q = c.step-word.new.hand.part in let w = c.step-word.result in
-    subst (λ (o : Option Walked). Outcome p.trace.walked p.core q o) (sym (c.judgement.ensures ∙ ap (λ (v : View). judgement_at v.own v.cursor c.args.lo w) c.view.ensures.view))
-    (judged_outcome p k.0 c.args.lo k.1 k.2 g.G.Guard.rested q w c.step-word.ensures.made _ c.step-word.ensures.told c.view.ensures.sound c.requires.room c.requires.other c.requires.walked)
+    subst (λ (o : Option Walked). Outcome p.trace.walked p.core q o)
+    (sym (c.judgement.ensures ∙ ap (λ (v : View). judgement_at v.own v.cursor c.args.lo w) c.view.ensures.view))
+    (judged_outcome p k.0 c.args.lo k.1 k.2 g.G.Guard.rested q w c.step-word.ensures.made _ c.step-word.ensures.told
+    c.view.ensures.sound c.requires.room c.requires.other c.requires.walked)

@@ -11,7 +11,8 @@ pub returns-clause-load : goal.returns-clause-load
 returns-clause-load g c = next_loaded c.args.hand.now.part c.requires.stands g.G.Guard.rested c.step.new.hand.part c.step.result c.step.ensures.made
 
 pub returns-clause-other : goal.returns-clause-other
-returns-clause-other g c = next_others c.args.hand.now.part c.requires.stands g.G.Guard.rested c.step.new.hand.part c.step.result c.step.ensures.made _ c.step.ensures.told
+returns-clause-other g c = next_others c.args.hand.now.part c.requires.stands g.G.Guard.rested c.step.new.hand.part c.step.result
+    c.step.ensures.made _ c.step.ensures.told
 
 pub returns-clause-walked : goal.returns-clause-walked
 returns-clause-walked g c = next_walked c.args.hand.now.part c.requires.stands g.G.Guard.rested c.step.new.hand.part c.step.result c.step.ensures.made

@@ -7,16 +7,21 @@ use Rattle.marked_list.proofs.Unlinking.{home_on, home_walk, home_judged, home_o
 use Rattle.marked_list.proofs.look.pass_marked.Goals as goal
 
 pub returns-in-Ok-clause-on : goal.returns-in-Ok-clause-on
-returns-in-Ok-clause-on g c = home_on c.args.hand.now.part c.unlink.new.hand.part c.give_home.new.hand.part c.in-Ok.node c.in-Ok.ensures.unlinked c.give_home.ensures.made
+returns-in-Ok-clause-on g c = home_on c.args.hand.now.part c.unlink.new.hand.part c.give_home.new.hand.part c.in-Ok.node
+    c.in-Ok.ensures.unlinked c.give_home.ensures.made
 
 pub returns-in-Ok-clause-walk : goal.returns-in-Ok-clause-walk
-returns-in-Ok-clause-walk g c = home_walk c.args.hand.now.part c.unlink.new.hand.part c.give_home.new.hand.part c.in-Ok.node c.in-Ok.ensures.unlinked c.give_home.ensures.made
+returns-in-Ok-clause-walk g c = home_walk c.args.hand.now.part c.unlink.new.hand.part c.give_home.new.hand.part c.in-Ok.node
+    c.in-Ok.ensures.unlinked c.give_home.ensures.made
 
 pub returns-in-Ok-clause-judged : goal.returns-in-Ok-clause-judged
-returns-in-Ok-clause-judged g c = home_judged c.args.hand.now.part c.unlink.new.hand.part c.give_home.new.hand.part c.in-Ok.node c.in-Ok.ensures.unlinked c.give_home.ensures.made
+returns-in-Ok-clause-judged g c = home_judged c.args.hand.now.part c.unlink.new.hand.part c.give_home.new.hand.part c.in-Ok.node
+    c.in-Ok.ensures.unlinked c.give_home.ensures.made
 
 pub returns-in-Ok-clause-outcome : goal.returns-in-Ok-clause-outcome
 returns-in-Ok-clause-outcome g c =
     let p = c.args.hand.now.part in
-    subst (λ (o : Option Walked). Outcome p.trace.taken p.core c.give_home.new.hand.part o) (sym (c.arrival.ensures ∙ ap (λ (v : View). arrival_at v.own v.cursor) c.view.ensures.view))
-    (home_outcome p c.unlink.new.hand.part c.give_home.new.hand.part c.in-Ok.node c.in-Ok.ensures.unlinked c.give_home.ensures.made c.requires.knows.1.stands c.view.ensures.sound c.requires.room)
+    subst (λ (o : Option Walked). Outcome p.trace.taken p.core c.give_home.new.hand.part o)
+    (sym (c.arrival.ensures ∙ ap (λ (v : View). arrival_at v.own v.cursor) c.view.ensures.view))
+    (home_outcome p c.unlink.new.hand.part c.give_home.new.hand.part c.in-Ok.node c.in-Ok.ensures.unlinked
+    c.give_home.ensures.made c.requires.knows.1.stands c.view.ensures.sound c.requires.room)

@@ -5,4 +5,5 @@ pub step-requires-clause-enabled : goal.step-requires-clause-enabled
 step-requires-clause-enabled g c = may_aim c.args.hand.now.part c.requires.may
 
 pub returns-clause-aimed : goal.returns-clause-aimed
-returns-clause-aimed g c = aimed_is c.args.hand.now.part c.requires.may g.G.Guard.rested c.step.new.hand.part c.step.result c.step.ensures.made c.view.ensures.sound
+returns-clause-aimed g c = aimed_is c.args.hand.now.part c.requires.may g.G.Guard.rested c.step.new.hand.part c.step.result
+    c.step.ensures.made c.view.ensures.sound

@@ -7,19 +7,28 @@ pub aim-requires-clause-may : goal.aim-requires-clause-may
 aim-requires-clause-may g c = record { own = c.requires.order.own; place = inl (c.view.ensures.sound.sound.outside c.requires.order.even) }
 
 pub step-found-requires-clause-enabled : goal.step-found-requires-clause-enabled
-step-found-requires-clause-enabled g c = may_quick_link c.args.hand.now.part c.aim.new.hand.part c.aim.ensures.aimed c.requires.order.own (c.view.ensures.sound.sound.outside c.requires.order.even) c.requires.order.even
+step-found-requires-clause-enabled g c = may_quick_link c.args.hand.now.part c.aim.new.hand.part c.aim.ensures.aimed
+    c.requires.order.own (c.view.ensures.sound.sound.outside c.requires.order.even) c.requires.order.even
 
 pub returns-clause-call : goal.returns-clause-call
-returns-clause-call g c = quick_call c.args.hand.now.part c.aim.new.hand.part c.aim.ensures.aimed c.requires.order.own (c.view.ensures.sound.sound.outside c.requires.order.even) c.requires.order.even g.G.Guard.rested c.step-found.new.hand.part c.step-found.result c.step-found.ensures.made
+returns-clause-call g c = quick_call c.args.hand.now.part c.aim.new.hand.part c.aim.ensures.aimed c.requires.order.own
+    (c.view.ensures.sound.sound.outside c.requires.order.even) c.requires.order.even g.G.Guard.rested c.step-found.new.hand.part
+    c.step-found.result c.step-found.ensures.made
 
 pub returns-clause-answer : goal.returns-clause-answer
-returns-clause-answer g c = quick_done c.args.hand.now.part c.aim.new.hand.part c.aim.ensures.aimed c.requires.order.own (c.view.ensures.sound.sound.outside c.requires.order.even) c.requires.order.even g.G.Guard.rested c.step-found.new.hand.part c.step-found.result c.step-found.ensures.made c.if-found-ne0.false
+returns-clause-answer g c = quick_done c.args.hand.now.part c.aim.new.hand.part c.aim.ensures.aimed c.requires.order.own
+    (c.view.ensures.sound.sound.outside c.requires.order.even) c.requires.order.even g.G.Guard.rested c.step-found.new.hand.part
+    c.step-found.result c.step-found.ensures.made c.if-found-ne0.false
 
 pub returns-then-found-ne0-clause-call : goal.returns-then-found-ne0-clause-call
-returns-then-found-ne0-clause-call g c = quick_call c.args.hand.now.part c.aim.new.hand.part c.aim.ensures.aimed c.requires.order.own (c.view.ensures.sound.sound.outside c.requires.order.even) c.requires.order.even g.G.Guard.rested c.step-found.new.hand.part c.step-found.result c.step-found.ensures.made
+returns-then-found-ne0-clause-call g c = quick_call c.args.hand.now.part c.aim.new.hand.part c.aim.ensures.aimed
+    c.requires.order.own (c.view.ensures.sound.sound.outside c.requires.order.even) c.requires.order.even g.G.Guard.rested
+    c.step-found.new.hand.part c.step-found.result c.step-found.ensures.made
 
 pub returns-then-found-ne0-clause-answer : goal.returns-then-found-ne0-clause-answer
 returns-then-found-ne0-clause-answer g c =
     let l : Lost = record { place = 0; expected = 0; found = c.step-found.result } in
-    let t = quick_lost c.args.hand.now.part c.aim.new.hand.part c.aim.ensures.aimed c.requires.order.own (c.view.ensures.sound.sound.outside c.requires.order.even) c.requires.order.even g.G.Guard.rested c.step-found.new.hand.part c.step-found.result c.step-found.ensures.made c.if-found-ne0.true l refl refl refl in
+    let t = quick_lost c.args.hand.now.part c.aim.new.hand.part c.aim.ensures.aimed c.requires.order.own
+    (c.view.ensures.sound.sound.outside c.requires.order.even) c.requires.order.even g.G.Guard.rested
+    c.step-found.new.hand.part c.step-found.result c.step-found.ensures.made c.if-found-ne0.true l refl refl refl in
     (t.0, refl, refl, t.1)

@@ -15,5 +15,6 @@ returns-then-found-expected-clause-answer g c =
     let node : c.in-Linked.node ≡ c.requires.order.node.node = cc in
     let far = c.if-found-expected.true in
     let l : Lost = record { place = 0; expected = c.node_word-expected.result; found = c.step-found.result } in
-    back_lost g.G.Guard.is_at_rest c.args.hand.now.part c.requires.order g.G.Guard.rested c.step-found.new.hand.part c.step-found.result c.step-found.ensures.made c.in-Linked.node node
+    back_lost g.G.Guard.is_at_rest c.args.hand.now.part c.requires.order g.G.Guard.rested c.step-found.new.hand.part
+    c.step-found.result c.step-found.ensures.made c.in-Linked.node node
     (λ e. far (e ∙ sym c.node_word-expected.ensures)) l refl c.node_word-expected.ensures refl

@@ -7,11 +7,14 @@ use Rattle.marked_list.proofs.Judging.{judged_range, past_passes}
 use Rattle.marked_list.proofs.scanning.pass_node.Goals as goal
 
 pub found-requires-clause-range : goal.found-requires-clause-range
-found-requires-clause-range g c = let k = c.requires.knows in judged_range c.args.hand.now.part k.0 c.args.lo k.1 k.2 g.G.Guard.rested c.step-word.new.hand.part c.step-word.result c.step-word.ensures.made _ c.step-word.ensures.told
+found-requires-clause-range g c = let k = c.requires.knows in
+    judged_range c.args.hand.now.part k.0 c.args.lo k.1 k.2 g.G.Guard.rested c.step-word.new.hand.part c.step-word.result
+    c.step-word.ensures.made _ c.step-word.ensures.told
 
 pub returns-clause-answer : goal.returns-clause-answer
 returns-clause-answer g c =
     let k = c.requires.knows in let p = c.args.hand.now.part in let q = c.step-word.new.hand.part in
     subst (λ (a : Passed). PassesFrom p.trace.walked (judged_in p.trace.looked) q a) (sym c.found.ensures)
-    (past_passes p k.0 c.args.lo k.1 k.2 g.G.Guard.rested q c.step-word.result c.step-word.ensures.made c.requires.own c.requires.walked c.view.ensures.sound c.view-2.ensures.sound c.requires.room
+    (past_passes p k.0 c.args.lo k.1 k.2 g.G.Guard.rested q c.step-word.result c.step-word.ensures.made c.requires.own
+    c.requires.walked c.view.ensures.sound c.view-2.ensures.sound c.requires.room
     c.in-Some.cursor (ap (λ (v : View). v.cursor) (sym c.view.ensures.view) ∙ c.in-Some.is))

@@ -5,4 +5,5 @@ pub step-requires-clause-enabled : goal.step-requires-clause-enabled
 step-requires-clause-enabled g c = may_set_out c.args.hand.now.part c.requires.begins
 
 pub returns-clause-out : goal.returns-clause-out
-returns-clause-out g c = set_out_is c.args.hand.now.part c.requires.begins g.G.Guard.rested c.step.new.hand.part c.step.result c.step.ensures.made _ c.step.ensures.told
+returns-clause-out g c = set_out_is c.args.hand.now.part c.requires.begins g.G.Guard.rested c.step.new.hand.part c.step.result
+    c.step.ensures.made _ c.step.ensures.told

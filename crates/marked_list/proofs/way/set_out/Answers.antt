@@ -7,10 +7,13 @@ use Rattle.marked_list.proofs.Setting.{out_room, out_even, out_odd, settled_outc
 use Rattle.marked_list.proofs.way.set_out.Goals as goal
 
 pub settle-requires-clause-head : goal.settle-requires-clause-head
-settle-requires-clause-head g c = let far = c.if-word-eq0.false in out_odd c.args.hand.now.part c.make_cursor-word.new.hand.part c.make_cursor-word.result c.requires.begins c.make_cursor-word.ensures.out (omega arith)
+settle-requires-clause-head g c = let far = c.if-word-eq0.false in
+    out_odd c.args.hand.now.part c.make_cursor-word.new.hand.part c.make_cursor-word.result c.requires.begins
+    c.make_cursor-word.ensures.out (omega arith)
 
 pub settle-requires-clause-room : goal.settle-requires-clause-room
-settle-requires-clause-room g c = out_room c.args.hand.now.part c.make_cursor-word.new.hand.part c.make_cursor-word.result c.requires.begins c.make_cursor-word.ensures.out
+settle-requires-clause-room g c = out_room c.args.hand.now.part c.make_cursor-word.new.hand.part c.make_cursor-word.result
+    c.requires.begins c.make_cursor-word.ensures.out
 
 pub returns-then-word-eq0-clause-outcome : goal.returns-then-word-eq0-clause-outcome
 returns-then-word-eq0-clause-outcome g c =
@@ -21,5 +24,7 @@ returns-then-word-eq0-clause-outcome g c =
 pub returns-in-Ok-clause-outcome : goal.returns-in-Ok-clause-outcome
 returns-in-Ok-clause-outcome g c =
     let p = c.args.hand.now.part in let q = c.make_cursor-word.new.hand.part in let r = c.settle.new.hand.part in let far = c.if-word-eq0.false in
-    subst (λ (o : Option Walked). Outcome p.trace.taken p.core r o) (sym (c.arrival-in-Ok.ensures ∙ ap (λ (v : View). arrival_at v.own v.cursor) c.view-in-Ok.ensures.view))
-    (settled_outcome p q c.make_cursor-word.result c.requires.begins c.make_cursor-word.ensures.out r (omega arith) (c.in-Ok.ensures.settled refl) c.view-in-Ok.ensures.sound)
+    subst (λ (o : Option Walked). Outcome p.trace.taken p.core r o)
+    (sym (c.arrival-in-Ok.ensures ∙ ap (λ (v : View). arrival_at v.own v.cursor) c.view-in-Ok.ensures.view))
+    (settled_outcome p q c.make_cursor-word.result c.requires.begins c.make_cursor-word.ensures.out r (omega arith)
+    (c.in-Ok.ensures.settled refl) c.view-in-Ok.ensures.sound)

@@ -7,9 +7,13 @@ pub step-found-requires-clause-enabled : goal.step-found-requires-clause-enabled
 step-found-requires-clause-enabled g c = may_settle c.args.hand.now.part c.requires.head
 
 pub returns-then-found-cursor-clause-lost : goal.returns-then-found-cursor-clause-lost
-returns-then-found-cursor-clause-lost g c = settle_lost c.args.hand.now.part c.requires.head g.G.Guard.rested c.step-found.new.hand.part c.step-found.result c.step-found.ensures.made
-    c.in-Some.cursor (ap (λ (v : View). v.cursor) (sym c.view.ensures.view) ∙ c.in-Some.is) c.if-found-cursor.true c.view.ensures.sound c.requires.room c.seats.result (search rules) c.lost_at.result c.lost_at.ensures.place c.lost_at.ensures.values.0 c.lost_at.ensures.values.1
+returns-then-found-cursor-clause-lost g c = settle_lost c.args.hand.now.part c.requires.head g.G.Guard.rested
+    c.step-found.new.hand.part c.step-found.result c.step-found.ensures.made
+    c.in-Some.cursor (ap (λ (v : View). v.cursor) (sym c.view.ensures.view) ∙ c.in-Some.is) c.if-found-cursor.true
+    c.view.ensures.sound c.requires.room c.seats.result (search rules) c.lost_at.result c.lost_at.ensures.place
+    c.lost_at.ensures.values.0 c.lost_at.ensures.values.1
 
 pub returns-clause-settled : goal.returns-clause-settled
-returns-clause-settled g c = λ _. settle_is c.args.hand.now.part c.requires.head g.G.Guard.rested c.step-found.new.hand.part c.step-found.result c.step-found.ensures.made
+returns-clause-settled g c = λ _. settle_is c.args.hand.now.part c.requires.head g.G.Guard.rested c.step-found.new.hand.part
+    c.step-found.result c.step-found.ensures.made
     c.in-Some.cursor (ap (λ (v : View). v.cursor) (sym c.view.ensures.view) ∙ c.in-Some.is) c.if-found-cursor.false

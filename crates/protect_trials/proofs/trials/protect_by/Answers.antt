@@ -27,9 +27,11 @@ returns g c =
     let f = first_of c.args.space.now.table c.args.space.now.seats c.args.callers.now d c.requires.crew is in
     let free = subst (λ (v : CallerView). v.seat.held ≡ None) is f.2 in
     let n = c.protect.new.caller in
-    let back = protected_back (slice_index_or c.args.callers.now 0 d) n c.args.line c.args.addr c.args.len c.args.prot c.protect.result free c.protect.ensures.answer in
+    let back = protected_back (slice_index_or c.args.callers.now 0 d) n c.args.line c.args.addr c.args.len c.args.prot
+    c.protect.result free c.protect.ensures.answer in
     record {
-      crew = first_back c.args.space.now.table c.args.space.now.seats c.args.callers.now d n c.requires.crew is (subst (λ (v : CallerView). IsIdleAgain v n) (sym is) back);
+      crew = first_back c.args.space.now.table c.args.space.now.seats c.args.callers.now d n c.requires.crew is
+          (subst (λ (v : CallerView). IsIdleAgain v n) (sym is) back);
       answer = first_protected c.args.callers.now d n c.args.line c.args.addr c.args.len c.args.prot c.protect.result c.protect.ensures.answer;
       others = others_stay c.args.callers.now n;
     }

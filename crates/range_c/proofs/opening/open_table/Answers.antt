@@ -18,5 +18,6 @@ pub returns-in-Ok-new-2-clause-opened : goal.returns-in-Ok-new-2-clause-opened
 returns-in-Ok-new-2-clause-opened c =
     let most : length c.args.client.now ≤ 2 ^ 20 = search rules in
     let seats = ap (λ (t : Shape). t.seats) c.in-Ok-new.ensures.ok ∙ c.in-Ok.ensures.shape.0 in
-    opens c.in-Ok.opened.0.table c.args.seats (length c.args.client.now) (arc_value c.in-Ok-new.table).seats c.in-Ok.opened.1.items c.pop.new.self.items c.in-Some.seat c.in-Ok-new-2.b.value c.in-Ok.ensures.count
+    opens c.in-Ok.opened.0.table c.args.seats (length c.args.client.now) (arc_value c.in-Ok-new.table).seats
+    c.in-Ok.opened.1.items c.pop.new.self.items c.in-Some.seat c.in-Ok-new-2.b.value c.in-Ok.ensures.count
     most c.in-Ok.ensures.seats.0 c.in-Some.ensures.items c.in-Ok.ensures.seats.1 seats c.in-Ok-new-2.ensures.ok

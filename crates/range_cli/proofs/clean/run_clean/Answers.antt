@@ -3,21 +3,28 @@ use Rattle.range_cli.proofs.CleanLemmas.{run_wrote, err_faults, err_line, out_fa
 use Rattle.range_cli.proofs.clean.run_clean.Goals as goal
 
 pub returns-clause-out : goal.returns-clause-out
-returns-clause-out g c = run_wrote _ _ _ c.args.out.now c.sized-sized_out.result.sink c.run-status.new.out.sink c.run-status.result c.sized-sized_out.ensures c.run-status.ensures.out
+returns-clause-out g c = run_wrote _ _ _ c.args.out.now c.sized-sized_out.result.sink c.run-status.new.out.sink
+    c.run-status.result c.sized-sized_out.ensures c.run-status.ensures.out
 
 pub returns-clause-err : goal.returns-clause-err
-returns-clause-err g c = err_line c.args.err.now c.sized-sized_err.result.sink c.run-status.new.err.sink c.sized-sized_err.ensures c.requires.err_room c.run-status.result c.line_is_short.ensures c.run-status.ensures.err
+returns-clause-err g c = err_line c.args.err.now c.sized-sized_err.result.sink c.run-status.new.err.sink c.sized-sized_err.ensures
+    c.requires.err_room c.run-status.result c.line_is_short.ensures c.run-status.ensures.err
 
 pub returns-clause-err_faults : goal.returns-clause-err_faults
-returns-clause-err_faults g c = err_faults c.args.err.now c.sized-sized_err.result.sink c.run-status.new.err.sink c.sized-sized_err.ensures c.requires.err_room c.run-status.result c.line_is_short.ensures c.run-status.ensures.err
+returns-clause-err_faults g c = err_faults c.args.err.now c.sized-sized_err.result.sink c.run-status.new.err.sink
+    c.sized-sized_err.ensures c.requires.err_room c.run-status.result c.line_is_short.ensures c.run-status.ensures.err
 
 pub returns-clause-out_faults : goal.returns-clause-out_faults
-returns-clause-out_faults g c = λ room. out_faults c.args.out.now c.sized-sized_out.result.sink c.run-status.new.out.sink c.sized-sized_out.ensures c.requires.out_room _ _ _ c.run-status.result room c.run-status.ensures.out
+returns-clause-out_faults g c = λ room. out_faults c.args.out.now c.sized-sized_out.result.sink c.run-status.new.out.sink
+    c.sized-sized_out.ensures c.requires.out_room _ _ _ c.run-status.result room c.run-status.ensures.out
 
 pub returns-clause-complete : goal.returns-clause-complete
 returns-clause-complete g c = λ room.
-    out_complete c.args.out.now c.sized-sized_out.result.sink c.run-status.new.out.sink c.sized-sized_out.ensures c.requires.out_room _ _ _ c.run-status.result room c.run-status.ensures.out (c.run-status.ensures.complete _ refl)
+    out_complete c.args.out.now c.sized-sized_out.result.sink c.run-status.new.out.sink c.sized-sized_out.ensures
+    c.requires.out_room _ _ _ c.run-status.result room c.run-status.ensures.out (c.run-status.ensures.complete _ refl)
 
 pub returns-clause-done : goal.returns-clause-done
 returns-clause-done g c = λ room called.
-    is_done _ _ c.run-status.result (out_complete c.args.out.now c.sized-sized_out.result.sink c.run-status.new.out.sink c.sized-sized_out.ensures c.requires.out_room _ _ _ c.run-status.result room c.run-status.ensures.out (c.run-status.ensures.complete _ refl)) called
+    is_done _ _ c.run-status.result (out_complete c.args.out.now c.sized-sized_out.result.sink c.run-status.new.out.sink
+    c.sized-sized_out.ensures c.requires.out_room _ _ _ c.run-status.result room c.run-status.ensures.out
+    (c.run-status.ensures.complete _ refl)) called

@@ -9,5 +9,6 @@ pub returns-clause-few : goal.returns-clause-few
 returns-clause-few c =
     let made = c.deref.ensures.value ∙ c.in_ok-made.ensures.lines in
     IfOk-weaker c.as_lines.result (λ lines. lines.items ≡ map line_of c.deref.result.now) (λ lines. length lines.items ≤ LINES_LIMIT)
-    (λ lines is. let count = load_count c.args.seed c.args.threads c.args.calls c.deref.result.now lines.items made is in omega (arith, count, c.requires.calls))
+    (λ lines is. let count = load_count c.args.seed c.args.threads c.args.calls c.deref.result.now lines.items made is in
+    omega (arith, count, c.requires.calls))
     c.as_lines.ensures.lines

@@ -6,4 +6,5 @@ use Rattle.range_cli.proofs.play.play.Goals as goal
 
 pub returns-in-Ok : goal.returns-in-Ok
 returns-in-Ok g c = played c.args.threads _ _ _ _
-    (subst (λ (l : List (List Turn)). WerePlayed c.args.opening.now l c.in-Ok.closed.entries c.in-Ok.closed.areas) c.in_ok-dealt.ensures.dealt c.in-Ok.ensures.played)
+    (subst (λ (l : List (List Turn)). WerePlayed c.args.opening.now l c.in-Ok.closed.entries c.in-Ok.closed.areas)
+    c.in_ok-dealt.ensures.dealt c.in-Ok.ensures.played)

@@ -11,11 +11,13 @@ entries-preserved c =
     let tells = c.differs_from_line-differs.ensures in
     elim c.if-differs.branch [
       | then-differs w ↦ (
-        rw w.count-is (completes_yes _ _ c.entries.entry-index _ _ c.entries-test.true c.entries.invariant.0 (subst (λ (e : Entry). DiffersFromLine c.args.lines.now e) is (tells.0 w.if-differs.true))),
+        rw w.count-is (completes_yes _ _ c.entries.entry-index _ _ c.entries-test.true c.entries.invariant.0
+            (subst (λ (e : Entry). DiffersFromLine c.args.lines.now e) is (tells.0 w.if-differs.true))),
         omega (arith, w.count-is),
       )
       | else-differs w ↦ (
-        rw w.count-is (completes_no _ _ c.entries.entry-index _ _ c.entries-test.true c.entries.invariant.0 (subst (λ (e : Entry). ¬ DiffersFromLine c.args.lines.now e) is (agrees _ _ w.if-differs.false tells.1))),
+        rw w.count-is (completes_no _ _ c.entries.entry-index _ _ c.entries-test.true c.entries.invariant.0
+            (subst (λ (e : Entry). ¬ DiffersFromLine c.args.lines.now e) is (agrees _ _ w.if-differs.false tells.1))),
         omega (arith, w.count-is),
       )
     ]

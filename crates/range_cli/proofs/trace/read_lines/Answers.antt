@@ -7,7 +7,8 @@ use Rattle.range_cli.proofs.trace.read_lines.Goals as goal
 pub lines-init : goal.lines-init
 lines-init c =
     let len = ap length c.new-reader.ensures.lines in (
-      so_far_start c.args.first (lines_of c.args.text.now) c.new-reader.result (c.new-reader.ensures.start c.args.first) c.new-reader.ensures.lines c.new-reader.ensures.skipped,
+      so_far_start c.args.first (lines_of c.args.text.now) c.new-reader.result (c.new-reader.ensures.start c.args.first)
+          c.new-reader.ensures.lines c.new-reader.ensures.skipped,
       omega arith,
       omega (arith, c.new-reader.ensures.skipped),
       λ k d l. absurd (omega (arith, len, l)),
@@ -19,12 +20,14 @@ lines-init c =
 pub returns-in_err-take-clause-stopped : goal.returns-in_err-take-clause-stopped
 returns-in_err-take-clause-stopped c =
     let p = err_from_is_err_and c.from_residual.result c.from_residual.ensures.1 in
-    let so_far = subst (λ (x : List (List ℕ)). SoFar c.args.first (lines_of c.args.text.now) c.lines.number x c.lines.reader) c.in-Some.ensures.line c.lines.invariant.0 in
+    let so_far = subst (λ (x : List (List ℕ)). SoFar c.args.first (lines_of c.args.text.now) c.lines.number x c.lines.reader)
+    c.in-Some.ensures.line c.lines.invariant.0 in
     rw (p.1, p.2) (so_far_ends _ _ _ _ _ _ _ so_far (c.in_err-take.ensures.stopped so_far.stand so_far.stands so_far.numbered))
 
 pub lines-preserved : goal.lines-preserved
 lines-preserved c =
-    let so_far = subst (λ (x : List (List ℕ)). SoFar c.args.first (lines_of c.args.text.now) c.lines.number x c.lines.reader) c.in-Some.ensures.line c.lines.invariant.0 in (
+    let so_far = subst (λ (x : List (List ℕ)). SoFar c.args.first (lines_of c.args.text.now) c.lines.number x c.lines.reader)
+    c.in-Some.ensures.line c.lines.invariant.0 in (
       so_far_step _ _ _ _ _ _ _ so_far (c.in_ok-take.ensures.takes so_far.stand so_far.stands so_far.numbered),
       omega (arith, c.in-Some.ensures.shorter),
       omega (arith, c.in_ok-take.ensures.skipped),
@@ -43,7 +46,8 @@ pub returns-clause-read : goal.returns-clause-read
 returns-clause-read c =
     let none = c.in_default.ensures.none.0 refl in
     let so_far = subst (λ (x : List ℕ). SoFar c.args.first (lines_of c.args.text.now) c.lines.number (lines_of x) c.lines.reader) none c.lines.invariant.0 in
-    so_far_all c.args.first (lines_of c.args.text.now) c.lines.number c.end-left.result c.lines.reader so_far (c.end-left.ensures so_far.stand.fed so_far.stands.fed)
+    so_far_all c.args.first (lines_of c.args.text.now) c.lines.number c.end-left.result c.lines.reader so_far
+    (c.end-left.ensures so_far.stand.fed so_far.stands.fed)
 
 pub returns-clause-counted : goal.returns-clause-counted
 returns-clause-counted c =

@@ -5,10 +5,14 @@ use Rattle.range_rw.proofs.Taking.{swept_misses, stuck_misses}
 use Rattle.range_rw.proofs.nodes.take_swept.Goals as goal
 
 pub returns-in-Some-clause-missed : goal.returns-in-Some-clause-missed
-returns-in-Some-clause-missed g c = swept_misses c.args.hand.now.table c.args.hand.now.part c.sweep.new.hand.part c.sweep.ensures.swept c.sweep.ensures.walk c.requires.empty c.sweep.result c.in-Some.why (sym c.refusal_of.ensures ∙ c.in-Some.is) c.sweep.ensures.answer c.sweep.ensures.long
+returns-in-Some-clause-missed g c = swept_misses c.args.hand.now.table c.args.hand.now.part c.sweep.new.hand.part
+    c.sweep.ensures.swept c.sweep.ensures.walk c.requires.empty c.sweep.result c.in-Some.why
+    (sym c.refusal_of.ensures ∙ c.in-Some.is) c.sweep.ensures.answer c.sweep.ensures.long
 
 pub returns-in-Out-clause-missed : goal.returns-in-Out-clause-missed
 returns-in-Out-clause-missed g c =
     let s = c.sweep.new.hand.part in let q = c.take-taken.new.hand.part in
-    stuck_misses c.args.hand.now.table c.args.hand.now.part s c.sweep.ensures.swept c.sweep.ensures.walk c.requires.empty q c.take-taken.ensures.call c.sweep.result c.in-Out.stuck (sym c.refusal_of.ensures ∙ c.in_default.is) c.sweep.ensures.answer c.sweep.ensures.long
+    stuck_misses c.args.hand.now.table c.args.hand.now.part s c.sweep.ensures.swept c.sweep.ensures.walk c.requires.empty q
+    c.take-taken.ensures.call c.sweep.result c.in-Out.stuck (sym c.refusal_of.ensures ∙ c.in_default.is)
+    c.sweep.ensures.answer c.sweep.ensures.long
     (subst (λ (t : Taken). IsTaken s q t) c.in-Out.is c.take-taken.ensures.cause) c.take-taken.ensures.outside c.view.ensures.sound

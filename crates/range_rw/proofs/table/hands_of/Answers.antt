@@ -25,11 +25,17 @@ all-preserved g c =
     let made = length c.all.hands.items in
     let idle = next_idle table made c.all.seats.items c.remove-seat.result i.rest more c.remove-seat.ensures.value in
     let hand = c.hand_of.ensures.hand in
-    let grown : length c.push_reserved.new.self.items ≡ made + 1 = one_longer c.all.hands.items c.push_reserved.new.self.items _ c.push_reserved.ensures.items in
+    let grown : length c.push_reserved.new.self.items ≡ made + 1 =
+    one_longer c.all.hands.items c.push_reserved.new.self.items _ c.push_reserved.ensures.items in
     record {
       room = search rules;
-      count = let left = length-remove c.all.seats.items 0 more in let e = ap length c.remove-seat.ensures.items in let s = i.count in let m = grown in omega arith;
-      idle = rw c.push_reserved.ensures.items (snoc_all (λ k h. (h.table ≡ table) × (h.part.number ≡ k) × IsIdle h.part.core) _ _ made refl i.idle (hand.0 ∙ idle.0, hand.1 ∙ idle.1, hand.3));
-      rest = subst (λ k. IsIdleFrom table k c.remove-seat.new.self.items) (sym grown) (idle_on table made c.all.seats.items _ i.rest c.remove-seat.ensures.items);
-      passes = rw c.push_reserved.ensures.items (passes_on c.all.hands.items c.hand_of.result c.all.seats.items _ c.remove-seat.result (map pass_in c.args.seats.items) i.passes more c.remove-seat.ensures.value c.remove-seat.ensures.items hand.2);
+      count = let left = length-remove c.all.seats.items 0 more in let e = ap length c.remove-seat.ensures.items in
+          let s = i.count in let m = grown in omega arith;
+      idle = rw c.push_reserved.ensures.items (snoc_all (λ k h. (h.table ≡ table) × (h.part.number ≡ k) × IsIdle h.part.core) _ _
+          made refl i.idle (hand.0 ∙ idle.0, hand.1 ∙ idle.1, hand.3));
+      rest = subst (λ k. IsIdleFrom table k c.remove-seat.new.self.items) (sym grown)
+          (idle_on table made c.all.seats.items _ i.rest c.remove-seat.ensures.items);
+      passes = rw c.push_reserved.ensures.items (passes_on c.all.hands.items c.hand_of.result c.all.seats.items _
+          c.remove-seat.result (map pass_in c.args.seats.items) i.passes more c.remove-seat.ensures.value
+          c.remove-seat.ensures.items hand.2);
     }

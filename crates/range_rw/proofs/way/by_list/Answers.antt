@@ -9,4 +9,5 @@ end-requires-clause-order g c =
 pub returns-clause-ends : goal.returns-clause-ends
 returns-clause-ends g c =
     let e = c.begin-cursor in let w = c.go_way-walked in
-    way_ends c.args.hand.now.part e.new.hand.part c.requires.own e.ensures.made w.new.hand.part w.result w.ensures.still w.ensures.ends c.end.new.hand.part c.end.ensures.made
+    way_ends c.args.hand.now.part e.new.hand.part c.requires.own e.ensures.made w.new.hand.part w.result w.ensures.still
+    w.ensures.ends c.end.new.hand.part c.end.ensures.made

@@ -5,4 +5,5 @@ use Rattle.range_rw.proofs.way.go_way.Goals as goal
 pub validate_once-requires-clause-own : goal.validate_once-requires-clause-own
 validate_once-requires-clause-own g c =
     let w = c.walk_and_link-walked in
-    way_validates c.args.hand.now.part w.new.hand.part w.result c.requires.order w.ensures.still w.ensures.ends (sym c.is_place.ensures ∙ c.if-not-is_place.false)
+    way_validates c.args.hand.now.part w.new.hand.part w.result c.requires.order w.ensures.still w.ensures.ends
+    (sym c.is_place.ensures ∙ c.if-not-is_place.false)

@@ -14,7 +14,9 @@ rows-init c = record {
 
 pub fits_in-requires-clause-ends : goal.fits_in-requires-clause-ends
 fits_in-requires-clause-ends c =
-    let r = last_pages c.args.rows.now c.requires.shows.0 c.rows.i c.read_row-start.result.0 c.rows.end c.read_row-start.result.1 c.requires.shows.1 (search rules) c.rows.invariant.there c.read_row-start.ensures.start c.read_row-start.ensures.kind c.rows.invariant.end_is in
+    let r = last_pages c.args.rows.now c.requires.shows.0 c.rows.i c.read_row-start.result.0 c.rows.end c.read_row-start.result.1
+    c.requires.shows.1 (search rules) c.rows.invariant.there c.read_row-start.ensures.start c.read_row-start.ensures.kind
+    c.rows.invariant.end_is in
     (r.some, r.low)
 
 pub returns-then-fits_in : goal.returns-then-fits_in
@@ -27,8 +29,10 @@ returns-then-fits_in c = λ kinds show.
     let there : i ≤ length rows = c.rows.invariant.there in
     let yes_fit : IsTrue c.fits_in.result = search rules in
     let fit = c.fits_in.ensures.fit yes_fit in
-    let r = last_pages rows kinds i start c.rows.end kind show more there c.read_row-start.ensures.start c.read_row-start.ensures.kind c.rows.invariant.end_is in
-    let before = row_before rows kinds (i - 1) (get_or rows (i - 1) 0) start kind show (omega arith) refl c.read_row-start.ensures.start c.read_row-start.ensures.kind in
+    let r = last_pages rows kinds i start c.rows.end kind show more there c.read_row-start.ensures.start
+    c.read_row-start.ensures.kind c.rows.invariant.end_is in
+    let before = row_before rows kinds (i - 1) (get_or rows (i - 1) 0) start kind show (omega arith) refl
+    c.read_row-start.ensures.start c.read_row-start.ensures.kind in
     ends_here kinds c.args.pages start c.rows.end kind r.all before c.requires.some r.some (c.rows.invariant.ended kinds show) fit.0 fit.1 r.low
 
 pub rows-preserved : goal.rows-preserved
@@ -47,12 +51,16 @@ rows-preserved c =
       end_is = sym (pages c.requires.shows.0 c.requires.shows.1).begins;
       ended = λ kinds show.
           let r = pages kinds show in
-          let before = row_before rows kinds (i - 1) (get_or rows (i - 1) 0) start kind show (omega arith) refl c.read_row-start.ensures.start c.read_row-start.ensures.kind in
-          ends_before kinds c.args.pages start c.rows.end kind r.all before c.requires.some r.some (c.rows.invariant.ended kinds show) (c.fits_in.ensures.no_fit not_fit);
+          let before = row_before rows kinds (i - 1) (get_or rows (i - 1) 0) start kind show (omega arith) refl
+          c.read_row-start.ensures.start c.read_row-start.ensures.kind in
+          ends_before kinds c.args.pages start c.rows.end kind r.all before c.requires.some r.some
+          (c.rows.invariant.ended kinds show) (c.fits_in.ensures.no_fit not_fit);
     }
 
 pub returns : goal.returns
 returns c = λ kinds show.
     let rows = c.args.rows.now in
     let none : c.rows.i ≡ 0 = search rules in
-    no_place kinds c.args.pages c.rows.end c.requires.some (c.rows.invariant.end_is ∙ (ap (λ j. rows_start (drop j rows)) none ∙ (first_row rows kinds show).1)) (c.rows.invariant.ended kinds show)
+    no_place kinds c.args.pages c.rows.end c.requires.some
+    (c.rows.invariant.end_is ∙ (ap (λ j. rows_start (drop j rows)) none ∙ (first_row rows kinds show).1))
+    (c.rows.invariant.ended kinds show)

@@ -7,15 +7,21 @@ pub returns-then-is_found : goal.returns-then-is_found
 returns-then-is_found c = λ kinds show.
     let rows = c.args.rows.now in
     let lt : c.rows.i < length rows = search rules in
-    let r = row_pages rows kinds c.rows.i (get_or rows c.rows.i 0) c.read_row-start.result.0 c.row_end-end.result c.read_row-start.result.1 show lt refl c.read_row-start.ensures.start c.read_row-start.ensures.kind c.row_end-end.ensures in
+    let r = row_pages rows kinds c.rows.i (get_or rows c.rows.i 0) c.read_row-start.result.0 c.row_end-end.result
+    c.read_row-start.result.1 show lt refl c.read_row-start.ensures.start c.read_row-start.ensures.kind
+    c.row_end-end.ensures in
     let yes_found : IsTrue c.is_found.result = search rules in
     let f = c.is_found.ensures.found yes_found in
-    lowest_here rows kinds c.args.mapped c.args.lo c.args.hi c.rows.i c.read_row-start.result.0 c.row_end-end.result c.max.result c.read_row-start.result.1 c.below.result r f.0 f.1 (c.rows.invariant kinds show) (search rules) c.below.ensures
+    lowest_here rows kinds c.args.mapped c.args.lo c.args.hi c.rows.i c.read_row-start.result.0 c.row_end-end.result c.max.result
+    c.read_row-start.result.1 c.below.result r f.0 f.1 (c.rows.invariant kinds show) (search rules) c.below.ensures
 
 pub rows-preserved : goal.rows-preserved
 rows-preserved c = λ kinds show.
     let rows = c.args.rows.now in
     let lt : c.rows.i < length rows = search rules in
-    let r = row_pages rows kinds c.rows.i (get_or rows c.rows.i 0) c.read_row-start.result.0 c.row_end-end.result c.read_row-start.result.1 show lt refl c.read_row-start.ensures.start c.read_row-start.ensures.kind c.row_end-end.ensures in
+    let r = row_pages rows kinds c.rows.i (get_or rows c.rows.i 0) c.read_row-start.result.0 c.row_end-end.result
+    c.read_row-start.result.1 show lt refl c.read_row-start.ensures.start c.read_row-start.ensures.kind
+    c.row_end-end.ensures in
     let not_found : IsFalse c.is_found.result = search rules in
-    none_more rows kinds c.args.mapped c.args.lo c.rows.i c.read_row-start.result.0 c.row_end-end.result c.read_row-start.result.1 r (c.is_found.ensures.passed not_found) (c.rows.invariant kinds show)
+    none_more rows kinds c.args.mapped c.args.lo c.rows.i c.read_row-start.result.0 c.row_end-end.result c.read_row-start.result.1
+    r (c.is_found.ensures.passed not_found) (c.rows.invariant kinds show)

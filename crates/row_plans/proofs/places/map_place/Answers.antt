@@ -14,14 +14,16 @@ returns-in-Some-clause-refused c =
     let A : List Area = areas_from c.args.rows.now in
     let hint = c.args.addr / 4096 in
     subst (λ (n : ℕ). RefusesMap A hint n c.args.flags (Eexist c.in-Some.page)) c.page_count-pages.ensures
-    (refuses_mapped A hint c.page_count-pages.result c.args.flags c.in-Some.page (sym c.if-is_no_replace.ensures) (c.in-Some.ensures (kind_at A) c.requires.rows.show))
+    (refuses_mapped A hint c.page_count-pages.result c.args.flags c.in-Some.page (sym c.if-is_no_replace.ensures)
+    (c.in-Some.ensures (kind_at A) c.requires.rows.show))
 
 pub returns-in-Some-highest_fit-clause-start : goal.returns-in-Some-highest_fit-clause-start
 returns-in-Some-highest_fit-clause-start c =
     let A : List Area = areas_from c.args.rows.now in
     let hint = c.args.addr / 4096 in
     subst (λ (n : ℕ). StartsAt A hint n c.args.flags c.in-Some-highest_fit.lo) c.page_count-pages.ensures
-    (starts_highest A hint c.page_count-pages.result c.args.flags c.in-Some-highest_fit.lo (sym c.if-is_fixed.ensures) (λ fits. false_true (c.if-fits_at.ensures.1 fits)) (c.in-Some-highest_fit.ensures (kind_at A) c.requires.rows.show))
+    (starts_highest A hint c.page_count-pages.result c.args.flags c.in-Some-highest_fit.lo (sym c.if-is_fixed.ensures)
+    (λ fits. false_true (c.if-fits_at.ensures.1 fits)) (c.in-Some-highest_fit.ensures (kind_at A) c.requires.rows.show))
 
 pub returns-in-None-highest_fit-clause-refused : goal.returns-in-None-highest_fit-clause-refused
 returns-in-None-highest_fit-clause-refused c =

@@ -16,7 +16,9 @@ returns-then-rows-gt-ROWS-clause-plan c =
     let count : c.len-rows.result ≡ length rows = search rules in
     let many : ROWS < length rows = search rules in
     let limit : p.hi ≤ LIMIT = search rules in
-    plan_full old rows c.args.call.now p.lo p.hi c.requires.old c.requires.undecided c.requires.place limit (c.change_rows.ensures.shows (kind_at (areas_from old)) c.requires.old.show) c.unchanged.new.new.items c.unchanged.result.reply c.unchanged.result.rows many c.unchanged.ensures.none
+    plan_full old rows c.args.call.now p.lo p.hi c.requires.old c.requires.undecided c.requires.place limit
+    (c.change_rows.ensures.shows (kind_at (areas_from old)) c.requires.old.show) c.unchanged.new.new.items
+    c.unchanged.result.reply c.unchanged.result.rows many c.unchanged.ensures.none
     (c.unchanged.ensures.reply ∙ ap (λ n. Refused (Enomem (Rows n))) count) c.unchanged.ensures.rows
 
 pub returns-clause-plan : goal.returns-clause-plan
@@ -28,4 +30,5 @@ returns-clause-plan c =
     let few : length rows ≤ ROWS = search rules in
     let limit : p.hi ≤ LIMIT = search rules in
     plan_done old rows c.args.call.now p.lo p.hi c.requires.old c.requires.undecided c.requires.place limit
-    (c.change_rows.ensures.shows (kind_at (areas_from old)) c.requires.old.show) c.done_reply.result c.len-rows.result c.change_rows.ensures.some few c.change_rows.ensures.gaps c.done_reply.ensures count
+    (c.change_rows.ensures.shows (kind_at (areas_from old)) c.requires.old.show) c.done_reply.result c.len-rows.result
+    c.change_rows.ensures.some few c.change_rows.ensures.gaps c.done_reply.ensures count

@@ -31,11 +31,16 @@ returns-clause-shows c = λ kinds show.
     let from : rows_start (drop first old) ≤ lo = search rules in
     let until : lo < rows_start (drop (first + 1) old) = search rules in
     let to : c.lo-2.result ≡ lo = search rules in
-    let r = row_pages old kinds first (get_or old first 0) start (rows_start (drop (first + 1) old)) kind show c.row_at-first.ensures.there refl c.read_row-start.ensures.start c.read_row-start.ensures.kind refl in
+    let r = row_pages old kinds first (get_or old first 0) start (rows_start (drop (first + 1) old)) kind show
+    c.row_at-first.ensures.there refl c.read_row-start.ensures.start c.read_row-start.ensures.kind refl in
     let b = r.begins in
     let front : ShowTo 0 c.copy_rows.new.rows.items start after =
-    subst (λ (l : List ℕ). ShowTo 0 l start after) (sym items) (subst (λ (x : ℕ). ShowTo 0 (take first old) x after) b (front_changed old first kinds call lo hi from show)) in
-    let before = c.put_part.ensures.shows after (omega arith) (λ p low high. before_span kinds call lo hi start kind (λ q above below. r.all q above (omega arith)) p low (omega arith)) front in
+    subst (λ (l : List ℕ). ShowTo 0 l start after) (sym items)
+    (subst (λ (x : ℕ). ShowTo 0 (take first old) x after) b (front_changed old first kinds call lo hi from show)) in
+    let before = c.put_part.ensures.shows after (omega arith)
+    (λ p low high. before_span kinds call lo hi start kind (λ q above below. r.all q above (omega arith)) p low (omega arith))
+    front in
     let span = c.put_span-next.ensures.shows kinds show (subst (λ (x : ℕ). ShowTo 0 c.put_part.new.rows.items x after) to before) in
     c.put_rest.ensures.shows (rows_start (drop next old)) after span
-    (subst (λ (l : List ℕ). ShowFrom (rows_start (drop next old)) l after) (sym (take_rest old next)) (rest_changed old next kinds call lo hi c.put_span-next.ensures.behind show))
+    (subst (λ (l : List ℕ). ShowFrom (rows_start (drop next old)) l after) (sym (take_rest old next))
+    (rest_changed old next kinds call lo hi c.put_span-next.ensures.behind show))

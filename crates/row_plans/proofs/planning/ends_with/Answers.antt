@@ -9,4 +9,5 @@ pub returns : goal.returns
 returns c =
     let rows = c.args.rows.now in
     let more : 0 < length rows = search rules in
-    c.same_option.ensures ∙ (ap (λ (k : Option Kind). same_option k c.args.kind) c.read_row-last.ensures.kind ∙ sym (last_ends rows c.args.kind (get_or rows (length rows - 1) 0) more refl))
+    c.same_option.ensures ∙ (ap (λ (k : Option Kind). same_option k c.args.kind) c.read_row-last.ensures.kind
+    ∙ sym (last_ends rows c.args.kind (get_or rows (length rows - 1) 0) more refl))

@@ -6,12 +6,15 @@ use Rattle.row_plans.proofs.planning.put_row.Goals as goal
 pub returns-then-not-ends_with-clause-items : goal.returns-then-not-ends_with-clause-items
 returns-then-not-ends_with-clause-items c =
     let none : ends_with c.args.rows.now.items c.args.kind ≡ false = search rules in
-    c.push_reserved.ensures.items ∙ (ap (λ w. c.args.rows.now.items ++ w ∷ []) c.write_row.ensures.word ∙ sym (put_more c.args.rows.now.items c.args.page c.args.kind none))
+    c.push_reserved.ensures.items ∙ (ap (λ w. c.args.rows.now.items ++ w ∷ []) c.write_row.ensures.word
+    ∙ sym (put_more c.args.rows.now.items c.args.page c.args.kind none))
 
 pub returns-then-not-ends_with-clause-shows : goal.returns-then-not-ends_with-clause-shows
 returns-then-not-ends_with-clause-shows c = λ end kinds some all show.
     let none : ends_with c.args.rows.now.items c.args.kind ≡ false = search rules in
-    subst (λ (l : List ℕ). ShowTo 0 l end kinds) (sym (c.push_reserved.ensures.items ∙ (ap (λ w. c.args.rows.now.items ++ w ∷ []) c.write_row.ensures.word ∙ sym (put_more c.args.rows.now.items c.args.page c.args.kind none))))
+    subst (λ (l : List ℕ). ShowTo 0 l end kinds) (sym
+    (c.push_reserved.ensures.items ∙ (ap (λ w. c.args.rows.now.items ++ w ∷ []) c.write_row.ensures.word
+    ∙ sym (put_more c.args.rows.now.items c.args.page c.args.kind none))))
     (put_shows c.args.page end c.args.kind kinds c.requires.named some all 0 c.args.rows.now.items show)
 
 pub returns-else-not-ends_with-clause-items : goal.returns-else-not-ends_with-clause-items

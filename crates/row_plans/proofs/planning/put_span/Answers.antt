@@ -44,7 +44,8 @@ rows-preserved c =
           let to : ℕ = min end hi in
           let start : min at hi ≡ at = omega arith in
           c.put_row.ensures.shows to (changed kinds call lo hi) (omega arith)
-          (in_span kinds call lo hi at to kind c.changed_kind.result (omega arith) (omega arith) (λ p low high. r.all p (omega arith) (omega arith)) c.changed_kind.ensures.kind)
+          (in_span kinds call lo hi at to kind c.changed_kind.result (omega arith) (omega arith)
+          (λ p low high. r.all p (omega arith) (omega arith)) c.changed_kind.ensures.kind)
           (subst (λ (x : ℕ). ShowTo 0 c.rows.rows.items x (changed kinds call lo hi)) start (inv.shows kinds show before));
     }
 
@@ -65,4 +66,5 @@ returns-clause-shows c = λ kinds show before.
     let e : min at hi ≡ c.hi-2.result = omega arith in subst (λ (x : ℕ). ShowTo 0 c.rows.rows.items x after) e (inv.shows kinds show before) in
     let ends : at ≡ rows_start (drop c.rows.next old) = omega arith in
     subst (λ (x : ℕ). ShowTo 0 c.put_part.new.rows.items x after) ends
-    (c.put_part.ensures.shows after (omega arith) (λ p low high. behind_span kinds call lo hi at c.rows.last (inv.behind kinds show) p (omega arith) high) shown)
+    (c.put_part.ensures.shows after (omega arith)
+    (λ p low high. behind_span kinds call lo hi at c.rows.last (inv.behind kinds show) p (omega arith) high) shown)

@@ -12,13 +12,20 @@ pub returns-in_err-more : goal.returns-in_err-more
 returns-in_err-more c = rw (c.items.invariant ∙ list_refusal (listed_word_at c.args.list) c.items.bits c.items.left.now _ c.in_err-more.ensures) (search rules)
 
 pub returns-in_default : goal.returns-in_default
-returns-in_default c = c.items.invariant ∙ list_left (listed_word_at c.args.list) c.items.bits c.items.left.now c.in_ok-more.rest.now (rw c.in_default.is at c.in_ok-more.ensures)
+returns-in_default c = c.items.invariant ∙ list_left (listed_word_at c.args.list) c.items.bits c.items.left.now
+    c.in_ok-more.rest.now (rw c.in_default.is at c.in_ok-more.ensures)
 
 pub returns-then-not-begins : goal.returns-then-not-begins
-returns-then-not-begins c = c.items.invariant ∙ list_last (listed_word_at c.args.list) c.items.bits c.in-Some.more c.items.left.now c.in_ok-more.rest.now (rw c.in-Some.is at c.in_ok-more.ensures) (sym c.if-not-begins.ensures)
+returns-then-not-begins c = c.items.invariant
+    ∙ list_last (listed_word_at c.args.list) c.items.bits c.in-Some.more c.items.left.now c.in_ok-more.rest.now
+    (rw c.in-Some.is at c.in_ok-more.ensures) (sym c.if-not-begins.ensures)
 
 pub items-smaller : goal.items-smaller
-items-smaller c = rw c.behind_first-left.ensures (on_shorter (listed_word_at c.args.list) (listed_word_shortens c.args.list) c.items.left.now c.in_ok-more.rest.now c.in_ok-more.more c.in_ok-more.ensures (sym c.if-not-begins.ensures))
+items-smaller c = rw c.behind_first-left.ensures
+    (on_shorter (listed_word_at c.args.list) (listed_word_shortens c.args.list) c.items.left.now c.in_ok-more.rest.now
+    c.in_ok-more.more c.in_ok-more.ensures (sym c.if-not-begins.ensures))
 
 pub items-preserved : goal.items-preserved
-items-preserved c = rw c.behind_first-left.ensures (c.items.invariant ∙ list_on (listed_word_at c.args.list) (listed_word_shortens c.args.list) c.items.bits c.in-Some.more c.items.left.now c.in_ok-more.rest.now (rw c.in-Some.is at c.in_ok-more.ensures) (sym c.if-not-begins.ensures))
+items-preserved c = rw c.behind_first-left.ensures
+    (c.items.invariant ∙ list_on (listed_word_at c.args.list) (listed_word_shortens c.args.list) c.items.bits c.in-Some.more
+    c.items.left.now c.in_ok-more.rest.now (rw c.in-Some.is at c.in_ok-more.ensures) (sym c.if-not-begins.ensures))

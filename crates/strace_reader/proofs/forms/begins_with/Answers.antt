@@ -3,4 +3,5 @@ use Rattle.std.proofs.lemmas.Slice.Eq.{starts_is}
 use Rattle.strace_reader.proofs.forms.begins_with.Goals as goal
 
 pub returns : goal.returns
-returns c = let k = starts_is Decides-eqb c.args.text.now c.args.word.now c.starts_with.result c.starts_with.ensures.value in (λ h. (_, k.0 h), λ h. k.1 h.0 h.1)
+returns c = let k = starts_is Decides-eqb c.args.text.now c.args.word.now c.starts_with.result c.starts_with.ensures.value in
+    (λ h. (_, k.0 h), λ h. k.1 h.0 h.1)

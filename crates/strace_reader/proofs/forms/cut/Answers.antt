@@ -4,7 +4,11 @@ use Rattle.strace_reader.proofs.FormFacts.{behind_spaces}
 use Rattle.strace_reader.proofs.forms.cut.Goals as goal
 
 pub returns-in-Some : goal.returns-in-Some
-returns-in-Some c = inl (c.in-Some.rest.now, c.in-Some.ensures, subst (λ (x : List ℕ). IsBehindSpaces c.in-Some.rest.now x) (sym c.skip_spaces.ensures) (behind_spaces c.in-Some.rest.now))
+returns-in-Some c = inl (
+  c.in-Some.rest.now,
+  c.in-Some.ensures,
+  subst (λ (x : List ℕ). IsBehindSpaces c.in-Some.rest.now x) (sym c.skip_spaces.ensures) (behind_spaces c.in-Some.rest.now),
+)
 
 pub returns-in-None : goal.returns-in-None
 returns-in-None c = inr (refl, refl, c.in-None.ensures)

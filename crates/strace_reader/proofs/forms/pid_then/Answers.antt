@@ -5,7 +5,8 @@ use Rattle.strace_reader.proofs.forms.pid_then.Goals as goal
 
 pub returns-in_default : goal.returns-in_default
 returns-in_default c = λ pid rest h.
-    let f = pid_read c.args.word.now c.args.text.now c.digits-value.result.1.now (digits_of 10 0 c.args.text.now).0 pid rest refl c.digits-value.ensures.rest c.requires.0 c.requires.1 h in
+    let f = pid_read c.args.word.now c.args.text.now c.digits-value.result.1.now (digits_of 10 0 c.args.text.now).0 pid rest refl
+    c.digits-value.ensures.rest c.requires.0 c.requires.1 h in
     let w = narrow_none (digits_of 10 0 c.args.text.now).0 (sym c.digits-value.ensures.value ∙ c.in_default.is) in
     let p = f.narrow_pid in
     omega arith
@@ -13,23 +14,27 @@ returns-in_default c = λ pid rest h.
 pub returns-then-number-ge-PIDS : goal.returns-then-number-ge-PIDS
 returns-then-number-ge-PIDS c = λ pid rest h.
     let n = narrow_some (digits_of 10 0 c.args.text.now).0 c.in-Some.number (sym c.digits-value.ensures.value ∙ c.in-Some.is) in
-    let f = pid_read c.args.word.now c.args.text.now c.digits-value.result.1.now c.in-Some.number pid rest n c.digits-value.ensures.rest c.requires.0 c.requires.1 h in
+    let f = pid_read c.args.word.now c.args.text.now c.digits-value.result.1.now c.in-Some.number pid rest n
+    c.digits-value.ensures.rest c.requires.0 c.requires.1 h in
     let p = f.narrow_pid in
     omega arith
 
 pub returns-then-behind-text : goal.returns-then-behind-text
 returns-then-behind-text c = λ pid rest h.
     let n = narrow_some (digits_of 10 0 c.args.text.now).0 c.in-Some.number (sym c.digits-value.ensures.value ∙ c.in-Some.is) in
-    let f = pid_read c.args.word.now c.args.text.now c.digits-value.result.1.now c.in-Some.number pid rest n c.digits-value.ensures.rest c.requires.0 c.requires.1 h in
+    let f = pid_read c.args.word.now c.args.text.now c.digits-value.result.1.now c.in-Some.number pid rest n
+    c.digits-value.ensures.rest c.requires.0 c.requires.1 h in
     let p = f.long in
     omega arith
 
 pub returns-in-Some-strip_front : goal.returns-in-Some-strip_front
 returns-in-Some-strip_front c =
     let n = narrow_some (digits_of 10 0 c.args.text.now).0 c.in-Some.number (sym c.digits-value.ensures.value ∙ c.in-Some.is) in
-    pid_found c.args.word.now c.args.text.now c.digits-value.result.1.now c.in-Some-strip_front.rest.now c.in-Some.number n c.digits-value.ensures.rest c.if-number-ge-PIDS.false c.if-behind-text.false c.in-Some-strip_front.ensures
+    pid_found c.args.word.now c.args.text.now c.digits-value.result.1.now c.in-Some-strip_front.rest.now c.in-Some.number n
+    c.digits-value.ensures.rest c.if-number-ge-PIDS.false c.if-behind-text.false c.in-Some-strip_front.ensures
 
 pub returns-in-None : goal.returns-in-None
 returns-in-None c = λ pid rest h.
     let n = narrow_some (digits_of 10 0 c.args.text.now).0 c.in-Some.number (sym c.digits-value.ensures.value ∙ c.in-Some.is) in
-    c.in-None.ensures rest (pid_read c.args.word.now c.args.text.now c.digits-value.result.1.now c.in-Some.number pid rest n c.digits-value.ensures.rest c.requires.0 c.requires.1 h).is
+    c.in-None.ensures rest (pid_read c.args.word.now c.args.text.now c.digits-value.result.1.now c.in-Some.number pid rest n
+    c.digits-value.ensures.rest c.requires.0 c.requires.1 h).is

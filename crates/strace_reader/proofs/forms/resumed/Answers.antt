@@ -4,7 +4,9 @@ use Rattle.strace_reader.specs.declared.item.Name.TheVariants.{Mmap, Munmap, Mpr
 use Rattle.strace_reader.specs.Words.{resumed_head}
 use Rattle.strace_reader.proofs.forms.resumed.Goals as goal
 
-none_of : (text : List ℕ) → ((rest : List ℕ) → text ≢ resumed_head Mmap ++ rest) → ((rest : List ℕ) → text ≢ resumed_head Munmap ++ rest) → ((rest : List ℕ) → text ≢ resumed_head Mprotect ++ rest) → ((rest : List ℕ) → text ≢ resumed_head Fault ++ rest)
+none_of : (text : List ℕ) → ((rest : List ℕ) → text ≢ resumed_head Mmap ++ rest)
+    → ((rest : List ℕ) → text ≢ resumed_head Munmap ++ rest) → ((rest : List ℕ) → text ≢ resumed_head Mprotect ++ rest)
+    → ((rest : List ℕ) → text ≢ resumed_head Fault ++ rest)
     → (name : Name) (rest : List ℕ) → text ≡ resumed_head name ++ rest → ⊥
 none_of text a b c d Mmap rest e = a rest e
 none_of text a b c d Munmap rest e = b rest e

@@ -11,7 +11,8 @@ pub returns-then-begins_with : goal.returns-then-begins_with
 returns-then-begins_with c =
     let a = elim c.then-begins_with.branch as (λ x. BodyAnswers c.args.text.now (Ok Other)) [
       | then-begins_with-via-then-begins_with w ↦ signal_body c.args.text.now (inl (c.begins_with.ensures.0 w.if-begins_with.true))
-      | then-begins_with-via-else-begins_with+then-begins_with-2 w ↦ signal_body c.args.text.now (inr (w.begins_with-else-begins_with.ensures.0 w.if-begins_with-2.true))
+      | then-begins_with-via-else-begins_with+then-begins_with-2 w ↦
+          signal_body c.args.text.now (inr (w.begins_with-else-begins_with.ensures.0 w.if-begins_with-2.true))
     ] in
     record { found = a.found; only = a.only; refused = a.refused; only_there = a.only_there; named = a.named; within = a.within }
 
@@ -35,7 +36,8 @@ returns-in_default-named c =
 
 pub returns-then-never_returned : goal.returns-then-never_returned
 returns-then-never_returned c =
-    let a = never_body c.in-Some-named.name c.args.text.now (c.in-Some-named.rest.now, c.in-Some-named.ensures) (c.never_returned.ensures.0 c.if-never_returned.true) in
+    let a = never_body c.in-Some-named.name c.args.text.now (c.in-Some-named.rest.now, c.in-Some-named.ensures)
+    (c.never_returned.ensures.0 c.if-never_returned.true) in
     record { found = a.found; only = a.only; refused = a.refused; only_there = a.only_there; named = a.named; within = a.within }
 
 pub returns-in-Some-first_half : goal.returns-in-Some-first_half
@@ -48,13 +50,15 @@ returns-in-Some-first_half c =
 pub returns-in-Ok : goal.returns-in-Ok
 returns-in-Ok c =
     let text = c.args.text.now in
-    let form = is_call c.in-Some-named.name text c.in-Some-named.rest.now c.in-Some-named.ensures (λ h. not_both (c.never_returned.ensures.1 h) c.if-never_returned.false) c.in_default-first_half.ensures in
+    let form = is_call c.in-Some-named.name text c.in-Some-named.rest.now c.in-Some-named.ensures
+    (λ h. not_both (c.never_returned.ensures.1 h) c.if-never_returned.false) c.in_default-first_half.ensures in
     let a = read_call c.in-Some-named.name text c.in-Some-named.rest.now c.in-Ok.field-0-1.now c.in-Ok.body c.in-Some-named.ensures form c.in-Ok.ensures in
     record { found = a.found; only = a.only; refused = a.refused; only_there = a.only_there; named = a.named; within = a.within }
 
 pub returns-in-Err : goal.returns-in-Err
 returns-in-Err c =
     let text = c.args.text.now in
-    let form = is_call c.in-Some-named.name text c.in-Some-named.rest.now c.in-Some-named.ensures (λ h. not_both (c.never_returned.ensures.1 h) c.if-never_returned.false) c.in_default-first_half.ensures in
+    let form = is_call c.in-Some-named.name text c.in-Some-named.rest.now c.in-Some-named.ensures
+    (λ h. not_both (c.never_returned.ensures.1 h) c.if-never_returned.false) c.in_default-first_half.ensures in
     let a = refused_call c.in-Some-named.name text c.in-Some-named.rest.now c.in-Err.refusal c.in-Some-named.ensures form c.in-Err.ensures in
     record { found = a.found; only = a.only; refused = a.refused; only_there = a.only_there; named = a.named; within = a.within }

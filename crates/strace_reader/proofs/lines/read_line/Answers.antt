@@ -20,8 +20,11 @@ returns-in-Ok c =
     let text = c.args.text.now in
     let body = c.cut-pid.result.1.now in
     let e = c.in-Ok.ensures in
-    let b : BodyAnswers body (Ok c.in-Ok.found) = record { found = e.found; only = e.only; refused = tt; only_there = e.only_there; named = e.named; within = tt } in
-    let a : LineAnswers text (Ok c.item.result) = rw c.item.ensures (read_body_line text body c.cut-pid.result.0 c.in-Ok.found (full_line text (sym c.is_empty.ensures ∙ c.if-is_empty.false)) c.cut-pid.ensures b) in
+    let b : BodyAnswers body (Ok c.in-Ok.found) =
+    record { found = e.found; only = e.only; refused = tt; only_there = e.only_there; named = e.named; within = tt } in
+    let a : LineAnswers text (Ok c.item.result) =
+    rw c.item.ensures (read_body_line text body c.cut-pid.result.0 c.in-Ok.found
+    (full_line text (sym c.is_empty.ensures ∙ c.if-is_empty.false)) c.cut-pid.ensures b) in
     record { found = a.found; only = a.only; refused = a.refused; only_there = a.only_there; named = a.named }
 
 pub overflow_sub-result : goal.overflow_sub-result
@@ -35,6 +38,8 @@ returns-in-Err c =
     let text = c.args.text.now in
     let body = c.cut-pid.result.1.now in
     let e = c.in-Err.ensures in
-    let b : BodyAnswers body (Err c.in-Err.refusal) = record { found = tt; only = e.only; refused = e.refused; only_there = e.only_there; named = tt; within = e.within } in
-    let a = refused_body_line text body c.cut-pid.result.0 c.in-Err.refusal (full_line text (sym c.is_empty.ensures ∙ c.if-is_empty.false)) c.cut-pid.ensures b in
+    let b : BodyAnswers body (Err c.in-Err.refusal) =
+    record { found = tt; only = e.only; refused = e.refused; only_there = e.only_there; named = tt; within = e.within } in
+    let a = refused_body_line text body c.cut-pid.result.0 c.in-Err.refusal
+    (full_line text (sym c.is_empty.ensures ∙ c.if-is_empty.false)) c.cut-pid.ensures b in
     record { found = a.found; only = a.only; refused = a.refused; only_there = a.only_there; named = a.named }

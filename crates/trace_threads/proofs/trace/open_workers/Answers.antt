@@ -19,14 +19,16 @@ returns-in-Ok-with_capacity-clause-workers c =
     let same : length c.in-Ok-open.callers.items ≡ length lists = count ∙ (ap length calls ∙ length-map lists length) in
     let seats = c.in-Ok-open.ensures.opened.0.0 in
     let more : 0 < length c.in-Ok-open.callers.items = omega arith in
-    new_workers _ _ c.as_slice-2.result.now lists c.in-Ok-open.callers.items c.hire-workers.result.0.items c.hire-workers.ensures.workers same more c.in-Ok-open.ensures.callers
+    new_workers _ _ c.as_slice-2.result.now lists c.in-Ok-open.callers.items c.hire-workers.result.0.items
+    c.hire-workers.ensures.workers same more c.in-Ok-open.ensures.callers
 
 pub returns-in-Ok-with_capacity-clause-count : goal.returns-in-Ok-with_capacity-clause-count
 returns-in-Ok-with_capacity-clause-count c =
     let lists = map vec_items c.args.lines.items in
     let calls : c.as_slice-2.result.now ≡ map length lists = search rules in
     let same : length c.in-Ok-open.callers.items ≡ length lists = c.in-Ok-open.ensures.count.1 ∙ (ap length calls ∙ length-map lists length) in
-    let long : length c.hire-workers.result.0.items ≡ length lists = ap length c.hire-workers.ensures.workers ∙ length_hired c.in-Ok-open.callers.items lists same in
+    let long : length c.hire-workers.result.0.items ≡ length lists = ap length c.hire-workers.ensures.workers
+    ∙ length_hired c.in-Ok-open.callers.items lists same in
     c.in-Ok-open.ensures.count.0 ∙ (sym c.in-Ok-open.ensures.count.1 ∙ (same ∙ sym long))
 
 pub returns-in-Ok-with_capacity-clause-room : goal.returns-in-Ok-with_capacity-clause-room
@@ -34,7 +36,8 @@ returns-in-Ok-with_capacity-clause-room c =
     let lists = map vec_items c.args.lines.items in
     let calls : c.as_slice-2.result.now ≡ map length lists = search rules in
     let same : length c.in-Ok-open.callers.items ≡ length lists = c.in-Ok-open.ensures.count.1 ∙ (ap length calls ∙ length-map lists length) in
-    let long : length c.hire-workers.result.0.items ≡ length lists = ap length c.hire-workers.ensures.workers ∙ length_hired c.in-Ok-open.callers.items lists same in
+    let long : length c.hire-workers.result.0.items ≡ length lists = ap length c.hire-workers.ensures.workers
+    ∙ length_hired c.in-Ok-open.callers.items lists same in
     let room = c.hire-workers.ensures.empty.1 in
     let fits = c.in-Ok-open.callers.ok.0 in
     (c.hire-workers.ensures.empty.0, omega arith)

@@ -16,15 +16,19 @@ pub close-requires-clause-idle : goal.close-requires-clause-idle
 close-requires-clause-idle g c =
     let played : HavePlayed c.in-Ok.workers.items c.play_all.new.workers = search rules in
     let workers = c.play_all.new.workers in
-    let back = take_at workers (drop (length workers) c.in-Ok.workers.items) c.in-Ok.workers.len (let n = played.count in omega (arith, n, c.in-Ok.workers.ok.0)) in
+    let back = take_at workers (drop (length workers) c.in-Ok.workers.items) c.in-Ok.workers.len (let n = played.count in
+    omega (arith, n, c.in-Ok.workers.ok.0)) in
     let callers : c.dismiss.result.items ≡ map caller_of workers = c.dismiss.ensures ∙ ap (map caller_of) back in
-    subst (λ (cs : List CallerView). AreIdle c.in-Ok.space.table cs) (sym callers) (played_idle _ _ _ c.in-Ok.workers.items c.play_all.new.workers c.in-Ok.ensures.workers played)
+    subst (λ (cs : List CallerView). AreIdle c.in-Ok.space.table cs) (sym callers)
+    (played_idle _ _ _ c.in-Ok.workers.items c.play_all.new.workers c.in-Ok.ensures.workers played)
 
 pub returns-in-Ok-close-clause-played : goal.returns-in-Ok-close-clause-played
 returns-in-Ok-close-clause-played g c =
     let played : HavePlayed c.in-Ok.workers.items c.play_all.new.workers = search rules in
     let workers = c.play_all.new.workers in
-    let back = take_at workers (drop (length workers) c.in-Ok.workers.items) c.in-Ok.workers.len (let n = played.count in omega (arith, n, c.in-Ok.workers.ok.0)) in
+    let back = take_at workers (drop (length workers) c.in-Ok.workers.items) c.in-Ok.workers.len (let n = played.count in
+    omega (arith, n, c.in-Ok.workers.ok.0)) in
     let callers : c.dismiss.result.items ≡ map caller_of workers = c.dismiss.ensures ∙ ap (map caller_of) back in
     let closed = c.in-Ok-close.closed in
-    all_played _ _ _ c.in-Ok.workers.items c.play_all.new.workers closed.entries closed.areas c.in-Ok.ensures.workers played (subst (λ (cs : List CallerView). IsWhole cs closed.entries closed.areas) callers c.in-Ok-close.ensures.whole)
+    all_played _ _ _ c.in-Ok.workers.items c.play_all.new.workers closed.entries closed.areas c.in-Ok.ensures.workers played
+    (subst (λ (cs : List CallerView). IsWhole cs closed.entries closed.areas) callers c.in-Ok-close.ensures.whole)

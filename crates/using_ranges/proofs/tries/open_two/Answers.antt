@@ -5,11 +5,13 @@ use Rattle.using_ranges.proofs.tries.open_two.Goals as goal
 pub returns-clause-tables : goal.returns-clause-tables
 returns-clause-tables c = let new = c.in_ok-table.ensures.seats in (
   ap (λ s. s.table) (first_new _ (λ _. tt) c.in_ok-table.seats.items c.remove-first.result (omega (arith, new.0)) new.1 c.remove-first.ensures.value),
-  ap (λ s. s.table) (second_new _ (λ _. tt) c.in_ok-table.seats.items _ c.remove-second.result new.0 new.1 c.remove-first.ensures.items c.remove-second.ensures.value),
+  ap (λ s. s.table) (second_new _ (λ _. tt) c.in_ok-table.seats.items _ c.remove-second.result new.0 new.1
+      c.remove-first.ensures.items c.remove-second.ensures.value),
 )
 
 pub returns-clause-free : goal.returns-clause-free
 returns-clause-free c = let new = c.in_ok-table.ensures.seats in (
   ap (λ s. s.held) (first_new _ (λ _. tt) c.in_ok-table.seats.items c.remove-first.result (omega (arith, new.0)) new.1 c.remove-first.ensures.value),
-  ap (λ s. s.held) (second_new _ (λ _. tt) c.in_ok-table.seats.items _ c.remove-second.result new.0 new.1 c.remove-first.ensures.items c.remove-second.ensures.value),
+  ap (λ s. s.held) (second_new _ (λ _. tt) c.in_ok-table.seats.items _ c.remove-second.result new.0 new.1
+      c.remove-first.ensures.items c.remove-second.ensures.value),
 )

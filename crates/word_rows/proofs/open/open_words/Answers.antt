@@ -14,4 +14,5 @@ numbers-preserved g c = let i = c.numbers.invariant in let o = c.cut_off-next.en
 
 pub returns-clause-seated : goal.returns-clause-seated
 returns-clause-seated g c = let i = c.numbers.invariant in let last : c.args.seats ≡ c.numbers.number + 1 = omega arith in
-    rw c.push_reserved-2.ensures.items (one_more _ _ _ _ _ i.count i.made i.same_table (i.now ∙ ap (λ v. (v, [])) (last_view g.R.StartRule.rest g.R.StartRule.one _ _ _ _ g.R.StartRule.ends last)))
+    rw c.push_reserved-2.ensures.items (one_more _ _ _ _ _ i.count i.made i.same_table
+    (i.now ∙ ap (λ v. (v, [])) (last_view g.R.StartRule.rest g.R.StartRule.one _ _ _ _ g.R.StartRule.ends last)))

@@ -19,7 +19,8 @@ close-requires-clause-idle g c =
     let two = c.in-Ok.ensures.workers.count in
     let second : 2 ≡ length after = omega arith in
     subst (λ (cs : List CallerView). AreIdle c.in-Ok.space.table cs) (sym c.callers_with.ensures)
-    (idle_with c.in-Ok.space.table c.args.start.now lists before after c.hold_and_play.new.holder c.in-Ok.ensures.workers played (back.table ∙ third.table_is) (back.number ∙ (third.number ∙ second)) back.held)
+    (idle_with c.in-Ok.space.table c.args.start.now lists before after c.hold_and_play.new.holder c.in-Ok.ensures.workers played
+    (back.table ∙ third.table_is) (back.number ∙ (third.number ∙ second)) back.held)
 
 pub returns-in-Ok-close-clause-played : goal.returns-in-Ok-close-clause-played
 returns-in-Ok-close-clause-played g c =
@@ -27,7 +28,9 @@ returns-in-Ok-close-clause-played g c =
     let closed = c.in-Ok-close.closed in
     let none = c.hold_and_play.ensures.back.mine ∙ c.in-Ok.ensures.third.mine in
     let whole = subst (λ (cs : List CallerView). IsWhole cs closed.entries closed.areas) c.callers_with.ensures c.in-Ok-close.ensures.whole in
-    (played_with c.in-Ok.space.table c.args.start.now lists c.in-Ok.workers.items c.hold_and_play.new.workers.items c.hold_and_play.new.holder closed.entries closed.areas c.in-Ok.ensures.workers c.hold_and_play.ensures.played none whole).0
+    (played_with c.in-Ok.space.table c.args.start.now lists c.in-Ok.workers.items c.hold_and_play.new.workers.items
+    c.hold_and_play.new.holder closed.entries closed.areas c.in-Ok.ensures.workers c.hold_and_play.ensures.played none
+    whole).0
 
 pub returns-in-Ok-close-clause-runs : goal.returns-in-Ok-close-clause-runs
 returns-in-Ok-close-clause-runs g c =
@@ -35,4 +38,6 @@ returns-in-Ok-close-clause-runs g c =
     let closed = c.in-Ok-close.closed in
     let none = c.hold_and_play.ensures.back.mine ∙ c.in-Ok.ensures.third.mine in
     let whole = subst (λ (cs : List CallerView). IsWhole cs closed.entries closed.areas) c.callers_with.ensures c.in-Ok-close.ensures.whole in
-    (played_with c.in-Ok.space.table c.args.start.now lists c.in-Ok.workers.items c.hold_and_play.new.workers.items c.hold_and_play.new.holder closed.entries closed.areas c.in-Ok.ensures.workers c.hold_and_play.ensures.played none whole).1
+    (played_with c.in-Ok.space.table c.args.start.now lists c.in-Ok.workers.items c.hold_and_play.new.workers.items
+    c.hold_and_play.new.holder closed.entries closed.areas c.in-Ok.ensures.workers c.hold_and_play.ensures.played none
+    whole).1

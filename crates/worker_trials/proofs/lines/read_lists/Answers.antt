@@ -13,8 +13,14 @@ counts-preserved c =
     let long = c.in_ok-reads.ensures.count in
     let pushed : c.push.new.self.items ≡ c.counts.lists.items ++ list ∷ [] = search rules in
     record {
-      counts = counts_more c.counts.lists.items c.push.new.self.items list c.args.counts.now c.counts.count-index n pushed c.counts-test.true (same_or c.args.counts.now c.counts.count-index 0 n c.counts-test.true) long c.counts.invariant.counts;
-      few = all_more (λ v. vec_len v < 2 ^ 32) c.counts.lists.items c.push.new.self.items list pushed c.counts.invariant.few (omega (arith, long, few, list.ok.0));
-      named = all_more (λ ls. All (λ m. IsNamedCall m.call) ls) (map vec_items c.counts.lists.items) (map vec_items c.push.new.self.items) (vec_items list) (items_more c.counts.lists.items c.push.new.self.items list pushed) c.counts.invariant.named c.in_ok-reads.ensures.named;
+      counts = counts_more c.counts.lists.items c.push.new.self.items list c.args.counts.now c.counts.count-index n pushed
+          c.counts-test.true (same_or c.args.counts.now c.counts.count-index 0 n c.counts-test.true) long
+          c.counts.invariant.counts;
+      few = all_more (λ v. vec_len v < 2 ^ 32) c.counts.lists.items c.push.new.self.items list pushed c.counts.invariant.few
+          (omega (arith, long, few, list.ok.0));
+      named = all_more (λ ls. All (λ m. IsNamedCall m.call) ls) (map vec_items c.counts.lists.items)
+          (map vec_items c.push.new.self.items) (vec_items list)
+          (items_more c.counts.lists.items c.push.new.self.items list pushed) c.counts.invariant.named
+          c.in_ok-reads.ensures.named;
       first = (let f = c.counts.invariant.first in omega arith);
     }

@@ -4,4 +4,5 @@ use Rattle.area_rows.specs.Callers.{CallerView}
 use Rattle.area_rows.proofs.space.Space.acquire.Goals as goal
 
 pub returns-clause-rest : goal.returns-clause-rest
-returns-clause-rest g c = ap (λ (p : Pass). p.pending) c.acquire.ensures.call.pass ∙ c.caller.invariant.8 (ap (λ (v : CallerView). v.seat.held) c.caller.view_is ∙ c.requires.free)
+returns-clause-rest g c = ap (λ (p : Pass). p.pending) c.acquire.ensures.call.pass
+    ∙ c.caller.invariant.8 (ap (λ (v : CallerView). v.seat.held) c.caller.view_is ∙ c.requires.free)

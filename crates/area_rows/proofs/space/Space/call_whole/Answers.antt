@@ -6,7 +6,8 @@ use Rattle.area_rows.proofs.Wholes.{planned_right, numbered_whole, last_whole}
 use Rattle.area_rows.proofs.space.Space.call_whole.Goals as goal
 
 pub draw-entry-requires-clause-right : goal.draw-entry-requires-clause-right
-draw-entry-requires-clause-right g c = planned_right c.plan-planned.new.caller c.args.call c.plan-planned.result.reply c.plan-planned.result.rows c.plan-planned.ensures.planned c.requires.undecided c.requires.call
+draw-entry-requires-clause-right g c = planned_right c.plan-planned.new.caller c.args.call c.plan-planned.result.reply
+    c.plan-planned.result.rows c.plan-planned.ensures.planned c.requires.undecided c.requires.call
 
 pub write_plan-requires-clause-planned : goal.write_plan-requires-clause-planned
 write_plan-requires-clause-planned g c = c.draw-entry.ensures.write refl c.plan-planned.ensures.planned.read
@@ -22,9 +23,13 @@ returns-clause-called g c =
       line_is = n.line;
       call_is = n.call;
       named = n.named;
-      numbered = numbered_whole c.args.caller.now.seat c.acquire.new.caller.seat c.plan-planned.new.caller.seat c.draw-entry.new.caller.seat c.write_plan.new.caller.seat c.give_back.new.caller.seat c.draw-entry.result _ c.requires.free b.call p.reading n.drawn w.written d.release;
+      numbered = numbered_whole c.args.caller.now.seat c.acquire.new.caller.seat c.plan-planned.new.caller.seat
+          c.draw-entry.new.caller.seat c.write_plan.new.caller.seat c.give_back.new.caller.seat c.draw-entry.result _
+          c.requires.free b.call p.reading n.drawn w.written d.release;
       last = subst (λ (u : Under). IsLastStep c.args.caller.now.seat u c.give_back.new.caller.seat) (sym n.under)
-          (last_whole c.args.caller.now.seat c.acquire.new.caller.seat c.plan-planned.new.caller.seat c.draw-entry.new.caller.seat c.write_plan.new.caller.seat c.give_back.new.caller.seat c.draw-entry.result _ b.call p.reading n.drawn w.written d.release);
+          (last_whole c.args.caller.now.seat c.acquire.new.caller.seat c.plan-planned.new.caller.seat c.draw-entry.new.caller.seat
+          c.write_plan.new.caller.seat c.give_back.new.caller.seat c.draw-entry.result _ b.call p.reading n.drawn w.written
+          d.release);
       written = ap (λ (x : Pass). x.pending) d.release.pass ∙ w.written.rest;
       left = ap (λ k. k + 1) (d.left ∙ w.left) ∙ (n.left ∙ (p.left ∙ b.left));
     }

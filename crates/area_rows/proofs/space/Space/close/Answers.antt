@@ -12,26 +12,36 @@ use Rattle.area_rows.proofs.Pairing.{pairs_length, pairs_passes, pairs_kept, sea
 use Rattle.area_rows.proofs.space.Space.close.Goals as goal
 
 pub close-requires-clause-count : goal.close-requires-clause-count
-close-requires-clause-count c = (pairs_length _ _ c.args.callers.items c.part-callers.ensures.pairs).0 ∙ (c.requires.count ∙ sym (ap (λ t. t.seats) c.self.view_is))
+close-requires-clause-count c = (pairs_length _ _ c.args.callers.items c.part-callers.ensures.pairs).0
+    ∙ (c.requires.count ∙ sym (ap (λ t. t.seats) c.self.view_is))
 
 pub close-requires-clause-idle : goal.close-requires-clause-idle
-close-requires-clause-idle c = seats_idle _ _ _ c.args.callers.items c.part-callers.ensures.pairs (subst (λ t. AreIdle t c.args.callers.items) (sym (ap (λ t. t.table) c.self.view_is)) c.requires.idle)
+close-requires-clause-idle c = seats_idle _ _ _ c.args.callers.items c.part-callers.ensures.pairs
+    (subst (λ t. AreIdle t c.args.callers.items) (sym (ap (λ t. t.table) c.self.view_is)) c.requires.idle)
 
 pub collect-requires-clause-below : goal.collect-requires-clause-below
 collect-requires-clause-below c =
     let pairs = c.part-callers.ensures.pairs in
     let callers = c.args.callers.items in
-    let kept : AreKept c.as_slice-in-Ok-close-2.result.now callers = subst (λ (l : List Kept). AreKept l callers) (sym c.as_slice-in-Ok-close-2.ensures.value) (pairs_kept _ _ callers pairs) in
-    closes_below _ c.in-Ok-close.words.items callers c.as_slice-in-Ok-close-2.result.now (map pass_in c.part-callers.result.1.items) _ (pairs_passes _ _ callers pairs) c.in-Ok-close.ensures.guard kept (c.in-Ok.ensures.entries ∙ ap callers_count c.as_slice.ensures.value)
+    let kept : AreKept c.as_slice-in-Ok-close-2.result.now callers =
+    subst (λ (l : List Kept). AreKept l callers) (sym c.as_slice-in-Ok-close-2.ensures.value)
+    (pairs_kept _ _ callers pairs) in
+    closes_below _ c.in-Ok-close.words.items callers c.as_slice-in-Ok-close-2.result.now
+    (map pass_in c.part-callers.result.1.items) _ (pairs_passes _ _ callers pairs) c.in-Ok-close.ensures.guard kept
+    (c.in-Ok.ensures.entries ∙ ap callers_count c.as_slice.ensures.value)
 
 pub returns-in-Ok-close-clause-whole : goal.returns-in-Ok-close-clause-whole
 returns-in-Ok-close-clause-whole c =
     let pairs = c.part-callers.ensures.pairs in
     let callers = c.args.callers.items in
-    let kept : AreKept c.as_slice-in-Ok-close-2.result.now callers = subst (λ (l : List Kept). AreKept l callers) (sym c.as_slice-in-Ok-close-2.ensures.value) (pairs_kept _ _ callers pairs) in
+    let kept : AreKept c.as_slice-in-Ok-close-2.result.now callers =
+    subst (λ (l : List Kept). AreKept l callers) (sym c.as_slice-in-Ok-close-2.ensures.value)
+    (pairs_kept _ _ callers pairs) in
     let history : HasHistory (replicate (length callers) None) c.as_slice-in-Ok-close.result.now (map caller_pass callers) =
-    subst (λ (z : List ℕ × List Pass). HasHistory (replicate (length callers) None) z.0 z.1) (λ i. (sym c.as_slice-in-Ok-close.ensures.value i, pairs_passes _ _ callers pairs i))
-    (subst (λ (n : ℕ). HasHistory (replicate n None) c.in-Ok-close.words.items (map pass_in c.part-callers.result.1.items)) (sym (c.requires.count ∙ sym (ap (λ t. t.seats) c.self.view_is))) c.in-Ok-close.ensures.guard) in
+    subst (λ (z : List ℕ × List Pass). HasHistory (replicate (length callers) None) z.0 z.1)
+    (λ i. (sym c.as_slice-in-Ok-close.ensures.value i, pairs_passes _ _ callers pairs i))
+    (subst (λ (n : ℕ). HasHistory (replicate n None) c.in-Ok-close.words.items (map pass_in c.part-callers.result.1.items))
+    (sym (c.requires.count ∙ sym (ap (λ t. t.seats) c.self.view_is))) c.in-Ok-close.ensures.guard) in
     c.collect.ensures callers history kept (c.in-Ok.ensures.entries ∙ ap callers_count c.as_slice.ensures.value)
 
 pub join-requires : goal.join-requires
@@ -49,4 +59,5 @@ returns-in-Err-clause-refused c =
 pub collect-requires-clause-few : goal.collect-requires-clause-few
 collect-requires-clause-few c =
     let h = c.in-Ok-close.ensures.guard in
-    subst (λ (w : List ℕ). slice_index w 2 ≤ ROWS) (sym c.as_slice-in-Ok-close.ensures.value) (idle_rows _ h.0 h.1 h.2 c.in-Ok-close.words.items (map pass_in c.part-callers.result.1.items) h.3 h.4).few
+    subst (λ (w : List ℕ). slice_index w 2 ≤ ROWS) (sym c.as_slice-in-Ok-close.ensures.value)
+    (idle_rows _ h.0 h.1 h.2 c.in-Ok-close.words.items (map pass_in c.part-callers.result.1.items) h.3 h.4).few

@@ -12,7 +12,8 @@ add-requires-clause-allowed g c =
     let s = c.args.seat.now in
     let note = entry_note c.args.draft.now (pending_of c.args.draft.now.under (planned_rows c.args.read.now c.args.plan.now) c.args.change) in
     let r = c.requires in
-    subst (λ (n : Note). IsAllowed HasHistory Allowed n s.number s.held s.pass (adds 0 1)) (sym r.note) (may_draw note s.number s.held s.pass s refl refl refl r.few r.named r.rest r.held r.right)
+    subst (λ (n : Note). IsAllowed HasHistory Allowed n s.number s.held s.pass (adds 0 1)) (sym r.note)
+    (may_draw note s.number s.held s.pass s refl refl refl r.few r.named r.rest r.held r.right)
 
 pub returns-clause-drawn : goal.returns-clause-drawn
 returns-clause-drawn g c =
@@ -21,4 +22,5 @@ returns-clause-drawn g c =
     let pending = pending_of c.args.draft.now.under (planned_rows c.args.read.now c.args.plan.now) c.args.change in
     let note = entry_note c.args.draft.now pending in
     let made = subst (λ (n : Note). IsMade HasHistory Allowed n s.number s.held s.pass (adds 0 1) c.add.result u.pass) c.requires.note c.add.ensures.made in
-    subst (λ w. IsDrawn s (entry_of c.add.result w note) pending u) c.requires.worker (draws note s.number s.held s.pass c.add.result u.pass s u refl refl refl refl c.add.ensures.call made)
+    subst (λ w. IsDrawn s (entry_of c.add.result w note) pending u) c.requires.worker
+    (draws note s.number s.held s.pass c.add.result u.pass s u refl refl refl refl c.add.ensures.call made)

@@ -12,18 +12,22 @@ load-requires-clause-allowed c = may_row no_note _ _ _ c.args.index c.requires.i
 pub returns-clause-below : goal.returns-clause-below
 returns-clause-below c = λ n counted lt.
     let s = c.caller.inside.seat in
-    let r = reads no_note s.number s.held s.pass c.load.result c.load.new.seat.pass c.args.index (search rules) c.caller.invariant.7 (search rules) c.load.ensures.made in
+    let r = reads no_note s.number s.held s.pass c.load.result c.load.new.seat.pass c.args.index (search rules)
+    c.caller.invariant.7 (search rules) c.load.ensures.made in
     r.2 n (ap (λ (v : CallerView). v.seat.pass.count) c.caller.view_is ∙ counted) lt
 
 pub returns-clause-first : goal.returns-clause-first
 returns-clause-first c =
     let s = c.caller.inside.seat in
-    (reads no_note s.number s.held s.pass c.load.result c.load.new.seat.pass c.args.index (search rules) c.caller.invariant.7 (search rules) c.load.ensures.made).1
+    (reads no_note s.number s.held s.pass c.load.result c.load.new.seat.pass c.args.index (search rules) c.caller.invariant.7
+    (search rules) c.load.ensures.made).1
 
 pub returns-clause-whole : goal.returns-clause-whole
 returns-clause-whole c = λ all rows has.
     let s = c.caller.inside.seat in
-    reads_all no_note s.number s.held s.pass c.load.result c.load.new.seat.pass c.args.index (ap (λ (v : CallerView). v.seat.held) c.caller.view_is ∙ all) (search rules) c.load.ensures.made c.load.new.seat.pass refl rows has
+    reads_all no_note s.number s.held s.pass c.load.result c.load.new.seat.pass c.args.index
+    (ap (λ (v : CallerView). v.seat.held) c.caller.view_is ∙ all) (search rules) c.load.ensures.made c.load.new.seat.pass refl
+    rows has
 
 pub returns-clause-side : goal.returns-clause-side
 returns-clause-side c = λ page here.

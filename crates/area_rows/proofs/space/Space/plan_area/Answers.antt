@@ -21,8 +21,11 @@ returns-clause-plan c =
     let lo = c.of_valid.ensures.lo in
     let hi = c.of_valid.ensures.hi in
     let some_page : page_of c.args.addr < end_page c.args.addr c.args.len = (let o = c.of_valid.result.ordered in omega arith) in
-    plan_made old c.load_count-count.new.caller.seat one _ c.args.span row c.args.kind c.kind_before-before.result c.kind_behind-behind.result c.args.addr c.args.len count c.args.prot
-    r.held r.rest r.round r.limit r.kind r.read few r.undecided some_page r.from r.until r.shows counted (count_reads old c.load_count-count.new.caller.seat count n.step n.again) b.reading
+    plan_made old c.load_count-count.new.caller.seat one _ c.args.span row c.args.kind c.kind_before-before.result
+    c.kind_behind-behind.result c.args.addr c.args.len count c.args.prot
+    r.held r.rest r.round r.limit r.kind r.read few r.undecided some_page r.from r.until r.shows counted
+    (count_reads old c.load_count-count.new.caller.seat count n.step n.again) b.reading
     (subst (λ (v : CallerView). IsReading one v.seat) (sym c.caller.view_is) d.reading) b.read
     (subst (λ (v : CallerView). IsReadBehind v.seat.pass.rows count row.index c.kind_behind-behind.result) (sym c.caller.view_is) d.read)
-    _ c.choose-plan.result (record { span_is = refl; lo_is = lo; hi_is = hi; old_is = refl; new_is = refl }) r.named_kind r.named c.choose-plan.ensures c.change_in-caller-inside.ensures
+    _ c.choose-plan.result (record { span_is = refl; lo_is = lo; hi_is = hi; old_is = refl; new_is = refl }) r.named_kind r.named
+    c.choose-plan.ensures c.change_in-caller-inside.ensures

@@ -23,7 +23,8 @@ rows-preserved c =
     let n = c.load_row-word.ensures in
     let p = c.push_row.ensures in
     record {
-      so_far = one_more_read c.load_count-count.new.caller c.rows.caller c.load_row-word.new.caller c.push_row.new.self c.load_count-count.result c.rows.index c.load_row-word.result
+      so_far = one_more_read c.load_count-count.new.caller c.rows.caller c.load_row-word.new.caller c.push_row.new.self
+          c.load_count-count.result c.rows.index c.load_row-word.result
           i.so_far c.rows-test.true i.held n.step n.left n.rows.read n.whole p.seat p.left p.read;
       held = ap (λ (k : Known Pass). k.held) p.seat ∙ (n.step.held ∙ i.held);
     }
@@ -38,7 +39,8 @@ pub returns-clause-reading : goal.returns-clause-reading
 returns-clause-reading c =
     let e = c.clear_rows.ensures in
     let n = c.load_count-count.ensures in
-    let first = subst (λ (k : Known Pass). IsReading k c.load_count-count.new.caller.seat) e.seat (count_reads c.clear_rows.new.self.seat c.load_count-count.new.caller.seat c.load_count-count.result n.step n.again) in
+    let first = subst (λ (k : Known Pass). IsReading k c.load_count-count.new.caller.seat) e.seat
+    (count_reads c.clear_rows.new.self.seat c.load_count-count.new.caller.seat c.load_count-count.result n.step n.again) in
     reading_on c.args.caller.now.seat c.load_count-count.new.caller.seat c.rows.caller.seat first c.rows.invariant.so_far.reading
 
 pub returns-clause-left : goal.returns-clause-left

@@ -11,7 +11,8 @@ use Rattle.area_rows.proofs.space.Space.row_at.Goals as goal
 pub returns-then-index-count-clause-from : goal.returns-then-index-count-clause-from
 returns-then-index-count-clause-from g c =
     let w = c.load_row-word.ensures in
-    let low = starts_up_to c.args.caller.now.seat.pass.rows c.args.page c.args.count c.args.index c.load_row-word.result c.requires.found w.first (w.side c.args.page c.requires.held) in
+    let low = starts_up_to c.args.caller.now.seat.pass.rows c.args.page c.args.count c.args.index c.load_row-word.result
+    c.requires.found w.first (w.side c.args.page c.requires.held) in
     let start = c.read_row-lo.ensures.start in
     omega arith
 
@@ -21,7 +22,8 @@ returns-then-index-count-clause-until g c =
     let n = c.load_row-next.ensures in
     let here = subst (λ (h : Option Held). IsHeldPage h c.args.page) (sym w.step.held) c.requires.held in
     let side = subst (λ (p : Pass). IsOnSameSide p.rows (c.args.index + 1) c.load_row-next.result c.args.page) w.step.pass (n.side c.args.page here) in
-    let over = starts_behind c.args.caller.now.seat.pass.rows (record { index = c.args.index; word = c.load_row-word.result }) c.args.page c.args.count c.args.index c.load_row-next.result c.requires.found c.if-index-count.true side in
+    let over = starts_behind c.args.caller.now.seat.pass.rows (record { index = c.args.index; word = c.load_row-word.result })
+    c.args.page c.args.count c.args.index c.load_row-next.result c.requires.found c.if-index-count.true side in
     let start = c.read_row-hi.ensures.start in
     omega arith
 
@@ -41,7 +43,8 @@ returns-then-index-count-clause-shows g c =
     let hi = c.read_row-hi.ensures.start in
     let counted = ap (λ (p : Pass). p.count) step.pass ∙ c.requires.count in
     let below = n.below c.args.count counted c.if-index-count.true in
-    found_row c.load_row-word.new.caller.seat c.load_row-next.new.caller.seat c.args.caller.now.seat.held c.args.page c.args.count c.args.index c.load_row-word.result c.load_row-next.result _ _ _
+    found_row c.load_row-word.new.caller.seat c.load_row-next.new.caller.seat c.args.caller.now.seat.held c.args.page c.args.count
+    c.args.index c.load_row-word.result c.load_row-next.result _ _ _
     n.step lo.start lo.kind hi (n.step.held ∙ step.held) c.requires.pages (ap (λ (p : Pass). p.pending) step.pass ∙ c.requires.rest) counted
     (subst (λ (p : Pass). HasRead p.rows c.args.index c.load_row-word.result) (sym step.pass) (inl (refl, refl))) c.if-index-count.true c.requires.held
     (let low = returns-then-index-count-clause-from g c in let start = lo.start in omega arith) (returns-then-index-count-clause-until g c) (omega arith)
@@ -49,7 +52,8 @@ returns-then-index-count-clause-shows g c =
 pub returns-clause-from : goal.returns-clause-from
 returns-clause-from g c =
     let w = c.load_row-word.ensures in
-    let low = starts_up_to c.args.caller.now.seat.pass.rows c.args.page c.args.count c.args.index c.load_row-word.result c.requires.found w.first (w.side c.args.page c.requires.held) in
+    let low = starts_up_to c.args.caller.now.seat.pass.rows c.args.page c.args.count c.args.index c.load_row-word.result
+    c.requires.found w.first (w.side c.args.page c.requires.held) in
     let start = c.read_row-lo.ensures.start in
     omega arith
 
@@ -58,7 +62,9 @@ returns-clause-shows g c =
     let step = c.load_row-word.ensures.step in
     let lo = c.read_row-lo.ensures in
     let there = c.requires.found.there in
-    last_row c.load_row-word.new.caller.seat c.args.caller.now.seat.held c.args.page c.args.count c.args.index c.load_row-word.result _ _ lo.start lo.kind step.held c.requires.pages
+    last_row c.load_row-word.new.caller.seat c.args.caller.now.seat.held c.args.page c.args.count c.args.index
+    c.load_row-word.result _ _ lo.start lo.kind step.held c.requires.pages
     (ap (λ (p : Pass). p.pending) step.pass ∙ c.requires.rest) c.requires.held (ap (λ (p : Pass). p.count) step.pass ∙ c.requires.count)
-    (subst (λ (p : Pass). HasRead p.rows c.args.index c.load_row-word.result) (sym step.pass) (inl (refl, refl))) (omega arith) (let no_more = c.if-index-count.false in omega arith)
+    (subst (λ (p : Pass). HasRead p.rows c.args.index c.load_row-word.result) (sym step.pass) (inl (refl, refl))) (omega arith)
+    (let no_more = c.if-index-count.false in omega arith)
     (let low = returns-clause-from g c in let start = lo.start in omega arith)

@@ -11,7 +11,8 @@ use Rattle.area_rows.proofs.space.Space.seat_callers.Goals as goal
 pub invariant_of-push_reserved : goal.invariant_of-push_reserved
 invariant_of-push_reserved c =
     let some_left : 0 < length c.seats.seats.items = search rules in
-    let s = next_seat c.args.table.now.table (new_pass c.args.start.now) c.seats.worker c.seats.seats.items c.remove-seat.result c.seats.invariant.rest some_left c.remove-seat.ensures.value in (
+    let s = next_seat c.args.table.now.table (new_pass c.args.start.now) c.seats.worker c.seats.seats.items c.remove-seat.result
+    c.seats.invariant.rest some_left c.remove-seat.ensures.value in (
       ap (λ (x : Known Pass). x.number) s,
       search rules ∙ sym (ap (λ (x : Known Pass). x.pass.mine) s),
       search rules,
@@ -24,7 +25,13 @@ invariant_of-push_reserved c =
     )
 
 pub seats-init : goal.seats-init
-seats-init c = record { room = search rules; count = search rules; sum = search rules; new = search rules; rest = first_seats c.args.table.now.table (new_pass c.args.start.now) c.args.seats.items c.requires.seats }
+seats-init c = record {
+  room = search rules;
+  count = search rules;
+  sum = search rules;
+  new = search rules;
+  rest = first_seats c.args.table.now.table (new_pass c.args.start.now) c.args.seats.items c.requires.seats;
+}
 
 pub seats-preserved : goal.seats-preserved
 seats-preserved c =
@@ -40,6 +47,7 @@ seats-preserved c =
       new =
           let r = c.in_ok-read.ensures.items in
           let p = c.in_ok-plan.ensures.items in
-          rw c.push_reserved.ensures.items (one_caller table start c.args.calls.now c.seats.made.items _ c.seats.worker i.count i.new (new_caller _ _ (slice_index c.args.calls.now c.seats.worker) _ _ s r p));
+          rw c.push_reserved.ensures.items (one_caller table start c.args.calls.now c.seats.made.items _ c.seats.worker i.count
+          i.new (new_caller _ _ (slice_index c.args.calls.now c.seats.worker) _ _ s r p));
       rest = seats_on table (new_pass start) c.seats.worker c.seats.seats.items c.remove-seat.new.self.items i.rest c.remove-seat.ensures.items;
     }

@@ -12,10 +12,12 @@ pub returns-clause-reading : goal.returns-clause-reading
 returns-clause-reading c =
     let s = c.caller.inside.seat in
     let u = c.load.new.seat in
-    subst (λ (v : CallerView). IsReading v.seat u) c.caller.view_is (sequence_is s u c.load.result c.caller.invariant.7 c.load.ensures.call c.load.ensures.made).0
+    subst (λ (v : CallerView). IsReading v.seat u) c.caller.view_is
+    (sequence_is s u c.load.result c.caller.invariant.7 c.load.ensures.call c.load.ensures.made).0
 
 pub returns-clause-counts : goal.returns-clause-counts
 returns-clause-counts c =
     let s = c.caller.inside.seat in
     let u = c.load.new.seat in
-    subst (λ (v : CallerView). IsSome v.seat.held → CountsWhole u c.load.result) c.caller.view_is (sequence_is s u c.load.result c.caller.invariant.7 c.load.ensures.call c.load.ensures.made).1
+    subst (λ (v : CallerView). IsSome v.seat.held → CountsWhole u c.load.result) c.caller.view_is
+    (sequence_is s u c.load.result c.caller.invariant.7 c.load.ensures.call c.load.ensures.made).1

@@ -6,4 +6,7 @@ pub store-requires-clause-allowed : goal.store-requires-clause-allowed
 store-requires-clause-allowed c = let w = c.requires.change in may_store_change no_note c.args.seat.now w.0 w.1 w.2 c.args.index c.args.word w.3 w.4
 
 pub returns : goal.returns
-returns c = let w = c.requires.change in record { step = change_stored c.args.seat.now c.store.new.seat w.0 c.args.index c.args.word w.1 c.store.ensures.call c.store.ensures.made }
+returns c = let w = c.requires.change in record {
+  step =
+      change_stored c.args.seat.now c.store.new.seat w.0 c.args.index c.args.word w.1 c.store.ensures.call c.store.ensures.made;
+}

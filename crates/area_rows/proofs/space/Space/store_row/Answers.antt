@@ -4,7 +4,11 @@ use Rattle.area_rows.proofs.StoringRows.{may_store_row, row_stored}
 use Rattle.area_rows.proofs.space.Space.store_row.Goals as goal
 
 pub store-requires-clause-allowed : goal.store-requires-clause-allowed
-store-requires-clause-allowed c = let s = c.args.seat.now in may_store_row no_note s.number s.held s.pass c.args.plan.now c.requires.planned c.args.index _ c.requires.index (search rules)
+store-requires-clause-allowed c = let s = c.args.seat.now in
+    may_store_row no_note s.number s.held s.pass c.args.plan.now c.requires.planned c.args.index _ c.requires.index (search rules)
 
 pub returns : goal.returns
-returns c = record { step = row_stored c.args.seat.now c.store.new.seat c.args.plan.now c.requires.planned _ c.args.index c.store.ensures.call c.store.ensures.made }
+returns c = record {
+  step = row_stored c.args.seat.now c.store.new.seat c.args.plan.now c.requires.planned _ c.args.index
+      c.store.ensures.call c.store.ensures.made;
+}

@@ -6,7 +6,8 @@ use Rattle.area_rows.specs.Callers.{CallerView}
 use Rattle.area_rows.proofs.space.Space.try_acquire.Goals as goal
 
 pub returns-clause-rest : goal.returns-clause-rest
-returns-clause-rest g c = ap (λ (p : Pass). p.pending) c.try_acquire.ensures.call.pass ∙ c.caller.invariant.8 (ap (λ (v : CallerView). v.seat.held) c.caller.view_is ∙ c.requires.free)
+returns-clause-rest g c = ap (λ (p : Pass). p.pending) c.try_acquire.ensures.call.pass
+    ∙ c.caller.invariant.8 (ap (λ (v : CallerView). v.seat.held) c.caller.view_is ∙ c.requires.free)
 
 pub returns-clause-long : goal.returns-clause-long
 returns-clause-long g c =

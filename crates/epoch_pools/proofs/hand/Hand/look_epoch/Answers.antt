@@ -14,7 +14,8 @@ returns-clause-looked g c =
     let notes = sound.sound.sized.notes in
     let there = c.requires.there in
     epoch_look g.G.Guard.rested p c.make.new.self.part c.args.other c.make.result c.requires.free
-    (may_read_epoch p.seats p.number p.core c.args.other c.requires.free c.requires.homes there c.requires.other) made (omega arith) (omega arith) c.requires.homes
+    (may_read_epoch p.seats p.number p.core c.args.other c.requires.free c.requires.homes there c.requires.other) made
+    (omega arith) (omega arith) c.requires.homes
 
 pub returns-clause-on : goal.returns-clause-on
 returns-clause-on g c =

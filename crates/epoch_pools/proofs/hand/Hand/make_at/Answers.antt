@@ -15,10 +15,13 @@ invariant_of-self g c =
     let number = ap (λ h. h.part.number) c.self.view_is ∙ sym c.number-number.ensures.number in
     let line = line_again q _ _ c.self.inside.view step many number c.self.invariant.0 in
     let w = subst (λ (h : Standing _). Writes step (line_for h.part step) c.args.op.act) (sym c.self.view_is) c.requires.op.1 in
-    let all = m.1 ∙ (ap (λ (d : Step). part_after g.G.Guard.rested q d m.0) c.requires.doing ∙ answered g.G.Guard.rested q step c.args.op.act m.0 result w m.3) in
-    let told = told_again g.G.Guard.rested q step g.D.Doing.seats c.args.op.act m.0 result w m.3 (subst (λ (d : Step). Told g.D.Doing.seats q d m.0) c.requires.doing m.2) in
+    let all = m.1 ∙ (ap (λ (d : Step). part_after g.G.Guard.rested q d m.0) c.requires.doing
+    ∙ answered g.G.Guard.rested q step c.args.op.act m.0 result w m.3) in
+    let told = told_again g.G.Guard.rested q step g.D.Doing.seats c.args.op.act m.0 result w m.3
+    (subst (λ (d : Step). Told g.D.Doing.seats q d m.0) c.requires.doing m.2) in
     let may = subst (λ (h : Standing _). Enables h.part step) (sym c.self.view_is) c.requires.enabled in
-    let less : q.number < q.seats = subst (λ (h : Standing _). h.part.number < h.part.seats) (sym c.self.view_is) (subst (λ n. n < c.args.self.now.part.seats) c.number-number.ensures.number c.number-number.ensures.there) in (
+    let less : q.number < q.seats = subst (λ (h : Standing _). h.part.number < h.part.seats) (sym c.self.view_is)
+    (subst (λ n. n < c.args.self.now.part.seats) c.number-number.ensures.number c.number-number.ensures.there) in (
       ap (λ (x : Part _). x.core) all ∙ sym (c.follow.ensures ∙ ap (λ (l : Plan). l.view result) line),
       subst IsHandView (sym all) (hand_after q g.G.Guard.rested step result g.D.Doing.seats less may c.self.invariant.1 told),
     )
@@ -30,7 +33,8 @@ returns-clause-told g c =
     let number = ap (λ h. h.part.number) c.self.view_is ∙ sym c.number-number.ensures.number in
     let w = subst (λ (h : Standing _). Writes step (line_for h.part step) c.args.op.act) (sym c.self.view_is) c.requires.op.1 in
     subst (λ (h : Standing _). Told g.D.Doing.seats h.part step c.perform-found.result) c.self.view_is
-    (told_again g.G.Guard.rested q step g.D.Doing.seats c.args.op.act m.0 c.perform-found.result w m.3 (subst (λ (d : Step). Told g.D.Doing.seats q d m.0) c.requires.doing m.2))
+    (told_again g.G.Guard.rested q step g.D.Doing.seats c.args.op.act m.0 c.perform-found.result w m.3
+    (subst (λ (d : Step). Told g.D.Doing.seats q d m.0) c.requires.doing m.2))
 
 pub returns-clause-store : goal.returns-clause-store
 returns-clause-store g c = λ st.

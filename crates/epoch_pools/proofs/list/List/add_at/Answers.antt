@@ -10,6 +10,9 @@ fetch_add-requires g c =
     let many = ap (λ s. s.part.seats) (sym c.token.view_is) ∙ c.token.invariant.3 in (
       same,
       word_there _ _ c.args.word c.args.token.now.part.seats c.token.inside.seats same many c.token.invariant.6 c.requires.place.1,
-      lock_allows g.D.Doing.seats _ g.G.Guard.holds g.G.Guard.rested g.G.Guard.is_at_rest g.G.Guard.gains g.G.Guard.loses _ (c.self.invariant.same_seats ∙ (ap (λ s. s.seats) shape ∙ sym c.requires.seats))
-          g.D.Doing.doing _ _ c.args.word (λ n. (n + 1) % 2 ^ 64) c.token.inside.seat.me c.args.token.now.part (one_part _ _ _ c.args.token.now c.token.invariant.1 c.token.view_is) c.requires.enabled c.requires.rest c.requires.place.0 c.requires.place.1 (λ w small even. sym (c.requires.add w small even)),
+      lock_allows g.D.Doing.seats _ g.G.Guard.holds g.G.Guard.rested g.G.Guard.is_at_rest g.G.Guard.gains g.G.Guard.loses _
+          (c.self.invariant.same_seats ∙ (ap (λ s. s.seats) shape ∙ sym c.requires.seats))
+          g.D.Doing.doing _ _ c.args.word (λ n. (n + 1) % 2 ^ 64) c.token.inside.seat.me c.args.token.now.part
+          (one_part _ _ _ c.args.token.now c.token.invariant.1 c.token.view_is) c.requires.enabled c.requires.rest
+          c.requires.place.0 c.requires.place.1 (λ w small even. sym (c.requires.add w small even)),
     )

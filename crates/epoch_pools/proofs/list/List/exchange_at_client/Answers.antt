@@ -7,10 +7,15 @@ use Rattle.epoch_pools.proofs.list.List.exchange_at_client.Goals as goal
 pub compare_exchange-requires : goal.compare_exchange-requires
 compare_exchange-requires g c =
     let shape = c.self.view_is in
-    let at = client_place _ _ _ _ _ _ c.self.invariant _ _ c.args.i c.client_word-word.result _ (ap (λ s. s.seats) shape) (ap (λ s. s.client) shape) (ap place_of c.requires.acting) c.requires.place c.client_word-word.ensures in (
+    let at = client_place _ _ _ _ _ _ c.self.invariant _ _ c.args.i c.client_word-word.result _ (ap (λ s. s.seats) shape)
+    (ap (λ s. s.client) shape) (ap place_of c.requires.acting) c.requires.place c.client_word-word.ensures in (
       ap (λ s. s.table) c.token.view_is ∙ (c.requires.table ∙ sym (ap (λ s. s.table) shape)),
       at.0,
-      client_keeps _ _ g.G.Guard.holds g.G.Guard.allows g.M.Means.note g.G.Guard.keeps g.C.Acting.acting (λ n. either (eqb n c.args.expected) c.args.new n) _ _ _ c.args.token.now.part _ _ (one_part _ _ _ c.args.token.now c.token.invariant.1 c.token.view_is) at.1 at.2
-          (λ words. subst (λ (s : ClientStep). words_after words s ≡ set words (place_of s) (either (eqb (get_or words (place_of s) 0) c.args.expected) c.args.new (get_or words (place_of s) 0))) (sym c.requires.acting) refl)
+      client_keeps _ _ g.G.Guard.holds g.G.Guard.allows g.M.Means.note g.G.Guard.keeps g.C.Acting.acting
+          (λ n. either (eqb n c.args.expected) c.args.new n) _ _ _ c.args.token.now.part _ _
+          (one_part _ _ _ c.args.token.now c.token.invariant.1 c.token.view_is) at.1 at.2
+          (λ words. subst (λ (s : ClientStep). words_after words s ≡ set words (place_of s)
+          (either (eqb (get_or words (place_of s) 0) c.args.expected) c.args.new (get_or words (place_of s) 0)))
+          (sym c.requires.acting) refl)
           c.requires.allowed (λ found me' told. told),
     )

@@ -9,25 +9,33 @@ use Rattle.range_c.proofs.state.State.share.Goals as goal
 
 pub invariant_of-state : goal.invariant_of-state
 invariant_of-state c =
-    let all = taken (arc_value c.self.inside.table).table c.self.inside.spare.items c.pop.new.self.items c.in-Some.seat c.in-Some.ensures.items c.self.invariant.1 in (
+    let all = taken (arc_value c.self.inside.table).table c.self.inside.spare.items c.pop.new.self.items c.in-Some.seat
+    c.in-Some.ensures.items c.self.invariant.1 in (
       ap (λ (s : Known (Unit {0})). s.table) all.0 ∙ sym (ap (λ (t : Shape). t.table) c.in-Ok.ensures),
       λ k s at. absurd (some-ne-none s (sym (subst (λ (l : Row). get_elem? l k ≡ some s) c.new.ensures.items at))),
       ap (λ (t : Shape). t.client) c.in-Ok.ensures ∙ c.self.invariant.2,
     )
 
 pub invariant_of-self : goal.invariant_of-self
-invariant_of-self c =
-    (c.self.invariant.0, (taken (arc_value c.self.inside.table).table c.self.inside.spare.items c.pop.new.self.items c.in-Some.seat c.in-Some.ensures.items c.self.invariant.1).1, c.self.invariant.2)
+invariant_of-self c = (
+  c.self.invariant.0,
+  (taken (arc_value c.self.inside.table).table c.self.inside.spare.items c.pop.new.self.items
+      c.in-Some.seat c.in-Some.ensures.items c.self.invariant.1).1,
+  c.self.invariant.2,
+)
 
 pub invariant_of-self-in-Err : goal.invariant_of-self-in-Err
 invariant_of-self-in-Err c =
     let seat = ap (λ (b : Behind). b.seat) (c.value.view_is ∙ c.in-Err.ensures.value_returned) in
-    let again = put_back c.self.inside.spare.items c.pop.new.self.items c.push_reserved.new.self.items c.in-Some.seat c.value.inside.seat c.in-Some.ensures.items seat c.push_reserved.ensures.items in
+    let again = put_back c.self.inside.spare.items c.pop.new.self.items c.push_reserved.new.self.items c.in-Some.seat
+    c.value.inside.seat c.in-Some.ensures.items seat c.push_reserved.ensures.items in
     (c.self.invariant.0, subst (λ (l : Row). AreNewSeats (arc_value c.self.inside.table).table (λ _. tt) l) (sym again) c.self.invariant.1, c.self.invariant.2)
 
 pub returns-in-Ok-new-clause-shared : goal.returns-in-Ok-new-clause-shared
 returns-in-Ok-new-clause-shared c =
     let same = ap (λ (n : ℕ). behind c.in-Some.seat (length c.new.result.items) c.self.inside.words n) (ap (λ (t : Shape). t.seats) c.in-Ok.ensures) in
-    shares (arc_value c.self.inside.table).table c.self.inside.spare.items c.pop.new.self.items c.new.result.items c.self.inside.seat c.in-Some.seat c.self.inside.words
-    (arc_value c.self.inside.table).seats c.args.self.now c.in-Ok-new.b.value c.self.view_is c.self.invariant.0 c.in-Some.ensures.items c.self.invariant.1 (ap length c.new.ensures.items)
+    shares (arc_value c.self.inside.table).table c.self.inside.spare.items c.pop.new.self.items c.new.result.items
+    c.self.inside.seat c.in-Some.seat c.self.inside.words
+    (arc_value c.self.inside.table).seats c.args.self.now c.in-Ok-new.b.value c.self.view_is c.self.invariant.0
+    c.in-Some.ensures.items c.self.invariant.1 (ap length c.new.ensures.items)
     (c.in-Ok-new.ensures.ok ∙ same)

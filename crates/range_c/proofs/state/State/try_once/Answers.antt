@@ -5,5 +5,7 @@ use Rattle.range_c.proofs.state.State.try_once.Goals as goal
 
 pub returns-clause-long : goal.returns-clause-long
 returns-clause-long c =
-    let long = subst (λ (t : Shape). IfErr c.try_once.result (λ why. IsLongRefusal why ↔ IsSpentIn t.seats c.self.inside.seat c.try_once.new.seat)) c.deref.ensures c.try_once.ensures.long in
+    let long = subst (λ (t : Shape). IfErr c.try_once.result
+    (λ why. IsLongRefusal why ↔ IsSpentIn t.seats c.self.inside.seat c.try_once.new.seat)) c.deref.ensures
+    c.try_once.ensures.long in
     subst (λ (b : Behind). IfErr c.try_once.result (λ why. IsLongRefusal why ↔ IsSpentIn b.seats b.seat c.try_once.new.seat)) c.self.view_is long

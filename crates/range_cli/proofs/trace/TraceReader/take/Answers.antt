@@ -7,5 +7,6 @@ add-requires-clause-named c = let b = c.requires.before in is_named b.0.fed c.ar
 
 pub returns-in-Ok-clause-takes : goal.returns-in-Ok-clause-takes
 returns-in-Ok-clause-takes c =
-    takes_on c.add.result c.args.text.now c.args.number c.args.self.now c.add.new.self c.feed.new.self c.in-Ok.fed (omega (arith, c.if-text-gt-LINE_LIMIT.false)) c.in-Ok.ensures.answer c.in-Ok.ensures.next
+    takes_on c.add.result c.args.text.now c.args.number c.args.self.now c.add.new.self c.feed.new.self c.in-Ok.fed
+    (omega (arith, c.if-text-gt-LINE_LIMIT.false)) c.in-Ok.ensures.answer c.in-Ok.ensures.next
     c.add.ensures.joiner c.add.ensures.lines c.add.ensures.seen c.add.ensures.len c.add.ensures.few c.add.ensures.skipped

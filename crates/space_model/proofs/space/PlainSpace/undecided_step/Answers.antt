@@ -37,7 +37,8 @@ returns-in-Fault-clause-answer c =
     fault-answers c.args.self.now c.args.call.now c.in-Fault.addr c.in-Fault.access c.access_reply.result c.in-Fault.is
     c.requires.undecided
     (subst (λ A. AnswersFault (kind_at A page) page c.in-Fault.access c.access_reply.result)
-    (c.as_slice-in-Fault.ensures.value ∙ c.self-in-Fault.view_is) (subst (λ kind. AnswersFault kind page c.in-Fault.access c.access_reply.result) c.kind_of.ensures c.access_reply.ensures))
+    (c.as_slice-in-Fault.ensures.value ∙ c.self-in-Fault.view_is)
+    (subst (λ kind. AnswersFault kind page c.in-Fault.access c.access_reply.result) c.kind_of.ensures c.access_reply.ensures))
 
 pub returns-in-Fault-clause-named : goal.returns-in-Fault-clause-named
 returns-in-Fault-clause-named c =
@@ -45,4 +46,5 @@ returns-in-Fault-clause-named c =
     fault-named c.args.self.now page c.in-Fault.access c.access_reply.result
     (subst HasNamedKinds c.self-in-Fault.view_is c.self-in-Fault.invariant.1)
     (subst (λ A. AnswersFault (kind_at A page) page c.in-Fault.access c.access_reply.result)
-    (c.as_slice-in-Fault.ensures.value ∙ c.self-in-Fault.view_is) (subst (λ kind. AnswersFault kind page c.in-Fault.access c.access_reply.result) c.kind_of.ensures c.access_reply.ensures))
+    (c.as_slice-in-Fault.ensures.value ∙ c.self-in-Fault.view_is)
+    (subst (λ kind. AnswersFault kind page c.in-Fault.access c.access_reply.result) c.kind_of.ensures c.access_reply.ensures))

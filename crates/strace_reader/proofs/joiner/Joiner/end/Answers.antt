@@ -3,7 +3,8 @@ use Rattle.strace_reader.proofs.JoinFacts.{counts}
 use Rattle.strace_reader.proofs.joiner.Joiner.end.Goals as goal
 
 pub returns-then-count-gt-MOST : goal.returns-then-count-gt-MOST
-returns-then-count-gt-MOST c = λ fed f. counts c.args.self fed 4294967295 c.len-count.result f c.len-count.ensures.ordered c.len-count.ensures.len (inr (refl, c.if-count-gt-MOST.true))
+returns-then-count-gt-MOST c = λ fed f. counts c.args.self fed 4294967295 c.len-count.result f c.len-count.ensures.ordered
+    c.len-count.ensures.len (inr (refl, c.if-count-gt-MOST.true))
 
 pub returns : goal.returns
 returns c = λ fed f. counts c.args.self fed c.len-count.result c.len-count.result f c.len-count.ensures.ordered c.len-count.ensures.len (inl refl)

@@ -18,7 +18,8 @@ pub returns-in-Ok-Played-clause-next : goal.returns-in-Ok-Played-clause-next
 returns-in-Ok-Played-clause-next c = λ fed f.
     let a = c.in-Ok-Played in
     let s = rw a.field-0-is at a.ensures.found in
-    fed_gone c.args.text.now (Played a.pid a.call a.recorded) a.pid fed c.args.self.now c.drop_half.new.self s refl (λ n x y e. cc) c.drop_half.ensures.gone c.drop_half.ensures.others f
+    fed_gone c.args.text.now (Played a.pid a.call a.recorded) a.pid fed c.args.self.now c.drop_half.new.self s refl
+    (λ n x y e. cc) c.drop_half.ensures.gone c.drop_half.ensures.others f
 
 pub returns-in-Ok-Played-clause-answer : goal.returns-in-Ok-Played-clause-answer
 returns-in-Ok-Played-clause-answer c = λ fed f.
@@ -48,7 +49,8 @@ pub returns-in-Ok-clause-next : goal.returns-in-Ok-clause-next
 returns-in-Ok-clause-next c = λ fed f.
     let a = c.in-Ok-Unfinished in
     let s = rw a.field-0-is at a.ensures.found in
-    fed_half c.args.text.now a.pid a.name a.from a.to fed c.args.self.now c.keep.new.self c.part.result.now s c.part.ensures.bytes c.in-Ok.ensures.kept c.in-Ok.ensures.others f
+    fed_half c.args.text.now a.pid a.name a.from a.to fed c.args.self.now c.keep.new.self c.part.result.now s c.part.ensures.bytes
+    c.in-Ok.ensures.kept c.in-Ok.ensures.others f
 
 pub returns-in-Ok-clause-answer : goal.returns-in-Ok-clause-answer
 returns-in-Ok-clause-answer c = λ fed f.
@@ -67,13 +69,15 @@ pub returns-in-Ok-Resumed-clause-answer : goal.returns-in-Ok-Resumed-clause-answ
 returns-in-Ok-Resumed-clause-answer c =
     let a = c.in-Ok-Resumed in
     let s = rw a.field-0-is at a.ensures.found in
-    IfOk-weaker c.join.result _ _ (λ x h fed f. join_answer c.args.self.now fed c.args.text.now a.pid a.name a.from c.behind.result.now x s c.behind.ensures.bytes f h) c.join.ensures.answer
+    IfOk-weaker c.join.result _ _ (λ x h fed f. join_answer c.args.self.now fed c.args.text.now a.pid a.name a.from
+    c.behind.result.now x s c.behind.ensures.bytes f h) c.join.ensures.answer
 
 pub returns-in-Ok-Resumed-clause-refused : goal.returns-in-Ok-Resumed-clause-refused
 returns-in-Ok-Resumed-clause-refused c =
     let a = c.in-Ok-Resumed in
     let s = rw a.field-0-is at a.ensures.found in
-    IfErr-weaker c.join.result _ _ (λ x h fed f. join_fault c.args.self.now fed c.args.text.now a.pid a.name a.from c.behind.result.now x s c.behind.ensures.bytes f h) c.join.ensures.fault
+    IfErr-weaker c.join.result _ _ (λ x h fed f. join_fault c.args.self.now fed c.args.text.now a.pid a.name a.from
+    c.behind.result.now x s c.behind.ensures.bytes f h) c.join.ensures.fault
 
 pub returns-in-Err-keep-clause-stays : goal.returns-in-Err-keep-clause-stays
 returns-in-Err-keep-clause-stays c = λ fed f. fed_stays c.args.self.now c.keep.new.self fed c.in-Err-keep.ensures.err f

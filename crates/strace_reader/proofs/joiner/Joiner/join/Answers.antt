@@ -9,7 +9,8 @@ use Rattle.strace_reader.specs.declared.item.Name.{Name}
 use Rattle.strace_reader.specs.Joiner.{half_of, IsJoinRefusal, IsJoinFault}
 use Rattle.std.specs.Prelude.{Some}
 
-fault_of : (j : Joiner) (p : ℕ) (n : Name) (rest half : List ℕ) (k : Half) (fault : FeedFault) → half_of j p ≡ Some k → k.name ≡ n → half ≡ k.text.items → IsJoinRefusal (half ++ rest) fault → IsJoinFault j p n rest fault
+fault_of : (j : Joiner) (p : ℕ) (n : Name) (rest half : List ℕ) (k : Half) (fault : FeedFault) → half_of j p ≡ Some k → k.name ≡ n
+    → half ≡ k.text.items → IsJoinRefusal (half ++ rest) fault → IsJoinFault j p n rest fault
 fault_of j p n rest half k (Bad bad) e same is h = (k, e, same, subst (λ (x : List ℕ). Refuses (x ++ rest) bad) is h)
 fault_of j p n rest half k Memory e same is h = tt
 
@@ -22,9 +23,17 @@ pub returns-in-Ok-clause-answer : goal.returns-in-Ok-clause-answer
 returns-in-Ok-clause-answer c =
     let a = c.in-Ok.ensures.answer in
     let same : c.in-Some.half.now.name ≡ c.args.name = search rules in
-    inr (inr (c.in-Some.half.now, a.0, sym c.in-Some.ensures.value, same, subst (λ (x : List ℕ). Spells (x ++ c.args.rest.now) a.0) c.as_slice.ensures.value a.1, a.2))
+    inr (inr (
+      c.in-Some.half.now,
+      a.0,
+      sym c.in-Some.ensures.value,
+      same,
+      subst (λ (x : List ℕ). Spells (x ++ c.args.rest.now) a.0) c.as_slice.ensures.value a.1,
+      a.2,
+    ))
 
 pub returns-in-Err-clause-fault : goal.returns-in-Err-clause-fault
 returns-in-Err-clause-fault c =
     let same : c.in-Some.half.now.name ≡ c.args.name = search rules in
-    fault_of c.args.self.now c.args.pid c.args.name c.args.rest.now c.as_slice.result.now c.in-Some.half.now c.in-Err.fault (sym c.in-Some.ensures.value) same c.as_slice.ensures.value c.in-Err.ensures.fault
+    fault_of c.args.self.now c.args.pid c.args.name c.args.rest.now c.as_slice.result.now c.in-Some.half.now c.in-Err.fault
+    (sym c.in-Some.ensures.value) same c.as_slice.ensures.value c.in-Err.ensures.fault

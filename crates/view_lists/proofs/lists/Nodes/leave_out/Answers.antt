@@ -13,9 +13,13 @@ loop-i-preserved-then-has c =
     record {
       room = search rules;
       within = search rules;
-      low = All-removed c.loop-i.self-inside.highest c.loop-i.self-inside.items.items c.remove.new.self.items c.loop-i.i c.loop-i.invariant.low (c.remove.ensures.items);
-      done = subst (λ l. take c.loop-i.i l ++ without c.args.gone.now (drop c.loop-i.i l) ≡ without c.args.gone.now c.args.self.now) (sym c.remove.ensures.items) (removed_done c.args.gone.now xs c.loop-i.i c.index.result.now less at some ∙ c.loop-i.invariant.done);
+      low = All-removed c.loop-i.self-inside.highest c.loop-i.self-inside.items.items c.remove.new.self.items c.loop-i.i
+          c.loop-i.invariant.low (c.remove.ensures.items);
+      done = subst (λ l. take c.loop-i.i l ++ without c.args.gone.now (drop c.loop-i.i l) ≡ without c.args.gone.now
+          c.args.self.now) (sym c.remove.ensures.items)
+          (removed_done c.args.gone.now xs c.loop-i.i c.index.result.now less at some ∙ c.loop-i.invariant.done);
     }
 
 pub returns-then-eq : goal.returns-then-eq
-returns-then-eq c = let same : c.args.self.now ≡ c.args.gone.now = search rules in c.clear.ensures.items ∙ (sym (without_itself c.args.self.now) ∙ ap (λ l. without l c.args.self.now) same)
+returns-then-eq c = let same : c.args.self.now ≡ c.args.gone.now = search rules in
+    c.clear.ensures.items ∙ (sym (without_itself c.args.self.now) ∙ ap (λ l. without l c.args.self.now) same)
