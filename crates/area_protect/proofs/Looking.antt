@@ -11,7 +11,7 @@ use Rattle.page_types.specs.Pages.{page_of, end_page}
 use Rattle.space_model.specs.declared.areas.Area.{Area}
 use Rattle.space_model.specs.declared.entries.Entry.{Entry}
 use Rattle.space_model.specs.History.{StateAfter}
-use Rattle.range_rw.specs.Contract.{Known}
+use Rattle.range_rw.specs.Contract.{SeatState}
 use Rattle.area_rows.specs.declared.guard.Pass.{Pass}
 use Rattle.area_rows.specs.AreaPlans.{IsOneKind}
 use Rattle.area_rows.specs.History.{Runs, StartsWith, whole_count, planned_calls, IsAtRest}
@@ -39,7 +39,7 @@ same_first : (a b : List Entry) (m : ℕ) → StartsWith b a → m ≤ length a 
 same_first a b m f le = ap (take m) f.1 ∙ take-append-le m a f.0 le
 
 -- what was so after so many entries is so of what is seen later
-pub after_on : (a b : Known Pass) (m : ℕ) (what : List Area → Type 0) → b.pass.start ≡ a.pass.start
+pub after_on : (a b : SeatState Pass) (m : ℕ) (what : List Area → Type 0) → b.pass.start ≡ a.pass.start
     → StartsWith b.pass.seen a.pass.seen → m ≤ length a.pass.seen → IsAfter a m what → IsAfter b m what
 after_on a b m what start more le t = (
   t.0,
@@ -48,7 +48,7 @@ after_on a b m what start more le t = (
   t.2,
 )
 
-pub whole_on : (a b : Known Pass) (m n : ℕ) → StartsWith b.pass.seen a.pass.seen → m ≤ length a.pass.seen → HasWhole a m n → HasWhole b m n
+pub whole_on : (a b : SeatState Pass) (m n : ℕ) → StartsWith b.pass.seen a.pass.seen → m ≤ length a.pass.seen → HasWhole a m n → HasWhole b m n
 whole_on a b m n more le t = ap whole_count (same_first a.pass.seen b.pass.seen m more le) ∙ t
 
 -- looks, one after another
@@ -65,7 +65,7 @@ looked_on a b c f g = record {
 }
 
 -- a look shows the state after so many entries, and how many of them are under everything
-pub look_shows : (s u : Known Pass) (found : ℕ) (what : List Area → Type 0) → IsLook s found u → Shows s (λ _ state. what state) → IsAfter u found what
+pub look_shows : (s u : SeatState Pass) (found : ℕ) (what : List Area → Type 0) → IsLook s found u → Shows s (λ _ state. what state) → IsAfter u found what
 look_shows s u found what look shows =
     let all : take found u.pass.seen ≡ u.pass.seen = take_all found u.pass.seen (let c = look.count in omega arith) in
     let run : StateAfter s.pass.start u.pass.seen look.state = (all_legal s.pass.start look.state u.pass.seen look.moment.running.runs).1 in
@@ -75,7 +75,7 @@ look_shows s u found what look shows =
       shows s.pass.start u.pass.seen look.state look.words look.moment,
     )
 
-pub look_counts : (s u : Known Pass) (found n : ℕ) → IsLook s found u → IsAtRest s.pass → CountsWhole s n → HasWhole u found n
+pub look_counts : (s u : SeatState Pass) (found n : ℕ) → IsLook s found u → IsAtRest s.pass → CountsWhole s n → HasWhole u found n
 look_counts s u found n look rest counts =
     let all : take found u.pass.seen ≡ u.pass.seen = take_all found u.pass.seen (let c = look.count in omega arith) in
     let c : n + planned_calls s.pass.pending ≡ whole_count u.pass.seen = counts s.pass.start u.pass.seen look.state look.words look.moment in
@@ -83,7 +83,7 @@ look_counts s u found n look rest counts =
     ap whole_count all ∙ (let e : whole_count u.pass.seen ≡ n = omega arith in e)
 
 -- two different counts are of different lengths
-pub rises : (s : Known Pass) (first second old new : ℕ) → first ≤ second → HasWhole s first old → HasWhole s second new → old ≢ new → first < second
+pub rises : (s : SeatState Pass) (first second old new : ℕ) → first ≤ second → HasWhole s first old → HasWhole s second new → old ≢ new → first < second
 rises s first second old new le f g differ = elim (cases_lt first second) [
   | inl lt ↦ lt
   | inr ge ↦ let same : first ≡ second = omega arith in absurd (differ (sym f ∙ (ap (λ m. whole_count (take m s.pass.seen)) same ∙ g)))

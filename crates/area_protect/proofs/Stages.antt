@@ -16,7 +16,7 @@ use Rattle.space_model.specs.Areas.{kind_at}
 use Rattle.space_model.specs.History.{StateAfter}
 use Rattle.space_model.specs.Held.{HoldsSomeArea}
 use Rattle.lock_core.specs.declared.range.Held.{Held}
-use Rattle.range_rw.specs.Contract.{Known, IsLockCall, IsRelease, Record, client_trace}
+use Rattle.range_rw.specs.Contract.{SeatState, IsLockCall, IsRelease, Record, client_trace}
 use Rattle.area_rows.specs.declared.guard.Pass.{Pass}
 use Rattle.area_rows.specs.declared.guard.Pending.{Pending}
 use Rattle.area_rows.specs.declared.row.Row.{Row}
@@ -48,7 +48,7 @@ other_kind held pages row words state lo hi is from until why one =
     why
 
 -- so at a look under these pages they were not of one kind
-pub other_shown : (seat : Known Pass) (held : Option Held) (h : Held) (page : ℕ) (pages : Span) (row : Row) → held ≡ Some h
+pub other_shown : (seat : SeatState Pass) (held : Option Held) (h : Held) (page : ℕ) (pages : Span) (row : Row) → held ≡ Some h
     → h.range.lo ≡ pages.lo → h.range.hi ≡ pages.hi → page ≡ pages.lo → Shows seat (RowIs held page row) → row.lo ≤ page
     → page < row.hi → (row.kind ≡ None) ⊎ (row.hi < pages.hi)
     → Shows seat (λ _ state. ¬ IsOneKind state pages.lo pages.hi)
@@ -58,7 +58,7 @@ other_shown seat held h page pages row is lo hi first shows from until why start
     (subst (λ n. n < row.hi) first until) why
 
 -- what a numbered call left is written, at the latest by a store of one row
-pub record IsFinished (drawn after : Known Pass) : Type 0 where
+pub record IsFinished (drawn after : SeatState Pass) : Type 0 where
   pub rest : IsAtRest after.pass
   pub start : after.pass.start ≡ drawn.pass.start
   pub seen : after.pass.seen ≡ drawn.pass.seen
@@ -69,7 +69,7 @@ pub record IsFinished (drawn after : Known Pass) : Type 0 where
   pub held : after.held ≡ drawn.held
   pub trace : (after.trace ≡ drawn.trace) ⊎ ((index : ℕ) × (after.trace ≡ client_trace drawn.trace (3 + index)))
 
-pub nothing_to_store : (n : Known Pass) → IsAtRest n.pass → IsFinished n n
+pub nothing_to_store : (n : SeatState Pass) → IsAtRest n.pass → IsFinished n n
 nothing_to_store n rest = record {
   rest = rest;
   start = refl;
@@ -82,7 +82,7 @@ nothing_to_store n rest = record {
   trace = inl refl;
 }
 
-pub stored_one : (n w : Known Pass) (index : ℕ) → IsStoredRow n index w → IsFinished n w
+pub stored_one : (n w : SeatState Pass) (index : ℕ) → IsStoredRow n index w → IsFinished n w
 stored_one n w index s = record {
   rest = s.rest;
   start = s.start;
@@ -149,7 +149,7 @@ called_area b r n w d e line call span pending reading same line_is call_is unde
     }
 
 -- a range that is given back leaves what was seen
-module _ (d e : Known Pass) (release : IsRelease rest_of d e) where
+module _ (d e : SeatState Pass) (release : IsRelease rest_of d e) where
   seen_back : e.pass.seen ≡ d.pass.seen
   seen_back = ap (λ (p : Pass). p.seen) release.pass
 
@@ -217,7 +217,7 @@ held_and_read a b c lock same_b rest reading same_c = record {
 }
 
 -- so many entries are under everything as were at the look before, while the caller holds its area
-pub counts_on : (b c : Known Pass) (n : ℕ) → IsReading b c → CountsWhole b n → CountsWhole c n
+pub counts_on : (b c : SeatState Pass) (n : ℕ) → IsReading b c → CountsWhole b n → CountsWhole c n
 counts_on b c n reading counts start history state words m =
     let same : planned_calls c.pass.pending ≡ planned_calls b.pass.pending = ap planned_calls reading.read.pending in
     let h = counts start history state words (record {
@@ -234,7 +234,7 @@ counts_on b c n reading counts start history state words m =
     omega arith
 
 -- and at the draw they are those before the entry
-pub drawn_counts : (r n : Known Pass) (e : Entry) (pending : Pending) (k : ℕ) → IsDrawn r e pending n → IsAtRest r.pass
+pub drawn_counts : (r n : SeatState Pass) (e : Entry) (pending : Pending) (k : ℕ) → IsDrawn r e pending n → IsAtRest r.pass
     → CountsWhole r k → HasWhole n e.number k
 drawn_counts r n e pending k drawn rest counts =
     let num = drawn.numbered in
@@ -262,5 +262,5 @@ changed_area b r n w d q e span pending reading same rest line_is call_is under 
 }
 
 -- a caller that keeps its range has made no call of the lock
-pub no_lock_call : (a : Known Pass) → IsLockCall a a
+pub no_lock_call : (a : SeatState Pass) → IsLockCall a a
 no_lock_call a = record { table = refl; number = refl; pass = refl; client = refl; taken = omega arith }

@@ -9,7 +9,7 @@ use Rattle.page_types.specs.Named.{IsNamedKind}
 use Rattle.space_model.specs.declared.entries.Entry.{Entry}
 use Rattle.space_model.specs.Areas.{IsInRange}
 use Rattle.space_model.specs.Held.{HoldsSomeArea, IsSimple}
-use Rattle.range_rw.specs.Contract.{Known}
+use Rattle.range_rw.specs.Contract.{SeatState}
 use Rattle.area_rows.specs.declared.guard.Pass.{Pass}
 use Rattle.area_rows.specs.declared.row.Row.{Row}
 use Rattle.area_rows.specs.AreaPlans.{IsOneKind}
@@ -27,7 +27,7 @@ use Rattle.area_protect.specs.declared.steps.Request.{Request}
 use Rattle.area_protect.specs.Looks.{IsAfter, HasWhole, HasLooked, IsLookedAt}
 
 -- a look found an area with all the pages, after so many entries, of which so many were under everything
-pub record IsFound (before after : Known Pass) (pages : Span) (f : Found) : Type 0 where
+pub record IsFound (before after : SeatState Pass) (pages : Span) (f : Found) : Type 0 where
   pub area : IsInRange f.area
   pub from : f.area.lo ≤ pages.lo
   pub until : pages.hi ≤ f.area.hi
@@ -35,7 +35,7 @@ pub record IsFound (before after : Known Pass) (pages : Span) (f : Found) : Type
   pub whole : HasWhole after f.at f.sequence
 
 -- a look found that the pages weren't of one kind after so many entries
-abbrev pub IsOtherKind : Known Pass → Known Pass → Span → ℕ → Type 0
+abbrev pub IsOtherKind : SeatState Pass → SeatState Pass → Span → ℕ → Type 0
 IsOtherKind before after pages at = IsLookedAt before at after × IsAfter after at (λ A. ¬ IsOneKind A pages.lo pages.hi)
 
 -- the caller holds the area that was found, and a page on each side, and has read its row anew; as many entries are

@@ -10,7 +10,7 @@ use Rattle.page_types.specs.PlainReply.{plain_reply}
 use Rattle.space_model.specs.declared.entries.Entry.{Entry}
 use Rattle.space_model.specs.declared.entries.Under.TheVariants.{Whole as Everything}
 use Rattle.space_model.specs.Held.{HoldsSomeArea, IsSimple}
-use Rattle.range_rw.specs.Contract.{Known}
+use Rattle.range_rw.specs.Contract.{SeatState}
 use Rattle.area_rows.specs.declared.guard.Pass.{Pass}
 use Rattle.area_rows.specs.AreaPlans.{IsOneKind}
 use Rattle.area_rows.specs.Callers.{CallerView}
@@ -24,18 +24,18 @@ use Rattle.area_protect.specs.declared.path.Protected.TheVariants.{Given, Spent}
 use Rattle.area_protect.specs.Looks.{IsAfter, HasWhole}
 
 -- after so many entries: no fewer than the caller had seen before the call, and no more than came before its entry
-abbrev pub IsBetween : Known Pass → ℕ → Entry → Type 0
+abbrev pub IsBetween : SeatState Pass → ℕ → Entry → Type 0
 IsBetween before m e = (length before.pass.seen ≤ m) × (m ≤ e.number)
 
 -- why the call had to hold everything, by the history that the caller has seen at the end
-abbrev pub HasCause : Known Pass → Call → ℕ → ℕ → Entry → Known Pass → Cause → Type 0
+abbrev pub HasCause : SeatState Pass → Call → ℕ → ℕ → Entry → SeatState Pass → Cause → Type 0
 HasCause before call lo hi e after (NotOneArea at) = IsBetween before at e × IsAfter after at (λ A. ¬ IsOneKind A lo hi)
 HasCause before call lo hi e after (NotSimple at) = IsBetween before at e × IsAfter after at (λ A. IsOneKind A lo hi × ¬ IsSimple A call)
 HasCause before call lo hi e after (Moved first second old new) = IsBetween before first e × IsBetween before second e
     × (first < second) × HasWhole after first old × HasWhole after second new × (old ≢ new)
 
 -- by which way the call went: free exactly where its arguments decide it
-abbrev pub HasPath : Known Pass → Call → ℕ → ℕ → Entry → Known Pass → Path → Type 0
+abbrev pub HasPath : SeatState Pass → Call → ℕ → ℕ → Entry → SeatState Pass → Path → Type 0
 HasPath before call lo hi e after Free = IsSome (plain_reply call)
 HasPath before call lo hi e after (OverArea seq) = (plain_reply call ≡ None) × HoldsSomeArea e.under × HasWhole after e.number seq
 HasPath before call lo hi e after (Whole cause) = (plain_reply call ≡ None) × (e.under ≡ Everything) × HasCause before call lo hi e after cause

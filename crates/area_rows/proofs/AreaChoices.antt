@@ -33,7 +33,7 @@ use Rattle.space_model.proofs.FourWays.{four_ways, keeps_rows}
 use Rattle.space_model.proofs.MaximalRuns.{maximal_runs}
 use Rattle.space_model.proofs.Simple.{simple_borders}
 use Rattle.lock_core.specs.declared.range.Held.{Held}
-use Rattle.range_rw.specs.Contract.{Known}
+use Rattle.range_rw.specs.Contract.{SeatState}
 use Rattle.area_rows.specs.declared.guard.Change.{Change}
 use Rattle.area_rows.specs.declared.guard.Pass.{Pass}
 use Rattle.area_rows.specs.declared.row.Row.{Row}
@@ -140,7 +140,7 @@ none_of A a row before behind c g differ all first last (last_change lo hi is_be
     last (let l = g.lo in omega arith) at_hi (sym g.right ∙ (ap (kind_at A) (sym at_hi) ∙ is_behind))
 
 -- at a moment of a caller that holds the row and a page on each side, and has read the rows round it
-module _ (seat : Known Pass) (span : Span) (row : Row) (kind : Kind) (before behind : Option Kind) (addr len : ℕ) (prot : Prot)
+module _ (seat : SeatState Pass) (span : Span) (row : Row) (kind : Kind) (before behind : Option Kind) (addr len : ℕ) (prot : Prot)
     (held : seat.held ≡ Some (alone span)) (rest : IsAtRest seat.pass) (round : IsRound row span) (limit : row.hi ≤ LIMIT)
     (is_kind : row.kind ≡ Some kind)
     (read : IsAsRead seat.pass row) (read_before : IsReadBefore seat.pass.rows row.index before)
@@ -421,7 +421,7 @@ module _ (c : CallerView) (span : Span) (row : Row) (kind : Kind) (before behind
       one_store d kept of_d is.1 (other_kind chosen d is.0 is.2) (named_of d of_d old new is.1)
 
 -- the same of a caller that has read the count once more and the kinds beside its row
-pub plan_made : (old a b : Known Pass) (v : CallerView) (span : Span) (row : Row) (kind : Kind) (before behind : Option Kind)
+pub plan_made : (old a b : SeatState Pass) (v : CallerView) (span : Span) (row : Row) (kind : Kind) (before behind : Option Kind)
     (addr len count : ℕ) (prot : Prot) → old.held ≡ Some (alone span) → IsAtRest old.pass → IsRound row span → row.hi ≤ LIMIT
     → row.kind ≡ Some kind → (read : IsAsRead old.pass row)
     → read.count ≤ ROWS → plain_reply (Protect addr len prot) ≡ None → page_of addr < end_page addr len → row.lo ≤ page_of addr

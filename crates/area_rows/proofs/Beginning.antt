@@ -17,7 +17,7 @@ use Rattle.space_model.specs.declared.entries.Entry.{Entry}
 use Rattle.space_model.specs.Areas.{IsAreaList, HasNamedKinds, kind_at, row_count}
 use Rattle.space_model.proofs.AreaKinds.{above_zero}
 use Rattle.lock_core.specs.Grants.{Grants}
-use Rattle.range_rw.specs.Contract.{Known, new_seat, first_passes}
+use Rattle.range_rw.specs.Contract.{SeatState, new_seat, first_passes}
 use Rattle.range_rw.proofs.Lists.{at_removed}
 use Rattle.word_rows.proofs.Rowing.{snoc_all as pushed_all}
 use Rattle.area_rows.specs.declared.guard.Pass.{Pass}
@@ -133,32 +133,33 @@ opens grants start callers words is areas named few most =
     (runs_new start callers areas named few most, backs_new grants (opening_words start) start callers) in
     (start, [], start, both.0, both.1))
 
-abbrev pub caller_with : Known Pass → ℕ → List ℕ → List ℕ → CallerView
+abbrev pub caller_with : SeatState Pass → ℕ → List ℕ → List ℕ → CallerView
 caller_with s left read plan = record { seat = s; left = left; read = read; plan = planned_rows read plan; change = None }
 
 -- before the first caller all seats wait
-pub first_seats : (table : TableId) (p : Pass) (seats : List (Known Pass))
-    → ((k : ℕ) (x : Known Pass) → get_elem? seats k ≡ some x → x ≡ new_seat table (λ (_ : ℕ). p) k) → (k : ℕ) (x : Known Pass)
+pub first_seats : (table : TableId) (p : Pass) (seats : List (SeatState Pass))
+    → ((k : ℕ) (x : SeatState Pass) → get_elem? seats k ≡ some x → x ≡ new_seat table (λ (_ : ℕ). p) k) → (k : ℕ) (x : SeatState Pass)
     → get_elem? seats k ≡ some x → x ≡ new_seat table (λ (_ : ℕ). p) (0 + k)
 first_seats table p seats all k x at = let z : k ≡ 0 + k = omega arith in all k x at ∙ ap (new_seat table (λ (_ : ℕ). p)) z
 
 -- the seat that is next
-pub next_seat : (table : TableId) (p : Pass) (worker : ℕ) (seats : List (Known Pass)) (s : Known Pass)
-    → ((k : ℕ) (x : Known Pass) → get_elem? seats k ≡ some x → x ≡ new_seat table (λ (_ : ℕ). p) (worker + k)) → 0 < length seats
+pub next_seat : (table : TableId) (p : Pass) (worker : ℕ) (seats : List (SeatState Pass)) (s : SeatState Pass)
+    → ((k : ℕ) (x : SeatState Pass) → get_elem? seats k ≡ some x → x ≡ new_seat table (λ (_ : ℕ). p) (worker + k)) → 0 < length seats
     → s ≡ get_or seats 0 s → s ≡ new_seat table (λ (_ : ℕ). p) worker
 next_seat table p worker seats s rest more is = let z : worker + 0 ≡ worker = omega arith in
     rest 0 s (at_index seats 0 s more is) ∙ ap (new_seat table (λ (_ : ℕ). p)) z
 
-pub seats_on : (table : TableId) (p : Pass) (worker : ℕ) (seats left : List (Known Pass))
-    → ((k : ℕ) (x : Known Pass) → get_elem? seats k ≡ some x → x ≡ new_seat table (λ (_ : ℕ). p) (worker + k))
-    → left ≡ remove seats 0 → (k : ℕ) (x : Known Pass) → get_elem? left k ≡ some x
+pub seats_on : (table : TableId) (p : Pass) (worker : ℕ) (seats left : List (SeatState Pass))
+    → ((k : ℕ) (x : SeatState Pass) → get_elem? seats k ≡ some x → x ≡ new_seat table (λ (_ : ℕ). p) (worker + k))
+    → left ≡ remove seats 0 → (k : ℕ) (x : SeatState Pass) → get_elem? left k ≡ some x
     → x ≡ new_seat table (λ (_ : ℕ). p) (worker + 1 + k)
 seats_on table p worker seats left rest is k x at =
     let z : worker + suc k ≡ worker + 1 + k = omega arith in
     rest (suc k) x (sym (at_removed seats k) ∙ (ap (λ l. get_elem? l k) (sym is) ∙ at)) ∙ ap (new_seat table (λ (_ : ℕ). p)) z
 
 -- a caller with a new seat and empty lists
-pub new_caller : (s t : Known Pass) (left : ℕ) (read plan : List ℕ) → s ≡ t → read ≡ [] → plan ≡ [] → caller_with s left read plan ≡ caller_with t left [] []
+pub new_caller : (s t : SeatState Pass) (left : ℕ) (read plan : List ℕ) → s ≡ t → read ≡ [] → plan ≡ []
+    → caller_with s left read plan ≡ caller_with t left [] []
 new_caller s t left read plan e r p = λ k. caller_with (e k) left (r k) (p k)
 
 pub one_caller : (table : TableId) (start : List Area) (calls : List ℕ) (made : List CallerView) (c : CallerView) (n : ℕ)

@@ -16,7 +16,7 @@ use Rattle.page_types.specs.declared.calls.Kind.{Kind}
 use Rattle.lock_core.specs.declared.range.Held.{Held}
 use Rattle.lock_core.specs.Grants.{Grants, Holds, IsExclusive}
 use Rattle.lock_core.specs.Client.{Moment}
-use Rattle.range_rw.specs.Contract.{Known}
+use Rattle.range_rw.specs.Contract.{SeatState}
 use Rattle.space_model.specs.declared.areas.Area.{Area}
 use Rattle.space_model.specs.declared.entries.Entry.{Entry}
 use Rattle.space_model.specs.Areas.{kind_at}
@@ -207,7 +207,7 @@ here_at grants words passes seat held pass m =
 
 -- the moment of a step, as its caller's seat has it
 pub moment_of : (grants : Grants) (words : List ℕ) (passes : List Pass) (seat : ℕ) (here : Here grants words passes seat)
-    (s : Known Pass) → get_elem? grants seat ≡ some s.held → s.number ≡ seat → here.pass ≡ s.pass
+    (s : SeatState Pass) → get_elem? grants seat ≡ some s.held → s.number ≡ seat → here.pass ≡ s.pass
     → IsMoment s s.pass.start here.history here.state words
 moment_of grants words passes seat here s granted n same = record {
   grants = grants;

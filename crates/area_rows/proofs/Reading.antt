@@ -11,7 +11,7 @@ use lib.ListN.{get_elem?}
 use Rattle.space_model.specs.declared.areas.Area.{Area}
 use Rattle.space_model.specs.Areas.{kind_at}
 use Rattle.lock_core.specs.declared.range.Held.{Held}
-use Rattle.range_rw.specs.Contract.{Known}
+use Rattle.range_rw.specs.Contract.{SeatState}
 use Rattle.range_rw.specs.Contract.{Record}
 use Rattle.area_rows.specs.declared.guard.Pass.{Pass}
 use Rattle.row_plans.specs.RowWords.{row_start, row_kind}
@@ -157,7 +157,7 @@ module _ (held : Option Held) (words : List ℕ) (kinds : ℕ → Option Kind) (
         );
   }
 
-row_is : (seat : Known Pass) (held : Option Held) (page count index word hi : ℕ) → seat.held ≡ held → IsHeldPages held
+row_is : (seat : SeatState Pass) (held : Option Held) (page count index word hi : ℕ) → seat.held ≡ held → IsHeldPages held
     → IsAtRest seat.pass → seat.pass.count ≡ Some count → HasRead seat.pass.rows index word → index < count → IsHeldPage held page
     → row_start word ≤ page → page < hi → hi ≤ LIMIT
     → IsRowEnd seat.pass.rows count index hi → Shows seat (RowIs held page (record { index = index; lo = row_start word; hi = hi; kind = row_kind word }))
@@ -174,7 +174,7 @@ row_is seat held page count index word hi same pages rest counted read lt here f
     (⊎_elim (λ t. inl (t.0, t.1, t.3, stands held words m.pass.rows (index + 1) t.1 stood (m.read.rows (index + 1) t.1 t.2))) (λ t. inr t) ends)
     state (shows_held m.grants words state m.passes seat.number m.pass m.exclusive m.backed m.own rested held granted rows.0 rows.1)
 
-shows_row : (seat : Known Pass) (held : Option Held) (page count index word lo hi : ℕ) (kind : Option Kind) → lo ≡ row_start word
+shows_row : (seat : SeatState Pass) (held : Option Held) (page count index word lo hi : ℕ) (kind : Option Kind) → lo ≡ row_start word
     → kind ≡ row_kind word → seat.held ≡ held → IsHeldPages held → IsAtRest seat.pass → seat.pass.count ≡ Some count
     → HasRead seat.pass.rows index word → index < count
     → IsHeldPage held page → row_start word ≤ page → page < hi → hi ≤ LIMIT → IsRowEnd seat.pass.rows count index hi
@@ -193,7 +193,7 @@ keeps_on a b c f g = record {
   pending = g.pending ∙ f.pending;
 }
 
-pub reading_on : (a b c : Known Pass) → IsReading a b → IsReading b c → IsReading a c
+pub reading_on : (a b c : SeatState Pass) → IsReading a b → IsReading b c → IsReading a c
 reading_on a b c f g = record {
   table = g.table ∙ f.table;
   number = g.number ∙ f.number;
@@ -206,7 +206,7 @@ reading_on a b c f g = record {
   read = keeps_on a.pass b.pass c.pass f.read g.read;
 }
 
-pub no_reading : (a : Known Pass) → IsReading a a
+pub no_reading : (a : SeatState Pass) → IsReading a a
 no_reading a = record {
   table = refl;
   number = refl;
@@ -219,10 +219,10 @@ no_reading a = record {
   read = record { count = λ n e. e; rows = λ index word h. h; sequence = λ n e. e; pending = refl };
 }
 
-pub step_taken : (a b : Known Pass) (place : ℕ) (p : Pass) → IsClientStep a place p b → b.trace.taken ≡ a.trace.taken + 1
+pub step_taken : (a b : SeatState Pass) (place : ℕ) (p : Pass) → IsClientStep a place p b → b.trace.taken ≡ a.trace.taken + 1
 step_taken a b place p s = ap (λ (r : Record). r.taken) s.trace
 
-pub step_reads : (a b : Known Pass) (place : ℕ) (p : Pass) → IsClientStep a place p b → p.start ≡ a.pass.start
+pub step_reads : (a b : SeatState Pass) (place : ℕ) (p : Pass) → IsClientStep a place p b → p.start ≡ a.pass.start
     → p.seen ≡ a.pass.seen → p.mine ≡ a.pass.mine → KeepsRead a.pass p → IsReading a b
 step_reads a b place p s x y z k = record {
   table = s.table;
@@ -239,16 +239,16 @@ step_reads a b place p s x y z k = record {
 same_some : (n m : ℕ) → n ≡ m → Some n ≡ Some m
 same_some n m e = ap Some e
 
-pub count_reads : (a b : Known Pass) (n : ℕ) → IsClientStep a 2 (after_count n a.pass) b → ((m : ℕ) → a.pass.count ≡ Some m → n ≡ m) → IsReading a b
+pub count_reads : (a b : SeatState Pass) (n : ℕ) → IsClientStep a 2 (after_count n a.pass) b → ((m : ℕ) → a.pass.count ≡ Some m → n ≡ m) → IsReading a b
 count_reads a b n s again = step_reads a b 2 (after_count n a.pass) s refl refl refl
     (record { count = λ m e. same_some n m (again m e); rows = λ index word h. h; sequence = λ m e. e; pending = refl })
 
-pub row_reads : (a b : Known Pass) (index word : ℕ) → IsClientStep a (3 + index) (after_row index word a.pass) b → IsReading a b
+pub row_reads : (a b : SeatState Pass) (index word : ℕ) → IsClientStep a (3 + index) (after_row index word a.pass) b → IsReading a b
 row_reads a b index word s = step_reads a b (3 + index) (after_row index word a.pass) s refl refl refl
     (record { count = λ n e. e; rows = λ i w h. inr h; sequence = λ n e. e; pending = refl })
 
 -- what a range has shown lasts while the caller reads more rows
-pub shows_on : (a b : Known Pass) (what : List ℕ → List Area → Type 0) → IsReading a b → Shows a what → Shows b what
+pub shows_on : (a b : SeatState Pass) (what : List ℕ → List Area → Type 0) → IsReading a b → Shows a what → Shows b what
 shows_on a b what r shows start history state words m = shows start history state words (record {
   grants = m.grants;
   passes = m.passes;
@@ -262,7 +262,7 @@ shows_on a b what r shows start history state words m = shows start history stat
 })
 
 -- the row before one that starts above the page
-pub found_row : (old new : Known Pass) (held : Option Held) (page count index word next lo hi : ℕ) (kind : Option Kind)
+pub found_row : (old new : SeatState Pass) (held : Option Held) (page count index word next lo hi : ℕ) (kind : Option Kind)
     → IsClientStep old (3 + (index + 1)) (after_row (index + 1) next old.pass) new → lo ≡ row_start word → kind ≡ row_kind word
     → hi ≡ row_start next → new.held ≡ held → IsHeldPages held
     → IsAtRest old.pass → old.pass.count ≡ Some count → HasRead old.pass.rows index word → index + 1 < count
@@ -276,7 +276,7 @@ found_row old new held page count index word next lo hi kind step l k h same pag
     (inl (lt, next, subst (λ r. HasRead r (index + 1) next) rows (inl (refl, refl)), h))
 
 -- the last row
-pub last_row : (seat : Known Pass) (held : Option Held) (page count index word lo : ℕ) (kind : Option Kind) → lo ≡ row_start word
+pub last_row : (seat : SeatState Pass) (held : Option Held) (page count index word lo : ℕ) (kind : Option Kind) → lo ≡ row_start word
     → kind ≡ row_kind word → seat.held ≡ held → IsHeldPages held → IsAtRest seat.pass → IsHeldPage held page
     → seat.pass.count ≡ Some count → HasRead seat.pass.rows index word → index < count → ¬ (index + 1 < count)
     → row_start word ≤ page → Shows seat (RowIs held page (record { index = index; lo = lo; hi = LIMIT; kind = kind }))
@@ -285,7 +285,7 @@ last_row seat held page count index word lo kind l k same pages rest h counted r
     (below_end held page pages h) (omega arith) (inr (omega arith, refl))
 
 -- the ends of a row as they were read
-pub found_read : (old new : Known Pass) (count index word next lo hi : ℕ) (kind : Option Kind)
+pub found_read : (old new : SeatState Pass) (count index word next lo hi : ℕ) (kind : Option Kind)
     → IsClientStep old (3 + (index + 1)) (after_row (index + 1) next old.pass) new → lo ≡ row_start word → kind ≡ row_kind word
     → hi ≡ row_start next
     → old.pass.count ≡ Some count → HasRead old.pass.rows index word → index + 1 < count
@@ -303,7 +303,7 @@ found_read old new count index word next lo hi kind step l k h counted read lt =
       hi = inl (lt, next, subst (λ r. HasRead r (index + 1) next) rows (inl (refl, refl)), h);
     }
 
-pub last_read : (seat : Known Pass) (count index word lo : ℕ) (kind : Option Kind) → lo ≡ row_start word → kind ≡ row_kind word
+pub last_read : (seat : SeatState Pass) (count index word lo : ℕ) (kind : Option Kind) → lo ≡ row_start word → kind ≡ row_kind word
     → seat.pass.count ≡ Some count → HasRead seat.pass.rows index word → index < count → ¬ (index + 1 < count)
     → IsAsRead seat.pass (record { index = index; lo = lo; hi = LIMIT; kind = kind })
 last_read seat count index word lo kind l k counted read lt not_more =
@@ -319,11 +319,11 @@ last_read seat count index word lo kind l k counted read lt not_more =
     }
 
 -- the kinds of the rows beside a row, as they are read now
-pub before_read : (a b : Known Pass) (index word : ℕ) (kind : Option Kind) → 0 < index → kind ≡ row_kind word
+pub before_read : (a b : SeatState Pass) (index word : ℕ) (kind : Option Kind) → 0 < index → kind ≡ row_kind word
     → IsClientStep a (3 + (index - 1)) (after_row (index - 1) word a.pass) b → IsReadBefore b.pass.rows index kind
 before_read a b index word kind more is s = inr (more, word, subst (λ (p : Pass). HasRead p.rows (index - 1) word) (sym s.pass) (inl (refl, refl)), is)
 
-pub behind_read : (a b : Known Pass) (count index word : ℕ) (kind : Option Kind) → index + 1 < count → kind ≡ row_kind word
+pub behind_read : (a b : SeatState Pass) (count index word : ℕ) (kind : Option Kind) → index + 1 < count → kind ≡ row_kind word
     → IsClientStep a (3 + (index + 1)) (after_row (index + 1) word a.pass) b → IsReadBehind b.pass.rows count index kind
 behind_read a b count index word kind more is s = inr (more, word, subst (λ (p : Pass). HasRead p.rows (index + 1) word) (sym s.pass) (inl (refl, refl)), is)
 

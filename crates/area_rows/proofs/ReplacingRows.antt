@@ -13,7 +13,7 @@ use Rattle.page_types.specs.declared.calls.Kind.{Kind}
 use Rattle.page_types.specs.declared.pages.Span.{Span}
 use Rattle.lock_core.specs.declared.range.Held.{Held}
 use Rattle.lock_core.specs.Client.{stores, IsAllowed, IsMade}
-use Rattle.range_rw.specs.Contract.{Known, IsClientCall}
+use Rattle.range_rw.specs.Contract.{SeatState, IsClientCall}
 use Rattle.area_rows.specs.declared.guard.Change.{Change}
 use Rattle.area_rows.specs.declared.guard.Note.{Note}
 use Rattle.area_rows.specs.declared.guard.Pass.{Pass}
@@ -207,7 +207,7 @@ place_in c row before behind pages some_page (first_part index at same_kind lo h
 place_in c row before behind pages some_page (last_part index at new lo hi is_behind_new) = (omega arith, omega arith)
 
 -- so the change may be stored
-module _ (words : List ℕ) (kinds : ℕ → Option Kind) (s : RowsShow words kinds) (c : Change) (seat : Known Pass)
+module _ (words : List ℕ) (kinds : ℕ → Option Kind) (s : RowsShow words kinds) (c : Change) (seat : SeatState Pass)
     (r : IsReadRound seat c) (inside : IsInside c) (stood : All (StillStands (Some (alone c.span)) words) seat.pass.rows)
     (counts : slice_index words 2 ≡ r.read.count) (from : r.row.lo ≤ c.place.lo) (until : c.place.hi ≤ r.row.hi) where
   named_word : row_start (new_word c) ≡ c.start
@@ -337,25 +337,25 @@ module _ (words : List ℕ) (kinds : ℕ → Option Kind) (s : RowsShow words ki
   may_replace = may_by r.store (there_is r.store)
 
 -- a change starts below the limit, at a row that there is room for
-low_start : (s : Known Pass) (c : Change) (r : IsReadRound s c) → IsOneStore r.row r.before r.behind c → c.start < LIMIT
+low_start : (s : SeatState Pass) (c : Change) (r : IsReadRound s c) → IsOneStore r.row r.before r.behind c → c.start < LIMIT
 low_start s c r (whole index at new lo hi not_before not_behind) = let p = r.pages in let l = r.limit in omega arith
 low_start s c r (first_part index at same_kind lo hi is_before) = let l = r.limit in omega arith
 low_start s c r (last_part index at new lo hi is_behind) = let o = c.place.ordered in let l = r.limit in omega arith
 
-pub start_low : (s : Known Pass) (c : Change) → IsReadRound s c → c.start < LIMIT
+pub start_low : (s : SeatState Pass) (c : Change) → IsReadRound s c → c.start < LIMIT
 start_low s c r = low_start s c r r.store
 
-low_index : (s : Known Pass) (c : Change) (r : IsReadRound s c) → IsOneStore r.row r.before r.behind c → c.index < ROWS
+low_index : (s : SeatState Pass) (c : Change) (r : IsReadRound s c) → IsOneStore r.row r.before r.behind c → c.index < ROWS
 low_index s c r (whole index at new lo hi not_before not_behind) = let t = r.read.there in let f = r.few in omega arith
 low_index s c r (first_part index at same_kind lo hi is_before) = let t = r.read.there in let f = r.few in omega arith
 low_index s c r (last_part index at new lo hi is_behind) = let f = r.few in
     ⊎_elim (λ t. absurd (some_none c.new r.behind t.1 is_behind)) (λ t. let n = t.0 in omega arith) r.read_behind
 
-pub index_low : (s : Known Pass) (c : Change) → IsReadRound s c → c.index < ROWS
+pub index_low : (s : SeatState Pass) (c : Change) → IsReadRound s c → c.index < ROWS
 index_low s c r = low_index s c r r.store
 
 -- the guard allows the store of a change
-pub may_store_change : (note : Note) (s : Known Pass) (c : Change) → s.pass.pending ≡ OneRow c → IsReadRound s c
+pub may_store_change : (note : Note) (s : SeatState Pass) (c : Change) → s.pass.pending ≡ OneRow c → IsReadRound s c
     → (index word : ℕ) → c.index ≡ index → word ≡ new_word c
     → IsAllowed HasHistory Allowed note s.number s.held s.pass (stores (3 + index) word)
 may_store_change note s c pends r index word at is grants words passes m there small =
@@ -383,7 +383,7 @@ row_changed : (words : List ℕ) (pending : Pending) (c : Change) (place word : 
     → MayWrite words pending place word p after → after ≡ after_change p
 row_changed words pending c place word p after is may = (subst (λ (q : Pending). MayWrite words q place word p after) is may).3
 
-pub change_stored : (s u : Known Pass) (c : Change) (index word : ℕ) → s.pass.pending ≡ OneRow c → IsClientCall s (3 + index) u
+pub change_stored : (s u : SeatState Pass) (c : Change) (index word : ℕ) → s.pass.pending ≡ OneRow c → IsClientCall s (3 + index) u
     → ((found : ℕ) × IsMade HasHistory Allowed no_note s.number s.held s.pass (stores (3 + index) word) found u.pass)
     → IsClientStep s (3 + index) (after_change s.pass) u
 change_stored s u c index word pends call made =
@@ -400,7 +400,7 @@ change_stored s u c index word pends call made =
     }
 
 -- and all is written then
-pub row_written : (s u : Known Pass) (index : ℕ) → IsClientStep s (3 + index) (after_change s.pass) u → IsStoredRow s index u
+pub row_written : (s u : SeatState Pass) (index : ℕ) → IsClientStep s (3 + index) (after_change s.pass) u → IsStoredRow s index u
 row_written s u index step = record {
   rest = ap (λ (x : Pass). x.pending) step.pass;
   start = ap (λ (x : Pass). x.start) step.pass;

@@ -8,7 +8,7 @@ use Rattle.page_types.specs.Named.{IsNamedCall}
 use Rattle.lock_core.specs.declared.range.Held.{Held}
 use Rattle.lock_core.specs.Grants.{Grants}
 use Rattle.lock_core.specs.Client.{loads, adds, IsAllowed, IsMade}
-use Rattle.range_rw.specs.Contract.{Known, IsClientCall}
+use Rattle.range_rw.specs.Contract.{SeatState, IsClientCall}
 use Rattle.space_model.specs.declared.areas.Area.{Area}
 use Rattle.space_model.specs.declared.entries.Entry.{Entry}
 use Rattle.space_model.specs.declared.entries.Under.{Under}
@@ -106,7 +106,7 @@ module _ (note : Note) (seat : ℕ) (held : Option Held) (pass : Pass) where
     ),
   )
 
-  pub may_draw : (s : Known Pass) → s.number ≡ seat → s.held ≡ held → s.pass ≡ pass → length pass.mine + 1 < 2 ^ 32
+  pub may_draw : (s : SeatState Pass) → s.number ≡ seat → s.held ≡ held → s.pass ≡ pass → length pass.mine + 1 < 2 ^ 32
       → IsNamedCall note.call → IsAtRest pass → HoldsFor held note.under
       → Shows s (λ (words : List ℕ) (state : List Area). (left : List Area) × IsRight state note.call note.reply note.under left
       × Leaves state note.under note.pending left) → IsAllowed HasHistory Allowed note seat held pass (adds 0 1)
@@ -190,7 +190,7 @@ module _ (note : Note) (seat : ℕ) (held : Option Held) (pass : Pass) where
         here.exclusive here.own holds (ap (λ (x : Pass). x.pending) same ∙ rest) counted word in
         row_list rows here.state are.0 are.1
 
-    drawn_as : (t u : Known Pass) → t.number ≡ seat → t.held ≡ held → t.pass ≡ pass → u.pass ≡ after → IsClientCall t 0 u
+    drawn_as : (t u : SeatState Pass) → t.number ≡ seat → t.held ≡ held → t.pass ≡ pass → u.pass ≡ after → IsClientCall t 0 u
         → (s : IsMade HasHistory Allowed note seat held pass (adds 0 1) found after) → MayAdd s.0 s.1 s.2 seat note s.5.1 0 after
         → IsDrawn t (entry_of found seat note) note.pending u
     drawn_as t u n h p q call s (raise rows e pends written is) = absurd (omega arith)
@@ -235,12 +235,12 @@ module _ (note : Note) (seat : ℕ) (held : Option Held) (pass : Pass) where
           trace = call.trace;
         }
 
-    pub draws : (t u : Known Pass) → t.number ≡ seat → t.held ≡ held → t.pass ≡ pass → u.pass ≡ after → IsClientCall t 0 u
+    pub draws : (t u : SeatState Pass) → t.number ≡ seat → t.held ≡ held → t.pass ≡ pass → u.pass ≡ after → IsClientCall t 0 u
         → IsMade HasHistory Allowed note seat held pass (adds 0 1) found after
         → IsDrawn t (entry_of found seat note) note.pending u
     draws t u n h p q call s = drawn_as t u n h p q call s s.5.2
 
-pub look_is : (s u : Known Pass) (found : ℕ) → IsClientCall s 0 u
+pub look_is : (s u : SeatState Pass) (found : ℕ) → IsClientCall s 0 u
     → IsMade HasHistory Allowed no_note s.number s.held s.pass (loads 0) found u.pass → IsLook s found u
 look_is s u found call made =
     let m = made.3 in let here = made.5.0 in
@@ -272,7 +272,7 @@ keeps_all : (p : Pass) → KeepsRead p p
 keeps_all p = record { count = λ k e. e; rows = λ index word h. h; sequence = λ k e. e; pending = refl }
 
 -- how many entries are under everything, by the sequence word that a caller remembers
-counts_whole : (u : Known Pass) (found : ℕ) → u.pass.sequence ≡ Some found → IsSome u.held → IsHeldPages u.held → CountsWhole u found
+counts_whole : (u : SeatState Pass) (found : ℕ) → u.pass.sequence ≡ Some found → IsSome u.held → IsHeldPages u.held → CountsWhole u found
 counts_whole u found known some_held pages start history state words m =
     let part = m.running.parts u.number m.pass m.own in
     let word : slice_index words 1 ≡ found = part.sequence found (m.read.sequence found known) in
@@ -282,7 +282,7 @@ counts_whole u found known some_held pages start history state words m =
     let s = m.running.sequence in
     omega arith
 
-pub sequence_is : (s u : Known Pass) (found : ℕ) → IsHeldPages s.held → IsClientCall s 1 u
+pub sequence_is : (s u : SeatState Pass) (found : ℕ) → IsHeldPages s.held → IsClientCall s 1 u
     → IsMade HasHistory Allowed no_note s.number s.held s.pass (loads 1) found u.pass
     → IsReading s u × (IsSome s.held → CountsWhole u found)
 sequence_is s u found pages call made =
@@ -334,7 +334,7 @@ writes_plan before after e under read plan d whole has =
     }
 
 -- what was read round a change is read still where the range and the rows are the same
-pub round_on : (a b : Known Pass) (change : Change) → b.held ≡ a.held → b.pass.count ≡ a.pass.count → b.pass.rows ≡ a.pass.rows
+pub round_on : (a b : SeatState Pass) (change : Change) → b.held ≡ a.held → b.pass.count ≡ a.pass.count → b.pass.rows ≡ a.pass.rows
     → IsReadRound a change → IsReadRound b change
 round_on a b change same_held same_count same_rows r =
     let read = r.read in

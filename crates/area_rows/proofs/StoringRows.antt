@@ -9,7 +9,7 @@ use native.Mathlib.Decide.{ℕ_discrete}
 use Rattle.lock_core.specs.declared.range.Held.{Held}
 use Rattle.lock_core.specs.Grants.{Grants}
 use Rattle.lock_core.specs.Client.{stores, adds, IsAllowed, IsMade}
-use Rattle.range_rw.specs.Contract.{Known, IsClientCall}
+use Rattle.range_rw.specs.Contract.{SeatState, IsClientCall}
 use Rattle.range_rw.specs.Contract.{Record}
 use Rattle.space_model.specs.Areas.{kind_at}
 use Rattle.area_rows.specs.declared.guard.ReadRow.{ReadRow}
@@ -94,10 +94,10 @@ of_plan : (words : List ℕ) (pending : Pending) (plan : List ℕ) (place value 
     → MayWrite words pending place value p after → MayStore plan place value p after
 of_plan words pending plan place value p after is may = subst (λ (q : Pending). MayWrite words q place value p after) is may
 
-step_of : (s u : Known Pass) (place : ℕ) (p : Pass) → IsClientCall s place u → u.pass ≡ p → IsClientStep s place p u
+step_of : (s u : SeatState Pass) (place : ℕ) (p : Pass) → IsClientCall s place u → u.pass ≡ p → IsClientStep s place p u
 step_of s u place p call is = record { table = call.table; number = call.number; held = call.held; pools = call.pools; pass = is; trace = call.trace }
 
-module _ (s u : Known Pass) (plan : List ℕ) (planned : s.pass.pending ≡ Planned plan) (value : ℕ) where
+module _ (s u : SeatState Pass) (plan : List ℕ) (planned : s.pass.pending ≡ Planned plan) (value : ℕ) where
   pub row_stored : (index : ℕ) → IsClientCall s (3 + index) u
       → ((found : ℕ) × IsMade HasHistory Allowed no_note s.number s.held s.pass (stores (3 + index) value) found u.pass)
       → IsClientStep s (3 + index) (after_store index value s.pass) u
@@ -123,7 +123,7 @@ raise_after : (grants : Grants) (words : List ℕ) (passes : List Pass) (worker 
 raise_after grants words passes worker here after (draw e d is) = absurd (omega arith)
 raise_after grants words passes worker here after (raise rows e pends written is) = is
 
-pub sequence_raised : (s u : Known Pass) (found : ℕ) → IsClientCall s 1 u
+pub sequence_raised : (s u : SeatState Pass) (found : ℕ) → IsClientCall s 1 u
     → IsMade HasHistory Allowed no_note s.number s.held s.pass (adds 1 1) found u.pass → IsClientStep s 1 (after_raise s.pass) u
 sequence_raised s u found call made =
     let m = made.3 in let here = made.5.1 in
@@ -161,7 +161,7 @@ mixed_same rows old plan index m there same = record {
 }
 
 -- steps of writing, one after another
-pub writing_on : (a b c : Known Pass) → IsWriting a b → IsWriting b c → IsWriting a c
+pub writing_on : (a b c : SeatState Pass) → IsWriting a b → IsWriting b c → IsWriting a c
 writing_on a b c f g = record {
   table = g.table ∙ f.table;
   number = g.number ∙ f.number;
@@ -175,7 +175,7 @@ writing_on a b c f g = record {
   taken = let l = f.taken in let m = g.taken in omega arith;
 }
 
-pub no_writing : (a : Known Pass) → IsWriting a a
+pub no_writing : (a : SeatState Pass) → IsWriting a a
 no_writing a = record {
   table = refl;
   number = refl;
@@ -189,10 +189,10 @@ no_writing a = record {
   taken = omega arith;
 }
 
-step_more : (a b : Known Pass) (place : ℕ) (p : Pass) → IsClientStep a place p b → a.trace.taken ≤ b.trace.taken
+step_more : (a b : SeatState Pass) (place : ℕ) (p : Pass) → IsClientStep a place p b → a.trace.taken ≤ b.trace.taken
 step_more a b place p s = let l : b.trace.taken ≡ a.trace.taken + 1 = ap (λ (r : Record). r.taken) s.trace in omega arith
 
-pub store_writes : (a b : Known Pass) (index value : ℕ) → IsClientStep a (3 + index) (after_store index value a.pass) b → IsWriting a b
+pub store_writes : (a b : SeatState Pass) (index value : ℕ) → IsClientStep a (3 + index) (after_store index value a.pass) b → IsWriting a b
 store_writes a b index value s = record {
   table = s.table;
   number = s.number;
@@ -206,7 +206,7 @@ store_writes a b index value s = record {
   taken = step_more a b (3 + index) (after_store index value a.pass) s;
 }
 
-pub count_writes : (a b : Known Pass) (value : ℕ) → IsClientStep a 2 (after_count value a.pass) b → IsWriting a b
+pub count_writes : (a b : SeatState Pass) (value : ℕ) → IsClientStep a 2 (after_count value a.pass) b → IsWriting a b
 count_writes a b value s = record {
   table = s.table;
   number = s.number;
@@ -221,7 +221,7 @@ count_writes a b value s = record {
 }
 
 -- all is written where the sequence word is raised behind the rows
-pub all_written : (a b c : Known Pass) → IsWriting a b → IsClientStep b 1 (after_raise b.pass) c → IsWritten a c
+pub all_written : (a b c : SeatState Pass) → IsWriting a b → IsClientStep b 1 (after_raise b.pass) c → IsWritten a c
 all_written a b c w s = record {
   rest = ap (λ (x : Pass). x.pending) s.pass;
   step = b.trace.taken;

@@ -15,7 +15,7 @@ use Rattle.space_model.specs.declared.entries.Entry.{Entry}
 use Rattle.space_model.specs.declared.entries.Under.TheVariants.{Nothing, Whole}
 use Rattle.space_model.specs.Answers.Answers.{by_arguments}
 use Rattle.space_model.specs.Held.{FitsByState}
-use Rattle.range_rw.specs.Contract.{Known, IsLockCall, IsRelease}
+use Rattle.range_rw.specs.Contract.{SeatState, IsLockCall, IsRelease}
 use Rattle.range_rw.specs.Contract.{Record}
 use Rattle.area_rows.specs.declared.guard.Pass.{Pass}
 use Rattle.area_rows.specs.declared.guard.Pending.{Pending}
@@ -111,7 +111,7 @@ none_read c count rest counted positive few empty = record {
   list = λ e. absurd (omega arith);
 }
 
-one_read : (old new : Known Pass) (index word : ℕ) (read : List ℕ)
+one_read : (old new : SeatState Pass) (index word : ℕ) (read : List ℕ)
     → IsClientStep old (3 + index) (after_row index word old.pass) new → length read ≡ index
     → ((i : ℕ) → i < index → HasRead old.pass.rows i (slice_index read i)) → (i : ℕ) → i < index + 1
     → HasRead new.pass.rows i (slice_index (read ++ word ∷ []) i)
@@ -142,13 +142,13 @@ one_more_read before old mid new count index word s lt held step left read whole
     record {
       reading = subst (IsReading before.seat) (sym same) (reading_on before.seat old.seat mid.seat s.reading (row_reads old.seat mid.seat index word step));
       left = same_left ∙ (left ∙ s.left);
-      rest = subst (λ (k : Known Pass). IsAtRest k.pass) (sym same) (ap (λ (p : Pass). p.pending) step.pass ∙ s.rest);
-      counted = subst (λ (k : Known Pass). k.pass.count ≡ Some count) (sym same) counted;
+      rest = subst (λ (k : SeatState Pass). IsAtRest k.pass) (sym same) (ap (λ (p : Pass). p.pending) step.pass ∙ s.rest);
+      counted = subst (λ (k : SeatState Pass). k.pass.count ≡ Some count) (sym same) counted;
       some = s.some;
       few = s.few;
       bound = omega arith;
       wide = wide;
-      rows = λ i below. subst (λ (k : Known Pass). HasRead k.pass.rows i (slice_index new.read i)) (sym same) (rows i below);
+      rows = λ i below. subst (λ (k : SeatState Pass). HasRead k.pass.rows i (slice_index new.read i)) (sym same) (rows i below);
       list = λ all. whole held new.read (counted ∙ ap Some (sym all ∙ sym wide), λ i below. rows i (omega arith));
     }
 
@@ -201,7 +201,7 @@ called_from a b c e line call free lock same called =
     }
 
 -- holding, numbering, writing and giving back are one numbering
-pub numbered_whole : (a b p n w d : Known Pass) (e : Entry) (pending : Pending) → a.held ≡ None → IsLockCall a b → IsReading b p
+pub numbered_whole : (a b p n w d : SeatState Pass) (e : Entry) (pending : Pending) → a.held ≡ None → IsLockCall a b → IsReading b p
     → IsDrawn p e pending n → IsWritten n w → IsRelease rest_of w d → IsNumbered a e d
 numbered_whole a b p n w d e pending free call reading drawn written release =
     let num = drawn.numbered in
@@ -225,7 +225,7 @@ numbered_whole a b p n w d e pending free call reading drawn written release =
     }
 
 -- and its last step on a client word raised the sequence word
-pub last_whole : (a b p n w d : Known Pass) (e : Entry) (pending : Pending) → IsLockCall a b → IsReading b p
+pub last_whole : (a b p n w d : SeatState Pass) (e : Entry) (pending : Pending) → IsLockCall a b → IsReading b p
     → IsDrawn p e pending n → IsWritten n w → IsRelease rest_of w d → IsLastStep a Whole d
 last_whole a b p n w d e pending call reading drawn written release = record {
   place = 1;
@@ -239,7 +239,7 @@ last_whole a b p n w d e pending call reading drawn written release = record {
 }
 
 -- a draw is the last step of a call under nothing
-pub last_drawn : (a n : Known Pass) (e : Entry) (pending : Pending) → IsDrawn a e pending n → IsLastStep a Nothing n
+pub last_drawn : (a n : SeatState Pass) (e : Entry) (pending : Pending) → IsDrawn a e pending n → IsLastStep a Nothing n
 last_drawn a n e pending drawn = record {
   place = 0;
   step = a.trace.taken;

@@ -7,7 +7,7 @@ use Rattle.page_types.specs.Named.{IsNamedReply}
 use Rattle.space_model.specs.declared.entries.Entry.{Entry}
 use Rattle.space_model.specs.declared.entries.Under.{Under}
 use Rattle.space_model.specs.declared.entries.Under.TheVariants.{Nothing, Reader, Area, Whole}
-use Rattle.range_rw.specs.Contract.{Known}
+use Rattle.range_rw.specs.Contract.{SeatState}
 use Rattle.area_rows.specs.declared.guard.Pass.{Pass}
 use Rattle.area_rows.specs.declared.answer.Answer.{Answer}
 use Rattle.area_rows.specs.declared.answer.Answer.TheVariants.{Given, Spent}
@@ -24,7 +24,7 @@ IsLastPlace Whole place = place ≡ 1
 
 -- the last step that the caller made on a client word was made in this call, on that word: it has a number not below
 -- that of the steps at the call's entry
-pub record IsLastStep (before : Known Pass) (under : Under) (after : Known Pass) : Type 0 where
+pub record IsLastStep (before : SeatState Pass) (under : Under) (after : SeatState Pass) : Type 0 where
   pub place : ℕ
   pub step : ℕ
   pub word : IsLastPlace under place

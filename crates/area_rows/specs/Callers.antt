@@ -20,7 +20,7 @@ use Rattle.page_types.specs.declared.calls.Reply.{Reply}
 use Rattle.page_types.specs.declared.pages.Span.{Span}
 use Rattle.page_types.specs.declared.calls.Kind.{Kind}
 use Rattle.page_types.specs.Named.{IsNamedKind}
-use Rattle.range_rw.specs.Contract.{Known, IsSeatCount, new_seat}
+use Rattle.range_rw.specs.Contract.{SeatState, IsSeatCount, new_seat}
 use Rattle.range_rw.specs.Contract.{client_trace}
 use Rattle.area_rows.specs.declared.guard.Change.{Change}
 use Rattle.area_rows.specs.declared.guard.ReadRow.{ReadRow}
@@ -44,7 +44,7 @@ use Rattle.area_rows.specs.History.{HoldsFor}
 -- the row words that it read for its last plan, and those that this plan leaves; and the row that its last plan over an
 -- area changes, if any
 pub record CallerView : Type 0 where
-  pub seat : Known Pass
+  pub seat : SeatState Pass
   pub left : ℕ
   pub read : List ℕ
   pub plan : List ℕ
@@ -82,7 +82,7 @@ pub record KeepsRead (old new : Pass) : Type 0 where
 
 -- a moment of the running space, at which its history is this one and leaves this state: the caller of this seat
 -- holds its range there and has read what it has read, or more, and no two held ranges conflict
-pub record IsMoment (seat : Known Pass) (start : List Area) (history : List Entry) (state : List Area) (words : List ℕ) : Type 0 where
+pub record IsMoment (seat : SeatState Pass) (start : List Area) (history : List Entry) (state : List Area) (words : List ℕ) : Type 0 where
   pub grants : Grants
   pub passes : List Pass
   pub pass : Pass
@@ -94,12 +94,12 @@ pub record IsMoment (seat : Known Pass) (start : List Area) (history : List Entr
   pub read : KeepsRead seat.pass pass
 
 -- it is so at every moment at which the caller of this seat holds its range and has read what it has read
-abbrev pub Shows : Known Pass → (List ℕ → List Area → Type 0) → Type 0
+abbrev pub Shows : SeatState Pass → (List ℕ → List Area → Type 0) → Type 0
 Shows seat what = (start : List Area) (history : List Entry) (state : List Area) (words : List ℕ) → IsMoment seat start history state words → what words state
 
 -- so many entries of the history were numbered under everything, the caller's own aside where it isn't written yet, at
 -- every moment at which the caller of this seat holds its range and has read what it has read
-abbrev pub CountsWhole : Known Pass → ℕ → Type 0
+abbrev pub CountsWhole : SeatState Pass → ℕ → Type 0
 CountsWhole seat n = (start : List Area) (history : List Entry) (state : List Area) (words : List ℕ)
     → IsMoment seat start history state words → n + planned_calls seat.pass.pending ≡ whole_count history
 
@@ -164,7 +164,7 @@ IsReadBehind rows count index kind = ((index + 1 ≡ count) × (kind ≡ None))
 
 -- a caller holds an area and a page on each side as a writer, has read the area's row and those on both sides, and the
 -- change is one store on one of them
-pub record IsReadRound (seat : Known Pass) (change : Change) : Type 0 where
+pub record IsReadRound (seat : SeatState Pass) (change : Change) : Type 0 where
   pub row : Row
   pub before : Option Kind
   pub behind : Option Kind
@@ -188,7 +188,7 @@ pub record HasToStore (c : CallerView) (change : Change) : Type 0 where
 
 -- the one row that a call over its area left is stored, by one step; all is written, and what the caller holds, has
 -- seen and has numbered is as before, and its pools are
-pub record IsStoredRow (before : Known Pass) (index : ℕ) (after : Known Pass) : Type 0 where
+pub record IsStoredRow (before : SeatState Pass) (index : ℕ) (after : SeatState Pass) : Type 0 where
   pub rest : IsAtRest after.pass
   pub start : after.pass.start ≡ before.pass.start
   pub seen : after.pass.seen ≡ before.pass.seen
@@ -231,7 +231,7 @@ abbrev pub AreIdle : TableId → List CallerView → Type 0
 AreIdle table callers = (k : ℕ) (c : CallerView) → get_elem? callers k ≡ some c → (c.seat.table ≡ table) × (c.seat.number ≡ k) × (c.seat.held ≡ None)
 
 -- one step on the client word of that place, which left this pass: the seat holds what it held, and its pools stay
-pub record IsClientStep (before : Known Pass) (place : ℕ) (left_pass : Pass) (after : Known Pass) : Type 0 where
+pub record IsClientStep (before : SeatState Pass) (place : ℕ) (left_pass : Pass) (after : SeatState Pass) : Type 0 where
   pub table : after.table ≡ before.table
   pub number : after.number ≡ before.number
   pub held : after.held ≡ before.held
@@ -241,7 +241,7 @@ pub record IsClientStep (before : Known Pass) (place : ℕ) (left_pass : Pass) (
 
 -- steps that read words: the seat holds what it held, has seen and numbered what it had, and keeps what it had read and
 -- its pools
-pub record IsReading (before after : Known Pass) : Type 0 where
+pub record IsReading (before after : SeatState Pass) : Type 0 where
   pub table : after.table ≡ before.table
   pub number : after.number ≡ before.number
   pub held : after.held ≡ before.held
@@ -254,7 +254,7 @@ pub record IsReading (before after : Known Pass) : Type 0 where
 
 -- a look at the number word: at a moment of the running space the caller sees the history so far, and it keeps what
 -- it has read; so what its range has shown is so of the state that this history leaves
-pub record IsLook (before : Known Pass) (found : ℕ) (after : Known Pass) : Type 0 where
+pub record IsLook (before : SeatState Pass) (found : ℕ) (after : SeatState Pass) : Type 0 where
   pub state : List Area
   pub words : List ℕ
   pub moment : IsMoment before before.pass.start after.pass.seen state words
@@ -265,7 +265,7 @@ pub record IsLook (before : Known Pass) (found : ℕ) (after : Known Pass) : Typ
 -- a call got the next number. The history before the entry begins with what the caller had seen before the call, the
 -- entry is right at the state that this history leaves, and the caller sees it at the end and stores it. At the step
 -- that drew its last number, which is this one, the caller held what the entry names
-pub record IsNumbered (before : Known Pass) (e : Entry) (after : Known Pass) : Type 0 where
+pub record IsNumbered (before : SeatState Pass) (e : Entry) (after : SeatState Pass) : Type 0 where
   pub history : List Entry
   pub state : List Area
   pub more : StartsWith history before.pass.seen
@@ -292,7 +292,7 @@ KeepsRows (OneRow change) old new = (new.count ≡ old.count) × (new.rows ≡ o
 -- the same by one step on the number word, made at a moment of the running space whose history is the one before the
 -- entry; so what the caller's range has shown is so of the state that this history leaves. What was held at the draw
 -- is what the caller holds, and this is to be written; the pools stay
-pub record IsDrawn (before : Known Pass) (e : Entry) (pending : Pending) (after : Known Pass) : Type 0 where
+pub record IsDrawn (before : SeatState Pass) (e : Entry) (pending : Pending) (after : SeatState Pass) : Type 0 where
   pub numbered : IsNumbered before e after
   pub words : List ℕ
   pub moment : IsMoment before before.pass.start numbered.history numbered.state words
@@ -304,7 +304,7 @@ pub record IsDrawn (before : Known Pass) (e : Entry) (pending : Pending) (after 
 
 -- all that a call under everything left is written, and the last step on a client word raised the sequence word, in
 -- this call; what the caller holds, has seen and has numbered is as before, and its pools are
-pub record IsWritten (before after : Known Pass) : Type 0 where
+pub record IsWritten (before after : SeatState Pass) : Type 0 where
   pub rest : IsAtRest after.pass
   pub step : ℕ
   pub client : after.trace.client ≡ Some (record { place = 1; step = step })

@@ -5,7 +5,7 @@ use mathlib.Core.Option.{some}
 use lib.ListN.{get_elem?}
 use Rattle.page_types.specs.declared.TheConstants.{ROWS}
 use Rattle.space_model.specs.declared.entries.Entry.{Entry}
-use Rattle.range_rw.specs.Contract.{Known}
+use Rattle.range_rw.specs.Contract.{SeatState}
 use Rattle.area_rows.specs.declared.guard.Pass.{Pass}
 use Rattle.area_rows.specs.declared.close.Kept.{Kept}
 use Rattle.area_rows.specs.History.{entry_count, IsAtRest}
@@ -37,11 +37,11 @@ abbrev pub callers_count : List CallerView → ℕ
 callers_count callers = entry_count (map caller_pass callers)
 
 -- a caller from its seat and what it has besides
-abbrev pub caller_of : Known Pass → Kept → CallerView
+abbrev pub caller_of : SeatState Pass → Kept → CallerView
 caller_of s k = record { seat = s; left = k.left; read = k.read.items; plan = planned_rows k.read.items k.plan.items; change = k.change }
 
 -- a seat and the rest of a caller belong together
-pub record IsPair (s : Known Pass) (k : Kept) (c : CallerView) : Type 0 where
+pub record IsPair (s : SeatState Pass) (k : Kept) (c : CallerView) : Type 0 where
   pub whole : c ≡ caller_of s k
   pub number : s.number ≡ k.worker
   pub mine : k.mine.items ≡ s.pass.mine
@@ -54,7 +54,7 @@ pub record IsPair (s : Known Pass) (k : Kept) (c : CallerView) : Type 0 where
   pub rest : s.held ≡ None → IsAtRest s.pass
 
 -- the same of lists of them
-abbrev pub ArePairs : List (Known Pass) → List Kept → List CallerView → Type 0
+abbrev pub ArePairs : List (SeatState Pass) → List Kept → List CallerView → Type 0
 ArePairs [] [] [] = Unit {0}
 ArePairs (s ∷ ss) (k ∷ ks) (c ∷ cs) = IsPair s k c × ArePairs ss ks cs
 ArePairs _ _ _ = ⊥
@@ -66,7 +66,7 @@ AreKept (k ∷ ks) (c ∷ cs) = (k.mine.items ≡ c.seat.pass.mine) × AreKept k
 AreKept _ _ = ⊥
 
 -- the callers that seats and the rest make together
-abbrev pub together : List (Known Pass) → List Kept → List CallerView
+abbrev pub together : List (SeatState Pass) → List Kept → List CallerView
 together [] ks = []
 together (s ∷ ss) [] = []
 together (s ∷ ss) (k ∷ ks) = caller_of s k ∷ together ss ks

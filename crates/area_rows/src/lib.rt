@@ -31,4 +31,4 @@ pub use laws::{draws_hold, history_is_stored, runs_are_legal};
 pub use row::Row;
 pub use row_plans::Planned;
 pub use scan::SpaceScan;
-pub use space::{Caller, Space, SpaceFault, crosses_threads};
+pub use space::{Caller, Space, SpaceFault, is_send_and_sync};

@@ -20,7 +20,7 @@ use word_rows::Steps;
 /// The top bit of a difference says which, so that the processor need not guess: of a comparison the compiler makes a
 /// jump.
 #[inline(always)]
-fn go_on(base: u32, half: u32, start: u64, page: u64) -> u32
+fn next_base(base: u32, half: u32, start: u64, page: u64) -> u32
     requires room { base + half < 2 ^ 32 }
     requires start { start < 2 ^ 63 }
     requires page { page < 2 ^ 63 }
@@ -62,7 +62,7 @@ impl Space {
             steps.tick();
             let word = self.load_row(caller, base + half);
             let (start, _) = read_row(word);
-            base = go_on(base, half, start, page);
+            base = next_base(base, half, start, page);
             size -= half;
         }
         base

@@ -33,9 +33,9 @@ pub struct Space {
 impl Model for Space {
     ghost use Rattle.std.specs.Prelude.{◌≡◌, ◌+◌};
     ghost use Rattle.page_types.specs.declared.TheConstants.{ROWS};
-    ghost use Rattle.range_rw.specs.Contract.{Shape};
+    ghost use Rattle.range_rw.specs.Contract.{TableShape};
 
-    ghost Value = { Shape };
+    ghost Value = { TableShape };
 
     ghost view = { λ s. s.table };
 
@@ -118,7 +118,7 @@ fn sends<T: Send>() {}
 fn shares<T: Sync>() {}
 
 /// That a space is Send and Sync, and a caller is Send. It does nothing.
-pub fn crosses_threads() {
+pub fn is_send_and_sync() {
     sends::<Space>();
     shares::<Space>();
     sends::<Caller>();

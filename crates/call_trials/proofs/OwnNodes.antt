@@ -10,7 +10,7 @@ use Rattle.lock_core.specs.declared.views.Cursor.{Cursor}
 use Rattle.lock_core.specs.declared.views.Own.TheVariants.{Linked}
 use Rattle.lock_core.specs.Nodes.{Filled, Listed, filling, listed}
 use Rattle.lock_core.specs.Views.{todo_of}
-use Rattle.marked_list.specs.Order.{HasEnds, MayFill, MayGo, IsInside, IsAhead, StandsInConflict, MayValidate}
+use Rattle.marked_list.specs.Order.{HasEnds, MayFill, OwnMayWalk, IsInside, IsAhead, StandsInConflict, MayValidate}
 use Rattle.call_trials.specs.declared.keeping.Kept.{Kept}
 use Rattle.call_trials.specs.declared.keeping.Kept.TheVariants.{Held, Met, Stuck}
 use Rattle.call_trials.specs.Calls.{IsDue, IsHeld, IsAtKnownNode, IsKept}
@@ -59,7 +59,7 @@ module _ (seats : ℕ) (v : View) (t : Todo) (d : IsDue v.own t) (inside : IsIns
       let stands : StandsInConflict seats v = record {
         word = at.word;
         knows = record {
-          stands = record { inside = inside; own = subst MayGo (sym d.is) d.first; cursor = c; is = is; node = at.node; at = at.at; ahead = ahead };
+          stands = record { inside = inside; own = subst OwnMayWalk (sym d.is) d.first; cursor = c; is = is; node = at.node; at = at.at; ahead = ahead };
           next = at.next;
         };
         few = at.few;

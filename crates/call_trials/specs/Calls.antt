@@ -9,13 +9,13 @@ use Rattle.lock_core.specs.declared.views.Todo.TheVariants.{Done}
 use Rattle.lock_core.specs.Words.{plain_node_of}
 use Rattle.lock_core.specs.Nodes.{Listed, listed}
 use Rattle.lock_core.specs.Views.{todo_of}
-use Rattle.epoch_pools.specs.Hands.{Standing}
+use Rattle.epoch_pools.specs.Hands.{HandState}
 use Rattle.list_trials.specs.Trials.{IsSameHand, IsHolding}
 use Rattle.call_trials.specs.declared.keeping.Kept.{Kept}
 use Rattle.call_trials.specs.declared.keeping.Kept.TheVariants.{Held, Met, Stuck}
 
 -- a call leaves a hand of the same list and number; where it may not be made, it leaves the hand as it was
-pub record IsTried {P A : Type 0} (before after : Standing P) (answer : Option A) : Type 0 where
+pub record IsTried {P A : Type 0} (before after : HandState P) (answer : Option A) : Type 0 where
   pub same : IsSameHand before after
   pub refused : answer ≡ None → after ≡ before
 

@@ -13,4 +13,4 @@ mod tests;
 
 pub use calls::{Answer, Call, make_call};
 pub use keeping::{Kept, Seen, count_all, keep, keep_turns, let_go, mark_in_turn};
-pub use rows::{Move, go_by};
+pub use rows::{Move, make_moves_by};

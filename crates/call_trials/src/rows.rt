@@ -32,7 +32,7 @@ fn is_move(list: &List<FreeGuard>, hand: &mut Hand<FreeGuard>, next: Move) -> bo
     }
 }
 
-fn go(list: &List<FreeGuard>, hand: &mut Hand<FreeGuard>, row: &[Move]) -> bool
+fn make_moves(list: &List<FreeGuard>, hand: &mut Hand<FreeGuard>, row: &[Move]) -> bool
     requires table { hand.old.table ≡ list.now.table }
     ensures same { IsSameHand hand.old hand.new }
 {
@@ -46,7 +46,7 @@ fn go(list: &List<FreeGuard>, hand: &mut Hand<FreeGuard>, row: &[Move]) -> bool
 
 /// Makes the moves of the hand of that number, and stops at the first that comes to something else. It says whether
 /// all came to what is stated.
-pub fn go_by(
+pub fn make_moves_by(
     list: &List<FreeGuard>,
     hands: &mut [Hand<FreeGuard>],
     number: usize,
@@ -56,5 +56,5 @@ pub fn go_by(
     requires order { AreInOrder list.now.table hands.old }
     ensures order { AreInOrder list.now.table hands.new }
 {
-    go(list, &mut hands[number], row)
+    make_moves(list, &mut hands[number], row)
 }

@@ -1,6 +1,6 @@
 //! Worked rows of the calls on the running list, reckoned by hand: each call stands with its answer. Where two hands
 //! meet within one call, the call is made step by step. Each test ends by a stated number of turns.
-use crate::{Answer, Call, Move, Seen, count_all, go_by, keep_turns, mark_in_turn};
+use crate::{Answer, Call, Move, Seen, count_all, keep_turns, make_moves_by, mark_in_turn};
 use epoch_pools::{Stuck, Taken, ready};
 use list_trials::{close_all, open_list, take_now};
 use lock_core::{Mode, Step};
@@ -113,16 +113,16 @@ const FINDS_TWO_READERS: [Move; 10] = [
 fn a_writer_meets_a_reader_that_was_linked_behind_its_walk(rt: HostRuntime) {
     let (list, mut hands) = open_list(rt.alloc(), 3, 7).expect(&rt, "memory");
     assert!(rt;
-        go_by(
+        make_moves_by(
             &list,
             hands.as_mut_slice(),
             2,
             &finds(32, 4, 5, Mode::Reader)
         )
     );
-    assert!(rt; go_by(&list, hands.as_mut_slice(), 2, &HOLDS));
+    assert!(rt; make_moves_by(&list, hands.as_mut_slice(), 2, &HOLDS));
     assert!(rt;
-        go_by(
+        make_moves_by(
             &list,
             hands.as_mut_slice(),
             1,
@@ -130,16 +130,16 @@ fn a_writer_meets_a_reader_that_was_linked_behind_its_walk(rt: HostRuntime) {
         )
     );
     assert!(rt;
-        go_by(
+        make_moves_by(
             &list,
             hands.as_mut_slice(),
             0,
             &finds(0, 2, 15, Mode::Reader)
         )
     );
-    assert!(rt; go_by(&list, hands.as_mut_slice(), 0, &HOLDS));
-    assert!(rt; go_by(&list, hands.as_mut_slice(), 1, &MEETS_A_READER));
-    assert!(rt; go_by(&list, hands.as_mut_slice(), 1, &FINDS_TWO_READERS));
+    assert!(rt; make_moves_by(&list, hands.as_mut_slice(), 0, &HOLDS));
+    assert!(rt; make_moves_by(&list, hands.as_mut_slice(), 1, &MEETS_A_READER));
+    assert!(rt; make_moves_by(&list, hands.as_mut_slice(), 1, &FINDS_TWO_READERS));
 }
 
 /// A reader is in conflict with a writer of 10 to 11.
@@ -157,16 +157,16 @@ const MEETS_A_WRITER: Move = Move::Call(
 fn a_reader_waits_for_a_writer_that_was_linked_behind_its_place(rt: HostRuntime) {
     let (list, mut hands) = open_list(rt.alloc(), 3, 7).expect(&rt, "memory");
     assert!(rt;
-        go_by(
+        make_moves_by(
             &list,
             hands.as_mut_slice(),
             2,
             &finds(32, 4, 5, Mode::Reader)
         )
     );
-    assert!(rt; go_by(&list, hands.as_mut_slice(), 2, &HOLDS));
+    assert!(rt; make_moves_by(&list, hands.as_mut_slice(), 2, &HOLDS));
     assert!(rt;
-        go_by(
+        make_moves_by(
             &list,
             hands.as_mut_slice(),
             0,
@@ -174,19 +174,19 @@ fn a_reader_waits_for_a_writer_that_was_linked_behind_its_place(rt: HostRuntime)
         )
     );
     assert!(rt;
-        go_by(
+        make_moves_by(
             &list,
             hands.as_mut_slice(),
             1,
             &finds(16, 10, 11, Mode::Writer)
         )
     );
-    assert!(rt; go_by(&list, hands.as_mut_slice(), 1, &HOLDS));
+    assert!(rt; make_moves_by(&list, hands.as_mut_slice(), 1, &HOLDS));
     let meets = [made(Call::Link), MEETS_A_WRITER, MEETS_A_WRITER];
-    assert!(rt; go_by(&list, hands.as_mut_slice(), 0, &meets));
-    assert!(rt; go_by(&list, hands.as_mut_slice(), 1, &MARKS));
+    assert!(rt; make_moves_by(&list, hands.as_mut_slice(), 0, &meets));
+    assert!(rt; make_moves_by(&list, hands.as_mut_slice(), 1, &MARKS));
     let holds = [made(Call::Validate), made(Call::End)];
-    assert!(rt; go_by(&list, hands.as_mut_slice(), 0, &holds));
+    assert!(rt; make_moves_by(&list, hands.as_mut_slice(), 0, &holds));
 }
 
 #[test]
@@ -194,28 +194,28 @@ fn a_link_is_lost_where_the_node_before_was_marked(rt: HostRuntime) {
     let alloc = rt.alloc();
     let (list, mut hands) = open_list(alloc, 2, 7).expect(&rt, "memory");
     assert!(rt;
-        go_by(
+        make_moves_by(
             &list,
             hands.as_mut_slice(),
             0,
             &finds(0, 0, 1, Mode::Writer)
         )
     );
-    assert!(rt; go_by(&list, hands.as_mut_slice(), 0, &HOLDS));
+    assert!(rt; make_moves_by(&list, hands.as_mut_slice(), 0, &HOLDS));
     assert!(rt;
-        go_by(
+        make_moves_by(
             &list,
             hands.as_mut_slice(),
             1,
             &finds(16, 10, 11, Mode::Writer)
         )
     );
-    assert!(rt; go_by(&list, hands.as_mut_slice(), 0, &MARKS));
+    assert!(rt; make_moves_by(&list, hands.as_mut_slice(), 0, &MARKS));
     let again = [lost(Call::Link, 5, 0, 1), made(Call::Walk)];
-    assert!(rt; go_by(&list, hands.as_mut_slice(), 1, &again));
-    assert!(rt; go_by(&list, hands.as_mut_slice(), 1, &HOLDS));
-    assert!(rt; go_by(&list, hands.as_mut_slice(), 0, &sees(34)));
-    assert!(rt; go_by(&list, hands.as_mut_slice(), 1, &MARKS));
+    assert!(rt; make_moves_by(&list, hands.as_mut_slice(), 1, &again));
+    assert!(rt; make_moves_by(&list, hands.as_mut_slice(), 1, &HOLDS));
+    assert!(rt; make_moves_by(&list, hands.as_mut_slice(), 0, &sees(34)));
+    assert!(rt; make_moves_by(&list, hands.as_mut_slice(), 1, &MARKS));
     assert!(rt; close_all(list, alloc, hands).is_some());
 }
 
@@ -239,17 +239,17 @@ const GIVES_BY_A_MARK: [Move; 6] = [
 #[test]
 fn a_quick_link_is_settled_by_the_walk_of_another(rt: HostRuntime) {
     let (list, mut hands) = open_list(rt.alloc(), 2, 7).expect(&rt, "memory");
-    assert!(rt; go_by(&list, hands.as_mut_slice(), 0, &LINKS_AT_ONCE));
+    assert!(rt; make_moves_by(&list, hands.as_mut_slice(), 0, &LINKS_AT_ONCE));
     assert!(rt;
-        go_by(
+        make_moves_by(
             &list,
             hands.as_mut_slice(),
             1,
             &finds(16, 10, 11, Mode::Writer)
         )
     );
-    assert!(rt; go_by(&list, hands.as_mut_slice(), 1, &HOLDS));
-    assert!(rt; go_by(&list, hands.as_mut_slice(), 0, &GIVES_BY_A_MARK));
+    assert!(rt; make_moves_by(&list, hands.as_mut_slice(), 1, &HOLDS));
+    assert!(rt; make_moves_by(&list, hands.as_mut_slice(), 0, &GIVES_BY_A_MARK));
 }
 
 #[test]
@@ -258,10 +258,10 @@ fn a_sweep_unlinks_all_nodes_of_two_hands(rt: HostRuntime) {
     assert!(rt; mark_in_turn(&list, hands.as_mut_slice()));
     let away = Taken::Out(Stuck::Away { node: 0 });
     assert_eq!(rt; take_now(&list, hands.as_mut_slice(), 0), Some(away));
-    assert!(rt; go_by(&list, hands.as_mut_slice(), 1, &SWEEPS));
-    assert!(rt; go_by(&list, hands.as_mut_slice(), 1, &sees(0)));
-    assert!(rt; go_by(&list, hands.as_mut_slice(), 0, &[takes(0)]));
-    assert!(rt; go_by(&list, hands.as_mut_slice(), 1, &[takes(16)]));
+    assert!(rt; make_moves_by(&list, hands.as_mut_slice(), 1, &SWEEPS));
+    assert!(rt; make_moves_by(&list, hands.as_mut_slice(), 1, &sees(0)));
+    assert!(rt; make_moves_by(&list, hands.as_mut_slice(), 0, &[takes(0)]));
+    assert!(rt; make_moves_by(&list, hands.as_mut_slice(), 1, &[takes(16)]));
     for hand in hands.as_slice() {
         assert_eq!(rt; ready(hand), 15);
     }
@@ -270,13 +270,13 @@ fn a_sweep_unlinks_all_nodes_of_two_hands(rt: HostRuntime) {
 #[test]
 fn a_hand_inside_holds_up_nodes_that_were_swept(rt: HostRuntime) {
     let (list, mut hands) = open_list(rt.alloc(), 2, 7).expect(&rt, "memory");
-    assert!(rt; go_by(&list, hands.as_mut_slice(), 1, &BEGINS));
+    assert!(rt; make_moves_by(&list, hands.as_mut_slice(), 1, &BEGINS));
     assert!(rt; keep_turns(&list, hands.as_mut_slice(), 0, 16));
-    assert!(rt; go_by(&list, hands.as_mut_slice(), 0, &SWEEPS));
+    assert!(rt; make_moves_by(&list, hands.as_mut_slice(), 0, &SWEEPS));
     let inside = Taken::Out(Stuck::Inside { seat: 1, epoch: 1 });
     assert_eq!(rt; take_now(&list, hands.as_mut_slice(), 0), Some(inside));
-    assert!(rt; go_by(&list, hands.as_mut_slice(), 1, &ENDS));
-    assert!(rt; go_by(&list, hands.as_mut_slice(), 0, &[takes(0)]));
+    assert!(rt; make_moves_by(&list, hands.as_mut_slice(), 1, &ENDS));
+    assert!(rt; make_moves_by(&list, hands.as_mut_slice(), 0, &[takes(0)]));
 }
 
 /// The head's node is found marked, step by step.
@@ -300,63 +300,63 @@ const FILLS: [Move; 3] = [
 fn a_walk_and_a_sweep_lose_a_node_to_a_sweep(rt: HostRuntime) {
     let (list, mut hands) = open_list(rt.alloc(), 3, 7).expect(&rt, "memory");
     assert!(rt;
-        go_by(
+        make_moves_by(
             &list,
             hands.as_mut_slice(),
             0,
             &finds(0, 0, 1, Mode::Writer)
         )
     );
-    assert!(rt; go_by(&list, hands.as_mut_slice(), 0, &HOLDS));
-    assert!(rt; go_by(&list, hands.as_mut_slice(), 0, &MARKS));
-    assert!(rt; go_by(&list, hands.as_mut_slice(), 1, &FILLS));
-    assert!(rt; go_by(&list, hands.as_mut_slice(), 1, &COMES_TO_MARKED));
-    assert!(rt; go_by(&list, hands.as_mut_slice(), 2, &BEGINS));
-    assert!(rt; go_by(&list, hands.as_mut_slice(), 2, &COMES_TO_MARKED));
-    assert!(rt; go_by(&list, hands.as_mut_slice(), 0, &SWEEPS));
+    assert!(rt; make_moves_by(&list, hands.as_mut_slice(), 0, &HOLDS));
+    assert!(rt; make_moves_by(&list, hands.as_mut_slice(), 0, &MARKS));
+    assert!(rt; make_moves_by(&list, hands.as_mut_slice(), 1, &FILLS));
+    assert!(rt; make_moves_by(&list, hands.as_mut_slice(), 1, &COMES_TO_MARKED));
+    assert!(rt; make_moves_by(&list, hands.as_mut_slice(), 2, &BEGINS));
+    assert!(rt; make_moves_by(&list, hands.as_mut_slice(), 2, &COMES_TO_MARKED));
+    assert!(rt; make_moves_by(&list, hands.as_mut_slice(), 0, &SWEEPS));
     let finds_none = [Move::Step(Step::Unlink, 0), made(Call::Walk)];
-    assert!(rt; go_by(&list, hands.as_mut_slice(), 1, &finds_none));
-    assert!(rt; go_by(&list, hands.as_mut_slice(), 1, &HOLDS));
+    assert!(rt; make_moves_by(&list, hands.as_mut_slice(), 1, &finds_none));
+    assert!(rt; make_moves_by(&list, hands.as_mut_slice(), 1, &HOLDS));
     let loses = [
         Move::Step(Step::Unlink, 34),
         made(Call::End),
         made(Call::Sweep),
     ];
-    assert!(rt; go_by(&list, hands.as_mut_slice(), 2, &loses));
+    assert!(rt; make_moves_by(&list, hands.as_mut_slice(), 2, &loses));
 }
 
 #[test]
 fn a_validation_loses_a_node_to_a_sweep(rt: HostRuntime) {
     let (list, mut hands) = open_list(rt.alloc(), 2, 7).expect(&rt, "memory");
     assert!(rt;
-        go_by(
+        make_moves_by(
             &list,
             hands.as_mut_slice(),
             0,
             &finds(0, 0, 1, Mode::Writer)
         )
     );
-    assert!(rt; go_by(&list, hands.as_mut_slice(), 0, &HOLDS));
+    assert!(rt; make_moves_by(&list, hands.as_mut_slice(), 0, &HOLDS));
     assert!(rt;
-        go_by(
+        make_moves_by(
             &list,
             hands.as_mut_slice(),
             1,
             &finds(16, 10, 11, Mode::Writer)
         )
     );
-    assert!(rt; go_by(&list, hands.as_mut_slice(), 1, &LINKS));
-    assert!(rt; go_by(&list, hands.as_mut_slice(), 0, &MARKS));
+    assert!(rt; make_moves_by(&list, hands.as_mut_slice(), 1, &LINKS));
+    assert!(rt; make_moves_by(&list, hands.as_mut_slice(), 0, &MARKS));
     let comes = [Move::Step(Step::Walk, 2), Move::Step(Step::Walk, 35)];
-    assert!(rt; go_by(&list, hands.as_mut_slice(), 1, &comes));
-    assert!(rt; go_by(&list, hands.as_mut_slice(), 0, &SWEEPS));
+    assert!(rt; make_moves_by(&list, hands.as_mut_slice(), 1, &comes));
+    assert!(rt; make_moves_by(&list, hands.as_mut_slice(), 0, &SWEEPS));
     let finds_own = [
         Move::Step(Step::Unlink, 34),
         Move::Never(Call::End),
         made(Call::Validate),
         made(Call::End),
     ];
-    assert!(rt; go_by(&list, hands.as_mut_slice(), 1, &finds_own));
+    assert!(rt; make_moves_by(&list, hands.as_mut_slice(), 1, &finds_own));
 }
 
 /// What a hand does in vain while another holds 0 to 1: the fast path finds the head, a walk the node, and the node
@@ -398,14 +398,14 @@ const IN_VAIN: [Move; 8] = [
 fn a_conflict_names_the_range_that_was_met(rt: HostRuntime) {
     let alloc = rt.alloc();
     let (list, mut hands) = open_list(alloc, 2, 7).expect(&rt, "memory");
-    assert!(rt; go_by(&list, hands.as_mut_slice(), 0, &LINKS_AT_ONCE));
-    assert!(rt; go_by(&list, hands.as_mut_slice(), 1, &IN_VAIN));
+    assert!(rt; make_moves_by(&list, hands.as_mut_slice(), 0, &LINKS_AT_ONCE));
+    assert!(rt; make_moves_by(&list, hands.as_mut_slice(), 1, &IN_VAIN));
     let gives = [
         lost(Call::QuickUnlink, 0, 3, 2),
         made(Call::Mark),
         made(Call::Sweep),
     ];
-    assert!(rt; go_by(&list, hands.as_mut_slice(), 0, &gives));
+    assert!(rt; make_moves_by(&list, hands.as_mut_slice(), 0, &gives));
     assert!(rt; close_all(list, alloc, hands).is_some());
 }
 
@@ -413,10 +413,10 @@ fn a_conflict_names_the_range_that_was_met(rt: HostRuntime) {
 fn a_range_that_was_linked_at_once_is_unlinked_at_once(rt: HostRuntime) {
     let alloc = rt.alloc();
     let (list, mut hands) = open_list(alloc, 2, 7).expect(&rt, "memory");
-    assert!(rt; go_by(&list, hands.as_mut_slice(), 0, &LINKS_AT_ONCE));
+    assert!(rt; make_moves_by(&list, hands.as_mut_slice(), 0, &LINKS_AT_ONCE));
     let back = [made(Call::QuickUnlink), Move::Step(Step::GiveHome, 0)];
-    assert!(rt; go_by(&list, hands.as_mut_slice(), 0, &back));
-    assert!(rt; go_by(&list, hands.as_mut_slice(), 1, &sees(0)));
+    assert!(rt; make_moves_by(&list, hands.as_mut_slice(), 0, &back));
+    assert!(rt; make_moves_by(&list, hands.as_mut_slice(), 1, &sees(0)));
     assert!(rt; close_all(list, alloc, hands).is_some());
 }
 

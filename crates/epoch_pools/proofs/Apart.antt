@@ -7,18 +7,18 @@ use Rattle.atomic_table.specs.Table.{State}
 use Rattle.atomic_table.proofs.Lists.{at_map}
 use Rattle.lock_core.specs.Grants.{Grants}
 use Rattle.lock_core.proofs.ByPlace.{to_get}
-use Rattle.epoch_pools.specs.declared.views.Part.{Part}
+use Rattle.epoch_pools.specs.declared.views.SeatPart.{SeatPart}
 use Rattle.epoch_pools.specs.declared.views.ListView.{ListView}
 use Rattle.epoch_pools.specs.Running.{core_of, Ruled}
 use Rattle.epoch_pools.specs.Apart.{IsSeen, AreSeen}
 
 module _ {P : Type 0} (seats clients : ℕ) (holds : Grants → List ℕ → List P → Type 0) (s : State (Unit {0}) (ListView P))
-    (parts : List (Part P)) (owner : ℕ → ℕ) (r : Ruled seats clients holds s parts owner) where
+    (parts : List (SeatPart P)) (owner : ℕ → ℕ) (r : Ruled seats clients holds s parts owner) where
   -- what is seen of a number is its part
-  pub seen_part : (p : Part P) → IsSeen s.views p → get_elem? parts p.number ≡ some p
+  pub seen_part : (p : SeatPart P) → IsSeen s.views p → get_elem? parts p.number ≡ some p
   seen_part p i = (r.owned i.id i.view i.at i.place p i.has).0
 
-  pub seen_core : (p : Part P) → IsSeen s.views p → slice_get (map core_of parts) p.number ≡ Some p.core
+  pub seen_core : (p : SeatPart P) → IsSeen s.views p → slice_get (map core_of parts) p.number ≡ Some p.core
   seen_core p i = to_get (map core_of parts) p.number p.core (at_map core_of parts p.number p (seen_part p i))
 
   pub are_seen : AreSeen seats s.views parts

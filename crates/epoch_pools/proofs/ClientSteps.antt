@@ -14,10 +14,10 @@ use Rattle.lock_core.specs.Words.{word_count}
 use Rattle.lock_core.specs.Machine.{Machine, held_at, held_by_seat}
 use Rattle.lock_laws.specs.Laws.{IsLock}
 use Rattle.lock_laws.proofs.Exclusion.{exclusive}
-use Rattle.epoch_pools.specs.declared.views.Part.{Part}
+use Rattle.epoch_pools.specs.declared.views.SeatPart.{SeatPart}
 use Rattle.epoch_pools.specs.declared.views.ListView.{ListView}
 use Rattle.epoch_pools.specs.Running.{core_of, pass_of, view, machine, IsRunningList, client_part, client_play}
-use Rattle.epoch_pools.specs.Hands.{Standing, IsTable, part_in}
+use Rattle.epoch_pools.specs.Hands.{HandState, IsTable, part_in}
 use Rattle.epoch_pools.proofs.Placing.{part_here, placed}
 
 module _ {P N : Type 0} (seats clients : ℕ) (holds : Grants → List ℕ → List P → Type 0) (allows : Grants → List ℕ → List P → ℕ
@@ -26,7 +26,7 @@ module _ {P N : Type 0} (seats clients : ℕ) (holds : Grants → List ℕ → L
     → holds grants words passes → allows grants words passes seat step note after
     → holds grants (words_after words step) (set passes seat after)) where
   -- one case for all client steps; f says what the step makes of the word
-  pub client_keeps : (step : ClientStep) (f : ℕ → ℕ) (slots id : ℕ) (me : Me (Unit {0}) (ListView P)) (p : Part P) (word : ℕ)
+  pub client_keeps : (step : ClientStep) (f : ℕ → ℕ) (slots id : ℕ) (me : Me (Unit {0}) (ListView P)) (p : SeatPart P) (word : ℕ)
       (then : ℕ → Me (Unit {0}) (ListView P) → Type 0)
       → me.0 ≡ view (p ∷ []) → word ≡ word_count seats + place_of step → place_of step < clients
       → ((words : List ℕ) → words_after words step ≡ set words (place_of step) (f (get_or words (place_of step) 0)))
@@ -54,7 +54,7 @@ module _ {P N : Type 0} (seats clients : ℕ) (holds : Grants → List ℕ → L
       let wide : length words ≡ clients = let w = r.wide in length-drop base s.words ∙ omega arith in
       let small' : y < 18446744073709551616 = subst (λ (n : ℕ). n < 18446744073709551616) found small in
       let t = allowed grants words passes moment (omega arith) small' in
-      let q : Part P = client_part p i t.0 in
+      let q : SeatPart P = client_part p i t.0 in
       let same : m ≡ machine seats (set s.words (base + i) (f y)) (set parts p.number q) =
       λ k. record {
         seats = seats;
@@ -80,7 +80,7 @@ module _ {P N : Type 0} (seats clients : ℕ) (holds : Grants → List ℕ → L
       )
 
   -- the same for a store, which doesn't say what it found
-  pub client_stores : (step : ClientStep) (value slots id : ℕ) (me : Me (Unit {0}) (ListView P)) (p : Part P) (word : ℕ)
+  pub client_stores : (step : ClientStep) (value slots id : ℕ) (me : Me (Unit {0}) (ListView P)) (p : SeatPart P) (word : ℕ)
       → me.0 ≡ view (p ∷ []) → word ≡ word_count seats + place_of step → place_of step < clients
       → ((words : List ℕ) → words_after words step ≡ set words (place_of step) value)
       → IsAllowed holds allows note p.number (held_at p.core.own) p.pass step
@@ -100,6 +100,6 @@ client_place key_seats key_words words slots seats client t seats' client' i wor
     (omega arith, at ∙ (λ j. sym (key ∙ now) j + sym is j), omega (arith, ap (λ k. key_words - k) key))
 
 -- what a proof sees of a token: its one part is the one that contracts see
-pub one_part : {P : Type 0} (pass : P) (parts : List (Part P)) (id : TableId) (now : Standing P) → parts ≡ part_in pass parts ∷ []
+pub one_part : {P : Type 0} (pass : P) (parts : List (SeatPart P)) (id : TableId) (now : HandState P) → parts ≡ part_in pass parts ∷ []
     → record { table = id; part = part_in pass parts } ≡ now → view parts ≡ view (now.part ∷ [])
 one_part pass parts id now one is = ap view (one ∙ ap (λ s. s.part ∷ []) is)

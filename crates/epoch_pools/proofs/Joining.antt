@@ -16,10 +16,10 @@ use Rattle.lock_core.specs.declared.views.View.{View}
 use Rattle.lock_core.specs.Words.{word_count}
 use Rattle.lock_core.specs.Machine.{held_at, held_by_seat}
 use Rattle.lock_core.proofs.ByPlace.{below as at_below, at_or, same_lists}
-use Rattle.epoch_pools.specs.declared.views.Part.{Part}
+use Rattle.epoch_pools.specs.declared.views.SeatPart.{SeatPart}
 use Rattle.epoch_pools.specs.declared.views.ListView.{ListView}
 use Rattle.epoch_pools.specs.Running.{core_of, pass_of, machine, view, Stands, IsRunningList}
-use Rattle.epoch_pools.specs.Hands.{Standing, hand_with, pass_in, AreHandsOf, AreIdleHands}
+use Rattle.epoch_pools.specs.Hands.{HandState, hand_with, pass_in, AreHandsOf, AreIdleHands}
 use Rattle.epoch_pools.proofs.Lists.{at_behind, append_at, first_of_list, at_removed}
 
 nothing_there : {A : Type 0} (k : ℕ) (a : A) → get_elem? [] k ≡ some a → ⊥
@@ -95,36 +95,36 @@ module _ {P : Type 0} (seats clients : ℕ) (holds : Grants → List ℕ → Lis
         },
       )
 
-no_grants : {P : Type 0} (parts : List (Part P)) (n : ℕ) → length parts ≡ n
-    → ((k : ℕ) (p : Part P) → get_elem? parts k ≡ some p → held_at p.core.own ≡ None)
+no_grants : {P : Type 0} (parts : List (SeatPart P)) (n : ℕ) → length parts ≡ n
+    → ((k : ℕ) (p : SeatPart P) → get_elem? parts k ≡ some p → held_at p.core.own ≡ None)
     → map (λ (v : View). held_at v.own) (map core_of parts) ≡ replicate n None
 no_grants [] zero e all = refl
 no_grants [] (suc n) e all = absurd (omega arith)
 no_grants (x ∷ xs) zero e all = absurd (omega arith)
 no_grants (x ∷ xs) (suc n) e all = let h = all 0 x refl in let t = no_grants xs n (omega arith) (λ k p at. all (suc k) p at) in λ i. h i ∷ t i
 
-passes_in : {P : Type 0} (table : TableId) (parts : List (Part P)) → map pass_of parts ≡ map pass_in (map (hand_with table) parts)
+passes_in : {P : Type 0} (table : TableId) (parts : List (SeatPart P)) → map pass_of parts ≡ map pass_in (map (hand_with table) parts)
 passes_in table [] = refl
 passes_in table (x ∷ xs) = ap (λ l. x.pass ∷ l) (passes_in table xs)
 
 -- the last state, in which one seat has what belongs to all hands, and none has a node in use
 pub closes : {P : Type 0} (seats clients : ℕ) (holds : Grants → List ℕ → List P → Type 0) (table : TableId)
-    (hands : List (Standing P)) (id : ℕ) (v : ListView P) (words : List ℕ) (xs : List (Unit {0}))
+    (hands : List (HandState P)) (id : ℕ) (v : ListView P) (words : List ℕ) (xs : List (Unit {0}))
     → length hands ≡ seats → AreIdleHands table hands → map (hand_with table) v.parts ≡ hands
     → Final (Seen (IsRunningList seats clients holds) id v) words xs → holds (replicate seats None) (drop (word_count seats) words) (map pass_in hands)
 closes {P} seats clients holds table hands id v words xs count idle is final =
     let s = final.0 in let running = final.1.0 in let at = final.1.1 in let parts = running.0 in let r = running.2 in
-    let known : (k : ℕ) (p : Part P) → get_elem? v.parts k ≡ some p
+    let known : (k : ℕ) (p : SeatPart P) → get_elem? v.parts k ≡ some p
     → get_elem? hands k ≡ some (hand_with table p) = λ k p there. ap (λ l. get_elem? l k) (sym is)
     ∙ at_map (hand_with table) v.parts k p there in
-    let each : (k : ℕ) (p : Part P) → get_elem? v.parts k ≡ some p
+    let each : (k : ℕ) (p : SeatPart P) → get_elem? v.parts k ≡ some p
     → (p.number ≡ k) × (held_at p.core.own ≡ None) = λ k p there. let i = idle k (hand_with table p) (known k p there) in
     (i.1, ap held_at i.2.own) in
     let wide : length v.parts ≡ seats = sym (length-map v.parts (hand_with table)) ∙ (ap length is ∙ count) in
     let same : parts ≡ v.parts = same_lists parts v.parts (r.count ∙ sym wide) (λ k p there. let o = r.owned id v at k p there in
     ap (get_elem? parts) (sym (each k p there).0) ∙ o.0) in
     let grants : held_by_seat (machine seats s.words parts) ≡ replicate seats None =
-    ap (λ (l : List (Part P)). held_by_seat (machine seats s.words l)) same
+    ap (λ (l : List (SeatPart P)). held_by_seat (machine seats s.words l)) same
     ∙ no_grants v.parts seats wide (λ k p there. (each k p there).1) in
     subst (λ (z : Grants × (List ℕ × List P)). holds z.0 z.1.0 z.1.1)
     (λ i. (grants i, (ap (drop (word_count seats)) final.2 i, (ap (map pass_of) same ∙ (passes_in table v.parts ∙ ap (map pass_in) is)) i)))
@@ -132,7 +132,7 @@ closes {P} seats clients holds table hands id v words xs count idle is final =
 
 module _ {P : Type 0} (table : TableId) where
   -- what the seat that stays has, after the first of the others is joined to it
-  pub next_joined : (front new parts : List (Part P)) (whole left now : List (Standing P)) (s : Standing P) (p : Part P)
+  pub next_joined : (front new parts : List (SeatPart P)) (whole left now : List (HandState P)) (s : HandState P) (p : SeatPart P)
       → map (hand_with table) front ++ left ≡ whole → 0 < length left → s ≡ get_or left 0 s → now ≡ remove left 0
       → new ≡ front ++ parts → parts ≡ p ∷ [] → hand_with table p ≡ s
       → map (hand_with table) new ++ now ≡ whole
@@ -143,11 +143,11 @@ module _ {P : Type 0} (table : TableId) where
       ∙ (map-append (hand_with table) front (p ∷ []) ∙ ap (λ k. map (hand_with table) front ++ (k ∷ [])) same) in
       (λ i. all i ++ rest i) ∙ (append_snoc (map (hand_with table) front) s (remove left 0) ∙ (ap (λ l. map (hand_with table) front ++ l) (sym split) ∙ so))
 
-  pub hands_without_first : (left now : List (Standing P)) → AreHandsOf table left → now ≡ remove left 0 → AreHandsOf table now
+  pub hands_without_first : (left now : List (HandState P)) → AreHandsOf table left → now ≡ remove left 0 → AreHandsOf table now
   hands_without_first left now of_table is k s at = of_table (suc k) s (sym (at_removed left k) ∙ (ap (λ l. get_elem? l k) (sym is) ∙ at))
 
   -- a hand of the table again, from all that belongs to its number
-  pub hand_again : (s h : Standing P) (p : Part P) → s ≡ h → h.table ≡ table → s.part ≡ p → hand_with table p ≡ h
+  pub hand_again : (s h : HandState P) (p : SeatPart P) → s ≡ h → h.table ≡ table → s.part ≡ p → hand_with table p ≡ h
   hand_again s h p is here part = (λ i. record { table = (sym here ∙ sym (ap (λ x. x.table) is)) i; part = sym part i }) ∙ is
 
 -- one word more is copied
@@ -164,7 +164,7 @@ copied words out new from i n is grown at =
 
 -- the same with the names that the closing call has for the table, its number of seats and the words that it copied
 pub closed : {P : Type 0} (key_seats seats clients : ℕ) (holds : Grants → List ℕ → List P → Type 0) (shared table : TableId)
-    (hands : List (Standing P)) (id : ℕ) (v : ListView P) (words out : List ℕ) (xs : List (Unit {0}))
+    (hands : List (HandState P)) (id : ℕ) (v : ListView P) (words out : List ℕ) (xs : List (Unit {0}))
     → key_seats ≡ seats → shared ≡ table → length hands ≡ seats → AreIdleHands table hands
     → map (hand_with shared) v.parts ≡ hands → out ≡ drop (word_count seats) words
     → Final (Seen (IsRunningList key_seats clients holds) id v) words xs → holds (replicate seats None) out (map pass_in hands)

@@ -26,7 +26,7 @@ use Rattle.lock_core.proofs.Table.{given-is, line_of_plan}
 use Rattle.lock_laws.specs.Laws.{IsLock}
 use Rattle.lock_laws.proofs.Running.{every_step_keeps}
 use Rattle.lock_laws.proofs.Sound.{view_sound}
-use Rattle.epoch_pools.specs.declared.views.Part.{Part}
+use Rattle.epoch_pools.specs.declared.views.SeatPart.{SeatPart}
 use Rattle.epoch_pools.specs.declared.views.ListView.{ListView}
 use Rattle.epoch_pools.specs.Running.{core_of, pass_of, view, machine, line_for, Enables, MayRest, part_after, lock_play, IsRunningList}
 use Rattle.epoch_pools.proofs.Placing.{part_here, placed}
@@ -44,7 +44,7 @@ module _ {P : Type 0} (seats clients : ℕ) (holds : Grants → List ℕ → Lis
     → get_elem? passes seat ≡ some pass → is_at_rest pass
     → holds (set grants seat None) words (set passes seat (rested pass))) where
   -- one case for all lock steps; f says what the operation makes of the word
-  pub lock_keeps : (step : Step) (f : ℕ → ℕ) (slots id : ℕ) (me : Me (Unit {0}) (ListView P)) (p : Part P) → me.0 ≡ view (p ∷ [])
+  pub lock_keeps : (step : Step) (f : ℕ → ℕ) (slots id : ℕ) (me : Me (Unit {0}) (ListView P)) (p : SeatPart P) → me.0 ≡ view (p ∷ [])
       → Enables p step → MayRest is_at_rest p step
       → (line_for p step).place < word_count p.seats
       → ((w : ℕ) → w < 18446744073709551616 → (step ≡ Mark → w % 2 ≡ 0) → f w ≡ (line_for p step).write w)
@@ -70,7 +70,7 @@ module _ {P : Type 0} (seats clients : ℕ) (holds : Grants → List ℕ → Lis
       ∙ even_mark m p.number p.core line r.lock seen
       (subst (λ st. IsLine seats p.number p.core st line) q (line_of_plan seats p.number p.core step line enabled)) in
       let wrote : f y ≡ line.write y = writes y small even in
-      let q : Part P = part_after rested p step y in
+      let q : SeatPart P = part_after rested p step y in
       let words_now : set m.words line.place (line.write (get_or m.words line.place 0)) ≡ take base (set s.words line.place (f y)) =
       ap (λ k. set m.words line.place (line.write k)) found ∙ (ap (set m.words line.place) (sym wrote) ∙ sym (take-set-lt base s.words line.place (f y) lt)) in
       let views_now : set m.views p.number (line.view (get_or m.words line.place 0)) ≡ map core_of (set parts p.number q) =
@@ -107,7 +107,7 @@ module _ {P : Type 0} (seats clients : ℕ) (holds : Grants → List ℕ → Lis
 
   -- the same for the call that makes the step, with the names that it has for the table and the word
   pub lock_allows : (key_seats : ℕ) → key_seats ≡ seats
-      → (step : Step) (slots id word : ℕ) (f : ℕ → ℕ) (me : Me (Unit {0}) (ListView P)) (p : Part P) → me.0 ≡ view (p ∷ [])
+      → (step : Step) (slots id word : ℕ) (f : ℕ → ℕ) (me : Me (Unit {0}) (ListView P)) (p : SeatPart P) → me.0 ≡ view (p ∷ [])
       → Enables p step → MayRest is_at_rest p step
       → word ≡ (line_for p step).place → word < word_count p.seats
       → ((w : ℕ) → w < 18446744073709551616 → (step ≡ Mark → w % 2 ≡ 0) → f w ≡ (line_for p step).write w)
@@ -118,7 +118,7 @@ module _ {P : Type 0} (seats clients : ℕ) (holds : Grants → List ℕ → Lis
 
   -- the same for a store, which doesn't tell what it found
   pub lock_puts : (key_seats : ℕ) → key_seats ≡ seats
-      → (step : Step) (slots id word value : ℕ) (me : Me (Unit {0}) (ListView P)) (p : Part P) → me.0 ≡ view (p ∷ [])
+      → (step : Step) (slots id word value : ℕ) (me : Me (Unit {0}) (ListView P)) (p : SeatPart P) → me.0 ≡ view (p ∷ [])
       → Enables p step → MayRest is_at_rest p step
       → word ≡ (line_for p step).place → word < word_count p.seats → ((w : ℕ) → (line_for p step).write w ≡ value)
       → Allows (IsRunningList key_seats clients holds) slots id me word (λ _. value) (λ _ me'. (found : ℕ) × lock_play rested seats step me found me')

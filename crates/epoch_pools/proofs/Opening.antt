@@ -18,7 +18,7 @@ use Rattle.lock_core.specs.Machine.{held_at, held_by_seat, numbers_from, start, 
 use Rattle.lock_laws.specs.Laws.{IsLock}
 use Rattle.lock_laws.proofs.Starting.{start_lock}
 use Rattle.lock_laws.proofs.Sound.{view_sound}
-use Rattle.epoch_pools.specs.declared.views.Part.{Part}
+use Rattle.epoch_pools.specs.declared.views.SeatPart.{SeatPart}
 use Rattle.epoch_pools.specs.declared.views.ListView.{ListView}
 use Rattle.epoch_pools.specs.Running.{core_of, pass_of, view, machine, IsOwned, IsRunningList}
 use Rattle.epoch_pools.specs.Hands.{IsHandView, fresh, first_passes}
@@ -38,7 +38,7 @@ passes_are : {P : Type 0} (f : ℕ → P) (seats a k : ℕ) → map pass_of (par
 passes_are f seats a zero = refl
 passes_are f seats a (suc k) = ap (λ l. f a ∷ l) (passes_are f seats (suc a) k)
 
-owned_first : {P : Type 0} (f : ℕ → Part P) (seats : ℕ) → ((n : ℕ) → (f n).number ≡ n)
+owned_first : {P : Type 0} (f : ℕ → SeatPart P) (seats : ℕ) → ((n : ℕ) → (f n).number ≡ n)
     → IsOwned (view (parts_from f 0 (seats - 0)) ∷ []) (parts_from f 0 seats) (λ _. 0)
 owned_first {P} f seats numbered (suc id) v at k p there = absurd (some-ne-none v (sym at))
 owned_first {P} f seats numbered zero v at k p there =
@@ -46,11 +46,11 @@ owned_first {P} f seats numbered zero v at k p there =
     let e : get_elem? (parts_from f 0 seats) k ≡ some p = ap (λ n. get_elem? (parts_from f 0 n) k) (sym all)
     ∙ subst (λ (z : ListView P). get_elem? z.parts k ≡ some p) (sym (some-injective _ _ at)) there in
     let q = parts_at f 0 seats k p e in
-    let num : p.number ≡ k = let z : 0 + k ≡ k = omega arith in ap (λ (x : Part P). x.number) q.1 ∙ (numbered (0 + k) ∙ z) in
+    let num : p.number ≡ k = let z : 0 + k ≡ k = omega arith in ap (λ (x : SeatPart P). x.number) q.1 ∙ (numbered (0 + k) ∙ z) in
     (ap (get_elem? (parts_from f 0 seats)) num ∙ e, refl)
 
-many_first : {P : Type 0} (f : ℕ → P) (seats n : ℕ) (p : Part P) → get_elem? (parts_from (λ n. fresh (f n) seats n) 0 seats) n ≡ some p → p.seats ≡ seats
-many_first {P} f seats n p at = ap (λ (x : Part P). x.seats) (parts_at (λ n. fresh (f n) seats n) 0 seats n p at).1
+many_first : {P : Type 0} (f : ℕ → P) (seats n : ℕ) (p : SeatPart P) → get_elem? (parts_from (λ n. fresh (f n) seats n) 0 seats) n ≡ some p → p.seats ≡ seats
+many_first {P} f seats n p at = ap (λ (x : SeatPart P). x.seats) (parts_at (λ n. fresh (f n) seats n) 0 seats n p at).1
 
 -- the rule holds at the start
 pub begins : {P : Type 0} (first : List ℕ → ℕ → P) (holds : Grants → List ℕ → List P → Type 0) (seats : ℕ) (zeros client : List ℕ)
@@ -60,7 +60,7 @@ pub begins : {P : Type 0} (first : List ℕ → ℕ → P) (holds : Grants → L
     (opening (zeros ++ client) [] (view (parts_from (begin first seats (zeros ++ client)) 0 (seats - 0))))
 begins {P} first holds seats zeros client positive few blank h =
     let pass : ℕ → P = first (drop (word_count seats) (zeros ++ client)) in
-    let f : ℕ → Part P = begin first seats (zeros ++ client) in
+    let f : ℕ → SeatPart P = begin first seats (zeros ++ client) in
     let len : length zeros ≡ word_count seats = ap length blank ∙ length-replicate (word_count seats) 0 in
     let all = length-append zeros client in
     let front : take (word_count seats) (zeros ++ client) ≡ replicate (word_count seats) 0 =

@@ -23,7 +23,7 @@ use Rattle.lock_core.proofs.Enabled.{line_of, give_home_on}
 use Rattle.lock_core.proofs.Table.{when-is, together, plan_of_line}
 use Rattle.epoch_pools.specs.declared.record.Looked.{Looked}
 use Rattle.epoch_pools.specs.declared.record.Record.{Record}
-use Rattle.epoch_pools.specs.declared.views.Part.{Part}
+use Rattle.epoch_pools.specs.declared.views.SeatPart.{SeatPart}
 use Rattle.epoch_pools.specs.Record.{record_after, looked_on, looked_with, is_judging, gained_by}
 use Rattle.epoch_pools.specs.Pools.{IsWhole}
 use Rattle.epoch_pools.specs.Running.{pass_kept, IsAnswer, line_for, Enables, core_after, part_after, Told, client_part}
@@ -82,11 +82,11 @@ not_mark : (step : Step) (w : ℕ) → IsStoring step → step ≡ Mark → w % 
 not_mark step w st e = absurd (subst IsStoring e st)
 
 -- the line of a step, by the seat's number, the number of seats and the view that a call has
-pub line_again : {P : Type 0} (p : Part P) (seats number : ℕ) (v : View) (step : Step) → p.seats ≡ seats → p.number ≡ number
+pub line_again : {P : Type 0} (p : SeatPart P) (seats number : ℕ) (v : View) (step : Step) → p.seats ≡ seats → p.number ≡ number
     → p.core ≡ v → planned seats number v step ≡ line_for p step
 line_again p seats number v step many is core = λ i. planned (sym many i) (sym is i) (sym core i) step
 
-module _ {P : Type 0} (rested : P → P) (p : Part P) (step : Step) where
+module _ {P : Type 0} (rested : P → P) (p : SeatPart P) (step : Step) where
   -- what a step leaves, by what its operation returns
   pub answered : (act : Act) (found answer : ℕ) → Writes step (line_for p step) act → IsAnswer act found answer
       → part_after rested p step found ≡ part_after rested p step answer
@@ -175,7 +175,7 @@ module _ (seats s : ℕ) (v : View) where
       by_line : (p : Plan) → IsLine seats s v Leave p → p.view w ≡ left v
       by_line p (leave odd hand own) = refl
 
-module _ {P : Type 0} (rested : P → P) (p : Part P) (found : ℕ) where
+module _ {P : Type 0} (rested : P → P) (p : SeatPart P) (found : ℕ) where
   pub enter_after : Enables p Enter → part_after rested p Enter found ≡ quiet_after p Enter (entered p.core)
   enter_after may = quiet rested p Enter found (entered p.core) (enter_on p.seats p.number p.core found may) refl (λ _. refl)
 
@@ -209,7 +209,7 @@ looked_kept t (Some b) (Some d) judging gained old c e =
       (λ at. or_last l.0.ended (d.cur == 0) (eq-eqb d.cur 0 (ap (λ (x : Cursor). x.cur) same ∙ at))),
     )
 
-module _ {P : Type 0} (p : Part P) where
+module _ {P : Type 0} (p : SeatPart P) where
   -- what a hand may rely on after a step of the lock, and after one on a client word
   pub hand_after : (rested : P → P) (step : Step) (found seats : ℕ) → p.number < p.seats → Enables p step → IsHandView p
       → Told seats p step found → IsHandView (part_after rested p step found)

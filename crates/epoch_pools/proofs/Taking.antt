@@ -28,7 +28,7 @@ use Rattle.lock_core.proofs.Table.{plan_of_line, both, together}
 use Rattle.epoch_pools.specs.declared.record.Away.{Away}
 use Rattle.epoch_pools.specs.declared.record.Noted.{Noted}
 use Rattle.epoch_pools.specs.declared.record.Record.{Record}
-use Rattle.epoch_pools.specs.declared.views.Part.{Part}
+use Rattle.epoch_pools.specs.declared.views.SeatPart.{SeatPart}
 use Rattle.epoch_pools.specs.Record.{noted_after, looked_with, is_judging, gained_by}
 use Rattle.epoch_pools.specs.Running.{pass_kept, Enables, part_after, core_after}
 use Rattle.epoch_pools.specs.declared.stuck.Stuck.{Stuck}
@@ -60,25 +60,25 @@ none_looked t before now judging gained none same = ap (λ (o : Option Cursor). 
     gone None = refl
     gone (Some c) = refl
 
-pub pool_call : {P : Type 0} (rested : P → P) (p q : Part P) (step : Step) (w : ℕ) (u : View) → q ≡ part_after rested p step w
+pub pool_call : {P : Type 0} (rested : P → P) (p q : SeatPart P) (step : Step) (w : ℕ) (u : View) → q ≡ part_after rested p step w
     → p.core.own ≡ Nothing → q.core ≡ u
     → u.epoch ≡ p.core.epoch → u.cursor ≡ p.core.cursor → u.hand ≡ p.core.hand → IsPoolCall p q
 pool_call {P} rested p q step w u made own core epoch cursor hand = record {
-  number = ap (λ (x : Part P). x.number) made;
-  seats = ap (λ (x : Part P). x.seats) made;
-  pass = ap (λ (x : Part P). x.pass) made ∙ pass_none rested p.core.own (held_at (core_after p step w).own) p.pass own;
-  client = ap (λ (x : Part P). x.trace.client) made;
+  number = ap (λ (x : SeatPart P). x.number) made;
+  seats = ap (λ (x : SeatPart P). x.seats) made;
+  pass = ap (λ (x : SeatPart P). x.pass) made ∙ pass_none rested p.core.own (held_at (core_after p step w).own) p.pass own;
+  client = ap (λ (x : SeatPart P). x.trace.client) made;
   epoch = ap (λ (v : View). v.epoch) core ∙ epoch;
   cursor = ap (λ (v : View). v.cursor) core ∙ cursor;
   hand = ap (λ (v : View). v.hand) core ∙ hand;
-  looked = λ none. ap (λ (x : Part P). x.trace.looked) made
+  looked = λ none. ap (λ (x : SeatPart P). x.trace.looked) made
       ∙ none_looked p.trace p.core.cursor (core_after p step w).cursor (is_judging step) (gained_by p.core (core_after p step w))
       none
-      (ap (λ (x : Part P). x.core.cursor) (sym made) ∙ (ap (λ (v : View). v.cursor) core ∙ cursor));
-  taken = let t = ap (λ (x : Part P). x.trace.taken) made in omega arith;
+      (ap (λ (x : SeatPart P). x.core.cursor) (sym made) ∙ (ap (λ (v : View). v.cursor) core ∙ cursor));
+  taken = let t = ap (λ (x : SeatPart P). x.trace.taken) made in omega arith;
 }
 
-pub no_call : {P : Type 0} (p : Part P) → IsPoolCall p p
+pub no_call : {P : Type 0} (p : SeatPart P) → IsPoolCall p p
 no_call p = record {
   number = refl;
   seats = refl;
@@ -91,7 +91,7 @@ no_call p = record {
   taken = omega arith;
 }
 
-pub both_calls : {P : Type 0} (p q r : Part P) → IsPoolCall p q → IsPoolCall q r → IsPoolCall p r
+pub both_calls : {P : Type 0} (p q r : SeatPart P) → IsPoolCall p q → IsPoolCall q r → IsPoolCall p r
 both_calls p q r a b = record {
   number = b.number ∙ a.number;
   seats = b.seats ∙ a.seats;
@@ -104,14 +104,14 @@ both_calls p q r a b = record {
   taken = let x = a.taken in let y = b.taken in omega arith;
 }
 
-pub no_look : {P : Type 0} (p : Part P) → IsLooking p p
+pub no_look : {P : Type 0} (p : SeatPart P) → IsLooking p p
 no_look p = record { call = no_call p; own = refl }
 
-pub both_looks : {P : Type 0} (p q r : Part P) → IsLooking p q → IsLooking q r → IsLooking p r
+pub both_looks : {P : Type 0} (p q r : SeatPart P) → IsLooking p q → IsLooking q r → IsLooking p r
 both_looks p q r a b = record { call = both_calls p q r a.call b.call; own = b.own ∙ a.own }
 
 -- a hand that was free is free after looks
-pub free_on : {P : Type 0} (p q : Part P) → IsFree p.core → IsLooking p q → IsFree q.core
+pub free_on : {P : Type 0} (p q : SeatPart P) → IsFree p.core → IsLooking p q → IsFree q.core
 free_on p q f l = record { outside = ap (λ n. n % 2) l.call.epoch ∙ f.outside; own = l.own ∙ f.own }
 
 -- ---- the first ready node
@@ -125,12 +125,13 @@ may_clear seats s v n free some first =
     let r = some_first v.ready some n first in
     ap is_some (plan_of_line seats s v (ClearHome n) _ (clear_home n r.0 free.own free.outside r.1))
 
-pub takes_first : {P : Type 0} (rested : P → P) (p q : Part P) (n w : ℕ) → Enables p (ClearHome n) → q ≡ part_after rested p (ClearHome n) w → TakesFirst p q n
+pub takes_first : {P : Type 0} (rested : P → P) (p q : SeatPart P) (n w : ℕ) → Enables p (ClearHome n)
+    → q ≡ part_after rested p (ClearHome n) w → TakesFirst p q n
 takes_first {P} rested p q n w may made =
     let t = clear_home_on p.seats p.number p.core n w may in
-    record { rest = t.0; ready = t.1; core = ap (λ (x : Part P). x.core) made ∙ t.2 }
+    record { rest = t.0; ready = t.1; core = ap (λ (x : SeatPart P). x.core) made ∙ t.2 }
 
-pub takes_call : {P : Type 0} (rested : P → P) (p q : Part P) (n w : ℕ) → IsFree p.core → Enables p (ClearHome n)
+pub takes_call : {P : Type 0} (rested : P → P) (p q : SeatPart P) (n w : ℕ) → IsFree p.core → Enables p (ClearHome n)
     → q ≡ part_after rested p (ClearHome n) w → IsPoolCall p q
 takes_call rested p q n w free may made =
     let t = takes_first rested p q n w may made in
@@ -156,7 +157,7 @@ unread v n a even off used = split (v.epoch % 2 == 0) (times n v.used == 0) (tim
     split true false false eb ec ed e = let none = eqb-false _ _ ed in omega arith
     split true false true eb ec ed e = absurd (cc)
 
-pub no_home_look : {P : Type 0} (p : Part P) (n : ℕ) → IsFree p.core → is_some (plan p.seats p.number p.core (ReadHome n)) ≡ false → IsHomeLook p p n
+pub no_home_look : {P : Type 0} (p : SeatPart P) (n : ℕ) → IsFree p.core → is_some (plan p.seats p.number p.core (ReadHome n)) ≡ false → IsHomeLook p p n
 no_home_look p n free off = record {
   used = λ x. omega arith;
   homes = λ x h u. h;
@@ -164,7 +165,7 @@ no_home_look p n free off = record {
   this = λ u. inl (unread p.core n _ free.outside off u);
 }
 
-module _ {P : Type 0} (rested : P → P) (p q : Part P) (n w : ℕ) (free : IsFree p.core) (may : Enables p (ReadHome n))
+module _ {P : Type 0} (rested : P → P) (p q : SeatPart P) (n w : ℕ) (free : IsFree p.core) (may : Enables p (ReadHome n))
     (made : q ≡ part_after rested p (ReadHome n) w) where
   abbrev entry : Away
   entry = record { node = n; step = p.trace.taken }
@@ -173,13 +174,13 @@ module _ {P : Type 0} (rested : P → P) (p q : Part P) (n w : ℕ) (free : IsFr
   came = came_home p.seats p.core n
 
   core : q.core ≡ (if w == 1 then (if p.seats == 1 then released came else came) else p.core)
-  core = ap (λ (x : Part P). x.core) made ∙ read_home_on p.seats p.number p.core n w may
+  core = ap (λ (x : SeatPart P). x.core) made ∙ read_home_on p.seats p.number p.core n w may
 
   away : q.trace.away ≡ (if w == 1 then p.trace.away else entry ∷ p.trace.away)
-  away = ap (λ (x : Part P). x.trace.away) made
+  away = ap (λ (x : SeatPart P). x.trace.away) made
 
   later : q.trace.taken ≡ p.trace.taken + 1
-  later = ap (λ (x : Part P). x.trace.taken) made
+  later = ap (λ (x : SeatPart P). x.trace.taken) made
 
   pub home_looking : IsLooking p q
   home_looking = split (w == 1) (p.seats == 1) core
@@ -232,7 +233,7 @@ module _ {P : Type 0} (rested : P → P) (p q : Part P) (n w : ℕ) (free : IsFr
       }
 
 -- what is known of the nodes that were looked at stays known, and this node is known
-pub home_known : {P : Type 0} (p q r : Part P) (n x : ℕ) → p.trace.taken ≤ q.trace.taken → q.trace.taken ≤ r.trace.taken
+pub home_known : {P : Type 0} (p q r : SeatPart P) (n x : ℕ) → p.trace.taken ≤ q.trace.taken → q.trace.taken ≤ r.trace.taken
     → IsHomeLook q r n → (x ≢ n → IsHomeKnown p q x) → IsHomeKnown p r x
 home_known p q r n x from on look known used =
     ⊎_elim
@@ -363,7 +364,7 @@ none_after : (a b : List ℕ) → a ++ b ≡ [] → b ≡ []
 none_after [] b e = e
 none_after (x ∷ a) b e = absurd (cc)
 
-module _ {P : Type 0} (rested : P → P) (p q : Part P) (j w : ℕ) (free : IsFree p.core) (may : Enables p (ReadEpoch j))
+module _ {P : Type 0} (rested : P → P) (p q : SeatPart P) (j w : ℕ) (free : IsFree p.core) (may : Enables p (ReadEpoch j))
     (made : q ≡ part_after rested p (ReadEpoch j) w)
     (flags : j < length p.core.passed) (noting : j < length p.core.notes) where
   abbrev u : View
@@ -373,16 +374,17 @@ module _ {P : Type 0} (rested : P → P) (p q : Part P) (j w : ℕ) (free : IsFr
   l = looked p.core j w flags noting
 
   epoch_core : q.core ≡ (if are_others_passed p.number u.passed then released u else u)
-  epoch_core = ap (λ (x : Part P). x.core) made ∙ read_epoch_on p.seats p.number p.core j w may
+  epoch_core = ap (λ (x : SeatPart P). x.core) made ∙ read_epoch_on p.seats p.number p.core j w may
 
   abbrev heard : Noted
   heard = record { seat = j; epoch = w; step = p.trace.taken }
 
   noted_now : q.trace.noted ≡ (if w % 2 == 0 || is_passed q.core j then p.trace.noted else heard ∷ p.trace.noted)
-  noted_now = ap (λ (x : Part P). x.trace.noted) made ∙ ap (λ (v : View). noted_after p.trace v (ReadEpoch j) w) (sym (ap (λ (x : Part P). x.core) made))
+  noted_now = ap (λ (x : SeatPart P). x.trace.noted) made
+      ∙ ap (λ (v : View). noted_after p.trace v (ReadEpoch j) w) (sym (ap (λ (x : SeatPart P). x.core) made))
 
   epoch_later : q.trace.taken ≡ p.trace.taken + 1
-  epoch_later = ap (λ (x : Part P). x.trace.taken) made
+  epoch_later = ap (λ (x : SeatPart P). x.trace.taken) made
 
   pub epoch_looking : IsLooking p q
   epoch_looking = split (are_others_passed p.number u.passed) epoch_core
@@ -432,7 +434,7 @@ module _ {P : Type 0} (rested : P → P) (p q : Part P) (j w : ℕ) (free : IsFr
           ready = ap (λ (v : View). v.ready) e ∙ l.ready;
           used = ap (λ (v : View). v.used) e ∙ l.used;
           homes = ap (λ (v : View). v.homes) e ∙ l.homes;
-          barred = ap (λ (x : Part P). are_others_passed x.number q.core.passed) made ∙ (ap (λ (v : View). are_others_passed p.number v.passed) e ∙ all);
+          barred = ap (λ (x : SeatPart P). are_others_passed x.number q.core.passed) made ∙ (ap (λ (v : View). are_others_passed p.number v.passed) e ∙ all);
         };
         passed = λ k d. ap (λ (v : View). is_passed v k) e ∙ l.passed k d;
         notes = λ k d. ap (λ (v : View). note_of v k) e ∙ l.notes k d;
@@ -441,7 +443,7 @@ module _ {P : Type 0} (rested : P → P) (p q : Part P) (j w : ℕ) (free : IsFr
       })
 
 -- what is known of the seats that were looked at stays known, and this seat is known
-pub seat_known : {P : Type 0} (p q r : Part P) (j k : ℕ) → p.trace.taken ≤ q.trace.taken → q.trace.taken ≤ r.trace.taken
+pub seat_known : {P : Type 0} (p q r : SeatPart P) (j k : ℕ) → p.trace.taken ≤ q.trace.taken → q.trace.taken ≤ r.trace.taken
     → IsSeatLook q r j → (k ≢ j → IsSeatKnown p q k) → IsSeatKnown p r k
 seat_known p q r j k from on look known =
     ⊎_elim
@@ -476,7 +478,7 @@ seat_known p q r j k from on look known =
     (cases_eq k j)
 
 -- what this call knows of a seat is known since an earlier moment of it
-pub seat_known_since : {P : Type 0} (p q r : Part P) (k : ℕ) → p.trace.taken ≤ q.trace.taken → IsSeatKnown q r k → IsSeatKnown p r k
+pub seat_known_since : {P : Type 0} (p q r : SeatPart P) (k : ℕ) → p.trace.taken ≤ q.trace.taken → IsSeatKnown q r k → IsSeatKnown p r k
 seat_known_since p q r k from known =
     ⊎_elim
     (λ (t : is_passed r.core k ≡ true). inl t)
@@ -493,7 +495,7 @@ seat_known_since p q r k from known =
     known
 
 -- a seat that is known and isn't passed has a note
-pub known_note : {P : Type 0} (p q : Part P) (k : ℕ) → IsSeatKnown p q k → is_passed q.core k ≡ false
+pub known_note : {P : Type 0} (p q : SeatPart P) (k : ℕ) → IsSeatKnown p q k → is_passed q.core k ≡ false
     → IsReadInside p.trace.taken q.trace.taken q.trace.noted q.core k
 known_note p q k known unpassed =
     ⊎_elim
@@ -534,7 +536,7 @@ some_home [] d = absurd (d refl)
 some_home (x ∷ xs) d = (x, let one : ◌≡◌ {A = ℕ} (if x == x then 1 else 0) 1 = ap (λ (b : Bool). if b then 1 else 0) (eq-eqb x x refl) in omega arith)
 
 -- the first seat that isn't passed holds the nodes up that wait
-pub held_up_by : {P : Type 0} (p q r : Part P) (seat epoch : ℕ) → p.trace.taken ≤ q.trace.taken → IsBarred q r → q.core.homes ≢ []
+pub held_up_by : {P : Type 0} (p q r : SeatPart P) (seat epoch : ℕ) → p.trace.taken ≤ q.trace.taken → IsBarred q r → q.core.homes ≢ []
     → IsViewSized r.seats r.number r.core → IsFirstInside r.core r.seats r.number seat epoch → IsHeldUp p r seat epoch
 held_up_by p q r seat epoch from barred some sized first =
     let h = some_home r.core.homes (λ none. some (sym barred.waiting.homes ∙ none)) in
@@ -550,13 +552,13 @@ held_up_by p q r seat epoch from barred some sized first =
       lowest = first.lowest;
     }
 
-pub stuck_on : {P : Type 0} (p q r : Part P) (s : Stuck) → p.trace.taken ≤ q.trace.taken → IsBarred q r → q.core.homes ≢ []
+pub stuck_on : {P : Type 0} (p q r : SeatPart P) (s : Stuck) → p.trace.taken ≤ q.trace.taken → IsBarred q r → q.core.homes ≢ []
     → IsViewSized r.seats r.number r.core → IsInside r s → IsStuck p r s
 stuck_on p q r (Inside seat epoch) from barred some sized first = held_up_by p q r seat epoch from barred some sized first
 stuck_on p q r (IsAway node) from barred some sized first = absurd first
 
 -- a node that is taken after looks was made ready by them
-pub takes_filled : {P : Type 0} (p q r : Part P) (n : ℕ) → IsLooking p q → p.core.ready ≡ [] → p.core.own ≡ Nothing
+pub takes_filled : {P : Type 0} (p q r : SeatPart P) (n : ℕ) → IsLooking p q → p.core.ready ≡ [] → p.core.own ≡ Nothing
     → IsWhole p.number p.core → IsWhole q.number q.core → TakesFirst q r n → TakesFilled p r n
 takes_filled {P} p q r n look empty own was is first = record {
   empty = empty;

@@ -12,7 +12,7 @@ use Rattle.lock_core.specs.Words.{Heap, heap_of, word_count}
 use Rattle.lock_core.specs.Machine.{held_at}
 use Rattle.lock_laws.specs.Laws.{IsLock}
 use Rattle.lock_laws.specs.Invariant.{MayReach, IsIdle}
-use Rattle.epoch_pools.specs.declared.views.Part.{Part}
+use Rattle.epoch_pools.specs.declared.views.SeatPart.{SeatPart}
 use Rattle.epoch_pools.specs.declared.views.ListView.{ListView}
 use Rattle.epoch_pools.specs.Running.{machine, Stands, IsRunningList}
 
@@ -22,7 +22,7 @@ lock_heap seats words = heap_of seats (take (word_count seats) words)
 
 module _ {P : Type 0} where
   -- what belongs to a seat's number is in that view of the table
-  pub record IsSeen (views : List (ListView P)) (p : Part P) : Type 0 where
+  pub record IsSeen (views : List (ListView P)) (p : SeatPart P) : Type 0 where
     pub id : ℕ
     pub view : ListView P
     pub at : get_elem? views id ≡ some view
@@ -30,15 +30,15 @@ module _ {P : Type 0} where
     pub has : get_elem? view.parts place ≡ some p
 
   -- each of a list's parts is in one view, and each part in a view is that of its number
-  pub record AreSeen (seats : ℕ) (views : List (ListView P)) (parts : List (Part P)) : Type 0 where
+  pub record AreSeen (seats : ℕ) (views : List (ListView P)) (parts : List (SeatPart P)) : Type 0 where
     pub count : length parts ≡ seats
-    pub seen : (p : Part P) → IsSeen views p → get_elem? parts p.number ≡ some p
+    pub seen : (p : SeatPart P) → IsSeen views p → get_elem? parts p.number ≡ some p
     pub stands : (n : ℕ) → n < seats → (id : ℕ) × Stands views id n
 
   -- the words of the lock, with what the seats know by number, are a state that the list lock may be in
   abbrev pub KeepsLock : (Grants → List ℕ → List P → Type 0) → Type 0
   KeepsLock holds = (seats clients : ℕ) (s : State (Unit {0}) (ListView P)) → IsRunningList seats clients holds s
-      → (parts : List (Part P)) × AreSeen seats s.views parts × IsLock (machine seats s.words parts)
+      → (parts : List (SeatPart P)) × AreSeen seats s.views parts × IsLock (machine seats s.words parts)
 
   -- a moment between two steps, by seat number: no two held ranges of different seats conflict, the guard's rule
   -- holds, and each seat's held range and pass are those of the one view that it is in
@@ -48,7 +48,7 @@ module _ {P : Type 0} where
     pub pass_count : length passes ≡ seats
     pub exclusive : IsExclusive grants
     pub guard : holds grants words passes
-    pub seen : (p : Part P) → IsSeen views p → (get_elem? grants p.number ≡ some (held_at p.core.own)) × (get_elem? passes p.number ≡ some p.pass)
+    pub seen : (p : SeatPart P) → IsSeen views p → (get_elem? grants p.number ≡ some (held_at p.core.own)) × (get_elem? passes p.number ≡ some p.pass)
     pub stands : (n : ℕ) → n < seats → (id : ℕ) × Stands views id n
 
   -- the rule gives such a moment in every state that meets it
@@ -60,5 +60,5 @@ module _ {P : Type 0} where
   -- nor one to which next words lead from there. So it is with a node that was just taken
   abbrev pub KeepsNoReuse : (Grants → List ℕ → List P → Type 0) → Type 0
   KeepsNoReuse holds = (seats clients : ℕ) (s : State (Unit {0}) (ListView P)) → IsRunningList seats clients holds s
-      → (owner other : Part P) → IsSeen s.views owner → IsSeen s.views other → (x : ℕ) → IsIdle owner.core x
+      → (owner other : SeatPart P) → IsSeen s.views owner → IsSeen s.views other → (x : ℕ) → IsIdle owner.core x
       → (c : Cursor) → other.core.cursor ≡ Some c → ¬ (MayReach (lock_heap seats s.words) c x)

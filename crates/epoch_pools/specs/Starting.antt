@@ -12,22 +12,22 @@ use Rattle.atomic_table.proofs.Lists.{at_set, set_here, set_else, at_longer, at_
 use Rattle.lock_core.specs.Grants.{Grants}
 use Rattle.lock_core.specs.Words.{word_count}
 use Rattle.lock_core.proofs.ByPlace.{below, snoc_at}
-use Rattle.epoch_pools.specs.declared.views.Part.{Part}
+use Rattle.epoch_pools.specs.declared.views.SeatPart.{SeatPart}
 use Rattle.epoch_pools.specs.declared.views.ListView.{ListView}
 use Rattle.epoch_pools.specs.Running.{view, IsOwned, Stands, IsRunningList}
 use Rattle.epoch_pools.specs.Hands.{fresh}
 
 -- what the seat of number n begins with, over all words of the table
-abbrev pub begin : {P : Type 0} → (List ℕ → ℕ → P) → ℕ → List ℕ → ℕ → Part P
+abbrev pub begin : {P : Type 0} → (List ℕ → ℕ → P) → ℕ → List ℕ → ℕ → SeatPart P
 begin first seats words n = fresh (first (drop (word_count seats) words) n) seats n
 
 -- the parts from number n on, so many
-abbrev pub parts_from : {P : Type 0} → (ℕ → Part P) → ℕ → ℕ → List (Part P)
+abbrev pub parts_from : {P : Type 0} → (ℕ → SeatPart P) → ℕ → ℕ → List (SeatPart P)
 parts_from f n zero = []
 parts_from f n (suc k) = f n ∷ parts_from f (suc n) k
 
-module _ {P : Type 0} (f : ℕ → Part P) where
-  pub parts_at : (s k i : ℕ) (p : Part P) → get_elem? (parts_from f s k) i ≡ some p → (i < k) × (p ≡ f (s + i))
+module _ {P : Type 0} (f : ℕ → SeatPart P) where
+  pub parts_at : (s k i : ℕ) (p : SeatPart P) → get_elem? (parts_from f s k) i ≡ some p → (i < k) × (p ≡ f (s + i))
   parts_at s zero i p e = absurd (some-ne-none p (sym e))
   parts_at s (suc k) zero p e = let z : s ≡ s + 0 = omega arith in (omega arith, sym (some-injective (f s) p e) ∙ ap f z)
   parts_at s (suc k) (suc i) p e = let r = parts_at (suc s) k i p e in let z : suc s + i ≡ s + suc i = omega arith in (omega (arith, r.0), r.1 ∙ ap f z)
@@ -44,7 +44,7 @@ module _ {P : Type 0} (f : ℕ → Part P) where
   last_part : (s : ℕ) → parts_from f s ((s + 1) - s) ≡ f s ∷ []
   last_part s = let z : (s + 1) - s ≡ 1 = omega arith in ap (λ k. parts_from f s k) z
 
-  module _ (numbered : (n : ℕ) → (f n).number ≡ n) (views : List (ListView P)) (parts : List (Part P)) (owner : ℕ → ℕ) (seats s id : ℕ)
+  module _ (numbered : (n : ℕ) → (f n).number ≡ n) (views : List (ListView P)) (parts : List (SeatPart P)) (owner : ℕ → ℕ) (seats s id : ℕ)
       (count : length parts ≡ seats) (o : IsOwned views parts owner) (more : s + 1 < seats)
       (at : get_elem? views id ≡ some (view (parts_from f s (seats - s)))) where
     -- every number from s on stands in the view that is cut
@@ -72,7 +72,7 @@ module _ {P : Type 0} (f : ℕ → Part P) where
         let i : s + k ≡ s = let lt = q.0 in omega arith in
         let is : p ≡ f s = q.1 ∙ ap f i in
         let m = mine s (omega arith) (omega arith) in
-        let num : p.number ≡ s = ap (λ (x : Part P). x.number) is ∙ numbered s in
+        let num : p.number ≡ s = ap (λ (x : SeatPart P). x.number) is ∙ numbered s in
         (ap (get_elem? parts) num ∙ (m.0 ∙ ap some (sym is)), ap owner' num ∙ (kept s (omega arith) ∙ (m.1 ∙ sym t.0))))
         (λ t. let r = o id' v t.1 k p there in
         let lt = below parts p.number p r.0 in
@@ -84,7 +84,7 @@ module _ {P : Type 0} (f : ℕ → Part P) where
         subst (λ (z : ListView P). get_elem? z.parts k ≡ some p) (sym new.1) there in
         let q = parts_at (s + 1) (seats - (s + 1)) k p e in
         let n = (s + 1) + k in
-        let num : p.number ≡ n = ap (λ (x : Part P). x.number) q.1 ∙ numbered n in
+        let num : p.number ≡ n = ap (λ (x : SeatPart P). x.number) q.1 ∙ numbered n in
         let lt = q.0 in
         let m = mine n (omega arith) (omega arith) in (
           ap (get_elem? parts) num ∙ (m.0 ∙ ap some (sym q.1)),
@@ -107,7 +107,7 @@ module _ {P : Type 0} (f : ℕ → Part P) where
         (λ e.  -- a number of the view that was cut, at most its first
         let is : view (parts_from f s (seats - s)) ≡ st.holder = some-injective _ _ (sym at ∙ (ap (get_elem? views) (sym e) ∙ st.at)) in
         let q = parts_at s (seats - s) st.place st.part (subst (λ (z : ListView P). get_elem? z.parts st.place ≡ some st.part) (sym is) st.has) in
-        let num : s + st.place ≡ n = sym (numbered (s + st.place)) ∙ (ap (λ (x : Part P). x.number) (sym q.1) ∙ st.number) in
+        let num : s + st.place ≡ n = sym (numbered (s + st.place)) ∙ (ap (λ (x : SeatPart P). x.number) (sym q.1) ∙ st.number) in
         record {
           holder = view (f s ∷ []);
           at = ap (get_elem? views') (kept n le ∙ e) ∙ here;

@@ -10,7 +10,7 @@ use Rattle.lock_core.specs.declared.views.Own.TheVariants.{Nothing, Filling}
 use Rattle.lock_core.specs.Views.{is_passed, note_of, taken}
 use Rattle.epoch_pools.specs.declared.record.Away.{Away}
 use Rattle.epoch_pools.specs.declared.record.Noted.{Noted}
-use Rattle.epoch_pools.specs.declared.views.Part.{Part}
+use Rattle.epoch_pools.specs.declared.views.SeatPart.{SeatPart}
 use Rattle.epoch_pools.specs.declared.stuck.Stuck.{Stuck}
 use Rattle.epoch_pools.specs.declared.stuck.Stuck.TheVariants.{Inside, Away as IsAway}
 use Rattle.epoch_pools.specs.declared.stuck.Taken.{Taken}
@@ -22,7 +22,7 @@ pub record IsFree (v : View) : Type 0 where
   pub own : v.own ≡ Nothing
 
 -- a call that makes no step on a client word, enters and leaves no operation, and touches no node but of the pools
-pub record IsPoolCall {P : Type 0} (p q : Part P) : Type 0 where
+pub record IsPoolCall {P : Type 0} (p q : SeatPart P) : Type 0 where
   pub number : q.number ≡ p.number
   pub seats : q.seats ≡ p.seats
   pub pass : q.pass ≡ p.pass
@@ -52,13 +52,13 @@ pub record IsReadInside (since taken : ℕ) (noted : List Noted) (v : View) (k :
   pub inside : is_passed v k ≡ false
 
 -- every used node was read as away at a step of this call, and the lowest of them is named
-pub record IsAllAway {P : Type 0} (p q : Part P) (node : ℕ) : Type 0 where
+pub record IsAllAway {P : Type 0} (p q : SeatPart P) (node : ℕ) : Type 0 where
   pub used : 1 ≤ times node q.core.used
   pub lowest : (x : ℕ) → 1 ≤ times x q.core.used → node ≤ x
   pub away : (x : ℕ) → 1 ≤ times x q.core.used → IsReadAway p.trace.taken q.trace.taken q.trace.away x
 
 -- a used node was read as 1 at its home, and of that seat, the first that isn't passed, this call read that odd epoch
-pub record IsHeldUp {P : Type 0} (p q : Part P) (seat epoch : ℕ) : Type 0 where
+pub record IsHeldUp {P : Type 0} (p q : SeatPart P) (seat epoch : ℕ) : Type 0 where
   pub node : ℕ
   pub home : 1 ≤ times node q.core.homes
   pub used : 1 ≤ times node q.core.used
@@ -68,57 +68,57 @@ pub record IsHeldUp {P : Type 0} (p q : Part P) (seat epoch : ℕ) : Type 0 wher
   pub epoch_is : read.entry.epoch ≡ epoch
   pub lowest : (k : ℕ) → k < seat → k ≢ q.number → is_passed q.core k ≡ true
 
-abbrev pub IsStuck : {P : Type 0} → Part P → Part P → Stuck → Type 0
+abbrev pub IsStuck : {P : Type 0} → SeatPart P → SeatPart P → Stuck → Type 0
 IsStuck p q (Inside seat epoch) = IsHeldUp p q seat epoch
 IsStuck p q (IsAway node) = IsAllAway p q node
 
 -- the first ready node was taken, and nothing else of the view changes
-pub record TakesFirst {P : Type 0} (p q : Part P) (node : ℕ) : Type 0 where
+pub record TakesFirst {P : Type 0} (p q : SeatPart P) (node : ℕ) : Type 0 where
   pub rest : List ℕ
   pub ready : p.core.ready ≡ node ∷ rest
   pub core : q.core ≡ taken p.core node rest
 
 -- no node was ready, and this call's barrier made used ones ready, of which the first was taken
-pub record TakesFilled {P : Type 0} (p q : Part P) (node : ℕ) : Type 0 where
+pub record TakesFilled {P : Type 0} (p q : SeatPart P) (node : ℕ) : Type 0 where
   pub empty : p.core.ready ≡ []
   pub nodes : (x : ℕ) → times x (node ∷ q.core.ready) + times x q.core.used ≡ times x p.core.used
 
 -- a node comes exactly where one was ready or the barrier of this call made one ready, and it is the own node then, of
 -- whose words nothing is known; otherwise the hand is as free as before, and there is a cause
-abbrev pub IsTaken : {P : Type 0} → Part P → Part P → Taken → Type 0
+abbrev pub IsTaken : {P : Type 0} → SeatPart P → SeatPart P → Taken → Type 0
 IsTaken p q (Node node) = (q.core.own ≡ Filling node None None Writer None) × (TakesFirst p q node ⊎ TakesFilled p q node)
 IsTaken p q (Out stuck) = (p.core.ready ≡ []) × (q.core.ready ≡ []) × (q.core.own ≡ Nothing) × IsStuck p q stuck
 
 -- the looks of a call that has taken no node yet: the hand stays free
-pub record IsLooking {P : Type 0} (p q : Part P) : Type 0 where
+pub record IsLooking {P : Type 0} (p q : SeatPart P) : Type 0 where
   pub call : IsPoolCall p q
   pub own : q.core.own ≡ p.core.own
 
 -- a look whether node n came home. It is no used node any more, or it is a candidate, or it was read as away; what was
 -- known of the others stays, where they are used still
-pub record IsHomeLook {P : Type 0} (p q : Part P) (n : ℕ) : Type 0 where
+pub record IsHomeLook {P : Type 0} (p q : SeatPart P) (n : ℕ) : Type 0 where
   pub used : (x : ℕ) → times x q.core.used ≤ times x p.core.used
   pub homes : (x : ℕ) → 1 ≤ times x p.core.homes → 1 ≤ times x q.core.used → 1 ≤ times x q.core.homes
   pub away : (x : ℕ) → x ≢ n → find (λ a. a.node == x) q.trace.away ≡ find (λ a. a.node == x) p.trace.away
   pub this : 1 ≤ times n q.core.used → (1 ≤ times n q.core.homes) ⊎ IsReadAway p.trace.taken q.trace.taken q.trace.away n
 
 -- a used node of the hand is a candidate, or was read as away at a step since p
-abbrev pub IsHomeKnown : {P : Type 0} → Part P → Part P → ℕ → Type 0
+abbrev pub IsHomeKnown : {P : Type 0} → SeatPart P → SeatPart P → ℕ → Type 0
 IsHomeKnown p q x = 1 ≤ times x q.core.used → (1 ≤ times x q.core.homes) ⊎ IsReadAway p.trace.taken q.trace.taken q.trace.away x
 
 -- seat k is passed, or this call read that it is inside
-abbrev pub IsSeatKnown : {P : Type 0} → Part P → Part P → ℕ → Type 0
+abbrev pub IsSeatKnown : {P : Type 0} → SeatPart P → SeatPart P → ℕ → Type 0
 IsSeatKnown p q k = (is_passed q.core k ≡ true) ⊎ IsReadInside p.trace.taken q.trace.taken q.trace.noted q.core k
 
 -- the candidates wait on, since not all others are passed
-pub record IsWaiting {P : Type 0} (p q : Part P) : Type 0 where
+pub record IsWaiting {P : Type 0} (p q : SeatPart P) : Type 0 where
   pub ready : q.core.ready ≡ p.core.ready
   pub used : q.core.used ≡ p.core.used
   pub homes : q.core.homes ≡ p.core.homes
   pub barred : are_others_passed q.number q.core.passed ≡ false
 
 -- a look at the epoch of seat j after which the candidates wait on: what was known of the other seats stays
-pub record IsSeatLook {P : Type 0} (p q : Part P) (j : ℕ) : Type 0 where
+pub record IsSeatLook {P : Type 0} (p q : SeatPart P) (j : ℕ) : Type 0 where
   pub waiting : IsWaiting p q
   pub passed : (k : ℕ) → k ≢ j → is_passed q.core k ≡ is_passed p.core k
   pub notes : (k : ℕ) → k ≢ j → note_of q.core k ≡ note_of p.core k
@@ -126,11 +126,11 @@ pub record IsSeatLook {P : Type 0} (p q : Part P) (j : ℕ) : Type 0 where
   pub this : IsSeatKnown p q j
 
 -- a look at the epoch of seat j: the candidates became ready, or wait on
-abbrev pub IsEpochLook : {P : Type 0} → Part P → Part P → ℕ → Type 0
+abbrev pub IsEpochLook : {P : Type 0} → SeatPart P → SeatPart P → ℕ → Type 0
 IsEpochLook p q j = (q.core.ready ≢ []) ⊎ IsSeatLook p q j
 
 -- every other seat was looked at, and not all of them are passed
-pub record IsBarred {P : Type 0} (p q : Part P) : Type 0 where
+pub record IsBarred {P : Type 0} (p q : SeatPart P) : Type 0 where
   pub waiting : IsWaiting p q
   pub known : (k : ℕ) → k < q.seats → k ≢ q.number → IsSeatKnown p q k
 
@@ -143,11 +143,11 @@ pub record IsFirstInside (v : View) (seats number seat epoch : ℕ) : Type 0 whe
   pub lowest : (k : ℕ) → k < seat → k ≢ number → is_passed v k ≡ true
 
 -- a seat is named that is so, of the hand's own view
-abbrev pub IsInside : {P : Type 0} → Part P → Stuck → Type 0
+abbrev pub IsInside : {P : Type 0} → SeatPart P → Stuck → Type 0
 IsInside p (Inside seat epoch) = IsFirstInside p.core p.seats p.number seat epoch
 IsInside p (IsAway node) = ⊥
 
 -- used nodes became ready, or there is a cause why none did
-abbrev pub IsRefill : {P : Type 0} → Part P → Part P → Option Stuck → Type 0
+abbrev pub IsRefill : {P : Type 0} → SeatPart P → SeatPart P → Option Stuck → Type 0
 IsRefill p q None = q.core.ready ≢ []
 IsRefill p q (Some stuck) = (q.core.ready ≡ []) × IsStuck p q stuck

@@ -14,9 +14,9 @@ pub struct Hand<G: Guard> {
 
 impl<G: Guard> Model for Hand<G> {
     ghost use Rattle.std.specs.Prelude.{◌≡◌};
-    ghost use Rattle.epoch_pools.specs.Hands.{Standing, IsHandView};
+    ghost use Rattle.epoch_pools.specs.Hands.{HandState, IsHandView};
 
-    ghost Value = { Standing G.Pass };
+    ghost Value = { HandState G.Pass };
 
     ghost view = { λ h. h.token };
 

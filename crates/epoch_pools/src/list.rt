@@ -26,9 +26,9 @@ pub struct List<G: Guard> {
 
 impl<G: Guard> Model for List<G> {
     ghost use Rattle.std.specs.Prelude.{length};
-    ghost use Rattle.epoch_pools.specs.Hands.{Shape, IsTable};
+    ghost use Rattle.epoch_pools.specs.Hands.{ListShape, IsTable};
 
-    ghost Value = { Shape };
+    ghost Value = { ListShape };
 
     ghost view = { λ t. record { table = t.table.shared.table_id; seats = t.seats; client = t.client } };
 

@@ -9,7 +9,7 @@ fn sends<T: Send>() {}
 fn shares<T: Sync>() {}
 
 /// That a list is Send and Sync, and a hand is Send, over every guard. It does nothing.
-pub fn crosses_threads<G: Guard>() {
+pub fn is_send_and_sync<G: Guard>() {
     sends::<List<G>>();
     shares::<List<G>>();
     sends::<Hand<G>>();

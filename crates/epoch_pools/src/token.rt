@@ -16,9 +16,9 @@ pub struct Token<G: Guard> {
 impl<G: Guard> Model for Token<G> {
     ghost use Rattle.std.specs.Prelude.{◌≡◌, ◌<◌, ◌≤◌, [], ◌∷◌};
     ghost use Rattle.lock_core.specs.Words.{word_count};
-    ghost use Rattle.epoch_pools.specs.Hands.{Standing, part_in};
+    ghost use Rattle.epoch_pools.specs.Hands.{HandState, part_in};
 
-    ghost Value = { Standing G.Pass };
+    ghost Value = { HandState G.Pass };
 
     ghost view = { λ t. record { table = t.seat.table_id; part = part_in (G.first [] 0) t.seat.me.0.parts } };
 

@@ -6,7 +6,7 @@ use lock_core::View;
 use std::collections::LinkedList;
 
 /// What belongs to one seat number.
-pub struct Part<P> {
+pub struct SeatPart<P> {
     pub number: u32,
     /// How many seats the table has.
     pub seats: u32,
@@ -18,5 +18,5 @@ pub struct Part<P> {
 
 /// The parts that are in one view: one while the table runs, and more at opening and closing.
 pub struct ListView<P> {
-    pub parts: LinkedList<Part<P>>,
+    pub parts: LinkedList<SeatPart<P>>,
 }

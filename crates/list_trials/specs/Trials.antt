@@ -8,20 +8,20 @@ use Rattle.lock_core.specs.declared.views.View.{View}
 use Rattle.lock_core.specs.declared.range.Mode.TheVariants.{Writer}
 use Rattle.lock_core.specs.declared.views.Todo.TheVariants.{Done}
 use Rattle.lock_core.specs.Nodes.{Filled, Listed, filling, listed}
-use Rattle.epoch_pools.specs.Hands.{Standing, IsIdle}
+use Rattle.epoch_pools.specs.Hands.{HandState, IsIdle}
 
 -- a hand of the same list and number
-pub record IsSameHand {P : Type 0} (before after : Standing P) : Type 0 where
+pub record IsSameHand {P : Type 0} (before after : HandState P) : Type 0 where
   pub table : after.table ≡ before.table
   pub number : after.part.number ≡ before.part.number
 
 -- hands of one list, in order of their numbers
-abbrev pub AreInOrder : {P : Type 0} → TableId → List (Standing P) → Type 0
-AreInOrder {P} table hands = (k : ℕ) (h : Standing P) → get_elem? hands k ≡ some h → (h.table ≡ table) × (h.part.number ≡ k)
+abbrev pub AreInOrder : {P : Type 0} → TableId → List (HandState P) → Type 0
+AreInOrder {P} table hands = (k : ℕ) (h : HandState P) → get_elem? hands k ≡ some h → (h.table ≡ table) × (h.part.number ≡ k)
 
 -- each of the hands is idle
-abbrev pub AreAllIdle : {P : Type 0} → List (Standing P) → Type 0
-AreAllIdle {P} hands = (k : ℕ) (h : Standing P) → get_elem? hands k ≡ some h → IsIdle h.part.core
+abbrev pub AreAllIdle : {P : Type 0} → List (HandState P) → Type 0
+AreAllIdle {P} hands = (k : ℕ) (h : HandState P) → get_elem? hands k ≡ some h → IsIdle h.part.core
 
 -- outside, with this node of its own, not linked yet, and nothing in the hand
 pub record IsFilling (v : View) (f : Filled) : Type 0 where

@@ -56,7 +56,7 @@ fn take_free<L: Ledger>(
 }
 
 /// Enters the epoch, if the hand may.
-fn go_in<L: Ledger>(
+fn enter_epoch<L: Ledger>(
     list: &List<FreeGuard>,
     hand: &mut Hand<FreeGuard>,
     steps: &mut Steps<L>,
@@ -72,7 +72,7 @@ fn go_in<L: Ledger>(
 }
 
 /// Leaves the epoch, if the hand may.
-fn go_out<L: Ledger>(
+fn leave_epoch<L: Ledger>(
     list: &List<FreeGuard>,
     hand: &mut Hand<FreeGuard>,
     steps: &mut Steps<L>,
@@ -131,8 +131,8 @@ fn make_counting<L: Ledger>(
 {
     let mut steps = Steps::<L>::new(blank);
     match kind {
-        Step::Enter => go_in(list, hand, &mut steps),
-        Step::Leave => go_out(list, hand, &mut steps),
+        Step::Enter => enter_epoch(list, hand, &mut steps),
+        Step::Leave => leave_epoch(list, hand, &mut steps),
         Step::GiveHome => put_home(list, hand, &mut steps),
         Step::ClearHome { node } => {
             if take_free(list, hand, &mut steps) == Some(Taken::Node(node)) {

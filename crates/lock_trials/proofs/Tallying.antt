@@ -10,7 +10,7 @@ use Rattle.atomic_table.specs.Seated.{TableId}
 use Rattle.lock_core.specs.Grants.{Grants}
 use Rattle.lock_core.specs.Client.{loads, stores, IsAllowed, IsMade}
 use Rattle.lock_core.specs.declared.range.Held.{Held}
-use Rattle.range_rw.specs.Contract.{Known, AreNewSeats, first_passes, pass_in}
+use Rattle.range_rw.specs.Contract.{SeatState, AreNewSeats, first_passes, pass_in}
 use Rattle.range_rw.proofs.SeatLists.{at_firsts, new_passes}
 use Rattle.lock_trials.specs.declared.tally.Brought.{Brought}
 use Rattle.lock_trials.specs.Turnstile.{IsWriterIn}
@@ -67,7 +67,7 @@ tally_begins word seats grants more small = record {
 }
 
 -- what seats bring in once each has added so many times
-total_added : (n : ℕ) (old new : List (Known Brought)) → length new ≡ length old → HaveAdded n old new
+total_added : (n : ℕ) (old new : List (SeatState Brought)) → length new ≡ length old → HaveAdded n old new
     → total (map pass_in new) ≡ total (map pass_in old) + length old * n
 total_added n [] [] same all = omega arith
 total_added n [] (y ∷ ys) same all = absurd (omega arith)
@@ -81,7 +81,8 @@ total_added n (x ∷ xs) (y ∷ ys) same all =
     omega arith
 
 -- what the word is at the closing
-pub tally_left : (table : TableId) (word n : ℕ) (old new : List (Known Brought)) (grants : Grants) (words : List ℕ) → 0 < length old → length new ≡ length old
+pub tally_left : (table : TableId) (word n : ℕ) (old new : List (SeatState Brought)) (grants : Grants) (words : List ℕ)
+    → 0 < length old → length new ≡ length old
     → AreNewSeats table (first_share (word ∷ [])) old → HaveAdded n old new → IsTallied grants words (map pass_in new)
     → slice_index words 0 ≡ (word + length old * n) % 2 ^ 64
 tally_left table word n old new grants words more same begun added tallied =

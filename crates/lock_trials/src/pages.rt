@@ -75,7 +75,7 @@ fn count(table: &RangeTable<FreeGuard>, seat: &mut Seat<FreeGuard>, page: u32, b
 }
 
 /// Goes into every page of the errand, and returns how many of them had a count that it may not find.
-fn go_in(table: &RangeTable<FreeGuard>, seat: &mut Seat<FreeGuard>, errand: Errand) -> u64
+fn enter_pages(table: &RangeTable<FreeGuard>, seat: &mut Seat<FreeGuard>, errand: Errand) -> u64
     requires table { seat.old.table ≡ table.now.table }
     requires pages { errand.end ≤ table.now.client }
     ensures table { seat.new.table ≡ seat.old.table }
@@ -93,7 +93,7 @@ fn go_in(table: &RangeTable<FreeGuard>, seat: &mut Seat<FreeGuard>, errand: Erra
 }
 
 /// Goes out of every page of the errand.
-fn go_out(table: &RangeTable<FreeGuard>, seat: &mut Seat<FreeGuard>, errand: Errand)
+fn leave_pages(table: &RangeTable<FreeGuard>, seat: &mut Seat<FreeGuard>, errand: Errand)
     requires table { seat.old.table ≡ table.now.table }
     requires pages { errand.end ≤ table.now.client }
     ensures table { seat.new.table ≡ seat.old.table }
@@ -124,8 +124,8 @@ fn cross_once<R: Wait>(
         unreachable!()
     };
     table.acquire(wait, seat, range, errand.mode);
-    let met = go_in(table, seat, errand);
-    go_out(table, seat, errand);
+    let met = enter_pages(table, seat, errand);
+    leave_pages(table, seat, errand);
     table.give_back(seat);
     met
 }

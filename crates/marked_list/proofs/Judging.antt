@@ -25,12 +25,12 @@ use Rattle.lock_core.specs.Sizes.{IsViewSound}
 use Rattle.lock_core.proofs.SizedSteps.{plain_is}
 use Rattle.lock_core.proofs.Verdicts.{judges_by_conflict_law}
 use Rattle.epoch_pools.specs.declared.record.Met.{Met}
-use Rattle.epoch_pools.specs.declared.views.Part.{Part}
+use Rattle.epoch_pools.specs.declared.views.SeatPart.{SeatPart}
 use Rattle.epoch_pools.specs.Record.{met_at}
 use Rattle.epoch_pools.specs.Running.{Enables, line_for, part_after, Told}
 use Rattle.epoch_pools.specs.Hands.{IsHandView}
 use Rattle.marked_list.specs.declared.answers.Walked.TheVariants.{Place}
-use Rattle.marked_list.specs.Order.{MayGo, IsAhead, IsInside, StandsAt, KnowsNext, StandsInConflict}
+use Rattle.marked_list.specs.Order.{OwnMayWalk, IsAhead, IsInside, StandsAt, KnowsNext, StandsInConflict}
 use Rattle.marked_list.specs.Leaves.{IsSamePools, IsOn, IsSameWalk, HasJudged}
 use Rattle.marked_list.specs.Causes.{IsMet, asked_of, judged_in}
 use Rattle.marked_list.specs.Answers.{Arrives}
@@ -46,7 +46,7 @@ use Rattle.marked_list.proofs.Moments.{found_other, found_range, found_own}
 same_pools : (v : View) (o : Option Cursor) → IsSamePools v (record v { cursor = o })
 same_pools v o = record { ready = refl; used = refl; homes = refl; notes = refl; passed = refl }
 
-module _ {P : Type 0} (p : Part P) (st : StandsAt p.core) where
+module _ {P : Type 0} (p : SeatPart P) (st : StandsAt p.core) where
   abbrev walk_plan : Plan
   walk_plan = loads (cell_place p.seats (suc st.node)) (walked p.core p.core.cursor)
 
@@ -56,7 +56,7 @@ module _ {P : Type 0} (p : Part P) (st : StandsAt p.core) where
   pub may_walk : Enables p Walk
   may_walk = enables p Walk walk_plan walk_line
 
-  module _ (rested : P → P) (q : Part P) (w : ℕ) (made : q ≡ part_after rested p Walk w) where
+  module _ (rested : P → P) (q : SeatPart P) (w : ℕ) (made : q ≡ part_after rested p Walk w) where
     abbrev next_cursor : Cursor
     next_cursor = record st.cursor { next = Some w; lo = None }
 
@@ -111,7 +111,7 @@ module _ {P : Type 0} (p : Part P) (st : StandsAt p.core) where
         (subst (λ a. IsOthers a p.core.own st.node) (sym m.number) o))
 
 -- the lower end
-module _ {P : Type 0} (p : Part P) (n : ℕ) (k : KnowsNext p.core n) (even : n % 2 ≡ 0) where
+module _ {P : Type 0} (p : SeatPart P) (n : ℕ) (k : KnowsNext p.core n) (even : n % 2 ≡ 0) where
   abbrev lo_plan : Plan
   lo_plan = loads (lo_place p.seats k.stands.node) (lo_read p.core k.stands.cursor)
 
@@ -121,7 +121,7 @@ module _ {P : Type 0} (p : Part P) (n : ℕ) (k : KnowsNext p.core n) (even : n 
   pub may_read_lo : Enables p ReadLo
   may_read_lo = enables p ReadLo lo_plan lo_line
 
-  module _ (rested : P → P) (q : Part P) (w : ℕ) (made : q ≡ part_after rested p ReadLo w) where
+  module _ (rested : P → P) (q : SeatPart P) (w : ℕ) (made : q ≡ part_after rested p ReadLo w) where
     abbrev lo_cursor : Cursor
     lo_cursor = record k.stands.cursor { lo = Some w }
 
@@ -185,7 +185,7 @@ done_never : {A : Type 0} (mode : Mode) → Done ≡ todo_of mode → A
 done_never Reader e = absurd (cc)
 done_never Writer e = absurd (cc)
 
-asked_conflict : (own : Own) (lo w : ℕ) → MayGo own → verdict_of own lo w ≡ Conflict → (a : Held) × (asked_of own ≡ Some a) × Conflicts a (node_held lo w)
+asked_conflict : (own : Own) (lo w : ℕ) → OwnMayWalk own → verdict_of own lo w ≡ Conflict → (a : Held) × (asked_of own ≡ Some a) × Conflicts a (node_held lo w)
 asked_conflict Nothing lo w g e = absurd (cc)
 asked_conflict (Filling node low high mode aimed) lo w g e =
     let l : low ≡ Some g.lo = let i = g.is in let k = g.low in cc in
@@ -210,7 +210,7 @@ asked_conflict (Linked node range mode FromHead) lo w g e = (
 asked_conflict (Linked node range mode Done) lo w g e = done_never mode g
 
 -- and is never the own one: a reader's own node says Reader, and a writer hasn't come to its own
-own_never : (own : Own) (lo w : ℕ) (k : Listed) → MayGo own → own ≡ listed k → IsAhead own k.node → w ≡ hi_word k.range.hi k.mode
+own_never : (own : Own) (lo w : ℕ) (k : Listed) → OwnMayWalk own → own ≡ listed k → IsAhead own k.node → w ≡ hi_word k.range.hi k.mode
     → verdict_of own lo w ≡ Conflict → ⊥
 own_never Nothing lo w k g is ahead word e = cc
 own_never (Filling node low high mode aimed) lo w k g is ahead word e = cc
@@ -234,7 +234,7 @@ own_never (Linked node range mode FromHead) lo w k g is ahead word e = ahead (le
 own_never (Linked node range mode Done) lo w k g is ahead word e = done_never mode g
 
 -- a seat that stops before a node has come to its place, or holds its range
-stop_arrives : (own : Own) (lo w : ℕ) (v : View) (c : Cursor) → MayGo own → verdict_of own lo w ≡ Stop → v.own ≡ own_stopped own
+stop_arrives : (own : Own) (lo w : ℕ) (v : View) (c : Cursor) → OwnMayWalk own → verdict_of own lo w ≡ Stop → v.own ≡ own_stopped own
     → v.cursor ≡ Some c → c.cur % 2 ≡ 0 → c.next ≡ None → c.lo ≢ None → Arrives own v
 stop_arrives Nothing lo w v c g e own is even next low = absurd (cc)
 stop_arrives (Filling node a b mode aimed) lo w v c g e own is even next low = (own, record { cursor = c; is = is; even = even; place = inr (next, low) })
@@ -280,7 +280,7 @@ names_node seats i v sound few c is knows = by_next c.next refl knows
     by_next (Some n) e k = let far = sound.next_node c n is e in let there = (sound.sized.cursor c is).cur in (omega arith, omega arith)
 
 -- the higher end, and the judgement
-module _ {P : Type 0} (p : Part P) (n lo : ℕ) (k : KnowsLo p.core n lo) (even : n % 2 ≡ 0) where
+module _ {P : Type 0} (p : SeatPart P) (n lo : ℕ) (k : KnowsLo p.core n lo) (even : n % 2 ≡ 0) where
   abbrev st : StandsAt p.core
   st = k.knows.stands
 
@@ -293,7 +293,7 @@ module _ {P : Type 0} (p : Part P) (n lo : ℕ) (k : KnowsLo p.core n lo) (even 
   pub may_read_hi : Enables p ReadHi
   may_read_hi = enables p ReadHi hi_plan hi_line
 
-  module _ (rested : P → P) (q : Part P) (w : ℕ) (made : q ≡ part_after rested p ReadHi w) where
+  module _ (rested : P → P) (q : SeatPart P) (w : ℕ) (made : q ≡ part_after rested p ReadHi w) where
     hi_made : Made rested p q ReadHi hi_plan w
     hi_made = made_by rested p q ReadHi hi_plan w hi_line made
 

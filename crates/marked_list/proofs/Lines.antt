@@ -10,19 +10,19 @@ use Rattle.lock_core.specs.Machine.{held_at}
 use Rattle.lock_core.proofs.Table.{plan_of_line}
 use Rattle.epoch_pools.specs.declared.record.Looked.{Looked}
 use Rattle.epoch_pools.specs.declared.record.Record.{Record}
-use Rattle.epoch_pools.specs.declared.views.Part.{Part}
+use Rattle.epoch_pools.specs.declared.views.SeatPart.{SeatPart}
 use Rattle.epoch_pools.specs.Record.{met_after, lost_by, expected_by, looked_with, looked_on, walked_at, is_judging, gained_by}
 use Rattle.epoch_pools.specs.Running.{Enables, line_for, part_after, pass_kept}
 use Rattle.marked_list.specs.Leaves.{IsSamePools, IsOn, IsCall, IsSameWalk, HasJudged}
 
-pub enables : {P : Type 0} (p : Part P) (step : Step) (plan : Plan) → IsLine p.seats p.number p.core step plan → Enables p step
+pub enables : {P : Type 0} (p : SeatPart P) (step : Step) (plan : Plan) → IsLine p.seats p.number p.core step plan → Enables p step
 enables p step plan line = ap is_some (plan_of_line p.seats p.number p.core step plan line)
 
-pub line_is : {P : Type 0} (p : Part P) (step : Step) (plan : Plan) → IsLine p.seats p.number p.core step plan → line_for p step ≡ plan
+pub line_is : {P : Type 0} (p : SeatPart P) (step : Step) (plan : Plan) → IsLine p.seats p.number p.core step plan → line_for p step ≡ plan
 line_is p step plan line = ap (λ (o : Option Plan). unwrap_or o (loads 0 (λ _. p.core))) (plan_of_line p.seats p.number p.core step plan line)
 
 -- what a step with that plan, which found that value, leaves
-pub record Made {P : Type 0} (rested : P → P) (p q : Part P) (step : Step) (plan : Plan) (found : ℕ) : Type 0 where
+pub record Made {P : Type 0} (rested : P → P) (p q : SeatPart P) (step : Step) (plan : Plan) (found : ℕ) : Type 0 where
   pub number : q.number ≡ p.number
   pub seats : q.seats ≡ p.seats
   pub core : q.core ≡ plan.view found
@@ -34,11 +34,11 @@ pub record Made {P : Type 0} (rested : P → P) (p q : Part P) (step : Step) (pl
   pub lost : q.trace.lost ≡ lost_by p.trace step plan.place (expected_by p.core step) found
   pub looked : q.trace.looked ≡ looked_with p.trace p.core.cursor (plan.view found).cursor (is_judging step) (gained_by p.core (plan.view found))
 
-pub made_by : {P : Type 0} (rested : P → P) (p q : Part P) (step : Step) (plan : Plan) (found : ℕ)
+pub made_by : {P : Type 0} (rested : P → P) (p q : SeatPart P) (step : Step) (plan : Plan) (found : ℕ)
     → IsLine p.seats p.number p.core step plan → q ≡ part_after rested p step found → Made rested p q step plan found
 made_by {P} rested p q step plan found line made =
     subst (λ (x : Plan). Made rested p q step x found) (line_is p step plan line)
-    (subst (λ (x : Part P). Made rested p x step (line_for p step) found) (sym made)
+    (subst (λ (x : SeatPart P). Made rested p x step (line_for p step) found) (sym made)
     (record { number = refl; seats = refl; core = refl; pass = refl; client = refl; taken = refl; walked = refl; met = refl; lost = refl; looked = refl }))
 
 -- where nothing was held the pass stays
@@ -76,7 +76,7 @@ judges_none t (Some b) None g e l is = (l, is, refl, (let z : l.judged ≡ l.jud
 judges_none t (Some b) (Some c) g e l is = let r = judged_on t (Some b) (Some c) false g refl l is refl in
     (r.0, r.1, r.2, (let z : l.judged ≡ l.judged + 0 = omega arith in r.3 ∙ z))
 
-module _ {P : Type 0} (rested : P → P) (p q : Part P) (step : Step) (plan : Plan) (found : ℕ) (m : Made rested p q step plan found) where
+module _ {P : Type 0} (rested : P → P) (p q : SeatPart P) (step : Step) (plan : Plan) (found : ℕ) (m : Made rested p q step plan found) where
   pub same_judged : is_judging step ≡ false → is_some p.core.cursor ≡ true → HasJudged 0 p q
   same_judged none there l is =
       let r = judges_none p.trace p.core.cursor (plan.view found).cursor (gained_by p.core (plan.view found)) there l is in (
@@ -124,7 +124,7 @@ module _ {P : Type 0} (rested : P → P) (p q : Part P) (step : Step) (plan : Pl
   }
 
 -- one call after another
-pub on_on : {P : Type 0} (p q r : Part P) → IsOn p q → IsOn q r → IsOn p r
+pub on_on : {P : Type 0} (p q r : SeatPart P) → IsOn p q → IsOn q r → IsOn p r
 on_on p q r a b = record {
   number = b.number ∙ a.number;
   seats = b.seats ∙ a.seats;
@@ -145,5 +145,5 @@ on_on p q r a b = record {
       passed = b.passed ∙ a.passed;
     }
 
-pub walk_on_walk : {P : Type 0} (p q r : Part P) → IsSameWalk p q → IsSameWalk q r → IsSameWalk p r
+pub walk_on_walk : {P : Type 0} (p q r : SeatPart P) → IsSameWalk p q → IsSameWalk q r → IsSameWalk p r
 walk_on_walk p q r a b l is = let s = a l is in let t = b s.0 s.1 in (t.0, t.1, t.2 ∙ s.2)

@@ -19,7 +19,7 @@ use Rattle.lock_core.specs.StepTable.{Plan, IsLine, Aims, stores, adds_one, exch
 use Rattle.lock_core.specs.Machine.{held_at}
 use Rattle.epoch_pools.specs.declared.record.Looked.{Looked}
 use Rattle.epoch_pools.specs.declared.record.Record.{Record}
-use Rattle.epoch_pools.specs.declared.views.Part.{Part}
+use Rattle.epoch_pools.specs.declared.views.SeatPart.{SeatPart}
 use Rattle.epoch_pools.specs.Hands.{IsHandView}
 use Rattle.epoch_pools.specs.Record.{cursor_word, own_word, looked_on, looked_with, is_judging, gained_by}
 use Rattle.epoch_pools.specs.Running.{Enables, part_after, pass_kept}
@@ -33,7 +33,7 @@ use Rattle.marked_list.proofs.Lines.{enables, Made, made_by, pass_stays, same_lo
 use Rattle.marked_list.proofs.Following.{lost_from}
 use Rattle.marked_list.proofs.Unlinking.{gone_looked, lost_made}
 
-pub call_on : {P : Type 0} (p q r : Part P) → IsCall 1 p q → IsCall 1 q r → IsCall 2 p r
+pub call_on : {P : Type 0} (p q r : SeatPart P) → IsCall 1 p q → IsCall 1 q r → IsCall 2 p r
 call_on p q r a b = record {
   number = b.number ∙ a.number;
   seats = b.seats ∙ a.seats;
@@ -42,7 +42,7 @@ call_on p q r a b = record {
   taken = let x = a.taken in let y = b.taken in omega arith;
 }
 
-pub look_on_look : {P : Type 0} (p q r : Part P) → IsSameLook p q → IsSameLook q r → IsSameLook p r
+pub look_on_look : {P : Type 0} (p q r : SeatPart P) → IsSameLook p q → IsSameLook q r → IsSameLook p r
 look_on_look p q r a b = (b.0 ∙ a.0, walk_on_walk p q r a.1 b.1)
 
 -- a step that lets the cursor be or takes it away leaves the count of its nodes and the step that made it
@@ -63,14 +63,15 @@ look_stays t (Some c) (Some d) j g on way =
     some_none : (x : Cursor) → ◌≡◌ {A = Option Cursor} (Some x) None → ⊥
     some_none x e = cc
 
-module _ {P : Type 0} (rested : P → P) (p q : Part P) (step : Step) (plan : Plan) (found : ℕ) (m : Made rested p q step plan found) (view : IsHandView p) where
+module _ {P : Type 0} (rested : P → P) (p q : SeatPart P) (step : Step) (plan : Plan) (found : ℕ)
+    (m : Made rested p q step plan found) (view : IsHandView p) where
   same_look : ((plan.view found).cursor ≡ None) ⊎ ((plan.view found).cursor ≡ p.core.cursor) → IsSameLook p q
   same_look way =
       let r = look_stays p.trace p.core.cursor (plan.view found).cursor (is_judging step) (gained_by p.core (plan.view found))
       (λ c is. let l = view.looked c is in (l.0, l.1, l.2)) way in
       (ap nodes_in m.looked ∙ r.0, λ l is. let s = r.1 l is in (s.0, m.looked ∙ s.1, s.2))
 
-module _ {P : Type 0} (p : Part P) (n lo : ℕ) (may : MayFill p.core n) where
+module _ {P : Type 0} (p : SeatPart P) (n lo : ℕ) (may : MayFill p.core n) where
   abbrev lo_plan : Plan
   lo_plan = stores (lo_place p.seats may.own.node) lo (lo_filled p.core may.own lo)
 
@@ -80,7 +81,7 @@ module _ {P : Type 0} (p : Part P) (n lo : ℕ) (may : MayFill p.core n) where
   pub may_fill_lo : Enables p (FillLo lo)
   may_fill_lo = enables p (FillLo lo) lo_plan lo_line
 
-  module _ (rested : P → P) (q : Part P) (w hi : ℕ) (mode : Mode) (made : q ≡ part_after rested p (FillLo lo) w) (less : lo < hi) (most : hi ≤ 2 ^ 62) where
+  module _ (rested : P → P) (q : SeatPart P) (w hi : ℕ) (mode : Mode) (made : q ≡ part_after rested p (FillLo lo) w) (less : lo < hi) (most : hi ≤ 2 ^ 62) where
     lo_made : Made rested p q (FillLo lo) lo_plan w
     lo_made = made_by rested p q (FillLo lo) lo_plan w lo_line made
 
@@ -99,7 +100,7 @@ module _ {P : Type 0} (p : Part P) (n lo : ℕ) (may : MayFill p.core n) where
     pub may_fill_hi : Enables q (FillHi hi mode)
     may_fill_hi = enables q (FillHi hi mode) hi_plan hi_line
 
-    module _ (r : Part P) (u : ℕ) (last : r ≡ part_after rested q (FillHi hi mode) u) where
+    module _ (r : SeatPart P) (u : ℕ) (last : r ≡ part_after rested q (FillHi hi mode) u) where
       hi_made : Made rested q r (FillHi hi mode) hi_plan u
       hi_made = made_by rested q r (FillHi hi mode) hi_plan u hi_line last
 
@@ -116,7 +117,7 @@ aims : (o : Option Cursor) → (o ≡ None) ⊎ StandsAtPlace o → Aims o (curs
 aims o place = ⊎_elim (λ e. subst (λ (x : Option Cursor). Aims x (cursor_word x)) (sym e) refl)
     (λ (s : StandsAtPlace o). subst (λ (x : Option Cursor). Aims x (cursor_word x)) (sym s.is) (refl, s.even, s.place)) place
 
-module _ {P : Type 0} (p : Part P) (may : MayAim p.core) where
+module _ {P : Type 0} (p : SeatPart P) (may : MayAim p.core) where
   abbrev aim_plan : Plan
   aim_plan = stores (cell_place p.seats (suc may.own.node.node)) (cursor_word p.core.cursor) (aimed_at p.core may.own.node (cursor_word p.core.cursor))
 
@@ -126,7 +127,7 @@ module _ {P : Type 0} (p : Part P) (may : MayAim p.core) where
   pub may_aim : Enables p Aim
   may_aim = enables p Aim aim_plan aim_line
 
-  pub aimed_is : (rested : P → P) (q : Part P) (w : ℕ) → q ≡ part_after rested p Aim w → IsHandView p → IsAimed p q
+  pub aimed_is : (rested : P → P) (q : SeatPart P) (w : ℕ) → q ≡ part_after rested p Aim w → IsHandView p → IsAimed p q
   aimed_is rested q w made view =
       let m = made_by rested p q Aim aim_plan w aim_line made in
       record {
@@ -142,7 +143,7 @@ linked_is todo own e =
     (λ i. Linked e.node.node (record { lo = unwrap_or (sym e.low i) 0; hi = unwrap_or (sym e.high i) 0 }) e.node.mode
     (todo e.node.mode)) ∙ ap (linked_own todo) (sym e.is)
 
-module _ {P : Type 0} (p q : Part P) (a : IsAimed p q) where
+module _ {P : Type 0} (p q : SeatPart P) (a : IsAimed p q) where
   module _ (may : MayLink p.core) where
     abbrev full : Filled
     full = record may.own.node { aimed = Some may.place.cursor.cur }
@@ -163,7 +164,7 @@ module _ {P : Type 0} (p q : Part P) (a : IsAimed p q) where
     pub may_link : Enables q Link
     may_link = enables q Link link_plan link_line
 
-    module _ (rested : P → P) (r : Part P) (w : ℕ) (made : r ≡ part_after rested q Link w) where
+    module _ (rested : P → P) (r : SeatPart P) (w : ℕ) (made : r ≡ part_after rested q Link w) where
       link_made : Made rested q r Link link_plan w
       link_made = made_by rested q r Link link_plan w link_line made
 
@@ -224,7 +225,7 @@ module _ {P : Type 0} (p q : Part P) (a : IsAimed p q) where
     pub may_quick_link : Enables q QuickLink
     may_quick_link = enables q QuickLink quick_plan quick_line
 
-    module _ (rested : P → P) (r : Part P) (w : ℕ) (made : r ≡ part_after rested q QuickLink w) where
+    module _ (rested : P → P) (r : SeatPart P) (w : ℕ) (made : r ≡ part_after rested q QuickLink w) where
       quick_made : Made rested q r QuickLink quick_plan w
       quick_made = made_by rested q r QuickLink quick_plan w quick_line made
 
@@ -256,14 +257,14 @@ kept_same rested None pass = refl
 kept_same rested (Some h) pass = refl
 
 -- the own node is marked
-module _ {P : Type 0} (is_at_rest : P → Type 0) (p : Part P) (may : MayMark is_at_rest p) where
+module _ {P : Type 0} (is_at_rest : P → Type 0) (p : SeatPart P) (may : MayMark is_at_rest p) where
   abbrev mark_plan : Plan
   mark_plan = adds_one (cell_place p.seats (suc may.node.node)) (marked p.core may.node.node)
 
   mark_line : IsLine p.seats p.number p.core Mark mark_plan
   mark_line = mark may.node may.is
 
-  pub mark_call : (rested : P → P) (q : Part P) (w : ℕ) → q ≡ part_after rested p Mark w → IsHandView p → IsMarkCall rested p q
+  pub mark_call : (rested : P → P) (q : SeatPart P) (w : ℕ) → q ≡ part_after rested p Mark w → IsHandView p → IsMarkCall rested p q
   mark_call rested q w made view =
       let m = made_by rested p q Mark mark_plan w mark_line made in
       record {
@@ -279,7 +280,7 @@ module _ {P : Type 0} (is_at_rest : P → Type 0) (p : Part P) (may : MayMark is
         look = same_look rested p q Mark mark_plan w m view (inr refl);
       }
 
-module _ {P : Type 0} (is_at_rest : P → Type 0) (p : Part P) (may : MayQuickUnlink is_at_rest p) where
+module _ {P : Type 0} (is_at_rest : P → Type 0) (p : SeatPart P) (may : MayQuickUnlink is_at_rest p) where
   abbrev back_plan : Plan
   back_plan = exchanges 0 (2 * suc may.node.node + 1) 0 (quick_unlinked p.core may.node.node) p.core
 
@@ -289,7 +290,7 @@ module _ {P : Type 0} (is_at_rest : P → Type 0) (p : Part P) (may : MayQuickUn
   pub may_quick_unlink : Enables p QuickUnlink
   may_quick_unlink = enables p QuickUnlink back_plan back_line
 
-  module _ (rested : P → P) (q : Part P) (w : ℕ) (made : q ≡ part_after rested p QuickUnlink w) where
+  module _ (rested : P → P) (q : SeatPart P) (w : ℕ) (made : q ≡ part_after rested p QuickUnlink w) where
     back_made : Made rested p q QuickUnlink back_plan w
     back_made = made_by rested p q QuickUnlink back_plan w back_line made
 

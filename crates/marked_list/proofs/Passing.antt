@@ -10,36 +10,36 @@ use Rattle.lock_core.specs.declared.views.Own.TheVariants.{Nothing}
 use Rattle.lock_core.specs.Machine.{held_at}
 use Rattle.lock_core.proofs.SizedSteps.{plain_is}
 use Rattle.epoch_pools.specs.declared.record.Looked.{Looked}
-use Rattle.epoch_pools.specs.declared.views.Part.{Part}
+use Rattle.epoch_pools.specs.declared.views.SeatPart.{SeatPart}
 use Rattle.epoch_pools.specs.Hands.{IsHandView}
 use Rattle.marked_list.specs.declared.answers.Passed.{Passed}
 use Rattle.marked_list.specs.declared.answers.Passed.TheVariants.{Found, End, Lost as Gone, Long as TooLong}
 use Rattle.marked_list.specs.declared.answers.Walked.{Walked}
 use Rattle.marked_list.specs.declared.answers.Walked.TheVariants.{Place, Conflict, Lost, Long}
-use Rattle.marked_list.specs.Order.{MayGo, IsInside, StandsAt}
+use Rattle.marked_list.specs.Order.{OwnMayWalk, IsInside, StandsAt}
 use Rattle.marked_list.specs.Leaves.{HasJudged}
 use Rattle.marked_list.specs.Causes.{asked_of, nodes_in, judged_in, IsWalkLoss}
 use Rattle.marked_list.specs.Answers.{Arrives, IsAtEnd}
-use Rattle.marked_list.specs.Going.{seen_of, has_arrived, arrival_at, GoesOn, HasRoom, IsWithin, IsLoad, MaySetOut, Outcome}
+use Rattle.marked_list.specs.Going.{seen_of, has_arrived, arrival_at, GoesOn, HasRoom, IsWithin, IsLoad, MayBeginWalk, Outcome}
 use Rattle.marked_list.specs.Scanning.{IsAtNode, IsAtLast, IsScanning, IsResting, passed_from, passed_by, passed_at, PassesFrom, Passes, Sees}
 use Rattle.marked_list.proofs.Stepping.{nodes_seen}
 use Rattle.marked_list.proofs.Following.{lost_from}
 
-pub notes_are : {P : Type 0} (q : Part P) → IsHandView q → length q.core.notes ≡ q.seats
+pub notes_are : {P : Type 0} (q : SeatPart P) → IsHandView q → length q.core.notes ≡ q.seats
 notes_are q view = view.sound.sized.notes
 
 -- the count of judgements, where there is a cursor
-pub judged_on_from : {P : Type 0} (count : ℕ) (p q : Part P) (c : Cursor) → p.core.cursor ≡ Some c → IsHandView p
+pub judged_on_from : {P : Type 0} (count : ℕ) (p q : SeatPart P) (c : Cursor) → p.core.cursor ≡ Some c → IsHandView p
     → HasJudged count p q → judged_in q.trace.looked ≡ judged_in p.trace.looked + count
 judged_on_from count p q c is view j =
     let l = view.looked c is in let m = j l.0 l.1 in
     ap judged_in m.1 ∙ (m.3 ∙ ap (λ (o : Option Looked). judged_in o + count) (sym l.1))
 
-pub judged_same_from : {P : Type 0} (p q : Part P) (c : Cursor) → p.core.cursor ≡ Some c → IsHandView p → HasJudged 0 p q
+pub judged_same_from : {P : Type 0} (p q : SeatPart P) (c : Cursor) → p.core.cursor ≡ Some c → IsHandView p → HasJudged 0 p q
     → judged_in q.trace.looked ≡ judged_in p.trace.looked
 judged_same_from p q c is view j = let e = judged_on_from 0 p q c is view j in omega arith
 
-module _ {P : Type 0} (first : ℕ) (p q : Part P) (bare : p.core.own ≡ Nothing) (view : IsHandView q) (room : HasRoom p) (seats : q.seats ≡ p.seats) where
+module _ {P : Type 0} (first : ℕ) (p q : SeatPart P) (bare : p.core.own ≡ Nothing) (view : IsHandView q) (room : HasRoom p) (seats : q.seats ≡ p.seats) where
   -- the walk goes on at a node
   pub at_node : GoesOn p.core q.core → IsAtNode q.core
   at_node g = record { stands = g.stands; seen = let n = notes_are q view in let r = room.seen in let s = g.seen in omega arith }
@@ -93,7 +93,7 @@ module _ {P : Type 0} (first : ℕ) (p q : Part P) (bare : p.core.own ≡ Nothin
   own_out (Long visits) x = x.0.1 ∙ bare
 
 -- an answer of a later part of the call
-pub passes_later : {P : Type 0} (first later before now : ℕ) (q : Part P) (a : Passed) → first ≤ later → now ≡ before
+pub passes_later : {P : Type 0} (first later before now : ℕ) (q : SeatPart P) (a : Passed) → first ≤ later → now ≡ before
     → PassesFrom later now q a → PassesFrom first before q a
 passes_later {P} first later before now q a le e x = subst (λ (n : ℕ). PassesFrom first n q a) e (earlier a x)
   where
@@ -115,14 +115,14 @@ passes_later {P} first later before now q a le e x = subst (λ (n : ℕ). Passes
     earlier (TooLong visits) y = y
 
 -- how a scan rests after its answer
-pub passes_rests : {P : Type 0} (first before : ℕ) (q : Part P) (a : Passed) → q.core.own ≡ Nothing → PassesFrom first before q a → IsResting q.core
+pub passes_rests : {P : Type 0} (first before : ℕ) (q : SeatPart P) (a : Passed) → q.core.own ≡ Nothing → PassesFrom first before q a → IsResting q.core
 passes_rests first before q (Found owner range mode) own x = inr x.2
 passes_rests first before q End own x = inr (record { own = own; at = inr x.0 })
 passes_rests first before q (Gone l) own x = inl x.3
 passes_rests first before q (TooLong visits) own x = inr (record { own = own; at = inl x.3 })
 
 -- the look of a scan: behind the load of the next word, and with the marked node unlinked
-pub sees_later : {P : Type 0} (first : ℕ) (p q r : Part P) (o : Option Passed) → StandsAt p.core → IsHandView p → IsLoad p q
+pub sees_later : {P : Type 0} (first : ℕ) (p q r : SeatPart P) (o : Option Passed) → StandsAt p.core → IsHandView p → IsLoad p q
     → first ≤ q.trace.taken → Sees q.trace.taken q r o → Sees first p r o
 sees_later first p q r None st view load le x =
     let same = judged_same_from p q st.cursor st.is view load.judged in
@@ -131,11 +131,11 @@ sees_later first p q r (Some a) st view load le x =
     passes_later first q.trace.taken (judged_in p.trace.looked) (judged_in q.trace.looked) r a le
     (judged_same_from p q st.cursor st.is view load.judged) x
 
-pub goes_bare : {P : Type 0} (p q : Part P) → p.core.own ≡ Nothing → GoesOn p.core q.core → q.core.own ≡ Nothing
+pub goes_bare : {P : Type 0} (p q : SeatPart P) → p.core.own ≡ Nothing → GoesOn p.core q.core → q.core.own ≡ Nothing
 goes_bare p q bare g = g.own ∙ bare
 
 -- the end of the loop: the cursor is at a node, and has looked at as many nodes as it may
-pub passes_spent : {P : Type 0} (first most before : ℕ) (q : Part P) → StandsAt q.core → IsHandView q
+pub passes_spent : {P : Type 0} (first most before : ℕ) (q : SeatPart P) → StandsAt q.core → IsHandView q
     → judged_in q.trace.looked ≡ before → most ≡ 16 * q.seats + 1 → seen_of q.core.cursor ≤ most → most ≤ seen_of q.core.cursor
     → PassesFrom first before q (TooLong most)
 passes_spent first most before q st view judged many below reached = (
@@ -154,7 +154,7 @@ end_is : (v : View) (c : Cursor) → v.cursor ≡ Some c → IsAtEnd v.cursor �
 end_is v c is e = let same : c ≡ e.0 = let f : ◌≡◌ {A = Option Cursor} (Some c) (Some e.0) = sym is ∙ e.1 in cc in ap (λ (x : Cursor). x.cur) same ∙ e.2
 
 -- the cursor of a scan that rests
-module _ {P : Type 0} (p : Part P) (view : IsHandView p) (rests : IsResting p.core) (c : Cursor) (is : p.core.cursor ≡ Some c) where
+module _ {P : Type 0} (p : SeatPart P) (view : IsHandView p) (rests : IsResting p.core) (c : Cursor) (is : p.core.cursor ≡ Some c) where
   scanning : IsScanning p.core
   scanning = ⊎_elim (λ (n : p.core.cursor ≡ None). absurd (let e : ◌≡◌ {A = Option Cursor} (Some c) None = sym is ∙ n in cc))
       (λ (s : IsScanning p.core). s) rests
@@ -180,7 +180,7 @@ module _ {P : Type 0} (p : Part P) (view : IsHandView p) (rests : IsResting p.co
       passes_spent p.trace.taken most (passed_by p) p node.stands view passed_is many (omega arith) (omega arith)
 
   -- and that of the loop
-  pub passes_on : (q : Part P) (a : Passed) → PassesFrom p.trace.taken (judged_in p.trace.looked) q a → Passes p q a
+  pub passes_on : (q : SeatPart P) (a : Passed) → PassesFrom p.trace.taken (judged_in p.trace.looked) q a → Passes p q a
   passes_on q a x = subst (λ (n : ℕ). PassesFrom p.trace.taken n q a) passed_is x
 
   pub few_seen : (most : ℕ) → most ≡ 16 * p.seats + 1 → c.seen < most → seen_of p.core.cursor ≤ 16 * p.seats
@@ -197,11 +197,11 @@ module _ {P : Type 0} (p : Part P) (view : IsHandView p) (rests : IsResting p.co
   last_few z e = let last = rests_last z in let l = last.seen in let t = notes_are p view in omega arith
 
 -- a scan without a cursor
-module _ {P : Type 0} (p : Part P) (gone : p.core.cursor ≡ None) where
-  pub may_scan_out : IsInside p.core → p.core.own ≡ Nothing → MaySetOut p.core
-  may_scan_out inside own = record { inside = inside; own = subst MayGo (sym own) tt; cursor = gone }
+module _ {P : Type 0} (p : SeatPart P) (gone : p.core.cursor ≡ None) where
+  pub may_scan_out : IsInside p.core → p.core.own ≡ Nothing → MayBeginWalk p.core
+  may_scan_out inside own = record { inside = inside; own = subst OwnMayWalk (sym own) tt; cursor = gone }
 
-  pub passes_begun : (q : Part P) (a : Passed) → PassesFrom p.trace.taken 0 q a → Passes p q a
+  pub passes_begun : (q : SeatPart P) (a : Passed) → PassesFrom p.trace.taken 0 q a → Passes p q a
   passes_begun q a x = subst (λ (n : ℕ). PassesFrom p.trace.taken n q a) (ap (λ (o : Option Cursor). passed_at o p.trace.looked) (sym gone)) x
 
   pub never_end : {A : Type 0} → IsAtEnd p.core.cursor → A

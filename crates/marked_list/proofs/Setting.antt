@@ -13,15 +13,15 @@ use Rattle.lock_core.specs.Views.{walk_cell, walked, came_to, start_of, own_at, 
 use Rattle.lock_core.specs.StepTable.{Plan, IsLine, loads, exchanges, walk, settle}
 use Rattle.lock_core.specs.Machine.{held_at}
 use Rattle.lock_core.specs.Sizes.{IsViewSound}
-use Rattle.epoch_pools.specs.declared.views.Part.{Part}
+use Rattle.epoch_pools.specs.declared.views.SeatPart.{SeatPart}
 use Rattle.epoch_pools.specs.Record.{looked_with, is_judging, gained_by}
 use Rattle.epoch_pools.specs.Running.{Enables, part_after, Told}
 use Rattle.epoch_pools.specs.Hands.{IsHandView}
 use Rattle.marked_list.specs.declared.answers.Lost.{Lost}
 use Rattle.marked_list.specs.declared.answers.Walked.TheVariants.{Lost as Gone}
-use Rattle.marked_list.specs.Order.{MayGo, IsInside}
+use Rattle.marked_list.specs.Order.{OwnMayWalk, IsInside}
 use Rattle.marked_list.specs.Leaves.{IsSamePools}
-use Rattle.marked_list.specs.Going.{seen_of, arrival_at, HasRoom, MaySetOut, IsAtOddHead, IsSetOut, IsSettled, IsFailed, Outcome}
+use Rattle.marked_list.specs.Going.{seen_of, arrival_at, HasRoom, MayBeginWalk, IsAtOddHead, IsSetOut, IsSettled, IsFailed, Outcome}
 use Rattle.marked_list.specs.Causes.{judged_in}
 use Rattle.marked_list.proofs.Lines.{enables, line_is, Made, made_by, same_walk, same_judged, on_made}
 use Rattle.marked_list.proofs.Stepping.{free_go, done_not, came_outcome}
@@ -29,7 +29,7 @@ use Rattle.marked_list.proofs.Moments.{seat_count, found_even}
 use Rattle.marked_list.proofs.Unlinking.{failed}
 use Rattle.marked_list.proofs.Following.{answers_on}
 
-module _ {P : Type 0} (p : Part P) (may : MaySetOut p.core) where
+module _ {P : Type 0} (p : SeatPart P) (may : MayBeginWalk p.core) where
   abbrev out_plan : Plan
   out_plan = loads (cell_place p.seats (cell_of (start_of p.core.own))) (walked p.core p.core.cursor)
 
@@ -39,7 +39,7 @@ module _ {P : Type 0} (p : Part P) (may : MaySetOut p.core) where
   pub may_set_out : Enables p Walk
   may_set_out = enables p Walk out_plan out_line
 
-  module _ (rested : P → P) (q : Part P) (w : ℕ) (made : q ≡ part_after rested p Walk w) (seats : ℕ) (told : Told seats p Walk w) where
+  module _ (rested : P → P) (q : SeatPart P) (w : ℕ) (made : q ≡ part_after rested p Walk w) (seats : ℕ) (told : Told seats p Walk w) where
     abbrev first_cursor : Cursor
     first_cursor = record { prev = start_of p.core.own; cur = w; next = None; lo = None; seen = seen_after 0 w }
 
@@ -53,13 +53,13 @@ module _ {P : Type 0} (p : Part P) (may : MaySetOut p.core) where
     core = m.core ∙ view_is
 
     sound : IsViewSound p.seats p.number q.core
-    sound = subst (IsViewSound p.seats p.number) (sym (ap (λ (x : Part P). x.core) made)) told.sound
+    sound = subst (IsViewSound p.seats p.number) (sym (ap (λ (x : SeatPart P). x.core) made)) told.sound
 
     -- a linked node's seat doesn't find the low bit
     unlinked : w % 2 ≡ 1 → listed_of p.core.own ≡ None
     unlinked odd = by_own p.core.own may.own refl
       where
-        by_own : (own : Own) → MayGo own → p.core.own ≡ own → listed_of own ≡ None
+        by_own : (own : Own) → OwnMayWalk own → p.core.own ≡ own → listed_of own ≡ None
         by_own Nothing g e = refl
         by_own (Filling node lo hi mode aimed) g e = refl
         by_own (Linked node range mode Forward) g e =
@@ -111,7 +111,7 @@ free_unlinked Nothing e = refl
 free_unlinked (Filling node lo hi mode aimed) e = refl
 free_unlinked (Linked node range mode todo) e = absurd (cc)
 
-module _ {P : Type 0} (p : Part P) (head : IsAtOddHead p.core) where
+module _ {P : Type 0} (p : SeatPart P) (head : IsAtOddHead p.core) where
   abbrev settle_plan : Plan
   settle_plan = exchanges 0 head.cursor.cur (head.cursor.cur - 1) (settled p.core head.cursor) (dropped p.core)
 
@@ -121,7 +121,7 @@ module _ {P : Type 0} (p : Part P) (head : IsAtOddHead p.core) where
   pub may_settle : Enables p Settle
   may_settle = enables p Settle settle_plan settle_line
 
-  module _ (rested : P → P) (q : Part P) (w : ℕ) (made : q ≡ part_after rested p Settle w) where
+  module _ (rested : P → P) (q : SeatPart P) (w : ℕ) (made : q ≡ part_after rested p Settle w) where
     m' : Made rested p q Settle settle_plan w
     m' = made_by rested p q Settle settle_plan w settle_line made
 
@@ -172,7 +172,7 @@ module _ {P : Type 0} (p : Part P) (head : IsAtOddHead p.core) where
           (placed ∙ (λ i. cell_place (many i) (cell_of (same i).prev))) (wanted ∙ ap (λ (x : Cursor). x.cur) same) had
 
 -- the way out: at once, or once the head is settled
-module _ {P : Type 0} (p q : Part P) (w : ℕ) (may : MaySetOut p.core) (out : IsSetOut p q w) where
+module _ {P : Type 0} (p q : SeatPart P) (w : ℕ) (may : MayBeginWalk p.core) (out : IsSetOut p q w) where
   room_out : HasRoom p
   room_out = record { seats = let s = out.seats.1 in let e = out.on.seats in omega arith; seen = let z = ap seen_of may.cursor in omega arith }
 
@@ -217,7 +217,7 @@ module _ {P : Type 0} (p q : Part P) (w : ℕ) (may : MaySetOut p.core) (out : I
       by_own (Filling node lo hi mode aimed) e = refl
       by_own (Linked node range mode todo) e = absurd (cc)
 
-  module _ (r : Part P) (odd : w % 2 ≡ 1) where
+  module _ (r : SeatPart P) (odd : w % 2 ≡ 1) where
     own_out : q.core.own ≡ p.core.own
     own_out = out.own ∙ own_at_any p.core.own w (out.unlinked odd)
 

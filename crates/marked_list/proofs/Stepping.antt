@@ -16,23 +16,23 @@ use Rattle.lock_core.specs.Nodes.{Filled, filling}
 use Rattle.lock_core.specs.Views.{own_at, seen_after, todo_of}
 use Rattle.lock_core.specs.Machine.{held_at}
 use Rattle.lock_core.specs.Sizes.{IsViewSound}
-use Rattle.epoch_pools.specs.declared.views.Part.{Part}
+use Rattle.epoch_pools.specs.declared.views.SeatPart.{SeatPart}
 use Rattle.epoch_pools.specs.Hands.{IsHandView}
 use Rattle.marked_list.specs.declared.answers.Walked.TheVariants.{Place}
-use Rattle.marked_list.specs.Order.{HasEnds, HasToValidate, MayGo, IsAhead, IsInside}
+use Rattle.marked_list.specs.Order.{HasEnds, HasToValidate, OwnMayWalk, IsAhead, IsInside}
 use Rattle.marked_list.specs.Causes.{nodes_in}
 use Rattle.marked_list.specs.Answers.{Arrives}
 use Rattle.marked_list.specs.Going.{seen_of, has_arrived, arrival_at, GoesOn, Came, IsWithin, HasRoom, Outcome}
 
 -- an own node that may be compared isn't held
-pub free_go : (own : Own) → MayGo own → held_at own ≡ None
+pub free_go : (own : Own) → OwnMayWalk own → held_at own ≡ None
 free_go Nothing g = refl
 free_go (Filling node lo hi mode aimed) g = refl
 free_go (Linked node range Reader todo) g = ap (λ t. held_at (Linked node range Reader t)) g
 free_go (Linked node range Writer todo) g = ap (λ t. held_at (Linked node range Writer t)) g
 
 -- and one that is being filled has its ends
-pub judges_go : (own : Own) → MayGo own → (f : Filled) → own ≡ filling f → (f.lo ≢ None) × (f.hi ≢ None)
+pub judges_go : (own : Own) → OwnMayWalk own → (f : Filled) → own ≡ filling f → (f.lo ≢ None) × (f.hi ≢ None)
 judges_go Nothing g f is = absurd (cc)
 judges_go (Filling node lo hi mode aimed) g f is =
     let l : f.lo ≡ Some g.lo = let e = g.is in let k = g.low in cc in let h : f.hi ≡ Some g.hi = let e = g.is in let k = g.high in cc in
@@ -40,11 +40,11 @@ judges_go (Filling node lo hi mode aimed) g f is =
 judges_go (Linked node range mode todo) g f is = absurd (cc)
 
 -- a node that is filled, and one that has still to be validated, may go
-pub filled_goes : (own : Own) → HasEnds own → MayGo own
-filled_goes own e = subst MayGo (sym e.is) (record { node = e.node; is = refl; lo = e.lo; hi = e.hi; low = e.low; high = e.high })
+pub filled_goes : (own : Own) → HasEnds own → OwnMayWalk own
+filled_goes own e = subst OwnMayWalk (sym e.is) (record { node = e.node; is = refl; lo = e.lo; hi = e.hi; low = e.low; high = e.high })
 
-pub validates_goes : (own : Own) → HasToValidate own → MayGo own
-validates_goes own e = subst MayGo (sym e.is) e.todo
+pub validates_goes : (own : Own) → HasToValidate own → OwnMayWalk own
+validates_goes own e = subst OwnMayWalk (sym e.is) e.todo
 
 or_true : (b : Bool) → (b || false) ≡ true → b ≡ true
 or_true true e = refl
@@ -72,7 +72,7 @@ done_not Reader e = cc
 done_not Writer e = cc
 
 -- where nothing is held the own node stays, and a writer hasn't come to it
-own_stays : (own : Own) (n : ℕ) → MayGo own → n % 2 ≡ 0 → n ≢ 0 → held_at (own_at own n) ≡ None → (own_at own n ≡ own) × IsAhead own (n / 2 - 1)
+own_stays : (own : Own) (n : ℕ) → OwnMayWalk own → n % 2 ≡ 0 → n ≢ 0 → held_at (own_at own n) ≡ None → (own_at own n ≡ own) × IsAhead own (n / 2 - 1)
 own_stays Nothing n g even d free = (refl, tt)
 own_stays (Filling node lo hi mode aimed) n g even d free = (refl, tt)
 own_stays (Linked node range mode Forward) n g even d free = (by_end (n == 0) free, tt)
@@ -90,7 +90,7 @@ own_stays (Linked node range mode FromHead) n g even d free = by_own (n == 2 * s
 own_stays (Linked node range mode Done) n g even d free = absurd (done_not mode g)
 
 -- at the end of its way a validation holds its range
-arrives_came : (seats i : ℕ) (own : Own) (w : View) (c : Cursor) → MayGo own → w.cursor ≡ Some c → w.own ≡ own_at own c.cur
+arrives_came : (seats i : ℕ) (own : Own) (w : View) (c : Cursor) → OwnMayWalk own → w.cursor ≡ Some c → w.own ≡ own_at own c.cur
     → c.cur % 2 ≡ 0 → c.lo ≡ None → has_arrived w.own c ≡ true → IsViewSound seats i w → Arrives own w
 arrives_came seats i Nothing w c g is own even lo e sound = (own, (c, is, at_zero w.own c lo (ap held_at own) e))
 arrives_came seats i (Filling node low hi mode aimed) w c g is own even lo e sound =
@@ -120,10 +120,10 @@ no_more : (a w : ℕ) → w ≡ 0 → seen_after a w ≡ a
 no_more a w z = let h : w / 2 ≡ 0 = omega arith in ap (λ (b : Bool). if b then a else min (a + 1) (2 ^ 32 - 1)) (eq-eqb _ _ h)
 
 -- how many nodes the record says that the cursor has looked at
-pub nodes_seen : {P : Type 0} (q : Part P) → IsHandView q → (c : Cursor) → q.core.cursor ≡ Some c → nodes_in q.trace.looked ≡ c.seen
+pub nodes_seen : {P : Type 0} (q : SeatPart P) → IsHandView q → (c : Cursor) → q.core.cursor ≡ Some c → nodes_in q.trace.looked ≡ c.seen
 nodes_seen q view c is = let l = view.looked c is in ap nodes_in l.1 ∙ l.2
 
-pub came_outcome : {P : Type 0} (first : ℕ) (p q : Part P) → Came p.core q.core → MayGo p.core.own → IsInside q.core
+pub came_outcome : {P : Type 0} (first : ℕ) (p q : SeatPart P) → Came p.core q.core → OwnMayWalk p.core.own → IsInside q.core
     → IsHandView q → q.seats ≡ p.seats → HasRoom p → Outcome first p.core q (arrival_at q.core.own q.core.cursor)
 came_outcome {P} first p q came go inside view seats room =
     subst (λ (o : Option Cursor). Outcome first p.core q (arrival_at q.core.own o)) (sym came.is) (by_arrival (has_arrived q.core.own came.cursor) refl)
@@ -152,7 +152,7 @@ came_outcome {P} first p q came go inside view seats room =
           stands =
               record {
                 inside = inside;
-                own = subst MayGo (sym own) go;
+                own = subst OwnMayWalk (sym own) go;
                 cursor = came.cursor;
                 is = came.is;
                 node = came.cursor.cur / 2 - 1;

@@ -7,16 +7,16 @@ use Rattle.lock_core.specs.declared.views.Own.TheVariants.{Nothing}
 use Rattle.lock_core.specs.declared.steps.Step.TheVariants.{Enter, Leave}
 use Rattle.lock_core.specs.Views.{next_epoch, entered, left, kept_own, ready_left}
 use Rattle.lock_core.specs.Machine.{held_at}
-use Rattle.epoch_pools.specs.declared.views.Part.{Part}
+use Rattle.epoch_pools.specs.declared.views.SeatPart.{SeatPart}
 use Rattle.epoch_pools.specs.Record.{is_judging, gained_by}
 use Rattle.epoch_pools.specs.Hands.{IsHandView, quiet_after}
 use Rattle.marked_list.specs.declared.answers.Walked.{Walked}
 use Rattle.marked_list.specs.declared.answers.Walked.TheVariants.{Place, Conflict, Lost, Long}
-use Rattle.marked_list.specs.Order.{MayGo, IsOutside, IsInside, MaySweep}
+use Rattle.marked_list.specs.Order.{OwnMayWalk, IsOutside, IsInside, MaySweep}
 use Rattle.marked_list.specs.Leaves.{IsOn, IsNewWalk, IsSwept}
 use Rattle.marked_list.specs.Causes.{IsSpent, nodes_in, asked_of}
 use Rattle.marked_list.specs.Answers.{Answers, IsLong, Sweeps}
-use Rattle.marked_list.specs.Going.{MaySetOut}
+use Rattle.marked_list.specs.Going.{MayBeginWalk}
 use Rattle.marked_list.proofs.Unlinking.{gone_looked}
 
 -- an epoch counts from even to odd and on to even
@@ -26,14 +26,15 @@ counts_odd e even = omega arith
 pub counts_even : (e : ℕ) → e % 2 ≡ 1 → next_epoch e % 2 ≡ 0
 counts_even e odd = omega arith
 
-module _ {P : Type 0} (p e : Part P) (may : MaySweep p.core) (entering : e ≡ quiet_after p Enter (entered p.core)) where
+module _ {P : Type 0} (p e : SeatPart P) (may : MaySweep p.core) (entering : e ≡ quiet_after p Enter (entered p.core)) where
   own_in : e.core.own ≡ Nothing
-  own_in = ap (λ (x : Part P). x.core.own) entering ∙ may.own
+  own_in = ap (λ (x : SeatPart P). x.core.own) entering ∙ may.own
 
-  pub sets_out : IsInside e.core → MaySetOut e.core
-  sets_out inside = record { inside = inside; own = subst MayGo (sym own_in) tt; cursor = ap (λ (x : Part P). x.core.cursor) entering }
+  pub sets_out : IsInside e.core → MayBeginWalk e.core
+  sets_out inside = record { inside = inside; own = subst OwnMayWalk (sym own_in) tt; cursor = ap (λ (x : SeatPart P). x.core.cursor) entering }
 
-  module _ (q r : Part P) (a : Walked) (on : IsOn e q) (answer : Answers e.trace.taken e.core.own q a) (leaving : r ≡ quiet_after q Leave (left q.core)) where
+  module _ (q r : SeatPart P) (a : Walked) (on : IsOn e q) (answer : Answers e.trace.taken e.core.own q a)
+      (leaving : r ≡ quiet_after q Leave (left q.core)) where
     bare : Answers e.trace.taken Nothing q a
     bare = subst (λ (o : Own). Answers e.trace.taken o q a) own_in answer
 
@@ -47,19 +48,19 @@ module _ {P : Type 0} (p e : Part P) (may : MaySweep p.core) (entering : e ≡ q
         by_answer (Long visits) x = x.1
 
     looked_out : r.trace.looked ≡ q.trace.looked
-    looked_out = ap (λ (x : Part P). x.trace.looked) leaving ∙ gone_looked q.trace q.core.cursor (is_judging Leave) (gained_by q.core (left q.core))
+    looked_out = ap (λ (x : SeatPart P). x.trace.looked) leaving ∙ gone_looked q.trace q.core.cursor (is_judging Leave) (gained_by q.core (left q.core))
 
     taken_in : p.trace.taken ≤ e.trace.taken
-    taken_in = let t = ap (λ (x : Part P). x.trace.taken) entering in omega arith
+    taken_in = let t = ap (λ (x : SeatPart P). x.trace.taken) entering in omega arith
 
     taken_out : q.trace.taken ≤ r.trace.taken
-    taken_out = let t = ap (λ (x : Part P). x.trace.taken) leaving in omega arith
+    taken_out = let t = ap (λ (x : SeatPart P). x.trace.taken) leaving in omega arith
 
     seats_out : r.seats ≡ q.seats
-    seats_out = ap (λ (x : Part P). x.seats) leaving
+    seats_out = ap (λ (x : SeatPart P). x.seats) leaving
 
     held_out : held_at r.core.own ≡ None
-    held_out = ap (λ (x : Part P). held_at x.core.own) leaving ∙ ap (λ (o : Own). held_at (kept_own o)) own_out
+    held_out = ap (λ (x : SeatPart P). held_at x.core.own) leaving ∙ ap (λ (o : Own). held_at (kept_own o)) own_out
 
     spent_out : IsSpent q → IsSpent r
     spent_out s = (ap nodes_in looked_out ∙ (s.0 ∙ ap (λ n. 16 * n + 1) (sym seats_out)), held_out)
@@ -82,7 +83,7 @@ module _ {P : Type 0} (p e : Part P) (may : MaySweep p.core) (entering : e ≡ q
             absurd (let n : ◌≡◌ {A = Option Held} None (Some x.0.asked) = sym own ∙ asks in cc)
         by_answer (Lost l) x = record {
           lost = x.0.lost;
-          is = ap (λ (z : Part P). z.trace.lost) leaving ∙ x.0.is;
+          is = ap (λ (z : SeatPart P). z.trace.lost) leaving ∙ x.0.is;
           kind = x.0.kind;
           from = let f = x.0.from in let i = taken_in in omega arith;
           below = let b = x.0.below in let o = taken_out in omega arith;
@@ -95,20 +96,20 @@ module _ {P : Type 0} (p e : Part P) (may : MaySweep p.core) (entering : e ≡ q
 
     pub swept_is : IsOutside r.core → IsSwept p r
     swept_is outside = record {
-      number = ap (λ (x : Part P). x.number) leaving ∙ (on.number ∙ ap (λ (x : Part P). x.number) entering);
-      seats = seats_out ∙ (on.seats ∙ ap (λ (x : Part P). x.seats) entering);
-      pass = ap (λ (x : Part P). x.pass) leaving ∙ (on.pass ∙ ap (λ (x : Part P). x.pass) entering);
-      client = ap (λ (x : Part P). x.trace.client) leaving ∙ (on.client ∙ ap (λ (x : Part P). x.trace.client) entering);
+      number = ap (λ (x : SeatPart P). x.number) leaving ∙ (on.number ∙ ap (λ (x : SeatPart P). x.number) entering);
+      seats = seats_out ∙ (on.seats ∙ ap (λ (x : SeatPart P). x.seats) entering);
+      pass = ap (λ (x : SeatPart P). x.pass) leaving ∙ (on.pass ∙ ap (λ (x : SeatPart P). x.pass) entering);
+      client = ap (λ (x : SeatPart P). x.trace.client) leaving ∙ (on.client ∙ ap (λ (x : SeatPart P). x.trace.client) entering);
       pools = record {
-        ready = ap (λ (x : Part P). x.core.ready) leaving
+        ready = ap (λ (x : SeatPart P). x.core.ready) leaving
             ∙ (ap (λ (o : Own). ready_left o q.core.ready) own_out
-            ∙ (on.pools.ready ∙ ap (λ (x : Part P). x.core.ready) entering));
-        used = ap (λ (x : Part P). x.core.used) leaving ∙ (on.pools.used ∙ ap (λ (x : Part P). x.core.used) entering);
-        homes = ap (λ (x : Part P). x.core.homes) leaving ∙ (on.pools.homes ∙ ap (λ (x : Part P). x.core.homes) entering);
-        notes = ap (λ (x : Part P). x.core.notes) leaving ∙ (on.pools.notes ∙ ap (λ (x : Part P). x.core.notes) entering);
-        passed = ap (λ (x : Part P). x.core.passed) leaving ∙ (on.pools.passed ∙ ap (λ (x : Part P). x.core.passed) entering);
+            ∙ (on.pools.ready ∙ ap (λ (x : SeatPart P). x.core.ready) entering));
+        used = ap (λ (x : SeatPart P). x.core.used) leaving ∙ (on.pools.used ∙ ap (λ (x : SeatPart P). x.core.used) entering);
+        homes = ap (λ (x : SeatPart P). x.core.homes) leaving ∙ (on.pools.homes ∙ ap (λ (x : SeatPart P). x.core.homes) entering);
+        notes = ap (λ (x : SeatPart P). x.core.notes) leaving ∙ (on.pools.notes ∙ ap (λ (x : SeatPart P). x.core.notes) entering);
+        passed = ap (λ (x : SeatPart P). x.core.passed) leaving ∙ (on.pools.passed ∙ ap (λ (x : SeatPart P). x.core.passed) entering);
       };
       outside = outside;
-      own = ap (λ (x : Part P). x.core.own) leaving ∙ ap kept_own own_out;
-      cursor = ap (λ (x : Part P). x.core.cursor) leaving;
+      own = ap (λ (x : SeatPart P). x.core.own) leaving ∙ ap kept_own own_out;
+      cursor = ap (λ (x : SeatPart P). x.core.cursor) leaving;
     }

@@ -14,7 +14,7 @@ use Rattle.lock_core.specs.Views.{gave_home, unlinked, dropped, seen_after}
 use Rattle.lock_core.specs.StepTable.{Plan, IsLine, exchanges, unlink}
 use Rattle.lock_core.specs.Machine.{held_at}
 use Rattle.epoch_pools.specs.declared.record.Record.{Record}
-use Rattle.epoch_pools.specs.declared.views.Part.{Part}
+use Rattle.epoch_pools.specs.declared.views.SeatPart.{SeatPart}
 use Rattle.epoch_pools.specs.Record.{expected_by, lost_by, cursor_word, looked_with, is_judging, gained_by}
 use Rattle.epoch_pools.specs.Running.{Enables, part_after}
 use Rattle.epoch_pools.specs.Hands.{IsHandView, quiet_after}
@@ -27,7 +27,7 @@ use Rattle.marked_list.proofs.Lines.{enables, Made, made_by, same_looked, judges
 use Rattle.marked_list.proofs.Stepping.{free_go, nodes_seen, came_outcome}
 
 -- an exchange that found another value is in the record
-pub lost_made : {P : Type 0} (rested : P → P) (p q : Part P) (step : Step) (plan : Plan) (w e : ℕ) → Made rested p q step plan w
+pub lost_made : {P : Type 0} (rested : P → P) (p q : SeatPart P) (step : Step) (plan : Plan) (w e : ℕ) → Made rested p q step plan w
     → (Kind : Step → Type 0) → Kind step → expected_by p.core step ≡ Some e → (w == e) ≡ false
     → (place expected found : ℕ) → place ≡ plan.place → expected ≡ e → found ≡ w → IsLost p.trace.taken q Kind place expected found
 lost_made rested p q step plan w e m Kind kind expects far place expected found placed wanted had = record {
@@ -68,7 +68,7 @@ pub gone_looked : (t : Record) (b : Option Cursor) (j g : Bool) → looked_with 
 gone_looked t None j g = refl
 gone_looked t (Some c) j g = refl
 
-module _ {P : Type 0} (rested : P → P) (p q : Part P) (step : Step) (plan : Plan) (w : ℕ) (m : Made rested p q step plan w)
+module _ {P : Type 0} (rested : P → P) (p q : SeatPart P) (step : Step) (plan : Plan) (w : ℕ) (m : Made rested p q step plan w)
     (c : Cursor) (is : p.core.cursor ≡ Some c) where
   pub failed : IsWalkLoss step → expected_by p.core step ≡ Some (cursor_word p.core.cursor) → plan.view w ≡ dropped p.core
       → (w == c.cur) ≡ false → held_at p.core.own ≡ None → p.core.hand ≡ None → IsHandView p → HasRoom p
@@ -99,7 +99,7 @@ module _ {P : Type 0} (rested : P → P) (p q : Part P) (step : Step) (plan : Pl
           (gained_by p.core (plan.view w))) (ap (λ (v : View). v.cursor) gone)
           ∙ gone_looked p.trace p.core.cursor (is_judging step) (gained_by p.core (plan.view w)))) ∙ nodes_seen p view c is
 
-module _ {P : Type 0} (p : Part P) (n : ℕ) (k : KnowsNext p.core n) (odd : n % 2 ≡ 1) where
+module _ {P : Type 0} (p : SeatPart P) (n : ℕ) (k : KnowsNext p.core n) (odd : n % 2 ≡ 1) where
   abbrev st : StandsAt p.core
   st = k.stands
 
@@ -112,7 +112,7 @@ module _ {P : Type 0} (p : Part P) (n : ℕ) (k : KnowsNext p.core n) (odd : n %
   pub may_unlink : Enables p Unlink
   may_unlink = enables p Unlink unlink_plan unlink_line
 
-  module _ (rested : P → P) (q : Part P) (w : ℕ) (made : q ≡ part_after rested p Unlink w) where
+  module _ (rested : P → P) (q : SeatPart P) (w : ℕ) (made : q ≡ part_after rested p Unlink w) where
     m : Made rested p q Unlink unlink_plan w
     m = made_by rested p q Unlink unlink_plan w unlink_line made
 
@@ -166,16 +166,16 @@ module _ {P : Type 0} (p : Part P) (n : ℕ) (k : KnowsNext p.core n) (odd : n %
         unlink_none hand view room l (placed ∙ (λ i. cell_place (many i) (cell_of (same i).prev))) (wanted ∙ ap (λ (x : Cursor). x.cur) same) had
 
 -- the node is given home
-module _ {P : Type 0} (p q r : Part P) (x : ℕ) (u : IsUnlinked p q x) (made : r ≡ quiet_after q GiveHome (gave_home q.core)) where
+module _ {P : Type 0} (p q r : SeatPart P) (x : ℕ) (u : IsUnlinked p q x) (made : r ≡ quiet_after q GiveHome (gave_home q.core)) where
   core_home : r.core ≡ gave_home q.core
-  core_home = ap (λ (z : Part P). z.core) made
+  core_home = ap (λ (z : SeatPart P). z.core) made
 
   pub home_on : IsOn p r
   home_on = record {
-    number = ap (λ (z : Part P). z.number) made ∙ u.call.number;
-    seats = ap (λ (z : Part P). z.seats) made ∙ u.call.seats;
-    pass = ap (λ (z : Part P). z.pass) made ∙ u.call.pass;
-    client = ap (λ (z : Part P). z.trace.client) made ∙ u.call.client;
+    number = ap (λ (z : SeatPart P). z.number) made ∙ u.call.number;
+    seats = ap (λ (z : SeatPart P). z.seats) made ∙ u.call.seats;
+    pass = ap (λ (z : SeatPart P). z.pass) made ∙ u.call.pass;
+    client = ap (λ (z : SeatPart P). z.trace.client) made ∙ u.call.client;
     epoch = ap (λ (v : View). v.epoch) core_home ∙ u.epoch;
     pools = subst (IsSamePools p.core) (sym core_home)
         (record {
@@ -186,24 +186,24 @@ module _ {P : Type 0} (p q r : Part P) (x : ℕ) (u : IsUnlinked p q x) (made : 
           passed = u.pools.passed;
         });
     hand = ap (λ (v : View). v.hand) core_home;
-    taken = let a = ap (λ (z : Part P). z.trace.taken) made in let b = u.call.taken in omega arith;
+    taken = let a = ap (λ (z : SeatPart P). z.trace.taken) made in let b = u.call.taken in omega arith;
   }
 
   pub home_taken : r.trace.taken ≡ p.trace.taken + 2
-  home_taken = let a = ap (λ (z : Part P). z.trace.taken) made in let b = u.call.taken in omega arith
+  home_taken = let a = ap (λ (z : SeatPart P). z.trace.taken) made in let b = u.call.taken in omega arith
 
   pub home_walk : IsSameWalk p r
   home_walk l is =
       let s = u.walk l is in
       let t = same_looked q.trace q.core.cursor (gave_home q.core).cursor (is_judging GiveHome)
       (gained_by q.core (gave_home q.core)) (ap is_some u.came.is) s.0 s.1 in
-      (t.0, ap (λ (z : Part P). z.trace.looked) made ∙ t.1, t.2 ∙ s.2)
+      (t.0, ap (λ (z : SeatPart P). z.trace.looked) made ∙ t.1, t.2 ∙ s.2)
 
   pub home_judged : HasJudged 0 p r
   home_judged l is =
       let s = u.judged l is in
       let t = judges_none q.trace q.core.cursor (gave_home q.core).cursor (gained_by q.core (gave_home q.core)) (ap is_some u.came.is) s.0 s.1 in
-      (t.0, ap (λ (z : Part P). z.trace.looked) made ∙ t.1, t.2 ∙ s.2, (let a = t.3 in let b = s.3 in omega arith))
+      (t.0, ap (λ (z : SeatPart P). z.trace.looked) made ∙ t.1, t.2 ∙ s.2, (let a = t.3 in let b = s.3 in omega arith))
 
   pub home_outcome : StandsAt p.core → IsHandView r → HasRoom p → Outcome p.trace.taken p.core r (arrival_at r.core.own r.core.cursor)
   home_outcome st view room = came_outcome p.trace.taken p r

@@ -15,7 +15,7 @@ use Rattle.lock_core.specs.Nodes.{Listed, listed}
 use Rattle.lock_core.specs.Views.{todo_of, marked, quick_unlinked}
 use Rattle.lock_core.specs.Machine.{held_at}
 use Rattle.epoch_pools.specs.declared.record.Looked.{Looked}
-use Rattle.epoch_pools.specs.declared.views.Part.{Part}
+use Rattle.epoch_pools.specs.declared.views.SeatPart.{SeatPart}
 use Rattle.epoch_pools.specs.Record.{cursor_word}
 use Rattle.marked_list.specs.declared.answers.Linked.{Linked}
 use Rattle.marked_list.specs.declared.answers.Linked.TheVariants.{Done, Lost as NotLinked}
@@ -56,7 +56,7 @@ IsLong (Long visits) = Unit {0}
 
 module _ {P : Type 0} where
   -- why a walk of a hand with that own node, which began with the step of that number, gives an answer
-  abbrev pub Answers : ℕ → Own → Part P → Walked → Type 0
+  abbrev pub Answers : ℕ → Own → SeatPart P → Walked → Type 0
   Answers first own q Place = Arrives own q.core
   Answers first own q (Conflict owner range mode) = IsMet first q owner (record { range = range; mode = mode })
       × (q.core.own ≡ own) × StandsInConflict q.seats q.core
@@ -64,33 +64,33 @@ module _ {P : Type 0} where
   Answers first own q (Long visits) = (visits ≡ 16 * q.seats + 1) × (q.core.own ≡ own) × IsSpent q
 
   -- why a sweep gives an answer: at its end it has read the end of the list
-  abbrev pub Sweeps : ℕ → Part P → Walked → Type 0
+  abbrev pub Sweeps : ℕ → SeatPart P → Walked → Type 0
   Sweeps first q Place = (l : Looked) × (q.trace.looked ≡ Some l) × (l.ended ≡ true)
   Sweeps first q (Conflict owner range mode) = ⊥
   Sweeps first q (Lost l) = IsLost first q IsWalkLoss l.place l.expected l.found
   Sweeps first q (Long visits) = (visits ≡ 16 * q.seats + 1) × IsSpent q
 
   -- the own node is aimed at the cursor's word, or at the end; nothing else of the view changes
-  pub record IsAimed (p q : Part P) : Type 0 where
+  pub record IsAimed (p q : SeatPart P) : Type 0 where
     pub call : IsCall 1 p q
     pub core : q.core ≡ record p.core { own = aimed_own (cursor_word p.core.cursor) p.core.own }
     pub look : IsSameLook p q
 
   -- why a link gives an answer: the node is linked and has its validation still to do, or the exchange found another
   -- value; the cursor is gone
-  abbrev pub Links : Part P → Part P → Linked → Type 0
+  abbrev pub Links : SeatPart P → SeatPart P → Linked → Type 0
   Links p q Done = q.core ≡ record p.core { own = linked_own todo_of p.core.own; cursor = None }
   Links p q (NotLinked l) = IsLost p.trace.taken q (λ kind. kind ≡ Link) l.place l.expected l.found
       × (q.core ≡ record p.core { own = aimed_own (cursor_word p.core.cursor) p.core.own; cursor = None })
 
   -- why a quick link gives an answer: the range is held, or the head was no empty one
-  abbrev pub QuickLinks : Part P → Part P → Linked → Type 0
+  abbrev pub QuickLinks : SeatPart P → SeatPart P → Linked → Type 0
   QuickLinks p q Done = q.core ≡ record p.core { own = linked_own (λ _. Held) p.core.own }
   QuickLinks p q (NotLinked l) = IsLost p.trace.taken q (λ kind. kind ≡ QuickLink) l.place l.expected l.found × (l.place ≡ 0) × (l.expected ≡ 0)
       × (q.core ≡ record p.core { own = aimed_own 0 p.core.own })
 
   -- the own node was marked: it is a used one now, and the pass is rested where its range was held
-  pub record IsMarkCall (rested : P → P) (p q : Part P) : Type 0 where
+  pub record IsMarkCall (rested : P → P) (p q : SeatPart P) : Type 0 where
     pub number : q.number ≡ p.number
     pub seats : q.seats ≡ p.seats
     pub client : q.trace.client ≡ p.trace.client
@@ -105,14 +105,14 @@ module _ {P : Type 0} where
 
   -- why a quick unlink gives an answer: the range was given back, and the node is to be given home; or the head was
   -- another, and the range is still held
-  pub record IsQuickCall (p q : Part P) : Type 0 where
+  pub record IsQuickCall (p q : SeatPart P) : Type 0 where
     pub number : q.number ≡ p.number
     pub seats : q.seats ≡ p.seats
     pub client : q.trace.client ≡ p.trace.client
     pub met : q.trace.met ≡ p.trace.met
     pub taken : q.trace.taken ≡ p.trace.taken + 1
 
-  abbrev pub QuickUnlinks : (P → P) → Part P → Part P → Linked → Type 0
+  abbrev pub QuickUnlinks : (P → P) → SeatPart P → SeatPart P → Linked → Type 0
   QuickUnlinks rested p q Done = IsQuickCall p q × ((k : Listed) → p.core.own ≡ listed k → q.core ≡ quick_unlinked p.core k.node) × (q.pass ≡ rested p.pass)
   QuickUnlinks rested p q (NotLinked l) = IsQuickCall p q
       × IsLost p.trace.taken q (λ kind. kind ≡ QuickUnlink) l.place l.expected l.found × (q.core ≡ p.core) × (q.pass ≡ p.pass)

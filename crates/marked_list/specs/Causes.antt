@@ -12,7 +12,7 @@ use Rattle.lock_core.specs.Machine.{given, held_at}
 use Rattle.epoch_pools.specs.declared.record.Looked.{Looked}
 use Rattle.epoch_pools.specs.declared.record.Lost.{Lost}
 use Rattle.epoch_pools.specs.declared.record.Met.{Met}
-use Rattle.epoch_pools.specs.declared.views.Part.{Part}
+use Rattle.epoch_pools.specs.declared.views.SeatPart.{SeatPart}
 
 -- the range and mode that a seat holds or asks for, once both ends are known
 abbrev pub asked_of : Own → Option Held
@@ -22,7 +22,7 @@ asked_of (Linked node range mode todo) = Some (record { range = range; mode = mo
 
 -- a node of another seat, with that range and mode, was found unmarked by the step of that number or a later one, and
 -- is in conflict with what this seat asks for
-pub record IsMet {P : Type 0} (first : ℕ) (q : Part P) (owner : ℕ) (held : Held) : Type 0 where
+pub record IsMet {P : Type 0} (first : ℕ) (q : SeatPart P) (owner : ℕ) (held : Held) : Type 0 where
   pub met : Met
   pub is : q.trace.met ≡ Some met
   pub from : first ≤ met.step
@@ -35,7 +35,7 @@ pub record IsMet {P : Type 0} (first : ℕ) (q : Part P) (owner : ℕ) (held : H
   pub conflicts : Conflicts held asked
 
 -- an exchange of such a kind, by the step of that number or a later one, found another value than it expected
-pub record IsLost {P : Type 0} (first : ℕ) (q : Part P) (IsKind : Step → Type 0) (place expected found : ℕ) : Type 0 where
+pub record IsLost {P : Type 0} (first : ℕ) (q : SeatPart P) (IsKind : Step → Type 0) (place expected found : ℕ) : Type 0 where
   pub lost : Lost
   pub is : q.trace.lost ≡ Some lost
   pub kind : IsKind lost.kind
@@ -63,5 +63,5 @@ judged_in None = 0
 judged_in (Some l) = l.judged
 
 -- the last walk has looked at as many nodes as it may, and no range is held: so its last step made none held
-abbrev pub IsSpent : {P : Type 0} → Part P → Type 0
+abbrev pub IsSpent : {P : Type 0} → SeatPart P → Type 0
 IsSpent q = (nodes_in q.trace.looked ≡ 16 * q.seats + 1) × (held_at q.core.own ≡ None)

@@ -9,14 +9,14 @@ use Rattle.lock_core.specs.Words.{plain_node_of, mode_of}
 use Rattle.lock_core.specs.Nodes.{Listed, listed, listed_of}
 use Rattle.lock_core.specs.Views.{seen_after, own_at, start_of}
 use Rattle.lock_core.specs.Machine.{held_at}
-use Rattle.epoch_pools.specs.declared.views.Part.{Part}
+use Rattle.epoch_pools.specs.declared.views.SeatPart.{SeatPart}
 use Rattle.marked_list.specs.declared.answers.Walked.{Walked}
 use Rattle.marked_list.specs.declared.answers.Walked.TheVariants.{Place, Conflict, Lost}
 use Rattle.marked_list.specs.declared.answers.Lost.{Lost as LostAnswer}
 use Rattle.marked_list.specs.Causes.{nodes_in, judged_in}
 use Rattle.marked_list.specs.Answers.{Answers}
 use Rattle.marked_list.specs.Leaves.{IsSamePools, IsOn, IsCall, IsSameWalk, HasJudged, IsNewWalk}
-use Rattle.marked_list.specs.Order.{MayGo, IsInside, StandsAt, KnowsNext}
+use Rattle.marked_list.specs.Order.{OwnMayWalk, IsInside, StandsAt, KnowsNext}
 
 -- how many nodes a cursor has looked at; none where there is no cursor
 abbrev pub seen_of : Option Cursor → ℕ
@@ -49,9 +49,9 @@ pub record KnowsLo (v : View) (word low : ℕ) : Type 0 where
   pub lo : knows.stands.cursor.lo ≡ Some low
 
 -- a walk may begin: there is no cursor
-pub record MaySetOut (v : View) : Type 0 where
+pub record MayBeginWalk (v : View) : Type 0 where
   pub inside : IsInside v
-  pub own : MayGo v.own
+  pub own : OwnMayWalk v.own
   pub cursor : v.cursor ≡ None
 
 -- the cursor is at the head, which it found with the low bit, and no node of this seat is linked
@@ -85,25 +85,25 @@ IsOthers number own y = (y / 16 ≢ number) ⊎ (k : Listed) × (own ≡ listed 
 
 module _ {P : Type 0} where
   -- the cursor's node is one
-  abbrev pub IsElsewhere : Part P → Type 0
+  abbrev pub IsElsewhere : SeatPart P → Type 0
   IsElsewhere p = (c : Cursor) (y : ℕ) → p.core.cursor ≡ Some c → plain_node_of c.cur ≡ Some y → IsOthers p.number p.core.own y
 
   -- the walk has not looked at as many nodes as it may, or a range is held
-  abbrev pub IsWithin : Part P → Type 0
+  abbrev pub IsWithin : SeatPart P → Type 0
   IsWithin q = (nodes_in q.trace.looked ≤ 16 * q.seats) ⊎ (held_at q.core.own ≢ None)
 
   -- what one look came to: the walk goes on, or it has an answer
-  abbrev pub Outcome : ℕ → View → Part P → Option Walked → Type 0
+  abbrev pub Outcome : ℕ → View → SeatPart P → Option Walked → Type 0
   Outcome first v q None = GoesOn v q.core
   Outcome first v q (Some answer) = Answers first v.own q answer × IsWithin q
 
   -- the cursor may look at one node more
-  pub record HasRoom (p : Part P) : Type 0 where
+  pub record HasRoom (p : SeatPart P) : Type 0 where
     pub seats : p.seats ≤ 16
     pub seen : seen_of p.core.cursor ≤ 16 * p.seats
 
   -- a load that leaves the cursor at its node
-  pub record IsLoad (p q : Part P) : Type 0 where
+  pub record IsLoad (p q : SeatPart P) : Type 0 where
     pub on : IsOn p q
     pub own : q.core.own ≡ p.core.own
     pub seen : seen_of q.core.cursor ≡ seen_of p.core.cursor
@@ -112,7 +112,7 @@ module _ {P : Type 0} where
     pub taken : q.trace.taken ≡ p.trace.taken + 1
 
   -- an exchange of the cursor's word that found another value, which is the walk's answer
-  pub record IsFailed (p q : Part P) (l : LostAnswer) : Type 0 where
+  pub record IsFailed (p q : SeatPart P) (l : LostAnswer) : Type 0 where
     pub on : IsOn p q
     pub outcome : Outcome p.trace.taken p.core q (Some (Lost l))
     pub walk : IsSameWalk p q
@@ -120,7 +120,7 @@ module _ {P : Type 0} where
     pub taken : q.trace.taken ≡ p.trace.taken + 1
 
   -- the cursor's node was unlinked, and is to be given home
-  pub record IsUnlinked (p q : Part P) (node : ℕ) : Type 0 where
+  pub record IsUnlinked (p q : SeatPart P) (node : ℕ) : Type 0 where
     pub call : IsCall 1 p q
     pub epoch : q.core.epoch ≡ p.core.epoch
     pub pools : IsSamePools p.core q.core
@@ -131,7 +131,7 @@ module _ {P : Type 0} where
 
   -- a cursor was made, which names that word, in a list of 1 to 16 seats; where the word has the low bit, the cursor
   -- is at the head, and no node of this seat is linked
-  pub record IsSetOut (p q : Part P) (word : ℕ) : Type 0 where
+  pub record IsSetOut (p q : SeatPart P) (word : ℕ) : Type 0 where
     pub on : IsOn p q
     pub cursor : q.core.cursor ≡ Some (record { prev = start_of p.core.own; cur = word; next = None; lo = None; seen = seen_after 0 word })
     pub own : q.core.own ≡ own_at p.core.own word
@@ -142,7 +142,7 @@ module _ {P : Type 0} where
     pub taken : q.trace.taken ≡ p.trace.taken + 1
 
   -- the head's low bit was taken away, and the cursor names the head's node
-  pub record IsSettled (p q : Part P) : Type 0 where
+  pub record IsSettled (p q : SeatPart P) : Type 0 where
     pub on : IsOn p q
     pub cursor : (c : Cursor) → p.core.cursor ≡ Some c → q.core.cursor ≡ Some (record c { cur = c.cur - 1 })
     pub own : q.core.own ≡ p.core.own

@@ -5,7 +5,7 @@ use Rattle.std.specs.Prelude.{◌≡◌, ℕ, ◌+◌, ◌≤◌, ◌<◌, Some,
 use Rattle.lock_core.specs.declared.views.View.{View}
 use Rattle.lock_core.specs.declared.views.Own.TheVariants.{Nothing}
 use Rattle.epoch_pools.specs.declared.record.Looked.{Looked}
-use Rattle.epoch_pools.specs.declared.views.Part.{Part}
+use Rattle.epoch_pools.specs.declared.views.SeatPart.{SeatPart}
 use Rattle.marked_list.specs.Causes.{nodes_in}
 use Rattle.marked_list.specs.Order.{IsOutside}
 
@@ -18,7 +18,7 @@ pub record IsSamePools (v w : View) : Type 0 where
   pub passed : w.passed ≡ v.passed
 
 -- what a call that walks leaves
-pub record IsOn {P : Type 0} (p q : Part P) : Type 0 where
+pub record IsOn {P : Type 0} (p q : SeatPart P) : Type 0 where
   pub number : q.number ≡ p.number
   pub seats : q.seats ≡ p.seats
   pub pass : q.pass ≡ p.pass
@@ -29,7 +29,7 @@ pub record IsOn {P : Type 0} (p q : Part P) : Type 0 where
   pub taken : p.trace.taken ≤ q.trace.taken
 
 -- what a call of a fixed number of steps leaves beside the view
-pub record IsCall {P : Type 0} (count : ℕ) (p q : Part P) : Type 0 where
+pub record IsCall {P : Type 0} (count : ℕ) (p q : SeatPart P) : Type 0 where
   pub number : q.number ≡ p.number
   pub seats : q.seats ≡ p.seats
   pub pass : q.pass ≡ p.pass
@@ -37,23 +37,23 @@ pub record IsCall {P : Type 0} (count : ℕ) (p q : Part P) : Type 0 where
   pub taken : q.trace.taken ≡ count + p.trace.taken
 
 -- the cursor that was looked with last is the same one: it was made by the same step
-abbrev pub IsSameWalk : {P : Type 0} → Part P → Part P → Type 0
+abbrev pub IsSameWalk : {P : Type 0} → SeatPart P → SeatPart P → Type 0
 IsSameWalk p q = (l : Looked) → p.trace.looked ≡ Some l → (m : Looked) × (q.trace.looked ≡ Some m) × (m.step ≡ l.step)
 
 -- and since then it has judged so many nodes
-abbrev pub HasJudged : {P : Type 0} → ℕ → Part P → Part P → Type 0
+abbrev pub HasJudged : {P : Type 0} → ℕ → SeatPart P → SeatPart P → Type 0
 HasJudged count p q = (l : Looked) → p.trace.looked ≡ Some l → (m : Looked) × (q.trace.looked ≡ Some m) × (m.step ≡ l.step) × (m.judged ≡ l.judged + count)
 
 -- and it has looked at no more nodes
-abbrev pub IsSameLook : {P : Type 0} → Part P → Part P → Type 0
+abbrev pub IsSameLook : {P : Type 0} → SeatPart P → SeatPart P → Type 0
 IsSameLook p q = (nodes_in q.trace.looked ≡ nodes_in p.trace.looked) × IsSameWalk p q
 
 -- it was made by the step of that number or a later one
-abbrev pub IsNewWalk : {P : Type 0} → ℕ → Part P → Type 0
+abbrev pub IsNewWalk : {P : Type 0} → ℕ → SeatPart P → Type 0
 IsNewWalk first q = (l : Looked) × (q.trace.looked ≡ Some l) × (first ≤ l.step) × (l.step < q.trace.taken)
 
 -- what a sweep leaves: the hand is outside its epoch again, without an own node
-pub record IsSwept {P : Type 0} (p q : Part P) : Type 0 where
+pub record IsSwept {P : Type 0} (p q : SeatPart P) : Type 0 where
   pub number : q.number ≡ p.number
   pub seats : q.seats ≡ p.seats
   pub pass : q.pass ≡ p.pass

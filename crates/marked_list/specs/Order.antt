@@ -13,7 +13,7 @@ use Rattle.lock_core.specs.Nodes.{Filled, Listed, filling, listed}
 use Rattle.lock_core.specs.Views.{todo_of}
 use Rattle.lock_core.specs.StepTable.{IsAtPlace}
 use Rattle.lock_core.specs.Machine.{may_leave}
-use Rattle.epoch_pools.specs.declared.views.Part.{Part}
+use Rattle.epoch_pools.specs.declared.views.SeatPart.{SeatPart}
 
 -- outside its epoch, with no unlinked node still to be given home
 pub record IsOutside (v : View) : Type 0 where
@@ -48,10 +48,10 @@ pub record StandsAtPlace (o : Option Cursor) : Type 0 where
   pub place : IsAtPlace cursor
 
 -- the own node may be compared with others: there is none, or its ends are known, or it has still to be validated
-abbrev pub MayGo : Own → Type 0
-MayGo Nothing = Unit {0}
-MayGo (Filling node lo hi mode aimed) = HasEnds (Filling node lo hi mode aimed)
-MayGo (Linked node range mode todo) = todo ≡ todo_of mode
+abbrev pub OwnMayWalk : Own → Type 0
+OwnMayWalk Nothing = Unit {0}
+OwnMayWalk (Filling node lo hi mode aimed) = HasEnds (Filling node lo hi mode aimed)
+OwnMayWalk (Linked node range mode todo) = todo ≡ todo_of mode
 
 -- a writer that validates hasn't come to its own node yet
 abbrev pub IsAhead : Own → ℕ → Type 0
@@ -64,7 +64,7 @@ IsAhead (Linked node range mode Done) y = Unit {0}
 -- on its way, with the cursor at a node
 pub record StandsAt (v : View) : Type 0 where
   pub inside : IsInside v
-  pub own : MayGo v.own
+  pub own : OwnMayWalk v.own
   pub cursor : Cursor
   pub is : v.cursor ≡ Some cursor
   pub node : ℕ
@@ -130,13 +130,13 @@ pub record MayQuickLink (v : View) : Type 0 where
   pub own : HasEnds v.own
 
 -- the own node is linked; where its range is held the pass is at rest
-pub record MayMark {P : Type 0} (is_at_rest : P → Type 0) (p : Part P) : Type 0 where
+pub record MayMark {P : Type 0} (is_at_rest : P → Type 0) (p : SeatPart P) : Type 0 where
   pub node : Listed
   pub is : p.core.own ≡ listed node
   pub rest : node.todo ≡ Done → is_at_rest p.pass
 
 -- a range is held and the pass is at rest, and no unlinked node has still to be given home
-pub record MayQuickUnlink {P : Type 0} (is_at_rest : P → Type 0) (p : Part P) : Type 0 where
+pub record MayQuickUnlink {P : Type 0} (is_at_rest : P → Type 0) (p : SeatPart P) : Type 0 where
   pub node : Listed
   pub is : p.core.own ≡ listed node
   pub held : node.todo ≡ Done

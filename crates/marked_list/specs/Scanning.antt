@@ -10,7 +10,7 @@ use Rattle.lock_core.specs.declared.views.Own.TheVariants.{Nothing}
 use Rattle.lock_core.specs.Words.{mode_of}
 use Rattle.epoch_pools.specs.declared.record.Looked.{Looked}
 use Rattle.epoch_pools.specs.declared.record.Met.{Met}
-use Rattle.epoch_pools.specs.declared.views.Part.{Part}
+use Rattle.epoch_pools.specs.declared.views.SeatPart.{SeatPart}
 use Rattle.marked_list.specs.declared.answers.Passed.{Passed}
 use Rattle.marked_list.specs.declared.answers.Passed.TheVariants.{Found, End, Lost, Long}
 use Rattle.marked_list.specs.declared.answers.Walked.{Walked}
@@ -57,11 +57,11 @@ passed_at None l = 0
 passed_at (Some c) l = judged_in l
 
 module _ {P : Type 0} where
-  abbrev pub passed_by : Part P → ℕ
+  abbrev pub passed_by : SeatPart P → ℕ
   passed_by p = passed_at p.core.cursor p.trace.looked
 
   -- a node with that range and mode was found unmarked by the step of that number or a later one
-  pub record IsSeen (first : ℕ) (q : Part P) (owner : ℕ) (held : Held) : Type 0 where
+  pub record IsSeen (first : ℕ) (q : SeatPart P) (owner : ℕ) (held : Held) : Type 0 where
     pub met : Met
     pub is : q.trace.met ≡ Some met
     pub from : first ≤ met.step
@@ -72,7 +72,7 @@ module _ {P : Type 0} where
   -- what the call of a scan came to, with how many nodes the walk had gone past before it: `Found` exactly where it
   -- went past a node, `End` and `Long` where it went past none and the end was read, or the walk has looked at as many
   -- nodes as it may
-  abbrev pub PassesFrom : ℕ → ℕ → Part P → Passed → Type 0
+  abbrev pub PassesFrom : ℕ → ℕ → SeatPart P → Passed → Type 0
   PassesFrom first before q (Found owner range mode) = IsSeen first q owner (record { range = range; mode = mode })
       × (judged_in q.trace.looked ≡ before + 1) × IsScanning q.core
   PassesFrom first before q End = IsAtLast q.core × (judged_in q.trace.looked ≡ before) × (nodes_in q.trace.looked ≤ 16 * q.seats)
@@ -82,10 +82,10 @@ module _ {P : Type 0} where
       × (nodes_in q.trace.looked ≡ 16 * q.seats + 1) × IsAtNode q.core
 
   -- why a scan gives an answer, from the hand before the call and after it
-  abbrev pub Passes : Part P → Part P → Passed → Type 0
+  abbrev pub Passes : SeatPart P → SeatPart P → Passed → Type 0
   Passes p q answer = PassesFrom p.trace.taken (passed_by p) q answer
 
   -- what one look of a scan comes to: the walk goes on past a marked node, or there is an answer
-  abbrev pub Sees : ℕ → Part P → Part P → Option Passed → Type 0
+  abbrev pub Sees : ℕ → SeatPart P → SeatPart P → Option Passed → Type 0
   Sees first p q None = GoesOn p.core q.core × (judged_in q.trace.looked ≡ judged_in p.trace.looked)
   Sees first p q (Some answer) = PassesFrom first (judged_in p.trace.looked) q answer

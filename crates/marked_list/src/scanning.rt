@@ -10,12 +10,12 @@ ghost use Rattle.marked_list.specs.Order.{IsInside, StandsAt, KnowsNext};
 ghost use Rattle.marked_list.specs.Leaves.{IsOn};
 ghost use Rattle.marked_list.specs.Causes.{judged_in};
 ghost use Rattle.marked_list.specs.Answers.{IsAtEnd};
-ghost use Rattle.marked_list.specs.Going.{seen_of, KnowsLo, HasRoom, IsElsewhere, MaySetOut};
+ghost use Rattle.marked_list.specs.Going.{seen_of, KnowsLo, HasRoom, IsElsewhere, MayBeginWalk};
 ghost use Rattle.marked_list.specs.Scanning.{found_with, passed_from, IsResting, PassesFrom, Passes, Sees};
 
 use crate::answers::{Passed, Walked};
 use crate::look::{load_lo, load_next, mode_in, pass_marked};
-use crate::way::{seen_in, set_out};
+use crate::way::{begin_walk, seen_in};
 use epoch_pools::{Hand, List, step};
 use lock_core::{Guard, Range, Step};
 use std::sync::ledger::Ledger;
@@ -150,7 +150,7 @@ fn scan_on<G: Guard, L: Ledger>(list: &List<G>, hand: &mut Hand<G>, steps: &mut 
 /// Begins a scan at the head.
 fn scan_out<G: Guard, L: Ledger>(list: &List<G>, hand: &mut Hand<G>, steps: &mut Steps<L>) -> Passed
     requires table { hand.old.table ≡ list.now.table }
-    requires begins { MaySetOut hand.old.part.core }
+    requires begins { MayBeginWalk hand.old.part.core }
     requires own { hand.old.part.core.own ≡ Nothing }
     ensures table { hand.new.table ≡ hand.old.table }
     ensures on { IsOn hand.old.part hand.new.part }
@@ -159,7 +159,7 @@ fn scan_out<G: Guard, L: Ledger>(list: &List<G>, hand: &mut Hand<G>, steps: &mut
     ensures taken { hand.new.part.trace.taken ≤ hand.old.part.trace.taken + 2 + 3 * (16 * hand.old.part.seats + 1) }
     ensures counted { steps.new + hand.old.part.trace.taken ≡ steps.old + hand.new.part.trace.taken }
 {
-    if let Some(answer) = set_out(list, hand, steps) {
+    if let Some(answer) = begin_walk(list, hand, steps) {
         let _ = hand.view();
         return passed(answer);
     }

@@ -10,7 +10,7 @@ ghost use Rattle.marked_list.specs.Answers.{Sweeps, IsLong};
 
 use crate::answers::Walked;
 use crate::cursor::{begin, end};
-use crate::way::go;
+use crate::way::whole_walk;
 use epoch_pools::{Hand, List};
 use lock_core::Guard;
 use std::sync::ledger::Ledger;
@@ -36,7 +36,7 @@ pub fn sweep<G: Guard, L: Ledger>(
     ensures counted { steps.new + hand.old.part.trace.taken ≡ steps.old + hand.new.part.trace.taken }
 {
     let cursor = begin(list, hand, steps);
-    let answer = go(list, hand, steps);
+    let answer = whole_walk(list, hand, steps);
     let _ = hand.view();
     end(list, hand, cursor, steps);
     answer

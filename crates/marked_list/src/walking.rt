@@ -10,7 +10,7 @@ ghost use Rattle.marked_list.specs.Answers.{Answers, IsLong};
 
 use crate::answers::Walked;
 use crate::cursor::Cursor;
-use crate::way::{go, go_on};
+use crate::way::{walk_on, whole_walk};
 use epoch_pools::{Hand, List};
 use lock_core::Guard;
 use std::sync::ledger::Ledger;
@@ -40,7 +40,7 @@ pub fn walk<G: Guard, L: Ledger>(
     ensures cursor { cursor.new ≡ cursor.old }
 {
     let _ = cursor;
-    go(list, hand, steps)
+    whole_walk(list, hand, steps)
 }
 
 /// Validates the hand's linked node: a reader looks forward from its own node, and a writer from the head up to its own
@@ -67,8 +67,8 @@ pub fn validate<G: Guard, L: Ledger>(
 {
     let _ = cursor;
     if hand.view().cursor.is_none() {
-        go(list, hand, steps)
+        whole_walk(list, hand, steps)
     } else {
-        go_on(list, hand, steps)
+        walk_on(list, hand, steps)
     }
 }

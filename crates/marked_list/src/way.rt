@@ -7,7 +7,7 @@ ghost use Rattle.marked_list.specs.Order.{StandsAt};
 ghost use Rattle.marked_list.specs.Leaves.{IsOn, IsSameWalk, IsNewWalk};
 ghost use Rattle.marked_list.specs.Causes.{IsSpent, judged_in};
 ghost use Rattle.marked_list.specs.Answers.{Answers, IsLong};
-ghost use Rattle.marked_list.specs.Going.{seen_of, HasRoom, MaySetOut, IsAtOddHead, IsSetOut, IsSettled, IsFailed, Outcome};
+ghost use Rattle.marked_list.specs.Going.{seen_of, HasRoom, MayBeginWalk, IsAtOddHead, IsSetOut, IsSettled, IsFailed, Outcome};
 
 use crate::answers::{Lost, Walked};
 use crate::look::{arrival, look, lost_at};
@@ -29,7 +29,7 @@ pub(crate) fn seen_in(view: &View) -> u32
 /// Makes a cursor, and returns the word that it names.
 fn make_cursor<G: Guard, L: Ledger>(list: &List<G>, hand: &mut Hand<G>, steps: &mut Steps<L>) -> u64
     requires table { hand.old.table ≡ list.now.table }
-    requires begins { MaySetOut hand.old.part.core }
+    requires begins { MayBeginWalk hand.old.part.core }
     ensures table { hand.new.table ≡ hand.old.table }
     ensures out { IsSetOut hand.old.part hand.new.part result }
     ensures counted { steps.new ≡ steps.old + 1 }
@@ -62,13 +62,13 @@ fn settle<G: Guard, L: Ledger>(
 }
 
 /// Sets out: None where the cursor is at the first node of its way.
-pub(crate) fn set_out<G: Guard, L: Ledger>(
+pub(crate) fn begin_walk<G: Guard, L: Ledger>(
     list: &List<G>,
     hand: &mut Hand<G>,
     steps: &mut Steps<L>,
 ) -> Option<Walked>
     requires table { hand.old.table ≡ list.now.table }
-    requires begins { MaySetOut hand.old.part.core }
+    requires begins { MayBeginWalk hand.old.part.core }
     ensures table { hand.new.table ≡ hand.old.table }
     ensures on { IsOn hand.old.part hand.new.part }
     ensures outcome { Outcome hand.old.part.trace.taken hand.old.part.core hand.new.part result }
@@ -89,7 +89,7 @@ pub(crate) fn set_out<G: Guard, L: Ledger>(
 }
 
 /// Looks at one node after another, until the walk has an answer.
-pub(crate) fn go_on<G: Guard, L: Ledger>(
+pub(crate) fn walk_on<G: Guard, L: Ledger>(
     list: &List<G>,
     hand: &mut Hand<G>,
     steps: &mut Steps<L>,
@@ -115,13 +115,13 @@ pub(crate) fn go_on<G: Guard, L: Ledger>(
 }
 
 /// A whole walk: it sets out and goes on until it has an answer.
-pub(crate) fn go<G: Guard, L: Ledger>(
+pub(crate) fn whole_walk<G: Guard, L: Ledger>(
     list: &List<G>,
     hand: &mut Hand<G>,
     steps: &mut Steps<L>,
 ) -> Walked
     requires table { hand.old.table ≡ list.now.table }
-    requires begins { MaySetOut hand.old.part.core }
+    requires begins { MayBeginWalk hand.old.part.core }
     ensures table { hand.new.table ≡ hand.old.table }
     ensures on { IsOn hand.old.part hand.new.part }
     ensures answer { Answers hand.old.part.trace.taken hand.old.part.core.own hand.new.part result }
@@ -130,8 +130,8 @@ pub(crate) fn go<G: Guard, L: Ledger>(
     ensures taken { hand.new.part.trace.taken ≤ hand.old.part.trace.taken + 2 + 3 * (16 * hand.old.part.seats + 1) }
     ensures counted { steps.new + hand.old.part.trace.taken ≡ steps.old + hand.new.part.trace.taken }
 {
-    if let Some(answer) = set_out(list, hand, steps) {
+    if let Some(answer) = begin_walk(list, hand, steps) {
         return answer;
     }
-    go_on(list, hand, steps)
+    walk_on(list, hand, steps)
 }

@@ -6,7 +6,7 @@ use mathlib.Core.Option.{some}
 use lib.ListN.{get_elem?}
 use Rattle.atomic_table.specs.Seated.{TableId}
 use Rattle.atomic_table.proofs.Lists.{at_last, at_longer}
-use Rattle.range_rw.specs.Contract.{Known, IsSeatCount, AreNewSeats, new_seat}
+use Rattle.range_rw.specs.Contract.{SeatState, IsSeatCount, AreNewSeats, new_seat}
 use Rattle.range_c.specs.Behind.{Behind, IsNewBehind, IsShared}
 
 abbrev pub AllAt : {A : Type 0} → (ℕ → A → Type 0) → List A → Type 0
@@ -22,25 +22,25 @@ pub longer : {A : Type 0} (old new : List A) (a : A) → old ≡ new ++ a ∷ []
 longer old new a e = sym (ap length e ∙ length-append new (a ∷ []))
 
 abbrev pub Row : Type 0
-Row = List (Known (Unit {0}))
+Row = List (SeatState (Unit {0}))
 
-abbrev pub behind : Known (Unit {0}) → ℕ → ℕ → ℕ → Behind
+abbrev pub behind : SeatState (Unit {0}) → ℕ → ℕ → ℕ → Behind
 behind seat spare words seats = record { seat = seat; spare = spare; words = words; seats = seats }
 
 -- the seat that is taken from the end
-pub taken : (t : TableId) (old new : Row) (s : Known (Unit {0})) → old ≡ new ++ s ∷ [] → AreNewSeats t (λ _. tt) old
+pub taken : (t : TableId) (old new : Row) (s : SeatState (Unit {0})) → old ≡ new ++ s ∷ [] → AreNewSeats t (λ _. tt) old
     → (s ≡ new_seat t (λ _. tt) (length new)) × AreNewSeats t (λ _. tt) new
-taken t old new s e all = popped (λ k (x : Known (Unit {0})). x ≡ new_seat t (λ _. tt) k) old new s e all
+taken t old new s e all = popped (λ k (x : SeatState (Unit {0})). x ≡ new_seat t (λ _. tt) k) old new s e all
 
 -- a seat put back at the end
-pub put_back : (old new again : Row) (s x : Known (Unit {0})) → old ≡ new ++ s ∷ [] → x ≡ s → again ≡ new ++ x ∷ [] → again ≡ old
+pub put_back : (old new again : Row) (s x : SeatState (Unit {0})) → old ≡ new ++ s ∷ [] → x ≡ s → again ≡ new ++ x ∷ [] → again ≡ old
 put_back old new again s x e is f = f ∙ (ap (λ y. new ++ y ∷ []) is ∙ sym e)
 
-own_table : (t : TableId) (k : ℕ) (s : Known (Unit {0})) → s ≡ new_seat t (λ _. tt) k → s ≡ new_seat s.table (λ _. tt) k
-own_table t k s e = subst (λ x. s ≡ new_seat x (λ _. tt) k) (sym (ap (λ (x : Known (Unit {0})). x.table) e)) e
+own_table : (t : TableId) (k : ℕ) (s : SeatState (Unit {0})) → s ≡ new_seat t (λ _. tt) k → s ≡ new_seat s.table (λ _. tt) k
+own_table t k s e = subst (λ x. s ≡ new_seat x (λ _. tt) k) (sym (ap (λ (x : SeatState (Unit {0})). x.table) e)) e
 
 -- what is behind the first handle of a new table
-pub opens : (t : TableId) (seats count n : ℕ) (old new : Row) (s : Known (Unit {0})) (b : Behind) → IsSeatCount seats
+pub opens : (t : TableId) (seats count n : ℕ) (old new : Row) (s : SeatState (Unit {0})) (b : Behind) → IsSeatCount seats
     → count ≤ 2 ^ 20 → length old ≡ seats → old ≡ new ++ s ∷ []
     → AreNewSeats t (λ _. tt) old → n ≡ seats → b ≡ behind s (length new) count n → IsNewBehind seats count b
 opens t seats count n old new s b counted most len e all same is = subst (λ x. IsNewBehind seats count x) (sym is) (record {
@@ -53,7 +53,7 @@ opens t seats count n old new s b counted most len e all same is = subst (λ x. 
 })
 
 -- what is behind a handle that shares, and behind the new one
-pub shares : (t : TableId) (old new rest : Row) (mine s : Known (Unit {0})) (words seats : ℕ) (before b : Behind)
+pub shares : (t : TableId) (old new rest : Row) (mine s : SeatState (Unit {0})) (words seats : ℕ) (before b : Behind)
     → behind mine (length old) words seats ≡ before → mine.table ≡ t
     → old ≡ new ++ s ∷ [] → AreNewSeats t (λ _. tt) old → length rest ≡ 0 → b ≡ behind s (length rest) words seats
     → IsShared before (behind mine (length new) words seats) b

@@ -5,14 +5,14 @@ use Rattle.lock_core.specs.Range.{Interval, IsRange}
 use Rattle.lock_core.specs.declared.range.Held.{Held}
 use Rattle.lock_core.specs.declared.range.Mode.{Mode}
 use Rattle.range_rw.specs.declared.refusals.NotHeld.{NotHeld}
-use Rattle.range_rw.specs.Contract.{Known, IsLockCall, IsCause, IsLongRefusal, IsSpentIn}
+use Rattle.range_rw.specs.Contract.{SeatState, IsLockCall, IsCause, IsLongRefusal, IsSpentIn}
 use Rattle.range_c.specs.declared.answers.Answer.{Answer}
 use Rattle.range_c.specs.declared.answers.Answer.TheVariants.{Done, Refused, NotTried, BadRange, HasOne, HasNone}
 use Rattle.range_c.specs.declared.answers.Answer.TheVariants.{Closed, Open, Memory, Seats, Words, NoneLeft, NoWord}
 use Rattle.range_c.specs.declared.answers.Answer.TheVariants.{Other}
 use Rattle.range_c.specs.Behind.{Behind, IsTrial, IsOneTry, IsLastTry, IsTrialAnswer, IsTriedFor, IsTried, mode_for, asked}
 
-pub calls_after : (a b c : Known (Unit {0})) → IsLockCall a b → IsLockCall b c → IsLockCall a c
+pub calls_after : (a b c : SeatState (Unit {0})) → IsLockCall a b → IsLockCall b c → IsLockCall a c
 calls_after a b c f g = record {
   table = g.table ∙ f.table;
   number = g.number ∙ f.number;

@@ -9,14 +9,14 @@ use Rattle.lock_core.specs.declared.range.Held.{Held}
 use Rattle.lock_core.specs.declared.range.Mode.{Mode}
 use Rattle.lock_core.specs.declared.range.Mode.TheVariants.{Reader, Writer}
 use Rattle.range_rw.specs.declared.refusals.NotHeld.{NotHeld}
-use Rattle.range_rw.specs.Contract.{Known, IsSeatCount, IsLockCall, IsClientCall, IsRelease, IsCause, IsLongRefusal, IsSpentIn, new_seat}
+use Rattle.range_rw.specs.Contract.{SeatState, IsSeatCount, IsLockCall, IsClientCall, IsRelease, IsCause, IsLongRefusal, IsSpentIn, new_seat}
 use Rattle.range_c.specs.declared.answers.Answer.{Answer}
 use Rattle.range_c.specs.declared.answers.Answer.TheVariants.{Done, Refused, NotTried, BadRange, HasOne, HasNone, Memory, Seats, Words, NoneLeft, NoWord, Other}
 use Rattle.range_c.specs.declared.state.WordStep.{WordStep}
 use Rattle.range_c.specs.declared.state.WordStep.TheVariants.{Load, Store, Add, Exchange}
 
 pub record Behind : Type 0 where
-  pub seat : Known (Unit {0})
+  pub seat : SeatState (Unit {0})
   pub spare : ℕ
   pub words : ℕ
   pub seats : ℕ
@@ -80,13 +80,13 @@ pub record IsTrial (before after : Behind) : Type 0 where
 
 -- one try in a table of so many seats, from one state of the seat to another, was refused for that cause, as `range_rw`
 -- says; that it was too long exactly where a walk of it looked at as many nodes as one may
-pub record IsOneTry (seats : ℕ) (asked : Held) (entry after : Known (Unit {0})) (why : NotHeld) : Type 0 where
+pub record IsOneTry (seats : ℕ) (asked : Held) (entry after : SeatState (Unit {0})) (why : NotHeld) : Type 0 where
   pub cause : IsCause entry after asked why
   pub long : IsLongRefusal why ↔ IsSpentIn seats entry after
 
 -- the last of the tries, which began with the seat at `entry`, was refused for that cause
-pub record IsLastTry (seats : ℕ) (asked : Held) (before after : Known (Unit {0})) (why : NotHeld) : Type 0 where
-  pub entry : Known (Unit {0})
+pub record IsLastTry (seats : ℕ) (asked : Held) (before after : SeatState (Unit {0})) (why : NotHeld) : Type 0 where
+  pub entry : SeatState (Unit {0})
   pub call : IsLockCall before entry
   pub free : entry.held ≡ None
   pub cause : IsOneTry seats asked entry after why

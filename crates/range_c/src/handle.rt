@@ -103,6 +103,6 @@ impl GzRange {
 fn sends<T: Send>() {}
 
 /// That a handle may go from one thread to another. It does nothing.
-pub fn crosses_threads() {
+pub fn is_send_and_sync() {
     sends::<GzRange>();
 }

@@ -19,7 +19,7 @@ use Rattle.strace_reader.specs.declared.joiner.Fed.TheVariants.{Played, Kept, Sk
 use Rattle.strace_reader.specs.Playing.{Differs}
 use Rattle.range_cli.specs.declared.trace.Line.{Line}
 use Rattle.range_cli.specs.Report.{Differing, DiffersFromLine, Rise, IsPlaceOf, HasNoLine}
-use Rattle.range_cli.specs.Trace.{Standing, Reads, lines_by, index_among}
+use Rattle.range_cli.specs.Trace.{TracePosition, Reads, lines_by, index_among}
 use Rattle.range_cli.specs.Trace.Reads.{nothing, line}
 
 -- ---- the count
@@ -121,7 +121,7 @@ from_first : (number : ℕ) (first : Line) (lines : List Line) → first.number 
 from_first number first lines is all zero d low = omega arith
 from_first number first lines is all (suc k) d low = from_next number lines all k d (omega arith)
 
-rise_on : (stand : Standing) (answer : Fed) (lines : List Line) → Rise lines → AreFrom (stand.number + 1) lines
+rise_on : (stand : TracePosition) (answer : Fed) (lines : List Line) → Rise lines → AreFrom (stand.number + 1) lines
     → Rise (lines_by stand answer ++ lines) × AreFrom stand.number (lines_by stand answer ++ lines)
 rise_on stand (Played pid call recorded skipped) lines rise from =
     let first : Line = record { number = stand.number; process = index_among stand.seen pid; call = call; recorded = recorded } in (
@@ -134,7 +134,7 @@ rise_on stand (Skipped skipped) lines rise from = (rise, from_next stand.number 
 rise_on stand Blank lines rise from = (rise, from_next stand.number lines from)
 
 -- they rise
-pub reads_rise : {stand : Standing} {texts : List (List ℕ)} {lines : List Line} {skipped : ℕ} → Reads stand texts lines skipped
+pub reads_rise : {stand : TracePosition} {texts : List (List ℕ)} {lines : List Line} {skipped : ℕ} → Reads stand texts lines skipped
     → Rise lines × AreFrom stand.number lines
 reads_rise (nothing left) = ((λ i j d below low. absurd (omega arith)), (λ k d low. absurd (omega arith)))
 reads_rise (line {stand = s} {lines = ls} answer asks reads) = let rest = reads_rise reads in rise_on s answer ls rest.0 rest.1

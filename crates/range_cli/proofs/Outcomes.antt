@@ -29,13 +29,13 @@ use Rattle.range_cli.specs.Run.{Heard, Reports, Wrote, HasCause, IsOutcome, IsOn
 use Rattle.range_cli.specs.Run.IsOutcome.{usage, too_long, early, done, loaded}
 use Rattle.range_cli.specs.Script.{IsScript, EndsTrace, EndsInput}
 use Rattle.range_cli.specs.Status.{status_of, ending}
-use Rattle.range_cli.specs.Trace.{Standing, start_at, after, Asks, Ends, Reads, EndsAt, played_by}
+use Rattle.range_cli.specs.Trace.{TracePosition, start_at, after, Asks, Ends, Reads, EndsAt, played_by}
 use Rattle.range_cli.specs.Trace.Reads.{nothing, line}
 use Rattle.range_cli.specs.Trace.EndsAt.{here, later}
 use Rattle.command_words.specs.Commands.{Spells, AskForOne}
 
 -- a line that asks for something ends no run
-asks_ends : (stand : Standing) (text : List ℕ) (answer : Fed) (end : EarlyEnd) → Asks stand text answer → Ends stand text end → ⊥
+asks_ends : (stand : TracePosition) (text : List ℕ) (answer : Fed) (end : EarlyEnd) → Asks stand text answer → Ends stand text end → ⊥
 asks_ends stand text answer (Refused l k w) a e = (one_answer stand.fed text).never_both _ _ a.1 e.1
 asks_ends stand text answer Failed a e = e
 asks_ends stand text answer NoMemory a e = e
@@ -46,11 +46,11 @@ asks_ends stand text answer (Above OfLines v) a e =
 asks_ends stand text answer (Above Rows v) a e = e
 
 -- a line has one answer
-asks_same : (stand : Standing) (text : List ℕ) (a b : Fed) → Asks stand text a → Asks stand text b → a ≡ b
+asks_same : (stand : TracePosition) (text : List ℕ) (a b : Fed) → Asks stand text a → Asks stand text b → a ≡ b
 asks_same stand text a b x y = (one_answer stand.fed text).item a b x.1 y.1
 
 -- lines that are all read end no run
-reads_ends : {stand : Standing} {skipped : ℕ} {texts : List (List ℕ)} {lines : List Line} {end : EarlyEnd}
+reads_ends : {stand : TracePosition} {skipped : ℕ} {texts : List (List ℕ)} {lines : List Line} {end : EarlyEnd}
     → Reads stand texts lines skipped → EndsAt stand texts end → ⊥
 reads_ends (nothing left) h = elim h [ ]
 reads_ends (line {stand = s} {text = t} answer a r) (here {end = u} e) = asks_ends s t answer u a e
@@ -58,7 +58,7 @@ reads_ends (line {stand = s} {text = t} {texts = ts} answer a r) (later {end = u
     reads_ends r (subst (λ x. EndsAt (after s t x) ts u) (asks_same s t other answer b a) e)
 
 -- a line ends a run in one way
-ends_one : (stand : Standing) (text : List ℕ) (s u : EarlyEnd) → Ends stand text s → Ends stand text u → s ≡ u
+ends_one : (stand : TracePosition) (text : List ℕ) (s u : EarlyEnd) → Ends stand text s → Ends stand text u → s ≡ u
 ends_one stand text (Refused a1 a2 a3) (Refused b1 b2 b3) e h =
     let same = (one_answer stand.fed text).refusal (record { column = a2; what = a3 }) (record { column = b2; what = b3 }) e.1 h.1 in
     let k : a2 ≡ b2 = ap (λ x. x.column) same in let w : a3 ≡ b3 = ap (λ x. x.what) same in rw (e.2, h.2, k, w) refl
@@ -88,7 +88,7 @@ ends_one stand text (Above OfLines a) (Above Rows b) e h = absurd h
 ends_one stand text (Above Rows a) u e h = absurd e
 
 -- so do lines
-ends_same : {stand : Standing} {texts : List (List ℕ)} {s u : EarlyEnd} → EndsAt stand texts s → EndsAt stand texts u → s ≡ u
+ends_same : {stand : TracePosition} {texts : List (List ℕ)} {s u : EarlyEnd} → EndsAt stand texts s → EndsAt stand texts u → s ≡ u
 ends_same (here {stand = p} {text = t} {end = s} e) (here {end = u} h) = ends_one p t s u e h
 ends_same (here {stand = p} {text = t} {end = s} e) (later answer b h) = absurd (asks_ends p t answer s b e)
 ends_same (later {stand = p} {text = t} answer b h) (here {end = s} e) = absurd (asks_ends p t answer s b e)

@@ -12,7 +12,7 @@ use Rattle.range_cli.specs.Opening.{EndsMap, EndsMaps, EndsOpening}
 use Rattle.range_cli.specs.Opening.EndsMaps.{here as here_map, later as later_map}
 use Rattle.range_cli.specs.Script.{EndsInput, EndsEarly}
 use Rattle.range_cli.specs.Status.{status_of, OrMemory}
-use Rattle.range_cli.specs.Trace.{Standing, Ends, EndsAt}
+use Rattle.range_cli.specs.Trace.{TracePosition, Ends, EndsAt}
 use Rattle.range_cli.specs.Trace.EndsAt.{here, later}
 use Rattle.command_words.specs.Commands.{Spells}
 use Rattle.range_cli.specs.Run.{Wrote, HasCause, EndsByInput}
@@ -27,7 +27,7 @@ IsOfBytes (Above OfLine value) = Unit {0}
 IsOfBytes (Above OfLines value) = Unit {0}
 IsOfBytes (Above Rows value) = Unit {0}
 
-of_line : (stand : Standing) (text : List ℕ) (end : EarlyEnd) → Ends stand text end → IsOfBytes end
+of_line : (stand : TracePosition) (text : List ℕ) (end : EarlyEnd) → Ends stand text end → IsOfBytes end
 of_line stand text (Refused line column what) h = tt
 of_line stand text Failed h = h
 of_line stand text NoMemory h = h
@@ -36,7 +36,7 @@ of_line stand text (Above OfLine value) h = tt
 of_line stand text (Above OfLines value) h = tt
 of_line stand text (Above Rows value) h = absurd h
 
-of_lines : {stand : Standing} {texts : List (List ℕ)} {end : EarlyEnd} → EndsAt stand texts end → IsOfBytes end
+of_lines : {stand : TracePosition} {texts : List (List ℕ)} {end : EarlyEnd} → EndsAt stand texts end → IsOfBytes end
 of_lines (here {stand = s} {text = t} {end = e} h) = of_line s t e h
 of_lines (later answer asks h) = of_lines h
 

@@ -13,7 +13,7 @@ use Rattle.range_cli.specs.declared.status.EarlyEnd.{EarlyEnd}
 use Rattle.range_cli.specs.declared.trace.Line.{Line}
 use Rattle.range_cli.specs.declared.trace.TraceReader.{TraceReader}
 use Rattle.range_cli.specs.Status.{OrMemory}
-use Rattle.range_cli.specs.Trace.{Standing, start_at, after, lines_by, played_by, skipped_by, seen_by, IsShort, Ends, IsNamedAnswer, Reads, EndsAt}
+use Rattle.range_cli.specs.Trace.{TracePosition, start_at, after, lines_by, played_by, skipped_by, seen_by, IsShort, Ends, IsNamedAnswer, Reads, EndsAt}
 use Rattle.range_cli.specs.Trace.Reads.{nothing, line}
 use Rattle.range_cli.specs.Trace.EndsAt.{here, later}
 use Rattle.range_cli.specs.TraceReader.{IsIndexed, IsFull, StandsAt, Takes}
@@ -46,7 +46,7 @@ is_named fed text (Skipped count) h = tt
 is_named fed text Blank h = tt
 
 -- the reader that was fed the text, and added its answer, took it
-pub takes_by : (stand : Standing) (text : List ℕ) (old new : TraceReader) (answer : Fed) → IsShort text → StandsAt old stand
+pub takes_by : (stand : TracePosition) (text : List ℕ) (old new : TraceReader) (answer : Fed) → IsShort text → StandsAt old stand
     → IsAnswer stand.fed text answer → IsFed new.joiner (text ∷ stand.fed)
     → new.lines.items ≡ old.lines.items ++ lines_by stand answer → IsIndexed new.processes (seen_by stand.seen answer)
     → length new.lines.items ≡ length old.lines.items + played_by answer
@@ -64,11 +64,11 @@ takes_by stand text old new answer short at is fed lines indexed len few skipped
 pub takes_on : {X : Type 0} (r : Result X EarlyEnd) (text : List ℕ) (number : ℕ) (old new : TraceReader) (joiner : Joiner) (answer : Fed) → IsShort text
     → ((fed : List (List ℕ)) → IsFed old.joiner fed → IsAnswer fed text answer)
     → ((fed : List (List ℕ)) → IsFed old.joiner fed → IsFed joiner (text ∷ fed)) → OnOk r (new.joiner ≡ joiner)
-    → OnOk r ((stand : Standing) → stand.number ≡ number → IsIndexed old.processes stand.seen → new.lines.items ≡ old.lines.items ++ lines_by stand answer)
+    → OnOk r ((stand : TracePosition) → stand.number ≡ number → IsIndexed old.processes stand.seen → new.lines.items ≡ old.lines.items ++ lines_by stand answer)
     → OnOk r ((seen : List ℕ) → IsIndexed old.processes seen → IsIndexed new.processes (seen_by seen answer))
     → OnOk r (length new.lines.items ≡ length old.lines.items + played_by answer)
     → OnOk r (length new.lines.items ≤ 1048576) → OnOk r (new.skipped ≡ old.skipped + skipped_by answer)
-    → OnOk r ((stand : Standing) → StandsAt old stand → stand.number ≡ number → Takes stand text old new)
+    → OnOk r ((stand : TracePosition) → StandsAt old stand → stand.number ≡ number → Takes stand text old new)
 takes_on (Ok x) text number old new joiner answer short answers next same lines seen len few skipped = λ stand at is.
     takes_by stand text old new answer short at (answers stand.fed at.fed)
     (subst (λ (j : Joiner). IsFed j (text ∷ stand.fed)) (sym same) (next stand.fed at.fed)) (lines stand is at.indexed)
@@ -76,7 +76,7 @@ takes_on (Ok x) text number old new joiner answer short answers next same lines 
 takes_on (Err e) text number old new joiner answer short answers next same lines seen len few skipped = tt
 
 -- an answer that is not taken ends the run
-pub full_ends : (stand : Standing) (text : List ℕ) (reader : TraceReader) (answer : Fed) (end : EarlyEnd) → IsShort text
+pub full_ends : (stand : TracePosition) (text : List ℕ) (reader : TraceReader) (answer : Fed) (end : EarlyEnd) → IsShort text
     → StandsAt reader stand → IsAnswer stand.fed text answer
     → IsFull (length reader.lines.items) answer end → OrMemory (Ends stand text) end
 full_ends stand text reader answer end short at is (inl h) = inl h
@@ -88,7 +88,7 @@ full_ends stand text reader answer end short at is (inr h) =
 
 -- before line `number` the reader stands somewhere, and these texts are left
 pub record SoFar (first : ℕ) (all : List (List ℕ)) (number : ℕ) (left : List (List ℕ)) (reader : TraceReader) : Type 0 where
-  pub stand : Standing
+  pub stand : TracePosition
   pub stands : StandsAt reader stand
   pub numbered : stand.number ≡ number
   pub counted : length stand.fed + first ≡ number

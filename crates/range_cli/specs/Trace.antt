@@ -47,14 +47,14 @@ seen_with seen pid = with_new (place_among seen pid) seen pid
 
 -- Where the reading of a trace stands: the number of the next line, how many lines are played so far, the texts that
 -- were fed to the joiner, the last one first, and the processes of the played calls, each once, the first one first.
-pub record Standing : Type 0 where
+pub record TracePosition : Type 0 where
   pub number : ℕ
   pub played : ℕ
   pub fed : List (List ℕ)
   pub seen : List ℕ
 
 -- before the first line of a trace, which has this number
-abbrev pub start_at : ℕ → Standing
+abbrev pub start_at : ℕ → TracePosition
 start_at number = record { number = number; played = 0; fed = []; seen = [] }
 
 -- how many lines more are played
@@ -80,7 +80,7 @@ seen_by seen Blank = seen
 
 -- The line that is played where the next text answers so. It has that text's number, also where the text is a second
 -- half.
-abbrev pub lines_by : Standing → Fed → List Line
+abbrev pub lines_by : TracePosition → Fed → List Line
 lines_by stand (Played pid call recorded skipped) =
     record { number = stand.number; process = index_among stand.seen pid; call = call; recorded = recorded } ∷ []
 lines_by stand (Kept skipped) = []
@@ -88,7 +88,7 @@ lines_by stand (Skipped skipped) = []
 lines_by stand Blank = []
 
 -- where the reading stands behind a text that answered so
-abbrev pub after : Standing → List ℕ → Fed → Standing
+abbrev pub after : TracePosition → List ℕ → Fed → TracePosition
 after stand text answer = record {
   number = stand.number + 1;
   played = stand.played + played_by answer;
@@ -107,11 +107,11 @@ abbrev pub IsTooLongLine : List ℕ → ℕ → Type 0
 IsTooLongLine text value = (65535 < length text) × (value ≡ 65536)
 
 -- the next line answers so, and the limits are kept
-abbrev pub Asks : Standing → List ℕ → Fed → Type 0
+abbrev pub Asks : TracePosition → List ℕ → Fed → Type 0
 Asks stand text answer = IsShort text × IsAnswer stand.fed text answer × (stand.played + played_by answer ≤ 1048576)
 
 -- which limit the next line passes
-abbrev pub Passes : Standing → List ℕ → Which → ℕ → Type 0
+abbrev pub Passes : TracePosition → List ℕ → Which → ℕ → Type 0
 Passes stand text Input value = ⊥
 Passes stand text OfLine value = IsTooLongLine text value
 Passes stand text OfLines value = IsShort text × (value ≡ 1048577)
@@ -119,7 +119,7 @@ Passes stand text OfLines value = IsShort text × (value ≡ 1048577)
 Passes stand text Rows value = ⊥
 
 -- The next line ends the run so. Halves that are refused together have the number of the second, and a column in both.
-abbrev pub Ends : Standing → List ℕ → EarlyEnd → Type 0
+abbrev pub Ends : TracePosition → List ℕ → EarlyEnd → Type 0
 Ends stand text (Refused line column what) = IsShort text × RefusesFed stand.fed text (record { column = column; what = what }) × (line ≡ stand.number)
 Ends stand text Failed = ⊥
 Ends stand text NoMemory = ⊥
@@ -139,15 +139,15 @@ IsNamedAnswer Blank = Unit {0}
 
 -- From where the reading stands, all these lines are read: these are played and so many are skipped. First halves that
 -- are left at the end are skipped too.
-pub data Reads : Standing → List (List ℕ) → List Line → ℕ → Type 0 where
-  nothing : {stand : Standing} {left : ℕ} → CountsKept stand.fed left → Reads stand [] [] left
-  line : {stand : Standing} {text : List ℕ} {texts : List (List ℕ)} {lines : List Line} {skipped : ℕ} → (answer : Fed) →
+pub data Reads : TracePosition → List (List ℕ) → List Line → ℕ → Type 0 where
+  nothing : {stand : TracePosition} {left : ℕ} → CountsKept stand.fed left → Reads stand [] [] left
+  line : {stand : TracePosition} {text : List ℕ} {texts : List (List ℕ)} {lines : List Line} {skipped : ℕ} → (answer : Fed) →
       Asks stand text answer → Reads (after stand text answer) texts lines skipped →
       Reads stand (text ∷ texts) (lines_by stand answer ++ lines) (skipped_by answer + skipped)
 
 -- the first of the lines that ends the run ends it so
-pub data EndsAt : Standing → List (List ℕ) → EarlyEnd → Type 0 where
-  here : {stand : Standing} {text : List ℕ} {texts : List (List ℕ)} {end : EarlyEnd} → Ends stand text end →
+pub data EndsAt : TracePosition → List (List ℕ) → EarlyEnd → Type 0 where
+  here : {stand : TracePosition} {text : List ℕ} {texts : List (List ℕ)} {end : EarlyEnd} → Ends stand text end →
       EndsAt stand (text ∷ texts) end
-  later : {stand : Standing} {text : List ℕ} {texts : List (List ℕ)} {end : EarlyEnd} → (answer : Fed) →
+  later : {stand : TracePosition} {text : List ℕ} {texts : List (List ℕ)} {end : EarlyEnd} → (answer : Fed) →
       Asks stand text answer → EndsAt (after stand text answer) texts end → EndsAt stand (text ∷ texts) end

@@ -11,7 +11,7 @@ use Rattle.range_cli.specs.declared.status.EarlyEnd.{EarlyEnd}
 use Rattle.range_cli.specs.declared.status.EarlyEnd.TheVariants.{Above, NoMemory}
 use Rattle.range_cli.specs.declared.status.Which.TheVariants.{Lines}
 use Rattle.range_cli.specs.declared.trace.TraceReader.{TraceReader}
-use Rattle.range_cli.specs.Trace.{Standing, Asks, after, lines_by, place_among, played_by, skipped_by}
+use Rattle.range_cli.specs.Trace.{TracePosition, Asks, after, lines_by, place_among, played_by, skipped_by}
 
 -- each process that was seen has its place as its index
 pub record IsIndexed (processes : Processes) (seen : List ℕ) : Type 0 where
@@ -19,17 +19,17 @@ pub record IsIndexed (processes : Processes) (seen : List ℕ) : Type 0 where
   pub next : processes.count ≡ length seen
 
 -- the reader holds what there is where the reading stands so
-pub record StandsAt (reader : TraceReader) (stand : Standing) : Type 0 where
+pub record StandsAt (reader : TraceReader) (stand : TracePosition) : Type 0 where
   pub fed : IsFed reader.joiner stand.fed
   pub indexed : IsIndexed reader.processes stand.seen
   pub played : stand.played ≡ length reader.lines.items
 
 -- the reading stands somewhere, before the line of this number
 abbrev pub IsBefore : TraceReader → ℕ → Type 0
-IsBefore reader number = (stand : Standing) × StandsAt reader stand × (stand.number ≡ number)
+IsBefore reader number = (stand : TracePosition) × StandsAt reader stand × (stand.number ≡ number)
 
 -- the reader took the next text
-pub record Takes (stand : Standing) (text : List ℕ) (old new : TraceReader) : Type 0 where
+pub record Takes (stand : TracePosition) (text : List ℕ) (old new : TraceReader) : Type 0 where
   pub answer : Fed
   pub asks : Asks stand text answer
   pub stands : StandsAt new (after stand text answer)

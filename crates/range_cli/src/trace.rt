@@ -4,7 +4,7 @@
 //! the run.
 ghost use Rattle.std.specs.Prelude.{◌≡◌, ◌∷◌, ◌++◌, ◌+◌, ◌-◌, ◌*◌, ◌^◌, ◌<◌, ◌≤◌, [], List, ℕ, length, All, IfOk, IfErr, OnOk};
 ghost use Rattle.range_cli.specs.Lines.{lines_of};
-ghost use Rattle.range_cli.specs.Trace.{Standing, Ends, EndsAt, Reads, start_at, lines_by, played_by, seen_by, skipped_by, IsNamedLine, IsNamedAnswer};
+ghost use Rattle.range_cli.specs.Trace.{TracePosition, Ends, EndsAt, Reads, start_at, lines_by, played_by, seen_by, skipped_by, IsNamedLine, IsNamedAnswer};
 ghost use Rattle.range_cli.specs.TraceReader.{IsBefore, IsFull, IsIndexed, StandsAt, Takes};
 ghost use Rattle.range_cli.specs.Status.{OrMemory};
 ghost use Rattle.range_cli.specs.declared.input.TheConstants.{INPUT_LIMIT};
@@ -107,12 +107,12 @@ impl TraceReader {
         requires skipped { self.old.skipped < 2 ^ 32 - 2 }
         requires processes { self.old.processes.count ≤ length self.old.lines.items }
         requires few { length self.old.lines.items ≤ LINES_LIMIT }
-        ensures takes { OnOk result ((stand : Standing) → StandsAt self.old stand → stand.number ≡ number → Takes stand text.now self.old self.new) }
+        ensures takes { OnOk result ((stand : TracePosition) → StandsAt self.old stand → stand.number ≡ number → Takes stand text.now self.old self.new) }
         ensures named { All IsNamedLine self.old.lines.items → OnOk result (All IsNamedLine self.new.lines.items) }
         ensures skipped { OnOk result (self.new.skipped ≤ self.old.skipped + 2) }
         ensures processes { OnOk result (self.new.processes.count ≤ length self.new.lines.items) }
         ensures few { OnOk result (length self.new.lines.items ≤ LINES_LIMIT) }
-        ensures stopped { IfErr result (λ end. (stand : Standing) → StandsAt self.old stand → stand.number ≡ number → OrMemory (Ends stand text.now) end) }
+        ensures stopped { IfErr result (λ end. (stand : TracePosition) → StandsAt self.old stand → stand.number ≡ number → OrMemory (Ends stand text.now) end) }
     {
         if text.len() > LINE_LIMIT {
             return Err(EarlyEnd::Above {
@@ -139,7 +139,7 @@ impl TraceReader {
         requires processes { self.old.processes.count ≤ length self.old.lines.items }
         requires few { length self.old.lines.items ≤ LINES_LIMIT }
         ensures joiner { OnOk result (self.new.joiner ≡ self.old.joiner) }
-        ensures lines { OnOk result ((stand : Standing) → stand.number ≡ number → IsIndexed self.old.processes stand.seen
+        ensures lines { OnOk result ((stand : TracePosition) → stand.number ≡ number → IsIndexed self.old.processes stand.seen
             → self.new.lines.items ≡ self.old.lines.items ++ lines_by stand fed) }
         ensures seen { OnOk result ((seen : List ℕ) → IsIndexed self.old.processes seen → IsIndexed self.new.processes (seen_by seen fed)) }
         ensures len { OnOk result (length self.new.lines.items ≡ length self.old.lines.items + played_by fed) }

@@ -16,7 +16,7 @@ use Rattle.lock_core.specs.declared.steps.Step.TheVariants.{Aim, ClearHome, Walk
 use Rattle.lock_core.specs.declared.steps.Step.TheVariants.{QuickLink, QuickUnlink, Settle}
 use Rattle.lock_core.specs.Views.{todo_of, marked, entered, left, kept_own, ready_left}
 use Rattle.lock_core.specs.Machine.{held_at, may_leave, given}
-use Rattle.epoch_pools.specs.declared.views.Part.{Part}
+use Rattle.epoch_pools.specs.declared.views.SeatPart.{SeatPart}
 use Rattle.epoch_pools.specs.Record.{cursor_word, is_judging, gained_by}
 use Rattle.epoch_pools.specs.Hands.{quiet_after}
 use Rattle.marked_list.proofs.Unlinking.{gone_looked}
@@ -30,14 +30,14 @@ use Rattle.marked_list.specs.Leaves.{IsOn, IsCall, IsSameLook, IsNewWalk}
 use Rattle.marked_list.specs.Causes.{asked_of, nodes_in, IsLost, IsWalkLoss, IsSpent}
 use Rattle.marked_list.specs.Answers.{Answers, Arrives, Links, IsLong, IsMarkCall, linked_own, aimed_own}
 use Rattle.range_rw.specs.Contract.{RefusesTry}
-use Rattle.range_rw.specs.Trying.{has_come, IsFilling, IsPiece, IsStill, Refuses, LinkEnds, ValidEnds, StepEnds, WayEnds}
+use Rattle.range_rw.specs.Trying.{has_come, IsFilling, IsLaterInTry, IsLaterInEpoch, Refuses, LinkEnds, ValidEnds, StepEnds, WayEnds}
 
 -- ---- pieces
 
-pub no_piece : {P : Type 0} (p : Part P) → IsPiece p p
+pub no_piece : {P : Type 0} (p : SeatPart P) → IsLaterInTry p p
 no_piece p = record { number = refl; seats = refl; pass = refl; client = refl; taken = omega arith }
 
-pub piece_on : {P : Type 0} (p q r : Part P) → IsPiece p q → IsPiece q r → IsPiece p r
+pub piece_on : {P : Type 0} (p q r : SeatPart P) → IsLaterInTry p q → IsLaterInTry q r → IsLaterInTry p r
 piece_on p q r a b = record {
   number = b.number ∙ a.number;
   seats = b.seats ∙ a.seats;
@@ -46,10 +46,10 @@ piece_on p q r a b = record {
   taken = let x = a.taken in let y = b.taken in omega arith;
 }
 
-pub still_on : {P : Type 0} (p q r : Part P) → IsStill p q → IsStill q r → IsStill p r
+pub still_on : {P : Type 0} (p q r : SeatPart P) → IsLaterInEpoch p q → IsLaterInEpoch q r → IsLaterInEpoch p r
 still_on p q r a b = record { piece = piece_on p q r a.piece b.piece; epoch = b.epoch ∙ a.epoch; hand = b.hand; ready = b.ready ∙ a.ready }
 
-pub walk_still : {P : Type 0} (p q : Part P) → IsOn p q → IsStill p q
+pub walk_still : {P : Type 0} (p q : SeatPart P) → IsOn p q → IsLaterInEpoch p q
 walk_still p q on = record {
   piece = record { number = on.number; seats = on.seats; pass = on.pass; client = on.client; taken = on.taken };
   epoch = on.epoch;
@@ -57,13 +57,13 @@ walk_still p q on = record {
   ready = on.pools.ready;
 }
 
-pub inside_still : {P : Type 0} (p q : Part P) → IsInside p.core → IsStill p q → IsInside q.core
+pub inside_still : {P : Type 0} (p q : SeatPart P) → IsInside p.core → IsLaterInEpoch p q → IsInside q.core
 inside_still p q in_epoch s = record { odd = ap (λ n. n % 2) s.epoch ∙ in_epoch.odd; hand = s.hand }
 
 -- ---- causes
 
 -- what is so of an answer stays so while the record keeps its node, its exchange and its walk
-pub record Keeps {P : Type 0} (p q : Part P) : Type 0 where
+pub record Keeps {P : Type 0} (p q : SeatPart P) : Type 0 where
   pub number : q.number ≡ p.number
   pub seats : q.seats ≡ p.seats
   pub taken : p.trace.taken ≤ q.trace.taken
@@ -71,13 +71,13 @@ pub record Keeps {P : Type 0} (p q : Part P) : Type 0 where
   pub lost : q.trace.lost ≡ p.trace.lost
   pub look : IsSameLook p q
 
-new_after : {P : Type 0} (first : ℕ) (p q : Part P) → IsSameLook p q → p.trace.taken ≤ q.trace.taken → IsNewWalk first p → IsNewWalk first q
+new_after : {P : Type 0} (first : ℕ) (p q : SeatPart P) → IsSameLook p q → p.trace.taken ≤ q.trace.taken → IsNewWalk first p → IsNewWalk first q
 new_after first p q look le new =
     let m = look.1 new.0 new.1 in
     let s = m.2 in let f = new.2 in let b = new.3 in
     (m.0, m.1, omega arith, omega arith)
 
-lost_after : {P : Type 0} (first : ℕ) (p q : Part P) (Kind : Step → Type 0) (place expected found : ℕ)
+lost_after : {P : Type 0} (first : ℕ) (p q : SeatPart P) (Kind : Step → Type 0) (place expected found : ℕ)
     → q.trace.lost ≡ p.trace.lost → p.trace.taken ≤ q.trace.taken → IsLost first p Kind place expected found
     → IsLost first q Kind place expected found
 lost_after first p q Kind place expected found same le l =
@@ -93,7 +93,8 @@ lost_after first p q Kind place expected found same le l =
       differ = l.differ;
     }
 
-pub refuses_after : {P : Type 0} (first : ℕ) (asked : Option Held) (p q : Part P) (a : Walked) → Keeps p q → Refuses first asked p a → Refuses first asked q a
+pub refuses_after : {P : Type 0} (first : ℕ) (asked : Option Held) (p q : SeatPart P) (a : Walked) → Keeps p q
+    → Refuses first asked p a → Refuses first asked q a
 refuses_after first asked p q Place k x = x
 refuses_after first asked p q (Conflict owner range mode) k x = record {
   met = x.met;
@@ -110,7 +111,7 @@ refuses_after first asked p q (Conflict owner range mode) k x = record {
 refuses_after first asked p q (Lost l) k x = lost_after first p q RefusesTry l.place l.expected l.found k.lost k.taken x
 refuses_after first asked p q (Long visits) k x = (x.0 ∙ ap (λ n. 16 * n + 1) (sym k.seats), new_after first p q k.look k.taken x.1)
 
-pub refuses_from : {P : Type 0} (first later : ℕ) (asked now : Option Held) (q : Part P) (a : Walked) → first ≤ later
+pub refuses_from : {P : Type 0} (first later : ℕ) (asked now : Option Held) (q : SeatPart P) (a : Walked) → first ≤ later
     → now ≡ asked → Refuses later now q a → Refuses first asked q a
 refuses_from first later asked now q Place le same x = x
 refuses_from first later asked now q (Conflict owner range mode) le same x = record {
@@ -160,7 +161,7 @@ walk_loss QuickLink k = absurd k
 walk_loss QuickUnlink k = absurd k
 
 -- an answer of a walk or a validation that isn't its end
-pub walk_refuses : {P : Type 0} (first : ℕ) (own : Own) (q : Part P) (a : Walked) → has_come a ≡ false → Answers first own q a
+pub walk_refuses : {P : Type 0} (first : ℕ) (own : Own) (q : SeatPart P) (a : Walked) → has_come a ≡ false → Answers first own q a
     → IsNewWalk first q → (q.core.own ≡ own) × Refuses first (asked_of own) q a
 walk_refuses first own q Place isnt x new = absurd (let e : ◌≡◌ {A = Bool} true false = isnt in cc)
 walk_refuses first own q (Conflict owner range mode) isnt x new = (
@@ -195,13 +196,13 @@ walk_refuses first own q (Lost l) isnt x new = (
 walk_refuses first own q (Long visits) isnt x new = (x.1, (x.0, new))
 
 -- the count of a walk that is looked at later
-spent_look : {P : Type 0} (p q : Part P) → IsSameLook p q → q.seats ≡ p.seats → held_at p.core.own ≡ None → IsSpent q → IsSpent p
+spent_look : {P : Type 0} (p q : SeatPart P) → IsSameLook p q → q.seats ≡ p.seats → held_at p.core.own ≡ None → IsSpent q → IsSpent p
 spent_look p q look seats free s = (sym look.0 ∙ (s.0 ∙ ap (λ n. 16 * n + 1) seats), free)
 
-look_spent : {P : Type 0} (p q : Part P) → IsSameLook p q → q.seats ≡ p.seats → held_at q.core.own ≡ None → IsSpent p → IsSpent q
+look_spent : {P : Type 0} (p q : SeatPart P) → IsSameLook p q → q.seats ≡ p.seats → held_at q.core.own ≡ None → IsSpent p → IsSpent q
 look_spent p q look seats free s = (look.0 ∙ (s.0 ∙ ap (λ n. 16 * n + 1) (sym seats)), free)
 
-pub long_after : {P : Type 0} (p q : Part P) (a : Walked) → IsSameLook p q → q.seats ≡ p.seats → held_at p.core.own ≡ None
+pub long_after : {P : Type 0} (p q : SeatPart P) (a : Walked) → IsSameLook p q → q.seats ≡ p.seats → held_at p.core.own ≡ None
     → held_at q.core.own ≡ None → (IsLong a ↔ IsSpent p) → (IsLong a ↔ IsSpent q)
 long_after p q a look seats before now long = (λ l. look_spent p q look seats now (long.0 l), λ s. long.1 (spent_look p q look seats before s))
 
@@ -211,7 +212,7 @@ long_after p q a look seats before now long = (λ l. look_spent p q look seats n
 fill_free : (own : Own) → HasEnds own → held_at own ≡ None
 fill_free own e = ap held_at e.is
 
-came_by : {P : Type 0} (first : ℕ) (p q : Part P) (a : Walked) → has_come a ≡ true → HasEnds p.core.own
+came_by : {P : Type 0} (first : ℕ) (p q : SeatPart P) (a : Walked) → has_come a ≡ true → HasEnds p.core.own
     → Answers first p.core.own q a → (q.core.own ≡ p.core.own) × StandsAtPlace q.core.cursor
 came_by first p q Place came e x = let y = subst (λ (o : Own). Arrives o q.core) e.is x in (y.0 ∙ sym e.is, y.1)
 came_by first p q (Conflict owner range mode) came e x = absurd (let z : ◌≡◌ {A = Bool} false true = came in cc)
@@ -221,7 +222,7 @@ came_by first p q (Long visits) came e x = absurd (let z : ◌≡◌ {A = Bool} 
 ends_same : (own now : Own) → now ≡ own → HasEnds own → HasEnds now
 ends_same own now same e = subst HasEnds (sym same) e
 
-module _ {P : Type 0} (p q : Part P) (a : Walked) (may : MayWalk p.core) (on : IsOn p q) (answer : Answers p.trace.taken p.core.own q a) where
+module _ {P : Type 0} (p q : SeatPart P) (a : Walked) (may : MayWalk p.core) (on : IsOn p q) (answer : Answers p.trace.taken p.core.own q a) where
   pub may_link_on : has_come a ≡ true → MayLink q.core
   may_link_on came =
       let c = came_by p.trace.taken p q a came may.own answer in
@@ -236,7 +237,7 @@ module _ {P : Type 0} (p q : Part P) (a : Walked) (may : MayWalk p.core) (on : I
       by_answer (Lost l) isnt' x = ((λ node f. (f.0, x.0 ∙ f.1, f.2)), x.1)
       by_answer (Long visits) isnt' x = ((λ node f. (f.0, x.0 ∙ f.1, f.2)), x.1)
 
-  module _ (came : has_come a ≡ true) (r : Part P) (call : IsCall 2 q r) (look : IsSameLook q r) (long : IsLong a ↔ IsSpent q) where
+  module _ (came : has_come a ≡ true) (r : SeatPart P) (call : IsCall 2 q r) (look : IsSameLook q r) (long : IsLong a ↔ IsSpent q) where
     same : q.core.own ≡ p.core.own
     same = (came_by p.trace.taken p q a came may.own answer).0
 
@@ -252,10 +253,10 @@ module _ {P : Type 0} (p q : Part P) (a : Walked) (may : MayWalk p.core) (on : I
         by_answer (Lost m) y l = l
         by_answer (Long visits) y l = let z : ◌≡◌ {A = Bool} false true = y in absurd (cc)
 
-    call_piece : IsPiece q r
+    call_piece : IsLaterInTry q r
     call_piece = record { number = call.number; seats = call.seats; pass = call.pass; client = call.client; taken = let t = call.taken in omega arith }
 
-    core_still : (u : View) → r.core ≡ u → u.epoch ≡ q.core.epoch → u.hand ≡ q.core.hand → u.ready ≡ q.core.ready → IsStill p r
+    core_still : (u : View) → r.core ≡ u → u.epoch ≡ q.core.epoch → u.hand ≡ q.core.hand → u.ready ≡ q.core.ready → IsLaterInEpoch p r
     core_still u core epoch hand ready = still_on p q r (walk_still p q on) (record {
       piece = call_piece;
       epoch = ap (λ (v : View). v.epoch) core ∙ epoch;
@@ -263,7 +264,7 @@ module _ {P : Type 0} (p q : Part P) (a : Walked) (may : MayWalk p.core) (on : I
       ready = ap (λ (v : View). v.ready) core ∙ ready;
     })
 
-    pub link_still : (b : LinkAnswer) → Links q r b → IsStill p r
+    pub link_still : (b : LinkAnswer) → Links q r b → IsLaterInEpoch p r
     link_still IsLinked x = core_still _ x refl refl refl
     link_still (NotLinked l) x = core_still _ x.1 refl refl refl
 
@@ -306,10 +307,10 @@ unheld own h = ap held_at h.is ∙ (ap (λ (t : Todo). held_at (Linked h.node.no
     by_mode Reader = refl
     by_mode Writer = refl
 
-pub may_validate_on : {P : Type 0} (p : Part P) → IsInside p.core → HasToValidate p.core.own → p.core.cursor ≡ None → MayValidate p.seats p.core
+pub may_validate_on : {P : Type 0} (p : SeatPart P) → IsInside p.core → HasToValidate p.core.own → p.core.cursor ≡ None → MayValidate p.seats p.core
 may_validate_on p in_epoch own none = record { inside = in_epoch; own = own; begins = inl none }
 
-module _ {P : Type 0} (p q : Part P) (a : Walked) (own : HasToValidate p.core.own) (on : IsOn p q)
+module _ {P : Type 0} (p q : SeatPart P) (a : Walked) (own : HasToValidate p.core.own) (on : IsOn p q)
     (answer : Answers p.trace.taken p.core.own q a) (new : IsNewWalk p.trace.taken q) where
   pub valid_ends : has_come a ≡ true → ValidEnds p q a
   valid_ends came = by_answer a came answer
@@ -332,7 +333,7 @@ module _ {P : Type 0} (p q : Part P) (a : Walked) (own : HasToValidate p.core.ow
     pub may_mark_on : (is_at_rest : P → Type 0) → MayMark is_at_rest q
     may_mark_on is_at_rest = record { node = own.node; is = refused.0 ∙ own.is; rest = λ done. absurd (to_do own.node.mode (sym own.todo ∙ done)) }
 
-    module _ (rested : P → P) (r : Part P) (mark : IsMarkCall rested q r) where
+    module _ (rested : P → P) (r : SeatPart P) (mark : IsMarkCall rested q r) where
       core_marked : r.core ≡ marked q.core own.node.node
       core_marked = mark.core own.node (refused.0 ∙ own.is)
 
@@ -348,7 +349,7 @@ module _ {P : Type 0} (p q : Part P) (a : Walked) (own : HasToValidate p.core.ow
           by_answer (Lost l) n x = (ap (λ (v : View). v.own) core_marked, x)
           by_answer (Long visits) n x = (ap (λ (v : View). v.own) core_marked, x)
 
-      pub marked_still : IsStill p r
+      pub marked_still : IsLaterInEpoch p r
       marked_still = still_on p q r (walk_still p q on) (record {
         piece = record {
           number = mark.number;
@@ -386,7 +387,7 @@ validates_linked own now e same = record {
   todo = refl;
 }
 
-module _ {P : Type 0} (p q : Part P) (a : Walked) (may : MayWalk p.core) (still : IsStill p q) (ends : LinkEnds p q a) where
+module _ {P : Type 0} (p q : SeatPart P) (a : Walked) (may : MayWalk p.core) (still : IsLaterInEpoch p q) (ends : LinkEnds p q a) where
   placed : has_come a ≡ true → (q.core.own ≡ linked_own todo_of p.core.own) × (q.core.cursor ≡ None)
   placed came = by_answer a came ends
     where
@@ -414,7 +415,7 @@ module _ {P : Type 0} (p q : Part P) (a : Walked) (may : MayWalk p.core) (still 
       by_answer (Lost l) n x = (inr x.0, x.1)
       by_answer (Long visits) n x = (inr x.0, x.1)
 
-  pub way_valid : has_come a ≡ true → (r : Part P) (b : Walked) → ValidEnds q r b → StepEnds p r b
+  pub way_valid : has_come a ≡ true → (r : SeatPart P) (b : Walked) → ValidEnds q r b → StepEnds p r b
   way_valid came r b x = by_answer b x
     where
       asks : asked_of q.core.own ≡ asked_of p.core.own
@@ -451,26 +452,26 @@ asks_ends own e = (
   ap asked_of e.is ∙ (λ i. given (e.low i) (λ low. given (e.high i) (λ high. Some (record { range = record { lo = low; hi = high }; mode = e.node.mode })))),
 )
 
-same_looked : {P : Type 0} (p q : Part P) → q.trace.looked ≡ p.trace.looked → IsSameLook p q
+same_looked : {P : Type 0} (p q : SeatPart P) → q.trace.looked ≡ p.trace.looked → IsSameLook p q
 same_looked p q e = (ap nodes_in e, λ l is. (l, e ∙ is, refl))
 
-module _ {P : Type 0} (p e : Part P) (own : HasEnds p.core.own) (entering : e ≡ quiet_after p Enter (entered p.core)) where
+module _ {P : Type 0} (p e : SeatPart P) (own : HasEnds p.core.own) (entering : e ≡ quiet_after p Enter (entered p.core)) where
   own_in : e.core.own ≡ p.core.own
-  own_in = ap (λ (x : Part P). x.core.own) entering
+  own_in = ap (λ (x : SeatPart P). x.core.own) entering
 
-  piece_in : IsPiece p e
+  piece_in : IsLaterInTry p e
   piece_in = record {
-    number = ap (λ (x : Part P). x.number) entering;
-    seats = ap (λ (x : Part P). x.seats) entering;
-    pass = ap (λ (x : Part P). x.pass) entering;
-    client = ap (λ (x : Part P). x.trace.client) entering;
-    taken = let t = ap (λ (x : Part P). x.trace.taken) entering in omega arith;
+    number = ap (λ (x : SeatPart P). x.number) entering;
+    seats = ap (λ (x : SeatPart P). x.seats) entering;
+    pass = ap (λ (x : SeatPart P). x.pass) entering;
+    client = ap (λ (x : SeatPart P). x.trace.client) entering;
+    taken = let t = ap (λ (x : SeatPart P). x.trace.taken) entering in omega arith;
   }
 
   pub may_walk_in : IsInside e.core → MayWalk e.core
-  may_walk_in i = record { inside = i; own = ends_same p.core.own e.core.own own_in own; cursor = ap (λ (x : Part P). x.core.cursor) entering }
+  may_walk_in i = record { inside = i; own = ends_same p.core.own e.core.own own_in own; cursor = ap (λ (x : SeatPart P). x.core.cursor) entering }
 
-  module _ (f : Part P) (a : Walked) (still : IsStill e f) (ends : StepEnds e f a) where
+  module _ (f : SeatPart P) (a : Walked) (still : IsLaterInEpoch e f) (ends : StepEnds e f a) where
     abbrev IsBack : Type 0
     IsBack = (f.core.own ≡ Nothing) ⊎ ((node : ℕ) → IsFilling node e.core.own → IsFilling node f.core.own)
 
@@ -495,39 +496,39 @@ module _ {P : Type 0} (p e : Part P) (own : HasEnds p.core.own) (entering : e �
         by_answer (Lost l) x = leaves_back x.0
         by_answer (Long visits) x = leaves_back x.0
 
-    module _ (q : Part P) (leaving : q ≡ quiet_after f Leave (left f.core)) where
+    module _ (q : SeatPart P) (leaving : q ≡ quiet_after f Leave (left f.core)) where
       looked_out : q.trace.looked ≡ f.trace.looked
-      looked_out = ap (λ (x : Part P). x.trace.looked) leaving ∙ gone_looked f.trace f.core.cursor (is_judging Leave) (gained_by f.core (left f.core))
+      looked_out = ap (λ (x : SeatPart P). x.trace.looked) leaving ∙ gone_looked f.trace f.core.cursor (is_judging Leave) (gained_by f.core (left f.core))
 
       seats_out : q.seats ≡ f.seats
-      seats_out = ap (λ (x : Part P). x.seats) leaving
+      seats_out = ap (λ (x : SeatPart P). x.seats) leaving
 
       own_out : q.core.own ≡ kept_own f.core.own
-      own_out = ap (λ (x : Part P). x.core.own) leaving
+      own_out = ap (λ (x : SeatPart P). x.core.own) leaving
 
       ready_out : q.core.ready ≡ ready_left f.core.own f.core.ready
-      ready_out = ap (λ (x : Part P). x.core.ready) leaving
+      ready_out = ap (λ (x : SeatPart P). x.core.ready) leaving
 
       ready_in : f.core.ready ≡ p.core.ready
-      ready_in = still.ready ∙ ap (λ (x : Part P). x.core.ready) entering
+      ready_in = still.ready ∙ ap (λ (x : SeatPart P). x.core.ready) entering
 
       keeps_out : Keeps f q
       keeps_out = record {
-        number = ap (λ (x : Part P). x.number) leaving;
+        number = ap (λ (x : SeatPart P). x.number) leaving;
         seats = seats_out;
-        taken = let t = ap (λ (x : Part P). x.trace.taken) leaving in omega arith;
-        met = ap (λ (x : Part P). x.trace.met) leaving;
-        lost = ap (λ (x : Part P). x.trace.lost) leaving;
+        taken = let t = ap (λ (x : SeatPart P). x.trace.taken) leaving in omega arith;
+        met = ap (λ (x : SeatPart P). x.trace.met) leaving;
+        lost = ap (λ (x : SeatPart P). x.trace.lost) leaving;
         look = same_looked f q looked_out;
       }
 
-      pub way_piece : IsPiece p q
+      pub way_piece : IsLaterInTry p q
       way_piece = piece_on p e q piece_in (piece_on e f q still.piece (record {
-        number = ap (λ (x : Part P). x.number) leaving;
+        number = ap (λ (x : SeatPart P). x.number) leaving;
         seats = seats_out;
-        pass = ap (λ (x : Part P). x.pass) leaving;
-        client = ap (λ (x : Part P). x.trace.client) leaving;
-        taken = let t = ap (λ (x : Part P). x.trace.taken) leaving in omega arith;
+        pass = ap (λ (x : SeatPart P). x.pass) leaving;
+        client = ap (λ (x : SeatPart P). x.trace.client) leaving;
+        taken = let t = ap (λ (x : SeatPart P). x.trace.taken) leaving in omega arith;
       }))
 
       back_ready : IsBack → (node : ℕ) → IsFilling node p.core.own → (q.core.ready ≡ p.core.ready) ⊎ (q.core.ready ≡ node ∷ p.core.ready)

@@ -10,7 +10,7 @@ use Rattle.lock_core.specs.Views.{entered}
 use Rattle.lock_core.specs.Machine.{held_at}
 use Rattle.lock_core.proofs.SizedSteps.{plain_is}
 use Rattle.epoch_pools.specs.declared.record.Looked.{Looked}
-use Rattle.epoch_pools.specs.declared.views.Part.{Part}
+use Rattle.epoch_pools.specs.declared.views.SeatPart.{SeatPart}
 use Rattle.epoch_pools.specs.Hands.{IsHandView, quiet_after}
 use Rattle.marked_list.specs.declared.answers.Passed.{Passed}
 use Rattle.marked_list.specs.declared.answers.Passed.TheVariants.{Found as NodeFound, End as ListEnd, Lost as NotWon, Long as TooLong}
@@ -23,29 +23,29 @@ use Rattle.marked_list.specs.Scanning.{IsAtNode, IsAtLast, IsScanning, IsResting
 use Rattle.marked_list.proofs.Stepping.{nodes_seen}
 use Rattle.range_rw.specs.declared.scan.Scanned.{Scanned}
 use Rattle.range_rw.specs.Contract.{OpenScan, fresh_scan}
-use Rattle.range_rw.specs.Seats.{IsSettled, IsBetween, walk_of, scan_of, known_in}
-use Rattle.range_rw.specs.Trying.{IsPiece}
+use Rattle.range_rw.specs.Seats.{IsSettled, IsBetween, walk_of, scan_of, seat_state_in}
+use Rattle.range_rw.specs.Trying.{IsLaterInTry}
 use Rattle.range_rw.specs.Scan.{scanned_as, IsScanCall, Gives, IsNext, GoesIn, GoesOut}
 
 -- a hand that is outside goes in, and one that has come out stays there
-pub goes_in : {P : Type 0} (p e q : Part P) → IsPiece p e → MaySweep e.core → e.core.ready ≡ p.core.ready
+pub goes_in : {P : Type 0} (p e q : SeatPart P) → IsLaterInTry p e → MaySweep e.core → e.core.ready ≡ p.core.ready
     → q ≡ quiet_after e Enter (entered e.core) → GoesIn p q
 goes_in {P} p e q a may ready made = record {
   piece = record {
-    number = ap (λ (x : Part P). x.number) made ∙ a.number;
-    seats = ap (λ (x : Part P). x.seats) made ∙ a.seats;
-    pass = ap (λ (x : Part P). x.pass) made ∙ a.pass;
-    client = ap (λ (x : Part P). x.trace.client) made ∙ a.client;
-    taken = let t = ap (λ (x : Part P). x.trace.taken) made in let b = a.taken in omega arith;
+    number = ap (λ (x : SeatPart P). x.number) made ∙ a.number;
+    seats = ap (λ (x : SeatPart P). x.seats) made ∙ a.seats;
+    pass = ap (λ (x : SeatPart P). x.pass) made ∙ a.pass;
+    client = ap (λ (x : SeatPart P). x.trace.client) made ∙ a.client;
+    taken = let t = ap (λ (x : SeatPart P). x.trace.taken) made in let b = a.taken in omega arith;
   };
-  odd = let n = ap (λ (x : Part P). x.core.epoch) made in let z = may.outside.even in omega arith;
-  hand = ap (λ (x : Part P). x.core.hand) made ∙ may.outside.hand;
-  own = ap (λ (x : Part P). x.core.own) made ∙ may.own;
-  cursor = ap (λ (x : Part P). x.core.cursor) made;
-  ready = ap (λ (x : Part P). x.core.ready) made ∙ ready;
+  odd = let n = ap (λ (x : SeatPart P). x.core.epoch) made in let z = may.outside.even in omega arith;
+  hand = ap (λ (x : SeatPart P). x.core.hand) made ∙ may.outside.hand;
+  own = ap (λ (x : SeatPart P). x.core.own) made ∙ may.own;
+  cursor = ap (λ (x : SeatPart P). x.core.cursor) made;
+  ready = ap (λ (x : SeatPart P). x.core.ready) made ∙ ready;
 }
 
-pub goes_out : {P : Type 0} (p q : Part P) → IsPiece p q → MaySweep q.core → q.core.ready ≡ p.core.ready → IsHandView q → GoesOut p q
+pub goes_out : {P : Type 0} (p q : SeatPart P) → IsLaterInTry p q → MaySweep q.core → q.core.ready ≡ p.core.ready → IsHandView q → GoesOut p q
 goes_out p q a may ready view = record {
   piece = a;
   even = may.outside.even;
@@ -58,7 +58,7 @@ goes_out p q a may ready view = record {
 bare_settled : (own : Own) → own ≡ Nothing → IsSettled own
 bare_settled own e = subst IsSettled (sym e) tt
 
-module _ {P : Type 0} (p : Part P) where
+module _ {P : Type 0} (p : SeatPart P) where
   -- where no scan is open, and where one is
   pub scan_none : p.core.epoch % 2 ≡ 0 → scan_of p ≡ None
   scan_none even = ap (λ (b : Bool). if b then None else Some (walk_of (16 * p.seats + 1) p.core.cursor p.trace.looked)) (eq-eqb _ _ even)
@@ -97,7 +97,7 @@ walk_ended : (m : ℕ) (o : Option Cursor) (l : Option Looked) → (walk_of m o 
 walk_ended m None l e = absurd (cc)
 walk_ended m (Some c) l e = (c, refl, eqb-true _ _ e)
 
-module _ {P : Type 0} (table : TableId) (p q : Part P) where
+module _ {P : Type 0} (table : TableId) (p q : SeatPart P) where
   -- between two calls of a scan
   pub in_between : GoesIn p q → IsBetween q.core
   in_between g = record { own = bare_settled q.core.own g.own; hand = g.hand; cursor = inl g.cursor }
@@ -108,16 +108,16 @@ module _ {P : Type 0} (table : TableId) (p q : Part P) where
   pub on_between : IsOn p q → q.core.own ≡ Nothing → IsResting q.core → IsBetween q.core
   on_between on own rests = record { own = bare_settled q.core.own own; hand = on.hand; cursor = rests }
 
-  piece_call : IsPiece p q → q.core.own ≡ Nothing → q.core.ready ≡ p.core.ready → IsScanCall (known_in table p) (known_in table q)
+  piece_call : IsLaterInTry p q → q.core.own ≡ Nothing → q.core.ready ≡ p.core.ready → IsScanCall (seat_state_in table p) (seat_state_in table q)
   piece_call a own ready = record { table = refl; number = a.number; held = ap held_at own; ready = ready; pass = a.pass; client = a.client; taken = a.taken }
 
-  pub in_call : GoesIn p q → IsScanCall (known_in table p) (known_in table q)
+  pub in_call : GoesIn p q → IsScanCall (seat_state_in table p) (seat_state_in table q)
   in_call g = piece_call g.piece g.own g.ready
 
-  pub out_call : GoesOut p q → IsScanCall (known_in table p) (known_in table q)
+  pub out_call : GoesOut p q → IsScanCall (seat_state_in table p) (seat_state_in table q)
   out_call g = piece_call g.piece g.own g.ready
 
-  pub on_call : IsOn p q → q.core.own ≡ Nothing → IsScanCall (known_in table p) (known_in table q)
+  pub on_call : IsOn p q → q.core.own ≡ Nothing → IsScanCall (seat_state_in table p) (seat_state_in table q)
   on_call on own = record {
     table = refl;
     number = on.number;
@@ -170,7 +170,7 @@ module _ {P : Type 0} (table : TableId) (p q : Part P) where
     cursor_of : IsScanning q.core → (c : Cursor) × (q.core.cursor ≡ Some c)
     cursor_of s = ⊎_elim (λ (n : IsAtNode q.core). (n.stands.cursor, n.stands.is)) (λ (l : IsAtLast q.core). (l.end.0, l.end.1)) s.at
 
-    gives_by : (a : Passed) → Passes p q a → Gives (known_in table p) (known_in table q) was now (scanned_as a)
+    gives_by : (a : Passed) → Passes p q a → Gives (seat_state_in table p) (seat_state_in table q) was now (scanned_as a)
     gives_by (NodeFound owner range mode) x =
         let s = x.0 in let c = cursor_of x.2 in (
           record { met = s.met; is = s.is; from = s.from; below = s.below; owned = s.owned; holds = s.holds },
@@ -208,12 +208,12 @@ module _ {P : Type 0} (table : TableId) (p q : Part P) where
           now_ended st.cursor st.is ∙ ne_eqb st.cursor.cur 0 (λ z. let q = plain in omega arith),
         )
 
-    pub next_is : (a : Passed) (answer : Scanned) → answer ≡ scanned_as a → Passes p q a → IsNext (known_in table p) (known_in table q) was answer
+    pub next_is : (a : Passed) (answer : Scanned) → answer ≡ scanned_as a → Passes p q a → IsNext (seat_state_in table p) (seat_state_in table q) was answer
     next_is a answer e x = record {
       now = now;
       is = now_is;
       same = same_most;
-      gives = subst (Gives (known_in table p) (known_in table q) was now) (sym e) (gives_by a x);
+      gives = subst (Gives (seat_state_in table p) (seat_state_in table q) was now) (sym e) (gives_by a x);
     }
 
     pub next_bound : q.trace.taken ≤ p.trace.taken + 2 + 3 * (16 * p.seats + 1) → q.trace.taken ≤ p.trace.taken + 2 + 3 * was.most
@@ -222,15 +222,15 @@ module _ {P : Type 0} (table : TableId) (p q : Part P) where
     -- a walk that is at the end, or has looked at as many nodes as it may, stays
     pub next_ended : (a : Passed) (answer : Scanned) → answer ≡ scanned_as a → was.ended ≡ true
         → (IsAtEnd p.core.cursor → (q ≡ p) × (a ≡ ListEnd))
-        → (known_in table q ≡ known_in table p) × (answer ≡ scanned_as ListEnd)
+        → (seat_state_in table q ≡ seat_state_in table p) × (answer ≡ scanned_as ListEnd)
     next_ended a answer e ended stays =
         let s = stays (walk_ended (16 * p.seats + 1) p.core.cursor p.trace.looked (ap (λ (w : OpenScan). w.ended) was_walk ∙ ended)) in
-        (ap (known_in table) s.0, e ∙ ap scanned_as s.1)
+        (ap (seat_state_in table) s.0, e ∙ ap scanned_as s.1)
 
     pub next_spent : (a : Passed) (answer : Scanned) → answer ≡ scanned_as a → was.nodes ≡ was.most
         → (seen_of p.core.cursor ≡ 16 * p.seats + 1 → (q ≡ p) × (a ≡ TooLong (16 * p.seats + 1)))
-        → (known_in table q ≡ known_in table p) × (answer ≡ scanned_as (TooLong was.most))
+        → (seat_state_in table q ≡ seat_state_in table p) × (answer ≡ scanned_as (TooLong was.most))
     next_spent a answer e spent stays =
         let n = walk_nodes (16 * p.seats + 1) p.core.cursor p.trace.looked in let w = ap (λ (x : OpenScan). x.nodes) was_walk in let m = was_most in
         let s = stays (omega arith) in
-        (ap (known_in table) s.0, e ∙ (ap scanned_as s.1 ∙ ap (λ (k : ℕ). scanned_as (TooLong k)) was_most))
+        (ap (seat_state_in table) s.0, e ∙ (ap scanned_as s.1 ∙ ap (λ (k : ℕ). scanned_as (TooLong k)) was_most))

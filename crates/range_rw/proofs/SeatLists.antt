@@ -7,11 +7,11 @@ use lib.ListN.{get_elem?}
 use Rattle.atomic_table.specs.Seated.{TableId}
 use Rattle.atomic_table.proofs.Lists.{at_index}
 use Rattle.lock_core.proofs.ByPlace.{below as at_below, at_or, same_or}
-use Rattle.range_rw.specs.Contract.{Known, AreNewSeats, AreIdleSeats, IsGivenBack, first_passes, new_seat, pass_in}
+use Rattle.range_rw.specs.Contract.{SeatState, AreNewSeats, AreIdleSeats, IsGivenBack, first_passes, new_seat, pass_in}
 
 -- idle seats of which each is back are idle seats again
-pub seats_back : {P : Type 0} (table : TableId) (old new : List (Known P)) → length new ≡ length old → AreIdleSeats table old
-    → ((k : ℕ) (d : Known P) → k < length old → (a : Known P) × (b : Known P) × (a ≡ get_or old k d) × IsGivenBack a b
+pub seats_back : {P : Type 0} (table : TableId) (old new : List (SeatState P)) → length new ≡ length old → AreIdleSeats table old
+    → ((k : ℕ) (d : SeatState P) → k < length old → (a : SeatState P) × (b : SeatState P) × (a ≡ get_or old k d) × IsGivenBack a b
     × (b ≡ get_or new k d)) → AreIdleSeats table new
 seats_back table old new same idle each k s at =
     let lt = at_below new k s at in
@@ -24,11 +24,11 @@ seats_back table old new same idle each k s at =
 
 module _ {P : Type 0} (table : TableId) where
   -- the first seat of a new table, and the second of two
-  pub first_new : (first : ℕ → P) (seats : List (Known P)) (s : Known P) → 0 < length seats → AreNewSeats table first seats
+  pub first_new : (first : ℕ → P) (seats : List (SeatState P)) (s : SeatState P) → 0 < length seats → AreNewSeats table first seats
       → s ≡ get_or seats 0 s → s ≡ new_seat table first 0
   first_new first seats s more new is = new 0 s (at_index seats 0 s more is)
 
-  pub second_new : (first : ℕ → P) (seats left : List (Known P)) (s : Known P) → length seats ≡ 2 → AreNewSeats table first seats
+  pub second_new : (first : ℕ → P) (seats left : List (SeatState P)) (s : SeatState P) → length seats ≡ 2 → AreNewSeats table first seats
       → left ≡ remove seats 0 → s ≡ get_or left 0 s → s ≡ new_seat table first 1
   second_new first [] left s two new rest is = absurd (omega arith)
   second_new first (x ∷ []) left s two new rest is = absurd (omega arith)
@@ -36,15 +36,15 @@ module _ {P : Type 0} (table : TableId) where
 
 module _ {P : Type 0} where
   -- what is so of each seat before and after is so at each place of the two lists
-  pub seats_each : (R : ℕ → Known P → Known P → Type 0) (old new : List (Known P))
-      → ((k : ℕ) (d : Known P) → k < length old → (a : Known P) × (b : Known P) × (a ≡ get_or old k d) × R k a b
+  pub seats_each : (R : ℕ → SeatState P → SeatState P → Type 0) (old new : List (SeatState P))
+      → ((k : ℕ) (d : SeatState P) → k < length old → (a : SeatState P) × (b : SeatState P) × (a ≡ get_or old k d) × R k a b
       × (b ≡ get_or new k d))
-      → (k : ℕ) (a b : Known P) → get_elem? old k ≡ some a → get_elem? new k ≡ some b → R k a b
+      → (k : ℕ) (a b : SeatState P) → get_elem? old k ≡ some a → get_elem? new k ≡ some b → R k a b
   seats_each R old new each k a b at_a at_b =
       let e = each k a (at_below old k a at_a) in
       let was : e.0 ≡ a = e.2 ∙ at_or old k a a at_a in
       let now : e.1 ≡ b = e.4 ∙ at_or new k b a at_b in
-      subst (λ (z : Known P × Known P). R k z.0 z.1) (λ i. (was i, now i)) e.3
+      subst (λ (z : SeatState P × SeatState P). R k z.0 z.1) (λ i. (was i, now i)) e.3
 
   -- the pass of a new table's seat is one with which a seat begins
   pub at_firsts : (first : ℕ → P) (n k i : ℕ) (p : P) → get_elem? (first_passes first n k) i ≡ some p → (m : ℕ) × (p ≡ first m)
@@ -52,8 +52,8 @@ module _ {P : Type 0} where
   at_firsts first n (suc k) zero p e = (n, sym (some-injective (first n) p e))
   at_firsts first n (suc k) (suc i) p e = at_firsts first (suc n) k i p e
 
-  passes_from : (first : ℕ → P) (n : ℕ) (seats : List (Known P))
-      → ((k : ℕ) (s : Known P) → get_elem? seats k ≡ some s → s.pass ≡ first (n + k))
+  passes_from : (first : ℕ → P) (n : ℕ) (seats : List (SeatState P))
+      → ((k : ℕ) (s : SeatState P) → get_elem? seats k ≡ some s → s.pass ≡ first (n + k))
       → map pass_in seats ≡ first_passes first n (length seats)
   passes_from first n [] all = refl
   passes_from first n (s ∷ rest) all =
@@ -61,7 +61,7 @@ module _ {P : Type 0} where
       let more = passes_from first (suc n) rest (λ k t at. let z : n + suc k ≡ suc n + k = omega arith in all (suc k) t at ∙ ap first z) in
       λ i. head i ∷ more i
 
-  pub new_passes : (table : TableId) (first : ℕ → P) (seats : List (Known P)) → AreNewSeats table first seats
+  pub new_passes : (table : TableId) (first : ℕ → P) (seats : List (SeatState P)) → AreNewSeats table first seats
       → map pass_in seats ≡ first_passes first 0 (length seats)
   new_passes table first seats new = passes_from first 0 seats (λ k s at. let z : k ≡ 0 + k = omega arith in
-      ap (λ (x : Known P). x.pass) (new k s at) ∙ ap first z)
+      ap (λ (x : SeatState P). x.pass) (new k s at) ∙ ap first z)

@@ -9,9 +9,9 @@ use Rattle.lock_core.specs.declared.views.Own.{Own}
 use Rattle.lock_core.specs.declared.views.Own.TheVariants.{Nothing, Filling, Linked}
 use Rattle.lock_core.specs.declared.range.Held.{Held}
 use Rattle.lock_core.specs.Machine.{held_at}
-use Rattle.epoch_pools.specs.Hands.{Standing, AreNewHands, new_hand, pass_in as hand_pass}
-use Rattle.range_rw.specs.Contract.{Known, first_pools, new_seat, pass_in, AreIdleSeats}
-use Rattle.range_rw.specs.Seats.{IsSettled, IsBetween, known_of}
+use Rattle.epoch_pools.specs.Hands.{HandState, AreNewHands, new_hand, pass_in as hand_pass}
+use Rattle.range_rw.specs.Contract.{SeatState, first_pools, new_seat, pass_in, AreIdleSeats}
+use Rattle.range_rw.specs.Seats.{IsSettled, IsBetween, seat_state_of}
 use Rattle.range_rw.proofs.Waiting.{no_waits}
 use Rattle.range_rw.proofs.Lists.{at_removed, first_of_list, append_one}
 
@@ -25,49 +25,49 @@ free_own (Linked node range mode todo) s free =
 
 module _ {P : Type 0} (table : TableId) (first : ℕ → P) (seats : ℕ) where
   -- the hands from number n on of a new list
-  abbrev pub IsNewFrom : ℕ → List (Standing P) → Type 0
-  IsNewFrom n hands = (k : ℕ) (h : Standing P) → get_elem? hands k ≡ some h → h ≡ new_hand table first seats (n + k)
+  abbrev pub IsNewFrom : ℕ → List (HandState P) → Type 0
+  IsNewFrom n hands = (k : ℕ) (h : HandState P) → get_elem? hands k ≡ some h → h ≡ new_hand table first seats (n + k)
 
-  pub all_new : (hands : List (Standing P)) → AreNewHands table first seats hands → IsNewFrom 0 hands
+  pub all_new : (hands : List (HandState P)) → AreNewHands table first seats hands → IsNewFrom 0 hands
   all_new hands new k h at = let z : k ≡ 0 + k = omega arith in new k h at ∙ ap (new_hand table first seats) z
 
-  pub seat_is : (n : ℕ) (h : Standing P) → h ≡ new_hand table first seats n → known_of h ≡ new_seat table first n
-  seat_is n h e = ap known_of e
+  pub seat_is : (n : ℕ) (h : HandState P) → h ≡ new_hand table first seats n → seat_state_of h ≡ new_seat table first n
+  seat_is n h e = ap seat_state_of e
       ∙ (λ i. record (new_seat table first n) {
         pools =
             record (first_pools n) { waits = no_waits seats 0 (replicate seats false) i };
       })
 
   -- the hand that comes next, and that it has no node of its own
-  pub next_hand : (n : ℕ) (hands : List (Standing P)) (h : Standing P) → IsNewFrom n hands → 0 < length hands
+  pub next_hand : (n : ℕ) (hands : List (HandState P)) (h : HandState P) → IsNewFrom n hands → 0 < length hands
       → h ≡ get_or hands 0 h → h ≡ new_hand table first seats n
   next_hand n hands h rest more is = let z : n + 0 ≡ n = omega arith in rest 0 h (at_index hands 0 h more is) ∙ ap (new_hand table first seats) z
 
-  pub new_between : (n : ℕ) (h : Standing P) → h ≡ new_hand table first seats n → IsBetween h.part.core
-  new_between n h e = subst (λ (x : Standing P). IsBetween x.part.core) (sym e) (record { own = tt; hand = refl; cursor = inl refl })
+  pub new_between : (n : ℕ) (h : HandState P) → h ≡ new_hand table first seats n → IsBetween h.part.core
+  new_between n h e = subst (λ (x : HandState P). IsBetween x.part.core) (sym e) (record { own = tt; hand = refl; cursor = inl refl })
 
-  pub next_new : (n : ℕ) (hands : List (Standing P)) (h : Standing P) → IsNewFrom n hands → 0 < length hands
-      → h ≡ get_or hands 0 h → known_of h ≡ new_seat table first n
+  pub next_new : (n : ℕ) (hands : List (HandState P)) (h : HandState P) → IsNewFrom n hands → 0 < length hands
+      → h ≡ get_or hands 0 h → seat_state_of h ≡ new_seat table first n
   next_new n hands h rest more is = let z : n + 0 ≡ n = omega arith in seat_is n h (rest 0 h (at_index hands 0 h more is) ∙ ap (new_hand table first seats) z)
 
-  pub new_on : (n : ℕ) (hands left : List (Standing P)) → IsNewFrom n hands → left ≡ remove hands 0 → IsNewFrom (n + 1) left
+  pub new_on : (n : ℕ) (hands left : List (HandState P)) → IsNewFrom n hands → left ≡ remove hands 0 → IsNewFrom (n + 1) left
   new_on n hands left rest is k h at =
       let z : n + suc k ≡ (n + 1) + k = omega arith in
       rest (suc k) h (sym (at_removed hands k) ∙ (ap (λ l. get_elem? l k) (sym is) ∙ at)) ∙ ap (new_hand table first seats) z
 
 module _ {P : Type 0} (table : TableId) where
   -- the seats from number n on, which hold nothing
-  abbrev pub IsIdleFrom : ℕ → List (Known P) → Type 0
-  IsIdleFrom n seats = (k : ℕ) (s : Known P) → get_elem? seats k ≡ some s → (s.table ≡ table) × (s.number ≡ n + k) × (s.held ≡ None)
+  abbrev pub IsIdleFrom : ℕ → List (SeatState P) → Type 0
+  IsIdleFrom n seats = (k : ℕ) (s : SeatState P) → get_elem? seats k ≡ some s → (s.table ≡ table) × (s.number ≡ n + k) × (s.held ≡ None)
 
-  pub all_idle : (seats : List (Known P)) → AreIdleSeats table seats → IsIdleFrom 0 seats
+  pub all_idle : (seats : List (SeatState P)) → AreIdleSeats table seats → IsIdleFrom 0 seats
   all_idle seats idle k s at = let i = idle k s at in let z : k ≡ 0 + k = omega arith in (i.0, i.1 ∙ z, i.2)
 
-  pub next_idle : (n : ℕ) (seats : List (Known P)) (s : Known P) → IsIdleFrom n seats → 0 < length seats → s ≡ get_or seats 0 s
+  pub next_idle : (n : ℕ) (seats : List (SeatState P)) (s : SeatState P) → IsIdleFrom n seats → 0 < length seats → s ≡ get_or seats 0 s
       → (s.table ≡ table) × (s.number ≡ n) × (s.held ≡ None)
   next_idle n seats s rest more is = let i = rest 0 s (at_index seats 0 s more is) in let z : n + 0 ≡ n = omega arith in (i.0, i.1 ∙ z, i.2)
 
-  pub idle_on : (n : ℕ) (seats left : List (Known P)) → IsIdleFrom n seats → left ≡ remove seats 0 → IsIdleFrom (n + 1) left
+  pub idle_on : (n : ℕ) (seats left : List (SeatState P)) → IsIdleFrom n seats → left ≡ remove seats 0 → IsIdleFrom (n + 1) left
   idle_on n seats left rest is k s at =
       let z : n + suc k ≡ (n + 1) + k = omega arith in
       let i = rest (suc k) s (sym (at_removed seats k) ∙ (ap (λ l. get_elem? l k) (sym is) ∙ at)) in
@@ -78,7 +78,7 @@ map_append : {A B : Type 0} (f : A → B) (l m : List A) → map f (l ++ m) ≡ 
 map_append f [] m = refl
 map_append f (x ∷ xs) m = ap (λ l. f x ∷ l) (map_append f xs m)
 
-pub passes_on : {P : Type 0} (hands : List (Standing P)) (h : Standing P) (seats left : List (Known P)) (s : Known P)
+pub passes_on : {P : Type 0} (hands : List (HandState P)) (h : HandState P) (seats left : List (SeatState P)) (s : SeatState P)
     (all : List P) → map hand_pass hands ++ map pass_in seats ≡ all → 0 < length seats → s ≡ get_or seats 0 s
     → left ≡ remove seats 0 → h.part.pass ≡ s.pass
     → map hand_pass (hands ++ h ∷ []) ++ map pass_in left ≡ all

@@ -26,7 +26,7 @@ pub use Rattle.epoch_pools.specs.declared.record.Record.{Record}
 pub use Rattle.epoch_pools.specs.Record.{no_steps, client_trace}
 
 -- a table: which one it is, and how many seats and client words it has
-pub record Shape : Type 0 where
+pub record TableShape : Type 0 where
   pub table : TableId
   pub seats : ℕ
   pub client : ℕ
@@ -57,7 +57,7 @@ fresh_scan most = record { most = most; nodes = 0; passed = 0; ended = false }
 
 -- a seat: its table and number, the range that it holds, its pools, its open scan, its pass, and the record of its
 -- steps
-pub record Known (P : Type 0) : Type 0 where
+pub record SeatState (P : Type 0) : Type 0 where
   pub table : TableId
   pub number : ℕ
   pub held : Option Held
@@ -103,27 +103,27 @@ module _ {P : Type 0} where
   first_passes first n zero = []
   first_passes first n (suc k) = first n ∷ first_passes first (suc n) k
 
-  abbrev pub pass_in : Known P → P
+  abbrev pub pass_in : SeatState P → P
   pass_in s = s.pass
 
   -- what the seat of number k is when a table is opened: new, and of that table
-  abbrev pub new_seat : TableId → (ℕ → P) → ℕ → Known P
+  abbrev pub new_seat : TableId → (ℕ → P) → ℕ → SeatState P
   new_seat table first k = record { table = table; number = k; held = None; pools = first_pools k; scan = None; pass = first k; trace = no_steps }
 
   -- the seats are those of a new table, in order of their numbers
-  abbrev pub AreNewSeats : TableId → (ℕ → P) → List (Known P) → Type 0
-  AreNewSeats table first seats = (k : ℕ) (s : Known P) → get_elem? seats k ≡ some s → s ≡ new_seat table first k
+  abbrev pub AreNewSeats : TableId → (ℕ → P) → List (SeatState P) → Type 0
+  AreNewSeats table first seats = (k : ℕ) (s : SeatState P) → get_elem? seats k ≡ some s → s ≡ new_seat table first k
 
   -- the seats are all of one table
-  abbrev pub AreSeatsOf : TableId → List (Known P) → Type 0
-  AreSeatsOf table seats = (k : ℕ) (s : Known P) → get_elem? seats k ≡ some s → s.table ≡ table
+  abbrev pub AreSeatsOf : TableId → List (SeatState P) → Type 0
+  AreSeatsOf table seats = (k : ℕ) (s : SeatState P) → get_elem? seats k ≡ some s → s.table ≡ table
 
   -- the seats are all of one table, in order of their numbers, and hold nothing
-  abbrev pub AreIdleSeats : TableId → List (Known P) → Type 0
-  AreIdleSeats table seats = (k : ℕ) (s : Known P) → get_elem? seats k ≡ some s → (s.table ≡ table) × (s.number ≡ k) × (s.held ≡ None)
+  abbrev pub AreIdleSeats : TableId → List (SeatState P) → Type 0
+  AreIdleSeats table seats = (k : ℕ) (s : SeatState P) → get_elem? seats k ≡ some s → (s.table ≡ table) × (s.number ≡ k) × (s.held ≡ None)
 
   -- a call on the seat that is no client step and gives back no range: the pass stays, and the last client step
-  pub record IsLockCall (before after : Known P) : Type 0 where
+  pub record IsLockCall (before after : SeatState P) : Type 0 where
     pub table : after.table ≡ before.table
     pub number : after.number ≡ before.number
     pub pass : after.pass ≡ before.pass
@@ -131,7 +131,7 @@ module _ {P : Type 0} where
     pub taken : before.trace.taken ≤ after.trace.taken
 
   -- one step on client word i: the seat holds what it held, its pools stay, and its record has this step
-  pub record IsClientCall (before : Known P) (i : ℕ) (after : Known P) : Type 0 where
+  pub record IsClientCall (before : SeatState P) (i : ℕ) (after : SeatState P) : Type 0 where
     pub table : after.table ≡ before.table
     pub number : after.number ≡ before.number
     pub held : after.held ≡ before.held
@@ -140,7 +140,7 @@ module _ {P : Type 0} where
 
   -- a range was given back, in one step or two, of which none is a client step and none meets a node: the pass is
   -- rested. The fast path may lose an exchange here, so the record's `lost` is left open
-  pub record IsRelease (rested : P → P) (before after : Known P) : Type 0 where
+  pub record IsRelease (rested : P → P) (before after : SeatState P) : Type 0 where
     pub table : after.table ≡ before.table
     pub number : after.number ≡ before.number
     pub held : after.held ≡ None
@@ -152,25 +152,25 @@ module _ {P : Type 0} where
     pub most : after.trace.taken ≤ before.trace.taken + 2
 
   -- what calls leave that give back all that they take: the seat is of the same table and number, and holds nothing
-  pub record IsGivenBack (before after : Known P) : Type 0 where
+  pub record IsGivenBack (before after : SeatState P) : Type 0 where
     pub table : after.table ≡ before.table
     pub number : after.number ≡ before.number
     pub held : after.held ≡ None
 
   -- the last walk after a call, which a step of this call began
-  pub record IsWalkOf (before after : Known P) : Type 0 where
+  pub record IsWalkOf (before after : SeatState P) : Type 0 where
     pub walk : Looked
     pub is : after.trace.looked ≡ Some walk
     pub from : before.trace.taken ≤ walk.step
     pub below : walk.step < after.trace.taken
 
   -- one walk of this call has looked at as many nodes as it may, and its last step made no range held
-  abbrev pub IsSpentIn : ℕ → Known P → Known P → Type 0
+  abbrev pub IsSpentIn : ℕ → SeatState P → SeatState P → Type 0
   IsSpentIn seats before after = (w : IsWalkOf before after) × (w.walk.nodes ≡ 16 * seats + 1) × (after.held ≡ None)
 
   -- a used node came home, and this call read that odd epoch of another seat, last of all that it read there; that seat
   -- isn't passed, and no other epoch was noted of it before
-  pub record IsHeldUp (before after : Known P) (seat epoch : ℕ) : Type 0 where
+  pub record IsHeldUp (before after : SeatState P) (seat epoch : ℕ) : Type 0 where
     pub home : after.pools.homes ≢ []
     pub other : seat ≢ after.number
     pub entry : Noted
@@ -183,7 +183,7 @@ module _ {P : Type 0} where
 
   -- why there is no node to take: this call read each of the seat's sixteen nodes as away, of which the lowest is
   -- named; or another seat is named that hinders one that came home
-  abbrev pub IsStuckIn : Known P → Known P → Stuck → Type 0
+  abbrev pub IsStuckIn : SeatState P → SeatState P → Stuck → Type 0
   IsStuckIn before after (Away node) = (node ≡ 16 * after.number)
       × ((x : ℕ) → x / 16 ≡ after.number → IsReadAway before.trace.taken after.trace.taken after.trace.away x)
   IsStuckIn before after (Inside seat epoch) = IsHeldUp before after seat epoch
@@ -192,7 +192,7 @@ module _ {P : Type 0} where
   -- this call, whose loss refuses a try, found another value than it expected; or a walk of this call was too long; or
   -- no node was ready, and after a sweep of this call that read the end of the list there was none to take. A part of
   -- the record with a number not below the number of steps at the call's entry was made in this call
-  abbrev pub IsCause : Known P → Known P → Held → NotHeld → Type 0
+  abbrev pub IsCause : SeatState P → SeatState P → Held → NotHeld → Type 0
   IsCause before after asked (Busy owner range mode) = (m : Met) × (after.trace.met ≡ Some m) × (before.trace.taken ≤ m.step) × (m.step < after.trace.taken)
       × (m.owner ≡ owner) × (m.held ≡ record { range = range; mode = mode }) × (owner ≢ before.number) × Conflicts m.held asked
   IsCause before after asked (Again place expected found) = (l : Lost) × (after.trace.lost ≡ Some l)

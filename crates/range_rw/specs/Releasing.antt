@@ -3,11 +3,11 @@
 -- Issa 2020.
 use Rattle.std.specs.Prelude.{◌≡◌, ◌+◌, ◌≤◌, Bool, true, false, None}
 use Rattle.lock_core.specs.declared.views.Own.TheVariants.{Nothing}
-use Rattle.epoch_pools.specs.declared.views.Part.{Part}
+use Rattle.epoch_pools.specs.declared.views.SeatPart.{SeatPart}
 
 module _ {P : Type 0} where
   -- the range was given back, in one step or two
-  pub record GivesBack (rested : P → P) (p q : Part P) : Type 0 where
+  pub record GivesBack (rested : P → P) (p q : SeatPart P) : Type 0 where
     pub number : q.number ≡ p.number
     pub pass : q.pass ≡ rested p.pass
     pub client : q.trace.client ≡ p.trace.client
@@ -20,7 +20,7 @@ module _ {P : Type 0} where
     pub most : q.trace.taken ≤ p.trace.taken + 2
 
   -- the range is still held, after one step
-  pub record IsRefusedQuickly (p q : Part P) : Type 0 where
+  pub record IsRefusedQuickly (p q : SeatPart P) : Type 0 where
     pub number : q.number ≡ p.number
     pub core : q.core ≡ p.core
     pub pass : q.pass ≡ p.pass
@@ -28,6 +28,6 @@ module _ {P : Type 0} where
     pub met : q.trace.met ≡ p.trace.met
     pub taken : q.trace.taken ≡ p.trace.taken + 1
 
-  abbrev pub IsQuickBack : (P → P) → Part P → Part P → Bool → Type 0
+  abbrev pub IsQuickBack : (P → P) → SeatPart P → SeatPart P → Bool → Type 0
   IsQuickBack rested p q true = GivesBack rested p q
   IsQuickBack rested p q false = IsRefusedQuickly p q

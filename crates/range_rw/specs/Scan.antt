@@ -5,14 +5,14 @@ use Rattle.lock_core.specs.declared.range.Held.{Held}
 use Rattle.lock_core.specs.declared.views.Own.TheVariants.{Nothing}
 use Rattle.epoch_pools.specs.declared.record.Lost.{Lost}
 use Rattle.epoch_pools.specs.declared.record.Met.{Met}
-use Rattle.epoch_pools.specs.declared.views.Part.{Part}
+use Rattle.epoch_pools.specs.declared.views.SeatPart.{SeatPart}
 use Rattle.marked_list.specs.declared.answers.Passed.{Passed}
 use Rattle.marked_list.specs.declared.answers.Passed.TheVariants.{Found as NodeFound, End as ListEnd, Lost as NotWon, Long as TooLong}
 use Rattle.marked_list.specs.Causes.{IsWalkLoss, nodes_in, judged_in}
 use Rattle.range_rw.specs.declared.scan.Scanned.{Scanned}
 use Rattle.range_rw.specs.declared.scan.Scanned.TheVariants.{Found, End, Again, Long}
-use Rattle.range_rw.specs.Contract.{Known, OpenScan, fresh_scan}
-use Rattle.range_rw.specs.Trying.{IsPiece}
+use Rattle.range_rw.specs.Contract.{SeatState, OpenScan, fresh_scan}
+use Rattle.range_rw.specs.Trying.{IsLaterInTry}
 
 -- the answer of a scan for that of its call on the list
 abbrev pub scanned_as : Passed → Scanned
@@ -24,7 +24,7 @@ scanned_as (TooLong visits) = Long visits
 module _ {P : Type 0} where
   -- what a call of a scan leaves: the seat holds nothing, its ready pool and its pass stay, and no step is a client
   -- step
-  pub record IsScanCall (before after : Known P) : Type 0 where
+  pub record IsScanCall (before after : SeatState P) : Type 0 where
     pub table : after.table ≡ before.table
     pub number : after.number ≡ before.number
     pub held : after.held ≡ None
@@ -34,7 +34,7 @@ module _ {P : Type 0} where
     pub taken : before.trace.taken ≤ after.trace.taken
 
   -- at a step of this call that seat's node, with that range and mode, was found unmarked
-  pub record IsFound (before after : Known P) (owner : ℕ) (held : Held) : Type 0 where
+  pub record IsFound (before after : SeatState P) (owner : ℕ) (held : Held) : Type 0 where
     pub met : Met
     pub is : after.trace.met ≡ Some met
     pub from : before.trace.taken ≤ met.step
@@ -43,7 +43,7 @@ module _ {P : Type 0} where
     pub holds : met.held ≡ held
 
   -- an exchange of this call at that place found another value than it expected
-  pub record IsAgain (before after : Known P) (place expected found : ℕ) : Type 0 where
+  pub record IsAgain (before after : SeatState P) (place expected found : ℕ) : Type 0 where
     pub lost : Lost
     pub is : after.trace.lost ≡ Some lost
     pub kind : IsWalkLoss lost.kind
@@ -56,7 +56,7 @@ module _ {P : Type 0} where
 
   -- why a scan gives an answer, with what its walk had come to before the call and what it comes to after it. It gives
   -- a node exactly where this call went past one
-  abbrev pub Gives : Known P → Known P → OpenScan → OpenScan → Scanned → Type 0
+  abbrev pub Gives : SeatState P → SeatState P → OpenScan → OpenScan → Scanned → Type 0
   Gives before after was now (Found owner range mode) = IsFound before after owner (record { range = range; mode = mode }) × (now.passed ≡ was.passed + 1)
   Gives before after was now End = (now.ended ≡ true) × (now.passed ≡ was.passed) × (now.nodes < now.most)
   Gives before after was now (Again place expected found) = IsAgain before after place expected found
@@ -64,15 +64,15 @@ module _ {P : Type 0} where
   Gives before after was now (Long visits) = (visits ≡ now.most) × (now.nodes ≡ now.most) × (now.passed ≡ was.passed) × (now.ended ≡ false)
 
   -- the call of a scan that had come to this before it
-  pub record IsNext (before after : Known P) (was : OpenScan) (answer : Scanned) : Type 0 where
+  pub record IsNext (before after : SeatState P) (was : OpenScan) (answer : Scanned) : Type 0 where
     pub now : OpenScan
     pub is : after.scan ≡ Some now
     pub same : now.most ≡ was.most
     pub gives : Gives before after was now answer
 
   -- a hand went into its epoch, and begins at the head
-  pub record GoesIn (p q : Part P) : Type 0 where
-    pub piece : IsPiece p q
+  pub record GoesIn (p q : SeatPart P) : Type 0 where
+    pub piece : IsLaterInTry p q
     pub odd : q.core.epoch % 2 ≡ 1
     pub hand : q.core.hand ≡ None
     pub own : q.core.own ≡ Nothing
@@ -80,8 +80,8 @@ module _ {P : Type 0} where
     pub ready : q.core.ready ≡ p.core.ready
 
   -- it went out
-  pub record GoesOut (p q : Part P) : Type 0 where
-    pub piece : IsPiece p q
+  pub record GoesOut (p q : SeatPart P) : Type 0 where
+    pub piece : IsLaterInTry p q
     pub even : q.core.epoch % 2 ≡ 0
     pub hand : q.core.hand ≡ None
     pub own : q.core.own ≡ Nothing

@@ -10,11 +10,11 @@ use Rattle.lock_core.specs.declared.views.Own.TheVariants.{Nothing, Filling, Lin
 use Rattle.lock_core.specs.declared.views.Todo.TheVariants.{Done}
 use Rattle.lock_core.specs.Machine.{held_at}
 use Rattle.epoch_pools.specs.declared.record.Looked.{Looked}
-use Rattle.epoch_pools.specs.declared.views.Part.{Part}
-use Rattle.epoch_pools.specs.Hands.{Standing}
+use Rattle.epoch_pools.specs.declared.views.SeatPart.{SeatPart}
+use Rattle.epoch_pools.specs.Hands.{HandState}
 use Rattle.marked_list.specs.Causes.{judged_in}
 use Rattle.marked_list.specs.Scanning.{IsResting}
-use Rattle.range_rw.specs.Contract.{Known, Pools, Waited, OpenScan, fresh_scan}
+use Rattle.range_rw.specs.Contract.{SeatState, Pools, Waited, OpenScan, fresh_scan}
 
 -- the seats from number k on that aren't passed and of which an epoch is noted, by the notes from there on and all
 -- flags
@@ -34,7 +34,7 @@ abbrev pub walk_of : ℕ → Option Cursor → Option Looked → OpenScan
 walk_of most None l = fresh_scan most
 walk_of most (Some c) l = record { most = most; nodes = c.seen; passed = judged_in l; ended = c.cur == 0 }
 
-abbrev pub scan_of : {P : Type 0} → Part P → Option OpenScan
+abbrev pub scan_of : {P : Type 0} → SeatPart P → Option OpenScan
 scan_of p = if p.core.epoch % 2 == 0 then None else Some (walk_of (16 * p.seats + 1) p.core.cursor p.trace.looked)
 
 -- an own node between two calls: none, or one by which a range is held
@@ -50,8 +50,8 @@ pub record IsBetween (v : View) : Type 0 where
   pub cursor : IsResting v
 
 -- what contracts see of a seat, from its hand
-abbrev pub known_of : {P : Type 0} → Standing P → Known P
-known_of s = record {
+abbrev pub seat_state_of : {P : Type 0} → HandState P → SeatState P
+seat_state_of s = record {
   table = s.table;
   number = s.part.number;
   held = held_at s.part.core.own;
@@ -61,5 +61,5 @@ known_of s = record {
   trace = s.part.trace;
 }
 
-abbrev pub known_in : {P : Type 0} → TableId → Part P → Known P
-known_in table p = known_of (record { table = table; part = p })
+abbrev pub seat_state_in : {P : Type 0} → TableId → SeatPart P → SeatState P
+seat_state_in table p = seat_state_of (record { table = table; part = p })

@@ -21,4 +21,4 @@ pub use laws::{keeps_apart, keeps_lock, keeps_no_reuse};
 pub use refusals::{NotHeld, OpenFault};
 pub use scan::{Scan, Scanned};
 pub use table::{CloseRefused, MOST_SEATS, RangeTable, Seat};
-pub use threads::crosses_threads;
+pub use threads::is_send_and_sync;

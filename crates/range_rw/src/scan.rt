@@ -7,7 +7,7 @@ ghost use Rattle.lock_core.specs.declared.views.Own.TheVariants.{Nothing};
 ghost use Rattle.range_rw.specs.Scan.{scanned_as, GoesIn, GoesOut};
 
 use crate::table::{RangeTable, Seat};
-use crate::trying::come_out;
+use crate::trying::leave_epoch;
 use epoch_pools::{Hand, List, enter};
 use lock_core::{Guard, Mode, Range};
 use marked_list::{Passed, pass};
@@ -75,7 +75,7 @@ fn go_in<G: Guard, L: Ledger>(list: &List<G>, hand: &mut Hand<G>, blank: Blank)
     ensures bound { hand.new.part.trace.taken ≤ hand.old.part.trace.taken + 2 }
 {
     let mut steps = Steps::<L>::new(blank);
-    come_out(list, hand, &mut steps);
+    leave_epoch(list, hand, &mut steps);
     enter(list, hand, &mut steps);
 }
 
@@ -90,7 +90,7 @@ fn go_out<G: Guard, L: Ledger>(list: &List<G>, hand: &mut Hand<G>, blank: Blank)
     ensures bound { hand.new.part.trace.taken ≤ hand.old.part.trace.taken + 1 }
 {
     let mut steps = Steps::<L>::new(blank);
-    come_out(list, hand, &mut steps);
+    leave_epoch(list, hand, &mut steps);
     let _ = hand.view();
 }
 

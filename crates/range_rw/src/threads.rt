@@ -8,7 +8,7 @@ fn sends<T: Send>() {}
 fn shares<T: Sync>() {}
 
 /// That a table is Send and Sync, and a seat is Send, over every guard. It does nothing.
-pub fn crosses_threads<G: Guard>() {
+pub fn is_send_and_sync<G: Guard>() {
     sends::<RangeTable<G>>();
     shares::<RangeTable<G>>();
     sends::<Seat<G>>();

@@ -15,4 +15,4 @@ pub use gate::{Gate, OpenGate};
 pub use laws::plays_are_collected;
 pub use playing::play_all;
 pub use trace::play_trace;
-pub use worker::{Line, Worker, crosses_threads};
+pub use worker::{Line, Worker, is_send_and_sync};

@@ -64,6 +64,6 @@ impl Worker {
 fn sends<T: Send>() {}
 
 /// That a worker is Send. It does nothing.
-pub fn crosses_threads() {
+pub fn is_send_and_sync() {
     sends::<Worker>();
 }

@@ -1,5 +1,5 @@
 use Rattle.std.proofs.Common.{List, subst}
-use Rattle.epoch_pools.specs.Hands.{Standing}
+use Rattle.epoch_pools.specs.Hands.{HandState}
 use Rattle.list_trials.specs.Trials.{AreAllIdle}
 use Rattle.list_trials.proofs.Hands.{idle_in_order}
 use Rattle.list_trials.proofs.opened.close_all.Goals as goal
@@ -7,4 +7,4 @@ use Rattle.list_trials.proofs.opened.close_all.Goals as goal
 pub close-requires-clause-idle : goal.close-requires-clause-idle
 close-requires-clause-idle c =
     idle_in_order c.args.list.table c.args.hands.items c.requires.order
-    (subst (λ (l : List (Standing (Unit {0}))). AreAllIdle l) c.as_slice.ensures.value c.if-not-are_idle.ensures)
+    (subst (λ (l : List (HandState (Unit {0}))). AreAllIdle l) c.as_slice.ensures.value c.if-not-are_idle.ensures)

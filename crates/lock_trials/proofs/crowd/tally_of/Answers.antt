@@ -2,7 +2,7 @@ use Rattle.std.proofs.Common.{ℕ, ◌≡◌, ◌+◌, ◌*◌, ◌%◌, ◌^◌
 use Rattle.std.specs.Prelude.{drop, replicate, None}
 use Rattle.std.proofs.lemmas.List.{take_at}
 use Rattle.lock_core.proofs.ByPlace.{same_or}
-use Rattle.range_rw.specs.Contract.{Known, AreNewSeats, pass_in}
+use Rattle.range_rw.specs.Contract.{SeatState, AreNewSeats, pass_in}
 use Rattle.lock_trials.specs.declared.tally.Brought.{Brought}
 use Rattle.lock_trials.specs.Tally.{IsTallied, first_share}
 use Rattle.lock_trials.proofs.Tallying.{tally_left}
@@ -21,7 +21,7 @@ returns g c =
       exact = c.index.ensures ∙ (same_or c.in-Ok-close.words.items 0 c.index.result.now 0 some_word
           ∙ (tally_left c.in-Ok.table.table c.args.word c.args.turns c.as_mut_slice.result.now c.add_all.new.seats _
           c.in-Ok-close.words.items (let z = c.requires.seats.0 in omega (arith, all)) same begun c.add_all.ensures.added
-          (subst (λ (l : List (Known Brought)). IsTallied (replicate c.in-Ok.table.seats None) c.in-Ok-close.words.items
+          (subst (λ (l : List (SeatState Brought)). IsTallied (replicate c.in-Ok.table.seats None) c.in-Ok-close.words.items
           (map pass_in l)) back c.in-Ok-close.ensures.guard)
           ∙ ap (λ (n : ℕ). (c.args.word + n * c.args.turns) % 2 ^ 64) all));
     }

@@ -1,8 +1,8 @@
 use Rattle.marked_list.proofs.Stepping.{filled_goes}
 use Rattle.marked_list.proofs.walking.walk.Goals as goal
 
-pub go-requires-clause-begins : goal.go-requires-clause-begins
-go-requires-clause-begins g c = record {
+pub whole_walk-requires-clause-begins : goal.whole_walk-requires-clause-begins
+whole_walk-requires-clause-begins g c = record {
   inside = c.requires.order.inside;
   own = filled_goes c.args.hand.now.part.core.own c.requires.order.own;
   cursor = c.requires.order.cursor;

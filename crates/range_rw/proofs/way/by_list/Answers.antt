@@ -3,11 +3,11 @@ use Rattle.range_rw.proofs.way.by_list.Goals as goal
 
 pub end-requires-clause-order : goal.end-requires-clause-order
 end-requires-clause-order g c =
-    let e = c.begin-cursor in let w = c.go_way-walked in
+    let e = c.begin-cursor in let w = c.insert_and_validate-walked in
     may_end_in c.args.hand.now.part e.new.hand.part c.requires.own e.ensures.made w.new.hand.part w.result w.ensures.still w.ensures.ends e.ensures.inside
 
 pub returns-clause-ends : goal.returns-clause-ends
 returns-clause-ends g c =
-    let e = c.begin-cursor in let w = c.go_way-walked in
+    let e = c.begin-cursor in let w = c.insert_and_validate-walked in
     way_ends c.args.hand.now.part e.new.hand.part c.requires.own e.ensures.made w.new.hand.part w.result w.ensures.still
     w.ensures.ends c.end.new.hand.part c.end.ensures.made

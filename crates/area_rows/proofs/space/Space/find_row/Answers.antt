@@ -37,9 +37,9 @@ halve-preserved g c =
       rest = ap (λ (p : Pass). p.pending) w.step.pass ∙ i.rest;
       counted = let t = c.tick.ensures in let b = i.counted in omega arith;
       count = ap (λ (p : Pass). p.count) w.step.pass ∙ i.count;
-      among = subst (λ (p : Pass). IsAmong p.rows c.args.page c.args.count c.go_on-base.result (c.halve.size - c.halve.size / 2)) (sym w.step.pass)
+      among = subst (λ (p : Pass). IsAmong p.rows c.args.page c.args.count c.next_base-base.result (c.halve.size - c.halve.size / 2)) (sym w.step.pass)
           (narrowed seat.pass.rows c.args.page c.args.count c.halve.base c.halve.size c.load_row-word.result
-          c.read_row-start.result.0 c.go_on-base.result i.among c.halve-test.true side c.read_row-start.ensures.start
-          c.go_on-base.ensures.upper c.go_on-base.ensures.lower);
+          c.read_row-start.result.0 c.next_base-base.result i.among c.halve-test.true side c.read_row-start.ensures.start
+          c.next_base-base.ensures.upper c.next_base-base.ensures.lower);
       room = (half.0, half.2, let b = i.room.2 in let e = half.1 in omega arith);
     }

@@ -1,5 +1,5 @@
 use Rattle.std.proofs.Common.{ℕ, List, ◌∙◌, ap, sym, subst}
-use Rattle.range_rw.specs.Contract.{Known}
+use Rattle.range_rw.specs.Contract.{SeatState}
 use Rattle.area_rows.specs.declared.guard.Pass.{Pass}
 use Rattle.row_plans.specs.RowLists.{areas_from}
 use Rattle.row_plans.specs.Plans.{IsPlan}
@@ -13,7 +13,7 @@ returns-clause-planned c =
     let e = c.plan_call.ensures in
     let p = c.plan_call.result in
     plan_shows c.plan_call.new.self c.args.call.now p.reply p.rows
-    (ap (λ (k : Known Pass). k.held) e.seat ∙ (r.reading.held ∙ c.requires.held))
-    (ap (λ (k : Known Pass). k.pass.pending) e.seat ∙ (r.reading.read.pending ∙ c.requires.rest))
-    (subst (λ (z : Known Pass × List ℕ). HasRows z.0.pass z.1) (λ i. (sym e.seat i, sym e.read i)) r.rows)
+    (ap (λ (k : SeatState Pass). k.held) e.seat ∙ (r.reading.held ∙ c.requires.held))
+    (ap (λ (k : SeatState Pass). k.pass.pending) e.seat ∙ (r.reading.read.pending ∙ c.requires.rest))
+    (subst (λ (z : SeatState Pass × List ℕ). HasRows z.0.pass z.1) (λ i. (sym e.seat i, sym e.read i)) r.rows)
     (subst (λ (l : List ℕ). IsPlan c.args.call.now p.reply p.rows c.plan_call.new.self.plan (areas_from l)) (sym e.read) e.plan)

@@ -1,5 +1,5 @@
 use Rattle.std.proofs.Common.{rules, ◌∙◌, ap, subst}
-use Rattle.range_rw.specs.Contract.{Known}
+use Rattle.range_rw.specs.Contract.{SeatState}
 use Rattle.area_rows.specs.declared.guard.Pass.{Pass}
 use Rattle.area_rows.specs.Callers.{IsReading}
 use Rattle.area_rows.proofs.Reading.{count_reads, reading_on}
@@ -12,9 +12,9 @@ rows-init c =
     let n = c.load_count-count.ensures in
     record {
       so_far = none_read c.load_count-count.new.caller c.load_count-count.result
-          (ap (λ (p : Pass). p.pending) n.step.pass ∙ (ap (λ (k : Known Pass). k.pass.pending) e.seat ∙ c.requires.rest))
+          (ap (λ (p : Pass). p.pending) n.step.pass ∙ (ap (λ (k : SeatState Pass). k.pass.pending) e.seat ∙ c.requires.rest))
           (ap (λ (p : Pass). p.count) n.step.pass) n.some n.few (n.rows.read ∙ e.read);
-      held = n.step.held ∙ (ap (λ (k : Known Pass). k.held) e.seat ∙ c.requires.held);
+      held = n.step.held ∙ (ap (λ (k : SeatState Pass). k.held) e.seat ∙ c.requires.held);
     }
 
 pub rows-preserved : goal.rows-preserved
@@ -26,7 +26,7 @@ rows-preserved c =
       so_far = one_more_read c.load_count-count.new.caller c.rows.caller c.load_row-word.new.caller c.push_row.new.self
           c.load_count-count.result c.rows.index c.load_row-word.result
           i.so_far c.rows-test.true i.held n.step n.left n.rows.read n.whole p.seat p.left p.read;
-      held = ap (λ (k : Known Pass). k.held) p.seat ∙ (n.step.held ∙ i.held);
+      held = ap (λ (k : SeatState Pass). k.held) p.seat ∙ (n.step.held ∙ i.held);
     }
 
 pub returns-clause-rows : goal.returns-clause-rows
@@ -39,7 +39,7 @@ pub returns-clause-reading : goal.returns-clause-reading
 returns-clause-reading c =
     let e = c.clear_rows.ensures in
     let n = c.load_count-count.ensures in
-    let first = subst (λ (k : Known Pass). IsReading k c.load_count-count.new.caller.seat) e.seat
+    let first = subst (λ (k : SeatState Pass). IsReading k c.load_count-count.new.caller.seat) e.seat
     (count_reads c.clear_rows.new.self.seat c.load_count-count.new.caller.seat c.load_count-count.result n.step n.again) in
     reading_on c.args.caller.now.seat c.load_count-count.new.caller.seat c.rows.caller.seat first c.rows.invariant.so_far.reading
 

@@ -1,6 +1,6 @@
 use Rattle.std.proofs.Common.{rules, ◌<◌, length, ap, ◌∙◌, sym, arith}
 use Rattle.std.specs.Prelude.{slice_index}
-use Rattle.range_rw.specs.Contract.{Known}
+use Rattle.range_rw.specs.Contract.{SeatState}
 use Rattle.std.proofs.lemmas.List.Edits.{length-remove}
 use Rattle.area_rows.specs.declared.guard.Pass.{Pass}
 use Rattle.area_rows.specs.Callers.{new_pass}
@@ -13,15 +13,15 @@ invariant_of-push_reserved c =
     let some_left : 0 < length c.seats.seats.items = search rules in
     let s = next_seat c.args.table.now.table (new_pass c.args.start.now) c.seats.worker c.seats.seats.items c.remove-seat.result
     c.seats.invariant.rest some_left c.remove-seat.ensures.value in (
-      ap (λ (x : Known Pass). x.number) s,
-      search rules ∙ sym (ap (λ (x : Known Pass). x.pass.mine) s),
+      ap (λ (x : SeatState Pass). x.number) s,
+      search rules ∙ sym (ap (λ (x : SeatState Pass). x.pass.mine) s),
       search rules,
       search rules,
       search rules,
       search rules,
       search rules,
-      λ h e. absurd (none_is h (sym (ap (λ (x : Known Pass). x.held) s) ∙ e)),
-      λ _. ap (λ (x : Known Pass). x.pass.pending) s,
+      λ h e. absurd (none_is h (sym (ap (λ (x : SeatState Pass). x.held) s) ∙ e)),
+      λ _. ap (λ (x : SeatState Pass). x.pass.pending) s,
     )
 
 pub seats-init : goal.seats-init

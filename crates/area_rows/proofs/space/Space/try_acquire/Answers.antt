@@ -1,6 +1,6 @@
 use Rattle.std.proofs.Common.{◌∙◌, ap, subst, ℕ}
 use Rattle.std.specs.Prelude.{IfErr, ◌↔◌}
-use Rattle.range_rw.specs.Contract.{Known, Shape, IsLongRefusal, IsSpentIn}
+use Rattle.range_rw.specs.Contract.{SeatState, TableShape, IsLongRefusal, IsSpentIn}
 use Rattle.area_rows.specs.declared.guard.Pass.{Pass}
 use Rattle.area_rows.specs.Callers.{CallerView}
 use Rattle.area_rows.proofs.space.Space.try_acquire.Goals as goal
@@ -11,5 +11,5 @@ returns-clause-rest g c = ap (λ (p : Pass). p.pending) c.try_acquire.ensures.ca
 
 pub returns-clause-long : goal.returns-clause-long
 returns-clause-long g c =
-    subst (λ (z : ℕ × Known Pass). IfErr c.try_acquire.result (λ why. IsLongRefusal why ↔ IsSpentIn z.0 z.1 c.try_acquire.new.seat))
-    (λ i. (ap (λ (t : Shape). t.seats) c.self.view_is i, ap (λ (v : CallerView). v.seat) c.caller.view_is i)) c.try_acquire.ensures.long
+    subst (λ (z : ℕ × SeatState Pass). IfErr c.try_acquire.result (λ why. IsLongRefusal why ↔ IsSpentIn z.0 z.1 c.try_acquire.new.seat))
+    (λ i. (ap (λ (t : TableShape). t.seats) c.self.view_is i, ap (λ (v : CallerView). v.seat) c.caller.view_is i)) c.try_acquire.ensures.long

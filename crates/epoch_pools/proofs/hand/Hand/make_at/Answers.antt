@@ -2,9 +2,9 @@ use Rattle.std.proofs.Common.{◌<◌, sym, ap, ◌∙◌, subst}
 use Rattle.lock_core.specs.declared.steps.Step.{Step}
 use Rattle.lock_core.specs.StepTable.{Plan}
 use Rattle.lock_core.specs.Operations.{Writes}
-use Rattle.epoch_pools.specs.declared.views.Part.{Part}
+use Rattle.epoch_pools.specs.declared.views.SeatPart.{SeatPart}
 use Rattle.epoch_pools.specs.Running.{Enables, line_for, part_after, Told}
-use Rattle.epoch_pools.specs.Hands.{Standing, IsHandView}
+use Rattle.epoch_pools.specs.Hands.{HandState, IsHandView}
 use Rattle.epoch_pools.proofs.Stepping.{line_again, answered, told_again, zero_after, hand_after}
 use Rattle.epoch_pools.proofs.hand.Hand.make_at.Goals as goal
 
@@ -14,15 +14,15 @@ invariant_of-self g c =
     let many = ap (λ h. h.part.seats) c.self.view_is ∙ sym c.seats-seats.ensures.seats in
     let number = ap (λ h. h.part.number) c.self.view_is ∙ sym c.number-number.ensures.number in
     let line = line_again q _ _ c.self.inside.view step many number c.self.invariant.0 in
-    let w = subst (λ (h : Standing _). Writes step (line_for h.part step) c.args.op.act) (sym c.self.view_is) c.requires.op.1 in
+    let w = subst (λ (h : HandState _). Writes step (line_for h.part step) c.args.op.act) (sym c.self.view_is) c.requires.op.1 in
     let all = m.1 ∙ (ap (λ (d : Step). part_after g.G.Guard.rested q d m.0) c.requires.doing
     ∙ answered g.G.Guard.rested q step c.args.op.act m.0 result w m.3) in
     let told = told_again g.G.Guard.rested q step g.D.Doing.seats c.args.op.act m.0 result w m.3
     (subst (λ (d : Step). Told g.D.Doing.seats q d m.0) c.requires.doing m.2) in
-    let may = subst (λ (h : Standing _). Enables h.part step) (sym c.self.view_is) c.requires.enabled in
-    let less : q.number < q.seats = subst (λ (h : Standing _). h.part.number < h.part.seats) (sym c.self.view_is)
+    let may = subst (λ (h : HandState _). Enables h.part step) (sym c.self.view_is) c.requires.enabled in
+    let less : q.number < q.seats = subst (λ (h : HandState _). h.part.number < h.part.seats) (sym c.self.view_is)
     (subst (λ n. n < c.args.self.now.part.seats) c.number-number.ensures.number c.number-number.ensures.there) in (
-      ap (λ (x : Part _). x.core) all ∙ sym (c.follow.ensures ∙ ap (λ (l : Plan). l.view result) line),
+      ap (λ (x : SeatPart _). x.core) all ∙ sym (c.follow.ensures ∙ ap (λ (l : Plan). l.view result) line),
       subst IsHandView (sym all) (hand_after q g.G.Guard.rested step result g.D.Doing.seats less may c.self.invariant.1 told),
     )
 
@@ -31,8 +31,8 @@ returns-clause-told g c =
     let q = c.self.inside.token.part in let step = c.args.step in let m = c.perform-found.ensures.made in
     let many = ap (λ h. h.part.seats) c.self.view_is ∙ sym c.seats-seats.ensures.seats in
     let number = ap (λ h. h.part.number) c.self.view_is ∙ sym c.number-number.ensures.number in
-    let w = subst (λ (h : Standing _). Writes step (line_for h.part step) c.args.op.act) (sym c.self.view_is) c.requires.op.1 in
-    subst (λ (h : Standing _). Told g.D.Doing.seats h.part step c.perform-found.result) c.self.view_is
+    let w = subst (λ (h : HandState _). Writes step (line_for h.part step) c.args.op.act) (sym c.self.view_is) c.requires.op.1 in
+    subst (λ (h : HandState _). Told g.D.Doing.seats h.part step c.perform-found.result) c.self.view_is
     (told_again g.G.Guard.rested q step g.D.Doing.seats c.args.op.act m.0 c.perform-found.result w m.3
     (subst (λ (d : Step). Told g.D.Doing.seats q d m.0) c.requires.doing m.2))
 
@@ -41,6 +41,6 @@ returns-clause-store g c = λ st.
     let q = c.self.inside.token.part in let step = c.args.step in let m = c.perform-found.ensures.made in
     let many = ap (λ h. h.part.seats) c.self.view_is ∙ sym c.seats-seats.ensures.seats in
     let number = ap (λ h. h.part.number) c.self.view_is ∙ sym c.number-number.ensures.number in
-    let w = subst (λ (h : Standing _). Writes step (line_for h.part step) c.args.op.act) (sym c.self.view_is) c.requires.op.1 in
-    let may = subst (λ (h : Standing _). Enables h.part step) (sym c.self.view_is) c.requires.enabled in
+    let w = subst (λ (h : HandState _). Writes step (line_for h.part step) c.args.op.act) (sym c.self.view_is) c.requires.op.1 in
+    let may = subst (λ (h : HandState _). Enables h.part step) (sym c.self.view_is) c.requires.enabled in
     zero_after g.G.Guard.rested q step c.args.op.act m.0 c.perform-found.result may w m.3 st

@@ -2,7 +2,7 @@ use Rattle.std.proofs.Common.{◌≡◌, ℕ, sym, ap, ◌∙◌, subst, length}
 use Rattle.std.specs.Arc.{arc_value}
 use mathlib.Core.Option.{some, some-ne-none}
 use lib.ListN.{get_elem?}
-use Rattle.range_rw.specs.Contract.{Known, Shape, AreNewSeats}
+use Rattle.range_rw.specs.Contract.{SeatState, TableShape, AreNewSeats}
 use Rattle.range_c.specs.Behind.{Behind}
 use Rattle.range_c.proofs.Rows.{Row, behind, taken, put_back, shares}
 use Rattle.range_c.proofs.state.State.share.Goals as goal
@@ -11,9 +11,9 @@ pub invariant_of-state : goal.invariant_of-state
 invariant_of-state c =
     let all = taken (arc_value c.self.inside.table).table c.self.inside.spare.items c.pop.new.self.items c.in-Some.seat
     c.in-Some.ensures.items c.self.invariant.1 in (
-      ap (λ (s : Known (Unit {0})). s.table) all.0 ∙ sym (ap (λ (t : Shape). t.table) c.in-Ok.ensures),
+      ap (λ (s : SeatState (Unit {0})). s.table) all.0 ∙ sym (ap (λ (t : TableShape). t.table) c.in-Ok.ensures),
       λ k s at. absurd (some-ne-none s (sym (subst (λ (l : Row). get_elem? l k ≡ some s) c.new.ensures.items at))),
-      ap (λ (t : Shape). t.client) c.in-Ok.ensures ∙ c.self.invariant.2,
+      ap (λ (t : TableShape). t.client) c.in-Ok.ensures ∙ c.self.invariant.2,
     )
 
 pub invariant_of-self : goal.invariant_of-self
@@ -33,7 +33,7 @@ invariant_of-self-in-Err c =
 
 pub returns-in-Ok-new-clause-shared : goal.returns-in-Ok-new-clause-shared
 returns-in-Ok-new-clause-shared c =
-    let same = ap (λ (n : ℕ). behind c.in-Some.seat (length c.new.result.items) c.self.inside.words n) (ap (λ (t : Shape). t.seats) c.in-Ok.ensures) in
+    let same = ap (λ (n : ℕ). behind c.in-Some.seat (length c.new.result.items) c.self.inside.words n) (ap (λ (t : TableShape). t.seats) c.in-Ok.ensures) in
     shares (arc_value c.self.inside.table).table c.self.inside.spare.items c.pop.new.self.items c.new.result.items
     c.self.inside.seat c.in-Some.seat c.self.inside.words
     (arc_value c.self.inside.table).seats c.args.self.now c.in-Ok-new.b.value c.self.view_is c.self.invariant.0

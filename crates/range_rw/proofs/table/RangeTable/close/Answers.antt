@@ -1,8 +1,8 @@
 use Rattle.std.proofs.Common.{sym, ap, ◌∙◌}
-use Rattle.range_rw.specs.Contract.{Shape}
+use Rattle.range_rw.specs.Contract.{TableShape}
 use Rattle.range_rw.proofs.table.RangeTable.close.Goals as goal
 
 pub hands_of-requires-clause-idle : goal.hands_of-requires-clause-idle
 hands_of-requires-clause-idle g c = λ k s at.
     let i = c.requires.idle k s at in
-    (i.0 ∙ sym (ap (λ (t : Shape). t.table) c.self.view_is), i.1, i.2)
+    (i.0 ∙ sym (ap (λ (t : TableShape). t.table) c.self.view_is), i.1, i.2)

@@ -1,6 +1,6 @@
 use Rattle.std.proofs.Common.{sym, ◌∙◌}
 use Rattle.range_rw.proofs.Pieces.{way_validates}
-use Rattle.range_rw.proofs.way.go_way.Goals as goal
+use Rattle.range_rw.proofs.way.insert_and_validate.Goals as goal
 
 pub validate_once-requires-clause-own : goal.validate_once-requires-clause-own
 validate_once-requires-clause-own g c =

@@ -4,7 +4,7 @@ use Rattle.lock_core.specs.declared.views.View.{View}
 use Rattle.marked_list.specs.declared.answers.Walked.{Walked}
 use Rattle.marked_list.specs.Going.{arrival_at, Outcome}
 use Rattle.marked_list.proofs.Setting.{out_room, out_even, out_odd, settled_outcome}
-use Rattle.marked_list.proofs.way.set_out.Goals as goal
+use Rattle.marked_list.proofs.way.begin_walk.Goals as goal
 
 pub settle-requires-clause-head : goal.settle-requires-clause-head
 settle-requires-clause-head g c = let far = c.if-word-eq0.false in

@@ -2,7 +2,7 @@ use Rattle.std.proofs.Common.{◌≡◌, ◌+◌, ◌*◌, ◌-◌, ◌≤◌}
 use Rattle.marked_list.specs.Order.{StandsAt}
 use Rattle.marked_list.specs.Leaves.{IsOn, IsSameWalk}
 use Rattle.marked_list.specs.Going.{seen_of}
-use Rattle.marked_list.proofs.way.go_on.Given as goal
+use Rattle.marked_list.proofs.way.walk_on.Given as goal
 
 abbrev pub invariant-nodes : goal.invariant-nodes
 invariant-nodes g l = record {
