@@ -7,6 +7,7 @@ use Rattle.line_parts.specs.Parts.{Alike, Part, starts, arm, chain, choice}
 use Rattle.line_parts.specs.Leaves.{byte, letters, run}
 use Rattle.line_parts.proofs.Sequence.{Took, Stuck, Reads, Fine, Good}
 
+-- two texts that go on alike behind the same bytes pass the same tests of the first byte
 pub starts_front : (test : ℕ → Bool) (front more rest : List ℕ) → Alike more rest → starts test (front ++ more) ≡ starts test (front ++ rest)
 starts_front test [] [] [] h = refl
 starts_front test [] [] (b ∷ y) h = absurd h
@@ -53,6 +54,7 @@ choice_stuck test one other follow text f fine s = record {
   one = λ g o r w h e. s.one g o r w (subst (λ (x : List ℕ). (arm one other (starts test x)).refuses g o r w) (sym e) h) e;
 }
 
+-- a reading of the part that the first byte chooses is a reading of the choice, where the choice is fine
 pub choice_reads : {A : Type 0} (test : ℕ → Bool) (one other : Part A) (follow : A → List ℕ → Type 0) (text : List ℕ)
     (r : Result (A × List ℕ) Refusal) → Fine (choice test one other) follow
     → Reads (arm one other (starts test text)) follow text r → Reads (choice test one other) follow text r
@@ -71,9 +73,11 @@ Stays {A} test part follow = (rest q : List ℕ) (v : A) → part.takes [] rest 
 abbrev pub Full : {A : Type 0} → Part A → Type 0
 Full {A} part = (rest : List ℕ) (v : A) → part.takes [] rest v → ⊥
 
+-- a part that never takes nothing doesn't do so before a text that passes the test
 pub full_nonempty : {A : Type 0} (test : ℕ → Bool) (part : Part A) → Full part → Nonempty test part
 full_nonempty test part full rest v h e = full rest v h
 
+-- a part that never takes nothing stays, whatever the test and whatever may follow
 pub full_stays : {A : Type 0} (test : ℕ → Bool) (part : Part A) (follow : A → List ℕ → Type 0) → Full part → Stays test part follow
 full_stays test part follow full rest q v h hq = absurd (full rest v h)
 
@@ -81,15 +85,19 @@ front_empty : (a b : List ℕ) → [] ≡ a ++ b → a ≡ []
 front_empty [] b e = refl
 front_empty (c ∷ a) b e = cc
 
+-- two parts, one behind the other, never take nothing where the first never does
 pub chain_full : {A B : Type 0} (first : Part A) (next : A → Part B) → Full first → Full (chain first next)
 chain_full first next full rest v h = full (h.1 ++ rest) h.2 (subst (λ (x : List ℕ). first.takes x (h.1 ++ rest) h.2) (front_empty h.0 h.1 h.3) h.4)
 
+-- one byte is never nothing
 pub byte_full : (b : ℕ) (due : What) → Full (byte b due)
 byte_full b due rest v h = cc
 
+-- the bytes of a text of one byte or more are never nothing
 pub letters_full : (b : ℕ) (word : List ℕ) (due : What) → Full (letters (b ∷ word) due)
 letters_full b word due = chain_full (byte b due) (λ u. letters word due) (byte_full b due)
 
+-- a run is never nothing
 pub run_full : (first later : ℕ → Bool) (due : What) → Full (run first later due)
 run_full first later due rest v h = h.1
 
@@ -117,11 +125,14 @@ arm_reads : {A : Type 0} {one other : Part A} {follow : A → List ℕ → Type 
 arm_reads g h text true = g.reads text
 arm_reads g h text false = h.reads text
 
+-- a choice of two fine parts is fine, where the one isn't empty before what passes, what follows the other where it is
+-- empty doesn't pass, and something is taken before all that may follow
 pub fine_choice : {A : Type 0} {one other : Part A} {follow : A → List ℕ → Type 0} (test : ℕ → Bool) → Fine one follow
     → Fine other follow → Nonempty test one → Stays test other follow
     → ((b : List ℕ) × (w : A) × ((q : List ℕ) → follow w q → (choice test one other).takes b q w)) → Fine (choice test one other) follow
 fine_choice {A} {one} {other} {follow} test f g never stays some = record { some = some; before = choice_before test one other follow f g never stays }
 
+-- a choice of two good parts is good in the same case, read by the function that the first byte chooses
 pub good_choice : {A : Type 0} {one other : Part A} {follow : A → List ℕ → Type 0} {r s : List ℕ → Result (A × List ℕ) Refusal}
     (test : ℕ → Bool) → Good one follow r → Good other follow s → Nonempty test one → Stays test other follow
     → ((b : List ℕ) × (w : A) × ((q : List ℕ) → follow w q → (choice test one other).takes b q w))

@@ -20,16 +20,20 @@ Any v q = Unit {0}
 abbrev pub Last : {A : Type 0} → A → List ℕ → Type 0
 Last v q = q ≡ []
 
+-- a truth value is true or false
 pub bool_cases : (b : Bool) → (b ≡ true) ⊎ (b ≡ false)
 bool_cases true = inl refl
 bool_cases false = inr refl
 
+-- a byte passes the test for itself
 pub is_same : (b : ℕ) → is b b ≡ true
 is_same b = elim (eqb_tells b b) [ inl h ↦ h.0 | inr h ↦ absurd (h.1 refl) ]
 
+-- a byte that passes the test for another is the other
 pub same_is : (b c : ℕ) → is b c ≡ true → c ≡ b
 same_is b c h = elim (eqb_tells c b) [ inl k ↦ k.1 | inr k ↦ cc ]
 
+-- no truth value is both true and false
 pub not_both : {b : Bool} → b ≡ true → b ≡ false → ⊥
 not_both h k = cc
 
@@ -38,6 +42,7 @@ pub first_one : (test : ℕ → Bool) (due : What) (text g o r : List ℕ) (w : 
     → (length (o ++ r) ≡ length text) × (w ≡ due)
 first_one test due text g o r w h e = (sym (ap length (e ∙ ap (λ (x : List ℕ). x ++ (o ++ r)) h.0)), h.2)
 
+-- a text whose first byte passes isn't refused for its first byte
 pub first_clean : (test : ℕ → Bool) (due : What) (text g o r : List ℕ) (w : What) → AtFirst test due g o r w
     → text ≡ g ++ (o ++ r) → starts test text ≡ true → ⊥
 first_clean test due text g o r w h e yes_ =
@@ -83,15 +88,18 @@ byte_reads b due (c ∷ rest) =
       | inr h ↦ rw h (byte_stuck b due (c ∷ rest) h)
     ]
 
+-- one byte is read by byte_at, and anything may follow
 pub byte_good : (b : ℕ) (due : What) → Good (byte b due) Any (byte_at b due)
 byte_good b due = record { fine = record { some = (b ∷ [], tt, λ q h. refl); before = λ a rest q v h hq. h }; reads = byte_reads b due }
 
+-- nothing is taken by giving the value and the whole text, whatever may follow
 pub done_good : {A : Type 0} (v : A) (follow : A → List ℕ → Type 0) → Good (done v) follow (λ text. Ok (v, text))
 done_good v follow = record {
   fine = record { some = ([], v, λ q h. (refl, refl)); before = λ a rest q w h hq. h };
   reads = λ text. record { front = []; parts = refl; takes = (refl, refl); only = λ p q more w h e alike. h; clean = λ g o r w h e. h };
 }
 
+-- the bytes of a text are read by letters_at, and anything may follow
 pub letters_good : (word : List ℕ) (due : What) → Good (letters word due) Any (letters_at word due)
 unfolding letters_at
 letters_good [] due = done_good tt Any
@@ -99,6 +107,8 @@ letters_good (b ∷ word) due = good_then (byte_good b due) (λ u. letters_good 
 
 -- ---- runs and spaces
 
+-- the bytes that are taken pass the test, the text is these and the others, and the others don't begin with one that
+-- passes
 pub taken_is : (test : ℕ → Bool) (text : List ℕ)
     → EachIs test (taken test text).0 × (text ≡ (taken test text).0 ++ (taken test text).1)
     × (starts test (taken test text).1 ≡ false)
@@ -122,6 +132,7 @@ same_run test rest (b ∷ p) (c ∷ front) q more hp hf hq hr e alike =
     let h : b ≡ c = cc in
     cc
 
+-- a run, with what stands behind it, begins with a byte that passes the first test
 pub run_starts : (first later : ℕ → Bool) (p q : List ℕ) → IsRun first later p → starts first (p ++ q) ≡ true
 run_starts first later [] q h = absurd h
 run_starts first later (b ∷ p) q h = h.0
@@ -180,11 +191,13 @@ run_good first later due b sample = record {
   reads = run_reads first later due b sample;
 }
 
+-- digits are read by digits_end, where what follows doesn't begin with a digit
 pub digits_good : (due : What) → Good (many_digits due) (λ v q. starts is_digit q ≡ false) (digits_end due)
 unfolding digits_end
 digits_good due = good_then (run_good is_digit is_digit due 48 refl) (λ d. done_good tt (λ v q. starts is_digit q ≡ false))
     (λ v b q w h hq. ap (λ (y : List ℕ). starts is_digit (y ++ q)) h.0 ∙ hq)
 
+-- what is left behind the bytes that pass isn't longer than the text
 pub taken_shorter : (test : ℕ → Bool) (text : List ℕ) → length (taken test text).1 ≤ length text
 taken_shorter test text =
     let r = taken_is test text in
@@ -213,11 +226,13 @@ pub run_cut : (first later : ℕ → Bool) (due : What) (text rest : List ℕ) �
 run_cut first later due text rest sub h e =
     rw e (run_is_taken first later due text sub h ∙ ap (λ (x : List ℕ). Ok (x, (taken later text).1)) (sym (taken_front later text)))
 
+-- a text whose first byte passes no first test of a run is refused at its front
 pub run_missing : (first later : ℕ → Bool) (due : What) (text : List ℕ) → starts first text ≡ false → run_at first later due text ≡ Err (refusal_at text due)
 unfolding run_at
 run_missing first later due [] h = refl
 run_missing first later due (c ∷ rest) h = rw h refl
 
+-- a capital letter is a byte of a word
 pub capital_is_word : (b : ℕ) → is_capital b ≡ true → is_word_byte b ≡ true
 capital_is_word b h = rw h refl
 
@@ -233,6 +248,7 @@ spaces_reads text =
       clean = λ g o x w h e. h;
     }
 
+-- spaces are read by after_spaces, where what follows doesn't begin with a space
 pub spaces_good : Good spaces (λ v q. starts (is 32) q ≡ false) (λ text. Ok (tt, after_spaces text))
 spaces_good = record {
   fine = record { some = ([], tt, λ q h. (tt, h)); before = λ a rest q v h hq. (h.0, hq) };
@@ -263,6 +279,7 @@ end_reads due v (c ∷ rest) = record {
   one = λ g o r w h e. (sym (ap length (e ∙ ap (λ (x : List ℕ). x ++ (o ++ r)) h.0)), h.2);
 }
 
+-- the end of the text is read by end_at, and nothing follows
 pub end_good : {A : Type 0} (due : What) (v : A) → Good (end due v) Last (end_at due v)
 end_good {A} due v = record {
   fine = record { some = ([], v, λ q h. (refl, h, refl)); before = λ a rest q w h hq. (h.0, hq, h.2) };
@@ -273,6 +290,7 @@ alike_end : (more : List ℕ) → Alike more [] → more ≡ []
 alike_end [] h = refl
 alike_end (b ∷ more) h = absurd h
 
+-- all of a text is taken, and nothing left, where its first byte doesn't pass the test
 pub anything_took : {A : Type 0} (test : ℕ → Bool) (v : A) (text : List ℕ) → starts test text ≡ false → Took (anything test v) text v []
 anything_took test v text none = record {
   front = text;
@@ -286,13 +304,16 @@ anything_took test v text none = record {
   clean = λ g o r w h e. h;
 }
 
+-- all that is left is a fine part, where nothing follows
 pub anything_fine : {A : Type 0} (test : ℕ → Bool) (v : A) → Fine (anything test v) Last
 anything_fine test v = record { some = ([], v, λ q h. (h, refl, refl)); before = λ a rest q w h hq. (hq, h.1, h.2) }
 
+-- no text begins with a byte that passes a test that no byte passes
 pub no_byte_starts : (text : List ℕ) → starts (λ b. false) text ≡ false
 no_byte_starts [] = refl
 no_byte_starts (b ∷ text) = refl
 
+-- where no byte passes the test, all that is left is read by giving the value and leaving nothing
 pub anything_good : {A : Type 0} (v : A) → Good (anything (λ b. false) v) Last (λ text. Ok (v, []))
 anything_good v = record { fine = anything_fine (λ b. false) v; reads = λ text. anything_took (λ b. false) v text (no_byte_starts text) }
 
@@ -331,10 +352,15 @@ until_none x y [] q (c ∷ text) hf hq e =
     not_both hq (ap (starts (is y)) k ∙ hf.0 h)
 until_none x y (b ∷ p) q (c ∷ text) hf hq e = until_none x y p q text hf.1 hq cc
 
+-- the first x that a y follows stands behind the body, and until_at leaves the rest
 pub record Before (x y : ℕ) (due : What) (text : List ℕ) (body rest : List ℕ) : Type 0 where
+  -- the text is the body, x and the rest
   pub parts : text ≡ (body ++ (x ∷ [])) ++ rest
+  -- in the body no y stands behind x
   pub none : NoPair x y body
+  -- the rest begins with y
   pub next : starts (is y) rest ≡ true
+  -- until_at leaves the rest
   pub is_read : until_at x y due text ≡ Ok (tt, rest)
 
 body_starts : (test : ℕ → Bool) (body : List ℕ) (x : ℕ) (rest text : List ℕ) → text ≡ (body ++ (x ∷ [])) ++ rest
@@ -406,6 +432,7 @@ until_reads x y due apart text =
       | inr h ↦ rw h.1 (until_stuck x y due text h.0)
     ]
 
+-- bytes to an x with a y behind it are read by until_at, where x isn't y and what follows begins with y
 pub until_good : (x y : ℕ) (due : What) → is y x ≡ false → Good (until x y due) (λ v q. starts (is y) q ≡ true) (until_at x y due)
 until_good x y due apart = record {
   fine = record { some = (x ∷ [], tt, λ q h. ([], refl, tt, h)); before = λ a rest q v h hq. (h.0, h.1, h.2, hq) };

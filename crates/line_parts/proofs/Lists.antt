@@ -20,11 +20,16 @@ use Rattle.line_parts.proofs.Leaves.{Any, byte_good, done_good, same_is}
 -- ---- two parts that are the same relation
 
 pub record Same {A : Type 0} (one other : Part A) : Type 0 where
+  -- what the one takes, the other takes
   pub to : (front rest : List ℕ) (v : A) → one.takes front rest v → other.takes front rest v
+  -- what the other takes, the one takes
   pub back : (front rest : List ℕ) (v : A) → other.takes front rest v → one.takes front rest v
+  -- what the one refuses, the other refuses
   pub refuses_to : (front over rest : List ℕ) (w : What) → one.refuses front over rest w → other.refuses front over rest w
+  -- what the other refuses, the one refuses
   pub refuses_back : (front over rest : List ℕ) (w : What) → other.refuses front over rest w → one.refuses front over rest w
 
+-- a reading of a part is a reading of each part that is the same relation
 pub reads_same : {A : Type 0} (one other : Part A) (follow : A → List ℕ → Type 0) (text : List ℕ)
     (r : Result (A × List ℕ) Refusal) → Same one other → Reads one follow text r → Reads other follow text r
 reads_same one other follow text (Ok x) same t = record {
@@ -52,13 +57,16 @@ reads_same one other follow text (Err f) same s = record {
 abbrev pub is_close : ℕ → Bool
 is_close c = if is 44 c then true else is 41 c
 
+-- a bar, or a comma or a closing parenthesis
 abbrev pub is_join : ℕ → Bool
 is_join c = if is 124 c then true else is_close c
 
+-- what may follow an item: a bar, a comma or a closing parenthesis, and the end behind one that took the rest
 abbrev pub ItemEnds : Option ℕ → List ℕ → Type 0
 ItemEnds None q = q ≡ []
 ItemEnds (Some bits) q = starts is_join q ≡ true
 
+-- what may follow a list: a comma or a closing parenthesis, and the end behind one that took the rest
 abbrev pub ListEnds : Option ℕ → List ℕ → Type 0
 ListEnds None q = q ≡ []
 ListEnds (Some bits) q = starts is_close q ≡ true
@@ -80,6 +88,7 @@ either_join : (a b : Bool) → b ≡ true → (if a then true else b) ≡ true
 either_join true b h = refl
 either_join false b h = h
 
+-- a text that begins with a comma or a closing parenthesis begins with a bar or one of these
 pub close_joins : (q : List ℕ) → starts is_close q ≡ true → starts is_join q ≡ true
 close_joins [] h = cc
 close_joins (c ∷ q) h = either_join (is 124 c) (is_close c) h
@@ -103,6 +112,7 @@ pub join_fails : (test : ℕ → Bool) → test 124 ≡ false → test 44 ≡ fa
 join_fails test x y z [] h = refl
 join_fails test x y z (c ∷ q) h = elim (join_byte c h) [ inl k ↦ ap test k ∙ x | inr k ↦ elim k [ inl l ↦ ap test l ∙ y | inr l ↦ ap test l ∙ z ] ]
 
+-- what begins with a bar, a comma or a closing parenthesis may follow a number
 pub join_no_numeral : (q : List ℕ) → starts is_join q ≡ true → NoNumeral q
 unfolding worth
 join_no_numeral [] h = tt
@@ -114,10 +124,12 @@ join_no_numeral (c ∷ q) h = elim (join_byte c h) [
 
 -- ---- the list is an item with the rest of the list behind it
 
+-- what stands behind an item: a bar and more items, or nothing; nothing too where the item took the rest
 abbrev pub behind : Part (Option ℕ) → ℕ → Option ℕ → Part (Option ℕ)
 behind item bits None = done None
 behind item bits (Some n) = choice (is 124) (chain (byte 124 Comma) (λ u. listed item (bit_or bits n))) (done (Some (bit_or bits n)))
 
+-- one item, and behind it the rest of the list
 abbrev pub unrolled : Part (Option ℕ) → ℕ → Part (Option ℕ)
 unrolled item bits = chain item (behind item bits)
 
@@ -226,6 +238,7 @@ items_before item fine (n ∷ before) bits a rest q v h hq = (
   items_before item fine before (bit_or bits n) h.1 rest q v h.4 hq,
 )
 
+-- a list of fine items is fine
 pub listed_fine : (item : Part (Option ℕ)) → Fine item ItemEnds → (bits : ℕ) → Fine (listed item bits) ListEnds
 listed_fine item fine bits =
     let s = fine.some in
@@ -307,6 +320,7 @@ next_reads item read k bits (Some n) rest fine on le =
 took_shorter : (item : Part (Option ℕ)) (text : List ℕ) (v : Option ℕ) (rest : List ℕ) (k : ℕ) → Took item text v rest → length text < suc k → length rest ≤ k
 took_shorter item text v rest k t lt = let e = ap length t.parts ∙ length-append t.front rest in omega arith
 
+-- what list_at gives, with k items allowed, is a reading of the list for each text of fewer than k bytes
 pub list_reads : (item : Part (Option ℕ)) (read : List ℕ → Result (Option ℕ × List ℕ) Refusal) → Good item ItemEnds read → (k : ℕ) → ListReads item read k
 unfolding list_at
 list_reads item read good zero bits text lt = absurd (omega arith)
@@ -355,13 +369,16 @@ any_count read short (suc j) (suc k) bits text lj lk =
 
 -- ---- a list in a loop, item by item
 
+-- what is left behind an item that was read isn't longer than the text
 abbrev pub Shortens : (List ℕ → Result (Option ℕ × List ℕ) Refusal) → Type 0
 Shortens read = (text rest : List ℕ) (v : Option ℕ) → read text ≡ Ok (v, rest) → length rest ≤ length text
 
+-- behind an item and its bar fewer bytes are left than before the item
 pub on_shorter : (read : List ℕ → Result (Option ℕ × List ℕ) Refusal) → Shortens read → (left rest : List ℕ) (v : Option ℕ)
     → read left ≡ Ok (v, rest) → starts (is 124) rest ≡ true → length (behind_first rest) < length left
 on_shorter read short left rest v e bar = let s = short left rest v e in let t = behind_shorter rest bar in omega arith
 
+-- where a bar stands behind an item, the list is read as its rest behind the bar, with the item's bits
 pub list_on : (read : List ℕ → Result (Option ℕ × List ℕ) Refusal) → Shortens read → (bits more : ℕ) (left rest : List ℕ)
     → read left ≡ Ok (Some more, rest) → starts (is 124) rest ≡ true
     → list_at read (suc (length left)) bits left ≡ list_at read (suc (length (behind_first rest))) (bit_or bits more) (behind_first rest)
@@ -370,17 +387,20 @@ list_on read short bits more left rest e bar =
     let s = on_shorter read short left rest (Some more) e bar in
     rw e (rw bar (any_count read short (length left) (suc (length (behind_first rest))) (bit_or bits more) (behind_first rest) s (omega arith)))
 
+-- where no bar stands behind an item, the list ends, with the item's bits
 pub list_last : (read : List ℕ → Result (Option ℕ × List ℕ) Refusal) (bits more : ℕ) (left rest : List ℕ)
     → read left ≡ Ok (Some more, rest) → starts (is 124) rest ≡ false
     → list_at read (suc (length left)) bits left ≡ Ok (Some (bit_or bits more), rest)
 unfolding list_at
 list_last read bits more left rest e bar = rw e (rw bar refl)
 
+-- where an item took the rest, the list ends without a value
 pub list_left : (read : List ℕ → Result (Option ℕ × List ℕ) Refusal) (bits : ℕ) (left rest : List ℕ) → read left ≡ Ok (None, rest)
     → list_at read (suc (length left)) bits left ≡ Ok (None, rest)
 unfolding list_at
 list_left read bits left rest e = rw e refl
 
+-- where an item is refused, the list is refused alike
 pub list_refusal : (read : List ℕ → Result (Option ℕ × List ℕ) Refusal) (bits : ℕ) (left : List ℕ) (f : Refusal)
     → read left ≡ Err f → list_at read (suc (length left)) bits left ≡ Err f
 unfolding list_at

@@ -25,16 +25,22 @@ abbrev pub NoNumeral : List ℕ → Type 0
 NoNumeral [] = Unit {0}
 NoNumeral (b ∷ rest) = (16 ≤ worth b) × (b ≢ 120)
 
+-- what may follow a number, the same for each
 abbrev pub NumberEnds : ℕ → List ℕ → Type 0
 NumberEnds n q = NoNumeral q
 
 -- the digits that are taken
 pub record Run (base n : ℕ) (text digits rest : List ℕ) : Type 0 where
+  -- the text is the digits and the rest
   pub parts : text ≡ digits ++ rest
+  -- each of them is a digit of the base
   pub all : AllDigits base digits
+  -- digits_of gives the number of the digits, behind n, and the rest
   pub is_read : digits_of base n text ≡ (value base n digits, rest)
+  -- the rest doesn't go on with a digit of the base
   pub ended : NoDigit base rest
 
+-- each text has a run of digits at its front, which may be empty
 pub run_takes : (base n : ℕ) (text : List ℕ) → (digits rest : List ℕ) × Run base n text digits rest
 unfolding digits_of
 run_takes base n [] = ([], [], record { parts = refl; all = tt; is_read = refl; ended = tt })
@@ -124,6 +130,7 @@ x_follows : (q t : List ℕ) → NoNumeral q → 48 ∷ q ≡ 48 ∷ 120 ∷ t �
 x_follows [] t h e = cc
 x_follows (b ∷ q) t h e = h.1 cc
 
+-- the byte 0 is the numeral of 0, a number of 64 bits, before what may follow a number
 pub zero_number : (q : List ℕ) → NoNumeral q → Numeral (48 ∷ []) q 0 × (0 < 2 ^ 64)
 unfolding worth
 zero_number q h = (inl ((omega arith, (omega arith, tt), refl), follows_digits 10 q (omega arith) h, λ t e. x_follows q t h e), omega arith)
@@ -349,15 +356,18 @@ numeral_before : (a rest q : List ℕ) (n : ℕ) → Numeral a rest n → NoNume
 numeral_before a rest q n (inl h) hq = inl (h.0, follows_digits 10 q (omega arith) hq, λ t e. before_0x a q t h.0.0 h.0.1 hq e)
 numeral_before a rest q n (inr h) hq = inr (h.0, h.1, h.2, follows_digits 16 q (omega arith) hq)
 
+-- a number is read by number_at, before what may follow a number
 pub number_good : (due : What) → Good (number due) NumberEnds (number_at due)
 number_good due = record {
   fine = record { some = (48 ∷ [], 0, λ q h. zero_number q h); before = λ a rest q v h hq. (numeral_before a rest q v h.0 hq, h.1) };
   reads = number_reads due;
 }
 
+-- a number is never nothing
 pub number_full : (due : What) → Full (number due)
 number_full due rest n h = no_empty [] rest n refl h.0
 
+-- a byte that is worth less than 10 is a digit from 0 to 9
 pub digit_byte : (b : ℕ) → worth b < 10 → is_digit b ≡ true
 unfolding worth
 digit_byte b h = grind (arith, nat_tests)

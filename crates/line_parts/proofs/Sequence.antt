@@ -8,25 +8,41 @@ use Rattle.line_parts.specs.declared.refusal.What.{What}
 use Rattle.line_parts.specs.Parts.{Alike, Part, chain, starts}
 use Rattle.line_parts.specs.Reading.{◌>>=◌}
 
+-- the part takes the front of the text as v and leaves the rest; nothing else is taken there, and nothing refused
 pub record Took {A : Type 0} (part : Part A) (text : List ℕ) (v : A) (rest : List ℕ) : Type 0 where
+  -- the bytes that are taken
   pub front : List ℕ
+  -- the text is these bytes and the rest
   pub parts : text ≡ front ++ rest
+  -- the part takes them as v where the rest stands behind
   pub takes : part.takes front rest v
+  -- where a text goes on alike behind them, the part takes these bytes and no others, as this value
   pub only : (p q more : List ℕ) (w : A) → part.takes p q w → p ++ q ≡ front ++ more → Alike more rest → (p ≡ front) × (w ≡ v)
+  -- the part refuses the text nowhere
   pub clean : (g o r : List ℕ) (w : What) → part.refuses g o r w → text ≡ g ++ (o ++ r) → ⊥
 
 -- What follow allows behind a value is what the grammar may put there.
 pub record Stuck {A : Type 0} (part : Part A) (follow : A → List ℕ → Type 0) (text : List ℕ) (f : Refusal) : Type 0 where
+  -- what is read before the refusal
   pub front : List ℕ
+  -- the number or word that is refused, else nothing
   pub over : List ℕ
+  -- what stands behind it
   pub rest : List ℕ
+  -- the text is the three, one behind the other
   pub parts : text ≡ front ++ (over ++ rest)
+  -- as many bytes are left as stand from the place of the refusal on
   pub left : f.left ≡ length (over ++ rest)
+  -- the part refuses the text there, for this cause
   pub due : part.refuses front over rest f.what
+  -- what was read begins something that the part takes before all that may follow
   pub begins : (more : List ℕ) × (w : A) × ((q : List ℕ) → follow w q → part.takes (front ++ more) q w)
+  -- nothing that the part takes goes on, behind what is over, as the text does
   pub ends : (p q more : List ℕ) (v : A) → part.takes p q v → p ++ q ≡ (front ++ over) ++ more → Alike more rest → ⊥
+  -- each refusal of the text is at this place and for this cause
   pub one : (g o r : List ℕ) (w : What) → part.refuses g o r w → text ≡ g ++ (o ++ r) → (length (o ++ r) ≡ f.left) × (w ≡ f.what)
 
+-- a value is one that the part takes at the front of the text, and a refusal is one of the part
 abbrev pub Reads : {A : Type 0} → Part A → (A → List ℕ → Type 0) → List ℕ → Result (A × List ℕ) Refusal → Type 0
 Reads part follow text (Ok x) = Took part text x.0 x.1
 Reads part follow text (Err f) = Stuck part follow text f
@@ -34,16 +50,21 @@ Reads part follow text (Err f) = Stuck part follow text f
 -- Something is taken before all that may follow, and what is taken before one text is taken before each that may
 -- follow.
 pub record Fine {A : Type 0} (part : Part A) (follow : A → List ℕ → Type 0) : Type 0 where
+  -- the part takes some bytes, the same ones before all that may follow
   pub some : (b : List ℕ) × (w : A) × ((q : List ℕ) → follow w q → part.takes b q w)
+  -- what is taken before one text is taken before each that may follow
   pub before : (a rest q : List ℕ) (v : A) → part.takes a rest v → follow v q → part.takes a q v
 
+-- what the next part takes, before what may follow that part, may follow the value of the first
 abbrev pub Follows : {A B : Type 0} → (A → List ℕ → Type 0) → (A → Part B) → (B → List ℕ → Type 0) → Type 0
 Follows {A} {B} follow next last = (v : A) (b q : List ℕ) (w : B) → (next v).takes b q w → last w q → follow v (b ++ q)
 
+-- a text goes on alike as itself
 pub alike_same : (x : List ℕ) → Alike x x
 alike_same [] = tt
 alike_same (b ∷ x) = refl
 
+-- two texts that go on alike do so with the same bytes put before them
 pub alike_behind : (front more rest : List ℕ) → Alike more rest → Alike (front ++ more) (front ++ rest)
 alike_behind [] more rest h = h
 alike_behind (b ∷ front) more rest h = refl
@@ -171,6 +192,7 @@ pub reads_then : {A B : Type 0} (first : Part A) (next : A → Part B) (follow :
 reads_then first next follow last text (Ok x) f follows one fine t others = reads_behind first next follow last text x.1 x.0 (f x) follows one t (others x t)
 reads_then first next follow last text (Err e) f follows one fine s others = stuck_before first next follow last text e follows fine s
 
+-- two fine parts, one behind the other, are a fine part, where what the second takes may follow the first
 pub fine_then : {A B : Type 0} (first : Part A) (next : A → Part B) (follow : A → List ℕ → Type 0) (last : B → List ℕ → Type 0)
     → Follows follow next last → Fine first follow → ((v : A) → Fine (next v) last) → Fine (chain first next) last
 fine_then {A} first next follow last follows one fine =
@@ -185,9 +207,12 @@ fine_then {A} first next follow last follows one fine =
 
 -- A part that is read by a function on lists.
 pub record Good {A : Type 0} (part : Part A) (follow : A → List ℕ → Type 0) (read : List ℕ → Result (A × List ℕ) Refusal) : Type 0 where
+  -- the part is fine before what may follow
   pub fine : Fine part follow
+  -- what the function gives for a text is a reading of the part
   pub reads : (text : List ℕ) → Reads part follow text (read text)
 
+-- two good parts, one behind the other, are a good part, read by their functions one after the other
 pub good_then : {A B : Type 0} {first : Part A} {next : A → Part B} {follow : A → List ℕ → Type 0} {last : B → List ℕ → Type 0}
     {r : List ℕ → Result (A × List ℕ) Refusal} {f : A → List ℕ → Result (B × List ℕ) Refusal}
     → Good first follow r → ((v : A) → Good (next v) last (f v)) → Follows follow next last → Good (chain first next) last (λ text. r text >>= λ x. f x.0 x.1)
@@ -205,6 +230,7 @@ shorter {A} {part} {follow} {read} good text rest v e =
     let k = ap length t.parts ∙ length-append t.front rest in
     omega arith
 
+-- at a refusal no more bytes are left than the text has
 pub refusal_within : {A : Type 0} {part : Part A} {follow : A → List ℕ → Type 0} {read : List ℕ → Result (A × List ℕ) Refusal}
     → Good part follow read → (text : List ℕ) (f : Refusal) → read text ≡ Err f → f.left ≤ length text
 refusal_within {A} {part} {follow} {read} good text f e =
@@ -217,9 +243,11 @@ refusal_within {A} {part} {follow} {read} good text f e =
 abbrev pub Heads : {A : Type 0} → (ℕ → Bool) → Part A → Type 0
 Heads {A} test part = (b q : List ℕ) (w : A) → part.takes b q w → starts test (b ++ q) ≡ true
 
+-- what all that the first part takes begins with, all that both take begins with
 pub heads_then : {A B : Type 0} (test : ℕ → Bool) (first : Part A) (next : A → Part B) → Heads test first → Heads test (chain first next)
 heads_then test first next heads b q w h = ap (starts test) (split_back b h.0 h.1 q h.3) ∙ heads h.0 (h.1 ++ q) h.2 h.4
 
+-- where all that the next parts take passes a test, and all that passes it may follow, the next parts may follow
 pub follows_heads : {A B : Type 0} (follow : A → List ℕ → Type 0) (next : A → Part B) (last : B → List ℕ → Type 0) (test : ℕ
     → Bool) → ((v : A) → Heads test (next v)) → ((v : A) (q : List ℕ) → starts test q ≡ true → follow v q)
     → Follows follow next last

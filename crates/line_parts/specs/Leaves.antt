@@ -59,8 +59,13 @@ many_digits due = chain (run is_digit is_digit due) (λ d. done tt)
 
 -- what a digit is worth, and 99 where the byte is none
 unfoldable pub worth : ℕ → ℕ
-worth b = if nat_lt b 48 then 99 else if nat_lt b 58 then b - 48 else if nat_lt b 65 then 99 else if nat_lt b 71 then b - 55
-    else if nat_lt b 97 then 99 else if nat_lt b 103 then b - 87 else 99
+worth b = if nat_lt b 48 then 99
+    else if nat_lt b 58 then b - 48
+    else if nat_lt b 65 then 99
+    else if nat_lt b 71 then b - 55
+    else if nat_lt b 97 then 99
+    else if nat_lt b 103 then b - 87
+    else 99
 
 -- each byte is a digit of the base
 abbrev pub AllDigits : ℕ → List ℕ → Type 0
@@ -87,13 +92,14 @@ No0x text = (t : List ℕ) → text ≡ 48 ∷ 120 ∷ t → ⊥
 
 -- A numeral of any size: all the decimal digits that come, or 0x and all the hexadecimal digits that come.
 abbrev pub Numeral : List ℕ → List ℕ → ℕ → Type 0
-Numeral front rest n = (Digits 10 front n × NoDigit 10 rest × No0x (front ++ rest))
+Numeral front rest n =
+    (Digits 10 front n × NoDigit 10 rest × No0x (front ++ rest))
     ⊎ ((digits : List ℕ) × (front ≡ 48 ∷ 120 ∷ digits) × Digits 16 digits n × NoDigit 16 rest)
 
 -- A number is due at its first byte, or behind 0x; one that is too wide is over.
 abbrev pub DueNumber : What → List ℕ → List ℕ → List ℕ → What → Type 0
-DueNumber due front over rest w = ((w ≡ due) × (over ≡ [])
-    × (((front ≡ []) × NoDigit 10 rest) ⊎ ((front ≡ 48 ∷ 120 ∷ []) × NoDigit 16 rest)))
+DueNumber due front over rest w =
+    ((w ≡ due) × (over ≡ []) × (((front ≡ []) × NoDigit 10 rest) ⊎ ((front ≡ 48 ∷ 120 ∷ []) × NoDigit 16 rest)))
     ⊎ ((w ≡ Wide) × (front ≡ []) × (n : ℕ) × (2 ^ 64 ≤ n) × Numeral over rest n)
 
 -- a number of at most 64 bits

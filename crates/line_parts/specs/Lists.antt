@@ -20,8 +20,8 @@ NoBar (Some bits) rest = starts (is 124) rest ≡ false
 -- the items of these bits, each with a bar behind it, and one item more
 abbrev pub Items : Part (Option ℕ) → ℕ → List ℕ → List ℕ → List ℕ → Option ℕ → Type 0
 Items item bits [] front rest v = (u : Option ℕ) × item.takes front rest u × NoBar u rest × (v ≡ with_more bits u)
-Items item bits (n ∷ before) front rest v = (a b : List ℕ) × (front ≡ a ++ (124 ∷ b)) × item.takes a (124 ∷ (b ++ rest)) (Some n)
-    × Items item (bit_or bits n) before b rest v
+Items item bits (n ∷ before) front rest v = (a b : List ℕ) × (front ≡ a ++ (124 ∷ b))
+    × item.takes a (124 ∷ (b ++ rest)) (Some n) × Items item (bit_or bits n) before b rest v
 
 -- the items of these bits, each with a bar behind it, and a refusal in the next item
 abbrev pub ItemRefuses : Part (Option ℕ) → List ℕ → List ℕ → List ℕ → List ℕ → What → Type 0

@@ -67,7 +67,8 @@ behind_0x (a ∷ b ∷ rest) = if a == 48 then if b == 120 then Some rest else N
 
 abbrev pub digits_read : What → List ℕ → List ℕ → ℕ × List ℕ → Result (ℕ × List ℕ) Refusal
 digits_read due text digits r = if length r.1 == length digits then Err (refusal_at digits due)
-    else if nat_lt r.0 (2 ^ 64) then Ok r else Err (refusal_at text Wide)
+    else if nat_lt r.0 (2 ^ 64) then Ok r
+    else Err (refusal_at text Wide)
 
 abbrev pub number_from : What → List ℕ → Option (List ℕ) → Result (ℕ × List ℕ) Refusal
 number_from due text None = digits_read due text text (digits_of 10 0 text)
