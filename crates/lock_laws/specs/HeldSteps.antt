@@ -18,8 +18,8 @@ use Rattle.lock_laws.specs.Laws.{IsLock}
 abbrev pub OwnHeld : Own → Held → Type 0
 OwnHeld own h =
     ((k : Listed) × (own ≡ listed k) × (h ≡ record { range = k.range; mode = k.mode }))
-    ⊎ ((f : Filled) × (lo : ℕ) × (hi : ℕ) × (own ≡ filling f) × (f.lo ≡ Some lo) × (f.hi ≡ Some hi)
-    × (h ≡ record { range = record { lo = lo; hi = hi }; mode = f.mode }))
+    ⊎ ((f : Filled) × (lo : ℕ) × (hi : ℕ) × (own ≡ filling f) × (f.lo ≡ Some lo) × (f.hi ≡ Some hi) ×
+    (h ≡ record { range = record { lo = lo; hi = hi }; mode = f.mode }))
 
 -- no grant changes
 abbrev pub HoldsOn : Machine → Machine → Type 0

@@ -141,18 +141,19 @@ pub record IsAlone (h : Heap) (views : List View) : Type 0 where
 
 pub record FastPath (h : Heap) (views : List View) : Type 0 where
   pub alone : h.next 0 % 2 ≡ 1 → IsAlone h views
-  pub kept : (i x : ℕ) (v : View) (c : Cursor) → IsViewOf views i v → v.cursor ≡ Some c → MayReach h c x
-      → InChain h x ⊎ (IsMarked h x ⊎ (c.cur ≡ 2 * suc x + 1))
-  pub cursor : (i : ℕ) (v : View) (c : Cursor) → IsViewOf views i v → v.cursor ≡ Some c → c.cur % 2 ≡ 1 → (c.prev ≡ None) × (c.next ≡ None) × (c.lo ≡ None)
+  pub kept : (i x : ℕ) (v : View) (c : Cursor) → IsViewOf views i v → v.cursor ≡ Some c → MayReach h c x →
+      InChain h x ⊎ (IsMarked h x ⊎ (c.cur ≡ 2 * suc x + 1))
+  pub cursor : (i : ℕ) (v : View) (c : Cursor) → IsViewOf views i v → v.cursor ≡ Some c → c.cur % 2 ≡ 1 →
+      (c.prev ≡ None) × (c.next ≡ None) × (c.lo ≡ None)
 
 -- The fifth part, way. The cursor of a seat that fills a node has gone past its previous node, and at its place it
 -- stops before its node
 pub record Way (h : Heap) (views : List View) : Type 0 where
-  pub past : (i : ℕ) (v : View) (c : Cursor) (f : Filled) (lo hi p : ℕ) → IsViewOf views i v → v.cursor ≡ Some c
-      → v.own ≡ filling f → f.lo ≡ Some lo → f.hi ≡ Some hi → c.prev ≡ Some p →
+  pub past : (i : ℕ) (v : View) (c : Cursor) (f : Filled) (lo hi p : ℕ) → IsViewOf views i v → v.cursor ≡ Some c →
+      v.own ≡ filling f → f.lo ≡ Some lo → f.hi ≡ Some hi → c.prev ≡ Some p →
       compared f.mode lo hi (h.lo p) (h.hi p) ≡ Past
-  pub stop : (i : ℕ) (v : View) (c : Cursor) (f : Filled) (lo hi y : ℕ) → IsViewOf views i v → v.cursor ≡ Some c
-      → v.own ≡ filling f → f.lo ≡ Some lo → f.hi ≡ Some hi → IsAtPlace c → c.cur / 2 ≡ suc y →
+  pub stop : (i : ℕ) (v : View) (c : Cursor) (f : Filled) (lo hi y : ℕ) → IsViewOf views i v → v.cursor ≡ Some c →
+      v.own ≡ filling f → f.lo ≡ Some lo → f.hi ≡ Some hi → IsAtPlace c → c.cur / 2 ≡ suc y →
       compared f.mode lo hi (h.lo y) (h.hi y) ≡ Stop
 
 -- The seventh part, to see, is used by the sixth. A validation still has node x to see: from where it begins, or from
@@ -178,8 +179,8 @@ ToSee h views = (i : ℕ) (v : View) (k : Listed) → IsViewOf views i v → v.o
 -- the reader stands before the writer)
 abbrev pub Pairs : Heap → List View → Type 0
 Pairs h views =
-    (i j : ℕ) (v u : View) (r w : Listed) → IsViewOf views i v → IsViewOf views j u → v.own ≡ listed r → u.own ≡ listed w
-    → r.mode ≡ Reader → w.mode ≡ Writer → Overlaps r.range w.range →
+    (i j : ℕ) (v u : View) (r w : Listed) → IsViewOf views i v → IsViewOf views j u → v.own ≡ listed r → u.own ≡ listed w →
+    r.mode ≡ Reader → w.mode ≡ Writer → Overlaps r.range w.range →
     ((r.todo ≡ Forward) × HasToSee h r v.cursor w.node) ⊎ ((w.todo ≡ FromHead) × HasToSee h w u.cursor r.node)
 
 -- The eighth part, barrier. A seat that was passed, or has another epoch than was noted, may reach no node of the homes
@@ -187,15 +188,18 @@ abbrev pub IsOut : Heap → View → ℕ → Type 0
 IsOut h v j = (slice_get v.passed j ≡ Some true) ⊎ ((n : ℕ) × (slice_get v.notes j ≡ Some (Some n)) × (h.epoch j ≢ n))
 
 abbrev pub Barrier : Heap → List View → Type 0
-Barrier h views = (i j x : ℕ) (v u : View) (c : Cursor) → IsViewOf views i v → IsViewOf views j u → u.cursor ≡ Some c
-    → 1 ≤ times x v.homes → IsOut h v j → MayReach h c x → ⊥
+Barrier h views =
+    (i j x : ℕ) (v u : View) (c : Cursor) → IsViewOf views i v → IsViewOf views j u → u.cursor ≡ Some c →
+    1 ≤ times x v.homes → IsOut h v j → MayReach h c x → ⊥
 
 -- The ninth part, no reuse. No view may reach a node that is ready or being filled
 abbrev pub IsIdle : View → ℕ → Type 0
 IsIdle v x = (1 ≤ times x v.ready) ⊎ ((f : Filled) × (v.own ≡ filling f) × (f.node ≡ x))
 
 abbrev pub NoReuse : Heap → List View → Type 0
-NoReuse h views = (i j x : ℕ) (v u : View) (c : Cursor) → IsViewOf views i v → IsViewOf views j u → u.cursor ≡ Some c → IsIdle v x → MayReach h c x → ⊥
+NoReuse h views =
+    (i j x : ℕ) (v u : View) (c : Cursor) → IsViewOf views i v → IsViewOf views j u → u.cursor ≡ Some c →
+    IsIdle v x → MayReach h c x → ⊥
 
 pub record LockInvariant (h : Heap) (views : List View) : Type 0 where
   pub order : Order h views

@@ -42,8 +42,8 @@ LockIsExclusive = (m : Machine) → IsLock m → IsExclusive (held_by_seat m)
 -- of a linked reader and a linked writer that overlap the reader stands before the writer
 abbrev pub ReaderStandsFirst : Type 0
 ReaderStandsFirst =
-    (m : Machine) (i j : ℕ) (v u : View) (r w : Listed) → IsLock m → slice_get m.views i ≡ Some v → slice_get m.views j ≡ Some u
-    → v.own ≡ listed r → u.own ≡ listed w →
+    (m : Machine) (i j : ℕ) (v u : View) (r w : Listed) → IsLock m → slice_get m.views i ≡ Some v → slice_get m.views j ≡ Some u →
+    v.own ≡ listed r → u.own ≡ listed w →
     r.mode ≡ Reader → w.mode ≡ Writer → Overlaps r.range w.range → Reach (to (heap m)) w.node (to (heap m) (suc r.node))
 
 -- no view may reach a node that is ready or being filled
@@ -57,15 +57,15 @@ ViewsAreSound = (m : Machine) (i : ℕ) (v : View) → IsLock m → slice_get m.
 -- the lower end that a cursor knows of its node and the hi word of that node are the ends of a range
 abbrev pub ReadsRange : Type 0
 ReadsRange =
-    (m : Machine) (i : ℕ) (v : View) (c : Cursor) (y lo : ℕ) → IsLock m → slice_get m.views i ≡ Some v → v.cursor ≡ Some c
-    → plain_node_of c.cur ≡ Some y → c.lo ≡ Some lo →
+    (m : Machine) (i : ℕ) (v : View) (c : Cursor) (y lo : ℕ) → IsLock m → slice_get m.views i ≡ Some v → v.cursor ≡ Some c →
+    plain_node_of c.cur ≡ Some y → c.lo ≡ Some lo →
     IsRange lo ((heap m).hi y / 2)
 
 -- a cursor's node that is found unmarked is another seat's, or the own linked one
 abbrev pub FindsOther : Type 0
 FindsOther =
-    (m : Machine) (i : ℕ) (v : View) (c : Cursor) (y : ℕ) → IsLock m → slice_get m.views i ≡ Some v → v.cursor ≡ Some c
-    → plain_node_of c.cur ≡ Some y → IsUnmarked (heap m) y →
+    (m : Machine) (i : ℕ) (v : View) (c : Cursor) (y : ℕ) → IsLock m → slice_get m.views i ≡ Some v → v.cursor ≡ Some c →
+    plain_node_of c.cur ≡ Some y → IsUnmarked (heap m) y →
     (y / 16 ≢ i) ⊎ (k : Listed) × (v.own ≡ listed k) × (k.node ≡ y)
 
 -- a node leaves the ready ones of seat i only by a ClearHome of seat i, which names it
