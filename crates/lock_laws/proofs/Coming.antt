@@ -21,11 +21,16 @@ done k = record k { todo = Done }
 
 -- a validation came to its end: a reader's to the end of the list, a writer's to its own node
 pub record CameHome (own : Own) (w : ℕ) (after : Own) : Type 0 where
+  -- the own node before
   pub was : Listed
+  -- it was linked
   pub is : own ≡ listed was
+  -- afterwards it has nothing left to do
   pub now : after ≡ listed (done was)
+  -- a reader came to the end, or a writer to its own node
   pub way : ((was.todo ≡ Forward) × (w ≡ 0)) ⊎ ((was.todo ≡ FromHead) × (w ≡ 2 * suc was.node))
 
+-- a cursor that comes to a word leaves the own node as it is, or brings its validation to the end
 pub coming : (own : Own) (w : ℕ) → (own_at own w ≡ own) ⊎ CameHome own w (own_at own w)
 coming Nothing w = inl refl
 coming (Filling node lo hi mode aimed) w = inl refl

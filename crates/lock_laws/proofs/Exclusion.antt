@@ -24,12 +24,18 @@ use Rattle.lock_laws.proofs.Seats.{one_seat}
 
 -- a seat that holds something has a linked node with nothing left to do
 pub record Holding (own : Own) (g : Held) : Type 0 where
+  -- the linked node
   pub node : Listed
+  -- it is the own node
   pub is : own ≡ listed node
+  -- nothing is left to do for it
   pub done : node.todo ≡ Done
+  -- its range is the held one
   pub range : node.range ≡ g.range
+  -- its mode is the held one
   pub mode : node.mode ≡ g.mode
 
+-- an own node that holds a range is linked, has nothing left to do, and has that range and mode
 pub holding : (own : Own) (g : Held) → held_at own ≡ Some g → Holding own g
 holding Nothing g e = absurd (cc)
 holding (Filling node lo hi mode aimed) g e = absurd (cc)

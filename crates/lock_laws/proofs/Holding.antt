@@ -39,9 +39,11 @@ held_after m s p = map-set (λ (v : View). held_at v.own) m.views s (p.view (sli
 abbrev pub Stays : Machine → Machine → ℕ → Type 0
 Stays m next s = HoldsOn m next
 
+-- the seat gains exactly where its validation comes to its end, and otherwise no grant changes
 abbrev pub Arrived : Machine → Machine → ℕ → Type 0
 Arrived m next s = Where (Arrives m next s) (Gains m next s) (HoldsOn m next)
 
+-- the same of a plan as it is carried out
 abbrev pub Arriving : Machine → ℕ → Plan → Type 0
 Arriving m s p = Arrived m (carried_out m s p) s
 
@@ -54,6 +56,7 @@ undone k d = by_todo k.todo d
     by_todo FromHead d = refl
     by_todo Done d = absurd (d refl)
 
+-- a validation that comes to its end wasn't done before
 pub came_undone : (own : Own) (w : ℕ) (c : CameHome own w (own_at own w)) → c.was.todo ≢ Done
 came_undone own w c is = ⊎_elim
     (λ (t : (c.was.todo ≡ Forward) × (w ≡ 0)). absurd (let e = sym t.0 ∙ is in cc))
@@ -73,6 +76,7 @@ module _ (m : Machine) (s : ℕ) (v : View) (at : slice_get m.views s ≡ Some v
   pub holds_on : (p : Plan) → held_at (p.view (slice_index m.words p.place)).own ≡ held_at v.own → HoldsOn m (carried_out m s p)
   holds_on p e = held_after m s p ∙ ap (set (held_by_seat m) s) e ∙ set_there (held_by_seat m) s (held_at v.own) (held_there m.views s v at)
 
+  -- a plan that leaves the own node holding its range, where nothing was held, gains that range
   pub gains : (p : Plan) (h : Held) → OwnHeld v.own h → held_at v.own ≡ None
       → held_at (p.view (slice_index m.words p.place)).own ≡ Some h → Gains m (carried_out m s p) s
   gains p h own nothing e = record {
@@ -84,6 +88,7 @@ module _ (m : Machine) (s : ℕ) (v : View) (at : slice_get m.views s ≡ Some v
     gained = held_after m s p ∙ ap (set (held_by_seat m) s) e;
   }
 
+  -- a plan that leaves the own view holding nothing leaves its seat without a grant
   pub gives_back : (p : Plan) → held_at (p.view (slice_index m.words p.place)).own ≡ None → GivesBack m (carried_out m s p) s
   gives_back p e = held_after m s p ∙ ap (set (held_by_seat m) s) e
 
@@ -179,17 +184,22 @@ pub each_line : (step : Step) (does : Machine → Machine → ℕ → Type 0)
     → does m (carried_out m s p) s) → EachStep step does
 each_line step does lines m next s e = let t = stepped m next s step e in subst (λ (n : Machine). does m n s) t.is (lines m s t.view t.at t.plan t.line)
 
+-- a Link changes no grant
 pub link_grants : EachStep Link Stays
 link_grants = each_line Link _ link_holds
 
+-- an Unlink gains exactly where it brings the own validation to its end
 pub unlink_grants : EachStep Unlink Arrived
 unlink_grants = each_line Unlink _ unlink_gains
 
+-- a Mark gives back exactly where something is held
 pub mark_grants : EachStep Mark (λ m next s. MayGiveBack (IsHolding m s) m next s)
 mark_grants = each_line Mark _ mark_gives_back
 
+-- a QuickLink gains exactly where the list is empty
 pub quick_link_grants : EachStep QuickLink (λ m next s. Where (FindsEmpty m) (Gains m next s) (HoldsOn m next))
 quick_link_grants = each_line QuickLink _ quick_link_gains
 
+-- a QuickUnlink gives back exactly where the own node stands alone
 pub quick_unlink_grants : EachStep QuickUnlink (λ m next s. MayGiveBack (StandsAlone m s) m next s)
 quick_unlink_grants = each_line QuickUnlink _ quick_unlink_gives_back

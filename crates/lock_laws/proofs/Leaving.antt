@@ -104,6 +104,7 @@ module _ (seats s x : ℕ) (v : View) where
   by_line step p w (quick_unlink k own done hand) l = absurd (let e = either (w == 2 * suc k.node + 1) (quick_unlinked v k.node) v same same in omega arith)
   by_line step p w (settle c cursor prev low) l = absurd (let e = either (w == c.cur) (settled v c) (dropped v) same same in omega arith)
 
+-- a node that is ready less often after a step was taken by its own seat's ClearHome
 pub leaves : (m next : Machine) (s i x : ℕ) (step : Step) (v u : View) → after m s step ≡ Some next → slice_get m.views i ≡ Some v
     → slice_get next.views i ≡ Some u → times x u.ready < times x v.ready → (i ≡ s) × (step ≡ ClearHome x)
 leaves m next s i x step v u e at at' l =

@@ -33,6 +33,7 @@ rising (Some h ∷ os) s zero (suc j) a b lt e f =
     let n = (granted os (s + 1) j b f).1 in omega arith
 rising (Some h ∷ os) s (suc i) (suc j) a b lt e f = rising os (s + 1) i j a b (omega arith) e f
 
+-- grants by seat that exclude each other do so as a list, in which no seat stands twice
 pub listed_apart : (os : List (Option Held)) → IsExclusive os → AreExclusive (grants_from 0 os)
 listed_apart os exclusive i j a b differ e f =
     let g = granted os 0 i a e in let h = granted os 0 j b f in

@@ -23,6 +23,7 @@ use Rattle.lock_laws.proofs.WordGrants.{walk_grants, read_lo_grants, read_hi_gra
 may_gain : (step : Step) (m next : Machine) (s : ℕ) {P : Type 0} → Where P (Gains m next s) (HoldsOn m next) → Change step m next s
 may_gain step m next s t = ⊎_elim (λ g. inr (inl g.1)) (λ h. inl h.1) t
 
+-- each step changes no grant, or its seat gains or gives back
 pub change : StepsChangeOneGrant
 change Enter m next s e = inl (enter_grants m next s e)
 change Leave m next s e = inl (leave_grants m next s e)
@@ -56,6 +57,7 @@ free m next s lock g other k differ there c =
 gains_free : (P : Type 0) (m next : Machine) (s : ℕ) → IsLock next → Where P (Gains m next s) (HoldsOn m next) → MayGain P m next s
 gains_free P m next s lock t = ⊎_elim (λ g. inl (g.0, (g.1, free m next s lock g.1))) (λ h. inr h) t
 
+-- each kind of step does so in exactly its case, and what is gained is free
 pub outcome : StepsChangeGrants
 outcome Enter m next s l e = enter_grants m next s e
 outcome Leave m next s l e = leave_grants m next s e

@@ -84,6 +84,7 @@ module _ (m : Machine) (s : ℕ) (v : View) (l : IsLock m) (at : IsViewOf m.view
   own_there g e = cell_there m (Some g.node) l.sized (λ n q. let same : g.node ≡ n = cc in let o = own_linked v g e in
       subst (IsNode m.seats) same (node_there m s g.node v l at (omega arith)))
 
+  -- an enabled Link of a lock leaves a state that meets the invariant
   pub link_holds : (p : Plan) → IsLine m.seats s v Link p → Holds (carried_out m s p)
   link_holds p (link f c lo hi eo ec el eh ea low place) =
       exchanged m s (cell_place m.seats (cell_of c.prev)) c.cur (2 * suc f.node) (linked v f.node lo hi f.mode (todo_of f.mode)) (dropped v)
@@ -104,6 +105,7 @@ module _ (m : Machine) (s : ℕ) (v : View) (l : IsLock m) (at : IsViewOf m.view
       })))
       (dropped_holds m s v l at)
 
+  -- an enabled Unlink of a lock leaves a state that meets the invariant
   pub unlink_holds : (p : Plan) → IsLine m.seats s v Unlink p → Holds (carried_out m s p)
   unlink_holds p (unlink c y n ec ey en odd empty) =
       exchanged m s (cell_place m.seats (cell_of c.prev)) c.cur (n - 1) (unlinked v c y (n - 1)) (dropped v)
@@ -122,6 +124,7 @@ module _ (m : Machine) (s : ℕ) (v : View) (l : IsLock m) (at : IsViewOf m.view
       })))
       (dropped_holds m s v l at)
 
+  -- an enabled Mark of a lock leaves a state that meets the invariant
   pub mark_holds : (p : Plan) → IsLine m.seats s v Mark p → Holds (carried_out m s p)
   mark_holds p (mark g eo) =
       let there = own_there g eo in let w = (heap m).next (suc g.node) + 1 in let now : Heap = wrote_at (suc g.node) w in
@@ -133,6 +136,7 @@ module _ (m : Machine) (s : ℕ) (v : View) (l : IsLock m) (at : IsViewOf m.view
         wrote = wrote_cell m.seats w m.words (suc g.node) there;
       }))
 
+  -- an enabled QuickLink of a lock leaves a state that meets the invariant
   pub quick_link_holds : (p : Plan) → IsLine m.seats s v QuickLink p → Holds (carried_out m s p)
   quick_link_holds p (quick_link f lo hi eo el eh ea even) =
       exchanged m s 0 0 (2 * suc f.node + 1) (quick_linked v f.node lo hi f.mode) v
@@ -151,6 +155,7 @@ module _ (m : Machine) (s : ℕ) (v : View) (l : IsLock m) (at : IsViewOf m.view
       })))
       (same_holds m s v l at)
 
+  -- an enabled QuickUnlink of a lock leaves a state that meets the invariant
   pub quick_unlink_holds : (p : Plan) → IsLine m.seats s v QuickUnlink p → Holds (carried_out m s p)
   quick_unlink_holds p (quick_unlink g eo done empty) =
       exchanged m s 0 (2 * suc g.node + 1) 0 (quick_unlinked v g.node) v

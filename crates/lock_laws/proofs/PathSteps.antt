@@ -35,72 +35,123 @@ not_both h x m u = omega arith
 
 -- what the step does to the paths: which nodes they gain and lose, and which node it marks
 pub record Change (h now : Heap) (Gained Lost Marked : ℕ → Type 0) : Type 0 where
+  -- what a path has now it had before, or it is gained
   pub adds : (x t : ℕ) → Reach (to now) x t → Gained x ⊎ Reach (to h) x t
+  -- what a path had it still has, or it is lost
   pub keeps : (x t : ℕ) → Reach (to h) x t → Lost x ⊎ Reach (to now) x t
+  -- the same of the path behind a cell: what it has now it had, or it is gained
   pub adds_from : (x k : ℕ) → Reach (to now) x (to now k) → Gained x ⊎ Reach (to h) x (to h k)
+  -- and what it had it still has, or it is lost
   pub keeps_from : (x k : ℕ) → Reach (to h) x (to h k) → Lost x ⊎ Reach (to now) x (to now k)
+  -- a path in order whose nodes have ranges stays in order
   pub ordered : (t : ℕ) → IsOrdered h t → ((x : ℕ) → Reach (to h) x t → HasRange h x) → IsOrdered now t
+  -- the chain is in order afterwards
   pub chain : IsOrdered now (to now 0)
   -- only the head and next words of unmarked chain nodes are written
   pub written : (c : ℕ) → (c ≡ 0) ⊎ ((q : ℕ) × (c ≡ suc q) × InChain h q × IsUnmarked h q) ⊎ (now.next c ≡ h.next c)
+  -- an unmarked node is marked by the step, or stays unmarked
   pub stays : (x : ℕ) → IsUnmarked h x → Marked x ⊎ IsUnmarked now x
+  -- no lower end is written
   pub lo : (n : ℕ) → now.lo n ≡ h.lo n
+  -- no hi word is written
   pub hi : (n : ℕ) → now.hi n ≡ h.hi n
+  -- no home word is written
   pub home : (n : ℕ) → now.home n ≡ h.home n
 
 -- the cursor d has moved on from c, and names no more than c did
 pub record Fresh (c d : Cursor) : Type 0 where
+  -- its previous node is that of c
   pub prev : d.prev ≡ c.prev
+  -- the word that it came to has no low bit
   pub even : d.cur % 2 ≡ 0
+  -- and that which it left had none
   pub was_even : c.cur % 2 ≡ 0
+  -- its node's next word isn't known
   pub next : d.next ≡ None
+  -- nor is its node's lower end
   pub lo : d.lo ≡ None
+  -- each target that it names was named by c
   pub names : (t : ℕ) → Names d t → Names c t
 
 -- a node that the paths gain: it was being filled in view v, and is linked in view w
 pub record IsNew (now : Heap) (v w : View) (x : ℕ) : Type 0 where
+  -- the node while it was being filled
   pub filled : Filled
+  -- it was the own node before the step
   pub was : v.own ≡ filling filled
+  -- the node as it is linked afterwards
   pub own : Listed
+  -- it is the own node after the step
   pub is : w.own ≡ listed own
+  -- the node that was being filled is x
   pub filled_node : filled.node ≡ x
+  -- the linked node is x
   pub own_node : own.node ≡ x
+  -- it is in the chain after the step
   pub chain : InChain now x
+  -- it has no mark
   pub unmarked : IsUnmarked now x
+  -- the ends in its words are those of a range
   pub range : HasRange now x
 
 -- a step of seat s from view v to view w
 pub record PathStep (h now : Heap) (views : List View) (s : ℕ) (v w : View) (Gained Lost Marked : ℕ → Type 0) : Type 0 where
+  -- the invariant holds before the step
   pub invariant : LockInvariant h views
+  -- v is the view of seat s before the step
   pub at : IsViewOf views s v
+  -- the paths change so
   pub change : Change h now Gained Lost Marked
+  -- no epoch that a view has changes
   pub epochs : (i : ℕ) (u : View) → IsViewOf views i u → now.epoch i ≡ h.epoch i
+  -- a gained node was being filled and is linked now
   pub gained : (x : ℕ) → Gained x → IsNew now v w x
+  -- a gained node that a cursor's known next word leads to is also behind that cursor's node
   pub gained_next : (j n x : ℕ) (u : View) (d : Cursor) → IsViewOf views j u → u.cursor ≡ Some d → d.next ≡ Some n → Gained x
       → Reach (to now) x (n / 2) → Reach (to now) x (to now (d.cur / 2))
+  -- a lost node was in the chain
   pub lost_chain : (x : ℕ) → Lost x → InChain h x
+  -- and isn't any more
   pub lost_gone : (x : ℕ) → Lost x → InChain now x → ⊥
+  -- it is in the hand of seat s afterwards
   pub lost_hand : (x : ℕ) → Lost x → w.hand ≡ Some x
+  -- it is a used node of some seat afterwards
   pub lost_used : (x : ℕ) → Lost x → IsUsed (set views s w) x
+  -- one that a cursor might reach is marked afterwards, or was found with the low bit of the head
   pub lost_seen : (j x : ℕ) (u : View) (d : Cursor) → IsViewOf views j u → u.cursor ≡ Some d → MayReach h d x → Lost x
       → IsMarked now x ⊎ (d.cur ≡ 2 * suc x + 1)
+  -- no linked node of another seat is lost or gets the mark
   pub apart : (j : ℕ) (u : View) (g : Listed) → j ≢ s → IsViewOf views j u → u.own ≡ listed g → Lost g.node ⊎ Marked g.node → ⊥
+  -- where the head has the low bit afterwards, one node stands alone
   pub alone : now.next 0 % 2 ≡ 1 → IsAlone now (set views s w)
+  -- the view changes in its own node, its cursor, its used nodes and its hand alone
   pub rest : w ≡ record v { own = w.own; cursor = w.cursor; used = w.used; hand = w.hand }
+  -- each node is as often the own node or used as before
   pub once : (x : ℕ) → own_times x w.own + times x w.used ≡ own_times x v.own + times x v.used
+  -- a node that is used afterwards was so before, or is marked in the chain, or is lost
   pub used : (x : ℕ) → times x w.used ≡ 1 → (times x v.used ≡ 1) ⊎ ((InChain now x × IsMarked now x) ⊎ Lost x)
+  -- a used node stays used
   pub used_more : (x : ℕ) → times x v.used ≤ times x w.used
+  -- a node in the hand afterwards was there before, or is lost
   pub hand : (x : ℕ) → w.hand ≡ Some x → (v.hand ≡ Some x) ⊎ Lost x
+  -- a node in the hand stays there
   pub hand_more : (x : ℕ) → v.hand ≡ Some x → w.hand ≡ Some x
+  -- a node that is being filled afterwards was so before, with the same known of it
   pub fills : (f : Filled) → w.own ≡ filling f → v.own ≡ filling f
+  -- a linked own node is in the chain, unmarked, and its words are those that the view says
   pub lists : (g : Listed) → w.own ≡ listed g → InChain now g.node × IsUnmarked now g.node × IsWritten now g
+  -- the node that was linked before, if it is in the chain, is marked and used, or unmarked and linked
   pub listed_was : (g : Listed) → v.own ≡ listed g → InChain now g.node
       → (IsMarked now g.node × IsUsed (set views s w) g.node) ⊎ (IsUnmarked now g.node × IsLinked (set views s w) g.node)
+  -- a cursor afterwards is the one before, or has moved on and names no more
   pub cursor : (d : Cursor) → w.cursor ≡ Some d → (c : Cursor) × (v.cursor ≡ Some c) × ((c ≡ d) ⊎ Fresh c d)
+  -- a writer that validates has its own node to see
   pub sees_own : (g : Listed) → w.own ≡ listed g → g.todo ≡ FromHead → HasToSee now g w.cursor g.node
+  -- where the own node is a reader, each overlapping writer of another seat has it to see, or it has that writer
   pub as_reader : (j : ℕ) (u : View) (r g : Listed) → j ≢ s → IsViewOf views j u → w.own ≡ listed r → u.own ≡ listed g
       → r.mode ≡ Reader → g.mode ≡ Writer → Overlaps r.range g.range →
       ((r.todo ≡ Forward) × HasToSee now r w.cursor g.node) ⊎ ((g.todo ≡ FromHead) × HasToSee now g u.cursor r.node)
+  -- where the own node is a writer, each overlapping reader of another seat has it to see, or it has that reader
   pub as_writer : (j : ℕ) (u : View) (r g : Listed) → j ≢ s → IsViewOf views j u → u.own ≡ listed r → w.own ≡ listed g
       → r.mode ≡ Reader → g.mode ≡ Writer → Overlaps r.range g.range →
       ((r.todo ≡ Forward) × HasToSee now r u.cursor g.node) ⊎ ((g.todo ≡ FromHead) × HasToSee now g w.cursor r.node)
@@ -281,7 +332,7 @@ module _ (h now : Heap) (views : List View) (s : ℕ) (v w : View) (Gained Lost 
   chain_adds : (x : ℕ) → InChain now x → Gained x ⊎ InChain h x
   chain_adds x r = k.change.adds_from x 0 r
 
-  -- order
+  -- the part order holds after the step
   pub order_now : Order now later
   order_now = record {
     chain = k.change.chain;
@@ -348,6 +399,7 @@ module _ (h now : Heap) (views : List View) (s : ℕ) (v w : View) (Gained Lost 
       ))
       i u e g own
 
+  -- the part places holds after the step
   pub places_now : Places now later
   places_now = record {
     once = λ i x u e. let o = old i u e in let a = o.once x in let b = ap (times x) o.ready in let c = places.once i x o.view o.at in omega arith;
@@ -445,6 +497,7 @@ module _ (h now : Heap) (views : List View) (s : ℕ) (v w : View) (Gained Lost 
   reaches j x u d o q m = ⊎_elim inl (λ (r : MayReach h d x). inr
       (record { target = r.target; named = (o.from d q).names r.target r.named; reach = r.reach })) (may_adds d x m)
 
+  -- the part fields holds after the step
   pub fields_now : Fields now later
   fields_now = record {
     epoch = λ i u e. let o = old i u e in o.epoch ∙ k.invariant.fields.epoch i o.view o.at ∙ sym (k.epochs i o.view o.at);
@@ -485,6 +538,7 @@ module _ (h now : Heap) (views : List View) (s : ℕ) (v w : View) (Gained Lost 
       go f r (inr (inl a)) = inr (inl (marked_now x a))
       go f r (inr (inr a)) = inr (inr (low f a))
 
+  -- the part fast path holds after the step
   pub fast_now : FastPath now later
   fast_now = record {
     alone = k.alone;
@@ -496,7 +550,7 @@ module _ (h now : Heap) (views : List View) (s : ℕ) (v w : View) (Gained Lost 
         f.way;
   }
 
-  -- way
+  -- the part way holds after the step
   pub way_now : Way now later
   way_now = record {
     past = λ i u d f lo hi p e q own el eh ep. let o = old i u e in let b = o.from d q in
@@ -517,6 +571,7 @@ module _ (h now : Heap) (views : List View) (s : ℕ) (v w : View) (Gained Lost 
   sees_from cur (Some n) x (inl e) = inr (inl e)
   sees_from cur (Some n) x (inr r) = ⊎_elim inl (λ q. inr (inr q)) (k.change.keeps x (n / 2) r)
 
+  -- a node that a validation had to see is lost, or is still to see
   pub sees_now : (g : Listed) (c : Option Cursor) (x : ℕ) → HasToSee h g c x → Lost x ⊎ HasToSee now g c x
   sees_now g None x r = k.change.keeps_from x (first_cell_of g.todo g.node) r
   sees_now g (Some d) x r = sees_from d.cur d.next x r
@@ -526,6 +581,7 @@ module _ (h now : Heap) (views : List View) (s : ℕ) (v w : View) (Gained Lost 
       → HasToSee h g c b.node → HasToSee now g c b.node
   still_sees j u g b c d e own r = ⊎_elim (λ (l : Lost b.node). absurd (k.apart j u b d e own (inl l))) (λ z. z) (sees_now g c b.node r)
 
+  -- the part to see holds after the step
   pub to_see_now : ToSee now later
   to_see_now i u g e own todo = each views s w (λ i u. (g : Listed) → u.own ≡ listed g → g.todo ≡ FromHead → HasToSee now g u.cursor g.node)
       k.sees_own
@@ -537,6 +593,7 @@ module _ (h now : Heap) (views : List View) (s : ℕ) (v w : View) (Gained Lost 
       → Overlaps r.range g.range → ((r.todo ≡ Forward) × HasToSee now r a.cursor g.node)
       ⊎ ((g.todo ≡ FromHead) × HasToSee now g b.cursor r.node)
 
+  -- the part pairs holds after the step
   pub pairs_now : Pairs now later
   pairs_now i j a b r g e f own own' reader writer over = each_two views s w Pair
       (λ r g own own' reader writer over. absurd (let q = ap (λ (z : Listed). z.mode) (listed_one r g (sym own ∙ own')) in cc))
@@ -556,6 +613,7 @@ module _ (h now : Heap) (views : List View) (s : ℕ) (v w : View) (Gained Lost 
   was_out i j a b o p (inl e) u at q r = inl (subst (λ z. slice_get z j ≡ Some true) q e)
   was_out i j a b o p (inr t) u at q r = inr (t.0, subst (λ z. slice_get z j ≡ Some (Some t.0)) r t.1, λ e. t.2 (k.epochs j p.view p.at ∙ e))
 
+  -- the part barrier holds after the step
   pub barrier_now : Barrier now later
   barrier_now i j x a b d e f q l out m =
       let o = old i a e in let p = old j b f in
@@ -566,6 +624,7 @@ module _ (h now : Heap) (views : List View) (s : ℕ) (v w : View) (Gained Lost 
       (p.from d q).is l' (was_out i j a b o p out o.view o.at o.passed o.notes) r)
       (reaches j x b d p q m)
 
+  -- the part no reuse holds after the step
   pub no_reuse_now : NoReuse now later
   no_reuse_now i j x a b d e f q idle m =
       let o = old i a e in let p = old j b f in let t = o.idle x idle in
@@ -573,6 +632,7 @@ module _ (h now : Heap) (views : List View) (s : ℕ) (v w : View) (Gained Lost 
       (λ (r : MayReach h (p.from d q).cursor x). k.invariant.no_reuse i j x o.view p.view (p.from d q).cursor o.at p.at (p.from d q).is t.0 r)
       (reaches j x b d p q m)
 
+  -- all nine parts hold after the step
   pub invariant_now : LockInvariant now later
   invariant_now = record {
     order = order_now;

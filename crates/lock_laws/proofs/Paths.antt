@@ -5,10 +5,12 @@ use Rattle.std.proofs.Common.{◌≡◌, ◌≢◌, ◌⊎◌, ℕ, zero, suc, i
 use Rattle.std.proofs.lemmas.Bool.{cases_eq}
 use Rattle.lock_laws.specs.Paths.{Reach, here, there, PathEnds, end, on}
 
+-- what a node's path reaches is that node itself, or is reached from its next word
 pub unreach : (to : ℕ → ℕ) (x n : ℕ) → Reach to x (suc n) → (x ≡ n) ⊎ Reach to x (to (suc n))
 unreach to x n here = inl refl
 unreach to x n (there r) = inr r
 
+-- the path behind a node ends where the path from that node ends
 pub unends : (to : ℕ → ℕ) (n : ℕ) → PathEnds to (suc n) → PathEnds to (to (suc n))
 unends to n (on e) = e
 
@@ -17,6 +19,7 @@ pub reach_on : (to : ℕ → ℕ) (x q t : ℕ) → Reach to q t → Reach to x 
 reach_on to x q t here far = there far
 reach_on to x q t (there {n = n} r) far = there (reach_on to x q (to (suc n)) r far)
 
+-- no node is reached from the end
 pub nothing_at_end : (to : ℕ → ℕ) (q : ℕ) → Reach to q zero → ⊥
 nothing_at_end to q r = elim r [ ]
 
@@ -28,26 +31,31 @@ no_cycle to q t (on {n = n} e) r c = ⊎_elim (λ (s : q ≡ n). no_cycle to q (
 
 -- paths that meet none of the nodes of which T says that their next words change stay as they are
 module _ (to now : ℕ → ℕ) (T : ℕ → Type 0) (others : (n : ℕ) → (T n → ⊥) → now (suc n) ≡ to (suc n)) where
+  -- a node that is reached is still reached, where no changed next word lies on that path
   pub keeps_reach : (x t : ℕ) → ((y : ℕ) → T y → Reach to y t → ⊥) → Reach to x t → Reach now x t
   keeps_reach x t far here = here
   keeps_reach x t far (there {n = n} r) = there
       (subst (Reach now x) (sym (others n (λ q. far n q here))) (keeps_reach x (to (suc n)) (λ y q s. far y q (there s)) r))
 
+  -- a node that is reached now was reached before, where no changed next word lay on that path
   pub adds_reach : (x t : ℕ) → Reach now x t → ((y : ℕ) → T y → Reach to y t → ⊥) → Reach to x t
   adds_reach x t here far = here
   adds_reach x t (there {n = n} r) far =
       let e = others n (λ q. far n q here) in
       there (subst (Reach to x) e (adds_reach x (now (suc n)) r (λ y q s. far y q (there (subst (Reach to y) e s)))))
 
+  -- a path that ends still ends, where no changed next word lies on it
   pub keeps_ends : (t : ℕ) → ((y : ℕ) → T y → Reach to y t → ⊥) → PathEnds to t → PathEnds now t
   keeps_ends t far end = end
   keeps_ends t far (on {n = n} r) = on (subst (PathEnds now) (sym (others n (λ q. far n q here))) (keeps_ends (to (suc n)) (λ y q s. far y q (there s)) r))
 
 -- all paths do where no target changes
 module _ (to now : ℕ → ℕ) (same : (c : ℕ) → now c ≡ to c) where
+  -- what is reached stays reached
   pub reach_same : (x t : ℕ) → Reach to x t → Reach now x t
   reach_same x t r = keeps_reach to now (λ _. ⊥) (λ n d. same (suc n)) x t (λ y never. absurd never) r
 
+  -- a path that ends goes on ending
   pub ends_same : (t : ℕ) → PathEnds to t → PathEnds now t
   ends_same t e = keeps_ends to now (λ _. ⊥) (λ n d. same (suc n)) t (λ y never. absurd never) e
 
@@ -80,6 +88,7 @@ module _ (to now : ℕ → ℕ) (p o : ℕ) (others : (c : ℕ) → c ≢ p → 
       (cases_eq (suc n) p))
       ih
 
+  -- a path that ended still ends
   pub put_ends : (t : ℕ) → PathEnds to t → PathEnds now t
   put_ends t end = end
   put_ends t (on {n = n} r) =
@@ -98,6 +107,7 @@ module _ (to now : ℕ → ℕ) (p o : ℕ) (others : (c : ℕ) → c ≢ p → 
       (λ (d : k ≢ p). subst (Reach now x) (sym (others k d)) on_p)
       (cases_eq k p)
 
+  -- what a cell's path has now is o, or it had it before
   pub put_adds_from : (x k : ℕ) → Reach now x (now k) → (x ≡ o) ⊎ Reach to x (to k)
   put_adds_from x k r =
       ⊎_elim inl
@@ -109,6 +119,7 @@ module _ (to now : ℕ → ℕ) (p o : ℕ) (others : (c : ℕ) → c ≢ p → 
       (cases_eq k p))
       (put_adds x (now k) r)
 
+  -- a cell's path that ended still ends
   pub put_ends_from : (k : ℕ) → PathEnds to (to k) → PathEnds now (now k)
   put_ends_from k r =
       ⊎_elim
@@ -138,18 +149,23 @@ module _ (to now : ℕ → ℕ) (p c : ℕ) (others : (k : ℕ) → k ≢ p → 
   next : now (suc c) ≡ now p
   next = others (suc c) apart ∙ sym is
 
+  -- what was in a path is c, or still is in it
   pub cut_keeps : (x t : ℕ) → Reach to x t → (x ≡ c) ⊎ Reach now x t
   cut_keeps = put_adds now to p c back next was apart
 
+  -- what is in a path was in it
   pub cut_adds : (x t : ℕ) → Reach now x t → Reach to x t
   cut_adds = put_keeps now to p c back next was apart
 
+  -- what was in a cell's path is c, or still is in it
   pub cut_keeps_from : (x k : ℕ) → Reach to x (to k) → (x ≡ c) ⊎ Reach now x (now k)
   cut_keeps_from = put_adds_from now to p c back next was apart
 
+  -- what is in a cell's path was in it
   pub cut_adds_from : (x k : ℕ) → Reach now x (now k) → Reach to x (to k)
   cut_adds_from = put_keeps_from now to p c back next was apart
 
+  -- a path that ended still ends
   pub cut_ends : (t : ℕ) → PathEnds to t → PathEnds now t
   cut_ends t end = end
   cut_ends t (on {n = n} r) =

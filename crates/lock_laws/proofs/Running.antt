@@ -49,6 +49,7 @@ every_step_keeps step m next s l e = let t = stepped m next s step e in record {
   invariant = subst Holds t.is (line_holds step m s t.view l t.at t.plan t.line);
 }
 
+-- a lock stays one by a step, enabled or not
 pub step_or_same : (m : Machine) (s : ℕ) (step : Step) → IsLock m → IsLock (after_or_same m s step)
 step_or_same m s step l = by_answer (after m s step) refl
   where
@@ -56,15 +57,19 @@ step_or_same m s step l = by_answer (after m s step) refl
     by_answer None e = l
     by_answer (Some next) e = every_step_keeps step m next s l e
 
+-- and by a whole run
 pub run_lock : (steps : List (ℕ × Step)) (m : Machine) → IsLock m → IsLock (run m steps)
 run_lock [] m l = l
 run_lock (t ∷ ts) m l = run_lock ts (after_or_same m t.0 t.1) (step_or_same m t.0 t.1 l)
 
+-- after any run from the start no two conflicting ranges are held
 pub runs_are_exclusive_law : RunsAreExclusive
 runs_are_exclusive_law seats steps some few = exclusive (run (start seats) steps) (run_lock steps (start seats) (start_lock seats some few))
 
+-- so no two grants of the list conflict, and no seat stands twice in it
 pub runs_grant_apart_law : RunsGrantApart
 runs_grant_apart_law seats steps some few = listed_apart (held_by_seat (run (start seats) steps)) (runs_are_exclusive_law seats steps some few)
 
+-- after any run from the start no seat may reach a node that is ready or being filled
 pub runs_have_no_reuse_law : RunsHaveNoReuse
 runs_have_no_reuse_law seats steps some few = (run_lock steps (start seats) (start_lock seats some few)).invariant.no_reuse

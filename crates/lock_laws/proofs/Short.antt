@@ -40,6 +40,7 @@ reach_there : (to : ℕ → ℕ) (n x t : ℕ) → ((c : ℕ) → c ≤ n → to
 reach_there to n x t cells l here = omega (arith, l)
 reach_there to n x t cells l (there {n = k} r) = reach_there to n x (to (suc k)) cells (cells (suc k) l) r
 
+-- in a lock a path that ends has at most sixteen nodes for each seat
 pub paths_are_short_law : PathsAreShort
 paths_are_short_law m t ends l few =
     pigeons 0 (16 * m.seats) (path_nodes (to (heap m)) t ends) (λ x. nodes_once (to (heap m)) x t ends)

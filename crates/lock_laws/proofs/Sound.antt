@@ -29,6 +29,7 @@ module _ (m : Machine) (l : IsLock m) (i : ℕ) (v : View) (at : slice_get m.vie
       by_next None e r = nothing_at_end (to (heap m)) k.node (subst (Reach (to (heap m)) k.node) z r)
       by_next (Some n) e r = (l.invariant.fields.cursor i v c at is).next_node n e z
 
+  -- the view of a seat of a lock is sound
   pub view_sound : IsViewSound m.seats i v
   view_sound = record {
     sized = l.sized.each i v at;

@@ -38,6 +38,7 @@ module _ (seats : ℕ) where
   no_hand : (x : ℕ) → InHand (start seats).views x → ⊥
   no_hand x a = let e = ap (λ (u : View). u.hand) (started seats a.seat a.view a.at) in let q = a.hand in cc
 
+  -- the words and views before any step meet the invariant
   pub start_invariant : LockInvariant h (start seats).views
   start_invariant = record {
     order = record {
@@ -83,5 +84,6 @@ module _ (seats : ℕ) where
     no_reuse = λ i j x v u c at at' q. absurd (let z = no_cursor j u at' in cc);
   }
 
+-- the state before any step, with one to sixteen seats, is a lock
 pub start_lock : (seats : ℕ) → 0 < seats → seats ≤ 16 → IsLock (start seats)
 start_lock seats some few = record { sized = start_sized seats some few; invariant = start_invariant seats }

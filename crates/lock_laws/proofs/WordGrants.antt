@@ -106,41 +106,54 @@ module _ (m : Machine) (s : ℕ) (v : View) (at : slice_get m.views s ≡ Some v
   settle_holds : (p : Plan) → IsLine m.seats s v Settle p → HoldsOn m (carried_out m s p)
   settle_holds p (settle c cursor prev odd) = same_own p (own_if (slice_index m.words 0 == c.cur) (settled v c) (dropped v) v.own refl refl)
 
+-- an Enter changes no grant
 pub enter_grants : EachStep Enter Stays
 enter_grants = each_line Enter _ enter_holds
 
+-- a Leave changes no grant
 pub leave_grants : EachStep Leave Stays
 leave_grants = each_line Leave _ leave_holds
 
+-- a ReadEpoch changes no grant
 pub read_epoch_grants : (j : ℕ) → EachStep (ReadEpoch j) Stays
 read_epoch_grants j = each_line (ReadEpoch j) _ (λ m s v at p line. read_epoch_holds m s v at j p line)
 
+-- a ReadHome changes no grant
 pub read_home_grants : (n : ℕ) → EachStep (ReadHome n) Stays
 read_home_grants n = each_line (ReadHome n) _ (λ m s v at p line. read_home_holds m s v at n p line)
 
+-- a GiveHome changes no grant
 pub give_home_grants : EachStep GiveHome Stays
 give_home_grants = each_line GiveHome _ give_home_holds
 
+-- a ClearHome changes no grant
 pub clear_home_grants : (n : ℕ) → EachStep (ClearHome n) Stays
 clear_home_grants n = each_line (ClearHome n) _ (λ m s v at p line. clear_home_holds m s v at n p line)
 
+-- a FillLo changes no grant
 pub fill_lo_grants : (lo : ℕ) → EachStep (FillLo lo) Stays
 fill_lo_grants lo = each_line (FillLo lo) _ (λ m s v at p line. fill_lo_holds m s v at lo p line)
 
+-- a FillHi changes no grant
 pub fill_hi_grants : (hi : ℕ) (mode : Mode) → EachStep (FillHi hi mode) Stays
 fill_hi_grants hi mode = each_line (FillHi hi mode) _ (λ m s v at p line. fill_hi_holds m s v at hi mode p line)
 
+-- an Aim changes no grant
 pub aim_grants : EachStep Aim Stays
 aim_grants = each_line Aim _ aim_holds
 
+-- a Walk gains exactly where it brings the own validation to its end
 pub walk_grants : EachStep Walk Arrived
 walk_grants = each_line Walk _ walk_gains
 
+-- a ReadLo changes no grant
 pub read_lo_grants : EachStep ReadLo Stays
 read_lo_grants = each_line ReadLo _ read_lo_holds
 
+-- a ReadHi gains exactly where it brings the own validation to its end
 pub read_hi_grants : EachStep ReadHi Arrived
 read_hi_grants = each_line ReadHi _ read_hi_gains
 
+-- a Settle changes no grant
 pub settle_grants : EachStep Settle Stays
 settle_grants = each_line Settle _ settle_holds

@@ -80,31 +80,37 @@ module _ (m : Machine) (s : ℕ) (v : View) (l : IsLock m) (at : IsViewOf m.view
   cell_there : (x : ℕ) → IsNode m.seats x → cell_place m.seats (suc x) < length m.words
   cell_there x n = let b = l.sized.words in omega (arith, n, b)
 
+  -- an enabled Enter of a lock leaves a state that meets the invariant
   pub enter_holds : (p : Plan) → IsLine m.seats s v Enter p → Holds (carried_out m s p)
   enter_holds p (enter even hand) =
       by_parts p
       (enters h _ m.views s v parts at even (wrote_epoch m.seats (next_epoch (h.epoch s)) m.words s seat_there epoch_there))
 
+  -- an enabled Leave of a lock leaves a state that meets the invariant
   pub leave_holds : (p : Plan) → IsLine m.seats s v Leave p → Holds (carried_out m s p)
   leave_holds p (leave odd hand done) =
       by_parts p
       (leaves h _ m.views s v parts at done (wrote_epoch m.seats (next_epoch (h.epoch s)) m.words s seat_there epoch_there))
 
+  -- an enabled ReadEpoch of a lock leaves a state that meets the invariant
   pub read_epoch_holds : (j : ℕ) (p : Plan) → IsLine m.seats s v (ReadEpoch j) p → Holds (carried_out m s p)
   read_epoch_holds _ p (read_epoch j even homes less other) =
       by_load (epoch_place j) (epoch_read s v j)
       (reads_epoch h m.views s j v parts at even ((looked_sized m.seats s v j (h.epoch j) (l.sized.each s v at)).passed ∙ sym l.sized.views))
 
+  -- an enabled ReadHome of a lock leaves a state that meets the invariant
   pub read_home_holds : (n : ℕ) (p : Plan) → IsLine m.seats s v (ReadHome n) p → Holds (carried_out m s p)
   read_home_holds _ p (read_home n even used homes) =
       by_load (home_place m.seats n) (home_read m.seats v n)
       (reads_home h m.views s n m.seats v parts at even used homes l.sized.views)
 
+  -- an enabled GiveHome of a lock leaves a state that meets the invariant
   pub give_home_holds : (p : Plan) → IsLine m.seats s v GiveHome p → Holds (carried_out m s p)
   give_home_holds p (give_home n hand) =
       by_parts p
       (gives_home m.seats h _ m.views s n v seats parts at hand (wrote_home m.seats 1 m.words n (home_there n ((l.sized.each s v at).hand n hand))))
 
+  -- an enabled ClearHome of a lock leaves a state that meets the invariant
   pub clear_home_holds : (n : ℕ) (p : Plan) → IsLine m.seats s v (ClearHome n) p → Holds (carried_out m s p)
   clear_home_holds _ p (clear_home n rest own even ready) =
       by_parts p
@@ -113,23 +119,27 @@ module _ (m : Machine) (s : ℕ) (v : View) (l : IsLock m) (at : IsViewOf m.view
       first : 1 ≤ own_times n v.own + times n v.ready + times n v.used
       first = let a = ap (times n) ready in let b = ap (λ (t : Bool). (if t then 1 else 0) + times n rest) (eq-eqb n n refl) in omega (arith, a, b)
 
+  -- an enabled FillLo of a lock leaves a state that meets the invariant
   pub fill_lo_holds : (lo : ℕ) (p : Plan) → IsLine m.seats s v (FillLo lo) p → Holds (carried_out m s p)
   fill_lo_holds _ p (fill_lo f lo own aimed cursor) =
       by_parts p
       (fills_lo m.seats h _ m.views s lo v f seats parts at own aimed cursor (wrote_lo m.seats lo m.words f.node (lo_there f.node (filled_there f own))))
 
+  -- an enabled FillHi of a lock leaves a state that meets the invariant
   pub fill_hi_holds : (hi : ℕ) (mode : Mode) (p : Plan) → IsLine m.seats s v (FillHi hi mode) p → Holds (carried_out m s p)
   fill_hi_holds _ _ p (fill_hi f lo hi mode own low less most aimed cursor) =
       by_parts p
       (fills_hi m.seats h _ m.views s lo hi mode v f seats parts at own low less most aimed cursor
       (wrote_hi m.seats _ m.words f.node (hi_there f.node (filled_there f own))))
 
+  -- an enabled Aim of a lock leaves a state that meets the invariant
   pub aim_holds : (p : Plan) → IsLine m.seats s v Aim p → Holds (carried_out m s p)
   aim_holds p (aim f lo hi w own low high place) =
       by_parts p
       (aims_at m.seats h _ m.views s lo hi w v f seats parts at own low high
       (wrote_cell m.seats w m.words (suc f.node) (cell_there f.node (filled_there f own))))
 
+  -- an enabled Walk of a lock leaves a state that meets the invariant
   pub walk_holds : (p : Plan) → IsLine m.seats s v Walk p → Holds (carried_out m s p)
   walk_holds p (walk cell odd hand there) =
       by_load (cell_place m.seats cell) (walked v v.cursor) (by_cursor v.cursor refl)
@@ -147,16 +157,19 @@ module _ (m : Machine) (s : ℕ) (v : View) (l : IsLock m) (at : IsViewOf m.view
               subst (λ a. Parts h (slice_set m.views s (walked v (Some c) (h.next a)))) (same_some (suc y) cell r)
               (loads_next h m.views s v c y parts at e t.0 t.1)
 
+  -- an enabled ReadLo of a lock leaves a state that meets the invariant
   pub read_lo_holds : (p : Plan) → IsLine m.seats s v ReadLo p → Holds (carried_out m s p)
   read_lo_holds p (read_lo c y n cursor node next plain) =
       let t = plain_parts c.cur y node in
       by_load (lo_place m.seats y) (lo_read v c) (reads_lo h m.views s v c y parts at cursor t.0 t.1 n next)
 
+  -- an enabled ReadHi of a lock leaves a state that meets the invariant
   pub read_hi_holds : (p : Plan) → IsLine m.seats s v ReadHi p → Holds (carried_out m s p)
   read_hi_holds p (read_hi c y n lo cursor node next plain low ends) =
       let t = plain_parts c.cur y node in
       by_load (hi_place m.seats y) (hi_read v c y n lo) (judges h m.views s v c y n lo parts at cursor t.0 t.1 next plain low)
 
+  -- an enabled Settle of a lock leaves a state that meets the invariant
   pub settle_holds : (p : Plan) → IsLine m.seats s v Settle p → Holds (carried_out m s p)
   settle_holds p (settle c cursor prev odd) =
       by_parts p (by_found (h.next 0 == c.cur) refl)

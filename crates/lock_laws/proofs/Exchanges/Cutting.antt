@@ -12,15 +12,25 @@ use Rattle.lock_laws.proofs.Exchanges.Putting.{IsLive}
 
 -- node y, which cell p names, is taken out: p names what y names
 pub record Cut (h now : Heap) (p y : ℕ) : Type 0 where
+  -- the cell named node y before
   pub was : to h p ≡ suc y
+  -- afterwards it names what node y names
   pub is : to now p ≡ to h (suc y)
+  -- the cell isn't that of node y
   pub apart : suc y ≢ p
+  -- the cell is one that a step may write
   pub live : IsLive h p
+  -- where it is a node's cell, that node has no mark afterwards
   pub even : (q : ℕ) → p ≡ suc q → now.next p % 2 ≡ 0
+  -- all other next words stay
   pub next : (c : ℕ) → c ≢ p → now.next c ≡ h.next c
+  -- all lower ends stay
   pub lo : (n : ℕ) → now.lo n ≡ h.lo n
+  -- all hi words stay
   pub hi : (n : ℕ) → now.hi n ≡ h.hi n
+  -- all home words stay
   pub home : (n : ℕ) → now.home n ≡ h.home n
+  -- the chain was in order before
   pub chain : IsOrdered h (to h 0)
 
 module _ (h now : Heap) (p y : ℕ) (k : Cut h now p y) where
@@ -38,6 +48,7 @@ module _ (h now : Heap) (p y : ℕ) (k : Cut h now p y) where
       (λ (d : suc x ≢ p). old z (sym (others (suc x) d) ∙ e))
       (cases_eq (suc x) p))
 
+  -- the paths lose node y and gain none, no node gets a mark, and the chain stays in order
   pub cut_change : Change h now (λ _. ⊥) (λ x. x ≡ y) (λ _. ⊥)
   cut_change = record {
     adds = λ x t r. inr (cut_adds (to h) (to now) p y others k.was k.is k.apart x t r);
@@ -74,6 +85,7 @@ module _ (h now : Heap) (p y : ℕ) (k : Cut h now p y) where
       (λ (q : (q : ℕ) × (p ≡ suc q) × InChain h q × IsUnmarked h q). reach_next h q.0 y (to h 0) q.2 (ap (to h) (sym q.1) ∙ k.was))
       k.live
 
+  -- afterwards node y isn't in the chain
   pub cut_not_in_chain : InChain now y → ⊥
   cut_not_in_chain r =
       ⊎_elim

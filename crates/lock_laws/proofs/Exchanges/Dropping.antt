@@ -75,6 +75,7 @@ module _ (h : Heap) (views : List View) (s : ℕ) (v : View) (inv : LockInvarian
   forward : (x node : ℕ) (todo : Todo) → todo ≡ Forward → Reach (to h) x (to h (suc node)) → Reach (to h) x (to h (first_cell_of todo node))
   forward x node todo e r = subst (λ (t : Todo). Reach (to h) x (to h (first_cell_of t node))) (sym e) r
 
+  -- letting the cursor go is a step that gains, loses and marks no node
   pub step : PathStep h h views s v view_now (λ _. ⊥) (λ _. ⊥) (λ _. ⊥)
   step = record {
     invariant = inv;

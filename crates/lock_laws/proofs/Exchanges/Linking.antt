@@ -80,10 +80,14 @@ head_even h views i v c (Some q) fast at cursor e low even odd =
 
 -- what is known of an own node with both ends
 pub record Ready (h : Heap) (f : Filled) (lo hi : ℕ) : Type 0 where
+  -- its lo word has the lower end
   pub lo_is : h.lo f.node ≡ lo
+  -- its hi word has the higher end and the mode
   pub hi_is : h.hi f.node ≡ hi_word hi f.mode
+  -- the two ends are those of a range
   pub range : IsRange lo hi
 
+-- the words of a node whose ends are known have them, and they are those of a range
 pub ready : (h : Heap) (f : Filled) (lo hi : ℕ) → IsKnown h f → f.lo ≡ Some lo → f.hi ≡ Some hi → Ready h f lo hi
 ready h f lo hi known el eh = record {
   lo_is = known.lo lo el;
@@ -93,17 +97,29 @@ ready h f lo hi known el eh = record {
 
 -- what the step takes, and what it finds
 pub record Case (seats : ℕ) (h now : Heap) (views : List View) (s : ℕ) (v : View) (f : Filled) (c : Cursor) (lo hi : ℕ) : Type 0 where
+  -- the invariant holds before the step
   pub invariant : LockInvariant h views
+  -- v is the view of seat s before the step
   pub at : IsViewOf views s v
+  -- no epoch that a view has changes
   pub epochs : (i : ℕ) (u : View) → IsViewOf views i u → now.epoch i ≡ h.epoch i
+  -- node f is being filled
   pub own : v.own ≡ filling f
+  -- c is the cursor
   pub cursor : v.cursor ≡ Some c
+  -- the lower end of node f is known
   pub lo_is : f.lo ≡ Some lo
+  -- and so is its higher end
   pub hi_is : f.hi ≡ Some hi
+  -- node f is aimed at the cursor's word
   pub aimed : f.aimed ≡ Some c.cur
+  -- the cursor's word has no low bit
   pub low : c.cur % 2 ≡ 0
+  -- the cursor is at its place
   pub place : IsAtPlace c
+  -- the word before the cursor is still the one that the cursor found
   pub found : h.next (cell_of c.prev) ≡ c.cur
+  -- that word is afterwards the one that names the own node, and no other word changed
   pub wrote : WroteCell seats h now (cell_of c.prev) (2 * suc f.node)
 
 module _ (seats : ℕ) (h now : Heap) (views : List View) (s : ℕ) (v : View) (f : Filled) (c : Cursor) (lo hi : ℕ)
@@ -227,6 +243,7 @@ module _ (seats : ℕ) (h now : Heap) (views : List View) (s : ℕ) (v : View) (
   writer_sees x Reader e r = absurd (cc)
   writer_sees x Writer e r = (refl, chain_keeps h now (cell_of c.prev) f.node put x r)
 
+  -- a Link that succeeds gains the own node for the paths, and loses and marks none
   pub step : PathStep h now views s v view_now (λ x. x ≡ f.node) (λ _. ⊥) (λ _. ⊥)
   step = record {
     invariant = k.invariant;

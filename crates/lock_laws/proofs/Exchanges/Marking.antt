@@ -19,10 +19,15 @@ use Rattle.lock_laws.proofs.Exchanges.Linking.{own_apart}
 
 -- what the step takes, and what it finds
 pub record Case (seats : ℕ) (h now : Heap) (views : List View) (s : ℕ) (v : View) (g : Listed) : Type 0 where
+  -- the invariant holds before the step
   pub invariant : LockInvariant h views
+  -- v is the view of seat s before the step
   pub at : IsViewOf views s v
+  -- no epoch that a view has changes
   pub epochs : (i : ℕ) (u : View) → IsViewOf views i u → now.epoch i ≡ h.epoch i
+  -- node g is linked
   pub own : v.own ≡ listed g
+  -- its next word is one higher afterwards, and no other word changed
   pub wrote : WroteCell seats h now (suc g.node) (h.next (suc g.node) + 1)
 
 module _ (seats : ℕ) (h now : Heap) (views : List View) (s : ℕ) (v : View) (g : Listed) (k : Case seats h now views s v g) where
@@ -101,6 +106,7 @@ module _ (seats : ℕ) (h now : Heap) (views : List View) (s : ℕ) (v : View) (
             i u e d q m;
       }
 
+  -- a Mark gains and loses no node for the paths, and marks the own node
   pub step : PathStep h now views s v view_now (λ _. ⊥) (λ _. ⊥) (λ x. x ≡ g.node)
   step = record {
     invariant = k.invariant;

@@ -14,31 +14,46 @@ IsLive h p = (p ≡ 0) ⊎ ((q : ℕ) × (p ≡ suc q) × InChain h q × IsUnmar
 
 -- node o, whose next word names what cell p names, is put behind p
 pub record Put (h now : Heap) (p o : ℕ) : Type 0 where
+  -- node o named what the cell names
   pub was : to h (suc o) ≡ to h p
+  -- afterwards the cell names node o
   pub is : to now p ≡ suc o
+  -- the cell isn't that of node o
   pub apart : suc o ≢ p
+  -- the cell is one that a step may write
   pub live : IsLive h p
+  -- where it is a node's cell, that node has no mark afterwards
   pub even : (q : ℕ) → p ≡ suc q → now.next p % 2 ≡ 0
+  -- all other next words stay
   pub next : (c : ℕ) → c ≢ p → now.next c ≡ h.next c
+  -- all lower ends stay
   pub lo : (n : ℕ) → now.lo n ≡ h.lo n
+  -- all hi words stay
   pub hi : (n : ℕ) → now.hi n ≡ h.hi n
+  -- all home words stay
   pub home : (n : ℕ) → now.home n ≡ h.home n
+  -- the chain was in order before
   pub chain : IsOrdered h (to h 0)
+  -- each node of the chain has a range
   pub range : (x : ℕ) → InChain h x → HasRange h x
   -- it stands in order between that cell's node and the node that it names
   pub after : (y : ℕ) → to h (suc o) ≡ suc y → IsBefore h o y
+  -- the node of the cell, if it has a range, stands in order before node o
   pub before : (q : ℕ) → p ≡ suc q → HasRange h q → IsBefore h q o
 
 module _ (h now : Heap) (p o : ℕ) (k : Put h now p o) where
   others : (c : ℕ) → c ≢ p → to now c ≡ to h c
   others c d = ap (λ w. w / 2) (k.next c d)
 
+  -- node o is reached from the cell
   pub reach_own : Reach (to now) o (to now p)
   reach_own = subst (Reach (to now) o) (sym k.is) here
 
+  -- what was in the chain still is
   pub chain_keeps : (x : ℕ) → InChain h x → InChain now x
   chain_keeps x r = put_keeps_from (to h) (to now) p o others k.was k.is k.apart x 0 r
 
+  -- node o is in the chain
   pub own_in_chain : InChain now o
   own_in_chain =
       ⊎_elim
@@ -59,6 +74,7 @@ module _ (h now : Heap) (p o : ℕ) (k : Put h now p o) where
       (cases_eq (suc x) p))
       live)
 
+  -- the paths gain node o and lose none, no node gets a mark, and the chain stays in order
   pub put_change : Change h now (λ x. x ≡ o) (λ _. ⊥) (λ _. ⊥)
   put_change = record {
     adds = put_adds (to h) (to now) p o others k.was k.is k.apart;

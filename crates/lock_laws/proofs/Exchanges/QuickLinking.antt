@@ -19,15 +19,25 @@ use Rattle.lock_laws.proofs.Exchanges.Linking.{Ready, ready}
 
 -- what the step takes, and what it finds
 pub record Case (seats : ℕ) (h now : Heap) (views : List View) (s : ℕ) (v : View) (f : Filled) (lo hi : ℕ) : Type 0 where
+  -- the invariant holds before the step
   pub invariant : LockInvariant h views
+  -- v is the view of seat s before the step
   pub at : IsViewOf views s v
+  -- no epoch that a view has changes
   pub epochs : (i : ℕ) (u : View) → IsViewOf views i u → now.epoch i ≡ h.epoch i
+  -- node f is being filled
   pub own : v.own ≡ filling f
+  -- its lower end is known
   pub lo_is : f.lo ≡ Some lo
+  -- its higher end is known
   pub hi_is : f.hi ≡ Some hi
+  -- it is aimed at the end
   pub aimed : f.aimed ≡ Some 0
+  -- the seat is outside any operation
   pub outside : v.epoch % 2 ≡ 0
+  -- the list is empty
   pub found : h.next 0 ≡ 0
+  -- the head names the own node with the low bit afterwards, and no other word changed
   pub wrote : WroteCell seats h now 0 (2 * suc f.node + 1)
 
 module _ (seats : ℕ) (h now : Heap) (views : List View) (s : ℕ) (v : View) (f : Filled) (lo hi : ℕ) (k : Case seats h now views s v f lo hi) where
@@ -120,6 +130,7 @@ module _ (seats : ℕ) (h now : Heap) (views : List View) (s : ℕ) (v : View) (
         (λ d q m. unseen s v d k.at q m) (λ j u _ e d q m. unseen j u d e q m) i u e d q m);
   }
 
+  -- a QuickLink that succeeds gains the own node for the paths, and loses and marks none
   pub step : PathStep h now views s v view_now (λ x. x ≡ f.node) (λ _. ⊥) (λ _. ⊥)
   step = record {
     invariant = k.invariant;

@@ -15,12 +15,19 @@ use Rattle.lock_laws.proofs.Exchanges.Linking.{own_apart}
 
 -- what the step takes, and what it finds
 pub record Case (seats : ℕ) (h now : Heap) (views : List View) (s : ℕ) (v : View) (g : Listed) : Type 0 where
+  -- the invariant holds before the step
   pub invariant : LockInvariant h views
+  -- v is the view of seat s before the step
   pub at : IsViewOf views s v
+  -- no epoch that a view has changes
   pub epochs : (i : ℕ) (u : View) → IsViewOf views i u → now.epoch i ≡ h.epoch i
+  -- node g is linked
   pub own : v.own ≡ listed g
+  -- nothing is in the hand
   pub empty : v.hand ≡ None
+  -- the head names the own node with the low bit
   pub found : h.next 0 ≡ 2 * suc g.node + 1
+  -- the head is the end afterwards, and no other word changed
   pub wrote : WroteCell seats h now 0 0
 
 module _ (seats : ℕ) (h now : Heap) (views : List View) (s : ℕ) (v : View) (g : Listed) (k : Case seats h now views s v g) where
@@ -50,6 +57,7 @@ module _ (seats : ℕ) (h now : Heap) (views : List View) (s : ℕ) (v : View) (
   is_used : IsUsed (set views s view_now) g.node
   is_used = record { seat = s; view = view_now; at = new_view views s view_now v k.at; used = own_is_used v g k.own h views s k.invariant.places k.at }
 
+  -- a QuickUnlink that succeeds loses the own node from the paths, and gains and marks none
   pub step : PathStep h now views s v view_now (λ _. ⊥) (λ x. x ≡ g.node) (λ _. ⊥)
   step = record {
     invariant = k.invariant;

@@ -31,23 +31,35 @@ pub own_after : (own : Own) (w : ℕ) (g : Listed) → own_at own w ≡ listed g
 own_after own w g e = ⊎_elim (λ q. inl (sym q ∙ e))
     (λ (c : CameHome own w (own_at own w)). inr (c.was, c.is, listed_one g (done c.was) (sym e ∙ c.now), c.way)) (coming own w)
 
+-- a node that is being filled once a cursor came to a word was so before, with the same known of it
 pub own_fills : (own : Own) (w : ℕ) (f : Filled) → own_at own w ≡ filling f → own ≡ filling f
 own_fills own w f e = ⊎_elim (λ q. sym q ∙ e) (λ (c : CameHome own w (own_at own w)). absurd (let q = c.now in cc)) (coming own w)
 
+-- which node is the own one stays where a cursor comes to a word
 pub own_counts : (x : ℕ) (own : Own) (w : ℕ) → own_times x (own_at own w) ≡ own_times x own
 own_counts x own w = ⊎_elim (ap (own_times x)) (λ (c : CameHome own w (own_at own w)). ap (own_times x) c.now ∙ sym (ap (own_times x) c.is)) (coming own w)
 
 -- what the step takes, and what it finds
 pub record Case (seats : ℕ) (h now : Heap) (views : List View) (s : ℕ) (v : View) (c : Cursor) (y n : ℕ) : Type 0 where
+  -- the invariant holds before the step
   pub invariant : LockInvariant h views
+  -- v is the view of seat s before the step
   pub at : IsViewOf views s v
+  -- no epoch that a view has changes
   pub epochs : (i : ℕ) (u : View) → IsViewOf views i u → now.epoch i ≡ h.epoch i
+  -- c is the cursor
   pub cursor : v.cursor ≡ Some c
+  -- its node is y, and its word has no low bit
   pub node : plain_node_of c.cur ≡ Some y
+  -- the next word of that node is known
   pub next : c.next ≡ Some n
+  -- and has the mark
   pub marked : n % 2 ≡ 1
+  -- nothing is in the hand
   pub empty : v.hand ≡ None
+  -- the word before the cursor is still the one that the cursor found
   pub found : h.next (cell_of c.prev) ≡ c.cur
+  -- that word is afterwards the node's next word without the mark, and no other word changed
   pub wrote : WroteCell seats h now (cell_of c.prev) (n - 1)
 
 module _ (seats : ℕ) (h now : Heap) (views : List View) (s : ℕ) (v : View) (c : Cursor) (y n : ℕ) (k : Case seats h now views s v c y n) where
@@ -95,6 +107,7 @@ module _ (seats : ℕ) (h now : Heap) (views : List View) (s : ℕ) (v : View) (
   abbrev view_now : View
   view_now = unlinked v c y (n - 1)
 
+  -- the cursor afterwards: it came to what the node named, from the same previous node
   abbrev pub cursor_now : Cursor
   cursor_now = record { prev = c.prev; cur = n - 1; next = None; lo = None; seen = seen_after c.seen (n - 1) }
 
@@ -240,6 +253,7 @@ module _ (seats : ℕ) (h now : Heap) (views : List View) (s : ℕ) (v : View) (
       })
       (coming v.own (n - 1))
 
+  -- an Unlink that succeeds loses the cursor's node from the paths, and gains and marks none
   pub step : PathStep h now views s v view_now (λ _. ⊥) (λ x. x ≡ y) (λ _. ⊥)
   step = record {
     invariant = k.invariant;

@@ -19,9 +19,13 @@ use Rattle.lock_laws.proofs.Paths.{keeps_reach, adds_reach, keeps_ends, reach_on
 
 -- the words after a step: those of nodes that aren't idle in view v stay, and the head names what it named
 pub record Aside (h now : Heap) (v : View) : Type 0 where
+  -- the head names what it named
   pub head : to now 0 ≡ to h 0
+  -- the next word of a node that isn't idle stays
   pub next : (x : ℕ) → (IsIdle v x → ⊥) → now.next (suc x) ≡ h.next (suc x)
+  -- its lower end stays
   pub lo : (x : ℕ) → (IsIdle v x → ⊥) → now.lo x ≡ h.lo x
+  -- its hi word stays
   pub hi : (x : ℕ) → (IsIdle v x → ⊥) → now.hi x ≡ h.hi x
 
 -- no idle node of the view is in the path of a target
@@ -29,9 +33,11 @@ abbrev pub IsClear : Heap → View → ℕ → Type 0
 IsClear h v t = (y : ℕ) → IsIdle v y → Reach (to h) y t → ⊥
 
 module _ (h now : Heap) (views : List View) (s : ℕ) (v : View) (parts : Parts h views) (at : IsViewOf views s v) (aside : Aside h now v) where
+  -- the chain has no node that is idle in the view
   pub clear_chain : IsClear h v (to h 0)
   clear_chain y idle r = idle_not_chain h views parts.places s y v at idle r
 
+  -- a target that a cursor names leads to no node that is idle in the view
   pub clear_cursor : (j : ℕ) (w : View) (c : Cursor) → IsViewOf views j w → w.cursor ≡ Some c → (t : ℕ) → Names c t → IsClear h v t
   clear_cursor j w c at' has t n y idle r = parts.no_reuse s j y v w c at at' has idle (record { target = t; named = n; reach = r })
 
@@ -39,21 +45,27 @@ module _ (h now : Heap) (views : List View) (s : ℕ) (v : View) (parts : Parts 
   pub clear_on : (x t : ℕ) → IsClear h v t → Reach (to h) x t → IsClear h v (to h (suc x))
   clear_on x t clear r y idle far = clear y idle (reach_on (to h) y x t r far)
 
+  -- a node that isn't idle names what it named
   pub others : (n : ℕ) → (IsIdle v n → ⊥) → to now (suc n) ≡ to h (suc n)
   others n d = ap (λ w. w / 2) (aside.next n d)
 
+  -- what a clear path had it still has
   pub on_reach : (x t : ℕ) → IsClear h v t → Reach (to h) x t → Reach (to now) x t
   on_reach x t clear r = keeps_reach (to h) (to now) (IsIdle v) others x t clear r
 
+  -- what a clear path has now it had before
   pub back_reach : (x t : ℕ) → IsClear h v t → Reach (to now) x t → Reach (to h) x t
   back_reach x t clear r = adds_reach (to h) (to now) (IsIdle v) others x t r clear
 
+  -- what was in the chain still is
   pub chain_on : (x : ℕ) → InChain h x → InChain now x
   chain_on x r = subst (Reach (to now) x) (sym aside.head) (on_reach x (to h 0) clear_chain r)
 
+  -- what is in the chain now was in it
   pub chain_back : (x : ℕ) → InChain now x → InChain h x
   chain_back x r = back_reach x (to h 0) clear_chain (subst (Reach (to now) x) aside.head r)
 
+  -- no node of the chain is idle in the view
   pub chain_apart : (x : ℕ) → InChain h x → IsIdle v x → ⊥
   chain_apart x r idle = clear_chain x idle r
 
@@ -61,6 +73,7 @@ module _ (h now : Heap) (views : List View) (s : ℕ) (v : View) (parts : Parts 
   pub mark_is : (x : ℕ) → (IsIdle v x → ⊥) → now.next (suc x) % 2 ≡ h.next (suc x) % 2
   mark_is x d = ap (λ w. w % 2) (aside.next x d)
 
+  -- a clear path in order stays in order
   pub ordered_now : (t : ℕ) → IsClear h v t → IsOrdered h t → IsOrdered now t
   ordered_now t clear o = record {
     ends = keeps_ends (to h) (to now) (IsIdle v) others t clear o.ends;
@@ -77,9 +90,11 @@ module _ (h now : Heap) (views : List View) (s : ℕ) (v : View) (parts : Parts 
         };
   }
 
+  -- a node that isn't idle and had a range still has one
   pub range_now : (x : ℕ) → (IsIdle v x → ⊥) → HasRange h x → HasRange now x
   range_now x d r = subst (λ (p : ℕ × ℕ). (p.0 < p.1 / 2) × (p.1 / 2 ≤ 2 ^ 62)) (λ z. (sym (aside.lo x d) z, sym (aside.hi x d) z)) r
 
+  -- the chain is in order afterwards, and its nodes have ranges
   pub chain_now : IsChainKept now
   chain_now = record {
     ordered = subst (IsOrdered now) (sym aside.head) (ordered_now (to h 0) clear_chain parts.chain.ordered);
@@ -87,15 +102,19 @@ module _ (h now : Heap) (views : List View) (s : ℕ) (v : View) (parts : Parts 
   }
 
   module _ (c : Cursor) (clear : (t : ℕ) → Names c t → IsClear h v t) where
+    -- what the cursor may reach now it might reach before
     pub may_back : (x : ℕ) → MayReach now c x → MayReach h c x
     may_back x m = record { target = m.target; named = m.named; reach = back_reach x m.target (clear m.target m.named) m.reach }
 
+    -- no node that the cursor may reach is idle in the view
     pub may_apart : (x : ℕ) → MayReach h c x → IsIdle v x → ⊥
     may_apart x m idle = clear m.target m.named x idle m.reach
 
+    -- the cursor's node isn't idle in the view
     pub cur_apart : (y : ℕ) → c.cur / 2 ≡ suc y → IsIdle v y → ⊥
     cur_apart y e idle = clear (c.cur / 2) (inr (inl refl)) y idle (subst (Reach (to h) y) (sym e) here)
 
+    -- nor is its previous node
     pub prev_apart : (p : ℕ) → c.prev ≡ Some p → IsIdle v p → ⊥
     prev_apart p e idle = clear (cell_of c.prev) (inl refl) p idle (subst (λ (q : Option ℕ). Reach (to h) p (cell_of q)) (sym e) here)
 
@@ -107,6 +126,7 @@ module _ (h now : Heap) (views : List View) (s : ℕ) (v : View) (parts : Parts 
     cell_at zero d = absurd (d refl)
     cell_at (suc y) d = (y, refl)
 
+    -- what the cursor knows of its node stays so
     pub read_now : IsRead h c → IsRead now c
     read_now r = record {
       next_node = r.next_node;
@@ -125,6 +145,7 @@ module _ (h now : Heap) (views : List View) (s : ℕ) (v : View) (parts : Parts 
           (on_reach x (to h (suc y.0)) from (subst (λ a. Reach (to h) x (to h a)) y.1 got)));
     }
 
+    -- all that is kept of the cursor beside an own node is kept
     pub cursor_now : (own : Own) → IsCursorKept h own c → IsCursorKept now own c
     cursor_now own k = record {
       seen = λ t n. ordered_now t (clear t n) (k.seen t n);
@@ -153,6 +174,7 @@ module _ (h now : Heap) (views : List View) (s : ℕ) (v : View) (parts : Parts 
   sees_from cur (Some n) x a b (inl e) = inl e
   sees_from cur (Some n) x a b (inr q) = inr (on_reach x (n / 2) (b n refl) q)
 
+  -- what a linked node of the chain had to see it still has to see
   pub sees_on : (k : Listed) (o : Option Cursor) (x : ℕ) → InChain h k.node
       → ((c : Cursor) → o ≡ Some c → (t : ℕ) → Names c t → IsClear h v t) → HasToSee h k o x → HasToSee now k o x
   sees_on k None x r clear q = sees_start k.todo k.node x r q

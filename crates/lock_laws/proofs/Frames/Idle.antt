@@ -9,9 +9,11 @@ use Rattle.lock_laws.specs.Invariant.{IsViewOf, InChain, IsUsed, IsLinked, IsIdl
 use Rattle.lock_core.proofs.ByView.{is_view}
 use Rattle.lock_laws.proofs.Seats.{only_once, one_seat}
 
+-- a node that is being filled is the own node, once
 pub own_of_filling : (v : View) (f : Filled) (x : ℕ) → v.own ≡ filling f → f.node ≡ x → own_times x v.own ≡ 1
 own_of_filling v f x e n = ap (own_times x) e ∙ ap (λ (b : Bool). if b then 1 else 0) (eq-eqb f.node x n)
 
+-- a linked node is the own node, once
 pub own_of_listed : (v : View) (k : Listed) (x : ℕ) → v.own ≡ listed k → k.node ≡ x → own_times x v.own ≡ 1
 own_of_listed v k x e n = ap (own_times x) e ∙ ap (λ (b : Bool). if b then 1 else 0) (eq-eqb k.node x n)
 
@@ -21,6 +23,7 @@ idle_times v x (inl r) = omega (arith, r)
 idle_times v x (inr g) = let o = own_of_filling v g.0 x g.1 g.2 in omega (arith, o)
 
 module _ (h : Heap) (views : List View) (places : Places h views) where
+  -- a node that is idle in some view is used in none
   pub idle_not_used : (i j x : ℕ) (v u : View) → IsViewOf views i v → IsViewOf views j u → IsIdle v x → times x u.used ≡ 1 → ⊥
   idle_not_used i j x v u at at' idle used =
       let a = idle_times v x idle in
@@ -29,6 +32,7 @@ module _ (h : Heap) (views : List View) (places : Places h views) where
       let l = only_once h views places i x v at in
       omega (arith, a, used, t, l)
 
+  -- a node that is idle in some view is linked in none
   pub idle_not_linked : (i j x : ℕ) (v u : View) (k : Listed) → IsViewOf views i v → IsViewOf views j u → IsIdle v x → u.own ≡ listed k → k.node ≡ x → ⊥
   idle_not_linked i j x v u k at at' idle own is =
       let a = idle_times v x idle in

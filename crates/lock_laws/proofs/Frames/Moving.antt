@@ -18,15 +18,23 @@ use Rattle.lock_laws.proofs.Frames.Quiet.{Calm, aside_of, idle_alone, known_on, 
 abbrev pub OwnStays : View → View → Type 0
 OwnStays v u = (u.own ≡ v.own) ⊎ ((k : Listed) × (v.own ≡ listed k) × (u.own ≡ listed (done k)))
 
+-- from view v to view u only the cursor moves and the own node may get done; what is so of the cursor then
 pub record Moves (h now : Heap) (views : List View) (s : ℕ) (v u : View) : Type 0 where
+  -- the view changes in its own node and its cursor alone
   pub rest : u ≡ record v { own = u.own; cursor = u.cursor }
+  -- the own node stays, or has nothing left to do
   pub own : OwnStays v u
+  -- outside an operation there is no cursor
   pub odd : u.epoch % 2 ≡ 0 → u.cursor ≡ None
+  -- what is kept of a cursor is so of the new one
   pub cursor : (d : Cursor) → u.cursor ≡ Some d → IsCursorKept now u.own d
+  -- it may reach nodes of the chain, and what the cursor before might reach
   pub reach : (d : Cursor) (x : ℕ) → u.cursor ≡ Some d → MayReach now d x → InChain h x ⊎ ((c : Cursor) × (v.cursor ≡ Some c) × MayReach h c x)
   -- what it had to see it still has, unless nothing is there
   pub sees : (k g : Listed) → v.own ≡ listed k → Rival views k g → HasToSee h k v.cursor g.node → (u.own ≡ v.own) × HasToSee now k u.cursor g.node
+  -- a writer that validates has its own node to see
   pub to_see : (k : Listed) → u.own ≡ listed k → k.todo ≡ FromHead → HasToSee now k u.cursor k.node
+  -- while the head has the low bit, the cursor may reach the node alone only by having read just that head
   pub unseen : now.next 0 % 2 ≡ 1 → (a : IsAlone h views) (d : Cursor) → u.cursor ≡ Some d → MayReach now d a.node → d.cur ≡ 2 * suc a.node + 1
 
 module _ (h now : Heap) (views : List View) (s : ℕ) (v u : View) (parts : Parts h views) (at : IsViewOf views s v)
@@ -114,6 +122,7 @@ module _ (h now : Heap) (views : List View) (s : ℕ) (v u : View) (parts : Part
   out_same j (inl p) = inl (sym (ap (λ (z : View). slice_get z.passed j) moves.rest) ∙ p)
   out_same j (inr n) = inr (n.0, sym (ap (λ (z : View). slice_get z.notes j) moves.rest) ∙ n.1, n.2)
 
+  -- all that the invariant says is so after such a step
   pub moves_kept : Parts now (slice_set views s u)
   moves_kept =
       let k = parts.each s v at in

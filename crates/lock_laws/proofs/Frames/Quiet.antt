@@ -33,14 +33,20 @@ stands_quiet h now views s v u parts at home own ready used homes hand = record 
 
 -- the words of every node but its home word stay, and the head names what it named
 pub record Calm (h now : Heap) : Type 0 where
+  -- the head names what it named
   pub head : to now 0 ≡ to h 0
+  -- each node's next word stays
   pub next : (x : ℕ) → now.next (suc x) ≡ h.next (suc x)
+  -- each lower end stays
   pub lo : (x : ℕ) → now.lo x ≡ h.lo x
+  -- each hi word stays
   pub hi : (x : ℕ) → now.hi x ≡ h.hi x
 
+-- what stays for every node stays for those that aren't idle in a view
 pub aside_of : (h now : Heap) (v : View) → Calm h now → Aside h now v
 aside_of h now v c = record { head = c.head; next = λ x d. c.next x; lo = λ x d. c.lo x; hi = λ x d. c.hi x }
 
+-- what was known of a node that is being filled is still so
 pub known_on : (h now : Heap) (f : Filled) → Calm h now → IsKnown h f → IsKnown now f
 known_on h now f c k = record {
   lo = λ a e. c.lo f.node ∙ k.lo a e;
@@ -49,6 +55,7 @@ known_on h now f c k = record {
   in_order = k.in_order;
 }
 
+-- the words of a linked node still have its range and mode
 pub written_on : (h now : Heap) (k : Listed) → Calm h now → IsWritten h k → IsWritten now k
 written_on h now k c w = record { lo = c.lo k.node ∙ w.lo; hi = c.hi k.node ∙ w.hi }
 
@@ -64,6 +71,7 @@ module _ (h now : Heap) (views : List View) (s : ℕ) (v u : View) (parts : Part
     old_cursor : (d : Cursor) → u.cursor ≡ Some d → v.cursor ≡ Some d
     old_cursor d e = sym cursor ∙ e
 
+    -- what is kept of a view alone is so of the new one, where its epoch is that of the words
     pub kept_quiet : u.epoch ≡ now.epoch s → (u.epoch % 2 ≡ 0 → u.cursor ≡ None) → IsViewKept now s u
     kept_quiet epoch even = let k = parts.each s v at in record {
       epoch = epoch;
@@ -80,6 +88,7 @@ module _ (h now : Heap) (views : List View) (s : ℕ) (v u : View) (parts : Part
         sees g x e q = sees_on h now views s v parts at aside g v.cursor x (parts.places.linked s v g at e).0
             (λ c has. clear_cursor h now views s v parts at aside s v c at has) q
 
+    -- all that a step has to say of the stepping seat's view, from its idle nodes, its homes and the epochs alone
     pub mine_quiet : IsViewKept now s u
         → ((x : ℕ) → IsIdle u x → (InChain h x → ⊥) × ((j : ℕ) (w : View) (c : Cursor) → IsViewOf views j w → w.cursor ≡ Some c → MayReach h c x → ⊥))
         → ((j x : ℕ) (w : View) (c : Cursor) → (j ≡ s → now.epoch s ≡ h.epoch s) → 1 ≤ times x u.homes → IsOut now u j

@@ -15,6 +15,7 @@ use Rattle.lock_laws.proofs.Frames.Parts.{Parts}
 use Rattle.lock_laws.proofs.Frames.Quiet.{Calm}
 use Rattle.lock_laws.proofs.Frames.Steady.{Rival}
 
+-- words that don't change at all are calm
 pub calm_same : (h : Heap) → Calm h h
 calm_same h = record { head = refl; next = λ x. refl; lo = λ x. refl; hi = λ x. refl }
 
@@ -22,9 +23,11 @@ calm_same h = record { head = refl; next = λ x. refl; lo = λ x. refl; hi = λ 
 pub end_is : (h : Heap) (k : Listed) → IsWritten h k → h.hi k.node / 2 ≡ k.range.hi
 end_is h k w = ap (λ a. a / 2) w.hi ∙ hi_is k.range.hi k.mode
 
+-- the hi word of a linked writer is odd
 pub writer_is : (h : Heap) (k : Listed) → IsWritten h k → k.mode ≡ Writer → h.hi k.node % 2 ≡ 1
 writer_is h k w e = ap (λ a. a % 2) w.hi ∙ writer_odd k.range.hi k.mode e
 
+-- the hi word of a linked reader is even
 pub reader_is : (h : Heap) (k : Listed) → IsWritten h k → k.mode ≡ Reader → h.hi k.node % 2 ≡ 0
 reader_is h k w e = ap (λ a. a % 2) w.hi ∙ reader_low k.range.hi k.mode e
 
@@ -35,15 +38,19 @@ two_nodes h r w a b reader writer e = let x = reader_is h r a reader in let y = 
 
 module _ (h : Heap) (views : List View) (s : ℕ) (v : View) (k g : Listed) (parts : Parts h views) (at : IsViewOf views s v)
     (own : v.own ≡ listed k) (rival : Rival views k g) where
+  -- the words of the own node have its range and mode
   pub mine_written : IsWritten h k
   mine_written = (parts.each s v at).linked k own
 
+  -- the own node is in the chain
   pub mine_chain : InChain h k.node
   mine_chain = (parts.places.linked s v k at own).0
 
+  -- the words of the rival have its range and mode
   pub rival_written : IsWritten h g
   rival_written = (parts.each rival.seat rival.view rival.there).linked g rival.own
 
+  -- the rival is in the chain
   pub rival_chain : InChain h g.node
   rival_chain = (parts.places.linked rival.seat rival.view g rival.there rival.own).0
 
@@ -57,11 +64,13 @@ module _ (h : Heap) (views : List View) (s : ℕ) (v : View) (k g : Listed) (par
       (λ (t : (k.todo ≡ FromHead) × (k.mode ≡ Writer) × (g.mode ≡ Reader)). two_nodes h g k rival_written mine_written t.2 t.1 (sym e))
       rival.way
 
+  -- where the rival is the writer, the own node isn't behind it
   pub not_behind_rival : g.mode ≡ Writer → Reach (to h) k.node (to h (suc g.node)) → ⊥
   not_behind_rival writer r =
       let b = clear_behind h g.node k.node (to h 0) parts.chain.ordered rival_chain (writer_is h g rival_written writer) r in
       let e = end_is h g rival_written in let l = mine_written.lo in let o = rival.over.0 in omega (arith, b, e, l, o)
 
+  -- where the own node is the writer, the rival isn't behind it
   pub not_behind_mine : k.mode ≡ Writer → Reach (to h) g.node (to h (suc k.node)) → ⊥
   not_behind_mine writer r =
       let b = clear_behind h k.node g.node (to h 0) parts.chain.ordered mine_chain (writer_is h k mine_written writer) r in

@@ -25,26 +25,38 @@ use Rattle.lock_laws.proofs.Frames.Frame.{Aside, chain_now, chain_on, chain_back
 pub record Stands (h now : Heap) (views : List View) (s : ℕ) (v u : View) : Type 0 where
   -- the lists hold the same nodes, and homes only those that came home
   pub times_same : (x : ℕ) → own_times x u.own + times x u.ready + times x u.used ≡ own_times x v.own + times x v.ready + times x v.used
+  -- the homes are among the used nodes
   pub homes : (x : ℕ) → times x u.homes ≤ times x u.used
+  -- and are at home
   pub at_home : (x : ℕ) → 1 ≤ times x u.homes → now.home x ≡ 1
   -- a linked node stays, and so does each used node that isn't at home
   pub linked : (k : Listed) → u.own ≡ listed k → (g : Listed) × (v.own ≡ listed g) × (g.node ≡ k.node)
+  -- a node that was linked still is
   pub linked_on : (k : Listed) → v.own ≡ listed k → (g : Listed) × (u.own ≡ listed g) × (g.node ≡ k.node)
+  -- a node that is used now was so before
   pub used : (x : ℕ) → times x u.used ≡ 1 → times x v.used ≡ 1
+  -- a node that was used and isn't at home is used now
   pub used_on : (x : ℕ) → times x v.used ≡ 1 → h.home x ≡ 0 → times x u.used ≡ 1
+  -- a node that is being filled isn't at home
   pub filling : (f : Filled) → u.own ≡ filling f → now.home f.node ≡ 0
   -- the hand is what it was, or is empty and its node is at home
   pub hand : (x : ℕ) → u.hand ≡ Some x → v.hand ≡ Some x
+  -- a node that was in the hand still is, or is at home now
   pub hand_on : (x : ℕ) → v.hand ≡ Some x → (u.hand ≡ Some x) ⊎ (now.home x ≡ 1)
 
 -- what became of the home words: those of other seats' homes and of used nodes at home stay 1, and 0 stays where a
 -- node is in the chain, in a hand or filled by another seat
 pub record Homes (h now : Heap) (views after : List View) (s : ℕ) : Type 0 where
+  -- the home word of a used node at home stays 1
   pub home : (i x : ℕ) (w : View) → IsViewOf views i w → times x w.used ≡ 1 → h.home x ≡ 1 → now.home x ≡ 1
+  -- the home word of a chain node stays 0
   pub chain : (x : ℕ) → InChain h x → h.home x ≡ 0 → now.home x ≡ 0
+  -- that of a node in a hand stays 0
   pub hand : (x : ℕ) → InHand after x → h.home x ≡ 0 → now.home x ≡ 0
+  -- that of a node which another seat fills stays 0
   pub filling : (j : ℕ) (w : View) (f : Filled) → j ≢ s → IsViewOf views j w → w.own ≡ filling f → h.home f.node ≡ 0 → now.home f.node ≡ 0
 
+-- so it is where no home word changes
 pub homes_same : (h now : Heap) (views after : List View) (s : ℕ) → ((x : ℕ) → now.home x ≡ h.home x) → Homes h now views after s
 homes_same h now views after s e = record {
   home = λ i x w at q r. e x ∙ r;
@@ -130,6 +142,7 @@ module _ (h now : Heap) (views : List View) (s : ℕ) (v u : View) (parts : Part
     used_home i x w e q (inr (inl a)) = inr (inl a)
     used_home i x w e q (inr (inr r)) = inr (inr (ho.home i x w e q r))
 
+    -- the part places holds after the step
     pub places_now : Places now after
     places_now = record {
       once = λ i x w e. by_seat i w e
@@ -173,21 +186,33 @@ module _ (h now : Heap) (views : List View) (s : ℕ) (v u : View) (parts : Part
 -- a linked node of another seat and of the other mode that overlaps this one, at a moment when this one still looks
 -- for such
 pub record Rival (views : List View) (k g : Listed) : Type 0 where
+  -- whose node it is
   pub seat : ℕ
+  -- that seat's view
   pub view : View
+  -- it is among the views
   pub there : IsViewOf views seat view
+  -- its own node is g
   pub own : view.own ≡ listed g
+  -- one is a reader that validates forward and the other a writer, or one a writer from the head and the other a reader
   pub way : ((k.todo ≡ Forward) × (k.mode ≡ Reader) × (g.mode ≡ Writer)) ⊎ ((k.todo ≡ FromHead) × (k.mode ≡ Writer) × (g.mode ≡ Reader))
+  -- their ranges overlap
   pub over : Overlaps k.range g.range
 
 -- the linked node of the stepping seat was linked before, and what it had to see it still has, or it sees that
 -- nothing is there
 pub record Looks (h now : Heap) (views : List View) (v u : View) (k : Listed) : Type 0 where
+  -- the node as it was linked before
   pub old : Listed
+  -- it was the own node
   pub own : v.own ≡ listed old
+  -- it is the same node
   pub node : old.node ≡ k.node
+  -- with the same range
   pub range : old.range ≡ k.range
+  -- and the same mode
   pub mode : old.mode ≡ k.mode
+  -- a rival that was still to see is still to see, and as much is left to do
   pub sees : (g : Listed) → Rival views old g → HasToSee h old v.cursor g.node → (k.todo ≡ old.todo) × HasToSee now k u.cursor g.node
 
 -- no view of a seat whose epoch stays reaches what waits for the barrier of one that knows it to be out
@@ -206,26 +231,34 @@ module _ (h now : Heap) (views : List View) (s : ℕ) (v : View) (parts : Parts 
             (cases_eq j s),
       )
 
+  -- a seat that a view knows to be out afterwards reached none of that view's homes before,
+  -- unless it is the stepping seat and its epoch changed
   pub stays_out : (i j x : ℕ) (w b : View) (c : Cursor) → (j ≡ s → now.epoch s ≡ h.epoch s) → IsViewOf views i w
       → 1 ≤ times x w.homes → IsOut now w j → IsViewOf views j b → b.cursor ≡ Some c → MayReach h c x → ⊥
   stays_out i j x w b c same ew home out e has m = parts.barrier i j x w b c ew e has home (out_back j w b e same out) m
 
 -- what a step has to say of the stepping seat's view
 pub record Mine (h now : Heap) (views : List View) (s : ℕ) (v u : View) : Type 0 where
+  -- what is kept of a view alone is so of it
   pub kept : IsViewKept now s u
   -- its cursor may reach chain nodes and what it might before
   pub reach : (d : Cursor) (x : ℕ) → u.cursor ≡ Some d → MayReach now d x → InChain h x ⊎ ((c : Cursor) × (v.cursor ≡ Some c) × MayReach h c x)
   -- no view may reach its idle nodes, nor one that it knows to be out its homes
   pub idle : (x : ℕ) → IsIdle u x → (InChain h x → ⊥) × ((j : ℕ) (w : View) (c : Cursor) → IsViewOf views j w → w.cursor ≡ Some c → MayReach h c x → ⊥)
+  -- no seat that it knows to be out may reach its homes
   pub out : (j x : ℕ) (w : View) (c : Cursor) → (j ≡ s → now.epoch s ≡ h.epoch s) → 1 ≤ times x u.homes → IsOut now u j
       → IsViewOf views j w → w.cursor ≡ Some c → MayReach h c x → ⊥
+  -- its linked node was linked before and goes on looking
   pub looks : (k : Listed) → u.own ≡ listed k → Looks h now views v u k
+  -- a range that is held stays held
   pub held : (k : Listed) → v.own ≡ listed k → k.todo ≡ Done → u.own ≡ listed k
   -- while the fast path is taken, its cursor names a node that stands alone by the head's word only
   pub unseen : now.next 0 % 2 ≡ 1 → (a : IsAlone h views) (d : Cursor) → u.cursor ≡ Some d → MayReach now d a.node → d.cur ≡ 2 * suc a.node + 1
   -- the head has the low bit only where it had it, and epochs of other seats stay
   pub low : now.next 0 % 2 ≡ 1 → h.next 0 % 2 ≡ 1
+  -- the epochs of other seats stay
   pub epochs : (j : ℕ) (w : View) → IsViewOf views j w → j ≢ s → now.epoch j ≡ h.epoch j
+  -- its own stays, or it has no cursor
   pub epoch : (now.epoch s ≡ h.epoch s) ⊎ (u.cursor ≡ None)
 
 module _ (h now : Heap) (views : List View) (s : ℕ) (v u : View) (parts : Parts h views) (at : IsViewOf views s v)
@@ -384,6 +417,7 @@ module _ (h now : Heap) (views : List View) (s : ℕ) (v u : View) (parts : Part
       (λ (t : (w.todo ≡ FromHead) × HasToSee h w b.cursor r.node). inr (t.0, other_sees j b w r.node e ew t.1))
       (parts.pairs i j a b r w e1 e er ew reader writer over)))
 
+  -- all that the invariant says is so after the step
   pub steady : Parts now these
   steady = record {
     chain = chain_now h now views s v parts at aside;

@@ -62,14 +62,23 @@ none_in (suc n) a b (suc i) e = none_in n a b i e
 
 -- w is v with other notes, flags and homes, of which no view reaches those that it takes to be out
 pub record Waits (h : Heap) (views : List View) (v w : View) : Type 0 where
+  -- the own node is the same
   pub own : w.own ≡ v.own
+  -- the cursor is the same
   pub cursor : w.cursor ≡ v.cursor
+  -- the epoch is the same
   pub epoch : w.epoch ≡ v.epoch
+  -- the ready nodes are the same
   pub ready : w.ready ≡ v.ready
+  -- the used nodes are the same
   pub used : w.used ≡ v.used
+  -- the hand is the same
   pub hand : w.hand ≡ v.hand
+  -- its homes are used nodes
   pub homes : (x : ℕ) → times x w.homes ≤ times x v.used
+  -- and are at home
   pub at_home : (x : ℕ) → 1 ≤ times x w.homes → h.home x ≡ 1
+  -- no cursor of a seat that it takes to be out may reach one of them
   pub out : (j x : ℕ) (b : View) (c : Cursor) → 1 ≤ times x w.homes → IsOut h w j → IsViewOf views j b → b.cursor ≡ Some c → MayReach h c x → ⊥
 
 module _ (h : Heap) (views : List View) (s : ℕ) (v w : View) (parts : Parts h views) (at : IsViewOf views s v) (waits : Waits h views v w) where
@@ -80,6 +89,7 @@ module _ (h : Heap) (views : List View) (s : ℕ) (v w : View) (parts : Parts h 
   idle_back x (inl r) = inl (subst (λ (l : List ℕ). 1 ≤ times x l) waits.ready r)
   idle_back x (inr g) = inr (g.0, sym waits.own ∙ g.1, g.2)
 
+  -- all that the invariant says is so with the new notes, flags and homes
   pub waits_kept : Parts h (slice_set views s w)
   waits_kept =
       let k = parts.each s v at in
@@ -143,6 +153,7 @@ module _ (h : Heap) (views : List View) (s : ℕ) (v w : View) (parts : Parts h 
         (λ (d : times x w.homes ≢ 0). absurd (let a = waits.at_home x (omega (arith, d)) in omega (arith, a, z)))
         (cases_eq (times x w.homes) 0)
 
+    -- all that the invariant says is so with the homes made ready
     pub released_kept : Parts h (slice_set views s (released w))
     released_kept =
         let u = released w in
@@ -250,6 +261,7 @@ not_mine : (h : Heap) (views : List View) (s i : ℕ) (v b : View) (c : Cursor) 
 not_mine h views s i v b c parts at even e has q = let n = (parts.each s v at).even even in
     let same = ap (λ (z : View). z.cursor) (is_view views s i v b at e q) in cc
 
+-- all that the invariant says is so after a ReadEpoch
 pub reads_epoch : (h : Heap) (views : List View) (s j : ℕ) (v : View) → Parts h views → IsViewOf views s v → v.epoch % 2 ≡ 0
     → length (looked_at v j (h.epoch j)).passed ≡ length views → Parts h (slice_set views s (epoch_read s v j (h.epoch j)))
 reads_epoch h views s j v parts at even len = by_passed (looked_at v j (h.epoch j)) (looked_waits h views s j v parts at) len
@@ -297,6 +309,7 @@ came_waits h views s n seats v parts at used none one = record {
     not_out j (inl p) = let e = none_in seats false true j p in cc
     not_out j (inr o) = let e = none_in seats None (Some o.0) j o.1 in cc
 
+-- all that the invariant says is so after a ReadHome
 pub reads_home : (h : Heap) (views : List View) (s n seats : ℕ) (v : View) → Parts h views → IsViewOf views s v → v.epoch % 2 ≡ 0
     → 1 ≤ times n v.used → times n v.homes ≡ 0 → length views ≡ seats
     → Parts h (slice_set views s (home_read seats v n (h.home n)))

@@ -21,6 +21,7 @@ use Rattle.lock_laws.proofs.Frames.Owns.{own_is}
 calm_epoch : (h now : Heap) (s w : ℕ) → WroteEpoch h now s w → Calm h now
 calm_epoch h now s w wrote = record { head = ap (λ n. n / 2) (wrote.next 0); next = λ x. wrote.next (suc x); lo = wrote.lo; hi = wrote.hi }
 
+-- all that the invariant says is so after an Enter
 pub enters : (h now : Heap) (views : List View) (s : ℕ) (v : View) → Parts h views → IsViewOf views s v → v.epoch % 2 ≡ 0
     → WroteEpoch h now s (next_epoch (h.epoch s)) → Parts now (slice_set views s (entered v))
 enters h now views s v parts at even wrote =
@@ -75,6 +76,7 @@ left_idle v x (inl r) =
     first f own true e l = inr (f, own, eqb-true f.node x e)
     first f own false e l = inl (omega (arith, l))
 
+-- all that the invariant says is so after a Leave
 pub leaves : (h now : Heap) (views : List View) (s : ℕ) (v : View) → Parts h views → IsViewOf views s v
     → ((k : Listed) → v.own ≡ listed k → k.todo ≡ Done) → WroteEpoch h now s (next_epoch (h.epoch s))
     → Parts now (slice_set views s (left v))

@@ -26,6 +26,7 @@ module _ (seats : ℕ) (h now : Heap) (views : List View) (s : ℕ) (v : View) (
     (known : IsKnown now g) (past_stop : (c : Cursor) → v.cursor ≡ Some c → IsCursorKept now v.own c
     → IsCursorKept now (filling g) c) (home : (x : ℕ) → now.home x ≡ h.home x) (epoch : (j : ℕ) → j < seats
     → now.epoch j ≡ h.epoch j) (low : now.next 0 % 2 ≡ 1 → h.next 0 % 2 ≡ 1) where
+  -- the view with the own node g
   abbrev pub refilled : View
   refilled = record v { own = filling g }
 
@@ -39,6 +40,7 @@ module _ (seats : ℕ) (h now : Heap) (views : List View) (s : ℕ) (v : View) (
   own_same : (x : ℕ) → own_times x refilled.own ≡ own_times x v.own
   own_same x = ap (λ n. own_times x (Filling n g.lo g.hi g.mode g.aimed)) node ∙ sym (ap (own_times x) own)
 
+  -- all that the invariant says is so where node g is the own one
   pub refills : Parts now (slice_set views s refilled)
   refills =
       steady h now views s v refilled parts at aside
@@ -83,6 +85,7 @@ module _ (seats : ℕ) (h now : Heap) (views : List View) (s : ℕ) (v : View) (
 idle_apart : (v : View) (f : Filled) (x : ℕ) → v.own ≡ filling f → (IsIdle v x → ⊥) → x ≢ f.node
 idle_apart v f x own d e = d (inr (f, own, sym e))
 
+-- all that the invariant says is so after a FillLo
 pub fills_lo : (seats : ℕ) (h now : Heap) (views : List View) (s lo : ℕ) (v : View) (f : Filled) → AreSeats seats views
     → Parts h views → IsViewOf views s v → v.own ≡ filling f → f.aimed ≡ None → v.cursor ≡ None → WroteLo seats h now f.node lo
     → Parts now (slice_set views s (lo_filled v f lo))
@@ -104,6 +107,7 @@ fills_lo seats h now views s lo v f few parts at own aimed cursor wrote =
     wrote.home wrote.epoch
     (λ l. sym (ap (λ a. a % 2) (wrote.next 0)) ∙ l)
 
+-- all that the invariant says is so after a FillHi
 pub fills_hi : (seats : ℕ) (h now : Heap) (views : List View) (s lo hi : ℕ) (mode : Mode) (v : View) (f : Filled)
     → AreSeats seats views → Parts h views → IsViewOf views s v → v.own ≡ filling f → f.lo ≡ Some lo → lo < hi → hi ≤ 2 ^ 62
     → f.aimed ≡ None → v.cursor ≡ None → WroteHi seats h now f.node (hi_word hi mode)
@@ -137,6 +141,7 @@ fills_hi seats h now views s lo hi mode v f few parts at own low less most aimed
     wrote.home wrote.epoch
     (λ l. sym (ap (λ a. a % 2) (wrote.next 0)) ∙ l)
 
+-- all that the invariant says is so after an Aim
 pub aims_at : (seats : ℕ) (h now : Heap) (views : List View) (s lo hi w : ℕ) (v : View) (f : Filled) → AreSeats seats views
     → Parts h views → IsViewOf views s v → v.own ≡ filling f → f.lo ≡ Some lo → f.hi ≡ Some hi
     → WroteCell seats h now (suc f.node) w → Parts now (slice_set views s (aimed_at v f w))

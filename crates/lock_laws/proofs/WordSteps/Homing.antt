@@ -31,6 +31,7 @@ AreSeats seats views = (j : ℕ) (w : View) → IsViewOf views j w → j < seats
 abbrev hand_of : (views : List View) (s n : ℕ) (v : View) → IsViewOf views s v → v.hand ≡ Some n → InHand views n
 hand_of views s n v at hand = record { seat = s; view = v; at = at; hand = hand }
 
+-- all that the invariant says is so after a GiveHome
 pub gives_home : (seats : ℕ) (h now : Heap) (views : List View) (s n : ℕ) (v : View) → AreSeats seats views → Parts h views
     → IsViewOf views s v → v.hand ≡ Some n → WroteHome seats h now n 1 → Parts now (slice_set views s (gave_home v))
 gives_home seats h now views s n v few parts at hand wrote =
@@ -90,6 +91,7 @@ gives_home seats h now views s n v few parts at hand wrote =
 abbrev bare : ℕ → Filled
 bare n = record { node = n; lo = None; hi = None; mode = Writer; aimed = None }
 
+-- all that the invariant says is so after a ClearHome
 pub clears_home : (seats : ℕ) (h now : Heap) (views : List View) (s n : ℕ) (rest : List ℕ) (v : View) → AreSeats seats views
     → Parts h views → IsViewOf views s v → v.own ≡ Nothing → v.epoch % 2 ≡ 0 → v.ready ≡ n ∷ rest → WroteHome seats h now n 0
     → Parts now (slice_set views s (taken v n rest))

@@ -293,6 +293,7 @@ module _ (h : Heap) (views : List View) (s : ℕ) (v : View) (c : Cursor) (y n l
         (may_stop a.node (subst (λ z. MayReach h z a.node) (sym (same_some stopped b e)) m)));
   })
 
+  -- all that the invariant says is so after a ReadHi
   pub judges : Parts h (slice_set views s (hi_read v c y n lo (h.hi y)))
   judges = by_verdict (verdict_of v.own lo (h.hi y)) refl
     where

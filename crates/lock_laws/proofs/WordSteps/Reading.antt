@@ -95,6 +95,7 @@ module _ (h : Heap) (views : List View) (s : ℕ) (v : View) (c : Cursor) (y : �
       from (Some n) e (inl q) = inl q
       from (Some n) e (inr r) = inr (subst (λ a. Reach (to h) x (to h a)) cur (kept.read.next n x e ch un r))
 
+  -- all that the invariant says is so after a Walk that loads the next word of the cursor's node
   pub loads_next : Parts h (slice_set views s (walked v (Some c) w))
   loads_next = moves_kept h h views s v (walked v (Some c) w) parts at (calm_same h) (λ x. refl) (λ j w e. refl) (λ l. l) (record {
     rest = refl;

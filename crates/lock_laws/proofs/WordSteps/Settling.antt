@@ -89,6 +89,7 @@ module _ (seats : ℕ) (h now : Heap) (views : List View) (s : ℕ) (v : View) (
       by_next None e = subst (Reach (to now) x) (sym cur_is) (chain_on h now views s v parts at (aside_of h now v calm) x r)
       by_next (Some n) e = absurd (cc)
 
+  -- all that the invariant says is so after a Settle that succeeds
   pub settles : Parts now (slice_set views s (settled v c))
   settles = moves_kept h now views s v (settled v c) parts at calm wrote.home (λ j w e. wrote.epoch j (few j w e))
       (λ l. absurd (let w = wrote.is in omega (arith, w, odd, l))) (record {

@@ -38,6 +38,7 @@ reach_from : (to : ℕ → ℕ) (x q t : ℕ) → Reach to q t → Reach to x (s
 reach_from to x q t a here = a
 reach_from to x q t a (there r) = reach_on to x q t a r
 
+-- the path at the end is in order
 pub ordered_end : (h : Heap) → IsOrdered h 0
 ordered_end h = record { ends = end; sorted = λ a c r e. absurd (elim r [ ]) }
 
@@ -45,6 +46,7 @@ ordered_end h = record { ends = end; sorted = λ a c r e. absurd (elim r [ ]) }
 pub ordered_from : (h : Heap) (q t : ℕ) → IsOrdered h t → Reach (to h) q t → IsOrdered h (suc q)
 ordered_from h q t o r = record { ends = ends_from (to h) q t o.ends r; sorted = λ a c m e. o.sorted a c (reach_from (to h) a q t r m) e }
 
+-- behind a node of an ordered path it is ordered
 pub ordered_behind : (h : Heap) (q t : ℕ) → IsOrdered h t → Reach (to h) q t → IsOrdered h (to h (suc q))
 ordered_behind h q t o r = record { ends = unends (to h) q (ends_from (to h) q t o.ends r); sorted = λ a c m e. o.sorted a c (reach_on (to h) a q t r m) e }
 
@@ -242,6 +244,7 @@ module _ (h : Heap) (views : List View) (s : ℕ) (v : View) (parts : Parts h vi
       looking k g (inl t) e = let a = t.0 in cc
       looking k g (inr t) e = let a = t.0 in cc
 
+  -- all that the invariant says is so after a Walk that begins a cursor
   pub begins : Parts h (slice_set views s there_at)
   begins = moves_kept h h views s v there_at parts at (calm_same h) (λ x. refl) (λ j w e. refl) (λ l. l) (record {
     rest = refl;
