@@ -39,9 +39,11 @@ CommaEnds v q = starts (is 44) q ≡ true
 abbrev pub JoinEnds : {A : Type 0} → A → List ℕ → Type 0
 JoinEnds v q = starts is_join q ≡ true
 
+-- no space follows
 abbrev pub SpacesEnd : {A : Type 0} → A → List ℕ → Type 0
 SpacesEnd v q = starts (is 32) q ≡ false
 
+-- no byte of a word follows
 abbrev pub WordEnds : {A : Type 0} → A → List ℕ → Type 0
 WordEnds v q = starts is_word_byte q ≡ false
 
@@ -49,6 +51,7 @@ WordEnds v q = starts is_word_byte q ≡ false
 abbrev pub not_space : ℕ → Bool
 not_space c = if is 32 c then false else true
 
+-- a text that begins with a comma may follow a list
 pub comma_closes : (q : List ℕ) → starts (is 44) q ≡ true → starts is_close q ≡ true
 comma_closes [] h = cc
 comma_closes (c ∷ q) h = rw h refl
@@ -60,6 +63,7 @@ either_close : (a b : Bool) → b ≡ true → (if a then true else b) ≡ true
 either_close true b h = refl
 either_close false b h = h
 
+-- a text that begins with a closing parenthesis may follow a list
 pub paren_closes : (q : List ℕ) → starts (is 41) q ≡ true → starts is_close q ≡ true
 paren_closes [] h = cc
 paren_closes (c ∷ q) h = either_close (is 44 c) (is 41 c) h
@@ -68,6 +72,7 @@ not_space_byte : (b : Bool) → (if b then false else true) ≡ true → b ≡ f
 not_space_byte true h = cc
 not_space_byte false h = refl
 
+-- a text that begins with a byte that is no space doesn't begin with a space
 pub not_space_ends : (q : List ℕ) → starts not_space q ≡ true → starts (is 32) q ≡ false
 not_space_ends [] h = refl
 not_space_ends (c ∷ q) h = not_space_byte (is 32 c) h
@@ -76,6 +81,7 @@ digit_byte_space : (c : ℕ) (b : Bool) → is 32 c ≡ b → is_digit c ≡ tru
 digit_byte_space c true e h = let k = same_is 32 c e in let no : is_digit c ≡ false = ap is_digit k in cc
 digit_byte_space c false e h = refl
 
+-- a text that begins with a digit begins with a byte that is no space
 pub digit_not_space : (q : List ℕ) → starts is_digit q ≡ true → starts not_space q ≡ true
 digit_not_space [] h = h
 digit_not_space (c ∷ q) h = digit_byte_space c (is 32 c) refl h
@@ -90,13 +96,16 @@ capital_not_space (c ∷ q) h = capital_byte_space c (is 32 c) refl h
 
 -- ---- commas
 
+-- a comma and its spaces are read by comma_at, where no space follows
 pub comma_good : Good comma SpacesEnd comma_at
 unfolding comma_at
 comma_good = good_then (byte_good 44 Comma) (λ u. spaces_good) (λ v b q w h hq. tt)
 
+-- one byte begins with itself
 pub byte_heads : (b : ℕ) (due : What) → Heads (is b) (byte b due)
 byte_heads b due a q w h = ap (λ (x : List ℕ). starts (is b) (x ++ q)) h ∙ is_same b
 
+-- a comma and its spaces begin with a comma
 pub comma_heads : Heads (is 44) comma
 comma_heads = heads_then (is 44) (byte 44 Comma) (λ u. spaces) (byte_heads 44 Comma)
 
@@ -108,6 +117,7 @@ null_full = chain_full (letters (codes "NULL") Number) (λ u. done 0) (letters_f
 comma_no_numeral : (q : List ℕ) → starts (is 44) q ≡ true → NoNumeral q
 comma_no_numeral q h = join_no_numeral q (comma_joins q h)
 
+-- an address is read by addr_at, where a comma follows
 pub addr_good : Good addr CommaEnds addr_at
 unfolding addr_at
 addr_good =
@@ -157,9 +167,11 @@ rest_good = record {
   reads = λ text. anything_took no_byte None text (no_byte_starts text);
 }
 
+-- all that is left isn't nothing where a byte that passes a test is left
 pub rest_nonempty : {A : Type 0} (test : ℕ → Bool) (v : A) → Nonempty test (anything no_byte v)
 rest_nonempty test v rest w h e = let k : starts test rest ≡ false = ap (starts test) h.0 in cc
 
+-- a protection word is read by prot_word_at, before what may follow an item of a list
 pub prot_word_good : Good prot_word ItemEnds prot_word_at
 unfolding prot_word_at
 prot_word_good =
@@ -167,6 +179,7 @@ prot_word_good =
     (full_stays is_digit (chain word (λ w. known (prot_of w))) ItemEnds (known_word_full prot_of))
     (48 ∷ [], None, λ q h. (h, refl, refl))
 
+-- a protection is read by prot_at, before what may follow a list
 pub prot_good : Good prot ListEnds prot_at
 unfolding prot_at listed_at
 prot_good = listed_good prot_word prot_word_at prot_word_good 0
@@ -176,11 +189,13 @@ digit_or_word : (one : Part (Option ℕ)) (f : List ℕ → Option ℕ) (b q : L
 digit_or_word one f b q w true e h = digit_not_space (b ++ q) e
 digit_or_word one f b q w false e h = heads_then not_space word (λ w. known (f w)) word_heads b q w h
 
+-- a protection begins with a byte that is no space
 pub prot_heads : Heads not_space prot
 prot_heads = listed_heads not_space prot_word 0 (λ b q w h. digit_or_word (anything no_byte None) prot_of b q w (starts is_digit (b ++ q)) refl h)
 
 -- ---- flags
 
+-- the bytes of a text begin with the first of them
 pub letters_heads : (b : ℕ) (text : List ℕ) (due : What) → Heads (is b) (letters (b ∷ text) due)
 letters_heads b text due = heads_then (is b) (byte b due) (λ u. letters text due) (byte_heads b due)
 
@@ -206,6 +221,7 @@ commented_good =
 abbrev pub is_operand_end : ℕ → Bool
 is_operand_end c = if is 32 c then true else is_join c
 
+-- such an end follows
 abbrev pub OperandEnds : {A : Type 0} → A → List ℕ → Type 0
 OperandEnds v q = starts is_operand_end q ≡ true
 
@@ -228,6 +244,7 @@ operand_no_numeral : (q : List ℕ) → starts is_operand_end q ≡ true → NoN
 operand_no_numeral [] h = tt
 operand_no_numeral (c ∷ q) h = operand_numeral_byte c q (is 32 c) refl h
 
+-- what a number is shifted by is read by operand_at, where an operand ends
 pub operand_good : Good operand OperandEnds operand_at
 unfolding operand_at
 operand_good =
@@ -289,6 +306,7 @@ number_follows b q w h hq =
     let e : b ++ q ≡ h.0 ++ (h.1 ++ q) = ap (λ (y : List ℕ). y ++ q) h.3 ∙ append_assoc h.0 h.1 q in
     subst NoNumeral (sym e) (shifted_starts h.0 (h.1 ++ q) h.2 (starts (is 60) (h.0 ++ (h.1 ++ q))) refl h.4 behind)
 
+-- one of the flags is read by flag_word_at, before what may follow an item of a list
 pub flag_word_good : Good flag_word ItemEnds flag_word_at
 unfolding flag_word_at flag_of
 flag_word_good =
@@ -301,6 +319,7 @@ flag_word_good =
     (full_stays is_digit (chain word (λ w. known (flag_of w))) ItemEnds (known_word_full flag_of))
     (65 ∷ [], Some 0, λ q h. (65 ∷ [], [], 65 ∷ [], refl, (refl, (refl, tt), join_fails is_word_byte refl refl refl q h), (refl, refl)))
 
+-- the flags are read by flags_at, before what may follow a list
 pub flags_good : Good flags ListEnds flags_at
 unfolding flags_at listed_at
 flags_good = listed_good flag_word flag_word_at flag_word_good 0
@@ -310,6 +329,7 @@ pub listed_word_shortens : (list : WordList) → Shortens (listed_word_at list)
 listed_word_shortens Prot text rest v e = shorter prot_word_good text rest v e
 listed_word_shortens Flags text rest v e = shorter flag_word_good text rest v e
 
+-- the flags begin with a byte that is no space
 pub flags_heads : Heads not_space flags
 flags_heads = listed_heads not_space flag_word 0
     (λ b q w h. digit_or_word (chain (number Number) (λ n. chain shifted (λ u. done (Some 0)))) flag_of b q w
@@ -347,6 +367,7 @@ path_starts b q w false e h hq = ap (λ (y : List ℕ). starts is_digit (y ++ q)
 digits_full : Full (many_digits Number)
 digits_full = chain_full (run is_digit is_digit Number) (λ d. done tt) (run_full is_digit is_digit Number)
 
+-- a descriptor is read by descriptor_at, where a comma follows
 pub descriptor_good : Good descriptor CommaEnds descriptor_at
 unfolding descriptor_at
 descriptor_good =
@@ -369,6 +390,7 @@ descriptor_starts b q w false e h = heads_then not_space (many_digits Number) (�
     (heads_then not_space (run is_digit is_digit Number) (λ d. done tt)
     (λ a t v k. digit_not_space (a ++ t) (run_starts is_digit is_digit a t k.1))) b q w h
 
+-- a descriptor begins with a byte that is no space
 pub descriptor_heads : Heads not_space descriptor
 descriptor_heads b q w h = descriptor_starts b q w (starts (is 45) (b ++ q)) refl h
 
@@ -448,6 +470,7 @@ access_reads : (text : List ℕ) (r : Result (List ℕ × List ℕ) Refusal) →
 access_reads text (Ok x) t = access_found text x.0 x.1 (access_of x.0) refl t
 access_reads text (Err f) s = access_none text f s
 
+-- an access is read by access_at, where no byte of a word follows
 pub access_good : Good access WordEnds access_at
 unfolding access_at
 access_good = record {
@@ -455,11 +478,13 @@ access_good = record {
   reads = λ text. access_reads text (word_at text) (word_good.reads text);
 }
 
+-- an access begins with a byte that is no space
 pub access_heads : Heads not_space access
 access_heads b q w h = capital_not_space (b ++ q) (run_starts is_capital is_word_byte b q h.0)
 
 -- ---- what takes the rest of a line leaves nothing
 
+-- where the part has no value it takes all that is left
 abbrev pub NoneEnds : Part (Option ℕ) → Type 0
 NoneEnds part = (p q : List ℕ) (v : Option ℕ) → part.takes p q v → v ≡ None → q ≡ []
 
@@ -482,6 +507,7 @@ prot_word_end : (p q : List ℕ) (v : Option ℕ) (x : Bool) → (arm (anything 
 prot_word_end p q v true h e = h.0
 prot_word_end p q v false h e = known_end (prot_of h.2) h.1 q v h.5 e
 
+-- a protection without a value takes all that is left
 pub prot_end : NoneEnds prot
 prot_end p q v h e = items_end prot_word 0 (λ p q v h e. prot_word_end p q v (starts is_digit (p ++ q)) h e) h.0 p q v h.1 e
 
@@ -491,11 +517,13 @@ flag_word_end : (p q : List ℕ) (v : Option ℕ) (x : Bool)
 flag_word_end p q v true h e = absurd (some_bits 0 (sym h.5.5.1 ∙ e))
 flag_word_end p q v false h e = known_end (flag_of h.2) h.1 q v h.5 e
 
+-- flags without a value take all that is left
 pub flags_end : NoneEnds flags
 flags_end p q v h e = items_end flag_word 0 (λ p q v h e. flag_word_end p q v (starts is_digit (p ++ q)) h e) h.0 p q v h.1 e
 
 -- ---- the bits of a list are bounded where those of each item are
 
+-- a value, where there is one, is below this power of 2
 abbrev pub Below : ℕ → Option ℕ → Type 0
 Below k None = Unit {0}
 Below k (Some n) = n < 2 ^ k
@@ -544,6 +572,7 @@ prot_word_below : (p q : List ℕ) (v : Option ℕ) (x : Bool) → (arm (anythin
 prot_word_below p q v true h = subst (Below 3) (sym h.1) tt
 prot_word_below p q v false h = known_below 3 (prot_of h.2) h.1 q v (prot_of_below h.2) h.5
 
+-- the bits of a protection are below 2^3
 pub prot_below : (p q : List ℕ) (v : Option ℕ) → prot.takes p q v → Below 3 v
 prot_below p q v h = items_below 3 prot_word (λ p q v h. prot_word_below p q v (starts is_digit (p ++ q)) h) 0 (omega arith) h.0 p q v h.1
 
@@ -553,5 +582,6 @@ flag_word_below : (p q : List ℕ) (v : Option ℕ) (x : Bool)
 flag_word_below p q v true h = subst (Below 4) (sym h.5.5.1) (omega arith)
 flag_word_below p q v false h = known_below 4 (flag_of h.2) h.1 q v (flag_of_below h.2) h.5
 
+-- the bits of flags are below 2^4
 pub flags_below : (p q : List ℕ) (v : Option ℕ) → flags.takes p q v → Below 4 v
 flags_below p q v h = items_below 4 flag_word (λ p q v h. flag_word_below p q v (starts is_digit (p ++ q)) h) 0 (omega arith) h.0 p q v h.1

@@ -33,11 +33,17 @@ is_bad left w = Err (record { left = left; what = w })
 
 -- all that the reader of bodies says of its result
 pub record BodyAnswers (text : List ℕ) (r : Result Body Refusal) : Type 0 where
+  -- what was read is what the body is
   pub found : IfOk r (λ body. IsBody text body)
+  -- what the body is was read
   pub only : (body : Body) → IsBody text body → r ≡ Ok body
+  -- a refusal is one of the body
   pub refused : IfErr r (RefusesBody text)
+  -- each refusal of the body is the one that was given
   pub only_there : (refusal : Refusal) → RefusesBody text refusal → r ≡ Err refusal
+  -- a call that was read has named bits alone
   pub named : IfOk r IsNamedBody
+  -- at a refusal no more bytes are left than the body has
   pub within : IfErr r (λ refusal. refusal.left ≤ length text)
 
 -- ---- the first byte
@@ -112,6 +118,7 @@ by_second Fault Munmap e = absurd (omega arith)
 by_second Fault Mprotect e = absurd (omega arith)
 by_second Fault Fault e = refl
 
+-- a text begins with the name of one call at most
 pub one_name : (m n : Name) (text : List ℕ) → BeginsWith (call_head m) text → BeginsWith (call_head n) text → m ≡ n
 one_name m n text h g = by_second m n (sym (call_head_second m text h) ∙ call_head_second n text g)
 
@@ -178,18 +185,21 @@ other_body text form none first second_half = record {
   within = tt;
 }
 
+-- what begins as a signal or an exit is passed over, and nothing else
 pub signal_body : (text : List ℕ) → BeginsWith (codes "---") text ⊎ BeginsWith (codes "+++") text → BodyAnswers text (Ok Other)
 signal_body text h =
     let k = signal_kind text h in
     other_body text (signal_form text h) (λ n c. not_call text 1 k (omega arith) n c.names)
     (λ n c e. not_call text 1 k (omega arith) n c) (λ n c. not_resumed text 1 k (omega arith) n c)
 
+-- a call that never returned is passed over, and nothing else
 pub never_body : (name : Name) (text : List ℕ) → BeginsWith (call_head name) text → NeverReturned text → BodyAnswers text (Ok Other)
 never_body name text h never =
     let k = call_head_kind name text h in
     other_body text (inr (inr (inl (name, h, never)))) (λ n c. c.returned never) (λ n c e. two_ends text never e)
     (λ n c. not_resumed text 4 k (omega arith) n c)
 
+-- a body of none of the forms is passed over, and nothing else
 pub no_form_body : (text : List ℕ) → NoForm text → BodyAnswers text (Ok Other)
 no_form_body text f = other_body text (inr (inr (inr (inr f)))) (λ n c. f.no_call n c.names) (λ n c e. f.no_call n c) (λ n c. f.no_resumption n c)
 
@@ -219,6 +229,7 @@ second_only name text rest r (SecondHalf n left) h =
     ap (λ (x : Name). is_body (SecondHalf x (length rest))) e.0 ∙ ap (λ (x : ℕ). is_body (SecondHalf n x)) (ap length e.1 ∙ sym h.2)
 second_only name text rest r Other h = absurd (resumed_other name text (r.0, r.1) h)
 
+-- a second half is that half alone, and isn't refused
 pub second_body : (name : Name) (text rest : List ℕ) → IsResumption name text rest → BodyAnswers text (Ok (SecondHalf name (length rest)))
 unfolding IsBody RefusesBody
 second_body name text rest r = record {
@@ -247,6 +258,7 @@ first_only name text half b i (FirstHalf n len) h =
 first_only name text half b i (SecondHalf n left) h = absurd (not_resumed text 4 (call_head_kind name text b) (omega arith) n (h.1.0, h.1.1))
 first_only name text half b i Other h = absurd (first_other name text b (half_ends text half i) h)
 
+-- a first half is that half alone, and isn't refused
 pub first_body : (name : Name) (text half : List ℕ) → BeginsWith (call_head name) text → IsHalf text half → BodyAnswers text (Ok (FirstHalf name (length half)))
 unfolding IsBody RefusesBody
 first_body name text half b i = record {
@@ -294,6 +306,7 @@ refused_there : (name : Name) (text : List ℕ) (refusal : Refusal) → IsCall n
 unfolding RefusesBody
 refused_there name text refusal c h = (h.1, subst (λ (x : Name). Refused (call x) text h.1 refusal.what) (one_name h.0 name text h.2.names c.names) h.3, h.4)
 
+-- a body in the form of a call that is taken whole as one item is that item alone, and isn't refused
 pub call_body : (name : Name) (text : List ℕ) (body : Body) → IsCall name text → IsWhole (call name) text body → BodyAnswers text (Ok body)
 call_body name text body c w =
     let s = call_values name text [] body w.spelled in
@@ -312,6 +325,7 @@ bad_same a b w v e f = ap (λ (x : ℕ). is_bad x w) e ∙ ap (λ (x : What). is
 left_same : (n a b c d : ℕ) → c ≡ a → a + b ≡ n → c + d ≡ n → b ≡ d
 left_same n a b c d e h g = omega arith
 
+-- a body in the form of a call that is refused at one column is nothing, and is refused there alone
 pub refused_body : (name : Name) (text : List ℕ) (column left : ℕ) (what : What) → IsCall name text
     → column + left ≡ length text + 1 → left ≤ length text → IsRefused (call name) text column what
     → BodyAnswers text (Err (record { left = left; what = what }))
@@ -330,9 +344,11 @@ refused_body name text column left what c place le r = record {
 
 -- ---- a body of a call, as it is read
 
+-- a text behind a call's name is of the form of a call where it never returned nor ends as a first half
 pub is_call : (name : Name) (text rest : List ℕ) → text ≡ call_head name ++ rest → (NeverReturned text → ⊥) → (EndsWith unfinished text → ⊥) → IsCall name text
 is_call name text rest e never first_half = record { names = (rest, e); returned = never; whole = first_half }
 
+-- a body in the form of a call is what its arguments are read as, and nothing else
 pub read_call : (name : Name) (text rest after : List ℕ) (body : Body) → text ≡ call_head name ++ rest → IsCall name text
     → arguments_at name rest ≡ Ok (body, after) → BodyAnswers text (Ok body)
 read_call name text rest after body e c read =
@@ -347,6 +363,7 @@ left_within name text rest f e read =
 column_of : (n left : ℕ) → left ≤ n → (n - left + 1) + left ≡ n + 1
 column_of n left h = omega arith
 
+-- a body in the form of a call is refused where its arguments are, and is nothing
 pub refused_call : (name : Name) (text rest : List ℕ) (f : Refusal) → text ≡ call_head name ++ rest → IsCall name text
     → arguments_at name rest ≡ Err f → BodyAnswers text (Err f)
 refused_call name text rest f e c read =
@@ -362,6 +379,7 @@ refused_call name text rest f e c read =
 some_begun : (word text : List ℕ) → 0 < length word → BeginsWith word text → 0 < length text
 some_begun word text h b = let k = ap length b.1 ∙ length-append word b.0 in omega arith
 
+-- a call's name has a byte at least
 pub head_some : (name : Name) → 0 < length (call_head name)
 head_some Mmap = omega arith
 head_some Munmap = omega arith
@@ -374,15 +392,19 @@ resumed_some Munmap = omega arith
 resumed_some Mprotect = omega arith
 resumed_some Fault = omega arith
 
+-- a text that begins with a call's name has a byte at least
 pub some_head : (name : Name) (text : List ℕ) → BeginsWith (call_head name) text → 0 < length text
 some_head name text b = some_begun (call_head name) text (head_some name) b
 
+-- a body in the form of a call has a byte at least
 pub some_call : (name : Name) (text : List ℕ) → IsCall name text → 0 < length text
 some_call name text c = some_head name text c.names
 
+-- a second half has a byte at least
 pub some_resumption : (name : Name) (text rest : List ℕ) → IsResumption name text rest → 0 < length text
 some_resumption name text rest r = some_begun (resumed_head name) text (resumed_some name) (r.0, r.1)
 
+-- what is kept of a second half isn't longer than its text
 pub resumed_length : (name : Name) (text rest : List ℕ) → IsResumption name text rest → length rest ≤ length text
 resumed_length name text rest r =
     let k = ap length r.1 ∙ length-append (resumed_head name) r.0 in

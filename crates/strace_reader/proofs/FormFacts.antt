@@ -14,6 +14,7 @@ use Rattle.strace_reader.specs.Grammar.{EndsWith, NeverReturned, IsPid, PidThen,
 
 -- ---- process numbers
 
+-- what narrow gives of a number is that number
 pub narrow_some : (n v : ℕ) → narrow n ≡ Some v → v ≡ n
 unfolding narrow
 narrow_some n v h =
@@ -22,6 +23,7 @@ narrow_some n v h =
       | inr le ↦ let k = rw (le-ltb n (2 ^ 64) le) at h in cc
     ]
 
+-- a number of which narrow gives nothing is 2^64 or above
 pub narrow_none : (n : ℕ) → narrow n ≡ None → 2 ^ 64 ≤ n
 unfolding narrow
 narrow_none n h =
@@ -30,6 +32,7 @@ narrow_none n h =
       | inr le ↦ le
     ]
 
+-- digits, at least one, of a number below 2^32, with a word behind them, are a process number before that word
 pub pid_found : (word text behind rest : List ℕ) (pid : ℕ) → pid ≡ (digits_of 10 0 text).0 → behind ≡ (digits_of 10 0 text).1
     → pid < 2 ^ 32 → length behind ≢ length text → behind ≡ word ++ rest → PidThen word text pid rest
 pid_found word text behind rest pid en er lt long w =
@@ -48,11 +51,16 @@ word_no_digit (b ∷ word) rest h some = h
 
 -- what the digits that a text begins with are, where a process number and a word stand there
 pub record PidRead (word text behind : List ℕ) (n pid : ℕ) (rest : List ℕ) : Type 0 where
+  -- the number of the digits is the process number
   pub same : pid ≡ n
+  -- it is below 2^32
   pub narrow_pid : n < 2 ^ 32
+  -- at least one digit was taken
   pub long : length behind < length text
+  -- the word and the rest stand behind the digits
   pub is : behind ≡ word ++ rest
 
+-- where a process number and a word stand, the digits are that number's and the word stands behind them
 pub pid_read : (word text behind : List ℕ) (n pid : ℕ) (rest : List ℕ) → n ≡ (digits_of 10 0 text).0
     → behind ≡ (digits_of 10 0 text).1 → NoDigit 10 word → word ≢ [] → PidThen word text pid rest
     → PidRead word text behind n pid rest
@@ -106,6 +114,7 @@ behind_same text a b h g =
 
 -- ---- prefixes
 
+-- a process number and a bracket, behind "[pid " and all the spaces, are a process number in brackets
 pub bracket_yes : (text rest : List ℕ) (pid : ℕ) (after : List ℕ) → text ≡ codes "[pid " ++ rest
     → PidThen (codes "] ") (after_spaces rest) pid after → IsBracketed text pid after
 bracket_yes text rest pid after e h =
@@ -125,6 +134,7 @@ pid_no_space (b ∷ digits) rest pid h = no_space_digit b (is 32 b) refl h.0.1.0
 digits_no_space : (word text : List ℕ) (pid : ℕ) (rest : List ℕ) → PidThen word text pid rest → starts (is 32) text ≡ false
 digits_no_space word text pid rest h = ap (starts (is 32)) h.2 ∙ pid_no_space h.0 (word ++ rest) pid h.1
 
+-- a process number in brackets stands behind "[pid " and all the spaces
 pub bracket_no : (text rest : List ℕ) (pid : ℕ) (behind : List ℕ) → text ≡ codes "[pid " ++ rest → (more after : List ℕ)
     → EachIs (is 32) more → text ≡ codes "[pid " ++ (more ++ after) → PidThen (codes "] ") after pid behind
     → PidThen (codes "] ") (after_spaces rest) pid behind
@@ -134,10 +144,12 @@ bracket_no text rest pid behind e more after each whole h =
     (more, each, same, digits_no_space (codes "] ") after pid behind h) in
     subst (λ (x : List ℕ). PidThen (codes "] ") x pid behind) (sym k) h
 
+-- a space is no decimal digit
 pub space_no_digit : NoDigit 10 (codes " ")
 unfolding worth
 space_no_digit = omega arith
 
+-- a closing bracket is no decimal digit
 pub bracket_no_digit : NoDigit 10 (codes "] ")
 unfolding worth
 bracket_no_digit = omega arith
@@ -181,6 +193,7 @@ prefix_length text pid rest (inr h) =
     let m = pid_length (codes "] ") h.1 pid rest h.4 in
     omega arith
 
+-- what is left behind the spaces isn't longer than the text
 pub behind_length : (text rest : List ℕ) → IsBehindSpaces text rest → length rest ≤ length text
 behind_length text rest h = let k = ap length h.2 ∙ length-append h.0 rest in omega arith
 
@@ -198,6 +211,7 @@ rotate (b ∷ s) h =
     let i = rotate s h.1 in
     ap (λ (x : List ℕ). b ∷ x) i ∙ ap (λ (x : ℕ). x ∷ (32 ∷ s)) k ∙ ap (λ (x : ℕ). 32 ∷ (x ∷ s)) (sym k)
 
+-- two equal texts end with the same byte
 pub last_same : (a b : List ℕ) (x y : ℕ) → a ++ (x ∷ []) ≡ b ++ (y ∷ []) → x ≡ y
 last_same [] [] x y e = cc
 last_same [] (c ∷ []) x y e = cc
@@ -239,6 +253,7 @@ cut_end front f e =
 never_parts : (text front more : List ℕ) → text ≡ front ++ (cut ++ ((32 ∷ more) ++ nothing)) → text ≡ ((front ++ cut) ++ (32 ∷ more)) ++ nothing
 never_parts text front more e = e ∙ sym (append_assoc front cut ((32 ∷ more) ++ nothing)) ∙ sym (append_assoc (front ++ cut) (32 ∷ more) nothing)
 
+-- a text that ends with "<unfinished ...>)", spaces and "= ?" is that of a call that never returned
 pub never_yes : (text one two three spaces : List ℕ) → text ≡ one ++ nothing → one ≡ two ++ (32 ∷ []) → two ≡ three ++ spaces
     → EachIs (is 32) spaces → EndsWith cut three → NeverReturned text
 never_yes text one two three spaces e1 e2 e3 each w =
@@ -252,6 +267,7 @@ never_yes text one two three spaces e1 e2 e3 each w =
           ∙ append_assoc w.0 cut ((32 ∷ spaces) ++ nothing),
     )
 
+-- a text that doesn't end with "= ?" isn't that of a call that never returned
 pub never_one : (text : List ℕ) → ((front : List ℕ) → text ≢ front ++ nothing) → NeverReturned text → ⊥
 never_one text none h = none ((h.0 ++ cut) ++ (32 ∷ h.1)) (never_parts text h.0 h.1 h.3)
 
@@ -262,9 +278,11 @@ never_spaced : (text one : List ℕ) → text ≡ one ++ nothing → (h : NeverR
 never_spaced text one e h = never_before text one e h ∙ ap (λ (x : List ℕ). (h.0 ++ cut) ++ x) (sym (rotate h.1 h.2))
     ∙ sym (append_assoc (h.0 ++ cut) h.1 (32 ∷ []))
 
+-- nor is one without a space before "= ?"
 pub never_two : (text one : List ℕ) → text ≡ one ++ nothing → ((front : List ℕ) → one ≢ front ++ (32 ∷ [])) → NeverReturned text → ⊥
 never_two text one e none h = none ((h.0 ++ cut) ++ h.1) (never_spaced text one e h)
 
+-- in that of a call that never returned, what stands before all the spaces ends with "<unfinished ...>)"
 pub never_three : (text one two three spaces : List ℕ) → text ≡ one ++ nothing → one ≡ two ++ (32 ∷ []) → two ≡ three ++ spaces
     → EachIs (is 32) spaces → ((f : List ℕ) → three ≢ f ++ (32 ∷ [])) → NeverReturned text → EndsWith cut three
 never_three text one two three spaces e1 e2 e3 each none h =
@@ -273,6 +291,7 @@ never_three text one two three spaces e1 e2 e3 each none h =
 
 -- ---- halves
 
+-- what stands before the spaces and "<unfinished ...>" is what is kept of a first half
 pub half_yes : (text front half spaces : List ℕ) → text ≡ front ++ unfinished → front ≡ half ++ spaces → EachIs (is 32) spaces
     → ((f : List ℕ) → half ≢ f ++ (32 ∷ [])) → IsHalf text half
 half_yes text front half spaces e k each ended =
@@ -292,8 +311,10 @@ half_same text a b h g =
     let e : a ++ h.spaces ≡ b ++ g.spaces = append_cancel_right (a ++ h.spaces) (b ++ g.spaces) unfinished (sym (half_front text a h) ∙ half_front text b g) in
     trailing a b h.spaces g.spaces h.only_spaces g.only_spaces h.ended g.ended e
 
+-- a first half ends with "<unfinished ...>"
 pub half_ends : (text half : List ℕ) → IsHalf text half → EndsWith unfinished text
 half_ends text half h = (half ++ h.spaces, half_front text half h)
 
+-- what is kept of a first half isn't longer than its text
 pub half_length : (text half : List ℕ) → IsHalf text half → length half ≤ length text
 half_length text half h = let k = ap length h.parts ∙ length-append half (h.spaces ++ unfinished) in omega arith

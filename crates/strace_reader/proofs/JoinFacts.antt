@@ -39,12 +39,14 @@ one_item text a b x y = (one_outcome text).item a b x y
 
 -- ---- results
 
+-- of a result that is Ok, a third fact holds that follows from two that hold of it
 pub ok_both : {T E : Type 0} (r : Result T E) (P Q R : Type 0) → OnOk r P → OnOk r Q → (P → Q → R) → OnOk r R
 ok_both (Ok x) P Q R p q f = f p q
 ok_both (Err e) P Q R p q f = tt
 
 -- ---- places
 
+-- the two places of a first half are in order and within its text
 pub half_places : (text : List ℕ) (p : ℕ) (n : Name) (from to : ℕ) → Spells text (Unfinished p n from to) → (from ≤ to) × (to ≤ length text)
 unfolding Spells
 half_places text p n from to h =
@@ -53,6 +55,7 @@ half_places text p n from to h =
     let end = h.5 in
     (omega arith, omega arith)
 
+-- the place from which a second half goes on is within its text
 pub rest_place : (text : List ℕ) (p : ℕ) (n : Name) (from : ℕ) → Spells text (Resumed p n from) → from ≤ length text
 unfolding Spells
 rest_place text p n from h = let place = h.4 in omega arith
@@ -75,6 +78,7 @@ kept_less text i fed q n half s other (x ∷ later) t earlier from to e u b sile
     let k : fed ≡ later ++ (t ∷ earlier) = cc in
     record { later = later; text = t; earlier = earlier; from = from; to = to; parts = k; is_half = u; bytes = b; silent = silent.1 }
 
+-- what is kept for a process behind a text that is none of its own was kept before that text
 pub kept_step : (text : List ℕ) (i : Item) (fed : List (List ℕ)) (q : ℕ) (n : Name) (half : List ℕ) → Spells text i
     → (IsOf q i → ⊥) → IsKept (text ∷ fed) q n half → IsKept fed q n half
 kept_step text i fed q n half s other k = kept_less text i fed q n half s other k.later k.text k.earlier k.from k.to k.parts k.is_half k.bytes k.silent
@@ -133,6 +137,7 @@ one_process Nothing p q h g = absurd h
 
 -- ---- what a joiner stands for
 
+-- a joiner stands for the texts with one more where that one is of no process
 pub fed_silent : (text : List ℕ) (i : Item) (fed : List (List ℕ)) (j : Joiner) → Spells text i → ((q : ℕ) → IsOf q i → ⊥) → IsFed j fed → IsFed j (text ∷ fed)
 fed_silent text i fed j s none f = record {
   kept = λ q n half k. f.kept q n half (kept_step text i fed q n half s (none q) k);
@@ -181,11 +186,16 @@ holds_one j q n m a b h g =
     let e : h.0 ≡ g.0 = some_half h.0 g.0 (sym h.1 ∙ g.1) in
     (sym h.2 ∙ ap (λ (x : Half). x.name) e ∙ g.2, sym h.3 ∙ ap (λ (x : Half). x.text.items) e ∙ g.3)
 
+-- the same name, and the same two places
 pub record SamePlaces (n m : Name) (a b c d : ℕ) : Type 0 where
+  -- the names are the same
   pub name : n ≡ m
+  -- the first places are the same
   pub from : a ≡ b
+  -- the second places are the same
   pub to : c ≡ d
 
+-- two equal first halves have the same name and the same places
 pub same_places : (p : ℕ) (n m : Name) (a b c d : ℕ) → Unfinished p n a c ≡ Unfinished p m b d → SamePlaces n m a b c d
 same_places p n m a b c d e = record { name = cc; from = cc; to = cc }
 
@@ -217,10 +227,12 @@ fed_half text p name from to fed old new bytes s b holds others f = record {
   ];
 }
 
+-- no text stands among no texts
 pub nothing_kept : (later : List (List ℕ)) (t : List ℕ) (earlier : List (List ℕ)) → [] ≡ later ++ (t ∷ earlier) → ⊥
 nothing_kept [] t earlier e = cc
 nothing_kept (x ∷ later) t earlier e = cc
 
+-- a joiner that holds no half stands for no texts
 pub fed_nothing : (j : Joiner) → ((q : ℕ) → half_of j q ≡ None) → IsFed j []
 fed_nothing j none = record {
   kept = λ q n half k. absurd (nothing_kept k.later k.text k.earlier k.parts);
@@ -234,6 +246,7 @@ drops_by : (j : Joiner) (fed : List (List ℕ)) (p : ℕ) (count : ℕ) (o : Opt
 drops_by j fed p count (Some k) e f c = inl (k.name, k.text.items, f.held p k.name k.text.items (k, e, refl, refl), c)
 drops_by j fed p count None e f c = inr (λ n half k. no_holds j p n half e (f.kept p n half k), c)
 
+-- as many halves are dropped for a process as the joiner holds for it, one or none
 pub drops : (j : Joiner) (fed : List (List ℕ)) (p : ℕ) (count : ℕ) → IsFed j fed → count ≡ (if is_some (half_of j p) then 1 else 0) → Drops fed p count
 drops j fed p count f c = drops_by j fed p count (half_of j p) refl f c
 
@@ -356,6 +369,7 @@ more_begins word half rest b = (b.0 ++ rest, ap (λ (x : List ℕ). x ++ rest) b
 no_process : (n : Name) (text : List ℕ) (p : ℕ) (body : List ℕ) → BeginsWith (call_head n) text → IsCut text p body → (p ≡ 0) × (body ≡ text)
 no_process n text p body b c = cut_same text p 0 body text c (call_cut n text b)
 
+-- a text that begins with a call's name is of process 0, if of any
 pub process_of : (n : Name) (text : List ℕ) (p : ℕ) (item : Item) → BeginsWith (call_head n) text → IsOf p item → Spells text item → p ≡ 0
 unfolding Spells
 process_of n text p (Played pid c r) b of h = sym of ∙ (no_process n text pid h.0 b h.1).0
@@ -393,6 +407,7 @@ answer_is fed text joined p n (Resumed pid m from) i b s = absurd (no_resumed n 
 answer_is fed text joined p n Passed i b s = inr (inr (inr (inl (p, joined, i, s, refl))))
 answer_is fed text joined p n Nothing i b s = absurd (no_blank n joined b s)
 
+-- what a second half answers by the half that the joiner holds is what the texts fed so far say
 pub join_answer : (j : Joiner) (fed : List (List ℕ)) (text : List ℕ) (p : ℕ) (n : Name) (from : ℕ) (rest : List ℕ) (answer : Fed)
     → Spells text (Resumed p n from) → rest ≡ drop from text → IsFed j fed → IsJoinAnswer j p n rest answer
     → IsAnswer fed text answer
@@ -410,6 +425,7 @@ join_answer j fed text p n from rest answer s d f (inr (inr h)) =
     (joined_is j fed text p n from h.0 s h.2 h.3 f) in
     subst (IsAnswer fed text) (sym h.5) (answer_is fed text joined p n h.1 i (joined_begins j fed rest p n h.0 h.2 h.3 f) h.4)
 
+-- why a second half is not taken, by the half that the joiner holds, is what the texts fed so far say
 pub join_fault : (j : Joiner) (fed : List (List ℕ)) (text : List ℕ) (p : ℕ) (n : Name) (from : ℕ) (rest : List ℕ)
     (fault : FeedFault) → Spells text (Resumed p n from) → rest ≡ drop from text → IsFed j fed → IsJoinFault j p n rest fault
     → IsFeedFault fed text fault
@@ -435,6 +451,7 @@ some_of j fed p None e f s = absurd cc
 is_some_half : (j : Joiner) (p : ℕ) (k : Half) → half_of j p ≡ Some k → IsSome (half_of j p)
 is_some_half j p k e = rw e refl
 
+-- as many processes have a kept half as the joiner holds halves, told up to 2^32 - 1
 pub counts : (j : Joiner) (fed : List (List ℕ)) (count n : ℕ) → IsFed j fed → IsOrdered nat_cmp j.halves
     → n ≡ length j.halves.entries → ((count ≡ n) ⊎ ((count ≡ 2 ^ 32 - 1) × (count < n))) → CountsKept fed count
 counts j fed count n f ordered len is =

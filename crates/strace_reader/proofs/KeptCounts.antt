@@ -46,10 +46,15 @@ others_kept text fed p is (q ∷ ps) apart all =
 
 -- the processes but for the one whose half the text is
 record Before (fed : List (List ℕ)) (ps : List ℕ) : Type 0 where
+  -- these processes
   pub others : List ℕ
+  -- they are all different
   pub apart : AreApart others
+  -- each has a first half that was kept before the text
   pub kept : All (HasHalf fed) others
+  -- at most one of the processes is missing
   pub few : length ps ≤ length others + 1
+  -- what is none of the processes is none of these
   pub among : (x : ℕ) → All (λ q. x ≢ q) ps → All (λ q. x ≢ q) others
 
 before : (text : List ℕ) (fed : List (List ℕ)) (ps : List ℕ) → AreApart ps → All (HasHalf (text ∷ fed)) ps → Before fed ps

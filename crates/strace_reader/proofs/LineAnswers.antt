@@ -16,10 +16,15 @@ use Rattle.strace_reader.proofs.BodyAnswers.{BodyAnswers, some_call, some_head, 
 
 -- all that the reader of lines says of its result
 pub record LineAnswers (text : List ℕ) (r : Result Item BadCall) : Type 0 where
+  -- what was read is what the line spells
   pub found : IfOk r (λ item. Spells text item)
+  -- what the line spells was read
   pub only : (item : Item) → Spells text item → r ≡ Ok item
+  -- a refusal is one of the line
   pub refused : IfErr r (Refuses text)
+  -- each refusal of the line is the one that was given
   pub only_there : (bad : BadCall) → Refuses text bad → r ≡ Err bad
+  -- a call that was read has named bits alone
   pub named : IfOk r (λ item. IsNamedItem item)
 
 abbrev is_item : Item → Result Item BadCall
@@ -53,6 +58,7 @@ blank_bad : (text : List ℕ) → text ≡ [] → (bad : BadCall) → Refuses te
 unfolding Refuses RefusesBody
 blank_bad text e bad h = let k = nothing_spelled text e h.0 h.1 h.3 in let l = some_call h.4.0 h.1 h.4.2 in omega arith
 
+-- an empty text is an empty line, and nothing else
 pub blank_line : (text : List ℕ) → text ≡ [] → LineAnswers text (Ok Blank)
 unfolding Spells
 blank_line text e = record {
@@ -67,16 +73,23 @@ blank_line text e = record {
 
 -- the body that a line's item is of
 pub record OfBody (text : List ℕ) (item : Item) : Type 0 where
+  -- the process of the line
   pub pid : ℕ
+  -- the bytes of the body
   pub body : List ℕ
+  -- what the body is
   pub it : Body
+  -- the line has this process and this body
   pub cut : IsCut text pid body
+  -- the body is that
   pub is : IsBody body it
+  -- the item is made of them
   pub same : item ≡ item_of (length text) pid (length body) it
 
 from_is : (n m from : ℕ) → from + m ≡ n → from ≡ n - m
 from_is n m from h = omega arith
 
+-- each item that a text spells, which isn't empty, is made of the text's body
 pub of_body : (text : List ℕ) → text ≢ [] → (item : Item) → Spells text item → OfBody text item
 unfolding Spells
 of_body text some (Played q c r) h = record { pid = q; body = h.0; it = Called c r; cut = h.1; is = h.2; same = refl }
@@ -92,6 +105,7 @@ of_body text some Blank h = absurd (some h)
 back : (n m : ℕ) → m ≤ n → n - m + m ≡ n
 back n m h = omega arith
 
+-- what a body is, with its process and its places in the line, the line spells
 pub spelled : (text body : List ℕ) (pid : ℕ) (b : Body) → text ≢ [] → IsCut text pid body → IsBody body b
     → Spells text (item_of (length text) pid (length body) b)
 unfolding Spells
@@ -141,6 +155,7 @@ line_bad text body pid b cut a bad h =
     let k = cut_same text pid h.0 body h.1 cut h.3 in
     ok_no_err b h.2 (a.only_there h.2 (subst (λ (x : List ℕ). RefusesBody x h.2) (sym k.1) h.4))
 
+-- a line whose body is read as something alone is the item made of that alone
 pub read_body_line : (text body : List ℕ) (pid : ℕ) (b : Body) → text ≢ [] → IsCut text pid body → BodyAnswers body (Ok b)
     → LineAnswers text (Ok (item_of (length text) pid (length body) b))
 read_body_line text body pid b some cut a = record {
@@ -179,6 +194,7 @@ refused_there text body pid f cut a le bad h =
     (column_is (length text) f.left bad.column (ap (λ (x : ℕ). bad.column + x) l ∙ place) le)
     (ap (λ (x : Refusal). x.what) e ∙ sym h.6)
 
+-- a line whose body is refused in one way is refused in one way, its column counted in the line
 pub refused_body_line : (text body : List ℕ) (pid : ℕ) (f : Refusal) → text ≢ [] → IsCut text pid body → BodyAnswers body (Err f)
     → LineAnswers text (Err (record { column = length text - f.left + 1; what = f.what }))
 unfolding Refuses
@@ -194,9 +210,11 @@ refused_body_line text body pid f some cut a =
       named = tt;
     }
 
+-- a text of no bytes is empty
 pub empty_line : (text : List ℕ) → (length text == 0) ≡ true → text ≡ []
 empty_line [] h = refl
 empty_line (c ∷ text) h = elim (eqb_tells (length (c ∷ text)) 0) [ inl k ↦ let n = k.1 in absurd (omega arith) | inr k ↦ let n = k.0 in absurd cc ]
 
+-- a text of another number of bytes isn't empty
 pub full_line : (text : List ℕ) → (length text == 0) ≡ false → text ≢ []
 full_line text h e = let k : (length text == 0) ≡ true = ap (λ (x : List ℕ). length x == 0) e in cc

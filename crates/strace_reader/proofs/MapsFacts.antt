@@ -165,11 +165,17 @@ ended_no kind [] h = refl
 ended_no kind (c ∷ text) (inl h) = absurd cc
 ended_no kind (c ∷ text) (inr h) = rw h refl
 
+-- the text begins with the four characters of the kind, and a space or the end is behind them
 pub record KindFound (text : List ℕ) (kind : Kind) : Type 0 where
+  -- the four characters
   pub chars : List ℕ
+  -- what stands behind them
   pub tail : List ℕ
+  -- the text is these two
   pub parts : text ≡ chars ++ tail
+  -- the characters are those of the kind
   pub is_kind : IsKind chars kind
+  -- behind them the text ends or goes on with a space
   pub behind : (tail ≡ []) ⊎ (starts (is 32) tail ≡ true)
 
 -- what is read behind the first character, the second and the third
@@ -185,11 +191,17 @@ behind_first read text = then_some (mark_at 119 2 text) (λ w. behind_second rea
 
 -- the fourth character, behind three that have these bits
 pub record Fourth (read write exec : ℕ) (text : List ℕ) (kind : Kind) : Type 0 where
+  -- the fourth character
   pub s : ℕ
+  -- what stands behind it
   pub tail : List ℕ
+  -- the text is these two
   pub parts : text ≡ s ∷ tail
+  -- the kind has the bits of the three characters
   pub rights : kind.prot ≡ record { 0 = bit_or (bit_or read write) exec }
+  -- the fourth character says whether writes are shared
   pub sharing : ((s ≡ 115) × (kind.shared ≡ true)) ⊎ ((s ≡ 112) × (kind.shared ≡ false))
+  -- behind it the text ends or goes on with a space
   pub behind : (tail ≡ []) ⊎ (starts (is 32) tail ≡ true)
 
 fourth_is : (read write exec s : ℕ) (shared : Bool) (text tail : List ℕ) (kind : Kind) → text ≡ s ∷ tail
@@ -214,11 +226,17 @@ fourth_yes read write exec text kind h =
 
 -- the third character and the fourth, and the second and those
 pub record Third (read write : ℕ) (text : List ℕ) (kind : Kind) : Type 0 where
+  -- the third character
   pub x : ℕ
+  -- its bit
   pub exec : ℕ
+  -- what stands behind it
   pub rest : List ℕ
+  -- the text is these two
   pub parts : text ≡ x ∷ rest
+  -- the character is x with the bit, or a dash without
   pub exec_mark : IsMark 120 4 x exec
+  -- the fourth character stands behind it
   pub fourth : Fourth read write exec rest kind
 
 third_yes : (read write : ℕ) (text : List ℕ) (kind : Kind) → behind_second read write text ≡ Some kind → Third read write text kind
@@ -227,12 +245,19 @@ third_yes read write text kind h =
     let b = mark_yes 120 4 text a.0.1 a.0.0 a.1 in
     record { x = b.0; exec = a.0.0; rest = a.0.1; parts = b.1; exec_mark = b.2; fourth = fourth_yes read write a.0.0 a.0.1 kind a.2 }
 
+-- the second character, and the third and the fourth
 pub record Second (read : ℕ) (text : List ℕ) (kind : Kind) : Type 0 where
+  -- the second character
   pub w : ℕ
+  -- its bit
   pub write : ℕ
+  -- what stands behind it
   pub rest : List ℕ
+  -- the text is these two
   pub parts : text ≡ w ∷ rest
+  -- the character is w with the bit, or a dash without
   pub write_mark : IsMark 119 2 w write
+  -- the third and the fourth character stand behind it
   pub third : Third read write rest kind
 
 second_yes : (read : ℕ) (text : List ℕ) (kind : Kind) → behind_first read text ≡ Some kind → Second read text kind
@@ -310,12 +335,19 @@ behind_start start text = then_some (behind_byte 45 text) (λ u. behind_dash sta
 
 -- the kind behind the two addresses, which are these
 pub record Behind (start stop : ℕ) (text : List ℕ) (line : ℕ × ℕ × Kind) : Type 0 where
+  -- the four characters
   pub chars : List ℕ
+  -- what stands behind them
   pub tail : List ℕ
+  -- the text is a space and these two
   pub parts : text ≡ 32 ∷ (chars ++ tail)
+  -- the characters are those of the line's kind
   pub is_kind : IsKind chars line.2
+  -- behind them the text ends or goes on with a space
   pub behind : (tail ≡ []) ⊎ (starts (is 32) tail ≡ true)
+  -- the first address is the line's start
   pub starts_at : start ≡ line.0
+  -- the second address is the line's end
   pub stops_at : stop ≡ line.1
 
 behind_is : (start stop : ℕ) (text rest : List ℕ) (kind : Kind) (line : ℕ × ℕ × Kind) → text ≡ 32 ∷ rest → KindFound rest kind → (start, stop, kind) ≡ line
@@ -338,11 +370,17 @@ behind_stop_yes start stop text line h =
 
 -- the second address and what is behind it
 pub record Stop (start : ℕ) (text : List ℕ) (line : ℕ × ℕ × Kind) : Type 0 where
+  -- the digits of the second address
   pub second : List ℕ
+  -- what stands behind them
   pub rest : List ℕ
+  -- the second address
   pub stop : ℕ
+  -- the text is the digits and the rest
   pub parts : text ≡ second ++ rest
+  -- the digits are those of the address
   pub is_address : IsAddress second stop
+  -- the kind stands behind, and the addresses are the line's
   pub found : Behind start stop rest line
 
 behind_dash_yes : (start : ℕ) (text : List ℕ) (line : ℕ × ℕ × Kind) → behind_dash start text ≡ Some line → Stop start text line
@@ -372,6 +410,7 @@ line_is text first one two start line parts is_first dash second =
       behind = found.behind;
     }
 
+-- what maps_at finds is a maps line
 pub maps_yes : (text : List ℕ) (start stop : ℕ) (kind : Kind) → maps_at text ≡ Some (start, stop, kind) → IsMapsLine text start stop kind
 unfolding maps_at
 maps_yes text start stop kind h =
@@ -388,6 +427,7 @@ space_stop : (rest : List ℕ) → NoDigit 16 (32 ∷ rest)
 unfolding worth
 space_stop rest = omega arith
 
+-- a maps line is found by maps_at
 pub maps_no : (text : List ℕ) (start stop : ℕ) (kind : Kind) → IsMapsLine text start stop kind → maps_at text ≡ Some (start, stop, kind)
 unfolding maps_at
 maps_no text start stop kind m =
@@ -402,17 +442,25 @@ maps_no text start stop kind m =
 
 -- ---- what the reader of maps lines owes at each of its returns
 
+-- a result that is this item
 abbrev pub is_maps_item : MapsItem → Result MapsItem BadCall
 is_maps_item item = Ok item
 
+-- a result that is this refusal
 abbrev pub is_maps_err : BadCall → Result MapsItem BadCall
 is_maps_err bad = Err bad
 
+-- all that the reader of maps lines says of its result
 pub record MapsAnswers (text : List ℕ) (r : Result MapsItem BadCall) : Type 0 where
+  -- what was read is what the line spells
   pub found : IfOk r (SpellsMaps text)
+  -- what the line spells was read
   pub only : (item : MapsItem) → SpellsMaps text item → r ≡ Ok item
+  -- a refusal is one of the line
   pub refused : IfErr r (RefusesMaps text)
+  -- each refusal of the line is the one that was given
   pub only_there : (bad : BadCall) → RefusesMaps text bad → r ≡ Err bad
+  -- an area that was read has named bits alone
   pub named : IfOk r IsNamedMapsItem
 
 no_line : (text : List ℕ) → maps_at text ≡ None → (start stop : ℕ) (kind : Kind) → IsMapsLine text start stop kind → ⊥
@@ -428,6 +476,7 @@ unfolding SpellsMaps
 form_only text h (Area area) s = no_line text h (area.lo * 4096) (area.hi * 4096) area.kind s.0
 form_only text h (Past a b) s = no_line text h a b s.0 s.1
 
+-- a text that is no maps line is refused for its form, and is nothing else
 pub form_line : (text : List ℕ) → maps_at text ≡ None → MapsAnswers text (Err (record { column = 1; what = Form }))
 unfolding RefusesMaps
 form_line text h = record {
@@ -444,6 +493,7 @@ order_only text a b k h le (Area area) s = let o = one_line text a b (area.lo * 
     let lt = s.1 in let p = o.0 in let q = o.1 in omega arith
 order_only text a b k h le (Past c d) s = let o = one_line text a b c d k s.0 h s.1 in let lt = s.2 in let p = o.0 in let q = o.1 in omega arith
 
+-- a maps line whose start isn't below its end is refused for the order, and is nothing else
 pub order_line : (text : List ℕ) (a b : ℕ) (k : Kind) → maps_at text ≡ Some (a, b, k) → b ≤ a → MapsAnswers text (Err (record { column = 1; what = Order }))
 unfolding RefusesMaps
 order_line text a b k h le = record {
@@ -467,6 +517,7 @@ past_only text a b k h past (Area area) s = let o = one_line text a b (area.lo *
 past_only text a b k h past (Past c d) s = let o = one_line text a b c d k s.0 h s.1 in
     ap (λ (x : ℕ). is_maps_item (Past x b)) (sym o.0) ∙ ap (λ (x : ℕ). is_maps_item (Past c x)) (sym o.1)
 
+-- a maps line in order that ends above the user addresses is that alone, and isn't refused
 pub past_line : (text : List ℕ) (a b : ℕ) (k : Kind) → maps_at text ≡ Some (a, b, k) → a < b → user_end < b → MapsAnswers text (Ok (Past a b))
 unfolding SpellsMaps
 past_line text a b k h lt past = record {
@@ -513,6 +564,7 @@ area_found text a b k m lt le =
     let q = page_of_start b m.stops_at.aligned in
     (subst (λ (x : ℕ). IsMapsLine text x ((b / 4096) * 4096) k) (sym p) (subst (λ (x : ℕ). IsMapsLine text a x k) (sym q) m), omega arith, omega arith)
 
+-- a maps line in order within the user addresses is that area alone, and isn't refused
 pub area_line : (text : List ℕ) (a b : ℕ) (k : Kind) → maps_at text ≡ Some (a, b, k) → a < b → b ≤ user_end
     → MapsAnswers text (Ok (Area (record { lo = a / 4096; hi = b / 4096; kind = k })))
 area_line text a b k h lt le =

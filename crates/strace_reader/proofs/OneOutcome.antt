@@ -29,8 +29,11 @@ refused_as bad = Err bad
 
 -- a result that every item and every refusal of a text is
 record IsFixed {A : Type 0} (spells : A → Type 0) (refuses : BadCall → Type 0) : Type 0 where
+  -- that result
   pub result : Result A BadCall
+  -- each item of the text is the result
   pub only : (item : A) → spells item → result ≡ found_as item
+  -- each refusal of the text is the result
   pub only_there : (bad : BadCall) → refuses bad → result ≡ refused_as bad
 
 same_item : {A : Type 0} (a b : A) → found_as a ≡ found_as b → a ≡ b
@@ -73,6 +76,7 @@ other_fixed body (inr (inr (inl h))) = (Ok Other, never_body h.0 body h.1 h.2)
 other_fixed body (inr (inr (inr (inl h)))) = call_fixed h.0 body h.1
 other_fixed body (inr (inr (inr (inr f)))) = (Ok Other, no_form_body body f)
 
+-- a body that is anything is read in one way
 pub body_fixed : (body : List ℕ) (b : Body) → IsBody body b → BodyIsRead body
 unfolding IsBody
 body_fixed body (Called c r) h = call_fixed h.0 body h.1

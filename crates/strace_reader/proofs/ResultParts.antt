@@ -145,18 +145,22 @@ outcome_good call =
     (end_good AtResult (Called call None)) (full_nonempty (is 32) (resulted call) (resulted_full call))
     (λ rest q v h hq. stays_end q v hq) ([], Called call None, λ q h. last_end (resulted call) (Called call None) q h)
 
+-- the parenthesis and what is behind it are read by closing_at, where nothing follows
 pub closing_good : (call : Call) → Good (closing call) Last (closing_at call)
 unfolding closing_at
 closing_good call = good_then (byte_good 41 Close) (λ u. outcome_good call) (λ v b q w h hq. tt)
 
+-- the parenthesis and what is behind it begin with a closing parenthesis
 pub closing_heads : (call : Call) → Heads (is 41) (closing call)
 closing_heads call = heads_then (is 41) (byte 41 Close) (λ u. outcome call) (byte_heads 41 Close)
 
 -- ---- a line is taken to its end
 
+-- what the part takes ends the text
 abbrev pub Ends : {A : Type 0} → Part A → Type 0
 Ends {A} part = (p q : List ℕ) (v : A) → part.takes p q v → q ≡ []
 
+-- two parts, one behind the other, end the text where the second always does
 pub chain_ends : {A B : Type 0} (first : Part A) (next : A → Part B) → ((v : A) → Ends (next v)) → Ends (chain first next)
 chain_ends first next ends p q w h = ends h.2 h.1 q w h.5
 
@@ -170,14 +174,17 @@ outcome_end call p q v true h = chain_ends equals (λ u. chain recorded (λ r. t
     (λ r p q v h. tail_end (Called call r) p q v (starts (is 32) (p ++ q)) h)) p q v h
 outcome_end call p q v false h = h.1
 
+-- the parenthesis and what is behind it end the text
 pub closing_ends : (call : Call) → Ends (closing call)
 closing_ends call = chain_ends (byte 41 Close) (λ u. outcome call) (λ u p q v h. outcome_end call p q v (starts (is 32) (p ++ q)) h)
 
 -- ---- the value of a line
 
+-- each value of the part has the property
 abbrev pub Values : {A : Type 0} → (A → Type 0) → Part A → Type 0
 Values {A} P part = (p q : List ℕ) (v : A) → part.takes p q v → P v
 
+-- each value of two parts, one behind the other, has the property that all values of the second have
 pub chain_values : {A B : Type 0} (P : B → Type 0) (first : Part A) (next : A → Part B) → ((v : A) → Values P (next v)) → Values P (chain first next)
 chain_values P first next values p q w h = values h.2 h.1 q w h.5
 
@@ -200,5 +207,6 @@ outcome_value call named p q v true h =
     (λ r p q v h. subst IsSound (sym (tail_value (Called call r) p q v (starts (is 32) (p ++ q)) h)) named)) p q v h
 outcome_value call named p q v false h = subst IsSound (sym h.2) named
 
+-- what is taken as the closing of a call with named bits alone is a sound body
 pub closing_values : (call : Call) → IsNamedCall call → Values IsSound (closing call)
 closing_values call named = chain_values IsSound (byte 41 Close) (λ u. outcome call) (λ u p q v h. outcome_value call named p q v (starts (is 32) (p ++ q)) h)

@@ -61,6 +61,7 @@ length_good = narrower (λ v q h. close_no_numeral q h) (number_good Number)
 
 -- ---- munmap
 
+-- the arguments of munmap are read by munmap_at, where nothing follows
 pub munmap_good : Good munmap_arguments Last munmap_at
 unfolding munmap_at
 munmap_good =
@@ -80,6 +81,7 @@ protect_behind_prot_follows : (a n : ℕ) → Follows ListEnds (protect_behind_p
 protect_behind_prot_follows a n None b q w h hq = ap (λ (y : List ℕ). y ++ q) h.0 ∙ hq
 protect_behind_prot_follows a n (Some p) b q w h hq = paren_closes (b ++ q) (closing_heads (Protect a n (record { 0 = p })) b q w h)
 
+-- the arguments of mprotect are read by mprotect_at, where nothing follows
 pub mprotect_good : Good mprotect_arguments Last mprotect_at
 unfolding mprotect_at
 mprotect_good =
@@ -94,6 +96,7 @@ mprotect_good =
 
 -- ---- fault
 
+-- the arguments of a page fault are read by fault_call_at, where nothing follows
 pub fault_good : Good fault_arguments Last fault_call_at
 unfolding fault_call_at
 fault_good =
@@ -137,6 +140,7 @@ map_behind_prot_follows : (a n : ℕ) → Follows ListEnds (map_behind_prot a n)
 map_behind_prot_follows a n None b q w h hq = ap (λ (y : List ℕ). y ++ q) h.0 ∙ hq
 map_behind_prot_follows a n (Some p) b q w h hq = comma_closes (b ++ q) (comma_begins (λ u. chain flags (map_behind_flags a n p)) b q w h)
 
+-- the arguments of mmap are read by mmap_at, where nothing follows
 pub mmap_good : Good mmap_arguments Last mmap_at
 unfolding mmap_at
 mmap_good =
@@ -151,6 +155,7 @@ mmap_good =
 
 -- ---- each call
 
+-- the arguments of each call are read by arguments_at, where nothing follows
 pub arguments_good : (name : Name) → Good (arguments name) Last (arguments_at name)
 arguments_good Mmap = mmap_good
 arguments_good Munmap = munmap_good
@@ -225,14 +230,22 @@ call_ends name = chain_ends (begun (call_head name)) (λ u. arguments name) (λ 
 
 -- ---- a whole line, over any part that takes it to its end
 
+-- the part takes the whole text as this item alone, and refuses it nowhere
 pub record IsWhole {A : Type 0} (part : Part A) (text : List ℕ) (item : A) : Type 0 where
+  -- the part takes the whole text as this item
   pub spelled : part.takes text [] item
+  -- the part takes the whole text as no other item
   pub only : (other : A) → part.takes text [] other → other ≡ item
+  -- the part refuses the text at no column
   pub clean : (column : ℕ) (what : What) → Refused part text column what → ⊥
 
+-- the part refuses the text at this column alone, for this cause, and takes it as no item
 pub record IsRefused {A : Type 0} (part : Part A) (text : List ℕ) (column : ℕ) (what : What) : Type 0 where
+  -- the part refuses the text at this column, for this cause
   pub refused : Refused part text column what
+  -- the part takes the whole text as no item
   pub none : (item : A) → part.takes text [] item → ⊥
+  -- each refusal of the text is at this column and for this cause
   pub one : (c : ℕ) (w : What) → Refused part text c w → (c ≡ column) × (w ≡ what)
 
 whole_of : {A : Type 0} (part : Part A) (text rest : List ℕ) (item : A) → Ends part → Took part text item rest → IsWhole part text item
@@ -270,11 +283,13 @@ refused_of {A} part text f column place s =
           (omega arith, e.1);
     }
 
+-- where arguments are read as a body, the call's name with them behind it is that body alone
 pub call_whole : (name : Name) (rest after : List ℕ) (item : Body) → arguments_at name rest ≡ Ok (item, after)
     → IsWhole (call name) (call_head name ++ rest) item
 call_whole name rest after item e = whole_of (call name) (call_head name ++ rest) after item (call_ends name)
     (subst (Reads (call name) Last (call_head name ++ rest)) e (call_reads name rest))
 
+-- where arguments are refused, the call's name with them behind it is refused at that place alone
 pub call_refused : (name : Name) (rest : List ℕ) (f : Refusal) (column : ℕ) → arguments_at name rest ≡ Err f
     → column + f.left ≡ length (call_head name ++ rest) + 1 → IsRefused (call name) (call_head name ++ rest) column f.what
 call_refused name rest f column e place = refused_of (call name) (call_head name ++ rest) f column place
@@ -321,6 +336,7 @@ arguments_values FaultName = chain_values IsSound addr (λ a. chain comma (λ u.
     (λ a. chain_values IsSound comma (λ u. chain access (λ c. closing (FaultCall a c)))
     (λ u. chain_values IsSound access (λ c. closing (FaultCall a c)) (λ c. closing_values (FaultCall a c) tt)))
 
+-- what a call is read as is a call with named bits alone, or is passed over
 pub call_values : (name : Name) → Values IsSound (call name)
 unfolding call
 call_values name = chain_values IsSound (begun (call_head name)) (λ u. arguments name) (λ u. arguments_values name)

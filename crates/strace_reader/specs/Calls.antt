@@ -77,8 +77,8 @@ descriptor = choice (is 45) (chain (letters (codes "-1") Number) (λ u. path)) (
 abbrev pub access : Part Access
 access = record {
   takes = λ front rest v. IsRun is_capital is_word_byte front × (starts is_word_byte rest ≡ false) × (access_of front ≡ Some v);
-  refuses = λ front over rest w. (front ≡ []) × (w ≡ Word)
-      × (((over ≡ []) × (starts is_capital rest ≡ false))
+  refuses = λ front over rest w. (front ≡ []) × (w ≡ Word) × (
+      ((over ≡ []) × (starts is_capital rest ≡ false))
       ⊎ (IsRun is_capital is_word_byte over × (starts is_word_byte rest ≡ false) × (access_of over ≡ None)));
 }
 
@@ -86,8 +86,8 @@ access = record {
 
 -- a number, or -1 and an error's name
 abbrev pub failed : Part (Option Recorded)
-failed = choice (is 45) (chain (letters (codes "-1 ") AtResult)
-    (λ u. chain (run is_word_byte is_word_byte AtResult) (λ w. done (Some (Failed (errno_of w))))))
+failed = choice (is 45)
+    (chain (letters (codes "-1 ") AtResult) (λ u. chain (run is_word_byte is_word_byte AtResult) (λ w. done (Some (Failed (errno_of w))))))
     (chain (number AtResult) (λ n. done (Some (Value n))))
 
 -- ?, or a number or an error

@@ -57,7 +57,8 @@ IsBehindSpaces text rest = (spaces : List ℕ) × EachIs (is 32) spaces × (text
 -- The process of a line, and its body, which is what stands behind the prefix and all its spaces. A line with no
 -- prefix is its body, and its process is 0.
 abbrev pub IsCut : List ℕ → ℕ → List ℕ → Type 0
-IsCut text pid body = ((rest : List ℕ) × IsPrefixed text pid rest × IsBehindSpaces rest body)
+IsCut text pid body =
+    ((rest : List ℕ) × IsPrefixed text pid rest × IsBehindSpaces rest body)
     ⊎ ((pid ≡ 0) × (body ≡ text) × ((n : ℕ) (rest : List ℕ) → IsPrefixed text n rest → ⊥))
 
 -- ---- the forms of a body
@@ -88,9 +89,11 @@ pub record NoForm (text : List ℕ) : Type 0 where
 
 -- the forms of a body that is passed over
 abbrev pub IsOther : List ℕ → Type 0
-IsOther text = BeginsWith (codes "---") text ⊎ BeginsWith (codes "+++") text
+IsOther text = BeginsWith (codes "---") text
+    ⊎ BeginsWith (codes "+++") text
     ⊎ ((name : Name) × BeginsWith (call_head name) text × NeverReturned text)
-    ⊎ ((name : Name) × IsCall name text × (call name).takes text [] Other) ⊎ NoForm text
+    ⊎ ((name : Name) × IsCall name text × (call name).takes text [] Other)
+    ⊎ NoForm text
 
 -- a body and what it is
 unfoldable pub IsBody : List ℕ → Body → Type 0

@@ -44,7 +44,8 @@ answer_of process Nothing = Skipped 1
 
 -- what a second half answers, by the half that is held for its process
 abbrev pub IsJoinAnswer : Joiner → ℕ → Name → List ℕ → Fed → Type 0
-IsJoinAnswer joiner process name rest fed = ((half_of joiner process ≡ None) × (fed ≡ Skipped 1))
+IsJoinAnswer joiner process name rest fed =
+    ((half_of joiner process ≡ None) × (fed ≡ Skipped 1))
     ⊎ ((kept : Half) × (half_of joiner process ≡ Some kept) × (kept.name ≢ name) × (fed ≡ Skipped 2))
     ⊎ ((kept : Half) × (item : Item) × (half_of joiner process ≡ Some kept) × (kept.name ≡ name)
     × Spells (kept.text.items ++ rest) item × (fed ≡ answer_of process item))

@@ -67,14 +67,17 @@ IsHalfAgain joined = (process : ℕ) × (name : Name) × (from to : ℕ) × Spel
 -- How many lines a text passes over that is neither kept nor played: a line that is passed over by itself, a second
 -- half alone, one whose first half has another name, and joined halves that are no call or a first half again.
 abbrev pub PassesOver : List (List ℕ) → List ℕ → ℕ → Type 0
-PassesOver fed text count = (Spells text Passed × (count ≡ 1)) ⊎ (IsAlone fed text × (count ≡ 1))
-    ⊎ (IsOfOtherName fed text × (count ≡ 2)) ⊎ ((process : ℕ) × (joined : List ℕ) × IsJoined fed text process joined
-    × Spells joined Passed × (count ≡ 1)) ⊎ ((process : ℕ) × (joined : List ℕ) × IsJoined fed text process joined
-    × IsHalfAgain joined × (count ≡ 2))
+PassesOver fed text count =
+    (Spells text Passed × (count ≡ 1))
+    ⊎ (IsAlone fed text × (count ≡ 1))
+    ⊎ (IsOfOtherName fed text × (count ≡ 2))
+    ⊎ ((process : ℕ) × (joined : List ℕ) × IsJoined fed text process joined × Spells joined Passed × (count ≡ 1))
+    ⊎ ((process : ℕ) × (joined : List ℕ) × IsJoined fed text process joined × IsHalfAgain joined × (count ≡ 2))
 
 -- what a text answers behind those that were fed
 abbrev pub IsAnswer : List (List ℕ) → List ℕ → Fed → Type 0
-IsAnswer fed text (Answered pid done recorded count) = (Spells text (Played pid done recorded) × Drops fed pid count)
+IsAnswer fed text (Answered pid done recorded count) =
+    (Spells text (Played pid done recorded) × Drops fed pid count)
     ⊎ ((joined : List ℕ) × IsJoined fed text pid joined × Spells joined (Played 0 done recorded) × (count ≡ 0))
 IsAnswer fed text (Kept count) = (process : ℕ) × (name : Name) × (from to : ℕ) × Spells text (Unfinished process name from to) × Drops fed process count
 IsAnswer fed text (Skipped count) = PassesOver fed text count

@@ -61,10 +61,9 @@ SpellsMaps text (Past start stop) = (kind : Kind) × IsMapsLine text start stop 
 
 -- a line of another form is refused for that, and one whose start is not below its end for its order
 unfoldable pub RefusesMaps : List ℕ → BadCall → Type 0
-RefusesMaps text bad = (((start stop : ℕ) (kind : Kind) → IsMapsLine text start stop kind → ⊥)
-    × (bad ≡ record { column = 1; what = Form }))
-    ⊎ ((start stop : ℕ) × (kind : Kind) × IsMapsLine text start stop kind × (stop ≤ start)
-    × (bad ≡ record { column = 1; what = Order }))
+RefusesMaps text bad =
+    (((start stop : ℕ) (kind : Kind) → IsMapsLine text start stop kind → ⊥) × (bad ≡ record { column = 1; what = Form }))
+    ⊎ ((start stop : ℕ) × (kind : Kind) × IsMapsLine text start stop kind × (stop ≤ start) × (bad ≡ record { column = 1; what = Order }))
 
 -- the protection has no bit but the named ones
 abbrev pub IsNamedMapsItem : MapsItem → Type 0

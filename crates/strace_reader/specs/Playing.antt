@@ -10,9 +10,8 @@ use Rattle.page_types.specs.declared.calls.Why.{Why}
 use Rattle.page_types.specs.declared.calls.Why.TheVariants.{Einval, Enomem, Eexist, MapErr, AccErr}
 use Rattle.page_types.specs.Sets.{is_fixed}
 use Rattle.strace_reader.specs.declared.item.Errno.{Errno}
-use Rattle.strace_reader.specs.declared.item.Errno.TheVariants.{Einval as EinvalName, Enomem as EnomemName}
-use Rattle.strace_reader.specs.declared.item.Errno.TheVariants.{Eexist as EexistName, MapErr as MapErrName}
-use Rattle.strace_reader.specs.declared.item.Errno.TheVariants.{AccErr as AccErrName}
+use Rattle.strace_reader.specs.declared.item.Errno.TheVariants.{Einval as EinvalName, Enomem as EnomemName, Eexist as EexistName}
+use Rattle.strace_reader.specs.declared.item.Errno.TheVariants.{MapErr as MapErrName, AccErr as AccErrName}
 use Rattle.strace_reader.specs.declared.item.Recorded.{Recorded}
 use Rattle.strace_reader.specs.declared.item.Recorded.TheVariants.{Value, Failed}
 

@@ -48,8 +48,9 @@ prot_word_at text = if starts is_digit text then Ok (None, []) else (word_at tex
 
 -- a comment, where one stands
 unfoldable pub commented_at : List ℕ → Result (Unit {0} × List ℕ) Refusal
-commented_at text = if starts (is 32) text then
-    (letters_at (codes " /*") Comma text >>= λ u. until_at 42 47 Comma u.1 >>= λ v. byte_at 47 Comma v.1) else Ok (tt, text)
+commented_at text = if starts (is 32) text
+    then (letters_at (codes " /*") Comma text >>= λ u. until_at 42 47 Comma u.1 >>= λ v. byte_at 47 Comma v.1)
+    else Ok (tt, text)
 
 -- what a number is shifted by
 unfoldable pub operand_at : List ℕ → Result (Unit {0} × List ℕ) Refusal
@@ -61,7 +62,8 @@ shifted_at text = if starts (is 60) text then (letters_at (codes "<<") Comma tex
 
 -- one of the flags
 unfoldable pub flag_word_at : List ℕ → Result (Option ℕ × List ℕ) Refusal
-flag_word_at text = if starts is_digit text then (number_at Number text >>= λ n. shifted_at n.1 >>= λ u. Ok (Some 0, u.1))
+flag_word_at text = if starts is_digit text
+    then (number_at Number text >>= λ n. shifted_at n.1 >>= λ u. Ok (Some 0, u.1))
     else (word_at text >>= λ w. known_at (flag_of w.0) w.1)
 
 -- a word of either list
@@ -100,8 +102,8 @@ access_at text = word_at text >>= λ w. access_read text w.1 (access_of w.0)
 
 -- an error's name or a number
 unfoldable pub failed_at : List ℕ → Result (Option Recorded × List ℕ) Refusal
-failed_at text = if starts (is 45) text then (letters_at (codes "-1 ") AtResult text >>= λ u. run_at is_word_byte is_word_byte
-    AtResult u.1 >>= λ w. Ok (Some (Failed (errno_of w.0)), w.1))
+failed_at text = if starts (is 45) text
+    then (letters_at (codes "-1 ") AtResult text >>= λ u. run_at is_word_byte is_word_byte AtResult u.1 >>= λ w. Ok (Some (Failed (errno_of w.0)), w.1))
     else (number_at AtResult text >>= λ n. Ok (Some (Value n.0), n.1))
 
 -- a result
@@ -118,8 +120,9 @@ tail_at body text = if starts (is 32) text then Ok (body, []) else end_at AtResu
 
 -- what stands behind the parenthesis
 unfoldable pub outcome_at : Call → List ℕ → Result (Body × List ℕ) Refusal
-outcome_at call text = if starts (is 32) text then
-    (equals_at text >>= λ u. recorded_at u.1 >>= λ r. tail_at (Called call r.0) r.1) else end_at AtResult (Called call None) text
+outcome_at call text = if starts (is 32) text
+    then (equals_at text >>= λ u. recorded_at u.1 >>= λ r. tail_at (Called call r.0) r.1)
+    else end_at AtResult (Called call None) text
 
 -- the parenthesis and what is behind it
 unfoldable pub closing_at : Call → List ℕ → Result (Body × List ℕ) Refusal
@@ -136,8 +139,8 @@ protect_behind_prot_at a n (Some p) text = closing_at (Protect a n (record { 0 =
 
 -- mprotect
 unfoldable pub mprotect_at : List ℕ → Result (Body × List ℕ) Refusal
-mprotect_at text = addr_at text >>= λ a. comma_at a.1 >>= λ u. number_at Number u.1 >>= λ n. comma_at n.1 >>= λ v. prot_at v.1 >>=
-    λ p. protect_behind_prot_at a.0 n.0 p.0 p.1
+mprotect_at text = addr_at text >>= λ a. comma_at a.1 >>= λ u. number_at Number u.1 >>= λ n. comma_at n.1
+    >>= λ v. prot_at v.1 >>= λ p. protect_behind_prot_at a.0 n.0 p.0 p.1
 
 -- the page fault
 unfoldable pub fault_call_at : List ℕ → Result (Body × List ℕ) Refusal
@@ -159,8 +162,8 @@ map_behind_prot_at a n (Some p) text = comma_at text >>= λ u. flags_at u.1 >>= 
 
 -- mmap
 unfoldable pub mmap_at : List ℕ → Result (Body × List ℕ) Refusal
-mmap_at text = addr_at text >>= λ a. comma_at a.1 >>= λ u. number_at Number u.1 >>= λ n. comma_at n.1 >>= λ v. prot_at v.1 >>=
-    λ p. map_behind_prot_at a.0 n.0 p.0 p.1
+mmap_at text = addr_at text >>= λ a. comma_at a.1 >>= λ u. number_at Number u.1 >>= λ n. comma_at n.1
+    >>= λ v. prot_at v.1 >>= λ p. map_behind_prot_at a.0 n.0 p.0 p.1
 
 -- the arguments of each call, and what comes behind them
 abbrev pub arguments_at : Name → List ℕ → Result (Body × List ℕ) Refusal
@@ -207,14 +210,18 @@ ended_at kind (c ∷ rest) = if c == 32 then Some kind else None
 -- the four characters
 unfoldable pub kind_at : List ℕ → Option Kind
 kind_at text = then_some (mark_at 114 1 text)
-    (λ r. then_some (mark_at 119 2 r.1) (λ w. then_some (mark_at 120 4 w.1)
-    (λ x. then_some (sharing_at x.1) (λ s. ended_at (record { prot = record { 0 = bit_or (bit_or r.0 w.0) x.0 }; shared = s.0 })
-    s.1))))
+    (λ r. then_some (mark_at 119 2 r.1)
+    (λ w. then_some (mark_at 120 4 w.1)
+    (λ x. then_some (sharing_at x.1)
+    (λ s. ended_at (record { prot = record { 0 = bit_or (bit_or r.0 w.0) x.0 }; shared = s.0 }) s.1))))
 
 -- a maps line
 unfoldable pub maps_at : List ℕ → Option (ℕ × ℕ × Kind)
-maps_at text = then_some (address_at text) (λ a. then_some (behind_byte 45 a.1)
-    (λ u. then_some (address_at u) (λ b. then_some (behind_byte 32 b.1) (λ v. then_some (kind_at v) (λ k. Some (a.0, b.0, k))))))
+maps_at text = then_some (address_at text)
+    (λ a. then_some (behind_byte 45 a.1)
+    (λ u. then_some (address_at u)
+    (λ b. then_some (behind_byte 32 b.1)
+    (λ v. then_some (kind_at v) (λ k. Some (a.0, b.0, k))))))
 
 -- ---- whole lines
 

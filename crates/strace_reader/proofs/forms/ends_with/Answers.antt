@@ -2,5 +2,6 @@ use Rattle.std.proofs.lemmas.Bool.Decides.{Decides-eqb}
 use Rattle.std.proofs.lemmas.Slice.Eq.{ends_is}
 use Rattle.strace_reader.proofs.forms.ends_with.Goals as goal
 
+-- the result says whether the text ends with the word
 pub returns : goal.returns
 returns c = let k = ends_is Decides-eqb c.args.text.now c.args.word.now c.ends_with.result c.ends_with.ensures.value in (λ h. (_, k.0 h), λ h. k.1 h.0 h.1)

@@ -3,9 +3,11 @@ use Rattle.strace_reader.specs.Grammar.{IsBracketed, IsPrefixed}
 use Rattle.strace_reader.proofs.FormFacts.{space_no_digit, either_way}
 use Rattle.strace_reader.proofs.forms.prefix.Goals as goal
 
+-- a space isn't empty and is no digit
 pub pid_then-requires : goal.pid_then-requires
 pid_then-requires c = (space_no_digit, λ e. cc)
 
+-- where no number and space stand, a number in brackets is the prefix, and else there is none
 pub returns-in-None : goal.returns-in-None
 returns-in-None c =
     let text = c.args.text.now in

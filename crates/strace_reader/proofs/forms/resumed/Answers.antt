@@ -13,5 +13,6 @@ none_of text a b c d Munmap rest e = b rest e
 none_of text a b c d Mprotect rest e = c rest e
 none_of text a b c d Fault rest e = d rest e
 
+-- a text that begins with none of the four begins as no second half
 pub returns : goal.returns
 returns c = none_of c.args.text.now c.in_default.ensures c.in_default-strip_front.ensures c.in_default-strip_front-2.ensures c.in_default-strip_front-3.ensures

@@ -7,6 +7,7 @@ use Rattle.strace_reader.proofs.BodyAnswers.{BodyAnswers, signal_body, never_bod
 use Rattle.strace_reader.proofs.lines.read_body.Goals.{then-begins_with-via-then-begins_with, then-begins_with-via-else-begins_with+then-begins_with-2}
 use Rattle.strace_reader.proofs.lines.read_body.Goals as goal
 
+-- what begins with three dashes or three pluses is passed over, and nothing else
 pub returns-then-begins_with : goal.returns-then-begins_with
 returns-then-begins_with c =
     let a = elim c.then-begins_with.branch as (λ x. BodyAnswers c.args.text.now (Ok Other)) [
@@ -16,6 +17,7 @@ returns-then-begins_with c =
     ] in
     record { found = a.found; only = a.only; refused = a.refused; only_there = a.only_there; named = a.named; within = a.within }
 
+-- what begins as a second half is that half alone, of what stands behind its spaces
 pub returns-in-Some : goal.returns-in-Some
 returns-in-Some c =
     let rest = c.in-Some.rest.now in
@@ -24,6 +26,7 @@ returns-in-Some c =
     let a = second_body c.in-Some.name c.args.text.now skipped (rest, c.in-Some.ensures, b) in
     record { found = a.found; only = a.only; refused = a.refused; only_there = a.only_there; named = a.named; within = a.within }
 
+-- what has none of the four forms is passed over, and nothing else
 pub returns-in_default-named : goal.returns-in_default-named
 returns-in_default-named c =
     let a = no_form_body c.args.text.now (record {
@@ -34,12 +37,14 @@ returns-in_default-named c =
     }) in
     record { found = a.found; only = a.only; refused = a.refused; only_there = a.only_there; named = a.named; within = a.within }
 
+-- a call that never returned is passed over, and nothing else
 pub returns-then-never_returned : goal.returns-then-never_returned
 returns-then-never_returned c =
     let a = never_body c.in-Some-named.name c.args.text.now (c.in-Some-named.rest.now, c.in-Some-named.ensures)
     (c.never_returned.ensures.0 c.if-never_returned.true) in
     record { found = a.found; only = a.only; refused = a.refused; only_there = a.only_there; named = a.named; within = a.within }
 
+-- what ends as a first half is that half alone
 pub returns-in-Some-first_half : goal.returns-in-Some-first_half
 returns-in-Some-first_half c =
     let h = c.in-Some-first_half.ensures in
@@ -47,6 +52,7 @@ returns-in-Some-first_half c =
     rw h.2 (first_body c.in-Some-named.name c.args.text.now h.0 (c.in-Some-named.rest.now, c.in-Some-named.ensures) h.1) in
     record { found = a.found; only = a.only; refused = a.refused; only_there = a.only_there; named = a.named; within = a.within }
 
+-- what the arguments are read as is what the body is, and nothing else
 pub returns-in-Ok : goal.returns-in-Ok
 returns-in-Ok c =
     let text = c.args.text.now in
@@ -55,6 +61,7 @@ returns-in-Ok c =
     let a = read_call c.in-Some-named.name text c.in-Some-named.rest.now c.in-Ok.field-0-1.now c.in-Ok.body c.in-Some-named.ensures form c.in-Ok.ensures in
     record { found = a.found; only = a.only; refused = a.refused; only_there = a.only_there; named = a.named; within = a.within }
 
+-- where the arguments are refused, the body is, and it is nothing
 pub returns-in-Err : goal.returns-in-Err
 returns-in-Err c =
     let text = c.args.text.now in

@@ -14,11 +14,13 @@ fault_of : (j : Joiner) (p : ℕ) (n : Name) (rest half : List ℕ) (k : Half) (
 fault_of j p n rest half k (Bad bad) e same is h = (k, e, same, subst (λ (x : List ℕ). Refuses (x ++ rest) bad) is h)
 fault_of j p n rest half k Memory e same is h = tt
 
+-- a half of another name that is held passes two lines over
 pub returns-then-ne-clause-answer : goal.returns-then-ne-clause-answer
 returns-then-ne-clause-answer c =
     let other : c.in-Some.half.now.name ≢ c.args.name = search rules in
     inr (inl (c.in-Some.half.now, sym c.in-Some.ensures.value, other, refl))
 
+-- a half of the same name is read with the second half, and that is the answer
 pub returns-in-Ok-clause-answer : goal.returns-in-Ok-clause-answer
 returns-in-Ok-clause-answer c =
     let a = c.in-Ok.ensures.answer in
@@ -32,6 +34,7 @@ returns-in-Ok-clause-answer c =
       a.2,
     ))
 
+-- what the joined halves are refused for is what the second half is refused for
 pub returns-in-Err-clause-fault : goal.returns-in-Err-clause-fault
 returns-in-Err-clause-fault c =
     let same : c.in-Some.half.now.name ≡ c.args.name = search rules in
