@@ -72,7 +72,9 @@ lacks_both b (x ∷ xs) ys p q = both (not (x == b)) (lacks b (xs ++ ys)) (first
 
 -- a text that lacks the byte
 pub record Clean (b : ℕ) : Type 0 where
+  -- the text
   pub text : List ℕ
+  -- it has no such byte
   pub lacks_it : lacks b text ≡ true
 
 abbrev clean : (b : ℕ) (text : List ℕ) → lacks b text ≡ true → Clean b
@@ -203,8 +205,11 @@ access_lacks Exec = refl
 
 -- the text of a call up to its closing parenthesis
 record Body (c : Call) : Type 0 where
+  -- what stands before the parenthesis
   pub body : List ℕ
+  -- no closing parenthesis is in it
   pub lacks_close : lacks 41 body ≡ true
+  -- the text of the call is this and the parenthesis
   pub whole : call_text c ≡ body ++ 41 ∷ []
 
 of_clean : (c : Call) (text : Clean 41) → call_text c ≡ text.text ++ 41 ∷ [] → Body c
@@ -570,6 +575,7 @@ log_tells (e ∷ es) (f ∷ fs) a b c d is =
 
 -- ---- the numbers of one entry more fit
 
+-- where the numbers of the entries before this one fit, and its own do, those of one entry more fit
 pub words_next : (entries : List Entry) (i : ℕ) (e : Entry) → i < length entries
     → ((k : ℕ) (d : Entry) → k < i → HasWordNumbers (get_or entries k d)) → e ≡ get_or entries i e → HasWordNumbers e
     → (k : ℕ) (d : Entry) → k < i + 1 → HasWordNumbers (get_or entries k d)

@@ -34,6 +34,7 @@ decimal_digits n small =
       sym (value_is 10 0 (decimal n) (omega arith) h.0.1 ∙ h.1),
     )
 
+-- the hexadecimal digits that are written of a number are its digits
 pub hex_are_digits : (n : ℕ) → n < 2 ^ 64 → Digits 16 (hex_digits n) n
 hex_are_digits n small =
     let h = digits_is_IsNumeral 16 false (omega arith) (omega arith) n (omega arith) in (
@@ -61,11 +62,13 @@ no_0x (a ∷ b ∷ ds) rest some all ends t e =
     let w = ap worth x in
     omega (arith, all.1.0, x_is_no_digit)
 
+-- the decimal digits that are written of a number are read as it, before what may follow a number
 pub decimal_takes : (due : What) (n : ℕ) (rest : List ℕ) → n < 2 ^ 64 → NoNumeral rest → (number due).takes (decimal n) rest n
 decimal_takes due n rest small ends =
     let h = decimal_digits n small in
     (inl (h, ends_digits 10 rest (omega arith) ends, no_0x (decimal n) rest h.0 h.1 ends), small)
 
+-- 0x and the hexadecimal digits that are written of a number are read as it, before what may follow a number
 pub hex_takes : (due : What) (n : ℕ) (rest : List ℕ) → n < 2 ^ 64 → NoNumeral rest → (number due).takes (48 ∷ 120 ∷ hex_digits n) rest n
 hex_takes due n rest small ends = (inr (hex_digits n, refl, hex_are_digits n small, ends_digits 16 rest (omega arith) ends), small)
 
@@ -74,6 +77,7 @@ digit_first : (ds rest : List ℕ) (b : ℕ) → 0 < length ds → AllDigits 10 
 digit_first [] rest b some all none = absurd (omega arith)
 digit_first (d ∷ ds) rest b some all none = grind (arith, nat_tests)
 
+-- the decimal digits of a number don't begin with a space
 pub decimal_starts : (n : ℕ) (rest : List ℕ) → n < 2 ^ 64 → starts (is 32) (decimal n ++ rest) ≡ false
 unfolding worth
 decimal_starts n rest small = let h = decimal_digits n small in digit_first (decimal n) rest 32 h.0 h.1 (omega arith)

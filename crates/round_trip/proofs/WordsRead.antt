@@ -12,13 +12,16 @@ use Rattle.maps_printer.specs.Words.{prot_text, flags_text}
 
 -- a text ends a word, a list of words and a number
 pub record Ends (rest : List ℕ) : Type 0 where
+  -- the text goes on with no byte of a word
   pub no_word : starts is_word_byte rest ≡ false
+  -- it goes on with no bar
   pub no_bar : starts (is 124) rest ≡ false
 
 -- a word that is read as these bits, whatever ends it
 abbrev pub ReadsAs : Part (Option ℕ) → List ℕ × ℕ → Type 0
 ReadsAs item w = (rest : List ℕ) → starts is_word_byte rest ≡ false → item.takes w.0 rest (Some w.1)
 
+-- each of these words is read as its bits
 abbrev pub EachReads : Part (Option ℕ) → List (List ℕ × ℕ) → Type 0
 EachReads item [] = Unit {0}
 EachReads item (w ∷ words) = ReadsAs item w × EachReads item words
@@ -28,6 +31,7 @@ abbrev pub texts : List (List ℕ × ℕ) → List (List ℕ)
 texts [] = []
 texts (w ∷ words) = w.0 ∷ texts words
 
+-- the bits of all these words, with those of before
 abbrev pub all_bits : ℕ → List (List ℕ × ℕ) → ℕ
 all_bits bits [] = bits
 all_bits bits (w ∷ words) = all_bits (bit_or bits w.1) words
@@ -104,6 +108,7 @@ flag_noreplace rest ends = known_reads flag_of (codes "MAP_FIXED_NOREPLACE") res
 pub comma_ends : (rest : List ℕ) → Ends (44 ∷ rest)
 comma_ends rest = record { no_word = refl; no_bar = refl }
 
+-- a comma may follow a number
 pub comma_ends_number : (rest : List ℕ) → NoNumeral (44 ∷ rest)
 unfolding worth
 comma_ends_number rest = (omega arith, λ e. cc)
