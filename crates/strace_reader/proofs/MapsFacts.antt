@@ -224,7 +224,7 @@ fourth_yes read write exec text kind h =
     let c = ended_yes (record { prot = record { 0 = bit_or (bit_or read write) exec }; shared = a.0.0 }) kind a.0.1 a.2 in
     fourth_is read write exec b.0 a.0.0 text a.0.1 kind b.1 b.2 c.0 c.1
 
--- the third character and the fourth, and the second and those
+-- the third character, and the fourth
 pub record Third (read write : ℕ) (text : List ℕ) (kind : Kind) : Type 0 where
   -- the third character
   pub x : ℕ
