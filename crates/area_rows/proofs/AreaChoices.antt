@@ -149,6 +149,7 @@ module _ (seat : SeatState Pass) (span : Span) (row : Row) (kind : Kind) (before
     (from : row.lo ≤ page_of addr) (until : end_page addr len ≤ row.hi)
     (start : List Area) (history : List Entry) (state : List Area) (words : List ℕ) (m : IsMoment seat start history state words)
     (is : RowIs seat.held (page_of addr) row words state) where
+  -- the row as an area
   abbrev pub own : Area
   own = record { lo = row.lo; hi = row.hi; kind = kind }
 
@@ -204,6 +205,7 @@ module _ (seat : SeatState Pass) (span : Span) (row : Row) (kind : Kind) (before
     | inr ge ↦ kind_at-limit state in_order row.hi ge ∙ sym (sides.last (omega arith))
   ]
 
+  -- the row is an area of the state, with the kinds that were read of the rows beside it
   pub among : IsAmong state own row kind before behind
   among = record { lo = refl; hi = refl; kind = refl; left = left_kind row.lo refl; right = right_kind }
 
@@ -222,6 +224,7 @@ module _ (seat : SeatState Pass) (span : Span) (row : Row) (kind : Kind) (before
   lies : LiesIn state own (page_of addr) (end_page addr len)
   lies = record { member = (maximal_runs state in_order own).1 run; from = from; within = until }
 
+  -- the pages of the call are all mapped with the kind of the row
   pub one_kind : IsOneKind state (page_of addr) (end_page addr len)
   one_kind = (kind, λ page low high. of_kind page (omega arith) (omega arith))
 
@@ -233,6 +236,7 @@ module _ (seat : SeatState Pass) (span : Span) (row : Row) (kind : Kind) (before
 
   -- one of the four ways is simple, and right
   module _ (way : FourCases state own (page_of addr) (end_page addr len) (protected_kind prot kind)) where
+    -- the call keeps the number of areas and of gaps, and its pages lie in the row's area
     pub simple_in_own : IsSimpleIn state (Protect addr len prot) own
     simple_in_own = (four_ways state own addr len prot in_order undecided lies).1 way
 
@@ -242,6 +246,7 @@ module _ (seat : SeatState Pass) (span : Span) (row : Row) (kind : Kind) (before
     mapped : IsMapped state (page_of addr) (end_page addr len)
     mapped page low high = subst IsSome (sym (of_kind page (omega arith) (omega arith))) refl
 
+    -- the call is right at this state, with the reply Zero and under the range that is held
     pub right : IsRight state (Protect addr len prot) Zero (OverArea span) simple_in_own.1.0
     right = record {
       fits = match_none (plain_reply (Protect addr len prot)) (FitsByState state (Protect addr len prot) (OverArea span))
@@ -287,10 +292,15 @@ module _ (seat : SeatState Pass) (span : Span) (row : Row) (kind : Kind) (before
 
 -- the pages and kinds of a change are those of the call
 pub record IsOf (c : Change) (span : Span) (lo hi : ℕ) (old new : Kind) : Type 0 where
+  -- it is made under this range
   pub span_is : c.span ≡ span
+  -- its first page is the call's
   pub lo_is : c.place.lo ≡ lo
+  -- it ends where the call does
   pub hi_is : c.place.hi ≡ hi
+  -- its pages had this kind
   pub old_is : c.old ≡ old
+  -- and get this one
   pub new_is : c.new ≡ new
 
 of_like : (c d : Change) (span : Span) (lo hi : ℕ) (old new : Kind) → IsLike c d → IsOf c span lo hi old new → IsOf d span lo hi old new
@@ -389,6 +399,7 @@ module _ (c : CallerView) (span : Span) (row : Row) (kind : Kind) (before behind
       → IsNamedKind (protected_kind prot kind) → IsOneStore row before behind d → IsNamedKind d.kind
   named_of d o old new store = named_by d (subst IsNamedKind (sym o.old_is) old) (subst IsNamedKind (sym o.new_is) new) store
 
+  -- a way that was chosen for a change of these pages and kinds is what a plan over the area promises
   pub plan_says : (chosen : Change) (plan : AreaPlan)
       → IsOf chosen span (page_of addr) (end_page addr len) kind (protected_kind prot kind) → IsNamedKind kind
       → IsNamedKind (protected_kind prot kind) → IsChosen row chosen before behind plan → c.change ≡ planned_change plan

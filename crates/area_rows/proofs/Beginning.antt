@@ -66,10 +66,12 @@ opens_rows start areas named few =
       gaps = subst (All IsBareGap) (sym (rows_back start)) (bare_from 0 start named);
     }
 
+-- a newcomer over the opening's words has the pass that a new caller has
 pub began : (start : List Area) → IsAreaList start → HasNamedKinds start → newcomer (opening_words start) ≡ new_pass start
 began start areas named = ap new_pass (ap areas_from (rows_back start) ∙ areas_back (rows_from 0 start) start (shows start areas named) areas)
 
 module _ (p : Pass) where
+  -- where all first passes are one, each of them is that one
   pub passes_at : (s k i : ℕ) (q : Pass) → get_elem? (first_passes (λ (_ : ℕ). p) s k) i ≡ some q → p ≡ q
   passes_at s zero i q e = absurd (some-ne-none q (sym e))
   passes_at s (suc k) zero q e = some-injective p q e
@@ -133,6 +135,7 @@ opens grants start callers words is areas named few most =
     (runs_new start callers areas named few most, backs_new grants (opening_words start) start callers) in
     (start, [], start, both.0, both.1))
 
+-- a caller with this seat and these lists, and no change of one row
 abbrev pub caller_with : SeatState Pass → ℕ → List ℕ → List ℕ → CallerView
 caller_with s left read plan = record { seat = s; left = left; read = read; plan = planned_rows read plan; change = None }
 
@@ -149,6 +152,7 @@ pub next_seat : (table : TableId) (p : Pass) (worker : ℕ) (seats : List (SeatS
 next_seat table p worker seats s rest more is = let z : worker + 0 ≡ worker = omega arith in
     rest 0 s (at_index seats 0 s more is) ∙ ap (new_seat table (λ (_ : ℕ). p)) z
 
+-- the seats that are left, after the first one was taken, go on with the next number
 pub seats_on : (table : TableId) (p : Pass) (worker : ℕ) (seats left : List (SeatState Pass))
     → ((k : ℕ) (x : SeatState Pass) → get_elem? seats k ≡ some x → x ≡ new_seat table (λ (_ : ℕ). p) (worker + k))
     → left ≡ remove seats 0 → (k : ℕ) (x : SeatState Pass) → get_elem? left k ≡ some x
@@ -162,6 +166,7 @@ pub new_caller : (s t : SeatState Pass) (left : ℕ) (read plan : List ℕ) → 
     → caller_with s left read plan ≡ caller_with t left [] []
 new_caller s t left read plan e r p = λ k. caller_with (e k) left (r k) (p k)
 
+-- one caller more behind those that were made, with the next number, keeps them all new
 pub one_caller : (table : TableId) (start : List Area) (calls : List ℕ) (made : List CallerView) (c : CallerView) (n : ℕ)
     → length made ≡ n → AreNewCallers table start calls made
     → c ≡ record {

@@ -73,6 +73,7 @@ idle_rows n start history state words passes r backed =
     rows_agree words s.0 (kind_at state) (λ page low. sym
     (s.1.elsewhere page (λ other x at lags. idle_shown n state other page x.pending (backed other x at).pending lags))) s.2
 
+-- in a run from number n the entry at place i has the number n + i
 pub runs_number : (history : List Entry) (n : ℕ) (A B : List Area) (i : ℕ) (e : Entry) → Runs n A history B → get_elem? history i ≡ some e → e.number ≡ n + i
 runs_number history n A B i e r at = numbered_at n history i e r.0 at
 
@@ -125,9 +126,11 @@ module _ (start : List Area) (history : List Entry) (state : List Area) (words :
   ]
 
   module _ (kept : List Kept) (all : AreKept kept callers) where
+    -- all that was kept of each caller stands in the history
     pub kept_stand : (k : ℕ) (c : Kept) → get_elem? kept k ≡ some c → AllStand history c.mine.items
     kept_stand k c at = let f = kept_at kept callers k c all at in subst (AllStand history) (sym f.2) (own_stand k f.0 f.1)
 
+    -- and its numbers are below the count of all entries
     pub kept_below : (bound : ℕ) → bound ≡ callers_count callers → (k : ℕ) (c : Kept) → get_elem? kept k ≡ some c → AreBelow bound c.mine.items
     kept_below bound b k c at j e there = let t = r.total in let l = below history e.number e (kept_stand k c at j e there) in omega arith
 
@@ -166,6 +169,7 @@ place_keeps history out e i stands lt old = dite (ℕ_discrete i e.number)
     (λ same. ap (get_elem? (set out e.number e)) same ∙ (set_here out e.number e lt ∙ (sym stands ∙ ap (get_elem? history) (sym same))))
     (λ other. set_else out e.number i e other ∙ old)
 
+-- an entry that was put at the place of its number is that of the history there
 pub place_there : (history out : List Entry) (e : Entry) → get_elem? history e.number ≡ some e → e.number < length out
     → AgreesAt history (set out e.number e) e.number
 place_there history out e stands lt = set_here out e.number e lt ∙ sym stands
@@ -204,6 +208,7 @@ caller_step history kept old new mine n c at is all keeps places before k d lt t
 drop_next : (l : List ℕ) (i : ℕ) → i < length l → drop i l ≡ get_or l i 0 ∷ drop (i + 1) l
 drop_next l i lt = rw (add-one, drop-cons l i 0) refl
 
+-- there are as many row words in the list as the row count says
 pub length-rows : (words : List ℕ) → length words ≡ 3 + ROWS → slice_index words 2 ≤ ROWS → length (rows_in words) ≡ slice_index words 2
 length-rows words wide few = let d = length-drop 3 words in length-take-le (slice_index words 2) (drop 3 words) (omega arith)
 
@@ -211,6 +216,7 @@ row_apart : (lo : ℕ) (kind : Option Kind) (hi : ℕ) (rest : List Area) → wi
 row_apart lo None hi rest = refl
 row_apart lo (Some kind) hi rest = refl
 
+-- the areas so far, with that of one row more, and those of the rows behind it are all the areas still
 pub row_step : (words : List ℕ) (i lo hi : ℕ) (kind : Option Kind) (out new all : List Area) → length words ≡ 3 + ROWS
     → slice_index words 2 ≤ ROWS → i < slice_index words 2 → lo ≡ row_start (slice_index words (3 + i))
     → kind ≡ row_kind (slice_index words (3 + i)) → hi ≡ rows_start (drop (i + 1) (rows_in words))
@@ -225,11 +231,13 @@ row_step words i lo hi kind out new all wide few lt l k h is before =
     let one : with_row lo kind hi rest ≡ areas_from (drop i rows) = (λ j. with_row (l j) (k j) (h j) rest) ∙ sym (ap areas_from head) in
     ap (λ x. x ++ rest) is ∙ (append_assoc out (with_row lo kind hi []) rest ∙ (ap (λ x. out ++ x) (sym (row_apart lo kind hi rest) ∙ one) ∙ before))
 
+-- where no row is left, the areas so far are all of them
 pub rows_done : (words : List ℕ) (i : ℕ) (out all : List Area) → length words ≡ 3 + ROWS → slice_index words 2 ≤ ROWS
     → ¬ (i < slice_index words 2) → out ++ areas_from (drop i (rows_in words)) ≡ all → out ≡ all
 rows_done words i out all wide few not_more before =
     sym (append-nil out) ∙ (ap (λ l. out ++ areas_from l) (sym (drop_all i (rows_in words) (let n = length-rows words wide few in omega arith))) ∙ before)
 
+-- the rows behind a row start where the word of the next row says
 pub next_start : (words : List ℕ) (i : ℕ) → 3 + slice_index words 2 ≤ length words → i + 1 < slice_index words 2
     → rows_start (drop (i + 1) (rows_in words)) ≡ row_start (slice_index words (3 + (i + 1)))
 next_start words i wide lt =

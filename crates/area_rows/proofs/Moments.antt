@@ -38,6 +38,7 @@ use Rattle.area_rows.specs.Beside.{apart_pages}
 use Rattle.area_rows.specs.RowStores.{in_span}
 use Rattle.row_plans.proofs.RowLists.{row_says, starts_low, areas_back}
 
+-- what is held is a range
 pub held_some : (held : Option Held) → IsSome held → (h : Held) × (held ≡ Some h)
 held_some None s = absurd (false≢true s)
 held_some (Some h) s = (h, refl)
@@ -52,13 +53,16 @@ length-rows_in words kinds s =
     let r = s.room in let f = s.few in let d = length-drop 3 words in
     length-take-le (slice_index words 2) (drop 3 words) (omega arith)
 
+-- the row word at place i of the list is the client word at place 3 + i
 pub at_row : (words : List ℕ) (i : ℕ) → i < slice_index words 2 → get_or (rows_in words) i 0 ≡ slice_index words (3 + i)
 at_row words i l = get_or-take (slice_index words 2) (drop 3 words) i 0 l ∙ get_or-drop 3 words i 0
 
+-- the first of row words that show kinds starts at page 0
 pub first_start : (rows : List ℕ) (kinds : ℕ → Option Kind) → ShowFrom 0 rows kinds → 0 < length rows → row_start (get_or rows 0 0) ≡ 0
 first_start [] kinds s l = absurd (omega arith)
 first_start (w ∷ rest) kinds s l = s.0
 
+-- so does the first row among the client words
 pub first_row : (words : List ℕ) (kinds : ℕ → Option Kind) → RowsShow words kinds → row_start (slice_index words 3) ≡ 0
 first_row words kinds s = let some = s.some in let l = length-rows_in words kinds s in
     ap row_start (sym (at_row words 0 some)) ∙ first_start (rows_in words) kinds s.show (omega arith)
@@ -94,6 +98,7 @@ shows_agree page (w ∷ rest) kinds other same s =
     let l = starts_low (rows_start rest) rest kinds s.4 in
     (s.0, s.1, s.2, λ p from below. same p (omega arith) ∙ s.3 p from below, shows_agree (rows_start rest) rest kinds other same s.4)
 
+-- rows that show kinds show any others that are the same at each page below the limit
 pub rows_agree : (words : List ℕ) (kinds other : ℕ → Option Kind) → ((p : ℕ) → p < LIMIT → other p ≡ kinds p) → RowsShow words kinds → RowsShow words other
 rows_agree words kinds other same s = record {
   room = s.room;
@@ -116,6 +121,7 @@ stands held words (r ∷ rest) i w all h = ⊎_elim
     (All-head (StillStands held words) r rest all))
     (λ t. stands held words rest i w (All-tail (StillStands held words) r rest all) t) h
 
+-- where no caller has a plan to write, their count is 0
 pub none_planned : (passes : List Pass) → ((other : ℕ) (x : Pass) → get_elem? passes other ≡ some x → planned_calls x.pending ≡ 0) → planned_count passes ≡ 0
 none_planned [] all = refl
 none_planned (x ∷ xs) all = let a = all 0 x refl in let r = none_planned xs (λ other y at. all (suc other) y at) in
@@ -141,6 +147,7 @@ module _ (grants : Grants) (words : List ℕ) (state : List Area) (passes : List
       let s : planned_count (set passes worker rests) + planned_calls p.pending ≡ planned_count passes + 0 = planned_set passes worker p rests at in
       omega arith
 
+  -- while a caller at rest holds pages, nobody has a plan to write
   pub nobody_plans : IsAtRest p → HoldsPages grants worker → planned_count passes ≡ 0
   nobody_plans rest h = only_own_plan h ∙ ap planned_calls rest
 

@@ -80,10 +80,14 @@ set_first_shows (w ∷ rest) word kinds others show lt start differs own high =
 
 -- a row ends behind its start, its pages have its kind, and the next one differs
 pub record ShownAt (rows : List ℕ) (kinds : ℕ → Option Kind) (i : ℕ) : Type 0 where
+  -- it ends behind its start
   pub grows : row_start (get_or rows i 0) < rows_start (drop (suc i) rows)
+  -- its pages have its kind
   pub within : (p : ℕ) → row_start (get_or rows i 0) ≤ p → p < rows_start (drop (suc i) rows) → kinds p ≡ row_kind (get_or rows i 0)
+  -- the row behind it has another kind
   pub differs : DiffersFrom (get_or rows i 0) (drop (suc i) rows)
 
+-- each row of a list that shows kinds is shown like that
 pub shown_at : (page : ℕ) (rows : List ℕ) (kinds : ℕ → Option Kind) (i : ℕ) → ShowFrom page rows kinds → i < length rows → ShownAt rows kinds i
 shown_at page [] kinds i show lt = absurd (omega arith)
 shown_at page (w ∷ rest) kinds zero show lt =
@@ -118,11 +122,17 @@ differs_like (w ∷ rest) a b same d = λ e. d (sym same ∙ e)
 
 -- the row has these ends and this kind in the list, and its neighbours have these kinds
 pub record IsRowIn (rows : List ℕ) (row : Row) (before behind : Option Kind) : Type 0 where
+  -- the list has a row of that number
   pub there : row.index < length rows
+  -- this row starts where the row does
   pub lo : row_start (get_or rows row.index 0) ≡ row.lo
+  -- what is behind it starts where the row ends
   pub hi : rows_start (drop (suc row.index) rows) ≡ row.hi
+  -- it has the row's kind
   pub kind : row_kind (get_or rows row.index 0) ≡ row.kind
+  -- the row before it has the kind before, or there is none
   pub left : ((row.index ≡ 0) × (before ≡ None)) ⊎ ((0 < row.index) × (row_kind (get_or rows (row.index - 1) 0) ≡ before))
+  -- the row behind it has the kind behind, or there is none
   pub right : ((suc row.index ≡ length rows) × (behind ≡ None)) ⊎ ((suc row.index < length rows) × (row_kind (get_or rows (suc row.index) 0) ≡ behind))
 
 -- the row is first, or there is one before it

@@ -27,13 +27,18 @@ use Rattle.area_rows.proofs.Gathering.{next_start}
 
 -- what the word of a row says, of those that show kinds
 pub record WordSays (words : List ℕ) (kinds : ℕ → Option Kind) (i : ℕ) : Type 0 where
+  -- it starts below the limit
   pub below : row_start (slice_index words (3 + i)) < LIMIT
+  -- from its start up to that of the next row, or to the limit, all pages have its kind
   pub within : (p : ℕ) → row_start (slice_index words (3 + i)) ≤ p → p < LIMIT
       → (i + 1 < slice_index words 2 → p < row_start (slice_index words (3 + (i + 1))))
       → kinds p ≡ row_kind (slice_index words (3 + i))
+  -- the next row starts behind it
   pub rises : i + 1 < slice_index words 2 → row_start (slice_index words (3 + i)) < row_start (slice_index words (3 + (i + 1)))
+  -- and has another kind
   pub differs : i + 1 < slice_index words 2 → row_kind (slice_index words (3 + i)) ≢ row_kind (slice_index words (3 + (i + 1)))
 
+-- the word of each row that there is says so
 pub word_says : (words : List ℕ) (kinds : ℕ → Option Kind) (i : ℕ) → RowsShow words kinds → i < slice_index words 2 → WordSays words kinds i
 word_says words kinds i s lt =
     let rows = rows_in words in
@@ -129,6 +134,7 @@ module _ (held : Option Held) (words : List ℕ) (kinds : ℕ → Option Kind) (
   kind_now : row_kind (slice_index words (3 + index)) ≡ row_kind word
   kind_now = still.kind page here (row_of_page page here from until)
 
+  -- the row with these ends and this kind, as it was read, is the row of the page still
   pub row_is_still : (state : List Area) → ((p : ℕ) → IsHeldPage held p → kinds p ≡ kind_at state p)
       → RowIs held page (record { index = index; lo = row_start word; hi = hi; kind = row_kind word }) words state
   row_is_still state same = record {
@@ -193,6 +199,7 @@ keeps_on a b c f g = record {
   pending = g.pending ∙ f.pending;
 }
 
+-- steps that read words, one after another, are such steps
 pub reading_on : (a b c : SeatState Pass) → IsReading a b → IsReading b c → IsReading a c
 reading_on a b c f g = record {
   table = g.table ∙ f.table;
@@ -206,6 +213,7 @@ reading_on a b c f g = record {
   read = keeps_on a.pass b.pass c.pass f.read g.read;
 }
 
+-- no step at all is a reading
 pub no_reading : (a : SeatState Pass) → IsReading a a
 no_reading a = record {
   table = refl;
@@ -219,9 +227,11 @@ no_reading a = record {
   read = record { count = λ n e. e; rows = λ index word h. h; sequence = λ n e. e; pending = refl };
 }
 
+-- one step on a client word raises the count of steps by one
 pub step_taken : (a b : SeatState Pass) (place : ℕ) (p : Pass) → IsClientStep a place p b → b.trace.taken ≡ a.trace.taken + 1
 step_taken a b place p s = ap (λ (r : Record). r.taken) s.trace
 
+-- a step that keeps what was seen, numbered and read is a reading
 pub step_reads : (a b : SeatState Pass) (place : ℕ) (p : Pass) → IsClientStep a place p b → p.start ≡ a.pass.start
     → p.seen ≡ a.pass.seen → p.mine ≡ a.pass.mine → KeepsRead a.pass p → IsReading a b
 step_reads a b place p s x y z k = record {
@@ -239,10 +249,12 @@ step_reads a b place p s x y z k = record {
 same_some : (n m : ℕ) → n ≡ m → Some n ≡ Some m
 same_some n m e = ap Some e
 
+-- so is a load of the row count that finds what was found before
 pub count_reads : (a b : SeatState Pass) (n : ℕ) → IsClientStep a 2 (after_count n a.pass) b → ((m : ℕ) → a.pass.count ≡ Some m → n ≡ m) → IsReading a b
 count_reads a b n s again = step_reads a b 2 (after_count n a.pass) s refl refl refl
     (record { count = λ m e. same_some n m (again m e); rows = λ index word h. h; sequence = λ m e. e; pending = refl })
 
+-- so is a load of a row
 pub row_reads : (a b : SeatState Pass) (index word : ℕ) → IsClientStep a (3 + index) (after_row index word a.pass) b → IsReading a b
 row_reads a b index word s = step_reads a b (3 + index) (after_row index word a.pass) s refl refl refl
     (record { count = λ n e. e; rows = λ i w h. inr h; sequence = λ n e. e; pending = refl })
@@ -303,6 +315,7 @@ found_read old new count index word next lo hi kind step l k h counted read lt =
       hi = inl (lt, next, subst (λ r. HasRead r (index + 1) next) rows (inl (refl, refl)), h);
     }
 
+-- the last row is as it was read, and it ends at the limit
 pub last_read : (seat : SeatState Pass) (count index word lo : ℕ) (kind : Option Kind) → lo ≡ row_start word → kind ≡ row_kind word
     → seat.pass.count ≡ Some count → HasRead seat.pass.rows index word → index < count → ¬ (index + 1 < count)
     → IsAsRead seat.pass (record { index = index; lo = lo; hi = LIMIT; kind = kind })
@@ -323,6 +336,7 @@ pub before_read : (a b : SeatState Pass) (index word : ℕ) (kind : Option Kind)
     → IsClientStep a (3 + (index - 1)) (after_row (index - 1) word a.pass) b → IsReadBefore b.pass.rows index kind
 before_read a b index word kind more is s = inr (more, word, subst (λ (p : Pass). HasRead p.rows (index - 1) word) (sym s.pass) (inl (refl, refl)), is)
 
+-- the kind of the row behind, from the load of its word
 pub behind_read : (a b : SeatState Pass) (count index word : ℕ) (kind : Option Kind) → index + 1 < count → kind ≡ row_kind word
     → IsClientStep a (3 + (index + 1)) (after_row (index + 1) word a.pass) b → IsReadBehind b.pass.rows count index kind
 behind_read a b count index word kind more is s = inr (more, word, subst (λ (p : Pass). HasRead p.rows (index + 1) word) (sym s.pass) (inl (refl, refl)), is)
@@ -331,6 +345,7 @@ behind_read a b count index word kind more is s = inr (more, word, subst (λ (p 
 pub before_on : (a b : Pass) (index : ℕ) (kind : Option Kind) → KeepsRead a b → IsReadBefore a.rows index kind → IsReadBefore b.rows index kind
 before_on a b index kind k r = ⊎_elim (λ t. inl t) (λ t. inr (t.0, t.1, k.rows (index - 1) t.1 t.2, t.3)) r
 
+-- a row that is as it was read stays so while more is read
 abbrev pub as_read_on : (a b : Pass) (row : Row) → KeepsRead a b → IsAsRead a row → IsAsRead b row
 as_read_on a b row k r = record {
   count = r.count;

@@ -165,6 +165,7 @@ module _ (span : Span) (words : List ℕ) (kinds : ℕ → Option Kind) (s : Row
             let same = ap (λ n. rows_start (drop n (rows_in words))) z in omega arith;
       })
 
+  -- the row stands in the list of the row words, between neighbours of these kinds
   pub row_in : IsRowIn (rows_in words) row before behind
   row_in = record {
     there = let w = wide in omega arith;
@@ -190,12 +191,15 @@ module _ (span : Span) (words : List ℕ) (kinds : ℕ → Option Kind) (s : Row
   pub starts_now : row_start (slice_index words (3 + row.index)) ≡ row.lo
   starts_now = own_start
 
+  -- the row behind starts where this one ends
   pub starts_behind : row.index + 1 < count → row_start (slice_index words (3 + (row.index + 1))) ≡ row.hi
   starts_behind more = sym (starts (row.index + 1) more) ∙ ends_now.1
 
+  -- the word of the row has the row's kind
   pub is_kind : row_kind (slice_index words (3 + row.index)) ≡ row.kind
   is_kind = own_kind
 
+  -- the word of the row behind has the kind that was read of it
   pub is_behind : row.index + 1 < count → (w : ℕ) → HasRead read (row.index + 1) w → row_kind (slice_index words (3 + (row.index + 1))) ≡ row_kind w
   is_behind = behind_now
 
@@ -333,6 +337,7 @@ module _ (words : List ℕ) (kinds : ℕ → Option Kind) (s : RowsShow words ki
         shows = shows_after lt;
       }
 
+  -- the row of the change may get its new word
   pub may_replace : MayReplace words c
   may_replace = may_by r.store (there_is r.store)
 
@@ -342,6 +347,7 @@ low_start s c r (whole index at new lo hi not_before not_behind) = let p = r.pag
 low_start s c r (first_part index at same_kind lo hi is_before) = let l = r.limit in omega arith
 low_start s c r (last_part index at new lo hi is_behind) = let o = c.place.ordered in let l = r.limit in omega arith
 
+-- the row of a change that was read round starts below the limit
 pub start_low : (s : SeatState Pass) (c : Change) → IsReadRound s c → c.start < LIMIT
 start_low s c r = low_start s c r r.store
 
@@ -351,6 +357,7 @@ low_index s c r (first_part index at same_kind lo hi is_before) = let t = r.read
 low_index s c r (last_part index at new lo hi is_behind) = let f = r.few in
     ⊎_elim (λ t. absurd (some_none c.new r.behind t.1 is_behind)) (λ t. let n = t.0 in omega arith) r.read_behind
 
+-- its number is below the number of rows that there is room for
 pub index_low : (s : SeatState Pass) (c : Change) → IsReadRound s c → c.index < ROWS
 index_low s c r = low_index s c r r.store
 
@@ -383,6 +390,7 @@ row_changed : (words : List ℕ) (pending : Pending) (c : Change) (place word : 
     → MayWrite words pending place word p after → after ≡ after_change p
 row_changed words pending c place word p after is may = (subst (λ (q : Pending). MayWrite words q place word p after) is may).3
 
+-- the store of a change was one step of the seat, after which all is written
 pub change_stored : (s u : SeatState Pass) (c : Change) (index word : ℕ) → s.pass.pending ≡ OneRow c → IsClientCall s (3 + index) u
     → ((found : ℕ) × IsMade HasHistory Allowed no_note s.number s.held s.pass (stores (3 + index) word) found u.pass)
     → IsClientStep s (3 + index) (after_change s.pass) u

@@ -85,9 +85,11 @@ may_sequence note seat (Some h) pass pages grants words passes m lt small = (
 )
 
 module _ (note : Note) (seat : ℕ) (held : Option Held) (pass : Pass) where
+  -- the guard allows a load of the number word at any time
   pub may_look : IsAllowed HasHistory Allowed note seat held pass (loads 0)
   may_look grants words passes m lt small = (after_look m.met.1 pass, (here_at grants words passes seat held pass m, number refl refl))
 
+  -- a load of the row count, while pages are held
   pub may_count : IsSome held → IsHeldPages held → IsAllowed HasHistory Allowed note seat held pass (loads 2)
   may_count some_held pages grants words passes m lt small = (
     after_count (slice_index words 2) pass,
@@ -97,6 +99,7 @@ module _ (note : Note) (seat : ℕ) (held : Option Held) (pass : Pass) where
     ),
   )
 
+  -- a load of a row, while pages are held
   pub may_row : (index : ℕ) → index < ROWS → IsSome held → IsHeldPages held → IsAllowed HasHistory Allowed note seat held pass (loads (3 + index))
   may_row index few some_held pages grants words passes m lt small = (
     after_row index (slice_index words (3 + index)) pass,
@@ -106,6 +109,8 @@ module _ (note : Note) (seat : ℕ) (held : Option Held) (pass : Pass) where
     ),
   )
 
+  -- a draw of a number, by a caller at rest that holds what the entry names and whose reply is right
+  -- at every moment
   pub may_draw : (s : SeatState Pass) → s.number ≡ seat → s.held ≡ held → s.pass ≡ pass → length pass.mine + 1 < 2 ^ 32
       → IsNamedCall note.call → IsAtRest pass → HoldsFor held note.under
       → Shows s (λ (words : List ℕ) (state : List Area). (left : List Area) × IsRight state note.call note.reply note.under left
@@ -129,6 +134,8 @@ module _ (note : Note) (seat : ℕ) (held : Option Held) (pass : Pass) where
       (held_pages grants seat held at some_held pages))
 
   module _ (found : ℕ) (after : Pass) where
+    -- a load of the row count is kept in the pass: at least one row, at most as many as there is room for, and as many
+    -- as were found before
     pub counts : IsSome held → IsHeldPages held → IsAtRest pass
         → IsMade HasHistory Allowed note seat held pass (loads 2) found after
         → (after ≡ after_count found pass) × (0 < found) × (found ≤ ROWS) × ((n : ℕ) → pass.count ≡ Some n → found ≡ n)
@@ -143,6 +150,7 @@ module _ (note : Note) (seat : ℕ) (held : Option Held) (pass : Pass) where
           λ n counted. sym e ∙ (here.running.parts seat here.pass here.own).count n (ap (λ (x : Pass). x.count) same ∙ counted),
         )
 
+    -- a load of a row is kept in the pass: the first one starts at page 0, and each that is counted below the limit
     pub reads : (index : ℕ) → IsSome held → IsHeldPages held → IsAtRest pass
         → IsMade HasHistory Allowed note seat held pass (loads (3 + index)) found after
         → (after ≡ after_row index found pass) × (index ≡ 0 → row_start found ≡ 0)
@@ -235,11 +243,13 @@ module _ (note : Note) (seat : ℕ) (held : Option Held) (pass : Pass) where
           trace = call.trace;
         }
 
+    -- an addition to the number word draws the number that it found, with the entry that the note becomes
     pub draws : (t u : SeatState Pass) → t.number ≡ seat → t.held ≡ held → t.pass ≡ pass → u.pass ≡ after → IsClientCall t 0 u
         → IsMade HasHistory Allowed note seat held pass (adds 0 1) found after
         → IsDrawn t (entry_of found seat note) note.pending u
     draws t u n h p q call s = drawn_as t u n h p q call s s.5.2
 
+-- a load of the number word is a look
 pub look_is : (s u : SeatState Pass) (found : ℕ) → IsClientCall s 0 u
     → IsMade HasHistory Allowed no_note s.number s.held s.pass (loads 0) found u.pass → IsLook s found u
 look_is s u found call made =
@@ -282,6 +292,7 @@ counts_whole u found known some_held pages start history state words m =
     let s = m.running.sequence in
     omega arith
 
+-- a load of the sequence word is a reading, and while a range is held it counts the entries under everything
 pub sequence_is : (s u : SeatState Pass) (found : ℕ) → IsHeldPages s.held → IsClientCall s 1 u
     → IsMade HasHistory Allowed no_note s.number s.held s.pass (loads 1) found u.pass
     → IsReading s u × (IsSome s.held → CountsWhole u found)

@@ -26,6 +26,7 @@ use Rattle.area_rows.specs.Stored.{Stores, IsStoredOnce, IsStored, HistoryIsStor
 use Rattle.lock_core.proofs.ByPlace.{there}
 use Rattle.area_rows.proofs.Gathering.{runs_number, own_at, at_own}
 
+-- each run is legal in the one-thread model
 pub all_legal : RunsAreLegal
 all_legal A B entries r =
     let replied = chains_weaker FitsAndReplies HasRightReply (λ C e D h. h.1) A entries B r.1 in
@@ -101,6 +102,7 @@ module _ (grants : Grants) (start : List Area) (history : List Entry) (state : L
     seen = λ worker pass at. (r.parts worker pass at).seen;
   }
 
+-- the history of the rule is stored in the callers' lists
 pub all_stored : HistoryIsStored
 all_stored grants words passes h = (h.1, h.0, h.2, is_stored grants h.0 h.1 h.2 words passes h.3 h.4)
 
@@ -119,6 +121,7 @@ hold_of grants words passes worker note here after (draw e d is) =
       ap (λ (p : Pass). p.seen) is ∙ draw_seen here.history f d.held.0 here.pass note.pending,
     )
 
+-- each draw is made by a caller that holds what its entry names
 pub all_hold : DrawsHold
 all_hold grants words passes worker by note after may = hold_of grants words passes worker note may.1 after may.2
 
@@ -158,6 +161,7 @@ step_keeps grants words passes worker (stores i value) note after other may = (m
 step_keeps grants words passes worker (adds i by) note after other may = (may.1, raise_keeps grants words passes worker i note may.1 after other may.2)
 step_keeps grants words passes worker (exchanges i expected new) note after other may = absurd may
 
+-- a step that draws no number keeps each caller's entries and what was held at its last draw
 pub draw_kept : LastDrawIsKept
 draw_kept grants words passes worker step note pass after own other may =
     let k = step_keeps grants words passes worker step note after other may in

@@ -32,6 +32,7 @@ module _ (note : Note) (seat : ℕ) (held : Option Held) (pass : Pass) (plan : L
   may_write : (words : List ℕ) (place value : ℕ) (after : Pass) → MayStore plan place value pass after → MayWrite words pass.pending place value pass after
   may_write words place value after may = subst (λ (q : Pending). MayWrite words q place value pass after) (sym planned) may
 
+  -- the guard allows the store of a row of the plan
   pub may_store_row : (index value : ℕ) → index < length plan → value ≡ slice_index plan index
       → IsAllowed HasHistory Allowed note seat held pass (stores (3 + index) value)
   may_store_row index value lt is grants words passes m there small = (
@@ -42,6 +43,7 @@ module _ (note : Note) (seat : ℕ) (held : Option Held) (pass : Pass) (plan : L
     ),
   )
 
+  -- and the store of how many rows it has
   pub may_store_count : (value : ℕ) → value ≡ length plan → IsAllowed HasHistory Allowed note seat held pass (stores 2 value)
   may_store_count value is grants words passes m there small = (
     after_count value pass,
@@ -75,6 +77,7 @@ module _ (note : Note) (seat : ℕ) (held : Option Held) (pass : Pass) (plan : L
         gaps = subst (All IsBareGap) (sym rows) shows.gaps;
       }
 
+  -- and the raising of the sequence word, where all rows of the plan and their count are written
   pub may_raise : HasRows pass plan → IsAllowed HasHistory Allowed note seat held pass (adds 1 1)
   may_raise has grants words passes m there small =
       let here = here_at grants words passes seat held pass m in
@@ -98,6 +101,7 @@ step_of : (s u : SeatState Pass) (place : ℕ) (p : Pass) → IsClientCall s pla
 step_of s u place p call is = record { table = call.table; number = call.number; held = call.held; pools = call.pools; pass = is; trace = call.trace }
 
 module _ (s u : SeatState Pass) (plan : List ℕ) (planned : s.pass.pending ≡ Planned plan) (value : ℕ) where
+  -- the store of a row was one step of the seat, after which its pass has that row
   pub row_stored : (index : ℕ) → IsClientCall s (3 + index) u
       → ((found : ℕ) × IsMade HasHistory Allowed no_note s.number s.held s.pass (stores (3 + index) value) found u.pass)
       → IsClientStep s (3 + index) (after_store index value s.pass) u
@@ -108,6 +112,7 @@ module _ (s u : SeatState Pass) (plan : List ℕ) (planned : s.pass.pending ≡ 
       (row_after plan index value here.pass u.pass (of_plan made.1.1 here.pass.pending plan (3 + index) value here.pass u.pass
       (ap (λ (x : Pass). x.pending) same ∙ planned) may.1) ∙ ap (after_store index value) same)
 
+  -- the store of the row count was one step of the seat, after which its pass has that count
   pub count_stored : IsClientCall s 2 u → ((found : ℕ)
       × IsMade HasHistory Allowed no_note s.number s.held s.pass (stores 2 value) found u.pass)
       → IsClientStep s 2 (after_count value s.pass) u
@@ -123,6 +128,7 @@ raise_after : (grants : Grants) (words : List ℕ) (passes : List Pass) (worker 
 raise_after grants words passes worker here after (draw e d is) = absurd (omega arith)
 raise_after grants words passes worker here after (raise rows e pends written is) = is
 
+-- the raising of the sequence word was one step of the seat, after which all is written
 pub sequence_raised : (s u : SeatState Pass) (found : ℕ) → IsClientCall s 1 u
     → IsMade HasHistory Allowed no_note s.number s.held s.pass (adds 1 1) found u.pass → IsClientStep s 1 (after_raise s.pass) u
 sequence_raised s u found call made =
@@ -151,6 +157,7 @@ mixed_stored rows old plan index m = record {
   above = λ i le lt. inr (has_others index i (slice_index old i) rows (λ e. omega arith) (m.above i (omega arith) lt));
 }
 
+-- a row that stood there with the plan's word already is the plan's without a store
 pub mixed_same : (rows : List ReadRow) (old plan : List ℕ) (index : ℕ) → IsMixed rows old plan index → index < length old
     → slice_index old index ≡ slice_index plan index → IsMixed rows old plan (index + 1)
 mixed_same rows old plan index m there same = record {
@@ -175,6 +182,7 @@ writing_on a b c f g = record {
   taken = let l = f.taken in let m = g.taken in omega arith;
 }
 
+-- no step at all is a writing
 pub no_writing : (a : SeatState Pass) → IsWriting a a
 no_writing a = record {
   table = refl;
@@ -192,6 +200,7 @@ no_writing a = record {
 step_more : (a b : SeatState Pass) (place : ℕ) (p : Pass) → IsClientStep a place p b → a.trace.taken ≤ b.trace.taken
 step_more a b place p s = let l : b.trace.taken ≡ a.trace.taken + 1 = ap (λ (r : Record). r.taken) s.trace in omega arith
 
+-- the store of a row is a writing
 pub store_writes : (a b : SeatState Pass) (index value : ℕ) → IsClientStep a (3 + index) (after_store index value a.pass) b → IsWriting a b
 store_writes a b index value s = record {
   table = s.table;
@@ -206,6 +215,7 @@ store_writes a b index value s = record {
   taken = step_more a b (3 + index) (after_store index value a.pass) s;
 }
 
+-- so is the store of the row count
 pub count_writes : (a b : SeatState Pass) (value : ℕ) → IsClientStep a 2 (after_count value a.pass) b → IsWriting a b
 count_writes a b value s = record {
   table = s.table;

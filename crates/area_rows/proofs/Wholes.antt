@@ -85,17 +85,28 @@ plan_shows c call reply count held rest has plan = record {
 
 -- so many rows are read, in the caller's own room, and once they are all there are they are a row list
 pub record IsReadSoFar (before now : CallerView) (count index : ℕ) : Type 0 where
+  -- what was done since is a reading
   pub reading : IsReading before.seat now.seat
+  -- no number was drawn
   pub left : now.left ≡ before.left
+  -- nothing is to be written
   pub rest : IsAtRest now.seat.pass
+  -- the caller has read the row count
   pub counted : now.seat.pass.count ≡ Some count
+  -- there is a row
   pub some : 0 < count
+  -- and there are no more than there is room for
   pub few : count ≤ ROWS
+  -- no row behind the last was read
   pub bound : index ≤ count
+  -- the list in the caller's room has the words that were read
   pub wide : length now.read ≡ index
+  -- each of them was read so
   pub rows : (i : ℕ) → i < index → HasRead now.seat.pass.rows i (slice_index now.read i)
+  -- once all rows are read they are a row list
   pub list : index ≡ count → IsRowList now.read
 
+-- at the beginning none is read
 pub none_read : (c : CallerView) (count : ℕ) → IsAtRest c.seat.pass → c.seat.pass.count ≡ Some count → 0 < count → count ≤ ROWS
     → c.read ≡ [] → IsReadSoFar c c count 0
 none_read c count rest counted positive few empty = record {

@@ -28,6 +28,7 @@ pair c = let i = c.seat.invariant in record {
   rest = i.8;
 }
 
+-- one caller more was taken apart, and its seat and the rest belong together
 pub callers-preserved : goal.callers-preserved
 callers-preserved c = record {
   keeps = search rules;

@@ -3,6 +3,7 @@ use Rattle.std.specs.Prelude.{length}
 use Rattle.area_rows.proofs.Gathering.{whole, kept_stand, idle_rows}
 use Rattle.area_rows.proofs.collect.collect.Goals as goal
 
+-- what was collected is the whole history, with the areas that the rows stand for
 pub returns : goal.returns
 returns c = λ callers r all wide.
     whole r.0 r.1 r.2 c.args.words.now callers r.3 c.args.kept.now all

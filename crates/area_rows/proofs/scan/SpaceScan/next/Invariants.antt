@@ -1,4 +1,5 @@
 use Rattle.area_rows.proofs.scan.SpaceScan.next.Given as goal
 
+-- the next answer counts its steps in the ledger of the blank that it was given
 abbrev pub ghosts-scan_next : goal.ghosts-scan_next
 ghosts-scan_next a = record { name = a.blank.name; parts = a.blank.parts }

@@ -4,9 +4,11 @@ use Rattle.area_rows.specs.Called.{IsLastStep}
 use Rattle.area_rows.proofs.Wholes.{plain_right, last_drawn}
 use Rattle.area_rows.proofs.space.Space.call_plain.Goals as goal
 
+-- a call that its arguments decide may be numbered under nothing
 pub draw-requires-clause-right : goal.draw-requires-clause-right
 draw-requires-clause-right c = plain_right c.args.caller.now c.args.call c.args.reply c.requires.decided
 
+-- the draw alone is the whole call
 pub returns-clause-called : goal.returns-clause-called
 returns-clause-called c =
     let f = c.draw.ensures in

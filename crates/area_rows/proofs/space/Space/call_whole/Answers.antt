@@ -5,13 +5,16 @@ use Rattle.area_rows.specs.Called.{IsLastStep}
 use Rattle.area_rows.proofs.Wholes.{planned_right, numbered_whole, last_whole}
 use Rattle.area_rows.proofs.space.Space.call_whole.Goals as goal
 
+-- the call may be numbered with the reply of its plan
 pub draw-entry-requires-clause-right : goal.draw-entry-requires-clause-right
 draw-entry-requires-clause-right g c = planned_right c.plan-planned.new.caller c.args.call c.plan-planned.result.reply
     c.plan-planned.result.rows c.plan-planned.ensures.planned c.requires.undecided c.requires.call
 
+-- after the draw the caller has that plan to write
 pub write_plan-requires-clause-planned : goal.write_plan-requires-clause-planned
 write_plan-requires-clause-planned g c = c.draw-entry.ensures.write refl c.plan-planned.ensures.planned.read
 
+-- holding, planning, drawing, writing and giving back are the whole call
 pub returns-clause-called : goal.returns-clause-called
 returns-clause-called g c =
     let b = c.acquire.ensures in

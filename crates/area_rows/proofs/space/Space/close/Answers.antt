@@ -11,14 +11,17 @@ use Rattle.area_rows.proofs.Gathering.{closes_below, idle_rows}
 use Rattle.area_rows.proofs.Pairing.{pairs_length, pairs_passes, pairs_kept, seats_idle, join_ready}
 use Rattle.area_rows.proofs.space.Space.close.Goals as goal
 
+-- there are as many seats as the table has
 pub close-requires-clause-count : goal.close-requires-clause-count
 close-requires-clause-count c = (pairs_length _ _ c.args.callers.items c.part-callers.ensures.pairs).0
     ∙ (c.requires.count ∙ sym (ap (λ t. t.seats) c.self.view_is))
 
+-- no seat holds anything
 pub close-requires-clause-idle : goal.close-requires-clause-idle
 close-requires-clause-idle c = seats_idle _ _ _ c.args.callers.items c.part-callers.ensures.pairs
     (subst (λ t. AreIdle t c.args.callers.items) (sym (ap (λ t. t.table) c.self.view_is)) c.requires.idle)
 
+-- the number of each entry is below the count of all entries
 pub collect-requires-clause-below : goal.collect-requires-clause-below
 collect-requires-clause-below c =
     let pairs = c.part-callers.ensures.pairs in
@@ -30,6 +33,7 @@ collect-requires-clause-below c =
     (map pass_in c.part-callers.result.1.items) _ (pairs_passes _ _ callers pairs) c.in-Ok-close.ensures.guard kept
     (c.in-Ok.ensures.entries ∙ ap callers_count c.as_slice.ensures.value)
 
+-- what comes back is the whole history and the areas that it leaves
 pub returns-in-Ok-close-clause-whole : goal.returns-in-Ok-close-clause-whole
 returns-in-Ok-close-clause-whole c =
     let pairs = c.part-callers.ensures.pairs in
@@ -44,6 +48,7 @@ returns-in-Ok-close-clause-whole c =
     (sym (c.requires.count ∙ sym (ap (λ t. t.seats) c.self.view_is))) c.in-Ok-close.ensures.guard) in
     c.collect.ensures callers history kept (c.in-Ok.ensures.entries ∙ ap callers_count c.as_slice.ensures.value)
 
+-- the seats that come back belong to the rest that was kept
 pub join-requires : goal.join-requires
 join-requires c =
     let r = join_ready _ c.in-Err.field-0.seats.items _ c.args.callers.items c.in-Err.ensures.refused.1 c.part-callers.ensures.pairs in
@@ -51,11 +56,13 @@ join-requires c =
     let empty = c.part-callers.ensures.empty in
     (r.0, (empty.0, omega (arith, n, empty.1, c.args.callers.ok.0, c.args.callers.ok.1)))
 
+-- a closing that was refused gives the space and all callers back as they were
 pub returns-in-Err-clause-refused : goal.returns-in-Err-clause-refused
 returns-in-Err-clause-refused c =
     let r = join_ready _ c.in-Err.field-0.seats.items _ c.args.callers.items c.in-Err.ensures.refused.1 c.part-callers.ensures.pairs in
     (c.in-Err.ensures.refused.0 ∙ c.self.view_is, c.join.ensures ∙ r.1)
 
+-- there are no more rows than there is room for
 pub collect-requires-clause-few : goal.collect-requires-clause-few
 collect-requires-clause-few c =
     let h = c.in-Ok-close.ensures.guard in

@@ -10,6 +10,7 @@ use Rattle.area_rows.specs.Callers.{CallerView, Shows, IsDrawn}
 use Rattle.area_rows.proofs.Stepping.{writes_row}
 use Rattle.area_rows.proofs.space.Space.draw.Goals as goal
 
+-- what the seat may number is what the caller may
 pub draw_as-requires-clause-right : goal.draw_as-requires-clause-right
 draw_as-requires-clause-right c =
     let rows : planned_rows c.as_slice.result.now c.as_slice-2.result.now ≡ c.args.caller.now.plan =
@@ -24,10 +25,12 @@ draw_as-requires-clause-right c =
     × Leaves state c.args.under (pending_of c.args.under c.args.caller.now.plan c.args.caller.now.change) left))
     (sym c.caller.view_is) c.requires.right)
 
+-- the reply has named bits alone
 pub returns-clause-named : goal.returns-clause-named
 returns-clause-named c = let d = c.draw_as.ensures.drawn in let n = d.numbered in
     reply_named n.state n.left c.args.call c.args.reply d.moment.running.named n.right.answers
 
+-- over an area the caller has the row to store that it has chosen
 pub returns-clause-store : goal.returns-clause-store
 returns-clause-store c = λ span change over chosen round.
     let e : Entry = record {

@@ -7,6 +7,7 @@ use Rattle.area_rows.specs.Callers.{IsDrawn}
 use Rattle.area_rows.proofs.Stepping.{may_draw, draws}
 use Rattle.area_rows.proofs.space.Space.draw_as.Goals as goal
 
+-- the guard allows the draw
 pub add-requires-clause-allowed : goal.add-requires-clause-allowed
 add-requires-clause-allowed g c =
     let s = c.args.seat.now in
@@ -15,6 +16,7 @@ add-requires-clause-allowed g c =
     subst (λ (n : Note). IsAllowed HasHistory Allowed n s.number s.held s.pass (adds 0 1)) (sym r.note)
     (may_draw note s.number s.held s.pass s refl refl refl r.few r.named r.rest r.held r.right)
 
+-- the draw gave the entry of the draft the number that was found
 pub returns-clause-drawn : goal.returns-clause-drawn
 returns-clause-drawn g c =
     let s = c.args.seat.now in

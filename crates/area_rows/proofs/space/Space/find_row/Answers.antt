@@ -8,6 +8,7 @@ use Rattle.area_rows.proofs.Halving.{all_rows, narrowed, halved}
 use Rattle.area_rows.proofs.Reading.{no_reading, reading_on, row_reads, step_taken}
 use Rattle.area_rows.proofs.space.Space.find_row.Goals as goal
 
+-- the row of the page is among all rows, which are at most 2^12
 pub halve-init : goal.halve-init
 halve-init g c = record {
   reading = no_reading c.args.caller.now.seat;
@@ -20,6 +21,7 @@ halve-init g c = record {
   room = (12, let few = c.requires.few in omega arith, omega arith);
 }
 
+-- one row more is read, and the row of the page is among the half that is left
 pub halve-preserved : goal.halve-preserved
 halve-preserved g c =
     let i = c.halve.invariant in

@@ -5,6 +5,8 @@ use Rattle.area_rows.specs.History.{IsAtRest}
 use Rattle.area_rows.specs.Callers.{HasSameRows, IsReading}
 use Rattle.area_rows.proofs.space.Space.find_row.Given as goal
 
+-- the caller has read rows alone, the row of the page is among those that are left, and the steps
+-- that were made and those that may come are at most 12
 abbrev pub invariant-halve : goal.invariant-halve
 invariant-halve g l = record {
   reading : IsReading l.initial.caller.seat l.caller.seat;
@@ -17,5 +19,6 @@ invariant-halve g l = record {
   room : (k : ℕ) × (l.size ≤ 2 ^ k) × (l.caller.seat.trace.taken + k ≤ l.initial.caller.seat.trace.taken + 12);
 }
 
+-- fewer rows are left each time
 abbrev pub decreases-halve : goal.decreases-halve
 decreases-halve g l = l.size

@@ -4,9 +4,11 @@ use Rattle.area_rows.specs.Callers.{CallerView, IsLook}
 use Rattle.area_rows.proofs.Stepping.{may_look, look_is}
 use Rattle.area_rows.proofs.space.Space.look.Goals as goal
 
+-- the guard allows the load of the number word
 pub load-requires-clause-allowed : goal.load-requires-clause-allowed
 load-requires-clause-allowed c = may_look no_note _ _ _
 
+-- the load is a look, at a moment of the running space
 pub returns-clause-look : goal.returns-clause-look
 returns-clause-look c =
     let s = c.caller.inside.seat in

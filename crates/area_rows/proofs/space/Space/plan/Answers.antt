@@ -7,6 +7,7 @@ use Rattle.area_rows.specs.Reads.{HasRows}
 use Rattle.area_rows.proofs.Wholes.{plan_shows}
 use Rattle.area_rows.proofs.space.Space.plan.Goals as goal
 
+-- the plan on the rows that were read is the plan of the call while they stand
 pub returns-clause-planned : goal.returns-clause-planned
 returns-clause-planned c =
     let r = c.read_rows.ensures in

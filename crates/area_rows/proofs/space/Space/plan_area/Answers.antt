@@ -6,6 +6,7 @@ use Rattle.area_rows.proofs.Reading.{count_reads}
 use Rattle.area_rows.proofs.AreaChoices.{plan_made}
 use Rattle.area_rows.proofs.space.Space.plan_area.Goals as goal
 
+-- the way that was chosen, by the row and the kinds beside it, is what a plan over an area promises
 pub returns-clause-plan : goal.returns-clause-plan
 returns-clause-plan c =
     let r = c.requires in

@@ -6,6 +6,7 @@ use Rattle.area_rows.proofs.Reading.{count_reads, reading_on}
 use Rattle.area_rows.proofs.Wholes.{none_read, one_more_read, all_read}
 use Rattle.area_rows.proofs.space.Space.read_rows.Goals as goal
 
+-- before the first row none is read
 pub rows-init : goal.rows-init
 rows-init c =
     let e = c.clear_rows.ensures in
@@ -17,6 +18,7 @@ rows-init c =
       held = n.step.held ∙ (ap (λ (k : SeatState Pass). k.held) e.seat ∙ c.requires.held);
     }
 
+-- one row more is read
 pub rows-preserved : goal.rows-preserved
 rows-preserved c =
     let i = c.rows.invariant in
@@ -29,12 +31,15 @@ rows-preserved c =
       held = ap (λ (k : SeatState Pass). k.held) p.seat ∙ (n.step.held ∙ i.held);
     }
 
+-- all rows are read
 pub returns-clause-rows : goal.returns-clause-rows
 returns-clause-rows c = (all_read _ _ _ _ c.rows.invariant.so_far (search rules)).0
 
+-- they are a row list
 pub returns-clause-list : goal.returns-clause-list
 returns-clause-list c = (all_read _ _ _ _ c.rows.invariant.so_far (search rules)).1
 
+-- what the call did is a reading
 pub returns-clause-reading : goal.returns-clause-reading
 returns-clause-reading c =
     let e = c.clear_rows.ensures in
@@ -43,5 +48,6 @@ returns-clause-reading c =
     (count_reads c.clear_rows.new.self.seat c.load_count-count.new.caller.seat c.load_count-count.result n.step n.again) in
     reading_on c.args.caller.now.seat c.load_count-count.new.caller.seat c.rows.caller.seat first c.rows.invariant.so_far.reading
 
+-- no number was drawn
 pub returns-clause-left : goal.returns-clause-left
 returns-clause-left c = c.rows.invariant.so_far.left ∙ (c.load_count-count.ensures.left ∙ c.clear_rows.ensures.left)

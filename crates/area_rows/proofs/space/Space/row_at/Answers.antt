@@ -8,6 +8,7 @@ use Rattle.area_rows.proofs.Halving.{starts_up_to, starts_behind}
 use Rattle.area_rows.proofs.Reading.{found_row, last_row, found_read}
 use Rattle.area_rows.proofs.space.Space.row_at.Goals as goal
 
+-- the row starts at or before the page
 pub returns-then-index-count-clause-from : goal.returns-then-index-count-clause-from
 returns-then-index-count-clause-from g c =
     let w = c.load_row-word.ensures in
@@ -16,6 +17,7 @@ returns-then-index-count-clause-from g c =
     let start = c.read_row-lo.ensures.start in
     omega arith
 
+-- the next row starts behind the page
 pub returns-then-index-count-clause-until : goal.returns-then-index-count-clause-until
 returns-then-index-count-clause-until g c =
     let w = c.load_row-word.ensures in
@@ -27,6 +29,7 @@ returns-then-index-count-clause-until g c =
     let start = c.read_row-hi.ensures.start in
     omega arith
 
+-- the row is as it was read, up to the start of the next one
 pub returns-then-index-count-clause-read : goal.returns-then-index-count-clause-read
 returns-then-index-count-clause-read g c =
     let step = c.load_row-word.ensures.step in
@@ -35,6 +38,7 @@ returns-then-index-count-clause-read g c =
     (ap (λ (p : Pass). p.count) step.pass ∙ c.requires.count)
     (subst (λ (p : Pass). HasRead p.rows c.args.index c.load_row-word.result) (sym step.pass) (inl (refl, refl))) c.if-index-count.true
 
+-- and it is the row of the page while the range is held
 pub returns-then-index-count-clause-shows : goal.returns-then-index-count-clause-shows
 returns-then-index-count-clause-shows g c =
     let step = c.load_row-word.ensures.step in
@@ -49,6 +53,7 @@ returns-then-index-count-clause-shows g c =
     (subst (λ (p : Pass). HasRead p.rows c.args.index c.load_row-word.result) (sym step.pass) (inl (refl, refl))) c.if-index-count.true c.requires.held
     (let low = returns-then-index-count-clause-from g c in let start = lo.start in omega arith) (returns-then-index-count-clause-until g c) (omega arith)
 
+-- the last row starts at or before the page
 pub returns-clause-from : goal.returns-clause-from
 returns-clause-from g c =
     let w = c.load_row-word.ensures in
@@ -57,6 +62,7 @@ returns-clause-from g c =
     let start = c.read_row-lo.ensures.start in
     omega arith
 
+-- the last row is the row of the page while the range is held
 pub returns-clause-shows : goal.returns-clause-shows
 returns-clause-shows g c =
     let step = c.load_row-word.ensures.step in

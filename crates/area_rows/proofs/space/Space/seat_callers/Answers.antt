@@ -8,6 +8,7 @@ use Rattle.area_rows.proofs.Beginning.{first_seats, next_seat, seats_on, one_cal
 use Rattle.area_rows.specs.Parts.{none_is}
 use Rattle.area_rows.proofs.space.Space.seat_callers.Goals as goal
 
+-- a new seat and empty lists make a caller
 pub invariant_of-push_reserved : goal.invariant_of-push_reserved
 invariant_of-push_reserved c =
     let some_left : 0 < length c.seats.seats.items = search rules in
@@ -24,6 +25,7 @@ invariant_of-push_reserved c =
       λ _. ap (λ (x : SeatState Pass). x.pass.pending) s,
     )
 
+-- before the first caller all seats wait
 pub seats-init : goal.seats-init
 seats-init c = record {
   room = search rules;
@@ -33,6 +35,7 @@ seats-init c = record {
   rest = first_seats c.args.table.now.table (new_pass c.args.start.now) c.args.seats.items c.requires.seats;
 }
 
+-- one new caller more is made, and the seats that wait go on with the next number
 pub seats-preserved : goal.seats-preserved
 seats-preserved c =
     let i = c.seats.invariant in

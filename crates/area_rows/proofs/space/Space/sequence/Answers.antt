@@ -5,9 +5,11 @@ use Rattle.area_rows.specs.Callers.{CallerView, IsReading, CountsWhole}
 use Rattle.area_rows.proofs.Stepping.{may_sequence, sequence_is}
 use Rattle.area_rows.proofs.space.Space.sequence.Goals as goal
 
+-- the guard allows the load of the sequence word
 pub load-requires-clause-allowed : goal.load-requires-clause-allowed
 load-requires-clause-allowed c = may_sequence no_note _ _ _ c.caller.invariant.7
 
+-- the load is a reading
 pub returns-clause-reading : goal.returns-clause-reading
 returns-clause-reading c =
     let s = c.caller.inside.seat in
@@ -15,6 +17,7 @@ returns-clause-reading c =
     subst (λ (v : CallerView). IsReading v.seat u) c.caller.view_is
     (sequence_is s u c.load.result c.caller.invariant.7 c.load.ensures.call c.load.ensures.made).0
 
+-- while a range is held it counts the entries under everything
 pub returns-clause-counts : goal.returns-clause-counts
 returns-clause-counts c =
     let s = c.caller.inside.seat in

@@ -5,10 +5,12 @@ use Rattle.area_rows.specs.declared.guard.Pass.{Pass}
 use Rattle.area_rows.specs.Callers.{CallerView}
 use Rattle.area_rows.proofs.space.Space.try_acquire.Goals as goal
 
+-- a caller that held nothing has nothing to write, and no step of the lock changes that
 pub returns-clause-rest : goal.returns-clause-rest
 returns-clause-rest g c = ap (λ (p : Pass). p.pending) c.try_acquire.ensures.call.pass
     ∙ c.caller.invariant.8 (ap (λ (v : CallerView). v.seat.held) c.caller.view_is ∙ c.requires.free)
 
+-- a try is refused as too long exactly where a walk of it was as long as one may be
 pub returns-clause-long : goal.returns-clause-long
 returns-clause-long g c =
     subst (λ (z : ℕ × SeatState Pass). IfErr c.try_acquire.result (λ why. IsLongRefusal why ↔ IsSpentIn z.0 z.1 c.try_acquire.new.seat))

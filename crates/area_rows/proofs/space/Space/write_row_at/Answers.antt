@@ -4,6 +4,7 @@ use Rattle.area_rows.specs.Writing.{IsMixed}
 use Rattle.area_rows.proofs.StoringRows.{mixed_stored}
 use Rattle.area_rows.proofs.space.Space.write_row_at.Goals as goal
 
+-- the row that was stored is the plan's
 pub returns-then-i-read-clause-mixed : goal.returns-then-i-read-clause-mixed
 returns-then-i-read-clause-mixed c =
     let s = c.args.seat.now in

@@ -2,6 +2,7 @@ use Rattle.std.proofs.Common.{rules, ℕ, ◌≡◌, ◌<◌, length, subst, ari
 use Rattle.area_rows.specs.Writing.{IsMixed}
 use Rattle.area_rows.proofs.space.Space.write_rows.Goals as goal
 
+-- once all rows are written they are the plan's
 pub write_count-requires-clause-mixed : goal.write_count-requires-clause-mixed
 write_count-requires-clause-mixed c =
     let i = c.rows.invariant in

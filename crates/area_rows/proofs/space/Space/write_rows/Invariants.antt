@@ -3,6 +3,7 @@ use Rattle.std.specs.Prelude.{Some}
 use Rattle.area_rows.specs.Writing.{IsMixed, IsWriting}
 use Rattle.area_rows.proofs.space.Space.write_rows.Given as goal
 
+-- the rows so far are the plan's, the others and the row count are as they were read, and nothing but writing was done
 abbrev pub invariant-rows : goal.invariant-rows
 invariant-rows l = record {
   mixed : IsMixed l.seat.pass.rows l.read l.plan l.index;
@@ -11,5 +12,6 @@ invariant-rows l = record {
   bound : l.index ≤ length l.plan;
 }
 
+-- there is one row of the plan less each time
 abbrev pub decreases-rows : goal.decreases-rows
 decreases-rows l = length l.plan - l.index
