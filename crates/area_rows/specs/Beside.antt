@@ -29,9 +29,10 @@ kind_by a b true e not_not = same_option-true a b e
 kind_by a b false e not_not = absurd (not_not (λ same. true≢false (sym (same_option-same a) ∙ (ap (same_option a) same ∙ e))))
 
 -- no page of a span that is held as a writer is held by another caller
-pub apart_pages : (grants : Grants) (worker other : ℕ) (span : Span) → IsExclusive grants → (other ≡ worker → ⊥)
-    → Holds grants worker (alone span) → (held : Option Held) → get_elem? grants other ≡ some held → (page : ℕ)
-    → IsHeldPage held page → IsIn span page → ⊥
+pub apart_pages : (grants : Grants) (worker other : ℕ) (span : Span)
+    → IsExclusive grants → (other ≡ worker → ⊥) → Holds grants worker (alone span)
+    → (held : Option Held) → get_elem? grants other ≡ some held
+    → (page : ℕ) → IsHeldPage held page → IsIn span page → ⊥
 apart_pages grants worker other span exclusive differ holds held at page h i =
     let a = h.2 in let b = h.3 in let l = i.0 in let r = i.1 in
     exclusive worker other (alone span) h.0 (λ e. differ (sym e)) holds (at ∙ ap some h.1) ((omega arith, omega arith), inl refl)

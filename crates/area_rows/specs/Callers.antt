@@ -20,8 +20,7 @@ use Rattle.page_types.specs.declared.calls.Reply.{Reply}
 use Rattle.page_types.specs.declared.pages.Span.{Span}
 use Rattle.page_types.specs.declared.calls.Kind.{Kind}
 use Rattle.page_types.specs.Named.{IsNamedKind}
-use Rattle.range_rw.specs.Contract.{SeatState, IsSeatCount, new_seat}
-use Rattle.range_rw.specs.Contract.{client_trace}
+use Rattle.range_rw.specs.Contract.{SeatState, IsSeatCount, new_seat, client_trace}
 use Rattle.area_rows.specs.declared.guard.Change.{Change}
 use Rattle.area_rows.specs.declared.guard.ReadRow.{ReadRow}
 use Rattle.area_rows.specs.declared.guard.Pass.{Pass}
@@ -37,8 +36,7 @@ use Rattle.row_plans.specs.Plans.{IsPlan}
 use Rattle.area_rows.specs.Reads.{IsHeldPage, HasRead, HasRows}
 use Rattle.area_rows.specs.Changes.{alone, IsOneStore, IsRound}
 use Rattle.area_rows.specs.History.{Runs, StartsWith, entries_of, HasNamedReplies, whole_count, planned_calls}
-use Rattle.area_rows.specs.History.{IsRunningSpace, AreBacked, HasPages, IsAtRest, IsRight, Leaves, pending_of}
-use Rattle.area_rows.specs.History.{HoldsFor}
+use Rattle.area_rows.specs.History.{IsRunningSpace, AreBacked, HasPages, HoldsFor, IsAtRest, IsRight, Leaves, pending_of}
 
 -- a caller: its seat in the lock's table, whose pass is what it knows of the space; how many numbers it may still draw;
 -- the row words that it read for its last plan, and those that this plan leaves; and the row that its last plan over an
@@ -95,7 +93,8 @@ pub record IsMoment (seat : SeatState Pass) (start : List Area) (history : List 
 
 -- it is so at every moment at which the caller of this seat holds its range and has read what it has read
 abbrev pub Shows : SeatState Pass → (List ℕ → List Area → Type 0) → Type 0
-Shows seat what = (start : List Area) (history : List Entry) (state : List Area) (words : List ℕ) → IsMoment seat start history state words → what words state
+Shows seat what = (start : List Area) (history : List Entry) (state : List Area) (words : List ℕ)
+    → IsMoment seat start history state words → what words state
 
 -- so many entries of the history were numbered under everything, the caller's own aside where it isn't written yet, at
 -- every moment at which the caller of this seat holds its range and has read what it has read
@@ -107,8 +106,8 @@ CountsWhole seat n = (start : List Area) (history : List Entry) (state : List Ar
 -- what it has read the entry is right, and its plan is what the call leaves: rows under everything, one row over an
 -- area
 abbrev pub MayNumber : CallerView → Call → Reply → Under → Type 0
-MayNumber c call reply under = Shows c.seat (λ _ state. (left : List Area) × IsRight state call reply under left
-    × Leaves state under (pending_of under c.plan c.change) left)
+MayNumber c call reply under = Shows c.seat (λ _ state. (left : List Area)
+    × IsRight state call reply under left × Leaves state under (pending_of under c.plan c.change) left)
 
 -- a caller's plan is of this call: under everything, at every moment at which it still holds it and has read those
 -- rows, the call has this reply and leaves so many rows, and the plan has their words; the caller has read all rows
@@ -212,13 +211,7 @@ opening_words start = 0 ∷ 0 ∷ row_count start ∷ (rows_from 0 start ++ repl
 -- the callers of a new space, in order of their numbers, each with as many numbers to draw as was asked
 abbrev pub AreNewCallers : TableId → List Area → List ℕ → List CallerView → Type 0
 AreNewCallers table start calls callers = (k : ℕ) (c : CallerView) → get_elem? callers k ≡ some c
-    → c ≡ record {
-      seat = new_seat table (λ _. new_pass start) k;
-      left = slice_index calls k;
-      read = [];
-      plan = [];
-      change = None;
-    }
+    → c ≡ record { seat = new_seat table (λ _. new_pass start) k; left = slice_index calls k; read = []; plan = []; change = None }
 
 -- why no space is opened for so many callers over so many rows
 abbrev pub IsSpaceFault : ℕ → ℕ → SpaceFault → Type 0

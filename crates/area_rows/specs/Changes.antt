@@ -50,23 +50,26 @@ pub record MayReplace (words : List ℕ) (c : Change) : Type 0 where
   pub there : c.index < ROWS
   pub up : (page : ℕ) → row_start (slice_index words (3 + c.index)) ≤ page → page < row_start (new_word c) → IsIn c.span page
   pub down : (page : ℕ) → row_start (new_word c) ≤ page → page < row_start (slice_index words (3 + c.index)) → IsIn c.span page
-  pub stood : row_start (slice_index words (3 + c.index)) ≢ row_start (new_word c) → (page : ℕ)
-      → (page ≡ row_start (slice_index words (3 + c.index))) ⊎ (page + 1 ≡ row_start (slice_index words (3 + c.index)))
+  pub stood : row_start (slice_index words (3 + c.index)) ≢ row_start (new_word c)
+      → (page : ℕ) → (page ≡ row_start (slice_index words (3 + c.index))) ⊎ (page + 1 ≡ row_start (slice_index words (3 + c.index)))
       → IsIn c.span page
-  pub recoloured : row_kind (new_word c) ≢ row_kind (slice_index words (3 + c.index)) → (page : ℕ) → page < LIMIT
-      → IsRowOf words page c.index → IsIn c.span page
+  pub recoloured : row_kind (new_word c) ≢ row_kind (slice_index words (3 + c.index))
+      → (page : ℕ) → page < LIMIT → IsRowOf words page c.index → IsIn c.span page
   pub shows : (kinds : ℕ → Option Kind) → RowsShow words kinds → RowsShow (slice_set words (3 + c.index) (new_word c)) (with_change c kinds)
 
 -- the three ways in which one store changes pages of an area, with the kinds of the page before it and of the page
 -- behind it, None where there is none: all its pages get a kind that neither has; its first pages go to the area before
 -- it; its last pages go to the area behind it
 pub data IsOneStore (row : Row) (before behind : Option Kind) (c : Change) : Type 0 where
-  whole : c.index ≡ row.index → c.start ≡ row.lo → c.kind ≡ c.new → c.place.lo ≡ row.lo → c.place.hi ≡ row.hi
-      → before ≢ Some c.new → behind ≢ Some c.new → IsOneStore row before behind c
-  first_part : c.index ≡ row.index → c.start ≡ c.place.hi → c.kind ≡ c.old → c.place.lo ≡ row.lo → c.place.hi < row.hi
-      → before ≡ Some c.new → IsOneStore row before behind c
-  last_part : c.index ≡ row.index + 1 → c.start ≡ c.place.lo → c.kind ≡ c.new → row.lo < c.place.lo → c.place.hi ≡ row.hi
-      → behind ≡ Some c.new → IsOneStore row before behind c
+  whole : c.index ≡ row.index → c.start ≡ row.lo → c.kind ≡ c.new
+      → c.place.lo ≡ row.lo → c.place.hi ≡ row.hi → before ≢ Some c.new → behind ≢ Some c.new
+      → IsOneStore row before behind c
+  first_part : c.index ≡ row.index → c.start ≡ c.place.hi → c.kind ≡ c.old
+      → c.place.lo ≡ row.lo → c.place.hi < row.hi → before ≡ Some c.new
+      → IsOneStore row before behind c
+  last_part : c.index ≡ row.index + 1 → c.start ≡ c.place.lo → c.kind ≡ c.new
+      → row.lo < c.place.lo → c.place.hi ≡ row.hi → behind ≡ Some c.new
+      → IsOneStore row before behind c
 
 -- the pages of a row and one page more on each side, where there is one
 abbrev pub IsRound : Row → Span → Type 0

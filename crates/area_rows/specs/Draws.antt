@@ -31,8 +31,7 @@ use Rattle.row_plans.specs.Plans.{PlanShows}
 use Rattle.area_rows.specs.Reads.{everything, StillStands}
 use Rattle.area_rows.specs.Changes.{alone, IsChange}
 use Rattle.area_rows.specs.History.{FitsAndReplies, Runs, with_whole, IsPart, planned_calls, planned_count, IsShown}
-use Rattle.area_rows.specs.History.{RowsStandFor, IsRunningSpace, Backs, IsBacked, AreBacked, HoldsFor, Leaves}
-use Rattle.area_rows.specs.History.{after_draw}
+use Rattle.area_rows.specs.History.{RowsStandFor, IsRunningSpace, Backs, IsBacked, AreBacked, HoldsFor, Leaves, after_draw}
 use Rattle.area_rows.specs.Replies.{all_more, reply_named, left_named, left_few}
 use Rattle.area_rows.specs.Stands.{all_stand, same_low, low_rows, shown_set}
 use Rattle.area_rows.specs.Parts.{own_more, own_same, count_set, no_wrap, whole_more, planned_set, resting_of, none_is}
@@ -127,8 +126,8 @@ others_part start history words value worker p e differ own = record {
 
 own_part : (start : List Areas) (history : List Entry) (words : List ℕ) (value worker : ℕ) (p : Pass) (e : Entry)
     (pending : Pending) (held : Option Held) → e.worker ≡ worker → length p.mine + 1 < 2 ^ 32
-    → IsPart start history words worker p → IsPart start (history ++ e ∷ []) (set words 0 value) worker
-    (after_draw history e pending held p)
+    → IsPart start history words worker p
+    → IsPart start (history ++ e ∷ []) (set words 0 value) worker (after_draw history e pending held p)
 own_part start history words value worker p e AtRest held is few own = record {
   began = own.began;
   seen = ([], sym (append-nil (history ++ e ∷ [])));
@@ -156,11 +155,11 @@ own_part start history words value worker p e (OneRow c) held is few own = recor
 
 -- what the rows show after a draw, where no plan is to be written
 shown_drawn : (grants : Grants) (history : List Entry) (state left : List Areas) (words : List ℕ) (passes : List Pass)
-    (worker value : ℕ) (p : Pass) (e : Entry) (pending : Pending) (held : Option Held) → AreBacked grants words state passes
-    → IsExclusive grants → get_elem? grants worker ≡ some held → HoldsFor held e.under
+    (worker value : ℕ) (p : Pass) (e : Entry) (pending : Pending) (held : Option Held)
+    → AreBacked grants words state passes → IsExclusive grants → get_elem? grants worker ≡ some held → HoldsFor held e.under
     → get_elem? passes worker ≡ some p → p.pending ≡ AtRest → Leaves state e.under pending left → planned_calls pending ≡ 0
-    → RowsStandFor state passes words → RowsStandFor left (set passes worker (after_draw history e pending held p))
-    (set words 0 value)
+    → RowsStandFor state passes words
+    → RowsStandFor left (set passes worker (after_draw history e pending held p)) (set words 0 value)
 shown_drawn grants history state left words passes worker value p e AtRest held backed exclusive has holds at rest leaves none s =
     let q : Pass = after_draw history e AtRest held p in (
       s.0,
@@ -186,15 +185,14 @@ module _ (grants : Grants) (start : List Areas) (history : List Entry) (state le
     (at : get_elem? passes worker ≡ some p) (num : e.number ≡ length history) (is : e.worker ≡ worker)
     (leaves : Leaves state e.under pending left) (rest : p.pending ≡ AtRest) where
   pub drawn : IsNamedCall e.call → FitsUnder state e.call e.under → Answers state e.call e.reply left → length p.mine + 1 < 2 ^ 32
-      → IsRunningSpace start (history ++ e ∷ []) left (words_after words (adds 0 1))
-      (set passes worker (after_draw history e pending held p))
+      → IsRunningSpace start (history ++ e ∷ []) left (words_after words (adds 0 1)) (set passes worker (after_draw history e pending held p))
   drawn call fits answers few =
       let q : Pass = after_draw history e pending held p in
       let value = (slice_index words 0 + 1) % 2 ^ 64 in
       let wide : length (set passes worker q) ≡ length passes = length-set passes worker q in
       let more : length (history ++ e ∷ []) ≡ length history + 1 = length-append history (e ∷ []) in
-      let pends : planned_count (set passes worker q) ≡ planned_count passes + planned_calls pending = let s =
-      planned_set passes worker p q at in let z = resting_of p.pending rest in
+      let pends : planned_count (set passes worker q) ≡ planned_count passes + planned_calls pending =
+      let s = planned_set passes worker p q at in let z = resting_of p.pending rest in
       let c = ap planned_calls (draw_pending history e held p pending) in omega arith in
       let grown : length q.mine ≡ length p.mine + 1 = ap length (draw_mine history e held p pending) ∙ length-append p.mine (e ∷ []) in
       let room = r.room in
@@ -247,8 +245,8 @@ module _ (grants : Grants) (state left : List Areas) (words : List ℕ) (value :
   held_whole worker h under whole at holds = let is : HoldsFor h Whole = subst (HoldsFor h) whole holds in at ∙ ap some is
 
   pub drawn_backed : (history : List Entry) (passes : List Pass) (worker : ℕ) (p : Pass) (e : Entry) (under : Under)
-      (pending : Pending) (h : Option Held) → AreBacked grants words state passes → IsExclusive grants
-      → get_elem? passes worker ≡ some p
+      (pending : Pending) (h : Option Held)
+      → AreBacked grants words state passes → IsExclusive grants → get_elem? passes worker ≡ some p
       → get_elem? grants worker ≡ some h → HoldsFor h under → Leaves state under pending left
       → AreBacked grants (set words 0 value) left (set passes worker (after_draw history e pending h p))
   drawn_backed history passes worker p e under AtRest h all exclusive at has holds leaves other x there =

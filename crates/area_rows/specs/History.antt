@@ -123,7 +123,8 @@ ShowsBefore (OneRow change) kinds = (page : ℕ) → IsIn change.place page → 
 -- the kinds that the rows show: those of the state, but at pages whose row may lag
 pub record IsShown (state : List Areas) (passes : List Pass) (kinds : ℕ → Option Kind) : Type 0 where
   pub lagging : (worker : ℕ) (pass : Pass) → get_elem? passes worker ≡ some pass → ShowsBefore pass.pending kinds
-  pub elsewhere : (page : ℕ) → ((worker : ℕ) (pass : Pass) → get_elem? passes worker ≡ some pass → ¬ LagsAt pass.pending page) → kinds page ≡ kind_at state page
+  pub elsewhere : (page : ℕ) → ((worker : ℕ) (pass : Pass) → get_elem? passes worker ≡ some pass → ¬ LagsAt pass.pending page)
+      → kinds page ≡ kind_at state page
 
 -- the row words show the state as far as it is written
 abbrev pub RowsStandFor : List Areas → List Pass → List ℕ → Type 0
@@ -177,7 +178,8 @@ pub record IsBacked (grants : Grants) (words : List ℕ) (state : List Areas) (w
 
 -- the same of all callers
 abbrev pub AreBacked : Grants → List ℕ → List Areas → List Pass → Type 0
-AreBacked grants words state passes = (worker : ℕ) (pass : Pass) → get_elem? passes worker ≡ some pass → IsBacked grants words state worker pass
+AreBacked grants words state passes = (worker : ℕ) (pass : Pass) → get_elem? passes worker ≡ some pass
+    → IsBacked grants words state worker pass
 
 -- the rule of the guard
 abbrev pub HasHistory : Grants → List ℕ → List Pass → Type 0
@@ -304,17 +306,16 @@ after_draw history e (Planned rows) held p = record {
   pending = Planned rows;
   drew = held;
 }
-after_draw history e (OneRow change) held p =
-    record {
-      start = p.start;
-      seen = history ++ e ∷ [];
-      mine = p.mine ++ e ∷ [];
-      count = p.count;
-      rows = p.rows;
-      sequence = p.sequence;
-      pending = OneRow change;
-      drew = held;
-    }
+after_draw history e (OneRow change) held p = record {
+  start = p.start;
+  seen = history ++ e ∷ [];
+  mine = p.mine ++ e ∷ [];
+  count = p.count;
+  rows = p.rows;
+  sequence = p.sequence;
+  pending = OneRow change;
+  drew = held;
+}
 
 -- the pass after the sequence word was raised: all is written
 abbrev pub after_raise : Pass → Pass
@@ -340,7 +341,8 @@ HoldsNothing grants worker = get_elem? grants worker ≡ some None
 
 -- a draw of a number: the entry is right at the state, and what its call leaves is to be written; the range that it
 -- names is held, nothing else is to be written, and the caller has fewer than 2^32 entries with it
-pub record MayDraw (grants : Grants) (words : List ℕ) (passes : List Pass) (worker : ℕ) (note : Note) (here : Here grants words passes worker) : Type 0 where
+pub record MayDraw (grants : Grants) (words : List ℕ) (passes : List Pass) (worker : ℕ) (note : Note)
+    (here : Here grants words passes worker) : Type 0 where
   pub left : List Areas
   pub named : IsNamedCall note.call
   pub right : IsRight here.state note.call note.reply note.under left
@@ -359,7 +361,8 @@ pub data MayStore (rows : List ℕ) (place value : ℕ) (p after : Pass) : Type 
 abbrev pub MayWrite : List ℕ → Pending → ℕ → ℕ → Pass → Pass → Type 0
 MayWrite words AtRest place value p after = ⊥
 MayWrite words (Planned rows) place value p after = MayStore rows place value p after
-MayWrite words (OneRow change) place value p after = (place ≡ 3 + change.index) × (value ≡ new_word change) × MayReplace words change × (after ≡ after_change p)
+MayWrite words (OneRow change) place value p after = (place ≡ 3 + change.index) × (value ≡ new_word change)
+    × MayReplace words change × (after ≡ after_change p)
 
 -- the additions: a draw of a number, and the raising of the sequence word where the rows show what a call under
 -- everything has left
@@ -374,7 +377,8 @@ pub data MayAdd (grants : Grants) (words : List ℕ) (passes : List Pass) (worke
 -- the steps on client words that the guard allows
 abbrev pub Allowed : Grants → List ℕ → List Pass → ℕ → ClientStep → Note → Pass → Type 0
 Allowed grants words passes worker (loads i) note after =
-    (here : Here grants words passes worker) × MayLoad (HoldsNothing grants worker) (HoldsPages grants worker) words here.history i here.pass after
+    (here : Here grants words passes worker)
+    × MayLoad (HoldsNothing grants worker) (HoldsPages grants worker) words here.history i here.pass after
 Allowed grants words passes worker (stores i value) note after =
     (here : Here grants words passes worker) × MayWrite words here.pass.pending i value here.pass after
 Allowed grants words passes worker (exchanges i expected new) note after = ⊥

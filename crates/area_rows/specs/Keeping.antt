@@ -134,8 +134,8 @@ writes_keep grants words passes worker here (OneRow c) place value after pends m
     )
 
 -- the law of steps
-pub steps_keep : (grants : Grants) (words : List ℕ) (passes : List Pass) (worker : ℕ) (step : ClientStep) (note : Note)
-    (after : Pass) → HasHistory grants words passes → Allowed grants words passes worker step note after
+pub steps_keep : (grants : Grants) (words : List ℕ) (passes : List Pass) (worker : ℕ) (step : ClientStep) (note : Note) (after : Pass)
+    → HasHistory grants words passes → Allowed grants words passes worker step note after
     → HasHistory grants (words_after words step) (set passes worker after)
 steps_keep grants words passes worker (loads i) note after kept may =
     let h = may.0 in (
@@ -193,8 +193,9 @@ idle_backed grants others words state seat x none b = record {
 }
 
 -- the law of gain: who gets a range held nothing, and so has read nothing yet
-pub gains_keep : (grants : Grants) (words : List ℕ) (passes : List Pass) (seat : ℕ) (h : Held) → HasHistory grants words passes
-    → get_elem? grants seat ≡ some None → IsFree grants seat h → HasHistory (set grants seat (Some h)) words passes
+pub gains_keep : (grants : Grants) (words : List ℕ) (passes : List Pass) (seat : ℕ) (h : Held)
+    → HasHistory grants words passes → get_elem? grants seat ≡ some None → IsFree grants seat h
+    → HasHistory (set grants seat (Some h)) words passes
 gains_keep grants words passes seat h kept none free = (
   kept.0,
   kept.1,
@@ -211,8 +212,9 @@ rest_backs : (grants : Grants) (state : List Areas) (seat : ℕ) (pending : Pend
 rest_backs grants state seat pending rest = subst (Backs grants state seat) (sym rest) tt
 
 -- the law of loss
-pub losses_keep : (grants : Grants) (words : List ℕ) (passes : List Pass) (seat : ℕ) (p : Pass) → HasHistory grants words passes
-    → get_elem? passes seat ≡ some p → IsAtRest p → HasHistory (set grants seat None) words (set passes seat (rest_of p))
+pub losses_keep : (grants : Grants) (words : List ℕ) (passes : List Pass) (seat : ℕ) (p : Pass)
+    → HasHistory grants words passes → get_elem? passes seat ≡ some p → IsAtRest p
+    → HasHistory (set grants seat None) words (set passes seat (rest_of p))
 losses_keep grants words passes seat p kept at rest =
     let r = kept.3 in (
       kept.0,

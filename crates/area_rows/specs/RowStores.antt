@@ -60,9 +60,9 @@ pub in_span : (c : Change) (page : ℕ) → IsInside c → IsIn c.place page →
 in_span c page inside i = let l = inside.0 in let h = inside.1 in let a = i.0 in let b = i.1 in (omega arith, omega arith)
 
 -- the pages of two callers' changes are apart
-apart_lags : (grants : Grants) (state : List Areas) (worker other : ℕ) (span : Span) (pending : Pending) → IsExclusive grants
-    → (other ≡ worker → ⊥) → Holds grants worker (alone span) → Backs grants state other pending → (page : ℕ)
-    → LagsAt pending page → IsIn span page → ⊥
+apart_lags : (grants : Grants) (state : List Areas) (worker other : ℕ) (span : Span) (pending : Pending)
+    → IsExclusive grants → (other ≡ worker → ⊥) → Holds grants worker (alone span) → Backs grants state other pending
+    → (page : ℕ) → LagsAt pending page → IsIn span page → ⊥
 apart_lags grants state worker other span AtRest exclusive differ holds b page lags i = lags
 apart_lags grants state worker other span (Planned rows) exclusive differ holds b page lags i = lags
 apart_lags grants state worker other span (OneRow d) exclusive differ holds b page lags i =
@@ -139,8 +139,8 @@ held_below grants words state other x b held at = ⊎_elim
     b.reads
 
 -- the store of the row
-module _ (grants : Grants) (start : List Areas) (history : List Entry) (state : List Areas) (words : List ℕ) (passes : List Pass)
-    (worker : ℕ) (p : Pass) (c : Change)
+module _ (grants : Grants) (start : List Areas) (history : List Entry) (state : List Areas) (words : List ℕ)
+    (passes : List Pass) (worker : ℕ) (p : Pass) (c : Change)
     (r : IsRunningSpace start history state words passes) (backed : AreBacked grants words state passes)
     (exclusive : IsExclusive grants) (at : get_elem? passes worker ≡ some p) (pends : p.pending ≡ OneRow c) where
   change_backs : Holds grants worker (alone c.span) × IsInside c × ((page : ℕ) → IsIn c.place page → kind_at state page ≡ Some c.new)

@@ -23,7 +23,8 @@ Stores passes worker place e = (pass : Pass) × (get_elem? passes worker ≡ som
 pub record IsStoredOnce (passes : List Pass) (e : Entry) : Type 0 where
   pub place : ℕ
   pub there : Stores passes e.worker place e
-  pub once : (worker other : ℕ) (f : Entry) → Stores passes worker other f → f.number ≡ e.number → (worker ≡ e.worker) × (other ≡ place) × (f ≡ e)
+  pub once : (worker other : ℕ) (f : Entry) → Stores passes worker other f → f.number ≡ e.number
+      → (worker ≡ e.worker) × (other ≡ place) × (f ≡ e)
 
 -- the history has as many entries as the number word says, and runs from the start with which each caller began to
 -- the state that the rows show, unless a call under everything isn't written yet; what is to be written is right for

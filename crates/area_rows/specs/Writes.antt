@@ -43,8 +43,8 @@ pub span_pages : (span : Span) → HasPages (alone span)
 span_pages span = (span.ordered, span.in_range)
 
 -- and nobody else has read anything
-pub others_blank : (grants : Grants) (words : List ℕ) (state : List Areas) (worker other : ℕ) (x : Pass) → IsExclusive grants
-    → other ≢ worker → Holds grants worker everything → IsBacked grants words state other x → HasReadNothing x
+pub others_blank : (grants : Grants) (words : List ℕ) (state : List Areas) (worker other : ℕ) (x : Pass)
+    → IsExclusive grants → other ≢ worker → Holds grants worker everything → IsBacked grants words state other x → HasReadNothing x
 others_blank grants words state worker other x exclusive differ held b =
     ⊎_elim (λ n. n) (λ h. absurd (clash grants worker other exclusive differ held h)) b.reads
 
@@ -71,8 +71,8 @@ pub held_is : (grants : Grants) (worker : ℕ) (h : Held) (held : Option Held) �
 held_is grants worker h held holds at = some-injective held (Some h) (sym at ∙ holds)
 
 -- a store by the caller of an unwritten call under everything
-module _ (grants : Grants) (start : List Areas) (history : List Entry) (state : List Areas) (words : List ℕ) (passes : List Pass)
-    (worker : ℕ) (p : Pass) (rows : List ℕ)
+module _ (grants : Grants) (start : List Areas) (history : List Entry) (state : List Areas) (words : List ℕ)
+    (passes : List Pass) (worker : ℕ) (p : Pass) (rows : List ℕ)
     (r : IsRunningSpace start history state words passes) (backed : AreBacked grants words state passes)
     (exclusive : IsExclusive grants) (at : get_elem? passes worker ≡ some p) (pends : p.pending ≡ Planned rows) where
   plan_held : Holds grants worker everything × PlanShows rows (kind_at state)
