@@ -24,7 +24,17 @@ pub enum SpaceFault {
     Memory,
 }
 
-/// A running address space.
+/// A running address space. `Space::open` gives it with its callers, and `close` takes them all and gives the history.
+///
+/// Here a caller holds pages as a reader while it reads the row of the first one, and how long the history is:
+///
+/// ```rust
+/// space.acquire(wait, caller, pages, Mode::Reader);
+/// let sequence = space.sequence(caller);
+/// let row = space.row_of(caller, pages.lo(), steps);
+/// let at = space.look(caller);
+/// space.release(caller, steps);
+/// ```
 #[derive(Drop)]
 pub struct Space {
     pub(crate) table: RangeTable<RowGuard>,
@@ -69,9 +79,9 @@ impl Model for Caller {
     ghost view = { λ c. record { seat = c.seat; left = c.left; read = c.read.items; plan = planned_rows c.read.items c.plan.items; change = c.change } };
 
     ghost invariant = { λ c. (c.seat.number ≡ c.worker) × (c.mine.items ≡ c.seat.pass.mine)
-        × (vec_len c.mine + c.left ≤ vec_capacity c.mine) × (vec_len c.mine + c.left < 2 ^ 32) × (ROWS ≤ vec_capacity c.read)
-        × (ROWS + 2 ≤ vec_capacity c.plan) × (vec_len c.plan ≤ ROWS) × IsHeldPages c.seat.held
-        × (c.seat.held ≡ None → IsAtRest c.seat.pass) };
+        × (vec_len c.mine + c.left ≤ vec_capacity c.mine) × (vec_len c.mine + c.left < 2 ^ 32)
+        × (ROWS ≤ vec_capacity c.read) × (ROWS + 2 ≤ vec_capacity c.plan) × (vec_len c.plan ≤ ROWS)
+        × IsHeldPages c.seat.held × (c.seat.held ≡ None → IsAtRest c.seat.pass) };
 }
 
 impl Caller {
