@@ -11,6 +11,7 @@ use Rattle.range_c.proofs.state.State.TheLaws as state
 use Rattle.range_c.specs.contracts.parts.Parts as Parts
 use Rattle.range_c.specs.contracts.handle.Pointer as Handle
 
+-- the box of what is behind a handle, on the program's heap
 abbrev pub E : Bx
 E = record {
   row = State.the_row;
@@ -18,8 +19,10 @@ E = record {
   al = record { row = Heap.the_row; laws = heap.the_row_laws; g = ghosts; d = dict; drops = impl [] tnil dnil };
 }
 
+-- what is handed over is the parts of such a box
 abbrev pub FromParts : Slot 0
 FromParts = plain (λ _. Parts.the_row State.the_row Heap.the_row ghosts)
 
+-- what is handed over is the pointer of a handle
 abbrev pub FromSeal : Slot 0
 FromSeal = plain (λ _. Handle.the_row)

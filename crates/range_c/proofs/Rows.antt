@@ -9,21 +9,26 @@ use Rattle.atomic_table.proofs.Lists.{at_last, at_longer}
 use Rattle.range_rw.specs.Contract.{SeatState, IsSeatCount, AreNewSeats, new_seat}
 use Rattle.range_c.specs.Behind.{Behind, IsNewBehind, IsShared}
 
+-- this is so of each element of the list, by its place
 abbrev pub AllAt : {A : Type 0} → (ℕ → A → Type 0) → List A → Type 0
 AllAt {A} P l = (k : ℕ) (a : A) → get_elem? l k ≡ some a → P k a
 
+-- what is so of each element by its place is so of the last one, and of those before it
 pub popped : {A : Type 0} (P : ℕ → A → Type 0) (old new : List A) (a : A) → old ≡ new ++ a ∷ [] → AllAt P old → P (length new) a × AllAt P new
 popped P old new a e all = (
   all (length new) a (subst (λ l. get_elem? l (length new) ≡ some a) (sym e) (at_last new a (length new) refl)),
   λ k b at. all k b (subst (λ l. get_elem? l k ≡ some b) (sym e) (at_longer new (a ∷ []) k b at)),
 )
 
+-- a list is one longer than without its last element
 pub longer : {A : Type 0} (old new : List A) (a : A) → old ≡ new ++ a ∷ [] → length new + 1 ≡ length old
 longer old new a e = sym (ap length e ∙ length-append new (a ∷ []))
 
+-- the seats that are left to share
 abbrev pub Row : Type 0
 Row = List (SeatState (Unit {0}))
 
+-- what is behind a handle with this seat
 abbrev pub behind : SeatState (Unit {0}) → ℕ → ℕ → ℕ → Behind
 behind seat spare words seats = record { seat = seat; spare = spare; words = words; seats = seats }
 

@@ -12,6 +12,7 @@ use Rattle.range_c.specs.declared.answers.Answer.TheVariants.{Closed, Open, Memo
 use Rattle.range_c.specs.declared.answers.Answer.TheVariants.{Other}
 use Rattle.range_c.specs.Behind.{Behind, IsTrial, IsOneTry, IsLastTry, IsTrialAnswer, IsTriedFor, IsTried, mode_for, asked}
 
+-- calls of the lock, one after another, are calls of the lock
 pub calls_after : (a b c : SeatState (Unit {0})) → IsLockCall a b → IsLockCall b c → IsLockCall a c
 calls_after a b c f g = record {
   table = g.table ∙ f.table;
@@ -21,6 +22,7 @@ calls_after a b c f g = record {
   taken = let x = f.taken in let y = g.taken in omega arith;
 }
 
+-- tries after tries are tries
 pub trials_after : (a b c : Behind) → IsTrial a b → IsTrial b c → IsTrial a c
 trials_after a b c f g = record {
   call = calls_after a.seat b.seat c.seat f.call g.call;

@@ -2,6 +2,7 @@ use Rattle.std.proofs.Common.{length}
 use Rattle.range_c.proofs.Refusals.{opening_of_open}
 use Rattle.range_c.proofs.exports.gz_range_open.Goals as goal
 
+-- a handle that is open is told so, and nothing else is the cause
 pub returns-then-is_open-clause-cause : goal.returns-then-is_open-clause-cause
 returns-then-is_open-clause-cause c =
     λ _. opening_of_open c.args.seats (length c.args.words.now) c.code.result c.args.handle.now.pointer.behind

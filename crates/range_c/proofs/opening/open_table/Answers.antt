@@ -5,6 +5,7 @@ use Rattle.range_rw.specs.Contract.{SeatState, TableShape, AreNewSeats}
 use Rattle.range_c.proofs.Rows.{taken, opens}
 use Rattle.range_c.proofs.opening.open_table.Goals as goal
 
+-- the seat of the highest number and the others are of the new table, which has these words
 pub invariant_of-state : goal.invariant_of-state
 invariant_of-state c =
     let all = taken c.in-Ok.opened.0.table c.in-Ok.opened.1.items c.pop.new.self.items c.in-Some.seat c.in-Some.ensures.items c.in-Ok.ensures.seats.1 in
@@ -14,6 +15,7 @@ invariant_of-state c =
       ap (λ (t : TableShape). t.client) c.in-Ok-new.ensures.ok ∙ c.in-Ok.ensures.shape.1,
     )
 
+-- what is in the box is what is behind a new handle of a new table
 pub returns-in-Ok-new-2-clause-opened : goal.returns-in-Ok-new-2-clause-opened
 returns-in-Ok-new-2-clause-opened c =
     let most : length c.args.client.now ≤ 2 ^ 20 = search rules in

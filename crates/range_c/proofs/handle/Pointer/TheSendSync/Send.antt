@@ -21,6 +21,7 @@ owned_keyless : (alloc : Global) (p : Ptr) (b : Option Behind) → Keyless (hand
 owned_keyless alloc p None = tt
 owned_keyless alloc p (Some s) = (lies State.the_row state p s, heap.frees.frees alloc (raw (lone State.the_row.mir)) p)
 
+-- the pointer of a handle may go to another thread
 pub send : IsSend the_row
 send =
     let all : AllSend (fields the_type) = (search sendable, (handle.the_field_send, tt)) in

@@ -7,6 +7,7 @@ use Rattle.range_c.specs.Behind.{Behind}
 use Rattle.range_c.proofs.Rows.{Row, behind, taken, put_back, shares}
 use Rattle.range_c.proofs.state.State.share.Goals as goal
 
+-- the seat that was taken out is of the same table, and none is left to share behind it
 pub invariant_of-state : goal.invariant_of-state
 invariant_of-state c =
     let all = taken (arc_value c.self.inside.table).table c.self.inside.spare.items c.pop.new.self.items c.in-Some.seat
@@ -16,6 +17,7 @@ invariant_of-state c =
       ap (λ (t : TableShape). t.client) c.in-Ok.ensures ∙ c.self.invariant.2,
     )
 
+-- the seats that are left to share are new ones of the table still
 pub invariant_of-self : goal.invariant_of-self
 invariant_of-self c = (
   c.self.invariant.0,
@@ -24,6 +26,7 @@ invariant_of-self c = (
   c.self.invariant.2,
 )
 
+-- where there was no memory, the seat is put back and all are left to share as before
 pub invariant_of-self-in-Err : goal.invariant_of-self-in-Err
 invariant_of-self-in-Err c =
     let seat = ap (λ (b : Behind). b.seat) (c.value.view_is ∙ c.in-Err.ensures.value_returned) in
@@ -31,6 +34,7 @@ invariant_of-self-in-Err c =
     c.value.inside.seat c.in-Some.ensures.items seat c.push_reserved.ensures.items in
     (c.self.invariant.0, subst (λ (l : Row). AreNewSeats (arc_value c.self.inside.table).table (λ _. tt) l) (sym again) c.self.invariant.1, c.self.invariant.2)
 
+-- what is in the new box got the last of the seats that were left to share
 pub returns-in-Ok-new-clause-shared : goal.returns-in-Ok-new-clause-shared
 returns-in-Ok-new-clause-shared c =
     let same = ap (λ (n : ℕ). behind c.in-Some.seat (length c.new.result.items) c.self.inside.words n) (ap (λ (t : TableShape). t.seats) c.in-Ok.ensures) in

@@ -3,6 +3,7 @@ use Rattle.range_rw.specs.Contract.{TableShape, IsLongRefusal, IsSpentIn}
 use Rattle.range_c.specs.Behind.{Behind}
 use Rattle.range_c.proofs.state.State.try_once.Goals as goal
 
+-- a try is refused as too long exactly where a walk of it was as long as one may be
 pub returns-clause-long : goal.returns-clause-long
 returns-clause-long c =
     let long = subst (λ (t : TableShape). IfErr c.try_once.result

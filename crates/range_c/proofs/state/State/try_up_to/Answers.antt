@@ -2,6 +2,7 @@ use Rattle.std.proofs.Common.{rules, ◌≡◌, ◌+◌, ◌-◌, ◌≤◌}
 use Rattle.range_c.proofs.Tries.{trials_after, one_more}
 use Rattle.range_c.proofs.state.State.try_up_to.Goals as goal
 
+-- one more try was refused, and the seat still holds nothing
 pub tries-preserved : goal.tries-preserved
 tries-preserved c =
     let now = trials_after c.args.self.now c.tries.self c.try_once.new.self c.tries.invariant.0 c.in-Err.ensures.kept in

@@ -8,5 +8,6 @@ abbrev pub invariant-tries : goal.invariant-tries
 invariant-tries l = IsTrial l.fn.self l.self × (l.self.seat.held ≡ None) × (l.left ≤ l.fn.tries)
     × IsSoFar (record { range = l.fn.range; mode = l.fn.mode }) l.fn.tries l.left l.fn.self l.self l.answer
 
+-- there is one try less each time
 abbrev pub decreases-tries : goal.decreases-tries
 decreases-tries l = l.left
