@@ -8,8 +8,7 @@ use Rattle.range_rw.specs.declared.refusals.NotHeld.{NotHeld}
 use Rattle.range_rw.specs.declared.refusals.NotHeld.TheVariants.{Busy, Again, Long, NoNode}
 use Rattle.range_c.specs.declared.answers.Answer.{Answer}
 use Rattle.range_c.specs.declared.answers.Answer.TheVariants.{Done, Refused, NotTried, BadRange, HasOne, HasNone}
-use Rattle.range_c.specs.declared.answers.Answer.TheVariants.{Closed, Open, Memory, Seats, Words, NoneLeft, NoWord}
-use Rattle.range_c.specs.declared.answers.Answer.TheVariants.{Other}
+use Rattle.range_c.specs.declared.answers.Answer.TheVariants.{Closed, Open, Memory, Seats, Words, NoneLeft, NoWord, Other}
 use Rattle.range_c.specs.declared.answers.GzBusy.{GzBusy}
 
 -- the code of a refusal by the lock

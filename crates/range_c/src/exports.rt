@@ -153,8 +153,8 @@ pub extern "C" fn gz_range_exchange(
     expected: &mut u64,
     new: u64,
 ) -> u32
-    ensures exchanged { Says (λ answer. OnWord i (Exchange expected.old new) expected.old expected.new answer
-        handle.old.pointer.behind handle.new.pointer.behind) result }
+    ensures exchanged { Says (λ answer.
+        OnWord i (Exchange expected.old new) expected.old expected.new answer handle.old.pointer.behind handle.new.pointer.behind) result }
 {
     let call = WordCall {
         i,
