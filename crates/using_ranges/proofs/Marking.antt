@@ -13,9 +13,11 @@ use Rattle.using_ranges.specs.declared.high_water.Reading.{Reading}
 use Rattle.using_ranges.specs.HighWater.{MayRead, MayRaise, IsHighWater, IsMarkStep}
 
 module _ (seat : ℕ) (held : Option Held) (pass : Reading) where
+  -- a seat that holds a range with 0 in it may read the mark
   pub may_read : MayRead held → IsAllowed IsHighWater IsMarkStep tt seat held pass (loads 0)
   may_read h grants words passes m there small = (record { seen = slice_index words 0; sure = true }, (refl, (h.0, m.grant ∙ ap some h.1, h.2), refl))
 
+  -- a seat that holds one as a writer, and is sure of the mark, may raise it to what it has read or more
   pub may_raise : (to : ℕ) → MayRaise held → pass.sure ≡ true → pass.seen ≤ to → IsAllowed IsHighWater IsMarkStep tt seat held pass (stores 0 to)
   may_raise to h sure more grants words passes m there small = (
     record { seen = to; sure = true },
@@ -28,11 +30,13 @@ module _ (seat : ℕ) (held : Option Held) (pass : Reading) where
     ),
   )
 
+  -- what was read is no less than what the seat had read before, and it is sure of it
   pub was_read : (found : ℕ) (after : Reading) → IsMade IsHighWater IsMarkStep tt seat held pass (loads 0) found after
       → (pass.seen ≤ found) × (after ≡ record { seen = found; sure = true })
   was_read found after made = let m = made.3 in let old = m.met.seen seat pass m.own in let here = made.4 in
       (omega arith, made.5.2 ∙ (λ i. record { seen = here i; sure = true }))
 
+  -- after a rise the seat knows the mark that it stored
   pub was_raised : (to found : ℕ) (after : Reading) → IsMade IsHighWater IsMarkStep tt seat held pass (stores 0 to) found after
       → after ≡ record { seen = to; sure = true }
   was_raised to found after made = made.5.4
