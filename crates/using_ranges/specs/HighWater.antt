@@ -35,13 +35,16 @@ RaisesMark grants seat = (h : Held) × Holds grants seat h × HasZero h × (h.mo
 pub record IsHighWater (grants : Grants) (words : List ℕ) (passes : List Reading) : Type 0 where
   pub there : 0 < length words
   pub seen : (seat : ℕ) (p : Reading) → get_elem? passes seat ≡ some p → p.seen ≤ slice_index words 0
-  pub sure : (seat : ℕ) (p : Reading) → get_elem? passes seat ≡ some p → p.sure ≡ true → ReadsMark grants seat × (p.seen ≡ slice_index words 0)
+  pub sure : (seat : ℕ) (p : Reading) → get_elem? passes seat ≡ some p → p.sure ≡ true
+      → ReadsMark grants seat × (p.seen ≡ slice_index words 0)
 
 -- the steps: a read by who holds a range for it, and a rise by who holds one as a writer and knows the mark
 abbrev pub IsMarkStep : Grants → List ℕ → List Reading → ℕ → ClientStep → Unit {0} → Reading → Type 0
-IsMarkStep grants words passes seat (loads i) note after = (i ≡ 0) × ReadsMark grants seat × (after ≡ record { seen = slice_index words 0; sure = true })
+IsMarkStep grants words passes seat (loads i) note after = (i ≡ 0) × ReadsMark grants seat
+    × (after ≡ record { seen = slice_index words 0; sure = true })
 IsMarkStep grants words passes seat (stores i value) note after = (i ≡ 0) × IsExclusive grants × RaisesMark grants seat
-    × ((p : Reading) × (get_elem? passes seat ≡ some p) × (p.sure ≡ true) × (p.seen ≤ value)) × (after ≡ record { seen = value; sure = true })
+    × ((p : Reading) × (get_elem? passes seat ≡ some p) × (p.sure ≡ true) × (p.seen ≤ value))
+    × (after ≡ record { seen = value; sure = true })
 IsMarkStep grants words passes seat (adds i by) note after = ⊥
 IsMarkStep grants words passes seat (exchanges i expected new) note after = ⊥
 
@@ -50,8 +53,8 @@ abbrev pub unsure : Reading → Reading
 unsure p = record { seen = p.seen; sure = false }
 
 -- a new reading of the mark keeps the rule, where the mark is as it was
-reads : (grants : Grants) (words : List ℕ) (passes : List Reading) (seat : ℕ) (after : Reading) → IsHighWater grants words passes
-    → ReadsMark grants seat → after ≡ record { seen = get_or words 0 0; sure = true }
+reads : (grants : Grants) (words : List ℕ) (passes : List Reading) (seat : ℕ) (after : Reading)
+    → IsHighWater grants words passes → ReadsMark grants seat → after ≡ record { seen = get_or words 0 0; sure = true }
     → IsHighWater grants words (set passes seat after)
 reads grants words passes seat after m may is = let as_now : after.seen ≡ get_or words 0 0 = ap (λ (p : Reading). p.seen) is in record {
   there = m.there;
@@ -67,7 +70,8 @@ reads grants words passes seat after m may is = let as_now : after.seen ≡ get_
 rises : (grants : Grants) (words : List ℕ) (passes : List Reading) (seat value : ℕ) (before after : Reading)
     → IsHighWater grants words passes → IsExclusive grants → RaisesMark grants seat
     → get_elem? passes seat ≡ some before → before.sure ≡ true → before.seen ≤ value
-    → after ≡ record { seen = value; sure = true } → IsHighWater grants (set words 0 value) (set passes seat after)
+    → after ≡ record { seen = value; sure = true }
+    → IsHighWater grants (set words 0 value) (set passes seat after)
 rises grants words passes seat value before after m exclusive may own sure_now more is =
     let long = length-set words 0 value in
     let now : get_or (set words 0 value) 0 0 ≡ value = get_or-set_same words 0 value 0 m.there in
@@ -87,8 +91,8 @@ rises grants words passes seat value before after m exclusive may own sure_now m
     }
 
 -- the law of steps
-pub keeps_mark : (grants : Grants) (words : List ℕ) (passes : List Reading) (seat : ℕ) (step : ClientStep) (note : Unit {0})
-    (after : Reading) → IsHighWater grants words passes → IsMarkStep grants words passes seat step note after
+pub keeps_mark : (grants : Grants) (words : List ℕ) (passes : List Reading) (seat : ℕ) (step : ClientStep) (note : Unit {0}) (after : Reading)
+    → IsHighWater grants words passes → IsMarkStep grants words passes seat step note after
     → IsHighWater grants (words_after words step) (slice_set passes seat after)
 keeps_mark grants words passes seat (loads i) note after m may = reads grants words passes seat after m may.1 may.2
 keeps_mark grants words passes seat (stores i value) note after m may =

@@ -34,7 +34,7 @@ pub fn read(table: &RangeTable<HighWater>, seat: &mut Seat<HighWater>) -> u64
     table.load::<HighWater>(seat, 0)
 }
 
-/// RaisesMark the mark, under a range with 0 in it that the seat holds as a writer and under which it has read the
+/// Raises the mark, under a range with 0 in it that the seat holds as a writer and under which it has read the
 /// mark.
 pub fn raise(table: &RangeTable<HighWater>, seat: &mut Seat<HighWater>, to: u64)
     requires table { seat.old.table ≡ table.now.table }
