@@ -2,8 +2,7 @@
 //! at any moment. A reader may rely on every result: the clauses here say which calls fail and how much each call
 //! moves, where those of the traits leave it open. The lists are this project's own profile.
 ghost use Rattle.std.specs.Prelude.{◌≡◌, ◌↔◌, ◌⊎◌, ◌+◌, ◌-◌, ◌<◌, ◌≤◌, ◌^◌, ◌++◌, [], List, length, take, drop, min};
-ghost use Rattle.std.specs.Prelude.{Ok, Some, IfOk, OnOk, OnErr, IsErr, IsTrue, Contains, vec_len, if◌then◌else◌};
-ghost use Rattle.std.specs.Prelude.{is_ok};
+ghost use Rattle.std.specs.Prelude.{Ok, Some, IfOk, OnOk, OnErr, IsErr, IsTrue, Contains, vec_len, if◌then◌else◌, is_ok};
 ghost use Rattle.std.specs.Io.{ReadsAtMost, WritesAtMost};
 ghost use Rattle.std.specs.Io.KnownBytes.{Appends, Consumes, IsAtEnd, Keeps};
 ghost use Rattle.byte_ports.specs.Counts.{Rose, one_more};

@@ -11,6 +11,7 @@ moved_whole xs front tail at n e h =
     ∙ ap (λ l. l ++ drop n ys) (sym (ap (λ l. take n (l ++ tail)) e ∙ take_at (take n ys) tail n (length-take-le n ys h)))
     ∙ ap (λ l. take n (front ++ tail) ++ l) (drop-drop n at xs)
 
+-- the bytes that stood before the call are those that were copied, and then those that are left
 pub returns-clause-moved : goal.returns-clause-moved
 returns-clause-moved c =
     let at = c.args.at in

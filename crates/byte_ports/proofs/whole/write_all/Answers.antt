@@ -9,6 +9,7 @@ moves_front all done rest n e =
     e ∙ ap (λ l. done ++ l) (sym (take-append-drop n rest)) ∙ sym (append_assoc done (take n rest) (drop n rest))
     ∙ ap (λ l. (done ++ take n rest) ++ l) (sym (take_rest rest n))
 
+-- after a turn, too, what is gone from the rest was appended, and no call failed
 pub loop-rest-preserved : goal.loop-rest-preserved
 loop-rest-preserved g c =
     let (done, split, appended, kept) = c.loop-rest.invariant in
