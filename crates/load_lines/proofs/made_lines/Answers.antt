@@ -26,6 +26,7 @@ one_more seed threads made state xs ys line p q s l =
     let last : line ≡ line_at (state_after seed (4 * made)) threads made = l ∙ ap (λ (at : ℕ). line_at at threads made) s in
     rw add-one (p ∙ ap (λ (zs : List MadeLine). zs ++ line ∷ []) q ∙ ap (λ (z : MadeLine). lines_of seed threads made ++ z ∷ []) last)
 
+-- with one line more the lines are still the first of the load, and the state the one that their draws left
 pub loop-made-preserved : goal.loop-made-preserved
 loop-made-preserved c = record {
   lines = one_more c.args.seed c.args.threads c.loop-made.made _ _ _ _ c.in_ok-push.ensures.items c.loop-made.invariant.lines
@@ -35,6 +36,7 @@ loop-made-preserved c = record {
   named = All-same IsNamedLine _ _ c.in_ok-push.ensures.items (All-push IsNamedLine _ _ c.loop-made.invariant.named c.next_line.ensures.named);
 }
 
+-- the lines are those of the load, since as many were made as calls were asked for
 pub returns-clause-lines : goal.returns-clause-lines
 returns-clause-lines c =
     let end : c.loop-made.made ≡ c.args.calls = omega arith in

@@ -4,6 +4,7 @@ use Rattle.load_lines.specs.Calls.{lines_of, IsNamedLine}
 use Rattle.load_lines.specs.Generator.{state_after}
 use Rattle.load_lines.proofs.made_lines.Given as goal
 
+-- what holds of the lines and the state before each turn; the calls of the lines have named bits alone
 abbrev pub invariant-loop-made : goal.invariant-loop-made
 invariant-loop-made l = record {
   lines : l.lines.items ≡ lines_of l.seed l.threads l.made;
