@@ -76,22 +76,11 @@ pub(crate) fn fill_lo_view(seats: u32, seat: u32, view: &mut View, x: u64)
     requires enabled { IsEnabled seats seat view.old (FillLo x) }
     ensures { (w : ℕ) → view.new ≡ (planned seats seat view.old (FillLo x)).view w }
 {
-    let Own::Filling {
-        node,
-        mode,
-        aimed,
-        ..
-    } = view.own
-    else {
+    let Own::Filling { lo, hi, .. } = &mut view.own else {
         unreachable!()
     };
-    view.own = Own::Filling {
-        node,
-        lo: Some(x),
-        hi: None,
-        mode,
-        aimed,
-    };
+    *lo = Some(x);
+    *hi = None;
 }
 
 /// FillHi: stores the higher end and the mode, above a lower end that is known.
@@ -131,22 +120,11 @@ pub(crate) fn fill_hi_view(seats: u32, seat: u32, view: &mut View, x: u64, how: 
     requires enabled { IsEnabled seats seat view.old (FillHi x how) }
     ensures { (w : ℕ) → view.new ≡ (planned seats seat view.old (FillHi x how)).view w }
 {
-    let Own::Filling {
-        node,
-        lo,
-        aimed,
-        ..
-    } = view.own
-    else {
+    let Own::Filling { hi, mode, .. } = &mut view.own else {
         unreachable!()
     };
-    view.own = Own::Filling {
-        node,
-        lo,
-        hi: Some(x),
-        mode: how,
-        aimed,
-    };
+    *hi = Some(x);
+    *mode = how;
 }
 
 /// Aim: stores the cursor's word, or 0, in the own next word.
@@ -181,23 +159,10 @@ pub(crate) fn aim_view(seats: u32, seat: u32, view: &mut View)
     requires enabled { IsEnabled seats seat view.old Aim }
     ensures { (w : ℕ) → view.new ≡ (planned seats seat view.old Aim).view w }
 {
-    let Own::Filling {
-        node,
-        lo,
-        hi,
-        mode,
-        ..
-    } = view.own
-    else {
+    let Own::Filling { aimed, .. } = &mut view.own else {
         unreachable!()
     };
-    view.own = Own::Filling {
-        node,
-        lo,
-        hi,
-        mode,
-        aimed: aim_at(view.cursor),
-    };
+    *aimed = aim_at(view.cursor);
 }
 
 /// ClearHome: stores 0 in the home word of the first ready node.
