@@ -1,10 +1,11 @@
 //! The steps of a cursor along the list: Walk, ReadLo and ReadHi. Each loads one word; a cursor learns of its node
 //! the next word, then the lower end, then the higher end, by which the node is judged. A node that is found marked
 //! isn't judged but unlinked. Cursors follow Kogan, Dice and Issa 2020.
-ghost use Rattle.std.specs.Prelude.{◌≡◌, ℕ, ◌+◌, ◌/◌, ◌%◌, ◌^◌, ◌<◌, ◌≤◌, ◌==◌, None, IfSome};
+ghost use Rattle.std.specs.Prelude.{◌≡◌, ℕ, ◌+◌, ◌/◌, ◌%◌, ◌^◌, ◌<◌, ◌≤◌, ◌==◌, None, Some, IfSome};
+ghost use Rattle.lock_core.specs.declared.views.Cursor.{Cursor};
 ghost use Rattle.lock_core.specs.declared.steps.Step.TheVariants.{Walk, ReadLo, ReadHi};
 ghost use Rattle.lock_core.specs.Words.{plain_node_of, word_count};
-ghost use Rattle.lock_core.specs.Views.{seen_after, own_at, start_of, came_to, own_stopped, walk_cell};
+ghost use Rattle.lock_core.specs.Views.{seen_after, own_at, met_of, start_of, came_to, own_stopped, walk_cell};
 ghost use Rattle.lock_core.specs.Sizes.{MayStep, NamesNode};
 ghost use Rattle.lock_core.specs.Machine.{plan, may_judge};
 ghost use Rattle.lock_core.specs.Operations.{planned, IsEnabled, IsOpOf};
@@ -40,62 +41,32 @@ fn seen_next(seen: u32, word: u64) -> u32
     }
 }
 
-/// The own node once the cursor came to this word.
+/// The cursor came to this word: a linked own node may have its validation behind it then.
 #[inline(always)]
-fn own_after(own: Own, word: u64) -> Own
-    ensures { result ≡ own_at own word }
+fn reach(own: &mut Own, word: u64)
+    ensures { own.new ≡ own_at own.old word }
 {
-    match own {
-        Own::Nothing => own,
-        Own::Filling { .. } => own,
-        Own::Linked {
-            node,
-            range,
-            mode,
-            todo,
-        } => {
-            let ends = match todo {
-                Todo::Forward => word == 0,
-                Todo::FromHead => word == 2 * (node as u64 + 1),
-                Todo::Done => false,
-            };
-            if ends {
-                Own::Linked {
-                    node,
-                    range,
-                    mode,
-                    todo: Todo::Done,
-                }
-            } else {
-                own
-            }
+    if let Own::Linked { node, todo, .. } = own {
+        let ends = match *todo {
+            Todo::Forward => word == 0,
+            Todo::FromHead => word == 2 * (*node as u64 + 1),
+            Todo::Done => false,
+        };
+        if ends {
+            *todo = Todo::Done;
         }
     }
 }
 
-/// The own node once the cursor stopped.
+/// The cursor stopped: a reader has its validation behind it then.
 #[inline(always)]
-fn own_once_stopped(own: Own) -> Own
-    ensures { result ≡ own_stopped own }
+fn stop(own: &mut Own)
+    ensures { own.new ≡ own_stopped own.old }
 {
-    match own {
-        Own::Nothing => own,
-        Own::Filling { .. } => own,
-        Own::Linked {
-            node,
-            range,
-            mode,
-            todo,
-        } => match todo {
-            Todo::Forward => Own::Linked {
-                node,
-                range,
-                mode,
-                todo: Todo::Done,
-            },
-            Todo::FromHead => own,
-            Todo::Done => own,
-        },
+    if let Own::Linked { todo, .. } = own {
+        if *todo == Todo::Forward {
+            *todo = Todo::Done;
+        }
     }
 }
 
@@ -126,7 +97,7 @@ pub(crate) fn come_to(view: &mut View, prev: Option<u32>, word: u64, seen: u32)
         lo: None,
         seen: seen_next(seen, word),
     });
-    view.own = own_after(view.own, word);
+    reach(&mut view.own, word);
 }
 
 /// Walk: loads the word at which a cursor begins, or the next word of the cursor's node.
@@ -177,6 +148,18 @@ pub(crate) fn walk_view(seats: u32, seat: u32, view: &mut View, found: u64)
     }
 }
 
+/// The cursor, the node that it names and that node's next word, where all three are known.
+#[inline(always)]
+pub(crate) fn met(cursor: Option<Cursor>) -> Option<(Cursor, u32, u64)>
+    requires { (c : Cursor) → cursor ≡ Some c → c.cur / 2 ≤ 256 }
+    ensures { result ≡ met_of cursor }
+{
+    let cursor = cursor?;
+    let node = plain_node(cursor.cur)?;
+    let next = cursor.next?;
+    Some((cursor, node, next))
+}
+
 /// ReadLo: loads the lower end of the cursor's node, whose next word has no mark.
 #[inline(never)]
 pub(crate) fn read_lo_op(seats: u32, seat: u32, view: &View) -> Option<Op>
@@ -184,13 +167,7 @@ pub(crate) fn read_lo_op(seats: u32, seat: u32, view: &View) -> Option<Op>
     ensures op { IsOpOf ReadLo (plan seats seat view.now ReadLo) result }
     ensures there { IfSome result (λ op. op.place < word_count seats) }
 {
-    let Some(cursor) = view.cursor else {
-        return None;
-    };
-    let Some(node) = plain_node(cursor.cur) else {
-        return None;
-    };
-    let Some(next) = cursor.next else {
+    let Some((cursor, node, next)) = met(view.cursor) else {
         return None;
     };
     if next % 2 != 0 {
@@ -236,13 +213,7 @@ pub(crate) fn read_hi_op(seats: u32, seat: u32, view: &View) -> Option<Op>
     ensures op { IsOpOf ReadHi (plan seats seat view.now ReadHi) result }
     ensures there { IfSome result (λ op. op.place < word_count seats) }
 {
-    let Some(cursor) = view.cursor else {
-        return None;
-    };
-    let Some(node) = plain_node(cursor.cur) else {
-        return None;
-    };
-    let Some(next) = cursor.next else {
+    let Some((cursor, node, next)) = met(view.cursor) else {
         return None;
     };
     if cursor.lo.is_none() || next % 2 != 0 || !knows_ends(view.own) {
@@ -261,13 +232,7 @@ pub(crate) fn read_hi_view(seats: u32, seat: u32, view: &mut View, found: u64)
     requires enabled { IsEnabled seats seat view.old ReadHi }
     ensures { view.new ≡ (planned seats seat view.old ReadHi).view found }
 {
-    let Some(cursor) = view.cursor else {
-        unreachable!()
-    };
-    let Some(node) = plain_node(cursor.cur) else {
-        unreachable!()
-    };
-    let Some(next) = cursor.next else {
+    let Some((cursor, node, next)) = met(view.cursor) else {
         unreachable!()
     };
     let Some(lo) = cursor.lo else { unreachable!() };
@@ -278,7 +243,7 @@ pub(crate) fn read_hi_view(seats: u32, seat: u32, view: &mut View, found: u64)
                 next: None,
                 ..cursor
             });
-            view.own = own_once_stopped(view.own);
+            stop(&mut view.own);
         }
         Verdict::Conflict => {}
     }
