@@ -1,6 +1,7 @@
 pub mod Client
 pub mod Compare
 pub mod Grants
+pub mod Known
 pub mod Laws
 pub mod Machine
 pub mod Nodes

@@ -136,16 +136,6 @@ abbrev pub walked : View → Option Cursor → ℕ → View
 walked v None w = came_to v (start_of v.own) w 0
 walked v (Some c) w = record v { cursor = Some (record c { next = Some w; lo = None }) }
 
--- a cursor, the node that it names and that node's next word, where all three are known
-abbrev pub met_of : Option Cursor → Option (Cursor × ℕ × ℕ)
-met_of None = None
-met_of (Some c) = met_with c (plain_node_of c.cur) c.next
-  where
-    met_with : Cursor → Option ℕ → Option ℕ → Option (Cursor × ℕ × ℕ)
-    met_with c None next = None
-    met_with c (Some y) None = None
-    met_with c (Some y) (Some n) = Some (c, y, n)
-
 -- ReadLo
 abbrev pub lo_read : View → Cursor → ℕ → View
 lo_read v c w = record v { cursor = Some (record c { lo = Some w }) }

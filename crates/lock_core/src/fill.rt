@@ -3,15 +3,18 @@
 //! project's own profile; the order of filling, aiming and linking follows Kogan, Dice and Issa 2020.
 ghost use Rattle.std.specs.Prelude.{◌≡◌, ℕ, ◌*◌, ◌^◌, ◌<◌, ◌≤◌, IfSome};
 ghost use Rattle.lock_core.specs.declared.steps.Step.TheVariants.{FillLo, FillHi, Aim, ClearHome};
+ghost use Rattle.lock_core.specs.declared.views.Own.TheVariants.{Linked};
+ghost use Rattle.lock_core.specs.Range.{IsRange};
 ghost use Rattle.lock_core.specs.Words.{hi_word, word_count};
+ghost use Rattle.lock_core.specs.Known.{aimed_of};
 ghost use Rattle.lock_core.specs.Sizes.{MayStep};
 ghost use Rattle.lock_core.specs.Machine.{plan, aim_of, is_at_place};
 ghost use Rattle.lock_core.specs.Operations.{planned, IsEnabled, IsOpOf};
 
 use crate::layout::Layout;
-use crate::ops::{Act, Op};
-use crate::range::{HIGHEST, Mode};
-use crate::views::{Cursor, Own, View};
+use crate::ops::Op;
+use crate::range::{HIGHEST, Mode, Range};
+use crate::views::{Cursor, Own, Todo, View};
 
 /// The hi word of an end that is at most 2^62 and a mode.
 #[inline(always)]
@@ -22,6 +25,59 @@ fn end_word(hi: u64, mode: Mode) -> u64
     match mode {
         Mode::Reader => 2 * hi,
         Mode::Writer => 2 * hi + 1,
+    }
+}
+
+/// An own node that is filled and aimed, so all its words but the home word are known.
+#[derive(Clone, Copy)]
+pub(crate) struct Aimed {
+    pub(crate) node: u32,
+    lo: u64,
+    hi: u64,
+    pub(crate) mode: Mode,
+    pub(crate) aimed: u64,
+}
+
+impl Aimed {
+    /// The own node, if it is filled and aimed.
+    #[inline(always)]
+    pub(crate) fn of(own: Own) -> Option<Aimed>
+        ensures { result ≡ aimed_of own }
+    {
+        let Own::Filling {
+            node,
+            lo: Some(lo),
+            hi: Some(hi),
+            mode,
+            aimed: Some(aimed),
+        } = own
+        else {
+            return None;
+        };
+        Some(Aimed {
+            node,
+            lo,
+            hi,
+            mode,
+            aimed,
+        })
+    }
+
+    /// The own node once it is linked, with this still to do.
+    #[inline(always)]
+    pub(crate) fn linked(self, todo: Todo) -> Own
+        requires { IsRange self.lo self.hi }
+        ensures { result ≡ Linked self.node (record { lo = self.lo; hi = self.hi }) self.mode todo }
+    {
+        let Ok(range) = Range::of(self.lo, self.hi) else {
+            unreachable!()
+        };
+        Own::Linked {
+            node: self.node,
+            range,
+            mode: self.mode,
+            todo,
+        }
     }
 }
 
@@ -57,16 +113,18 @@ pub(crate) fn fill_lo_op(seats: u32, seat: u32, view: &View, x: u64) -> Option<O
     ensures op { IsOpOf (FillLo x) (plan seats seat view.now (FillLo x)) result }
     ensures there { IfSome result (λ op. op.place < word_count seats) }
 {
-    let Own::Filling { node, aimed, .. } = view.own else {
+    let Own::Filling {
+        node,
+        aimed: None,
+        ..
+    } = view.own
+    else {
         return None;
     };
-    if aimed.is_some() || view.cursor.is_some() {
+    if view.cursor.is_some() {
         return None;
     }
-    Some(Op {
-        place: Layout::of(seats, 0).lo(node),
-        act: Act::Store { value: x },
-    })
+    Some(Op::store(Layout::of(seats, 0).lo(node), x))
 }
 
 /// FillLo: the lower end is known, and the higher one isn't.
@@ -92,25 +150,17 @@ pub(crate) fn fill_hi_op(seats: u32, seat: u32, view: &View, x: u64, how: Mode) 
 {
     let Own::Filling {
         node,
-        lo,
-        aimed,
+        lo: Some(lo),
+        aimed: None,
         ..
     } = view.own
     else {
         return None;
     };
-    let Some(low) = lo else {
-        return None;
-    };
-    if low >= x || x > HIGHEST || aimed.is_some() || view.cursor.is_some() {
+    if lo >= x || x > HIGHEST || view.cursor.is_some() {
         return None;
     }
-    Some(Op {
-        place: Layout::of(seats, 0).hi(node),
-        act: Act::Store {
-            value: end_word(x, how),
-        },
-    })
+    Some(Op::store(Layout::of(seats, 0).hi(node), end_word(x, how)))
 }
 
 /// FillHi: the higher end and the mode are known.
@@ -143,13 +193,8 @@ pub(crate) fn aim_op(seats: u32, seat: u32, view: &View) -> Option<Op>
     else {
         return None;
     };
-    let Some(word) = aim_at(view.cursor) else {
-        return None;
-    };
-    Some(Op {
-        place: Layout::of(seats, 0).next(node),
-        act: Act::Store { value: word },
-    })
+    let word = aim_at(view.cursor)?;
+    Some(Op::store(Layout::of(seats, 0).next(node), word))
 }
 
 /// Aim: the own next word is known.
@@ -172,16 +217,11 @@ pub(crate) fn clear_home_op(seats: u32, seat: u32, view: &View, node: u32) -> Op
     ensures op { IsOpOf (ClearHome node) (plan seats seat view.now (ClearHome node)) result }
     ensures there { IfSome result (λ op. op.place < word_count seats) }
 {
-    let Some(first) = view.ready.first() else {
-        return None;
-    };
+    let first = view.ready.first()?;
     if first != node || view.epoch % 2 != 0 || view.own != Own::Nothing {
         return None;
     }
-    Some(Op {
-        place: Layout::of(seats, 0).home(node),
-        act: Act::Store { value: 0 },
-    })
+    Some(Op::store(Layout::of(seats, 0).home(node), 0))
 }
 
 /// ClearHome: the node is the own one, and nothing is known of its words.

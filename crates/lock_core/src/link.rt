@@ -10,12 +10,12 @@ ghost use Rattle.lock_core.specs.Sizes.{MayStep};
 ghost use Rattle.lock_core.specs.Machine.{plan};
 ghost use Rattle.lock_core.specs.Operations.{planned, IsEnabled, IsOpOf};
 
-use crate::fill::is_in_place;
+use crate::fill::{Aimed, is_in_place};
 use crate::layout::{Layout, node_word};
-use crate::ops::{Act, Op};
-use crate::range::{Mode, Range};
+use crate::ops::Op;
+use crate::range::Mode;
 use crate::views::{Own, Todo, View};
-use crate::walk::{come_to, plain_node};
+use crate::walk::{come_to, met};
 
 /// What is to be done after a link in this mode.
 #[inline(always)]
@@ -35,29 +35,16 @@ pub(crate) fn link_op(seats: u32, seat: u32, view: &View) -> Option<Op>
     ensures op { IsOpOf Link (plan seats seat view.now Link) result }
     ensures there { IfSome result (λ op. op.place < word_count seats) }
 {
-    let Own::Filling {
-        node,
-        lo: Some(_),
-        hi: Some(_),
-        aimed: Some(aimed),
-        ..
-    } = view.own
-    else {
-        return None;
-    };
-    let Some(cursor) = view.cursor else {
-        return None;
-    };
-    if aimed != cursor.cur || cursor.cur % 2 != 0 || !is_in_place(cursor) {
+    let own = Aimed::of(view.own)?;
+    let cursor = view.cursor?;
+    if own.aimed != cursor.cur || cursor.cur % 2 != 0 || !is_in_place(cursor) {
         return None;
     }
-    Some(Op {
-        place: Layout::of(seats, 0).cell(cursor.prev),
-        act: Act::Exchange {
-            old: cursor.cur,
-            new: node_word(node, false),
-        },
-    })
+    Some(Op::exchange(
+        Layout::of(seats, 0).cell(cursor.prev),
+        cursor.cur,
+        node_word(own.node, false),
+    ))
 }
 
 /// Link: the own node is linked where the word was found as expected; the cursor goes.
@@ -67,26 +54,11 @@ pub(crate) fn link_view(seats: u32, seat: u32, view: &mut View, found: u64)
     requires enabled { IsEnabled seats seat view.old Link }
     ensures { view.new ≡ (planned seats seat view.old Link).view found }
 {
-    let Own::Filling {
-        node,
-        lo: Some(lo),
-        hi: Some(hi),
-        mode,
-        aimed: Some(aimed),
-    } = view.own
-    else {
+    let Some(own) = Aimed::of(view.own) else {
         unreachable!()
     };
-    if found == aimed {
-        let Ok(range) = Range::of(lo, hi) else {
-            unreachable!()
-        };
-        view.own = Own::Linked {
-            node,
-            range,
-            mode,
-            todo: todo_after(mode),
-        };
+    if found == own.aimed {
+        view.own = own.linked(todo_after(own.mode));
     }
     view.cursor = None;
 }
@@ -98,22 +70,11 @@ pub(crate) fn unlink_op(seats: u32, seat: u32, view: &View) -> Option<Op>
     ensures op { IsOpOf Unlink (plan seats seat view.now Unlink) result }
     ensures there { IfSome result (λ op. op.place < word_count seats) }
 {
-    let Some(cursor) = view.cursor else {
-        return None;
-    };
-    let Some(next) = cursor.next else {
-        return None;
-    };
-    if plain_node(cursor.cur).is_none() || next % 2 != 1 || view.hand.is_some() {
+    let (cursor, _, next) = met(view.cursor)?;
+    if next % 2 != 1 || view.hand.is_some() {
         return None;
     }
-    Some(Op {
-        place: Layout::of(seats, 0).cell(cursor.prev),
-        act: Act::Exchange {
-            old: cursor.cur,
-            new: next - 1,
-        },
-    })
+    Some(Op::exchange(Layout::of(seats, 0).cell(cursor.prev), cursor.cur, next - 1))
 }
 
 /// Unlink: the node is in the hand where the word was found as expected; otherwise the cursor goes.
@@ -123,13 +84,7 @@ pub(crate) fn unlink_view(seats: u32, seat: u32, view: &mut View, found: u64)
     requires enabled { IsEnabled seats seat view.old Unlink }
     ensures { view.new ≡ (planned seats seat view.old Unlink).view found }
 {
-    let Some(cursor) = view.cursor else {
-        unreachable!()
-    };
-    let Some(node) = plain_node(cursor.cur) else {
-        unreachable!()
-    };
-    let Some(next) = cursor.next else {
+    let Some((cursor, node, next)) = met(view.cursor) else {
         unreachable!()
     };
     if found == cursor.cur {
@@ -150,10 +105,7 @@ pub(crate) fn mark_op(seats: u32, seat: u32, view: &View) -> Option<Op>
     let Own::Linked { node, .. } = view.own else {
         return None;
     };
-    Some(Op {
-        place: Layout::of(seats, 0).next(node),
-        act: Act::Add,
-    })
+    Some(Op::add(Layout::of(seats, 0).next(node)))
 }
 
 /// Mark: the own node is a used one, and its range is given back.

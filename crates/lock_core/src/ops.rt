@@ -3,6 +3,7 @@
 //! (`specs/StepTable.antt`); `apply` makes its steps by them too, so a step's effect stands nowhere else. This
 //! project's own profile, over the list of Kogan, Dice and Issa 2020.
 ghost use Rattle.std.specs.Prelude.{◌≡◌, ◌<◌, ◌≤◌, IfSome, is_some};
+ghost use Rattle.lock_core.specs.declared.ops.Act.TheVariants.{Load, Store, Add, Exchange};
 ghost use Rattle.lock_core.specs.Words.{word_count};
 ghost use Rattle.lock_core.specs.Sizes.{IsViewSized, MayStep};
 ghost use Rattle.lock_core.specs.Machine.{plan};
@@ -58,6 +59,52 @@ pub struct Op {
     pub place: u32,
     /// The operation.
     pub act: Act,
+}
+
+impl Op {
+    /// A load of the word at this place.
+    #[inline(always)]
+    pub(crate) fn load(place: u32) -> Op
+        ensures { result ≡ record { place = place; act = Load } }
+    {
+        Op {
+            place,
+            act: Act::Load,
+        }
+    }
+
+    /// A store of this value.
+    #[inline(always)]
+    pub(crate) fn store(place: u32, value: u64) -> Op
+        ensures { result ≡ record { place = place; act = Store value } }
+    {
+        Op {
+            place,
+            act: Act::Store { value },
+        }
+    }
+
+    /// An addition of 1.
+    #[inline(always)]
+    pub(crate) fn add(place: u32) -> Op
+        ensures { result ≡ record { place = place; act = Add } }
+    {
+        Op {
+            place,
+            act: Act::Add,
+        }
+    }
+
+    /// An exchange of the old value for the new one.
+    #[inline(always)]
+    pub(crate) fn exchange(place: u32, old: u64, new: u64) -> Op
+        ensures { result ≡ record { place = place; act = Exchange old new } }
+    {
+        Op {
+            place,
+            act: Act::Exchange { old, new },
+        }
+    }
 }
 
 /// The operation of a step, or None where the view doesn't enable the step.

@@ -8,10 +8,10 @@ ghost use Rattle.lock_core.specs.Sizes.{MayStep};
 ghost use Rattle.lock_core.specs.Machine.{plan};
 ghost use Rattle.lock_core.specs.Operations.{planned, IsEnabled, IsOpOf};
 
+use crate::fill::Aimed;
 use crate::layout::{Layout, node_word};
-use crate::ops::{Act, Op};
-use crate::range::Range;
-use crate::views::{Cursor, Own, Todo, View};
+use crate::ops::Op;
+use crate::views::{Own, Todo, View};
 
 /// QuickLink: exchanges an empty head for the own node with the low bit, outside an operation.
 #[inline(always)]
@@ -20,26 +20,11 @@ pub(crate) fn quick_link_op(seats: u32, seat: u32, view: &View) -> Option<Op>
     ensures op { IsOpOf QuickLink (plan seats seat view.now QuickLink) result }
     ensures there { IfSome result (λ op. op.place < word_count seats) }
 {
-    let Own::Filling {
-        node,
-        lo: Some(_),
-        hi: Some(_),
-        aimed: Some(aimed),
-        ..
-    } = view.own
-    else {
-        return None;
-    };
-    if aimed != 0 || view.epoch % 2 != 0 {
+    let own = Aimed::of(view.own)?;
+    if own.aimed != 0 || view.epoch % 2 != 0 {
         return None;
     }
-    Some(Op {
-        place: Layout::of(seats, 0).head(),
-        act: Act::Exchange {
-            old: 0,
-            new: node_word(node, true),
-        },
-    })
+    Some(Op::exchange(Layout::of(seats, 0).head(), 0, node_word(own.node, true)))
 }
 
 /// QuickLink: the range is held where the head was empty.
@@ -49,26 +34,11 @@ pub(crate) fn quick_link_view(seats: u32, seat: u32, view: &mut View, found: u64
     requires enabled { IsEnabled seats seat view.old QuickLink }
     ensures { view.new ≡ (planned seats seat view.old QuickLink).view found }
 {
-    let Own::Filling {
-        node,
-        lo: Some(lo),
-        hi: Some(hi),
-        mode,
-        ..
-    } = view.own
-    else {
+    let Some(own) = Aimed::of(view.own) else {
         unreachable!()
     };
     if found == 0 {
-        let Ok(range) = Range::of(lo, hi) else {
-            unreachable!()
-        };
-        view.own = Own::Linked {
-            node,
-            range,
-            mode,
-            todo: Todo::Done,
-        };
+        view.own = own.linked(Todo::Done);
     }
 }
 
@@ -85,13 +55,7 @@ pub(crate) fn quick_unlink_op(seats: u32, seat: u32, view: &View) -> Option<Op>
     if todo != Todo::Done || view.hand.is_some() {
         return None;
     }
-    Some(Op {
-        place: Layout::of(seats, 0).head(),
-        act: Act::Exchange {
-            old: node_word(node, true),
-            new: 0,
-        },
-    })
+    Some(Op::exchange(Layout::of(seats, 0).head(), node_word(node, true), 0))
 }
 
 /// QuickUnlink: the own node is in the hand where the head was found as expected.
@@ -118,19 +82,11 @@ pub(crate) fn settle_op(seats: u32, seat: u32, view: &View) -> Option<Op>
     ensures op { IsOpOf Settle (plan seats seat view.now Settle) result }
     ensures there { IfSome result (λ op. op.place < word_count seats) }
 {
-    let Some(cursor) = view.cursor else {
-        return None;
-    };
+    let cursor = view.cursor?;
     if cursor.prev.is_some() || cursor.cur % 2 != 1 {
         return None;
     }
-    Some(Op {
-        place: Layout::of(seats, 0).head(),
-        act: Act::Exchange {
-            old: cursor.cur,
-            new: cursor.cur - 1,
-        },
-    })
+    Some(Op::exchange(Layout::of(seats, 0).head(), cursor.cur, cursor.cur - 1))
 }
 
 /// Settle: the cursor's word has no low bit where the head was found as expected; otherwise the cursor goes.
@@ -140,14 +96,11 @@ pub(crate) fn settle_view(seats: u32, seat: u32, view: &mut View, found: u64)
     requires enabled { IsEnabled seats seat view.old Settle }
     ensures { view.new ≡ (planned seats seat view.old Settle).view found }
 {
-    let Some(cursor) = view.cursor else {
+    let Some(cursor) = &mut view.cursor else {
         unreachable!()
     };
     if found == cursor.cur {
-        view.cursor = Some(Cursor {
-            cur: cursor.cur - 1,
-            ..cursor
-        });
+        cursor.cur -= 1;
     } else {
         view.cursor = None;
     }

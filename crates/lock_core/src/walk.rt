@@ -5,14 +5,15 @@ ghost use Rattle.std.specs.Prelude.{◌≡◌, ℕ, ◌+◌, ◌/◌, ◌%◌, �
 ghost use Rattle.lock_core.specs.declared.views.Cursor.{Cursor};
 ghost use Rattle.lock_core.specs.declared.steps.Step.TheVariants.{Walk, ReadLo, ReadHi};
 ghost use Rattle.lock_core.specs.Words.{plain_node_of, word_count};
-ghost use Rattle.lock_core.specs.Views.{seen_after, own_at, met_of, start_of, came_to, own_stopped, walk_cell};
+ghost use Rattle.lock_core.specs.Views.{seen_after, own_at, start_of, came_to, own_stopped, walk_cell};
+ghost use Rattle.lock_core.specs.Known.{met_of};
 ghost use Rattle.lock_core.specs.Sizes.{MayStep, NamesNode};
 ghost use Rattle.lock_core.specs.Machine.{plan, may_judge};
 ghost use Rattle.lock_core.specs.Operations.{planned, IsEnabled, IsOpOf};
 
 use crate::compare::{Verdict, judge};
 use crate::layout::Layout;
-use crate::ops::{Act, Op};
+use crate::ops::Op;
 use crate::views::{Cursor, Own, Todo, View};
 
 /// The node that a next word without the low bit names. The word is one of a node's or of the end.
@@ -114,16 +115,11 @@ pub(crate) fn walk_op(seats: u32, seat: u32, view: &View) -> Option<Op>
     let place = match view.cursor {
         None => layout.cell(start(view.own)),
         Some(cursor) => {
-            let Some(node) = plain_node(cursor.cur) else {
-                return None;
-            };
+            let node = plain_node(cursor.cur)?;
             layout.next(node)
         }
     };
-    Some(Op {
-        place,
-        act: Act::Load,
-    })
+    Some(Op::load(place))
 }
 
 /// Walk: there is a cursor, or the next word of its node is known.
@@ -133,17 +129,14 @@ pub(crate) fn walk_view(seats: u32, seat: u32, view: &mut View, found: u64)
     requires enabled { IsEnabled seats seat view.old Walk }
     ensures { view.new ≡ (planned seats seat view.old Walk).view found }
 {
-    match view.cursor {
+    match &mut view.cursor {
         None => {
             let prev = start(view.own);
             come_to(view, prev, found, 0);
         }
         Some(cursor) => {
-            view.cursor = Some(Cursor {
-                next: Some(found),
-                lo: None,
-                ..cursor
-            });
+            cursor.next = Some(found);
+            cursor.lo = None;
         }
     }
 }
@@ -167,16 +160,11 @@ pub(crate) fn read_lo_op(seats: u32, seat: u32, view: &View) -> Option<Op>
     ensures op { IsOpOf ReadLo (plan seats seat view.now ReadLo) result }
     ensures there { IfSome result (λ op. op.place < word_count seats) }
 {
-    let Some((cursor, node, next)) = met(view.cursor) else {
-        return None;
-    };
+    let (cursor, node, next) = met(view.cursor)?;
     if next % 2 != 0 {
         return None;
     }
-    Some(Op {
-        place: Layout::of(seats, 0).lo(node),
-        act: Act::Load,
-    })
+    Some(Op::load(Layout::of(seats, 0).lo(node)))
 }
 
 /// ReadLo: the lower end is known.
@@ -186,13 +174,10 @@ pub(crate) fn read_lo_view(seats: u32, seat: u32, view: &mut View, found: u64)
     requires enabled { IsEnabled seats seat view.old ReadLo }
     ensures { view.new ≡ (planned seats seat view.old ReadLo).view found }
 {
-    let Some(cursor) = view.cursor else {
+    let Some(cursor) = &mut view.cursor else {
         unreachable!()
     };
-    view.cursor = Some(Cursor {
-        lo: Some(found),
-        ..cursor
-    });
+    cursor.lo = Some(found);
 }
 
 /// Whether a node may be judged: a seat that fills a node knows its ends.
@@ -213,16 +198,11 @@ pub(crate) fn read_hi_op(seats: u32, seat: u32, view: &View) -> Option<Op>
     ensures op { IsOpOf ReadHi (plan seats seat view.now ReadHi) result }
     ensures there { IfSome result (λ op. op.place < word_count seats) }
 {
-    let Some((cursor, node, next)) = met(view.cursor) else {
-        return None;
-    };
+    let (cursor, node, next) = met(view.cursor)?;
     if cursor.lo.is_none() || next % 2 != 0 || !knows_ends(view.own) {
         return None;
     }
-    Some(Op {
-        place: Layout::of(seats, 0).hi(node),
-        act: Act::Load,
-    })
+    Some(Op::load(Layout::of(seats, 0).hi(node)))
 }
 
 /// ReadHi: the node is judged, and the cursor goes on past it, stops before it, or stays at a conflict.
