@@ -15,6 +15,7 @@ use Rattle.lock_core.proofs.Table.{given-is}
 pub rewritten : (old new : List ℕ) (len : ℕ) → len ≡ length old → length new ≡ length old → take len (new ++ drop (length new) old) ≡ new
 rewritten old new len e e' = grind (arith, common_steps)
 
+-- a seat that is there has a view, which a reading with any default gives
 pub at_seat : (m : Machine) (s : ℕ) (d : View) → IsSized m → s < m.seats → slice_get m.views s ≡ Some (get_or m.views s d)
 at_seat m s d z l = slice_get-get_or m.views s d (let e = z.views in omega arith)
 
@@ -25,6 +26,7 @@ made_some m s (Some p) words new e =
     let same : (slice_set m.words p.place (p.write (slice_index m.words p.place)), p.view (slice_index m.words p.place)) ≡ (words, new) = cc in
     (p, refl, ap (λ (t : List ℕ × View). record { seats = m.seats; words = t.0; views = slice_set m.views s t.1 }) same)
 
+-- where the plan makes these words and this view of them, the state after the step has both
 pub after_made : (m : Machine) (s : ℕ) (step : Step) (old new : View) (words : List ℕ) → slice_get m.views s ≡ Some old
     → made m.words (plan m.seats s old step) ≡ Some (words, new)
     → after m s step ≡ Some (record { seats = m.seats; words = words; views = slice_set m.views s new })
@@ -32,14 +34,17 @@ after_made m s step old new words at e =
     let t = made_some m s (plan m.seats s old step) words new e in
     given-is _ _ old _ at (given-is _ _ t.0 _ t.1 (ap (λ (n : Machine). Some n) t.2))
 
+-- where the view has no plan for a step there is no state after it
 pub after_none : (m : Machine) (s : ℕ) (step : Step) (old : View) → slice_get m.views s ≡ Some old → plan m.seats s old step ≡ None → after m s step ≡ None
 after_none m s step old at e =
     ap (λ (o : Option View). given o (λ v. given (plan m.seats s v step) (λ p. Some (carried_out m s p)))) at
     ∙ ap (λ (o : Option Plan). given o (λ p. Some (carried_out m s p))) e
 
+-- a seat that isn't there makes no step
 pub after_absent : (m : Machine) (s : ℕ) (step : Step) → slice_get m.views s ≡ None → after m s step ≡ None
 after_absent m s step at = ap (λ (o : Option View). given o (λ v. given (plan m.seats s v step) (λ p. Some (carried_out m s p)))) at
 
+-- a state that gets the words and the view that it has is as it was
 pub unchanged : (m : Machine) (words : List ℕ) (s : ℕ) (old new : View) → slice_get m.views s ≡ Some old → words ≡ m.words
     → new ≡ old → record { seats = m.seats; words = words; views = slice_set m.views s new } ≡ m
 unchanged m words s old new at w v = λ i. record { seats = m.seats; words = w i; views = (ap (slice_set m.views s) v ∙ set_there m.views s old at) i }

@@ -14,6 +14,7 @@ module _ {A : Type 0} where
   below (x ∷ xs) zero a e = omega arith
   below (x ∷ xs) (suc i) a e = let r = below xs i a e in omega arith
 
+  -- below the end of a list something stands
   pub there : (l : List A) (i : ℕ) → i < length l → (a : A) × (get_elem? l i ≡ some a)
   there [] i h = absurd (omega arith)
   there (x ∷ xs) zero h = (x, refl)
@@ -25,6 +26,7 @@ module _ {A : Type 0} where
   at_or (x ∷ xs) zero a d e = some-injective x a e
   at_or (x ∷ xs) (suc i) a d e = at_or xs i a d e
 
+  -- below the end the default doesn't matter
   pub same_or : (l : List A) (i : ℕ) (d e : A) → i < length l → get_or l i d ≡ get_or l i e
   same_or [] i d e h = absurd (omega arith)
   same_or (x ∷ xs) zero d e h = refl
@@ -43,6 +45,7 @@ module _ {A : Type 0} where
   at_replicate (suc n) a b zero e = some-injective a b e
   at_replicate (suc n) a b (suc i) e = at_replicate n a b i e
 
+  -- at each place of a list of one element many times that element stands
   pub replicate_there : (n : ℕ) (a : A) (i : ℕ) → i < n → get_elem? (replicate n a) i ≡ some a
   replicate_there zero a i h = absurd (omega arith)
   replicate_there (suc n) a zero h = refl
@@ -62,6 +65,7 @@ module _ {A : Type 0} where
   to_get (x ∷ xs) zero a e = ap (λ (y : A). Some y) (some-injective x a e)
   to_get (x ∷ xs) (suc i) a e = to_get xs i a e
 
+  -- a place that reads by `slice_get` reads the same by `get_elem?`
   pub from_get : (l : List A) (i : ℕ) (a : A) → slice_get l i ≡ Some a → get_elem? l i ≡ some a
   from_get [] i a e = absurd (cc)
   from_get (x ∷ xs) zero a e = let same : x ≡ a = cc in ap some same

@@ -3,6 +3,7 @@
 use Rattle.std.proofs.Common.{◌≡◌, ◌≢◌, ◌⊎◌, ℕ, zero, suc, List, [], ◌∷◌, set, Some, inl, inr, ⊎_elim, refl, sym, ap, subst, arith}
 use Rattle.std.specs.Prelude.{slice_get}
 
+-- a view after the change is the new one at the place that changed, or another one as it was
 pub set_view : {A : Type 0} (l : List A) (i j : ℕ) (a b : A) → slice_get (set l i a) j ≡ Some b → ((j ≡ i) × (a ≡ b)) ⊎ ((j ≢ i) × (slice_get l j ≡ Some b))
 set_view [] i j a b e = absurd (cc)
 set_view (x ∷ xs) zero zero a b e = inl (refl, cc)
@@ -10,6 +11,7 @@ set_view (x ∷ xs) zero (suc j) a b e = inr ((λ h. omega arith), e)
 set_view (x ∷ xs) (suc i) zero a b e = inr ((λ h. omega arith), e)
 set_view (x ∷ xs) (suc i) (suc j) a b e = ⊎_elim (λ t. inl (ap suc t.0, t.1)) (λ t. let n = t.0 in inr ((λ h. n (omega arith)), t.1)) (set_view xs i j a b e)
 
+-- to put what stands there already changes nothing
 pub set_there : {A : Type 0} (l : List A) (i : ℕ) (a : A) → slice_get l i ≡ Some a → set l i a ≡ l
 set_there [] i a e = refl
 set_there (x ∷ xs) zero a e = let same : x ≡ a = cc in ap (λ b. b ∷ xs) (sym same)
@@ -23,11 +25,13 @@ kept_view (x ∷ xs) zero (suc j) a b d e = e
 kept_view (x ∷ xs) (suc i) zero a b d e = e
 kept_view (x ∷ xs) (suc i) (suc j) a b d e = kept_view xs i j a b (λ h. d (ap suc h)) e
 
+-- at the place that changed the new view stands
 pub new_view : {A : Type 0} (l : List A) (i : ℕ) (a b : A) → slice_get l i ≡ Some b → slice_get (set l i a) i ≡ Some a
 new_view [] i a b e = absurd (cc)
 new_view (x ∷ xs) zero a b e = refl
 new_view (x ∷ xs) (suc i) a b e = new_view xs i a b e
 
+-- one place has one view
 pub same_view : {A : Type 0} (l : List A) (i : ℕ) (a b : A) → slice_get l i ≡ Some a → slice_get l i ≡ Some b → a ≡ b
 same_view l i a b e e' = cc
 

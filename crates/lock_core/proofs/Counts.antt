@@ -6,12 +6,15 @@ use Rattle.view_lists.specs.Counted.{times, without}
 use Rattle.lock_core.specs.declared.views.View.{View}
 use Rattle.lock_core.specs.Nodes.{Filled, Listed, filling, listed, own_times}
 
+-- a node that is being filled counts once as the own one
 pub own_filling : (v : View) (f : Filled) → v.own ≡ filling f → own_times f.node v.own ≡ 1
 own_filling v f e = ap (own_times f.node) e ∙ ap (λ (b : Bool). if b then 1 else 0) (eq-eqb f.node f.node refl)
 
+-- a linked node counts once as the own one
 pub own_linked : (v : View) (k : Listed) → v.own ≡ listed k → own_times k.node v.own ≡ 1
 own_linked v k e = ap (own_times k.node) e ∙ ap (λ (b : Bool). if b then 1 else 0) (eq-eqb k.node k.node refl)
 
+-- in two lists joined a number counts as often as in both together
 pub times_joined : (x : ℕ) (a b : List ℕ) → times x (a ++ b) ≡ times x a + times x b
 times_joined x [] b = omega arith
 times_joined x (y ∷ a) b = let ih = times_joined x a b in omega arith
@@ -24,6 +27,7 @@ times_first x y false e d = refl
 pub times_other : (x y : ℕ) → x ≢ y → times x (y ∷ []) ≡ 0
 times_other x y d = ap (λ n. n + 0) (times_first x y (y == x) refl d)
 
+-- in a list of one node that node counts once
 pub times_itself : (x : ℕ) → times x (x ∷ []) ≡ 1
 times_itself x = ap (λ (b : Bool). (if b then 1 else 0) + 0) (eq-eqb x x refl)
 
@@ -62,12 +66,15 @@ once_after x own one ready homes used e few le =
 
 -- the own node is used from now on: it stands there once, and the counts stay
 module _ (v : View) (k : Listed) (own : v.own ≡ listed k) where
+  -- after the move every node counts as often over the own node and the used ones as before
   pub counts_moved : (x : ℕ) → 0 + times x (v.used ++ k.node ∷ []) ≡ own_times x v.own + times x v.used
   counts_moved x = let a = times_joined x v.used (k.node ∷ []) in let b = ap (own_times x) own in omega arith
 
+  -- a node that counts once among the used ones then is the own one, or did so before
   pub used_or_own : (x : ℕ) → times x (v.used ++ k.node ∷ []) ≡ 1 → (x ≡ k.node) ⊎ (times x v.used ≡ 1)
   used_or_own x e = ⊎_elim inl (λ (d : x ≢ k.node). inr (let a = times_joined x v.used (k.node ∷ []) in
       let z = times_other x k.node d in omega arith)) (cases_eq x k.node)
 
+  -- no node counts less often among the used ones
   pub used_grows : (x : ℕ) → times x v.used ≤ times x (v.used ++ k.node ∷ [])
   used_grows x = let a = times_joined x v.used (k.node ∷ []) in omega arith

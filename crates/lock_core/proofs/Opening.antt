@@ -14,10 +14,12 @@ use Rattle.lock_core.specs.Machine.{numbers_from, start_view, start, heap, grant
 use Rattle.lock_core.specs.Sizes.{IsOwnEven, IsViewSized, IsSized}
 use Rattle.lock_core.proofs.Sizing.{nothing_sized}
 
+-- a run of so many numbers is so long
 pub numbers_length : (a k : ℕ) → length (numbers_from a k) ≡ k
 numbers_length a zero = refl
 numbers_length a (suc k) = ap suc (numbers_length (a + 1) k)
 
+-- a run with its next number at the end is the run of one number more
 pub numbers_more : (a k : ℕ) → numbers_from a k ++ (a + k) ∷ [] ≡ numbers_from a (suc k)
 numbers_more a zero = ap (λ n. n ∷ []) (omega arith)
 numbers_more a (suc k) = let e : a + suc k ≡ a + 1 + k = omega arith in ap (λ l. a ∷ l) (ap (λ n. numbers_from (a + 1) k ++ n ∷ []) e ∙ numbers_more (a + 1) k)
@@ -87,6 +89,7 @@ started_from seats a zero i v e = absurd (cc)
 started_from seats a (suc k) zero v e = let same : start_view seats a ≡ v = cc in ap (start_view seats) (omega arith) ∙ same
 started_from seats a (suc k) (suc i) v e = let n : a + suc i ≡ a + 1 + i = omega arith in ap (start_view seats) n ∙ started_from seats (a + 1) k i v e
 
+-- a view of the state before any step is the one with which its seat begins
 pub started : (seats i : ℕ) (v : View) → slice_get (start seats).views i ≡ Some v → start_view seats i ≡ v
 started seats i v e = let n : i ≡ 0 + i = omega arith in ap (start_view seats) n ∙ started_from seats 0 seats i v e
 
@@ -100,6 +103,7 @@ start_view_sized seats i = record {
   cursor = λ c q. absurd (cc);
 }
 
+-- the state before any step has its sizes, for 1 to 16 seats
 pub start_sized : (seats : ℕ) → 0 < seats → seats ≤ 16 → IsSized (start seats)
 start_sized seats some few = record {
   some = some;

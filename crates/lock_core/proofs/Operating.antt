@@ -22,6 +22,7 @@ op_is : (step : Step) (o : Option Plan) (op : Op) (p : Plan) → IsOpOf step o (
 op_is step None op p h = absurd h
 op_is step (Some q) op p h = h
 
+-- an operation of the plan, where there is a plan, is an operation of the planned line
 pub op_planned : (seats s : ℕ) (v : View) (step : Step) (op : Op) → IsOpOf step (plan seats s v step) (Some op) → IsOp step (planned seats s v step) op
 op_planned seats s v step op h = op_is step (plan seats s v step) op (loads 0 (λ _. v)) h
 

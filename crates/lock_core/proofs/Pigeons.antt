@@ -43,6 +43,7 @@ first_counts : (b : Bool) (n : ℕ) → b ≡ true → 1 ≤ (if b then 1 else 0
 first_counts true n e = omega arith
 first_counts false n e = absurd (cc)
 
+-- a list of numbers of an interval, none of them twice, is no longer than the interval
 pub pigeons : (low n : ℕ) (l : List ℕ) → ((x : ℕ) → times x l ≤ 1) → ((x : ℕ) → 1 ≤ times x l → (low ≤ x) × (x < low + n)) → length l ≤ n
 pigeons low zero [] once within = omega arith
 pigeons low zero (x ∷ xs) once within = let w = within x (first_counts (x == x) (times x xs) (eq-eqb x x refl)) in absurd (omega arith)

@@ -47,6 +47,7 @@ module _ (seats s : ℕ) (v : View) (few : seats ≤ 16) (there : s < seats) (ol
       go true e j l = let q = eqb-true n x e in let a = ap (λ y. times y v.used) q in let b = ap (λ y. times y v.homes) q in omega arith
       go false e j l = omega arith
 
+  -- a view with its sizes, of a seat that is there, has all that the functions of the steps ask for
   pub may_step : MayStep seats s v
   may_step = record {
     few = few;

@@ -253,6 +253,7 @@ module _ (m : Machine) (s : ℕ) (v : View) (z : IsSized m) (at : slice_get m.vi
       split true = done
       split false = by_load (cell_place m.seats p) lost failed bound
 
+  -- any line of the table, carried out, keeps the sizes of a state
   pub sized_line : (step : Step) (p : Plan) → IsLine m.seats s v step p → IsSized (carried_out m s p)
   sized_line step p (enter even hand) =
       by_store (epoch_place s) _ (entered v) (wrote_epoch m.seats _ m.words s seat_there (let w = z.words in let l = seat_there in omega arith)).next

@@ -26,12 +26,15 @@ use Rattle.lock_core.proofs.Words.{WroteCell}
 pub nothing_sized : (seats : ℕ) → IsOwnSized seats Nothing
 nothing_sized seats = record { filled = λ f q. absurd (cc); aim_there = λ f w q q'. absurd (cc) }
 
+-- a linked own node keeps its sizes, since nothing is asked of it
 pub linked_sized : (seats : ℕ) (k : Listed) → IsOwnSized seats (listed k)
 linked_sized seats k = record { filled = λ f q. absurd (cc); aim_there = λ f w q q'. absurd (cc) }
 
+-- two nodes that are being filled are the same where the own nodes made of them are
 pub same_filled : (f g : Filled) → filling f ≡ filling g → f ≡ g
 same_filled f g q = let some : Some f ≡ Some g = ap filled_of q in cc
 
+-- a node that is being filled has its sizes where its ends are in order and its aim names a node that is there
 pub filling_sized : (seats : ℕ) (f : Filled) → IsFilledInOrder f → ((w : ℕ) → f.aimed ≡ Some w → NamesNode seats w) → IsOwnSized seats (filling f)
 filling_sized seats f o a = record {
   filled = λ g q. subst IsFilledInOrder (same_filled f g q) o;
@@ -45,6 +48,7 @@ bound_mine (Filling node lo hi mode None) n e = absurd (cc)
 bound_mine (Filling node lo hi mode (Some w)) n e = let same : node ≡ n = cc in ap (λ (b : Bool). if b then 1 else 0) (eq-eqb node n same)
 bound_mine (Linked node range mode todo) n e = let same : node ≡ n = cc in ap (λ (b : Bool). if b then 1 else 0) (eq-eqb node n same)
 
+-- a write of a next word leaves the own node's even, where it is another or the value is even
 pub even_kept : (seats : ℕ) (h now : Heap) (own : Own) (p x : ℕ) → WroteCell seats h now p x
     → ((n : ℕ) → p ≡ suc n → own_times n own ≡ 1 → x % 2 ≡ 0) → IsOwnEven h own → IsOwnEven now own
 even_kept seats h now own p x wrote even o n q =
@@ -84,6 +88,7 @@ own_at_sized seats (Linked node range mode FromHead) w o = split (w == 2 * suc n
     split false = o
 own_at_sized seats (Linked node range mode Done) w o = o
 
+-- a cursor that comes to a word binds no other node than before
 pub own_at_bound : (own : Own) (w : ℕ) → bound_node (own_at own w) ≡ bound_node own
 own_at_bound Nothing w = refl
 own_at_bound (Filling node lo hi mode aimed) w = refl
@@ -120,11 +125,13 @@ own_stopped_bound (Linked node range mode Forward) = refl
 own_stopped_bound (Linked node range mode FromHead) = refl
 own_stopped_bound (Linked node range mode Done) = refl
 
+-- a node that is bound after a Leave was bound before it
 pub left_bound : (own : Own) (n : ℕ) → bound_node (kept_own own) ≡ Some n → bound_node own ≡ Some n
 left_bound Nothing n e = absurd (cc)
 left_bound (Filling node lo hi mode aimed) n e = absurd (cc)
 left_bound (Linked node range mode todo) n e = e
 
+-- a verdict binds no other node than before
 pub judged_bound : (v : View) (c : Cursor) (y n : ℕ) (verdict : Verdict) → bound_node (hi_judged v c y n verdict).own ≡ bound_node v.own
 judged_bound v c y n Past = own_at_bound v.own n
 judged_bound v c y n Stop = own_stopped_bound v.own
@@ -139,6 +146,7 @@ at_most_one : (b : Bool) → (if b then 1 else 0) ≤ 1
 at_most_one true = omega arith
 at_most_one false = omega arith
 
+-- the nodes keep their sizes after a Leave, which puts a node that was being filled to the ready ones
 pub left_nodes : (i : ℕ) (own : Own) (ready used homes : List ℕ) → AreNodesSized i own ready used homes
     → AreNodesSized i (kept_own own) (ready_left own ready) used homes
 left_nodes i Nothing ready used homes n = n
@@ -167,6 +175,7 @@ came_nodes i n own ready used homes is_used not_home a = record {
     split x true e j l = let q = eqb-true n x e in let u = ap (λ a. times a used) q in let z = ap (λ a. times a homes) q in omega arith
     split x false e j l = omega arith
 
+-- the nodes keep their sizes where the own one becomes a used one
 pub used_nodes : (i : ℕ) (own : Own) (node : ℕ) (ready used homes : List ℕ)
     → ((x : ℕ) → own_times x own ≡ (if node == x then 1 else 0)) → AreNodesSized i own ready used homes
     → AreNodesSized i Nothing ready (used ++ node ∷ []) homes
@@ -175,6 +184,7 @@ used_nodes i own node ready used homes e n = record {
   homes_used = λ x. let j = times_joined x used (node ∷ []) in let l = n.homes_used x in omega arith;
 }
 
+-- the nodes keep their sizes where the first ready one becomes the own one
 pub taken_nodes : (i n : ℕ) (own : Own) (ready rest used homes : List ℕ) → own ≡ Nothing → ready ≡ n ∷ rest
     → AreNodesSized i own ready used homes → AreNodesSized i
     (filling (record { node = n; lo = None; hi = None; mode = Writer; aimed = None })) rest used homes
@@ -188,6 +198,7 @@ passed_length : (v : View) (j seats : ℕ) → length v.passed ≡ seats → len
 passed_length v j seats e = length-set v.passed j true ∙ e
 
 module _ (seats i : ℕ) where
+  -- a view that lets its cursor go keeps its sizes
   pub dropped_sized : (v : View) → IsViewSized seats i v → IsViewSized seats i (dropped v)
   dropped_sized v o = record { notes = o.notes; passed = o.passed; nodes = o.nodes; own = o.own; hand = o.hand; cursor = λ c q. absurd (cc) }
 
@@ -209,6 +220,7 @@ module _ (seats i : ℕ) where
       split true = o
       split false = passes_sized v j o
 
+  -- a view that notes an epoch or passes a seat keeps its sizes
   pub looked_sized : (v : View) (j w : ℕ) → IsViewSized seats i v → IsViewSized seats i (looked_at v j w)
   looked_sized v j w o = split (is_passed v j) (w % 2 == 0)
     where
@@ -227,6 +239,7 @@ module _ (seats i : ℕ) where
     cursor = o.cursor;
   }
 
+  -- a view whose homes become ready, or not, keeps its sizes
   pub epoch_sized : (s : ℕ) (v : View) → IsViewSized seats i v → IsViewSized seats i (released_if_passed s v)
   epoch_sized s v o = split (are_others_passed s v.passed)
     where
@@ -244,6 +257,7 @@ module _ (seats i : ℕ) where
     cursor = o.cursor;
   }
 
+  -- a view that read a home word of a used node that isn't among the homes keeps its sizes
   pub home_sized : (v : View) (n w : ℕ) → 1 ≤ times n v.used → times n v.homes ≡ 0 → IsViewSized seats i v → IsViewSized seats i (home_read seats v n w)
   home_sized v n w used homes o = split (w == 1) (seats == 1)
     where
@@ -252,6 +266,7 @@ module _ (seats i : ℕ) where
       split true false = came_home_sized v n used homes o
       split false d = o
 
+  -- a view whose cursor came to a word of a node that is there keeps its sizes
   pub came_sized : (v : View) (prev : Option ℕ) (w seen : ℕ) → ((n : ℕ) → prev ≡ Some n → IsNode seats n) → NamesNode seats w
       → IsViewSized seats i v → IsViewSized seats i (came_to v prev w seen)
   came_sized v prev w seen p there o = record {
@@ -287,6 +302,7 @@ module _ (seats i : ℕ) where
     cursor = o.cursor;
   }
 
+  -- a view that judged a node that is there keeps its sizes, whatever the verdict
   pub judged_sized : (v : View) (c : Cursor) (y n : ℕ) (verdict : Verdict) → IsNode seats y → NamesNode seats n
       → IsCursorThere seats c → IsViewSized seats i v → IsViewSized seats i (hi_judged v c y n verdict)
   judged_sized v c y n Past node next there o = came_sized v (Some y) n c.seen (λ m q. let same : y ≡ m = cc in subst (IsNode seats) same node) next o

@@ -7,13 +7,20 @@ use Rattle.lock_core.specs.StepTable.{Plan, IsLine}
 use Rattle.lock_core.specs.Machine.{Machine, after, carried_out}
 use Rattle.lock_core.proofs.Table.{given-some, line_of_plan}
 
+-- a step of seat s that was made: its view, its plan, and the next state by that plan
 pub record Stepped (m next : Machine) (s : ℕ) (step : Step) : Type 0 where
+  -- the view before the step
   pub view : View
+  -- which is that of seat s
   pub at : slice_get m.views s ≡ Some view
+  -- what the step does
   pub plan : Plan
+  -- which is the table's line for that view
   pub line : IsLine m.seats s view step plan
+  -- the next state is the one before with the plan carried out
   pub is : carried_out m s plan ≡ next
 
+-- a step with a state after it was made by a line of the table
 pub stepped : (m next : Machine) (s : ℕ) (step : Step) → after m s step ≡ Some next → Stepped m next s step
 stepped m next s step e =
     let v = given-some _ _ _ e in let p = given-some _ _ _ v.2 in

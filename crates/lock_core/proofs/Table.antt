@@ -20,35 +20,43 @@ use Rattle.lock_core.specs.StepTable.{fill_lo, fill_hi, aim, clear_home, walk, r
 use Rattle.lock_core.specs.StepTable.{quick_link, quick_unlink, settle}
 use Rattle.lock_core.specs.Machine.{given, when, plan, is_done, may_leave, may_judge, is_at_place, aim_of, first_of_list, is_nothing}
 
+-- where the whole has a value, the first part has one, and the rest has the value on it
 pub given-some : {A B : Type 0} (o : Option A) (f : A → Option B) (b : B) → given o f ≡ Some b → (a : A) × (o ≡ Some a) × (f a ≡ Some b)
 given-some None f b e = absurd (cc)
 given-some (Some a) f b e = (a, refl, e)
 
+-- a condition with a value holds, and the value is the one given
 pub when-some : {A : Type 0} (t : Bool) (a b : A) → when t a ≡ Some b → (t ≡ true) × (a ≡ b)
 when-some false a b e = absurd (cc)
 when-some true a b e = (refl, cc)
 
+-- two tests that hold together hold each
 pub both : (a b : Bool) → (a && b) ≡ true → (a ≡ true) × (b ≡ true)
 both true b e = (refl, e)
 both false b e = absurd (cc)
 
+-- where the first part has a value and the rest has one on it, the whole has that
 pub given-is : {A B : Type 0} (o : Option A) (f : A → Option B) (a : A) (b : B) → o ≡ Some a → f a ≡ Some b → given o f ≡ Some b
 given-is None f a b e e' = absurd (cc)
 given-is (Some c) f a b e e' = let same : c ≡ a = cc in ap f same ∙ e'
 
+-- a condition that holds gives its value
 pub when-is : {A : Type 0} (t : Bool) (a : A) → t ≡ true → when t a ≡ Some a
 when-is false a e = absurd (cc)
 when-is true a e = refl
 
+-- two tests that hold each hold together
 pub together : (a b : Bool) → a ≡ true → b ≡ true → (a && b) ≡ true
 together true b e e' = e'
 together false b e e' = absurd (cc)
 
+-- an own node that reads as one being filled is that one
 pub is_filling : (own : Own) (f : Filled) → filled_of own ≡ Some f → own ≡ filling f
 is_filling Nothing f e = absurd (cc)
 is_filling (Filling node lo hi mode aimed) f e = let same : record { node = node; lo = lo; hi = hi; mode = mode; aimed = aimed } ≡ f = cc in ap filling same
 is_filling (Linked node range mode todo) f e = absurd (cc)
 
+-- an own node that reads as a linked one is that one
 pub is_listed : (own : Own) (k : Listed) → listed_of own ≡ Some k → own ≡ listed k
 is_listed Nothing k e = absurd (cc)
 is_listed (Filling node lo hi mode aimed) k e = absurd (cc)
@@ -109,6 +117,7 @@ leaving_is Nothing h = refl
 leaving_is (Filling node lo hi mode aimed) h = refl
 leaving_is (Linked node range mode todo) h = ap is_done (h (record { node = node; range = range; mode = mode; todo = todo }) refl)
 
+-- a seat that may judge and fills a node knows both its ends
 pub judging : (own : Own) → may_judge own ≡ true → (f : Filled) → own ≡ filling f → (f.lo ≢ None) × (f.hi ≢ None)
 judging Nothing e f is = absurd (cc)
 judging (Filling node lo hi mode aimed) e f is =
@@ -116,6 +125,7 @@ judging (Filling node lo hi mode aimed) e f is =
     ((λ q. some lo t.0 (l ∙ q)), (λ q. some hi t.1 (h ∙ q)))
 judging (Linked node range mode todo) e f is = absurd (cc)
 
+-- a seat that knows both ends of the node that it fills, if it fills one, may judge
 pub judging_is : (own : Own) → ((f : Filled) → own ≡ filling f → (f.lo ≢ None) × (f.hi ≢ None)) → may_judge own ≡ true
 judging_is Nothing h = refl
 judging_is (Filling node lo hi mode aimed) h =
@@ -223,6 +233,7 @@ module _ (seats s : ℕ) (v : View) (p : Plan) where
       let c = given-some _ _ _ e in let t = when-some _ _ _ c.2 in let a = both _ _ t.0 in
       subst (IsLine seats s v Settle) t.1 (settle c.0 c.1 (none _ a.0) (eqb-true _ _ a.1))
 
+-- what the plan computes is a line of the table
 pub line_of_plan : (seats s : ℕ) (v : View) (step : Step) (p : Plan) → plan seats s v step ≡ Some p → IsLine seats s v step p
 line_of_plan seats s v step p = line seats s v p step
 

@@ -64,6 +64,7 @@ is_from_head : (lo hi node_lo e : ℕ) → lo < e → node_lo < hi → (if nat_l
 is_from_head lo hi node_lo e low high = ap (λ a. if a && nat_lt node_lo hi then Conflict else Past) (lt-ltb lo e low)
     ∙ ap (λ b. if b then Conflict else Past) (lt-ltb node_lo hi high)
 
+-- for all three ways to judge, the verdict is a conflict exactly where the two grants conflict
 pub judges_by_conflict_law : JudgesByConflict
 judges_by_conflict_law = record {
   filling = λ node lo hi mode aimed node_lo w. (

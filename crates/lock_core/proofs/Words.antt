@@ -1,5 +1,5 @@
 -- What a write of one word does to the heap: one field changes at one index, since all places differ.
-use Rattle.std.proofs.Common.{◌≡◌, ◌≢◌, ℕ, zero, suc, ◌<◌, List, length, set, arith, get_or-set_other, get_or-set_same}
+use Rattle.std.proofs.Common.{◌≡◌, ◌≢◌, ℕ, zero, suc, ◌<◌, List, length, set, get_or, arith, get_or-set_other, get_or-set_same}
 use Rattle.lock_core.specs.Words.{Heap, heap_of, cell_place, lo_place, hi_place, home_place, epoch_place}
 
 -- the next word of a cell was written
@@ -70,52 +70,65 @@ epoch_apart seats s zero l e = omega arith
 epoch_apart seats s (suc p) l e = omega arith
 
 module _ (seats w : ℕ) (words : List ℕ) where
+  -- a word at another place than the one written is as it was
+  kept : {p q : ℕ} → q ≢ p → get_or (set words p w) q 0 ≡ get_or words q 0
+  kept {p} {q} apart = get_or-set_other words p q w 0 apart
+
+  -- the word at the place written is the one that was stored
+  put : {p : ℕ} → p < length words → get_or (set words p w) p 0 ≡ w
+  put {p} there = get_or-set_same words p w 0 there
+
+  -- a write of a next word changes that next word alone
   pub wrote_cell : (p : ℕ) → cell_place seats p < length words → WroteCell seats (heap_of seats words) (heap_of seats (set words (cell_place seats p) w)) p w
   wrote_cell p there = record {
-    is = get_or-set_same words (cell_place seats p) w 0 there;
-    others = λ c d. get_or-set_other words (cell_place seats p) (cell_place seats c) w 0 (cells_apart seats c p d);
-    lo = λ n. get_or-set_other words (cell_place seats p) (lo_place seats n) w 0 (lo_apart seats n p);
-    hi = λ n. get_or-set_other words (cell_place seats p) (hi_place seats n) w 0 (hi_apart seats n p);
-    home = λ n. get_or-set_other words (cell_place seats p) (home_place seats n) w 0 (home_apart seats n p);
-    epoch = λ s l. get_or-set_other words (cell_place seats p) (epoch_place s) w 0 (epoch_apart seats s p l);
+    is = put there;
+    others = λ c d. kept (cells_apart seats c p d);
+    lo = λ n. kept (lo_apart seats n p);
+    hi = λ n. kept (hi_apart seats n p);
+    home = λ n. kept (home_apart seats n p);
+    epoch = λ s l. kept (epoch_apart seats s p l);
   }
 
+  -- a write of a lo word changes that lo word alone
   pub wrote_lo : (o : ℕ) → lo_place seats o < length words → WroteLo seats (heap_of seats words) (heap_of seats (set words (lo_place seats o) w)) o w
   wrote_lo o there = record {
-    is = get_or-set_same words (lo_place seats o) w 0 there;
-    others = λ n d. get_or-set_other words (lo_place seats o) (lo_place seats n) w 0 (λ e. d (omega arith));
-    next = λ c. get_or-set_other words (lo_place seats o) (cell_place seats c) w 0 (λ e. lo_apart seats o c (omega arith));
-    hi = λ n. get_or-set_other words (lo_place seats o) (hi_place seats n) w 0 (λ e. omega arith);
-    home = λ n. get_or-set_other words (lo_place seats o) (home_place seats n) w 0 (λ e. omega arith);
-    epoch = λ s l. get_or-set_other words (lo_place seats o) (epoch_place s) w 0 (λ e. omega arith);
+    is = put there;
+    others = λ n d. kept (λ e. d (omega arith));
+    next = λ c. kept (λ e. lo_apart seats o c (omega arith));
+    hi = λ n. kept (λ e. omega arith);
+    home = λ n. kept (λ e. omega arith);
+    epoch = λ s l. kept (λ e. omega arith);
   }
 
+  -- a write of a hi word changes that hi word alone
   pub wrote_hi : (o : ℕ) → hi_place seats o < length words → WroteHi seats (heap_of seats words) (heap_of seats (set words (hi_place seats o) w)) o w
   wrote_hi o there = record {
-    is = get_or-set_same words (hi_place seats o) w 0 there;
-    others = λ n d. get_or-set_other words (hi_place seats o) (hi_place seats n) w 0 (λ e. d (omega arith));
-    next = λ c. get_or-set_other words (hi_place seats o) (cell_place seats c) w 0 (λ e. hi_apart seats o c (omega arith));
-    lo = λ n. get_or-set_other words (hi_place seats o) (lo_place seats n) w 0 (λ e. omega arith);
-    home = λ n. get_or-set_other words (hi_place seats o) (home_place seats n) w 0 (λ e. omega arith);
-    epoch = λ s l. get_or-set_other words (hi_place seats o) (epoch_place s) w 0 (λ e. omega arith);
+    is = put there;
+    others = λ n d. kept (λ e. d (omega arith));
+    next = λ c. kept (λ e. hi_apart seats o c (omega arith));
+    lo = λ n. kept (λ e. omega arith);
+    home = λ n. kept (λ e. omega arith);
+    epoch = λ s l. kept (λ e. omega arith);
   }
 
+  -- a write of a home word changes that home word alone
   pub wrote_home : (o : ℕ) → home_place seats o < length words → WroteHome seats (heap_of seats words) (heap_of seats (set words (home_place seats o) w)) o w
   wrote_home o there = record {
-    is = get_or-set_same words (home_place seats o) w 0 there;
-    others = λ n d. get_or-set_other words (home_place seats o) (home_place seats n) w 0 (λ e. d (omega arith));
-    next = λ c. get_or-set_other words (home_place seats o) (cell_place seats c) w 0 (λ e. home_apart seats o c (omega arith));
-    lo = λ n. get_or-set_other words (home_place seats o) (lo_place seats n) w 0 (λ e. omega arith);
-    hi = λ n. get_or-set_other words (home_place seats o) (hi_place seats n) w 0 (λ e. omega arith);
-    epoch = λ s l. get_or-set_other words (home_place seats o) (epoch_place s) w 0 (λ e. omega arith);
+    is = put there;
+    others = λ n d. kept (λ e. d (omega arith));
+    next = λ c. kept (λ e. home_apart seats o c (omega arith));
+    lo = λ n. kept (λ e. omega arith);
+    hi = λ n. kept (λ e. omega arith);
+    epoch = λ s l. kept (λ e. omega arith);
   }
 
+  -- a write of an epoch changes that epoch alone
   pub wrote_epoch : (i : ℕ) → i < seats → epoch_place i < length words → WroteEpoch (heap_of seats words) (heap_of seats (set words (epoch_place i) w)) i w
   wrote_epoch i few there = record {
-    is = get_or-set_same words (epoch_place i) w 0 there;
-    others = λ s d. get_or-set_other words (epoch_place i) (epoch_place s) w 0 (λ e. d (omega arith));
-    next = λ c. get_or-set_other words (epoch_place i) (cell_place seats c) w 0 (λ e. epoch_apart seats i c few (omega arith));
-    lo = λ n. get_or-set_other words (epoch_place i) (lo_place seats n) w 0 (λ e. omega arith);
-    hi = λ n. get_or-set_other words (epoch_place i) (hi_place seats n) w 0 (λ e. omega arith);
-    home = λ n. get_or-set_other words (epoch_place i) (home_place seats n) w 0 (λ e. omega arith);
+    is = put there;
+    others = λ s d. kept (λ e. d (omega arith));
+    next = λ c. kept (λ e. epoch_apart seats i c few (omega arith));
+    lo = λ n. kept (λ e. omega arith);
+    hi = λ n. kept (λ e. omega arith);
+    home = λ n. kept (λ e. omega arith);
   }

@@ -20,6 +20,7 @@ any_times node (y ∷ ys) = split (y == node) (any_times node ys)
     split true e = grind (arith, nat_tests)
     split false e = e ∙ ap (λ n. not (n == 0)) (sym (zero-add (times node ys)))
 
+-- two lists joined, without a third, are each without it, joined
 pub without-append : (hs ls bs : List ℕ) → without hs (ls ++ bs) ≡ without hs ls ++ without hs bs
 without-append hs [] bs = refl
 without-append hs (y ∷ ys) bs = split (times y hs == 0) (without-append hs ys bs)
@@ -60,6 +61,7 @@ without_longer front (y ∷ ys) = gone (times y (front ++ y ∷ ys) == 0) refl (
     gone true e rest = let none = eqb-true (times y (front ++ y ∷ ys)) 0 e in let some = counted_in front ys y in absurd (omega arith)
     gone false e rest = subst (λ l. without l ys ≡ []) (append_assoc front (y ∷ []) ys) rest
 
+-- of a list without itself nothing is left
 pub without_itself : (l : List ℕ) → without l l ≡ []
 without_itself l = without_longer [] l
 

@@ -7,11 +7,13 @@ use Rattle.lock_core.specs.Sizes.{IsSized}
 use Rattle.lock_core.proofs.Opening.{map_more, start_sized}
 use Rattle.lock_core.proofs.state.fresh.Goals as goal
 
+-- one view more is the one of the next seat
 pub loop-seat-preserved : goal.loop-seat-preserved
 loop-seat-preserved c =
     (c.in_ok-push.ensures {u = tt}).items ∙ (λ i. c.loop-seat.invariant i ++ c.in_ok-first_view.ensures {u = tt} i ∷ [])
     ∙ map_more (start_view c.args.seats) c.loop-seat.seat
 
+-- the state that is made has its sizes
 pub invariant_of-result : goal.invariant_of-result
 invariant_of-result c =
     let all : c.loop-seat.seat ≡ c.args.seats = omega arith in

@@ -5,6 +5,7 @@ use Rattle.lock_core.specs.Machine.{grant_of, held_at}
 use Rattle.lock_core.proofs.Opening.{grants_more}
 use Rattle.lock_core.proofs.state.grants_of.Goals as goal
 
+-- the grant of the next view, if it has one, goes behind those before
 pub loop-view-preserved : goal.loop-view-preserved
 loop-view-preserved c = record {
   seat = let e = c.loop-view.invariant.seat in omega arith;

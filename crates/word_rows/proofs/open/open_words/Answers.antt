@@ -2,6 +2,7 @@ use Rattle.std.proofs.Common.{rules, ◌≡◌, ◌+◌, [], ap, ◌∙◌, arit
 use Rattle.word_rows.proofs.Rowing.{one_more, last_view}
 use Rattle.word_rows.proofs.open.open_words.Goals as goal
 
+-- the seat that keeps its number's view goes behind the others, and the new one has the rest
 pub numbers-preserved : goal.numbers-preserved
 numbers-preserved g c = let i = c.numbers.invariant in let o = c.cut_off-next.ensures.old in record {
   below = search rules;
@@ -12,6 +13,7 @@ numbers-preserved g c = let i = c.numbers.invariant in let o = c.cut_off-next.en
   now = search rules;
 }
 
+-- the last seat has the view of the last number, so each number has its seat
 pub returns-clause-seated : goal.returns-clause-seated
 returns-clause-seated g c = let i = c.numbers.invariant in let last : c.args.seats ≡ c.numbers.number + 1 = omega arith in
     rw c.push_reserved-2.ensures.items (one_more _ _ _ _ _ i.count i.made i.same_table

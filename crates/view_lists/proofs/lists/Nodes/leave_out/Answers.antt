@@ -4,6 +4,7 @@ use Rattle.view_lists.specs.Counted.{times, without}
 use Rattle.view_lists.proofs.Times.{without_itself, All-removed, removed_done}
 use Rattle.view_lists.proofs.lists.Nodes.leave_out.Goals as goal
 
+-- a node of the other list is taken out, and what is to be left stays the same
 pub loop-i-preserved-then-has : goal.loop-i-preserved-then-has
 loop-i-preserved-then-has c =
     let xs = c.loop-i.self-inside.items.items in
@@ -20,6 +21,7 @@ loop-i-preserved-then-has c =
           (removed_done c.args.gone.now xs c.loop-i.i c.index.result.now less at some ∙ c.loop-i.invariant.done);
     }
 
+-- where both lists are the same nothing is left
 pub returns-then-eq : goal.returns-then-eq
 returns-then-eq c = let same : c.args.self.now ≡ c.args.gone.now = search rules in
     c.clear.ensures.items ∙ (sym (without_itself c.args.self.now) ∙ ap (λ l. without l c.args.self.now) same)
