@@ -6,12 +6,15 @@ use Rattle.page_types.specs.declared.calls.Kind.{Kind}
 use Rattle.space_model.specs.declared.areas.Area.{Area}
 use Rattle.space_model.specs.Areas.{LeadsTo, IsAreaList, kind_at, OnlyOneHasKinds}
 
+-- a page of the first area has its kind
 pub kind_at-here : (a : Area) (rest : List Area) (p : ℕ) → a.lo ≤ p → p < a.hi → kind_at (a ∷ rest) p ≡ Some a.kind
 kind_at-here a rest p l h = grind (arith, nat_tests)
 
+-- a page before the first area has the kind that the others give it
 pub kind_at-before : (a : Area) (rest : List Area) (p : ℕ) → p < a.lo → kind_at (a ∷ rest) p ≡ kind_at rest p
 kind_at-before a rest p l = grind (arith, nat_tests)
 
+-- so has a page behind it
 pub kind_at-after : (a : Area) (rest : List Area) (p : ℕ) → a.hi ≤ p → kind_at (a ∷ rest) p ≡ kind_at rest p
 kind_at-after a rest p l = grind (arith, nat_tests)
 
@@ -21,6 +24,7 @@ pub data Side (lo hi p : ℕ) : Type 0 where
   inside : lo ≤ p → p < hi → Side lo hi p
   after : hi ≤ p → Side lo hi p
 
+-- each page is before a span, within it, or behind it
 pub side_of : (lo hi p : ℕ) → Side lo hi p
 side_of lo hi p =
     elim (cases_lt p lo) [
@@ -33,14 +37,17 @@ abbrev pub IsAbove : ℕ → List Area → Type 0
 IsAbove e [] = Unit {0}
 IsAbove e (a ∷ rest) = e ≤ a.lo
 
+-- no area starts below page 0
 pub above_zero : (A : List Area) → IsAbove 0 A
 above_zero [] = tt
 above_zero (a ∷ rest) = omega arith
 
+-- the areas that may follow an area don't start below its end
 pub LeadsTo-above : (a : Area) (rest : List Area) → LeadsTo a rest → IsAbove a.hi rest
 LeadsTo-above a [] l = tt
 LeadsTo-above a (b ∷ rest) l = l.after
 
+-- a page below all areas has no kind
 pub kind_at-below : (A : List Area) (e p : ℕ) → IsAreaList A → IsAbove e A → p < e → kind_at A p ≡ None
 kind_at-below [] e p w above l = refl
 kind_at-below (a ∷ rest) e p w above l =
@@ -86,6 +93,7 @@ first_end a b A B w v e s k l =
     let both = e a.hi in
     kind_at-end a A w.1 w.2 cc
 
+-- two area lists whose pages have the same kinds are one
 pub only_one : (A B : List Area) → OnlyOneHasKinds A B
 only_one [] [] w v e = refl
 only_one [] (b ∷ B) w v e =

@@ -87,6 +87,7 @@ state_not_rows A (Unmap addr len) why n r d = r
 state_not_rows A (Protect addr len prot) why n (page, l, e) d = cc
 state_not_rows A (Fault addr access) why n r d = access_not_rows (kind_at A (page_of addr)) (page_of addr) access why n r d
 
+-- a call that is refused for its rows asks for more than ROWS, and for at most two more than there are
 pub two_rows_more : (A : List Area) (c : Call) → IsAreaList A → AsksTwoRowsMore A c
 two_rows_more A c w n B (by_arguments e b) = absurd (plain_not_rows c n e)
 two_rows_more A c w n B (refused why u r e b) = absurd (state_not_rows A c why n r cc)
@@ -120,6 +121,7 @@ undecided A addr access kind w e =
       | inr ge ↦ let none = kind_at-limit A w (page_of addr) ge in cc
     ]
 
+-- a fault is granted exactly where its page has a kind with the access's bit, and changes nothing
 pub grants_allowed : (A : List Area) (addr : ℕ) (access : Access) → IsAreaList A → GrantsWhatThePageAllows A addr access
 grants_allowed A addr access w kind B =
     (granted_from A addr access kind B, λ g. granted kind (undecided A addr access kind w g.0) (g.0, g.1) refl g.2)

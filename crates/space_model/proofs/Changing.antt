@@ -47,9 +47,11 @@ parts-pieces from to prot (a ∷ rest) e low w above l =
 pub within-inside : {A : Type 0} (lo hi p : ℕ) (x y : A) → lo ≤ p → p < hi → (if is_within lo hi p then x else y) ≡ x
 within-inside lo hi p x y l h = grind (arith, nat_tests)
 
+-- a page before the span isn't within it
 pub within-before : {A : Type 0} (lo hi p : ℕ) (x y : A) → p < lo → (if is_within lo hi p then x else y) ≡ y
 within-before lo hi p x y l = grind (arith, nat_tests)
 
+-- nor is one at or behind its end
 pub within-after : {A : Type 0} (lo hi p : ℕ) (x y : A) → hi ≤ p → (if is_within lo hi p then x else y) ≡ y
 within-after lo hi p x y l = grind (arith, nat_tests)
 
@@ -86,6 +88,7 @@ parts-inside from to prot (a ∷ rest) p l h =
           ap (option_map (painted prot)) (sym (kind_at-after a rest p above))
     ]
 
+-- outside of the pages from which the parts were taken, no page has a kind
 pub parts-outside : (from to : ℕ) (prot : Option Prot) (A : List Area) (p : ℕ) → (p < from) ⊎ (to ≤ p) →
     kind_at (parts from to prot A) p ≡ None
 parts-outside from to prot [] p out = refl

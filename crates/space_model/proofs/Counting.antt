@@ -33,9 +33,11 @@ sum_split_to (suc m) s n (suc k) f e =
     ap (λ x. f s + x) b ∙ sym (add_assoc (f s) (sum_from (suc s) m f) (sum_from (suc s + m) n f)) ∙
     ap (λ x. (f s + sum_from (suc s) m f) + sum_from x n f) a
 
+-- a sum over m + n pages is one over the first m and one over the n behind them
 pub sum_split : (s m n : ℕ) (f : ℕ → ℕ) → sum_from s (m + n) f ≡ sum_from s m f + sum_from (s + m) n f
 sum_split s m n f = sum_split_to m s n (m + n) f refl
 
+-- a sum of zeros is 0
 pub sum_zeros : (n s : ℕ) (f : ℕ → ℕ) → ((p : ℕ) → s ≤ p → p < s + n → f p ≡ 0) → sum_from s n f ≡ 0
 unfolding sum_from
 sum_zeros zero s f h = refl
@@ -44,22 +46,26 @@ sum_zeros (suc n) s f h =
     let b = sum_zeros n (suc s) f (λ p l g. h p (omega arith) (omega arith)) in
     omega arith
 
+-- where all but the first number are 0, the sum is the first number
 pub sum_first : (n s : ℕ) (f : ℕ → ℕ) → 0 < n → ((p : ℕ) → s < p → p < s + n → f p ≡ 0) → sum_from s n f ≡ f s
 unfolding sum_from
 sum_first zero s f l h = absurd (omega arith)
 sum_first (suc n) s f l h =
     let b = sum_zeros n (suc s) f (λ p g t. h p (omega arith) (omega arith)) in omega arith
 
+-- smaller numbers have a smaller sum
 pub sum-le : (n s : ℕ) (f g : ℕ → ℕ) → ((p : ℕ) → f p ≤ g p) → sum_from s n f ≤ sum_from s n g
 unfolding sum_from
 sum-le zero s f g h = omega arith
 sum-le (suc n) s f g h = omega (arith, h s, sum-le n (suc s) f g h)
 
+-- equal numbers have equal sums
 pub sum-same : (n s : ℕ) (f g : ℕ → ℕ) → ((p : ℕ) → f p ≡ g p) → sum_from s n f ≡ sum_from s n g
 unfolding sum_from
 sum-same zero s f g h = refl
 sum-same (suc n) s f g h = omega (arith, h s, sum-same n (suc s) f g h)
 
+-- a sum of sums is the sum of both
 pub sum-add : (n s : ℕ) (f g : ℕ → ℕ) → sum_from s n (λ p. f p + g p) ≡ sum_from s n f + sum_from s n g
 unfolding sum_from
 sum-add zero s f g = refl
@@ -69,12 +75,15 @@ sum-add (suc n) s f g = omega (arith, sum-add n (suc s) f g)
 abbrev pub only_at : ℕ → ℕ → ℕ → ℕ
 only_at x v p = if p == x then v else 0
 
+-- at its page it is the number
 pub only_at-same : (x v : ℕ) → only_at x v x ≡ v
 only_at-same x v = grind (arith, nat_tests)
 
+-- at another page it is 0
 pub only_at-other : (x v p : ℕ) → p ≢ x → only_at x v p ≡ 0
 only_at-other x v p ne = ap (λ t. if t then v else 0) (ne_eqb p x ne)
 
+-- its sum over pages among which its page is, is the number
 pub sum-only_at : (n s x v : ℕ) → s ≤ x → x < s + n → sum_from s n (only_at x v) ≡ v
 unfolding sum_from
 sum-only_at zero s x v l h = absurd (omega arith)
@@ -90,9 +99,11 @@ sum-only_at (suc n) s x v l h =
           omega (arith, a, b)
     ]
 
+-- its sum over pages below its page is 0
 pub sum-only_past : (n s x v : ℕ) → s + n ≤ x → sum_from s n (only_at x v) ≡ 0
 sum-only_past n s x v l = sum_zeros n s (only_at x v) (λ p g t. only_at-other x v p (omega arith))
 
+-- its sum over pages from its page or a lower one on is at most the number
 pub sum-only_at-le : (n s x v : ℕ) → s ≤ x → sum_from s n (only_at x v) ≤ v
 sum-only_at-le n s x v l =
     elim (cases_lt x (s + n)) [
@@ -100,16 +111,19 @@ sum-only_at-le n s x v l =
       | inr ge ↦ omega (arith, sum-only_past n s x v ge)
     ]
 
+-- kinds, or none, that the test calls equal are equal
 pub same_option-true : (o q : Option Kind) → same_option o q ≡ true → o ≡ q
 same_option-true None None e = refl
 same_option-true None (Some m) e = cc
 same_option-true (Some k) None e = cc
 same_option-true (Some k) (Some m) e = ap (λ x. Some x) (same_kind-true k m e)
 
+-- the test calls a kind, or none, equal to itself
 pub same_option-same : (o : Option Kind) → same_option o o ≡ true
 same_option-same None = refl
 same_option-same (Some k) = same_kind-same k
 
+-- the test tells different kinds apart
 pub same_option-false : (o q : Option Kind) → o ≢ q → same_option o q ≡ false
 same_option-false o q ne =
     elim (cases_Bool (same_option o q)) [ inl t ↦ absurd (ne (same_option-true o q t)) | inr f ↦ f ]
@@ -121,12 +135,14 @@ row_at sort f p = count_if (starts_row f p && sort (f p))
 before_suc : (p : ℕ) → suc p - 1 ≡ p
 before_suc p = omega arith
 
+-- no row starts at a page of the same kind as the page before it
 pub starts_row-not : (f : ℕ → Option Kind) (p : ℕ) → 0 < p → f (p - 1) ≡ f p → starts_row f p ≡ false
 starts_row-not f zero l e = absurd (omega arith)
 starts_row-not f (suc p) l e =
     let a : f p ≡ f (suc p) = ap f (sym (before_suc p)) ∙ e in
     ap not (ap (same_option (f p)) (sym a) ∙ same_option-same (f p))
 
+-- a row starts at page 0, and at a page of another kind than the one before it
 pub starts_row-if : (f : ℕ → Option Kind) (p : ℕ) → (0 < p → f (p - 1) ≢ f p) → starts_row f p ≡ true
 starts_row-if f zero h = refl
 starts_row-if f (suc p) h =
@@ -167,6 +183,7 @@ gap_row sort f lo hi l start none =
 differ : (o q : Option Kind) (k : Kind) → o ≡ None → o ≡ q → q ≡ Some k → ⊥
 differ o q k a b c = cc
 
+-- the pages from a page on where a row of some sort starts are as many as the list's rows of that sort
 pub rows_from : (sort : Option Kind → Bool) (f : ℕ → Option Kind) (A : List Area) (e limit : ℕ) → limit ≡ LIMIT →
     IsAreaList A → IsAbove e A → e ≤ limit → (e < limit → starts_row f e ≡ true) → ((p : ℕ) → e ≤ p → f p ≡ kind_at A p) →
     sum_from e (limit - e) (row_at sort f) ≡ rows_by sort e A
@@ -210,6 +227,7 @@ gap_by-none lo hi = elim (cases_lt lo hi) [
   | inr ge ↦ ap (λ b. if b then count_if (is_some {T = Kind} None) else 0) (le-ltb lo hi ge)
 ]
 
+-- all rows, of areas and of gaps
 abbrev pub every : Option Kind → Bool
 every o = true
 
@@ -238,14 +256,17 @@ pub length-rows : (A : List Area) (limit : ℕ) → limit ≡ LIMIT → IsAreaLi
     sum_from 0 limit (row_at is_some (kind_at A)) ≡ length A
 length-rows A limit is w = all_rows is_some A limit is w ∙ rows_by-length 0 A
 
+-- the gaps of an area list are as many as the pages without a kind at which a row starts
 pub gaps-rows : (A : List Area) (limit : ℕ) → limit ≡ LIMIT → IsAreaList A →
     sum_from 0 limit (row_at is_none (kind_at A)) ≡ gap_count A
 gaps-rows A limit is w = all_rows is_none A limit is w ∙ rows_by-gaps 0 A
 
+-- the rows of an area list are as many as the pages at which a row starts
 pub every-rows : (A : List Area) (limit : ℕ) → limit ≡ LIMIT → IsAreaList A →
     sum_from 0 limit (row_at every (kind_at A)) ≡ row_count A
 every-rows A limit is w = all_rows every A limit is w ∙ rows_by-every 0 A
 
+-- a page at which no row starts isn't page 0, and has the kind of the page before it
 pub starts_row-false : (f : ℕ → Option Kind) (p : ℕ) → starts_row f p ≡ false → (0 < p) × (f (p - 1) ≡ f p)
 starts_row-false f zero e = cc
 starts_row-false f (suc p) e =
@@ -336,5 +357,6 @@ start_count-sum f (suc n) =
 rows_start_to : (A : List Area) (limit : ℕ) → limit ≡ LIMIT → IsAreaList A → row_count A ≡ start_count (kind_at A) limit
 rows_start_to A limit is w = sym (every-rows A limit is w) ∙ sym (start_count-sum (kind_at A) limit)
 
+-- the number of rows is the number of pages at which one starts
 pub rows_start : (A : List Area) → IsAreaList A → row_count A ≡ start_count (kind_at A) LIMIT
 rows_start A w = rows_start_to A LIMIT refl w

@@ -186,6 +186,7 @@ module _ (A : List Area) (a : Area) (lo hi : ℕ) (w : IsAreaList A) (lies : Lie
 has_pages : (addr len : ℕ) → len ≢ 0 → page_of addr < end_page addr len
 has_pages addr len n = omega arith
 
+-- a Protect within an area is simple exactly in the four cases
 pub four_ways : (A : List Area) (a : Area) (addr len : ℕ) (prot : Prot) → IsAreaList A → SimpleInFourCases A a addr len prot
 unfolding Borders
 four_ways A a addr len prot w undecided lies =
@@ -200,6 +201,7 @@ four_ways A a addr len prot w undecided lies =
           (four_to A a (page_of addr) (end_page addr len) w lies l kind f),
     )
 
+-- and exactly where its change of kinds keeps the rows at its ends
 pub keeps_rows : (A : List Area) (a : Area) (addr len : ℕ) (prot : Prot) → IsAreaList A → SimpleKeepsRows A a addr len prot
 keeps_rows A a addr len prot w undecided lies =
     let l = has_pages addr len (protect-length addr len undecided) in

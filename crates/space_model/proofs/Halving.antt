@@ -26,6 +26,7 @@ ends_rise (a ∷ rest) w zero (suc j) d l h =
 ends_rise (a ∷ rest) w (suc i) zero d l h = absurd (omega arith)
 ends_rise (a ∷ rest) w (suc i) (suc j) d l h = ends_rise rest w.2 i j d (omega arith) (omega arith)
 
+-- later areas start higher
 pub starts_rise : (A : List Area) → IsAreaList A → IsNonDecreasingBy (λ a. a.lo) A
 starts_rise [] w i j d l h = absurd (omega arith)
 starts_rise (a ∷ rest) w zero zero d l h = omega arith
@@ -62,17 +63,20 @@ remains_past (a ∷ front) rest page w all =
     let h : a.hi ≤ page = All-head (λ b. b.hi ≤ page) a front all in
     record { areas = r.areas; kinds = λ p l. r.kinds p l ∙ sym (kind_at-after a (front ++ rest) p (omega arith)) }
 
+-- behind a cut at a page, the areas that are left have the kinds from the page on
 pub remains_cut : (A : List Area) (page : ℕ) (front rest : List Area) → IsAreaList A → IsCutBy (λ a. a.hi) A page front rest →
     Remains A rest page
 remains_cut A page front rest w cut =
     subst (λ X. Remains X rest page) (sym cut.whole) (remains_past front rest page (subst IsAreaList cut.whole w) cut.upto)
 
+-- where all areas end at or below a page, no page from it on has a kind
 pub free_past : (A : List Area) (page p : ℕ) → All (λ a. a.hi ≤ page) A → page ≤ p → kind_at A p ≡ None
 free_past [] page p all l = refl
 free_past (a ∷ rest) page p all l =
     kind_at-after a rest p (omega (arith, All-head (λ b. b.hi ≤ page) a rest all)) ∙
     free_past rest page p (All-tail (λ b. b.hi ≤ page) a rest all) l
 
+-- the first area behind the cut is the first that ends above the page; without one, none ends above it
 pub first_of_rest : (A : List Area) (page : ℕ) (front rest : List Area) (o : Option Area) → IsCutBy (λ a. a.hi) A page front rest →
     o ≡ slice_get rest 0 → MatchOption o (All (λ a. a.hi ≤ page) A) (IsFirstAbove A page)
 first_of_rest A page front [] o cut e =
@@ -83,15 +87,19 @@ first_of_rest A page front (a ∷ rest) o cut e =
     (record { front = front; rest = rest; cut = cut })
 
 module _ (A : List Area) (page : ℕ) (a : Area) (w : IsAreaList A) (first : IsFirstAbove A page a) where
+  -- this area and those behind it have the kinds from the page on
   pub first_remains : Remains A (a ∷ first.rest) page
   first_remains = remains_cut A page first.front (a ∷ first.rest) w first.cut
 
+  -- it ends above the page
   pub first_ends : page < a.hi
   first_ends = All-head (λ b. page < b.hi) a first.rest first.cut.above
 
+  -- where it starts at or below the page, the page has its kind
   pub first_kind : a.lo ≤ page → kind_at A page ≡ Some a.kind
   first_kind l = mapped_inside A a first.rest page page first_remains (omega arith) l first_ends
 
+  -- where it starts above the page, the page has none
   pub first_none : page < a.lo → kind_at A page ≡ None
   first_none l = free_before A a first.rest page page first_remains (omega arith) l
 
@@ -104,6 +112,7 @@ module _ (A : List Area) (page : ℕ) (a : Area) (w : IsAreaList A) (first : IsF
   pub first_lies : (hi : ℕ) → a.lo ≤ page → hi ≤ a.hi → LiesIn A a page hi
   first_lies hi l h = record { member = first_member; from = l; within = h }
 
+  -- where the pages from the page up to `hi` lie in some area of the list, they are among this one's
   pub only_first_lies : (hi : ℕ) (b : Area) → page < hi → LiesIn A b page hi → (a.lo ≤ page) × (hi ≤ a.hi)
   only_first_lies hi b l lies =
       let mine : kind_at A page ≡ Some b.kind =
@@ -120,6 +129,7 @@ module _ (A : List Area) (page : ℕ) (a : Area) (w : IsAreaList A) (first : IsF
       ] in
       (low, high)
 
+-- where all areas end at or below a page, pages from it on lie in no area
 pub none_lies : (A : List Area) (page hi : ℕ) → page < hi → All (λ a. a.hi ≤ page) A → (b : Area) → LiesIn A b page hi → ⊥
 none_lies A page hi l all b lies =
     absurd (omega (arith, All-contains (λ a. a.hi ≤ page) A b all lies.member, lies.within))

@@ -20,6 +20,7 @@ above_start : (A : List Area) → IsAbove (start_of A) A
 above_start [] = tt
 above_start (a ∷ rest) = omega arith
 
+-- an area between two lists is one of the whole list
 pub member_between : (front : List Area) (a : Area) (rest : List Area) → Contains (front ++ a ∷ rest) a
 member_between front a rest = Contains-append_right front (a ∷ rest) a (Contains-get_or (a ∷ rest) 0 a (omega arith))
 
@@ -35,10 +36,14 @@ free_between (x ∷ front) a rest p w l h =
 
 -- each place ends at or before the first page of the areas from an index on
 pub record NoneAbove (A : List Area) (pages i to : ℕ) : Type 0 where
+  -- it is the start of the first area that was passed, or LIMIT
   pub at : to ≡ start_of (drop i A)
+  -- it isn't above LIMIT
   pub high : to ≤ LIMIT
+  -- each place ends at or below it
   pub ends : (start : ℕ) → FitsAt A pages start → start + pages ≤ to
 
+-- at the start each place ends at or below LIMIT
 pub none_above_all : (A : List Area) (pages : ℕ) → NoneAbove A pages (length A) LIMIT
 none_above_all A pages =
     record { at = sym (ap start_of (drop_all (length A) A (omega arith))); high = omega arith; ends = λ start fit. fit.high }
@@ -107,6 +112,7 @@ unfolding here
 highest_here A pages k i to a e w within some above is l =
     found A pages i to w within some (subst (λ n. NoneAbove A pages n to) e above) (subst (λ b. max b.hi 16 + pages ≤ to) is l)
 
+-- where the gap above an area is too short, each place ends at or below the area's start
 pub none_above_next : (A : List Area) (pages k i to : ℕ) (a : Area) → k ≡ i + 1 → IsAreaList A → i < length A → 0 < pages →
     NoneAbove A pages k to → a ≡ get_or A i no_area → to < max a.hi 16 + pages → NoneAbove A pages i a.lo
 unfolding here
@@ -128,5 +134,6 @@ highest_below A pages to w above l =
       highest = λ other fit. omega (arith, above.ends other fit);
     }
 
+-- where the last gap is too short too, no place fits
 pub no_fit : (A : List Area) (pages to : ℕ) → NoneAbove A pages 0 to → to < 16 + pages → (start : ℕ) → FitsAt A pages start → ⊥
 no_fit A pages to above l start fit = absurd (omega (arith, above.ends start fit, fit.low))

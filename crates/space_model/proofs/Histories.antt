@@ -35,6 +35,7 @@ pub chains_weaker : (Step Weaker : List Area → Entry → List Area → Type 0)
 chains_weaker Step Weaker weaker A [] B s = s
 chains_weaker Step Weaker weaker A (x ∷ xs) B (D, g, s) = (D, weaker A x D g, chains_weaker Step Weaker weaker D xs B s)
 
+-- entries numbered from n on are so with one more that has the next number
 pub numbered_more : (n : ℕ) (xs : List Entry) (e : Entry) → IsNumberedFrom n xs → e.number ≡ n + length xs → IsNumberedFrom n (xs ++ e ∷ [])
 numbered_more n [] e l i = (omega arith, tt)
 numbered_more n (x ∷ xs) e (j, l) i = (j, numbered_more (n + 1) xs e l (omega arith))
@@ -65,6 +66,7 @@ one_state A (x ∷ xs) B C (D, (q, g), s) (E, (r, h), t) =
     let same = (one_answer A x.call q r D E g h).1 in
     one_state E xs B C (subst (λ X. StateAfter X xs B) same s) t
 
+-- a legal history leaves a list
 pub legal_state : (A : List Area) (xs : List Entry) → IsLegal A xs → (B : List Area) × StateAfter A xs B
 legal_state A xs (l, (B, s)) = (B, replied_state A xs B s)
 
@@ -86,10 +88,12 @@ legal_last A xs B e (l, (C, s)) t =
     let number = numbered_last 0 xs e l in
     (omega arith, (E, subst (λ X. Answers X e.call e.reply E) same h))
 
+-- each beginning of a legal history is legal
 pub beginnings : (A : List Area) (xs ys : List Entry) → IsLegal A (xs ++ ys) → IsLegal A xs
 beginnings A xs ys (l, (C, s)) =
     let parts = chains_split HasRightReply A xs ys C s in (numbered_front 0 xs ys l, (parts.0, parts.1))
 
+-- calls on an area list leave an area list
 pub area_state : (A : List Area) (xs : List Entry) → IsAreaList A → LeavesAreaListAfter A xs
 area_state A [] w = (A, w, refl)
 area_state A (x ∷ xs) w =
@@ -118,6 +122,7 @@ agree_from n A (x ∷ xs) (y ∷ ys) B D (j, l) (k, m) (E, g, s) (F, h, t) e =
     let b : map (λ (e : Entry). e.reply) xs ≡ map (λ (e : Entry). e.reply) ys = more.1 in
     (cc, cc)
 
+-- legal histories from one list with the same calls have the same numbers and replies
 pub agree : (A : List Area) (xs ys : List Entry) → IsLegal A xs → IsLegal A ys →
     map (λ (e : Entry). e.call) xs ≡ map (λ (e : Entry). e.call) ys →
     (map (λ (e : Entry). e.number) xs ≡ map (λ (e : Entry). e.number) ys) ×

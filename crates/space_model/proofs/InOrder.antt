@@ -38,9 +38,11 @@ right_suc (a ∷ rest) (suc j) l w =
       follows = λ h. subst (λ k. MayFollow (area_at (a ∷ rest) k) (area_at rest j)) (sym (before_suc j)) r.1;
     }
 
+-- an area list with an area more that is right at its index is still an area list
 pub area_list_more : (list : List Area) (i : ℕ) → i < length list → IsAreaList (take i list) → IsRightAt list i →
     IsAreaList (take (i + 1) list)
 area_list_more list i l w r = rw add-one (more_suc list i l w r)
 
+-- the last area of an area list is right at its index
 pub area_list_right : (list : List Area) (i : ℕ) → i < length list → IsAreaList (take (i + 1) list) → IsRightAt list i
 area_list_right list i l w = right_suc list i l (rw add-one at w)

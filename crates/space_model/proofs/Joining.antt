@@ -12,6 +12,7 @@ use Rattle.space_model.specs.Building.{goes_on, merged, pair_joined, joined, joi
 use Rattle.space_model.proofs.AreaKinds.{kind_at-here, kind_at-before, kind_at-after, side_of}
 use Rattle.space_model.proofs.AreaKinds.Side.{before, inside, after}
 
+-- an area is joined with the last of a list, and those before it stay
 pub joined-append : (list : List Area) (b a : Area) → joined (list ++ b ∷ []) a ≡ list ++ pair_joined b a
 joined-append [] b a = refl
 joined-append (x ∷ []) b a = refl
@@ -30,12 +31,14 @@ same_bool-same false = refl
 kind_of : ℕ → Bool → Kind
 kind_of n b = record { prot = record { 0 = n }; shared = b }
 
+-- kinds that the test calls equal are equal
 pub same_kind-true : (k m : Kind) → same_kind k m ≡ true → k ≡ m
 unfolding kind_of
 same_kind-true k m e =
     let both : (nat_eq k.prot.0 m.prot.0 ≡ true) × (same_bool k.shared m.shared ≡ true) = and_parts _ _ e in
     ap (λ n. kind_of n k.shared) (eqb-true _ _ both.0) ∙ ap (λ b. kind_of m.prot.0 b) (same_bool-true _ _ both.1)
 
+-- the test calls a kind equal to itself
 pub same_kind-same : (k : Kind) → same_kind k k ≡ true
 same_kind-same k = grind (arith, nat_tests, same_bool-same k.shared)
 
@@ -44,6 +47,7 @@ abbrev pub first_of : Option Kind → Option Kind → Option Kind
 first_of (Some k) other = Some k
 first_of None other = other
 
+-- where the second is none, it is the first
 pub first_of-none : (o : Option Kind) → first_of o None ≡ o
 first_of-none (Some k) = refl
 first_of-none None = refl
@@ -52,6 +56,7 @@ first_of-assoc : (a b c : Option Kind) → first_of (first_of a b) c ≡ first_o
 first_of-assoc (Some k) b c = refl
 first_of-assoc None b c = refl
 
+-- a page has the kind of the first area, or else of the others
 pub kind_at-cons : (a : Area) (rest : List Area) (p : ℕ) → kind_at (a ∷ rest) p ≡ first_of (kind_at (a ∷ []) p) (kind_at rest p)
 kind_at-cons a rest p =
     elim (side_of a.lo a.hi p) [
@@ -60,6 +65,7 @@ kind_at-cons a rest p =
       | after h ↦ rw (kind_at-after a rest p h, kind_at-after a [] p h) refl
     ]
 
+-- a page has the kind of the first list, or else of the second
 pub kind_at-append : (A B : List Area) (p : ℕ) → kind_at (A ++ B) p ≡ first_of (kind_at A p) (kind_at B p)
 kind_at-append [] B p = refl
 kind_at-append (a ∷ A) B p =
@@ -87,9 +93,11 @@ ends_below a rest e w free =
 free_tail : (a : Area) (rest : List Area) (e : ℕ) → a.hi ≤ e → IsFreeFrom (a ∷ rest) e → IsFreeFrom rest e
 free_tail a rest e h free p l = sym (kind_at-after a rest p (omega arith)) ∙ free p l
 
+-- an area that goes on with another is one with it
 pub pair-true : (b a : Area) → goes_on b a ≡ true → pair_joined b a ≡ merged b a ∷ []
 pair-true b a e = ap (λ t. if t then merged b a ∷ [] else b ∷ a ∷ []) e
 
+-- an area that doesn't go on with another stands behind it
 pub pair-false : (b a : Area) → goes_on b a ≡ false → pair_joined b a ≡ b ∷ a ∷ []
 pair-false b a e = ap (λ t. if t then merged b a ∷ [] else b ∷ a ∷ []) e
 
@@ -159,6 +167,7 @@ joined-leads x b [] a l =
     ]
 joined-leads x b (c ∷ rest) a l = l
 
+-- an area behind all others, joined to an area list, makes one with the kinds of both
 pub joined-kinds : (A : List Area) (a : Area) → IsAreaList A → IsFreeFrom A a.lo → IsInRange a →
     HasKinds (λ p. first_of (kind_at A p) (kind_at (a ∷ []) p)) (joined A a)
 joined-kinds [] a w free r = record { areas = (r, tt, tt); kinds_are = λ p. refl }
@@ -177,6 +186,7 @@ joined-kinds (b ∷ c ∷ rest) a w free r =
           ap (λ k. first_of k (kind_at (a ∷ []) p)) (sym (kind_at-cons b (c ∷ rest) p));
     }
 
+-- pieces in order behind an area list, joined to it, make one with the kinds of both
 pub join_all-kinds : (A pieces : List Area) (e : ℕ) → IsAreaList A → IsFreeFrom A e → IsInOrder e pieces →
     HasKinds (λ p. first_of (kind_at A p) (kind_at pieces p)) (join_all A pieces)
 join_all-kinds A [] e w free s = record { areas = w; kinds_are = λ p. sym (first_of-none (kind_at A p)) }
@@ -204,6 +214,7 @@ length-pair b a = elim (cases_Bool (goes_on b a)) [
   | inr e ↦ omega (arith, ap length (pair-false b a e))
 ]
 
+-- a list has at most one area more once one was joined to it
 pub length-joined : (A : List Area) (a : Area) → length (joined A a) ≤ length A + 1
 length-joined [] a = omega arith
 length-joined (b ∷ []) a = omega (arith, length-pair b a)

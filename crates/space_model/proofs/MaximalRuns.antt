@@ -13,10 +13,15 @@ use Rattle.space_model.proofs.FourWays.{after_member, before_member}
 
 -- a page of a kind lies in an area of that kind
 pub record IsAt (A : List Area) (p : ℕ) (k : Kind) : Type 0 where
+  -- the area
   pub area : Area
+  -- it is one of the list
   pub member : Contains A area
+  -- it starts at or below the page
   pub low : area.lo ≤ p
+  -- it ends above the page
   pub high : p < area.hi
+  -- it is of this kind
   pub kind : area.kind ≡ k
 
 at_later : (x : Area) (rest : List Area) (p : ℕ) (k : Kind) → IsAt rest p k → IsAt (x ∷ rest) p k
@@ -65,5 +70,6 @@ member_of_run A a w r =
     ] in
     subst (Contains A) (same_area b a low high at.kind) at.member
 
+-- the areas of an area list are exactly the maximal runs of its pages of one kind
 pub maximal_runs : (A : List Area) → IsAreaList A → AreasAreMaximalRuns A
 maximal_runs A w a = (run_of_member A a w, member_of_run A a w)

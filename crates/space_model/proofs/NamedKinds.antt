@@ -13,6 +13,7 @@ use Rattle.space_model.proofs.AreaKinds.{kind_at-here, kind_at-before, kind_at-a
 use Rattle.space_model.proofs.AreaKinds.Side.{before, inside, after}
 use Rattle.space_model.proofs.Changing.{within-before, within-inside, within-after}
 
+-- the kind of each page has named bits alone where those of the areas have
 pub named_at : (A : List Area) (p : ℕ) → HasNamedKinds A → IsNamedOption (kind_at A p)
 named_at [] p n = tt
 named_at (a ∷ rest) p n =
@@ -22,6 +23,7 @@ named_at (a ∷ rest) p n =
       | after h ↦ subst IsNamedOption (sym (kind_at-after a rest p h)) (named_at rest p (All-tail (λ x. IsNamedKind x.kind) a rest n))
     ]
 
+-- the areas of a list have named bits alone where the kinds of all pages have
 pub named_all : (A : List Area) → IsAreaList A → ((p : ℕ) → IsNamedOption (kind_at A p)) → HasNamedKinds A
 named_all [] w n = All-nil (λ x. IsNamedKind x.kind)
 named_all (a ∷ rest) w n =

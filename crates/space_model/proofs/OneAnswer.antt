@@ -162,6 +162,7 @@ place_one A (Unmap addr len) lo hi lo' hi' p q = (p.0 ∙ sym q.0, p.1 ∙ sym q
 place_one A (Protect addr len prot) lo hi lo' hi' p q = (p.0 ∙ sym q.0, p.1 ∙ sym q.1)
 place_one A (Fault addr access) lo hi lo' hi' p q = absurd p
 
+-- two lists that the change of a call's place may leave are one
 pub changed_one : (A : List Area) (c : Call) (lo hi lo' hi' : ℕ) (B C : List Area) → IsPlace A c lo hi → IsPlace A c lo' hi' →
     HasKinds (effect_of A c lo hi) B → HasKinds (effect_of A c lo' hi') C → B ≡ C
 changed_one A c lo hi lo' hi' B C p q k m =
@@ -169,6 +170,7 @@ changed_one A c lo hi lo' hi' B C p q k m =
     only_one B C k.areas m.areas (λ x.
     k.kinds_are x ∙ ap (λ y. effect_of A c y hi x) e.0 ∙ ap (λ y. effect_of A c lo' y x) e.1 ∙ sym (m.kinds_are x))
 
+-- two answers to a call have the same reply, and leave the same list
 pub one_answer : (A : List Area) (c : Call) (r s : Reply) (B C : List Area) → Answers A c r B → Answers A c s C → (r ≡ s) × (B ≡ C)
 one_answer A c r s B C (by_arguments e b) (by_arguments d b') = (let both : Some r ≡ Some s = sym e ∙ d in cc, b ∙ sym b')
 one_answer A c r s B C (by_arguments e b) (refused why u f d b') = cc

@@ -15,9 +15,12 @@ drop_at A i l = rw (add-one, drop-cons A i no_area) refl
 
 -- the areas that are left are in order and have the kinds from a page on
 pub record Remains (A left : List Area) (from : ℕ) : Type 0 where
+  -- the areas that are left are an area list
   pub areas : IsAreaList left
+  -- from the page on they give each page its kind
   pub kinds : (p : ℕ) → from ≤ p → kind_at left p ≡ kind_at A p
 
+-- at the start all areas are left
 pub remains_all : (A : List Area) (from : ℕ) → IsAreaList A → Remains A A from
 remains_all A from w = record { areas = w; kinds = λ p l. refl }
 
@@ -38,6 +41,7 @@ pub mapped_inside : (A : List Area) (a : Area) (left : List Area) (from p : ℕ)
     Remains A (a ∷ left) from → from ≤ p → a.lo ≤ p → p < a.hi → kind_at A p ≡ Some a.kind
 mapped_inside A a left from p r l low high = sym (r.kinds p l) ∙ kind_at-here a left p low high
 
+-- where no area is left, no page from there on is mapped
 pub free_last : (A : List Area) (from p : ℕ) → Remains A [] from → from ≤ p → kind_at A p ≡ None
 free_last A from p r l = sym (r.kinds p l)
 
@@ -56,16 +60,21 @@ lowest_is A a left lo hi r l h =
       free_below = λ p low high. free_before A a left lo p r low (omega arith);
     }
 
+-- where the next area starts at or above `hi`, no page from `lo` up to `hi` is mapped
 pub lowest_none : (A : List Area) (a : Area) (left : List Area) (lo hi : ℕ) →
     Remains A (a ∷ left) lo → hi ≤ max a.lo lo → IsUnmapped A lo hi
 lowest_none A a left lo hi r h p low high = free_before A a left lo p r low (omega arith)
 
 -- mapped_end: the pages so far are mapped
 pub record MappedSoFar (A left : List Area) (from end : ℕ) : Type 0 where
+  -- these areas are left from the end on
   pub remains : Remains A left end
+  -- the end isn't below the start
   pub above : from ≤ end
+  -- all pages up to the end are mapped
   pub mapped : IsMapped A from end
 
+-- where the next area starts at or below the end so far, the pages up to its own end are mapped too
 pub mapped_next : (A : List Area) (a : Area) (left : List Area) (from end : ℕ) →
     MappedSoFar A (a ∷ left) from end → a.lo ≤ end → MappedSoFar A left from (max end a.hi)
 mapped_next A a left from end m l =

@@ -275,6 +275,7 @@ keeps_counts A addr len prot lo hi a w lies l h b =
     let n = length-after A B addr len prot lo hi a w lies l k in
     (B, record { changed = k; areas = omega (arith, n, b); gaps = gaps-after A B addr len prot lo hi w k })
 
+-- a Protect within one area that keeps the counts keeps the rows that start at its ends
 pub keeps_borders : (A B : List Area) (addr len : ℕ) (prot : Prot) (lo hi : ℕ) (a : Area) → IsAreaList A → LiesIn A a lo hi →
     lo < hi → KeepsCounts A (Protect addr len prot) lo hi B → KeepsRows (kind_before A lo) a.kind (protected_kind prot a.kind) (kind_at A hi)
 keeps_borders A B addr len prot lo hi a w lies l k =
@@ -291,6 +292,7 @@ simple_in A addr len prot lo hi a e f w lies l h b =
     (subst (λ x. LiesIn A a x hi × ((B : List Area) × KeepsCounts A c x hi B)) e
     (lies, keeps_counts A addr len prot lo hi a w lies l h b))
 
+-- a simple Protect of pages within an area keeps the rows that start at its ends
 pub simple_borders : (A : List Area) (addr len : ℕ) (prot : Prot) (lo hi : ℕ) (a : Area) → lo ≡ page_of addr →
     hi ≡ end_page addr len → IsAreaList A → LiesIn A a lo hi → lo < hi → IsSimple A (Protect addr len prot) →
     KeepsRows (kind_before A lo) a.kind (protected_kind prot a.kind) (kind_at A hi)

@@ -237,6 +237,7 @@ decided_or_not : (o : Option Reply) → (o ≡ None) ⊎ ((r : Reply) × (o ≡ 
 decided_or_not None = inl refl
 decided_or_not (Some r) = inr (r, refl)
 
+-- each call has an answer on an area list
 pub some_answer : (A : List Area) (c : Call) → IsAreaList A → HasSomeAnswer A c
 some_answer A c w =
     elim (decided_or_not (plain_reply c)) [

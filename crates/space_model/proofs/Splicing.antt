@@ -23,6 +23,7 @@ use Rattle.space_model.proofs.Changing.{within-before, within-inside, within-aft
 use Rattle.space_model.proofs.FourWays.{starts_after, before_member}
 use Rattle.space_model.proofs.Highest.{member_between}
 
+-- the last part of an area list is an area list
 pub areas_right : (A B : List Area) → IsAreaList (A ++ B) → IsAreaList B
 areas_right [] B w = w
 areas_right (a ∷ A) B w = areas_right A B w.2
@@ -215,6 +216,7 @@ rows_parted front A back =
       gaps_back (end_of 0 front) A back,
     )
 
+-- the rows between the two cuts are at most all rows of the list
 pub rows_fewer : (front A back : List Area) (from to : ℕ) → from ≡ end_of 0 front → to ≡ start_of back →
     rows_between from A to ≤ row_count (front ++ (A ++ back))
 rows_fewer front A back from to f t =
@@ -222,6 +224,7 @@ rows_fewer front A back from to f t =
     (subst (λ y. rows_between (end_of 0 front) A y ≤ row_count (front ++ (A ++ back))) (sym t)
     (omega (arith, rows_parted front A back)))
 
+-- with other areas between the cuts, the rows of the list change by as many as those between the cuts
 pub rows_changed : (front A B back : List Area) (from to : ℕ) → from ≡ end_of 0 front → to ≡ start_of back →
     row_count (front ++ (A ++ back)) + rows_between from B to ≡ row_count (front ++ (B ++ back)) + rows_between from A to
 rows_changed front A B back from to f t =
@@ -270,6 +273,7 @@ splice_is A front touched back N first end whole f e =
     ap (λ x. x ++ (N ++ drop end A)) (take_at front (touched ++ back) first (sym f)) ∙
     ap (λ x. front ++ (N ++ x)) behind
 
+-- the list with the touched areas built anew, and its rows counted, is a plan of the call
 pub plan_of : (A front rest touched back N : List Area) (c : Call) (lo hi page first end rows : ℕ) → page ≡ lo - 1 → IsAreaList A →
     lo < hi → hi ≤ LIMIT → IsCutBy (λ a. a.hi) A page front rest →
     IsCutBy (λ a. a.lo) rest hi touched back → N ≡ changed_list touched c lo hi →

@@ -39,6 +39,7 @@ gaps_from-le : (e : ℕ) (A : List Area) → gaps_from e A ≤ length A + 1
 gaps_from-le e [] = omega (arith, gap_between-le e LIMIT)
 gaps_from-le e (a ∷ rest) = omega (arith, gap_between-le e a.lo, gaps_from-le a.hi rest)
 
+-- a list has at most twice as many rows as areas, and one more
 pub row_count-le : (A : List Area) → row_count A ≤ 2 * length A + 1
 row_count-le A = omega (arith, gaps_from-le 0 A)
 
@@ -65,10 +66,12 @@ fault-named_at o page access (Granted k) n h = subst IsNamedOption h.0 n
 fault-named_at None page access (Refused why) n h = subst IsNamedWhy (sym h) tt
 fault-named_at (Some k) page access (Refused why) n h = subst IsNamedWhy (sym h.1) n
 
+-- the reply to a fault names a kind with named bits alone, where those of the list are so
 pub fault-named : (A : List Area) (page : ℕ) (access : Access) (r : Reply) → HasNamedKinds A →
     AnswersFault (kind_at A page) page access r → IsNamedReply r
 fault-named A page access r n h = fault-named_at (kind_at A page) page access r (named_at A page n) h
 
+-- the reply that the kind of its page gives is the answer to a fault, and the list stays
 pub fault-answers : (A : List Area) (c : Call) (addr : ℕ) (access : Access) (r : Reply) → c ≡ Fault addr access →
     plain_reply c ≡ None → AnswersFault (kind_at A (page_of addr)) (page_of addr) access r → Answers A c r A
 fault-answers A c addr access (At a) e u h = absurd h

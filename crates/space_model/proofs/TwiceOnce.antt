@@ -56,6 +56,7 @@ protect_idempotent addr len prot (Some k) = refl
 unmap_not_done : (addr len : ℕ) → unmap_reply addr len ≡ Some Zero → ⊥
 unmap_not_done addr len e = grind (arith, nat_tests)
 
+-- an Unmap that was done is done again, and changes nothing then
 pub unmap_twice : (A : List Area) (addr len : ℕ) (s : Reply) (B C : List Area) →
     Answers A (Unmap addr len) Zero B → Answers B (Unmap addr len) s C → (s ≡ Zero) × (C ≡ B)
 unmap_twice A addr len s B C (by_arguments e b) second = absurd (unmap_not_done addr len e)
@@ -82,6 +83,7 @@ still_mapped A B addr len prot lo hi p k m l h none =
     still None s e = cc
     still (Some x) s e = cc
 
+-- so is a Protect
 pub protect_twice : (A : List Area) (addr len : ℕ) (prot : Prot) (s : Reply) (B C : List Area) →
     Answers A (Protect addr len prot) Zero B → Answers B (Protect addr len prot) s C → (s ≡ Zero) × (C ≡ B)
 protect_twice A addr len prot s B C (by_arguments e b) (by_arguments d b') = (let both : Some Zero ≡ Some s = sym e ∙ d in cc, b')

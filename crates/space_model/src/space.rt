@@ -43,8 +43,8 @@ impl Model for PlainSpace {
 
     ghost view = { λ s. s.areas.items };
 
-    ghost invariant = { λ s. IsAreaList s.areas.items × HasNamedKinds s.areas.items × (length s.areas.items < 2 ^ 30)
-        × (s.row_total ≡ row_count s.areas.items) };
+    ghost invariant = { λ s. IsAreaList s.areas.items × HasNamedKinds s.areas.items
+        × (length s.areas.items < 2 ^ 30) × (s.row_total ≡ row_count s.areas.items) };
 }
 
 impl PlainSpace {

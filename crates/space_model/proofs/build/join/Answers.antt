@@ -4,6 +4,7 @@ use Rattle.space_model.specs.Building.{joined}
 use Rattle.space_model.proofs.Joining.{joined-append, pair-true, pair-false}
 use Rattle.space_model.proofs.build.join.Goals as goal
 
+-- where the area goes on with the last, the lengthened one stands in its place
 pub returns-in_ok-push-in-Some : goal.returns-in_ok-push-in-Some
 returns-in_ok-push-in-Some c =
     let front = c.pop.new.self.items in
@@ -12,6 +13,7 @@ returns-in_ok-push-in-Some c =
     sym (joined-append front c.in-Some.last c.args.area) ∙
     ap (λ list. joined list c.args.area) (sym c.in-Some.ensures.items)
 
+-- where it doesn't, it stands behind the last
 pub returns-in_ok-push-in-Some-3 : goal.returns-in_ok-push-in-Some-3
 returns-in_ok-push-in-Some-3 c =
     let front = c.pop.new.self.items in

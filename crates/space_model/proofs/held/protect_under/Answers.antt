@@ -3,9 +3,11 @@ use Rattle.std.proofs.Common.{◌∙◌, sym, inr, true≢false}
 use Rattle.space_model.proofs.Simple.{member_in_range, simple_in, simple_borders}
 use Rattle.space_model.proofs.held.protect_under.Goals as goal
 
+-- the area that is widened is in range
 pub widened-requires : goal.widened-requires
 widened-requires c = member_in_range c.args.areas.now c.in-Some.area c.requires.in_order c.in-Some.ensures.member
 
+-- what is held, the area widened, fits a simple Protect
 pub returns-then-is_simple_in-clause-fits : goal.returns-then-is_simple_in-clause-fits
 returns-then-is_simple_in-clause-fits c =
     let span = c.of_valid-span.result in
@@ -15,6 +17,7 @@ returns-then-is_simple_in-clause-fits c =
     (c.is_simple_in.ensures.0 c.if-is_simple_in.true) in
     inr (c.in-Some.area, simple, c.widened.ensures)
 
+-- where the test says so, the Protect is simple, and an area is held
 pub returns-then-is_simple_in-clause-simple : goal.returns-then-is_simple_in-clause-simple
 returns-then-is_simple_in-clause-simple c =
     let span = c.of_valid-span.result in
@@ -24,6 +27,7 @@ returns-then-is_simple_in-clause-simple c =
     (c.is_simple_in.ensures.0 c.if-is_simple_in.true) in
     (λ _. (c.in-Some.area, simple), λ _. tt)
 
+-- where it doesn't, the Protect isn't simple, and no area is held
 pub returns-else-is_simple_in-clause-simple : goal.returns-else-is_simple_in-clause-simple
 returns-else-is_simple_in-clause-simple c =
     let span = c.of_valid-span.result in (

@@ -11,6 +11,7 @@ use Rattle.space_model.proofs.history.legal.Goals as goal
 one_more : (list : List Entry) (i : ℕ) (e : Entry) → i < length list → e ≡ get_or list i e → take (i + 1) list ≡ take i list ++ e ∷ []
 one_more list i e within is = take_more list i e within ∙ ap (λ x. take i list ++ x ∷ []) (sym is)
 
+-- an entry that isn't right is the first one with which the history isn't legal
 pub returns-then-not-right : goal.returns-then-not-right
 returns-then-not-right c =
     let A = c.args.start.now in
@@ -30,6 +31,7 @@ returns-then-not-right c =
           true≢false (sym (right.1 (last.0 ∙ count, same)) ∙ c.if-not-right.true);
     }
 
+-- with a right entry more the history is still legal, and leaves the new space
 pub loop-i-preserved : goal.loop-i-preserved
 loop-i-preserved c =
     let A = c.args.start.now in

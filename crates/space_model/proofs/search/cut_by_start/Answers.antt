@@ -3,6 +3,7 @@ use Rattle.std.proofs.lemmas.List.Sorted.{IsPartitionPoint-from_clause, IsPartit
 use Rattle.space_model.proofs.Halving.{starts_rise, cut_at}
 use Rattle.space_model.proofs.search.cut_by_start.Goals as goal
 
+-- the two parts are the areas that start at or below the page, and those that start above it
 pub returns : goal.returns
 returns c =
     let parted = IsPartitionedBy-leb (λ a. a.lo) c.args.areas.now c.args.page (starts_rise c.args.areas.now c.requires) in

@@ -4,6 +4,7 @@ use Rattle.space_model.proofs.Halving.{remains_cut}
 use Rattle.space_model.proofs.Searching.{remains_left, free_before}
 use Rattle.space_model.proofs.search.mapped_end.Goals as goal
 
+-- at the start no page has to be mapped, and the areas behind the cut are left
 pub loop-area-init : goal.loop-area-init
 loop-area-init c =
     record {
@@ -12,6 +13,7 @@ loop-area-init c =
       mapped = λ p l h. absurd (omega arith);
     }
 
+-- where the next area starts above the end, the page at the end isn't mapped
 pub returns-then-end-area-clause-missing : goal.returns-then-end-area-clause-missing
 returns-then-end-area-clause-missing c =
     let A = c.args.areas.now in

@@ -5,16 +5,19 @@ use Rattle.space_model.proofs.Splicing.{areas_right, spliced, plan_of}
 use Rattle.space_model.proofs.Stepping.{rows-fit}
 use Rattle.space_model.proofs.splice.planned.Goals as goal
 
+-- the areas behind the first cut are an area list
 pub cut_by_start-requires : goal.cut_by_start-requires
 cut_by_start-requires c =
     areas_right c.cut_by_end.result.0.now c.cut_by_end.result.1.now
     (subst IsAreaList c.cut_by_end.ensures.whole c.requires.in_order)
 
+-- the rows before are those of the three parts together
 pub recounted-rows-requires-clause-counted : goal.recounted-rows-requires-clause-counted
 recounted-rows-requires-clause-counted c =
     c.requires.counted ∙
     ap row_count (c.cut_by_end.ensures.whole ∙ ap (λ x. c.cut_by_end.result.0.now ++ x) c.cut_by_start.ensures.whole)
 
+-- the rows of the new list are few enough to count
 pub recounted-rows-requires-clause-fits : goal.recounted-rows-requires-clause-fits
 recounted-rows-requires-clause-fits c =
     let A = c.args.areas.now in
@@ -26,6 +29,7 @@ recounted-rows-requires-clause-fits c =
     (spliced A front c.cut_by_end.result.1.now c.cut_by_start.result.0.now back N c.args.call.now c.args.span.lo c.args.span.hi _
     c.saturating_sub.ensures c.requires.in_order c.args.span.ordered c.args.span.in_range c.cut_by_end.ensures c.cut_by_start.ensures c.in_ok-changed.ensures))
 
+-- the new areas between the cuts, with the rows counted, are a plan of the call
 pub returns : goal.returns
 returns c =
     let front = c.cut_by_end.result.0.now in

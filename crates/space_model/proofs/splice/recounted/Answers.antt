@@ -3,6 +3,7 @@ use Rattle.std.proofs.Common.{arith}
 use Rattle.space_model.proofs.Splicing.{rows_fewer, rows_changed}
 use Rattle.space_model.proofs.splice.recounted.Goals as goal
 
+-- the old rows between the cuts are few enough to count
 pub rows_between-requires : goal.rows_between-requires
 rows_between-requires c =
     omega (
@@ -12,6 +13,7 @@ rows_between-requires c =
       c.ranges.rows.fits,
     )
 
+-- they are at most all rows, so the subtraction fits
 pub overflow_sub-outside : goal.overflow_sub-outside
 overflow_sub-outside c =
     omega (
@@ -21,6 +23,7 @@ overflow_sub-outside c =
       c.rows_between.ensures,
     )
 
+-- the new rows between the cuts are few enough to count
 pub rows_between-requires-2 : goal.rows_between-requires-2
 rows_between-requires-2 c =
     omega (
@@ -29,6 +32,7 @@ rows_between-requires-2 c =
       c.requires.fits,
     )
 
+-- with them the sum still fits
 pub overflow_add-result : goal.overflow_add-result
 overflow_add-result c =
     omega (
@@ -41,6 +45,7 @@ overflow_add-result c =
       c.rows_between-2.ensures,
     )
 
+-- the sum is the rows of the new list
 pub returns : goal.returns
 returns c =
     omega (

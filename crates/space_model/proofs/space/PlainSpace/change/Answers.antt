@@ -12,12 +12,14 @@ use Rattle.space_model.proofs.Splicing.{plan_for}
 use Rattle.space_model.proofs.NamedKinds.{named-after}
 use Rattle.space_model.proofs.space.PlainSpace.change.Goals as goal
 
+-- where the plan has more than ROWS rows, the refusal for its rows is the answer
 pub returns-then-rows-gt-ROWS-clause-answer : goal.returns-then-rows-gt-ROWS-clause-answer
 returns-then-rows-gt-ROWS-clause-answer c =
     let plan = plan_for _ _ _ _ _ _ _ _ _ (c.as_slice-areas.ensures.value ∙ c.self.view_is) c.in_ok-plan.ensures in
     too_many_rows c.args.place.lo c.args.place.hi _ c.requires.undecided c.requires.place plan.list
     (subst (λ n. ROWS < n) plan.counted c.if-rows-gt-ROWS.true) (ap (λ n. Refused (Enomem (Rows n))) plan.counted) c.self.view_is
 
+-- the new list is an area list with named bits alone, few areas, and as many rows as were counted
 pub invariant_of-self-2 : goal.invariant_of-self-2
 invariant_of-self-2 c =
     let A = c.self.inside.areas.items in
@@ -32,6 +34,7 @@ invariant_of-self-2 c =
       counted,
     )
 
+-- the reply of the done call is the answer, with the new list
 pub returns-clause-answer : goal.returns-clause-answer
 returns-clause-answer c =
     let A = c.self.inside.areas.items in

@@ -9,6 +9,7 @@ use Rattle.space_model.specs.Answers.Answers.{refused}
 use Rattle.space_model.proofs.Stepping.{fault-answers, fault-named}
 use Rattle.space_model.proofs.space.PlainSpace.undecided_step.Goals as goal
 
+-- the refusal of a Map is the answer
 pub returns-in-Err-clause-answer : goal.returns-in-Err-clause-answer
 returns-in-Err-clause-answer c =
     let why = c.in-Err.why in
@@ -18,6 +19,7 @@ returns-in-Err-clause-answer c =
     (c.as_slice.ensures.value ∙ c.self.view_is) c.in-Err.ensures.refused))
     refl refl
 
+-- the refusal of a Protect for its lowest missing page is the answer
 pub returns-in-Some-clause-answer : goal.returns-in-Some-clause-answer
 returns-in-Some-clause-answer c =
     let page = c.in-Some.page in
@@ -31,6 +33,7 @@ returns-in-Some-clause-answer c =
     (subst (λ call. RefusesByState A call (Enomem (Missing page))) (sym c.in-Protect.is) (page, lowest, refl))
     refl refl
 
+-- the reply of a fault is the answer
 pub returns-in-Fault-clause-answer : goal.returns-in-Fault-clause-answer
 returns-in-Fault-clause-answer c =
     let page = page_of c.in-Fault.addr in
@@ -40,6 +43,7 @@ returns-in-Fault-clause-answer c =
     (c.as_slice-in-Fault.ensures.value ∙ c.self-in-Fault.view_is)
     (subst (λ kind. AnswersFault kind page c.in-Fault.access c.access_reply.result) c.kind_of.ensures c.access_reply.ensures))
 
+-- the kind that it names has named bits alone
 pub returns-in-Fault-clause-named : goal.returns-in-Fault-clause-named
 returns-in-Fault-clause-named c =
     let page = page_of c.in-Fault.addr in
