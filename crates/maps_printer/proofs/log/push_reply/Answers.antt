@@ -2,6 +2,7 @@ use Rattle.std.proofs.Common.{◌++◌, ap, ◌∙◌, append_assoc}
 use Rattle.maps_printer.specs.Words.{kind_text}
 use Rattle.maps_printer.proofs.log.push_reply.Goals as goal
 
+-- of a granted fault the word and the kind were added, which is its text
 pub returns-in-Granted-clause-text : goal.returns-in-Granted-clause-text
 returns-in-Granted-clause-text c =
     rw c.in-Granted.is

@@ -5,6 +5,7 @@ use Rattle.byte_ports.proofs.Pieces.{on_err}
 use Rattle.maps_printer.proofs.Waiting.{AppendsAllBut-flush_failed, lines_go_on, lines_done, lines_stop}
 use Rattle.maps_printer.proofs.maps.write_maps.Goals as goal
 
+-- with one area more its line is written or waits too, and there is room for the next
 pub loop-area-preserved : goal.loop-area-preserved
 loop-area-preserved g c = (
   lines_go_on area_line _ _ _ _ _ _ _ _ _ c.loop-area-test.true c.loop-area.invariant.0 c.push_area.ensures.text c.in_ok-make_room.ensures.moved,
@@ -12,12 +13,14 @@ loop-area-preserved g c = (
   omega arith,
 )
 
+-- where the sink failed while room was made, a first part of the maps was written
 pub returns-in_err-make_room-clause-failed_prefix :
     goal.returns-in_err-make_room-clause-failed_prefix
 returns-in_err-make_room-clause-failed_prefix g c =
     on_err _
     (lines_stop area_line _ _ _ _ _ _ _ _ c.loop-area-test.true c.loop-area.invariant.0 c.push_area.ensures.text c.in_err-make_room.ensures.failed_prefix)
 
+-- where it failed at the last flush, a first part of the maps was written
 pub returns-clause-failed_prefix : goal.returns-clause-failed_prefix
 returns-clause-failed_prefix g c =
     on_err_weaker c.flush.result (AppendsAllBut-flush_failed _

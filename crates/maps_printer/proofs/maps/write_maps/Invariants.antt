@@ -4,6 +4,7 @@ use Rattle.maps_printer.specs.Lines.{maps_text}
 use Rattle.byte_ports.specs.Bytes.{AppendsAllBut}
 use Rattle.maps_printer.proofs.maps.write_maps.Given as goal
 
+-- what holds before each area; the count of failed calls didn't fall
 abbrev pub invariant-loop-area : goal.invariant-loop-area
 invariant-loop-area g l =
     AppendsAllBut (g.K.Sink.contents l.fn.out) (g.K.Sink.contents l.out) (maps_text (take l.area-index l.areas)) l.buffer

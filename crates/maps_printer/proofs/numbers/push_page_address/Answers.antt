@@ -9,6 +9,7 @@ three_join : (old one two three a b c text : List ℕ) → one ≡ old ++ a → 
 three_join old one two three a b c text p q r whole =
     cc (append_assoc (old ++ a) b c, append_assoc old a (b ++ c), append_assoc a b c)
 
+-- the zeros, the page's number and the three zeros behind it are the address of the page
 pub returns-clause-text : goal.returns-clause-text
 returns-clause-text c =
     let start = c.write_hex-start.result in
