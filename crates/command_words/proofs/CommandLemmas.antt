@@ -195,12 +195,14 @@ written : (given : Given) (n : ℕ) (rest words : List (List ℕ)) → number_of
     → AreWritten (name_of given) (Some n) rest words → BeginsWith given rest words
 written given n rest words e in_range h = (in_range, subst (λ number. AreWritten (name_of given) number rest words) (sym e) h)
 
+-- a name and the text of its number, as two words, begin the words with that option
 pub apart_begins : (name value : List ℕ) (rest words : List (List ℕ)) (given : Given) → words ≡ name ∷ value ∷ rest
     → IsNumbered name value given → BeginsWith given rest words
 apart_begins name value rest words given e h =
     written given h.number rest words h.named.1 h.in_range
     (inl (e ∙ rw (h.named.0, h.text) refl))
 
+-- a word of a name, `=` and the text of its number begins the words with that option
 pub joined_begins : (word name value : List ℕ) (rest words : List (List ℕ)) (given : Given) → words ≡ word ∷ rest
     → name ≡ before_first is_equals word → value ≡ after_first is_equals word → position_or_len is_equals word < length word
     → IsNumbered name value given → BeginsWith given rest words
@@ -286,8 +288,11 @@ not_apart word value behind words e no_equals no_flag none given rest begins =
 
 -- what was asked for so far, and what these words ask for besides
 pub record LeftOver (before : Asked) (words : List (List ℕ)) (after : Asked) : Type 0 where
+  -- the options of these words
   pub given : List Given
+  -- the words are their spellings
   pub spelled : AreSpellings given words
+  -- of each kind, what was asked for and what they give is what is asked for in all
   pub asks : (kind : Kind) → asked_for kind before ++ filter_map (value_for kind) given ≡ asked_for kind after
 
 -- one option more was added
@@ -303,6 +308,7 @@ both_parts before middle after given more kind adds =
     cons_append None xs = refl
     cons_append (Some x) xs = refl
 
+-- what is left behind an option that was added is left before it too, with that option in front
 pub left_before : (before middle after : Asked) (given : Given) (rest words : List (List ℕ)) → Adds before given middle
     → BeginsWith given rest words → LeftOver middle rest after → LeftOver before words after
 left_before before middle after given rest words adds begins left = record {
@@ -313,11 +319,17 @@ left_before before middle after given rest words adds begins left = record {
 
 -- the options of words that aren't empty begin with one
 pub record First (before : Asked) (words : List (List ℕ)) (after : Asked) : Type 0 where
+  -- the first option
   pub given : Given
+  -- the words behind it
   pub rest : List (List ℕ)
+  -- the options of these
   pub more : List Given
+  -- the words begin with the first option
   pub begins : BeginsWith given rest words
+  -- and go on with the others
   pub spelled : AreSpellings more rest
+  -- of each kind, what was asked for and what all of them give is what is asked for in all
   pub asks : (kind : Kind) → asked_for kind before ++ filter_map (value_for kind) (given ∷ more) ≡ asked_for kind after
 
 first_with : (given : List Given) (before after : Asked) (words : List (List ℕ)) → 0 < length words → AreSpellings given words
@@ -333,9 +345,11 @@ first_with (given ∷ more) before after words some spelled asks = record {
   asks = asks;
 }
 
+-- where words aren't empty, what they ask for begins with one option
 pub first_left : (before after : Asked) (words : List (List ℕ)) → 0 < length words → LeftOver before words after → First before words after
 first_left before after words some left = first_with left.given before after words some left.spelled left.asks
 
+-- what is left before an option is left behind it, once it was added
 pub left_behind : (before middle after : Asked) (given : Given) (rest words : List (List ℕ)) → Adds before given middle
     → BeginsWith given rest words → 0 < length words → LeftOver before words after → LeftOver middle rest after
 left_behind before middle after given rest words adds begins some left =
@@ -375,6 +389,7 @@ at_most_one of_threads asked = of_option asked.threads
 at_most_one of_seed asked = of_option asked.seed
 at_most_one of_calls asked = of_option asked.calls
 
+-- words that begin with an option that was asked for already ask for nothing
 pub left_of_asked : (before after : Asked) (given : Given) (rest words : List (List ℕ)) → 0 < length words
     → BeginsWith given rest words → IsAsked before given → LeftOver before words after → ⊥
 left_of_asked before after given rest words some begins again left =
@@ -430,10 +445,12 @@ none_left (given ∷ more) before after spelled asks =
       | as_one n h is ↦ absurd (cc is)
     ]
 
+-- where no words are left, what was asked for is what all of them ask for
 pub left_of_nothing : (before after : Asked) (words : List (List ℕ)) → length words ≡ 0 → LeftOver before words after → before ≡ after
 left_of_nothing before after [] e left = none_left left.given before after left.spelled left.asks
 left_of_nothing before after (w ∷ ws) e left = absurd (omega arith)
 
+-- no words ask for nothing besides
 pub nothing_left : (asked : Asked) (words : List (List ℕ)) → length words ≡ 0 → LeftOver asked words asked
 nothing_left asked [] e = record { given = []; spelled = refl; asks = λ kind. append-nil (asked_for kind asked) }
 nothing_left asked (w ∷ ws) e = absurd (omega arith)
@@ -468,6 +485,7 @@ pub spells_nothing : (words : List (List ℕ)) → length words ≡ 0 → (comma
 spells_nothing words none command h =
     let size : length words ≡ length (h.name ∷ h.rest) = ap length h.whole in omega arith
 
+-- where nothing is asked for by the words behind the first, there is no command
 pub spells_none : (first : List ℕ) (behind words : List (List ℕ)) → words ≡ first ∷ behind
     → ((other : Asked) → DoAsk behind other → None ≡ Some other) → (command : Command) → Spells words command → ⊥
 spells_none first behind words e none command h =
@@ -515,6 +533,7 @@ threads_in_range : (words : List (List ℕ)) (asked : Asked) (value : Option ℕ
 threads_in_range words asked None h e = (omega arith, omega arith)
 threads_in_range words asked (Some n) h e = asked_in_range of_threads words asked n h (ap (λ (v : Option ℕ). option_to_list v) e)
 
+-- the numbers of a command of such words are in their ranges
 pub has_ranges : (name : List ℕ) (words : List (List ℕ)) (asked : Asked) → DoAsk words asked → (command : Command)
     → IsCommand name asked command → HasRanges command
 has_ranges name words asked h (Play options threads) is =
@@ -526,6 +545,7 @@ has_ranges name words asked h (Load seed threads calls) is =
     let (low, high) = asked_in_range of_threads words asked threads h (ap list is.4) in
     (asked_in_range of_seed words asked seed h (ap list is.3), low, high, asked_in_range of_calls words asked calls h (ap list is.5))
 
+-- what holds of an answer holds in each weaker form
 pub some_weaker : (answer : Option Command) (P Q : Command → Type 0) → ((command : Command) → P command → Q command) → IfSome answer P → IfSome answer Q
 some_weaker None P Q weaker h = h
 some_weaker (Some command) P Q weaker h = weaker command h
@@ -534,6 +554,7 @@ some_weaker (Some command) P Q weaker h = weaker command h
 pub one_command : (answer : Option Command) (first other : Command) → answer ≡ Some first → answer ≡ Some other → first ≡ other
 one_command answer first other p q = cc (p, q)
 
+-- an answer that is a command isn't none
 pub is_answer : (answer : Option Command) (command : Command) → answer ≡ Some command → IsNone answer → ⊥
 is_answer answer command p none = let yes : is_some answer ≡ true = ap is_some p in absurd (cc (yes, none))
 
@@ -545,6 +566,7 @@ nothing_asked of_threads = refl
 nothing_asked of_seed = refl
 nothing_asked of_calls = refl
 
+-- what is left over at the start, where nothing was asked for, is what all words ask for
 pub to_all : (words : List (List ℕ)) (after : Asked)
     → LeftOver (record { opening = false; log = false; threads = None; seed = None; calls = None }) words after → DoAsk words after
 to_all words after h = record {
@@ -553,6 +575,7 @@ to_all words after h = record {
   asks = λ kind. ap (λ (xs : List ℕ). xs ++ filter_map (value_for kind) h.given) (sym (nothing_asked kind)) ∙ h.asks kind;
 }
 
+-- and what all words ask for is left over at the start
 pub from_all : (words : List (List ℕ)) (after : Asked) → DoAsk words after
     → LeftOver (record { opening = false; log = false; threads = None; seed = None; calls = None }) words after
 from_all words after h = record {

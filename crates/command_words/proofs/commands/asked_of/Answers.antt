@@ -5,18 +5,21 @@ use Rattle.command_words.specs.declared.commands.Asked.{Asked}
 use Rattle.command_words.proofs.CommandLemmas.{LeftOver, left_before, left_behind, left_of_none, left_of_asked, left_of_nothing}
 use Rattle.command_words.proofs.commands.asked_of.Goals as goal
 
+-- where no option begins the rest, the words ask for nothing
 pub returns-in_err-head-clause-only : goal.returns-in_err-head-clause-only
 returns-in_err-head-clause-only c other h =
     let some : 0 < length c.loop-rest.rest.now = search rules in
     absurd (left_of_none c.loop-rest.asked other (map string_bytes c.loop-rest.rest.now) (simp length-map some)
     (c.in_err-head.ensures.none refl) (c.loop-rest.invariant.from other h))
 
+-- where the option was asked for already, the words ask for nothing
 pub returns-in_err-asked-clause-only : goal.returns-in_err-asked-clause-only
 returns-in_err-asked-clause-only c other h =
     let some : 0 < length c.loop-rest.rest.now = search rules in
     absurd (left_of_asked c.loop-rest.asked other c.in_ok-head.head.given _ (map string_bytes c.loop-rest.rest.now) (simp length-map some)
     c.in_ok-head.ensures.begins (c.in_err-asked.ensures.again refl) (c.loop-rest.invariant.from other h))
 
+-- with the option added, the words behind it still complete what all words ask for
 pub loop-rest-preserved : goal.loop-rest-preserved
 loop-rest-preserved c =
     let some : 0 < length c.loop-rest.rest.now = search rules in
@@ -34,6 +37,7 @@ loop-rest-preserved c =
           (simp length-map some) (c.loop-rest.invariant.from after h));
     }
 
+-- where no words are left, all words ask for what was asked for, and nothing else
 pub returns-clause-only : goal.returns-clause-only
 returns-clause-only c other h =
     let none : length c.loop-rest.rest.now ≡ 0 = search rules in

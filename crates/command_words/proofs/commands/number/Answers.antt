@@ -4,10 +4,12 @@ use Rattle.std.proofs.lemmas.Fmt.{parse-decimal}
 use Rattle.std.proofs.lemmas.Slice.Eq.{bytes_eq-Decides}
 use Rattle.command_words.proofs.commands.number.Goals as goal
 
+-- a text that isn't read as a number is the text of none of 32 bits
 pub returns-in_default-clause-none : goal.returns-in_default-clause-none
 returns-in_default-clause-none c _ n fits same =
     c.in_default.not-Ok n (parse-decimal 32 n c.args.text.now c.parse.result fits (omega arith) same c.parse.ensures.value.0)
 
+-- nor is one that is read but differs from the text of its number
 pub returns-else-eq-clause-none : goal.returns-else-eq-clause-none
 returns-else-eq-clause-none c _ n fits same =
     let read : c.parse.result ≡ Ok n = parse-decimal 32 n c.args.text.now c.parse.result fits (omega arith) same c.parse.ensures.value.0 in
