@@ -12,6 +12,7 @@ use Rattle.space_model.specs.Answers.StartsAt.{highest}
 use Rattle.space_model.specs.Answers.RefusesMap.{exists, no_gap}
 use Rattle.row_plans.specs.Planning.{is_mapped, IsLowestSuch, FreeAt, HighestPlace}
 
+-- no and yes are not one
 pub false_true : false ≡ true → ⊥
 false_true e = cc
 
@@ -32,17 +33,20 @@ module _ (A : List Area) (hint pages : ℕ) (flags : MapFlags) where
     free_below = λ p low high. such_none (kind_at A p) (l.none_below p low high);
   }
 
+  -- the lowest mapped page at the address refuses a Map that may not replace
   pub refuses_mapped : (page : ℕ) → NoReplace flags → IsLowestSuch (kind_at A) true hint (hint + pages) page → RefusesMap A hint pages flags (Eexist page)
   refuses_mapped page asks l = exists page asks (lowest_mapped page l) refl
 
   free_at : (start : ℕ) → FitsAt A pages start → FreeAt (kind_at A) pages start
   free_at start f = record { low = f.low; free = f.free }
 
+  -- where the hint doesn't fit, the highest place is where the Map puts its pages
   pub starts_highest : (start : ℕ) → Hints flags → ¬ FitsAt A pages hint → HighestPlace (kind_at A) pages (Some start) → StartsAt A hint pages flags start
   starts_highest start hints not h = highest hints not (record {
     fits = record { low = h.1.low; high = h.0; free = h.1.free };
     highest = λ other f. h.2 other f.high (free_at other f);
   })
 
+  -- where there is no place, a Map whose address is a hint is refused
   pub refuses_all : Hints flags → HighestPlace (kind_at A) pages None → RefusesMap A hint pages flags (Enomem (NoGap pages))
   refuses_all hints h = no_gap hints (λ start f. h start f.high (free_at start f)) refl

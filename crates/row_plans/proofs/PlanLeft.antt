@@ -64,10 +64,11 @@ rows_counted page [] kinds show = let e : page ≡ LIMIT = show in let b = gap_z
 rows_counted page (word ∷ rest) kinds show = let e : suc (length rest) ≡ 1 + length rest = omega arith in
     e ∙ row_counted page word rest kinds (row_kind word) refl show (rows_counted (rows_start rest) rest kinds show.4)
 
--- the areas that rows stand for are in order, and as many rows as the model counts
+-- the areas that a row list stands for are in order
 pub areas_in_order : (rows : List ℕ) → IsRowList rows → IsAreaList (areas_from rows)
 areas_in_order rows is = (are_next 0 rows (kind_at (areas_from rows)) is.show).areas
 
+-- a row list has as many rows as the model counts of its areas
 pub counted_rows : (rows : List ℕ) → IsRowList rows → length rows ≡ row_count (areas_from rows)
 counted_rows rows is = rows_counted 0 rows (kind_at (areas_from rows)) is.show
 
@@ -85,9 +86,11 @@ module _ (old new : List ℕ) (c : Call) (reply : Reply) (count : ℕ) (is : IsR
     shows = subst (λ (l : List ℕ). PlanShows (planned_rows old l) (kind_at (areas_from old))) (sym none) is;
   }
 
+  -- the plan of a call that its arguments decide is that reply and the rows as they are
   pub plan_plain : plain_reply c ≡ Some reply → IsPlan c reply count (planned_rows old new) (areas_from old)
   plan_plain decided = plan_same (by_arguments decided refl)
 
+  -- the plan of a call that the areas refuse is the refusal and the rows as they are
   pub plan_refused : (why : Why) → plain_reply c ≡ None → RefusesByState (areas_from old) c why → reply ≡ Refused why
       → IsPlan c reply count (planned_rows old new) (areas_from old)
   plan_refused why open_still refuses says = plan_same (refused why open_still refuses says refl)
@@ -114,6 +117,7 @@ module _ (old rows : List ℕ) (c : Call) (lo hi : ℕ) (is : IsRowList old) (no
   left_count : length rows ≡ row_count (areas_from rows)
   left_count = rows_counted 0 rows (effect_of (areas_from old) c lo hi) shown
 
+  -- where the changed rows are at most ROWS, the plan is the done reply and these rows
   pub plan_done : (reply : Reply) (count : ℕ) → 0 < length rows → length rows ≤ ROWS → All IsBareGap rows
       → reply ≡ done_reply c lo → count ≡ length rows → IsPlan c reply count (planned_rows old rows) (areas_from old)
   plan_done reply count some few gaps says counts = record {
@@ -130,6 +134,7 @@ module _ (old rows : List ℕ) (c : Call) (lo hi : ℕ) (is : IsRowList old) (no
         });
   }
 
+  -- where they are more than ROWS, the plan is the refusal that counts them, and the rows as they are
   pub plan_full : (new : List ℕ) (reply : Reply) (count : ℕ) → ROWS < length rows → new ≡ []
       → reply ≡ Refused (Enomem (Rows (length rows))) → count ≡ length old
       → IsPlan c reply count (planned_rows old new) (areas_from old)

@@ -67,6 +67,7 @@ module _ (page end : ℕ) (kind : Option Kind) (kinds : ℕ → Option Kind) (na
   put_last from word true is other show = put_same from word show (is refl)
   put_last from word false is other show = put_other from word show (other refl)
 
+  -- rows up to a page, with a stretch of one kind put behind them, show the kinds up to its end
   pub put_shows : (from : ℕ) (rows : List ℕ) → ShowTo from rows page kinds → ShowTo from (put rows page kind) end kinds
   put_shows from [] show = subst (λ (x : ℕ). ShowTo x (row_word page kind ∷ []) end kinds) (sym show) put_new
   put_shows from (word ∷ []) show = put_last from word (same_option (row_kind word) kind) (same_option-true (row_kind word) kind)
@@ -115,9 +116,11 @@ put_if (word ∷ []) page kind = refl
 put_if (word ∷ next ∷ rest) page kind = ap (λ l. word ∷ l) (put_if (next ∷ rest) page kind)
     ∙ inside word (next ∷ rest) (row_word page kind) (ends_with (next ∷ rest) kind)
 
+-- a stretch of the last row's kind adds no row
 pub put_kept : (rows : List ℕ) (page : ℕ) (kind : Option Kind) → ends_with rows kind ≡ true → put rows page kind ≡ rows
 put_kept rows page kind e = put_if rows page kind ∙ ap (λ b. cond b rows (rows ++ row_word page kind ∷ [])) e
 
+-- a stretch of another kind adds one row at the end
 pub put_more : (rows : List ℕ) (page : ℕ) (kind : Option Kind) → ends_with rows kind ≡ false → put rows page kind ≡ rows ++ row_word page kind ∷ []
 put_more rows page kind e = put_if rows page kind ∙ ap (λ b. cond b rows (rows ++ row_word page kind ∷ [])) e
 
@@ -129,11 +132,13 @@ last_at (word ∷ []) kind (suc n) e = absurd (omega arith)
 last_at (word ∷ next ∷ rest) kind zero e = absurd (omega arith)
 last_at (word ∷ next ∷ rest) kind (suc n) e = last_at (next ∷ rest) kind n (omega arith)
 
+-- whether the rows end with a kind is whether the last word's kind is the same
 pub last_ends : (rows : List ℕ) (kind : Option Kind) (last : ℕ) → 0 < length rows → last ≡ get_or rows (length rows - 1) 0
     → ends_with rows kind ≡ same_option (row_kind last) kind
 last_ends rows kind last more is = let e : length rows ≡ suc (length rows - 1) = omega arith in
     last_at rows kind (length rows - 1) e ∙ ap (λ w. same_option (row_kind w) kind) (sym is)
 
+-- where there is no row, they end with none
 pub none_ends : (rows : List ℕ) (kind : Option Kind) → length rows ≡ 0 → ends_with rows kind ≡ false
 none_ends [] kind e = refl
 none_ends (word ∷ rest) kind e = absurd (omega arith)
@@ -222,6 +227,7 @@ front_changed rows i kinds c lo hi le show =
     same_below 0 (take i rows) (rows_start (drop i rows)) kinds (changed kinds c lo hi)
     (λ p high. within-before lo hi p (new_kind c (kinds p)) (kinds p) (omega arith)) (front_shows i 0 rows kinds show)
 
+-- the rows behind the span show the changed kinds, which are the old ones there
 pub rest_changed : (rows : List ℕ) (i : ℕ) (kinds : ℕ → Option Kind) (c : Call) (lo hi : ℕ) → hi ≤ rows_start (drop i rows)
     → ShowFrom 0 rows kinds → ShowFrom (rows_start (drop i rows)) (drop i rows) (changed kinds c lo hi)
 rest_changed rows i kinds c lo hi le show =
@@ -235,6 +241,7 @@ pub rest_after : (rows more : List ℕ) (kind : Option Kind) → kind ≡ row_ki
 rest_after rows more kind is some other page kinds show then =
     rest_added rows more page kinds some (λ next rest e. ap (ends_with rows) (ap (λ l. row_kind (get_or l 0 0)) (sym e) ∙ sym is) ∙ other) show then
 
+-- where the rows end with the kind of the first row behind a page, that one is left out, and all kinds are shown
 pub rest_same : (rows more : List ℕ) (kind : Option Kind) → kind ≡ row_kind (get_or more 0 0) → IsNamedOption kind
     → 0 < length more → 0 < length rows → ends_with rows kind ≡ true → (page : ℕ) (kinds : ℕ → Option Kind)
     → ShowTo 0 rows page kinds → ShowFrom page more kinds → ShowTo 0 (rows ++ drop 1 more) LIMIT kinds

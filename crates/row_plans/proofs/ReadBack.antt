@@ -10,6 +10,7 @@ start_bits : (start prot : ℕ) (shared : Bool) → prot < 8 → (start * 32 + (
 start_bits start prot true named = omega arith
 start_bits start prot false named = omega arith
 
+-- the start of a written row reads back
 pub start_back : (start : ℕ) (kind : Option Kind) → IsNamedOption kind → row_start (row_word start kind) ≡ start
 start_back start None named = omega arith
 start_back start (Some kind) named = start_bits start (prot_bits kind.prot) kind.shared named
@@ -28,6 +29,7 @@ said_kind start prot true named = let w = start * 32 + (16 + 8 + prot) in
 said_kind start prot false named = let w = start * 32 + (16 + 0 + prot) in
     said_is (w / 16 % 2) (w / 8 % 2) (w % 8) 1 0 prot (omega arith) (omega arith) (omega arith)
 
+-- and so does its kind
 pub kind_back : (start : ℕ) (kind : Option Kind) → IsNamedOption kind → row_kind (row_word start kind) ≡ kind
 kind_back start None named = let w = start * 32 + 0 in said_is (w / 16 % 2) (w / 8 % 2) (w % 8) 0 0 0 (omega arith) (omega arith) (omega arith)
 kind_back start (Some kind) named = said_kind start (prot_bits kind.prot) kind.shared named

@@ -16,6 +16,7 @@ use Rattle.row_plans.specs.RowWords.{row_start, row_kind, row_word}
 use Rattle.row_plans.specs.RowLists.{rows_start, DiffersFrom, ShowFrom, with_row, areas_from, gap_rows, rows_from, IsBareGap}
 use Rattle.row_plans.proofs.ReadBack.{start_back, kind_back}
 
+-- an option isn't none and a kind at once
 pub some_none : (k : Kind) (o : Option Kind) → o ≡ None → o ≡ Some k → ⊥
 some_none k o n e = cc
 
@@ -35,6 +36,7 @@ length-from page (a ∷ rest) =
     let r = length-from a.hi rest in let g = length-gap page a.lo in
     let e = length-append (gap_rows page a.lo) (row_word a.lo (Some a.kind) ∷ rows_from a.hi rest) in omega arith
 
+-- the row words of an area list are as many as its rows
 pub length-rows : (A : List Area) → length (rows_from 0 A) ≡ row_count A
 length-rows A = length-from 0 A
 
@@ -119,6 +121,7 @@ bare_gap lo hi = elim (nat_lt lo hi) as (λ b. All IsBareGap (cond b (row_word l
   | false ↦ All-nil IsBareGap
 ]
 
+-- the gaps among the row words of an area list have their last five bits 0
 pub bare_from : (page : ℕ) (A : List Area) → HasNamedKinds A → All IsBareGap (rows_from page A)
 bare_from page [] named = bare_gap page LIMIT
 bare_from page (a ∷ rest) named =
@@ -130,8 +133,11 @@ bare_from page (a ∷ rest) named =
 
 -- what the areas of rows are
 pub record AreNext (page : ℕ) (rows : List ℕ) (kinds : ℕ → Option Kind) (A : List Area) : Type 0 where
+  -- they are an area list
   pub areas : IsAreaList A
+  -- none starts below the page
   pub above : IsAbove page A
+  -- from the page up to LIMIT they give these kinds
   pub same : (p : ℕ) → page ≤ p → p < LIMIT → kind_at A p ≡ kinds p
 
 leads_to : (a : Area) (A : List Area) → IsAreaList A → IsAbove a.hi A → kind_at A a.hi ≢ Some a.kind → LeadsTo a A
@@ -150,6 +156,7 @@ below_limit : (page word : ℕ) (rest : List ℕ) (kinds : ℕ → Option Kind) 
 below_limit page word [] kinds show = show.1
 below_limit page word (v ∷ rest) kinds show = let r = below_limit (row_start v) v rest kinds show.4 in let h = show.1 in omega arith
 
+-- rows that show kinds from a page on begin at or below LIMIT
 pub starts_low : (page : ℕ) (rows : List ℕ) (kinds : ℕ → Option Kind) → ShowFrom page rows kinds → page ≤ LIMIT
 starts_low page [] kinds show = omega arith
 starts_low page (w ∷ rest) kinds show = let l = below_limit page w rest kinds show in omega arith
@@ -191,6 +198,7 @@ one_more page word rest kinds A (Some k) is show next =
       ];
     }
 
+-- the areas of rows that show kinds from a page on are in order, start no lower, and have these kinds
 pub are_next : (page : ℕ) (rows : List ℕ) (kinds : ℕ → Option Kind) → ShowFrom page rows kinds → AreNext page rows kinds (areas_from rows)
 are_next page [] kinds show = record { areas = tt; above = tt; same = λ p from below. absurd (omega arith) }
 are_next page (word ∷ rest) kinds show = one_more page word rest kinds (areas_from rest) (row_kind word) refl show
@@ -207,12 +215,17 @@ areas_back rows A show areas =
 
 -- what one row of those that show kinds says
 pub record RowSays (rows : List ℕ) (kinds : ℕ → Option Kind) (i : ℕ) : Type 0 where
+  -- it starts below LIMIT
   pub below : row_start (get_or rows i 0) < LIMIT
+  -- its pages, up to where the next row starts, have its kind
   pub within : (p : ℕ) → row_start (get_or rows i 0) ≤ p → p < LIMIT
       → (i + 1 < length rows → p < row_start (get_or rows (i + 1) 0)) → kinds p ≡ row_kind (get_or rows i 0)
+  -- the next row starts higher
   pub rises : i + 1 < length rows → row_start (get_or rows i 0) < row_start (get_or rows (i + 1) 0)
+  -- and is of another kind
   pub differs : i + 1 < length rows → row_kind (get_or rows i 0) ≢ row_kind (get_or rows (i + 1) 0)
 
+-- each row of those that show kinds says of its pages which kind they have
 pub row_says : (page : ℕ) (rows : List ℕ) (kinds : ℕ → Option Kind) (i : ℕ) → ShowFrom page rows kinds → i < length rows → RowSays rows kinds i
 row_says page [] kinds i show more = absurd (omega arith)
 row_says page (w ∷ []) kinds zero show more = let s = show.0 in record {

@@ -16,10 +16,15 @@ use Rattle.row_plans.proofs.RowLists.{starts_low}
 
 -- what one row of those that show kinds says of its pages
 pub record RowPages (rows : List ℕ) (kinds : ℕ → Option Kind) (i start end : ℕ) (kind : Option Kind) : Type 0 where
+  -- the rows from this one on start at its start
   pub begins : rows_start (drop i rows) ≡ start
+  -- its end is where the next row starts, or LIMIT
   pub ends : end ≡ rows_start (drop (i + 1) rows)
+  -- it has a page
   pub some : start < end
+  -- it ends at or below LIMIT
   pub low : end ≤ LIMIT
+  -- its pages have its kind
   pub all : (p : ℕ) → start ≤ p → p < end → kinds p ≡ kind
 
 row_pages_at : (page : ℕ) (rows : List ℕ) (kinds : ℕ → Option Kind) (i : ℕ) → ShowFrom page rows kinds → i < length rows
@@ -39,6 +44,7 @@ row_pages_at page (w ∷ rest) kinds (suc i) show lt =
     subst (λ (n : ℕ). RowPages (w ∷ rest) kinds (suc i) (row_start (get_or rest i 0)) (rows_start (drop n (w ∷ rest))) (row_kind (get_or rest i 0))) (sym e)
     (record { begins = r.begins; ends = ap (λ n. rows_start (drop n (w ∷ rest))) (sym e); some = r.some; low = r.low; all = r.all })
 
+-- a row whose word was read has its pages from its start up to where the next row starts
 pub row_pages : (rows : List ℕ) (kinds : ℕ → Option Kind) (i word start end : ℕ) (kind : Option Kind) → ShowFrom 0 rows kinds
     → i < length rows → word ≡ get_or rows i 0 → start ≡ row_start word → kind ≡ row_kind word
     → end ≡ rows_start (drop (i + 1) rows) → RowPages rows kinds i start end kind
@@ -46,6 +52,7 @@ row_pages rows kinds i word start end kind show lt w s k e =
     subst (λ (z : ℕ × ℕ × Option Kind). RowPages rows kinds i z.0 z.1 z.2)
     (λ j. (sym (s ∙ ap row_start w) j, sym e j, sym (k ∙ ap row_kind w) j)) (row_pages_at 0 rows kinds i show lt)
 
+-- behind the last row the next one starts at LIMIT
 pub ends_all : (rows : List ℕ) (i : ℕ) → length rows ≤ i → rows_start (drop i rows) ≡ LIMIT
 ends_all [] zero le = refl
 ends_all [] (suc i) le = refl
@@ -94,6 +101,7 @@ row_before_by : (rows : List ℕ) (kinds : ℕ → Option Kind) (i : ℕ) → Sh
 row_before_by rows kinds zero show lt more = let z = first_at_zero rows kinds show lt in absurd (omega arith)
 row_before_by rows kinds (suc i) show lt more = row_before_at 0 rows kinds i show lt
 
+-- the page before a row isn't of its kind
 pub row_before : (rows : List ℕ) (kinds : ℕ → Option Kind) (i word start : ℕ) (kind : Option Kind) → ShowFrom 0 rows kinds
     → i < length rows → word ≡ get_or rows i 0 → start ≡ row_start word → kind ≡ row_kind word → 0 < start
     → kinds (start - 1) ≢ kind
@@ -118,6 +126,7 @@ module _ (kinds : ℕ → Option Kind) (pages start end : ℕ) (kind : Option Ki
         ],
       )
 
+  -- where so many pages don't fit into a row, no place ends above the row's start
   pub ends_before : (kind ≡ None → max start 16 + pages ≤ end → ⊥) → NoneEndsAbove kinds pages start
   ends_before no_fit s fits f =
       let e : s + pages ≤ end = ended s fits f in
@@ -126,6 +135,7 @@ module _ (kinds : ℕ → Option Kind) (pages start end : ℕ) (kind : Option Ki
         | inr ge ↦ ge
       ]
 
+  -- where they fit, the place at the row's end is the highest
   pub ends_here : kind ≡ None → max start 16 + pages ≤ end → end ≤ LIMIT → HighestPlace kinds pages (Some (end - pages))
   ends_here free fits low = (
     omega arith,
@@ -142,12 +152,14 @@ pub first_row : (rows : List ℕ) (kinds : ℕ → Option Kind) → ShowFrom 0 r
 first_row [] kinds show = let none : 0 ≡ LIMIT = show in absurd (omega arith)
 first_row (w ∷ rest) kinds show = (omega arith, show.0)
 
+-- where the rows left start below LIMIT, there is one
 pub row_there : (rows : List ℕ) (i : ℕ) → rows_start (drop i rows) < LIMIT → i < length rows
 row_there rows i low = elim (cases_lt i (length rows)) [
   | inl lt ↦ lt
   | inr ge ↦ let e = ends_all rows i ge in absurd (omega arith)
 ]
 
+-- a row doesn't start before the one before it
 pub next_start : (rows : List ℕ) (kinds : ℕ → Option Kind) (i : ℕ) → ShowFrom 0 rows kinds → rows_start (drop i rows) ≤ rows_start (drop (i + 1) rows)
 next_start rows kinds i show = elim (cases_lt i (length rows)) [
   | inl lt ↦ let r = row_pages_at 0 rows kinds i show lt in let a = r.begins in let b = r.some in omega arith

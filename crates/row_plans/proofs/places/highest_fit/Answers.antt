@@ -5,6 +5,7 @@ use Rattle.row_plans.specs.RowLists.{rows_start, ShowFrom}
 use Rattle.row_plans.proofs.RowPages.{RowPages, last_pages, row_before, first_row, ends_all, ends_before, ends_here, no_place}
 use Rattle.row_plans.proofs.places.highest_fit.Goals as goal
 
+-- at the start each place ends at or below LIMIT
 pub rows-init : goal.rows-init
 rows-init c = record {
   there = search rules;
@@ -12,6 +13,7 @@ rows-init c = record {
   ended = λ kinds show s fits f. fits;
 }
 
+-- the row that was read has a page, and ends at or below LIMIT
 pub fits_in-requires-clause-ends : goal.fits_in-requires-clause-ends
 fits_in-requires-clause-ends c =
     let r = last_pages c.args.rows.now c.requires.shows.0 c.rows.i c.read_row-start.result.0 c.rows.end c.read_row-start.result.1
@@ -19,6 +21,7 @@ fits_in-requires-clause-ends c =
     c.rows.invariant.end_is in
     (r.some, r.low)
 
+-- where the pages fit into the row, the place at its end is the highest
 pub returns-then-fits_in : goal.returns-then-fits_in
 returns-then-fits_in c = λ kinds show.
     let rows = c.args.rows.now in
@@ -35,6 +38,7 @@ returns-then-fits_in c = λ kinds show.
     c.read_row-start.ensures.start c.read_row-start.ensures.kind in
     ends_here kinds c.args.pages start c.rows.end kind r.all before c.requires.some r.some (c.rows.invariant.ended kinds show) fit.0 fit.1 r.low
 
+-- where they don't, no place ends above the row's start
 pub rows-preserved : goal.rows-preserved
 rows-preserved c =
     let rows = c.args.rows.now in
@@ -57,6 +61,7 @@ rows-preserved c =
           (c.rows.invariant.ended kinds show) (c.fits_in.ensures.no_fit not_fit);
     }
 
+-- where no row is left, there is no place
 pub returns : goal.returns
 returns c = λ kinds show.
     let rows = c.args.rows.now in

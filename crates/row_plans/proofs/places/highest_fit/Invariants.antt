@@ -13,5 +13,6 @@ invariant-rows l = record {
   ended : (kinds : ℕ → Option Kind) → ShowFrom 0 l.rows kinds → NoneEndsAbove kinds l.pages l.end;
 }
 
+-- with each turn one row less is left
 abbrev pub decreases-rows : goal.decreases-rows
 decreases-rows l = l.i

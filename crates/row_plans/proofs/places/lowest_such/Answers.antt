@@ -3,6 +3,7 @@ use Rattle.std.specs.Prelude.{IsTrue, IsFalse}
 use Rattle.row_plans.proofs.RowPages.{row_pages, none_more, lowest_here}
 use Rattle.row_plans.proofs.places.lowest_such.Goals as goal
 
+-- the row's first page, or `lo` where that is higher, is the lowest one if it is below `hi`; else there is none
 pub returns-then-is_found : goal.returns-then-is_found
 returns-then-is_found c = λ kinds show.
     let rows = c.args.rows.now in
@@ -15,6 +16,7 @@ returns-then-is_found c = λ kinds show.
     lowest_here rows kinds c.args.mapped c.args.lo c.args.hi c.rows.i c.read_row-start.result.0 c.row_end-end.result c.max.result
     c.read_row-start.result.1 c.below.result r f.0 f.1 (c.rows.invariant kinds show) (search rules) c.below.ensures
 
+-- where the row has no such page, none is before the next row
 pub rows-preserved : goal.rows-preserved
 rows-preserved c = λ kinds show.
     let rows = c.args.rows.now in

@@ -9,5 +9,6 @@ use Rattle.row_plans.proofs.places.lowest_such.Given as goal
 abbrev pub invariant-rows : goal.invariant-rows
 invariant-rows l = (kinds : ℕ → Option Kind) → ShowFrom 0 l.rows kinds → NoneSuch kinds l.mapped l.lo (rows_start (drop l.i l.rows))
 
+-- with each turn one row less is left
 abbrev pub decreases-rows : goal.decreases-rows
 decreases-rows l = length l.rows - l.i

@@ -8,6 +8,7 @@ use Rattle.row_plans.specs.RowLists.{areas_from}
 use Rattle.row_plans.proofs.PlanLeft.{plan_done, plan_full}
 use Rattle.row_plans.proofs.plan.changed.Goals as goal
 
+-- where the changed rows are more than ROWS, the refusal that counts them is the plan
 pub returns-then-rows-gt-ROWS-clause-plan : goal.returns-then-rows-gt-ROWS-clause-plan
 returns-then-rows-gt-ROWS-clause-plan c =
     let old = c.args.old.now in
@@ -21,6 +22,7 @@ returns-then-rows-gt-ROWS-clause-plan c =
     c.unchanged.result.reply c.unchanged.result.rows many c.unchanged.ensures.none
     (c.unchanged.ensures.reply ∙ ap (λ n. Refused (Enomem (Rows n))) count) c.unchanged.ensures.rows
 
+-- where they aren't, the changed rows and the reply are the plan
 pub returns-clause-plan : goal.returns-clause-plan
 returns-clause-plan c =
     let old = c.args.old.now in

@@ -9,6 +9,7 @@ use Rattle.row_plans.proofs.PutRows.{front_changed, rest_changed}
 use Rattle.row_plans.proofs.RowPages.{row_pages, before_span}
 use Rattle.row_plans.proofs.planning.change_rows.Goals as goal
 
+-- the copied rows before the span have bare gaps
 pub put_part-requires-clause-gaps : goal.put_part-requires-clause-gaps
 put_part-requires-clause-gaps c =
     let old = c.args.old.now in
@@ -16,6 +17,7 @@ put_part-requires-clause-gaps c =
     let items : c.copy_rows.new.rows.items ≡ take first old = search rules in
     subst (All IsBareGap) (sym items) (All-take IsBareGap first old c.requires.gaps)
 
+-- the rows before the span, those of it and those behind it show the changed kinds up to LIMIT
 pub returns-clause-shows : goal.returns-clause-shows
 returns-clause-shows c = λ kinds show.
     let old = c.args.old.now in

@@ -5,6 +5,7 @@ use Rattle.space_model.specs.Starts.{same_option}
 use Rattle.row_plans.proofs.PutRows.{last_ends}
 use Rattle.row_plans.proofs.planning.ends_with.Goals as goal
 
+-- whether the rows end with a kind is told by the last word
 pub returns : goal.returns
 returns c =
     let rows = c.args.rows.now in

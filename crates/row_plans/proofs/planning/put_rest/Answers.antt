@@ -5,6 +5,7 @@ use Rattle.row_plans.specs.Planning.{ShowTo, ends_with}
 use Rattle.row_plans.proofs.PutRows.{rest_after, rest_same}
 use Rattle.row_plans.proofs.planning.put_rest.Goals as goal
 
+-- where the first row continues the last, the others without it show the kinds up to LIMIT
 pub returns-then-ends_with-clause-shows : goal.returns-then-ends_with-clause-shows
 returns-then-ends_with-clause-shows c = λ page kinds show then.
     let rows = c.args.rows.now.items in
@@ -15,6 +16,7 @@ returns-then-ends_with-clause-shows c = λ page kinds show then.
     subst (λ (l : List ℕ). ShowTo 0 l LIMIT kinds) (sym (c.copy_rows.ensures.items ∙ ap (λ l. rows ++ l) (take_rest more 1)))
     (rest_same rows more kind c.read_row-kind.ensures.kind c.read_row-kind.ensures.named first c.requires.some same page kinds show then)
 
+-- where it doesn't, all of them do
 pub returns-else-ends_with-clause-shows : goal.returns-else-ends_with-clause-shows
 returns-else-ends_with-clause-shows c = λ page kinds show then.
     let rows = c.args.rows.now.items in

@@ -8,6 +8,7 @@ use Rattle.row_plans.specs.Planning.{ShowTo, changed}
 use Rattle.row_plans.proofs.RowPages.{RowPages, row_pages, row_there, next_start, in_span, behind_span}
 use Rattle.row_plans.proofs.planning.put_span.Goals as goal
 
+-- with one old row more, its pages in the span are put with their changed kind
 pub rows-preserved : goal.rows-preserved
 rows-preserved c =
     let old = c.args.old.now in
@@ -49,6 +50,7 @@ rows-preserved c =
           (subst (λ (x : ℕ). ShowTo 0 c.rows.rows.items x (changed kinds call lo hi)) start (inv.shows kinds show before));
     }
 
+-- with what is left of the last row the rows show the changed kinds up to the next old row
 pub returns-clause-shows : goal.returns-clause-shows
 returns-clause-shows c = λ kinds show before.
     let old = c.args.old.now in

@@ -22,5 +22,6 @@ invariant-rows l = record {
       ShowTo 0 l.rows.items (min l.at l.span.hi) (changed kinds l.call l.span.lo l.span.hi);
 }
 
+-- with each turn one old row less is left
 abbrev pub decreases-rows : goal.decreases-rows
 decreases-rows l = length l.old - l.next
