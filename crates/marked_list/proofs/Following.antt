@@ -31,6 +31,7 @@ met_from first later q owner held le m = record {
   conflicts = m.conflicts;
 }
 
+-- an exchange that was lost in a later part of the call was lost in the call
 pub lost_from : {P : Type 0} (first later : ℕ) (q : SeatPart P) (Kind : Step → Type 0) (place expected found : ℕ) → first ≤ later
     → IsLost later q Kind place expected found → IsLost first q Kind place expected found
 lost_from first later q Kind place expected found le l =
@@ -46,6 +47,7 @@ lost_from first later q Kind place expected found le l =
       differ = l.differ;
     }
 
+-- an answer whose cause is in a later part of the call has it in the call
 pub answers_from : {P : Type 0} (first later : ℕ) (own : Own) (q : SeatPart P) (a : Walked) → first ≤ later → Answers later own q a → Answers first own q a
 answers_from first later own q Place le x = x
 answers_from first later own q (Conflict owner range mode) le x = (met_from first later q owner (record { range = range; mode = mode }) le x.0, x.1, x.2)
@@ -57,11 +59,13 @@ pub answers_on : {P : Type 0} (first later : ℕ) (own now : Own) (q : SeatPart 
     → Answers later now q a → Answers first own q a
 answers_on first later own now q a le e x = subst (λ (o : Own). Answers first o q a) e (answers_from first later now q a le x)
 
+-- what one look came to, for a call that began earlier, before which own node and count of nodes stayed
 pub outcome_on : {P : Type 0} (first later : ℕ) (v w : View) (q : SeatPart P) (o : Option Walked) → first ≤ later → w.own ≡ v.own
     → seen_of w.cursor ≡ seen_of v.cursor → Outcome later w q o → Outcome first v q o
 outcome_on first later v w q None le own seen g = record { stands = g.stands; own = g.own ∙ own; seen = g.seen ∙ ap (λ n. n + 1) seen }
 outcome_on first later v w q (Some a) le own seen x = (answers_on first later v.own w.own q a le own x.0, x.1)
 
+-- a walk that was begun in the call is still one that was, after more steps of the same walk
 pub new_on : {P : Type 0} (first : ℕ) (q r : SeatPart P) → IsNewWalk first q → IsSameWalk q r → q.trace.taken ≤ r.trace.taken → IsNewWalk first r
 new_on first q r new same le = let s = same new.0 new.1 in let f = new.2 in let b = new.3 in let e = s.2 in (s.0, s.1, omega arith, omega arith)
 

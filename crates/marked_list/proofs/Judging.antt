@@ -53,6 +53,7 @@ module _ {P : Type 0} (p : SeatPart P) (st : StandsAt p.core) where
   walk_line : IsLine p.seats p.number p.core Walk walk_plan
   walk_line = walk (suc st.node) st.inside.odd st.inside.hand (ap (walk_cell p.core.own) st.is ∙ ap (λ (o : Option ℕ). option_map suc o) st.at)
 
+  -- a cursor at a node may load that node's next word
   pub may_walk : Enables p Walk
   may_walk = enables p Walk walk_plan walk_line
 
@@ -66,6 +67,7 @@ module _ {P : Type 0} (p : SeatPart P) (st : StandsAt p.core) where
     core_next : q.core ≡ record p.core { cursor = Some next_cursor }
     core_next = m.core ∙ ap (λ (o : Option Cursor). walked p.core o w) st.is
 
+    -- after it the cursor knows that word
     pub next_known : KnowsNext q.core w
     next_known = subst (λ (v : View). KnowsNext v w) (sym core_next)
         (record {
@@ -81,6 +83,7 @@ module _ {P : Type 0} (p : SeatPart P) (st : StandsAt p.core) where
           next = refl;
         })
 
+    -- the load leaves the cursor at its node, and all else as it was
     pub next_loaded : IsLoad p q
     next_loaded = record {
       on = on_load;
@@ -98,9 +101,11 @@ module _ {P : Type 0} (p : SeatPart P) (st : StandsAt p.core) where
         on_load = on_made rested p q Walk walk_plan w m (free_go p.core.own st.own) (ap (λ (v : View). v.epoch) plan_is)
             (subst (IsSamePools p.core) (sym plan_is) (same_pools p.core (Some next_cursor))) (ap (λ (v : View). v.hand) plan_is ∙ st.inside.hand)
 
+    -- the record takes the load as the one at which the cursor's node was found
     pub next_walked : q.trace.walked ≡ p.trace.taken
     next_walked = m.walked
 
+    -- where the word that was loaded has no mark, the node is another seat's, or the own linked one
     pub next_others : (seats : ℕ) → Told seats p Walk w → w % 2 ≡ 0 → IsElsewhere q
     next_others seats told even c y is node =
         let same : next_cursor ≡ c = let e = sym (ap (λ (v : View). v.cursor) core_next) ∙ is in cc in
@@ -118,6 +123,7 @@ module _ {P : Type 0} (p : SeatPart P) (n : ℕ) (k : KnowsNext p.core n) (even 
   lo_line : IsLine p.seats p.number p.core ReadLo lo_plan
   lo_line = read_lo k.stands.cursor k.stands.node n k.stands.is k.stands.at k.next even
 
+  -- a cursor that knows an unmarked next word may load its node's lower end
   pub may_read_lo : Enables p ReadLo
   may_read_lo = enables p ReadLo lo_plan lo_line
 
@@ -131,6 +137,7 @@ module _ {P : Type 0} (p : SeatPart P) (n : ℕ) (k : KnowsNext p.core n) (even 
     core_lo : q.core ≡ record p.core { cursor = Some lo_cursor }
     core_lo = lo_made.core
 
+    -- after it the cursor knows that end
     pub lo_known : KnowsLo q.core n w
     lo_known = subst (λ (v : View). KnowsLo v n w) (sym core_lo)
         (record {
@@ -150,6 +157,7 @@ module _ {P : Type 0} (p : SeatPart P) (n : ℕ) (k : KnowsNext p.core n) (even 
           lo = refl;
         })
 
+    -- the load leaves the cursor at its node, and all else as it was
     pub lo_loaded : IsLoad p q
     lo_loaded = record {
       on = on_made rested p q ReadLo lo_plan w lo_made (free_go p.core.own k.stands.own) refl (same_pools p.core (Some lo_cursor)) k.stands.inside.hand;
@@ -160,9 +168,11 @@ module _ {P : Type 0} (p : SeatPart P) (n : ℕ) (k : KnowsNext p.core n) (even 
       taken = lo_made.taken;
     }
 
+    -- the step at which the cursor's node was found stays
     pub lo_walked : q.trace.walked ≡ p.trace.walked
     lo_walked = lo_made.walked
 
+    -- and that the node is another seat's, or the own linked one
     pub lo_others : IsElsewhere p → IsElsewhere q
     lo_others others c y is node =
         let same : lo_cursor ≡ c = let e = sym (ap (λ (v : View). v.cursor) core_lo) ∙ is in cc in
@@ -290,6 +300,7 @@ module _ {P : Type 0} (p : SeatPart P) (n lo : ℕ) (k : KnowsLo p.core n lo) (e
   hi_line : IsLine p.seats p.number p.core ReadHi hi_plan
   hi_line = read_hi st.cursor st.node n lo st.is st.at k.knows.next even k.lo (judges_go p.core.own st.own)
 
+  -- a cursor that knows its node's lower end may load the higher one
   pub may_read_hi : Enables p ReadHi
   may_read_hi = enables p ReadHi hi_plan hi_line
 
@@ -300,13 +311,16 @@ module _ {P : Type 0} (p : SeatPart P) (n lo : ℕ) (k : KnowsLo p.core n lo) (e
     abbrev verdict : Verdict
     verdict = verdict_of p.core.own lo w
 
+    -- the judgement leaves what a call that walks leaves
     pub judged_on : IsOn p q
     judged_on = on_made rested p q ReadHi hi_plan w hi_made (free_go p.core.own st.own) (judged_epoch p.core st.cursor st.node n verdict)
         (judged_pools p.core st.cursor st.node n verdict) (judged_hand p.core st.cursor st.node n verdict ∙ st.inside.hand)
 
+    -- it is a step of the same walk
     pub judged_walk : IsSameWalk p q
     judged_walk = same_walk rested p q ReadHi hi_plan w hi_made (ap is_some st.is)
 
+    -- it is one step
     pub judged_taken : q.trace.taken ≡ p.trace.taken + 1
     judged_taken = hi_made.taken
 
@@ -314,6 +328,7 @@ module _ {P : Type 0} (p : SeatPart P) (n lo : ℕ) (k : KnowsLo p.core n lo) (e
       hi_at : (line_for p ReadHi).place ≡ hi_place p.seats st.node
       hi_at = ap (λ (x : Plan). x.place) (line_is p ReadHi hi_plan hi_line)
 
+      -- the two ends that were loaded are those of a range
       pub judged_range : IsRange lo (w / 2)
       judged_range = found_range p w st.cursor st.node lo (told.moment (λ x. x)) hi_at st.is st.at k.lo
 
@@ -410,6 +425,7 @@ module _ {P : Type 0} (p : SeatPart P) (n lo : ℕ) (k : KnowsLo p.core n lo) (e
         by_verdict Stop e = stop e
         by_verdict Conflict e = conflict e
 
+        -- what the judgement left of the cursor is what one look comes to
         pub judged_outcome : Outcome p.trace.walked p.core q (judgement_at q.core.own q.core.cursor lo w)
         judged_outcome = by_verdict verdict refl
 
@@ -421,6 +437,7 @@ module _ {P : Type 0} (p : SeatPart P) (n lo : ℕ) (k : KnowsLo p.core n lo) (e
       abbrev seen_held : ℕ → Held
       seen_held low = record { range = record { lo = low; hi = w / 2 }; mode = mode_of w }
 
+      -- the node that a scan goes past is in the record, with its owner, its range and its mode
       pub scan_seen : IsSeen p.trace.walked q ((st.cursor.cur / 2 - 1) / 16) (seen_held lo)
       scan_seen = record {
         met = record { owner = (st.cursor.cur / 2 - 1) / 16; held = seen_held lo; step = p.trace.walked };
@@ -436,6 +453,7 @@ module _ {P : Type 0} (p : SeatPart P) (n lo : ℕ) (k : KnowsLo p.core n lo) (e
       scan_judged = more_judged rested p q ReadHi hi_plan w hi_made refl (ap is_some st.is)
           (ap (λ (o : Own). is_some (hi_judged p.core st.cursor st.node n (verdict_of o lo w)).cursor) bare)
 
+      -- and the scan has no own node after it
       pub past_own : q.core.own ≡ Nothing
       past_own = ap (λ (v : View). v.own) core_past ∙ ap (λ (o : Own). own_at o n) bare
 

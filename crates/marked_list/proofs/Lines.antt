@@ -15,9 +15,11 @@ use Rattle.epoch_pools.specs.Record.{met_after, lost_by, expected_by, looked_wit
 use Rattle.epoch_pools.specs.Running.{Enables, line_for, part_after, pass_kept}
 use Rattle.marked_list.specs.Leaves.{IsSamePools, IsOn, IsCall, IsSameWalk, HasJudged}
 
+-- a step that has a line in the step table is enabled
 pub enables : {P : Type 0} (p : SeatPart P) (step : Step) (plan : Plan) → IsLine p.seats p.number p.core step plan → Enables p step
 enables p step plan line = ap is_some (plan_of_line p.seats p.number p.core step plan line)
 
+-- and the plan by which it is made is that of the line
 pub line_is : {P : Type 0} (p : SeatPart P) (step : Step) (plan : Plan) → IsLine p.seats p.number p.core step plan → line_for p step ≡ plan
 line_is p step plan line = ap (λ (o : Option Plan). unwrap_or o (loads 0 (λ _. p.core))) (plan_of_line p.seats p.number p.core step plan line)
 
@@ -34,6 +36,7 @@ pub record Made {P : Type 0} (rested : P → P) (p q : SeatPart P) (step : Step)
   pub lost : q.trace.lost ≡ lost_by p.trace step plan.place (expected_by p.core step) found
   pub looked : q.trace.looked ≡ looked_with p.trace p.core.cursor (plan.view found).cursor (is_judging step) (gained_by p.core (plan.view found))
 
+-- a step that has a line leaves what the plan of the line says
 pub made_by : {P : Type 0} (rested : P → P) (p q : SeatPart P) (step : Step) (plan : Plan) (found : ℕ)
     → IsLine p.seats p.number p.core step plan → q ≡ part_after rested p step found → Made rested p q step plan found
 made_by {P} rested p q step plan found line made =
@@ -69,6 +72,7 @@ judged_on t (Some b) (Some c) j g e l is there = by_looked t.looked is
     by_looked None e' = absurd (cc)
     by_looked (Some k) e' = let same : k ≡ l = cc in (_, refl, ap (λ (x : Looked). x.step) same, ap (λ (x : Looked). if j then x.judged + 1 else x.judged) same)
 
+-- a step that judges no node leaves the count of judgements
 pub judges_none : (t : Record) (b now : Option Cursor) (g : Bool) → is_some b ≡ true → (l : Looked) → t.looked ≡ Some l
     → (m : Looked) × (looked_with t b now false g ≡ Some m) × (m.step ≡ l.step) × (m.judged ≡ l.judged + 0)
 judges_none t None now g e l is = absurd (cc)
@@ -77,6 +81,7 @@ judges_none t (Some b) (Some c) g e l is = let r = judged_on t (Some b) (Some c)
     (r.0, r.1, r.2, (let z : l.judged ≡ l.judged + 0 = omega arith in r.3 ∙ z))
 
 module _ {P : Type 0} (rested : P → P) (p q : SeatPart P) (step : Step) (plan : Plan) (found : ℕ) (m : Made rested p q step plan found) where
+  -- the same of a step with its plan
   pub same_judged : is_judging step ≡ false → is_some p.core.cursor ≡ true → HasJudged 0 p q
   same_judged none there l is =
       let r = judges_none p.trace p.core.cursor (plan.view found).cursor (gained_by p.core (plan.view found)) there l is in (
@@ -87,6 +92,7 @@ module _ {P : Type 0} (rested : P → P) (p q : SeatPart P) (step : Step) (plan 
         r.3,
       )
 
+  -- a step that judges a node, and leaves a cursor, adds one to the count of judgements
   pub more_judged : is_judging step ≡ true → is_some p.core.cursor ≡ true → is_some (plan.view found).cursor ≡ true → HasJudged 1 p q
   more_judged one there now l is =
       let r = judged_on p.trace p.core.cursor (plan.view found).cursor true (gained_by p.core (plan.view found)) there l is now in (
@@ -97,10 +103,12 @@ module _ {P : Type 0} (rested : P → P) (p q : SeatPart P) (step : Step) (plan 
         r.3,
       )
 
+  -- a step with a cursor is a step of the walk that made the cursor
   pub same_walk : is_some p.core.cursor ≡ true → IsSameWalk p q
   same_walk there l is = let r = same_looked p.trace p.core.cursor (plan.view found).cursor (is_judging step)
       (gained_by p.core (plan.view found)) there l is in (r.0, m.looked ∙ r.1, r.2)
 
+  -- a step of a seat that holds nothing, whose plan keeps epoch and pools, leaves what a call that walks leaves
   pub on_made : held_at p.core.own ≡ None → (plan.view found).epoch ≡ p.core.epoch → IsSamePools p.core (plan.view found)
       → (plan.view found).hand ≡ None → IsOn p q
   on_made free epoch pools hand = record {
@@ -114,6 +122,7 @@ module _ {P : Type 0} (rested : P → P) (p q : SeatPart P) (step : Step) (plan 
     taken = let t = m.taken in omega arith;
   }
 
+  -- a step of a seat that holds nothing leaves what a call of one step leaves
   pub call_made : held_at p.core.own ≡ None → IsCall 1 p q
   call_made free = record {
     number = m.number;
@@ -145,5 +154,6 @@ on_on p q r a b = record {
       passed = b.passed ∙ a.passed;
     }
 
+-- two calls of one walk after each other are of one walk
 pub walk_on_walk : {P : Type 0} (p q r : SeatPart P) → IsSameWalk p q → IsSameWalk q r → IsSameWalk p r
 walk_on_walk p q r a b l is = let s = a l is in let t = b s.0 s.1 in (t.0, t.1, t.2 ∙ s.2)

@@ -33,6 +33,7 @@ use Rattle.marked_list.proofs.Lines.{enables, Made, made_by, pass_stays, same_lo
 use Rattle.marked_list.proofs.Following.{lost_from}
 use Rattle.marked_list.proofs.Unlinking.{gone_looked, lost_made}
 
+-- two calls of one step each are a call of two steps
 pub call_on : {P : Type 0} (p q r : SeatPart P) → IsCall 1 p q → IsCall 1 q r → IsCall 2 p r
 call_on p q r a b = record {
   number = b.number ∙ a.number;
@@ -42,6 +43,7 @@ call_on p q r a b = record {
   taken = let x = a.taken in let y = b.taken in omega arith;
 }
 
+-- two calls that look at no more nodes, after each other, look at no more nodes
 pub look_on_look : {P : Type 0} (p q r : SeatPart P) → IsSameLook p q → IsSameLook q r → IsSameLook p r
 look_on_look p q r a b = (b.0 ∙ a.0, walk_on_walk p q r a.1 b.1)
 
@@ -78,6 +80,7 @@ module _ {P : Type 0} (p : SeatPart P) (n lo : ℕ) (may : MayFill p.core n) whe
   lo_line : IsLine p.seats p.number p.core (FillLo lo) lo_plan
   lo_line = fill_lo may.own lo may.is may.aimed may.cursor
 
+  -- a node that was just taken may be given its lower end
   pub may_fill_lo : Enables p (FillLo lo)
   may_fill_lo = enables p (FillLo lo) lo_plan lo_line
 
@@ -97,6 +100,7 @@ module _ {P : Type 0} (p : SeatPart P) (n lo : ℕ) (may : MayFill p.core n) whe
     hi_line : IsLine q.seats q.number q.core (FillHi hi mode) hi_plan
     hi_line = fill_hi half lo hi mode (ap (λ (v : View). v.own) core_lo) refl less most may.aimed (ap (λ (v : View). v.cursor) core_lo ∙ may.cursor)
 
+    -- and then its higher end, with the mode
     pub may_fill_hi : Enables q (FillHi hi mode)
     may_fill_hi = enables q (FillHi hi mode) hi_plan hi_line
 
@@ -104,11 +108,13 @@ module _ {P : Type 0} (p : SeatPart P) (n lo : ℕ) (may : MayFill p.core n) whe
       hi_made : Made rested q r (FillHi hi mode) hi_plan u
       hi_made = made_by rested q r (FillHi hi mode) hi_plan u hi_line last
 
+      -- after both the own node has the range and the mode, and all else of the view stays
       pub filled_core : r.core ≡ record p.core { own = Filling n (Some lo) (Some hi) mode None }
       filled_core =
           hi_made.core ∙ (ap (λ (v : View). record v { own = Filling half.node (Some lo) (Some hi) mode half.aimed }) core_lo
           ∙ (λ i. record p.core { own = Filling (may.node i) (Some lo) (Some hi) mode (may.aimed i) }))
 
+      -- the two are a call of two steps
       pub filled_call : IsCall 2 p r
       filled_call = call_on p q r (call_made rested p q (FillLo lo) lo_plan w lo_made (ap held_at may.is))
           (call_made rested q r (FillHi hi mode) hi_plan u hi_made (ap (λ (v : View). held_at v.own) core_lo))
@@ -124,9 +130,11 @@ module _ {P : Type 0} (p : SeatPart P) (may : MayAim p.core) where
   aim_line : IsLine p.seats p.number p.core Aim aim_plan
   aim_line = aim may.own.node may.own.lo may.own.hi (cursor_word p.core.cursor) may.own.is may.own.low may.own.high (aims p.core.cursor may.place)
 
+  -- a node with both ends may be aimed at the cursor's word, or at the end where there is no cursor
   pub may_aim : Enables p Aim
   may_aim = enables p Aim aim_plan aim_line
 
+  -- after that it is aimed there, and all else of the view stays
   pub aimed_is : (rested : P → P) (q : SeatPart P) (w : ℕ) → q ≡ part_after rested p Aim w → IsHandView p → IsAimed p q
   aimed_is rested q w made view =
       let m = made_by rested p q Aim aim_plan w aim_line made in
@@ -161,6 +169,7 @@ module _ {P : Type 0} (p q : SeatPart P) (a : IsAimed p q) where
     link_line : IsLine q.seats q.number q.core Link link_plan
     link_line = link full may.place.cursor may.own.lo may.own.hi own_link cursor_link may.own.low may.own.high refl may.place.even may.place.place
 
+    -- a node that was aimed at the word of a cursor at its place may be linked there
     pub may_link : Enables q Link
     may_link = enables q Link link_plan link_line
 
@@ -175,9 +184,11 @@ module _ {P : Type 0} (p q : SeatPart P) (a : IsAimed p q) where
       gone_by true = refl
       gone_by false = refl
 
+      -- aim and link leave the count of nodes that the walk looked at
       pub link_look : IsHandView q → IsSameLook p r
       link_look view = look_on_look p q r a.look (same_look rested q r Link link_plan w link_made view (inl (gone_by (w == may.place.cursor.cur))))
 
+      -- they are a call of two steps
       pub link_call : IsCall 2 p r
       link_call = call_on p q r a.call (call_made rested q r Link link_plan w link_made (ap held_at own_link))
 
@@ -185,6 +196,7 @@ module _ {P : Type 0} (p q : SeatPart P) (a : IsAimed p q) where
         same_place : d ≡ may.place.cursor
         same_place = let e : ◌≡◌ {A = Option Cursor} (Some d) (Some may.place.cursor) = sym is ∙ cursor_link in cc
 
+        -- where the exchange found the cursor's word, the node is linked with the validation of its mode to do
         pub link_done : w ≡ d.cur → r.core ≡ record p.core { own = linked_own todo_of p.core.own; cursor = None }
         link_done e =
             link_made.core ∙ (ap linked_by (eq-eqb _ _ (e ∙ ap (λ (x : Cursor). x.cur) same_place))
@@ -195,6 +207,7 @@ module _ {P : Type 0} (p q : SeatPart P) (a : IsAimed p q) where
             }) a.core
             ∙ ap (λ (o : Own). record p.core { own = o; cursor = None }) (linked_is todo_of p.core.own may.own)))
 
+        -- where it found another, that is in the record, and the node is aimed and not linked
         pub link_lost : w ≢ d.cur → (s : ℕ) → s ≡ r.seats → (l : Lost) → l.place ≡ cell_place s (cell_of d.prev) → l.expected ≡ d.cur → l.found ≡ w
             → IsLost p.trace.taken r (λ kind. kind ≡ Link) l.place l.expected l.found
             × (r.core ≡ record p.core { own = aimed_own (cursor_word p.core.cursor) p.core.own; cursor = None })
@@ -222,6 +235,7 @@ module _ {P : Type 0} (p q : SeatPart P) (a : IsAimed p q) where
     quick_line : IsLine q.seats q.number q.core QuickLink quick_plan
     quick_line = quick_link ended own.lo own.hi own_quick own.low own.high refl (ap (λ (v : View). v.epoch % 2) a.core ∙ even)
 
+    -- a node that was aimed at the end, outside the epoch, may be linked by the fast path
     pub may_quick_link : Enables q QuickLink
     may_quick_link = enables q QuickLink quick_plan quick_line
 
@@ -232,15 +246,18 @@ module _ {P : Type 0} (p q : SeatPart P) (a : IsAimed p q) where
       abbrev quick_by : Bool → View
       quick_by b = if b then quick_linked q.core ended.node own.lo own.hi ended.mode else q.core
 
+      -- aim and quick link are a call of two steps
       pub quick_call : IsCall 2 p r
       quick_call = call_on p q r a.call (call_made rested q r QuickLink quick_plan w quick_made (ap held_at own_quick))
 
+      -- where the head was empty the range is held
       pub quick_done : w ≡ 0 → r.core ≡ record p.core { own = linked_own (λ _. Done) p.core.own }
       quick_done e =
           quick_made.core ∙ (ap quick_by (eq-eqb _ _ e)
           ∙ (ap (λ (v : View). record v { own = Linked ended.node (record { lo = own.lo; hi = own.hi }) ended.mode Done }) a.core
           ∙ ap (λ (o : Own). record p.core { own = o }) (linked_is (λ _. Done) p.core.own own)))
 
+      -- where the head was another, that is in the record, and the node is aimed and not linked
       pub quick_lost : w ≢ 0 → (l : Lost) → l.place ≡ 0 → l.expected ≡ 0 → l.found ≡ w
           → IsLost p.trace.taken r (λ kind. kind ≡ QuickLink) l.place l.expected l.found × (r.core ≡ record p.core { own = aimed_own 0 p.core.own })
       quick_lost far l placed wanted had = (
@@ -264,6 +281,7 @@ module _ {P : Type 0} (is_at_rest : P → Type 0) (p : SeatPart P) (may : MayMar
   mark_line : IsLine p.seats p.number p.core Mark mark_plan
   mark_line = mark may.node may.is
 
+  -- marking the own node gives its range back where it is held, and leaves the record's other parts
   pub mark_call : (rested : P → P) (q : SeatPart P) (w : ℕ) → q ≡ part_after rested p Mark w → IsHandView p → IsMarkCall rested p q
   mark_call rested q w made view =
       let m = made_by rested p q Mark mark_plan w mark_line made in
@@ -287,6 +305,7 @@ module _ {P : Type 0} (is_at_rest : P → Type 0) (p : SeatPart P) (may : MayQui
   back_line : IsLine p.seats p.number p.core QuickUnlink back_plan
   back_line = quick_unlink may.node may.is may.held may.hand
 
+  -- a held node of a seat that owes no node its home may be unlinked by the fast path
   pub may_quick_unlink : Enables p QuickUnlink
   may_quick_unlink = enables p QuickUnlink back_plan back_line
 
@@ -304,6 +323,7 @@ module _ {P : Type 0} (is_at_rest : P → Type 0) (p : SeatPart P) (may : MayQui
     held_own = ap held_at may.is ∙ ap (λ t. held_at (Linked may.node.node may.node.range may.node.mode t)) may.held
 
     module _ (n : ℕ) (is_node : n ≡ may.node.node) where
+      -- where the head was that of the node alone, the range is given back and the pass is rested
       pub back_done : w ≡ 2 * suc n + 1 → IsQuickCall p q
           × ((k : Listed) → p.core.own ≡ listed k → q.core ≡ quick_unlinked p.core k.node) × (q.pass ≡ rested p.pass)
       back_done e =
@@ -314,6 +334,7 @@ module _ {P : Type 0} (is_at_rest : P → Type 0) (p : SeatPart P) (may : MayQui
             back_made.pass ∙ (λ i. pass_kept rested (held_own i) (held_at (won i).own) p.pass),
           )
 
+      -- where the head was another, that is in the record, and the range is still held
       pub back_lost : w ≢ 2 * suc n + 1 → (l : Lost) → l.place ≡ 0 → l.expected ≡ 2 * suc n + 1 → l.found ≡ w
           → IsQuickCall p q × IsLost p.trace.taken q (λ kind. kind ≡ QuickUnlink) l.place l.expected l.found × (q.core ≡ p.core) × (q.pass ≡ p.pass)
       back_lost far l placed wanted had =

@@ -25,6 +25,7 @@ use Rattle.marked_list.specs.Scanning.{IsAtNode, IsAtLast, IsScanning, IsResting
 use Rattle.marked_list.proofs.Stepping.{nodes_seen}
 use Rattle.marked_list.proofs.Following.{lost_from}
 
+-- a hand's view has one note for each seat
 pub notes_are : {P : Type 0} (q : SeatPart P) → IsHandView q → length q.core.notes ≡ q.seats
 notes_are q view = view.sound.sized.notes
 
@@ -35,6 +36,7 @@ judged_on_from count p q c is view j =
     let l = view.looked c is in let m = j l.0 l.1 in
     ap judged_in m.1 ∙ (m.3 ∙ ap (λ (o : Option Looked). judged_in o + count) (sym l.1))
 
+-- where nothing was judged the count of judgements stays
 pub judged_same_from : {P : Type 0} (p q : SeatPart P) (c : Cursor) → p.core.cursor ≡ Some c → IsHandView p → HasJudged 0 p q
     → judged_in q.trace.looked ≡ judged_in p.trace.looked
 judged_same_from p q c is view j = let e = judged_on_from 0 p q c is view j in omega arith
@@ -58,6 +60,7 @@ module _ {P : Type 0} (first : ℕ) (p q : SeatPart P) (bare : p.core.own ≡ No
       counts : IsAtEnd q.core.cursor → nodes_in q.trace.looked ≤ 16 * q.seats → seen_of q.core.cursor ≤ 16 * length q.core.notes
       counts e le = let n = notes_are q view in let s = nodes_seen q view e.0 e.1 in let z = ap seen_of e.1 in omega arith
 
+  -- a walk without an own node has none at its end
   pub own_at_last : Outcome first p.core q (Some Place) → q.core.own ≡ Nothing
   own_at_last x = let a : Arrives Nothing q.core = subst (λ (o : Own). Arrives o q.core) bare x.0 in a.0
 
@@ -86,6 +89,7 @@ module _ {P : Type 0} (first : ℕ) (p q : SeatPart P) (bare : p.core.own ≡ No
   passes_out before (Lost l) inside judged x = (x.0.0, judged, short x.1 (x.0.1 ∙ bare), x.0.2)
   passes_out before (Long visits) inside judged x = absurd (let n = short x.1 (x.0.1 ∙ bare) in let s = x.0.2.0 in omega arith)
 
+  -- nor has it one after any other answer
   pub own_out : (a : Walked) → Outcome first p.core q (Some a) → q.core.own ≡ Nothing
   own_out Place x = own_at_last x
   own_out (Conflict owner range mode) x = x.0.1 ∙ bare
@@ -131,6 +135,7 @@ sees_later first p q r (Some a) st view load le x =
     passes_later first q.trace.taken (judged_in p.trace.looked) (judged_in q.trace.looked) r a le
     (judged_same_from p q st.cursor st.is view load.judged) x
 
+-- nor where it goes on
 pub goes_bare : {P : Type 0} (p q : SeatPart P) → p.core.own ≡ Nothing → GoesOn p.core q.core → q.core.own ≡ Nothing
 goes_bare p q bare g = g.own ∙ bare
 
@@ -159,9 +164,11 @@ module _ {P : Type 0} (p : SeatPart P) (view : IsHandView p) (rests : IsResting 
   scanning = ⊎_elim (λ (n : p.core.cursor ≡ None). absurd (let e : ◌≡◌ {A = Option Cursor} (Some c) None = sym is ∙ n in cc))
       (λ (s : IsScanning p.core). s) rests
 
+  -- a scan that rests with its cursor at word 0 is at the end of the list
   pub rests_last : c.cur ≡ 0 → IsAtLast p.core
   rests_last z = ⊎_elim (λ (n : IsAtNode p.core). absurd (node_not_end p.core c is z n.stands)) (λ (l : IsAtLast p.core). l) scanning.at
 
+  -- one whose cursor is at another word is at a node
   pub rests_node : c.cur ≢ 0 → IsAtNode p.core
   rests_node far = ⊎_elim (λ (n : IsAtNode p.core). n) (λ (l : IsAtLast p.core). absurd (far (end_is p.core c is l.end))) scanning.at
 
@@ -174,6 +181,7 @@ module _ {P : Type 0} (p : SeatPart P) (view : IsHandView p) (rests : IsResting 
       let last = rests_last z in
       (last, passed_is, (let n = nodes_seen p view c is in let s = ap seen_of is in let l = last.seen in let t = notes_are p view in omega arith))
 
+  -- where the cursor has looked at as many nodes as it may, the answer is Long, without a step
   pub passes_long : (most : ℕ) → most ≡ 16 * p.seats + 1 → c.cur ≢ 0 → most ≤ c.seen → Passes p p (TooLong most)
   passes_long most many far reached =
       let node = rests_node far in let s = ap seen_of is in let l = node.seen in let t = notes_are p view in
@@ -183,6 +191,7 @@ module _ {P : Type 0} (p : SeatPart P) (view : IsHandView p) (rests : IsResting 
   pub passes_on : (q : SeatPart P) (a : Passed) → PassesFrom p.trace.taken (judged_in p.trace.looked) q a → Passes p q a
   passes_on q a x = subst (λ (n : ℕ). PassesFrom p.trace.taken n q a) passed_is x
 
+  -- a cursor that has looked at fewer nodes than it may has room for one more
   pub few_seen : (most : ℕ) → most ≡ 16 * p.seats + 1 → c.seen < most → seen_of p.core.cursor ≤ 16 * p.seats
   few_seen most many less = let s = ap seen_of is in omega arith
 
@@ -190,22 +199,28 @@ module _ {P : Type 0} (p : SeatPart P) (view : IsHandView p) (rests : IsResting 
   pub seen_all : (most : ℕ) → most ≡ 16 * p.seats + 1 → c.seen < most → seen_of p.core.cursor ≢ 16 * p.seats + 1
   seen_all most many less e = let s = ap seen_of is in omega arith
 
+  -- a cursor at the end of the list is at word 0
   pub end_cur : IsAtEnd p.core.cursor → c.cur ≡ 0
   end_cur = end_is p.core c is
 
+  -- a scan that came to the end has looked at fewer nodes than it may
   pub last_few : c.cur ≡ 0 → seen_of p.core.cursor ≢ 16 * p.seats + 1
   last_few z e = let last = rests_last z in let l = last.seen in let t = notes_are p view in omega arith
 
 -- a scan without a cursor
 module _ {P : Type 0} (p : SeatPart P) (gone : p.core.cursor ≡ None) where
+  -- a hand inside its epoch, without an own node and a cursor, may begin a walk
   pub may_scan_out : IsInside p.core → p.core.own ≡ Nothing → MayBeginWalk p.core
   may_scan_out inside own = record { inside = inside; own = subst OwnMayWalk (sym own) tt; cursor = gone }
 
+  -- the answer of a walk that this call began is the answer of the call
   pub passes_begun : (q : SeatPart P) (a : Passed) → PassesFrom p.trace.taken 0 q a → Passes p q a
   passes_begun q a x = subst (λ (n : ℕ). PassesFrom p.trace.taken n q a) (ap (λ (o : Option Cursor). passed_at o p.trace.looked) (sym gone)) x
 
+  -- a scan without a cursor isn't at the end
   pub never_end : {A : Type 0} → IsAtEnd p.core.cursor → A
   never_end e = absurd (let f : ◌≡◌ {A = Option Cursor} None (Some e.0) = sym gone ∙ e.1 in cc)
 
+  -- nor has it looked at as many nodes as it may
   pub never_spent : {A : Type 0} → seen_of p.core.cursor ≡ 16 * p.seats + 1 → A
   never_spent e = absurd (let z = ap seen_of gone in omega arith)

@@ -36,6 +36,7 @@ module _ {P : Type 0} (p : SeatPart P) (may : MayBeginWalk p.core) where
   out_line : IsLine p.seats p.number p.core Walk out_plan
   out_line = walk (cell_of (start_of p.core.own)) may.inside.odd may.inside.hand (ap (walk_cell p.core.own) may.cursor)
 
+  -- where a walk may begin, the cursor may be made
   pub may_set_out : Enables p Walk
   may_set_out = enables p Walk out_plan out_line
 
@@ -70,6 +71,7 @@ module _ {P : Type 0} (p : SeatPart P) (may : MayBeginWalk p.core) where
             (ap (λ (x : Plan). x.place) (line_is p Walk out_plan out_line) ∙ ap (λ (o : Own). cell_place p.seats (cell_of (start_of o))) e) e (λ z. cc) odd)
         by_own (Linked node range mode Done) g e = absurd (done_not mode g)
 
+    -- the step leaves the cursor at the word that it found, in a walk that this call began
     pub set_out_is : IsSetOut p q w
     set_out_is = record {
       on = on_made rested p q Walk out_plan w m (free_go p.core.own may.own) (ap (λ (v : View). v.epoch) view_is)
@@ -118,6 +120,7 @@ module _ {P : Type 0} (p : SeatPart P) (head : IsAtOddHead p.core) where
   settle_line : IsLine p.seats p.number p.core Settle settle_plan
   settle_line = settle head.cursor head.is head.prev head.odd
 
+  -- a cursor that found the head with the low bit may take the bit away
   pub may_settle : Enables p Settle
   may_settle = enables p Settle settle_plan settle_line
 
@@ -161,9 +164,11 @@ module _ {P : Type 0} (p : SeatPart P) (head : IsAtOddHead p.core) where
       same : d ≡ head.cursor
       same = let e : ◌≡◌ {A = Option Cursor} (Some d) (Some head.cursor) = sym is ∙ head.is in cc
 
+      -- where the head was still the same, the cursor is at its node
       pub settle_is : w ≡ d.cur → IsSettled p q
       settle_is e = settle_won (e ∙ ap (λ (x : Cursor). x.cur) same)
 
+      -- where it was another, that is the walk's answer
       pub settle_lost : w ≢ d.cur → IsHandView p → HasRoom p → (s : ℕ) → s ≡ q.seats → (l : Lost)
           → l.place ≡ cell_place s (cell_of d.prev) → l.expected ≡ d.cur → l.found ≡ w → IsFailed p q l
       settle_lost far view room s seats l placed wanted had =
@@ -176,6 +181,7 @@ module _ {P : Type 0} (p q : SeatPart P) (w : ℕ) (may : MayBeginWalk p.core) (
   room_out : HasRoom p
   room_out = record { seats = let s = out.seats.1 in let e = out.on.seats in omega arith; seen = let z = ap seen_of may.cursor in omega arith }
 
+  -- a cursor that was just made may look at a node
   pub out_room : HasRoom q
   out_room = record { seats = out.seats.1; seen = let z = ap seen_of out.cursor in let a = out.seats.0 in one_at_most w z }
     where
@@ -189,6 +195,7 @@ module _ {P : Type 0} (p q : SeatPart P) (w : ℕ) (may : MayBeginWalk p.core) (
   inside_out : IsInside q.core
   inside_out = record { odd = ap (λ n. n % 2) out.on.epoch ∙ may.inside.odd; hand = out.on.hand }
 
+  -- where its word has no low bit, the walk goes on there, or has come to its end
   pub out_even : w % 2 ≡ 0 → IsHandView q → Outcome p.trace.taken p.core q (arrival_at q.core.own q.core.cursor)
   out_even even view = came_outcome p.trace.taken p q
       (record {
@@ -202,6 +209,7 @@ module _ {P : Type 0} (p q : SeatPart P) (w : ℕ) (may : MayBeginWalk p.core) (
       })
       may.own inside_out view out.on.seats room_out
 
+  -- where it has, the cursor is at the head, and no node of this seat is linked
   pub out_odd : w % 2 ≡ 1 → IsAtOddHead q.core
   out_odd odd = record {
     inside = inside_out;
@@ -221,6 +229,7 @@ module _ {P : Type 0} (p q : SeatPart P) (w : ℕ) (may : MayBeginWalk p.core) (
     own_out : q.core.own ≡ p.core.own
     own_out = out.own ∙ own_at_any p.core.own w (out.unlinked odd)
 
+    -- once the head is settled, the walk goes on at its node, or has come to its end
     pub settled_outcome : IsSettled q r → IsHandView r → Outcome p.trace.taken p.core r (arrival_at r.core.own r.core.cursor)
     settled_outcome s view = came_outcome p.trace.taken p r
         (record {
@@ -236,6 +245,7 @@ module _ {P : Type 0} (p q : SeatPart P) (w : ℕ) (may : MayBeginWalk p.core) (
         })
         may.own (record { odd = ap (λ n. n % 2) s.on.epoch ∙ inside_out.odd; hand = s.on.hand }) view (s.on.seats ∙ out.on.seats) room_out
 
+    -- a settling that lost its exchange is the answer of the walk
     pub failed_outcome : (l : Lost) → IsFailed q r l → Outcome p.trace.taken p.core r (Some (Gone l))
     failed_outcome l f = (
       answers_on p.trace.taken q.trace.taken p.core.own q.core.own r (Gone l) (let t = out.taken in

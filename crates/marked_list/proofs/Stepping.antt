@@ -43,6 +43,7 @@ judges_go (Linked node range mode todo) g f is = absurd (cc)
 pub filled_goes : (own : Own) → HasEnds own → OwnMayWalk own
 filled_goes own e = subst OwnMayWalk (sym e.is) (record { node = e.node; is = refl; lo = e.lo; hi = e.hi; low = e.low; high = e.high })
 
+-- a node that has still to be validated may be compared
 pub validates_goes : (own : Own) → HasToValidate own → OwnMayWalk own
 validates_goes own e = subst OwnMayWalk (sym e.is) e.todo
 
@@ -67,6 +68,7 @@ at_zero own c lo free e =
 not_there : (own : Own) (c : Cursor) → has_arrived own c ≡ false → (held_at own ≡ None) × (c.cur ≢ 0)
 not_there own c e = let a = or_false _ _ e in let b = or_false _ _ a.1 in (none_of (held_at own) a.0, eqb-false _ _ b.0)
 
+-- no validation begins as done
 pub done_not : (mode : Mode) → Done ≢ todo_of mode
 done_not Reader e = cc
 done_not Writer e = cc
@@ -123,6 +125,7 @@ no_more a w z = let h : w / 2 ≡ 0 = omega arith in ap (λ (b : Bool). if b the
 pub nodes_seen : {P : Type 0} (q : SeatPart P) → IsHandView q → (c : Cursor) → q.core.cursor ≡ Some c → nodes_in q.trace.looked ≡ c.seen
 nodes_seen q view c is = let l = view.looked c is in ap nodes_in l.1 ∙ l.2
 
+-- where the cursor came to another word, the walk goes on there, or has come to its end
 pub came_outcome : {P : Type 0} (first : ℕ) (p q : SeatPart P) → Came p.core q.core → OwnMayWalk p.core.own → IsInside q.core
     → IsHandView q → q.seats ≡ p.seats → HasRoom p → Outcome first p.core q (arrival_at q.core.own q.core.cursor)
 came_outcome {P} first p q came go inside view seats room =

@@ -23,6 +23,7 @@ use Rattle.marked_list.proofs.Unlinking.{gone_looked}
 pub counts_odd : (e : ℕ) → e % 2 ≡ 0 → next_epoch e % 2 ≡ 1
 counts_odd e even = omega arith
 
+-- an odd epoch is followed by an even one
 pub counts_even : (e : ℕ) → e % 2 ≡ 1 → next_epoch e % 2 ≡ 0
 counts_even e odd = omega arith
 
@@ -30,6 +31,7 @@ module _ {P : Type 0} (p e : SeatPart P) (may : MaySweep p.core) (entering : e �
   own_in : e.core.own ≡ Nothing
   own_in = ap (λ (x : SeatPart P). x.core.own) entering ∙ may.own
 
+  -- a hand that entered its epoch without an own node may begin a walk
   pub sets_out : IsInside e.core → MayBeginWalk e.core
   sets_out inside = record { inside = inside; own = subst OwnMayWalk (sym own_in) tt; cursor = ap (λ (x : SeatPart P). x.core.cursor) entering }
 
@@ -68,12 +70,15 @@ module _ {P : Type 0} (p e : SeatPart P) (may : MaySweep p.core) (entering : e �
     spent_back : IsSpent r → IsSpent q
     spent_back s = (ap nodes_in (sym looked_out) ∙ (s.0 ∙ ap (λ n. 16 * n + 1) seats_out), ap held_at own_out)
 
+    -- Long comes exactly where the walk is spent, also behind the leaving
     pub swept_long : IsLong a ↔ IsSpent q → IsLong a ↔ IsSpent r
     swept_long both = ((λ l. spent_out (both.0 l)), (λ s. both.1 (spent_back s)))
 
+    -- the walk was begun in the call
     pub swept_walk : IsNewWalk e.trace.taken q → IsNewWalk p.trace.taken r
     swept_walk new = let f = new.2 in let b = new.3 in let i = taken_in in let o = taken_out in (new.0, looked_out ∙ new.1, omega arith, omega arith)
 
+    -- the answer of the walk is that of the sweep
     pub swept_answer : IsHandView q → Sweeps p.trace.taken r a
     swept_answer view = by_answer a bare
       where
@@ -94,6 +99,7 @@ module _ {P : Type 0} (p e : SeatPart P) (may : MaySweep p.core) (entering : e �
         }
         by_answer (Long visits) x = (x.0 ∙ ap (λ n. 16 * n + 1) (sym seats_out), spent_out x.2)
 
+    -- the sweep leaves the hand outside, with the pools that it had
     pub swept_is : IsOutside r.core → IsSwept p r
     swept_is outside = record {
       number = ap (λ (x : SeatPart P). x.number) leaving ∙ (on.number ∙ ap (λ (x : SeatPart P). x.number) entering);

@@ -64,12 +64,14 @@ not_judging Mark k = absurd k
 not_judging QuickLink k = absurd k
 not_judging QuickUnlink k = absurd k
 
+-- a step that takes the cursor away leaves what the record has of the walk
 pub gone_looked : (t : Record) (b : Option Cursor) (j g : Bool) → looked_with t b None j g ≡ t.looked
 gone_looked t None j g = refl
 gone_looked t (Some c) j g = refl
 
 module _ {P : Type 0} (rested : P → P) (p q : SeatPart P) (step : Step) (plan : Plan) (w : ℕ) (m : Made rested p q step plan w)
     (c : Cursor) (is : p.core.cursor ≡ Some c) where
+  -- an exchange of a walk that found another value is the walk's answer, and takes the cursor away
   pub failed : IsWalkLoss step → expected_by p.core step ≡ Some (cursor_word p.core.cursor) → plan.view w ≡ dropped p.core
       → (w == c.cur) ≡ false → held_at p.core.own ≡ None → p.core.hand ≡ None → IsHandView p → HasRoom p
       → (l : Lost) → l.place ≡ plan.place → l.expected ≡ c.cur → l.found ≡ w → IsFailed p q l
@@ -109,6 +111,7 @@ module _ {P : Type 0} (p : SeatPart P) (n : ℕ) (k : KnowsNext p.core n) (odd :
   unlink_line : IsLine p.seats p.number p.core Unlink unlink_plan
   unlink_line = unlink st.cursor st.node n st.is st.at k.next odd st.inside.hand
 
+  -- a cursor at a node that was found marked may unlink it
   pub may_unlink : Enables p Unlink
   may_unlink = enables p Unlink unlink_plan unlink_line
 
@@ -140,6 +143,7 @@ module _ {P : Type 0} (p : SeatPart P) (n : ℕ) (k : KnowsNext p.core n) (odd :
           judged = same_judged rested p q Unlink unlink_plan w m refl (ap is_some st.is);
         }
 
+    -- where a node is in the hand after it, that is the cursor's node, and it is unlinked
     pub unlink_some : (x : ℕ) → q.core.hand ≡ Some x → IsUnlinked p q x
     unlink_some x hand = by_value (w == st.cursor.cur) refl
       where
@@ -148,6 +152,7 @@ module _ {P : Type 0} (p : SeatPart P) (n : ℕ) (k : KnowsNext p.core n) (odd :
         by_value false e = absurd (let h : ◌≡◌ {A = Option ℕ} None (Some x) = sym st.inside.hand
             ∙ (sym (ap (λ (v : View). v.hand) (m.core ∙ ap view_by e)) ∙ hand) in cc)
 
+    -- where none is, the exchange was lost
     pub unlink_none : q.core.hand ≡ None → IsHandView p → HasRoom p → (l : Lost)
         → l.place ≡ cell_place p.seats (cell_of st.cursor.prev) → l.expected ≡ st.cursor.cur → l.found ≡ w → IsFailed p q l
     unlink_none hand view room l placed wanted had = by_value (w == st.cursor.cur) refl
@@ -170,6 +175,7 @@ module _ {P : Type 0} (p q r : SeatPart P) (x : ℕ) (u : IsUnlinked p q x) (mad
   core_home : r.core ≡ gave_home q.core
   core_home = ap (λ (z : SeatPart P). z.core) made
 
+  -- unlinking a node and giving it home leaves what a call that walks leaves
   pub home_on : IsOn p r
   home_on = record {
     number = ap (λ (z : SeatPart P). z.number) made ∙ u.call.number;
@@ -189,9 +195,11 @@ module _ {P : Type 0} (p q r : SeatPart P) (x : ℕ) (u : IsUnlinked p q x) (mad
     taken = let a = ap (λ (z : SeatPart P). z.trace.taken) made in let b = u.call.taken in omega arith;
   }
 
+  -- they are two steps
   pub home_taken : r.trace.taken ≡ p.trace.taken + 2
   home_taken = let a = ap (λ (z : SeatPart P). z.trace.taken) made in let b = u.call.taken in omega arith
 
+  -- of the same walk
   pub home_walk : IsSameWalk p r
   home_walk l is =
       let s = u.walk l is in
@@ -199,12 +207,14 @@ module _ {P : Type 0} (p q r : SeatPart P) (x : ℕ) (u : IsUnlinked p q x) (mad
       (gained_by q.core (gave_home q.core)) (ap is_some u.came.is) s.0 s.1 in
       (t.0, ap (λ (z : SeatPart P). z.trace.looked) made ∙ t.1, t.2 ∙ s.2)
 
+  -- which judge no node
   pub home_judged : HasJudged 0 p r
   home_judged l is =
       let s = u.judged l is in
       let t = judges_none q.trace q.core.cursor (gave_home q.core).cursor (gained_by q.core (gave_home q.core)) (ap is_some u.came.is) s.0 s.1 in
       (t.0, ap (λ (z : SeatPart P). z.trace.looked) made ∙ t.1, t.2 ∙ s.2, (let a = t.3 in let b = s.3 in omega arith))
 
+  -- behind the node the walk goes on, or has come to its end
   pub home_outcome : StandsAt p.core → IsHandView r → HasRoom p → Outcome p.trace.taken p.core r (arrival_at r.core.own r.core.cursor)
   home_outcome st view room = came_outcome p.trace.taken p r
       (record {

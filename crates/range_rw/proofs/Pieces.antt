@@ -34,9 +34,11 @@ use Rattle.range_rw.specs.Trying.{has_come, IsFilling, IsLaterInTry, IsLaterInEp
 
 -- ---- pieces
 
+-- where no step was made, number, seats, pass and record are the same
 pub no_piece : {P : Type 0} (p : SeatPart P) → IsLaterInTry p p
 no_piece p = record { number = refl; seats = refl; pass = refl; client = refl; taken = omega arith }
 
+-- two calls of a try after each other are one
 pub piece_on : {P : Type 0} (p q r : SeatPart P) → IsLaterInTry p q → IsLaterInTry q r → IsLaterInTry p r
 piece_on p q r a b = record {
   number = b.number ∙ a.number;
@@ -46,9 +48,11 @@ piece_on p q r a b = record {
   taken = let x = a.taken in let y = b.taken in omega arith;
 }
 
+-- two calls in one epoch after each other are one
 pub still_on : {P : Type 0} (p q r : SeatPart P) → IsLaterInEpoch p q → IsLaterInEpoch q r → IsLaterInEpoch p r
 still_on p q r a b = record { piece = piece_on p q r a.piece b.piece; epoch = b.epoch ∙ a.epoch; hand = b.hand; ready = b.ready ∙ a.ready }
 
+-- a call that walks stays in its epoch
 pub walk_still : {P : Type 0} (p q : SeatPart P) → IsOn p q → IsLaterInEpoch p q
 walk_still p q on = record {
   piece = record { number = on.number; seats = on.seats; pass = on.pass; client = on.client; taken = on.taken };
@@ -57,6 +61,7 @@ walk_still p q on = record {
   ready = on.pools.ready;
 }
 
+-- such a call leaves a hand inside that was inside
 pub inside_still : {P : Type 0} (p q : SeatPart P) → IsInside p.core → IsLaterInEpoch p q → IsInside q.core
 inside_still p q in_epoch s = record { odd = ap (λ n. n % 2) s.epoch ∙ in_epoch.odd; hand = s.hand }
 
@@ -93,6 +98,7 @@ lost_after first p q Kind place expected found same le l =
       differ = l.differ;
     }
 
+-- an answer that refuses a try still does so after calls that keep its cause in the record
 pub refuses_after : {P : Type 0} (first : ℕ) (asked : Option Held) (p q : SeatPart P) (a : Walked) → Keeps p q
     → Refuses first asked p a → Refuses first asked q a
 refuses_after first asked p q Place k x = x
@@ -111,6 +117,7 @@ refuses_after first asked p q (Conflict owner range mode) k x = record {
 refuses_after first asked p q (Lost l) k x = lost_after first p q RefusesTry l.place l.expected l.found k.lost k.taken x
 refuses_after first asked p q (Long visits) k x = (x.0 ∙ ap (λ n. 16 * n + 1) (sym k.seats), new_after first p q k.look k.taken x.1)
 
+-- an answer whose cause is in a later call of the try refuses the try
 pub refuses_from : {P : Type 0} (first later : ℕ) (asked now : Option Held) (q : SeatPart P) (a : Walked) → first ≤ later
     → now ≡ asked → Refuses later now q a → Refuses first asked q a
 refuses_from first later asked now q Place le same x = x
@@ -140,6 +147,7 @@ refuses_from first later asked now q (Lost l) le same x =
     }
 refuses_from first later asked now q (Long visits) le same x = let new = x.1 in let f = new.2 in (x.0, (new.0, new.1, omega arith, new.3))
 
+-- an exchange of a walk is one whose loss refuses a try
 pub walk_loss : (s : Step) → IsWalkLoss s → RefusesTry s
 walk_loss Unlink k = k
 walk_loss Settle k = k
@@ -202,6 +210,7 @@ spent_look p q look seats free s = (sym look.0 ∙ (s.0 ∙ ap (λ n. 16 * n + 1
 look_spent : {P : Type 0} (p q : SeatPart P) → IsSameLook p q → q.seats ≡ p.seats → held_at q.core.own ≡ None → IsSpent p → IsSpent q
 look_spent p q look seats free s = (look.0 ∙ (s.0 ∙ ap (λ n. 16 * n + 1) (sym seats)), free)
 
+-- Long still comes exactly where the walk is spent, after a call that looks at no more nodes
 pub long_after : {P : Type 0} (p q : SeatPart P) (a : Walked) → IsSameLook p q → q.seats ≡ p.seats → held_at p.core.own ≡ None
     → held_at q.core.own ≡ None → (IsLong a ↔ IsSpent p) → (IsLong a ↔ IsSpent q)
 long_after p q a look seats before now long = (λ l. look_spent p q look seats now (long.0 l), λ s. long.1 (spent_look p q look seats before s))
@@ -223,11 +232,13 @@ ends_same : (own now : Own) → now ≡ own → HasEnds own → HasEnds now
 ends_same own now same e = subst HasEnds (sym same) e
 
 module _ {P : Type 0} (p q : SeatPart P) (a : Walked) (may : MayWalk p.core) (on : IsOn p q) (answer : Answers p.trace.taken p.core.own q a) where
+  -- a walk that came to the place of a filled node leaves it so that it may be linked
   pub may_link_on : has_come a ≡ true → MayLink q.core
   may_link_on came =
       let c = came_by p.trace.taken p q a came may.own answer in
       record { inside = inside_still p q may.inside (walk_still p q on); own = ends_same p.core.own q.core.own c.0 may.own; place = c.1 }
 
+  -- any other answer of the walk refuses the try, with the node still being filled
   pub walk_ends : has_come a ≡ false → IsNewWalk p.trace.taken q → LinkEnds p q a
   walk_ends isnt new = by_answer a isnt (walk_refuses p.trace.taken p.core.own q a isnt answer new)
     where
@@ -264,16 +275,19 @@ module _ {P : Type 0} (p q : SeatPart P) (a : Walked) (may : MayWalk p.core) (on
       ready = ap (λ (v : View). v.ready) core ∙ ready;
     })
 
+    -- walk and link stay in one epoch
     pub link_still : (b : LinkAnswer) → Links q r b → IsLaterInEpoch p r
     link_still IsLinked x = core_still _ x refl refl refl
     link_still (NotLinked l) x = core_still _ x.1 refl refl refl
 
+    -- a link that is made leaves the node to be validated
     pub linked_ends : Links q r IsLinked → LinkEnds p r Place
     linked_ends x = (ap (λ (v : View). v.own) x ∙ ap (linked_own todo_of) same, ap (λ (v : View). v.cursor) x)
 
     aimed_filling : (w node : ℕ) → IsFilling node p.core.own → IsFilling node (aimed_own w q.core.own)
     aimed_filling w node f = (record f.0 { aimed = Some w }, ap (aimed_own w) (same ∙ f.1), f.2)
 
+    -- a link that is lost refuses the try, with the node still being filled
     pub lost_ends : (l : LostAnswer) → Links q r (NotLinked l) → LinkEnds p r (Lost l)
     lost_ends l x = (
       (λ node f. subst (IsFilling node) (sym (ap (λ (v : View). v.own) x.1)) (aimed_filling (cursor_word q.core.cursor) node f)),
@@ -290,6 +304,7 @@ module _ {P : Type 0} (p q : SeatPart P) (a : Walked) (may : MayWalk p.core) (on
       },
     )
 
+    -- after a walk that came to its place no walk is spent
     pub link_long : (b : Walked) → ¬ (IsLong b) → IsLong b ↔ IsSpent r
     link_long b never = (λ l. absurd (never l), λ s. absurd (not_spent s))
 
@@ -307,11 +322,13 @@ unheld own h = ap held_at h.is ∙ (ap (λ (t : Todo). held_at (Linked h.node.no
     by_mode Reader = refl
     by_mode Writer = refl
 
+-- a node that was just linked may be validated
 pub may_validate_on : {P : Type 0} (p : SeatPart P) → IsInside p.core → HasToValidate p.core.own → p.core.cursor ≡ None → MayValidate p.seats p.core
 may_validate_on p in_epoch own none = record { inside = in_epoch; own = own; begins = inl none }
 
 module _ {P : Type 0} (p q : SeatPart P) (a : Walked) (own : HasToValidate p.core.own) (on : IsOn p q)
     (answer : Answers p.trace.taken p.core.own q a) (new : IsNewWalk p.trace.taken q) where
+  -- a validation that comes to its end holds what was asked for
   pub valid_ends : has_come a ≡ true → ValidEnds p q a
   valid_ends came = by_answer a came answer
     where
@@ -330,6 +347,7 @@ module _ {P : Type 0} (p q : SeatPart P) (a : Walked) (own : HasToValidate p.cor
     unheld_now : held_at q.core.own ≡ None
     unheld_now = ap held_at refused.0 ∙ unheld p.core.own own
 
+    -- after any other answer the node may be marked, since nothing is held
     pub may_mark_on : (is_at_rest : P → Type 0) → MayMark is_at_rest q
     may_mark_on is_at_rest = record { node = own.node; is = refused.0 ∙ own.is; rest = λ done. absurd (to_do own.node.mode (sym own.todo ∙ done)) }
 
@@ -340,6 +358,7 @@ module _ {P : Type 0} (p q : SeatPart P) (a : Walked) (own : HasToValidate p.cor
       keeps : Keeps q r
       keeps = record { number = mark.number; seats = mark.seats; taken = let t = mark.taken in omega arith; met = mark.met; lost = mark.lost; look = mark.look }
 
+      -- then the hand has no own node, and the answer refuses the try
       pub marked_ends : ValidEnds p r a
       marked_ends = by_answer a isnt (refuses_after p.trace.taken (asked_of p.core.own) q r a keeps refused.1)
         where
@@ -349,6 +368,7 @@ module _ {P : Type 0} (p q : SeatPart P) (a : Walked) (own : HasToValidate p.cor
           by_answer (Lost l) n x = (ap (λ (v : View). v.own) core_marked, x)
           by_answer (Long visits) n x = (ap (λ (v : View). v.own) core_marked, x)
 
+      -- validation and mark stay in one epoch
       pub marked_still : IsLaterInEpoch p r
       marked_still = still_on p q r (walk_still p q on) (record {
         piece = record {
@@ -363,6 +383,7 @@ module _ {P : Type 0} (p q : SeatPart P) (a : Walked) (own : HasToValidate p.cor
         ready = ap (λ (v : View). v.ready) core_marked;
       })
 
+      -- Long comes exactly where the walk is spent, also behind the mark
       pub marked_long : (IsLong a ↔ IsSpent q) → (IsLong a ↔ IsSpent r)
       marked_long long = long_after q r a mark.look mark.seats unheld_now (ap (λ (v : View). held_at v.own) core_marked) long
 
@@ -397,15 +418,19 @@ module _ {P : Type 0} (p q : SeatPart P) (a : Walked) (may : MayWalk p.core) (st
       by_answer (Lost l) y x = absurd (let z : ◌≡◌ {A = Bool} false true = y in cc)
       by_answer (Long visits) y x = absurd (let z : ◌≡◌ {A = Bool} false true = y in cc)
 
+  -- after walk and link the hand is inside its epoch
   pub way_inside : IsInside q.core
   way_inside = inside_still p q may.inside still
 
+  -- a node that was linked has its validation to do
   pub way_validates : has_come a ≡ true → HasToValidate q.core.own
   way_validates came = validates_linked p.core.own q.core.own may.own (placed came).0
 
+  -- and the cursor is gone
   pub way_begins : has_come a ≡ true → q.core.cursor ≡ None
   way_begins came = (placed came).1
 
+  -- where walk or link refused, the node is still being filled
   pub way_refused : has_come a ≡ false → StepEnds p q a
   way_refused isnt = by_answer a isnt ends
     where
@@ -415,6 +440,7 @@ module _ {P : Type 0} (p q : SeatPart P) (a : Walked) (may : MayWalk p.core) (st
       by_answer (Lost l) n x = (inr x.0, x.1)
       by_answer (Long visits) n x = (inr x.0, x.1)
 
+  -- otherwise what the validation came to is what the whole comes to
   pub way_valid : has_come a ≡ true → (r : SeatPart P) (b : Walked) → ValidEnds q r b → StepEnds p r b
   way_valid came r b x = by_answer b x
     where
@@ -468,6 +494,7 @@ module _ {P : Type 0} (p e : SeatPart P) (own : HasEnds p.core.own) (entering : 
     taken = let t = ap (λ (x : SeatPart P). x.trace.taken) entering in omega arith;
   }
 
+  -- a hand that entered its epoch with a filled node may walk
   pub may_walk_in : IsInside e.core → MayWalk e.core
   may_walk_in i = record { inside = i; own = ends_same p.core.own e.core.own own_in own; cursor = ap (λ (x : SeatPart P). x.core.cursor) entering }
 
@@ -487,6 +514,7 @@ module _ {P : Type 0} (p e : SeatPart P) (own : HasEnds p.core.own) (entering : 
     kept_back : IsBack → kept_own f.core.own ≡ Nothing
     kept_back x = ⊎_elim (λ n. ap kept_own n) (λ g. ap kept_own (g own.node.node filled_in).1) x
 
+    -- after the insertion the epoch may be left
     pub may_end_in : IsInside e.core → MayEnd f.core
     may_end_in i = record { inside = inside_still e f i still; own = by_answer a ends }
       where
@@ -522,6 +550,7 @@ module _ {P : Type 0} (p e : SeatPart P) (own : HasEnds p.core.own) (entering : 
         look = same_looked f q looked_out;
       }
 
+      -- the whole, from entering to leaving, is a call of the try
       pub way_piece : IsLaterInTry p q
       way_piece = piece_on p e q piece_in (piece_on e f q still.piece (record {
         number = ap (λ (x : SeatPart P). x.number) leaving;
@@ -540,6 +569,7 @@ module _ {P : Type 0} (p e : SeatPart P) (own : HasEnds p.core.own) (entering : 
       back_refuses b x = refuses_from p.trace.taken e.trace.taken (asked_of p.core.own) (asked_of e.core.own) q b piece_in.taken
           (ap asked_of own_in) (refuses_after e.trace.taken (asked_of e.core.own) f q b keeps_out x)
 
+      -- after it the range is held, or the hand has no own node and its ready nodes are as before or with it
       pub way_ends : WayEnds p q a
       way_ends = by_answer a ends
         where
@@ -552,6 +582,7 @@ module _ {P : Type 0} (p e : SeatPart P) (own : HasEnds p.core.own) (entering : 
           by_answer (Lost l) x = (own_out ∙ kept_back x.0, back_refuses (Lost l) x.1, back_ready x.0)
           by_answer (Long visits) x = (own_out ∙ kept_back x.0, back_refuses (Long visits) x.1, back_ready x.0)
 
+      -- Long comes exactly where the walk is spent, also behind the leaving
       pub way_long : (IsLong a ↔ IsSpent f) → (IsLong a ↔ IsSpent q)
       way_long long = by_answer a ends way_ends long
         where

@@ -45,6 +45,7 @@ goes_in {P} p e q a may ready made = record {
   ready = ap (λ (x : SeatPart P). x.core.ready) made ∙ ready;
 }
 
+-- a hand that has left its epoch, or was outside, is out of it
 pub goes_out : {P : Type 0} (p q : SeatPart P) → IsLaterInTry p q → MaySweep q.core → q.core.ready ≡ p.core.ready → IsHandView q → GoesOut p q
 goes_out p q a may ready view = record {
   piece = a;
@@ -63,10 +64,12 @@ module _ {P : Type 0} (p : SeatPart P) where
   pub scan_none : p.core.epoch % 2 ≡ 0 → scan_of p ≡ None
   scan_none even = ap (λ (b : Bool). if b then None else Some (walk_of (16 * p.seats + 1) p.core.cursor p.trace.looked)) (eq-eqb _ _ even)
 
+  -- inside the epoch the open scan is the walk of the hand
   pub scan_some : p.core.epoch % 2 ≡ 1 → scan_of p ≡ Some (walk_of (16 * p.seats + 1) p.core.cursor p.trace.looked)
   scan_some odd = ap (λ (b : Bool). if b then None else Some (walk_of (16 * p.seats + 1) p.core.cursor p.trace.looked))
       (ne_eqb (p.core.epoch % 2) 0 (λ z. let o = odd in omega arith))
 
+  -- a seat with an open scan has its hand inside its epoch
   pub scan_inside : IsSome (scan_of p) → p.core.hand ≡ None → IsInside p.core
   scan_inside some hand = record { odd = by_even (p.core.epoch % 2 == 0) refl some; hand = hand }
     where
@@ -102,21 +105,26 @@ module _ {P : Type 0} (table : TableId) (p q : SeatPart P) where
   pub in_between : GoesIn p q → IsBetween q.core
   in_between g = record { own = bare_settled q.core.own g.own; hand = g.hand; cursor = inl g.cursor }
 
+  -- a hand that is out of its epoch is one between two calls
   pub out_between : GoesOut p q → IsBetween q.core
   out_between g = record { own = bare_settled q.core.own g.own; hand = g.hand; cursor = inl g.cursor }
 
+  -- so is one whose scan rests after a call that walks
   pub on_between : IsOn p q → q.core.own ≡ Nothing → IsResting q.core → IsBetween q.core
   on_between on own rests = record { own = bare_settled q.core.own own; hand = on.hand; cursor = rests }
 
   piece_call : IsLaterInTry p q → q.core.own ≡ Nothing → q.core.ready ≡ p.core.ready → IsScanCall (seat_state_in table p) (seat_state_in table q)
   piece_call a own ready = record { table = refl; number = a.number; held = ap held_at own; ready = ready; pass = a.pass; client = a.client; taken = a.taken }
 
+  -- entering is a call of a scan
   pub in_call : GoesIn p q → IsScanCall (seat_state_in table p) (seat_state_in table q)
   in_call g = piece_call g.piece g.own g.ready
 
+  -- leaving is one
   pub out_call : GoesOut p q → IsScanCall (seat_state_in table p) (seat_state_in table q)
   out_call g = piece_call g.piece g.own g.ready
 
+  -- a call that walks without an own node is one
   pub on_call : IsOn p q → q.core.own ≡ Nothing → IsScanCall (seat_state_in table p) (seat_state_in table q)
   on_call on own = record {
     table = refl;
@@ -128,10 +136,12 @@ module _ {P : Type 0} (table : TableId) (p q : SeatPart P) where
     taken = on.taken;
   }
 
+  -- after entering the open scan is a fresh one
   pub in_begun : (seats : ℕ) → q.seats ≡ seats → GoesIn p q → scan_of q ≡ Some (fresh_scan (16 * seats + 1))
   in_begun seats e g = scan_some q g.odd ∙ ((λ i. Some (walk_of (16 * q.seats + 1) (g.cursor i) q.trace.looked))
       ∙ ap (λ (n : ℕ). Some (fresh_scan (16 * n + 1))) e)
 
+  -- after leaving there is none
   pub out_none : GoesOut p q → scan_of q ≡ None
   out_none g = scan_none q g.even
 
@@ -208,6 +218,7 @@ module _ {P : Type 0} (table : TableId) (p q : SeatPart P) where
           now_ended st.cursor st.is ∙ ne_eqb st.cursor.cur 0 (λ z. let q = plain in omega arith),
         )
 
+    -- the answer of the list is what the scan gives, with its cause
     pub next_is : (a : Passed) (answer : Scanned) → answer ≡ scanned_as a → Passes p q a → IsNext (seat_state_in table p) (seat_state_in table q) was answer
     next_is a answer e x = record {
       now = now;
@@ -216,6 +227,7 @@ module _ {P : Type 0} (table : TableId) (p q : SeatPart P) where
       gives = subst (Gives (seat_state_in table p) (seat_state_in table q) was now) (sym e) (gives_by a x);
     }
 
+    -- the bound on steps, in the words of the open scan
     pub next_bound : q.trace.taken ≤ p.trace.taken + 2 + 3 * (16 * p.seats + 1) → q.trace.taken ≤ p.trace.taken + 2 + 3 * was.most
     next_bound b = let w = was_most in omega arith
 
@@ -227,6 +239,7 @@ module _ {P : Type 0} (table : TableId) (p q : SeatPart P) where
         let s = stays (walk_ended (16 * p.seats + 1) p.core.cursor p.trace.looked (ap (λ (w : OpenScan). w.ended) was_walk ∙ ended)) in
         (ap (seat_state_in table) s.0, e ∙ ap scanned_as s.1)
 
+    -- the same of a walk that has looked at as many nodes as it may
     pub next_spent : (a : Passed) (answer : Scanned) → answer ≡ scanned_as a → was.nodes ≡ was.most
         → (seen_of p.core.cursor ≡ 16 * p.seats + 1 → (q ≡ p) × (a ≡ TooLong (16 * p.seats + 1)))
         → (seat_state_in table q ≡ seat_state_in table p) × (answer ≡ scanned_as (TooLong was.most))

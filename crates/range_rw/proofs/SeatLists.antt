@@ -28,6 +28,7 @@ module _ {P : Type 0} (table : TableId) where
       → s ≡ get_or seats 0 s → s ≡ new_seat table first 0
   first_new first seats s more new is = new 0 s (at_index seats 0 s more is)
 
+  -- the second of two seats is the new one of number 1
   pub second_new : (first : ℕ → P) (seats left : List (SeatState P)) (s : SeatState P) → length seats ≡ 2 → AreNewSeats table first seats
       → left ≡ remove seats 0 → s ≡ get_or left 0 s → s ≡ new_seat table first 1
   second_new first [] left s two new rest is = absurd (omega arith)
@@ -61,6 +62,7 @@ module _ {P : Type 0} where
       let more = passes_from first (suc n) rest (λ k t at. let z : n + suc k ≡ suc n + k = omega arith in all (suc k) t at ∙ ap first z) in
       λ i. head i ∷ more i
 
+  -- the passes of a new table's seats are those with which its seats begin
   pub new_passes : (table : TableId) (first : ℕ → P) (seats : List (SeatState P)) → AreNewSeats table first seats
       → map pass_in seats ≡ first_passes first 0 (length seats)
   new_passes table first seats new = passes_from first 0 seats (λ k s at. let z : k ≡ 0 + k = omega arith in

@@ -4,6 +4,7 @@ use Rattle.std.specs.Prelude.{Option, Some, None, ◌==◌, if◌then◌else◌,
 use Rattle.range_rw.specs.Contract.{Waited}
 use Rattle.range_rw.specs.Seats.{waits_at, waits_from}
 
+-- where no epoch is noted the homes wait for nobody
 pub no_waits : (n k : ℕ) (passed : List Bool) → waits_from k (replicate n None) passed ≡ []
 no_waits zero k passed = refl
 no_waits (suc n) k passed = no_waits n (suc k) passed
@@ -22,6 +23,7 @@ here k n epoch noted passed rest same is out =
     ∙ (ap (λ (b : Bool). if b then Some (record { seat = k; epoch = epoch }) else find (λ w. w.seat == n) rest) (eq-eqb k n same)
     ∙ (λ i. Some (record { seat = same i; epoch = epoch })))
 
+-- a seat that isn't passed, and of which an epoch is noted, is found among those that are waited for
 pub waits_found : (notes : List (Option ℕ)) (passed : List Bool) (k j n epoch : ℕ) → n ≡ k + j
     → unwrap_or (slice_get notes j) None ≡ Some epoch → unwrap_or (slice_get passed n) false ≡ false
     → find (λ w. w.seat == n) (waits_from k notes passed) ≡ Some (record { seat = n; epoch = epoch })

@@ -6,32 +6,39 @@ use Rattle.marked_list.specs.Going.{judgement_at, Outcome}
 use Rattle.marked_list.proofs.Judging.{may_read_hi, judged_on, judged_walk, judged_taken, judged_range, judged_outcome, names_node}
 use Rattle.marked_list.proofs.look.judge.Goals as goal
 
+-- the higher end may be loaded, since the lower one is known
 pub step-word-requires-clause-enabled : goal.step-word-requires-clause-enabled
 step-word-requires-clause-enabled g c = let k = c.requires.knows in may_read_hi c.args.hand.now.part k.0 c.args.lo k.1 k.2
 
+-- both ends are those of a range
 pub judgement-requires-clause-range : goal.judgement-requires-clause-range
 judgement-requires-clause-range g c = let k = c.requires.knows in
     judged_range c.args.hand.now.part k.0 c.args.lo k.1 k.2 g.G.Guard.rested c.step-word.new.hand.part c.step-word.result
     c.step-word.ensures.made _ c.step-word.ensures.told
 
+-- what a call that walks leaves
 pub returns-clause-on : goal.returns-clause-on
 returns-clause-on g c = let k = c.requires.knows in
     judged_on c.args.hand.now.part k.0 c.args.lo k.1 k.2 g.G.Guard.rested c.step-word.new.hand.part c.step-word.result
     c.step-word.ensures.made
 
+-- it is the same walk
 pub returns-clause-walk : goal.returns-clause-walk
 returns-clause-walk g c = let k = c.requires.knows in
     judged_walk c.args.hand.now.part k.0 c.args.lo k.1 k.2 g.G.Guard.rested c.step-word.new.hand.part c.step-word.result
     c.step-word.ensures.made
 
+-- in one step
 pub returns-clause-taken : goal.returns-clause-taken
 returns-clause-taken g c = let k = c.requires.knows in
     judged_taken c.args.hand.now.part k.0 c.args.lo k.1 k.2 g.G.Guard.rested c.step-word.new.hand.part c.step-word.result
     c.step-word.ensures.made
 
+-- a cursor that stays at its node names one
 pub judgement-requires-clause-node : goal.judgement-requires-clause-node
 judgement-requires-clause-node g c = names_node c.args.hand.now.part.seats c.args.hand.now.part.number c.view.result.now (search rules) (search rules)
 
+-- what the judgement tells is what the look came to
 pub returns-clause-outcome : goal.returns-clause-outcome
 returns-clause-outcome g c =
     let k = c.requires.knows in let p = c.args.hand.now.part in let q = c.step-word.new.hand.part in let w = c.step-word.result in

@@ -6,18 +6,22 @@ use Rattle.marked_list.specs.Going.{arrival_at, Outcome}
 use Rattle.marked_list.proofs.Unlinking.{home_on, home_walk, home_judged, home_outcome}
 use Rattle.marked_list.proofs.look.pass_marked.Goals as goal
 
+-- unlinking and giving home leave what a call that walks leaves
 pub returns-in-Ok-clause-on : goal.returns-in-Ok-clause-on
 returns-in-Ok-clause-on g c = home_on c.args.hand.now.part c.unlink.new.hand.part c.give_home.new.hand.part c.in-Ok.node
     c.in-Ok.ensures.unlinked c.give_home.ensures.made
 
+-- it is the same walk
 pub returns-in-Ok-clause-walk : goal.returns-in-Ok-clause-walk
 returns-in-Ok-clause-walk g c = home_walk c.args.hand.now.part c.unlink.new.hand.part c.give_home.new.hand.part c.in-Ok.node
     c.in-Ok.ensures.unlinked c.give_home.ensures.made
 
+-- no node was judged
 pub returns-in-Ok-clause-judged : goal.returns-in-Ok-clause-judged
 returns-in-Ok-clause-judged g c = home_judged c.args.hand.now.part c.unlink.new.hand.part c.give_home.new.hand.part c.in-Ok.node
     c.in-Ok.ensures.unlinked c.give_home.ensures.made
 
+-- behind the node the walk goes on, or has come to its end
 pub returns-in-Ok-clause-outcome : goal.returns-in-Ok-clause-outcome
 returns-in-Ok-clause-outcome g c =
     let p = c.args.hand.now.part in

@@ -4,9 +4,11 @@ use Rattle.lock_core.specs.declared.views.View.{View}
 use Rattle.marked_list.proofs.Unlinking.{may_unlink, unlink_lost}
 use Rattle.marked_list.proofs.look.unlink.Goals as goal
 
+-- a marked node may be unlinked
 pub step-found-requires-clause-enabled : goal.step-found-requires-clause-enabled
 step-found-requires-clause-enabled g c = let k = c.requires.knows in may_unlink c.args.hand.now.part k.0 k.1 k.2
 
+-- without a node in the hand the exchange was lost
 pub returns-in_default-hand-clause-lost : goal.returns-in_default-hand-clause-lost
 returns-in_default-hand-clause-lost g c =
     let k = c.requires.knows in let p = c.args.hand.now.part in let q = c.step-found.new.hand.part in

@@ -3,28 +3,34 @@ use Rattle.marked_list.specs.declared.answers.Lost.{Lost}
 use Rattle.marked_list.proofs.Owning.{may_quick_link, quick_call, quick_done, quick_lost}
 use Rattle.marked_list.proofs.quick.quick_link.Goals as goal
 
+-- the node has both ends, and outside the epoch there is no cursor
 pub aim-requires-clause-may : goal.aim-requires-clause-may
 aim-requires-clause-may g c = record { own = c.requires.order.own; place = inl (c.view.ensures.sound.sound.outside c.requires.order.even) }
 
+-- a node that is aimed at the end may be linked at the head
 pub step-found-requires-clause-enabled : goal.step-found-requires-clause-enabled
 step-found-requires-clause-enabled g c = may_quick_link c.args.hand.now.part c.aim.new.hand.part c.aim.ensures.aimed
     c.requires.order.own (c.view.ensures.sound.sound.outside c.requires.order.even) c.requires.order.even
 
+-- aim and link are a call of two steps
 pub returns-clause-call : goal.returns-clause-call
 returns-clause-call g c = quick_call c.args.hand.now.part c.aim.new.hand.part c.aim.ensures.aimed c.requires.order.own
     (c.view.ensures.sound.sound.outside c.requires.order.even) c.requires.order.even g.G.Guard.rested c.step-found.new.hand.part
     c.step-found.result c.step-found.ensures.made
 
+-- the head was empty, so the range is held
 pub returns-clause-answer : goal.returns-clause-answer
 returns-clause-answer g c = quick_done c.args.hand.now.part c.aim.new.hand.part c.aim.ensures.aimed c.requires.order.own
     (c.view.ensures.sound.sound.outside c.requires.order.even) c.requires.order.even g.G.Guard.rested c.step-found.new.hand.part
     c.step-found.result c.step-found.ensures.made c.if-found-ne0.false
 
+-- aim and a lost link are a call of two steps
 pub returns-then-found-ne0-clause-call : goal.returns-then-found-ne0-clause-call
 returns-then-found-ne0-clause-call g c = quick_call c.args.hand.now.part c.aim.new.hand.part c.aim.ensures.aimed
     c.requires.order.own (c.view.ensures.sound.sound.outside c.requires.order.even) c.requires.order.even g.G.Guard.rested
     c.step-found.new.hand.part c.step-found.result c.step-found.ensures.made
 
+-- the head was another, so the node is only aimed
 pub returns-then-found-ne0-clause-answer : goal.returns-then-found-ne0-clause-answer
 returns-then-found-ne0-clause-answer g c =
     let l : Lost = record { place = 0; expected = 0; found = c.step-found.result } in

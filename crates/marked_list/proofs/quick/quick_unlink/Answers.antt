@@ -4,9 +4,11 @@ use Rattle.marked_list.specs.declared.answers.Lost.{Lost}
 use Rattle.marked_list.proofs.Owning.{may_quick_unlink, back_lost}
 use Rattle.marked_list.proofs.quick.quick_unlink.Goals as goal
 
+-- a held node may be unlinked at the head
 pub step-found-requires-clause-enabled : goal.step-found-requires-clause-enabled
 step-found-requires-clause-enabled g c = may_quick_unlink g.G.Guard.is_at_rest c.args.hand.now.part c.requires.order
 
+-- the head was another, so the range is still held
 pub returns-then-found-expected-clause-answer : goal.returns-then-found-expected-clause-answer
 returns-then-found-expected-clause-answer g c =
     let own = ap (λ (x : View). x.own) c.view.ensures.view in

@@ -6,11 +6,13 @@ use Rattle.marked_list.specs.Scanning.{PassesFrom}
 use Rattle.marked_list.proofs.Judging.{judged_range, past_passes}
 use Rattle.marked_list.proofs.scanning.pass_node.Goals as goal
 
+-- both ends are those of a range
 pub found-requires-clause-range : goal.found-requires-clause-range
 found-requires-clause-range g c = let k = c.requires.knows in
     judged_range c.args.hand.now.part k.0 c.args.lo k.1 k.2 g.G.Guard.rested c.step-word.new.hand.part c.step-word.result
     c.step-word.ensures.made _ c.step-word.ensures.told
 
+-- the scan went past the node that its cursor was at
 pub returns-clause-answer : goal.returns-clause-answer
 returns-clause-answer g c =
     let k = c.requires.knows in let p = c.args.hand.now.part in let q = c.step-word.new.hand.part in

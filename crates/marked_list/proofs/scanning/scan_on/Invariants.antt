@@ -6,6 +6,7 @@ use Rattle.marked_list.specs.Causes.{judged_in}
 use Rattle.marked_list.specs.Going.{seen_of}
 use Rattle.marked_list.proofs.scanning.scan_on.Given as goal
 
+-- the cursor is at a node, and each look behind it was at a marked node and made at most three steps
 abbrev pub invariant-nodes : goal.invariant-nodes
 invariant-nodes g l = record {
   table : l.hand.table ≡ l.initial.hand.table;
@@ -20,5 +21,6 @@ invariant-nodes g l = record {
   counted : l.steps + l.initial.hand.part.trace.taken ≡ l.initial.steps + l.hand.part.trace.taken;
 }
 
+-- how many nodes the scan may still look at
 abbrev pub decreases-nodes : goal.decreases-nodes
 decreases-nodes g l = l.most - seen_of l.hand.part.core.cursor

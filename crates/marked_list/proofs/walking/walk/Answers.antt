@@ -1,6 +1,7 @@
 use Rattle.marked_list.proofs.Stepping.{filled_goes}
 use Rattle.marked_list.proofs.walking.walk.Goals as goal
 
+-- a filled node may be compared, and there is no cursor
 pub whole_walk-requires-clause-begins : goal.whole_walk-requires-clause-begins
 whole_walk-requires-clause-begins g c = record {
   inside = c.requires.order.inside;

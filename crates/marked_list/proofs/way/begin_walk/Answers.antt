@@ -6,21 +6,25 @@ use Rattle.marked_list.specs.Going.{arrival_at, Outcome}
 use Rattle.marked_list.proofs.Setting.{out_room, out_even, out_odd, settled_outcome}
 use Rattle.marked_list.proofs.way.begin_walk.Goals as goal
 
+-- a cursor that found the low bit is at the head
 pub settle-requires-clause-head : goal.settle-requires-clause-head
 settle-requires-clause-head g c = let far = c.if-word-eq0.false in
     out_odd c.args.hand.now.part c.make_cursor-word.new.hand.part c.make_cursor-word.result c.requires.begins
     c.make_cursor-word.ensures.out (omega arith)
 
+-- a cursor that was just made may look at a node
 pub settle-requires-clause-room : goal.settle-requires-clause-room
 settle-requires-clause-room g c = out_room c.args.hand.now.part c.make_cursor-word.new.hand.part c.make_cursor-word.result
     c.requires.begins c.make_cursor-word.ensures.out
 
+-- the cursor is at the first node, or the walk has come to its end
 pub returns-then-word-eq0-clause-outcome : goal.returns-then-word-eq0-clause-outcome
 returns-then-word-eq0-clause-outcome g c =
     let p = c.args.hand.now.part in let q = c.make_cursor-word.new.hand.part in
     subst (λ (o : Option Walked). Outcome p.trace.taken p.core q o) (sym (c.arrival.ensures ∙ ap (λ (v : View). arrival_at v.own v.cursor) c.view.ensures.view))
     (out_even p q c.make_cursor-word.result c.requires.begins c.make_cursor-word.ensures.out c.if-word-eq0.true c.view.ensures.sound)
 
+-- the same once the head is settled
 pub returns-in-Ok-clause-outcome : goal.returns-in-Ok-clause-outcome
 returns-in-Ok-clause-outcome g c =
     let p = c.args.hand.now.part in let q = c.make_cursor-word.new.hand.part in let r = c.settle.new.hand.part in let far = c.if-word-eq0.false in

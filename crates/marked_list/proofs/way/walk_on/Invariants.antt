@@ -4,6 +4,7 @@ use Rattle.marked_list.specs.Leaves.{IsOn, IsSameWalk}
 use Rattle.marked_list.specs.Going.{seen_of}
 use Rattle.marked_list.proofs.way.walk_on.Given as goal
 
+-- the cursor is at a node, the own node stays, and each look made at most three steps
 abbrev pub invariant-nodes : goal.invariant-nodes
 invariant-nodes g l = record {
   table : l.hand.table ≡ l.initial.hand.table;
@@ -18,5 +19,6 @@ invariant-nodes g l = record {
   counted : l.steps + l.initial.hand.part.trace.taken ≡ l.initial.steps + l.hand.part.trace.taken;
 }
 
+-- how many nodes the walk may still look at
 abbrev pub decreases-nodes : goal.decreases-nodes
 decreases-nodes g l = l.most - seen_of l.hand.part.core.cursor

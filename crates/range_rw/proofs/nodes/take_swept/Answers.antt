@@ -4,11 +4,13 @@ use Rattle.epoch_pools.specs.Taking.{IsTaken}
 use Rattle.range_rw.proofs.Taking.{swept_misses, stuck_misses}
 use Rattle.range_rw.proofs.nodes.take_swept.Goals as goal
 
+-- the sweep's answer is why there is no node
 pub returns-in-Some-clause-missed : goal.returns-in-Some-clause-missed
 returns-in-Some-clause-missed g c = swept_misses c.args.hand.now.table c.args.hand.now.part c.sweep.new.hand.part
     c.sweep.ensures.swept c.sweep.ensures.walk c.requires.empty c.sweep.result c.in-Some.why
     (sym c.refusal_of.ensures ∙ c.in-Some.is) c.sweep.ensures.answer c.sweep.ensures.long
 
+-- the sweep read the end, and what hinders the pools is why there is no node
 pub returns-in-Out-clause-missed : goal.returns-in-Out-clause-missed
 returns-in-Out-clause-missed g c =
     let s = c.sweep.new.hand.part in let q = c.take-taken.new.hand.part in

@@ -4,6 +4,7 @@ use Rattle.range_rw.specs.Contract.{pass_in}
 use Rattle.range_rw.proofs.Seating.{IsIdleFrom}
 use Rattle.range_rw.proofs.table.hands_of.Given as goal
 
+-- the hands so far are idle, the seats that are left too, and together they have all passes
 abbrev pub invariant-all : goal.invariant-all
 invariant-all g l = record {
   room : vec_capacity l.hands ≡ vec_capacity l.initial.hands;
@@ -13,8 +14,10 @@ invariant-all g l = record {
   passes : map hand_pass l.hands.items ++ map pass_in l.seats.items ≡ map pass_in l.initial.seats.items;
 }
 
+-- how many seats are left
 abbrev pub decreases-all : goal.decreases-all
 decreases-all g l = length l.seats.items
 
+-- the ledger of the steps is that of the blank
 abbrev pub ghosts-hand_of : goal.ghosts-hand_of
 ghosts-hand_of g a = record { name = a.blank.name; parts = a.blank.parts }

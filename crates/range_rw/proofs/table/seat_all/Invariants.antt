@@ -3,6 +3,7 @@ use Rattle.range_rw.specs.Contract.{AreNewSeats}
 use Rattle.range_rw.proofs.Seating.{IsNewFrom}
 use Rattle.range_rw.proofs.table.seat_all.Given as goal
 
+-- the seats so far are new, and the hands that are left are new ones from the next number on
 abbrev pub invariant-all : goal.invariant-all
 invariant-all g l = record {
   room : vec_capacity l.seats ≡ vec_capacity l.initial.seats;
@@ -11,5 +12,6 @@ invariant-all g l = record {
   rest : IsNewFrom l.list.table (g.G.Guard.first l.client) l.list.seats (length l.seats.items) l.hands.items;
 }
 
+-- how many hands are left
 abbrev pub decreases-all : goal.decreases-all
 decreases-all g l = length l.hands.items

@@ -4,6 +4,7 @@ use Rattle.lock_core.specs.declared.views.View.{View}
 use Rattle.range_rw.proofs.Taking.{has_ends}
 use Rattle.range_rw.proofs.trying.fill_and_link.Goals as goal
 
+-- the node is filled, and the hand is outside
 pub quick_link-requires-clause-order : goal.quick_link-requires-clause-order
 quick_link-requires-clause-order g c = record {
   even = ap (λ (v : View). v.epoch % 2) c.fill.ensures.filled ∙ c.requires.outside.even;

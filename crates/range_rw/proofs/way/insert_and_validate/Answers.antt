@@ -2,6 +2,7 @@ use Rattle.std.proofs.Common.{sym, ◌∙◌}
 use Rattle.range_rw.proofs.Pieces.{way_validates}
 use Rattle.range_rw.proofs.way.insert_and_validate.Goals as goal
 
+-- the node that was linked has its validation to do
 pub validate_once-requires-clause-own : goal.validate_once-requires-clause-own
 validate_once-requires-clause-own g c =
     let w = c.walk_and_link-walked in

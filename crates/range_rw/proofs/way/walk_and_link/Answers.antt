@@ -4,6 +4,7 @@ use Rattle.marked_list.specs.Answers.{Links}
 use Rattle.range_rw.proofs.Pieces.{lost_ends}
 use Rattle.range_rw.proofs.way.walk_and_link.Goals as goal
 
+-- the lost link refuses the try
 pub returns-in-Lost-clause-ends : goal.returns-in-Lost-clause-ends
 returns-in-Lost-clause-ends g c =
     let q = c.walk-walked.new.hand.part in let r = c.link.new.hand.part in

@@ -2,6 +2,7 @@ use Rattle.std.proofs.Common.{◌≡◌}
 use Rattle.range_rw.specs.Contract.{IsLockCall}
 use Rattle.range_rw.proofs.table.RangeTable.acquire.Given as goal
 
+-- the tries so far hold what was held at the beginning, and are one call
 abbrev pub invariant-loop : goal.invariant-loop
 invariant-loop g l = record {
   held : l.seat.held ≡ l.initial.seat.held;

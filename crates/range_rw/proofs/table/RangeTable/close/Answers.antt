@@ -2,6 +2,7 @@ use Rattle.std.proofs.Common.{sym, ap, ◌∙◌}
 use Rattle.range_rw.specs.Contract.{TableShape}
 use Rattle.range_rw.proofs.table.RangeTable.close.Goals as goal
 
+-- the seats are idle ones of the list behind the table
 pub hands_of-requires-clause-idle : goal.hands_of-requires-clause-idle
 hands_of-requires-clause-idle g c = λ k s at.
     let i = c.requires.idle k s at in

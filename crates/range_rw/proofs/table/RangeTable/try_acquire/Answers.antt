@@ -3,12 +3,14 @@ use Rattle.range_rw.specs.Contract.{TableShape}
 use Rattle.range_rw.proofs.Taking.{seat_cause, seat_long}
 use Rattle.range_rw.proofs.table.RangeTable.try_acquire.Goals as goal
 
+-- the cause of the refusal, in the words of the seat
 pub returns-in-Err-clause-cause : goal.returns-in-Err-clause-cause
 returns-in-Err-clause-cause g c =
     let was = c.seat.inside.hand in let mid = c.leave_epoch.new.hand in let now = c.try_hand.new.hand in
     seat_cause mid.table was.table now.table was.part mid.part now.part c.leave_epoch.ensures.piece c.leave_epoch.ensures.ready
     c.args.seat.now c.seat.view_is (record { range = c.args.range; mode = c.args.mode }) c.in-Err.why c.in-Err.ensures.cause
 
+-- Long comes exactly where a walk of the call is spent
 pub returns-in-Err-clause-long : goal.returns-in-Err-clause-long
 returns-in-Err-clause-long g c =
     let was = c.seat.inside.hand in let mid = c.leave_epoch.new.hand in let now = c.try_hand.new.hand in
