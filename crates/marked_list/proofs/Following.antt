@@ -14,8 +14,8 @@ use Rattle.marked_list.specs.Causes.{IsMet, IsLost, IsWalkLoss, IsSpent, nodes_i
 use Rattle.marked_list.specs.Answers.{Answers, IsLong}
 use Rattle.epoch_pools.specs.Hands.{IsHandView}
 use Rattle.marked_list.specs.Order.{StandsAt}
-use Rattle.marked_list.proofs.Stepping.{free_go, nodes_seen}
-use Rattle.marked_list.specs.Going.{seen_of, IsWithin, Outcome}
+use Rattle.marked_list.proofs.Arriving.{may_walk_free, nodes_seen}
+use Rattle.marked_list.specs.Walking.{seen_of, IsNotSpent, Outcome}
 
 met_from : {P : Type 0} (first later : ℕ) (q : SeatPart P) (owner : ℕ) (held : Held) → first ≤ later → IsMet later q owner held → IsMet first q owner held
 met_from first later q owner held le m = record {
@@ -70,7 +70,7 @@ pub new_on : {P : Type 0} (first : ℕ) (q r : SeatPart P) → IsNewWalk first q
 new_on first q r new same le = let s = same new.0 new.1 in let f = new.2 in let b = new.3 in let e = s.2 in (s.0, s.1, omega arith, omega arith)
 
 -- an answer that isn't Long comes where the walk isn't spent
-pub long_within : {P : Type 0} (first : ℕ) (own : Own) (q : SeatPart P) (a : Walked) → Answers first own q a → IsWithin q → IsLong a ↔ IsSpent q
+pub long_within : {P : Type 0} (first : ℕ) (own : Own) (q : SeatPart P) (a : Walked) → Answers first own q a → IsNotSpent q → IsLong a ↔ IsSpent q
 long_within first own q a x within = (
   spent a x,
   λ s. absurd (⊎_elim (λ (le : nodes_in q.trace.looked ≤ 16 * q.seats). let e = s.0 in omega arith)
@@ -87,4 +87,4 @@ long_within first own q a x within = (
 pub spent_is : {P : Type 0} (first most : ℕ) (own : Own) (q : SeatPart P) → StandsAt q.core → IsHandView q → q.core.own ≡ own
     → most ≡ 16 * q.seats + 1 → seen_of q.core.cursor ≤ most → most ≤ seen_of q.core.cursor → Answers first own q (Long most)
 spent_is first most own q st view same many below reached =
-    (many, same, ((let n = nodes_seen q view st.cursor st.is in let s = ap seen_of st.is in omega arith), free_go q.core.own st.own))
+    (many, same, ((let n = nodes_seen q view st.cursor st.is in let s = ap seen_of st.is in omega arith), may_walk_free q.core.own st.own))

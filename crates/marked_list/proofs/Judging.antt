@@ -31,14 +31,14 @@ use Rattle.epoch_pools.specs.Running.{Enables, line_for, part_after, Told}
 use Rattle.epoch_pools.specs.Hands.{IsHandView}
 use Rattle.marked_list.specs.declared.answers.Walked.TheVariants.{Place}
 use Rattle.marked_list.specs.Order.{OwnMayWalk, IsAhead, IsInside, StandsAt, KnowsNext, StandsInConflict}
-use Rattle.marked_list.specs.Leaves.{IsSamePools, IsOn, IsSameWalk, HasJudged}
+use Rattle.marked_list.specs.Leaves.{IsSamePools, IsLaterInWalk, IsSameWalk, HasJudged}
 use Rattle.marked_list.specs.Causes.{IsMet, asked_of, judged_in}
 use Rattle.marked_list.specs.Answers.{Arrives}
-use Rattle.marked_list.specs.Going.{seen_of, has_arrived, arrival_at, judgement_at, conflict_with, KnowsLo, Came}
-use Rattle.marked_list.specs.Going.{IsOthers, IsElsewhere, IsWithin, HasRoom, Outcome, IsLoad}
+use Rattle.marked_list.specs.Walking.{seen_of, has_arrived, arrival_at, judgement_at, conflict_with, KnowsLo, CursorCame}
+use Rattle.marked_list.specs.Walking.{IsOthers, IsAtOthers, IsNotSpent, HasRoom, Outcome, IsLoad}
 use Rattle.marked_list.specs.Scanning.{IsSeen, PassesFrom, found_with}
 use Rattle.marked_list.proofs.Lines.{enables, line_is, Made, made_by, same_walk, same_judged, more_judged, on_made}
-use Rattle.marked_list.proofs.Stepping.{free_go, judges_go, nodes_seen, came_outcome}
+use Rattle.marked_list.proofs.Arriving.{may_walk_free, may_walk_ends, nodes_seen, came_outcome}
 use Rattle.marked_list.proofs.Passing.{judged_on_from, scanning_at}
 use Rattle.marked_list.proofs.Moments.{found_other, found_range, found_own}
 
@@ -86,7 +86,7 @@ module _ {P : Type 0} (p : SeatPart P) (st : StandsAt p.core) where
     -- the load leaves the cursor at its node, and all else as it was
     pub next_loaded : IsLoad p q
     next_loaded = record {
-      on = on_load;
+      later = on_load;
       own = ap (λ (v : View). v.own) core_next;
       seen = ap (λ (v : View). seen_of v.cursor) core_next ∙ sym (ap seen_of st.is);
       walk = same_walk rested p q Walk walk_plan w m (ap is_some st.is);
@@ -97,8 +97,8 @@ module _ {P : Type 0} (p : SeatPart P) (st : StandsAt p.core) where
         plan_is : walked p.core p.core.cursor w ≡ record p.core { cursor = Some next_cursor }
         plan_is = ap (λ (o : Option Cursor). walked p.core o w) st.is
 
-        on_load : IsOn p q
-        on_load = on_made rested p q Walk walk_plan w m (free_go p.core.own st.own) (ap (λ (v : View). v.epoch) plan_is)
+        on_load : IsLaterInWalk p q
+        on_load = on_made rested p q Walk walk_plan w m (may_walk_free p.core.own st.own) (ap (λ (v : View). v.epoch) plan_is)
             (subst (IsSamePools p.core) (sym plan_is) (same_pools p.core (Some next_cursor))) (ap (λ (v : View). v.hand) plan_is ∙ st.inside.hand)
 
     -- the record takes the load as the one at which the cursor's node was found
@@ -106,7 +106,7 @@ module _ {P : Type 0} (p : SeatPart P) (st : StandsAt p.core) where
     next_walked = m.walked
 
     -- where the word that was loaded has no mark, the node is another seat's, or the own linked one
-    pub next_others : (seats : ℕ) → Told seats p Walk w → w % 2 ≡ 0 → IsElsewhere q
+    pub next_others : (seats : ℕ) → Told seats p Walk w → w % 2 ≡ 0 → IsAtOthers q
     next_others seats told even c y is node =
         let same : next_cursor ≡ c = let e = sym (ap (λ (v : View). v.cursor) core_next) ∙ is in cc in
         let y_is : st.node ≡ y = let e = sym st.at ∙ (ap (λ (x : Cursor). plain_node_of x.cur) same ∙ node) in cc in
@@ -160,7 +160,8 @@ module _ {P : Type 0} (p : SeatPart P) (n : ℕ) (k : KnowsNext p.core n) (even 
     -- the load leaves the cursor at its node, and all else as it was
     pub lo_loaded : IsLoad p q
     lo_loaded = record {
-      on = on_made rested p q ReadLo lo_plan w lo_made (free_go p.core.own k.stands.own) refl (same_pools p.core (Some lo_cursor)) k.stands.inside.hand;
+      later = on_made rested p q ReadLo lo_plan w lo_made (may_walk_free p.core.own k.stands.own) refl
+          (same_pools p.core (Some lo_cursor)) k.stands.inside.hand;
       own = ap (λ (v : View). v.own) core_lo;
       seen = ap (λ (v : View). seen_of v.cursor) core_lo ∙ sym (ap seen_of k.stands.is);
       walk = same_walk rested p q ReadLo lo_plan w lo_made (ap is_some k.stands.is);
@@ -173,7 +174,7 @@ module _ {P : Type 0} (p : SeatPart P) (n : ℕ) (k : KnowsNext p.core n) (even 
     lo_walked = lo_made.walked
 
     -- and that the node is another seat's, or the own linked one
-    pub lo_others : IsElsewhere p → IsElsewhere q
+    pub lo_others : IsAtOthers p → IsAtOthers q
     lo_others others c y is node =
         let same : lo_cursor ≡ c = let e = sym (ap (λ (v : View). v.cursor) core_lo) ∙ is in cc in
         let o = others k.stands.cursor y k.stands.is (ap (λ (x : Cursor). plain_node_of x.cur) same ∙ node) in
@@ -298,7 +299,7 @@ module _ {P : Type 0} (p : SeatPart P) (n lo : ℕ) (k : KnowsLo p.core n lo) (e
   hi_plan = loads (hi_place p.seats st.node) (hi_read p.core st.cursor st.node n lo)
 
   hi_line : IsLine p.seats p.number p.core ReadHi hi_plan
-  hi_line = read_hi st.cursor st.node n lo st.is st.at k.knows.next even k.lo (judges_go p.core.own st.own)
+  hi_line = read_hi st.cursor st.node n lo st.is st.at k.knows.next even k.lo (may_walk_ends p.core.own st.own)
 
   -- a cursor that knows its node's lower end may load the higher one
   pub may_read_hi : Enables p ReadHi
@@ -312,8 +313,8 @@ module _ {P : Type 0} (p : SeatPart P) (n lo : ℕ) (k : KnowsLo p.core n lo) (e
     verdict = verdict_of p.core.own lo w
 
     -- the judgement leaves what a call that walks leaves
-    pub judged_on : IsOn p q
-    judged_on = on_made rested p q ReadHi hi_plan w hi_made (free_go p.core.own st.own) (judged_epoch p.core st.cursor st.node n verdict)
+    pub judged_on : IsLaterInWalk p q
+    judged_on = on_made rested p q ReadHi hi_plan w hi_made (may_walk_free p.core.own st.own) (judged_epoch p.core st.cursor st.node n verdict)
         (judged_pools p.core st.cursor st.node n verdict) (judged_hand p.core st.cursor st.node n verdict ∙ st.inside.hand)
 
     -- it is a step of the same walk
@@ -332,17 +333,17 @@ module _ {P : Type 0} (p : SeatPart P) (n lo : ℕ) (k : KnowsLo p.core n lo) (e
       pub judged_range : IsRange lo (w / 2)
       judged_range = found_range p w st.cursor st.node lo (told.moment (λ x. x)) hi_at st.is st.at k.lo
 
-      module _ (view : IsHandView q) (room : HasRoom p) (others : IsElsewhere p) (walked : p.trace.walked < p.trace.taken) where
+      module _ (view : IsHandView q) (room : HasRoom p) (others : IsAtOthers p) (walked : p.trace.walked < p.trace.taken) where
         core_by : (d : Verdict) → verdict ≡ d → q.core ≡ hi_judged p.core st.cursor st.node n d
         core_by d e = hi_made.core ∙ ap (hi_judged p.core st.cursor st.node n) e
 
-        few : (c : Cursor) → q.core.cursor ≡ Some c → c.seen ≡ st.cursor.seen → IsWithin q
+        few : (c : Cursor) → q.core.cursor ≡ Some c → c.seen ≡ st.cursor.seen → IsNotSpent q
         few c is seen = inl (let a = nodes_seen q view c is in let b = room.seen in let e = ap seen_of st.is in let s = hi_made.seats in omega arith)
 
         past : verdict ≡ Past → Outcome p.trace.walked p.core q (judgement_at q.core.own q.core.cursor lo w)
         past e =
             let core = core_by Past e in
-            let came : Came p.core q.core = record {
+            let came : CursorCame p.core q.core = record {
               cursor = record { prev = Some st.node; cur = n; next = None; lo = None; seen = seen_after st.cursor.seen n };
               is = ap (λ (v : View). v.cursor) core;
               even = even;
@@ -461,7 +462,7 @@ module _ {P : Type 0} (p : SeatPart P) (n lo : ℕ) (k : KnowsLo p.core n lo) (e
         past_inside : IsInside q.core
         past_inside = record { odd = ap (λ (v : View). v.epoch % 2) core_past ∙ st.inside.odd; hand = judged_on.hand }
 
-        past_came : Came p.core q.core
+        past_came : CursorCame p.core q.core
         past_came = record {
           cursor = record { prev = Some st.node; cur = n; next = None; lo = None; seen = seen_after st.cursor.seen n };
           is = ap (λ (v : View). v.cursor) core_past;

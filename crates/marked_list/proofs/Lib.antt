@@ -1,10 +1,10 @@
+pub mod Arriving
+pub mod Beginning
 pub mod Following
 pub mod Judging
 pub mod Lines
 pub mod Moments
 pub mod Owning
 pub mod Passing
-pub mod Setting
-pub mod Stepping
 pub mod Swept
 pub mod Unlinking

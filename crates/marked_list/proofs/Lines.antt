@@ -13,7 +13,7 @@ use Rattle.epoch_pools.specs.declared.record.Record.{Record}
 use Rattle.epoch_pools.specs.declared.views.SeatPart.{SeatPart}
 use Rattle.epoch_pools.specs.Record.{met_after, lost_by, expected_by, looked_with, looked_on, walked_at, is_judging, gained_by}
 use Rattle.epoch_pools.specs.Running.{Enables, line_for, part_after, pass_kept}
-use Rattle.marked_list.specs.Leaves.{IsSamePools, IsOn, IsCall, IsSameWalk, HasJudged}
+use Rattle.marked_list.specs.Leaves.{IsSamePools, IsLaterInWalk, IsCall, IsSameWalk, HasJudged}
 
 -- a step that has a line in the step table is enabled
 pub enables : {P : Type 0} (p : SeatPart P) (step : Step) (plan : Plan) → IsLine p.seats p.number p.core step plan → Enables p step
@@ -110,7 +110,7 @@ module _ {P : Type 0} (rested : P → P) (p q : SeatPart P) (step : Step) (plan 
 
   -- a step of a seat that holds nothing, whose plan keeps epoch and pools, leaves what a call that walks leaves
   pub on_made : held_at p.core.own ≡ None → (plan.view found).epoch ≡ p.core.epoch → IsSamePools p.core (plan.view found)
-      → (plan.view found).hand ≡ None → IsOn p q
+      → (plan.view found).hand ≡ None → IsLaterInWalk p q
   on_made free epoch pools hand = record {
     number = m.number;
     seats = m.seats;
@@ -133,7 +133,7 @@ module _ {P : Type 0} (rested : P → P) (p q : SeatPart P) (step : Step) (plan 
   }
 
 -- one call after another
-pub on_on : {P : Type 0} (p q r : SeatPart P) → IsOn p q → IsOn q r → IsOn p r
+pub on_on : {P : Type 0} (p q r : SeatPart P) → IsLaterInWalk p q → IsLaterInWalk q r → IsLaterInWalk p r
 on_on p q r a b = record {
   number = b.number ∙ a.number;
   seats = b.seats ∙ a.seats;

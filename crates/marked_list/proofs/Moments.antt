@@ -19,7 +19,7 @@ use Rattle.lock_core.proofs.Counts.{own_linked}
 use Rattle.lock_laws.proofs.Sound.{finds_other, reads_range}
 use Rattle.epoch_pools.specs.declared.views.SeatPart.{SeatPart}
 use Rattle.epoch_pools.specs.Running.{LockMoment, line_for}
-use Rattle.marked_list.specs.Going.{IsOthers}
+use Rattle.marked_list.specs.Walking.{IsOthers}
 
 -- a list has from 1 to 16 seats
 pub seat_count : {P : Type 0} (p : SeatPart P) (step : Step) (w : ℕ) → LockMoment p step w → (0 < p.seats) × (p.seats ≤ 16)

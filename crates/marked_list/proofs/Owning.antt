@@ -27,7 +27,7 @@ use Rattle.marked_list.specs.declared.answers.Lost.{Lost}
 use Rattle.marked_list.specs.Order.{HasEnds, StandsAtPlace, MayFill, MayAim, MayLink, MayMark, MayQuickUnlink}
 use Rattle.marked_list.specs.Leaves.{IsCall, IsSameLook}
 use Rattle.marked_list.specs.Causes.{IsLost, nodes_in}
-use Rattle.marked_list.specs.Going.{seen_of}
+use Rattle.marked_list.specs.Walking.{seen_of}
 use Rattle.marked_list.specs.Answers.{aimed_own, linked_own, IsAimed, IsMarkCall, IsQuickCall}
 use Rattle.marked_list.proofs.Lines.{enables, Made, made_by, pass_stays, same_looked, call_made, walk_on_walk}
 use Rattle.marked_list.proofs.Following.{lost_from}

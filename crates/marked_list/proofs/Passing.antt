@@ -20,9 +20,9 @@ use Rattle.marked_list.specs.Order.{OwnMayWalk, IsInside, StandsAt}
 use Rattle.marked_list.specs.Leaves.{HasJudged}
 use Rattle.marked_list.specs.Causes.{asked_of, nodes_in, judged_in, IsWalkLoss}
 use Rattle.marked_list.specs.Answers.{Arrives, IsAtEnd}
-use Rattle.marked_list.specs.Going.{seen_of, has_arrived, arrival_at, GoesOn, HasRoom, IsWithin, IsLoad, MayBeginWalk, Outcome}
-use Rattle.marked_list.specs.Scanning.{IsAtNode, IsAtLast, IsScanning, IsResting, passed_from, passed_by, passed_at, PassesFrom, Passes, Sees}
-use Rattle.marked_list.proofs.Stepping.{nodes_seen}
+use Rattle.marked_list.specs.Walking.{seen_of, has_arrived, arrival_at, GoesOn, HasRoom, IsNotSpent, IsLoad, MayBeginWalk, Outcome}
+use Rattle.marked_list.specs.Scanning.{IsScanAtNode, IsScanAtEnd, IsScanning, IsResting, passed_from, passed_by, passed_at, PassesFrom, Passes, Sees}
+use Rattle.marked_list.proofs.Arriving.{nodes_seen}
 use Rattle.marked_list.proofs.Following.{lost_from}
 
 -- a hand's view has one note for each seat
@@ -43,11 +43,11 @@ judged_same_from p q c is view j = let e = judged_on_from 0 p q c is view j in o
 
 module _ {P : Type 0} (first : ℕ) (p q : SeatPart P) (bare : p.core.own ≡ Nothing) (view : IsHandView q) (room : HasRoom p) (seats : q.seats ≡ p.seats) where
   -- the walk goes on at a node
-  pub at_node : GoesOn p.core q.core → IsAtNode q.core
+  pub at_node : GoesOn p.core q.core → IsScanAtNode q.core
   at_node g = record { stands = g.stands; seen = let n = notes_are q view in let r = room.seen in let s = g.seen in omega arith }
 
   -- or has come to the end
-  pub at_last : Outcome first p.core q (Some Place) → IsInside q.core → IsAtLast q.core
+  pub at_last : Outcome first p.core q (Some Place) → IsInside q.core → IsScanAtEnd q.core
   at_last x inside =
       let a : Arrives Nothing q.core = subst (λ (o : Own). Arrives o q.core) bare x.0 in
       record {
@@ -76,7 +76,7 @@ module _ {P : Type 0} (first : ℕ) (p q : SeatPart P) (bare : p.core.own ≡ No
       by_cursor None y = record { own = y.own ∙ bare; at = inl (at_node y) }
       by_cursor (Some c) y = by_bool (has_arrived q.core.own c) y
 
-  short : IsWithin q → q.core.own ≡ Nothing → nodes_in q.trace.looked ≤ 16 * q.seats
+  short : IsNotSpent q → q.core.own ≡ Nothing → nodes_in q.trace.looked ≤ 16 * q.seats
   short w own = ⊎_elim (λ le. le) (λ (h : held_at q.core.own ≢ None). absurd (h (ap held_at own))) w
 
   -- the answer of a walk without an own node, which is never in conflict
@@ -165,12 +165,12 @@ module _ {P : Type 0} (p : SeatPart P) (view : IsHandView p) (rests : IsResting 
       (λ (s : IsScanning p.core). s) rests
 
   -- a scan that rests with its cursor at word 0 is at the end of the list
-  pub rests_last : c.cur ≡ 0 → IsAtLast p.core
-  rests_last z = ⊎_elim (λ (n : IsAtNode p.core). absurd (node_not_end p.core c is z n.stands)) (λ (l : IsAtLast p.core). l) scanning.at
+  pub rests_last : c.cur ≡ 0 → IsScanAtEnd p.core
+  rests_last z = ⊎_elim (λ (n : IsScanAtNode p.core). absurd (node_not_end p.core c is z n.stands)) (λ (l : IsScanAtEnd p.core). l) scanning.at
 
   -- one whose cursor is at another word is at a node
-  pub rests_node : c.cur ≢ 0 → IsAtNode p.core
-  rests_node far = ⊎_elim (λ (n : IsAtNode p.core). n) (λ (l : IsAtLast p.core). absurd (far (end_is p.core c is l.end))) scanning.at
+  pub rests_node : c.cur ≢ 0 → IsScanAtNode p.core
+  rests_node far = ⊎_elim (λ (n : IsScanAtNode p.core). n) (λ (l : IsScanAtEnd p.core). absurd (far (end_is p.core c is l.end))) scanning.at
 
   passed_is : judged_in p.trace.looked ≡ passed_by p
   passed_is = ap (λ (o : Option Cursor). passed_at o p.trace.looked) (sym is)
@@ -210,8 +210,8 @@ module _ {P : Type 0} (p : SeatPart P) (view : IsHandView p) (rests : IsResting 
 -- a scan without a cursor
 module _ {P : Type 0} (p : SeatPart P) (gone : p.core.cursor ≡ None) where
   -- a hand inside its epoch, without an own node and a cursor, may begin a walk
-  pub may_scan_out : IsInside p.core → p.core.own ≡ Nothing → MayBeginWalk p.core
-  may_scan_out inside own = record { inside = inside; own = subst OwnMayWalk (sym own) tt; cursor = gone }
+  pub may_scan_from_head : IsInside p.core → p.core.own ≡ Nothing → MayBeginWalk p.core
+  may_scan_from_head inside own = record { inside = inside; own = subst OwnMayWalk (sym own) tt; cursor = gone }
 
   -- the answer of a walk that this call began is the answer of the call
   pub passes_begun : (q : SeatPart P) (a : Passed) → PassesFrom p.trace.taken 0 q a → Passes p q a

@@ -13,10 +13,10 @@ use Rattle.epoch_pools.specs.Hands.{IsHandView, quiet_after}
 use Rattle.marked_list.specs.declared.answers.Walked.{Walked}
 use Rattle.marked_list.specs.declared.answers.Walked.TheVariants.{Place, Conflict, Lost, Long}
 use Rattle.marked_list.specs.Order.{OwnMayWalk, IsOutside, IsInside, MaySweep}
-use Rattle.marked_list.specs.Leaves.{IsOn, IsNewWalk, IsSwept}
+use Rattle.marked_list.specs.Leaves.{IsLaterInWalk, IsNewWalk, IsSwept}
 use Rattle.marked_list.specs.Causes.{IsSpent, nodes_in, asked_of}
 use Rattle.marked_list.specs.Answers.{Answers, IsLong, Sweeps}
-use Rattle.marked_list.specs.Going.{MayBeginWalk}
+use Rattle.marked_list.specs.Walking.{MayBeginWalk}
 use Rattle.marked_list.proofs.Unlinking.{gone_looked}
 
 -- an epoch counts from even to odd and on to even
@@ -32,10 +32,10 @@ module _ {P : Type 0} (p e : SeatPart P) (may : MaySweep p.core) (entering : e �
   own_in = ap (λ (x : SeatPart P). x.core.own) entering ∙ may.own
 
   -- a hand that entered its epoch without an own node may begin a walk
-  pub sets_out : IsInside e.core → MayBeginWalk e.core
-  sets_out inside = record { inside = inside; own = subst OwnMayWalk (sym own_in) tt; cursor = ap (λ (x : SeatPart P). x.core.cursor) entering }
+  pub may_begin : IsInside e.core → MayBeginWalk e.core
+  may_begin inside = record { inside = inside; own = subst OwnMayWalk (sym own_in) tt; cursor = ap (λ (x : SeatPart P). x.core.cursor) entering }
 
-  module _ (q r : SeatPart P) (a : Walked) (on : IsOn e q) (answer : Answers e.trace.taken e.core.own q a)
+  module _ (q r : SeatPart P) (a : Walked) (on : IsLaterInWalk e q) (answer : Answers e.trace.taken e.core.own q a)
       (leaving : r ≡ quiet_after q Leave (left q.core)) where
     bare : Answers e.trace.taken Nothing q a
     bare = subst (λ (o : Own). Answers e.trace.taken o q a) own_in answer

@@ -20,11 +20,11 @@ use Rattle.epoch_pools.specs.Running.{Enables, part_after}
 use Rattle.epoch_pools.specs.Hands.{IsHandView, quiet_after}
 use Rattle.marked_list.specs.declared.answers.Lost.{Lost}
 use Rattle.marked_list.specs.Order.{StandsAt, KnowsNext}
-use Rattle.marked_list.specs.Leaves.{IsSamePools, IsOn, IsSameWalk, HasJudged}
+use Rattle.marked_list.specs.Leaves.{IsSamePools, IsLaterInWalk, IsSameWalk, HasJudged}
 use Rattle.marked_list.specs.Causes.{IsLost, IsWalkLoss, nodes_in}
-use Rattle.marked_list.specs.Going.{seen_of, arrival_at, HasRoom, Outcome, IsFailed, IsUnlinked}
+use Rattle.marked_list.specs.Walking.{seen_of, arrival_at, HasRoom, Outcome, IsFailed, IsUnlinked}
 use Rattle.marked_list.proofs.Lines.{enables, Made, made_by, same_looked, judges_none, same_walk, same_judged, on_made, call_made}
-use Rattle.marked_list.proofs.Stepping.{free_go, nodes_seen, came_outcome}
+use Rattle.marked_list.proofs.Arriving.{may_walk_free, nodes_seen, came_outcome}
 
 -- an exchange that found another value is in the record
 pub lost_made : {P : Type 0} (rested : P → P) (p q : SeatPart P) (step : Step) (plan : Plan) (w e : ℕ) → Made rested p q step plan w
@@ -76,7 +76,7 @@ module _ {P : Type 0} (rested : P → P) (p q : SeatPart P) (step : Step) (plan 
       → (w == c.cur) ≡ false → held_at p.core.own ≡ None → p.core.hand ≡ None → IsHandView p → HasRoom p
       → (l : Lost) → l.place ≡ plan.place → l.expected ≡ c.cur → l.found ≡ w → IsFailed p q l
   failed kind expects gone far free hand view room l placed wanted had = record {
-    on = on_made rested p q step plan w m free (ap (λ (v : View). v.epoch) gone)
+    later = on_made rested p q step plan w m free (ap (λ (v : View). v.epoch) gone)
         (subst (IsSamePools p.core) (sym gone) (record { ready = refl; used = refl; homes = refl; notes = refl; passed = refl }))
         (ap (λ (v : View). v.hand) gone ∙ hand);
     outcome = (
@@ -126,7 +126,7 @@ module _ {P : Type 0} (p : SeatPart P) (n : ℕ) (k : KnowsNext p.core n) (odd :
     won e =
         let core : q.core ≡ unlinked p.core st.cursor st.node (n - 1) = m.core ∙ ap view_by e in
         record {
-          call = call_made rested p q Unlink unlink_plan w m (free_go p.core.own st.own);
+          call = call_made rested p q Unlink unlink_plan w m (may_walk_free p.core.own st.own);
           epoch = ap (λ (v : View). v.epoch) core;
           pools = subst (IsSamePools p.core) (sym core) (record { ready = refl; used = refl; homes = refl; notes = refl; passed = refl });
           hand = ap (λ (v : View). v.hand) core;
@@ -160,7 +160,7 @@ module _ {P : Type 0} (p : SeatPart P) (n : ℕ) (k : KnowsNext p.core n) (odd :
         by_value : (b : Bool) → (w == st.cursor.cur) ≡ b → IsFailed p q l
         by_value true e = absurd (let h : ◌≡◌ {A = Option ℕ} (Some st.node) None = sym (won e).hand ∙ hand in cc)
         by_value false e = failed rested p q Unlink unlink_plan w m st.cursor st.is tt refl (ap view_by e) e
-            (free_go p.core.own st.own) st.inside.hand view room l placed wanted had
+            (may_walk_free p.core.own st.own) st.inside.hand view room l placed wanted had
 
     -- the same, in the words of the cursor that was read before the step
     pub unlink_lost : q.core.hand ≡ None → IsHandView p → HasRoom p → (d : Cursor) → p.core.cursor ≡ Some d → (s : ℕ)
@@ -176,7 +176,7 @@ module _ {P : Type 0} (p q r : SeatPart P) (x : ℕ) (u : IsUnlinked p q x) (mad
   core_home = ap (λ (z : SeatPart P). z.core) made
 
   -- unlinking a node and giving it home leaves what a call that walks leaves
-  pub home_on : IsOn p r
+  pub home_on : IsLaterInWalk p r
   home_on = record {
     number = ap (λ (z : SeatPart P). z.number) made ∙ u.call.number;
     seats = ap (λ (z : SeatPart P). z.seats) made ∙ u.call.seats;

@@ -18,7 +18,7 @@ pub record IsSamePools (v w : View) : Type 0 where
   pub passed : w.passed ≡ v.passed
 
 -- what a call that walks leaves
-pub record IsOn {P : Type 0} (p q : SeatPart P) : Type 0 where
+pub record IsLaterInWalk {P : Type 0} (p q : SeatPart P) : Type 0 where
   pub number : q.number ≡ p.number
   pub seats : q.seats ≡ p.seats
   pub pass : q.pass ≡ p.pass

@@ -1,9 +1,9 @@
 pub mod Answers
 pub mod Causes
-pub mod Going
 pub mod Leaves
 pub mod Order
 pub mod Scanning
+pub mod Walking
 pub use Rattle.epoch_pools.specs.Hands
 pub use Rattle.epoch_pools.specs.Record
 pub use Rattle.lock_core.specs.Grants

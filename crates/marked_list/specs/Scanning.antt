@@ -18,15 +18,15 @@ use Rattle.marked_list.specs.declared.answers.Walked.TheVariants.{Place, Conflic
 use Rattle.marked_list.specs.Causes.{IsLost, IsWalkLoss, nodes_in, judged_in}
 use Rattle.marked_list.specs.Order.{IsInside, StandsAt}
 use Rattle.marked_list.specs.Answers.{IsAtEnd}
-use Rattle.marked_list.specs.Going.{seen_of, GoesOn}
+use Rattle.marked_list.specs.Walking.{seen_of, GoesOn}
 
 -- a scan's cursor is at a node, and has looked at no more nodes than a walk may; a view has one note for each seat
-pub record IsAtNode (v : View) : Type 0 where
+pub record IsScanAtNode (v : View) : Type 0 where
   pub stands : StandsAt v
   pub seen : seen_of v.cursor ≤ 16 * length v.notes + 1
 
 -- it is at the end, which it came to before it had looked at as many nodes as it may
-pub record IsAtLast (v : View) : Type 0 where
+pub record IsScanAtEnd (v : View) : Type 0 where
   pub inside : IsInside v
   pub end : IsAtEnd v.cursor
   pub seen : seen_of v.cursor ≤ 16 * length v.notes
@@ -34,7 +34,7 @@ pub record IsAtLast (v : View) : Type 0 where
 -- a scan is under way, with a cursor
 pub record IsScanning (v : View) : Type 0 where
   pub own : v.own ≡ Nothing
-  pub at : IsAtNode v ⊎ IsAtLast v
+  pub at : IsScanAtNode v ⊎ IsScanAtEnd v
 
 -- how a cursor may stand while no call is made
 abbrev pub IsResting : View → Type 0
@@ -75,11 +75,11 @@ module _ {P : Type 0} where
   abbrev pub PassesFrom : ℕ → ℕ → SeatPart P → Passed → Type 0
   PassesFrom first before q (Found owner range mode) = IsSeen first q owner (record { range = range; mode = mode })
       × (judged_in q.trace.looked ≡ before + 1) × IsScanning q.core
-  PassesFrom first before q End = IsAtLast q.core × (judged_in q.trace.looked ≡ before) × (nodes_in q.trace.looked ≤ 16 * q.seats)
+  PassesFrom first before q End = IsScanAtEnd q.core × (judged_in q.trace.looked ≡ before) × (nodes_in q.trace.looked ≤ 16 * q.seats)
   PassesFrom first before q (Lost l) = IsLost first q IsWalkLoss l.place l.expected l.found × (judged_in q.trace.looked ≡ before)
       × (nodes_in q.trace.looked ≤ 16 * q.seats) × (q.core.cursor ≡ None)
   PassesFrom first before q (Long visits) = (visits ≡ 16 * q.seats + 1) × (judged_in q.trace.looked ≡ before)
-      × (nodes_in q.trace.looked ≡ 16 * q.seats + 1) × IsAtNode q.core
+      × (nodes_in q.trace.looked ≡ 16 * q.seats + 1) × IsScanAtNode q.core
 
   -- why a scan gives an answer, from the hand before the call and after it
   abbrev pub Passes : SeatPart P → SeatPart P → Passed → Type 0

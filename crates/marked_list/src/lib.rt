@@ -12,8 +12,8 @@ mod own;
 mod quick;
 mod scanning;
 mod sweeping;
+mod walk_loop;
 mod walking;
-mod way;
 
 pub use answers::{Linked, Lost, Passed, Walked};
 pub use cursor::{Cursor, begin, end};

@@ -8,8 +8,8 @@ ghost use Rattle.lock_core.specs.declared.views.Cursor.{Cursor};
 ghost use Rattle.lock_core.specs.Words.{cell_place, cell_of, mode_of};
 ghost use Rattle.lock_core.specs.Machine.{held_at};
 ghost use Rattle.marked_list.specs.Order.{StandsAt, KnowsNext};
-ghost use Rattle.marked_list.specs.Leaves.{IsOn, IsSameWalk, HasJudged};
-ghost use Rattle.marked_list.specs.Going.{arrival_at, conflict_with, judgement_at, KnowsLo, HasRoom, IsElsewhere, IsLoad, IsUnlinked, IsFailed, Outcome};
+ghost use Rattle.marked_list.specs.Leaves.{IsLaterInWalk, IsSameWalk, HasJudged};
+ghost use Rattle.marked_list.specs.Walking.{arrival_at, conflict_with, judgement_at, KnowsLo, HasRoom, IsAtOthers, IsLoad, IsUnlinked, IsFailed, Outcome};
 
 use crate::answers::{Lost, Walked};
 use epoch_pools::{Hand, List, give_home, step};
@@ -107,7 +107,7 @@ pub(crate) fn load_next<G: Guard, L: Ledger>(
     ensures table { hand.new.table ≡ hand.old.table }
     ensures knows { KnowsNext hand.new.part.core result }
     ensures load { IsLoad hand.old.part hand.new.part }
-    ensures other { result % 2 ≡ 0 → IsElsewhere hand.new.part }
+    ensures other { result % 2 ≡ 0 → IsAtOthers hand.new.part }
     ensures walked { hand.new.part.trace.walked ≡ hand.old.part.trace.taken }
     ensures counted { steps.new ≡ steps.old + 1 }
 {
@@ -122,11 +122,11 @@ pub(crate) fn load_lo<G: Guard, L: Ledger>(
 ) -> u64
     requires table { hand.old.table ≡ list.now.table }
     requires knows { (n : ℕ) × KnowsNext hand.old.part.core n × (n % 2 ≡ 0) }
-    requires other { IsElsewhere hand.old.part }
+    requires other { IsAtOthers hand.old.part }
     ensures table { hand.new.table ≡ hand.old.table }
     ensures knows { (n : ℕ) × KnowsLo hand.new.part.core n result × (n % 2 ≡ 0) }
     ensures load { IsLoad hand.old.part hand.new.part }
-    ensures other { IsElsewhere hand.new.part }
+    ensures other { IsAtOthers hand.new.part }
     ensures walked { hand.new.part.trace.walked ≡ hand.old.part.trace.walked }
     ensures counted { steps.new ≡ steps.old + 1 }
 {
@@ -142,11 +142,11 @@ fn judge<G: Guard, L: Ledger>(
 ) -> Option<Walked>
     requires table { hand.old.table ≡ list.now.table }
     requires knows { (n : ℕ) × KnowsLo hand.old.part.core n lo × (n % 2 ≡ 0) }
-    requires other { IsElsewhere hand.old.part }
+    requires other { IsAtOthers hand.old.part }
     requires walked { hand.old.part.trace.walked < hand.old.part.trace.taken }
     requires room { HasRoom hand.old.part }
     ensures table { hand.new.table ≡ hand.old.table }
-    ensures on { IsOn hand.old.part hand.new.part }
+    ensures later { IsLaterInWalk hand.old.part hand.new.part }
     ensures outcome { Outcome hand.old.part.trace.walked hand.old.part.core hand.new.part result }
     ensures walk { IsSameWalk hand.old.part hand.new.part }
     ensures taken { hand.new.part.trace.taken ≡ hand.old.part.trace.taken + 1 }
@@ -180,8 +180,9 @@ fn unlink<G: Guard, L: Ledger>(
     Ok(node)
 }
 
-/// Unlinks the cursor's node, whose next word is known and has the mark, and gives it home.
-pub(crate) fn pass_marked<G: Guard, L: Ledger>(
+/// Unlinks the cursor's node, whose next word is known and has the mark, and gives it home: None where the walk goes
+/// on.
+pub(crate) fn remove_marked<G: Guard, L: Ledger>(
     list: &List<G>,
     hand: &mut Hand<G>,
     steps: &mut Steps<L>,
@@ -190,7 +191,7 @@ pub(crate) fn pass_marked<G: Guard, L: Ledger>(
     requires knows { (n : ℕ) × KnowsNext hand.old.part.core n × (n % 2 ≡ 1) }
     requires room { HasRoom hand.old.part }
     ensures table { hand.new.table ≡ hand.old.table }
-    ensures on { IsOn hand.old.part hand.new.part }
+    ensures later { IsLaterInWalk hand.old.part hand.new.part }
     ensures outcome { Outcome hand.old.part.trace.taken hand.old.part.core hand.new.part result }
     ensures walk { IsSameWalk hand.old.part hand.new.part }
     ensures judged { HasJudged 0 hand.old.part hand.new.part }
@@ -216,7 +217,7 @@ pub(crate) fn look<G: Guard, L: Ledger>(
     requires stands { StandsAt hand.old.part.core }
     requires room { HasRoom hand.old.part }
     ensures table { hand.new.table ≡ hand.old.table }
-    ensures on { IsOn hand.old.part hand.new.part }
+    ensures later { IsLaterInWalk hand.old.part hand.new.part }
     ensures outcome { Outcome hand.old.part.trace.taken hand.old.part.core hand.new.part result }
     ensures walk { IsSameWalk hand.old.part hand.new.part }
     ensures taken { hand.new.part.trace.taken ≤ hand.old.part.trace.taken + 3 }
@@ -224,7 +225,7 @@ pub(crate) fn look<G: Guard, L: Ledger>(
 {
     let next = load_next(list, hand, steps);
     if next % 2 == 1 {
-        pass_marked(list, hand, steps)
+        remove_marked(list, hand, steps)
     } else {
         let lo = load_lo(list, hand, steps);
         judge(list, hand, lo, steps)

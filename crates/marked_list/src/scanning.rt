@@ -7,15 +7,15 @@ ghost use Rattle.lock_core.specs.Range.{IsRange};
 ghost use Rattle.lock_core.specs.declared.views.Own.TheVariants.{Nothing};
 ghost use Rattle.marked_list.specs.declared.answers.Passed.TheVariants.{End, Long};
 ghost use Rattle.marked_list.specs.Order.{IsInside, StandsAt, KnowsNext};
-ghost use Rattle.marked_list.specs.Leaves.{IsOn};
+ghost use Rattle.marked_list.specs.Leaves.{IsLaterInWalk};
 ghost use Rattle.marked_list.specs.Causes.{judged_in};
 ghost use Rattle.marked_list.specs.Answers.{IsAtEnd};
-ghost use Rattle.marked_list.specs.Going.{seen_of, KnowsLo, HasRoom, IsElsewhere, MayBeginWalk};
+ghost use Rattle.marked_list.specs.Walking.{seen_of, KnowsLo, HasRoom, IsAtOthers, MayBeginWalk};
 ghost use Rattle.marked_list.specs.Scanning.{found_with, passed_from, IsResting, PassesFrom, Passes, Sees};
 
 use crate::answers::{Passed, Walked};
-use crate::look::{load_lo, load_next, mode_in, pass_marked};
-use crate::way::{begin_walk, seen_in};
+use crate::look::{load_lo, load_next, mode_in, remove_marked};
+use crate::walk_loop::{begin_walk, seen_in};
 use epoch_pools::{Hand, List, step};
 use lock_core::{Guard, Range, Step};
 use std::sync::ledger::Ledger;
@@ -62,7 +62,7 @@ fn pass_node<G: Guard, L: Ledger>(
     requires walked { hand.old.part.trace.walked < hand.old.part.trace.taken }
     requires room { HasRoom hand.old.part }
     ensures table { hand.new.table ≡ hand.old.table }
-    ensures on { IsOn hand.old.part hand.new.part }
+    ensures later { IsLaterInWalk hand.old.part hand.new.part }
     ensures own { hand.new.part.core.own ≡ Nothing }
     ensures answer { PassesFrom hand.old.part.trace.walked (judged_in hand.old.part.trace.looked) hand.new.part result }
     ensures taken { hand.new.part.trace.taken ≡ hand.old.part.trace.taken + 1 }
@@ -87,20 +87,20 @@ fn skip_marked<G: Guard, L: Ledger>(
     requires own { hand.old.part.core.own ≡ Nothing }
     requires room { HasRoom hand.old.part }
     ensures table { hand.new.table ≡ hand.old.table }
-    ensures on { IsOn hand.old.part hand.new.part }
+    ensures later { IsLaterInWalk hand.old.part hand.new.part }
     ensures own { hand.new.part.core.own ≡ Nothing }
     ensures sees { Sees hand.old.part.trace.taken hand.old.part hand.new.part result }
     ensures taken { hand.new.part.trace.taken ≤ hand.old.part.trace.taken + 2 }
     ensures counted { steps.new + hand.old.part.trace.taken ≡ steps.old + hand.new.part.trace.taken }
 {
     let _ = hand.view();
-    let answer = pass_marked(list, hand, steps);
+    let answer = remove_marked(list, hand, steps);
     let _ = hand.view();
     Some(passed(answer?))
 }
 
 /// One look of a scan at the cursor's node: None where it was marked and the scan goes on.
-fn see<G: Guard, L: Ledger>(
+fn scan_look<G: Guard, L: Ledger>(
     list: &List<G>,
     hand: &mut Hand<G>,
     steps: &mut Steps<L>,
@@ -110,7 +110,7 @@ fn see<G: Guard, L: Ledger>(
     requires own { hand.old.part.core.own ≡ Nothing }
     requires room { HasRoom hand.old.part }
     ensures table { hand.new.table ≡ hand.old.table }
-    ensures on { IsOn hand.old.part hand.new.part }
+    ensures later { IsLaterInWalk hand.old.part hand.new.part }
     ensures own { hand.new.part.core.own ≡ Nothing }
     ensures sees { Sees hand.old.part.trace.taken hand.old.part hand.new.part result }
     ensures taken { hand.new.part.trace.taken ≤ hand.old.part.trace.taken + 3 }
@@ -132,7 +132,7 @@ fn scan_on<G: Guard, L: Ledger>(list: &List<G>, hand: &mut Hand<G>, steps: &mut 
     requires own { hand.old.part.core.own ≡ Nothing }
     requires room { seen_of hand.old.part.core.cursor ≤ 16 * hand.old.part.seats }
     ensures table { hand.new.table ≡ hand.old.table }
-    ensures on { IsOn hand.old.part hand.new.part }
+    ensures later { IsLaterInWalk hand.old.part hand.new.part }
     ensures own { hand.new.part.core.own ≡ Nothing }
     ensures answer { PassesFrom hand.old.part.trace.taken (judged_in hand.old.part.trace.looked) hand.new.part result }
     ensures taken { hand.new.part.trace.taken ≤ hand.old.part.trace.taken + 3 * (16 * hand.old.part.seats + 1) }
@@ -140,20 +140,24 @@ fn scan_on<G: Guard, L: Ledger>(list: &List<G>, hand: &mut Hand<G>, steps: &mut 
 {
     let most = 16 * hand.seats() + 1;
     'nodes: while seen_in(hand.view()) < most {
-        if let Some(answer) = see(list, hand, steps) {
+        if let Some(answer) = scan_look(list, hand, steps) {
             return answer;
         }
     }
     Passed::Long { visits: most }
 }
 
-/// Begins a scan at the head.
-fn scan_out<G: Guard, L: Ledger>(list: &List<G>, hand: &mut Hand<G>, steps: &mut Steps<L>) -> Passed
+/// Begins a scan at the head, and goes on past at most one node.
+fn scan_from_head<G: Guard, L: Ledger>(
+    list: &List<G>,
+    hand: &mut Hand<G>,
+    steps: &mut Steps<L>,
+) -> Passed
     requires table { hand.old.table ≡ list.now.table }
     requires begins { MayBeginWalk hand.old.part.core }
     requires own { hand.old.part.core.own ≡ Nothing }
     ensures table { hand.new.table ≡ hand.old.table }
-    ensures on { IsOn hand.old.part hand.new.part }
+    ensures later { IsLaterInWalk hand.old.part hand.new.part }
     ensures own { hand.new.part.core.own ≡ Nothing }
     ensures answer { PassesFrom hand.old.part.trace.taken 0 hand.new.part result }
     ensures taken { hand.new.part.trace.taken ≤ hand.old.part.trace.taken + 2 + 3 * (16 * hand.old.part.seats + 1) }
@@ -177,7 +181,7 @@ pub fn pass<G: Guard, L: Ledger>(list: &List<G>, hand: &mut Hand<G>, steps: &mut
     requires own { hand.old.part.core.own ≡ Nothing }
     requires resting { IsResting hand.old.part.core }
     ensures table { hand.new.table ≡ hand.old.table }
-    ensures on { IsOn hand.old.part hand.new.part }
+    ensures later { IsLaterInWalk hand.old.part hand.new.part }
     ensures own { hand.new.part.core.own ≡ Nothing }
     ensures resting { IsResting hand.new.part.core }
     ensures answer { Passes hand.old.part hand.new.part result }
@@ -188,7 +192,7 @@ pub fn pass<G: Guard, L: Ledger>(list: &List<G>, hand: &mut Hand<G>, steps: &mut
     ensures counted { steps.new + hand.old.part.trace.taken ≡ steps.old + hand.new.part.trace.taken }
 {
     let Some(cursor) = hand.view().cursor else {
-        return scan_out(list, hand, steps);
+        return scan_from_head(list, hand, steps);
     };
     let most = 16 * hand.seats() + 1;
     if cursor.cur == 0 {

@@ -10,7 +10,7 @@ ghost use Rattle.marked_list.specs.Answers.{Sweeps, IsLong};
 
 use crate::answers::Walked;
 use crate::cursor::{begin, end};
-use crate::way::whole_walk;
+use crate::walk_loop::whole_walk;
 use epoch_pools::{Hand, List};
 use lock_core::Guard;
 use std::sync::ledger::Ledger;

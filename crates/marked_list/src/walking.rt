@@ -4,13 +4,13 @@
 //! Issa 2020.
 ghost use Rattle.std.specs.Prelude.{◌≡◌, ◌+◌, ◌*◌, ◌≤◌, ◌↔◌, None};
 ghost use Rattle.marked_list.specs.Order.{MayWalk, MayValidate};
-ghost use Rattle.marked_list.specs.Leaves.{IsOn, IsNewWalk};
+ghost use Rattle.marked_list.specs.Leaves.{IsLaterInWalk, IsNewWalk};
 ghost use Rattle.marked_list.specs.Causes.{IsSpent};
 ghost use Rattle.marked_list.specs.Answers.{Answers, IsLong};
 
 use crate::answers::Walked;
 use crate::cursor::Cursor;
-use crate::way::{walk_on, whole_walk};
+use crate::walk_loop::{walk_on, whole_walk};
 use epoch_pools::{Hand, List};
 use lock_core::Guard;
 use std::sync::ledger::Ledger;
@@ -31,7 +31,7 @@ pub fn walk<G: Guard, L: Ledger>(
     requires order { MayWalk hand.old.part.core }
     requires cursor { cursor.old.epoch ≡ hand.old.part.core.epoch }
     ensures table { hand.new.table ≡ hand.old.table }
-    ensures on { IsOn hand.old.part hand.new.part }
+    ensures later { IsLaterInWalk hand.old.part hand.new.part }
     ensures answer { Answers hand.old.part.trace.taken hand.old.part.core.own hand.new.part result }
     ensures long { IsLong result ↔ IsSpent hand.new.part }
     ensures walk { IsNewWalk hand.old.part.trace.taken hand.new.part }
@@ -57,7 +57,7 @@ pub fn validate<G: Guard, L: Ledger>(
     requires order { MayValidate hand.old.part.seats hand.old.part.core }
     requires cursor { cursor.old.epoch ≡ hand.old.part.core.epoch }
     ensures table { hand.new.table ≡ hand.old.table }
-    ensures on { IsOn hand.old.part hand.new.part }
+    ensures later { IsLaterInWalk hand.old.part hand.new.part }
     ensures answer { Answers hand.old.part.trace.taken hand.old.part.core.own hand.new.part result }
     ensures long { IsLong result ↔ IsSpent hand.new.part }
     ensures walk { hand.old.part.core.cursor ≡ None → IsNewWalk hand.old.part.trace.taken hand.new.part }

@@ -1,6 +1,7 @@
 pub mod Giving
+pub mod Insertion
+pub mod Later
 pub mod Lists
-pub mod Pieces
 pub mod Scans
 pub mod SeatLists
 pub mod Seating

@@ -1,4 +1,4 @@
--- A scan through a seat: how its hand goes into its epoch and out of it, and what a call on the list is to the seat.
+-- A scan through a seat: how its hand enters its epoch and leaves it, and what a call on the list is to the seat.
 use Rattle.std.proofs.Common.{◌≡◌, ◌≢◌, ℕ, ◌+◌, ◌*◌, ◌%◌, ◌≤◌, Bool, true, false, inl, ⊎_elim, refl, sym, ap, ◌∙◌, subst, arith, eqb-true, eq-eqb, ne_eqb}
 use Rattle.std.specs.Prelude.{IsSome, Option, Some, None, ◌==◌, if◌then◌else◌}
 use Rattle.atomic_table.specs.Seated.{TableId}
@@ -15,23 +15,23 @@ use Rattle.epoch_pools.specs.Hands.{IsHandView, quiet_after}
 use Rattle.marked_list.specs.declared.answers.Passed.{Passed}
 use Rattle.marked_list.specs.declared.answers.Passed.TheVariants.{Found as NodeFound, End as ListEnd, Lost as NotWon, Long as TooLong}
 use Rattle.marked_list.specs.Order.{IsInside, MaySweep}
-use Rattle.marked_list.specs.Leaves.{IsOn}
+use Rattle.marked_list.specs.Leaves.{IsLaterInWalk}
 use Rattle.marked_list.specs.Causes.{nodes_in, judged_in}
 use Rattle.marked_list.specs.Answers.{IsAtEnd}
-use Rattle.marked_list.specs.Going.{seen_of}
-use Rattle.marked_list.specs.Scanning.{IsAtNode, IsAtLast, IsScanning, IsResting, passed_at, passed_by, Passes}
-use Rattle.marked_list.proofs.Stepping.{nodes_seen}
+use Rattle.marked_list.specs.Walking.{seen_of}
+use Rattle.marked_list.specs.Scanning.{IsScanAtNode, IsScanAtEnd, IsScanning, IsResting, passed_at, passed_by, Passes}
+use Rattle.marked_list.proofs.Arriving.{nodes_seen}
 use Rattle.range_rw.specs.declared.scan.Scanned.{Scanned}
 use Rattle.range_rw.specs.Contract.{OpenScan, fresh_scan}
 use Rattle.range_rw.specs.Seats.{IsSettled, IsBetween, walk_of, scan_of, seat_state_in}
 use Rattle.range_rw.specs.Trying.{IsLaterInTry}
-use Rattle.range_rw.specs.Scan.{scanned_as, IsScanCall, Gives, IsNext, GoesIn, GoesOut}
+use Rattle.range_rw.specs.Scan.{scanned_as, IsScanCall, Gives, IsNext, OpensEpoch, ClosesEpoch}
 
--- a hand that is outside goes in, and one that has come out stays there
-pub goes_in : {P : Type 0} (p e q : SeatPart P) → IsLaterInTry p e → MaySweep e.core → e.core.ready ≡ p.core.ready
-    → q ≡ quiet_after e Enter (entered e.core) → GoesIn p q
-goes_in {P} p e q a may ready made = record {
-  piece = record {
+-- a hand that is outside enters its epoch, and begins at the head
+pub opens_epoch : {P : Type 0} (p e q : SeatPart P) → IsLaterInTry p e → MaySweep e.core → e.core.ready ≡ p.core.ready
+    → q ≡ quiet_after e Enter (entered e.core) → OpensEpoch p q
+opens_epoch {P} p e q a may ready made = record {
+  later = record {
     number = ap (λ (x : SeatPart P). x.number) made ∙ a.number;
     seats = ap (λ (x : SeatPart P). x.seats) made ∙ a.seats;
     pass = ap (λ (x : SeatPart P). x.pass) made ∙ a.pass;
@@ -45,10 +45,10 @@ goes_in {P} p e q a may ready made = record {
   ready = ap (λ (x : SeatPart P). x.core.ready) made ∙ ready;
 }
 
--- a hand that has left its epoch, or was outside, is out of it
-pub goes_out : {P : Type 0} (p q : SeatPart P) → IsLaterInTry p q → MaySweep q.core → q.core.ready ≡ p.core.ready → IsHandView q → GoesOut p q
-goes_out p q a may ready view = record {
-  piece = a;
+-- a hand that has left its epoch, or was outside, has no cursor
+pub closes_epoch : {P : Type 0} (p q : SeatPart P) → IsLaterInTry p q → MaySweep q.core → q.core.ready ≡ p.core.ready → IsHandView q → ClosesEpoch p q
+closes_epoch p q a may ready view = record {
+  later = a;
   even = may.outside.even;
   hand = may.outside.hand;
   own = may.own;
@@ -102,30 +102,30 @@ walk_ended m (Some c) l e = (c, refl, eqb-true _ _ e)
 
 module _ {P : Type 0} (table : TableId) (p q : SeatPart P) where
   -- between two calls of a scan
-  pub in_between : GoesIn p q → IsBetween q.core
+  pub in_between : OpensEpoch p q → IsBetween q.core
   in_between g = record { own = bare_settled q.core.own g.own; hand = g.hand; cursor = inl g.cursor }
 
-  -- a hand that is out of its epoch is one between two calls
-  pub out_between : GoesOut p q → IsBetween q.core
+  -- a hand that has left its epoch is one between two calls
+  pub out_between : ClosesEpoch p q → IsBetween q.core
   out_between g = record { own = bare_settled q.core.own g.own; hand = g.hand; cursor = inl g.cursor }
 
   -- so is one whose scan rests after a call that walks
-  pub on_between : IsOn p q → q.core.own ≡ Nothing → IsResting q.core → IsBetween q.core
+  pub on_between : IsLaterInWalk p q → q.core.own ≡ Nothing → IsResting q.core → IsBetween q.core
   on_between on own rests = record { own = bare_settled q.core.own own; hand = on.hand; cursor = rests }
 
-  piece_call : IsLaterInTry p q → q.core.own ≡ Nothing → q.core.ready ≡ p.core.ready → IsScanCall (seat_state_in table p) (seat_state_in table q)
-  piece_call a own ready = record { table = refl; number = a.number; held = ap held_at own; ready = ready; pass = a.pass; client = a.client; taken = a.taken }
+  later_call : IsLaterInTry p q → q.core.own ≡ Nothing → q.core.ready ≡ p.core.ready → IsScanCall (seat_state_in table p) (seat_state_in table q)
+  later_call a own ready = record { table = refl; number = a.number; held = ap held_at own; ready = ready; pass = a.pass; client = a.client; taken = a.taken }
 
   -- entering is a call of a scan
-  pub in_call : GoesIn p q → IsScanCall (seat_state_in table p) (seat_state_in table q)
-  in_call g = piece_call g.piece g.own g.ready
+  pub in_call : OpensEpoch p q → IsScanCall (seat_state_in table p) (seat_state_in table q)
+  in_call g = later_call g.later g.own g.ready
 
   -- leaving is one
-  pub out_call : GoesOut p q → IsScanCall (seat_state_in table p) (seat_state_in table q)
-  out_call g = piece_call g.piece g.own g.ready
+  pub out_call : ClosesEpoch p q → IsScanCall (seat_state_in table p) (seat_state_in table q)
+  out_call g = later_call g.later g.own g.ready
 
   -- a call that walks without an own node is one
-  pub on_call : IsOn p q → q.core.own ≡ Nothing → IsScanCall (seat_state_in table p) (seat_state_in table q)
+  pub on_call : IsLaterInWalk p q → q.core.own ≡ Nothing → IsScanCall (seat_state_in table p) (seat_state_in table q)
   on_call on own = record {
     table = refl;
     number = on.number;
@@ -137,15 +137,15 @@ module _ {P : Type 0} (table : TableId) (p q : SeatPart P) where
   }
 
   -- after entering the open scan is a fresh one
-  pub in_begun : (seats : ℕ) → q.seats ≡ seats → GoesIn p q → scan_of q ≡ Some (fresh_scan (16 * seats + 1))
+  pub in_begun : (seats : ℕ) → q.seats ≡ seats → OpensEpoch p q → scan_of q ≡ Some (fresh_scan (16 * seats + 1))
   in_begun seats e g = scan_some q g.odd ∙ ((λ i. Some (walk_of (16 * q.seats + 1) (g.cursor i) q.trace.looked))
       ∙ ap (λ (n : ℕ). Some (fresh_scan (16 * n + 1))) e)
 
   -- after leaving there is none
-  pub out_none : GoesOut p q → scan_of q ≡ None
+  pub out_none : ClosesEpoch p q → scan_of q ≡ None
   out_none g = scan_none q g.even
 
-  module _ (inside : IsInside p.core) (on : IsOn p q) (view : IsHandView q) (was : OpenScan) (opened : scan_of p ≡ Some was) where
+  module _ (inside : IsInside p.core) (on : IsLaterInWalk p q) (view : IsHandView q) (was : OpenScan) (opened : scan_of p ≡ Some was) where
     abbrev now : OpenScan
     now = walk_of (16 * q.seats + 1) q.core.cursor q.trace.looked
 
@@ -178,7 +178,7 @@ module _ {P : Type 0} (table : TableId) (p q : SeatPart P) where
       now_nodes = ap (λ (o : Option Cursor). (walk_of (16 * q.seats + 1) o q.trace.looked).nodes) is ∙ sym (nodes_seen q view c is)
 
     cursor_of : IsScanning q.core → (c : Cursor) × (q.core.cursor ≡ Some c)
-    cursor_of s = ⊎_elim (λ (n : IsAtNode q.core). (n.stands.cursor, n.stands.is)) (λ (l : IsAtLast q.core). (l.end.0, l.end.1)) s.at
+    cursor_of s = ⊎_elim (λ (n : IsScanAtNode q.core). (n.stands.cursor, n.stands.is)) (λ (l : IsScanAtEnd q.core). (l.end.0, l.end.1)) s.at
 
     gives_by : (a : Passed) → Passes p q a → Gives (seat_state_in table p) (seat_state_in table q) was now (scanned_as a)
     gives_by (NodeFound owner range mode) x =

@@ -70,18 +70,18 @@ module _ {P : Type 0} where
     pub same : now.most ≡ was.most
     pub gives : Gives before after was now answer
 
-  -- a hand went into its epoch, and begins at the head
-  pub record GoesIn (p q : SeatPart P) : Type 0 where
-    pub piece : IsLaterInTry p q
+  -- a hand entered its epoch, and begins at the head
+  pub record OpensEpoch (p q : SeatPart P) : Type 0 where
+    pub later : IsLaterInTry p q
     pub odd : q.core.epoch % 2 ≡ 1
     pub hand : q.core.hand ≡ None
     pub own : q.core.own ≡ Nothing
     pub cursor : q.core.cursor ≡ None
     pub ready : q.core.ready ≡ p.core.ready
 
-  -- it went out
-  pub record GoesOut (p q : SeatPart P) : Type 0 where
-    pub piece : IsLaterInTry p q
+  -- it has left it, or was outside
+  pub record ClosesEpoch (p q : SeatPart P) : Type 0 where
+    pub later : IsLaterInTry p q
     pub even : q.core.epoch % 2 ≡ 0
     pub hand : q.core.hand ≡ None
     pub own : q.core.own ≡ Nothing

@@ -6,6 +6,7 @@
 
 mod acquire;
 mod client;
+mod inserting;
 mod laws;
 mod nodes;
 mod refusals;
@@ -14,7 +15,6 @@ mod scan;
 mod table;
 mod threads;
 mod trying;
-mod way;
 
 pub use epoch_pools::{LastClient, Looked, Lost, Met, Record, Stuck};
 pub use laws::{keeps_apart, keeps_lock, keeps_no_reuse};

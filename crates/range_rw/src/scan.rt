@@ -4,7 +4,7 @@
 //! 2020.
 ghost use Rattle.std.specs.Prelude.{◌≡◌, ◌<◌, ◌≤◌, ◌+◌, None};
 ghost use Rattle.lock_core.specs.declared.views.Own.TheVariants.{Nothing};
-ghost use Rattle.range_rw.specs.Scan.{scanned_as, GoesIn, GoesOut};
+ghost use Rattle.range_rw.specs.Scan.{scanned_as, OpensEpoch, ClosesEpoch};
 
 use crate::table::{RangeTable, Seat};
 use crate::trying::leave_epoch;
@@ -63,14 +63,14 @@ fn answer_of(passed: Passed) -> Scanned
     }
 }
 
-/// Enters the hand's epoch. It has no node of its own.
-fn go_in<G: Guard, L: Ledger>(list: &List<G>, hand: &mut Hand<G>, blank: Blank)
+/// Begins a new epoch of the hand, which has no node of its own; an epoch that an earlier scan left open is left first.
+fn open_epoch<G: Guard, L: Ledger>(list: &List<G>, hand: &mut Hand<G>, blank: Blank)
     requires blank { (blank.name ≡ L.name) × (blank.parts ≡ L.parts) × (0 < L.parts) }
     requires table { hand.old.table ≡ list.now.table }
     requires free { hand.old.part.core.own ≡ Nothing }
     requires given { hand.old.part.core.hand ≡ None }
     ensures table { hand.new.table ≡ hand.old.table }
-    ensures inside { GoesIn hand.old.part hand.new.part }
+    ensures inside { OpensEpoch hand.old.part hand.new.part }
     ensures seats { hand.new.part.seats ≡ list.now.seats }
     ensures bound { hand.new.part.trace.taken ≤ hand.old.part.trace.taken + 2 }
 {
@@ -79,14 +79,14 @@ fn go_in<G: Guard, L: Ledger>(list: &List<G>, hand: &mut Hand<G>, blank: Blank)
     enter(list, hand, &mut steps);
 }
 
-/// Leaves the hand's epoch. It has no node of its own.
-fn go_out<G: Guard, L: Ledger>(list: &List<G>, hand: &mut Hand<G>, blank: Blank)
+/// Leaves the hand's epoch, if it is inside one. It has no node of its own.
+fn close_epoch<G: Guard, L: Ledger>(list: &List<G>, hand: &mut Hand<G>, blank: Blank)
     requires blank { (blank.name ≡ L.name) × (blank.parts ≡ L.parts) × (0 < L.parts) }
     requires table { hand.old.table ≡ list.now.table }
     requires free { hand.old.part.core.own ≡ Nothing }
     requires given { hand.old.part.core.hand ≡ None }
     ensures table { hand.new.table ≡ hand.old.table }
-    ensures outside { GoesOut hand.old.part hand.new.part }
+    ensures outside { ClosesEpoch hand.old.part hand.new.part }
     ensures bound { hand.new.part.trace.taken ≤ hand.old.part.trace.taken + 1 }
 {
     let mut steps = Steps::<L>::new(blank);
@@ -110,7 +110,7 @@ impl<G: Guard> RangeTable<G> {
         ensures begun { seat.new.scan ≡ Some (fresh_scan (16 * self.now.seats + 1)) }
         ensures bound { seat.new.trace.taken ≤ seat.old.trace.taken + 2 }
     {
-        go_in::<G, L>(&self.list, &mut seat.hand, blank);
+        open_epoch::<G, L>(&self.list, &mut seat.hand, blank);
     }
 
     /// The last call of such a scan: the seat leaves its epoch. `Scan::end` makes the same steps.
@@ -122,7 +122,7 @@ impl<G: Guard> RangeTable<G> {
         ensures ended { seat.new.scan ≡ None }
         ensures bound { seat.new.trace.taken ≤ seat.old.trace.taken + 1 }
     {
-        go_out::<G, L>(&self.list, &mut seat.hand, blank);
+        close_epoch::<G, L>(&self.list, &mut seat.hand, blank);
     }
 
     /// A call of such a scan between the two. It answers as `Scan::next`, and makes the same steps.

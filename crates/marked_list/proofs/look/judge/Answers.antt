@@ -2,7 +2,7 @@ use Rattle.std.proofs.Common.{rules, sym, ap, ◌∙◌, subst}
 use Rattle.std.specs.Prelude.{Option}
 use Rattle.lock_core.specs.declared.views.View.{View}
 use Rattle.marked_list.specs.declared.answers.Walked.{Walked}
-use Rattle.marked_list.specs.Going.{judgement_at, Outcome}
+use Rattle.marked_list.specs.Walking.{judgement_at, Outcome}
 use Rattle.marked_list.proofs.Judging.{may_read_hi, judged_on, judged_walk, judged_taken, judged_range, judged_outcome, names_node}
 use Rattle.marked_list.proofs.look.judge.Goals as goal
 
@@ -17,8 +17,8 @@ judgement-requires-clause-range g c = let k = c.requires.knows in
     c.step-word.ensures.made _ c.step-word.ensures.told
 
 -- what a call that walks leaves
-pub returns-clause-on : goal.returns-clause-on
-returns-clause-on g c = let k = c.requires.knows in
+pub returns-clause-later : goal.returns-clause-later
+returns-clause-later g c = let k = c.requires.knows in
     judged_on c.args.hand.now.part k.0 c.args.lo k.1 k.2 g.G.Guard.rested c.step-word.new.hand.part c.step-word.result
     c.step-word.ensures.made
 

@@ -1,31 +1,31 @@
-use Rattle.marked_list.proofs.Swept.{sets_out, swept_long, swept_walk, swept_answer, swept_is}
+use Rattle.marked_list.proofs.Swept.{may_begin, swept_long, swept_walk, swept_answer, swept_is}
 use Rattle.marked_list.proofs.sweeping.sweep.Goals as goal
 
 -- the hand has just entered its epoch, without an own node
 pub whole_walk-answer-requires-clause-begins : goal.whole_walk-answer-requires-clause-begins
-whole_walk-answer-requires-clause-begins g c = sets_out c.args.hand.now.part c.begin-cursor.new.hand.part c.requires.order
+whole_walk-answer-requires-clause-begins g c = may_begin c.args.hand.now.part c.begin-cursor.new.hand.part c.requires.order
     c.begin-cursor.ensures.made c.begin-cursor.ensures.inside
 
 -- the hand is outside again, with the pools that it had
 pub returns-clause-swept : goal.returns-clause-swept
 returns-clause-swept g c = swept_is c.args.hand.now.part c.begin-cursor.new.hand.part c.requires.order c.begin-cursor.ensures.made
-    c.whole_walk-answer.new.hand.part c.end.new.hand.part c.whole_walk-answer.result c.whole_walk-answer.ensures.on c.whole_walk-answer.ensures.answer
+    c.whole_walk-answer.new.hand.part c.end.new.hand.part c.whole_walk-answer.result c.whole_walk-answer.ensures.later c.whole_walk-answer.ensures.answer
     c.end.ensures.made c.end.ensures.outside
 
 -- the answer of the walk is that of the sweep
 pub returns-clause-answer : goal.returns-clause-answer
 returns-clause-answer g c = swept_answer c.args.hand.now.part c.begin-cursor.new.hand.part c.requires.order
-    c.begin-cursor.ensures.made c.whole_walk-answer.new.hand.part c.end.new.hand.part c.whole_walk-answer.result c.whole_walk-answer.ensures.on
+    c.begin-cursor.ensures.made c.whole_walk-answer.new.hand.part c.end.new.hand.part c.whole_walk-answer.result c.whole_walk-answer.ensures.later
     c.whole_walk-answer.ensures.answer c.end.ensures.made c.view.ensures.sound
 
 -- Long comes exactly where the walk is spent
 pub returns-clause-long : goal.returns-clause-long
 returns-clause-long g c = swept_long c.args.hand.now.part c.begin-cursor.new.hand.part c.requires.order
-    c.begin-cursor.ensures.made c.whole_walk-answer.new.hand.part c.end.new.hand.part c.whole_walk-answer.result c.whole_walk-answer.ensures.on
+    c.begin-cursor.ensures.made c.whole_walk-answer.new.hand.part c.end.new.hand.part c.whole_walk-answer.result c.whole_walk-answer.ensures.later
     c.whole_walk-answer.ensures.answer c.end.ensures.made c.whole_walk-answer.ensures.long
 
 -- the walk was begun in this call
 pub returns-clause-walk : goal.returns-clause-walk
 returns-clause-walk g c = swept_walk c.args.hand.now.part c.begin-cursor.new.hand.part c.requires.order
-    c.begin-cursor.ensures.made c.whole_walk-answer.new.hand.part c.end.new.hand.part c.whole_walk-answer.result c.whole_walk-answer.ensures.on
+    c.begin-cursor.ensures.made c.whole_walk-answer.new.hand.part c.end.new.hand.part c.whole_walk-answer.result c.whole_walk-answer.ensures.later
     c.whole_walk-answer.ensures.answer c.end.ensures.made c.whole_walk-answer.ensures.walk

@@ -1,0 +1,203 @@
+-- Calls of a try one after another: what each leaves is carried through the next, and so is the cause of a refusal.
+use Rattle.std.proofs.Common.{◌≡◌, ◌↔◌, ℕ, ◌+◌, ◌*◌, ◌%◌, ◌≤◌, Bool, true, false, refl, sym, ap, ◌∙◌, arith}
+use Rattle.std.specs.Prelude.{Option, None}
+use Rattle.lock_core.specs.declared.range.Held.{Held}
+use Rattle.lock_core.specs.declared.views.Own.{Own}
+use Rattle.lock_core.specs.declared.steps.Step.{Step}
+use Rattle.lock_core.specs.declared.steps.Step.TheVariants.{Enter, Leave, ReadEpoch, ReadHome, GiveHome, FillLo, FillHi}
+use Rattle.lock_core.specs.declared.steps.Step.TheVariants.{Aim, ClearHome, Walk, ReadLo, ReadHi, Link, Unlink, Mark}
+use Rattle.lock_core.specs.declared.steps.Step.TheVariants.{QuickLink, QuickUnlink, Settle}
+use Rattle.lock_core.specs.Machine.{held_at}
+use Rattle.epoch_pools.specs.declared.views.SeatPart.{SeatPart}
+use Rattle.marked_list.specs.declared.answers.Walked.{Walked}
+use Rattle.marked_list.specs.declared.answers.Walked.TheVariants.{Place, Conflict, Lost, Long}
+use Rattle.marked_list.specs.Order.{IsInside}
+use Rattle.marked_list.specs.Leaves.{IsLaterInWalk, IsSameLook, IsNewWalk}
+use Rattle.marked_list.specs.Causes.{asked_of, IsLost, IsWalkLoss, IsSpent}
+use Rattle.marked_list.specs.Answers.{Answers, IsLong}
+use Rattle.range_rw.specs.Contract.{RefusesTry}
+use Rattle.range_rw.specs.Trying.{has_come, IsLaterInTry, IsLaterInEpoch, Refuses}
+
+-- ---- calls
+
+-- where no step was made, number, seats, pass and record are the same
+pub later_same : {P : Type 0} (p : SeatPart P) → IsLaterInTry p p
+later_same p = record { number = refl; seats = refl; pass = refl; client = refl; taken = omega arith }
+
+-- two calls of a try after each other are one
+pub later_on : {P : Type 0} (p q r : SeatPart P) → IsLaterInTry p q → IsLaterInTry q r → IsLaterInTry p r
+later_on p q r a b = record {
+  number = b.number ∙ a.number;
+  seats = b.seats ∙ a.seats;
+  pass = b.pass ∙ a.pass;
+  client = b.client ∙ a.client;
+  taken = let x = a.taken in let y = b.taken in omega arith;
+}
+
+-- two calls in one epoch after each other are one
+pub still_on : {P : Type 0} (p q r : SeatPart P) → IsLaterInEpoch p q → IsLaterInEpoch q r → IsLaterInEpoch p r
+still_on p q r a b = record { later = later_on p q r a.later b.later; epoch = b.epoch ∙ a.epoch; hand = b.hand; ready = b.ready ∙ a.ready }
+
+-- a call that walks stays in its epoch
+pub walk_still : {P : Type 0} (p q : SeatPart P) → IsLaterInWalk p q → IsLaterInEpoch p q
+walk_still p q on = record {
+  later = record { number = on.number; seats = on.seats; pass = on.pass; client = on.client; taken = on.taken };
+  epoch = on.epoch;
+  hand = on.hand;
+  ready = on.pools.ready;
+}
+
+-- such a call leaves a hand inside that was inside
+pub inside_still : {P : Type 0} (p q : SeatPart P) → IsInside p.core → IsLaterInEpoch p q → IsInside q.core
+inside_still p q in_epoch s = record { odd = ap (λ n. n % 2) s.epoch ∙ in_epoch.odd; hand = s.hand }
+
+-- ---- causes
+
+-- what is so of an answer stays so while the record keeps its node, its exchange and its walk
+pub record Keeps {P : Type 0} (p q : SeatPart P) : Type 0 where
+  pub number : q.number ≡ p.number
+  pub seats : q.seats ≡ p.seats
+  pub taken : p.trace.taken ≤ q.trace.taken
+  pub met : q.trace.met ≡ p.trace.met
+  pub lost : q.trace.lost ≡ p.trace.lost
+  pub look : IsSameLook p q
+
+new_after : {P : Type 0} (first : ℕ) (p q : SeatPart P) → IsSameLook p q → p.trace.taken ≤ q.trace.taken → IsNewWalk first p → IsNewWalk first q
+new_after first p q look le new =
+    let m = look.1 new.0 new.1 in
+    let s = m.2 in let f = new.2 in let b = new.3 in
+    (m.0, m.1, omega arith, omega arith)
+
+lost_after : {P : Type 0} (first : ℕ) (p q : SeatPart P) (Kind : Step → Type 0) (place expected found : ℕ)
+    → q.trace.lost ≡ p.trace.lost → p.trace.taken ≤ q.trace.taken → IsLost first p Kind place expected found
+    → IsLost first q Kind place expected found
+lost_after first p q Kind place expected found same le l =
+    record {
+      lost = l.lost;
+      is = same ∙ l.is;
+      kind = l.kind;
+      from = l.from;
+      below = let b = l.below in omega arith;
+      placed = l.placed;
+      wanted = l.wanted;
+      had = l.had;
+      differ = l.differ;
+    }
+
+-- an answer that refuses a try still does so after calls that keep its cause in the record
+pub refuses_after : {P : Type 0} (first : ℕ) (asked : Option Held) (p q : SeatPart P) (a : Walked) → Keeps p q
+    → Refuses first asked p a → Refuses first asked q a
+refuses_after first asked p q Place k x = x
+refuses_after first asked p q (Conflict owner range mode) k x = record {
+  met = x.met;
+  is = k.met ∙ x.is;
+  from = x.from;
+  below = let b = x.below in let t = k.taken in omega arith;
+  owned = x.owned;
+  holds = x.holds;
+  other = λ e. x.other (e ∙ k.number);
+  wants = x.wants;
+  asks = x.asks;
+  conflicts = x.conflicts;
+}
+refuses_after first asked p q (Lost l) k x = lost_after first p q RefusesTry l.place l.expected l.found k.lost k.taken x
+refuses_after first asked p q (Long visits) k x = (x.0 ∙ ap (λ n. 16 * n + 1) (sym k.seats), new_after first p q k.look k.taken x.1)
+
+-- an answer whose cause is in a later call of the try refuses the try
+pub refuses_from : {P : Type 0} (first later : ℕ) (asked now : Option Held) (q : SeatPart P) (a : Walked) → first ≤ later
+    → now ≡ asked → Refuses later now q a → Refuses first asked q a
+refuses_from first later asked now q Place le same x = x
+refuses_from first later asked now q (Conflict owner range mode) le same x = record {
+  met = x.met;
+  is = x.is;
+  from = let f = x.from in omega arith;
+  below = x.below;
+  owned = x.owned;
+  holds = x.holds;
+  other = x.other;
+  wants = x.wants;
+  asks = sym same ∙ x.asks;
+  conflicts = x.conflicts;
+}
+refuses_from first later asked now q (Lost l) le same x =
+    record {
+      lost = x.lost;
+      is = x.is;
+      kind = x.kind;
+      from = let f = x.from in omega arith;
+      below = x.below;
+      placed = x.placed;
+      wanted = x.wanted;
+      had = x.had;
+      differ = x.differ;
+    }
+refuses_from first later asked now q (Long visits) le same x = let new = x.1 in let f = new.2 in (x.0, (new.0, new.1, omega arith, new.3))
+
+-- an exchange of a walk is one whose loss refuses a try
+pub walk_loss : (s : Step) → IsWalkLoss s → RefusesTry s
+walk_loss Unlink k = k
+walk_loss Settle k = k
+walk_loss Enter k = absurd k
+walk_loss Leave k = absurd k
+walk_loss (ReadEpoch j) k = absurd k
+walk_loss (ReadHome n) k = absurd k
+walk_loss GiveHome k = absurd k
+walk_loss (FillLo lo) k = absurd k
+walk_loss (FillHi hi mode) k = absurd k
+walk_loss Aim k = absurd k
+walk_loss (ClearHome n) k = absurd k
+walk_loss Walk k = absurd k
+walk_loss ReadLo k = absurd k
+walk_loss ReadHi k = absurd k
+walk_loss Link k = absurd k
+walk_loss Mark k = absurd k
+walk_loss QuickLink k = absurd k
+walk_loss QuickUnlink k = absurd k
+
+-- an answer of a walk or a validation that isn't its end
+pub walk_refuses : {P : Type 0} (first : ℕ) (own : Own) (q : SeatPart P) (a : Walked) → has_come a ≡ false → Answers first own q a
+    → IsNewWalk first q → (q.core.own ≡ own) × Refuses first (asked_of own) q a
+walk_refuses first own q Place isnt x new = absurd (let e : ◌≡◌ {A = Bool} true false = isnt in cc)
+walk_refuses first own q (Conflict owner range mode) isnt x new = (
+  x.1,
+  record {
+    met = x.0.met;
+    is = x.0.is;
+    from = x.0.from;
+    below = x.0.below;
+    owned = x.0.owned;
+    holds = x.0.holds;
+    other = x.0.other;
+    wants = x.0.asked;
+    asks = ap asked_of (sym x.1) ∙ x.0.asks;
+    conflicts = x.0.conflicts;
+  },
+)
+walk_refuses first own q (Lost l) isnt x new = (
+  x.1,
+  record {
+    lost = x.0.lost;
+    is = x.0.is;
+    kind = walk_loss x.0.lost.kind x.0.kind;
+    from = x.0.from;
+    below = x.0.below;
+    placed = x.0.placed;
+    wanted = x.0.wanted;
+    had = x.0.had;
+    differ = x.0.differ;
+  },
+)
+walk_refuses first own q (Long visits) isnt x new = (x.1, (x.0, new))
+
+-- a walk that is spent after a call that looks at no more nodes was spent before it
+pub spent_look : {P : Type 0} (p q : SeatPart P) → IsSameLook p q → q.seats ≡ p.seats → held_at p.core.own ≡ None → IsSpent q → IsSpent p
+spent_look p q look seats free s = (sym look.0 ∙ (s.0 ∙ ap (λ n. 16 * n + 1) seats), free)
+
+-- and the other way round
+look_spent : {P : Type 0} (p q : SeatPart P) → IsSameLook p q → q.seats ≡ p.seats → held_at q.core.own ≡ None → IsSpent p → IsSpent q
+look_spent p q look seats free s = (look.0 ∙ (s.0 ∙ ap (λ n. 16 * n + 1) (sym seats)), free)
+
+-- Long still comes exactly where the walk is spent, after a call that looks at no more nodes
+pub long_after : {P : Type 0} (p q : SeatPart P) (a : Walked) → IsSameLook p q → q.seats ≡ p.seats → held_at p.core.own ≡ None
+    → held_at q.core.own ≡ None → (IsLong a ↔ IsSpent p) → (IsLong a ↔ IsSpent q)
+long_after p q a look seats before now long = (λ l. look_spent p q look seats now (long.0 l), λ s. long.1 (spent_look p q look seats before s))

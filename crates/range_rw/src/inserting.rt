@@ -1,0 +1,133 @@
+//! How a try inserts its filled node into a list that isn't empty: inside its epoch the hand walks to the node's place,
+//! links the node there and validates it. Where one of the three refuses, a node that isn't linked becomes ready again,
+//! and one that is linked is marked. A reader may rely on the answer's cause being in the record at a step of the call.
+//! Kogan, Dice and Issa 2020.
+ghost use Rattle.std.specs.Prelude.{◌≡◌, ◌+◌, ◌*◌, ◌≤◌, ◌↔◌, None};
+ghost use Rattle.marked_list.specs.Order.{IsOutside, IsInside, HasEnds, HasToValidate, MayWalk, MayEnd};
+ghost use Rattle.marked_list.specs.Causes.{IsSpent};
+ghost use Rattle.marked_list.specs.Answers.{IsLong};
+ghost use Rattle.range_rw.specs.Trying.{has_come, IsLaterInTry, IsLaterInEpoch, LinkEnds, ValidateEnds, InsertEnds, EpochEnds};
+
+use epoch_pools::{Hand, List};
+use lock_core::Guard;
+use marked_list::{Cursor, Linked, Walked, begin, end, link, mark, validate, walk};
+use std::sync::ledger::Ledger;
+use word_rows::Steps;
+
+/// Whether a walk came to its end.
+fn is_place(walked: &Walked) -> bool
+    ensures { result ≡ has_come walked.now }
+{
+    match walked {
+        Walked::Place => true,
+        Walked::Conflict { .. } | Walked::Lost(_) | Walked::Long { .. } => false,
+    }
+}
+
+/// Walks to the place of the hand's filled node and links it there. `Place` says that it is linked.
+fn walk_and_link<G: Guard, L: Ledger>(
+    list: &List<G>,
+    hand: &mut Hand<G>,
+    cursor: &mut Cursor,
+    steps: &mut Steps<L>,
+) -> Walked
+    requires table { hand.old.table ≡ list.now.table }
+    requires order { MayWalk hand.old.part.core }
+    requires cursor { cursor.old.epoch ≡ hand.old.part.core.epoch }
+    ensures table { hand.new.table ≡ hand.old.table }
+    ensures later { IsLaterInEpoch hand.old.part hand.new.part }
+    ensures ends { LinkEnds hand.old.part hand.new.part result }
+    ensures long { IsLong result ↔ IsSpent hand.new.part }
+    ensures bound { hand.new.part.trace.taken ≤ hand.old.part.trace.taken + 4 + 3 * (16 * hand.old.part.seats + 1) }
+    ensures counted { steps.new + hand.old.part.trace.taken ≡ steps.old + hand.new.part.trace.taken }
+    ensures cursor { cursor.new ≡ cursor.old }
+{
+    let walked = walk(list, hand, cursor, steps);
+    if !is_place(&walked) {
+        return walked;
+    }
+    match link(list, hand, cursor, steps) {
+        Linked::Done => Walked::Place,
+        Linked::Lost(lost) => Walked::Lost(lost),
+    }
+}
+
+/// Validates the hand's linked node once. `Place` says that its range is held; otherwise the node is marked.
+fn validate_once<G: Guard, L: Ledger>(
+    list: &List<G>,
+    hand: &mut Hand<G>,
+    cursor: &mut Cursor,
+    steps: &mut Steps<L>,
+) -> Walked
+    requires table { hand.old.table ≡ list.now.table }
+    requires inside { IsInside hand.old.part.core }
+    requires own { HasToValidate hand.old.part.core.own }
+    requires begins { hand.old.part.core.cursor ≡ None }
+    requires cursor { cursor.old.epoch ≡ hand.old.part.core.epoch }
+    ensures table { hand.new.table ≡ hand.old.table }
+    ensures later { IsLaterInEpoch hand.old.part hand.new.part }
+    ensures ends { ValidateEnds hand.old.part hand.new.part result }
+    ensures long { IsLong result ↔ IsSpent hand.new.part }
+    ensures bound { hand.new.part.trace.taken ≤ hand.old.part.trace.taken + 3 + 3 * (16 * hand.old.part.seats + 1) }
+    ensures counted { steps.new + hand.old.part.trace.taken ≡ steps.old + hand.new.part.trace.taken }
+    ensures cursor { cursor.new ≡ cursor.old }
+{
+    let walked = validate(list, hand, cursor, steps);
+    if is_place(&walked) {
+        return walked;
+    }
+    mark(list, hand, steps);
+    walked
+}
+
+/// Walks to the place of the hand's filled node, links it there and validates it. `Place` says that its range is held;
+/// otherwise the node is still being filled, or it was linked and is marked.
+fn insert_and_validate<G: Guard, L: Ledger>(
+    list: &List<G>,
+    hand: &mut Hand<G>,
+    cursor: &mut Cursor,
+    steps: &mut Steps<L>,
+) -> Walked
+    requires table { hand.old.table ≡ list.now.table }
+    requires order { MayWalk hand.old.part.core }
+    requires cursor { cursor.old.epoch ≡ hand.old.part.core.epoch }
+    ensures table { hand.new.table ≡ hand.old.table }
+    ensures later { IsLaterInEpoch hand.old.part hand.new.part }
+    ensures ends { InsertEnds hand.old.part hand.new.part result }
+    ensures long { IsLong result ↔ IsSpent hand.new.part }
+    ensures bound { hand.new.part.trace.taken ≤ hand.old.part.trace.taken + 7 + 6 * (16 * hand.old.part.seats + 1) }
+    ensures counted { steps.new + hand.old.part.trace.taken ≡ steps.old + hand.new.part.trace.taken }
+    ensures cursor { cursor.new ≡ cursor.old }
+{
+    let walked = walk_and_link(list, hand, cursor, steps);
+    if !is_place(&walked) {
+        return walked;
+    }
+    validate_once(list, hand, cursor, steps)
+}
+
+/// Enters an epoch, inserts the hand's filled node at its place, validates it, and leaves the epoch. `Place` says that
+/// its range is held; otherwise the hand has no node of its own, as before the try.
+#[inline(never)]
+pub(crate) fn insert_in_epoch<G: Guard, L: Ledger>(
+    list: &List<G>,
+    hand: &mut Hand<G>,
+    steps: &mut Steps<L>,
+) -> Walked
+    requires table { hand.old.table ≡ list.now.table }
+    requires outside { IsOutside hand.old.part.core }
+    requires own { HasEnds hand.old.part.core.own }
+    ensures table { hand.new.table ≡ hand.old.table }
+    ensures later { IsLaterInTry hand.old.part hand.new.part }
+    ensures outside { IsOutside hand.new.part.core }
+    ensures cursor { hand.new.part.core.cursor ≡ None }
+    ensures ends { EpochEnds hand.old.part hand.new.part result }
+    ensures long { IsLong result ↔ IsSpent hand.new.part }
+    ensures bound { hand.new.part.trace.taken ≤ hand.old.part.trace.taken + 9 + 6 * (16 * hand.old.part.seats + 1) }
+    ensures counted { steps.new + hand.old.part.trace.taken ≡ steps.old + hand.new.part.trace.taken }
+{
+    let mut cursor = begin(list, hand, steps);
+    let walked = insert_and_validate(list, hand, &mut cursor, steps);
+    end(list, hand, cursor, steps);
+    walked
+}
