@@ -25,15 +25,25 @@ line_is p step plan line = ap (λ (o : Option Plan). unwrap_or o (loads 0 (λ _.
 
 -- what a step with that plan, which found that value, leaves
 pub record Made {P : Type 0} (rested : P → P) (p q : SeatPart P) (step : Step) (plan : Plan) (found : ℕ) : Type 0 where
+  -- the hand is of the same seat
   pub number : q.number ≡ p.number
+  -- of as many seats
   pub seats : q.seats ≡ p.seats
+  -- the view is the plan's, for the value that was found
   pub core : q.core ≡ plan.view found
+  -- the pass is rested where the step gives back what was held
   pub pass : q.pass ≡ pass_kept rested (held_at p.core.own) (held_at (plan.view found).own) p.pass
+  -- the last client step stays
   pub client : q.trace.client ≡ p.trace.client
+  -- one step more was made
   pub taken : q.trace.taken ≡ p.trace.taken + 1
+  -- a Walk is noted by its number
   pub walked : q.trace.walked ≡ walked_at p.trace step
+  -- a node that the step judged is noted
   pub met : q.trace.met ≡ met_after p.trace p.core step found
+  -- an exchange that found another value is noted
   pub lost : q.trace.lost ≡ lost_by p.trace step plan.place (expected_by p.core step) found
+  -- what the walk has looked at is noted
   pub looked : q.trace.looked ≡ looked_with p.trace p.core.cursor (plan.view found).cursor (is_judging step) (gained_by p.core (plan.view found))
 
 -- a step that has a line leaves what the plan of the line says

@@ -55,11 +55,17 @@ inside_still p q in_epoch s = record { odd = ap (λ n. n % 2) s.epoch ∙ in_epo
 
 -- what is so of an answer stays so while the record keeps its node, its exchange and its walk
 pub record Keeps {P : Type 0} (p q : SeatPart P) : Type 0 where
+  -- the hand is of the same seat
   pub number : q.number ≡ p.number
+  -- of as many seats
   pub seats : q.seats ≡ p.seats
+  -- steps may have been made
   pub taken : p.trace.taken ≤ q.trace.taken
+  -- the node that was met last stays
   pub met : q.trace.met ≡ p.trace.met
+  -- the exchange that was lost last stays
   pub lost : q.trace.lost ≡ p.trace.lost
+  -- the walk has looked at no more nodes
   pub look : IsSameLook p q
 
 new_after : {P : Type 0} (first : ℕ) (p q : SeatPart P) → IsSameLook p q → p.trace.taken ≤ q.trace.taken → IsNewWalk first p → IsNewWalk first q
