@@ -1,7 +1,7 @@
 -- The insertion of a filled node: the walk to its place, the link there and the validation, and the epoch around them.
 -- What each of them comes to is what the whole comes to.
 use Rattle.std.proofs.Common.{◌≡◌, ◌≢◌, ◌⊎◌, ◌↔◌, ℕ, Bool, true, false, List, ◌∷◌, inl, inr, ⊎_elim, refl, sym, ap, ◌∙◌, subst, arith}
-use Rattle.std.specs.Prelude.{Option, Some, None, unwrap_or}
+use Rattle.std.specs.Prelude.{Option, Some, None, MatchOption, unwrap_or}
 use Rattle.lock_core.specs.declared.range.Held.{Held}
 use Rattle.lock_core.specs.declared.range.Mode.{Mode}
 use Rattle.lock_core.specs.declared.range.Mode.TheVariants.{Reader, Writer}
@@ -27,7 +27,7 @@ use Rattle.marked_list.specs.Leaves.{IsLaterInWalk, IsCall, IsSameLook, IsNewWal
 use Rattle.marked_list.specs.Causes.{asked_of, nodes_in, IsSpent}
 use Rattle.marked_list.specs.Answers.{Answers, Arrives, Links, IsLong, IsMarkCall, linked_own, aimed_own}
 use Rattle.range_rw.specs.Contract.{RefusesTry}
-use Rattle.range_rw.specs.Trying.{has_come, IsFilling, IsLaterInTry, IsLaterInEpoch, Refuses, LinkEnds, ValidateEnds, InsertEnds, EpochEnds}
+use Rattle.range_rw.specs.Trying.{has_come, IsFilling, IsLaterInTry, IsLaterInEpoch, Refuses, LinkEnds, ValidateEnds, InsertEnds, StaysFilled, LeavesNode, EpochEnds}
 use Rattle.range_rw.proofs.Later.{later_on, still_on, walk_still, inside_still, Keeps, refuses_after, refuses_from, walk_refuses, spent_look, long_after}
 
 -- ---- the walk and the link
@@ -313,12 +313,15 @@ module _ {P : Type 0} (p e : SeatPart P) (own : HasEnds p.core.own) (entering : 
   pub may_walk_in : IsInside e.core → MayWalk e.core
   may_walk_in i = record { inside = i; own = ends_same p.core.own e.core.own own_in own; cursor = ap (λ (x : SeatPart P). x.core.cursor) entering }
 
-  module _ (f : SeatPart P) (a : Walked) (still : IsLaterInEpoch e f) (ends : InsertEnds e f a) where
+  module _ (f : SeatPart P) (still : IsLaterInEpoch e f) where
     abbrev IsBack : Type 0
     IsBack = (f.core.own ≡ Nothing) ⊎ ((node : ℕ) → IsFilling node e.core.own → IsFilling node f.core.own)
 
     filled_in : IsFilling own.node.node e.core.own
     filled_in = (own.node, own_in ∙ own.is, refl)
+
+    same_back : f.core.own ≡ e.core.own → IsBack
+    same_back same = inr (λ node at. (at.0, same ∙ at.1, at.2))
 
     leaves_back : IsBack → may_leave f.core.own ≡ true
     leaves_back x = ⊎_elim (λ n. ap may_leave n) (λ g. leaves_filled f.core.own own.node.node (g own.node.node filled_in)) x
@@ -329,15 +332,18 @@ module _ {P : Type 0} (p e : SeatPart P) (own : HasEnds p.core.own) (entering : 
     kept_back : IsBack → kept_own f.core.own ≡ Nothing
     kept_back x = ⊎_elim (λ n. ap kept_own n) (λ g. ap kept_own (g own.node.node filled_in).1) x
 
-    -- after the insertion the epoch may be left
-    pub may_end_in : IsInside e.core → MayEnd f.core
-    may_end_in i = record { inside = inside_still e f i still; own = by_answer a ends }
-      where
-        by_answer : (b : Walked) → InsertEnds e f b → may_leave f.core.own ≡ true
-        by_answer Place x = x.1
-        by_answer (Conflict owner range mode) x = leaves_back x.0
-        by_answer (Lost l) x = leaves_back x.0
-        by_answer (Long visits) x = leaves_back x.0
+    may_leave_in : (a : Option Walked) (leaves : Bool) → MatchOption a (StaysFilled leaves e f) (InsertEnds e f)
+        → may_leave f.core.own ≡ true
+    may_leave_in None leaves x = leaves_back (same_back x.0)
+    may_leave_in (Some Place) leaves x = x.1
+    may_leave_in (Some (Conflict owner range mode)) leaves x = leaves_back x.0
+    may_leave_in (Some (Lost l)) leaves x = leaves_back x.0
+    may_leave_in (Some (Long visits)) leaves x = leaves_back x.0
+
+    -- after the insertion, also where it was given up, the epoch may be left
+    pub may_end_in : (a : Option Walked) (leaves : Bool) → MatchOption a (StaysFilled leaves e f) (InsertEnds e f)
+        → IsInside e.core → MayEnd f.core
+    may_end_in a leaves ends i = record { inside = inside_still e f i still; own = may_leave_in a leaves ends }
 
     module _ (q : SeatPart P) (leaving : q ≡ quiet_after f Leave (left f.core)) where
       looked_out : q.trace.looked ≡ f.trace.looked
@@ -384,30 +390,39 @@ module _ {P : Type 0} (p e : SeatPart P) (own : HasEnds p.core.own) (entering : 
       back_refuses b x = refuses_from p.trace.taken e.trace.taken (asked_of p.core.own) (asked_of e.core.own) q b later_in.taken
           (ap asked_of own_in) (refuses_after e.trace.taken (asked_of e.core.own) f q b keeps_out x)
 
+      -- the node that is still being filled is the first ready one again
+      ready_again : f.core.own ≡ e.core.own → (node : ℕ) → IsFilling node p.core.own → q.core.ready ≡ node ∷ p.core.ready
+      ready_again same node at = ready_out
+          ∙ (ap (λ (o : Own). ready_left o f.core.ready) (same ∙ (own_in ∙ at.1)) ∙ (λ i. at.2 i ∷ ready_in i))
+
+      ends_walked : (b : Walked) → InsertEnds e f b → EpochEnds p q b
+      ends_walked Place x =
+          let asks = asks_ends p.core.own own in
+          let held : held_at f.core.own ≡ asked_of p.core.own = x.0 ∙ ap asked_of own_in in
+          (ap held_at own_out ∙ (kept_held f.core.own ∙ held), ready_out ∙ (ready_held f.core.own asks.0 f.core.ready (held ∙ asks.1) ∙ ready_in))
+      ends_walked (Conflict owner range mode) x = (own_out ∙ kept_back x.0, back_refuses (Conflict owner range mode) x.1, back_ready x.0)
+      ends_walked (Lost l) x = (own_out ∙ kept_back x.0, back_refuses (Lost l) x.1, back_ready x.0)
+      ends_walked (Long visits) x = (own_out ∙ kept_back x.0, back_refuses (Long visits) x.1, back_ready x.0)
+
       -- after it the range is held, or the hand has no own node and its ready nodes are as before or with it
-      pub insert_ends : EpochEnds p q a
-      insert_ends = by_answer a ends
-        where
-          by_answer : (b : Walked) → InsertEnds e f b → EpochEnds p q b
-          by_answer Place x =
-              let asks = asks_ends p.core.own own in
-              let held : held_at f.core.own ≡ asked_of p.core.own = x.0 ∙ ap asked_of own_in in
-              (ap held_at own_out ∙ (kept_held f.core.own ∙ held), ready_out ∙ (ready_held f.core.own asks.0 f.core.ready (held ∙ asks.1) ∙ ready_in))
-          by_answer (Conflict owner range mode) x = (own_out ∙ kept_back x.0, back_refuses (Conflict owner range mode) x.1, back_ready x.0)
-          by_answer (Lost l) x = (own_out ∙ kept_back x.0, back_refuses (Lost l) x.1, back_ready x.0)
-          by_answer (Long visits) x = (own_out ∙ kept_back x.0, back_refuses (Long visits) x.1, back_ready x.0)
+      pub insert_ends : (a : Option Walked) (leaves : Bool) → MatchOption a (StaysFilled leaves e f) (InsertEnds e f)
+          → MatchOption a (LeavesNode p q × (leaves ≡ true)) (EpochEnds p q)
+      insert_ends None leaves x = ((own_out ∙ kept_back (same_back x.0), ready_again x.0), x.1)
+      insert_ends (Some b) leaves x = ends_walked b x
+
+      long_back : (b : Walked) → IsBack → q.core.own ≡ Nothing → (IsLong b ↔ IsSpent f) → (IsLong b ↔ IsSpent q)
+      long_back b x none l = long_after f q b (same_looked f q looked_out) seats_out (free_back x) (ap held_at none) l
+
+      long_walked : (b : Walked) → InsertEnds e f b → EpochEnds p q b → (IsLong b ↔ IsSpent f) → (IsLong b ↔ IsSpent q)
+      long_walked Place x w l =
+          let asks = asks_ends p.core.own own in
+          (λ never. absurd never, λ s. absurd (let none : ◌≡◌ {A = Option Held} None (Some asks.0) = sym s.1 ∙ (w.0 ∙ asks.1) in cc))
+      long_walked (Conflict owner range mode) x w l = long_back (Conflict owner range mode) x.0 w.0 l
+      long_walked (Lost m) x w l = long_back (Lost m) x.0 w.0 l
+      long_walked (Long visits) x w l = long_back (Long visits) x.0 w.0 l
 
       -- Long comes exactly where the walk is spent, also behind the leaving
-      pub insert_long : (IsLong a ↔ IsSpent f) → (IsLong a ↔ IsSpent q)
-      insert_long long = by_answer a ends insert_ends long
-        where
-          back : (b : Walked) → IsBack → q.core.own ≡ Nothing → (IsLong b ↔ IsSpent f) → (IsLong b ↔ IsSpent q)
-          back b x none l = long_after f q b (same_looked f q looked_out) seats_out (free_back x) (ap held_at none) l
-
-          by_answer : (b : Walked) → InsertEnds e f b → EpochEnds p q b → (IsLong b ↔ IsSpent f) → (IsLong b ↔ IsSpent q)
-          by_answer Place x w l =
-              let asks = asks_ends p.core.own own in
-              (λ never. absurd never, λ s. absurd (let none : ◌≡◌ {A = Option Held} None (Some asks.0) = sym s.1 ∙ (w.0 ∙ asks.1) in cc))
-          by_answer (Conflict owner range mode) x w l = back (Conflict owner range mode) x.0 w.0 l
-          by_answer (Lost m) x w l = back (Lost m) x.0 w.0 l
-          by_answer (Long visits) x w l = back (Long visits) x.0 w.0 l
+      pub insert_long : (a : Option Walked) (leaves : Bool) → MatchOption a (StaysFilled leaves e f) (InsertEnds e f)
+          → MatchOption a (Unit {0}) (λ b. IsLong b ↔ IsSpent f) → MatchOption a (Unit {0}) (λ b. IsLong b ↔ IsSpent q)
+      insert_long None leaves x l = l
+      insert_long (Some b) leaves x l = long_walked b x (ends_walked b x) l

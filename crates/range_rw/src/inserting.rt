@@ -2,11 +2,12 @@
 //! links the node there and validates it. Where one of the three refuses, a node that isn't linked becomes ready again,
 //! and one that is linked is marked. A reader may rely on the answer's cause being in the record at a step of the call.
 //! Kogan, Dice and Issa 2020.
-ghost use Rattle.std.specs.Prelude.{◌≡◌, ◌+◌, ◌*◌, ◌≤◌, ◌↔◌, None};
+ghost use Rattle.std.specs.Prelude.{◌≡◌, ◌+◌, ◌*◌, ◌≤◌, ◌↔◌, true, None, MatchOption};
+ghost use Rattle.std.specs.Bool.{OnTrue};
 ghost use Rattle.marked_list.specs.Order.{IsOutside, IsInside, HasEnds, HasToValidate, MayWalk, MayEnd};
 ghost use Rattle.marked_list.specs.Causes.{IsSpent};
 ghost use Rattle.marked_list.specs.Answers.{IsLong};
-ghost use Rattle.range_rw.specs.Trying.{has_come, IsLaterInTry, IsLaterInEpoch, LinkEnds, ValidateEnds, InsertEnds, EpochEnds};
+ghost use Rattle.range_rw.specs.Trying.{has_come, IsLaterInTry, IsLaterInEpoch, LinkEnds, ValidateEnds, InsertEnds, FoundEmpty, StaysFilled, LeavesNode, EpochEnds};
 
 use epoch_pools::{Hand, List};
 use lock_core::Guard;
@@ -24,31 +25,46 @@ fn is_place(walked: &Walked) -> bool
     }
 }
 
-/// Walks to the place of the hand's filled node and links it there. `Place` says that it is linked.
+/// Whether a walk that came to its place found no node in the list: its cursor is at the head, which names none.
+fn found_empty<G: Guard>(hand: &Hand<G>) -> bool
+    ensures { OnTrue result (FoundEmpty hand.now.part.core.cursor) }
+{
+    match &hand.view().cursor {
+        Some(cursor) => cursor.prev.is_none() && cursor.cur == 0,
+        None => false,
+    }
+}
+
+/// Walks to the place of the hand's filled node and links it there. `Place` says that it is linked. None comes only
+/// where `leaves` asks for it: the walk found the list empty, and the node is still being filled.
 fn walk_and_link<G: Guard, L: Ledger>(
     list: &List<G>,
     hand: &mut Hand<G>,
     cursor: &mut Cursor,
+    leaves: bool,
     steps: &mut Steps<L>,
-) -> Walked
+) -> Option<Walked>
     requires table { hand.old.table ≡ list.now.table }
     requires order { MayWalk hand.old.part.core }
     requires cursor { cursor.old.epoch ≡ hand.old.part.core.epoch }
     ensures table { hand.new.table ≡ hand.old.table }
     ensures later { IsLaterInEpoch hand.old.part hand.new.part }
-    ensures ends { LinkEnds hand.old.part hand.new.part result }
-    ensures long { IsLong result ↔ IsSpent hand.new.part }
+    ensures ends { MatchOption result (StaysFilled leaves hand.old.part hand.new.part) (LinkEnds hand.old.part hand.new.part) }
+    ensures long { MatchOption result (Unit {0}) (λ walked. IsLong walked ↔ IsSpent hand.new.part) }
     ensures bound { hand.new.part.trace.taken ≤ hand.old.part.trace.taken + 4 + 3 * (16 * hand.old.part.seats + 1) }
     ensures counted { steps.new + hand.old.part.trace.taken ≡ steps.old + hand.new.part.trace.taken }
     ensures cursor { cursor.new ≡ cursor.old }
 {
     let walked = walk(list, hand, cursor, steps);
     if !is_place(&walked) {
-        return walked;
+        return Some(walked);
+    }
+    if leaves && found_empty(hand) {
+        return None;
     }
     match link(list, hand, cursor, steps) {
-        Linked::Done => Walked::Place,
-        Linked::Lost(lost) => Walked::Lost(lost),
+        Linked::Done => Some(Walked::Place),
+        Linked::Lost(lost) => Some(Walked::Lost(lost)),
     }
 }
 
@@ -81,39 +97,44 @@ fn validate_once<G: Guard, L: Ledger>(
 }
 
 /// Walks to the place of the hand's filled node, links it there and validates it. `Place` says that its range is held;
-/// otherwise the node is still being filled, or it was linked and is marked.
+/// otherwise the node is still being filled, or it was linked and is marked. None comes as `walk_and_link` says.
 fn insert_and_validate<G: Guard, L: Ledger>(
     list: &List<G>,
     hand: &mut Hand<G>,
     cursor: &mut Cursor,
+    leaves: bool,
     steps: &mut Steps<L>,
-) -> Walked
+) -> Option<Walked>
     requires table { hand.old.table ≡ list.now.table }
     requires order { MayWalk hand.old.part.core }
     requires cursor { cursor.old.epoch ≡ hand.old.part.core.epoch }
     ensures table { hand.new.table ≡ hand.old.table }
     ensures later { IsLaterInEpoch hand.old.part hand.new.part }
-    ensures ends { InsertEnds hand.old.part hand.new.part result }
-    ensures long { IsLong result ↔ IsSpent hand.new.part }
+    ensures ends { MatchOption result (StaysFilled leaves hand.old.part hand.new.part) (InsertEnds hand.old.part hand.new.part) }
+    ensures long { MatchOption result (Unit {0}) (λ walked. IsLong walked ↔ IsSpent hand.new.part) }
     ensures bound { hand.new.part.trace.taken ≤ hand.old.part.trace.taken + 7 + 6 * (16 * hand.old.part.seats + 1) }
     ensures counted { steps.new + hand.old.part.trace.taken ≡ steps.old + hand.new.part.trace.taken }
     ensures cursor { cursor.new ≡ cursor.old }
 {
-    let walked = walk_and_link(list, hand, cursor, steps);
+    let Some(walked) = walk_and_link(list, hand, cursor, leaves, steps) else {
+        return None;
+    };
     if !is_place(&walked) {
-        return walked;
+        return Some(walked);
     }
-    validate_once(list, hand, cursor, steps)
+    Some(validate_once(list, hand, cursor, steps))
 }
 
 /// Enters an epoch, inserts the hand's filled node at its place, validates it, and leaves the epoch. `Place` says that
-/// its range is held; otherwise the hand has no node of its own, as before the try.
+/// its range is held; otherwise the hand has no node of its own, as before the try. None comes only where `leaves` asks
+/// for it: the walk found the list empty, and the node is the first ready one again, so that it may be linked at once.
 #[inline(never)]
 pub(crate) fn insert_in_epoch<G: Guard, L: Ledger>(
     list: &List<G>,
     hand: &mut Hand<G>,
+    leaves: bool,
     steps: &mut Steps<L>,
-) -> Walked
+) -> Option<Walked>
     requires table { hand.old.table ≡ list.now.table }
     requires outside { IsOutside hand.old.part.core }
     requires own { HasEnds hand.old.part.core.own }
@@ -121,13 +142,14 @@ pub(crate) fn insert_in_epoch<G: Guard, L: Ledger>(
     ensures later { IsLaterInTry hand.old.part hand.new.part }
     ensures outside { IsOutside hand.new.part.core }
     ensures cursor { hand.new.part.core.cursor ≡ None }
-    ensures ends { EpochEnds hand.old.part hand.new.part result }
-    ensures long { IsLong result ↔ IsSpent hand.new.part }
+    ensures ends { MatchOption result (LeavesNode hand.old.part hand.new.part × (leaves ≡ true))
+        (EpochEnds hand.old.part hand.new.part) }
+    ensures long { MatchOption result (Unit {0}) (λ walked. IsLong walked ↔ IsSpent hand.new.part) }
     ensures bound { hand.new.part.trace.taken ≤ hand.old.part.trace.taken + 9 + 6 * (16 * hand.old.part.seats + 1) }
     ensures counted { steps.new + hand.old.part.trace.taken ≡ steps.old + hand.new.part.trace.taken }
 {
     let mut cursor = begin(list, hand, steps);
-    let walked = insert_and_validate(list, hand, &mut cursor, steps);
+    let walked = insert_and_validate(list, hand, &mut cursor, leaves, steps);
     end(list, hand, cursor, steps);
     walked
 }

@@ -1,6 +1,7 @@
 use Rattle.std.proofs.Common.{sym, ◌∙◌}
 use Rattle.std.specs.Prelude.{Some}
-use Rattle.range_rw.proofs.Taking.{has_ends, tried_own, tried_held, tried_ready, back_ready, insert_held, insert_ready, insert_cause}
+use Rattle.range_rw.proofs.Taking.{has_ends, tried_own, tried_held, tried_ready, back_ready, insert_held, insert_ready, insert_cause, some_again, ready_again, cause_again}
+use Rattle.range_rw.proofs.Later.{later_on}
 use Rattle.range_rw.proofs.trying.try_range.Goals as goal
 
 -- that there is no node is the cause
@@ -23,26 +24,49 @@ returns-then-held-clause-held g c = tried_held c.args.hand.now.part c.link_if_em
     c.in-Ok.held c.in-Ok.ensures.tried c.if-held.true
 
 -- the refused node is ready again, or was marked
-pub returns-in-Some-clause-ready : goal.returns-in-Some-clause-ready
-returns-in-Some-clause-ready g c =
+pub returns-in-Some-refusal_of-clause-ready : goal.returns-in-Some-refusal_of-clause-ready
+returns-in-Some-refusal_of-clause-ready g c =
     let p = c.args.hand.now.part in let f = c.link_if_empty.new.hand.part in let r = c.insert_in_epoch.new.hand.part in let t = c.in-Ok.ensures.tried in
     back_ready p f c.args.range c.args.mode c.in-Ok.held t r
     (insert_ready f r t.node c.args.range c.args.mode (tried_own p f c.args.range c.args.mode c.in-Ok.held t c.if-held.false)
-    c.insert_in_epoch.result c.insert_in_epoch.ensures.ends)
+    c.in-Some.walked c.in-Some.ensures.ends)
 
 -- the list's answer is the cause
-pub returns-in-Some-clause-cause : goal.returns-in-Some-clause-cause
-returns-in-Some-clause-cause g c =
+pub returns-in-Some-refusal_of-clause-cause : goal.returns-in-Some-refusal_of-clause-cause
+returns-in-Some-refusal_of-clause-cause g c =
     let p = c.args.hand.now.part in let f = c.link_if_empty.new.hand.part in let t = c.in-Ok.ensures.tried in
     (insert_cause f c.insert_in_epoch.new.hand.part t.node c.args.range c.args.mode
     (tried_own p f c.args.range c.args.mode c.in-Ok.held t c.if-held.false) c.args.hand.now.table p
-    c.link_if_empty.ensures.later c.insert_in_epoch.ensures.later c.insert_in_epoch.result c.in-Some.why
-    (sym c.refusal_of.ensures ∙ c.in-Some.is) c.insert_in_epoch.ensures.ends c.insert_in_epoch.ensures.long).0
+    c.link_if_empty.ensures.later c.insert_in_epoch.ensures.later c.in-Some.walked c.in-Some-refusal_of.why
+    (sym c.refusal_of.ensures ∙ c.in-Some-refusal_of.is) c.in-Some.ensures.ends c.in-Some.ensures.long).0
 
 -- the validation holds the range
 pub returns-in-None-clause-held : goal.returns-in-None-clause-held
 returns-in-None-clause-held g c =
     let p = c.args.hand.now.part in let f = c.link_if_empty.new.hand.part in let t = c.in-Ok.ensures.tried in
     insert_held f c.insert_in_epoch.new.hand.part t.node c.args.range c.args.mode
-    (tried_own p f c.args.range c.args.mode c.in-Ok.held t c.if-held.false) c.insert_in_epoch.result
-    (sym c.refusal_of.ensures ∙ c.in-None.is) c.insert_in_epoch.ensures.ends
+    (tried_own p f c.args.range c.args.mode c.in-Ok.held t c.if-held.false) c.in-Some.walked
+    (sym c.refusal_of.ensures ∙ c.in-None.is) c.in-Some.ensures.ends
+
+-- where the list was found empty there is a ready node
+pub try_again-requires-clause-some : goal.try_again-requires-clause-some
+try_again-requires-clause-some g c =
+    let p = c.args.hand.now.part in let f = c.link_if_empty.new.hand.part in let t = c.in-Ok.ensures.tried in
+    some_again p f c.args.range c.args.mode c.in-Ok.held t c.if-held.false c.insert_in_epoch.new.hand.part c.in_default.ensures.ends.0
+
+-- the ready nodes after the second attempt
+pub returns-in_default-clause-ready : goal.returns-in_default-clause-ready
+returns-in_default-clause-ready g c =
+    let p = c.args.hand.now.part in let f = c.link_if_empty.new.hand.part in let t = c.in-Ok.ensures.tried in
+    ready_again p f c.args.range c.args.mode c.in-Ok.held t c.if-held.false c.insert_in_epoch.new.hand.part
+    c.try_again.new.hand.part c.in_default.ensures.ends.0 c.try_again.ensures.ready
+
+-- its cause is one of the whole try
+pub returns-in_default-clause-cause : goal.returns-in_default-clause-cause
+returns-in_default-clause-cause g c =
+    let p = c.args.hand.now.part in let f = c.link_if_empty.new.hand.part in let t = c.in-Ok.ensures.tried in
+    let r = c.insert_in_epoch.new.hand.part in
+    cause_again c.insert_in_epoch.new.hand.table c.args.hand.now.table c.args.hand.now.table p r c.try_again.new.hand.part
+    (later_on p f r c.link_if_empty.ensures.later c.insert_in_epoch.ensures.later)
+    (λ none. absurd (some_again p f c.args.range c.args.mode c.in-Ok.held t c.if-held.false r c.in_default.ensures.ends.0 none))
+    (record { range = c.args.range; mode = c.args.mode }) c.try_again.result c.try_again.ensures.cause
