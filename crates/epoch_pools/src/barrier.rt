@@ -6,13 +6,14 @@ ghost use Rattle.std.specs.Prelude.{◌≡◌, ◌≢◌, ◌⊎◌, ℕ, ◌+�
 ghost use Rattle.view_lists.specs.Counted.{is_empty, are_others_passed};
 ghost use Rattle.lock_core.specs.Views.{is_passed, note_of};
 ghost use Rattle.epoch_pools.specs.Hands.{IsHandView};
-ghost use Rattle.epoch_pools.specs.Taking.{IsFree, IsPoolCall, IsLooking, IsHomeLook, IsHomeKnown, IsEpochLook};
+ghost use Rattle.epoch_pools.specs.Taking.{IsFree, IsPoolCall, IsLooking, IsHomeKnown, IsEpochLook};
 ghost use Rattle.epoch_pools.specs.Taking.{IsBarred, IsFirstInside, IsInside, IsRefill, TakesFirst, IsTaken};
 
 use crate::hand::Hand;
 use crate::list::List;
+use crate::looks::begin_anew;
 use crate::stuck::{Stuck, Taken};
-use lock_core::{Guard, NODES, Step, View, enabled_op};
+use lock_core::{Guard, NODES, Step, View, follow};
 use std::sync::ledger::Ledger;
 use word_rows::Steps;
 
@@ -82,23 +83,6 @@ impl<G: Guard> Hand<G> {
         node
     }
 
-    /// Reads the home word of a node, where it is used and wasn't read as 1 already.
-    fn look_home<L: Ledger>(&mut self, list: &List<G>, node: u32, steps: &mut Steps<L>)
-        requires table { self.old.table ≡ list.now.table }
-        requires free { IsFree self.old.part.core }
-        ensures table { self.new.table ≡ self.old.table }
-        ensures on { IsLooking self.old.part self.new.part }
-        ensures looked { IsHomeLook self.old.part self.new.part node }
-        ensures taken { self.new.part.trace.taken ≤ self.old.part.trace.taken + 1 }
-        ensures counted { steps.new + self.old.part.trace.taken ≡ steps.old + self.new.part.trace.taken }
-    {
-        let step = Step::ReadHome { node };
-        let Some(op) = enabled_op(self.seats(), self.number(), self.view(), step) else {
-            return;
-        };
-        self.make_with(list, step, op, steps);
-    }
-
     /// Looks at the home words of all used nodes, the lowest node first. Where the hand is alone, those that came home
     /// are ready.
     fn look_homes<L: Ledger>(&mut self, list: &List<G>, steps: &mut Steps<L>)
@@ -110,13 +94,16 @@ impl<G: Guard> Hand<G> {
         ensures taken { self.new.part.trace.taken ≤ self.old.part.trace.taken + 16 }
         ensures counted { steps.new + self.old.part.trace.taken ≡ steps.old + self.new.part.trace.taken }
     {
-        let first = self.first_node();
-        'nodes: for node in first..first + NODES {
-            self.look_home(list, node, steps);
+        let seats = self.token.seats;
+        let Hand { token, view } = self;
+        let came = list.read_homes(token, &view.used, &mut view.homes, steps);
+        if came {
+            begin_anew(view, seats);
         }
     }
 
     /// Reads the epoch of another seat, while nodes wait for the barrier.
+    #[inline(always)]
     fn look_epoch<L: Ledger>(&mut self, list: &List<G>, other: u32, steps: &mut Steps<L>)
         requires table { self.old.table ≡ list.now.table }
         requires free { IsFree self.old.part.core }
@@ -129,8 +116,17 @@ impl<G: Guard> Hand<G> {
         ensures taken { self.new.part.trace.taken ≡ self.old.part.trace.taken + 1 }
         ensures counted { steps.new ≡ steps.old + 1 }
     {
-        prove!(other < self.token.seats);
-        self.make(list, Step::ReadEpoch { seat: other }, steps);
+        let seats = self.token.seats;
+        let number = self.token.number;
+        let found = list.read_epoch(&mut self.token, other);
+        follow(
+            seats,
+            number,
+            &mut self.view,
+            Step::ReadEpoch { seat: other },
+            found,
+        );
+        steps.tick();
     }
 
     /// Looks at the epochs of the other seats, the lowest seat first, until the nodes that wait are ready.

@@ -39,7 +39,7 @@ impl<G: Guard> Hand<G> {
 
     /// Makes one step of the lock with its operation, which is that of the hand's view.
     #[inline(always)]
-    pub(crate) fn make_with<L: Ledger>(
+    fn make_with<L: Ledger>(
         &mut self,
         list: &List<G>,
         step: Step,

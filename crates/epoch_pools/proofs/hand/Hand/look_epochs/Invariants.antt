@@ -3,6 +3,7 @@ use Rattle.view_lists.specs.Counted.{are_others_passed}
 use Rattle.epoch_pools.specs.Taking.{IsLooking, IsSeatKnown}
 use Rattle.epoch_pools.proofs.hand.Hand.look_epochs.Given as goal
 
+-- the seats so far are known, and the candidates wait on
 abbrev pub invariant-seats : goal.invariant-seats
 invariant-seats g l = record {
   table : l.self.table ≡ l.initial.self.table;

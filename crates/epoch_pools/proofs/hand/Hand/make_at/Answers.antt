@@ -8,6 +8,7 @@ use Rattle.epoch_pools.specs.Hands.{HandState, IsHandView}
 use Rattle.epoch_pools.proofs.Stepping.{line_again, answered, told_again, zero_after, hand_after}
 use Rattle.epoch_pools.proofs.hand.Hand.make_at.Goals as goal
 
+-- the hand's own view is the one that belongs to its number, and may be relied on
 pub invariant_of-self : goal.invariant_of-self
 invariant_of-self g c =
     let q = c.self.inside.token.part in let step = c.args.step in let m = c.perform-found.ensures.made in let result = c.perform-found.result in
@@ -26,6 +27,7 @@ invariant_of-self g c =
       subst IsHandView (sym all) (hand_after q g.G.Guard.rested step result g.D.Doing.seats less may c.self.invariant.1 told),
     )
 
+-- what the step says beside, of what it returned
 pub returns-clause-told : goal.returns-clause-told
 returns-clause-told g c =
     let q = c.self.inside.token.part in let step = c.args.step in let m = c.perform-found.ensures.made in
@@ -36,6 +38,7 @@ returns-clause-told g c =
     (told_again g.G.Guard.rested q step g.D.Doing.seats c.args.op.act m.0 c.perform-found.result w m.3
     (subst (λ (d : Step). Told g.D.Doing.seats q d m.0) c.requires.doing m.2))
 
+-- a store returns 0
 pub returns-clause-store : goal.returns-clause-store
 returns-clause-store g c = λ st.
     let q = c.self.inside.token.part in let step = c.args.step in let m = c.perform-found.ensures.made in

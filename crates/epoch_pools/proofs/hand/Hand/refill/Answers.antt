@@ -2,6 +2,7 @@ use Rattle.std.proofs.Common.{rules, ◌≡◌, ◌≢◌, ◌<◌, [], arith}
 use Rattle.epoch_pools.proofs.Taking.{not_alone, stuck_on}
 use Rattle.epoch_pools.proofs.hand.Hand.refill.Goals as goal
 
+-- a hand with a node that waits isn't alone
 pub look_epochs-requires-clause-many : goal.look_epochs-requires-clause-many
 look_epochs-requires-clause-many g c =
     let q = c.look_homes.new.self.part in
@@ -11,6 +12,7 @@ look_epochs-requires-clause-many g c =
     let there : q.number < q.seats = omega arith in
     not_alone q.seats q.number q.core c.has_homes.ensures.sound.pooled homes there
 
+-- no node is ready, and the first seat inside is the cause
 pub returns-clause-filled : goal.returns-clause-filled
 returns-clause-filled g c =
     let q = c.look_homes.new.self.part in
