@@ -18,8 +18,10 @@ module _ {P : Type 0} (seats clients : ℕ) (holds : Grants → List ℕ → Lis
   pub seen_part : (p : SeatPart P) → IsSeen s.views p → get_elem? parts p.number ≡ some p
   seen_part p i = (r.owned i.id i.view i.at i.place p i.has).0
 
+  -- what the machine has of that number is the view of the part that is seen
   pub seen_core : (p : SeatPart P) → IsSeen s.views p → slice_get (map core_of parts) p.number ≡ Some p.core
   seen_core p i = to_get (map core_of parts) p.number p.core (at_map core_of parts p.number p (seen_part p i))
 
+  -- the parts are those that are seen, one for each number
   pub are_seen : AreSeen seats s.views parts
   are_seen = record { count = r.count; seen = seen_part; stands = λ n less. (owner n, r.stands n less) }

@@ -39,6 +39,7 @@ module _ {P : Type 0} (holds : Grants → List ℕ → List P → Type 0) (reste
     behind : get_elem? (held_by_seat next) s ≡ some (held_at now.own)
     behind = from_get (held_by_seat next) s (held_at now.own) (held_there next.views s now at')
 
+    -- the guard's rule holds after the step
     abbrev pub Good : Type 0
     Good = holds (held_by_seat next) client (set passes s (pass_kept rested (held_at v.own) (held_at now.own) pass))
 
@@ -89,5 +90,6 @@ module _ {P : Type 0} (holds : Grants → List ℕ → List P → Type 0) (reste
         (λ t. ⊎_elim (λ (t : Gains m next s). absurd (let a = sym (held_there m.views s v at) ∙ t.nothing in cc)) (λ k. absurd (keeping k.0)) t)
         (change step m next s e)
 
+    -- it does after each step that the machine makes
     pub guard_after : after m s step ≡ Some next → Good
     guard_after e = ⊎_elim held_on (λ t. ⊎_elim gained (λ k. given_back k.0 k.1) t) (change step m next s e)

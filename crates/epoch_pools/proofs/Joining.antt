@@ -143,6 +143,7 @@ module _ {P : Type 0} (table : TableId) where
       ∙ (map-append (hand_with table) front (p ∷ []) ∙ ap (λ k. map (hand_with table) front ++ (k ∷ [])) same) in
       (λ i. all i ++ rest i) ∙ (append_snoc (map (hand_with table) front) s (remove left 0) ∙ (ap (λ l. map (hand_with table) front ++ l) (sym split) ∙ so))
 
+  -- without the first of them the hands are of the table still
   pub hands_without_first : (left now : List (HandState P)) → AreHandsOf table left → now ≡ remove left 0 → AreHandsOf table now
   hands_without_first left now of_table is k s at = of_table (suc k) s (sym (at_removed left k) ∙ (ap (λ l. get_elem? l k) (sym is) ∙ at))
 

@@ -11,6 +11,7 @@ module _ {A : Type 0} where
   at_removed [] k = refl
   at_removed (x ∷ xs) k = refl
 
+  -- a list that isn't empty is its first and the others
   pub first_of_list : (l : List A) (a : A) → 0 < length l → a ≡ get_or l 0 a → l ≡ a ∷ remove l 0
   first_of_list [] a h e = absurd (omega arith)
   first_of_list (x ∷ xs) a h e = λ i. sym e i ∷ xs
@@ -21,6 +22,7 @@ module _ {A : Type 0} where
   append_at (x ∷ xs) m zero a e = inl e
   append_at (x ∷ xs) m (suc k) a e = append_at xs m k a e
 
+  -- what is behind one list is what is in the other
   pub at_behind : (l m : List A) (k : ℕ) → get_elem? (l ++ m) (length l + k) ≡ get_elem? m k
   at_behind [] m k = let z : 0 + k ≡ k = omega arith in ap (get_elem? m) z
   at_behind (x ∷ xs) m k = let z : suc (length xs) + k ≡ suc (length xs + k) = omega arith in ap (get_elem? (x ∷ (xs ++ m))) z ∙ at_behind xs m k

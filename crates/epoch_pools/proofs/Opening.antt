@@ -149,6 +149,7 @@ pub views_on : (seats n : ℕ) (now : List View) (v : View) → n < seats
 views_on seats n now v less is = let z : seats - n ≡ suc (seats - (n + 1)) = omega arith in
     is ∙ ap (λ k. remove (map (start_view seats) (numbers_from n k)) 0) z
 
+-- the first of them is that of number n
 pub view_first : (seats n : ℕ) (v : View) → n < seats → v ≡ get_or (map (start_view seats) (numbers_from n (seats - n))) 0 v → v ≡ start_view seats n
 view_first seats n v less is = let z : seats - n ≡ suc (seats - (n + 1)) = omega arith in
     is ∙ ap (λ k. get_or (map (start_view seats) (numbers_from n k)) 0 v) z

@@ -99,6 +99,7 @@ module _ {P : Type 0} (rested : P → P) (p : SeatPart P) (step : Step) where
       ∙ record_same p.trace p.core (core_after p step answer) step (line_for p step).place found answer w.2 in
       λ i. record { number = p.number; seats = p.seats; core = e i; pass = pass_kept rested (held_at p.core.own) (held_at (e i).own) p.pass; trace = t i }
 
+  -- and what it says beside, by what its operation returns
   pub told_again : (seats : ℕ) (act : Act) (found answer : ℕ) → Writes step (line_for p step) act → IsAnswer act found answer
       → Told seats p step found → Told seats p step answer
   told_again seats Load found answer w f t = subst (Told seats p step) (sym f) t
@@ -156,10 +157,12 @@ module _ (seats s : ℕ) (v : View) where
   pub may_enter : v.epoch % 2 ≡ 0 → v.hand ≡ None → IsEnabled seats s v Enter
   may_enter even hand = ap is_some (plan_of_line seats s v Enter _ (enter even hand))
 
+  -- inside an operation, with nothing in the hand and no validation to do, Leave is enabled
   pub may_leave_now : v.epoch % 2 ≡ 1 → v.hand ≡ None → may_leave v.own ≡ true → IsEnabled seats s v Leave
   may_leave_now odd hand settled = ap is_some (when-is _ (counts_on (epoch_place s) (left v))
       (together _ _ (together _ _ (eq-eqb _ _ odd) (ap is_none hand)) settled))
 
+  -- with a node in the hand GiveHome is enabled
   pub may_give : (n : ℕ) → v.hand ≡ Some n → IsEnabled seats s v GiveHome
   may_give n hand = ap is_some (plan_of_line seats s v GiveHome _ (give_home n hand))
 
@@ -176,12 +179,15 @@ module _ (seats s : ℕ) (v : View) where
       by_line p (leave odd hand own) = refl
 
 module _ {P : Type 0} (rested : P → P) (p : SeatPart P) (found : ℕ) where
+  -- what belongs to a seat after Enter
   pub enter_after : Enables p Enter → part_after rested p Enter found ≡ quiet_after p Enter (entered p.core)
   enter_after may = quiet rested p Enter found (entered p.core) (enter_on p.seats p.number p.core found may) refl (λ _. refl)
 
+  -- what belongs to a seat after Leave
   pub leave_after : Enables p Leave → part_after rested p Leave found ≡ quiet_after p Leave (left p.core)
   leave_after may = quiet rested p Leave found (left p.core) (leave_on p.seats p.number p.core found may) (held_left p.core.own) (λ _. refl)
 
+  -- what belongs to a seat after GiveHome
   pub give_home_after : Enables p GiveHome → part_after rested p GiveHome found ≡ quiet_after p GiveHome (gave_home p.core)
   give_home_after may = quiet rested p GiveHome found (gave_home p.core) (give_home_on p.seats p.number p.core found may) refl (λ _. refl)
 
@@ -219,5 +225,6 @@ module _ {P : Type 0} (p : SeatPart P) where
     looked = looked_kept p.trace p.core.cursor (core_after p step found).cursor (is_judging step) (gained_by p.core (core_after p step found)) view.looked;
   }
 
+  -- after a step on a client word a hand may rely on what it could before
   pub client_hand : (i : ℕ) (pass : P) → IsHandView p → IsHandView (client_part p i pass)
   client_hand i pass view = record { sound = view.sound; pooled = view.pooled; looked = view.looked }

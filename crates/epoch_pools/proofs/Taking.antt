@@ -19,7 +19,7 @@ use Rattle.lock_core.specs.declared.steps.Step.TheVariants.{ReadEpoch, ReadHome,
 use Rattle.lock_core.specs.Nodes.{own_times}
 use Rattle.lock_core.specs.Views.{is_passed, note_of, passes, noted, looked_at, released, epoch_read, came_home, home_read, taken}
 use Rattle.lock_core.specs.StepTable.{Plan, IsLine, read_epoch, read_home, clear_home}
-use Rattle.lock_core.specs.Machine.{plan, when, held_at}
+use Rattle.lock_core.specs.Machine.{held_at}
 use Rattle.lock_core.specs.Sizes.{IsViewSized}
 use Rattle.lock_core.specs.Operations.{planned, IsEnabled}
 use Rattle.lock_core.proofs.Counts.{times_joined, times_itself, without_none, without_some}
@@ -60,6 +60,7 @@ none_looked t before now judging gained none same = ap (λ (o : Option Cursor). 
     gone None = refl
     gone (Some c) = refl
 
+-- a step of a seat that holds nothing, and which leaves epoch, cursor and hand, is one of a pool call
 pub pool_call : {P : Type 0} (rested : P → P) (p q : SeatPart P) (step : Step) (w : ℕ) (u : View) → q ≡ part_after rested p step w
     → p.core.own ≡ Nothing → q.core ≡ u
     → u.epoch ≡ p.core.epoch → u.cursor ≡ p.core.cursor → u.hand ≡ p.core.hand → IsPoolCall p q
@@ -78,6 +79,7 @@ pool_call {P} rested p q step w u made own core epoch cursor hand = record {
   taken = let t = ap (λ (x : SeatPart P). x.trace.taken) made in omega arith;
 }
 
+-- a call without a step is a pool call
 pub no_call : {P : Type 0} (p : SeatPart P) → IsPoolCall p p
 no_call p = record {
   number = refl;
@@ -91,6 +93,7 @@ no_call p = record {
   taken = omega arith;
 }
 
+-- two pool calls, one after the other, are one
 pub both_calls : {P : Type 0} (p q r : SeatPart P) → IsPoolCall p q → IsPoolCall q r → IsPoolCall p r
 both_calls p q r a b = record {
   number = b.number ∙ a.number;
@@ -104,9 +107,11 @@ both_calls p q r a b = record {
   taken = let x = a.taken in let y = b.taken in omega arith;
 }
 
+-- a call without a step is a look
 pub no_look : {P : Type 0} (p : SeatPart P) → IsLooking p p
 no_look p = record { call = no_call p; own = refl }
 
+-- two looks, one after the other, are one
 pub both_looks : {P : Type 0} (p q r : SeatPart P) → IsLooking p q → IsLooking q r → IsLooking p r
 both_looks p q r a b = record { call = both_calls p q r a.call b.call; own = b.own ∙ a.own }
 
@@ -120,17 +125,20 @@ some_first : (l : List ℕ) → l ≢ [] → (n : ℕ) → slice_get l 0 ≡ Som
 some_first [] d n e = absurd (d refl)
 some_first (x ∷ xs) d n e = let same : x ≡ n = cc in (xs, ap (λ y. y ∷ xs) same)
 
+-- a free hand may take its first ready node
 pub may_clear : (seats s : ℕ) (v : View) (n : ℕ) → IsFree v → v.ready ≢ [] → slice_get v.ready 0 ≡ Some n → IsEnabled seats s v (ClearHome n)
 may_clear seats s v n free some first =
     let r = some_first v.ready some n first in
     ap is_some (plan_of_line seats s v (ClearHome n) _ (clear_home n r.0 free.own free.outside r.1))
 
+-- ClearHome takes the first ready node
 pub takes_first : {P : Type 0} (rested : P → P) (p q : SeatPart P) (n w : ℕ) → Enables p (ClearHome n)
     → q ≡ part_after rested p (ClearHome n) w → TakesFirst p q n
 takes_first {P} rested p q n w may made =
     let t = clear_home_on p.seats p.number p.core n w may in
     record { rest = t.0; ready = t.1; core = ap (λ (x : SeatPart P). x.core) made ∙ t.2 }
 
+-- and is a step of a pool call
 pub takes_call : {P : Type 0} (rested : P → P) (p q : SeatPart P) (n w : ℕ) → IsFree p.core → Enables p (ClearHome n)
     → q ≡ part_after rested p (ClearHome n) w → IsPoolCall p q
 takes_call rested p q n w free may made =
@@ -144,26 +152,6 @@ read_home_on seats s v n w may = by_line _ (line_of seats s v (ReadHome n) may)
   where
     by_line : (p : Plan) → IsLine seats s v (ReadHome n) p → p.view w ≡ home_read seats v n w
     by_line p (read_home m even used new) = refl
-
--- a node whose home word may not be read is no used one, or came home already
-unread : {A : Type 0} (v : View) (n : ℕ) (a : A) → v.epoch % 2 ≡ 0
-    → is_some (when (v.epoch % 2 == 0 && not (times n v.used == 0) && times n v.homes == 0) a) ≡ false → 1 ≤ times n v.used
-    → 1 ≤ times n v.homes
-unread v n a even off used = split (v.epoch % 2 == 0) (times n v.used == 0) (times n v.homes == 0) (eq-eqb _ _ even) (ne_eqb _ _ (λ z. omega arith)) refl off
-  where
-    split : (b c d : Bool) → b ≡ true → c ≡ false → (times n v.homes == 0) ≡ d → is_some (when (b && not c && d) a) ≡ false → 1 ≤ times n v.homes
-    split false c d eb ec ed e = absurd (cc)
-    split true true d eb ec ed e = absurd (cc)
-    split true false false eb ec ed e = let none = eqb-false _ _ ed in omega arith
-    split true false true eb ec ed e = absurd (cc)
-
-pub no_home_look : {P : Type 0} (p : SeatPart P) (n : ℕ) → IsFree p.core → is_some (plan p.seats p.number p.core (ReadHome n)) ≡ false → IsHomeLook p p n
-no_home_look p n free off = record {
-  used = λ x. omega arith;
-  homes = λ x h u. h;
-  away = λ x d. refl;
-  this = λ u. inl (unread p.core n _ free.outside off u);
-}
 
 module _ {P : Type 0} (rested : P → P) (p q : SeatPart P) (n w : ℕ) (free : IsFree p.core) (may : Enables p (ReadHome n))
     (made : q ≡ part_after rested p (ReadHome n) w) where
@@ -182,6 +170,7 @@ module _ {P : Type 0} (rested : P → P) (p q : SeatPart P) (n w : ℕ) (free : 
   later : q.trace.taken ≡ p.trace.taken + 1
   later = ap (λ (x : SeatPart P). x.trace.taken) made
 
+  -- a ReadHome is a look
   pub home_looking : IsLooking p q
   home_looking = split (w == 1) (p.seats == 1) core
     where
@@ -201,6 +190,7 @@ module _ {P : Type 0} (rested : P → P) (p q : SeatPart P) (n w : ℕ) (free : 
       (λ (d : times x (p.core.homes ++ n ∷ []) ≢ 0). let a = without_some x (p.core.homes ++ n ∷ []) p.core.used (omega arith) in omega arith)
       (cases_eq (times x (p.core.homes ++ n ∷ [])) 0)
 
+  -- and tells whether its node came home
   pub home_look : IsHomeLook p q n
   home_look = split (w == 1) (p.seats == 1) core away
     where
@@ -276,6 +266,7 @@ read_epoch_on seats s v j w may = by_line _ (line_of seats s v (ReadEpoch j) may
     by_line : (p : Plan) → IsLine seats s v (ReadEpoch j) p → p.view w ≡ epoch_read s v j w
     by_line p (read_epoch k even some less other) = refl
 
+-- a free hand whose nodes wait may read the epoch of each other seat
 pub may_read_epoch : (seats s : ℕ) (v : View) (j : ℕ) → IsFree v → v.homes ≢ [] → j < seats → j ≢ s → IsEnabled seats s v (ReadEpoch j)
 may_read_epoch seats s v j free some less other = ap is_some (plan_of_line seats s v (ReadEpoch j) _ (read_epoch j free.outside some less other))
 
@@ -287,15 +278,25 @@ set_here l j a d less = unwrap_or-slice_get (slice_set l j a) j d ∙ get_or-set
 
 -- what noting the epoch of seat j leaves of the view
 record IsLooked (v : View) (j w : ℕ) (u : View) : Type 0 where
+  -- the epoch stays
   pub epoch : u.epoch ≡ v.epoch
+  -- the own node stays
   pub own : u.own ≡ v.own
+  -- the cursor stays
   pub cursor : u.cursor ≡ v.cursor
+  -- the node in the hand stays
   pub hand : u.hand ≡ v.hand
+  -- the ready nodes stay
   pub ready : u.ready ≡ v.ready
+  -- the used nodes stay
   pub used : u.used ≡ v.used
+  -- the homes stay
   pub homes : u.homes ≡ v.homes
+  -- other seats are passed as before
   pub passed : (k : ℕ) → k ≢ j → is_passed u k ≡ is_passed v k
+  -- the notes of other seats stay
   pub notes : (k : ℕ) → k ≢ j → note_of u k ≡ note_of v k
+  -- seat j is passed, or it isn't and this odd epoch is noted of it
   pub this : (is_passed u j ≡ true) ⊎ ((w % 2 ≡ 1) × (is_passed u j ≡ false) × (note_of u j ≡ Some w))
 
 module _ (v : View) (j w : ℕ) (flags : j < length v.passed) (noting : j < length v.notes) where
@@ -386,6 +387,7 @@ module _ {P : Type 0} (rested : P → P) (p q : SeatPart P) (j w : ℕ) (free : 
   epoch_later : q.trace.taken ≡ p.trace.taken + 1
   epoch_later = ap (λ (x : SeatPart P). x.trace.taken) made
 
+  -- a ReadEpoch is a look
   pub epoch_looking : IsLooking p q
   epoch_looking = split (are_others_passed p.number u.passed) epoch_core
     where
@@ -424,6 +426,7 @@ module _ {P : Type 0} (rested : P → P) (p q : SeatPart P) (j w : ℕ) (free : 
       }))
       l.this
 
+  -- after it the candidates are ready, or they wait on and it is known of that seat whether it is inside
   pub epoch_look : p.core.homes ≢ [] → IsEpochLook p q j
   epoch_look some = split (are_others_passed p.number u.passed) refl epoch_core
     where
@@ -518,6 +521,7 @@ others_set (suc s) (x ∷ l) h =
     let t = both _ _ (others_set s l (λ k less d. h (suc k) (omega arith) (λ z. d (omega arith)))) in
     together _ _ (together x _ (h 0 (omega arith) (λ z. omega arith)) t.0) t.1
 
+-- where each other seat is passed, the flags of all others are set
 pub all_passed : (s : ℕ) (v : View) → ((k : ℕ) → k < length v.passed → k ≢ s → is_passed v k ≡ true) → are_others_passed s v.passed ≡ true
 all_passed s v h = (λ z. list_all (λ b. b) (take s v.passed) && list_all (λ b. b) (drop (add-one s z) v.passed)) ∙ others_set s v.passed h
 
@@ -527,6 +531,7 @@ all_passed s v h = (λ z. list_all (λ b. b) (take s v.passed) && list_all (λ b
 pub not_alone : (seats i : ℕ) (v : View) → IsPooled seats i v → v.homes ≢ [] → i < seats → 1 < seats
 not_alone seats i v pooled some less = ⊎_elim (λ (one : seats ≡ 1). absurd (some (pooled.alone one))) (λ (d : seats ≢ 1). omega arith) (cases_eq seats 1)
 
+-- a list that isn't found empty has a node
 pub some_left : (l : List ℕ) → not (is_empty l) ≡ true → l ≢ []
 some_left [] e = absurd (cc)
 some_left (n ∷ l) e = λ q. cc
@@ -552,6 +557,7 @@ held_up_by p q r seat epoch from barred some sized first =
       lowest = first.lowest;
     }
 
+-- the seat that the hand finds in its own view is a cause why the call gives no node
 pub stuck_on : {P : Type 0} (p q r : SeatPart P) (s : Stuck) → p.trace.taken ≤ q.trace.taken → IsBarred q r → q.core.homes ≢ []
     → IsViewSized r.seats r.number r.core → IsInside r s → IsStuck p r s
 stuck_on p q r (Inside seat epoch) from barred some sized first = held_up_by p q r seat epoch from barred some sized first

@@ -5,6 +5,7 @@ use Rattle.epoch_pools.proofs.Taking.{takes_filled}
 use Rattle.epoch_pools.proofs.barrier.take.Goals as goal
 use Rattle.epoch_pools.proofs.barrier.take.Goals.{then-not-has_ready+in_default, else-not-has_ready}
 
+-- the node was the first ready one, or the refill made it ready
 pub returns-clause-cause : goal.returns-clause-cause
 returns-clause-cause g c =
     let p = c.args.hand.now.part in

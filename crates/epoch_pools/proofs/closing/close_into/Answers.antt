@@ -4,6 +4,7 @@ use Rattle.lock_core.specs.Words.{word_count}
 use Rattle.epoch_pools.proofs.Joining.{closed}
 use Rattle.epoch_pools.proofs.closing.close_into.Goals as goal
 
+-- the words that were copied meet the guard with no grant
 pub returns-clause-guard : goal.returns-clause-guard
 returns-clause-guard g c =
     let shape = c.list.view_is in
@@ -15,5 +16,6 @@ returns-clause-guard g c =
     ∙ ap (λ n. drop (word_count n) (slots_items c.close_with-closed.result.words)) seats))
     c.close_with-closed.ensures.values.2
 
+-- the hands are all of the list's table
 pub join_all-all-requires-clause-tables : goal.join_all-all-requires-clause-tables
 join_all-all-requires-clause-tables g c = λ k s at. (c.requires.idle k s at).0 ∙ sym (ap (λ l. l.table) c.list.view_is)

@@ -3,6 +3,7 @@ use Rattle.std.specs.Mem.Slots.{slots_items}
 use Rattle.epoch_pools.proofs.Joining.{copied}
 use Rattle.epoch_pools.proofs.closing.copy_words.Goals as goal
 
+-- with one word more the words so far are copied
 pub words-preserved : goal.words-preserved
 words-preserved c = let i = c.words.invariant in record {
   below = search rules;

@@ -3,6 +3,7 @@ use Rattle.atomic_table.proofs.Lists.{at_index}
 use Rattle.epoch_pools.proofs.Joining.{joins, next_joined, hands_without_first, hand_again}
 use Rattle.epoch_pools.proofs.closing.join_all.Goals as goal
 
+-- the first hand is one seat, and the others are left
 pub all-init : goal.all-init
 all-init g c =
     let first = c.requires.tables 0 c.remove.result (at_index _ 0 _ c.requires.some c.remove.ensures.value) in
@@ -15,6 +16,7 @@ all-init g c =
       rest = hands_without_first c.args.shared.now.table_id c.args.hands.items _ c.requires.tables c.remove.ensures.items;
     }
 
+-- a seat of the same table may be joined
 pub join_seat-requires : goal.join_seat-requires
 join_seat-requires g c =
     let i = c.all.invariant in
@@ -27,6 +29,7 @@ join_seat-requires g c =
       joins _ _ g.G.Guard.holds _ _ _ _,
     )
 
+-- with one hand more the seat has what belongs to all so far
 pub all-preserved : goal.all-preserved
 all-preserved g c =
     let i = c.all.invariant in

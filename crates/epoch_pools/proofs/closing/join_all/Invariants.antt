@@ -2,6 +2,7 @@ use Rattle.std.proofs.Common.{◌≡◌, [], ◌++◌, map, length}
 use Rattle.epoch_pools.specs.Hands.{AreHandsOf, hand_with}
 use Rattle.epoch_pools.proofs.closing.join_all.Given as goal
 
+-- the seat has what belongs to the hands so far, in their order, and the others are of the table
 abbrev pub invariant-all : goal.invariant-all
 invariant-all g l = record {
   table : l.all.table_id ≡ l.shared.table_id;
@@ -10,5 +11,6 @@ invariant-all g l = record {
   rest : AreHandsOf l.shared.table_id l.hands.items;
 }
 
+-- how many hands are left
 abbrev pub decreases-all : goal.decreases-all
 decreases-all g l = length l.hands.items

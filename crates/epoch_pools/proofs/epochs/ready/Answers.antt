@@ -2,6 +2,7 @@ use Rattle.std.proofs.Common.{length, arith, ap, ◌∙◌, sym}
 use Rattle.lock_core.proofs.Pigeons.{few_of_seat}
 use Rattle.epoch_pools.proofs.epochs.ready.Goals as goal
 
+-- a seat has at most sixteen ready nodes
 pub overflow_cast-result : goal.overflow_cast-result
 overflow_cast-result g c =
     let part = c.hand.inside.token.part in

@@ -8,6 +8,7 @@ use Rattle.epoch_pools.specs.Running.{core_of, pass_of, machine}
 use Rattle.epoch_pools.proofs.Apart.{seen_part}
 use Rattle.epoch_pools.proofs.laws.keeps_apart.Goals as goal
 
+-- no two held ranges conflict, and the guard's rule holds, of what the views have
 pub returns : goal.returns
 returns g c = λ seats clients s running. let parts = running.0 in let r = running.2 in (
   held_by_seat (machine seats s.words parts),

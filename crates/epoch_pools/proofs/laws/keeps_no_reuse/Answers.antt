@@ -1,6 +1,7 @@
 use Rattle.epoch_pools.proofs.Apart.{seen_core}
 use Rattle.epoch_pools.proofs.laws.keeps_no_reuse.Goals as goal
 
+-- nobody reaches a node that is ready or being filled
 pub returns : goal.returns
 returns g c = λ seats clients s running owner other seen_owner seen_other x idle cursor at reach.
     let r = running.2 in

@@ -3,6 +3,7 @@ use Rattle.lock_core.specs.Machine.{start_view}
 use Rattle.lock_core.proofs.Opening.{map_more}
 use Rattle.epoch_pools.proofs.list.first_views.Goals as goal
 
+-- with one view more they are the first views so far
 pub loop-seat-preserved : goal.loop-seat-preserved
 loop-seat-preserved c =
     (c.in_ok-push.ensures {u = tt}).items ∙ (λ i. c.loop-seat.invariant i ++ c.in_ok-first_view.ensures {u = tt} i ∷ [])

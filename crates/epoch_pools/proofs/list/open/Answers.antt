@@ -8,11 +8,13 @@ use Rattle.epoch_pools.specs.Hands.{IsHandView, part_in, new_hand}
 use Rattle.epoch_pools.proofs.Opening.{opens, next_seat, wait_on, lock_there, view_first, views_on, first_hand}
 use Rattle.epoch_pools.proofs.list.open.Goals as goal
 
+-- the words and the first views meet the table's rule
 pub open_words-requires-clause-rule : goal.open_words-requires-clause-rule
 open_words-requires-clause-rule g c = λ k e f s. opens g.G.Guard.first g.G.Guard.holds c.args.seats k.seats
     (replicate (word_count c.args.seats) 0) c.args.client.now k.words.items c.as_slice.result.now c.requires.seats.0
     c.requires.seats.1 e f (search rules) refl c.requires.rule
 
+-- the token that is made has the part of its number
 pub invariant_of-push_reserved : goal.invariant_of-push_reserved
 invariant_of-push_reserved g c =
     let more : 0 < length c.all.opened.items = search rules in
@@ -29,6 +31,7 @@ invariant_of-push_reserved g c =
       lock_there c.args.seats _ c.args.client.now _ t.0 (search rules),
     )
 
+-- the hand that is made has the first view of its number, and may rely on it
 pub invariant_of-push_reserved-in-all : goal.invariant_of-push_reserved-in-all
 invariant_of-push_reserved-in-all g c =
     let more : 0 < length c.all.opened.items = search rules in
@@ -44,6 +47,7 @@ invariant_of-push_reserved-in-all g c =
           c.requires.seats.0 c.requires.seats.1 less),
     )
 
+-- with one hand more the hands so far are new ones
 pub all-preserved : goal.all-preserved
 all-preserved g c =
     let i = c.all.invariant in

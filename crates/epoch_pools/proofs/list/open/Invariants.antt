@@ -4,6 +4,7 @@ use Rattle.epoch_pools.specs.Hands.{AreNewHands}
 use Rattle.epoch_pools.proofs.Opening.{Waiting}
 use Rattle.epoch_pools.proofs.list.open.Given as goal
 
+-- the hands so far are new ones, and the seats and views that are left are those of the numbers behind
 abbrev pub invariant-all : goal.invariant-all
 invariant-all g l = record {
   room : vec_capacity l.made ≡ vec_capacity l.initial.made;
@@ -14,5 +15,6 @@ invariant-all g l = record {
   rest : Waiting g.G.Guard.first l.table.shared.table_id l.seats l.client l.number l.opened.items;
 }
 
+-- how many seats are left
 abbrev pub decreases-all : goal.decreases-all
 decreases-all g l = length l.opened.items

@@ -3,6 +3,7 @@ use Rattle.epoch_pools.proofs.ClientSteps.{one_part}
 use Rattle.epoch_pools.proofs.LockSteps.{lock_allows, word_there}
 use Rattle.epoch_pools.proofs.list.List.add_at.Goals as goal
 
+-- an addition that is this step keeps the rule, and tells what it should
 pub fetch_add-requires : goal.fetch_add-requires
 fetch_add-requires g c =
     let shape = c.self.view_is in

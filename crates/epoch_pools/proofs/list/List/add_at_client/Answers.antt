@@ -3,6 +3,7 @@ use Rattle.lock_core.specs.Client.{ClientStep, place_of, words_after}
 use Rattle.epoch_pools.proofs.ClientSteps.{client_keeps, client_place, one_part}
 use Rattle.epoch_pools.proofs.list.List.add_at_client.Goals as goal
 
+-- an addition that the guard allows keeps the rule, and tells what it should
 pub fetch_add-requires : goal.fetch_add-requires
 fetch_add-requires g c =
     let shape = c.self.view_is in

@@ -4,6 +4,7 @@ use Rattle.epoch_pools.proofs.ClientSteps.{one_part}
 use Rattle.epoch_pools.proofs.LockSteps.{lock_allows, word_there, either_if}
 use Rattle.epoch_pools.proofs.list.List.exchange_at.Goals as goal
 
+-- an exchange that is this step keeps the rule, and tells what it should
 pub compare_exchange-requires : goal.compare_exchange-requires
 compare_exchange-requires g c =
     let shape = c.self.view_is in

@@ -4,6 +4,7 @@ use Rattle.lock_core.specs.Client.{ClientStep, place_of, words_after}
 use Rattle.epoch_pools.proofs.ClientSteps.{client_keeps, client_place, one_part}
 use Rattle.epoch_pools.proofs.list.List.exchange_at_client.Goals as goal
 
+-- an exchange that the guard allows keeps the rule, and tells what it should
 pub compare_exchange-requires : goal.compare_exchange-requires
 compare_exchange-requires g c =
     let shape = c.self.view_is in

@@ -3,6 +3,7 @@ use Rattle.epoch_pools.proofs.ClientSteps.{one_part}
 use Rattle.epoch_pools.proofs.LockSteps.{lock_allows, word_there}
 use Rattle.epoch_pools.proofs.list.List.load_at.Goals as goal
 
+-- a load that is this step keeps the rule, and tells what it should
 pub load-requires : goal.load-requires
 load-requires g c =
     let shape = c.self.view_is in

@@ -3,6 +3,7 @@ use Rattle.epoch_pools.proofs.ClientSteps.{one_part}
 use Rattle.epoch_pools.proofs.LockSteps.{lock_puts, word_there}
 use Rattle.epoch_pools.proofs.list.List.store_at.Goals as goal
 
+-- a store that is this step keeps the rule, and tells what it should
 pub store-requires : goal.store-requires
 store-requires g c =
     let shape = c.self.view_is in

@@ -3,6 +3,7 @@ use Rattle.lock_core.specs.Client.{ClientStep, place_of, words_after}
 use Rattle.epoch_pools.proofs.ClientSteps.{client_stores, client_place, one_part}
 use Rattle.epoch_pools.proofs.list.List.store_at_client.Goals as goal
 
+-- a store that the guard allows keeps the rule, and tells what it should
 pub store-requires : goal.store-requires
 store-requires g c =
     let shape = c.self.view_is in
