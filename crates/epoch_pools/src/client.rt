@@ -6,6 +6,7 @@ ghost use Rattle.lock_core.specs.Client.{loads, stores, adds, exchanges, IsAllow
 ghost use Rattle.lock_core.specs.Machine.{held_at};
 ghost use Rattle.lock_core.specs.Words.{word_count};
 ghost use Rattle.epoch_pools.specs.Running.{client_part};
+ghost use Rattle.epoch_pools.specs.ClientActs.{client_step, IsAnswering};
 
 use crate::hand::Hand;
 use crate::list::{List, lock_word_count};
@@ -13,6 +14,17 @@ use crate::plays::{Acting, Acts, Overwrites};
 use crate::token::Token;
 use lock_core::{Guard, Means};
 use std::marker::Brand;
+
+/// What is done to a client word.
+#[derive(Clone, Copy)]
+pub enum ClientAct {
+    Load,
+    Store { value: u64 },
+    /// Adds a number; the sum wraps.
+    Add { by: u64 },
+    /// Stores `new` where the word is `expected`.
+    Exchange { expected: u64, new: u64 },
+}
 
 impl<G: Guard> List<G> {
     /// The place of a client word in the table.
@@ -23,74 +35,39 @@ impl<G: Guard> List<G> {
         (lock_word_count(self.seats) + i) as usize
     }
 
-    fn load_at_client<M: Means<G>, C: Acting>(&self, token: &mut Token<G>, i: u32) -> u64
-        requires acting { C.acting ≡ loads i }
-        requires table { token.old.table ≡ self.now.table }
-        requires place { i < self.now.client }
-        requires allowed { IsAllowed G.holds G.allows M.note token.old.part.number (held_at token.old.part.core.own) token.old.part.pass C.acting }
-        ensures table { token.new.table ≡ token.old.table }
-        ensures part { token.new.part ≡ client_part token.old.part i token.new.part.pass }
-        ensures made { IsMade G.holds G.allows M.note token.old.part.number (held_at token.old.part.core.own) token.old.part.pass
-            C.acting result token.new.part.pass }
-    {
-        let word = self.client_word(i);
-        self.table
-            .shared
-            .load::<Acts<G, M, C>>(&mut token.seat, word)
-    }
-
-    fn store_at_client<M: Means<G>, C: Acting>(&self, token: &mut Token<G>, i: u32, value: u64)
-        requires acting { C.acting ≡ stores i value }
-        requires table { token.old.table ≡ self.now.table }
-        requires place { i < self.now.client }
-        requires allowed { IsAllowed G.holds G.allows M.note token.old.part.number (held_at token.old.part.core.own) token.old.part.pass C.acting }
-        ensures table { token.new.table ≡ token.old.table }
-        ensures part { token.new.part ≡ client_part token.old.part i token.new.part.pass }
-        ensures made { (found : ℕ) × IsMade G.holds G.allows M.note token.old.part.number (held_at token.old.part.core.own)
-            token.old.part.pass C.acting found token.new.part.pass }
-    {
-        let word = self.client_word(i);
-        self.table
-            .shared
-            .store::<Overwrites<G, M, C>>(&mut token.seat, word, value);
-    }
-
-    fn add_at_client<M: Means<G>, C: Acting>(&self, token: &mut Token<G>, i: u32, by: u64) -> u64
-        requires acting { C.acting ≡ adds i by }
-        requires table { token.old.table ≡ self.now.table }
-        requires place { i < self.now.client }
-        requires allowed { IsAllowed G.holds G.allows M.note token.old.part.number (held_at token.old.part.core.own) token.old.part.pass C.acting }
-        ensures table { token.new.table ≡ token.old.table }
-        ensures part { token.new.part ≡ client_part token.old.part i token.new.part.pass }
-        ensures made { IsMade G.holds G.allows M.note token.old.part.number (held_at token.old.part.core.own) token.old.part.pass
-            C.acting result token.new.part.pass }
-    {
-        let word = self.client_word(i);
-        self.table
-            .shared
-            .fetch_add::<Acts<G, M, C>>(&mut token.seat, word, by)
-    }
-
-    fn exchange_at_client<M: Means<G>, C: Acting>(
+    /// One operation on a client word, which is the step that is picked. It returns what the word was, or 0 after a
+    /// store.
+    #[inline(always)]
+    fn act_at_client<M: Means<G>, C: Acting>(
         &self,
         token: &mut Token<G>,
         i: u32,
-        expected: u64,
-        new: u64,
+        act: ClientAct,
     ) -> u64
-        requires acting { C.acting ≡ exchanges i expected new }
+        requires acting { C.acting ≡ client_step act i }
         requires table { token.old.table ≡ self.now.table }
         requires place { i < self.now.client }
         requires allowed { IsAllowed G.holds G.allows M.note token.old.part.number (held_at token.old.part.core.own) token.old.part.pass C.acting }
         ensures table { token.new.table ≡ token.old.table }
         ensures part { token.new.part ≡ client_part token.old.part i token.new.part.pass }
-        ensures made { IsMade G.holds G.allows M.note token.old.part.number (held_at token.old.part.core.own) token.old.part.pass
-            C.acting result token.new.part.pass }
+        ensures made { IsAnswering act → IsMade G.holds G.allows M.note token.old.part.number (held_at token.old.part.core.own)
+            token.old.part.pass C.acting result token.new.part.pass }
+        ensures stored { (found : ℕ) × IsMade G.holds G.allows M.note token.old.part.number (held_at token.old.part.core.own)
+            token.old.part.pass C.acting found token.new.part.pass }
     {
         let word = self.client_word(i);
-        self.table
-            .shared
-            .compare_exchange::<Acts<G, M, C>>(&mut token.seat, word, expected, new)
+        let shared = &self.table.shared;
+        match act {
+            ClientAct::Load => shared.load::<Acts<G, M, C>>(&mut token.seat, word),
+            ClientAct::Store { value } => {
+                shared.store::<Overwrites<G, M, C>>(&mut token.seat, word, value);
+                0
+            }
+            ClientAct::Add { by } => shared.fetch_add::<Acts<G, M, C>>(&mut token.seat, word, by),
+            ClientAct::Exchange { expected, new } => {
+                shared.compare_exchange::<Acts<G, M, C>>(&mut token.seat, word, expected, new)
+            }
+        }
     }
 }
 
@@ -103,7 +80,7 @@ pub fn client_load<G: Guard, M: Means<G>>(list: &List<G>, hand: &mut Hand<G>, i:
     ensures part { hand.new.part ≡ client_part hand.old.part i hand.new.part.pass }
     ensures made { IsMade G.holds G.allows M.note hand.old.part.number (held_at hand.old.part.core.own) hand.old.part.pass (loads i) result hand.new.part.pass }
 {
-    list.load_at_client::<M, Brand>(&mut hand.token, i)
+    list.act_at_client::<M, Brand>(&mut hand.token, i, ClientAct::Load)
 }
 
 /// Stores a value in client word `i`, counted from 0.
@@ -116,7 +93,7 @@ pub fn client_store<G: Guard, M: Means<G>>(list: &List<G>, hand: &mut Hand<G>, i
     ensures made { (found : ℕ) × IsMade G.holds G.allows M.note hand.old.part.number (held_at hand.old.part.core.own)
         hand.old.part.pass (stores i value) found hand.new.part.pass }
 {
-    list.store_at_client::<M, Brand>(&mut hand.token, i, value);
+    list.act_at_client::<M, Brand>(&mut hand.token, i, ClientAct::Store { value });
 }
 
 /// Adds `by` to client word `i`, counted from 0, modulo 2^64, and returns the value before.
@@ -129,7 +106,7 @@ pub fn client_add<G: Guard, M: Means<G>>(list: &List<G>, hand: &mut Hand<G>, i: 
     ensures made { IsMade G.holds G.allows M.note hand.old.part.number (held_at hand.old.part.core.own) hand.old.part.pass
         (adds i by) result hand.new.part.pass }
 {
-    list.add_at_client::<M, Brand>(&mut hand.token, i, by)
+    list.act_at_client::<M, Brand>(&mut hand.token, i, ClientAct::Add { by })
 }
 
 /// Puts `new` in place of `expected` in client word `i`, counted from 0. Where the word has another value, it returns
@@ -151,7 +128,11 @@ pub fn client_exchange<G: Guard, M: Means<G>>(
         (λ found. (found ≢ expected) × IsMade G.holds G.allows M.note hand.old.part.number (held_at hand.old.part.core.own)
         hand.old.part.pass (exchanges i expected new) found hand.new.part.pass) }
 {
-    let found = list.exchange_at_client::<M, Brand>(&mut hand.token, i, expected, new);
+    let found = list.act_at_client::<M, Brand>(
+        &mut hand.token,
+        i,
+        ClientAct::Exchange { expected, new },
+    );
     if found == expected {
         Ok(())
     } else {

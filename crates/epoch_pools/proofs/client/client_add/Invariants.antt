@@ -1,6 +1,6 @@
-use Rattle.lock_core.specs.Client.{adds}
+use Rattle.epoch_pools.specs.ClientActs.{client_step}
 use Rattle.epoch_pools.proofs.client.client_add.Given as goal
 
--- the step that is made: an addition to that word
-abbrev pub ghosts-add_at_client : goal.ghosts-add_at_client
-ghosts-add_at_client g a = record { acting = adds a.i a.by }
+-- the step that is made is that of the operation on that word
+abbrev pub ghosts-act_at_client : goal.ghosts-act_at_client
+ghosts-act_at_client g a = record { acting = client_step a.act a.i }

@@ -1,6 +1,6 @@
-use Rattle.lock_core.specs.Client.{stores}
+use Rattle.epoch_pools.specs.ClientActs.{client_step}
 use Rattle.epoch_pools.proofs.client.client_store.Given as goal
 
--- the step that is made: a store in that word
-abbrev pub ghosts-store_at_client : goal.ghosts-store_at_client
-ghosts-store_at_client g a = record { acting = stores a.i a.value }
+-- the step that is made is that of the operation on that word
+abbrev pub ghosts-act_at_client : goal.ghosts-act_at_client
+ghosts-act_at_client g a = record { acting = client_step a.act a.i }
