@@ -7,7 +7,7 @@
     figure = substr($2, RSTART, RLENGTH - 3) + 0
     rest = substr($2, RSTART + RLENGTH)
     sub(/^[^,;]*[,;] */, "", rest)
-    if (rest !~ /percent|first round/) rest = ""
+    if (rest !~ /percent|first round|ratio/) rest = ""
     if (!(key in least)) { order[++keys] = key; least[key] = most[key] = figure; compared[key] = rest }
     if (figure < least[key]) { least[key] = figure; compared[key] = rest }
     if (figure > most[key]) most[key] = figure
@@ -20,6 +20,7 @@ END {
     for (i = 1; i <= keys; i++) {
         split(order[i], part, FS)
         what = part[2]
+        sub(/^ +/, "", what)
         threads = 1
         if (match(what, /[0-9]+ threads /)) { threads = substr(what, RSTART) + 0; sub(/[0-9]+ threads /, "", what) }
         else if (match(what, /, threads [0-9]+/)) { threads = substr(what, RSTART + 10, RLENGTH - 10) + 0; sub(/, threads [0-9]+/, "", what) }

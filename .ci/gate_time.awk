@@ -1,0 +1,19 @@
+# Reads lines `WORK<tab>CRATE<tab>TICKS` and writes the minutes of processor time by work, and by crate and work.
+{ sum[$1] += $3; by[$2 FS $1] += $3; if ($2 != "") all[$2] += $3 }
+END {
+    print "Minutes of processor time, sampled each second. Programs are compiled and linked by other tools of the kit."
+    print ""
+    print "| Crate | Proofs | Tests | Edits |"
+    print "|---|---|---|---|"
+    while (1) {
+        most = ""
+        for (crate in all) if (most == "" || all[crate] > all[most]) most = crate
+        if (most == "") break
+        printf "| `%s` | %.1f | %.1f | %.1f |\n", most, minutes(by[most FS "proofs"]), minutes(by[most FS "tests"]), minutes(by[most FS "edits"])
+        delete all[most]
+    }
+    printf "| all | %.0f | %.0f | %.0f |\n", minutes(sum["proofs"]), minutes(sum["tests"]), minutes(sum["edits"])
+    print ""
+    printf "Compiling and linking programs: %.0f.\n", minutes(sum["programs"])
+}
+function minutes(ticks) { return ticks / hertz / 60 }
