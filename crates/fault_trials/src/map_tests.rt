@@ -2,10 +2,10 @@
 //! and fault on shared pages. What a test expects is reckoned by hand or by the one-thread model, never taken from the
 //! program.
 ghost use Rattle.std.specs.Prelude.{◌≡◌};
-ghost use Rattle.fault_trials.specs.Trials.{IsCrew};
+ghost use Rattle.crews.specs.Crews.{IsCrew};
 
-use crate::{Work, call_at, call_by, not_replacing, open_crew, replacing, try_by, work_all};
 use area_rows::{Answer, Caller, Closed, Space};
+use crews::{Work, call_at, call_by, not_replacing, open_crew, replacing, try_by, work_all};
 use page_fault::TriedFault;
 use page_types::{Call, Field, Kind, LIMIT, MapFlags, PAGE, Prot, Reply, Short, Why};
 use space_model::{Area, PlainSpace, Under, have_named_calls, have_named_kinds, legal};
@@ -216,25 +216,6 @@ fn a_map_goes_as_high_as_it_fits_and_joins_the_area_there(rt: HostRuntime) -> Re
         &cases,
         &[area(LIMIT - 2, LIMIT, read_write())],
     )
-}
-
-#[test]
-fn a_protect_under_everything_splits_an_area_or_names_the_missing_page(
-    rt: HostRuntime,
-) -> Result<(), Fail> {
-    let before = [area(16, 19, read_write()), area(20, 21, read_write())];
-    let cases = [
-        protect(0x10000, 5 * PAGE, Prot::READ, short(Short::Missing(19))),
-        protect(0x11000, PAGE, Prot::READ, Reply::Zero),
-        protect(0x10000, 0, Prot::READ, Reply::Zero).plain(),
-    ];
-    let after = [
-        area(16, 17, read_write()),
-        area(17, 18, Prot::READ),
-        area(18, 19, read_write()),
-        area(20, 21, read_write()),
-    ];
-    plays(&rt, rt.alloc(), &before, &cases, &after)
 }
 
 /// The pages from 16 up to 4109 of two kinds in turn, and then an area of three pages: 4096 rows.

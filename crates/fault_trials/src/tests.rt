@@ -1,10 +1,10 @@
 //! Worked cases of faults over a running space, and four threads on shared pages. What a test expects is reckoned by
 //! hand or by the one-thread model, never taken from the program.
 ghost use Rattle.page_types.specs.Named.{IsNamedCall};
-ghost use Rattle.fault_trials.specs.Trials.{IsCrew};
+ghost use Rattle.crews.specs.Crews.{IsCrew};
 
-use crate::{Work, call_by, open_crew, try_beside, work_all};
 use area_rows::{Answer, Caller, Space, SpaceFault};
+use crews::{Work, call_by, open_crew, try_beside, work_all};
 use lock_core::{Mode, Range};
 use page_fault::TriedFault;
 use page_types::{Access, Call, Kind, PAGE, Prot, Reply, Span, Why};

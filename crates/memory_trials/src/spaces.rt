@@ -2,11 +2,11 @@
 //! is made once more where it had no memory.
 ghost use Rattle.std.specs.Prelude.{IfOk};
 ghost use Rattle.area_rows.specs.Callers.{IsWhole};
-ghost use Rattle.fault_trials.specs.Trials.{IsCrew};
+ghost use Rattle.crews.specs.Crews.{IsCrew};
 
 use anyhow::{Result, bail};
 use area_rows::{Caller, Closed, Space, SpaceCloseRefused, SpaceFault};
-use fault_trials::{call_by, open_crew, replacing};
+use crews::{call_by, open_crew, replacing};
 use page_types::{Call, PAGE, Prot};
 use space_model::PlainSpace;
 use std::alloc::Global;

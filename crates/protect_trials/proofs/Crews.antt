@@ -12,8 +12,8 @@ use Rattle.area_rows.specs.Called.{IsAnswered}
 use Rattle.area_protect.specs.declared.path.Protected.{Protected}
 use Rattle.area_protect.specs.declared.path.Protected.TheVariants.{Given, Spent}
 use Rattle.area_protect.specs.Protects.{IsAnswer}
-use Rattle.fault_trials.specs.Trials.{IsIdleAgain}
-use Rattle.fault_trials.proofs.Crews.{answer_back}
+use Rattle.crews.specs.Crews.{IsIdleAgain}
+use Rattle.crews.proofs.Crews.{answer_back}
 use Rattle.protect_trials.specs.ProtectTrials.{FirstProtected}
 
 -- it is answered as other calls are

@@ -5,7 +5,7 @@ use Rattle.page_types.specs.declared.sets.Prot.{Prot}
 use Rattle.area_rows.specs.Callers.{CallerView}
 use Rattle.area_protect.specs.declared.path.Protected.{Protected}
 use Rattle.area_protect.specs.Protects.{IsAnswer}
-use Rattle.fault_trials.specs.Trials.{OfCaller}
+use Rattle.crews.specs.Crews.{OfCaller}
 
 -- the first caller of the crew made this change
 abbrev pub FirstProtected : List CallerView → ℕ → ℕ → ℕ → Prot → Protected → List CallerView → Type 0

@@ -2,7 +2,7 @@
 //! the one-thread model of `space_model`, played along the history: by the areas after so many entries, and by how many
 //! of these entries were under everything.
 ghost use Rattle.page_types.specs.Named.{IsNamedCall};
-ghost use Rattle.fault_trials.specs.Trials.{IsCrew};
+ghost use Rattle.crews.specs.Crews.{IsCrew};
 
 use area_protect::{Cause, Path};
 use area_rows::{Caller, Closed, Space};

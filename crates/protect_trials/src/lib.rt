@@ -1,11 +1,14 @@
 //! Trials of changes of protection by threads over one running address space, and worked cases through the public
 //! calls: callers that move the boundaries between their areas back and forth, beside others that fault on both sides.
 //! They show how a layer above uses `protect`, and keep the way of each call; each call's contract says what it leaves
-//! of the crew.
+//! of the crew. A fault beside an open scan is tried here too.
 #![tactic(auto)]
 
 #[cfg(test)]
 mod claims;
+#[cfg(test)]
+mod scan_tests;
+mod scanning;
 #[cfg(test)]
 mod tests;
 #[cfg(test)]
@@ -13,5 +16,6 @@ mod thread_tests;
 mod trials;
 mod ways;
 
+pub use scanning::try_beside_scan;
 pub use trials::{Trial, call_of, change_all, protect_by};
 pub use ways::Ways;

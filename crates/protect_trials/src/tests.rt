@@ -3,7 +3,7 @@
 use crate::claims::closed_right;
 use crate::protect_by;
 use area_protect::{Cause, Path, Protected};
-use fault_trials::{call_by, open_crew, replacing};
+use crews::{call_by, open_crew, replacing};
 use page_types::{Call, Field, Kind, PAGE, Prot, Reply, Short, Span, Why};
 use space_model::{Area, PlainSpace, Under, have_named_kinds};
 use std::alloc::Global;
@@ -173,26 +173,6 @@ fn a_cause_names_the_history_at_its_look(rt: HostRuntime) -> Result<(), Fail> {
 }
 
 #[test]
-fn a_whole_area_between_gaps_is_held_alone(rt: HostRuntime) -> Result<(), Fail> {
-    let cases = [Case {
-        addr: 0x10000,
-        len: 8192,
-        prot: Prot::READ,
-        reply: Reply::Zero,
-        under: over(15, 19),
-        path: Path::Area { seq: 0 },
-    }];
-    let before = [area(16, 18, read_write())];
-    plays(
-        &rt,
-        rt.alloc(),
-        &before,
-        &cases,
-        &[area(16, 18, Prot::READ)],
-    )
-}
-
-#[test]
 fn a_last_page_goes_to_the_next_area_and_back(rt: HostRuntime) -> Result<(), Fail> {
     let there = Case {
         addr: 0x11000,
@@ -224,46 +204,6 @@ fn a_change_of_nothing_is_held_alone(rt: HostRuntime) -> Result<(), Fail> {
         path: Path::Area { seq: 0 },
     }];
     let areas = [area(16, 19, read_write())];
-    plays(&rt, rt.alloc(), &areas, &cases, &areas)
-}
-
-#[test]
-fn a_middle_page_splits_its_area_under_everything(rt: HostRuntime) -> Result<(), Fail> {
-    let split = Case {
-        addr: 0x11000,
-        len: 4096,
-        prot: Prot::READ,
-        reply: Reply::Zero,
-        under: Under::Whole,
-        path: Path::Whole(Cause::NotSimple { at: 0 }),
-    };
-    let first = Case {
-        addr: 0x10000,
-        under: over(15, 18),
-        prot: Prot::EXEC,
-        path: Path::Area { seq: 1 },
-        ..split
-    };
-    let before = [area(16, 19, read_write())];
-    let after = [
-        area(16, 17, Prot::EXEC),
-        area(17, 18, Prot::READ),
-        area(18, 19, read_write()),
-    ];
-    plays(&rt, rt.alloc(), &before, &[split, first], &after)
-}
-
-#[test]
-fn a_missing_page_is_named_under_everything(rt: HostRuntime) -> Result<(), Fail> {
-    let cases = [Case {
-        addr: 0x10000,
-        len: 12288,
-        prot: Prot::READ,
-        reply: Reply::Refused(Why::Enomem(Short::Missing(17))),
-        under: Under::Whole,
-        path: Path::Whole(Cause::NotOneArea { at: 0 }),
-    }];
-    let areas = [area(16, 17, read_write()), area(18, 19, read_write())];
     plays(&rt, rt.alloc(), &areas, &cases, &areas)
 }
 

@@ -3,7 +3,7 @@
 use crate::claims::{closed_right, is_true, play};
 use crate::{Trial, Ways, change_all};
 use area_protect::Path;
-use fault_trials::open_crew;
+use crews::open_crew;
 use page_types::{Call, Kind, Prot};
 use space_model::{Area, Entry, PlainSpace, have_named_kinds};
 use std::alloc::Global;

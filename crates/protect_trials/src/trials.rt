@@ -5,13 +5,13 @@ ghost use Rattle.page_types.specs.declared.calls.Call.TheVariants.{Protect};
 ghost use Rattle.page_types.specs.Named.{IsNamedCall};
 ghost use Rattle.page_types.specs.Sets.{IsNamedProt};
 ghost use Rattle.area_rows.specs.Called.{IsAnswered};
-ghost use Rattle.fault_trials.specs.Trials.{HasCalled, HaveCalled, IsCrew, IsIdleAgain};
+ghost use Rattle.crews.specs.Crews.{HasCalled, HaveCalled, IsCrew, IsIdleAgain};
 ghost use Rattle.protect_trials.specs.ProtectTrials.{FirstProtected};
 
 use crate::ways::Ways;
 use area_protect::{Protected, protect};
 use area_rows::{Answer, Caller, Space};
-use fault_trials::make_call;
+use crews::make_call;
 use page_types::{Access, Call, PAGE, Prot};
 use std::sync::Wait;
 use std::thread;

@@ -4,25 +4,36 @@
 //! call draws a number and its entry is kept. A time is that of playing alone, the least of several rounds. Times go to
 //! standard error, since they differ from run to run; standard output says how many calls were played and how many of
 //! them refused, on which all agree. The word `full` plays 1,048,576 calls of `load` and `pager` a round, the word
-//! `areas` as many on 300 to 600 areas; without a word a round has a few thousand.
+//! `areas` as many on 300 to 600 areas. The word `faults` measures single faults, changes and plans, and `history` how
+//! long `legal` takes to judge as many entries. Without a word each is measured with a few thousand calls.
 #![tactic(auto)]
 
 ghost use Rattle.std.specs.Prelude.{◌≤◌};
 
+mod alone;
+mod changes;
+mod crowd;
+mod faults;
+mod history;
 mod lines;
 mod locks;
 mod maps;
 mod pager;
 mod peers;
 mod plain;
+mod plans;
+mod protects;
 mod rounds;
 mod size;
+mod starts;
 mod watch;
 
 use anyhow::{Result, bail};
+use faults::measure_faults;
+use history::measure_history;
 use lines::Workload;
 use rounds::{Times, least_of_plain, times_of};
-use size::Size;
+use size::{Size, percent};
 use std::alloc::Global;
 use std::env;
 use std::io::{Eprint, Print};
@@ -34,10 +45,14 @@ fn main(rt: HostRuntime) -> Result<()> {
     match env::args(&rt)?.nth(1) {
         Some(word) if word.as_str() == "full" => measure_threads(&rt, rt.alloc(), Size::FULL),
         Some(word) if word.as_str() == "areas" => measure_areas(&rt, rt.alloc(), Size::FULL),
-        Some(_) => bail!("usage: space_cost [full|areas]"),
+        Some(word) if word.as_str() == "faults" => measure_faults(&rt, rt.alloc(), Size::TURNS),
+        Some(word) if word.as_str() == "history" => measure_history(&rt, rt.alloc(), Size::FULL),
+        Some(_) => bail!("usage: space_cost [full|areas|faults|history]"),
         None => {
             measure_threads(&rt, rt.alloc(), Size::SMALL)?;
-            measure_areas(&rt, rt.alloc(), Size::SMALL)
+            measure_areas(&rt, rt.alloc(), Size::SMALL)?;
+            measure_faults(&rt, rt.alloc(), Size::FEW_TURNS)?;
+            measure_history(&rt, rt.alloc(), Size::SMALL)
         }
     }
 }
@@ -76,11 +91,6 @@ fn measure_areas<R: Threads + Wait + Sync + Clock + Print + Eprint>(
         size.each(plain)
     )?;
     Ok(())
-}
-
-/// One time in percent of another.
-fn percent(one: u64, other: u64) -> u64 {
-    one.saturating_mul(100) / other.max(1)
 }
 
 /// The summary of a workload, and its times.

@@ -39,6 +39,22 @@ fn play_lines<G: Gate>(
     Ok(())
 }
 
+/// The entries of one worker that plays behind a gate.
+pub fn entries_of_plain<G: Gate>(
+    alloc: Global,
+    workload: Workload,
+    calls: u32,
+    gate: &G,
+) -> Result<Vec<Entry>>
+    requires calls { calls ≤ 1048576 }
+{
+    let mut space = workload.start(alloc)?;
+    let lines = workload.lines_of(alloc, 0, 1, calls)?;
+    let mut entries = Vec::with_capacity(alloc, lines.len())?;
+    play_lines(&mut space, &lines, &mut entries, gate)?;
+    Ok(entries)
+}
+
 /// A round of one worker.
 pub fn round_of_plain<R: Clock + Sync>(
     rt: &R,
@@ -48,11 +64,8 @@ pub fn round_of_plain<R: Clock + Sync>(
 ) -> Result<Played>
     requires calls { calls ≤ 1048576 }
 {
-    let mut space = workload.start(alloc)?;
-    let lines = workload.lines_of(alloc, 0, 1, calls)?;
-    let mut entries = Vec::with_capacity(alloc, lines.len())?;
     let watch = Watch::new(rt, 1, calls)?;
-    play_lines(&mut space, &lines, &mut entries, &watch)?;
+    let entries = entries_of_plain(alloc, workload, calls, &watch)?;
     Ok(Played {
         time: watch.time(),
         calls: entries.len(),

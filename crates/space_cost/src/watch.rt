@@ -19,6 +19,12 @@ pub struct Watch<'a, R> {
     ended: AtomicU64,
 }
 
+/// The time from that moment on, in nanoseconds.
+pub fn since<R: Clock>(clock: &R, begin: &Instant) -> io::Result<u64> {
+    let time = begin.elapsed(clock)?;
+    Ok(u64::try_from(time.as_nanos()).unwrap_or(u64::MAX))
+}
+
 impl<'a, R: Clock> Watch<'a, R> {
     /// A watch of a round with so many threads and calls.
     pub fn new(clock: &'a R, threads: u32, calls: u32) -> io::Result<Watch<'a, R>> {
@@ -40,10 +46,7 @@ impl<'a, R: Clock> Watch<'a, R> {
 
     /// Nanoseconds from `base` on. Where the clock fails they are the most that there can be.
     fn now(&self) -> u64 {
-        match self.base.elapsed(self.clock) {
-            Ok(time) => u64::try_from(time.as_nanos()).unwrap_or(u64::MAX),
-            Err(_) => u64::MAX,
-        }
+        since(self.clock, &self.base).unwrap_or(u64::MAX)
     }
 }
 

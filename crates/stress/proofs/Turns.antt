@@ -14,8 +14,8 @@ use Rattle.page_fault.specs.Faults.{IsNotHeld, IsTried}
 use Rattle.page_fault.specs.declared.faults.TriedFault.{TriedFault}
 use Rattle.page_fault.specs.declared.faults.TriedFault.TheVariants.{Answered, NotHeld, Spent as NoneLeft}
 use Rattle.area_rows.specs.declared.answer.Answer.TheVariants.{Given, Spent}
-use Rattle.fault_trials.specs.Trials.{HasCalled, IsIdleAgain}
-use Rattle.fault_trials.proofs.Crews.{answer_back, one_more}
+use Rattle.crews.specs.Crews.{HasCalled, IsIdleAgain}
+use Rattle.crews.proofs.Crews.{answer_back, one_more}
 
 -- before the first call
 no_calls : (before : CallerView) → HasCalled 0 before before
@@ -65,6 +65,7 @@ pub answered_try : (seats : ℕ) (before after : CallerView) (line addr : ℕ) (
     → IsTried seats before line addr access (Answered e) after → HasCalled 1 before after
 answered_try seats before after line addr access e is = answered_once before after line (Fault addr access) (Given e) is
 
+-- a try that found no number left is the last call that could be made
 pub spent_try : (seats : ℕ) (before after : CallerView) (line addr : ℕ) (access : Access)
     → IsTried seats before line addr access NoneLeft after → HasCalled 1 before after
 spent_try seats before after line addr access is = answered_once before after line (Fault addr access) Spent is

@@ -3,14 +3,14 @@
 ghost use Rattle.std.specs.Prelude.{◌≡◌, ◌<◌, None};
 ghost use Rattle.page_types.specs.Named.{IsNamedCall};
 ghost use Rattle.area_rows.specs.Called.{IsAnswered};
-ghost use Rattle.fault_trials.specs.Trials.{HasCalled, HaveCalled, IsCrew, IsIdleAgain};
+ghost use Rattle.crews.specs.Crews.{HasCalled, HaveCalled, IsCrew, IsIdleAgain};
 
 use crate::calls::draw_call;
 use crate::counts::Tries;
 use crate::draws::below;
 use area_protect::{Protected, protect};
 use area_rows::{Answer, Caller, Space};
-use fault_trials::make_call;
+use crews::make_call;
 use page_fault::{TriedFault, fault, try_fault};
 use page_types::{Access, Call};
 use rand_pcg::Pcg32;

@@ -4,14 +4,14 @@
 ghost use Rattle.std.specs.Prelude.{IfOk, OnOk};
 ghost use Rattle.space_model.specs.History.{IsLegal};
 ghost use Rattle.area_rows.specs.Callers.{IsWhole};
-ghost use Rattle.fault_trials.specs.Trials.{IsCrew};
+ghost use Rattle.crews.specs.Crews.{IsCrew};
 
 use crate::callers::call_all;
 use crate::counts::{Entries, Tries};
 use crate::limit::Limit;
 use anyhow::{Result, bail, ensure};
 use area_rows::{Caller, Closed, Space};
-use fault_trials::open_crew;
+use crews::open_crew;
 use space_model::{Entry, PlainSpace, have_named_calls, legal};
 use std::alloc::Global;
 use std::sync::{Mutex, Wait};

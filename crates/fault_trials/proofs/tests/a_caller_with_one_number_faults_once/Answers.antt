@@ -1,8 +1,9 @@
 use Rattle.std.proofs.Common.{rules, ◌≡◌, length, ◌∙◌}
-use Rattle.fault_trials.specs.Trials.{IsCrew}
-use Rattle.fault_trials.proofs.Crews.{idle_kept}
+use Rattle.crews.specs.Crews.{IsCrew}
+use Rattle.crews.proofs.Crews.{idle_kept}
 use Rattle.fault_trials.proofs.tests.a_caller_with_one_number_faults_once.Goals as goal
 
+-- the callers that were lent as a slice are idle again
 pub close-requires-clause-idle : goal.close-requires-clause-idle
 close-requires-clause-idle g c =
     let before : IsCrew c.expect-space.result.0.table c.expect-space.result.0.seats c.expect-space.result.1.items = search rules in

@@ -1,8 +1,9 @@
 use Rattle.std.proofs.Common.{rules, ◌≡◌, length, ◌∙◌}
-use Rattle.fault_trials.specs.Trials.{IsCrew}
-use Rattle.fault_trials.proofs.Crews.{idle_kept}
+use Rattle.crews.specs.Crews.{IsCrew}
+use Rattle.crews.proofs.Crews.{idle_kept}
 use Rattle.fault_trials.proofs.tests.faults_answer_as_worked_by_hand.Goals as goal
 
+-- the callers that were lent as a slice are idle again
 pub close-requires-clause-idle : goal.close-requires-clause-idle
 close-requires-clause-idle g c =
     let before : IsCrew c.expect-space.result.0.table c.expect-space.result.0.seats c.loop-addr.callers.items = search rules in

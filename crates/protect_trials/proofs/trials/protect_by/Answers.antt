@@ -1,11 +1,12 @@
 use Rattle.std.proofs.Common.{rules, ◌≡◌, slice_index_or, sym, subst}
 use Rattle.std.specs.Prelude.{None}
-use Rattle.fault_trials.specs.Trials.{IsIdleAgain}
+use Rattle.crews.specs.Crews.{IsIdleAgain}
 use Rattle.area_rows.specs.Callers.{CallerView}
-use Rattle.fault_trials.proofs.Crews.{first_of, first_back, others_stay}
+use Rattle.crews.proofs.Crews.{first_of, first_back, others_stay}
 use Rattle.protect_trials.proofs.Crews.{protected_back, first_protected}
 use Rattle.protect_trials.proofs.trials.protect_by.Goals as goal
 
+-- the first caller of a crew is of its space
 pub protect-requires-clause-table : goal.protect-requires-clause-table
 protect-requires-clause-table g c =
     let d = c.index-callers-0.result in
@@ -13,6 +14,7 @@ protect-requires-clause-table g c =
     let f = first_of c.args.space.now.table c.args.space.now.seats c.args.callers.now d c.requires.crew is in
     subst (λ (v : CallerView). v.seat.table ≡ c.args.space.now.table) is f.0
 
+-- the first caller of a crew holds nothing
 pub protect-requires-clause-free : goal.protect-requires-clause-free
 protect-requires-clause-free g c =
     let d = c.index-callers-0.result in
@@ -20,6 +22,7 @@ protect-requires-clause-free g c =
     let f = first_of c.args.space.now.table c.args.space.now.seats c.args.callers.now d c.requires.crew is in
     subst (λ (v : CallerView). v.seat.held ≡ None) is f.2
 
+-- the crew with the first caller back, its answer, and the others as they were
 pub returns : goal.returns
 returns g c =
     let d = c.index-callers-0.result in

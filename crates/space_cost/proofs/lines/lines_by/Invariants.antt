@@ -3,6 +3,7 @@ use Rattle.page_types.specs.Named.{IsNamedCall}
 use Rattle.load_lines.specs.Calls.{IsNamedLine}
 use Rattle.space_cost.proofs.lines.lines_by.Given as goal
 
+-- the lines that are left are named, and so are those that were taken, which are no more than asked for
 abbrev pub invariant-all : goal.invariant-all
 invariant-all l = record {
   rest : All IsNamedLine (drop l.one-index l.made);

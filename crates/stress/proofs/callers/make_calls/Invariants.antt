@@ -1,8 +1,9 @@
 use Rattle.std.proofs.Common.{◌≡◌}
 use Rattle.std.specs.Prelude.{None}
-use Rattle.fault_trials.specs.Trials.{HasCalled}
+use Rattle.crews.specs.Crews.{HasCalled}
 use Rattle.stress.proofs.callers.make_calls.Given as goal
 
+-- the caller is idle, and has made as many calls as turns are done
 abbrev pub invariant-loop-turn : goal.invariant-loop-turn
 invariant-loop-turn g l = record {
   table : l.caller.seat.table ≡ l.initial.caller.seat.table;

@@ -1,6 +1,7 @@
 use Rattle.std.proofs.Common.{◌≡◌}
 use Rattle.stress.proofs.visits.visit.Given as goal
 
+-- after each slot the seat is of the same table and number, and holds what it held
 abbrev pub invariant-come : goal.invariant-come
 invariant-come l = record {
   table : l.seat.table ≡ l.initial.seat.table;
@@ -8,6 +9,7 @@ invariant-come l = record {
   held : l.seat.held ≡ l.initial.seat.held;
 }
 
+-- the same on the way out
 abbrev pub invariant-go : goal.invariant-go
 invariant-go l = record {
   table : l.seat.table ≡ l.initial.seat.table;

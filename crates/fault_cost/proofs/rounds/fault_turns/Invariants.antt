@@ -1,5 +1,0 @@
-use Rattle.fault_cost.specs.Ready.{IsReady}
-use Rattle.fault_cost.proofs.rounds.fault_turns.Given as goal
-
-abbrev pub invariant-loop-turn : goal.invariant-loop-turn
-invariant-loop-turn g l = IsReady l.space l.caller

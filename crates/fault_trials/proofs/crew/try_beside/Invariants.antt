@@ -1,4 +1,0 @@
-use Rattle.fault_trials.proofs.crew.try_beside.Given as goal
-
-abbrev pub ghosts-try_counting : goal.ghosts-try_counting
-ghosts-try_counting g a = record { name = a.blank.name; parts = a.blank.parts }

@@ -1,9 +1,0 @@
-pub mod Trials
-pub use Rattle.area_rows.specs.Callers
-pub use Rattle.atomic_table.specs.Seated
-pub use Rattle.page_fault.specs.Faults
-pub use Rattle.space_model.specs.Areas
-pub use Rattle.area_rows.specs.Called
-pub use Rattle.area_rows.specs.History
-pub use Rattle.page_types.specs.Named
-pub use Rattle.page_types.specs.Sets

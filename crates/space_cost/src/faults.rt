@@ -1,0 +1,172 @@
+//! What a page fault costs: by one caller that nobody hinders, beside a lookup of the page in a `BTreeMap` of areas
+//! under an `RwLock` of std in the same run, and by callers on threads that fault on the same four pages. And what a
+//! map, an unmap and a protect under everything cost, beside the same change of a `BTreeMap` under a `Mutex`. And what
+//! protects over one area and faults cost that callers make on areas of their own, beside the same on a map. Each
+//! figure is the least of many rounds, so that other work on the machine counts little. Beside that of a fault is that
+//! of the first round: a space reserves memory for its entries without touching it, so the first faults pay for it.
+use crate::alone::{least_of_lookups, times_of_faults};
+use crate::changes::{Sums, least_of_clock, least_of_map, least_of_space};
+use crate::crowd::times_of_crowd;
+use crate::maps::map_of;
+use crate::plans::least_of_plans;
+use crate::protects::{least_of_map_own, least_of_own, own_areas};
+use crate::size::{Size, percent};
+use crate::starts::{single_pages, spaced_areas};
+use anyhow::{Result, bail, ensure};
+use page_types::PAGE;
+use space_model::{PlainSpace, have_named_kinds};
+use std::alloc::Global;
+use std::io::{Eprint, Print};
+use std::sync::{Mutex, RwLock, Wait};
+use std::thread::Threads;
+use std::time::Clock;
+
+/// All of these, and a line that says how much was measured.
+pub fn measure_faults<R: Threads + Wait + Sync + Clock + Print + Eprint>(
+    rt: &R,
+    alloc: Global,
+    size: Size,
+) -> Result<()> {
+    for count in [1u32, 64] {
+        measure_alone(rt, alloc, size, count)?;
+    }
+    measure_crowds(rt, alloc, size)?;
+    measure_own(rt, alloc, size)?;
+    for rows in [33u32, 127, 4000] {
+        measure_changes(rt, alloc, size, rows)?;
+    }
+    println!(rt;
+        "faults: {} rounds of {} turns each",
+        size.rounds, size.calls
+    )?;
+    Ok(())
+}
+
+/// A lookup, and faults of one caller beside idle ones, over so many areas.
+fn measure_alone<R: Wait + Clock + Eprint>(
+    rt: &R,
+    alloc: Global,
+    size: Size,
+    count: u32,
+) -> Result<()> {
+    let list = single_pages(alloc, count)?;
+    let Some(last) = list.last() else {
+        bail!("no areas");
+    };
+    let addr = last.lo.saturating_mul(PAGE);
+    let map = RwLock::new(map_of(alloc, &list)?);
+    let lookup = least_of_lookups(rt, size, &map, addr)?;
+    eprintln!(rt; "areas {count}: a lookup takes {} ns", size.each(lookup))?;
+    ensure!(
+        have_named_kinds(&list) && list.len() < 1 << 30,
+        "no area list"
+    );
+    let start = PlainSpace::of_areas(alloc, &list)?;
+    for callers in [1usize, 2, 4, 16] {
+        let times = times_of_faults(rt, size, alloc, &start, callers, addr)?;
+        eprintln!(rt;
+            "areas {count}, callers {callers}: a fault takes {} ns, {} percent of the lookup; in the first round {} ns",
+            size.each(times.least),
+            percent(times.least, lookup),
+            size.each(times.first)
+        )?;
+    }
+    Ok(())
+}
+
+/// Faults of callers on threads, all on the same four pages.
+fn measure_crowds<R: Threads + Wait + Sync + Clock + Eprint>(
+    rt: &R,
+    alloc: Global,
+    size: Size,
+) -> Result<()> {
+    let start = PlainSpace::new(alloc);
+    for callers in [1usize, 2, 4, 16] {
+        let times = times_of_crowd(rt, size, alloc, &start, callers)?;
+        let crew = callers as u64;
+        eprintln!(rt;
+            "callers {callers} beside each other: a fault takes {} ns; in the first round {} ns",
+            size.each(times.least) / crew.max(1),
+            size.each(times.first) / crew.max(1)
+        )?;
+    }
+    Ok(())
+}
+
+/// Protects and ten times as many faults of callers on threads, each on an area of its own, and the same on a map.
+fn measure_own<R: Threads + Wait + Sync + Clock + Eprint>(
+    rt: &R,
+    alloc: Global,
+    size: Size,
+) -> Result<()> {
+    let list = own_areas(alloc)?;
+    ensure!(
+        have_named_kinds(&list) && list.len() < 1 << 30,
+        "no area list"
+    );
+    let start = PlainSpace::of_areas(alloc, &list)?;
+    let map = RwLock::new(map_of(alloc, &list)?);
+    let space = least_of_own(rt, size, alloc, &start)?;
+    let locked = least_of_map_own(rt, size, &map)?;
+    eprintln!(rt;
+        "4 callers on areas of their own: a protect and ten faults of each take {} ns, {} percent of the same with a BTreeMap under an RwLock ({} ns)",
+        size.each(space),
+        percent(space, locked),
+        size.each(locked)
+    )?;
+    Ok(())
+}
+
+/// Changes and plans of one caller over so many rows, and the same changes of a map.
+fn measure_changes<R: Wait + Clock + Eprint>(
+    rt: &R,
+    alloc: Global,
+    size: Size,
+    rows: u32,
+) -> Result<()> {
+    let (list, lo) = spaced_areas(alloc, rows)?;
+    ensure!(
+        have_named_kinds(&list) && list.len() < 1 << 30,
+        "no area list"
+    );
+    let start = PlainSpace::of_areas(alloc, &list)?;
+    ensure!(start.rows() == rows, "not so many rows");
+    let map = Mutex::new(map_of(alloc, &list)?);
+    let clock = least_of_clock(rt, size)?;
+    let space = least_of_space(rt, size, alloc, &start, lo)?;
+    let locked = least_of_map(rt, size, &map, lo)?;
+    print_changes(rt, size, rows, clock, space, locked)?;
+    let plan = least_of_plans(rt, size, alloc, &start, lo)?;
+    eprintln!(rt; "rows {rows}: a plan takes {} ns", size.each(plan))?;
+    Ok(())
+}
+
+/// A line for each kind of change, with what the clock takes taken off.
+fn print_changes<R: Eprint>(
+    rt: &R,
+    size: Size,
+    rows: u32,
+    clock: u64,
+    space: Sums,
+    locked: Sums,
+) -> Result<()> {
+    for (i, name) in [
+        "an unmap",
+        "a map",
+        "a protect that splits",
+        "a protect that joins",
+    ]
+    .iter()
+    .enumerate()
+    {
+        let ours = space[i].saturating_sub(clock);
+        let others = locked[i].saturating_sub(clock);
+        eprintln!(rt;
+            "rows {rows}: {name} takes {} ns, {} percent of the same change of a BTreeMap ({} ns)",
+            size.each(ours),
+            percent(ours, others),
+            size.each(others)
+        )?;
+    }
+    Ok(())
+}

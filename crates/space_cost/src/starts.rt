@@ -1,0 +1,47 @@
+//! The areas that faults and changes are measured on: readable, with gaps between them.
+ghost use Rattle.std.specs.Prelude.{◌<◌, ◌^◌, IfOk};
+
+use page_types::{Kind, Prot};
+use space_model::Area;
+use std::alloc::{AllocError, Global};
+
+/// The first page of the areas.
+const FIRST: u64 = 16;
+
+/// So many areas of one readable page each, with gaps of one page between them.
+pub fn single_pages(alloc: Global, count: u32) -> Result<Vec<Area>, AllocError> {
+    let mut list = Vec::new(alloc);
+    for i in 0..count {
+        let lo = FIRST + 2 * u64::from(i);
+        list.push(Area {
+            lo,
+            hi: lo + 1,
+            kind: Kind {
+                prot: Prot::READ,
+                shared: false,
+            },
+        })?;
+    }
+    Ok(list)
+}
+
+/// Areas of three readable pages each, with gaps of one page between them, so many that areas and gaps are `rows`; and
+/// the first page of the one in the middle. Where `rows` is even the first area begins at page 0.
+pub fn spaced_areas(alloc: Global, rows: u32) -> Result<(Vec<Area>, u64), AllocError>
+    ensures { IfOk result (λ r. r.1 < 2 ^ 40) }
+{
+    let first = if rows % 2 == 0 { 0 } else { FIRST };
+    let mut list = Vec::new(alloc);
+    for i in 0..rows / 2 {
+        let lo = first + 4 * u64::from(i);
+        list.push(Area {
+            lo,
+            hi: lo + 3,
+            kind: Kind {
+                prot: Prot::READ,
+                shared: false,
+            },
+        })?;
+    }
+    Ok((list, first + 4 * u64::from(rows / 4)))
+}
