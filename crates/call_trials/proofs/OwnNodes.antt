@@ -22,6 +22,7 @@ known (Some n) = (n, refl)
 known_by : (o : Option ℕ) → is_some o ≡ true → (n : ℕ) × (o ≡ Some n)
 known_by o e = subst (λ (b : Bool). OnTrue b ((n : ℕ) × (o ≡ Some n))) e (known o)
 
+-- where both ends of a node that is being filled were found to be known, the node has its ends
 pub ends_if : (own : Own) (f : Filled) (b : Bool) → own ≡ filling f → OnTrue b ((is_some f.lo ≡ true) × (is_some f.hi ≡ true)) → OnTrue b (HasEnds own)
 ends_if own f false is h = tt
 ends_if own f true is h =
@@ -29,16 +30,19 @@ ends_if own f true is h =
     let hi = known_by f.hi h.1 in
     record { node = f; is = is; lo = lo.0; hi = hi.0; low = lo.1; high = hi.1 }
 
+-- where a node that is being filled was found to be aimed at nothing, it may be filled
 pub fresh_if : (v : View) (f : Filled) (o : Option ℕ) → v.own ≡ filling f → v.cursor ≡ None
     → IfSome o (λ n. (n ≡ f.node) × (f.aimed ≡ None)) → IfSome o (λ n. MayFill v n)
 fresh_if v f None is none h = tt
 fresh_if v f (Some n) is none h = record { own = f; is = is; node = sym h.0; aimed = h.1; cursor = none }
 
+-- where the first validation of a linked node was found to be still to do, it is due
 pub due_if : (own : Own) (k : Listed) (o : Option Todo) → own ≡ listed k
     → IfSome o (λ t. (t ≡ k.todo) × (k.todo ≡ todo_of k.mode)) → IfSome o (λ t. IsDue own t)
 due_if own k None is h = tt
 due_if own k (Some t) is h = record { node = k; is = is; first = h.1; due = h.0 }
 
+-- where a linked node was found to have nothing left to do, its range is held
 pub held_if : (own : Own) (k : Listed) (b : Bool) → own ≡ listed k → OnTrue b (k.todo ≡ Done) → OnTrue b (IsHeld own)
 held_if own k false is h = tt
 held_if own k true is h = record { node = k; is = is; done = h }

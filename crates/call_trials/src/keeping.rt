@@ -1,7 +1,7 @@
 //! Ranges by calls, again and again: the next call is read from the hand's view. Threads at one list hold ranges that
 //! overlap or don't, and count in client word 0 how many of them hold one. A reader may rely on a try that says so
 //! holding a range, and on each hand being idle after the threads have run, in its place.
-ghost use Rattle.std.specs.Prelude.{◌≡◌, ◌≢◌, ◌<◌, length, IfSome};
+ghost use Rattle.std.specs.Prelude.{◌≡◌, ◌≢◌, ◌<◌, ◌≤◌, length, IfSome};
 ghost use Rattle.epoch_pools.specs.Hands.{IsIdle, AreIdleHands};
 ghost use Rattle.list_trials.specs.Trials.{IsSameHand, IsHolding, AreInOrder};
 ghost use Rattle.call_trials.specs.declared.keeping.Kept.TheVariants.{Held};
@@ -238,6 +238,54 @@ pub fn mark_in_turn(list: &List<FreeGuard>, hands: &mut [Hand<FreeGuard>]) -> bo
         let_go_by(list, hands, 1 - left % 2);
     }
     let_go_by(list, hands, 0);
+    true
+}
+
+/// Each hand but the first holds a range, and all sixteen nodes of the first are marked in the list between these. It
+/// says whether it is so.
+pub fn leave_all_away(list: &List<FreeGuard>, hands: &mut [Hand<FreeGuard>]) -> bool
+    requires some { 0 < length hands.old }
+    requires few { length hands.old ≤ 16 }
+    requires order { AreInOrder list.now.table hands.old }
+    ensures order { AreInOrder list.now.table hands.new }
+{
+    line_up(list, hands) && mark_between(list, hands)
+}
+
+/// Each hand but the first holds, as a writer, the one number that is ten times its own, the last hand first. It says
+/// whether all of them do.
+fn line_up(list: &List<FreeGuard>, hands: &mut [Hand<FreeGuard>]) -> bool
+    requires few { length hands.old ≤ 16 }
+    requires order { AreInOrder list.now.table hands.old }
+    ensures order { AreInOrder list.now.table hands.new }
+{
+    let mut number = hands.len();
+    'hands: while number > 1 {
+        number -= 1;
+        let lo = 10 * number as u64;
+        if !keep_by(list, hands, number, lo, lo + 1) {
+            return false;
+        }
+    }
+    true
+}
+
+/// The first hand holds and marks sixteen nodes, one before each of such a row and one behind it, the highest range
+/// first, so that none of them is met again. It says whether it did.
+fn mark_between(list: &List<FreeGuard>, hands: &mut [Hand<FreeGuard>]) -> bool
+    requires some { 0 < length hands.old }
+    requires order { AreInOrder list.now.table hands.old }
+    ensures order { AreInOrder list.now.table hands.new }
+{
+    let mut place = 16;
+    'places: while place > 0 {
+        place -= 1;
+        let lo = 10 * place + 5;
+        if !keep_by(list, hands, 0, lo, lo + 1) {
+            return false;
+        }
+        let_go_by(list, hands, 0);
+    }
     true
 }
 

@@ -1,2 +1,1 @@
 pub mod Hands
-mod FastPath

@@ -1,13 +1,12 @@
 -- What a trial leaves of a hand: it is of the same list and number. So a row of hands stays in order whatever steps
 -- each of them made. The words are this project's own.
-use Rattle.std.specs.Prelude.{◌≡◌, ℕ, ◌%◌, List, Option, Some, None}
+use Rattle.std.specs.Prelude.{◌≡◌, ℕ, ◌%◌, List, None}
 use mathlib.Core.Option.{some}
 use lib.ListN.{get_elem?}
 use Rattle.atomic_table.specs.Seated.{TableId}
 use Rattle.lock_core.specs.declared.views.View.{View}
-use Rattle.lock_core.specs.declared.range.Mode.TheVariants.{Writer}
 use Rattle.lock_core.specs.declared.views.Todo.TheVariants.{Done}
-use Rattle.lock_core.specs.Nodes.{Filled, Listed, filling, listed}
+use Rattle.lock_core.specs.Nodes.{Listed, listed}
 use Rattle.epoch_pools.specs.Hands.{HandState, IsIdle}
 
 -- a hand of the same list and number
@@ -22,17 +21,6 @@ AreInOrder {P} table hands = (k : ℕ) (h : HandState P) → get_elem? hands k �
 -- each of the hands is idle
 abbrev pub AreAllIdle : {P : Type 0} → List (HandState P) → Type 0
 AreAllIdle {P} hands = (k : ℕ) (h : HandState P) → get_elem? hands k ≡ some h → IsIdle h.part.core
-
--- outside, with this node of its own, not linked yet, and nothing in the hand
-pub record IsFilling (v : View) (f : Filled) : Type 0 where
-  pub own : v.own ≡ filling f
-  pub cursor : v.cursor ≡ None
-  pub outside : v.epoch % 2 ≡ 0
-  pub hand : v.hand ≡ None
-
--- a node of a writer with these ends, and aimed so
-abbrev pub writing : ℕ → Option ℕ → Option ℕ → Option ℕ → Filled
-writing node lo hi aimed = record { node = node; lo = lo; hi = hi; mode = Writer; aimed = aimed }
 
 -- outside, with a linked node whose range is held
 pub record IsHolding (v : View) : Type 0 where

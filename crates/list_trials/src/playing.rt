@@ -1,9 +1,9 @@
-//! Single steps of a hand, and rows of steps with what each finds. A step is made where the hand's view enables it; a
-//! row of a schedule that was worked by hand is a list of such steps, and playing it says whether all went as worked.
-ghost use Rattle.std.specs.Prelude.{◌≡◌, ◌<◌, ◌≢◌, length};
+//! Single steps of a hand. A step is made where the hand's view enables it; a reader may rely on any other step
+//! changing nothing.
+ghost use Rattle.std.specs.Prelude.{◌≡◌, ◌<◌, ◌≢◌};
 ghost use Rattle.std.specs.Bool.{OnTrue};
 ghost use Rattle.epoch_pools.specs.Hands.{IsListStep};
-ghost use Rattle.list_trials.specs.Trials.{IsSameHand, AreInOrder};
+ghost use Rattle.list_trials.specs.Trials.{IsSameHand};
 
 use epoch_pools::{Hand, List, Taken, enter, give_home, inside, leave, step, take};
 use lock_core::{FreeGuard, Own, Step, is_enabled};
@@ -153,68 +153,4 @@ pub fn make(list: &List<FreeGuard>, hand: &mut Hand<FreeGuard>, kind: Step) -> O
     ensures same { IsSameHand hand.old hand.new }
 {
     make_counting::<Brand>(list, hand, kind, Blank::new(1))
-}
-
-fn take_counting<L: Ledger>(
-    list: &List<FreeGuard>,
-    hand: &mut Hand<FreeGuard>,
-    blank: Blank,
-) -> Option<Taken>
-    requires blank { (blank.name ≡ L.name) × (blank.parts ≡ L.parts) × (0 < L.parts) }
-    requires table { hand.old.table ≡ list.now.table }
-    ensures same { IsSameHand hand.old hand.new }
-{
-    let mut steps = Steps::<L>::new(blank);
-    take_free(list, hand, &mut steps)
-}
-
-/// Takes a node for the hand, if there is one for it.
-pub(crate) fn take_one(list: &List<FreeGuard>, hand: &mut Hand<FreeGuard>) -> bool
-    requires table { hand.old.table ≡ list.now.table }
-    ensures same { IsSameHand hand.old hand.new }
-{
-    match take_counting::<Brand>(list, hand, Blank::new(1)) {
-        Some(Taken::Node(_)) => true,
-        _ => false,
-    }
-}
-
-/// What `take` says to the hand of that number, if it is outside and has no node of its own.
-pub fn take_now(
-    list: &List<FreeGuard>,
-    hands: &mut [Hand<FreeGuard>],
-    number: usize,
-) -> Option<Taken>
-    requires there { number < length hands.old }
-    requires order { AreInOrder list.now.table hands.old }
-    ensures order { AreInOrder list.now.table hands.new }
-{
-    take_counting::<Brand>(list, &mut hands[number], Blank::new(1))
-}
-
-fn play_hand(list: &List<FreeGuard>, hand: &mut Hand<FreeGuard>, row: &[(Step, u64)]) -> bool
-    requires table { hand.old.table ≡ list.now.table }
-    ensures same { IsSameHand hand.old hand.new }
-{
-    'row: for (kind, found) in row {
-        if make(list, hand, *kind) != Some(*found) {
-            return false;
-        }
-    }
-    true
-}
-
-/// Plays a row of steps with the hand of that number, each with what it finds. It says whether all were enabled and
-/// found that, and stops at the first that didn't.
-pub fn play(
-    list: &List<FreeGuard>,
-    hands: &mut [Hand<FreeGuard>],
-    number: usize,
-    row: &[(Step, u64)],
-) -> bool
-    requires there { number < length hands.old }
-    requires order { AreInOrder list.now.table hands.old }
-    ensures order { AreInOrder list.now.table hands.new }
-{
-    play_hand(list, &mut hands[number], row)
 }

@@ -4,10 +4,10 @@
 ghost use Rattle.std.specs.Prelude.{◌≡◌};
 ghost use Rattle.epoch_pools.specs.Hands.{IsIdle};
 
+use crate::quick::{open_hand, quick_turns};
 use crate::turns::TURNS;
 use anyhow::{Result, bail, ensure};
 use epoch_pools::{Hand, List};
-use list_trials::{open_one, quick_turns};
 use lock_core::{FreeGuard, Range};
 use std::alloc::Global;
 use std::sync::atomic::{AtomicU64, Ordering};
@@ -101,6 +101,6 @@ pub fn least_of_list<R: Clock>(rt: &R, alloc: Global, seats: u32, rounds: u32) -
         unreachable!()
     };
     ensure!(0 < seats && seats <= 16, "no list has so many seats");
-    let (list, mut hand) = open_one(alloc, seats)?;
+    let (list, mut hand) = open_hand(alloc, seats)?;
     least_of_hand(rt, &list, &mut hand, range, rounds)
 }

@@ -8,6 +8,7 @@
 
 mod crowd;
 mod list;
+mod quick;
 mod rounds;
 mod turns;
 

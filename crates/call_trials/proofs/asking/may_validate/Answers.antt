@@ -3,6 +3,7 @@ use Rattle.lock_core.specs.declared.views.Todo.TheVariants.{Forward}
 use Rattle.call_trials.proofs.OwnNodes.{validates_if}
 use Rattle.call_trials.proofs.asking.may_validate.Goals as goal
 
+-- a reader that met a conflict may validate again where its cursor was found at a known node
 pub returns-then-eq : goal.returns-then-eq
 returns-then-eq c =
     let forward : c.in-Some.todo ≡ Forward = search rules in

@@ -4,9 +4,11 @@ use Rattle.epoch_pools.specs.Hands.{AreIdleHands}
 use Rattle.list_trials.proofs.Hands.{hands_back}
 use Rattle.call_trials.proofs.keeping.count_all.Goals as goal
 
+-- each hand is of the list, which has a client word
 pub for_each_mut-requires-clause-accepts : goal.for_each_mut-requires-clause-accepts
 for_each_mut-requires-clause-accepts g c = λ _ _ i p lt e. ((c.requires.order i p.now (at_index _ i p.now lt e)).0, c.requires.word)
 
+-- each hand is of the same list and number, and idle
 pub returns : goal.returns
 returns g c =
     let idle : AreIdleHands c.args.list.now.table c.for_each_mut.new.s =

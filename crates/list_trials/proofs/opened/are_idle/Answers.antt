@@ -4,10 +4,12 @@ use Rattle.epoch_pools.specs.Hands.{IsIdle}
 use Rattle.list_trials.proofs.Hands.{idle_more}
 use Rattle.list_trials.proofs.opened.are_idle.Goals as goal
 
+-- the hand that was looked at is idle, as those before it are
 pub hands-preserved : goal.hands-preserved
 hands-preserved c =
     let here : IsIdle c.index-hands-i.result.part.core = search rules in
     idle_more c.args.hands.now c.hands.i c.index-hands-i.result c.hands.invariant (search rules) c.index-hands-i.is here
 
+-- all hands were looked at
 pub returns : goal.returns
 returns c = λ k h at. c.hands.invariant k h (let less = below c.args.hands.now k h at in omega arith) at

@@ -4,8 +4,10 @@ use lib.ListN.{get_elem?}
 use Rattle.epoch_pools.specs.Hands.{HandState, IsIdle}
 use Rattle.list_trials.proofs.opened.are_idle.Given as goal
 
+-- the hands before the next one are idle
 abbrev pub invariant-hands : goal.invariant-hands
 invariant-hands l = (k : ℕ) (h : HandState (Unit {0})) → k < l.i → get_elem? l.hands k ≡ some h → IsIdle h.part.core
 
+-- the hands that are left grow fewer
 abbrev pub decreases-hands : goal.decreases-hands
 decreases-hands l = length l.hands - l.i

@@ -4,6 +4,7 @@ use Rattle.list_trials.specs.Trials.{AreAllIdle}
 use Rattle.list_trials.proofs.Hands.{idle_in_order}
 use Rattle.list_trials.proofs.opened.close_all.Goals as goal
 
+-- the hands are in order, and each was found to be idle
 pub close-requires-clause-idle : goal.close-requires-clause-idle
 close-requires-clause-idle c =
     idle_in_order c.args.list.table c.args.hands.items c.requires.order

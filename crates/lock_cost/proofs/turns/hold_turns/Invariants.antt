@@ -2,6 +2,7 @@ use Rattle.std.proofs.Common.{◌≡◌, ◌+◌, ◌≤◌}
 use Rattle.std.specs.Prelude.{None}
 use Rattle.lock_cost.proofs.turns.hold_turns.Given as goal
 
+-- the seat is back, and has made at least as many steps as turns are done
 abbrev pub invariant-loop : goal.invariant-loop
 invariant-loop g l = record {
   table : l.seat.table ≡ l.initial.seat.table;

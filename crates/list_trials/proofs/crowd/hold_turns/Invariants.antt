@@ -1,5 +1,0 @@
-use Rattle.list_trials.specs.Trials.{IsSameHand}
-use Rattle.list_trials.proofs.crowd.hold_turns.Given as goal
-
-abbrev pub invariant-turns : goal.invariant-turns
-invariant-turns g l = IsSameHand l.initial.hand l.hand
