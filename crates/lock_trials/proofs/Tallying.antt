@@ -18,14 +18,17 @@ use Rattle.lock_trials.specs.Tally.{IsTallied, IsTallyStep, first_share, amount_
 use Rattle.lock_trials.specs.Turns.{HaveAdded}
 
 module _ (seat : ℕ) (held : Option Held) (pass : Brought) where
+  -- a seat that holds the word as a writer may read it
   pub may_read : IsWriterIn held → IsAllowed IsTallied IsTallyStep tt seat held pass (loads 0)
   may_read h grants words passes m there small = (has_read pass (slice_index words 0), (refl, (h.0, m.grant ∙ ap some h.1, h.2, h.3), (pass, m.own, refl)))
 
+  -- a seat that holds it so, and has just read it, may store the next number
   pub may_write : (value : ℕ) → IsWriterIn held → pass.sure ≡ true → value ≡ (pass.seen + 1) % 2 ^ 64
       → IsAllowed IsTallied IsTallyStep tt seat held pass (stores 0 value)
   may_write value h sure next grants words passes m there small =
       (has_written pass value, (refl, m.exclusive, (h.0, m.grant ∙ ap some h.1, h.2, h.3), (pass, m.own, sure, next, refl)))
 
+  -- after a read the pass knows the value that was found
   pub was_read : (found : ℕ) (after : Brought) → IsMade IsTallied IsTallyStep tt seat held pass (loads 0) found after → after ≡ has_read pass found
   was_read found after made =
       let m = made.3 in
@@ -34,6 +37,7 @@ module _ (seat : ℕ) (held : Option Held) (pass : Brought) where
       let same : step.0 ≡ pass = some-injective _ _ (sym step.1 ∙ m.own) in
       step.2 ∙ (λ i. has_read (same i) (here i))
 
+  -- after a store the pass knows the value that was stored
   pub was_written : (value found : ℕ) (after : Brought)
       → IsMade IsTallied IsTallyStep tt seat held pass (stores 0 value) found after → after ≡ has_written pass value
   was_written value found after made =

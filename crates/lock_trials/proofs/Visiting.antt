@@ -10,13 +10,16 @@ use Rattle.lock_trials.specs.declared.turnstile.Visits.{Visits}
 use Rattle.lock_trials.specs.Turnstile.{IsIn, IsWriterIn, IsCounted, IsPassage, pass_inside, pass_outside, nobody_inside}
 
 module _ (seat : ℕ) (held : Option Held) (pass : Visits) where
+  -- any seat may read the count at any time
   pub may_look : (note : ℕ) → IsAllowed IsCounted IsPassage note seat held pass (loads 0)
   may_look note grants words passes moment there small = (pass, moment.own)
 
+  -- a seat that holds the door as a writer and is outside may go in
   pub may_enter : (note : ℕ) → IsWriterIn held → pass.inside ≡ false → IsAllowed IsCounted IsPassage note seat held pass (adds 0 1)
   may_enter note h outside grants words passes moment there small =
       (pass_inside pass note, (refl, moment.exclusive, (h.0, moment.grant ∙ ap some h.1, h.2, h.3), (pass, moment.own, inl (refl, outside, refl))))
 
+  -- a seat that holds the door as a writer and is inside may go out
   pub may_leave : (note : ℕ) → IsWriterIn held → pass.inside ≡ true → IsAllowed IsCounted IsPassage note seat held pass (adds 0 (2 ^ 64 - 1))
   may_leave note h inside grants words passes moment there small =
       (pass_outside pass, (refl, moment.exclusive, (h.0, moment.grant ∙ ap some h.1, h.2, h.3), (pass, moment.own, inr (refl, inside, refl))))
@@ -28,12 +31,14 @@ module _ (seat : ℕ) (held : Option Held) (pass : Visits) where
       nobody_inside grants words passes seat h.0 pass moment.met moment.exclusive (moment.grant ∙ ap some h.1) h.2 moment.own
       outside
 
+  -- a seat that holds the door and is outside reads 0, and its pass stays
   pub looked : (note found : ℕ) (after : Visits) → IsIn held → pass.inside ≡ false
       → IsMade IsCounted IsPassage note seat held pass (loads 0) found after → (found ≡ 0) × (after ≡ pass)
   looked note found after h outside made =
       let moment = made.3 in
       (sym made.4 ∙ none_at made.0 made.1 made.2 moment h outside, some-injective _ _ (sym made.5 ∙ moment.own))
 
+  -- a seat that goes in found nobody inside
   pub went_in : (note found : ℕ) (after : Visits) → IsWriterIn held → pass.inside ≡ false
       → IsMade IsCounted IsPassage note seat held pass (adds 0 1) found after → (found ≡ 0) × (after ≡ pass_inside pass note)
   went_in note found after h outside made =
@@ -45,6 +50,7 @@ module _ (seat : ℕ) (held : Option Held) (pass : Visits) where
             (λ t. absurd (false≢true (sym outside ∙ (ap (λ (v : Visits). v.inside) (sym same) ∙ t.1)))) step.2,
       )
 
+  -- a seat that goes out found itself alone inside
   pub went_out : (note found : ℕ) (after : Visits) → pass.inside ≡ true
       → IsMade IsCounted IsPassage note seat held pass (adds 0 (2 ^ 64 - 1)) found after
       → (found ≡ 1) × (after ≡ pass_outside pass)

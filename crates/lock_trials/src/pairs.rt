@@ -22,15 +22,6 @@ pub fn both(
     (first, second)
 }
 
-/// The seat of a new table of one.
-pub fn alone(table: &RangeTable<FreeGuard>, mut seats: Vec<Seat<FreeGuard>>) -> Seat<FreeGuard>
-    requires one { length seats.items ≡ 1 }
-    requires new { AreNewSeats table.now.table (λ _. tt) seats.items }
-    ensures first { result ≡ new_seat table.now.table (λ _. tt) 0 }
-{
-    seats.remove(0)
-}
-
 /// The two seats in order, as a closing takes them.
 pub fn in_order(
     alloc: Global,

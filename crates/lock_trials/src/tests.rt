@@ -1,9 +1,6 @@
 //! Worked tries, and threads that meet at one table. Each test ends by a stated number of turns; what it expects is
 //! reckoned by hand, never taken from the program.
-use crate::{
-    PAGES, alone, both, cross_all, hold_times, in_order, open_tally, open_turnstile, tally_of,
-    visit_all,
-};
+use crate::{both, hold_times, in_order, open_tally, open_turnstile, tally_of, visit_all};
 use lock_core::{FreeGuard, Mode, Range};
 use range_rw::{NotHeld, OpenFault, RangeTable, Stuck};
 use std::sync::atomic::{AtomicU64, Ordering};
@@ -67,31 +64,6 @@ fn four_threads_never_see_a_writer_inside(rt: HostRuntime) {
         panic!(rt; "memory");
     };
     assert_eq!(rt; words.as_slice(), [0].as_slice());
-}
-
-#[test]
-fn a_seat_alone_is_granted_each_of_forty_tries(rt: HostRuntime) {
-    let alloc = rt.alloc();
-    let (table, seats) = RangeTable::<FreeGuard>::open(alloc, 1, &[]).expect(&rt, "memory");
-    let mut seat = alone(&table, seats);
-    let range = Range::of(0, 1).expect(&rt, "a range");
-    assert_eq!(rt; hold_times(&table, &mut seat, range, Mode::Writer, 40), 40);
-}
-
-#[test]
-fn sixteen_threads_meet_nobody_in_their_pages(rt: HostRuntime) {
-    let alloc = rt.alloc();
-    let counts = [0u64; PAGES as usize];
-    let (table, mut seats) = RangeTable::<FreeGuard>::open(alloc, 16, &counts).expect(
-        &rt, "memory",
-    );
-    let met = AtomicU64::new(0);
-    cross_all(&rt, &table, seats.as_mut_slice(), 200, &met);
-    assert_eq!(rt; met.load(Ordering::SeqCst), 0);
-    let Ok(words) = table.close(alloc, seats) else {
-        panic!(rt; "memory");
-    };
-    assert_eq!(rt; words.as_slice(), counts.as_slice());
 }
 
 #[test]

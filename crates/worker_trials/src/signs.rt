@@ -1,6 +1,6 @@
 //! A gate with two signs. Each is raised at one moment of one line, and at other moments the gate waits for a sign, but
-//! no more than so many turns. It counts how often it is called, and which waits were given up, so a test can tell that
-//! two workers ran beside each other.
+//! no more than so many turns. It counts which waits were given up, so a test can tell that two workers ran beside each
+//! other.
 use std::sync::atomic::{AtomicU64, Ordering};
 use trace_threads::Gate;
 use word_rows::Backoff;
@@ -34,8 +34,6 @@ pub struct SignGate {
     first: AtomicU64,
     second: AtomicU64,
     late: AtomicU64,
-    before: AtomicU64,
-    after: AtomicU64,
 }
 
 impl SignGate {
@@ -47,8 +45,6 @@ impl SignGate {
             first: AtomicU64::new(0),
             second: AtomicU64::new(0),
             late: AtomicU64::new(0),
-            before: AtomicU64::new(0),
-            after: AtomicU64::new(0),
         }
     }
 
@@ -78,14 +74,6 @@ impl SignGate {
         self.late.load(Ordering::SeqCst)
     }
 
-    /// How often it was called before a line, and after one.
-    pub fn calls(&self) -> (u64, u64) {
-        (
-            self.before.load(Ordering::SeqCst),
-            self.after.load(Ordering::SeqCst),
-        )
-    }
-
     /// Raises the signs of a moment, and then waits where it holds a worker back there.
     fn pass(&self, moment: Moment) {
         if moment == self.raised_at[0] {
@@ -104,12 +92,10 @@ impl SignGate {
 
 impl Gate for SignGate {
     fn before(&self, worker: u32, line: u32) {
-        self.before.fetch_add(1, Ordering::SeqCst);
         self.pass(Moment::Before(worker, line));
     }
 
     fn after(&self, worker: u32, line: u32) {
-        self.after.fetch_add(1, Ordering::SeqCst);
         self.pass(Moment::After(worker, line));
     }
 }

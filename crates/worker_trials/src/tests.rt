@@ -48,31 +48,6 @@ fn are_dealt(entries: &[Entry], counts: &[u32]) -> bool
 }
 
 #[test]
-fn one_worker_is_answered_while_another_is_held_back_so_they_are_not_played_in_turn(
-    rt: HostRuntime,
-) {
-    let start = PlainSpace::new(rt.alloc());
-    let signs = [Moment::Before(0, 1), Moment::After(1, 2)];
-    let holds = [
-        Hold {
-            at: Moment::Before(1, 2),
-            until: 0,
-        },
-        Hold {
-            at: Moment::Before(0, 1),
-            until: 1,
-        },
-    ];
-    let gate = SignGate::new(signs, holds);
-    let closed = play_reads(&rt, rt.alloc(), &start, &[1, 1], 1, &gate).expect(&rt, "memory");
-    assert_eq!(rt; gate.late(), 0);
-    assert_eq!(rt; gate.calls(), (2, 2));
-    assert!(rt; are_dealt(closed.entries(), &[1, 1]));
-    let first = closed.entries().first().expect(&rt, "an entry");
-    assert_eq!(rt; first.worker, 1);
-}
-
-#[test]
 fn four_workers_read_two_hundred_times_each(rt: HostRuntime) {
     let alloc = rt.alloc();
     let start = PlainSpace::of_areas(alloc, &[READABLE]).expect(&rt, "an area list");

@@ -3,6 +3,7 @@ use Rattle.std.specs.Prelude.{None}
 use Rattle.lock_trials.specs.Turns.{HasAdded, HasMade}
 use Rattle.lock_trials.proofs.adds.add_turns.Given as goal
 
+-- the seat is back, has made three steps for each turn, and has added as often
 abbrev pub invariant-loop : goal.invariant-loop
 invariant-loop g l = record {
   table : l.seat.table ≡ l.initial.seat.table;

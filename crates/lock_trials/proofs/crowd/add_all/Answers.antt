@@ -4,9 +4,11 @@ use Rattle.range_rw.proofs.SeatLists.{seats_back, seats_each}
 use Rattle.lock_trials.specs.Turns.{HasAdded, HasMade}
 use Rattle.lock_trials.proofs.crowd.add_all.Goals as goal
 
+-- each seat is of the table and holds nothing, and the table has the word
 pub for_each_mut-requires-clause-accepts : goal.for_each_mut-requires-clause-accepts
 for_each_mut-requires-clause-accepts g c = λ _ _ i p lt e. let r = c.requires.idle i p.now (at_index _ i p.now lt e) in (r.0, r.2, c.requires.word)
 
+-- each seat is back, has made its steps and added as often as asked
 pub returns : goal.returns
 returns g c = record {
   idle = seats_back c.args.table.now.table c.args.seats.now c.for_each_mut.new.s (search rules) c.requires.idle

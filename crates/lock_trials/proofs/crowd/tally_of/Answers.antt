@@ -8,6 +8,7 @@ use Rattle.lock_trials.specs.Tally.{IsTallied, first_share}
 use Rattle.lock_trials.proofs.Tallying.{tally_left}
 use Rattle.lock_trials.proofs.crowd.tally_of.Goals as goal
 
+-- the word at the closing is the first one and what all seats have added
 pub returns : goal.returns
 returns g c =
     let some_word : 0 < length c.in-Ok-close.words.items = search rules in

@@ -5,10 +5,12 @@ use Rattle.lock_trials.specs.Turns.{HasMade, HasVisited, mode_at}
 use Rattle.lock_trials.proofs.SeatLists.{outside_after}
 use Rattle.lock_trials.proofs.crowd.visit_all.Goals as goal
 
+-- each seat is of the table, holds nothing and is outside, and the table has the word
 pub for_each_mut-requires-clause-accepts : goal.for_each_mut-requires-clause-accepts
 for_each_mut-requires-clause-accepts g c = λ _ _ i p lt e. let at = at_index _ i p.now lt e in
     let r = c.requires.idle.0 i p.now at in (r.0, r.2, c.requires.idle.1 i p.now at, c.requires.word)
 
+-- each seat is back and outside, has made its steps and its visits
 pub returns : goal.returns
 returns g c = record {
   idle = (

@@ -3,6 +3,7 @@ use Rattle.std.specs.Prelude.{None, false}
 use Rattle.lock_trials.specs.Turns.{HasMade, HasVisited}
 use Rattle.lock_trials.proofs.turns.visit_turns.Given as goal
 
+-- the seat is back and outside, has made two steps and a visit for each turn, and met nobody
 abbrev pub invariant-loop : goal.invariant-loop
 invariant-loop g l = record {
   table : l.seat.table ≡ l.initial.seat.table;

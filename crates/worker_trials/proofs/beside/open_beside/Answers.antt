@@ -5,6 +5,7 @@ use Rattle.trace_threads.specs.Workers.{WorkerView}
 use Rattle.worker_trials.proofs.Besides.{two_workers, two_new, third_new}
 use Rattle.worker_trials.proofs.beside.open_beside.Goals as goal
 
+-- the first caller has a number for each of its lines
 pub new-requires-clause-left : goal.new-requires-clause-left
 new-requires-clause-left c =
     let t = c.three_callers-one in
@@ -15,6 +16,7 @@ new-requires-clause-left c =
     let long = c.len.ensures in
     omega arith
 
+-- the first caller holds nothing
 pub new-requires-clause-free : goal.new-requires-clause-free
 new-requires-clause-free c =
     let t = c.three_callers-one in
@@ -23,6 +25,7 @@ new-requires-clause-free c =
     c.in-Ok-open.ensures.callers in
     (two_new c.in-Ok-open.space.table c.args.start.now c.len.result c.len-2.result 0 t.result.0 t.result.1 t.result.2 new).2
 
+-- the second caller has a number for each of its lines
 pub new-requires-in-Ok-open-clause-left : goal.new-requires-in-Ok-open-clause-left
 new-requires-in-Ok-open-clause-left c =
     let t = c.three_callers-one in
@@ -33,6 +36,7 @@ new-requires-in-Ok-open-clause-left c =
     let long = c.len-2.ensures in
     omega arith
 
+-- the second caller holds nothing
 pub new-requires-in-Ok-open-clause-free : goal.new-requires-in-Ok-open-clause-free
 new-requires-in-Ok-open-clause-free c =
     let t = c.three_callers-one in
@@ -41,6 +45,7 @@ new-requires-in-Ok-open-clause-free c =
     c.in-Ok-open.ensures.callers in
     (two_new c.in-Ok-open.space.table c.args.start.now c.len.result c.len-2.result 0 t.result.0 t.result.1 t.result.2 new).3
 
+-- the two workers are new ones of the space, with their lines
 pub returns-in-Ok-open-clause-workers : goal.returns-in-Ok-open-clause-workers
 returns-in-Ok-open-clause-workers c =
     let t = c.three_callers-one in
@@ -58,6 +63,7 @@ returns-in-Ok-open-clause-workers c =
     subst (λ (ws : List WorkerView). AreNewWorkers c.in-Ok-open.space.table c.args.start.now (c.args.first.items ∷ c.args.second.items ∷ []) ws) (sym two)
     (two_workers c.in-Ok-open.space.table c.args.start.now calls t.result.0 t.result.1 t.result.2 c.args.first.items c.args.second.items new)
 
+-- the third caller is a new one of the space
 pub returns-in-Ok-open-clause-third : goal.returns-in-Ok-open-clause-third
 returns-in-Ok-open-clause-third c =
     let t = c.three_callers-one in

@@ -4,9 +4,11 @@ use Rattle.trace_threads.proofs.Hirings.{of_table}
 use Rattle.worker_trials.proofs.Besides.{idle_with, played_with}
 use Rattle.worker_trials.proofs.beside.play_beside_writer.Goals as goal
 
+-- the workers are of the space
 pub hold_and_play-requires-clause-workers : goal.hold_and_play-requires-clause-workers
 hold_and_play-requires-clause-workers g c κs within = of_table _ _ _ c.in-Ok.workers.items c.in-Ok.ensures.workers
 
+-- the callers of the workers and the holder are idle
 pub close-requires-clause-idle : goal.close-requires-clause-idle
 close-requires-clause-idle g c =
     let lists = c.args.first.items ∷ c.args.second.items ∷ [] in
@@ -22,6 +24,7 @@ close-requires-clause-idle g c =
     (idle_with c.in-Ok.space.table c.args.start.now lists before after c.hold_and_play.new.holder c.in-Ok.ensures.workers played
     (back.table ∙ third.table_is) (back.number ∙ (third.number ∙ second)) back.held)
 
+-- the entries are those of the lines that the workers have played
 pub returns-in-Ok-close-clause-played : goal.returns-in-Ok-close-clause-played
 returns-in-Ok-close-clause-played g c =
     let lists = c.args.first.items ∷ c.args.second.items ∷ [] in
@@ -32,6 +35,7 @@ returns-in-Ok-close-clause-played g c =
     c.hold_and_play.new.holder closed.entries closed.areas c.in-Ok.ensures.workers c.hold_and_play.ensures.played none
     whole).0
 
+-- the entries are a run from the start to the areas at the closing
 pub returns-in-Ok-close-clause-runs : goal.returns-in-Ok-close-clause-runs
 returns-in-Ok-close-clause-runs g c =
     let lists = c.args.first.items ∷ c.args.second.items ∷ [] in

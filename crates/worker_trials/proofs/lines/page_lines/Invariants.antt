@@ -3,6 +3,7 @@ use Rattle.std.specs.Prelude.{All}
 use Rattle.page_types.specs.Named.{IsNamedCall}
 use Rattle.worker_trials.proofs.lines.page_lines.Given as goal
 
+-- there is a line for each turn, and their calls have named bits alone
 abbrev pub invariant-loop-turn : goal.invariant-loop-turn
 invariant-loop-turn l = record {
   long : length l.lines.items ≡ l.turn;

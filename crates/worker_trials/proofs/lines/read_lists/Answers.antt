@@ -5,6 +5,7 @@ use Rattle.page_types.specs.Named.{IsNamedCall}
 use Rattle.worker_trials.proofs.Dealing.{all_more, items_more, counts_more}
 use Rattle.worker_trials.proofs.lines.read_lists.Goals as goal
 
+-- one list more is as long as asked for, and named
 pub counts-preserved : goal.counts-preserved
 counts-preserved c =
     let list = c.in_ok-reads.field-0 in
