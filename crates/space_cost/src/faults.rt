@@ -137,7 +137,7 @@ fn measure_changes<R: Wait + Clock + Eprint>(
     let locked = least_of_map(rt, size, &map, lo)?;
     print_changes(rt, size, rows, clock, space, locked)?;
     let plan = least_of_plans(rt, size, alloc, &start, lo)?;
-    eprintln!(rt; "rows {rows}: a plan takes {} ns", size.each(plan))?;
+    eprintln!(rt; "rows {rows}, a plan: {} ns", size.each(plan))?;
     Ok(())
 }
 
@@ -162,7 +162,7 @@ fn print_changes<R: Eprint>(
         let ours = space[i].saturating_sub(clock);
         let others = locked[i].saturating_sub(clock);
         eprintln!(rt;
-            "rows {rows}: {name} takes {} ns, {} percent of the same change of a BTreeMap ({} ns)",
+            "rows {rows}, {name}: {} ns, {} percent of the same change of a BTreeMap ({} ns)",
             size.each(ours),
             percent(ours, others),
             size.each(others)

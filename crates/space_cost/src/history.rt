@@ -35,9 +35,9 @@ pub fn measure_history<R: Clock + Sync + Print + Eprint>(
         entries.len()
     )?;
     eprintln!(rt;
-        "history: an entry takes {} ns to play on the space of one thread, and {} ns to judge",
-        size.each(watch.time()),
-        size.each(judged)
+        "history, an entry is played on the space of one thread: {} ns",
+        size.each(watch.time())
     )?;
+    eprintln!(rt; "history, an entry is judged: {} ns", size.each(judged))?;
     Ok(())
 }
