@@ -6,7 +6,7 @@ use Rattle.page_types.specs.declared.pages.Span.{Span}
 use Rattle.page_types.specs.declared.sets.Access.{Access}
 use Rattle.page_types.specs.declared.calls.Kind.{Kind}
 use Rattle.page_types.specs.declared.calls.Call.{Call}
-use Rattle.page_types.specs.declared.calls.Call.TheVariants.{Fault}
+use Rattle.page_types.specs.declared.calls.Call.TheVariants.{Map, Unmap, Protect, Fault}
 use Rattle.page_types.specs.declared.calls.Reply.{Reply}
 use Rattle.page_types.specs.Named.{IsNamedReply}
 use Rattle.page_types.specs.Pages.{page_of}
@@ -27,6 +27,7 @@ use Rattle.area_rows.specs.History.{StartsWith, Runs, IsRight, HoldsFor, rest_of
 use Rattle.area_rows.specs.Reads.{IsHeldPage}
 use Rattle.area_rows.specs.Callers.{CallerView, MayNumber, IsReading, IsDrawn, RowIs, Shows}
 use Rattle.area_rows.specs.Called.{IsCalled, IsLastPlace}
+use Rattle.page_fault.specs.Faults.{IsAccess}
 use Rattle.area_rows.proofs.Wholes.{match_none}
 
 -- the page's kind decides
@@ -39,14 +40,29 @@ held_right state addr access kind reply span undecided lo hi is answers = record
   answers = fault-answers state (Fault addr access) addr access reply refl undecided (subst (λ k. AnswersFault k (page_of addr) access reply) (sym is) answers);
 }
 
-pub shows_fault : (c : CallerView) (held : Option Held) (row : Row) (addr : ℕ) (access : Access) (reply : Reply) (span : Span)
+-- under the held page, whose row shows its kind, the reply of this access may be numbered
+shows_access : (c : CallerView) (held : Option Held) (row : Row) (addr : ℕ) (access : Access) (reply : Reply) (span : Span)
     → Shows c.seat (RowIs held (page_of addr) row) → IsHeldPage held (page_of addr) → row.lo ≤ page_of addr
     → page_of addr < row.hi
     → plain_reply (Fault addr access) ≡ None → span.lo ≡ page_of addr → span.hi ≡ page_of addr + 1
     → AnswersFault row.kind (page_of addr) access reply → MayNumber c (Fault addr access) reply (Reader span)
-shows_fault c held row addr access reply span shows here from until undecided lo hi answers start history state words moment =
+shows_access c held row addr access reply span shows here from until undecided lo hi answers start history state words moment =
     let r = shows start history state words moment in
     (state, held_right state addr access row.kind reply span undecided lo hi (r.kind (page_of addr) here from until) answers, refl)
+
+-- under the held page of a fault that its arguments don't decide, the reply that its row gives may be numbered
+pub shows_fault : (c : CallerView) (held : Option Held) (row : Row) (call : Call) (access : Access) (reply : Reply) (span : Span)
+    → Shows c.seat (RowIs held span.lo row) → IsHeldPage held span.lo → row.lo ≤ span.lo → span.lo < row.hi
+    → plain_reply call ≡ None → IsAccess call access span → AnswersFault row.kind span.lo access reply
+    → MayNumber c call reply (Reader span)
+shows_fault c held row (Map addr len prot flags) access reply span shows here from until undecided is answers = absurd is
+shows_fault c held row (Unmap addr len) access reply span shows here from until undecided is answers = absurd is
+shows_fault c held row (Protect addr len prot) access reply span shows here from until undecided is answers = absurd is
+shows_fault c held row (Fault addr wanted) access reply span shows here from until undecided is answers =
+    let at = subst (λ (z : ℕ × Access). Shows c.seat (RowIs held z.0 row) × IsHeldPage held z.0 × (row.lo ≤ z.0) × (z.0 < row.hi)
+    × AnswersFault row.kind z.0 z.1 reply)
+    (λ i. (is.1 i, is.0 i)) (shows, here, from, until, answers) in
+    shows_access c held row addr wanted reply span at.0 at.1 at.2 at.3 undecided is.1 is.2 at.4
 
 -- reading, numbering and giving back are one call that held nothing before
 pub called_held : (b r n d : CallerView) (e : Entry) (line : ℕ) (call : Call) (span : Span) → IsReading b.seat r.seat

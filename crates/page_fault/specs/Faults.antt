@@ -3,7 +3,9 @@
 -- the entry names: the page as a reader, or nothing where the arguments decide. The caller's pass keeps that range.
 use Rattle.std.specs.Prelude.{ℕ, ◌≡◌, ◌↔◌, ◌<◌, ◌+◌, None}
 use Rattle.page_types.specs.declared.sets.Access.{Access}
-use Rattle.page_types.specs.declared.calls.Call.TheVariants.{Fault}
+use Rattle.page_types.specs.declared.calls.Call.TheVariants.{Map, Unmap, Protect, Fault}
+use Rattle.page_types.specs.declared.calls.Call.{Call}
+use Rattle.page_types.specs.declared.pages.Span.{Span}
 use Rattle.page_types.specs.Pages.{page_of}
 use Rattle.page_types.specs.PlainReply.{plain_reply}
 use Rattle.space_model.specs.declared.entries.Entry.{Entry}
@@ -20,6 +22,13 @@ use Rattle.page_fault.specs.declared.faults.TriedFault.TheVariants.{Answered, No
 -- the one page of an address, held as a reader
 abbrev pub page_held : ℕ → Held
 page_held addr = record { range = record { lo = page_of addr; hi = page_of addr + 1 }; mode = Reader }
+
+-- the call is this access to the one page of this span
+abbrev pub IsAccess : Call → Access → Span → Type 0
+IsAccess (Map addr len prot flags) access span = ⊥
+IsAccess (Unmap addr len) access span = ⊥
+IsAccess (Protect addr len prot) access span = ⊥
+IsAccess (Fault addr wanted) access span = (access ≡ wanted) × (span.lo ≡ page_of addr) × (span.hi ≡ page_of addr + 1)
 
 -- the fault got one entry, as each call that gives one: with this line and these arguments, and with the next number,
 -- which was drawn while the caller held what the entry names; the caller holds what it held before

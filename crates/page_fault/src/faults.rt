@@ -1,13 +1,17 @@
-//! The two calls for a fault: one waits until the page is held, and one tries once and names the cause where it
-//! isn't. A fault that its arguments decide holds nothing. What a reader may rely on is said by `IsAnswer` and
-//! `IsTried` (`specs/Faults.antt`); the replies are those of sigaction(2).
+//! The calls for a fault: one waits until the page is held, and one tries once and names the cause where it isn't. Who
+//! has the call in one piece hands it to `make_fault`, over which `fault` stands. A fault that its arguments decide
+//! holds nothing. What a reader may rely on is said by `IsAnswer` and `IsTried` (`specs/Faults.antt`); the replies are
+//! those of sigaction(2).
 ghost use Rattle.std.specs.Prelude.{◌≡◌, ◌<◌, ◌≤◌, ◌+◌, ◌*◌, Some, None};
-ghost use Rattle.page_types.specs.declared.calls.Call.TheVariants.{Fault};
+ghost use Rattle.page_types.specs.Named.{IsNamedCall};
 ghost use Rattle.page_types.specs.PlainReply.{plain_reply};
+ghost use Rattle.lock_core.specs.declared.range.Mode.TheVariants.{Reader};
 ghost use Rattle.range_rw.specs.Contract.{IsReadyLeft};
+ghost use Rattle.row_plans.specs.Plans.{IsFault};
 ghost use Rattle.area_rows.specs.History.{IsAtRest};
-ghost use Rattle.area_rows.specs.Called.{IsCalled};
-ghost use Rattle.page_fault.specs.Faults.{page_held, IsFaulted, IsAnswer, IsTried};
+ghost use Rattle.area_rows.specs.Callers.{held_span};
+ghost use Rattle.area_rows.specs.Called.{IsCalled, IsAnswered};
+ghost use Rattle.page_fault.specs.Faults.{IsAccess, IsAnswer, IsTried};
 
 use area_rows::{Answer, Caller, Space};
 use lock_core::Mode;
@@ -30,17 +34,16 @@ pub enum TriedFault {
     Spent,
 }
 
-/// The page of an address that the arguments don't decide.
-fn page_span(addr: u64, access: Access) -> Span
-    requires { plain_reply (Fault addr access) ≡ None }
-    ensures lo { result.lo ≡ (page_held addr).range.lo }
-    ensures hi { result.hi ≡ (page_held addr).range.hi }
+/// What is done to which page by a fault that its arguments don't decide.
+fn access_of(call: Call) -> (Access, Span)
+    requires call { IsFault call }
+    requires undecided { plain_reply call ≡ None }
+    ensures { IsAccess call result.0 result.1 }
 {
-    let page = addr / PAGE;
-    Span {
-        lo: page,
-        hi: page + 1,
-    }
+    let Call::Fault { addr, access } = call else {
+        unreachable!()
+    };
+    (access, Span::of_page(addr / PAGE))
 }
 
 /// A fault that its arguments decide: it draws its number and holds nothing.
@@ -48,22 +51,22 @@ fn number_plain<L: Ledger>(
     space: &Space,
     caller: &mut Caller,
     line: u32,
-    addr: u64,
-    access: Access,
+    call: Call,
     reply: Reply,
     steps: &mut Steps<L>,
 ) -> Entry
     requires table { caller.old.seat.table ≡ space.now.table }
     requires free { caller.old.seat.held ≡ None }
     requires left { 0 < caller.old.left }
-    requires decided { plain_reply (Fault addr access) ≡ Some reply }
-    ensures faulted { IsFaulted caller.old line addr access result caller.new }
+    requires named { IsNamedCall call }
+    requires decided { plain_reply call ≡ Some reply }
+    ensures called { IsCalled caller.old line call result caller.new }
     ensures pools { caller.new.seat.pools ≡ caller.old.seat.pools }
     ensures bound { caller.new.seat.trace.taken ≤ caller.old.seat.trace.taken + 1 }
     ensures counted { steps.new + caller.old.seat.trace.taken ≡ steps.old + caller.new.seat.trace.taken }
 {
     steps.tick();
-    space.call_plain(caller, line, Call::Fault { addr, access }, reply)
+    space.call_plain(caller, line, call, reply)
 }
 
 /// A fault whose page the caller holds: it reads the page's row, draws its number, and gives the page back, in at most
@@ -72,27 +75,25 @@ fn number_held<L: Ledger>(
     space: &Space,
     caller: &mut Caller,
     line: u32,
-    addr: u64,
+    call: Call,
     access: Access,
     span: Span,
     steps: &mut Steps<L>,
 ) -> Entry
     requires table { caller.old.seat.table ≡ space.now.table }
     requires left { 0 < caller.old.left }
-    requires undecided { plain_reply (Fault addr access) ≡ None }
-    requires lo { span.lo ≡ (page_held addr).range.lo }
-    requires hi { span.hi ≡ (page_held addr).range.hi }
-    requires held { caller.old.seat.held ≡ Some (page_held addr) }
+    requires undecided { plain_reply call ≡ None }
+    requires access { IsAccess call access span }
+    requires held { caller.old.seat.held ≡ Some (held_span span Reader) }
     requires rest { IsAtRest caller.old.seat.pass }
-    ensures called { IsCalled (record caller.old { seat = record caller.old.seat { held = None } }) line (Fault addr access) result caller.new }
+    ensures called { IsCalled (record caller.old { seat = record caller.old.seat { held = None } }) line call result caller.new }
     ensures ready { caller.new.seat.pools.ready ≡ caller.old.seat.pools.ready }
     ensures bound { caller.new.seat.trace.taken ≤ caller.old.seat.trace.taken + 18 }
     ensures counted { steps.new + caller.old.seat.trace.taken ≡ steps.old + caller.new.seat.trace.taken }
 {
-    let page = addr / PAGE;
+    let page = span.lo;
     let row = space.row_of(caller, page, steps);
     let reply = access_reply(row.kind, page, access);
-    let call = Call::Fault { addr, access };
     let entry = space.number(caller, line, call, reply, Under::Reader(span), steps);
     space.release(caller, steps);
     entry
@@ -103,23 +104,44 @@ fn fault_counting<L: Ledger, R: Wait>(
     wait: &R,
     caller: &mut Caller,
     line: u32,
-    addr: u64,
-    access: Access,
+    call: Call,
     blank: Blank,
 ) -> Entry
     requires blank { (blank.name ≡ L.name) × (blank.parts ≡ L.parts) × (0 < L.parts) }
     requires table { caller.old.seat.table ≡ space.now.table }
     requires free { caller.old.seat.held ≡ None }
     requires left { 0 < caller.old.left }
-    ensures faulted { IsFaulted caller.old line addr access result caller.new }
+    requires call { IsFault call }
+    ensures called { IsCalled caller.old line call result caller.new }
 {
     let mut steps = Steps::<L>::new(blank);
-    if let Some(reply) = plain(&Call::Fault { addr, access }) {
-        return number_plain(space, caller, line, addr, access, reply, &mut steps);
+    if let Some(reply) = plain(&call) {
+        return number_plain(space, caller, line, call, reply, &mut steps);
     }
-    let span = page_span(addr, access);
+    let (access, span) = access_of(call);
     space.acquire(wait, caller, span, Mode::Reader);
-    number_held(space, caller, line, addr, access, span, &mut steps)
+    number_held(space, caller, line, call, access, span, &mut steps)
+}
+
+/// Makes a call that is a fault, as `fault` does, with the same answers.
+pub fn make_fault<R: Wait>(
+    space: &Space,
+    wait: &R,
+    caller: &mut Caller,
+    line: u32,
+    call: Call,
+) -> Answer
+    requires table { caller.old.seat.table ≡ space.now.table }
+    requires free { caller.old.seat.held ≡ None }
+    requires call { IsFault call }
+    ensures answer { IsAnswered caller.old line call result caller.new }
+{
+    if caller.left() == 0 {
+        return Answer::Spent;
+    }
+    let blank = Blank::new(1);
+    let entry = fault_counting::<Brand, R>(space, wait, caller, line, call, blank);
+    Answer::Given(entry)
 }
 
 /// One access to the byte at `addr`, by the caller, which is of this space and holds nothing; `line` is the line of
@@ -138,12 +160,7 @@ pub fn fault<R: Wait>(
     requires free { caller.old.seat.held ≡ None }
     ensures answer { IsAnswer caller.old line addr access result caller.new }
 {
-    if caller.left() == 0 {
-        return Answer::Spent;
-    }
-    let blank = Blank::new(1);
-    let entry = fault_counting::<Brand, R>(space, wait, caller, line, addr, access, blank);
-    Answer::Given(entry)
+    make_fault(space, wait, caller, line, Call::Fault { addr, access })
 }
 
 /// The same with one try to hold the page, so that it waits for nobody.
@@ -169,12 +186,13 @@ pub fn try_fault<L: Ledger>(
     if caller.left() == 0 {
         return TriedFault::Spent;
     }
-    if let Some(reply) = plain(&Call::Fault { addr, access }) {
-        return TriedFault::Answered(number_plain(space, caller, line, addr, access, reply, steps));
+    let call = Call::Fault { addr, access };
+    if let Some(reply) = plain(&call) {
+        return TriedFault::Answered(number_plain(space, caller, line, call, reply, steps));
     }
-    let span = page_span(addr, access);
+    let (access, span) = access_of(call);
     match space.try_acquire(caller, span, Mode::Reader, steps) {
-        Ok(()) => TriedFault::Answered(number_held(space, caller, line, addr, access, span, steps)),
+        Ok(()) => TriedFault::Answered(number_held(space, caller, line, call, access, span, steps)),
         Err(why) => TriedFault::NotHeld(why),
     }
 }
