@@ -6,4 +6,4 @@
 
 mod maps;
 
-pub use maps::{map, unmap};
+pub use maps::{make_change, map, unmap};

@@ -1,7 +1,7 @@
-//! The two calls: `map` is mmap(2), and `unmap` is munmap(2). Both are answered in one way, which is the whole of this
-//! crate: nothing where the caller has no number left, the reply of the arguments where these decide, and otherwise the
-//! one call of `area_rows` that may change the number of rows. What a reader may rely on is `IsAnswered` of
-//! `area_rows`, one clause for all calls that give an entry.
+//! The two calls: `map` is mmap(2), and `unmap` is munmap(2). Both are answered by `make_change`, which is the whole of
+//! this crate: nothing where the caller has no number left, the reply of the arguments where these decide, and
+//! otherwise the one call of `area_rows` that may change the number of rows. What a reader may rely on is `IsAnswered`
+//! of `area_rows`, one clause for all calls that give an entry.
 ghost use Rattle.std.specs.Prelude.{◌≡◌, None};
 ghost use Rattle.page_types.specs.declared.calls.Call.TheVariants.{Map, Unmap};
 ghost use Rattle.page_types.specs.Named.{IsNamedCall};
@@ -12,8 +12,17 @@ use area_rows::{Answer, Caller, Space};
 use page_types::{Call, MapFlags, Prot, plain};
 use std::sync::Wait;
 
-/// A call that is no fault: its entry, if the caller has a number left.
-fn answer<R: Wait>(space: &Space, wait: &R, caller: &mut Caller, line: u32, call: Call) -> Answer
+/// Makes a call that is no fault: a Map, an Unmap, or a Protect that is to hold all pages. The caller is of this space
+/// and holds nothing, and the call has named bits alone; `line` is the line of the input that names it, counted from 1.
+/// It waits until the caller holds all pages; a call that its arguments decide holds nothing. `Spent` comes exactly
+/// where the caller has no number left, and nothing has changed then.
+pub fn make_change<R: Wait>(
+    space: &Space,
+    wait: &R,
+    caller: &mut Caller,
+    line: u32,
+    call: Call,
+) -> Answer
     requires table { caller.old.seat.table ≡ space.now.table }
     requires free { caller.old.seat.held ≡ None }
     requires call { ¬ IsFault call }
@@ -55,7 +64,7 @@ pub fn map<R: Wait>(
         prot,
         flags,
     };
-    answer(space, wait, caller, line, call)
+    make_change(space, wait, caller, line, call)
 }
 
 /// Takes the pages of the `len` bytes from `addr` on away, as munmap(2) does; pages that aren't mapped are no error.
@@ -74,5 +83,5 @@ pub fn unmap<R: Wait>(
     requires free { caller.old.seat.held ≡ None }
     ensures answer { IsAnswered caller.old line (Unmap addr len) result caller.new }
 {
-    answer(space, wait, caller, line, Call::Unmap { addr, len })
+    make_change(space, wait, caller, line, Call::Unmap { addr, len })
 }
