@@ -2,3 +2,4 @@ pub mod Looking
 pub mod Stages
 pub mod Lone
 pub mod Newcomers
+pub mod Answering

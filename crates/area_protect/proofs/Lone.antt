@@ -125,6 +125,8 @@ simple_or before after line addr len prot e path p none lone (OverArea seq) w si
 simple_or before after line addr len prot e path p none lone (Whole cause) w simple =
     absurd (lone_cause before after line addr len prot e path p cause lone w.2 simple)
 
+-- where nothing was numbered meanwhile, a call that its arguments don't decide holds its area exactly where the change
+-- is simple at the state that its entry finds
 pub lone_holds_area : LoneHoldsArea
 lone_holds_area before after line addr len prot e path p none lone = (
   λ holds. held_simple before after line addr len prot e path p none holds,
@@ -184,6 +186,7 @@ module _ (b a c d : CallerView) (line other addr len : ℕ) (prot : Prot) (e f :
       (subst (λ A. IsSimple A (Protect addr len prot)) (sym state) (held_simple c d other addr len prot f way q h.0 h.1)))
   one_way (Whole x) (Whole y) g h seen = ap Whole (one_cause x y g.2 h.2)
 
+-- two such calls with the same arguments, after the same entries from one start, went the same way
 pub lone_path : LonePathIsOne
 lone_path b a c d line other addr len prot e f path way p q alone lone start seen =
     let n = p.called.numbered in let m = q.called.numbered in

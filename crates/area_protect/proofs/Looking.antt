@@ -12,6 +12,7 @@ use Rattle.space_model.specs.declared.areas.Area.{Area}
 use Rattle.space_model.specs.declared.entries.Entry.{Entry}
 use Rattle.space_model.specs.History.{StateAfter}
 use Rattle.range_rw.specs.Contract.{SeatState}
+use Rattle.area_rows.specs.Seated.{TableId}
 use Rattle.area_rows.specs.declared.guard.Pass.{Pass}
 use Rattle.area_rows.specs.AreaPlans.{IsOneKind}
 use Rattle.area_rows.specs.History.{Runs, StartsWith, whole_count, planned_calls, IsAtRest}
@@ -25,12 +26,13 @@ use Rattle.area_protect.specs.declared.steps.Attempt.TheVariants.{Done, Again, W
 use Rattle.area_protect.specs.declared.steps.Request.{Request}
 use Rattle.area_protect.specs.Looks.{IsAfter, HasWhole, HasLooked, IsLookedAt}
 use Rattle.area_protect.specs.Protects.{HasCause}
-use Rattle.area_protect.specs.Attempts.{IsReason, IsChanged, IsAttempt, CallIs, NeedsMoreRows}
+use Rattle.area_protect.specs.Attempts.{MayCall, IsReason, IsChanged, IsAttempt, CallIs, NeedsMoreRows}
 
 -- beginnings of beginnings
 pub begins_on : (a b c : List Entry) → StartsWith b a → StartsWith c b → StartsWith c a
 begins_on a b c f g = (f.0 ++ g.0, g.1 ∙ (ap (λ l. l ++ g.0) f.1 ∙ append_assoc a f.0 g.0))
 
+-- a list is at least as long as one that it begins with
 pub longer : (a b : List Entry) → StartsWith b a → length a ≤ length b
 longer a b f = let e : length b ≡ length a + length f.0 = ap length f.1 ∙ length-append a f.0 in omega arith
 
@@ -48,6 +50,7 @@ after_on a b m what start more le t = (
   t.2,
 )
 
+-- what was counted under everything of the first entries is counted so of what is seen later
 pub whole_on : (a b : SeatState Pass) (m n : ℕ) → StartsWith b.pass.seen a.pass.seen → m ≤ length a.pass.seen → HasWhole a m n → HasWhole b m n
 whole_on a b m n more le t = ap whole_count (same_first a.pass.seen b.pass.seen m more le) ∙ t
 
@@ -75,6 +78,7 @@ look_shows s u found what look shows =
       shows s.pass.start u.pass.seen look.state look.words look.moment,
     )
 
+-- a look of a caller with nothing to write counts the entries under everything that were there
 pub look_counts : (s u : SeatState Pass) (found n : ℕ) → IsLook s found u → IsAtRest s.pass → CountsWhole s n → HasWhole u found n
 look_counts s u found n look rest counts =
     let all : take found u.pass.seen ≡ u.pass.seen = take_all found u.pass.seen (let c = look.count in omega arith) in
@@ -163,6 +167,7 @@ cause_of a b c r line e (Moved first second old new) look reason called =
 pub at_more : (a b c : CallerView) (m : ℕ) → IsLookedAt a.seat m b.seat → HasLooked b c → IsLookedAt a.seat m c.seat
 at_more a b c m at look = (at.0, (let l = longer b.seat.pass.seen c.seat.pass.seen look.more in let h = at.1 in omega arith))
 
+-- what was met at a look since a later moment was met since an earlier one
 pub at_since : (a b c : CallerView) (m : ℕ) → HasLooked a b → IsLookedAt b.seat m c.seat → IsLookedAt a.seat m c.seat
 at_since a b c m look at = ((let l = longer a.seat.pass.seen b.seat.pass.seen look.more in let h = at.0 in omega arith), at.1)
 
@@ -187,6 +192,7 @@ pub other_before : (a b : CallerView) (r : Request) (at : ℕ) (lo hi : ℕ) →
 other_before a b r at lo hi is_lo is_hi looked other =
     (looked, subst (λ (z : ℕ × ℕ). IsAfter b.seat at (λ A. ¬ IsOneKind A z.0 z.1)) (λ i. (is_lo i, is_hi i)) other)
 
+-- that a change needs more rows, found behind a look, is a reason for everything from before the look on
 pub more_rows_later : (a b c : CallerView) (r : Request) (at : ℕ) → HasLooked a b → NeedsMoreRows b r c at → IsReason a r c (NotSimple at)
 more_rows_later a b c r at look needs = (at_since a b c at look needs.when, needs.state)
 
@@ -228,11 +234,17 @@ reason_since a b c r (NotSimple at) look reason = (at_since a b c at look reason
 reason_since a b c r (Moved first second old new) look reason =
     (at_since a b c first look reason.0, at_since a b c second look reason.1, reason.2, reason.3, reason.4, reason.5)
 
+-- what an attempt after looks came to, it came to from before them, where the same is held
 pub attempt_since : (a b c : CallerView) (r : Request) (attempt : Attempt) → HasLooked a b → b.seat.held ≡ a.seat.held
     → IsAttempt b r c attempt → IsAttempt a r c attempt
 attempt_since a b c r (Done e seq) look held t = (called_after a b c r.line (Protect r.addr r.len r.prot) e look held t.0, t.1, t.2)
 attempt_since a b c r Again look held t = looked_on a b c look t
 attempt_since a b c r (Whole cause) look held t = (looked_on a b c look t.0, reason_since a b c r cause look t.1)
 
+-- an attempt's outcome may be told of equal callers and equal outcomes
 pub same_attempt : (a b c : CallerView) (r : Request) (x y : Attempt) → c ≡ b → y ≡ x → IsAttempt a r b x → IsAttempt a r c y
 same_attempt a b c r x y e f t = subst (λ (z : CallerView × Attempt). IsAttempt a r z.0 z.1) (λ i. (sym e i, sym f i)) t
+
+-- who has looked and holds nothing may call still
+pub may_call_on : (table : TableId) (a b : CallerView) → MayCall table a → HasLooked a b → b.seat.held ≡ None → MayCall table b
+may_call_on table a b may look free = record { table_is = look.table ∙ may.table_is; free = free; left = subst (λ n. 0 < n) (sym look.left) may.left }

@@ -23,6 +23,7 @@ parts_new table start calls (x ∷ []) (y ∷ rest) a b new one two = let p = ne
   record { table_is = ap (λ (c : CallerView). c.seat.table) q; free = ap (λ (c : CallerView). c.seat.held) q; left_is = ap (λ (c : CallerView). c.left) q },
 )
 
+-- of the two callers of a new space, cut into one and one, each is new with its own count of numbers
 pub two_new : (table : TableId) (start : List Area) (calls : List ℕ) (callers first others : List CallerView) (a b : CallerView)
     → AreNewCallers table start calls callers → callers ≡ first ++ others → length first ≡ 1 → length callers ≡ 2
     → IsNew table (slice_index calls 0) (get_or first 0 a) × IsNew table (slice_index calls 1) (get_or others 0 b)

@@ -69,6 +69,7 @@ pub record IsFinished (drawn after : SeatState Pass) : Type 0 where
   pub held : after.held ≡ drawn.held
   pub trace : (after.trace ≡ drawn.trace) ⊎ ((index : ℕ) × (after.trace ≡ client_trace drawn.trace (3 + index)))
 
+-- where nothing is left to be written, what was numbered is written as it stands
 pub nothing_to_store : (n : SeatState Pass) → IsAtRest n.pass → IsFinished n n
 nothing_to_store n rest = record {
   rest = rest;
@@ -82,6 +83,7 @@ nothing_to_store n rest = record {
   trace = inl refl;
 }
 
+-- the store of one row writes what a call left to be written
 pub stored_one : (n w : SeatState Pass) (index : ℕ) → IsStoredRow n index w → IsFinished n w
 stored_one n w index s = record {
   rest = s.rest;
@@ -156,9 +158,11 @@ module _ (d e : SeatState Pass) (release : IsRelease rest_of d e) where
   start_back : e.pass.start ≡ d.pass.start
   start_back = ap (λ (p : Pass). p.start) release.pass
 
+  -- the state after so many entries is as it was before the range was given back
   pub after_back : (m : ℕ) (what : List Area → Type 0) → IsAfter d m what → IsAfter e m what
   after_back m what t = (t.0, subst (λ (z : List Area × List Entry). StateAfter z.0 (take m z.1) t.0) (λ i. (sym start_back i, sym seen_back i)) t.1, t.2)
 
+  -- so many of the first entries are under everything as before the range was given back
   pub whole_back : (m n : ℕ) → HasWhole d m n → HasWhole e m n
   whole_back m n t = ap (λ l. whole_count (take m l)) seen_back ∙ t
 

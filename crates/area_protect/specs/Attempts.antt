@@ -5,11 +5,13 @@ use Rattle.page_types.specs.declared.calls.Call.TheVariants.{Protect}
 use Rattle.page_types.specs.declared.calls.Kind.{Kind}
 use Rattle.page_types.specs.declared.pages.Span.{Span}
 use Rattle.page_types.specs.Pages.{page_of, end_page}
-use Rattle.page_types.specs.Named.{IsNamedKind}
+use Rattle.page_types.specs.Named.{IsNamedCall, IsNamedKind}
+use Rattle.page_types.specs.PlainReply.{plain_reply}
 use Rattle.space_model.specs.declared.entries.Entry.{Entry}
 use Rattle.space_model.specs.Areas.{IsInRange}
 use Rattle.space_model.specs.Held.{HoldsSomeArea, IsSimple}
 use Rattle.range_rw.specs.Contract.{SeatState}
+use Rattle.area_rows.specs.Seated.{TableId}
 use Rattle.area_rows.specs.declared.guard.Pass.{Pass}
 use Rattle.area_rows.specs.declared.row.Row.{Row}
 use Rattle.area_rows.specs.AreaPlans.{IsOneKind}
@@ -26,6 +28,21 @@ use Rattle.area_protect.specs.declared.steps.Held.TheVariants.{Area as IsArea, O
 use Rattle.area_protect.specs.declared.steps.Request.{Request}
 use Rattle.area_protect.specs.Looks.{IsAfter, HasWhole, HasLooked, IsLookedAt}
 
+-- the caller is of this table, holds nothing and has a number left
+pub record MayCall (table : TableId) (c : CallerView) : Type 0 where
+  pub table_is : c.seat.table ≡ table
+  pub free : c.seat.held ≡ None
+  pub left : 0 < c.left
+
+-- the call of a request has named bits alone, and its arguments don't decide it
+pub record IsUndecided (r : Request) : Type 0 where
+  pub named : IsNamedCall (Protect r.addr r.len r.prot)
+  pub undecided : plain_reply (Protect r.addr r.len r.prot) ≡ None
+
+-- the pages of a request
+abbrev pub ArePagesOf : Request → Span → Type 0
+ArePagesOf r pages = (pages.lo ≡ page_of r.addr) × (pages.hi ≡ end_page r.addr r.len)
+
 -- a look found an area with all the pages, after so many entries, of which so many were under everything
 pub record IsFound (before after : SeatState Pass) (pages : Span) (f : Found) : Type 0 where
   pub area : IsInRange f.area
@@ -38,17 +55,20 @@ pub record IsFound (before after : SeatState Pass) (pages : Span) (f : Found) : 
 abbrev pub IsOtherKind : SeatState Pass → SeatState Pass → Span → ℕ → Type 0
 IsOtherKind before after pages at = IsLookedAt before at after × IsAfter after at (λ A. ¬ IsOneKind A pages.lo pages.hi)
 
--- the caller holds the area that was found, and a page on each side, and has read its row anew; as many entries are
--- under everything as were then
-pub record HoldsFound (after : CallerView) (page : ℕ) (f : Found) (wide : Span) (row : Row) (kind : Kind) : Type 0 where
+-- the caller holds a row's pages, and a page on each side, as a writer, and has read the row, which has this kind
+pub record HoldsRow (after : CallerView) (page : ℕ) (wide : Span) (row : Row) (kind : Kind) : Type 0 where
   pub held : after.seat.held ≡ Some (alone wide)
   pub round : IsRound row wide
-  pub lo : row.lo ≡ f.area.lo
-  pub hi : row.hi ≡ f.area.hi
   pub kind_is : row.kind ≡ Some kind
   pub named : IsNamedKind kind
   pub read : IsAsRead after.seat.pass row
   pub shows : Shows after.seat (RowIs after.seat.held page row)
+
+-- the row that it holds so is that of the area that was found; as many entries are under everything as were then
+pub record HoldsFound (after : CallerView) (page : ℕ) (f : Found) (wide : Span) (row : Row) (kind : Kind) : Type 0 where
+  pub holds : HoldsRow after page wide row kind
+  pub lo : row.lo ≡ f.area.lo
+  pub hi : row.hi ≡ f.area.hi
   pub whole : CountsWhole after.seat f.sequence
 
 -- what holding the area came to

@@ -3,7 +3,7 @@
 -- caller had seen before the call and the call's own entry.
 use Rattle.std.specs.Prelude.{ℕ, ◌≡◌, ◌≢◌, ◌<◌, ◌≤◌, ◌↔◌, IsSome, None, length}
 use Rattle.page_types.specs.declared.calls.Call.{Call}
-use Rattle.page_types.specs.declared.calls.Call.TheVariants.{Protect}
+use Rattle.page_types.specs.declared.calls.Call.TheVariants.{Map, Unmap, Protect, Fault}
 use Rattle.page_types.specs.declared.sets.Prot.{Prot}
 use Rattle.page_types.specs.Pages.{page_of, end_page}
 use Rattle.page_types.specs.PlainReply.{plain_reply}
@@ -49,6 +49,20 @@ pub record IsProtected (before : CallerView) (line addr len : ℕ) (prot : Prot)
 abbrev pub IsAnswer : CallerView → ℕ → ℕ → ℕ → Prot → Protected → CallerView → Type 0
 IsAnswer before line addr len prot (Given e path) after = (0 < before.left) × IsProtected before line addr len prot e path after
 IsAnswer before line addr len prot Spent after = (before.left ≡ 0) × (after ≡ before)
+
+-- the call is a change of protection
+abbrev pub IsProtect : Call → Type 0
+IsProtect (Map addr len prot flags) = ⊥
+IsProtect (Unmap addr len) = ⊥
+IsProtect (Protect addr len prot) = Unit {0}
+IsProtect (Fault addr access) = ⊥
+
+-- the answer of a call that is one
+abbrev pub IsAnswerTo : CallerView → ℕ → Call → Protected → CallerView → Type 0
+IsAnswerTo before line (Map addr len prot flags) answer after = ⊥
+IsAnswerTo before line (Unmap addr len) answer after = ⊥
+IsAnswerTo before line (Protect addr len prot) answer after = IsAnswer before line addr len prot answer after
+IsAnswerTo before line (Fault addr access) answer after = ⊥
 
 -- no entry came between what the caller had seen and its own entry
 abbrev pub IsLone : CallerView → Entry → Type 0

@@ -13,4 +13,4 @@ mod tests;
 
 pub use laws::{lone_protects_hold_their_area, paths_are_of_the_history};
 pub use path::{Cause, Path, Protected};
-pub use protecting::protect;
+pub use protecting::{make_protect, protect};

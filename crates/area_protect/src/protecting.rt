@@ -3,15 +3,13 @@
 ghost use Rattle.std.specs.Prelude.{◌≡◌, ◌<◌, None};
 ghost use Rattle.page_types.specs.declared.calls.Call.TheVariants.{Protect};
 ghost use Rattle.page_types.specs.Named.{IsNamedCall};
-ghost use Rattle.page_types.specs.Pages.{page_of, end_page};
-ghost use Rattle.page_types.specs.PlainReply.{plain_reply};
-ghost use Rattle.area_protect.specs.Protects.{IsProtected, IsAnswer};
-ghost use Rattle.area_protect.specs.Attempts.{IsAgain, IsAttempt};
+ghost use Rattle.area_protect.specs.Protects.{IsProtect, IsProtected, IsAnswer, IsAnswerTo};
+ghost use Rattle.area_protect.specs.Attempts.{MayCall, IsUndecided, ArePagesOf, IsAgain, IsAttempt};
 
 use crate::path::{Path, Protected};
 use crate::steps::{Attempt, Request, one_attempt};
 use area_rows::{Caller, Space};
-use page_types::{Prot, Span, plain};
+use page_types::{Call, Prot, Span, plain};
 use space_model::Entry;
 use std::marker::Brand;
 use std::sync::Wait;
@@ -27,13 +25,9 @@ fn attempts<R: Wait, L: Ledger>(
     pages: Span,
     steps: &mut Steps<L>,
 ) -> Attempt
-    requires table { caller.old.seat.table ≡ space.now.table }
-    requires free { caller.old.seat.held ≡ None }
-    requires left { 0 < caller.old.left }
-    requires named { IsNamedCall (Protect request.addr request.len request.prot) }
-    requires undecided { plain_reply (Protect request.addr request.len request.prot) ≡ None }
-    requires lo { pages.lo ≡ page_of request.addr }
-    requires hi { pages.hi ≡ end_page request.addr request.len }
+    requires caller { MayCall space.now.table caller.old }
+    requires asked { IsUndecided request }
+    requires pages { ArePagesOf request pages }
     ensures free { caller.new.seat.held ≡ None }
     ensures attempt { IsAttempt caller.old request caller.new result }
     ensures last { ¬ IsAgain result }
@@ -59,11 +53,8 @@ fn protect_counting<L: Ledger, R: Wait>(
     blank: Blank,
 ) -> (Entry, Path)
     requires blank { (blank.name ≡ L.name) × (blank.parts ≡ L.parts) × (0 < L.parts) }
-    requires table { caller.old.seat.table ≡ space.now.table }
-    requires free { caller.old.seat.held ≡ None }
-    requires left { 0 < caller.old.left }
-    requires named { IsNamedCall (Protect request.addr request.len request.prot) }
-    requires undecided { plain_reply (Protect request.addr request.len request.prot) ≡ None }
+    requires caller { MayCall space.now.table caller.old }
+    requires asked { IsUndecided request }
     ensures protected { IsProtected caller.old request.line request.addr request.len request.prot result.0 result.1 caller.new }
 {
     let mut steps = Steps::<L>::new(blank);
@@ -76,6 +67,45 @@ fn protect_counting<L: Ledger, R: Wait>(
         }
         Attempt::Again => unreachable!(),
     }
+}
+
+/// Makes a call that is a change of protection, as `protect` does, with the same answers. The call has named bits
+/// alone.
+pub fn make_protect<R: Wait>(
+    space: &Space,
+    wait: &R,
+    caller: &mut Caller,
+    line: u32,
+    call: Call,
+) -> Protected
+    requires table { caller.old.seat.table ≡ space.now.table }
+    requires free { caller.old.seat.held ≡ None }
+    requires call { IsProtect call }
+    requires named { IsNamedCall call }
+    ensures answer { IsAnswerTo caller.old line call result caller.new }
+{
+    if caller.left() == 0 {
+        return Protected::Spent;
+    }
+    if let Some(reply) = plain(&call) {
+        let entry = space.call_plain(caller, line, call, reply);
+        return Protected::Given {
+            entry,
+            path: Path::Free,
+        };
+    }
+    let Call::Protect { addr, len, prot } = call else {
+        unreachable!()
+    };
+    let request = Request {
+        line,
+        addr,
+        len,
+        prot,
+    };
+    let blank = Blank::new(1);
+    let (entry, path) = protect_counting::<Brand, R>(space, wait, caller, request, blank);
+    Protected::Given { entry, path }
 }
 
 /// Changes the protection of the `len` bytes from `addr` on, rounded up to whole pages, as mprotect(2) does. The caller
@@ -98,23 +128,5 @@ pub fn protect<R: Wait>(
     requires named { IsNamedCall (Protect addr len prot) }
     ensures answer { IsAnswer caller.old line addr len prot result caller.new }
 {
-    if caller.left() == 0 {
-        return Protected::Spent;
-    }
-    let request = Request {
-        line,
-        addr,
-        len,
-        prot,
-    };
-    if let Some(reply) = plain(&request.call()) {
-        let entry = space.call_plain(caller, line, request.call(), reply);
-        return Protected::Given {
-            entry,
-            path: Path::Free,
-        };
-    }
-    let blank = Blank::new(1);
-    let (entry, path) = protect_counting::<Brand, R>(space, wait, caller, request, blank);
-    Protected::Given { entry, path }
+    make_protect(space, wait, caller, line, Call::Protect { addr, len, prot })
 }

@@ -2,19 +2,15 @@
 //! 2020: a look at the area under its pages as a reader; the area, with a page on each side, held as a writer, and the
 //! look made anew; and the change. Each step says what it has found as a fact of the history, so a way that ends at
 //! holding everything keeps its cause. Only private functions speak of these.
-ghost use Rattle.std.specs.Prelude.{ℕ, ◌≡◌, ◌≢◌, ◌<◌, ◌≤◌, ◌+◌, Some, None, IfOk, IfErr};
+ghost use Rattle.std.specs.Prelude.{◌≡◌, ◌<◌, ◌≤◌, None, IfOk, IfErr};
 ghost use Rattle.page_types.specs.declared.TheConstants.{LIMIT};
 ghost use Rattle.page_types.specs.declared.calls.Call.TheVariants.{Protect};
-ghost use Rattle.page_types.specs.Named.{IsNamedCall, IsNamedKind};
 ghost use Rattle.page_types.specs.Pages.{page_of, end_page};
-ghost use Rattle.page_types.specs.PlainReply.{plain_reply};
 ghost use Rattle.space_model.specs.Areas.{IsInRange};
 ghost use Rattle.space_model.specs.Held.{IsWidened};
-ghost use Rattle.area_rows.specs.Changes.{alone, IsRound};
 ghost use Rattle.area_rows.specs.History.{IsAtRest};
-ghost use Rattle.area_rows.specs.Callers.{IsAsRead, RowIs, Shows};
 ghost use Rattle.area_protect.specs.Looks.{HasLooked};
-ghost use Rattle.area_protect.specs.Attempts.{IsFound, IsOtherKind, IsHeld, IsChanged, NeedsMoreRows, IsAttempt};
+ghost use Rattle.area_protect.specs.Attempts.{MayCall, IsUndecided, ArePagesOf, HoldsRow, IsFound, IsOtherKind, IsHeld, IsChanged, NeedsMoreRows, IsAttempt};
 
 use crate::path::Cause;
 use area_rows::{AreaPlan, Caller, Row, Space};
@@ -160,18 +156,12 @@ pub(crate) fn change_area<L: Ledger>(
 ) -> Result<Entry, u64>
     requires table { caller.old.seat.table ≡ space.now.table }
     requires left { 0 < caller.old.left }
-    requires named { IsNamedCall (Protect request.addr request.len request.prot) }
-    requires undecided { plain_reply (Protect request.addr request.len request.prot) ≡ None }
-    requires held { caller.old.seat.held ≡ Some (alone wide) }
-    requires round { IsRound row wide }
+    requires asked { IsUndecided request }
+    requires holds { HoldsRow caller.old (page_of request.addr) wide row kind }
     requires rest { IsAtRest caller.old.seat.pass }
-    requires kind { row.kind ≡ Some kind }
-    requires named_kind { IsNamedKind kind }
     requires from { row.lo ≤ page_of request.addr }
     requires until { end_page request.addr request.len ≤ row.hi }
     requires limit { row.hi ≤ LIMIT }
-    requires read { IsAsRead caller.old.seat.pass row }
-    requires shows { Shows caller.old.seat (RowIs caller.old.seat.held (page_of request.addr) row) }
     ensures free { caller.new.seat.held ≡ None }
     ensures changed { IfOk result (IsChanged caller.old request caller.new) }
     ensures rows { IfErr result (NeedsMoreRows caller.old request caller.new) }
@@ -221,13 +211,9 @@ pub(crate) fn one_attempt<R: Wait, L: Ledger>(
     pages: Span,
     steps: &mut Steps<L>,
 ) -> Attempt
-    requires table { caller.old.seat.table ≡ space.now.table }
-    requires free { caller.old.seat.held ≡ None }
-    requires left { 0 < caller.old.left }
-    requires named { IsNamedCall (Protect request.addr request.len request.prot) }
-    requires undecided { plain_reply (Protect request.addr request.len request.prot) ≡ None }
-    requires lo { pages.lo ≡ page_of request.addr }
-    requires hi { pages.hi ≡ end_page request.addr request.len }
+    requires caller { MayCall space.now.table caller.old }
+    requires asked { IsUndecided request }
+    requires pages { ArePagesOf request pages }
     ensures free { caller.new.seat.held ≡ None }
     ensures attempt { IsAttempt caller.old request caller.new result }
 {

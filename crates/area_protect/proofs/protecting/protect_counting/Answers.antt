@@ -5,6 +5,7 @@ use Rattle.area_rows.specs.Called.{IsCalled}
 use Rattle.area_protect.proofs.Looking.{called_after, cause_of}
 use Rattle.area_protect.proofs.protecting.protect_counting.Goals as goal
 
+-- the call under everything is one call from before the attempts, and their reason is its cause
 pub returns-in-Whole : goal.returns-in-Whole
 returns-in-Whole g c =
     let a = c.args.caller.now in let b = c.attempts.new.caller in let w = c.call_whole-entry in let q = c.args.request in
@@ -13,7 +14,7 @@ returns-in-Whole g c =
     subst (λ (call : Call). IsCalled b q.line call w.result w.new.caller) c.call.ensures w.ensures.called in
     record {
       protected = record {
-        called = called_after a b w.new.caller q.line (Protect q.addr q.len q.prot) w.result t.0 (c.attempts.ensures.free ∙ sym c.requires.free) called;
-        way = (c.requires.undecided, w.ensures.under, cause_of a b w.new.caller q q.line w.result c.in-Whole.cause t.0 t.1 called);
+        called = called_after a b w.new.caller q.line (Protect q.addr q.len q.prot) w.result t.0 (c.attempts.ensures.free ∙ sym c.requires.caller.free) called;
+        way = (c.requires.asked.undecided, w.ensures.under, cause_of a b w.new.caller q q.line w.result c.in-Whole.cause t.0 t.1 called);
       };
     }

@@ -12,31 +12,37 @@ use Rattle.area_protect.proofs.Looking.{look_shows}
 use Rattle.area_protect.proofs.Stages.{after_back, looked_round, changed_area, nothing_to_store, stored_one, no_lock_call}
 use Rattle.area_protect.proofs.steps.change_area.Goals as goal
 
+-- a plan that changes no row says that the reply may be numbered
 pub number-entry-requires-clause-right : goal.number-entry-requires-clause-right
 number-entry-requires-clause-right g c = subst
     (λ (call : Call). MayNumber c.plan_area-plan.new.caller call Zero (OverArea c.args.wide)) (sym c.call-call.ensures)
     c.in-Same.ensures.plan.1
 
+-- a plan that sets a row's kind says that the reply may be numbered
 pub number-entry-requires-in-SetKind-clause-right : goal.number-entry-requires-in-SetKind-clause-right
 number-entry-requires-in-SetKind-clause-right g c =
     subst (λ (call : Call). MayNumber c.plan_area-plan.new.caller call Zero (OverArea c.args.wide)) (sym c.call-call.ensures)
     c.in-SetKind.ensures.plan.number
 
+-- the store that the plan asks for may be made behind the draw
 pub set_kind-requires-clause-store : goal.set_kind-requires-clause-store
 set_kind-requires-clause-store g c =
     let plan = c.in-SetKind.ensures.plan in
     (c.in-SetKind.change, c.number-entry-in-SetKind.ensures.store c.args.wide c.in-SetKind.change refl plan.chosen plan.round, refl, refl)
 
+-- a plan that moves a row's start says that the reply may be numbered
 pub number-entry-requires-in-MoveStart-clause-right : goal.number-entry-requires-in-MoveStart-clause-right
 number-entry-requires-in-MoveStart-clause-right g c =
     subst (λ (call : Call). MayNumber c.plan_area-plan.new.caller call Zero (OverArea c.args.wide)) (sym c.call-call.ensures)
     c.in-MoveStart.ensures.plan.number
 
+-- the store of the start that the plan asks for may be made behind the draw
 pub move_start-requires-clause-store : goal.move_start-requires-clause-store
 move_start-requires-clause-store g c =
     let plan = c.in-MoveStart.ensures.plan in
     (c.in-MoveStart.change, c.number-entry-in-MoveStart.ensures.store c.args.wide c.in-MoveStart.change refl plan.chosen plan.round, refl, refl)
 
+-- a plan that isn't simple needs more rows after so many entries as the look found
 pub returns-in-NotSimple-clause-rows : goal.returns-in-NotSimple-clause-rows
 returns-in-NotSimple-clause-rows g c =
     let b = c.args.caller.now in let r = c.plan_area-plan in let p = c.in-NotSimple.ensures in let l = c.look-at in let d = c.release in
@@ -53,6 +59,7 @@ returns-in-NotSimple-clause-rows g c =
           × ¬ IsSimple A (Protect c.args.request.addr c.args.request.len c.args.request.prot)) l.ensures.look p.plan);
     }
 
+-- a change that leaves each row as it is got its entry, with nothing to store
 pub returns-in-Same-clause-changed : goal.returns-in-Same-clause-changed
 returns-in-Same-clause-changed g c =
     let r = c.plan_area-plan in let p = c.in-Same.ensures in let n = c.number-entry in let d = c.release-in-Same in
@@ -62,6 +69,7 @@ returns-in-Same-clause-changed g c =
     e.named e.drawn e.left
     (nothing_to_store n.new.caller.seat (e.drawn.writes ∙ ap change_pending p.plan.0)) refl d.ensures.release d.ensures.left
 
+-- a change of one row's kind got its entry, and the row is stored
 pub returns-in-SetKind-clause-changed : goal.returns-in-SetKind-clause-changed
 returns-in-SetKind-clause-changed g c =
     let r = c.plan_area-plan in let p = c.in-SetKind.ensures in let n = c.number-entry-in-SetKind in let s = c.set_kind in let d = c.release-in-SetKind in
@@ -71,6 +79,7 @@ returns-in-SetKind-clause-changed g c =
     e.named e.drawn e.left
     (stored_one n.new.caller.seat s.new.caller.seat c.in-SetKind.change.index s.ensures.stored) s.ensures.left d.ensures.release d.ensures.left
 
+-- a change of one row's start got its entry, and the row is stored
 pub returns-in-MoveStart-clause-changed : goal.returns-in-MoveStart-clause-changed
 returns-in-MoveStart-clause-changed g c =
     let r = c.plan_area-plan in let p = c.in-MoveStart.ensures in let n = c.number-entry-in-MoveStart in let s = c.move_start in

@@ -9,6 +9,7 @@ use Rattle.area_protect.proofs.Looking.{look_counts}
 use Rattle.area_protect.proofs.Stages.{whole_back, looked_round, counts_on}
 use Rattle.area_protect.proofs.steps.hold_area.Goals as goal
 
+-- another sequence word than the one that was found says that a call under everything came between
 pub returns-then-sequence-found-clause-held : goal.returns-then-sequence-found-clause-held
 returns-then-sequence-found-clause-held g c =
     let a = c.acquire in let q = c.sequence-sequence in let l = c.look-second in let d = c.release in
@@ -24,20 +25,23 @@ returns-then-sequence-found-clause-held g c =
       c.if-sequence-found.true,
     )
 
+-- a row with the boundaries that were found is that of the area, which the caller holds
 pub returns-in-Some-clause-held : goal.returns-in-Some-clause-held
 returns-in-Some-clause-held g c =
     let a = c.acquire in let q = c.sequence-sequence in let r = c.row_of-row in
     let some : IsSome a.new.caller.seat.held = subst (λ (h : Option Held). IsSome h) (sym a.ensures.held) refl in
     let lo = c.if-row-found.true in let hi = c.if-row-found-2.true in
     record {
-      held = r.ensures.reading.held ∙ (q.ensures.reading.held ∙ a.ensures.held);
-      round = (c.requires.wide.first ∙ ap (λ (n : ℕ). n - 1) (sym lo), c.requires.wide.end ∙ ap (λ (n : ℕ). min (n + 1) LIMIT) (sym hi));
+      holds = record {
+        held = r.ensures.reading.held ∙ (q.ensures.reading.held ∙ a.ensures.held);
+        round = (c.requires.wide.first ∙ ap (λ (n : ℕ). n - 1) (sym lo), c.requires.wide.end ∙ ap (λ (n : ℕ). min (n + 1) LIMIT) (sym hi));
+        kind_is = c.in-Some.is;
+        named = subst (λ (k : Option Kind). IsNamedOption k) c.in-Some.is r.ensures.named;
+        read = r.ensures.read;
+        shows = subst (λ (h : Option Held). Shows r.new.caller.seat (RowIs h c.args.page r.result)) (sym r.ensures.reading.held) r.ensures.shows;
+      };
       lo = lo;
       hi = hi;
-      kind_is = c.in-Some.is;
-      named = subst (λ (k : Option Kind). IsNamedOption k) c.in-Some.is r.ensures.named;
-      read = r.ensures.read;
-      shows = subst (λ (h : Option Held). Shows r.new.caller.seat (RowIs h c.args.page r.result)) (sym r.ensures.reading.held) r.ensures.shows;
       whole = subst (λ n. CountsWhole r.new.caller.seat n) c.if-sequence-found.false
           (counts_on q.new.caller.seat r.new.caller.seat q.result r.ensures.reading (q.ensures.counts some));
     }

@@ -9,6 +9,7 @@ use Rattle.area_protect.proofs.Looking.{look_shows, look_counts}
 use Rattle.area_protect.proofs.Stages.{other_shown, after_back, whole_back, looked_round, counts_on}
 use Rattle.area_protect.proofs.steps.look_around.Goals as goal
 
+-- a row with a kind that reaches behind the pages is an area with all of them
 pub returns-in-Some-clause-found : goal.returns-in-Some-clause-found
 returns-in-Some-clause-found g c =
     let a = c.acquire in let q = c.sequence-sequence in let r = c.row_of-row in let l = c.look-at in let d = c.release in
@@ -27,6 +28,7 @@ returns-in-Some-clause-found g c =
           (counts_on q.new.caller.seat r.new.caller.seat q.result r.ensures.reading (q.ensures.counts some)));
     }
 
+-- pages that reach behind the row of the first one weren't of one kind
 pub returns-in_default-clause-other : goal.returns-in_default-clause-other
 returns-in_default-clause-other g c =
     let a = c.acquire in let q = c.sequence-sequence in let r = c.row_of-row in let l = c.look-at in let d = c.release in
@@ -44,6 +46,7 @@ returns-in_default-clause-other g c =
           l.ensures.look other),
     )
 
+-- pages whose first one isn't mapped weren't of one kind
 pub returns-in_default-2-clause-other : goal.returns-in_default-2-clause-other
 returns-in_default-2-clause-other g c =
     let a = c.acquire in let q = c.sequence-sequence in let r = c.row_of-row in let l = c.look-at in let d = c.release in
