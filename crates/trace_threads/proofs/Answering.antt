@@ -17,7 +17,8 @@ use Rattle.area_rows.specs.declared.answer.Answer.TheVariants.{Given, Spent}
 use Rattle.area_rows.specs.Callers.{CallerView}
 use Rattle.area_rows.specs.Called.{IsAnswered}
 use Rattle.area_protect.specs.declared.path.Path.{Path}
-use Rattle.area_protect.specs.Protects.{IsProtected}
+use Rattle.area_protect.specs.declared.path.Protected.TheVariants.{Given as Way, Spent as NoneLeft}
+use Rattle.area_protect.specs.Protects.{IsProtected, IsAnswerTo}
 use Rattle.area_protect.proofs.Lone.{lone_holds_area}
 use Rattle.trace_threads.specs.declared.worker.Line.{Line}
 use Rattle.trace_threads.specs.Workers.{IsPlayedAs, IsLineAnswer}
@@ -97,12 +98,28 @@ protect_entry before line addr len prot e path after p =
       };
     }
 
+-- the same, of the whole call
+protect_call : (before : CallerView) (line : ℕ) (call : Call) (e : Entry) (path : Path) (after : CallerView)
+    → IsAnswerTo before line call (Way e path) after
+    → (0 < before.left) × IsPlayedAs before (record { line = line; call = call }) e after
+protect_call before line (Map addr len prot flags) e path after answer = absurd answer
+protect_call before line (Unmap addr len) e path after answer = absurd answer
+protect_call before line (Protect addr len prot) e path after answer = (answer.0, protect_entry before line addr len prot e path after answer.1)
+protect_call before line (Fault addr access) e path after answer = absurd answer
+
 -- the answer of a line that changes protection, where it has an entry
-pub protect_answer : (before : CallerView) (l : Line) (addr len : ℕ) (prot : Prot) (e : Entry) (path : Path) (after : CallerView)
-    → l.call ≡ Protect addr len prot → (0 < before.left) × IsProtected before l.line addr len prot e path after
-    → IsLineAnswer before l (Given e) after
-protect_answer before l addr len prot e path after is answer = (
-  answer.0,
-  subst (λ (c : Call). IsPlayedAs before (record { line = l.line; call = c }) e after) (sym is)
-      (protect_entry before l.line addr len prot e path after answer.1),
-)
+pub protect_answer : (before : CallerView) (l : Line) (e : Entry) (path : Path) (after : CallerView)
+    → IsAnswerTo before l.line l.call (Way e path) after → IsLineAnswer before l (Given e) after
+protect_answer before l e path after answer = protect_call before l.line l.call e path after answer
+
+spent_call : (before : CallerView) (line : ℕ) (call : Call) (after : CallerView) → IsAnswerTo before line call NoneLeft after
+    → (before.left ≡ 0) × (after ≡ before)
+spent_call before line (Map addr len prot flags) after answer = absurd answer
+spent_call before line (Unmap addr len) after answer = absurd answer
+spent_call before line (Protect addr len prot) after answer = answer
+spent_call before line (Fault addr access) after answer = absurd answer
+
+-- the answer of such a line where the caller has no number left
+pub protect_spent : (before : CallerView) (l : Line) (after : CallerView) → IsAnswerTo before l.line l.call NoneLeft after
+    → IsLineAnswer before l Spent after
+protect_spent before l after answer = spent_call before l.line l.call after answer

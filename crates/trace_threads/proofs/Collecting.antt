@@ -45,6 +45,7 @@ numbered : (callers : List CallerView) (entries : List Entry) (areas : List Area
 numbered [] entries areas whole = subst (λ es. IsNumberedFrom 0 es) (sym (no_entry entries (λ k. whole.no_other k (omega arith)))) tt
 numbered (c ∷ cs) entries areas whole = (whole.runs 0 c refl).0
 
+-- callers that have just the entries of their lines have what the closing collects
 pub collected : OwnEntriesAreCollected
 collected workers callers entries areas made whole =
     let count = made.count in
@@ -60,6 +61,7 @@ collected workers callers entries areas made whole =
           subst (λ n. Rise 0 (entries_of k entries) n) end (own_rise k 0 entries all);
     }
 
+-- workers that had no entry before have, when they have played, just the entries of their lines
 pub made : PlaysAreMade
 made lines before after fresh played =
     let count = fresh.count in

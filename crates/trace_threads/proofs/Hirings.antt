@@ -1,5 +1,5 @@
 -- Workers from the callers of a new space and the lists of lines, and callers from workers that have played.
-use Rattle.std.proofs.Common.{◌≡◌, ℕ, zero, suc, ◌<◌, ◌+◌, List, [], ◌∷◌, ◌++◌, map, get_or, length, sym, refl, ap, ◌∙◌, subst, arith, ⊎_elim, Global}
+use Rattle.std.proofs.Common.{◌≡◌, ℕ, zero, suc, ◌<◌, List, [], ◌∷◌, ◌++◌, map, get_or, length, sym, refl, ap, ◌∙◌, subst, arith, ⊎_elim, Global}
 use Rattle.std.proofs.lemmas.Bool.{cases_lt}
 use Rattle.std.proofs.lemmas.List.{length-map}
 use Rattle.std.specs.Prelude.{None, All, Vec, remove, slice_index, vec_items}
@@ -85,12 +85,14 @@ hired_at (c ∷ cs) (ls ∷ lists) zero w at = let e = some-injective (record { 
     (ap (λ (x : WorkerView). some x.caller) e, ap (λ (x : WorkerView). some x.lines) e)
 hired_at (c ∷ cs) (ls ∷ lists) (suc k) w at = hired_at cs lists k w at
 
+-- as many workers are made as there are lists, where there are as many callers
 pub length_hired : (cs : List CallerView) (lists : List (List Line)) → length cs ≡ length lists → length (hired cs lists) ≡ length lists
 length_hired [] [] same = refl
 length_hired [] (ls ∷ lists) same = absurd (omega arith)
 length_hired (c ∷ cs) [] same = absurd (omega arith)
 length_hired (c ∷ cs) (ls ∷ lists) same = ap suc (length_hired cs lists (omega arith))
 
+-- workers made of a new space's callers are new workers with these lists
 pub new_workers : (table : TableId) (start : List Area) (calls : List ℕ) (lists : List (List Line)) (cs : List CallerView)
     (workers : List WorkerView) → workers ≡ hired cs lists → length cs ≡ length lists → 0 < length cs
     → AreNewCallers table start calls cs → AreNewWorkers table start lists workers
@@ -122,10 +124,12 @@ new_at table start lists workers k w new at =
     let ls = there lists k (omega arith) in
     (ls.0, new.each k ls.0 w ls.1 at)
 
+-- new workers are all of the space's table
 pub of_table : (table : TableId) (start : List Area) (lists : List (List Line)) (workers : List WorkerView)
     → AreNewWorkers table start lists workers → AreOfTable table workers
 of_table table start lists workers new k w at = (new_at table start lists workers k w new at).1.table_is
 
+-- new workers have these lists, are numbered from 0, and have no entry yet
 pub fresh_new : (table : TableId) (start : List Area) (lists : List (List Line)) (workers : List WorkerView)
     → AreNewWorkers table start lists workers → AreFresh lists workers
 fresh_new table start lists workers new = record {
@@ -150,6 +154,7 @@ before_at table start lists before after k c new played at =
     subst (λ (x : CallerView). (x.seat.table ≡ table) × (x.seat.number ≡ k) × (x.seat.held ≡ None) × (x.seat.pass.start ≡ start))
     b.2 (p.table ∙ n.table_is, p.number ∙ n.number, p.held ∙ n.held, p.start ∙ n.start_is)
 
+-- the callers of new workers that have played may be closed
 pub played_idle : (table : TableId) (start : List Area) (lists : List (List Line)) (before after : List WorkerView)
     → AreNewWorkers table start lists before → HavePlayed before after → AreIdle table (map caller_of after)
 played_idle table start lists before after new played k c at = let b = before_at table start lists before after k c new played at in (b.0, b.1, b.2)
@@ -183,6 +188,7 @@ all_held table start lists before after entries areas new played whole worker al
     (start, subst (λ es. Chains HeldAndReplies start es start) (sym none) refl))
     (cases_lt worker (length (map caller_of after)))
 
+-- what the closing gives after new workers have played is the trace of their lines
 pub all_played : (table : TableId) (start : List Area) (lists : List (List Line)) (before after : List WorkerView)
     (entries : List Entry) (areas : List Area) → AreNewWorkers table start lists before → HavePlayed before after
     → IsWhole (map caller_of after) entries areas → IsPlayed start lists entries areas

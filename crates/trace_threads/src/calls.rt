@@ -1,14 +1,14 @@
-//! The call of a line, by the crate that makes it: a fault, a map, an unmap or a change of protection. Who makes a call
-//! is decided here alone, and the contract doesn't say.
+//! The call of a line, handed on whole to the crate that makes it: a fault, a map, an unmap or a change of protection.
+//! Who makes a call is decided here alone, and the contract doesn't say.
 ghost use Rattle.std.specs.Prelude.{◌≡◌, None};
 ghost use Rattle.page_types.specs.Named.{IsNamedCall};
 ghost use Rattle.trace_threads.specs.Workers.{IsLineAnswer};
 
 use crate::worker::Line;
-use area_protect::{Protected, protect};
+use area_protect::{Protected, make_protect};
 use area_rows::{Answer, Caller, Space};
-use map_calls::{map, unmap};
-use page_fault::fault;
+use map_calls::make_change;
+use page_fault::make_fault;
 use page_types::Call;
 use std::sync::Wait;
 
@@ -21,19 +21,13 @@ pub(crate) fn make_call<R: Wait>(wait: &R, space: &Space, caller: &mut Caller, l
 {
     let number = line.line;
     match line.call {
-        Call::Map {
-            addr,
-            len,
-            prot,
-            flags,
-        } => map(space, wait, caller, number, addr, len, prot, flags),
-        Call::Unmap { addr, len } => unmap(space, wait, caller, number, addr, len),
-        Call::Protect { addr, len, prot } => {
-            match protect(space, wait, caller, number, addr, len, prot) {
-                Protected::Given { entry, .. } => Answer::Given(entry),
-                Protected::Spent => Answer::Spent,
-            }
-        }
-        Call::Fault { addr, access } => fault(space, wait, caller, number, addr, access),
+        Call::Map { .. } | Call::Unmap { .. } => make_change(
+            space, wait, caller, number, line.call,
+        ),
+        Call::Protect { .. } => match make_protect(space, wait, caller, number, line.call) {
+            Protected::Given { entry, .. } => Answer::Given(entry),
+            Protected::Spent => Answer::Spent,
+        },
+        Call::Fault { .. } => make_fault(space, wait, caller, number, line.call),
     }
 }

@@ -10,5 +10,6 @@ invariant-workers l = record {
   all : l.callers.items ++ map caller_of l.workers.items ≡ map caller_of l.initial.workers.items;
 }
 
+-- each turn takes one worker away
 abbrev pub decreases-workers : goal.decreases-workers
 decreases-workers l = length l.workers.items

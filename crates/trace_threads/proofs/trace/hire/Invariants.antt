@@ -13,5 +13,6 @@ invariant-callers l = record {
   all : l.workers.items ++ hired l.callers.items (map vec_items l.lines.items) ≡ hired l.initial.callers.items (map vec_items l.initial.lines.items);
 }
 
+-- each turn takes one caller away
 abbrev pub decreases-callers : goal.decreases-callers
 decreases-callers l = length l.callers.items

@@ -4,6 +4,7 @@ use Rattle.std.specs.Prelude.{vec_items}
 use Rattle.trace_threads.proofs.Hirings.{new_ready, new_workers, length_hired}
 use Rattle.trace_threads.proofs.trace.open_workers.Goals as goal
 
+-- the new callers may be given the lists for which they were opened
 pub hire-workers-requires-clause-ready : goal.hire-workers-requires-clause-ready
 hire-workers-requires-clause-ready c =
     let lists = map vec_items c.args.lines.items in
@@ -11,6 +12,7 @@ hire-workers-requires-clause-ready c =
     let same : length c.in-Ok-open.callers.items ≡ length lists = c.in-Ok-open.ensures.count.1 ∙ (ap length calls ∙ length-map lists length) in
     new_ready _ _ c.as_slice-2.result.now lists c.in-Ok-open.callers.items calls same c.in-Ok-open.ensures.callers c.requires.named
 
+-- what is hired of them are new workers with these lists
 pub returns-in-Ok-with_capacity-clause-workers : goal.returns-in-Ok-with_capacity-clause-workers
 returns-in-Ok-with_capacity-clause-workers c =
     let lists = map vec_items c.args.lines.items in
@@ -22,6 +24,7 @@ returns-in-Ok-with_capacity-clause-workers c =
     new_workers _ _ c.as_slice-2.result.now lists c.in-Ok-open.callers.items c.hire-workers.result.0.items
     c.hire-workers.ensures.workers same more c.in-Ok-open.ensures.callers
 
+-- there are as many workers as the space has seats
 pub returns-in-Ok-with_capacity-clause-count : goal.returns-in-Ok-with_capacity-clause-count
 returns-in-Ok-with_capacity-clause-count c =
     let lists = map vec_items c.args.lines.items in
@@ -31,6 +34,7 @@ returns-in-Ok-with_capacity-clause-count c =
     ∙ length_hired c.in-Ok-open.callers.items lists same in
     c.in-Ok-open.ensures.count.0 ∙ (sym c.in-Ok-open.ensures.count.1 ∙ (same ∙ sym long))
 
+-- the emptied list of callers has room for the callers of all workers
 pub returns-in-Ok-with_capacity-clause-room : goal.returns-in-Ok-with_capacity-clause-room
 returns-in-Ok-with_capacity-clause-room c =
     let lists = map vec_items c.args.lines.items in

@@ -7,11 +7,13 @@ use Rattle.trace_threads.specs.Collected.{caller_of}
 use Rattle.trace_threads.proofs.Hirings.{of_table, played_idle, all_played}
 use Rattle.trace_threads.proofs.trace.play_trace.Goals as goal
 
+-- the new workers are of the space's table
 pub play_all-requires-after_bounds : goal.play_all-requires-after_bounds
 play_all-requires-after_bounds g c κs within =
     let is : c.as_mut_slice.result.now ≡ c.in-Ok.workers.items = search rules in
     subst (λ (ws : List WorkerView). AreOfTable c.in-Ok.space.table ws) (sym is) (of_table _ _ _ c.in-Ok.workers.items c.in-Ok.ensures.workers)
 
+-- the callers that are dismissed may be closed
 pub close-requires-clause-idle : goal.close-requires-clause-idle
 close-requires-clause-idle g c =
     let played : HavePlayed c.in-Ok.workers.items c.play_all.new.workers = search rules in
@@ -22,6 +24,7 @@ close-requires-clause-idle g c =
     subst (λ (cs : List CallerView). AreIdle c.in-Ok.space.table cs) (sym callers)
     (played_idle _ _ _ c.in-Ok.workers.items c.play_all.new.workers c.in-Ok.ensures.workers played)
 
+-- what the closing gives is the trace of these lines
 pub returns-in-Ok-close-clause-played : goal.returns-in-Ok-close-clause-played
 returns-in-Ok-close-clause-played g c =
     let played : HavePlayed c.in-Ok.workers.items c.play_all.new.workers = search rules in
