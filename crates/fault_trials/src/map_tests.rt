@@ -4,6 +4,7 @@
 ghost use Rattle.std.specs.Prelude.{◌≡◌};
 ghost use Rattle.crews.specs.Crews.{IsCrew};
 
+use crate::replies::short;
 use area_rows::{Answer, Caller, Closed, Space};
 use crews::{Work, call_at, call_by, not_replacing, open_crew, replacing, try_by, work_all};
 use page_fault::TriedFault;
@@ -65,11 +66,6 @@ fn protect(addr: u64, len: u64, prot: Prot, reply: Reply) -> Case {
         reply,
         under: Under::Whole,
     }
-}
-
-/// A refusal for want of pages or of room.
-fn short(why: Short) -> Reply {
-    Reply::Refused(Why::Enomem(why))
 }
 
 impl Case {

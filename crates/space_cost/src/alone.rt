@@ -47,7 +47,7 @@ pub fn times_of_faults<R: Wait + Clock>(
     requires some { 0 < callers }
     requires few { callers ≤ 16 }
 {
-    let mut times = FaultTimes::none();
+    let mut times = FaultTimes::NONE;
     for round in 0..size.rounds {
         let Ok((space, mut caller)) = open_first(alloc, start, callers, size.calls) else {
             bail!("no memory for a space");

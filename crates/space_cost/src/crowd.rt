@@ -23,7 +23,7 @@ pub fn times_of_crowd<R: Threads + Wait + Sync + Clock>(
 ) -> Result<FaultTimes>
     requires few { callers ≤ 16 }
 {
-    let mut times = FaultTimes::none();
+    let mut times = FaultTimes::NONE;
     let calls = [size.calls; 16];
     for round in 0..size.rounds {
         let Ok((space, mut crew)) = open_crew(alloc, &calls[..callers], start) else {

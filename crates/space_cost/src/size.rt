@@ -52,12 +52,10 @@ impl Size {
 
 impl FaultTimes {
     /// Before the first round.
-    pub fn none() -> FaultTimes {
-        FaultTimes {
-            first: 0,
-            least: u64::MAX,
-        }
-    }
+    pub const NONE: FaultTimes = FaultTimes {
+        first: 0,
+        least: u64::MAX,
+    };
 
     /// After one round more, of that number, counted from 0.
     pub fn with(self, round: u32, time: u64) -> FaultTimes {
