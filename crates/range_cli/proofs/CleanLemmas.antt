@@ -46,6 +46,7 @@ length_numbered before behind n = length-append before (decimal n ++ behind) ∙
 short_decimal : (n : ℕ) → n < 2 ^ 64 → length (decimal n) ≤ 20
 short_decimal n lt = length-decimal-le 20 n (omega arith) (omega (arith, lt)) lt
 
+-- the text of a refused line has at most 200 bytes
 pub short_bad_line : (line column : ℕ) (what : What) → line < 2 ^ 32 → column < 2 ^ 32 → length (bad_line_text line column what) ≤ 200
 short_bad_line line column what l c =
     let whole = length-append (numbered (codes "line ") line (codes " column ")) (numbered [] column (what_text what)) in
@@ -56,6 +57,7 @@ short_bad_line line column what l c =
     let rest = short_what what in
     omega arith
 
+-- the text of a limit has at most 200 bytes
 pub short_limit : (which : Which) (value : ℕ) → value < 2 ^ 64 → length (numbered (which_text which) value (codes "\n")) ≤ 200
 short_limit which value v =
     let whole = length_numbered (which_text which) (codes "\n") value in
@@ -191,9 +193,11 @@ module _ (before taken after : CleanSink) (same : taken ≡ before) (some : HasR
     complained : Complains (told before) (told after) before.faults after.faults status
     complained = subst (λ sink. Complains (told sink) (told after) sink.faults after.faults status) same h
 
+    -- the sink for errors counts no failure that it hadn't counted before
     pub err_faults : after.faults ≡ before.faults
     err_faults = no_fault_err before after status short some complained ∙ sym (no_fault_before before after some)
 
+    -- it has the whole line of the status behind what it held
     pub err_line : Appends (Some (held_by before)) (Some (held_by after)) (error_line status)
     err_line = line_where_none before after status (no_fault_err before after status short some complained) complained
 
@@ -202,8 +206,10 @@ module _ (before taken after : CleanSink) (same : taken ≡ before) (some : HasR
     out_none : after.faults ≡ 0
     out_none = no_fault_out before after words bytes j status some room (subst (λ sink. Wrote words (Some bytes) j (told sink) (told after) status) same h)
 
+    -- the sink for the report counts no failure that it hadn't counted before
     pub out_faults : after.faults ≡ before.faults
     out_faults = out_none ∙ sym (no_fault_before before after some)
 
+    -- the run ended as its words and its bytes call for, or for want of memory
     pub out_complete : IsOnlyOutcome words bytes status ⊎ IsHindered (0, 0) (taken.faults, after.faults) status → EndsAsCalledFor words bytes status
     out_complete end = called_for words bytes taken.faults after.faults status out_none end

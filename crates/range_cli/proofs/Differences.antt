@@ -34,6 +34,7 @@ opened lines entries i more e among h =
     let b : drop i entries ≡ get_or entries i e ∷ drop (i + 1) entries = rw (drop-cons entries i e, add-one) refl in
     rw b h
 
+-- an entry that differs from its line is counted, and the count completes as before
 pub completes_yes : (lines : List Line) (entries : List Entry) (i count : ℕ) (e : Entry) → i < length entries
     → Completes lines entries i count → DiffersFromLine lines (get_or entries i e) → Completes lines entries (i + 1) (count + 1)
 completes_yes lines entries i count e among so_far differs more h =
@@ -41,6 +42,7 @@ completes_yes lines entries i count e among so_far differs more h =
     let same : count + (1 + more) ≡ count + 1 + more = omega arith in
     subst (λ n. Differing lines entries n) same all
 
+-- an entry that doesn't is passed over, and the count completes as before
 pub completes_no : (lines : List Line) (entries : List Entry) (i count : ℕ) (e : Entry) → i < length entries
     → Completes lines entries i count → ¬ DiffersFromLine lines (get_or entries i e) → Completes lines entries (i + 1) count
 completes_no lines entries i count e among so_far agrees more h = so_far more (opened lines entries i more e among (inr (agrees, h)))
@@ -79,6 +81,7 @@ tells_at is lines entry place d rise low number tells = (
 pub tells_nowhere : (lines : List Line) (entry : Entry) → HasNoLine lines entry.line → IsTrue false ↔ DiffersFromLine lines entry
 tells_nowhere lines entry none = ((λ yes. absurd cc), (λ differs. absurd (none differs.0 differs.1 differs.2)))
 
+-- where a test of a claim says no, the claim doesn't hold
 pub agrees : (is : Bool) (claim : Type 0) → is ≡ false → (claim → IsTrue is) → ¬ claim
 agrees true claim h tells holds = cc
 agrees false claim h tells holds = absurd (let e : false ≡ true = tells holds in cc)

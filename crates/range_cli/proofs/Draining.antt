@@ -4,6 +4,7 @@ use Rattle.std.proofs.lemmas.Grind.{common_steps}
 use Rattle.std.specs.Io.KnownBytes.{Consumes, IsAtEnd}
 use Rattle.range_cli.specs.Input.{Drains}
 
+-- a read that moved nothing at the end of the input says that all bytes so far are the whole of it
 pub drained : (first before last : Option (List ℕ)) (all piece : List ℕ) (count : ℕ) → Consumes first before all
     → count ≡ 0 → Consumes before last (take count piece) → IsAtEnd before → Drains first last all
 drained None before last all piece count taken none moved end = tt

@@ -39,6 +39,7 @@ lines_found text at within here before =
     rw (all_behind (at + 1) text, add-one)
     (lines_to text at within (eqb-true _ _ here) (λ k below is. before k below (eq-eqb _ _ is)))
 
+-- a text that has bytes and, by `memchr`'s test, no newline is one line
 pub lines_none : (text : List ℕ) → nat_eq (length text) 0 ≡ false
     → ((k : ℕ) → k < length text → nat_eq (get_or text k 0) 10 ≡ true → ⊥) → lines_of text ≡ text ∷ []
 lines_none [] some none = cc

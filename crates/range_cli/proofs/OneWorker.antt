@@ -1,21 +1,18 @@
 -- One worker's entries are those of its lines in their order, so two histories of them have the same calls, and then
 -- the same replies and the same last areas.
-use Rattle.std.proofs.Common.{◌≡◌, ◌≢◌, ℕ, ◌<◌, ◌≤◌, List, [], ◌∷◌, map, sym, refl, ap, subst, ◌∙◌, arith}
-use Rattle.std.specs.Prelude.{◌==◌}
+use Rattle.std.proofs.Common.{◌≡◌, ℕ, List, [], ◌∷◌, map, sym, refl, subst, ◌∙◌}
 use Rattle.space_model.specs.declared.areas.Area.{Area}
 use Rattle.space_model.specs.declared.entries.Entry.{Entry}
 use Rattle.space_model.specs.Answers.{Answers}
 use Rattle.space_model.specs.History.{StateAfter}
 use Rattle.space_model.proofs.Histories.{agree}
 use Rattle.space_model.proofs.OneAnswer.{one_answer}
-use Rattle.area_rows.specs.History.{entries_of}
 use Rattle.trace_threads.specs.declared.worker.Line.{Line as Turn}
 use Rattle.trace_threads.specs.Workers.{AreEntriesOf}
 use Rattle.trace_threads.specs.Collected.{IsCollected}
 use Rattle.range_cli.specs.declared.trace.Line.{Line}
 use Rattle.range_cli.specs.Dealt.{worker_lines, dealt}
-use Rattle.range_cli.specs.Play.{IsPlayed}
-use Rattle.range_cli.specs.Laws.{AreAlike, OneWorkerPlaysOneHistory}
+use Rattle.range_cli.specs.Laws.{OneWorkerPlaysOneHistory}
 use Rattle.range_cli.proofs.Parts.{part_whole}
 
 -- one worker's entries are those of all its lines
@@ -53,6 +50,7 @@ one_end A (x ∷ xs) (y ∷ ys) B C same (D, (q, g), s) (E, (r, h), t) =
     let one = (one_answer A x.call q r D E g (subst (λ c. Answers A c r E) (sym calls) h)).1 in
     one_end E xs ys B C rest (subst (λ X. StateAfter X xs B) one s) t
 
+-- two plays of one worker's lines from one opening agree, and leave the same areas
 pub one_history : OneWorkerPlaysOneHistory
 one_history opening lines entries others last end a b =
     let x = agrees 0 (worker_lines 1 lines 0) entries (of_lines lines entries a.collected) in

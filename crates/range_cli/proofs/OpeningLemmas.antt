@@ -28,12 +28,14 @@ pub record MapsSoFar (all : List (List ℕ)) (number from : ℕ) (left : List (L
       → ReadsMaps 1 0 all (areas ++ more) (past + p) next rest
   pub ends : (end : EarlyEnd) → EndsMaps number from left end → EndsMaps 1 0 all end
 
+-- before the first maps line nothing was read
 pub maps_start : (all : List (List ℕ)) → MapsSoFar all 1 0 all [] 0
 maps_start all = record {
   reads = λ more p next rest h. subst (λ n. ReadsMaps 1 0 all more n next rest) (omega arith) h;
   ends = λ end h. h;
 }
 
+-- behind a maps line what was read has its area too, or one line more past the user addresses
 pub maps_next : (all : List (List ℕ)) (number from : ℕ) (text : List ℕ) (texts : List (List ℕ)) (areas new_areas : List Area) (past new_past : ℕ)
     (item : MapsItem) → MapsSoFar all number from (text ∷ texts) areas past → IsNext from text item → new_areas ≡ areas_with areas item
     → new_past ≡ past_with past item → MapsSoFar all (number + 1) (map_stop item) texts new_areas new_past
@@ -50,30 +52,36 @@ maps_next all number from text texts areas new_areas past new_past (Past start s
       ends = λ end h. so_far.ends end (later (Past start stop) next h);
     })
 
+-- at the empty line the opening is what was read so far, and the trace is behind it
 pub maps_empty : (all : List (List ℕ)) (number from : ℕ) (texts : List (List ℕ)) (areas : List Area) (past : ℕ)
     → MapsSoFar all number from ([] ∷ texts) areas past → ReadsMaps 1 0 all areas past (number + 1) texts
 maps_empty all number from texts areas past so_far =
     let h : ReadsMaps 1 0 all (areas ++ []) (past + 0) (number + 1) texts = so_far.reads [] 0 (number + 1) texts empty in
     rw (append-nil, add-zero) at h
 
+-- where the text is over the opening is what was read so far
 pub maps_over : (all : List (List ℕ)) (number from : ℕ) (areas : List Area) (past : ℕ)
     → MapsSoFar all number from [] areas past → ReadsMaps 1 0 all areas past number []
 maps_over all number from areas past so_far =
     let h : ReadsMaps 1 0 all (areas ++ []) (past + 0) number [] = so_far.reads [] 0 number [] over in
     rw (append-nil, add-zero) at h
 
+-- a line that ends the run ends the reading of all maps lines so
 pub maps_end : (all : List (List ℕ)) (number from : ℕ) (text : List ℕ) (texts : List (List ℕ)) (areas : List Area) (past : ℕ) (end : EarlyEnd)
     → MapsSoFar all number from (text ∷ texts) areas past → EndsMap number from text end → EndsMaps 1 0 all end
 maps_end all number from text texts areas past end so_far ends = so_far.ends end (here ends)
 
+-- a maps line adds at most one line past the user addresses
 pub past_by_one : (past : ℕ) (item : MapsItem) → past_with past item ≤ past + 1
 past_by_one past (Mapped area) = omega arith
 past_by_one past (Past start stop) = omega arith
 
+-- a maps line adds at most one area
 pub areas_by_one : (areas : List Area) (item : MapsItem) → length (areas_with areas item) ≤ length areas + 1
 areas_by_one areas (Mapped area) = omega (arith, length-append areas (area ∷ []))
 areas_by_one areas (Past start stop) = omega arith
 
+-- areas with named kinds have them still with the area of a maps line that has named kinds
 pub named_with : (areas new_areas : List Area) (item : MapsItem) → HasNamedKinds areas → IsNamedMapsItem item → new_areas ≡ areas_with areas item
     → HasNamedKinds new_areas
 named_with areas new_areas (Mapped area) named item is = rw is (All-push (λ a. IsNamedKind a.kind) areas area named item)
@@ -98,5 +106,6 @@ pub opens_in_order : (has : Bool) (texts left : List (List ℕ)) (areas : List A
 opens_in_order true texts left areas past next h = maps_in_order 0 (omega arith) h
 opens_in_order false texts left areas past next h = rw h.0 tt
 
+-- a text whose length is tested to be 0 is empty
 pub nil : (text : List ℕ) → nat_eq (length text) 0 ≡ true → text ≡ []
 nil text none = nil_from_length text (eqb-true (length text) 0 none)

@@ -1,6 +1,6 @@
 -- The words and the bytes of an input have one outcome: what reads an input and what ends a run exclude each other, and
 -- an input ends a run in one way. It rests on each text having one outcome, and on one area list having given kinds.
-use Rattle.std.proofs.Common.{◌≡◌, ◌⊎◌, Bool, true, false, ℕ, ◌+◌, ◌*◌, ◌≤◌, List, [], length, drop, Option, None, Some}
+use Rattle.std.proofs.Common.{◌≡◌, ◌⊎◌, Bool, true, false, ℕ, ◌+◌, ◌*◌, ◌≤◌, List, [], length, Option, None, Some}
 use Rattle.std.proofs.Common.{subst, inl, inr, refl, sym, ap, ◌∙◌, arith}
 use Rattle.page_types.specs.declared.calls.Kind.{Kind}
 use Rattle.area_rows.specs.Callers.{ClosedView}

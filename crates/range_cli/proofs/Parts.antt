@@ -10,6 +10,7 @@ abbrev pub total : ℕ → (ℕ → ℕ) → ℕ
 total zero f = 0
 total (suc n) f = f n + total n f
 
+-- sums of the same parts are the same
 pub total_same : (n : ℕ) (f g : ℕ → ℕ) → ((k : ℕ) → k < n → f k ≡ g k) → total n f ≡ total n g
 total_same zero f g same = refl
 total_same (suc n) f g same =

@@ -10,9 +10,11 @@ use Rattle.range_cli.specs.declared.processes.Processes.{Processes}
 use Rattle.range_cli.specs.Trace.{one_on, place_among, place_or, index_among, with_new, seen_with}
 use Rattle.range_cli.specs.TraceReader.{IsIndexed}
 
+-- the place of a process that was seen is its index
 pub index_found : (seen : List ℕ) (pid place : ℕ) → place_among seen pid ≡ Some place → place ≡ index_among seen pid
 index_found seen pid place e = sym (ap (λ (o : Option ℕ). place_or o (length seen)) e)
 
+-- the index of a process that wasn't seen is how many were
 pub index_new : (seen : List ℕ) (pid : ℕ) → place_among seen pid ≡ None → length seen ≡ index_among seen pid
 index_new seen pid e = sym (ap (λ (o : Option ℕ). place_or o (length seen)) e)
 

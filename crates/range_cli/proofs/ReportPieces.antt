@@ -13,6 +13,7 @@ use Rattle.range_cli.specs.declared.report.Counts.{Counts}
 use Rattle.command_words.specs.declared.commands.Options.{Options}
 use Rattle.range_cli.specs.Report.{asked_log, report_text}
 
+-- a log, the maps and the whole summary, one behind the other, are the whole report
 pub report_all : {T E : Type 0} (r : Result T E) (a b c d : Option (List ℕ)) (options : Options) (areas : List Area) (entries : List Entry)
     (counts : Counts) → Appends a b (asked_log options entries)
     → Appends b c (maps_text areas) → OnOk r (Appends c d (summary_text (length entries) counts.skipped counts.refused counts.differ))
@@ -22,6 +23,7 @@ report_all r a b c d options areas entries counts log maps summary =
     (λ last. Appends-trans a b d (asked_log options entries) _ log (Appends-trans b c d (maps_text areas) _ maps last))
     summary
 
+-- a log, the maps and a first part of the summary are a first part of the report
 pub report_prefix : {T E : Type 0} (r : Result T E) (a b c d : Option (List ℕ)) (options : Options) (areas : List Area) (entries : List Entry)
     (counts : Counts) → Appends a b (asked_log options entries)
     → Appends b c (maps_text areas) → OnErr r (AppendsPrefix c d (summary_text (length entries) counts.skipped counts.refused counts.differ))

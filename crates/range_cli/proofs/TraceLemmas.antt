@@ -39,6 +39,7 @@ skips_few fed text (Kept count) h = drops_few fed h.0 count h.5
 skips_few fed text (Skipped count) h = passes_few fed text count h
 skips_few fed text Blank h = omega arith
 
+-- the call of an answer has no bit but the named ones
 pub is_named : (fed : List (List ℕ)) (text : List ℕ) (answer : Fed) → IsAnswer fed text answer → IsNamedAnswer answer
 is_named fed text (Played pid call recorded count) h = named_answer fed text pid call recorded count h
 is_named fed text (Kept count) h = tt
@@ -95,6 +96,7 @@ pub record SoFar (first : ℕ) (all : List (List ℕ)) (number : ℕ) (left : Li
   pub reads : (more : List Line) (s : ℕ) → Reads stand left more s → Reads (start_at first) all (reader.lines.items ++ more) (reader.skipped + s)
   pub ends : (end : EarlyEnd) → EndsAt stand left end → EndsAt (start_at first) all end
 
+-- before the first line all texts are left
 pub so_far_start : (first : ℕ) (all : List (List ℕ)) (reader : TraceReader) → StandsAt reader (start_at first)
     → reader.lines.items ≡ [] → reader.skipped ≡ 0 → SoFar first all first all reader
 so_far_start first all reader at none zero = record {
@@ -107,6 +109,7 @@ so_far_start first all reader at none zero = record {
   ends = λ end h. h;
 }
 
+-- behind a line that was taken the texts behind it are left
 pub so_far_step : (first : ℕ) (all : List (List ℕ)) (number : ℕ) (text : List ℕ) (texts : List (List ℕ)) (old new : TraceReader)
     (so_far : SoFar first all number (text ∷ texts) old) → Takes so_far.stand text old new
     → SoFar first all (number + 1) texts new
@@ -131,6 +134,7 @@ so_far_step first all number text texts old new so_far takes =
       ends = λ end h. so_far.ends end (later takes.answer takes.asks h);
     }
 
+-- where no text is left the lines and the count of those passed over are those of the whole trace
 pub so_far_all : (first : ℕ) (all : List (List ℕ)) (number left : ℕ) (reader : TraceReader)
     (so_far : SoFar first all number [] reader) → CountsKept so_far.stand.fed left
     → Reads (start_at first) all reader.lines.items (reader.skipped + left)
@@ -138,6 +142,7 @@ so_far_all first all number left reader so_far kept =
     subst (λ (x : List Line). Reads (start_at first) all x (reader.skipped + left)) (append-nil reader.lines.items)
     (so_far.reads [] left (nothing kept))
 
+-- a text that ends the run ends it for the whole trace
 pub so_far_ends : (first : ℕ) (all : List (List ℕ)) (number : ℕ) (text : List ℕ) (texts : List (List ℕ)) (reader : TraceReader)
     (end : EarlyEnd) (so_far : SoFar first all number (text ∷ texts) reader)
     → OrMemory (Ends so_far.stand text) end → OrMemory (EndsAt (start_at first) all) end

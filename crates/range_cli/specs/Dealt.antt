@@ -1,6 +1,6 @@
 -- Which worker plays which line: the processes are dealt out to the workers in turn, by their indexes, which is this
 -- project's own profile. A worker's lines are in the order of the input, and each call is as it is played.
-use Rattle.std.specs.Prelude.{ℕ, ◌%◌, ◌==◌, List, [], ◌∷◌, filter, map, if◌then◌else◌}
+use Rattle.std.specs.Prelude.{ℕ, ◌%◌, ◌==◌, List, filter, map}
 use Rattle.std.specs.List.{range_with_len}
 use Rattle.trace_threads.specs.declared.worker.Line.{Line as Turn}
 use Rattle.strace_reader.specs.Playing.{as_played}
@@ -13,10 +13,6 @@ worker_of threads line = line.process % threads
 -- a line as it is played: its recorded address is its hint where mmap(2) leaves the choice
 abbrev pub played_line : Line → Turn
 played_line line = record { line = line.number; call = as_played line.call line.recorded }
-
--- the line as it is played, where it is one of this worker
-abbrev pub own_line : ℕ → ℕ → Line → List Turn
-own_line threads worker line = if worker_of threads line == worker then played_line line ∷ [] else []
 
 -- the lines of a worker, in order
 abbrev pub own_lines : ℕ → List Line → ℕ → List Line

@@ -1,9 +1,11 @@
 //! Playing the lines of a trace on a running address space. The lines are dealt out to workers, which play them beside
 //! each other; the crate `trace_threads` opens the space, lets the workers play and closes it. A reader may rely on
 //! what is given being the whole history of that space, since nothing but a closing makes one.
-ghost use Rattle.std.specs.Prelude.{◌≡◌, ◌<◌, ◌≤◌, length, All, IfOk};
+ghost use Rattle.std.specs.Prelude.{◌≡◌, ◌<◌, ◌≤◌, ◌^◌, List, length, map, vec_items, vec_len, All, IfOk};
+ghost use Rattle.page_types.specs.Named.{IsNamedCall};
 ghost use Rattle.page_types.specs.declared.TheConstants.{ROWS};
 ghost use Rattle.space_model.specs.Areas.{row_count};
+ghost use Rattle.range_cli.specs.Dealt.{dealt};
 ghost use Rattle.range_cli.specs.Play.{IsPlayed};
 ghost use Rattle.range_cli.specs.Trace.{IsNamedLine};
 ghost use Rattle.range_cli.specs.declared.trace.TheConstants.{LINES_LIMIT};
@@ -34,8 +36,29 @@ pub fn play<R: Threads + Wait + Sync, G: Gate>(
     requires few { length lines.now ≤ LINES_LIMIT }
     ensures { IfOk result (λ closed. IsPlayed threads opening.now lines.now closed.entries closed.areas) }
 {
-    let dealt = deal_lines(alloc, threads, lines)?;
-    match play_trace(wait, alloc, opening, dealt, gate) {
+    let lists = deal_lines(alloc, threads, lines)?;
+    play_lists(wait, alloc, threads, opening, lists, gate)
+}
+
+/// The same of lines that are dealt out, one list for each worker.
+pub fn play_lists<R: Threads + Wait + Sync, G: Gate>(
+    wait: &R,
+    alloc: Global,
+    threads: u32,
+    opening: &PlainSpace,
+    lists: Vec<Vec<trace_threads::Line>>,
+    gate: &G,
+) -> Result<Closed, AllocError>
+    requires some { 0 < threads }
+    requires threads { threads ≤ 16 }
+    requires rows { row_count opening.now ≤ ROWS }
+    requires count { length lists.items ≡ threads }
+    requires few { All (λ own. vec_len own < 2 ^ 32) lists.items }
+    requires named { All (λ own. All (λ line. IsNamedCall line.call) own) (map vec_items lists.items) }
+    ensures { IfOk result (λ closed. (lines : List Line) → map vec_items lists.items ≡ dealt threads lines
+        → IsPlayed threads opening.now lines closed.entries closed.areas) }
+{
+    match play_trace(wait, alloc, opening, lists, gate) {
         Ok(closed) => Ok(closed),
         Err(_) => Err(AllocError),
     }

@@ -11,7 +11,7 @@ ghost use Rattle.range_cli.specs.Run.{Wrote, IsDone, IsUnwritten, HasCause, IsOn
 
 use crate::error_line::write_error;
 use crate::laws::one_worker_plays_one_history;
-use crate::load::lines_of_load;
+use crate::load::play_made;
 use crate::play::play;
 use crate::report::{Counts, differ_count, refused_count, write_report};
 use crate::script::read_script;
@@ -19,7 +19,6 @@ use crate::status::Status;
 use byte_ports::{Sink, Source};
 use command_words::{Command, Options, command_of};
 use maps_printer::write_summary;
-use space_model::PlainSpace;
 use std::alloc::Global;
 use std::sync::Wait;
 use std::thread::Threads;
@@ -158,10 +157,7 @@ fn play_load<R: Threads + Wait + Sync, K: Sink, G: Gate>(
     ensures no_usage { result ≢ Status.Usage }
     ensures nothing_written { IsUnwritten result → out.new ≡ out.old }
 {
-    let Ok(lines) = lines_of_load(alloc, seed, threads, calls) else {
-        return Status::Memory;
-    };
-    let Ok(closed) = play(wait, alloc, threads, &PlainSpace::new(alloc), &lines, gate) else {
+    let Ok(closed) = play_made(wait, alloc, seed, threads, calls, gate) else {
         return Status::Memory;
     };
     let played = closed.entries().len() as u32;

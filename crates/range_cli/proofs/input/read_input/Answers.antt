@@ -2,6 +2,7 @@ use Rattle.std.proofs.Common.{arith}
 use Rattle.range_cli.proofs.Draining.{drained}
 use Rattle.range_cli.proofs.input.read_input.Goals as goal
 
+-- a read of no bytes at the end says that the bytes so far are the whole input
 pub returns-then-count-eq0-clause-whole : goal.returns-then-count-eq0-clause-whole
 returns-then-count-eq0-clause-whole g c =
     let last = c.in-Ok.ensures in

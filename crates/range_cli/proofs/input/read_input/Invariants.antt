@@ -9,5 +9,6 @@ invariant-pieces g l = Consumes (g.S.Source.remaining l.fn.input) (g.S.Source.re
     × (length l.piece ≡ 32768)
     × (g.S.Source.fault_count l.fn.input ≤ g.S.Source.fault_count l.input)
 
+-- each turn reads a byte at least, up to one above the limit
 abbrev pub decreases-pieces : goal.decreases-pieces
 decreases-pieces g l = 67108865 - length l.bytes.items

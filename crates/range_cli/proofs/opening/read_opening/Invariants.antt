@@ -4,6 +4,7 @@ use Rattle.range_cli.specs.Lines.{lines_of}
 use Rattle.range_cli.proofs.OpeningLemmas.{MapsSoFar}
 use Rattle.range_cli.proofs.opening.read_opening.Given as goal
 
+-- what was read so far, with bounds on its counts and with named kinds
 abbrev pub invariant-maps : goal.invariant-maps
 invariant-maps l =
     MapsSoFar (lines_of l.fn.text) l.opening.next l.end (lines_of l.rest) l.opening.areas.items l.opening.past
@@ -12,5 +13,6 @@ invariant-maps l =
     × (length l.opening.areas.items < l.opening.next)
     × HasNamedKinds l.opening.areas.items
 
+-- each turn takes a line off the text
 abbrev pub decreases-maps : goal.decreases-maps
 decreases-maps l = length l.rest

@@ -1,10 +1,14 @@
-use Rattle.std.proofs.Common.{subst, List}
-use Rattle.trace_threads.specs.declared.worker.Line.{Line as Turn}
-use Rattle.trace_threads.specs.Collected.{IsPlayed as WerePlayed}
-use Rattle.range_cli.proofs.PlayLemmas.{played}
+use Rattle.std.proofs.lemmas.Result.{IfOk-weaker}
+use Rattle.std.specs.Prelude.{List, map, vec_items, ◌≡◌}
+use Rattle.range_cli.specs.declared.trace.Line.{Line}
+use Rattle.range_cli.specs.Dealt.{dealt}
+use Rattle.range_cli.specs.Play.{IsPlayed}
 use Rattle.range_cli.proofs.play.play.Goals as goal
 
-pub returns-in-Ok : goal.returns-in-Ok
-returns-in-Ok g c = played c.args.threads _ _ _ _
-    (subst (λ (l : List (List Turn)). WerePlayed c.args.opening.now l c.in-Ok.closed.entries c.in-Ok.closed.areas)
-    c.in_ok-dealt.ensures.dealt c.in-Ok.ensures.played)
+-- what is played of the dealt lines is played of the lines
+pub returns : goal.returns
+returns g c = IfOk-weaker c.play_lists.result
+    (λ closed. (lines : List Line) → map vec_items c.in_ok-lists.lists.items ≡ dealt c.args.threads lines
+    → IsPlayed c.args.threads c.args.opening.now lines closed.entries closed.areas)
+    (λ closed. IsPlayed c.args.threads c.args.opening.now c.args.lines.now closed.entries closed.areas)
+    (λ closed h. h c.args.lines.now c.in_ok-lists.ensures.dealt) c.play_lists.ensures

@@ -5,6 +5,7 @@ use Rattle.range_cli.proofs.Differences.{agrees, completes_yes, completes_no, co
 use Rattle.range_cli.proofs.report.differ_count.Goals as goal
 use Rattle.range_cli.proofs.report.differ_count.Goals.{then-differs, else-differs}
 
+-- an entry is counted where it differs from its line, and passed over where it doesn't
 pub entries-preserved : goal.entries-preserved
 entries-preserved c =
     let is = c.entry-item.is in
@@ -22,5 +23,6 @@ entries-preserved c =
       )
     ]
 
+-- behind the last entry the count is that of all
 pub returns : goal.returns
 returns c = completed _ _ c.entries.entry-index _ c.entries-test.false c.entries.invariant.0

@@ -2,20 +2,24 @@ use Rattle.byte_ports.proofs.Pieces.{AppendsPrefix-more, AppendsPrefix-after, on
 use Rattle.range_cli.proofs.ReportPieces.{report_all, report_prefix}
 use Rattle.range_cli.proofs.report.write_report.Goals as goal
 
+-- a first part of the log is a first part of the report
 pub returns-in_err-write_asked_log-clause-failed_prefix : goal.returns-in_err-write_asked_log-clause-failed_prefix
 returns-in_err-write_asked_log-clause-failed_prefix g c =
     on_err c.from_residual.result (AppendsPrefix-more _ c.in_err-write_asked_log.ensures.failed_prefix)
 
+-- so is the log with a first part of the maps
 pub returns-in_err-write_maps-clause-failed_prefix : goal.returns-in_err-write_maps-clause-failed_prefix
 returns-in_err-write_maps-clause-failed_prefix g c =
     on_err c.from_residual-in_err-write_maps.result
     (AppendsPrefix-after _ _ c.in_ok-write_asked_log.ensures.all (AppendsPrefix-more _ c.in_err-write_maps.ensures.failed_prefix))
 
+-- the log, the maps and the summary are the report
 pub returns-clause-all : goal.returns-clause-all
 returns-clause-all g c =
     report_all _ _ _ _ _ c.args.options _ c.args.entries.now _ c.in_ok-write_asked_log.ensures.all c.in_ok-write_maps.ensures.text
     c.write_summary.ensures.text
 
+-- so the log, the maps and a first part of the summary are a first part of it
 pub returns-clause-failed_prefix : goal.returns-clause-failed_prefix
 returns-clause-failed_prefix g c =
     report_prefix _ _ _ _ _ c.args.options _ c.args.entries.now _ c.in_ok-write_asked_log.ensures.all c.in_ok-write_maps.ensures.text

@@ -5,6 +5,7 @@ use Rattle.range_cli.specs.Trace.{IsNamedLine}
 use Rattle.range_cli.proofs.TraceLemmas.{SoFar}
 use Rattle.range_cli.proofs.trace.read_lines.Given as goal
 
+-- where the reader stands, with bounds on its counts and named calls
 abbrev pub invariant-lines : goal.invariant-lines
 invariant-lines l =
     SoFar l.fn.first (lines_of l.fn.text) l.number (lines_of l.rest) l.reader
@@ -15,5 +16,6 @@ invariant-lines l =
     × (l.reader.processes.count ≤ length l.reader.lines.items)
     × (l.fn.first ≤ l.number)
 
+-- each turn takes a line off the text
 abbrev pub decreases-lines : goal.decreases-lines
 decreases-lines l = length l.rest
