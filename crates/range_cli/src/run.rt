@@ -28,6 +28,21 @@ use trace_threads::Gate;
 /// to `out`.
 /// Where the run ends otherwise, the reason goes to `err` as one line; if that write fails the status stays. `gate` is
 /// called before and after each line. It waits until every worker has played its lines.
+///
+/// The program's own run, on the streams of its process:
+///
+/// ```rust
+///     let status = run(
+///         &rt,
+///         rt.alloc(),
+///         &words,
+///         &mut input,
+///         &mut out,
+///         &mut err,
+///         &OpenGate,
+///     );
+///     ExitCode::from(status.code())
+/// ```
 pub fn run<R: Threads + Wait + Sync, S: Source, K: Sink, G: Gate>(
     wait: &R,
     alloc: Global,
