@@ -1,0 +1,3 @@
+mod Clashing
+mod Opened
+mod Places

@@ -1,0 +1,70 @@
+-- What contracts see of a set of seats, and what its calls leave of it: all the wants held, or nothing. What one try
+-- and one release leave of a seat is said by `range_rw`; that several ranges are taken together or not at all is this
+-- project's own profile.
+use Rattle.std.specs.Prelude.{◌≡◌, ◌⊎◌, ℕ, ◌<◌, List, [], ◌∷◌, All, sum_by, slice_get, Option, Some, None, IsSome}
+use Rattle.std.specs.Option.{option_and_then, option_map}
+use Rattle.atomic_table.specs.Seated.{TableId}
+use Rattle.lock_core.specs.declared.range.Held.{Held}
+use Rattle.range_rw.specs.declared.refusals.NotHeld.{NotHeld}
+use Rattle.range_rw.specs.Contract.{SeatState, IsCause, IsGivenBack, IsRelease}
+use Rattle.range_sets.specs.declared.wants.Want.{Want}
+use Rattle.range_sets.specs.Wants.{want_held}
+
+-- a set: the table of its seats, and the four seats in order
+pub record SetView (P : Type 0) : Type 0 where
+  pub table : TableId
+  pub seats : List (SeatState P)
+
+module _ {P : Type 0} where
+  -- no seat holds anything
+  abbrev pub AllFree : List (SeatState P) → Type 0
+  AllFree seats = All (λ s. s.held ≡ None) seats
+
+  -- the passes of all seats are at rest, as a guard says
+  abbrev pub AllRest : (P → Type 0) → List (SeatState P) → Type 0
+  AllRest at_rest seats = All (λ s. at_rest s.pass) seats
+
+  -- what the seat at a place holds
+  abbrev pub held_in : List (SeatState P) → ℕ → Option Held
+  held_in seats i = option_and_then (λ s. s.held) (slice_get seats i)
+
+  -- how many steps a seat has made
+  abbrev pub taken_of : SeatState P → ℕ
+  taken_of s = s.trace.taken
+
+  -- how many steps the seats have made together
+  abbrev pub taken_by : List (SeatState P) → ℕ
+  taken_by seats = sum_by taken_of seats
+
+  -- a relation holds between the seats at each place of two lists of one length
+  abbrev pub EachIs : (SeatState P → SeatState P → Type 0) → List (SeatState P) → List (SeatState P) → Type 0
+  EachIs R [] [] = Unit {0}
+  EachIs R (x ∷ xs) (y ∷ ys) = R x y × EachIs R xs ys
+  EachIs R _ _ = ⊥
+
+  -- the seat of each place holds what is wanted at that place, and nothing where nothing is wanted
+  abbrev pub AreHeld : List Want → List (SeatState P) → Type 0
+  AreHeld wants seats = (i : ℕ) → i < 4 → held_in seats i ≡ option_map want_held (slice_get wants i)
+
+  -- what a refused call leaves of each seat: it holds nothing, it made no client step, and its pass is as before or,
+  -- where a range was given back, rested of it
+  pub record IsLetGo (rested : P → P) (before after : SeatState P) : Type 0 where
+    pub back : IsGivenBack before after
+    pub client : after.trace.client ≡ before.trace.client
+    pub pass : (after.pass ≡ before.pass) ⊎ (after.pass ≡ rested before.pass)
+
+  -- what the seat held was given back; one that held nothing is as before
+  abbrev pub IsReleasedIfHeld : (P → P) → SeatState P → SeatState P → Type 0
+  IsReleasedIfHeld rested before after = (IsSome before.held × IsRelease rested before after) ⊎ ((before.held ≡ None) × (after ≡ before))
+
+  -- the want at that place was refused to its seat, for a cause of the one try that the seat made, and the seats
+  -- behind it are as before
+  pub record IsCauseAt (before after : List (SeatState P)) (wants : List Want) (index : ℕ) (why : NotHeld) : Type 0 where
+    pub want : Want
+    pub at : slice_get wants index ≡ Some want
+    pub old : SeatState P
+    pub old_at : slice_get before index ≡ Some old
+    pub new : SeatState P
+    pub new_at : slice_get after index ≡ Some new
+    pub cause : IsCause old new (want_held want) why
+    pub same : (k : ℕ) → index < k → slice_get after k ≡ slice_get before k
