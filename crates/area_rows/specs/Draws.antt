@@ -18,7 +18,7 @@ use Rattle.space_model.specs.declared.entries.Under.TheVariants.{Nothing, Reader
 use Rattle.space_model.specs.Areas.{kind_at}
 use Rattle.space_model.specs.Answers.{Answers}
 use Rattle.space_model.specs.Held.{FitsUnder}
-use Rattle.space_model.proofs.Histories.{numbered_more, chains_more}
+pub use Rattle.space_model.proofs.Histories.{runs_more}
 use Rattle.space_model.proofs.SomeAnswer.{leaves_areas}
 use Rattle.lock_core.specs.Grants.{Grants, Holds, IsExclusive}
 use Rattle.lock_core.specs.Client.{adds, words_after}
@@ -30,18 +30,13 @@ use Rattle.area_rows.specs.declared.guard.Pending.TheVariants.{AtRest, Planned, 
 use Rattle.row_plans.specs.Plans.{PlanShows}
 use Rattle.area_rows.specs.Reads.{everything, StillStands}
 use Rattle.area_rows.specs.Changes.{alone, IsChange}
-use Rattle.area_rows.specs.History.{FitsAndReplies, Runs, with_whole, IsPart, planned_calls, planned_count, IsShown}
+use Rattle.area_rows.specs.History.{with_whole, IsPart, planned_calls, planned_count, IsShown}
 use Rattle.area_rows.specs.History.{RowsStandFor, IsRunningSpace, Backs, IsBacked, AreBacked, HoldsFor, Leaves, after_draw}
 use Rattle.area_rows.specs.Replies.{all_more, reply_named, left_named, left_few}
 use Rattle.area_rows.specs.Stands.{all_stand, same_low, low_rows, shown_set}
 use Rattle.area_rows.specs.Parts.{own_more, own_same, count_set, no_wrap, whole_more, planned_set, resting_of, none_is}
 use Rattle.area_rows.specs.Writes.{everything_pages, span_pages, clash}
 use Rattle.area_rows.specs.RowStores.{shown_after_draw, others_back}
-
--- one entry more
-pub runs_more : (history : List Entry) (n : ℕ) (A B C : List Areas) (e : Entry) → Runs n A history B
-    → e.number ≡ n + length history → FitsUnder B e.call e.under → Answers B e.call e.reply C → Runs n A (history ++ e ∷ []) C
-runs_more history n A B C e r num fits answers = (numbered_more n history e r.0 num, chains_more FitsAndReplies A history B e C r.1 (fits, answers))
 
 -- what is to be written goes with what is held
 leaves_counts : (state left : List Areas) (under : Under) (pending : Pending) → Leaves state under pending left → with_whole under 0 ≡ planned_calls pending

@@ -17,7 +17,8 @@ use Rattle.page_types.specs.Named.{IsNamedCall, IsNamedReply}
 use Rattle.space_model.specs.Areas.{IsAreaList, HasNamedKinds, kind_at, row_count}
 use Rattle.space_model.specs.Answers.{Answers}
 use Rattle.space_model.specs.Held.{FitsUnder}
-use Rattle.space_model.specs.History.{Chains, HasRightReply, IsNumberedFrom, HasNamedCalls}
+use Rattle.space_model.specs.History.{HasNamedCalls}
+pub use Rattle.space_model.specs.History.{FitsAndReplies, Runs}
 use Rattle.lock_core.specs.Grants.{Grants, Holds, IsExclusive}
 use Rattle.lock_core.specs.Client.{ClientStep, loads, stores, adds, exchanges}
 use Rattle.lock_core.specs.declared.range.Mode.TheVariants.{Reader as Shared, Writer as Alone}
@@ -33,15 +34,6 @@ use Rattle.area_rows.specs.Rows.{rows_in, RowsShow}
 use Rattle.row_plans.specs.Plans.{PlanShows}
 use Rattle.area_rows.specs.Reads.{everything, StillStands}
 use Rattle.area_rows.specs.Changes.{IsIn, alone, new_word, IsInside, IsChange, MayReplace}
-
--- the entry fits what was held and answers what its call answers, which leaves area list B
-abbrev pub FitsAndReplies : List Areas → Entry → List Areas → Type 0
-FitsAndReplies A e B = FitsUnder A e.call e.under × HasRightReply A e B
-
--- from one area list the entries are numbered n, n + 1 and so on, each fits what was held and has the reply that its
--- call has there, and they leave another
-abbrev pub Runs : ℕ → List Areas → List Entry → List Areas → Type 0
-Runs n A entries B = IsNumberedFrom n entries × Chains FitsAndReplies A entries B
 
 -- a history begins with these entries
 abbrev pub StartsWith : List Entry → List Entry → Type 0
@@ -198,9 +190,9 @@ rest_of p = record p { count = None; rows = []; sequence = None }
 abbrev pub IsAtRest : Pass → Type 0
 IsAtRest p = p.pending ≡ AtRest
 
--- the caller of a number holds what its entry names
+-- the caller of a number holds what its entry names, and nothing where it names nothing
 abbrev pub HoldsFor : Option Held → Under → Type 0
-HoldsFor held Nothing = Unit {0}
+HoldsFor held Nothing = held ≡ None
 HoldsFor held (Reader span) = held ≡ Some (record { range = record { lo = span.lo; hi = span.hi }; mode = Shared })
 HoldsFor held (Area span) = held ≡ Some (record { range = record { lo = span.lo; hi = span.hi }; mode = Alone })
 HoldsFor held Whole = held ≡ Some everything

@@ -24,7 +24,8 @@ impl Space {
             × (change.index ≡ index) × (word ≡ new_word change) }
         ensures step { IsClientStep seat.old (3 + index) (after_change seat.old.pass) seat.new }
     {
-        self.table.store::<By<Brand>>(seat, FIRST_ROW + index, word);
+        self.table
+            .store_as_uncounted::<By<Brand>>(seat, FIRST_ROW + index, word);
     }
 
     /// Gives the whole row of that number, counted from 0, another kind, in one step: that of the area which the

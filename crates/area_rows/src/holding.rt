@@ -71,14 +71,14 @@ impl Space {
     }
 
     /// The same as `release`, without a counter of steps.
-    pub(crate) fn give_back(&self, caller: &mut Caller)
+    pub(crate) fn release_uncounted(&self, caller: &mut Caller)
         requires table { caller.old.seat.table ≡ self.now.table }
         requires holds { IsSome caller.old.seat.held }
         requires rest { IsAtRest caller.old.seat.pass }
         ensures release { IsRelease rest_of caller.old.seat caller.new.seat }
         ensures left { caller.new.left ≡ caller.old.left }
     {
-        self.table.give_back(&mut caller.seat);
+        self.table.release_uncounted(&mut caller.seat);
     }
 
     /// Gives the held range back, in one step or two. The caller is of this space and has written what it has numbered;

@@ -41,7 +41,8 @@ impl Space {
         ensures few { result ≤ ROWS }
         ensures again { (n : ℕ) → caller.old.seat.pass.count ≡ Some n → result ≡ n }
     {
-        self.table.load::<By<Brand>>(&mut caller.seat, ROW_COUNT)
+        self.table
+            .load_as_uncounted::<By<Brand>>(&mut caller.seat, ROW_COUNT)
     }
 
     /// Loads the word of a row, counted from 0. The caller is of this space, holds a range, and has written what it has
@@ -61,7 +62,7 @@ impl Space {
         ensures whole { caller.old.seat.held ≡ Some everything → (rows : List ℕ) → HasRows caller.new.seat.pass rows → IsRowList rows }
     {
         self.table
-            .load::<By<Brand>>(&mut caller.seat, FIRST_ROW + index)
+            .load_as_uncounted::<By<Brand>>(&mut caller.seat, FIRST_ROW + index)
     }
 
     /// Loads the number word: how many entries the history has. The caller then has seen all of them, and what its
@@ -72,7 +73,8 @@ impl Space {
         ensures left { caller.new.left ≡ caller.old.left }
         ensures rows { HasSameRows caller.old caller.new }
     {
-        self.table.load::<By<Brand>>(&mut caller.seat, NUMBER)
+        self.table
+            .load_as_uncounted::<By<Brand>>(&mut caller.seat, NUMBER)
     }
 
     /// Loads the sequence word. Where the caller, which is of this space, holds a range, it is the number of the
@@ -85,7 +87,8 @@ impl Space {
         ensures left { caller.new.left ≡ caller.old.left }
         ensures rows { HasSameRows caller.old caller.new }
     {
-        self.table.load::<By<Brand>>(&mut caller.seat, SEQUENCE)
+        self.table
+            .load_as_uncounted::<By<Brand>>(&mut caller.seat, SEQUENCE)
     }
 
     /// Draws a number for the entry that the note becomes, where a call under everything has these rows to write, and a
@@ -112,7 +115,7 @@ impl Space {
         ensures drawn { IsDrawn seat.old (record draft.now { number = result }) (pending_of draft.now.under (planned_rows read.now plan.now) change) seat.new }
         ensures taken { seat.new.trace.taken ≡ seat.old.trace.taken + 1 }
     {
-        self.table.add::<By<N>>(seat, NUMBER, 1)
+        self.table.add_as_uncounted::<By<N>>(seat, NUMBER, 1)
     }
 
     /// The same as `number`, without a counter of steps.

@@ -133,7 +133,7 @@ impl Space {
         let planned = self.plan(caller, &call);
         let entry = self.draw(caller, line, call, planned.reply, Under::Whole);
         self.write_plan(caller);
-        self.give_back(caller);
+        self.release_uncounted(caller);
         entry
     }
 }

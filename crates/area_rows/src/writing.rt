@@ -26,7 +26,7 @@ impl Space {
         ensures step { IsClientStep seat.old (3 + index) (after_store index (slice_index plan.now index) seat.old.pass) seat.new }
     {
         self.table
-            .store::<By<Brand>>(seat, FIRST_ROW + index, plan[index as usize]);
+            .store_as_uncounted::<By<Brand>>(seat, FIRST_ROW + index, plan[index as usize]);
     }
 
     /// Stores the row count of the plan.
@@ -36,7 +36,7 @@ impl Space {
         ensures step { IsClientStep seat.old 2 (after_count (length plan.now) seat.old.pass) seat.new }
     {
         self.table
-            .store::<By<Brand>>(seat, ROW_COUNT, plan.len() as u64);
+            .store_as_uncounted::<By<Brand>>(seat, ROW_COUNT, plan.len() as u64);
     }
 
     /// Raises the sequence word, where all rows of the plan and their count are written.
@@ -45,7 +45,7 @@ impl Space {
         requires written { (plan : List ℕ) × (seat.old.pass.pending ≡ Planned plan) × HasRows seat.old.pass plan }
         ensures step { IsClientStep seat.old 1 (after_raise seat.old.pass) seat.new }
     {
-        self.table.add::<By<Brand>>(seat, SEQUENCE, 1);
+        self.table.add_as_uncounted::<By<Brand>>(seat, SEQUENCE, 1);
     }
 
     /// Writes one row of the plan, where it isn't what stands there.

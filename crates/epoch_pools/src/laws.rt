@@ -2,6 +2,7 @@
 //! rule holds there, since `atomic_table` lets no step be made that breaks it; so does what follows from it here. The
 //! functions have nothing to run; a reader may rely on their contracts as on any.
 ghost use Rattle.epoch_pools.specs.Apart.{KeepsLock, KeepsApart, KeepsNoReuse};
+ghost use Rattle.epoch_pools.specs.Lines.{StepsAreLines};
 
 use lock_core::Guard;
 
@@ -22,4 +23,10 @@ pub fn keeps_apart<G: Guard>()
 /// words may be written anew.
 pub fn keeps_no_reuse<G: Guard>()
     ensures { KeepsNoReuse G.holds }
+{}
+
+/// At any moment, a step of any kind that a seat's view enables is a line of the step table of `lock_core`: the words
+/// and views after it are those of the machine after that step. The seat's record counts it as one step.
+pub fn steps_are_lines<G: Guard>()
+    ensures { StepsAreLines G.holds G.rested }
 {}

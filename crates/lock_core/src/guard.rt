@@ -10,6 +10,24 @@ ghost use Rattle.lock_core.specs.Grants.{Grants, IsFree};
 ghost use Rattle.lock_core.specs.Client.{ClientStep, words_after};
 
 /// What the layer above keeps in client words, as meanings and laws. No value of such a type is made.
+///
+/// A guard whose client word 0 only rises. What a seat knows of it is what it has read, and whether that is still so:
+///
+/// ```rust
+///     type Pass = Reading;
+///
+///     type Note = ();
+///
+///     ghost first = { λ _ _. record { seen = 0; sure = false } };
+///
+///     ghost holds = { IsHighWater };
+///
+///     ghost allows = { IsMarkStep };
+///
+///     ghost rested = { unsure };
+///
+///     ghost is_at_rest = { λ _. Unit {0} };
+/// ```
 pub trait Guard {
     /// The plain data that a seat knows.
     type Pass;

@@ -39,6 +39,6 @@ pub fn hold_turns<R: Wait>(
 {
     for _ in 0..turns {
         table.acquire(wait, seat, range, Mode::Writer);
-        table.give_back(seat);
+        table.release_uncounted(seat);
     }
 }

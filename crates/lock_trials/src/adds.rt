@@ -20,7 +20,7 @@ fn read(table: &RangeTable<Tally>, seat: &mut Seat<Tally>) -> u64
     ensures call { IsClientCall seat.old 0 seat.new }
     ensures known { seat.new.pass ≡ has_read seat.old.pass result }
 {
-    table.load::<Tally>(seat, 0)
+    table.load_as_uncounted::<Tally>(seat, 0)
 }
 
 /// Stores one more than was read, under the range under which it was read.
@@ -33,7 +33,7 @@ fn write_next(table: &RangeTable<Tally>, seat: &mut Seat<Tally>, count: u64)
     ensures known { seat.new.pass ≡ has_written seat.old.pass ((count + 1) % 2 ^ 64) }
 {
     let next = count.wrapping_add(1);
-    table.store::<Tally>(seat, 0, next);
+    table.store_as_uncounted::<Tally>(seat, 0, next);
 }
 
 /// One turn of a writer: it adds 1 to client word 0 by a load and a store, under the range as a writer.
@@ -49,7 +49,7 @@ fn add_one<R: Wait>(wait: &R, table: &RangeTable<Tally>, seat: &mut Seat<Tally>,
     table.acquire(wait, seat, range, Mode::Writer);
     let count = read(table, seat);
     write_next(table, seat, count);
-    table.give_back(seat);
+    table.release_uncounted(seat);
 }
 
 /// Adds 1 to client word 0 so many times, each time by a load and a store under a range with the door in it as a

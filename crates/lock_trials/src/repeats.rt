@@ -17,10 +17,10 @@ fn hold_once(
     requires free { seat.old.held ≡ None }
     ensures back { IsGivenBack seat.old seat.new }
 {
-    if table.try_once(seat, range, mode).is_err() {
+    if table.try_acquire_uncounted(seat, range, mode).is_err() {
         return false;
     }
-    table.give_back(seat);
+    table.release_uncounted(seat);
     true
 }
 

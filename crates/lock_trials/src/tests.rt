@@ -13,21 +13,33 @@ fn tries_answer_as_worked_by_hand(rt: HostRuntime) {
     let first = Range::of(0, 10).expect(&rt, "a range");
     let far = Range::of(20, 21).expect(&rt, "a range");
     let inner = Range::of(5, 6).expect(&rt, "a range");
-    assert!(rt; table.try_once(&mut a, first, Mode::Reader).is_ok());
-    assert!(rt; table.try_once(&mut b, far, Mode::Writer).is_ok());
+    assert!(rt;
+        table
+            .try_acquire_uncounted(&mut a, first, Mode::Reader)
+            .is_ok()
+    );
+    assert!(rt;
+        table
+            .try_acquire_uncounted(&mut b, far, Mode::Writer)
+            .is_ok()
+    );
     assert_eq!(rt; table.held(&b), Some((far, Mode::Writer)));
-    table.give_back(&mut b);
+    table.release_uncounted(&mut b);
     let busy = NotHeld::Busy {
         owner: 0,
         range: first,
         mode: Mode::Reader,
     };
-    let refused = table.try_once(&mut b, inner, Mode::Writer);
+    let refused = table.try_acquire_uncounted(&mut b, inner, Mode::Writer);
     assert_eq!(rt; refused, Err(busy));
     assert_eq!(rt; table.held(&b), None);
-    table.give_back(&mut a);
-    assert!(rt; table.try_once(&mut b, inner, Mode::Writer).is_ok());
-    table.give_back(&mut b);
+    table.release_uncounted(&mut a);
+    assert!(rt;
+        table
+            .try_acquire_uncounted(&mut b, inner, Mode::Writer)
+            .is_ok()
+    );
+    table.release_uncounted(&mut b);
     let seats = in_order(alloc, &table, a, b).expect(&rt, "memory");
     let Ok(words) = table.close(alloc, seats) else {
         panic!(rt; "memory");
@@ -75,7 +87,7 @@ fn a_used_node_waits_for_an_open_scan(rt: HostRuntime) {
     let scan = table.scan(&mut b);
     assert_eq!(rt; hold_times(&table, &mut a, range, Mode::Reader, 16), 16);
     let inside = NotHeld::NoNode(Stuck::Inside { seat: 1, epoch: 1 });
-    let refused = table.try_once(&mut a, range, Mode::Reader);
+    let refused = table.try_acquire_uncounted(&mut a, range, Mode::Reader);
     assert_eq!(rt; refused, Err(inside));
     scan.end();
     assert_eq!(rt; hold_times(&table, &mut a, range, Mode::Reader, 1), 1);
@@ -94,7 +106,7 @@ fn sixteen_tries_at_an_empty_list_enter_no_epoch(rt: HostRuntime) {
     let scan = table.scan(&mut b);
     assert_eq!(rt; hold_times(&table, &mut a, range, Mode::Writer, 16), 16);
     let inside = NotHeld::NoNode(Stuck::Inside { seat: 1, epoch: 1 });
-    let refused = table.try_once(&mut a, range, Mode::Writer);
+    let refused = table.try_acquire_uncounted(&mut a, range, Mode::Writer);
     assert_eq!(rt; refused, Err(inside));
     scan.end();
 }

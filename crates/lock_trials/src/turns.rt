@@ -42,7 +42,7 @@ fn visit_once<R: Wait>(
         }
         Mode::Reader => look(table, seat),
     };
-    table.give_back(seat);
+    table.release_uncounted(seat);
     inside
 }
 

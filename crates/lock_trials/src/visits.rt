@@ -44,7 +44,7 @@ fn enter_for<N: Noted>(
     ensures empty { result ≡ 0 }
     ensures pass { seat.new.pass ≡ pass_inside seat.old.pass errand }
 {
-    table.add::<By<N>>(seat, 0, 1)
+    table.add_as_uncounted::<By<N>>(seat, 0, 1)
 }
 
 /// Goes in for an errand, under a range with the door in it that the seat holds as a writer, and returns how many
@@ -71,7 +71,7 @@ pub fn leave(table: &RangeTable<Turnstile>, seat: &mut Seat<Turnstile>) -> u64
     ensures one { result ≡ 1 }
     ensures pass { seat.new.pass ≡ pass_outside seat.old.pass }
 {
-    table.add::<By<Brand>>(seat, 0, u64::MAX)
+    table.add_as_uncounted::<By<Brand>>(seat, 0, u64::MAX)
 }
 
 /// Looks how many writers are inside, under a range with the door in it: none.
@@ -84,5 +84,5 @@ pub fn look(table: &RangeTable<Turnstile>, seat: &mut Seat<Turnstile>) -> u64
     ensures empty { result ≡ 0 }
     ensures pass { seat.new.pass ≡ seat.old.pass }
 {
-    table.load::<By<Brand>>(seat, 0)
+    table.load_as_uncounted::<By<Brand>>(seat, 0)
 }

@@ -1,5 +1,5 @@
 -- A cursor that came to another word: the walk goes on there, or it has come to its end.
-use Rattle.std.proofs.Common.{◌≡◌, ◌≢◌, ℕ, suc, ◌+◌, ◌-◌, ◌*◌, ◌/◌, ◌%◌, ◌^◌, ◌<◌, true, false, Bool, inl, inr, refl}
+use Rattle.std.proofs.Common.{◌≡◌, ◌≢◌, ℕ, suc, ◌+◌, ◌-◌, ◌*◌, ◌/◌, ◌%◌, ◌^◌, ◌<◌, ◌≤◌, true, false, Bool, inl, inr, refl}
 use Rattle.std.proofs.Common.{sym, ap, ◌∙◌, subst, arith, eqb-true, eq-eqb, ne_eqb}
 use Rattle.std.proofs.lemmas.Bool.{eqb-false}
 use Rattle.std.specs.Prelude.{Option, Some, None, is_some, ◌==◌, ◌||◌, if◌then◌else◌, min}
@@ -20,7 +20,7 @@ use Rattle.epoch_pools.specs.declared.views.SeatPart.{SeatPart}
 use Rattle.epoch_pools.specs.Hands.{IsHandView}
 use Rattle.marked_list.specs.declared.answers.Walked.TheVariants.{Place}
 use Rattle.marked_list.specs.Order.{HasEnds, HasToValidate, OwnMayWalk, IsAhead, IsInside}
-use Rattle.marked_list.specs.Causes.{nodes_in}
+use Rattle.marked_list.specs.Causes.{nodes_in, IsBoundedWalk}
 use Rattle.marked_list.specs.Answers.{Arrives}
 use Rattle.marked_list.specs.Walking.{seen_of, has_arrived, arrival_at, GoesOn, CursorCame, IsNotSpent, HasRoom, Outcome}
 
@@ -121,6 +121,13 @@ one_more a w less d = ap (λ (b : Bool). if b then a else min (a + 1) (2 ^ 32 - 
 no_more : (a w : ℕ) → w ≡ 0 → seen_after a w ≡ a
 no_more a w z = let h : w / 2 ≡ 0 = omega arith in ap (λ (b : Bool). if b then a else min (a + 1) (2 ^ 32 - 1)) (eq-eqb _ _ h)
 
+at_most_one : (a w : ℕ) → seen_after a w ≤ a + 1
+at_most_one a w = by_end (w / 2 == 0)
+  where
+    by_end : (b : Bool) → (if b then a else min (a + 1) (2 ^ 32 - 1)) ≤ a + 1
+    by_end true = omega arith
+    by_end false = omega arith
+
 -- how many nodes the record says that the cursor has looked at
 pub nodes_seen : {P : Type 0} (q : SeatPart P) → IsHandView q → (c : Cursor) → q.core.cursor ≡ Some c → nodes_in q.trace.looked ≡ c.seen
 nodes_seen q view c is = let l = view.looked c is in ap nodes_in l.1 ∙ l.2
@@ -134,6 +141,10 @@ came_outcome {P} first p q came go inside view seats room =
     room_left : seen_of p.core.cursor < 2 ^ 32 - 1
     room_left = let a = room.seen in let b = room.seats in omega arith
 
+    bounded : IsBoundedWalk q
+    bounded = let s = nodes_seen q view came.cursor came.is in let m = came.seen in
+        let o = at_most_one (seen_of p.core.cursor) came.cursor.cur in let r = room.seen in omega arith
+
     within : has_arrived q.core.own came.cursor ≡ true → IsNotSpent q
     within e = by_held (held_at q.core.own) refl
       where
@@ -141,7 +152,7 @@ came_outcome {P} first p q came go inside view seats room =
         by_held None f = inl
             (let z = at_zero q.core.own came.cursor came.lo f e in let s = nodes_seen q view came.cursor came.is in
             let m = came.seen ∙ no_more (seen_of p.core.cursor) came.cursor.cur z in let r = room.seen in omega arith)
-        by_held (Some h) f = inr (λ z. let c : ◌≡◌ {A = Option Held} (Some h) None = sym f ∙ z in cc)
+        by_held (Some h) f = inr ((λ z. let c : ◌≡◌ {A = Option Held} (Some h) None = sym f ∙ z in cc), bounded)
 
     goes : has_arrived q.core.own came.cursor ≡ false → GoesOn p.core q.core
     goes e =

@@ -10,7 +10,7 @@ use Rattle.epoch_pools.specs.declared.views.SeatPart.{SeatPart}
 use Rattle.marked_list.specs.declared.answers.Walked.{Walked}
 use Rattle.marked_list.specs.declared.answers.Walked.TheVariants.{Place, Conflict, Lost, Long}
 use Rattle.marked_list.specs.Leaves.{IsSameWalk, IsNewWalk}
-use Rattle.marked_list.specs.Causes.{IsMet, IsLost, IsWalkLoss, IsSpent, nodes_in}
+use Rattle.marked_list.specs.Causes.{IsMet, IsLost, IsWalkLoss, IsSpent, IsBoundedWalk, nodes_in}
 use Rattle.marked_list.specs.Answers.{Answers, IsLong}
 use Rattle.epoch_pools.specs.Hands.{IsHandView}
 use Rattle.marked_list.specs.Order.{StandsAt}
@@ -74,7 +74,7 @@ pub long_within : {P : Type 0} (first : ℕ) (own : Own) (q : SeatPart P) (a : W
 long_within first own q a x within = (
   spent a x,
   λ s. absurd (⊎_elim (λ (le : nodes_in q.trace.looked ≤ 16 * q.seats). let e = s.0 in omega arith)
-      (λ (held : held_at q.core.own ≢ None). held s.1) within),
+      (λ (held : (held_at q.core.own ≢ None) × IsBoundedWalk q). held.0 s.1) within),
 )
   where
     spent : (b : Walked) → Answers first own q b → IsLong b → IsSpent q
@@ -82,6 +82,16 @@ long_within first own q a x within = (
     spent (Conflict owner range mode) y l = absurd l
     spent (Lost lost) y l = absurd l
     spent (Long visits) y l = y.2
+
+-- and where it has looked at no more nodes than a walk may
+pub bounded_within : {P : Type 0} (q : SeatPart P) → IsNotSpent q → IsBoundedWalk q
+bounded_within q within = ⊎_elim (λ (le : nodes_in q.trace.looked ≤ 16 * q.seats). let e : nodes_in q.trace.looked ≤ 16 * q.seats + 1 = omega arith in e)
+    (λ (held : (held_at q.core.own ≢ None) × IsBoundedWalk q). held.1) within
+
+-- a walk whose cursor is at a node has looked at as many nodes as the cursor
+pub bounded_at : {P : Type 0} (most : ℕ) (q : SeatPart P) → StandsAt q.core → IsHandView q → most ≡ 16 * q.seats + 1
+    → seen_of q.core.cursor ≤ most → IsBoundedWalk q
+bounded_at most q st view many below = let n = nodes_seen q view st.cursor st.is in let s = ap seen_of st.is in omega arith
 
 -- a walk that has looked at as many nodes as it may
 pub spent_is : {P : Type 0} (first most : ℕ) (own : Own) (q : SeatPart P) → StandsAt q.core → IsHandView q → q.core.own ≡ own

@@ -1,6 +1,6 @@
 -- A scan: where it stands after a node that it went past, after an unlinking and after its first step, and what its
 -- answers say of the whole call.
-use Rattle.std.proofs.Common.{◌≡◌, ◌≢◌, ℕ, ◌+◌, ◌*◌, ◌<◌, ◌≤◌, Bool, true, false, inl, inr, ⊎_elim, sym, ap, ◌∙◌, subst, arith}
+use Rattle.std.proofs.Common.{◌≡◌, ◌≢◌, ℕ, ◌+◌, ◌*◌, ◌<◌, ◌≤◌, Bool, true, false, inl, inr, ⊎_elim, refl, sym, ap, ◌∙◌, subst, arith}
 use Rattle.std.specs.Prelude.{length, Option, Some, None, if◌then◌else◌}
 use Rattle.lock_core.specs.declared.range.Held.{Held}
 use Rattle.lock_core.specs.declared.views.View.{View}
@@ -17,11 +17,12 @@ use Rattle.marked_list.specs.declared.answers.Passed.TheVariants.{Found, End, Lo
 use Rattle.marked_list.specs.declared.answers.Walked.{Walked}
 use Rattle.marked_list.specs.declared.answers.Walked.TheVariants.{Place, Conflict, Lost, Long}
 use Rattle.marked_list.specs.Order.{OwnMayWalk, IsInside, StandsAt}
-use Rattle.marked_list.specs.Leaves.{HasJudged}
-use Rattle.marked_list.specs.Causes.{asked_of, nodes_in, judged_in, IsWalkLoss}
+use Rattle.marked_list.specs.Leaves.{HasJudged, IsSameWalk, IsNewWalk}
+use Rattle.marked_list.specs.Causes.{asked_of, nodes_in, judged_in, IsWalkLoss, IsBoundedWalk}
 use Rattle.marked_list.specs.Answers.{Arrives, IsAtEnd}
 use Rattle.marked_list.specs.Walking.{seen_of, has_arrived, arrival_at, GoesOn, HasRoom, IsNotSpent, IsLoad, MayBeginWalk, Outcome}
-use Rattle.marked_list.specs.Scanning.{IsScanAtNode, IsScanAtEnd, IsScanning, IsResting, passed_from, passed_by, passed_at, PassesFrom, Passes, Sees}
+use Rattle.marked_list.specs.Scanning.{IsScanAtNode, IsScanAtEnd, IsScanning, IsResting, IsScanWalk}
+use Rattle.marked_list.specs.Scanning.{passed_from, passed_by, passed_at, PassesFrom, Passes, Sees}
 use Rattle.marked_list.proofs.Arriving.{nodes_seen}
 use Rattle.marked_list.proofs.Following.{lost_from}
 
@@ -54,7 +55,7 @@ module _ {P : Type 0} (first : ℕ) (p q : SeatPart P) (bare : p.core.own ≡ No
         inside = inside;
         end = a.1;
         seen = ⊎_elim (λ (le : nodes_in q.trace.looked ≤ 16 * q.seats). counts a.1 le)
-            (λ (h : held_at q.core.own ≢ None). absurd (h (ap held_at a.0))) x.1;
+            (λ (h : (held_at q.core.own ≢ None) × IsBoundedWalk q). absurd (h.0 (ap held_at a.0))) x.1;
       }
     where
       counts : IsAtEnd q.core.cursor → nodes_in q.trace.looked ≤ 16 * q.seats → seen_of q.core.cursor ≤ 16 * length q.core.notes
@@ -77,7 +78,7 @@ module _ {P : Type 0} (first : ℕ) (p q : SeatPart P) (bare : p.core.own ≡ No
       by_cursor (Some c) y = by_bool (has_arrived q.core.own c) y
 
   short : IsNotSpent q → q.core.own ≡ Nothing → nodes_in q.trace.looked ≤ 16 * q.seats
-  short w own = ⊎_elim (λ le. le) (λ (h : held_at q.core.own ≢ None). absurd (h (ap held_at own))) w
+  short w own = ⊎_elim (λ le. le) (λ (h : (held_at q.core.own ≢ None) × IsBoundedWalk q). absurd (h.0 (ap held_at own))) w
 
   -- the answer of a walk without an own node, which is never in conflict
   pub passes_out : (before : ℕ) (a : Walked) → IsInside q.core → judged_in q.trace.looked ≡ before
@@ -206,6 +207,18 @@ module _ {P : Type 0} (p : SeatPart P) (view : IsHandView p) (rests : IsResting 
   -- a scan that came to the end has looked at fewer nodes than it may
   pub last_few : c.cur ≡ 0 → seen_of p.core.cursor ≢ 16 * p.seats + 1
   last_few z e = let last = rests_last z in let l = last.seen in let t = notes_are p view in omega arith
+
+-- a call that makes no step is of the walk that there was, if there was one
+pub same_as_before : {P : Type 0} (p : SeatPart P) → IsSameWalk p p
+same_as_before p l is = (l, is, refl)
+
+-- what a call of a scan with a cursor does is of the same walk
+pub walks_same : {P : Type 0} (p q : SeatPart P) (c : Cursor) → p.core.cursor ≡ Some c → IsSameWalk p q → IsScanWalk p.core.cursor p q
+walks_same p q c is same = subst (λ (o : Option Cursor). IsScanWalk o p q) (sym is) same
+
+-- what one without a cursor does is of a walk that it began
+pub walks_new : {P : Type 0} (p q : SeatPart P) → p.core.cursor ≡ None → IsNewWalk p.trace.taken q → IsScanWalk p.core.cursor p q
+walks_new p q gone new = subst (λ (o : Option Cursor). IsScanWalk o p q) (sym gone) new
 
 -- a scan without a cursor
 module _ {P : Type 0} (p : SeatPart P) (gone : p.core.cursor ≡ None) where

@@ -14,7 +14,7 @@ use Rattle.marked_list.specs.declared.answers.Walked.{Walked}
 use Rattle.marked_list.specs.declared.answers.Walked.TheVariants.{Place, Conflict, Lost, Long}
 use Rattle.marked_list.specs.Order.{OwnMayWalk, IsOutside, IsInside, MaySweep}
 use Rattle.marked_list.specs.Leaves.{IsLaterInWalk, IsNewWalk, IsSwept}
-use Rattle.marked_list.specs.Causes.{IsSpent, nodes_in, asked_of}
+use Rattle.marked_list.specs.Causes.{IsSpent, IsBoundedWalk, nodes_in, asked_of}
 use Rattle.marked_list.specs.Answers.{Answers, IsLong, Sweeps}
 use Rattle.marked_list.specs.Walking.{MayBeginWalk}
 use Rattle.marked_list.proofs.Unlinking.{gone_looked}
@@ -73,6 +73,10 @@ module _ {P : Type 0} (p e : SeatPart P) (may : MaySweep p.core) (entering : e �
     -- Long comes exactly where the walk is spent, also behind the leaving
     pub swept_long : IsLong a ↔ IsSpent q → IsLong a ↔ IsSpent r
     swept_long both = ((λ l. spent_out (both.0 l)), (λ s. both.1 (spent_back s)))
+
+    -- it has looked at no more nodes than a walk may
+    pub swept_bounded : IsBoundedWalk q → IsBoundedWalk r
+    swept_bounded le = let n = ap nodes_in looked_out in let s = seats_out in omega arith
 
     -- the walk was begun in the call
     pub swept_walk : IsNewWalk e.trace.taken q → IsNewWalk p.trace.taken r

@@ -65,3 +65,7 @@ judged_in (Some l) = l.judged
 -- the last walk has looked at as many nodes as it may, and no range is held: so its last step made none held
 abbrev pub IsSpent : {P : Type 0} → SeatPart P → Type 0
 IsSpent q = (nodes_in q.trace.looked ≡ 16 * q.seats + 1) × (held_at q.core.own ≡ None)
+
+-- the last walk has looked at no more nodes than one walk may, 16 for each seat and one more
+abbrev pub IsBoundedWalk : {P : Type 0} → SeatPart P → Type 0
+IsBoundedWalk q = nodes_in q.trace.looked ≤ 16 * q.seats + 1

@@ -16,6 +16,7 @@ use Rattle.marked_list.specs.declared.answers.Passed.TheVariants.{Found, End, Lo
 use Rattle.marked_list.specs.declared.answers.Walked.{Walked}
 use Rattle.marked_list.specs.declared.answers.Walked.TheVariants.{Place, Conflict, Lost as NotWon, Long as TooLong}
 use Rattle.marked_list.specs.Causes.{IsLost, IsWalkLoss, nodes_in, judged_in}
+use Rattle.marked_list.specs.Leaves.{IsSameWalk, IsNewWalk}
 use Rattle.marked_list.specs.Order.{IsInside, StandsAt}
 use Rattle.marked_list.specs.Answers.{IsAtEnd}
 use Rattle.marked_list.specs.Walking.{seen_of, GoesOn}
@@ -57,6 +58,12 @@ passed_at None l = 0
 passed_at (Some c) l = judged_in l
 
 module _ {P : Type 0} where
+  -- the walk of a scan after a call is the one that the cursor was in before it, and where there was no cursor it is
+  -- one that the call began
+  abbrev pub IsScanWalk : Option Cursor → SeatPart P → SeatPart P → Type 0
+  IsScanWalk None p q = IsNewWalk p.trace.taken q
+  IsScanWalk (Some c) p q = IsSameWalk p q
+
   abbrev pub passed_by : SeatPart P → ℕ
   passed_by p = passed_at p.core.cursor p.trace.looked
 

@@ -13,7 +13,7 @@ use Rattle.epoch_pools.specs.declared.views.SeatPart.{SeatPart}
 use Rattle.marked_list.specs.declared.answers.Walked.{Walked}
 use Rattle.marked_list.specs.declared.answers.Walked.TheVariants.{Place, Conflict, Lost}
 use Rattle.marked_list.specs.declared.answers.Lost.{Lost as LostAnswer}
-use Rattle.marked_list.specs.Causes.{nodes_in, judged_in}
+use Rattle.marked_list.specs.Causes.{nodes_in, judged_in, IsBoundedWalk}
 use Rattle.marked_list.specs.Answers.{Answers}
 use Rattle.marked_list.specs.Leaves.{IsSamePools, IsLaterInWalk, IsCall, IsSameWalk, HasJudged, IsNewWalk}
 use Rattle.marked_list.specs.Order.{OwnMayWalk, IsInside, StandsAt, KnowsNext}
@@ -88,9 +88,9 @@ module _ {P : Type 0} where
   abbrev pub IsAtOthers : SeatPart P → Type 0
   IsAtOthers p = (c : Cursor) (y : ℕ) → p.core.cursor ≡ Some c → plain_node_of c.cur ≡ Some y → IsOthers p.number p.core.own y
 
-  -- the walk has not looked at as many nodes as it may, or a range is held
+  -- the walk has not looked at as many nodes as it may, or a range is held, and it has looked at no more than that
   abbrev pub IsNotSpent : SeatPart P → Type 0
-  IsNotSpent q = (nodes_in q.trace.looked ≤ 16 * q.seats) ⊎ (held_at q.core.own ≢ None)
+  IsNotSpent q = (nodes_in q.trace.looked ≤ 16 * q.seats) ⊎ ((held_at q.core.own ≢ None) × IsBoundedWalk q)
 
   -- what one look came to: the walk goes on, or it has an answer
   abbrev pub Outcome : ℕ → View → SeatPart P → Option Walked → Type 0

@@ -7,11 +7,11 @@ ghost use Rattle.lock_core.specs.Range.{IsRange};
 ghost use Rattle.lock_core.specs.declared.views.Own.TheVariants.{Nothing};
 ghost use Rattle.marked_list.specs.declared.answers.Passed.TheVariants.{End, Long};
 ghost use Rattle.marked_list.specs.Order.{IsInside, StandsAt, KnowsNext};
-ghost use Rattle.marked_list.specs.Leaves.{IsLaterInWalk};
+ghost use Rattle.marked_list.specs.Leaves.{IsLaterInWalk, IsSameWalk, IsNewWalk};
 ghost use Rattle.marked_list.specs.Causes.{judged_in};
 ghost use Rattle.marked_list.specs.Answers.{IsAtEnd};
 ghost use Rattle.marked_list.specs.Walking.{seen_of, KnowsLo, HasRoom, IsAtOthers, MayBeginWalk};
-ghost use Rattle.marked_list.specs.Scanning.{found_with, passed_from, IsResting, PassesFrom, Passes, Sees};
+ghost use Rattle.marked_list.specs.Scanning.{found_with, passed_from, IsResting, IsScanWalk, PassesFrom, Passes, Sees};
 
 use crate::answers::{Passed, Walked};
 use crate::look::{load_lo, load_next, mode_in, remove_marked};
@@ -64,6 +64,7 @@ fn pass_node<G: Guard, L: Ledger>(
     ensures table { hand.new.table ≡ hand.old.table }
     ensures later { IsLaterInWalk hand.old.part hand.new.part }
     ensures own { hand.new.part.core.own ≡ Nothing }
+    ensures walk { IsSameWalk hand.old.part hand.new.part }
     ensures answer { PassesFrom hand.old.part.trace.walked (judged_in hand.old.part.trace.looked) hand.new.part result }
     ensures taken { hand.new.part.trace.taken ≡ hand.old.part.trace.taken + 1 }
     ensures counted { steps.new ≡ steps.old + 1 }
@@ -89,6 +90,7 @@ fn skip_marked<G: Guard, L: Ledger>(
     ensures table { hand.new.table ≡ hand.old.table }
     ensures later { IsLaterInWalk hand.old.part hand.new.part }
     ensures own { hand.new.part.core.own ≡ Nothing }
+    ensures walk { IsSameWalk hand.old.part hand.new.part }
     ensures sees { Sees hand.old.part.trace.taken hand.old.part hand.new.part result }
     ensures taken { hand.new.part.trace.taken ≤ hand.old.part.trace.taken + 2 }
     ensures counted { steps.new + hand.old.part.trace.taken ≡ steps.old + hand.new.part.trace.taken }
@@ -112,6 +114,7 @@ fn scan_look<G: Guard, L: Ledger>(
     ensures table { hand.new.table ≡ hand.old.table }
     ensures later { IsLaterInWalk hand.old.part hand.new.part }
     ensures own { hand.new.part.core.own ≡ Nothing }
+    ensures walk { IsSameWalk hand.old.part hand.new.part }
     ensures sees { Sees hand.old.part.trace.taken hand.old.part hand.new.part result }
     ensures taken { hand.new.part.trace.taken ≤ hand.old.part.trace.taken + 3 }
     ensures counted { steps.new + hand.old.part.trace.taken ≡ steps.old + hand.new.part.trace.taken }
@@ -134,6 +137,7 @@ fn scan_on<G: Guard, L: Ledger>(list: &List<G>, hand: &mut Hand<G>, steps: &mut 
     ensures table { hand.new.table ≡ hand.old.table }
     ensures later { IsLaterInWalk hand.old.part hand.new.part }
     ensures own { hand.new.part.core.own ≡ Nothing }
+    ensures walk { IsSameWalk hand.old.part hand.new.part }
     ensures answer { PassesFrom hand.old.part.trace.taken (judged_in hand.old.part.trace.looked) hand.new.part result }
     ensures taken { hand.new.part.trace.taken ≤ hand.old.part.trace.taken + 3 * (16 * hand.old.part.seats + 1) }
     ensures counted { steps.new + hand.old.part.trace.taken ≡ steps.old + hand.new.part.trace.taken }
@@ -159,6 +163,7 @@ fn scan_from_head<G: Guard, L: Ledger>(
     ensures table { hand.new.table ≡ hand.old.table }
     ensures later { IsLaterInWalk hand.old.part hand.new.part }
     ensures own { hand.new.part.core.own ≡ Nothing }
+    ensures walk { IsNewWalk hand.old.part.trace.taken hand.new.part }
     ensures answer { PassesFrom hand.old.part.trace.taken 0 hand.new.part result }
     ensures taken { hand.new.part.trace.taken ≤ hand.old.part.trace.taken + 2 + 3 * (16 * hand.old.part.seats + 1) }
     ensures counted { steps.new + hand.old.part.trace.taken ≡ steps.old + hand.new.part.trace.taken }
@@ -174,7 +179,8 @@ fn scan_from_head<G: Guard, L: Ledger>(
 /// it has one, is at a node or at the end.
 /// `Found` comes exactly where this call went past a node, and `End` where the end was read and it went past none.
 /// After `End` or `Long` each further call gives the same answer and makes no step. `Lost` is an exchange of this call;
-/// the next call begins at the head with a new count, and may give a node a second time.
+/// the next call begins at the head with a new count, and may give a node a second time. No other call begins anew: the
+/// walk stays the one that the cursor is in.
 pub fn pass<G: Guard, L: Ledger>(list: &List<G>, hand: &mut Hand<G>, steps: &mut Steps<L>) -> Passed
     requires table { hand.old.table ≡ list.now.table }
     requires inside { IsInside hand.old.part.core }
@@ -183,6 +189,7 @@ pub fn pass<G: Guard, L: Ledger>(list: &List<G>, hand: &mut Hand<G>, steps: &mut
     ensures table { hand.new.table ≡ hand.old.table }
     ensures later { IsLaterInWalk hand.old.part hand.new.part }
     ensures own { hand.new.part.core.own ≡ Nothing }
+    ensures walk { IsScanWalk hand.old.part.core.cursor hand.old.part hand.new.part }
     ensures resting { IsResting hand.new.part.core }
     ensures answer { Passes hand.old.part hand.new.part result }
     ensures ended { IsAtEnd hand.old.part.core.cursor → (hand.new.part ≡ hand.old.part) × (result ≡ End) }

@@ -5,7 +5,7 @@
 ghost use Rattle.std.specs.Prelude.{◌≡◌, ◌+◌, ◌*◌, ◌≤◌, ◌↔◌};
 ghost use Rattle.marked_list.specs.Order.{MaySweep};
 ghost use Rattle.marked_list.specs.Leaves.{IsSwept, IsNewWalk};
-ghost use Rattle.marked_list.specs.Causes.{IsSpent};
+ghost use Rattle.marked_list.specs.Causes.{IsSpent, IsBoundedWalk};
 ghost use Rattle.marked_list.specs.Answers.{Sweeps, IsLong};
 
 use crate::answers::Walked;
@@ -30,6 +30,7 @@ pub fn sweep<G: Guard, L: Ledger>(
     ensures swept { IsSwept hand.old.part hand.new.part }
     ensures answer { Sweeps hand.old.part.trace.taken hand.new.part result }
     ensures long { IsLong result ↔ IsSpent hand.new.part }
+    ensures bounded { IsBoundedWalk hand.new.part }
     ensures walk { IsNewWalk hand.old.part.trace.taken hand.new.part }
     ensures seats { hand.old.part.seats ≡ list.now.seats }
     ensures bound { hand.new.part.trace.taken ≤ hand.old.part.trace.taken + 4 + 3 * (16 * hand.old.part.seats + 1) }

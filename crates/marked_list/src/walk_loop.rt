@@ -5,7 +5,7 @@
 ghost use Rattle.std.specs.Prelude.{◌≡◌, ◌+◌, ◌*◌, ◌%◌, ◌<◌, ◌≤◌, ◌↔◌, ℕ, IsOk, IfErr};
 ghost use Rattle.marked_list.specs.Order.{StandsAt};
 ghost use Rattle.marked_list.specs.Leaves.{IsLaterInWalk, IsSameWalk, IsNewWalk};
-ghost use Rattle.marked_list.specs.Causes.{IsSpent, judged_in};
+ghost use Rattle.marked_list.specs.Causes.{IsSpent, IsBoundedWalk, judged_in};
 ghost use Rattle.marked_list.specs.Answers.{Answers, IsLong};
 ghost use Rattle.marked_list.specs.Walking.{seen_of, HasRoom, MayBeginWalk, IsAtOddHead, IsCursorMade, IsSettled, IsFailed, Outcome};
 
@@ -101,6 +101,7 @@ pub(crate) fn walk_on<G: Guard, L: Ledger>(
     ensures later { IsLaterInWalk hand.old.part hand.new.part }
     ensures answer { Answers hand.old.part.trace.taken hand.old.part.core.own hand.new.part result }
     ensures long { IsLong result ↔ IsSpent hand.new.part }
+    ensures bounded { IsBoundedWalk hand.new.part }
     ensures walk { IsSameWalk hand.old.part hand.new.part }
     ensures taken { hand.new.part.trace.taken ≤ hand.old.part.trace.taken + 3 * (16 * hand.old.part.seats + 1) }
     ensures counted { steps.new + hand.old.part.trace.taken ≡ steps.old + hand.new.part.trace.taken }
@@ -126,6 +127,7 @@ pub(crate) fn whole_walk<G: Guard, L: Ledger>(
     ensures later { IsLaterInWalk hand.old.part hand.new.part }
     ensures answer { Answers hand.old.part.trace.taken hand.old.part.core.own hand.new.part result }
     ensures long { IsLong result ↔ IsSpent hand.new.part }
+    ensures bounded { IsBoundedWalk hand.new.part }
     ensures walk { IsNewWalk hand.old.part.trace.taken hand.new.part }
     ensures taken { hand.new.part.trace.taken ≤ hand.old.part.trace.taken + 2 + 3 * (16 * hand.old.part.seats + 1) }
     ensures counted { steps.new + hand.old.part.trace.taken ≡ steps.old + hand.new.part.trace.taken }

@@ -5,7 +5,7 @@
 ghost use Rattle.std.specs.Prelude.{◌≡◌, ◌+◌, ◌*◌, ◌≤◌, ◌↔◌, None};
 ghost use Rattle.marked_list.specs.Order.{MayWalk, MayValidate};
 ghost use Rattle.marked_list.specs.Leaves.{IsLaterInWalk, IsNewWalk};
-ghost use Rattle.marked_list.specs.Causes.{IsSpent};
+ghost use Rattle.marked_list.specs.Causes.{IsSpent, IsBoundedWalk};
 ghost use Rattle.marked_list.specs.Answers.{Answers, IsLong};
 
 use crate::answers::Walked;
@@ -34,6 +34,7 @@ pub fn walk<G: Guard, L: Ledger>(
     ensures later { IsLaterInWalk hand.old.part hand.new.part }
     ensures answer { Answers hand.old.part.trace.taken hand.old.part.core.own hand.new.part result }
     ensures long { IsLong result ↔ IsSpent hand.new.part }
+    ensures bounded { IsBoundedWalk hand.new.part }
     ensures walk { IsNewWalk hand.old.part.trace.taken hand.new.part }
     ensures bound { hand.new.part.trace.taken ≤ hand.old.part.trace.taken + 2 + 3 * (16 * hand.old.part.seats + 1) }
     ensures counted { steps.new + hand.old.part.trace.taken ≡ steps.old + hand.new.part.trace.taken }
@@ -60,6 +61,7 @@ pub fn validate<G: Guard, L: Ledger>(
     ensures later { IsLaterInWalk hand.old.part hand.new.part }
     ensures answer { Answers hand.old.part.trace.taken hand.old.part.core.own hand.new.part result }
     ensures long { IsLong result ↔ IsSpent hand.new.part }
+    ensures bounded { IsBoundedWalk hand.new.part }
     ensures walk { hand.old.part.core.cursor ≡ None → IsNewWalk hand.old.part.trace.taken hand.new.part }
     ensures bound { hand.new.part.trace.taken ≤ hand.old.part.trace.taken + 2 + 3 * (16 * hand.old.part.seats + 1) }
     ensures counted { steps.new + hand.old.part.trace.taken ≡ steps.old + hand.new.part.trace.taken }

@@ -19,13 +19,14 @@ use Rattle.marked_list.specs.Leaves.{IsLaterInWalk}
 use Rattle.marked_list.specs.Causes.{nodes_in, judged_in}
 use Rattle.marked_list.specs.Answers.{IsAtEnd}
 use Rattle.marked_list.specs.Walking.{seen_of}
-use Rattle.marked_list.specs.Scanning.{IsScanAtNode, IsScanAtEnd, IsScanning, IsResting, passed_at, passed_by, Passes}
+use Rattle.marked_list.specs.Scanning.{IsScanAtNode, IsScanAtEnd, IsScanning, IsResting, IsScanWalk, passed_at, passed_by, Passes}
 use Rattle.marked_list.proofs.Arriving.{nodes_seen}
+use Rattle.marked_list.proofs.Passing.{notes_are}
 use Rattle.range_rw.specs.declared.scan.Scanned.{Scanned}
 use Rattle.range_rw.specs.Contract.{OpenScan, fresh_scan}
-use Rattle.range_rw.specs.Seats.{IsSettled, IsBetween, walk_of, scan_of, seat_state_in}
+use Rattle.range_rw.specs.Seats.{IsSettled, IsBetween, begun_in, walk_of, scan_of, seat_state_in}
 use Rattle.range_rw.specs.Trying.{IsLaterInTry}
-use Rattle.range_rw.specs.Scan.{scanned_as, IsScanCall, Gives, IsNext, OpensEpoch, ClosesEpoch}
+use Rattle.range_rw.specs.Scan.{scanned_as, IsScanCall, Gives, WalksOn, KeepsWalk, IsNext, OpensEpoch, ClosesEpoch}
 
 -- a hand that is outside enters its epoch, and begins at the head
 pub opens_epoch : {P : Type 0} (p e q : SeatPart P) → IsLaterInTry p e → MaySweep e.core → e.core.ready ≡ p.core.ready
@@ -95,6 +96,15 @@ walk_nodes m (Some c) l = refl
 walk_passed : (m : ℕ) (o : Option Cursor) (l : Option Looked) → (walk_of m o l).passed ≡ passed_at o l
 walk_passed m None l = refl
 walk_passed m (Some c) l = refl
+
+-- the number of the walk of a cursor
+abbrev walk_at : Option Cursor → Option Looked → Option ℕ
+walk_at None l = None
+walk_at (Some c) l = begun_in l
+
+walk_begun : (m : ℕ) (o : Option Cursor) (l : Option Looked) → (walk_of m o l).walk ≡ walk_at o l
+walk_begun m None l = refl
+walk_begun m (Some c) l = refl
 
 walk_ended : (m : ℕ) (o : Option Cursor) (l : Option Looked) → (walk_of m o l).ended ≡ true → IsAtEnd o
 walk_ended m None l e = absurd (cc)
@@ -177,6 +187,9 @@ module _ {P : Type 0} (table : TableId) (p q : SeatPart P) where
       now_nodes : now.nodes ≡ nodes_in q.trace.looked
       now_nodes = ap (λ (o : Option Cursor). (walk_of (16 * q.seats + 1) o q.trace.looked).nodes) is ∙ sym (nodes_seen q view c is)
 
+      now_walk : now.walk ≡ begun_in q.trace.looked
+      now_walk = ap (λ (o : Option Cursor). (walk_of (16 * q.seats + 1) o q.trace.looked).walk) is
+
     cursor_of : IsScanning q.core → (c : Cursor) × (q.core.cursor ≡ Some c)
     cursor_of s = ⊎_elim (λ (n : IsScanAtNode q.core). (n.stands.cursor, n.stands.is)) (λ (l : IsScanAtEnd q.core). (l.end.0, l.end.1)) s.at
 
@@ -218,13 +231,51 @@ module _ {P : Type 0} (table : TableId) (p q : SeatPart P) where
           now_ended st.cursor st.is ∙ ne_eqb st.cursor.cur 0 (λ z. let q = plain in omega arith),
         )
 
+    was_begun : walk_at p.core.cursor p.trace.looked ≡ was.walk
+    was_begun = sym (walk_begun (16 * p.seats + 1) p.core.cursor p.trace.looked) ∙ ap (λ (w : OpenScan). w.walk) was_walk
+
+    -- the walk stays, or was begun by a step of the call
+    walks_by : IsHandView p → (o : Option Cursor) → p.core.cursor ≡ o → IsScanWalk o p q
+        → WalksOn (seat_state_in table p) (seat_state_in table q) (walk_at o p.trace.looked) (begun_in q.trace.looked)
+    walks_by before None e new = (new.0.step, ap begun_in new.1, new.2, new.3)
+    walks_by before (Some c) e same =
+        let l = before.looked c e in let m = same l.0 l.1 in
+        subst (λ (o : Option Looked). WalksOn (seat_state_in table p) (seat_state_in table q) (begun_in o) (begun_in q.trace.looked))
+        (sym l.1) (ap begun_in m.1 ∙ ap (λ n. Some n) m.2)
+
+    walks_now : IsHandView p → IsScanWalk p.core.cursor p q → (c : Cursor) → q.core.cursor ≡ Some c
+        → WalksOn (seat_state_in table p) (seat_state_in table q) was.walk now.walk
+    walks_now before goes c is =
+        subst (λ (o : Option ℕ). WalksOn (seat_state_in table p) (seat_state_in table q) was.walk o) (sym (now_walk c is))
+        (subst (λ (o : Option ℕ). WalksOn (seat_state_in table p) (seat_state_in table q) o (begun_in q.trace.looked)) was_begun
+        (walks_by before p.core.cursor refl goes))
+
+    keeps_by : IsHandView p → IsScanWalk p.core.cursor p q → (a : Passed) → Passes p q a
+        → KeepsWalk (seat_state_in table p) (seat_state_in table q) was now (scanned_as a)
+    keeps_by before goes (NodeFound owner range mode) x = let c = cursor_of x.2 in walks_now before goes c.0 c.1
+    keeps_by before goes ListEnd x = walks_now before goes x.0.end.0 x.0.end.1
+    keeps_by before goes (NotWon l) x = ap (λ (o : Option Cursor). (walk_of (16 * q.seats + 1) o q.trace.looked).walk) x.3
+    keeps_by before goes (TooLong visits) x = walks_now before goes x.3.stands.cursor x.3.stands.is
+
+    -- a cursor that rests has looked at no more nodes than a walk may
+    rests_few : IsResting q.core → now.nodes ≤ now.most
+    rests_few rests =
+        let n = walk_nodes (16 * q.seats + 1) q.core.cursor q.trace.looked in let m = now_most in let t = notes_are q view in
+        ⊎_elim (λ (none : q.core.cursor ≡ None). let z = ap seen_of none in let e : now.nodes ≤ now.most = omega arith in e)
+        (λ (s : IsScanning q.core). ⊎_elim
+        (λ (at : IsScanAtNode q.core). let b = at.seen in let e : now.nodes ≤ now.most = omega arith in e)
+        (λ (at : IsScanAtEnd q.core). let b = at.seen in let e : now.nodes ≤ now.most = omega arith in e) s.at) rests
+
     -- the answer of the list is what the scan gives, with its cause
-    pub next_is : (a : Passed) (answer : Scanned) → answer ≡ scanned_as a → Passes p q a → IsNext (seat_state_in table p) (seat_state_in table q) was answer
-    next_is a answer e x = record {
+    pub next_is : (a : Passed) (answer : Scanned) → answer ≡ scanned_as a → IsHandView p → IsScanWalk p.core.cursor p q
+        → IsResting q.core → Passes p q a → IsNext (seat_state_in table p) (seat_state_in table q) was answer
+    next_is a answer e before goes rests x = record {
       now = now;
       is = now_is;
       same = same_most;
+      bounded = rests_few rests;
       gives = subst (Gives (seat_state_in table p) (seat_state_in table q) was now) (sym e) (gives_by a x);
+      keeps = subst (KeepsWalk (seat_state_in table p) (seat_state_in table q) was now) (sym e) (keeps_by before goes a x);
     }
 
     -- the bound on steps, in the words of the open scan

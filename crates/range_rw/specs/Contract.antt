@@ -43,20 +43,21 @@ pub record Pools : Type 0 where
   pub homes : List ℕ
   pub waits : List Waited
 
--- an open scan: how many nodes its walk may look at, how many it has looked at, past how many of them it went, and
--- whether it is at the end of the list
+-- an open scan: how many nodes its walk may look at, how many it has looked at, past how many of them it went, whether
+-- it is at the end of the list, and the number of the step that began the walk, where it has begun
 pub record OpenScan : Type 0 where
   pub most : ℕ
   pub nodes : ℕ
   pub passed : ℕ
   pub ended : Bool
+  pub walk : Option ℕ
 
 -- one whose walk begins with the next call
 abbrev pub fresh_scan : ℕ → OpenScan
-fresh_scan most = record { most = most; nodes = 0; passed = 0; ended = false }
+fresh_scan most = record { most = most; nodes = 0; passed = 0; ended = false; walk = None }
 
 -- a seat: its table and number, the range that it holds, its pools, its open scan, its pass, and the record of its
--- steps
+-- steps. It is inside an epoch of its own exactly where it has an open scan
 pub record SeatState (P : Type 0) : Type 0 where
   pub table : TableId
   pub number : ℕ
@@ -130,22 +131,26 @@ module _ {P : Type 0} where
     pub client : after.trace.client ≡ before.trace.client
     pub taken : before.trace.taken ≤ after.trace.taken
 
-  -- one step on client word i: the seat holds what it held, its pools stay, and its record has this step
+  -- one step on client word i: the seat holds what it held, its pools and an open scan stay, and its record has this
+  -- step
   pub record IsClientCall (before : SeatState P) (i : ℕ) (after : SeatState P) : Type 0 where
     pub table : after.table ≡ before.table
     pub number : after.number ≡ before.number
     pub held : after.held ≡ before.held
     pub pools : after.pools ≡ before.pools
+    pub scan : after.scan ≡ before.scan
     pub trace : after.trace ≡ client_trace before.trace i
 
   -- a range was given back, in one step or two, of which none is a client step and none meets a node: the pass is
-  -- rested. The fast path may lose an exchange here, so the record's `lost` is left open
+  -- rested, and an open scan stays, so a seat that was outside its epoch is outside after it. The fast path may lose an
+  -- exchange here, so the record's `lost` is left open
   pub record IsRelease (rested : P → P) (before after : SeatState P) : Type 0 where
     pub table : after.table ≡ before.table
     pub number : after.number ≡ before.number
     pub held : after.held ≡ None
     pub pass : after.pass ≡ rested before.pass
     pub ready : after.pools.ready ≡ before.pools.ready
+    pub scan : after.scan ≡ before.scan
     pub client : after.trace.client ≡ before.trace.client
     pub met : after.trace.met ≡ before.trace.met
     pub least : before.trace.taken + 1 ≤ after.trace.taken

@@ -1,9 +1,10 @@
--- What giving a range back leaves of a hand: it has no node of its own, and owes none its home; the pass is rested. The
--- fast path unlinks the node and gives it home, or finds the head changed and leaves the range held. Kogan, Dice and
--- Issa 2020.
+-- What giving a range back leaves of a hand: it has no node of its own, and owes none its home; the pass is rested, and
+-- an open scan stays. The fast path unlinks the node and gives it home, or finds the head changed and leaves the range
+-- held. Kogan, Dice and Issa 2020.
 use Rattle.std.specs.Prelude.{◌≡◌, ◌+◌, ◌≤◌, Bool, true, false, None}
 use Rattle.lock_core.specs.declared.views.Own.TheVariants.{Nothing}
 use Rattle.epoch_pools.specs.declared.views.SeatPart.{SeatPart}
+use Rattle.range_rw.specs.Seats.{scan_of}
 
 module _ {P : Type 0} where
   -- the range was given back, in one step or two
@@ -16,12 +17,14 @@ module _ {P : Type 0} where
     pub hand : q.core.hand ≡ None
     pub cursor : q.core.cursor ≡ p.core.cursor
     pub ready : q.core.ready ≡ p.core.ready
+    pub scan : scan_of q ≡ scan_of p
     pub least : p.trace.taken + 1 ≤ q.trace.taken
     pub most : q.trace.taken ≤ p.trace.taken + 2
 
   -- the range is still held, after one step
   pub record IsRefusedQuickly (p q : SeatPart P) : Type 0 where
     pub number : q.number ≡ p.number
+    pub seats : q.seats ≡ p.seats
     pub core : q.core ≡ p.core
     pub pass : q.pass ≡ p.pass
     pub client : q.trace.client ≡ p.trace.client

@@ -1,6 +1,6 @@
 -- A scan of the list through a seat that holds nothing: what its calls leave of the seat, and why each answer comes.
 -- The walk is that of Kogan, Dice and Issa 2020; a scan that stops after each node is this project's own profile.
-use Rattle.std.specs.Prelude.{◌≡◌, ◌≢◌, ℕ, ◌+◌, ◌%◌, ◌<◌, ◌≤◌, true, false, Some, None}
+use Rattle.std.specs.Prelude.{◌≡◌, ◌≢◌, ℕ, ◌+◌, ◌%◌, ◌<◌, ◌≤◌, true, false, Option, Some, None}
 use Rattle.lock_core.specs.declared.range.Held.{Held}
 use Rattle.lock_core.specs.declared.views.Own.TheVariants.{Nothing}
 use Rattle.epoch_pools.specs.declared.record.Lost.{Lost}
@@ -63,12 +63,26 @@ module _ {P : Type 0} where
       × (judged_in after.trace.looked ≡ was.passed) × (nodes_in after.trace.looked < was.most) × (now ≡ fresh_scan was.most)
   Gives before after was now (Long visits) = (visits ≡ now.most) × (now.nodes ≡ now.most) × (now.passed ≡ was.passed) × (now.ended ≡ false)
 
-  -- the call of a scan that had come to this before it
+  -- a walk that had begun is still the same one, and one that had still to begin was begun by a step of this call
+  abbrev pub WalksOn : SeatState P → SeatState P → Option ℕ → Option ℕ → Type 0
+  WalksOn before after (Some begun) now = now ≡ Some begun
+  WalksOn before after None now = (begun : ℕ) × (now ≡ Some begun) × (before.trace.taken ≤ begun) × (begun < after.trace.taken)
+
+  -- a scan begins anew after a lost exchange alone, and says so by its answer
+  abbrev pub KeepsWalk : SeatState P → SeatState P → OpenScan → OpenScan → Scanned → Type 0
+  KeepsWalk before after was now (Found owner range mode) = WalksOn before after was.walk now.walk
+  KeepsWalk before after was now End = WalksOn before after was.walk now.walk
+  KeepsWalk before after was now (Again place expected found) = now.walk ≡ None
+  KeepsWalk before after was now (Long visits) = WalksOn before after was.walk now.walk
+
+  -- the call of a scan that had come to this before it. One walk looks at no more nodes than it may
   pub record IsNext (before after : SeatState P) (was : OpenScan) (answer : Scanned) : Type 0 where
     pub now : OpenScan
     pub is : after.scan ≡ Some now
     pub same : now.most ≡ was.most
+    pub bounded : now.nodes ≤ now.most
     pub gives : Gives before after was now answer
+    pub keeps : KeepsWalk before after was now answer
 
   -- a hand entered its epoch, and begins at the head
   pub record OpensEpoch (p q : SeatPart P) : Type 0 where

@@ -29,10 +29,15 @@ waits_from k (noted ∷ notes) passed = waits_at k noted (unwrap_or (slice_get p
 abbrev pub pools_of : View → Pools
 pools_of v = record { ready = v.ready; homes = v.homes; waits = waits_from 0 v.notes v.passed }
 
--- the open scan of a hand, which is inside its epoch: its cursor, where its walk has begun, and what that has judged
+-- the open scan of a hand, which is inside its epoch: its cursor, where its walk has begun, and what that has judged.
+-- The walk's number is that of the step that made its cursor
+abbrev pub begun_in : Option Looked → Option ℕ
+begun_in None = None
+begun_in (Some l) = Some l.step
+
 abbrev pub walk_of : ℕ → Option Cursor → Option Looked → OpenScan
 walk_of most None l = fresh_scan most
-walk_of most (Some c) l = record { most = most; nodes = c.seen; passed = judged_in l; ended = c.cur == 0 }
+walk_of most (Some c) l = record { most = most; nodes = c.seen; passed = judged_in l; ended = c.cur == 0; walk = begun_in l }
 
 abbrev pub scan_of : {P : Type 0} → SeatPart P → Option OpenScan
 scan_of p = if p.core.epoch % 2 == 0 then None else Some (walk_of (16 * p.seats + 1) p.core.cursor p.trace.looked)

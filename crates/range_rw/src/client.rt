@@ -12,8 +12,8 @@ use std::sync::ledger::Ledger;
 use word_rows::Steps;
 
 impl<G: Guard> RangeTable<G> {
-    /// Loads client word `i`, counted from 0, and returns its value.
-    pub fn load<M: Means<G>>(&self, seat: &mut Seat<G>, i: u32) -> u64
+    /// The same as `load_as`, not counted.
+    pub fn load_as_uncounted<M: Means<G>>(&self, seat: &mut Seat<G>, i: u32) -> u64
         requires table { seat.old.table ≡ self.now.table }
         requires place { i < self.now.client }
         requires allowed { IsAllowed G.holds G.allows M.note seat.old.number seat.old.held seat.old.pass (loads i) }
@@ -23,7 +23,8 @@ impl<G: Guard> RangeTable<G> {
         client_load::<G, M>(&self.list, &mut seat.hand, i)
     }
 
-    /// The same as `load`, counted by `steps`.
+    /// Loads client word `i`, counted from 0, and returns its value.
+    /// One step, counted by `steps`.
     pub fn load_as<M: Means<G>, L: Ledger>(
         &self,
         seat: &mut Seat<G>,
@@ -38,11 +39,11 @@ impl<G: Guard> RangeTable<G> {
         ensures counted { steps.new ≡ steps.old + 1 }
     {
         steps.tick();
-        self.load::<M>(seat, i)
+        self.load_as_uncounted::<M>(seat, i)
     }
 
-    /// Stores a value in client word `i`, counted from 0.
-    pub fn store<M: Means<G>>(&self, seat: &mut Seat<G>, i: u32, value: u64)
+    /// The same as `store_as`, not counted.
+    pub fn store_as_uncounted<M: Means<G>>(&self, seat: &mut Seat<G>, i: u32, value: u64)
         requires table { seat.old.table ≡ self.now.table }
         requires place { i < self.now.client }
         requires allowed { IsAllowed G.holds G.allows M.note seat.old.number seat.old.held seat.old.pass (stores i value) }
@@ -52,7 +53,8 @@ impl<G: Guard> RangeTable<G> {
         client_store::<G, M>(&self.list, &mut seat.hand, i, value);
     }
 
-    /// The same as `store`, counted by `steps`.
+    /// Stores a value in client word `i`, counted from 0.
+    /// One step, counted by `steps`.
     pub fn store_as<M: Means<G>, L: Ledger>(
         &self,
         seat: &mut Seat<G>,
@@ -68,11 +70,11 @@ impl<G: Guard> RangeTable<G> {
         ensures counted { steps.new ≡ steps.old + 1 }
     {
         steps.tick();
-        self.store::<M>(seat, i, value);
+        self.store_as_uncounted::<M>(seat, i, value);
     }
 
-    /// Adds `by` to client word `i`, counted from 0, modulo 2^64, and returns the value before.
-    pub fn add<M: Means<G>>(&self, seat: &mut Seat<G>, i: u32, by: u64) -> u64
+    /// The same as `add_as`, not counted.
+    pub fn add_as_uncounted<M: Means<G>>(&self, seat: &mut Seat<G>, i: u32, by: u64) -> u64
         requires table { seat.old.table ≡ self.now.table }
         requires place { i < self.now.client }
         requires allowed { IsAllowed G.holds G.allows M.note seat.old.number seat.old.held seat.old.pass (adds i by) }
@@ -82,7 +84,8 @@ impl<G: Guard> RangeTable<G> {
         client_add::<G, M>(&self.list, &mut seat.hand, i, by)
     }
 
-    /// The same as `add`, counted by `steps`.
+    /// Adds `by` to client word `i`, counted from 0, modulo 2^64, and returns the value before.
+    /// One step, counted by `steps`.
     pub fn add_as<M: Means<G>, L: Ledger>(
         &self,
         seat: &mut Seat<G>,
@@ -98,12 +101,11 @@ impl<G: Guard> RangeTable<G> {
         ensures counted { steps.new ≡ steps.old + 1 }
     {
         steps.tick();
-        self.add::<M>(seat, i, by)
+        self.add_as_uncounted::<M>(seat, i, by)
     }
 
-    /// Puts `new` in place of `expected` in client word `i`, counted from 0. Where the word has another value, it
-    /// returns that value, and the word stays.
-    pub fn exchange<M: Means<G>>(
+    /// The same as `exchange_as`, not counted.
+    pub fn exchange_as_uncounted<M: Means<G>>(
         &self,
         seat: &mut Seat<G>,
         i: u32,
@@ -122,7 +124,9 @@ impl<G: Guard> RangeTable<G> {
         client_exchange::<G, M>(&self.list, &mut seat.hand, i, expected, new)
     }
 
-    /// The same as `exchange`, counted by `steps`.
+    /// Puts `new` in place of `expected` in client word `i`, counted from 0. Where the word has another value, it
+    /// returns that value, and the word stays.
+    /// One step, counted by `steps`.
     pub fn exchange_as<M: Means<G>, L: Ledger>(
         &self,
         seat: &mut Seat<G>,
@@ -142,6 +146,6 @@ impl<G: Guard> RangeTable<G> {
         ensures counted { steps.new ≡ steps.old + 1 }
     {
         steps.tick();
-        self.exchange::<M>(seat, i, expected, new)
+        self.exchange_as_uncounted::<M>(seat, i, expected, new)
     }
 }

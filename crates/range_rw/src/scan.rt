@@ -138,6 +138,7 @@ impl<G: Guard> RangeTable<G> {
         ensures bound { (was : OpenScan) → seat.old.scan ≡ Some was → seat.new.trace.taken ≤ seat.old.trace.taken + 2 + 3 * was.most }
     {
         let mut steps = Steps::<L>::new(blank);
+        let _ = seat.hand.view();
         let passed = pass(&self.list, &mut seat.hand, &mut steps);
         let _ = seat.hand.view();
         answer_of(passed)
@@ -145,6 +146,9 @@ impl<G: Guard> RangeTable<G> {
 
     /// Begins a scan of the list, inside an epoch of the seat. The seat is of this table and holds nothing; it is
     /// borrowed until the scan is ended. The walk begins at the head, with the first call of `next`.
+    /// While the scan is open no node of another seat that came home is ready again. So a thread that tries for ranges
+    /// with another seat meanwhile may be without a node, `NoNode`, at every try until it ends the scan, and its
+    /// `acquire` may wait for ever.
     pub fn scan<'a>(&'a self, seat: &'a mut Seat<G>) -> Scan<'a, G>
         requires table { seat.old.table ≡ self.now.table }
         requires free { seat.old.held ≡ None }
@@ -170,7 +174,8 @@ impl<'a, G: Guard> Scan<'a, G> {
     /// exactly where the end was read and this call went past no node, and `Long` where the walk has looked at 16 nodes
     /// for each seat and one more and this call went past none. After `End` or `Long` each further call gives the same
     /// answer and makes no step. `Again` is an exchange of this call that found another value than it expected; the
-    /// next call begins at the head with a new count, and may give a node a second time.
+    /// next call begins at the head with a new count, and may give a node a second time. No other call begins anew:
+    /// after `Found`, `End` and `Long` the walk is the one that had begun before the call, if one had.
     pub fn next(&mut self) -> Scanned
         requires table { self.old.seat.now.table ≡ self.old.table.now.table }
         requires free { self.old.seat.now.held ≡ None }

@@ -99,14 +99,14 @@ fn visit(
 {
     let share = share_of(mode);
     'come: for slot in lo..hi {
-        let found = table.add::<FreeGuard>(seat, slot, share);
+        let found = table.add_as_uncounted::<FreeGuard>(seat, slot, share);
         visits.look(mode, found);
     }
     if pause {
         thread::yield_now();
     }
     'go: for slot in lo..hi {
-        let found = table.add::<FreeGuard>(seat, slot, share.wrapping_neg());
+        let found = table.add_as_uncounted::<FreeGuard>(seat, slot, share.wrapping_neg());
         visits.look(mode, found.wrapping_sub(share));
     }
 }
@@ -127,7 +127,7 @@ fn hold<R: Wait>(
     ensures held { IsSome seat.new.held }
     ensures counted { CountsOneTry tries.old tries.new }
 {
-    match table.try_once(seat, range, mode) {
+    match table.try_acquire_uncounted(seat, range, mode) {
         Ok(()) => tries.count_held(),
         Err(refusal) => {
             tries.count_refused(&refusal);
@@ -162,7 +162,7 @@ fn take_turn<R: Wait>(
     let pause = below(draws, 8) == 0;
     hold(wait, table, seat, range, mode, &mut visits.tries);
     visit(table, seat, lo, hi, mode, pause, visits);
-    table.give_back(seat);
+    table.release_uncounted(seat);
 }
 
 /// So many turns of a seat, and what they came to.

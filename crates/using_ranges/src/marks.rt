@@ -31,7 +31,7 @@ pub fn read(table: &RangeTable<HighWater>, seat: &mut Seat<HighWater>) -> u64
     ensures risen { seat.old.pass.seen ≤ result }
     ensures known { seat.new.pass ≡ record { seen = result; sure = true } }
 {
-    table.load::<HighWater>(seat, 0)
+    table.load_as_uncounted::<HighWater>(seat, 0)
 }
 
 /// Raises the mark, under a range with 0 in it that the seat holds as a writer and under which it has read the
@@ -45,7 +45,7 @@ pub fn raise(table: &RangeTable<HighWater>, seat: &mut Seat<HighWater>, to: u64)
     ensures call { IsClientCall seat.old 0 seat.new }
     ensures known { seat.new.pass ≡ record { seen = to; sure = true } }
 {
-    table.store::<HighWater>(seat, 0, to);
+    table.store_as_uncounted::<HighWater>(seat, 0, to);
 }
 
 /// Raises the mark to `value` where it is below, and returns what it is then. It waits for its range.
@@ -69,6 +69,6 @@ pub fn mark<R: Wait>(
     table.acquire(wait, seat, range, Mode::Writer);
     let risen = read(table, seat).max(value);
     raise(table, seat, risen);
-    table.give_back(seat);
+    table.release_uncounted(seat);
     risen
 }

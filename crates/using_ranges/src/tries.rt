@@ -37,12 +37,12 @@ pub fn meet(
     let (Ok(wide), Ok(narrow)) = (Range::of(0, 10), Range::of(5, 6)) else {
         unreachable!()
     };
-    table.try_once(writer, wide, Mode::Writer)?;
-    let answer = table.try_once(reader, narrow, Mode::Reader);
+    table.try_acquire_uncounted(writer, wide, Mode::Writer)?;
+    let answer = table.try_acquire_uncounted(reader, narrow, Mode::Reader);
     if answer.is_ok() {
-        table.give_back(reader);
+        table.release_uncounted(reader);
     }
-    table.give_back(writer);
+    table.release_uncounted(writer);
     answer
 }
 

@@ -3,11 +3,12 @@ use Rattle.lock_trials.proofs.Tallying.{may_write, was_written}
 use Rattle.lock_trials.proofs.adds.write_next.Goals as goal
 
 -- the seat holds the word as a writer, and the value is the next after the one that it read
-pub store-requires-clause-allowed : goal.store-requires-clause-allowed
-store-requires-clause-allowed c = may_write c.args.seat.now.number c.args.seat.now.held c.args.seat.now.pass
+pub store_as_uncounted-requires-clause-allowed : goal.store_as_uncounted-requires-clause-allowed
+store_as_uncounted-requires-clause-allowed c = may_write c.args.seat.now.number c.args.seat.now.held c.args.seat.now.pass
     ((c.args.count + 1) % 2 ^ 64) c.requires.held c.requires.known.0
     (ap (λ n. (n + 1) % 2 ^ 64) (sym c.requires.known.1))
 
 -- the pass knows what was stored
 pub returns-clause-known : goal.returns-clause-known
-returns-clause-known c = was_written c.args.seat.now.number c.args.seat.now.held c.args.seat.now.pass ((c.args.count + 1) % 2 ^ 64) _ _ c.store.ensures.made.1
+returns-clause-known c = was_written c.args.seat.now.number c.args.seat.now.held c.args.seat.now.pass ((c.args.count + 1) % 2 ^ 64) _ _
+    c.store_as_uncounted.ensures.made.1

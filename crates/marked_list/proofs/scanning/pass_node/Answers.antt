@@ -3,7 +3,7 @@ use Rattle.lock_core.specs.declared.views.View.{View}
 use Rattle.marked_list.specs.declared.answers.Passed.{Passed}
 use Rattle.marked_list.specs.Causes.{judged_in}
 use Rattle.marked_list.specs.Scanning.{PassesFrom}
-use Rattle.marked_list.proofs.Judging.{judged_range, past_passes}
+use Rattle.marked_list.proofs.Judging.{judged_range, judged_walk, past_passes}
 use Rattle.marked_list.proofs.scanning.pass_node.Goals as goal
 
 -- both ends are those of a range
@@ -11,6 +11,12 @@ pub found-requires-clause-range : goal.found-requires-clause-range
 found-requires-clause-range g c = let k = c.requires.knows in
     judged_range c.args.hand.now.part k.0 c.args.lo k.1 k.2 g.G.Guard.rested c.step-word.new.hand.part c.step-word.result
     c.step-word.ensures.made _ c.step-word.ensures.told
+
+-- it is the same walk
+pub returns-clause-walk : goal.returns-clause-walk
+returns-clause-walk g c = let k = c.requires.knows in
+    judged_walk c.args.hand.now.part k.0 c.args.lo k.1 k.2 g.G.Guard.rested c.step-word.new.hand.part c.step-word.result
+    c.step-word.ensures.made
 
 -- the scan went past the node that its cursor was at
 pub returns-clause-answer : goal.returns-clause-answer

@@ -1,7 +1,7 @@
 use Rattle.std.proofs.Common.{◌≡◌, ◌+◌, ◌*◌, ◌-◌, ◌≤◌}
 use Rattle.lock_core.specs.declared.views.Own.TheVariants.{Nothing}
 use Rattle.marked_list.specs.Order.{StandsAt}
-use Rattle.marked_list.specs.Leaves.{IsLaterInWalk}
+use Rattle.marked_list.specs.Leaves.{IsLaterInWalk, IsSameWalk}
 use Rattle.marked_list.specs.Causes.{judged_in}
 use Rattle.marked_list.specs.Walking.{seen_of}
 use Rattle.marked_list.proofs.scanning.scan_on.Given as goal
@@ -16,6 +16,7 @@ invariant-nodes g l = record {
   own : l.hand.part.core.own ≡ Nothing;
   seen : seen_of l.hand.part.core.cursor ≤ l.most;
   later : IsLaterInWalk l.initial.hand.part l.hand.part;
+  walk : IsSameWalk l.initial.hand.part l.hand.part;
   judged : judged_in l.hand.part.trace.looked ≡ judged_in l.initial.hand.part.trace.looked;
   taken : l.hand.part.trace.taken + 3 * seen_of l.initial.hand.part.core.cursor ≤ l.initial.hand.part.trace.taken + 3 * seen_of l.hand.part.core.cursor;
   counted : l.steps + l.initial.hand.part.trace.taken ≡ l.initial.steps + l.hand.part.trace.taken;

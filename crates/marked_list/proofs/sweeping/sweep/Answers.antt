@@ -1,4 +1,4 @@
-use Rattle.marked_list.proofs.Swept.{may_begin, swept_long, swept_walk, swept_answer, swept_is}
+use Rattle.marked_list.proofs.Swept.{may_begin, swept_long, swept_bounded, swept_walk, swept_answer, swept_is}
 use Rattle.marked_list.proofs.sweeping.sweep.Goals as goal
 
 -- the hand has just entered its epoch, without an own node
@@ -29,3 +29,9 @@ pub returns-clause-walk : goal.returns-clause-walk
 returns-clause-walk g c = swept_walk c.args.hand.now.part c.begin-cursor.new.hand.part c.requires.order
     c.begin-cursor.ensures.made c.whole_walk-answer.new.hand.part c.end.new.hand.part c.whole_walk-answer.result c.whole_walk-answer.ensures.later
     c.whole_walk-answer.ensures.answer c.end.ensures.made c.whole_walk-answer.ensures.walk
+
+-- it has looked at no more nodes than a walk may
+pub returns-clause-bounded : goal.returns-clause-bounded
+returns-clause-bounded g c = swept_bounded c.args.hand.now.part c.begin-cursor.new.hand.part c.requires.order
+    c.begin-cursor.ensures.made c.whole_walk-answer.new.hand.part c.end.new.hand.part c.whole_walk-answer.result c.whole_walk-answer.ensures.later
+    c.whole_walk-answer.ensures.answer c.end.ensures.made c.whole_walk-answer.ensures.bounded

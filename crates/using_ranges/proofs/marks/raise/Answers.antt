@@ -2,10 +2,10 @@ use Rattle.using_ranges.proofs.Marking.{may_raise, was_raised}
 use Rattle.using_ranges.proofs.marks.raise.Goals as goal
 
 -- the guard allows the rise
-pub store-requires-clause-allowed : goal.store-requires-clause-allowed
-store-requires-clause-allowed c = may_raise c.args.seat.now.number c.args.seat.now.held c.args.seat.now.pass c.args.to
+pub store_as_uncounted-requires-clause-allowed : goal.store_as_uncounted-requires-clause-allowed
+store_as_uncounted-requires-clause-allowed c = may_raise c.args.seat.now.number c.args.seat.now.held c.args.seat.now.pass c.args.to
     c.requires.held c.requires.sure c.requires.rises
 
 -- the seat knows the mark that it stored
 pub returns-clause-known : goal.returns-clause-known
-returns-clause-known c = was_raised c.args.seat.now.number c.args.seat.now.held c.args.seat.now.pass c.args.to _ _ c.store.ensures.made.1
+returns-clause-known c = was_raised c.args.seat.now.number c.args.seat.now.held c.args.seat.now.pass c.args.to _ _ c.store_as_uncounted.ensures.made.1

@@ -21,17 +21,17 @@ returns-clause-called g c =
     let p = c.plan-planned.ensures in
     let n = c.draw-entry.ensures in
     let w = c.write_plan.ensures in
-    let d = c.give_back.ensures in
+    let d = c.release_uncounted.ensures in
     record {
       line_is = n.line;
       call_is = n.call;
       named = n.named;
       numbered = numbered_whole c.args.caller.now.seat c.acquire.new.caller.seat c.plan-planned.new.caller.seat
-          c.draw-entry.new.caller.seat c.write_plan.new.caller.seat c.give_back.new.caller.seat c.draw-entry.result _
+          c.draw-entry.new.caller.seat c.write_plan.new.caller.seat c.release_uncounted.new.caller.seat c.draw-entry.result _
           c.requires.free b.call p.reading n.drawn w.written d.release;
-      last = subst (λ (u : Under). IsLastStep c.args.caller.now.seat u c.give_back.new.caller.seat) (sym n.under)
+      last = subst (λ (u : Under). IsLastStep c.args.caller.now.seat u c.release_uncounted.new.caller.seat) (sym n.under)
           (last_whole c.args.caller.now.seat c.acquire.new.caller.seat c.plan-planned.new.caller.seat c.draw-entry.new.caller.seat
-          c.write_plan.new.caller.seat c.give_back.new.caller.seat c.draw-entry.result _ b.call p.reading n.drawn w.written
+          c.write_plan.new.caller.seat c.release_uncounted.new.caller.seat c.draw-entry.result _ b.call p.reading n.drawn w.written
           d.release);
       written = ap (λ (x : Pass). x.pending) d.release.pass ∙ w.written.rest;
       left = ap (λ k. k + 1) (d.left ∙ w.left) ∙ (n.left ∙ (p.left ∙ b.left));

@@ -8,8 +8,8 @@ use Rattle.area_rows.proofs.Stepping.{may_draw, draws}
 use Rattle.area_rows.proofs.space.Space.draw_as.Goals as goal
 
 -- the guard allows the draw
-pub add-requires-clause-allowed : goal.add-requires-clause-allowed
-add-requires-clause-allowed g c =
+pub add_as_uncounted-requires-clause-allowed : goal.add_as_uncounted-requires-clause-allowed
+add_as_uncounted-requires-clause-allowed g c =
     let s = c.args.seat.now in
     let note = entry_note c.args.draft.now (pending_of c.args.draft.now.under (planned_rows c.args.read.now c.args.plan.now) c.args.change) in
     let r = c.requires in
@@ -20,9 +20,10 @@ add-requires-clause-allowed g c =
 pub returns-clause-drawn : goal.returns-clause-drawn
 returns-clause-drawn g c =
     let s = c.args.seat.now in
-    let u = c.add.new.seat in
+    let u = c.add_as_uncounted.new.seat in
     let pending = pending_of c.args.draft.now.under (planned_rows c.args.read.now c.args.plan.now) c.args.change in
     let note = entry_note c.args.draft.now pending in
-    let made = subst (λ (n : Note). IsMade HasHistory Allowed n s.number s.held s.pass (adds 0 1) c.add.result u.pass) c.requires.note c.add.ensures.made in
-    subst (λ w. IsDrawn s (entry_of c.add.result w note) pending u) c.requires.worker
-    (draws note s.number s.held s.pass c.add.result u.pass s u refl refl refl refl c.add.ensures.call made)
+    let made = subst (λ (n : Note). IsMade HasHistory Allowed n s.number s.held s.pass (adds 0 1) c.add_as_uncounted.result u.pass) c.requires.note
+    c.add_as_uncounted.ensures.made in
+    subst (λ w. IsDrawn s (entry_of c.add_as_uncounted.result w note) pending u) c.requires.worker
+    (draws note s.number s.held s.pass c.add_as_uncounted.result u.pass s u refl refl refl refl c.add_as_uncounted.ensures.call made)

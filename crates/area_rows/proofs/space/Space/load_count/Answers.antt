@@ -5,24 +5,27 @@ use Rattle.area_rows.proofs.Stepping.{may_count, counts}
 use Rattle.area_rows.proofs.space.Space.load_count.Goals as goal
 
 -- the guard allows the load of the row count
-pub load-requires-clause-allowed : goal.load-requires-clause-allowed
-load-requires-clause-allowed c = may_count no_note _ _ _ (search rules) c.caller.invariant.7
+pub load_as_uncounted-requires-clause-allowed : goal.load_as_uncounted-requires-clause-allowed
+load_as_uncounted-requires-clause-allowed c = may_count no_note _ _ _ (search rules) c.caller.invariant.7
 
 -- there is a row
 pub returns-clause-some : goal.returns-clause-some
 returns-clause-some c =
     let s = c.caller.inside.seat in
-    (counts no_note s.number s.held s.pass c.load.result c.load.new.seat.pass (search rules) c.caller.invariant.7 (search rules) c.load.ensures.made).1
+    (counts no_note s.number s.held s.pass c.load_as_uncounted.result c.load_as_uncounted.new.seat.pass
+    (search rules) c.caller.invariant.7 (search rules) c.load_as_uncounted.ensures.made).1
 
 -- there are no more rows than there is room for
 pub returns-clause-few : goal.returns-clause-few
 returns-clause-few c =
     let s = c.caller.inside.seat in
-    (counts no_note s.number s.held s.pass c.load.result c.load.new.seat.pass (search rules) c.caller.invariant.7 (search rules) c.load.ensures.made).2
+    (counts no_note s.number s.held s.pass c.load_as_uncounted.result c.load_as_uncounted.new.seat.pass
+    (search rules) c.caller.invariant.7 (search rules) c.load_as_uncounted.ensures.made).2
 
 -- the count is what was found before, where the caller has read it
 pub returns-clause-again : goal.returns-clause-again
 returns-clause-again c = λ n counted.
     let s = c.caller.inside.seat in
-    let r = counts no_note s.number s.held s.pass c.load.result c.load.new.seat.pass (search rules) c.caller.invariant.7 (search rules) c.load.ensures.made in
+    let r = counts no_note s.number s.held s.pass c.load_as_uncounted.result c.load_as_uncounted.new.seat.pass (search rules) c.caller.invariant.7
+    (search rules) c.load_as_uncounted.ensures.made in
     r.3 n (ap (λ (v : CallerView). v.seat.pass.count) c.caller.view_is ∙ counted)

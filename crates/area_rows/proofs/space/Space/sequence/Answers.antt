@@ -6,21 +6,21 @@ use Rattle.area_rows.proofs.Stepping.{may_sequence, sequence_is}
 use Rattle.area_rows.proofs.space.Space.sequence.Goals as goal
 
 -- the guard allows the load of the sequence word
-pub load-requires-clause-allowed : goal.load-requires-clause-allowed
-load-requires-clause-allowed c = may_sequence no_note _ _ _ c.caller.invariant.7
+pub load_as_uncounted-requires-clause-allowed : goal.load_as_uncounted-requires-clause-allowed
+load_as_uncounted-requires-clause-allowed c = may_sequence no_note _ _ _ c.caller.invariant.7
 
 -- the load is a reading
 pub returns-clause-reading : goal.returns-clause-reading
 returns-clause-reading c =
     let s = c.caller.inside.seat in
-    let u = c.load.new.seat in
+    let u = c.load_as_uncounted.new.seat in
     subst (λ (v : CallerView). IsReading v.seat u) c.caller.view_is
-    (sequence_is s u c.load.result c.caller.invariant.7 c.load.ensures.call c.load.ensures.made).0
+    (sequence_is s u c.load_as_uncounted.result c.caller.invariant.7 c.load_as_uncounted.ensures.call c.load_as_uncounted.ensures.made).0
 
 -- while a range is held it counts the entries under everything
 pub returns-clause-counts : goal.returns-clause-counts
 returns-clause-counts c =
     let s = c.caller.inside.seat in
-    let u = c.load.new.seat in
-    subst (λ (v : CallerView). IsSome v.seat.held → CountsWhole u c.load.result) c.caller.view_is
-    (sequence_is s u c.load.result c.caller.invariant.7 c.load.ensures.call c.load.ensures.made).1
+    let u = c.load_as_uncounted.new.seat in
+    subst (λ (v : CallerView). IsSome v.seat.held → CountsWhole u c.load_as_uncounted.result) c.caller.view_is
+    (sequence_is s u c.load_as_uncounted.result c.caller.invariant.7 c.load_as_uncounted.ensures.call c.load_as_uncounted.ensures.made).1

@@ -3,12 +3,14 @@ use Rattle.area_rows.proofs.ReplacingRows.{may_store_change, change_stored}
 use Rattle.area_rows.proofs.space.Space.store_change.Goals as goal
 
 -- the guard allows the store of the change
-pub store-requires-clause-allowed : goal.store-requires-clause-allowed
-store-requires-clause-allowed c = let w = c.requires.change in may_store_change no_note c.args.seat.now w.0 w.1 w.2 c.args.index c.args.word w.3 w.4
+pub store_as_uncounted-requires-clause-allowed : goal.store_as_uncounted-requires-clause-allowed
+store_as_uncounted-requires-clause-allowed c = let w = c.requires.change in may_store_change no_note c.args.seat.now w.0 w.1 w.2 c.args.index
+    c.args.word w.3 w.4
 
 -- it was one step of the seat, after which all is written
 pub returns : goal.returns
 returns c = let w = c.requires.change in record {
   step =
-      change_stored c.args.seat.now c.store.new.seat w.0 c.args.index c.args.word w.1 c.store.ensures.call c.store.ensures.made;
+      change_stored c.args.seat.now c.store_as_uncounted.new.seat w.0 c.args.index c.args.word w.1 c.store_as_uncounted.ensures.call
+      c.store_as_uncounted.ensures.made;
 }

@@ -1,4 +1,4 @@
-use Rattle.range_rw.proofs.table.RangeTable.give_back.Given as goal
+use Rattle.range_rw.proofs.table.RangeTable.release_uncounted.Given as goal
 
 -- the ledger of the steps is that of the blank
 abbrev pub ghosts-release_counting : goal.ghosts-release_counting

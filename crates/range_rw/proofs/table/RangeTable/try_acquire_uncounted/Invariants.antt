@@ -1,4 +1,4 @@
-use Rattle.range_rw.proofs.table.RangeTable.try_once.Given as goal
+use Rattle.range_rw.proofs.table.RangeTable.try_acquire_uncounted.Given as goal
 
 -- the ledger of the steps is that of the blank
 abbrev pub ghosts-try_counting : goal.ghosts-try_counting
