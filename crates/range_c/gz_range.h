@@ -97,12 +97,13 @@ uint32_t gz_range_open(uint32_t seats, const uint64_t *words, size_t count, gz_r
    The thread that has `from`. It allocates. */
 uint32_t gz_range_share(gz_range *from, gz_range *handle);
 
-/* Tries to hold the numbers from lo on and below hi, at most 2^62, as a writer or as a reader: at most `tries` times,
-   with a short pause after each refusal. With tries 1 it waits for nobody, and with 0 it only looks at what is asked.
+/* Tries to hold the numbers from lo on and below hi, at most 2^62, as a writer or as a reader: until a try is granted,
+   and at most `tries` times, with a short pause between one try and the next. A try makes at most 64 atomic steps and
+   386 for each seat of the table, whatever other threads do. With tries 1 it makes one, with no pause, and waits for
+   nobody; with 0 it only looks at what is asked.
    DONE, and the range is held from a step of this call on; IS_CLOSED, HAS_ONE, BAD_RANGE, NOT_TRIED, the first of
-   these that is so, with the handle as it was; BUSY, AGAIN, LONG or NO_NODE, why the last try was refused, with nothing
-   held. busy is filled after BUSY, and all 0 after each other answer. A try makes at most 64 atomic steps and 386 for
-   each seat of the table.
+   these that is so, with the handle as it was; BUSY, AGAIN, LONG or NO_NODE, where all tries were refused: why the last
+   one was, with nothing held. busy is filled after BUSY, and all 0 after each other answer.
    The thread that has the handle. */
 uint32_t gz_range_try(gz_range *handle, uint64_t lo, uint64_t hi, bool writer, uint32_t tries, gz_busy *busy);
 

@@ -1,12 +1,40 @@
-/* Each answer that a call may give, met on one thread, and what is so after it. It prints one line for each call with
-   the answer's number; gz_range.h says what the numbers mean. */
+/* The names of all answers with their numbers, as gz_range.h has them; then the answers that a call may give, met on one
+   thread, and what is so after each. It prints one line for each call, with the number that the library answered and the
+   name that the header gives it, so two names that change places there are noticed. */
 #include "gz_range.h"
 
 #include <inttypes.h>
 #include <stdio.h>
 #include <stdlib.h>
 
-static void says(const char *call, uint32_t answer) { printf("%-44s %2u\n", call, answer); }
+static const char *name_of(uint32_t answer) {
+    switch (answer) {
+    case GZ_RANGE_DONE: return "DONE";
+    case GZ_RANGE_BUSY: return "BUSY";
+    case GZ_RANGE_AGAIN: return "AGAIN";
+    case GZ_RANGE_LONG: return "LONG";
+    case GZ_RANGE_NO_NODE: return "NO_NODE";
+    case GZ_RANGE_NOT_TRIED: return "NOT_TRIED";
+    case GZ_RANGE_BAD_RANGE: return "BAD_RANGE";
+    case GZ_RANGE_HAS_ONE: return "HAS_ONE";
+    case GZ_RANGE_HAS_NONE: return "HAS_NONE";
+    case GZ_RANGE_IS_CLOSED: return "IS_CLOSED";
+    case GZ_RANGE_IS_OPEN: return "IS_OPEN";
+    case GZ_RANGE_NO_MEMORY: return "NO_MEMORY";
+    case GZ_RANGE_BAD_SEATS: return "BAD_SEATS";
+    case GZ_RANGE_BAD_WORDS: return "BAD_WORDS";
+    case GZ_RANGE_NONE_LEFT: return "NONE_LEFT";
+    case GZ_RANGE_NO_WORD: return "NO_WORD";
+    case GZ_RANGE_OTHER: return "OTHER";
+    default: return "no answer";
+    }
+}
+
+static void names(void) {
+    for (uint32_t answer = 0; answer <= GZ_RANGE_OTHER; answer++) printf("%2u %s\n", answer, name_of(answer));
+}
+
+static void says(const char *call, uint32_t answer) { printf("%-44s %2u %s\n", call, answer, name_of(answer)); }
 
 static void shows(const gz_busy *busy) {
     printf("    seat %u, %" PRIu64 " to %" PRIu64 ", %s\n", busy->owner, busy->lo, busy->hi,
@@ -100,6 +128,7 @@ int main(void) {
     const uint64_t words[2] = { 7, 8 };
     gz_range a = GZ_RANGE_CLOSED, b = GZ_RANGE_CLOSED;
     gz_busy busy;
+    names();
     closed_handles();
     openings();
     says("open", gz_range_open(2, words, 2, &a));

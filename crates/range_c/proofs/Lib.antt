@@ -2,4 +2,5 @@ pub mod AsBox
 pub mod Lifting
 pub mod Refusals
 pub mod Rows
+pub mod Steps
 pub mod Tries

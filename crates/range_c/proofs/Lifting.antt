@@ -3,7 +3,7 @@
 use Rattle.std.proofs.Common.{◌≡◌, ℕ, Option, Some, None, refl, sym, subst}
 use Rattle.range_c.specs.declared.answers.Answer.{Answer}
 use Rattle.range_c.specs.declared.answers.Answer.TheVariants.{Closed}
-use Rattle.range_c.specs.declared.state.WordStep.{WordStep}
+use Rattle.range_c.specs.declared.recording.WordStep.{WordStep}
 use Rattle.range_c.specs.Behind.{Behind, IsStepped}
 use Rattle.range_c.specs.Calls.{Between, OnHandle, OnWord}
 

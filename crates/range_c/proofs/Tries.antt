@@ -1,19 +1,30 @@
--- Several tries in a row are tries, and what the tries so far came to. The last of them began with the seat as the one
--- before had left it.
-use Rattle.std.proofs.Common.{◌≡◌, ℕ, ◌+◌, ◌<◌, ◌≤◌, ◌↔◌, ◌∙◌, Bool, None, subst, arith}
+-- Several tries in a row are tries, what the tries so far came to, and how many steps they made at most. Each of them
+-- began with the seat as the one before had left it.
+use Rattle.std.proofs.Common.{◌≡◌, ℕ, zero, suc, ◌+◌, ◌*◌, ◌<◌, ◌≤◌, ◌↔◌, ◌∙◌, Bool, Result, Ok, Err, IfErr, OnErr, Some, None, refl, sym, ap, subst, arith}
+use Rattle.std.proofs.Math.Nat.{suc-mul, zero-mul, mul-le-mul_right}
+use Rattle.std.proofs.Math.Numerals.{add-one}
 use Rattle.lock_core.specs.Range.{Interval, IsRange}
 use Rattle.lock_core.specs.declared.range.Held.{Held}
 use Rattle.lock_core.specs.declared.range.Mode.{Mode}
 use Rattle.range_rw.specs.declared.refusals.NotHeld.{NotHeld}
-use Rattle.range_rw.specs.Contract.{SeatState, IsLockCall, IsCause, IsLongRefusal, IsSpentIn}
+use Rattle.range_rw.specs.Contract.{IsLockCall, IsCause, IsLongRefusal, IsSpentIn}
 use Rattle.range_c.specs.declared.answers.Answer.{Answer}
 use Rattle.range_c.specs.declared.answers.Answer.TheVariants.{Done, Refused, NotTried, BadRange, HasOne, HasNone}
 use Rattle.range_c.specs.declared.answers.Answer.TheVariants.{Closed, Open, Memory, Seats, Words, NoneLeft, NoWord}
 use Rattle.range_c.specs.declared.answers.Answer.TheVariants.{Other}
-use Rattle.range_c.specs.Behind.{Behind, IsTrial, IsOneTry, IsLastTry, IsTrialAnswer, IsTriedFor, IsTried, mode_for, asked}
+use Rattle.range_c.specs.Behind.{Behind, RecordingSeat, IsTrial, IsOneTry, IsGranted, IsRefused, AreRefused, IsTrialAnswer, IsTriedFor, IsTried, most_steps}
+use Rattle.range_c.specs.Behind.{mode_for, asked}
+
+-- what `range_rw` says of a try that was refused, put together
+pub refused_for : {T : Type 0} (r : Result T NotHeld) (seats : ℕ) (ask : Held) (entry after : RecordingSeat) → IsLockCall entry after → entry.held ≡ None
+    → after.trace.taken ≤ entry.trace.taken + most_steps seats → OnErr r (after.held ≡ None) → IfErr r (IsCause entry after ask)
+    → IfErr r (λ why. IsLongRefusal why ↔ IsSpentIn seats entry after) → IfErr r (IsRefused seats ask entry after)
+refused_for (Ok x) seats ask entry after call free bound none cause long = tt
+refused_for (Err why) seats ask entry after call free bound none cause long =
+    record { one = record { call = call; free = free; bound = bound }; free = none; cause = cause; long = long }
 
 -- calls of the lock, one after another, are calls of the lock
-pub calls_after : (a b c : SeatState (Unit {0})) → IsLockCall a b → IsLockCall b c → IsLockCall a c
+pub calls_after : (a b c : RecordingSeat) → IsLockCall a b → IsLockCall b c → IsLockCall a c
 calls_after a b c f g = record {
   table = g.table ∙ f.table;
   number = g.number ∙ f.number;
@@ -33,9 +44,28 @@ trials_after a b c f g = record {
 
 -- what the tries so far came to, with so many left of those that were asked for
 abbrev pub IsSoFar : Held → ℕ → ℕ → Behind → Behind → Answer → Type 0
-IsSoFar asked tries left before now NotTried = (left ≡ tries) × (now ≡ before)
-IsSoFar asked tries left before now (Refused why) = (left < tries) × IsLastTry before.seats asked before.seat now.seat why
-IsSoFar asked tries left before now _ = ⊥
+IsSoFar asked tries left before now answer = (made : ℕ) × (made + left ≡ tries) × IsTrialAnswer asked made before now answer
+
+-- tries after which nothing is held were all refused
+all_refused : (ask : Held) (made : ℕ) (before now : Behind) (answer : Answer) → now.seat.held ≡ None → IsTrialAnswer ask made before now answer
+    → AreRefused before.seats ask made before.seat now.seat
+all_refused ask made before now Done free s =
+    let never : Some ask ≡ None = sym s.4.held ∙ free in absurd cc
+all_refused ask made before now (Refused why) free s =
+    subst (λ n. AreRefused before.seats ask n before.seat now.seat) (sym (add-one s.0) ∙ s.1) (s.2, why, s.3, s.4)
+all_refused ask made before now NotTried free s =
+    subst (λ n. AreRefused before.seats ask n before.seat now.seat) (sym s.0) (ap (λ (b : Behind). b.seat) s.1)
+all_refused ask made before now BadRange free s = absurd s
+all_refused ask made before now HasOne free s = absurd s
+all_refused ask made before now HasNone free s = absurd s
+all_refused ask made before now Closed free s = absurd s
+all_refused ask made before now Open free s = absurd s
+all_refused ask made before now Memory free s = absurd s
+all_refused ask made before now Seats free s = absurd s
+all_refused ask made before now Words free s = absurd s
+all_refused ask made before now NoneLeft free s = absurd s
+all_refused ask made before now NoWord free s = absurd s
+all_refused ask made before now Other free s = absurd s
 
 -- tries give none of the answers that come before them
 pub tried : (lo hi : ℕ) (writer : Bool) (tries : ℕ) (answer : Answer) (before after : Behind)
@@ -56,31 +86,68 @@ tried lo hi writer tries NoWord before after t = t
 tried lo hi writer tries Other before after t = t
 
 -- one more try was refused for that cause
-pub one_more : (ask : Held) (tries left next : ℕ) (before mid now : Behind) (why : NotHeld) → left ≤ tries → next + 1 ≡ left
-    → IsTrial before mid → mid.seat.held ≡ None
-    → IsCause mid.seat now.seat ask why → (IsLongRefusal why ↔ IsSpentIn mid.seats mid.seat now.seat) → IsSoFar ask tries next before now (Refused why)
-one_more ask tries left next before mid now why most e kept free cause long =
-    let one : IsOneTry mid.seats ask mid.seat now.seat why = record { cause = cause; long = long } in
-    (omega arith, record { entry = mid.seat; call = kept.call; free = free; cause = subst (λ (n : ℕ). IsOneTry n ask mid.seat now.seat why) kept.seats one })
+pub one_more : (ask : Held) (tries left next : ℕ) (before mid now : Behind) (answer : Answer) (why : NotHeld) → next + 1 ≡ left
+    → IsTrial before mid → mid.seat.held ≡ None → IsSoFar ask tries left before mid answer → IsRefused mid.seats ask mid.seat now.seat why
+    → IsSoFar ask tries next before now (Refused why)
+one_more ask tries left next before mid now answer why e kept free far refused =
+    let now_made : far.0 + 1 + next ≡ tries = let f = far.1 in omega arith in
+    let one = subst (λ (n : ℕ). IsRefused n ask mid.seat now.seat why) kept.seats refused in
+    (far.0 + 1, now_made, (far.0, refl, mid.seat, all_refused ask far.0 before mid answer free far.2, one))
+
+-- one more try holds what was asked for
+pub at_last : (ask : Held) (tries left : ℕ) (before mid now : Behind) (answer : Answer) → 0 < left → IsTrial before mid
+    → mid.seat.held ≡ None → IsSoFar ask tries left before mid answer → IsGranted mid.seats ask mid.seat now.seat
+    → IsTrialAnswer ask tries before now Done
+at_last ask tries left before mid now answer more kept free far granted =
+    let below : far.0 < tries = let f = far.1 in omega arith in
+    let one = subst (λ (n : ℕ). IsGranted n ask mid.seat now.seat) kept.seats granted in
+    (far.0, below, mid.seat, all_refused ask far.0 before mid answer free far.2, one)
 
 -- none is left
-pub all_made : (ask : Held) (tries left : ℕ) (before now : Behind) (answer : Answer) → left ≤ 0 → now.seat.held ≡ None
-    → IsSoFar ask tries left before now answer
+pub all_made : (ask : Held) (tries left : ℕ) (before now : Behind) (answer : Answer) → left ≤ 0 → IsSoFar ask tries left before now answer
     → IsTrialAnswer ask tries before now answer
-all_made ask tries left before now NotTried none free s = (let e = s.0 in omega arith, s.1)
-all_made ask tries left before now (Refused why) none free s = (let m = s.0 in omega arith, free, s.1)
-all_made ask tries left before now Done none free s = absurd s
-all_made ask tries left before now BadRange none free s = absurd s
-all_made ask tries left before now HasOne none free s = absurd s
-all_made ask tries left before now HasNone none free s = absurd s
-all_made ask tries left before now Closed none free s = absurd s
-all_made ask tries left before now Open none free s = absurd s
-all_made ask tries left before now Memory none free s = absurd s
-all_made ask tries left before now Seats none free s = absurd s
-all_made ask tries left before now Words none free s = absurd s
-all_made ask tries left before now NoneLeft none free s = absurd s
-all_made ask tries left before now NoWord none free s = absurd s
-all_made ask tries left before now Other none free s = absurd s
+all_made ask tries left before now answer none far =
+    let all : far.0 ≡ tries = let f = far.1 in omega arith in
+    subst (λ n. IsTrialAnswer ask n before now answer) all far.2
+
+more_steps : (a b c n m : ℕ) → b ≤ a + n * m → c ≤ b + m → c ≤ a + suc n * m
+more_steps a b c n m first next = let e = suc-mul n m in omega arith
+
+-- tries that were refused made at most the steps of so many
+refused_steps : (seats : ℕ) (ask : Held) (n : ℕ) (a b : RecordingSeat) → AreRefused seats ask n a b
+    → b.trace.taken ≤ a.trace.taken + n * most_steps seats
+refused_steps seats ask zero a b s =
+    let same = ap (λ (x : RecordingSeat). x.trace.taken) s in let z = zero-mul (most_steps seats) in omega arith
+refused_steps seats ask (suc n) a b s = more_steps a.trace.taken s.0.trace.taken b.trace.taken n (most_steps seats)
+    (refused_steps seats ask n a s.0 s.2) s.3.one.bound
+
+last_steps : (seats n tries : ℕ) (ask : Held) (a entry b : RecordingSeat) → n < tries → AreRefused seats ask n a entry
+    → IsOneTry seats entry b → b.trace.taken ≤ a.trace.taken + tries * most_steps seats
+last_steps seats n tries ask a entry b below refused one =
+    let all = more_steps a.trace.taken entry.trace.taken b.trace.taken n (most_steps seats) (refused_steps seats ask n a entry refused) one.bound in
+    let most : suc n ≤ tries = omega arith in
+    let times = mul-le-mul_right (most_steps seats) most in
+    omega arith
+
+-- tries make at most the steps of as many as were asked for
+pub trial_steps : (ask : Held) (tries : ℕ) (before after : Behind) (answer : Answer) → IsTrialAnswer ask tries before after answer
+    → after.seat.trace.taken ≤ before.seat.trace.taken + tries * most_steps before.seats
+trial_steps ask tries before after Done s = last_steps before.seats s.0 tries ask before.seat s.2 after.seat s.1 s.3 s.4.one
+trial_steps ask tries before after (Refused why) s =
+    let below : s.0 < tries = let e = s.1 in omega arith in last_steps before.seats s.0 tries ask before.seat s.2 after.seat below s.3 s.4.one
+trial_steps ask tries before after NotTried s =
+    let same = ap (λ (b : Behind). b.seat.trace.taken) s.1 in omega arith
+trial_steps ask tries before after BadRange s = absurd s
+trial_steps ask tries before after HasOne s = absurd s
+trial_steps ask tries before after HasNone s = absurd s
+trial_steps ask tries before after Closed s = absurd s
+trial_steps ask tries before after Open s = absurd s
+trial_steps ask tries before after Memory s = absurd s
+trial_steps ask tries before after Seats s = absurd s
+trial_steps ask tries before after Words s = absurd s
+trial_steps ask tries before after NoneLeft s = absurd s
+trial_steps ask tries before after NoWord s = absurd s
+trial_steps ask tries before after Other s = absurd s
 
 -- the tries for a range with these ends, in the mode that the flag means, are those that the call asks for
 pub tried_for : (lo hi : ℕ) (range : Interval) (writer : Bool) (mode : Mode) (tries : ℕ) (answer : Answer) (before after : Behind)
@@ -97,4 +164,10 @@ tried_for lo hi range writer mode tries answer before after l h m is free kept a
     let all : IsTrialAnswer (asked lo hi writer) tries before after answer =
     subst (λ (x : ℕ). IsTrialAnswer (record { range = record { lo = lo; hi = x }; mode = mode_for writer }) tries before after
     answer) h two in
-    tried lo hi writer tries answer before after (record { range = is; free = free; kept = kept; answered = all })
+    tried lo hi writer tries answer before after (record {
+      range = is;
+      free = free;
+      kept = kept;
+      answered = all;
+      bound = trial_steps (asked lo hi writer) tries before after answer all;
+    })

@@ -1,9 +1,8 @@
 -- What contracts see of what is behind a handle: its seat, how many seats are left to share, and how many client words
 -- and seats the table has; and what each call answers and leaves of it. The causes of a refused try are those of
 -- `range_rw`; the answers are this project's own.
-use Rattle.std.specs.Prelude.{◌≡◌, ◌≢◌, ℕ, ◌+◌, ◌<◌, ◌≤◌, ◌^◌, ◌↔◌, Bool, true, false, List, Option, Some, None}
-use Rattle.lock_core.specs.Client.{ClientStep, loads, stores, adds, exchanges, place_of, IsMade}
-use Rattle.lock_core.specs.Grants.{Grants}
+use Rattle.std.specs.Prelude.{◌≡◌, ◌≢◌, ℕ, zero, suc, ◌+◌, ◌*◌, ◌%◌, ◌<◌, ◌≤◌, ◌^◌, ◌↔◌, Bool, true, false, List, length, Option, Some, None}
+use Rattle.lock_core.specs.Client.{IsMade}
 use Rattle.lock_core.specs.Range.{IsRange}
 use Rattle.lock_core.specs.declared.range.Held.{Held}
 use Rattle.lock_core.specs.declared.range.Mode.{Mode}
@@ -12,11 +11,17 @@ use Rattle.range_rw.specs.declared.refusals.NotHeld.{NotHeld}
 use Rattle.range_rw.specs.Contract.{SeatState, IsSeatCount, IsLockCall, IsClientCall, IsRelease, IsCause, IsLongRefusal, IsSpentIn, new_seat}
 use Rattle.range_c.specs.declared.answers.Answer.{Answer}
 use Rattle.range_c.specs.declared.answers.Answer.TheVariants.{Done, Refused, NotTried, BadRange, HasOne, HasNone, Memory, Seats, Words, NoneLeft, NoWord, Other}
-use Rattle.range_c.specs.declared.state.WordStep.{WordStep}
-use Rattle.range_c.specs.declared.state.WordStep.TheVariants.{Load, Store, Add, Exchange}
+use Rattle.range_c.specs.declared.recording.Recorded.{Recorded}
+use Rattle.range_c.specs.declared.recording.WordStep.{WordStep}
+use Rattle.range_c.specs.declared.recording.WordStep.TheVariants.{Load, Store, Add, Exchange}
+use Rattle.range_c.specs.Recording.{IsBegun, IsRecorded, begun, step_on, with_last}
+
+-- a seat of a table for C, with what it knows of the client words
+abbrev pub RecordingSeat : Type 0
+RecordingSeat = SeatState Recorded
 
 pub record Behind : Type 0 where
-  pub seat : SeatState (Unit {0})
+  pub seat : RecordingSeat
   pub spare : ℕ
   pub words : ℕ
   pub seats : ℕ
@@ -35,13 +40,14 @@ abbrev pub mode_for : Bool → Mode
 mode_for false = Reader
 mode_for true = Writer
 
--- what is behind a new handle of a new table: the seat of the highest number, which holds nothing, and the others
-pub record IsNewBehind (seats count : ℕ) (b : Behind) : Type 0 where
+-- what is behind a new handle of a new table: the seat of the highest number, which holds nothing and knows that the
+-- client words were these at the opening, and the others
+pub record IsNewBehind (seats : ℕ) (client : List ℕ) (b : Behind) : Type 0 where
   pub seat_count : IsSeatCount seats
-  pub word_count : count ≤ 2 ^ 20
+  pub word_count : length client ≤ 2 ^ 20
   pub spare : b.spare + 1 ≡ seats
-  pub seat : b.seat ≡ new_seat b.seat.table (λ _. tt) b.spare
-  pub words : b.words ≡ count
+  pub seat : b.seat ≡ new_seat b.seat.table (begun client) b.spare
+  pub words : b.words ≡ length client
   pub table_seats : b.seats ≡ seats
 
 -- why no table was opened
@@ -51,12 +57,12 @@ IsNotOpened seats count Seats = (count ≤ 2 ^ 20) × ¬ (IsSeatCount seats)
 IsNotOpened seats count Memory = (count ≤ 2 ^ 20) × IsSeatCount seats
 IsNotOpened seats count _ = ⊥
 
--- a seat was taken out for a handle of its own: the last of those that were left, which is of the same table and holds
--- nothing
+-- a seat was taken out for a handle of its own: the last of those that were left, which is of the same table, holds
+-- nothing, and knows of the same words at the opening
 pub record IsShared (before after new : Behind) : Type 0 where
   pub kept : after ≡ record before { spare = after.spare }
   pub spare : after.spare + 1 ≡ before.spare
-  pub seat : new.seat ≡ new_seat before.seat.table (λ _. tt) after.spare
+  pub seat : new.seat ≡ new_seat before.seat.table (begun before.seat.pass.opened) after.spare
   pub none : new.spare ≡ 0
   pub words : new.words ≡ before.words
   pub seats : new.seats ≡ before.seats
@@ -78,23 +84,42 @@ pub record IsTrial (before after : Behind) : Type 0 where
   pub words : after.words ≡ before.words
   pub seats : after.seats ≡ before.seats
 
--- one try in a table of so many seats, from one state of the seat to another, was refused for that cause, as `range_rw`
--- says; that it was too long exactly where a walk of it looked at as many nodes as one may
-pub record IsOneTry (seats : ℕ) (asked : Held) (entry after : SeatState (Unit {0})) (why : NotHeld) : Type 0 where
+-- the most steps on words of the lock that one try makes in a table of so many seats
+abbrev pub most_steps : ℕ → ℕ
+most_steps seats = 64 + 386 * seats
+
+-- one try of a seat that holds nothing, in a table of so many seats, from one state of the seat to another
+pub record IsOneTry (seats : ℕ) (entry after : RecordingSeat) : Type 0 where
+  pub call : IsLockCall entry after
+  pub free : entry.held ≡ None
+  pub bound : after.trace.taken ≤ entry.trace.taken + most_steps seats
+
+-- one try that holds what was asked for
+pub record IsGranted (seats : ℕ) (asked : Held) (entry after : RecordingSeat) : Type 0 where
+  pub one : IsOneTry seats entry after
+  pub held : after.held ≡ Some asked
+
+-- one try that was refused for that cause, as `range_rw` says; that it was too long exactly where a walk of it looked
+-- at as many nodes as one may
+pub record IsRefused (seats : ℕ) (asked : Held) (entry after : RecordingSeat) (why : NotHeld) : Type 0 where
+  pub one : IsOneTry seats entry after
+  pub free : after.held ≡ None
   pub cause : IsCause entry after asked why
   pub long : IsLongRefusal why ↔ IsSpentIn seats entry after
 
--- the last of the tries, which began with the seat at `entry`, was refused for that cause
-pub record IsLastTry (seats : ℕ) (asked : Held) (before after : SeatState (Unit {0})) (why : NotHeld) : Type 0 where
-  pub entry : SeatState (Unit {0})
-  pub call : IsLockCall before entry
-  pub free : entry.held ≡ None
-  pub cause : IsOneTry seats asked entry after why
+-- so many tries, one behind the other, each of which was refused
+abbrev pub AreRefused : ℕ → Held → ℕ → RecordingSeat → RecordingSeat → Type 0
+AreRefused seats asked zero before after = after ≡ before
+AreRefused seats asked (suc n) before after = (entry : RecordingSeat) × (why : NotHeld)
+    × AreRefused seats asked n before entry × IsRefused seats asked entry after why
 
--- what at most so many tries came to
+-- what at most so many tries came to: some were refused, and then one was granted; or as many as were asked for were
+-- refused, the last one for that cause
 abbrev pub IsTrialAnswer : Held → ℕ → Behind → Behind → Answer → Type 0
-IsTrialAnswer asked tries before after Done = (0 < tries) × (after.seat.held ≡ Some asked)
-IsTrialAnswer asked tries before after (Refused why) = (0 < tries) × (after.seat.held ≡ None) × IsLastTry before.seats asked before.seat after.seat why
+IsTrialAnswer asked tries before after Done = (n : ℕ) × (n < tries) × (entry : RecordingSeat)
+    × AreRefused before.seats asked n before.seat entry × IsGranted before.seats asked entry after.seat
+IsTrialAnswer asked tries before after (Refused why) = (n : ℕ) × (n + 1 ≡ tries) × (entry : RecordingSeat)
+    × AreRefused before.seats asked n before.seat entry × IsRefused before.seats asked entry after.seat why
 IsTrialAnswer asked tries before after NotTried = (tries ≡ 0) × (after ≡ before)
 IsTrialAnswer asked tries before after _ = ⊥
 
@@ -102,12 +127,14 @@ IsTrialAnswer asked tries before after _ = ⊥
 abbrev pub asked : ℕ → ℕ → Bool → Held
 asked lo hi writer = record { range = record { lo = lo; hi = hi }; mode = mode_for writer }
 
--- a call that came to tries: the ends bound a range and the seat held nothing, and these are the tries' answer
+-- a call that came to tries: the ends bound a range and the seat held nothing, and these are the tries' answer; each
+-- try has its most steps, and the call has them so many times
 pub record IsTriedFor (lo hi : ℕ) (writer : Bool) (tries : ℕ) (answer : Answer) (before after : Behind) : Type 0 where
   pub range : IsRange lo hi
   pub free : before.seat.held ≡ None
   pub kept : IsTrial before after
   pub answered : IsTrialAnswer (asked lo hi writer) tries before after answer
+  pub bound : after.seat.trace.taken ≤ before.seat.trace.taken + tries * most_steps before.seats
 
 -- what a call for a range answers and leaves
 abbrev pub IsTried : ℕ → ℕ → Bool → ℕ → Answer → Behind → Behind → Type 0
@@ -122,21 +149,13 @@ IsReleased Done before after = (before.seat.held ≢ None) × IsRelease (λ p. p
 IsReleased HasNone before after = (before.seat.held ≡ None) × (after ≡ before)
 IsReleased _ before after = ⊥
 
--- the guard of these client words, which allows every step and means nothing by it
-abbrev pub free_holds : Grants → List ℕ → List (Unit {0}) → Type 0
-free_holds grants words passes = Unit {0}
-
-abbrev pub free_allows : Grants → List ℕ → List (Unit {0}) → ℕ → ClientStep → Unit {0} → Unit {0} → Type 0
-free_allows grants words passes seat step note after = Unit {0}
-
-abbrev pub free_note : Unit {0}
-free_note = tt
-
--- one step was made on a client word, at a moment at which it found that value; the seat holds what it held
-pub record IsWordStep (step : ClientStep) (found : ℕ) (before after : Behind) : Type 0 where
-  pub there : place_of step < before.words
-  pub call : IsClientCall before.seat (place_of step) after.seat
-  pub made : IsMade free_holds free_allows free_note before.seat.number before.seat.held before.seat.pass step found after.seat.pass
+-- one step was made on a client word, at a moment at which it found that value, and left that one; it is the last step
+-- that the seat knows of, and the seat holds what it held
+pub record IsWordStep (i : ℕ) (step : WordStep) (found left : ℕ) (before after : Behind) : Type 0 where
+  pub there : i < before.words
+  pub call : IsClientCall before.seat i after.seat
+  pub made : IsMade IsBegun IsRecorded tt before.seat.number before.seat.held before.seat.pass (step_on i step) found after.seat.pass
+  pub last : after.seat.pass ≡ with_last before.seat.pass (record { place = i; step = step; found = found; left = left })
   pub spare : after.spare ≡ before.spare
   pub words : after.words ≡ before.words
   pub seats : after.seats ≡ before.seats
@@ -145,9 +164,9 @@ pub record IsWordStep (step : ClientStep) (found : ℕ) (before after : Behind) 
 -- call brought
 abbrev pub IsStepped : ℕ → WordStep → ℕ → ℕ → Answer → Behind → Behind → Type 0
 IsStepped i step told said NoWord before after = (said ≡ told) × (before.words ≤ i) × (after ≡ before)
-IsStepped i Load told said Done before after = IsWordStep (loads i) said before after
-IsStepped i (Store value) told said Done before after = (said ≡ told) × ((found : ℕ) × IsWordStep (stores i value) found before after)
-IsStepped i (Add by) told said Done before after = IsWordStep (adds i by) said before after
-IsStepped i (Exchange expected new) told said Done before after = (said ≡ expected) × IsWordStep (exchanges i expected new) expected before after
-IsStepped i (Exchange expected new) told said Other before after = (said ≢ expected) × IsWordStep (exchanges i expected new) said before after
+IsStepped i Load told said Done before after = IsWordStep i Load said said before after
+IsStepped i (Store value) told said Done before after = (said ≡ told) × ((found : ℕ) × IsWordStep i (Store value) found value before after)
+IsStepped i (Add by) told said Done before after = IsWordStep i (Add by) said ((said + by) % 2 ^ 64) before after
+IsStepped i (Exchange expected new) told said Done before after = (said ≡ expected) × IsWordStep i (Exchange expected new) expected new before after
+IsStepped i (Exchange expected new) told said Other before after = (said ≢ expected) × IsWordStep i (Exchange expected new) said said before after
 IsStepped i step told said _ before after = ⊥

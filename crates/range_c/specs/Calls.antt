@@ -1,9 +1,9 @@
 -- What a call answers and leaves of a handle, open or closed. Each relation lifts one of `Behind` to handles; that a
 -- closed handle is told and stays closed is said here once.
-use Rattle.std.specs.Prelude.{◌≡◌, ℕ, Option, Some, None}
+use Rattle.std.specs.Prelude.{◌≡◌, ℕ, List, Option, Some, None}
 use Rattle.range_c.specs.declared.answers.Answer.{Answer}
 use Rattle.range_c.specs.declared.answers.Answer.TheVariants.{Done, Closed, Open}
-use Rattle.range_c.specs.declared.state.WordStep.{WordStep}
+use Rattle.range_c.specs.declared.recording.WordStep.{WordStep}
 use Rattle.range_c.specs.Behind.{Behind, IsNewBehind, IsNotOpened, IsShared, IsUnshared, IsStepped}
 
 -- the handle is open before and after, and this is so of what is behind it
@@ -23,10 +23,10 @@ OnWord i step told said answer None None = (answer ≡ Closed) × (said ≡ told
 OnWord i step told said answer (Some before) (Some after) = IsStepped i step told said answer before after
 OnWord i step told said answer _ _ = ⊥
 
--- a handle is over a new table
-abbrev pub IsFresh : ℕ → ℕ → Option Behind → Type 0
-IsFresh seats count (Some b) = IsNewBehind seats count b
-IsFresh seats count None = ⊥
+-- a handle is over a new table, whose client words begin as these
+abbrev pub IsFresh : ℕ → List ℕ → Option Behind → Type 0
+IsFresh seats client (Some b) = IsNewBehind seats client b
+IsFresh seats client None = ⊥
 
 -- why no table was opened behind a handle
 abbrev pub IsOpenRefusal : ℕ → ℕ → Option Behind → Answer → Type 0

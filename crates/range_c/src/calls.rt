@@ -6,7 +6,8 @@ ghost use Rattle.range_c.specs.Calls.{Between, OnHandle, OnWord};
 
 use crate::answers::Answer;
 use crate::handle::GzRange;
-use crate::state::{Asked, State, WordStep};
+use crate::recording::WordStep;
+use crate::state::{Asked, State};
 use core::mem::replace_with;
 use std::alloc::Global;
 

@@ -1,7 +1,7 @@
 //! What C calls. Each export answers a code of `specs/Codes.antt`, and its contract says the cause of each. A reader
 //! may rely on a handle staying as it was, and on nothing else being written, where the answer is a refusal.
 ghost use Rattle.std.specs.Prelude.{◌≡◌, ◌<◌, ℕ, Some, None, length};
-ghost use Rattle.range_c.specs.declared.state.WordStep.TheVariants.{Load, Store, Add, Exchange};
+ghost use Rattle.range_c.specs.declared.recording.WordStep.TheVariants.{Load, Store, Add, Exchange};
 ghost use Rattle.range_c.specs.Behind.{IsTried, IsReleased};
 ghost use Rattle.range_c.specs.Codes.{Says, shown_of};
 ghost use Rattle.range_c.specs.Calls.{OnHandle, OnWord, IsFresh, IsOpenRefusal, HandleShared, IsShareRefusal, IsEnd};
@@ -10,7 +10,8 @@ use crate::answers::{Answer, GzBusy};
 use crate::calls::{WordCall, release_by, share_by, step_by, try_by};
 use crate::handle::GzRange;
 use crate::opening::open_table;
-use crate::state::{Asked, State, WordStep};
+use crate::recording::WordStep;
+use crate::state::{Asked, State};
 use core::mem::replace;
 use std::alloc::Global;
 
@@ -32,7 +33,7 @@ pub extern "C" fn gz_range_open(
     words: &[u64],
     handle: &mut GzRange,
 ) -> u32
-    ensures opened { result ≡ 0 → (handle.old.pointer.behind ≡ None) × IsFresh seats (length words.now) handle.new.pointer.behind }
+    ensures opened { result ≡ 0 → (handle.old.pointer.behind ≡ None) × IsFresh seats words.now handle.new.pointer.behind }
     ensures refused { 0 < result → handle.new.pointer.behind ≡ handle.old.pointer.behind }
     ensures cause { 0 < result → Says (IsOpenRefusal seats (length words.now) handle.old.pointer.behind) result }
 {

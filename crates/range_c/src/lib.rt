@@ -9,4 +9,5 @@ mod exports;
 mod handle;
 mod opening;
 mod parts;
+mod recording;
 mod state;

@@ -18,7 +18,7 @@ pub(crate) fn open_table(
     seats: u32,
     client: &[u64],
 ) -> Result<Box<State, Global>, Answer>
-    ensures opened { IfOk result (λ b. IsNewBehind seats (length client.now) b.value) }
+    ensures opened { IfOk result (λ b. IsNewBehind seats client.now b.value) }
     ensures refused { IfErr result (IsNotOpened seats (length client.now)) }
 {
     if client.len() > MOST_WORDS {

@@ -1,12 +1,12 @@
 //! What is behind an open handle: an owner of the table, one seat of it, and the seats that no handle has yet. Each
 //! call of C's is a method here. A reader may rely on all the seats being of that table, and on those that are left to
 //! share being as they were at the opening.
-ghost use Rattle.std.specs.Prelude.{◌≡◌, ℕ, ◌<◌, ◌≤◌, ◌↔◌, Some, None, true, false, OnOk, OnErr, IfErr, length};
-ghost use Rattle.range_rw.specs.Contract.{IsCause, IsLongRefusal, IsSpentIn};
-ghost use Rattle.range_c.specs.Behind.{IsTried, IsReleased, IsStepped, IsTrial, IsTrialAnswer, mode_for};
+ghost use Rattle.std.specs.Prelude.{◌≡◌, None, IfOk, IfErr};
+ghost use Rattle.range_c.specs.Behind.{IsTried, IsReleased, IsStepped, IsTrial, IsGranted, IsRefused, IsTrialAnswer, mode_for};
 
 use crate::answers::Answer;
-use lock_core::{FreeGuard, Mode, Range};
+use crate::recording::{Recording, WordStep};
+use lock_core::{Mode, Range};
 use range_rw::{NotHeld, RangeTable, Seat};
 use std::alloc::Global;
 use std::hint::spin_loop;
@@ -16,9 +16,9 @@ use std::sync::Arc;
 /// An owner of the table, a seat, and the seats that are left to share.
 #[derive(Drop)]
 pub(crate) struct State {
-    pub(crate) table: Arc<RangeTable<FreeGuard>, Global>,
-    pub(crate) seat: Seat<FreeGuard>,
-    pub(crate) spare: Vec<Seat<FreeGuard>>,
+    pub(crate) table: Arc<RangeTable<Recording>, Global>,
+    pub(crate) seat: Seat<Recording>,
+    pub(crate) spare: Vec<Seat<Recording>>,
     pub(crate) words: u32,
 }
 
@@ -26,6 +26,7 @@ impl Model for State {
     ghost use Rattle.std.specs.Prelude.{◌≡◌, length};
     ghost use Rattle.std.specs.Arc.{arc_value};
     ghost use Rattle.range_rw.specs.Contract.{AreNewSeats};
+    ghost use Rattle.range_c.specs.Recording.{begun};
     ghost use Rattle.range_c.specs.Behind.{Behind};
 
     ghost Value = { Behind };
@@ -33,7 +34,7 @@ impl Model for State {
     ghost view = { λ s. record { seat = s.seat; spare = length s.spare.items; words = s.words; seats = (arc_value s.table).seats } };
 
     ghost invariant = { λ s. (s.seat.table ≡ (arc_value s.table).table)
-        × AreNewSeats (arc_value s.table).table (λ _. tt) s.spare.items × ((arc_value s.table).client ≡ s.words) };
+        × AreNewSeats (arc_value s.table).table (begun s.seat.pass.opened) s.spare.items × ((arc_value s.table).client ≡ s.words) };
 }
 
 /// The range that a call of C's asks for, and how often it is to try.
@@ -45,15 +46,6 @@ pub(crate) struct Asked {
     pub(crate) tries: u32,
 }
 
-/// A step on a client word.
-#[derive(Clone, Copy, Drop)]
-pub enum WordStep {
-    Load,
-    Store(u64),
-    Add(u64),
-    Exchange { expected: u64, new: u64 },
-}
-
 /// The mode that C's flag means.
 fn mode_of(writer: bool) -> Mode
     ensures { result ≡ mode_for writer }
@@ -61,20 +53,26 @@ fn mode_of(writer: bool) -> Mode
     if writer { Mode::Writer } else { Mode::Reader }
 }
 
+/// A short pause, where more tries are to come.
+fn pause_before(tries: u32) {
+    if tries > 0 {
+        spin_loop();
+    }
+}
+
 impl State {
-    /// Tries once for the range. The seat holds nothing.
+    /// Tries once for the range, and waits for nobody. The seat holds nothing.
     fn try_once(&mut self, range: Range, mode: Mode) -> Result<(), NotHeld>
         requires free { self.old.seat.held ≡ None }
         ensures kept { IsTrial self.old self.new }
-        ensures held { OnOk result (self.new.seat.held ≡ Some (record { range = range; mode = mode })) }
-        ensures free { OnErr result (self.new.seat.held ≡ None) }
-        ensures cause { IfErr result (IsCause self.old.seat self.new.seat (record { range = range; mode = mode })) }
-        ensures long { IfErr result (λ why. IsLongRefusal why ↔ IsSpentIn self.old.seats self.old.seat self.new.seat) }
+        ensures held { IfOk result (λ _. IsGranted self.old.seats (record { range = range; mode = mode }) self.old.seat self.new.seat) }
+        ensures refused { IfErr result (IsRefused self.old.seats (record { range = range; mode = mode }) self.old.seat self.new.seat) }
     {
-        self.table.try_once(&mut self.seat, range, mode)
+        self.table
+            .try_acquire_uncounted(&mut self.seat, range, mode)
     }
 
-    /// Tries at most so many times for the range, with a pause after each refusal. The seat holds nothing.
+    /// Tries at most so many times for the range, with a pause between one try and the next. The seat holds nothing.
     fn try_up_to(&mut self, range: Range, mode: Mode, tries: u32) -> Answer
         requires free { self.old.seat.held ≡ None }
         ensures kept { IsTrial self.old self.new }
@@ -87,8 +85,8 @@ impl State {
                 Ok(()) => return Answer::Done,
                 Err(why) => answer = Answer::Refused(why),
             }
-            spin_loop();
             left -= 1;
+            pause_before(left);
         }
         answer
     }
@@ -113,7 +111,7 @@ impl State {
         if self.table.held(&self.seat).is_none() {
             return Answer::HasNone;
         }
-        self.table.give_back(&mut self.seat);
+        self.table.release_uncounted(&mut self.seat);
         Answer::Done
     }
 
@@ -128,20 +126,22 @@ impl State {
         match step {
             WordStep::Load => (
                 Answer::Done,
-                self.table.load::<FreeGuard>(&mut self.seat, i),
+                self.table.load_as_uncounted::<Recording>(&mut self.seat, i),
             ),
             WordStep::Store(value) => {
-                self.table.store::<FreeGuard>(&mut self.seat, i, value);
+                self.table
+                    .store_as_uncounted::<Recording>(&mut self.seat, i, value);
                 (Answer::Done, told)
             }
             WordStep::Add(by) => (
                 Answer::Done,
-                self.table.add::<FreeGuard>(&mut self.seat, i, by),
+                self.table
+                    .add_as_uncounted::<Recording>(&mut self.seat, i, by),
             ),
             WordStep::Exchange { expected, new } => {
                 match self
                     .table
-                    .exchange::<FreeGuard>(&mut self.seat, i, expected, new)
+                    .exchange_as_uncounted::<Recording>(&mut self.seat, i, expected, new)
                 {
                     Ok(()) => (Answer::Done, expected),
                     Err(found) => (Answer::Other, found),

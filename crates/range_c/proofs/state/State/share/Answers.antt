@@ -2,17 +2,18 @@ use Rattle.std.proofs.Common.{◌≡◌, ℕ, sym, ap, ◌∙◌, subst, length}
 use Rattle.std.specs.Arc.{arc_value}
 use mathlib.Core.Option.{some, some-ne-none}
 use lib.ListN.{get_elem?}
-use Rattle.range_rw.specs.Contract.{SeatState, TableShape, AreNewSeats}
-use Rattle.range_c.specs.Behind.{Behind}
+use Rattle.range_rw.specs.Contract.{TableShape, AreNewSeats}
+use Rattle.range_c.specs.Behind.{Behind, RecordingSeat}
+use Rattle.range_c.specs.Recording.{begun}
 use Rattle.range_c.proofs.Rows.{Row, behind, taken, put_back, shares}
 use Rattle.range_c.proofs.state.State.share.Goals as goal
 
 -- the seat that was taken out is of the same table, and none is left to share behind it
 pub invariant_of-state : goal.invariant_of-state
 invariant_of-state c =
-    let all = taken (arc_value c.self.inside.table).table c.self.inside.spare.items c.pop.new.self.items c.in-Some.seat
+    let all = taken (arc_value c.self.inside.table).table c.self.inside.seat.pass.opened c.self.inside.spare.items c.pop.new.self.items c.in-Some.seat
     c.in-Some.ensures.items c.self.invariant.1 in (
-      ap (λ (s : SeatState (Unit {0})). s.table) all.0 ∙ sym (ap (λ (t : TableShape). t.table) c.in-Ok.ensures),
+      ap (λ (s : RecordingSeat). s.table) all.0 ∙ sym (ap (λ (t : TableShape). t.table) c.in-Ok.ensures),
       λ k s at. absurd (some-ne-none s (sym (subst (λ (l : Row). get_elem? l k ≡ some s) c.new.ensures.items at))),
       ap (λ (t : TableShape). t.client) c.in-Ok.ensures ∙ c.self.invariant.2,
     )
@@ -21,7 +22,7 @@ invariant_of-state c =
 pub invariant_of-self : goal.invariant_of-self
 invariant_of-self c = (
   c.self.invariant.0,
-  (taken (arc_value c.self.inside.table).table c.self.inside.spare.items c.pop.new.self.items
+  (taken (arc_value c.self.inside.table).table c.self.inside.seat.pass.opened c.self.inside.spare.items c.pop.new.self.items
       c.in-Some.seat c.in-Some.ensures.items c.self.invariant.1).1,
   c.self.invariant.2,
 )
@@ -32,7 +33,8 @@ invariant_of-self-in-Err c =
     let seat = ap (λ (b : Behind). b.seat) (c.value.view_is ∙ c.in-Err.ensures.value_returned) in
     let again = put_back c.self.inside.spare.items c.pop.new.self.items c.push_reserved.new.self.items c.in-Some.seat
     c.value.inside.seat c.in-Some.ensures.items seat c.push_reserved.ensures.items in
-    (c.self.invariant.0, subst (λ (l : Row). AreNewSeats (arc_value c.self.inside.table).table (λ _. tt) l) (sym again) c.self.invariant.1, c.self.invariant.2)
+    let kept = subst (λ (l : Row). AreNewSeats (arc_value c.self.inside.table).table (begun c.self.inside.seat.pass.opened) l) (sym again) c.self.invariant.1 in
+    (c.self.invariant.0, kept, c.self.invariant.2)
 
 -- what is in the new box got the last of the seats that were left to share
 pub returns-in-Ok-new-clause-shared : goal.returns-in-Ok-new-clause-shared

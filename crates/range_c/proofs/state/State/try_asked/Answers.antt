@@ -1,0 +1,18 @@
+use Rattle.std.proofs.Common.{rules, ◌≡◌, None}
+use Rattle.lock_core.specs.Range.{IsRange}
+use Rattle.range_c.specs.Behind.{mode_for}
+use Rattle.range_c.proofs.Tries.{tried_for}
+use Rattle.range_c.proofs.state.State.try_asked.Goals as goal
+
+-- the tries for the range with these ends are those that the call asks for
+pub returns : goal.returns
+returns c =
+    let lo : c.in-Ok.range.lo ≡ c.args.asked.lo = search rules in
+    let hi : c.in-Ok.range.hi ≡ c.args.asked.hi = search rules in
+    let mode : c.mode_of.result ≡ mode_for c.args.asked.writer = search rules in
+    let is : IsRange c.args.asked.lo c.args.asked.hi = search rules in
+    let free : c.args.self.now.seat.held ≡ None = search rules in
+    record {
+      tried = tried_for c.args.asked.lo c.args.asked.hi c.in-Ok.range c.args.asked.writer c.mode_of.result c.args.asked.tries
+          c.try_up_to.result c.args.self.now c.try_up_to.new.self lo hi mode is free c.try_up_to.ensures.kept c.try_up_to.ensures.answer;
+    }
