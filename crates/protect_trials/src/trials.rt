@@ -9,7 +9,7 @@ ghost use Rattle.crews.specs.Crews.{HasCalled, HaveCalled, IsCrew, IsIdleAgain};
 ghost use Rattle.protect_trials.specs.ProtectTrials.{FirstProtected};
 
 use crate::ways::Ways;
-use area_protect::{Protected, protect};
+use area_protect::{Protected, make_protect, protect};
 use area_rows::{Answer, Caller, Space};
 use crews::make_call;
 use page_types::{Access, Call, PAGE, Prot};
@@ -110,15 +110,15 @@ fn take_turn<R: Wait>(
     requires named { IsNamedCall call }
     ensures answer { IsAnswered caller.old (turn + 1) call result caller.new }
 {
-    let Call::Protect { addr, len, prot } = call else {
-        return make_call(rt, space, caller, turn + 1, call);
-    };
-    match protect(space, rt, caller, turn + 1, addr, len, prot) {
-        Protected::Given { entry, path } => {
-            ways.keep(entry.worker, turn, path);
-            Answer::Given(entry)
-        }
-        Protected::Spent => Answer::Spent,
+    match call {
+        Call::Protect { .. } => match make_protect(space, rt, caller, turn + 1, call) {
+            Protected::Given { entry, path } => {
+                ways.keep(entry.worker, turn, path);
+                Answer::Given(entry)
+            }
+            Protected::Spent => Answer::Spent,
+        },
+        _ => make_call(rt, space, caller, turn + 1, call),
     }
 }
 

@@ -1,12 +1,12 @@
 -- What contracts see of a set of seats, and what its calls leave of it: all the wants held, or nothing. What one try
 -- and one release leave of a seat is said by `range_rw`; that several ranges are taken together or not at all is this
 -- project's own profile.
-use Rattle.std.specs.Prelude.{◌≡◌, ◌⊎◌, ℕ, ◌<◌, List, [], ◌∷◌, All, sum_by, slice_get, Option, Some, None, IsSome}
+use Rattle.std.specs.Prelude.{◌≡◌, ◌⊎◌, ℕ, zero, suc, ◌<◌, List, [], ◌∷◌, All, map, sum_by, slice_get, Option, Some, None, IsSome}
 use Rattle.std.specs.Option.{option_and_then, option_map}
 use Rattle.atomic_table.specs.Seated.{TableId}
 use Rattle.lock_core.specs.declared.range.Held.{Held}
 use Rattle.range_rw.specs.declared.refusals.NotHeld.{NotHeld}
-use Rattle.range_rw.specs.Contract.{SeatState, IsCause, IsGivenBack, IsRelease}
+use Rattle.range_rw.specs.Contract.{SeatState, IsCause, IsGivenBack, IsRelease, pass_in}
 use Rattle.range_sets.specs.declared.wants.Want.{Want}
 use Rattle.range_sets.specs.Wants.{want_held}
 
@@ -46,12 +46,17 @@ module _ {P : Type 0} where
   abbrev pub AreHeld : List Want → List (SeatState P) → Type 0
   AreHeld wants seats = (i : ℕ) → i < 4 → held_in seats i ≡ option_map want_held (slice_get wants i)
 
-  -- what a refused call leaves of each seat: it holds nothing, it made no client step, and its pass is as before or,
-  -- where a range was given back, rested of it
-  pub record IsLetGo (rested : P → P) (before after : SeatState P) : Type 0 where
+  -- what a refused call leaves of each seat: it holds nothing, and it made no client step
+  pub record IsLetGo (before after : SeatState P) : Type 0 where
     pub back : IsGivenBack before after
     pub client : after.trace.client ≡ before.trace.client
-    pub pass : (after.pass ≡ before.pass) ⊎ (after.pass ≡ rested before.pass)
+
+  -- the passes after a refusal at that place: those of the seats before it are rested, since their ranges were given
+  -- back, and the others are as before
+  abbrev pub passes_after : (P → P) → ℕ → List (SeatState P) → List P
+  passes_after rested zero seats = map pass_in seats
+  passes_after rested (suc i) [] = []
+  passes_after rested (suc i) (s ∷ ss) = rested s.pass ∷ passes_after rested i ss
 
   -- what the seat held was given back; one that held nothing is as before
   abbrev pub IsReleasedIfHeld : (P → P) → SeatState P → SeatState P → Type 0

@@ -1,10 +1,11 @@
 //! Taking several ranges, all or none, and giving them back. The seat of each place tries once to hold the want of that
 //! place; the first refusal ends the call, and the ranges before it are given back. A reader may rely on the cause of a
 //! refusal being that of one try of `range_rw`, and on a set at rest staying so.
-ghost use Rattle.std.specs.Prelude.{◌≡◌, ◌+◌, ◌*◌, ◌<◌, ◌≤◌, ◌-◌, Some, None, All, IfErr, IfOk, OnOk, OnErr, IsSome, length};
-ghost use Rattle.range_rw.specs.Contract.{IsCause, IsLockCall, IsRelease};
+ghost use Rattle.std.specs.Prelude.{◌≡◌, ◌+◌, ◌*◌, ◌<◌, ◌≤◌, ◌-◌, ◌∷◌, [], Some, None, All, IfErr, IfOk, OnOk, OnErr, IsSome, length, map};
+ghost use Rattle.range_rw.specs.Contract.{IsCause, IsLockCall, IsRelease, pass_in};
 ghost use Rattle.range_sets.specs.Wants.{NoClash, want_held};
-ghost use Rattle.range_sets.specs.Sets.{AllFree, AllRest, AreHeld, EachIs, IsLetGo, IsReleasedIfHeld, IsCauseAt, taken_by};
+ghost use Rattle.range_sets.specs.Sets.{AllFree, AllRest, AreHeld, EachIs, IsLetGo, IsReleasedIfHeld, IsCauseAt, passes_after, taken_by};
+ghost use Rattle.range_sets.specs.Taking.{AreGranted, IsRefusedAt, most_steps};
 
 use crate::set::{Place, SetSeat};
 use crate::wants::Want;
@@ -26,13 +27,14 @@ pub struct SetRefused {
 }
 
 impl<G: Guard> Place<G> {
-    /// Tries once to hold a want. The seat holds nothing and its pass is at rest, which it is afterwards too.
+    /// Tries once to hold a want. The seat holds nothing and its pass is at rest, which it is afterwards too. The
+    /// refusal is that of the first of some wants.
     fn take<L: Ledger>(
         &mut self,
         table: &RangeTable<G>,
         want: Want,
         steps: &mut Steps<L>,
-    ) -> Result<(), NotHeld>
+    ) -> Result<(), SetRefused>
         requires table { self.old.table ≡ table.now.table }
         requires free { self.old.held ≡ None }
         requires rest { G.is_at_rest self.old.pass }
@@ -40,8 +42,9 @@ impl<G: Guard> Place<G> {
         ensures at_rest { G.is_at_rest self.new.pass }
         ensures held { OnOk result (self.new.held ≡ Some (want_held want)) }
         ensures free { OnErr result (self.new.held ≡ None) }
-        ensures cause { IfErr result (IsCause self.old self.new (want_held want)) }
-        ensures bound { self.new.trace.taken ≤ self.old.trace.taken + (64 + 386 * table.now.seats) }
+        ensures first { IfErr result (λ r. r.index ≡ 0) }
+        ensures cause { IfErr result (λ r. IsCause self.old self.new (want_held want) r.why) }
+        ensures bound { self.new.trace.taken ≤ self.old.trace.taken + most_steps table.now.seats }
         ensures counted { steps.new + self.old.trace.taken ≡ steps.old + self.new.trace.taken }
     {
         match table.try_acquire(&mut self.seat, want.range, want.mode, steps) {
@@ -49,7 +52,7 @@ impl<G: Guard> Place<G> {
                 self.want = Some(want);
                 Ok(())
             }
-            Err(why) => Err(why),
+            Err(why) => Err(SetRefused { index: 0, why }),
         }
     }
 
@@ -66,6 +69,31 @@ impl<G: Guard> Place<G> {
         self.want = None;
     }
 
+    /// Gives back what the seat holds, since one of the wants behind was refused: that refusal, told from this seat's
+    /// own want on.
+    fn give_for<L: Ledger>(
+        &mut self,
+        table: &RangeTable<G>,
+        behind: SetRefused,
+        steps: &mut Steps<L>,
+    ) -> SetRefused
+        requires table { self.old.table ≡ table.now.table }
+        requires holds { IsSome self.old.held }
+        requires rest { G.is_at_rest self.old.pass }
+        requires few { behind.index < 3 }
+        ensures release { IsRelease G.rested self.old self.new }
+        ensures at_rest { G.is_at_rest self.new.pass }
+        ensures index { result.index ≡ behind.index + 1 }
+        ensures why { result.why ≡ behind.why }
+        ensures counted { steps.new + self.old.trace.taken ≡ steps.old + self.new.trace.taken }
+    {
+        self.give(table, steps);
+        SetRefused {
+            index: behind.index + 1,
+            why: behind.why,
+        }
+    }
+
     /// Gives back what the seat holds, if it holds anything.
     fn give_if_held<L: Ledger>(&mut self, table: &RangeTable<G>, steps: &mut Steps<L>)
         requires table { self.old.table ≡ table.now.table }
@@ -78,6 +106,125 @@ impl<G: Guard> Place<G> {
             self.give(table, steps);
         }
     }
+}
+
+/// Tries to hold these wants, one at most, with the last seat.
+fn try_last<G: Guard, L: Ledger>(
+    table: &RangeTable<G>,
+    d: &mut Place<G>,
+    wants: &[Want],
+    steps: &mut Steps<L>,
+) -> Result<(), SetRefused>
+    requires table { d.old.table ≡ table.now.table }
+    requires few { length wants.now ≤ 1 }
+    requires free { d.old.held ≡ None }
+    requires rest { G.is_at_rest d.old.pass }
+    ensures table { d.new.table ≡ d.old.table }
+    ensures at_rest { G.is_at_rest d.new.pass }
+    ensures granted { OnOk result (AreGranted (most_steps table.now.seats) wants.now (d.old ∷ []) (d.new ∷ [])) }
+    ensures refused { IfErr result (λ r. IsRefusedAt (most_steps table.now.seats) G.rested wants.now (d.old ∷ []) (d.new ∷ []) r.index r.why) }
+    ensures few { IfErr result (λ r. r.index < 1) }
+    ensures counted { steps.new + d.old.trace.taken ≡ steps.old + d.new.trace.taken }
+{
+    let Some((want, _)) = wants.split_first() else {
+        return Ok(());
+    };
+    d.take(table, *want, steps)
+}
+
+/// Tries to hold these wants, two at most, with the last two seats; none of them is held where one is refused.
+fn try_two<G: Guard, L: Ledger>(
+    table: &RangeTable<G>,
+    c: &mut Place<G>,
+    d: &mut Place<G>,
+    wants: &[Want],
+    steps: &mut Steps<L>,
+) -> Result<(), SetRefused>
+    requires table { (c.old.table ≡ table.now.table) × (d.old.table ≡ table.now.table) }
+    requires few { length wants.now ≤ 2 }
+    requires free { (c.old.held ≡ None) × (d.old.held ≡ None) }
+    requires rest { G.is_at_rest c.old.pass × G.is_at_rest d.old.pass }
+    ensures table { (c.new.table ≡ c.old.table) × (d.new.table ≡ d.old.table) }
+    ensures at_rest { G.is_at_rest c.new.pass × G.is_at_rest d.new.pass }
+    ensures granted { OnOk result (AreGranted (most_steps table.now.seats) wants.now (c.old ∷ d.old ∷ []) (c.new ∷ d.new ∷ [])) }
+    ensures refused { IfErr result (λ r. IsRefusedAt (most_steps table.now.seats) G.rested wants.now (c.old ∷ d.old ∷ []) (c.new ∷ d.new ∷ []) r.index r.why) }
+    ensures few { IfErr result (λ r. r.index < 2) }
+    ensures counted { steps.new + taken_by (c.old ∷ d.old ∷ []) ≡ steps.old + taken_by (c.new ∷ d.new ∷ []) }
+{
+    let Some((want, behind)) = wants.split_first() else {
+        return Ok(());
+    };
+    if let Err(refused) = c.take(table, *want, steps) {
+        return Err(refused);
+    }
+    if let Err(refused) = try_last(table, d, behind, steps) {
+        return Err(c.give_for(table, refused, steps));
+    }
+    Ok(())
+}
+
+/// Tries to hold these wants, three at most, with the last three seats; none of them is held where one is refused.
+fn try_three<G: Guard, L: Ledger>(
+    table: &RangeTable<G>,
+    b: &mut Place<G>,
+    c: &mut Place<G>,
+    d: &mut Place<G>,
+    wants: &[Want],
+    steps: &mut Steps<L>,
+) -> Result<(), SetRefused>
+    requires table { (b.old.table ≡ table.now.table) × (c.old.table ≡ table.now.table) × (d.old.table ≡ table.now.table) }
+    requires few { length wants.now ≤ 3 }
+    requires free { (b.old.held ≡ None) × (c.old.held ≡ None) × (d.old.held ≡ None) }
+    requires rest { G.is_at_rest b.old.pass × G.is_at_rest c.old.pass × G.is_at_rest d.old.pass }
+    ensures table { (b.new.table ≡ b.old.table) × (c.new.table ≡ c.old.table) × (d.new.table ≡ d.old.table) }
+    ensures at_rest { G.is_at_rest b.new.pass × G.is_at_rest c.new.pass × G.is_at_rest d.new.pass }
+    ensures granted { OnOk result (AreGranted (most_steps table.now.seats) wants.now (b.old ∷ c.old ∷ d.old ∷ []) (b.new ∷ c.new ∷ d.new ∷ [])) }
+    ensures refused { IfErr result (λ r. IsRefusedAt (most_steps table.now.seats) G.rested wants.now (b.old ∷ c.old ∷ d.old ∷ [])
+        (b.new ∷ c.new ∷ d.new ∷ []) r.index r.why) }
+    ensures few { IfErr result (λ r. r.index < 3) }
+    ensures counted { steps.new + taken_by (b.old ∷ c.old ∷ d.old ∷ []) ≡ steps.old + taken_by (b.new ∷ c.new ∷ d.new ∷ []) }
+{
+    let Some((want, behind)) = wants.split_first() else {
+        return Ok(());
+    };
+    if let Err(refused) = b.take(table, *want, steps) {
+        return Err(refused);
+    }
+    if let Err(refused) = try_two(table, c, d, behind, steps) {
+        return Err(b.give_for(table, refused, steps));
+    }
+    Ok(())
+}
+
+/// Tries to hold these wants, from one to four, with all seats; none of them is held where one is refused.
+fn try_four<G: Guard, L: Ledger>(
+    table: &RangeTable<G>,
+    set: &mut SetSeat<G>,
+    wants: &[Want],
+    steps: &mut Steps<L>,
+) -> Result<(), SetRefused>
+    requires table { set.old.table ≡ table.now.table }
+    requires four { length wants.now ≤ 4 }
+    requires free { AllFree set.old.seats }
+    requires rest { AllRest G.is_at_rest set.old.seats }
+    ensures four { length set.old.seats ≡ 4 }
+    ensures table { set.new.table ≡ set.old.table }
+    ensures at_rest { AllRest G.is_at_rest set.new.seats }
+    ensures granted { OnOk result (AreGranted (most_steps table.now.seats) wants.now set.old.seats set.new.seats) }
+    ensures refused { IfErr result (λ r. IsRefusedAt (most_steps table.now.seats) G.rested wants.now set.old.seats set.new.seats r.index r.why) }
+    ensures counted { steps.new + taken_by set.old.seats ≡ steps.old + taken_by set.new.seats }
+{
+    let SetSeat { a, b, c, d } = set;
+    let Some((want, behind)) = wants.split_first() else {
+        return Ok(());
+    };
+    if let Err(refused) = a.take(table, *want, steps) {
+        return Err(refused);
+    }
+    if let Err(refused) = try_three(table, b, c, d, behind, steps) {
+        return Err(a.give_for(table, refused, steps));
+    }
+    Ok(())
 }
 
 /// Holds all of these ranges, or none of them: the seat of each place, in order, tries once to hold the want of that
@@ -104,40 +251,14 @@ pub fn try_set<G: Guard, L: Ledger>(
     ensures some { OnOk result (¬ (AllFree set.new.seats)) }
     ensures free { OnErr result (AllFree set.new.seats) }
     ensures at_rest { AllRest G.is_at_rest set.new.seats }
-    ensures let_go { OnErr result (EachIs (IsLetGo G.rested) set.old.seats set.new.seats) }
+    ensures let_go { OnErr result (EachIs IsLetGo set.old.seats set.new.seats) }
+    ensures passes { IfErr result (λ r. map pass_in set.new.seats ≡ passes_after G.rested r.index set.old.seats) }
     ensures cause { IfErr result (λ r. IsCauseAt set.old.seats set.new.seats wants.now r.index r.why) }
     ensures bound { OnOk result (taken_by set.new.seats ≤ taken_by set.old.seats + length wants.now * (64 + 386 * table.now.seats)) }
     ensures refused_bound { IfErr result (λ r. taken_by set.new.seats ≤ taken_by set.old.seats + (r.index + 1) * (64 + 386 * table.now.seats) + 2 * r.index) }
     ensures counted { steps.new + taken_by set.old.seats ≡ steps.old + taken_by set.new.seats }
 {
-    if let Err(why) = set.a.take(table, wants[0], steps) {
-        return Err(SetRefused { index: 0, why });
-    }
-    if wants.len() == 1 {
-        return Ok(());
-    }
-    if let Err(why) = set.b.take(table, wants[1], steps) {
-        set.a.give(table, steps);
-        return Err(SetRefused { index: 1, why });
-    }
-    if wants.len() == 2 {
-        return Ok(());
-    }
-    if let Err(why) = set.c.take(table, wants[2], steps) {
-        set.a.give(table, steps);
-        set.b.give(table, steps);
-        return Err(SetRefused { index: 2, why });
-    }
-    if wants.len() == 3 {
-        return Ok(());
-    }
-    if let Err(why) = set.d.take(table, wants[3], steps) {
-        set.a.give(table, steps);
-        set.b.give(table, steps);
-        set.c.give(table, steps);
-        return Err(SetRefused { index: 3, why });
-    }
-    Ok(())
+    try_four(table, set, wants, steps)
 }
 
 /// Gives back all that the set holds, with a counter made of that blank.

@@ -1,45 +1,39 @@
-use Rattle.std.proofs.Common.{rules, ap, refl, length}
-use Rattle.std.proofs.lemmas.Option.{slice_get_read}
-use Rattle.range_sets.proofs.Places.{cause0, cause1, cause2, cause3, held_three, held_four}
+use Rattle.std.proofs.lemmas.Result.{on_ok_weaker}
+use Rattle.range_sets.proofs.Places.{all_held, granted_calls, granted_some, granted_bound, free_told, let_go_told, passes_told, cause_told, bound_told}
 use Rattle.range_sets.proofs.taking.try_set.Goals as goal
 
--- the first want was refused
-pub returns-in-Err-clause-cause : goal.returns-in-Err-clause-cause
-returns-in-Err-clause-cause g c =
-    let e0 = slice_get_read c.args.wants.now (length c.args.wants.now) 0 c.index-wants-0.result refl (search rules) c.index-wants-0.is in
-    cause0 _ _ _ _ _ (ap (λ s. s.seats) c.set.view_is) _ _ _ _ e0 c.in-Err.ensures.cause
-
--- the second want was refused
-pub returns-in-Err-take-clause-cause : goal.returns-in-Err-take-clause-cause
-returns-in-Err-take-clause-cause g c =
-    let e1 = slice_get_read c.args.wants.now (length c.args.wants.now) 1 c.index-wants-1.result refl (search rules) c.index-wants-1.is in
-    cause1 _ _ _ _ _ (ap (λ s. s.seats) c.set.view_is) _ _ _ _ _ e1 c.in-Err-take.ensures.cause
-
--- the third want was refused
-pub returns-in-Err-take-2-clause-cause : goal.returns-in-Err-take-2-clause-cause
-returns-in-Err-take-2-clause-cause g c =
-    let e2 = slice_get_read c.args.wants.now (length c.args.wants.now) 2 c.index-wants-2.result refl (search rules) c.index-wants-2.is in
-    cause2 _ _ _ _ _ (ap (λ s. s.seats) c.set.view_is) _ _ _ _ _ _ e2 c.in-Err-take-2.ensures.cause
-
--- the fourth want was refused
-pub returns-in-Err-take-3-clause-cause : goal.returns-in-Err-take-3-clause-cause
-returns-in-Err-take-3-clause-cause g c =
-    let e3 = slice_get_read c.args.wants.now (length c.args.wants.now) 3 c.index-wants-3.result refl (search rules) c.index-wants-3.is in
-    cause3 _ _ _ _ _ (ap (λ s. s.seats) c.set.view_is) _ _ _ _ _ _ _ e3 c.in-Err-take-3.ensures.cause
-
--- three wants are held
-pub returns-then-wants-eq3-clause-held : goal.returns-then-wants-eq3-clause-held
-returns-then-wants-eq3-clause-held g c =
-    let e0 = slice_get_read c.args.wants.now (length c.args.wants.now) 0 c.index-wants-0.result refl (search rules) c.index-wants-0.is in
-    let e1 = slice_get_read c.args.wants.now (length c.args.wants.now) 1 c.index-wants-1.result refl (search rules) c.index-wants-1.is in
-    let e2 = slice_get_read c.args.wants.now (length c.args.wants.now) 2 c.index-wants-2.result refl (search rules) c.index-wants-2.is in
-    held_three _ _ _ _ _ _ _ _ e0 e1 e2 (search rules) (search rules) (search rules) (search rules) (search rules)
-
--- four wants are held
+-- what was granted is held, each want by the seat at its place
 pub returns-clause-held : goal.returns-clause-held
-returns-clause-held g c =
-    let e0 = slice_get_read c.args.wants.now (length c.args.wants.now) 0 c.index-wants-0.result refl (search rules) c.index-wants-0.is in
-    let e1 = slice_get_read c.args.wants.now (length c.args.wants.now) 1 c.index-wants-1.result refl (search rules) c.index-wants-1.is in
-    let e2 = slice_get_read c.args.wants.now (length c.args.wants.now) 2 c.index-wants-2.result refl (search rules) c.index-wants-2.is in
-    let e3 = slice_get_read c.args.wants.now (length c.args.wants.now) 3 c.index-wants-3.result refl (search rules) c.index-wants-3.is in
-    held_four _ _ _ _ _ _ _ _ e0 e1 e2 (search rules) (search rules) (search rules) _ e3 (search rules)
+returns-clause-held g c = on_ok_weaker c.try_four.result (all_held _ _ _ _ c.try_four.ensures.four c.requires.free) c.try_four.ensures.granted
+
+-- it changed no pass
+pub returns-clause-calls : goal.returns-clause-calls
+returns-clause-calls g c = on_ok_weaker c.try_four.result (granted_calls _ _ _ _) c.try_four.ensures.granted
+
+-- there was a want, so something is held
+pub returns-clause-some : goal.returns-clause-some
+returns-clause-some g c = on_ok_weaker c.try_four.result (granted_some _ _ _ _ c.requires.some) c.try_four.ensures.granted
+
+-- each want took one try
+pub returns-clause-bound : goal.returns-clause-bound
+returns-clause-bound g c = on_ok_weaker c.try_four.result (granted_bound _ _ _ _) c.try_four.ensures.granted
+
+-- after a refusal nothing is held
+pub returns-clause-free : goal.returns-clause-free
+returns-clause-free g c = free_told _ _ _ _ _ c.requires.free c.try_four.result c.try_four.ensures.refused
+
+-- each seat let go what it had got
+pub returns-clause-let_go : goal.returns-clause-let_go
+returns-clause-let_go g c = let_go_told _ _ _ _ _ c.requires.free c.try_four.result c.try_four.ensures.refused
+
+-- the passes before the refused place are rested
+pub returns-clause-passes : goal.returns-clause-passes
+returns-clause-passes g c = passes_told _ _ _ _ _ c.requires.free c.try_four.result c.try_four.ensures.refused
+
+-- the refused want has its cause
+pub returns-clause-cause : goal.returns-clause-cause
+returns-clause-cause g c = cause_told _ _ _ _ _ c.requires.free c.try_four.result c.try_four.ensures.refused
+
+-- a refusal took so many steps at most
+pub returns-clause-refused_bound : goal.returns-clause-refused_bound
+returns-clause-refused_bound g c = bound_told _ _ _ _ _ c.requires.free c.try_four.result c.try_four.ensures.refused
