@@ -3,3 +3,4 @@ pub mod Choices
 pub mod Leaves
 pub mod Numerals
 pub mod Lists
+pub mod LineLemmas

@@ -25,6 +25,10 @@ abbrev pub summary_text : ℕ → ℕ → ℕ → ℕ → List ℕ
 summary_text played skipped refused differ = codes "played " ++ decimal played ++ codes " skipped " ++ decimal skipped
     ++ codes " refused " ++ decimal refused ++ codes " differ " ++ decimal differ ++ codes "\n"
 
+-- how many pages were touched
+abbrev pub touched_text : ℕ → List ℕ
+touched_text count = codes "touched " ++ decimal count ++ codes "\n"
+
 -- a span as its first page and the page after its last one
 abbrev pub span_text : Span → List ℕ
 span_text s = prefixed_hex s.lo ++ codes "-" ++ prefixed_hex s.hi

@@ -1,7 +1,8 @@
 //! A buffer of fixed size before a sink, as std's `BufWriter` has one, so that a text of many small parts costs few
 //! writes and no memory. A line is put together in the buffer, which can't fail; only between two lines may the buffer
 //! go to the sink. Each push says by contract what it adds and how much room it needs.
-ghost use Rattle.std.specs.Prelude.{◌≡◌, ◌+◌, ◌≤◌, ◌++◌, [], List, ℕ, length, take, OnOk, OnErr};
+ghost use Rattle.std.specs.Prelude.{◌≡◌, ◌+◌, ◌≤◌, ◌++◌, ◌∷◌, [], List, ℕ, length, take, OnOk, OnErr};
+ghost use Rattle.std.specs.Bool.{Decides};
 ghost use Rattle.std.specs.Io.KnownBytes.{Appends};
 ghost use Rattle.byte_ports.specs.Bytes.{AppendsAllBut, AppendsPrefix};
 ghost use Rattle.byte_ports.specs.Counts.{Rose};
@@ -49,6 +50,16 @@ impl Buffer {
         let end = self.used + text.len();
         self.bytes[self.used..end].copy_from_slice(text);
         self.used = end;
+    }
+
+    /// Whether what waits is this text and a newline.
+    pub(crate) fn is_line(&self, text: &[u8]) -> bool
+        ensures { Decides result (text.now ++ 10 ∷ [] ≡ self.now) }
+    {
+        match self.bytes[..self.used].strip_suffix(b"\n") {
+            Some(line) => line == text,
+            None => false,
+        }
     }
 
     /// Writes all that waits to the sink.

@@ -11,8 +11,8 @@ mod numbers;
 mod words;
 
 pub use calls::write_call;
-pub use log::write_log;
-pub use maps::{write_maps, write_summary};
+pub use log::{is_line_of, write_log};
+pub use maps::{is_line_of_area, write_maps, write_summary, write_touched};
 
 #[cfg(test)]
 mod tests;

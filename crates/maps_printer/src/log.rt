@@ -1,7 +1,8 @@
 //! The log of a history as text, a line for each entry: its number, the worker and the line of the input, the call as
 //! strace(1) prints it, the reply, and which range was held. The form of a line, and what follows an error's name in a
 //! reply, are this project's own profile.
-ghost use Rattle.std.specs.Prelude.{◌≡◌, ◌+◌, ◌≤◌, ◌++◌, length, codes, OnOk, OnErr};
+ghost use Rattle.std.specs.Prelude.{◌≡◌, ◌+◌, ◌≤◌, ◌++◌, ◌∷◌, [], length, codes, OnOk, OnErr};
+ghost use Rattle.std.specs.Bool.{Decides};
 ghost use Rattle.std.specs.Io.KnownBytes.{Appends};
 ghost use Rattle.byte_ports.specs.Bytes.{AppendsPrefix};
 ghost use Rattle.byte_ports.specs.Counts.{Rose};
@@ -33,6 +34,15 @@ pub fn write_log<K: Sink>(out: &mut K, entries: &[Entry]) -> Result<(), Failed>
         buffer.make_room(out)?;
     }
     buffer.flush(out)
+}
+
+/// Whether the text is the line of this entry, without its newline. It takes no memory.
+pub fn is_line_of(text: &[u8], entry: &Entry) -> bool
+    ensures { Decides result (text.now ++ 10 ∷ [] ≡ entry_line entry.now) }
+{
+    let mut buffer = Buffer::new();
+    push_entry(&mut buffer, entry);
+    buffer.is_line(text)
 }
 
 /// Adds the line of an entry: at most `LINE` bytes.

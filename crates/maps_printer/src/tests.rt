@@ -1,5 +1,5 @@
 //! The texts at worked cases, and a sink that fails in mid-text. The expected texts are written out by hand.
-use crate::{write_call, write_log, write_maps, write_summary};
+use crate::{write_call, write_log, write_maps, write_summary, write_touched};
 use bitflags::Flags;
 use byte_ports::{Failed, MemorySink};
 use page_types::{Access, Call, Field, Kind, MapFlags, Prot, Reply, Short, Span, Why};
@@ -80,6 +80,18 @@ fn the_summary_has_four_counts(rt: HostRuntime) -> Result<(), Fail> {
     assert_eq!(rt;
         out.written(),
         b"played 3 skipped 0 refused 1 differ 4294967295\n".as_slice()
+    );
+    Ok(())
+}
+
+#[test]
+fn the_touched_pages_have_one_count(rt: HostRuntime) -> Result<(), Fail> {
+    let mut out = sink(rt.alloc(), 80, &[])?;
+    assert_eq!(rt; write_touched(&mut out, 0), Ok(()));
+    assert_eq!(rt; write_touched(&mut out, 4294967295), Ok(()));
+    assert_eq!(rt;
+        out.written(),
+        b"touched 0\ntouched 4294967295\n".as_slice()
     );
     Ok(())
 }

@@ -54,21 +54,48 @@ both : (p q : Bool) → p ≡ true → q ≡ true → p && q ≡ true
 both true q a b = b
 both false q a b = absurd cc
 
-first_of : (p q : Bool) → p && q ≡ true → p ≡ true
+-- the first of two tests that both pass
+pub first_of : (p q : Bool) → p && q ≡ true → p ≡ true
 first_of true q a = refl
 first_of false q a = absurd cc
 
-second_of : (p q : Bool) → p && q ≡ true → q ≡ true
+-- the second of two tests that both pass
+pub second_of : (p q : Bool) → p && q ≡ true → q ≡ true
 second_of true q a = a
 second_of false q a = absurd cc
 
 differ : (x b : ℕ) → not (x == b) ≡ true → x ≢ b
 differ x b h = elim (eqb_tells x b) [ inl t ↦ absurd (let no : not (x == b) ≡ false = ap not t.0 in cc) | inr t ↦ t.1 ]
 
-lacks_both : (b : ℕ) (xs ys : List ℕ) → lacks b xs ≡ true → lacks b ys ≡ true → lacks b (xs ++ ys) ≡ true
+-- two texts lack the byte where each does
+pub lacks_both : (b : ℕ) (xs ys : List ℕ) → lacks b xs ≡ true → lacks b ys ≡ true → lacks b (xs ++ ys) ≡ true
 lacks_both b [] ys p q = q
 lacks_both b (x ∷ xs) ys p q = both (not (x == b)) (lacks b (xs ++ ys)) (first_of (not (x == b)) (lacks b xs) p)
     (lacks_both b xs ys (second_of (not (x == b)) (lacks b xs) p) q)
+
+-- each byte of the text is one of these
+abbrev uses : List ℕ → List ℕ → Bool
+uses bytes [] = true
+uses bytes (x ∷ xs) = not (lacks x bytes) && uses bytes xs
+
+-- a text of these bytes lacks what they lack
+lacks_used : (b : ℕ) (bytes text : List ℕ) → lacks b bytes ≡ true → uses bytes text ≡ true → lacks b text ≡ true
+lacks_used b bytes [] none all = refl
+lacks_used b bytes (x ∷ xs) none all = elim (eqb_tells x b) [
+  | inl same ↦
+      let has : not (lacks x bytes) ≡ true = first_of (not (lacks x bytes)) (uses bytes xs) all in
+      let hasnt : lacks x bytes ≡ true = subst (λ (y : ℕ). lacks y bytes ≡ true) (sym same.1) none in
+      absurd (let no : not (lacks x bytes) ≡ false = ap not hasnt in cc)
+  | inr other ↦ both (not (x == b)) (lacks b xs) (ap not other.0) (lacks_used b bytes xs none (second_of (not (lacks x bytes)) (uses bytes xs) all))
+]
+
+-- the bytes of the fixed words of a reply; there is no `u` among them
+abbrev pub reply_bytes : List ℕ
+reply_bytes = codes "-01 ACEGILMNOPRSTVX_adefgilmnoprstwx"
+
+-- the bytes of those of a call, but for the closing parenthesis
+abbrev pub call_bytes : List ℕ
+call_bytes = codes "(,-0|1 ACDEFHILMNOPRSTUVWX_acefglmnoprtux"
 
 -- a text that lacks the byte
 pub record Clean (b : ℕ) : Type 0 where
@@ -77,11 +104,12 @@ pub record Clean (b : ℕ) : Type 0 where
   -- it has no such byte
   pub lacks_it : lacks b text ≡ true
 
-abbrev clean : (b : ℕ) (text : List ℕ) → lacks b text ≡ true → Clean b
+-- it, from a text and what it lacks
+abbrev pub clean : (b : ℕ) (text : List ℕ) → lacks b text ≡ true → Clean b
 clean b text h = record { text = text; lacks_it = h }
 
 -- one text behind another
-abbrev onto : {b : ℕ} → Clean b → (text : List ℕ) → lacks b text ≡ true → Clean b
+abbrev pub onto : {b : ℕ} → Clean b → (text : List ℕ) → lacks b text ≡ true → Clean b
 onto {b} first text h = record { text = first.text ++ text; lacks_it = lacks_both b first.text text first.lacks_it h }
 
 -- two texts that lack a byte and have it behind them: where the wholes are equal the parts are
@@ -117,21 +145,25 @@ digits_lack base b (c ∷ ds) all none = elim (eqb_tells c b) [
   | inr h ↦ both (not (c == b)) (lacks b ds) (ap not h.0) (digits_lack base b ds all.1 none)
 ]
 
-decimal_lacks : (b n : ℕ) → n < 2 ^ 64 → 10 ≤ worth b → lacks b (decimal n) ≡ true
+-- a number in decimal lacks a byte that is no digit
+pub decimal_lacks : (b n : ℕ) → n < 2 ^ 64 → 10 ≤ worth b → lacks b (decimal n) ≡ true
 decimal_lacks b n small none = digits_lack 10 b (decimal n) (decimal_digits n small).1 none
 
-hex_lacks : (b n : ℕ) → n < 2 ^ 64 → 16 ≤ worth b → lacks b (hex_digits n) ≡ true
+-- so does one in hexadecimal
+pub hex_lacks : (b n : ℕ) → n < 2 ^ 64 → 16 ≤ worth b → lacks b (hex_digits n) ≡ true
 hex_lacks b n small none = digits_lack 16 b (hex_digits n) (hex_are_digits n small).1 none
 
 -- the number that hexadecimal digits write
 hex_back : (n : ℕ) → n < 2 ^ 64 → value 16 0 (hex_digits n) ≡ n
 hex_back n small = sym (hex_are_digits n small).2
 
-space_ends : 16 ≤ worth 32
+-- a space is no digit
+pub space_ends : 16 ≤ worth 32
 unfolding worth
 space_ends = omega arith
 
-dash_ends : 16 ≤ worth 45
+-- a dash is no digit
+pub dash_ends : 16 ≤ worth 45
 unfolding worth
 dash_ends = omega arith
 
@@ -143,7 +175,8 @@ u_ends : 16 ≤ worth 117
 unfolding worth
 u_ends = omega arith
 
-line_ends : 16 ≤ worth 10
+-- the newline is no digit
+pub line_ends : 16 ≤ worth 10
 unfolding worth
 line_ends = omega arith
 
@@ -160,79 +193,116 @@ address_lacks : (b n : ℕ) → n < 2 ^ 64 → lacks b (codes "NULL") ≡ true �
 address_lacks b n small null x none = elim (n == 0) as (λ t. lacks b (cond t (codes "NULL") (prefixed_hex n)) ≡ true)
     [ true ↦ null | false ↦ lacks_both b (codes "0x") (hex_digits n) x (hex_lacks b n small none) ]
 
-prot_words_lack : (a b c : Bool)
-    → lacks 41 (words_or (codes "PROT_NONE") (word_if a (codes "PROT_READ") ++ word_if b (codes "PROT_WRITE") ++ word_if c
+prot_words_use : (a b c : Bool)
+    → uses call_bytes (words_or (codes "PROT_NONE") (word_if a (codes "PROT_READ") ++ word_if b (codes "PROT_WRITE") ++ word_if c
     (codes "PROT_EXEC"))) ≡ true
-prot_words_lack true true true = refl
-prot_words_lack true true false = refl
-prot_words_lack true false true = refl
-prot_words_lack true false false = refl
-prot_words_lack false true true = refl
-prot_words_lack false true false = refl
-prot_words_lack false false true = refl
-prot_words_lack false false false = refl
+prot_words_use true true true = refl
+prot_words_use true true false = refl
+prot_words_use true false true = refl
+prot_words_use true false false = refl
+prot_words_use false true true = refl
+prot_words_use false true false = refl
+prot_words_use false false true = refl
+prot_words_use false false false = refl
 
-prot_lacks : (p : Prot) → lacks 41 (prot_text p) ≡ true
-prot_lacks p = prot_words_lack (has_bits (prot_bits p) 1) (has_bits (prot_bits p) 2) (has_bits (prot_bits p) 4)
-
-flag_words_lack : (a b c d : Bool) → lacks 41
+flag_words_use : (a b c d : Bool) → uses call_bytes
     (words_or (codes "0") (word_if a (codes "MAP_SHARED") ++ word_if b (codes "MAP_PRIVATE") ++ word_if c (codes "MAP_FIXED")
     ++ word_if d (codes "MAP_FIXED_NOREPLACE"))) ≡ true
-flag_words_lack true true true true = refl
-flag_words_lack true true true false = refl
-flag_words_lack true true false true = refl
-flag_words_lack true true false false = refl
-flag_words_lack true false true true = refl
-flag_words_lack true false true false = refl
-flag_words_lack true false false true = refl
-flag_words_lack true false false false = refl
-flag_words_lack false true true true = refl
-flag_words_lack false true true false = refl
-flag_words_lack false true false true = refl
-flag_words_lack false true false false = refl
-flag_words_lack false false true true = refl
-flag_words_lack false false true false = refl
-flag_words_lack false false false true = refl
-flag_words_lack false false false false = refl
+flag_words_use true true true true = refl
+flag_words_use true true true false = refl
+flag_words_use true true false true = refl
+flag_words_use true true false false = refl
+flag_words_use true false true true = refl
+flag_words_use true false true false = refl
+flag_words_use true false false true = refl
+flag_words_use true false false false = refl
+flag_words_use false true true true = refl
+flag_words_use false true true false = refl
+flag_words_use false true false true = refl
+flag_words_use false true false false = refl
+flag_words_use false false true true = refl
+flag_words_use false false true false = refl
+flag_words_use false false false true = refl
+flag_words_use false false false false = refl
 
-flags_lack : (f : MapFlags) → lacks 41 (flags_text f) ≡ true
-flags_lack f = flag_words_lack (has_bits (flag_bits f) 1) (has_bits (flag_bits f) 2) (has_bits (flag_bits f) 4) (has_bits (flag_bits f) 8)
-
-access_lacks : (a : Access) → lacks 41 (access_text a) ≡ true
-access_lacks Read = refl
-access_lacks Write = refl
-access_lacks Exec = refl
+access_uses : (a : Access) → uses call_bytes (access_text a) ≡ true
+access_uses Read = refl
+access_uses Write = refl
+access_uses Exec = refl
 
 -- the text of a call up to its closing parenthesis
-record Body (c : Call) : Type 0 where
+record Body (b : ℕ) (c : Call) : Type 0 where
   -- what stands before the parenthesis
   pub body : List ℕ
-  -- no closing parenthesis is in it
-  pub lacks_close : lacks 41 body ≡ true
+  -- the byte isn't in it
+  pub lacks_it : lacks b body ≡ true
   -- the text of the call is this and the parenthesis
   pub whole : call_text c ≡ body ++ 41 ∷ []
 
-of_clean : (c : Call) (text : Clean 41) → call_text c ≡ text.text ++ 41 ∷ [] → Body c
-of_clean c text whole = record { body = text.text; lacks_close = text.lacks_it; whole = whole }
+of_clean : (b : ℕ) (c : Call) (text : Clean b) → call_text c ≡ text.text ++ 41 ∷ [] → Body b c
+of_clean b c text whole = record { body = text.text; lacks_it = text.lacks_it; whole = whole }
 
-body_of : (c : Call) → FitsCall c → Body c
-body_of (Map a n p f) fits =
-    let start = clean 41 (codes "mmap(") refl in
-    let address = onto start (address_text a) (address_lacks 41 a fits.0 refl refl close_ends) in
-    let len = onto (onto address (codes ", ") refl) (decimal n) (decimal_lacks 41 n fits.1 (omega (arith, close_ends))) in
-    let prot = onto (onto len (codes ", ") refl) (prot_text p) (prot_lacks p) in
-    let flags = onto (onto prot (codes ", ") refl) (flags_text f) (flags_lack f) in
-    of_clean (Map a n p f) (onto flags (codes ", -1, 0") refl) (sym (append_assoc flags.text (codes ", -1, 0") (41 ∷ [])))
-body_of (Unmap a n) fits =
-    let address = onto (clean 41 (codes "munmap(") refl) (address_text a) (address_lacks 41 a fits.0 refl refl close_ends) in
-    of_clean (Unmap a n) (onto (onto address (codes ", ") refl) (decimal n) (decimal_lacks 41 n fits.1 (omega (arith, close_ends)))) refl
-body_of (Protect a n p) fits =
-    let address = onto (clean 41 (codes "mprotect(") refl) (address_text a) (address_lacks 41 a fits.0 refl refl close_ends) in
-    let len = onto (onto address (codes ", ") refl) (decimal n) (decimal_lacks 41 n fits.1 (omega (arith, close_ends))) in
-    of_clean (Protect a n p) (onto (onto len (codes ", ") refl) (prot_text p) (prot_lacks p)) refl
-body_of (Fault a which) fits =
-    let address = onto (clean 41 (codes "fault(") refl) (address_text a) (address_lacks 41 a fits refl refl close_ends) in
-    of_clean (Fault a which) (onto (onto address (codes ", ") refl) (access_text which) (access_lacks which)) refl
+-- a byte that is no digit and stands in no word of a call
+pub record IsApart (b : ℕ) : Type 0 where
+  pub no_digit : 16 ≤ worth b
+  pub no_word : lacks b call_bytes ≡ true
+
+-- each part of a call lacks such a byte, so what stands before the parenthesis does
+module _ (b : ℕ) (apart : IsApart b) where
+  -- words of calls lack it
+  abbrev word : (text : List ℕ) → uses call_bytes text ≡ true → Clean b
+  word text all = clean b text (lacks_used b call_bytes text apart.no_word all)
+
+  abbrev more : Clean b → (text : List ℕ) → uses call_bytes text ≡ true → Clean b
+  more first text all = onto first text (lacks_used b call_bytes text apart.no_word all)
+
+  -- so do numbers
+  number : (n : ℕ) → n < 2 ^ 64 → lacks b (decimal n) ≡ true
+  number n small = decimal_lacks b n small (let none = apart.no_digit in omega arith)
+
+  address : (n : ℕ) → n < 2 ^ 64 → lacks b (address_text n) ≡ true
+  address n small =
+      address_lacks b n small (lacks_used b call_bytes (codes "NULL") apart.no_word refl)
+      (lacks_used b call_bytes (codes "0x") apart.no_word refl) apart.no_digit
+
+  body_of : (c : Call) → FitsCall c → Body b c
+  body_of (Map a n p f) fits =
+      let first = onto (word (codes "mmap(") refl) (address_text a) (address a fits.0) in
+      let len = onto (more first (codes ", ") refl) (decimal n) (number n fits.1) in
+      let prot = more (more len (codes ", ") refl) (prot_text p)
+      (prot_words_use (has_bits (prot_bits p) 1) (has_bits (prot_bits p) 2) (has_bits (prot_bits p) 4)) in
+      let flags = more (more prot (codes ", ") refl) (flags_text f)
+      (flag_words_use (has_bits (flag_bits f) 1) (has_bits (flag_bits f) 2) (has_bits (flag_bits f) 4) (has_bits (flag_bits f) 8)) in
+      of_clean b (Map a n p f) (more flags (codes ", -1, 0") refl) (sym (append_assoc flags.text (codes ", -1, 0") (41 ∷ [])))
+  body_of (Unmap a n) fits =
+      let first = onto (word (codes "munmap(") refl) (address_text a) (address a fits.0) in
+      of_clean b (Unmap a n) (onto (more first (codes ", ") refl) (decimal n) (number n fits.1)) refl
+  body_of (Protect a n p) fits =
+      let first = onto (word (codes "mprotect(") refl) (address_text a) (address a fits.0) in
+      let len = onto (more first (codes ", ") refl) (decimal n) (number n fits.1) in
+      let prot = more (more len (codes ", ") refl) (prot_text p)
+      (prot_words_use (has_bits (prot_bits p) 1) (has_bits (prot_bits p) 2) (has_bits (prot_bits p) 4)) in
+      of_clean b (Protect a n p) prot refl
+  body_of (Fault a which) fits =
+      let first = onto (word (codes "fault(") refl) (address_text a) (address a fits) in
+      of_clean b (Fault a which) (more (more first (codes ", ") refl) (access_text which) (access_uses which)) refl
+
+-- the text of a call lacks such a byte, where that isn't the parenthesis
+pub call_lacks : (b : ℕ) → IsApart b → lacks b (41 ∷ []) ≡ true → (c : Call) → FitsCall c → lacks b (call_text c) ≡ true
+call_lacks b apart no_close c fits =
+    let p = body_of b apart c fits in
+    subst (λ (t : List ℕ). lacks b t ≡ true) (sym p.whole) (lacks_both b p.body (41 ∷ []) p.lacks_it no_close)
+
+close_apart : IsApart 41
+close_apart = record { no_digit = close_ends; no_word = refl }
+
+-- the newline is such a byte
+pub line_apart : IsApart 10
+line_apart = record { no_digit = line_ends; no_word = refl }
+
+-- the text of a call is one without a closing parenthesis, and then the parenthesis
+pub close_cut : (c : Call) → FitsCall c → (body : List ℕ) × (lacks 41 body ≡ true) × (call_text c ≡ body ++ 41 ∷ [])
+close_cut c fits = let b = body_of 41 close_apart c fits in (b.body, b.lacks_it, b.whole)
 
 -- a text has one call
 call_tells : (c d : Call) → IsNamedCall c → IsNamedCall d → FitsCall c → FitsCall d → call_text c ≡ call_text d → c ≡ d
@@ -243,16 +313,17 @@ call_tells c d named_c named_d fits_c fits_d e =
 
 cut_call : (c d : Call) (r s : List ℕ) → IsNamedCall c → IsNamedCall d → FitsCall c → FitsCall d → call_text c ++ r ≡ call_text d ++ s → (c ≡ d) × (r ≡ s)
 cut_call c d r s named_c named_d fits_c fits_d e =
-    let b = body_of c fits_c in
-    let a = body_of d fits_d in
+    let b = body_of 41 close_apart c fits_c in
+    let a = body_of 41 close_apart d fits_d in
     let left : call_text c ++ r ≡ b.body ++ 41 ∷ r = ap (λ (l : List ℕ). l ++ r) b.whole ∙ append_assoc b.body (41 ∷ []) r in
     let right : call_text d ++ s ≡ a.body ++ 41 ∷ s = ap (λ (l : List ℕ). l ++ s) a.whole ∙ append_assoc a.body (41 ∷ []) s in
-    let parts = cut 41 b.body a.body r s b.lacks_close a.lacks_close (sym left ∙ e ∙ right) in
+    let parts = cut 41 b.body a.body r s b.lacks_it a.lacks_it (sym left ∙ e ∙ right) in
     (call_tells c d named_c named_d fits_c fits_d (b.whole ∙ ap (λ (l : List ℕ). l ++ 41 ∷ []) parts.0 ∙ sym a.whole), parts.1)
 
 -- ---- replies: each is told back from its text
 
-kind_back : List ℕ → Kind
+-- the kind that four characters show
+unfoldable pub kind_back : List ℕ → Kind
 kind_back text = record {
   prot = record {
     0 =
@@ -285,7 +356,8 @@ kind_at_bits (suc (suc (suc (suc (suc (suc (suc zero))))))) true low = refl
 kind_at_bits (suc (suc (suc (suc (suc (suc (suc zero))))))) false low = refl
 kind_at_bits (suc (suc (suc (suc (suc (suc (suc (suc n)))))))) shared low = absurd (omega arith)
 
-kind_told : (k : Kind) → IsNamedKind k → kind_back (kind_text k) ≡ k
+-- a kind is told back from its four characters
+pub kind_told : (k : Kind) → IsNamedKind k → kind_back (kind_text k) ≡ k
 kind_told k named = kind_at_bits (prot_bits k.prot) k.shared named
 
 kind_tells : (k j : Kind) → IsNamedKind k → IsNamedKind j → kind_text k ≡ kind_text j → k ≡ j
@@ -387,10 +459,13 @@ reply_tells (Refused w) (Refused v) a b c d e = ap Refused (why_tells w v a b c 
 
 -- ---- what was held
 
-abbrev span_of : (lo hi : ℕ) → lo < hi → hi ≤ LIMIT → Span
+-- a span by its ends
+abbrev pub span_of : (lo hi : ℕ) → lo < hi → hi ≤ LIMIT → Span
 span_of lo hi a b = record { lo = lo; hi = hi; ordered = a; in_range = b }
 
-same_ends : (lo hi : ℕ) (a : lo < hi) (b : hi ≤ LIMIT) (x : ℕ) → lo ≡ x → (y : ℕ) → hi ≡ y → (c : x < y) (d : y ≤ LIMIT) → span_of lo hi a b ≡ span_of x y c d
+-- two spans with the same ends are one
+pub same_ends : (lo hi : ℕ) (a : lo < hi) (b : hi ≤ LIMIT) (x : ℕ) → lo ≡ x → (y : ℕ) → hi ≡ y → (c : x < y) (d : y ≤ LIMIT)
+    → span_of lo hi a b ≡ span_of x y c d
 same_ends lo hi a b x p y q =
     subst (λ (v : ℕ). (c : v < y) (d : y ≤ LIMIT) → span_of lo hi a b ≡ span_of v y c d) p
     (subst (λ (v : ℕ). (c : lo < v) (d : v ≤ LIMIT) → span_of lo hi a b ≡ span_of lo v c d) q (λ c d. λ i. span_of lo hi (le_prop a c i) (le_prop b d i)))
@@ -433,68 +508,80 @@ span_lacks s a b =
     let lo = onto (clean 10 (codes "0x") refl) (hex_digits s.lo) (hex_lacks 10 s.lo a line_ends) in
     (onto (onto lo (codes "-") refl) (prefixed_hex s.hi) (lacks_both 10 (codes "0x") (hex_digits s.hi) refl (hex_lacks 10 s.hi b line_ends))).lacks_it
 
-under_lacks : (u : Under) → FitsHeld u → lacks 10 (under_text u) ≡ true
+-- what was held lacks the newline
+pub under_lacks : (u : Under) → FitsHeld u → lacks 10 (under_text u) ≡ true
 under_lacks Nothing a = refl
 under_lacks (Reader s) a = lacks_both 10 (codes "reader ") (span_text s) refl (span_lacks s a.0 a.1)
 under_lacks (Area s) a = lacks_both 10 (codes "area ") (span_text s) refl (span_lacks s a.0 a.1)
 under_lacks Whole a = refl
 
--- ---- a reply has no `u`
+-- ---- the bytes of a reply
 
-letter_lacks : (a b c d : Bool) → lacks 117 (letter_if a 114 ∷ letter_if b 119 ∷ letter_if c 120 ∷ (if d then 115 else 112) ∷ []) ≡ true
-letter_lacks a b c d = four (not (letter_if a 114 == 117)) (not (letter_if b 119 == 117)) (not (letter_if c 120 == 117))
-    (not ((if d then 115 else 112) == 117)) (first a) (second b) (third c) (last d)
-  where
-    four : (p q r s : Bool) → p ≡ true → q ≡ true → r ≡ true → s ≡ true → p && (q && (r && (s && true))) ≡ true
-    four p q r s a b c d = both p _ a (both q _ b (both r _ c (both s true d refl)))
+letter_uses : (a b c d : Bool) → uses reply_bytes (letter_if a 114 ∷ letter_if b 119 ∷ letter_if c 120 ∷ (if d then 115 else 112) ∷ []) ≡ true
+letter_uses true true true true = refl
+letter_uses true true true false = refl
+letter_uses true true false true = refl
+letter_uses true true false false = refl
+letter_uses true false true true = refl
+letter_uses true false true false = refl
+letter_uses true false false true = refl
+letter_uses true false false false = refl
+letter_uses false true true true = refl
+letter_uses false true true false = refl
+letter_uses false true false true = refl
+letter_uses false true false false = refl
+letter_uses false false true true = refl
+letter_uses false false true false = refl
+letter_uses false false false true = refl
+letter_uses false false false false = refl
 
-    first : (x : Bool) → not (letter_if x 114 == 117) ≡ true
-    first true = refl
-    first false = refl
+kind_uses : (k : Kind) → uses reply_bytes (kind_text k) ≡ true
+kind_uses k = letter_uses (has_bits (prot_bits k.prot) 1) (has_bits (prot_bits k.prot) 2) (has_bits (prot_bits k.prot) 4) k.shared
 
-    second : (x : Bool) → not (letter_if x 119 == 117) ≡ true
-    second true = refl
-    second false = refl
+-- a reply lacks a byte that is no digit and stands in none of its words
+module _ (b : ℕ) (no_digit : 16 ≤ worth b) (no_word : lacks b reply_bytes ≡ true) where
+  abbrev said : (text : List ℕ) → uses reply_bytes text ≡ true → Clean b
+  said text all = clean b text (lacks_used b reply_bytes text no_word all)
 
-    third : (x : Bool) → not (letter_if x 120 == 117) ≡ true
-    third true = refl
-    third false = refl
+  -- a kind lacks it
+  pub kind_lacks : (k : Kind) → lacks b (kind_text k) ≡ true
+  kind_lacks k = lacks_used b reply_bytes (kind_text k) no_word (kind_uses k)
 
-    last : (x : Bool) → not ((if x then 115 else 112) == 117) ≡ true
-    last true = refl
-    last false = refl
+  abbrev with_kind : Clean b → (k : Kind) → Clean b
+  with_kind first k = onto first (kind_text k) (kind_lacks k)
 
-kind_lacks : (k : Kind) → lacks 117 (kind_text k) ≡ true
-kind_lacks k = letter_lacks (has_bits (prot_bits k.prot) 1) (has_bits (prot_bits k.prot) 2) (has_bits (prot_bits k.prot) 4) k.shared
+  abbrev with_page : Clean b → (n : ℕ) → n < 2 ^ 64 → Clean b
+  with_page first n small = onto first (prefixed_hex n) (lacks_both b (codes "0x") (hex_digits n)
+      (lacks_used b reply_bytes (codes "0x") no_word refl) (hex_lacks b n small no_digit))
 
-page_lacks : (n : ℕ) → n < 2 ^ 64 → lacks 117 (prefixed_hex n) ≡ true
-page_lacks n a = lacks_both 117 (codes "0x") (hex_digits n) refl (hex_lacks 117 n a u_ends)
+  abbrev with_number : Clean b → (n : ℕ) → n < 2 ^ 64 → Clean b
+  with_number first n small = onto first (decimal n) (decimal_lacks b n small (omega (arith, no_digit)))
 
-short_lacks : (s : Short) → FitsShort s → lacks 117 (short_text s) ≡ true
-short_lacks (Missing p) a = lacks_both 117 (codes "missing page ") (prefixed_hex p) refl (page_lacks p a)
-short_lacks (PastEnd p) a = lacks_both 117 (codes "end page ") (prefixed_hex p) refl (page_lacks p a)
-short_lacks (NoGap n) a =
-    (onto (onto (clean 117 (codes "no gap of ") refl) (decimal n) (decimal_lacks 117 n a (omega (arith, u_ends))))
-    (codes " pages") refl).lacks_it
-short_lacks (Rows n) a = lacks_both 117 (codes "rows ") (decimal n) refl (decimal_lacks 117 n a (omega (arith, u_ends)))
+  short_lacks : (s : Short) → FitsShort s → lacks b (short_text s) ≡ true
+  short_lacks (Missing p) a = (with_page (said (codes "missing page ") refl) p a).lacks_it
+  short_lacks (PastEnd p) a = (with_page (said (codes "end page ") refl) p a).lacks_it
+  short_lacks (NoGap n) a =
+      (onto (with_number (said (codes "no gap of ") refl) n a) (codes " pages") (said (codes " pages") refl).lacks_it).lacks_it
+  short_lacks (Rows n) a = (with_number (said (codes "rows ") refl) n a).lacks_it
 
-why_lacks : (w : Why) → FitsWhy w → lacks 117 (why_text w) ≡ true
-why_lacks (Einval Addr) a = refl
-why_lacks (Einval Len) a = refl
-why_lacks (Einval Flags) a = refl
-why_lacks (Einval End) a = refl
-why_lacks (Enomem s) a = lacks_both 117 (codes "-1 ENOMEM ") (short_text s) refl (short_lacks s a)
-why_lacks (Eexist p) a = lacks_both 117 (codes "-1 EEXIST page ") (prefixed_hex p) refl (page_lacks p a)
-why_lacks (MapErr p) a = lacks_both 117 (codes "-1 SEGV_MAPERR page ") (prefixed_hex p) refl (page_lacks p a)
-why_lacks (AccErr p k) a =
-    let page = onto (clean 117 (codes "-1 SEGV_ACCERR page ") refl) (prefixed_hex p) (page_lacks p a) in
-    (onto (onto page (codes " ") refl) (kind_text k) (kind_lacks k)).lacks_it
+  why_lacks : (w : Why) → FitsWhy w → lacks b (why_text w) ≡ true
+  why_lacks (Einval Addr) a = (said (why_text (Einval Addr)) refl).lacks_it
+  why_lacks (Einval Len) a = (said (why_text (Einval Len)) refl).lacks_it
+  why_lacks (Einval Flags) a = (said (why_text (Einval Flags)) refl).lacks_it
+  why_lacks (Einval End) a = (said (why_text (Einval End)) refl).lacks_it
+  why_lacks (Enomem s) a = (onto (said (codes "-1 ENOMEM ") refl) (short_text s) (short_lacks s a)).lacks_it
+  why_lacks (Eexist p) a = (with_page (said (codes "-1 EEXIST page ") refl) p a).lacks_it
+  why_lacks (MapErr p) a = (with_page (said (codes "-1 SEGV_MAPERR page ") refl) p a).lacks_it
+  why_lacks (AccErr p k) a =
+      let page = with_page (said (codes "-1 SEGV_ACCERR page ") refl) p a in
+      (with_kind (onto page (codes " ") (said (codes " ") refl).lacks_it) k).lacks_it
 
-reply_lacks : (r : Reply) → FitsReply r → lacks 117 (reply_text r) ≡ true
-reply_lacks (At n) a = page_lacks n a
-reply_lacks Zero a = refl
-reply_lacks (Granted k) a = lacks_both 117 (codes "granted ") (kind_text k) refl (kind_lacks k)
-reply_lacks (Refused w) a = why_lacks w a
+  -- so does a reply
+  pub reply_lacks : (r : Reply) → FitsReply r → lacks b (reply_text r) ≡ true
+  reply_lacks (At n) a = (with_page (said [] refl) n a).lacks_it
+  reply_lacks Zero a = (said (codes "0") refl).lacks_it
+  reply_lacks (Granted k) a = (with_kind (said (codes "granted ") refl) k).lacks_it
+  reply_lacks (Refused w) a = why_lacks w a
 
 -- ---- a line
 
@@ -525,7 +612,8 @@ unfolding behind_call
 cut_behind e f r s a b c d named_e named_f is =
     let reply = ap (drop 3) is in
     let parts = cut 117 (reply_text e.reply ++ 32 ∷ []) (reply_text f.reply ++ 32 ∷ []) _ _
-    (lacks_both 117 (reply_text e.reply) (32 ∷ []) (reply_lacks e.reply a) refl) (lacks_both 117 (reply_text f.reply) (32 ∷ []) (reply_lacks f.reply b) refl)
+    (lacks_both 117 (reply_text e.reply) (32 ∷ []) (reply_lacks 117 u_ends refl e.reply a) refl)
+    (lacks_both 117 (reply_text f.reply) (32 ∷ []) (reply_lacks 117 u_ends refl f.reply b) refl)
     (sym (reply_parts (reply_text e.reply) (under_text e.under ++ 10 ∷ r)) ∙ reply ∙ reply_parts (reply_text f.reply) (under_text f.under ++ 10 ∷ s)) in
     let held = cut 10 (under_text e.under) (under_text f.under) r s (under_lacks e.under c) (under_lacks f.under d) (ap (drop 5) parts.1) in (
       reply_tells e.reply f.reply a b named_e named_f (last_off 32 (reply_text e.reply) (reply_text f.reply) parts.0),
@@ -534,7 +622,7 @@ cut_behind e f r s a b c d named_e named_f is =
     )
 
 -- a line tells its entry
-cut_line : (e f : Entry) (r s : List ℕ) → HasWordNumbers e → HasWordNumbers f → IsNamedEntry e → IsNamedEntry f
+pub cut_line : (e f : Entry) (r s : List ℕ) → HasWordNumbers e → HasWordNumbers f → IsNamedEntry e → IsNamedEntry f
     → entry_line e ++ r ≡ entry_line f ++ s → (e ≡ f) × (r ≡ s)
 cut_line e f r s a b c d is =
     let number = cut_number e.number f.number _ _ a.number b.number (sym (line_parts e r) ∙ is ∙ line_parts f s) in
@@ -573,15 +661,15 @@ log_tells (e ∷ es) (f ∷ fs) a b c d is =
     (all_rest IsNamedEntry f fs d) first.1 in
     λ i. first.0 i ∷ rest i
 
--- ---- the numbers of one entry more fit
+-- ---- one entry more
 
--- where the numbers of the entries before this one fit, and its own do, those of one entry more fit
-pub words_next : (entries : List Entry) (i : ℕ) (e : Entry) → i < length entries
-    → ((k : ℕ) (d : Entry) → k < i → HasWordNumbers (get_or entries k d)) → e ≡ get_or entries i e → HasWordNumbers e
-    → (k : ℕ) (d : Entry) → k < i + 1 → HasWordNumbers (get_or entries k d)
-words_next entries i e low so_far is fits k d below = elim (cases_lt k i) [
+-- where something holds of the entries before this one, and of itself, it holds of one entry more
+pub each_next : (P : Entry → Type 0) (entries : List Entry) (i : ℕ) (e : Entry) → i < length entries
+    → ((k : ℕ) (d : Entry) → k < i → P (get_or entries k d)) → e ≡ get_or entries i e → P e
+    → (k : ℕ) (d : Entry) → k < i + 1 → P (get_or entries k d)
+each_next P entries i e low so_far is holds k d below = elim (cases_lt k i) [
   | inl before ↦ so_far k d before
   | inr behind ↦
       let same : i ≡ k = omega arith in
-      subst HasWordNumbers (is ∙ get_or_default entries i e d low ∙ ap (λ (j : ℕ). get_or entries j d) same) fits
+      subst P (is ∙ get_or_default entries i e d low ∙ ap (λ (j : ℕ). get_or entries j d) same) holds
 ]

@@ -7,7 +7,7 @@ mod calls;
 mod logs;
 
 pub use calls::{read_written, reads_back};
-pub use logs::logs_tell_entries;
+pub use logs::{has_word_numbers, logs_tell_entries, words_fit};
 
 #[cfg(test)]
 mod tests;

@@ -16,21 +16,22 @@ pub fn logs_tell_entries(entries: &[Entry], others: &[Entry])
     requires text { log_text entries.now ≡ log_text others.now }
     ensures { entries.now ≡ others.now }
 {
-    fit_words(entries);
-    fit_words(others);
+    words_fit(entries);
+    words_fit(others);
 }
 
-/// That the numbers of entries fit in 64 bits.
-fn fit_words(entries: &[Entry])
+/// The numbers of entries fit in 64 bits. It only looks at the entries: what the types of their numbers say is its
+/// contract, for laws on lists of entries.
+pub fn words_fit(entries: &[Entry])
     ensures { All HasWordNumbers entries.now }
 {
     'entries: for entry in entries {
-        fits_words(*entry);
+        has_word_numbers(*entry);
     }
 }
 
-/// That the numbers of an entry fit in 64 bits.
-fn fits_words(entry: Entry)
+/// That the numbers of an entry fit in 64 bits, as its types say. It only looks at the entry: its contract is the law.
+pub fn has_word_numbers(entry: Entry)
     ensures { HasWordNumbers entry }
 {
     fits_call(entry.call);

@@ -8,7 +8,8 @@ use Rattle.space_model.specs.declared.entries.Entry.{Entry}
 use Rattle.space_model.specs.Areas.{IsAreaList}
 use Rattle.space_model.specs.Answers.{Answers}
 use Rattle.space_model.specs.Laws.{LeavesAreaListAfter}
-use Rattle.space_model.specs.History.{Chains, CallLeaves, HasRightReply, StateAfter, IsNumberedFrom, IsLegal}
+use Rattle.space_model.specs.Held.{FitsUnder}
+use Rattle.space_model.specs.History.{Chains, CallLeaves, HasRightReply, StateAfter, IsNumberedFrom, IsLegal, FitsAndReplies, Runs}
 use Rattle.space_model.proofs.OneAnswer.{one_answer}
 use Rattle.space_model.proofs.SomeAnswer.{some_answer, leaves_areas}
 
@@ -39,6 +40,11 @@ chains_weaker Step Weaker weaker A (x ∷ xs) B (D, g, s) = (D, weaker A x D g, 
 pub numbered_more : (n : ℕ) (xs : List Entry) (e : Entry) → IsNumberedFrom n xs → e.number ≡ n + length xs → IsNumberedFrom n (xs ++ e ∷ [])
 numbered_more n [] e l i = (omega arith, tt)
 numbered_more n (x ∷ xs) e (j, l) i = (j, numbered_more (n + 1) xs e l (omega arith))
+
+-- one entry more
+pub runs_more : (history : List Entry) (n : ℕ) (A B C : List Area) (e : Entry) → Runs n A history B
+    → e.number ≡ n + length history → FitsUnder B e.call e.under → Answers B e.call e.reply C → Runs n A (history ++ e ∷ []) C
+runs_more history n A B C e r num fits answers = (numbered_more n history e r.0 num, chains_more FitsAndReplies A history B e C r.1 (fits, answers))
 
 -- the entry at each place has the place's number
 pub numbered_at : (n : ℕ) (xs : List Entry) (i : ℕ) (e : Entry) → IsNumberedFrom n xs → get_elem? xs i ≡ some e → e.number ≡ n + i

@@ -8,6 +8,7 @@ use Rattle.page_types.specs.Named.{IsNamedCall}
 use Rattle.space_model.specs.declared.areas.Area.{Area}
 use Rattle.space_model.specs.declared.entries.Entry.{Entry}
 use Rattle.space_model.specs.Answers.{Answers}
+use Rattle.space_model.specs.Held.{FitsUnder}
 
 -- the entries, taken in their order, lead from area list A to area list B, each by a step of this kind
 abbrev pub Chains : (List Area → Entry → List Area → Type 0) → List Area → List Entry → List Area → Type 0
@@ -44,3 +45,12 @@ pub record IsFirstIllegal (A : List Area) (entries : List Entry) (index : ℕ) :
 -- the calls of the entries take no bit but the named ones
 abbrev pub HasNamedCalls : List Entry → Type 0
 HasNamedCalls = All (λ e. IsNamedCall e.call)
+
+-- the entry fits what was held and answers what its call answers, which leaves area list B
+abbrev pub FitsAndReplies : List Area → Entry → List Area → Type 0
+FitsAndReplies A e B = FitsUnder A e.call e.under × HasRightReply A e B
+
+-- from one area list the entries are numbered n, n + 1 and so on, each fits what was held and has the reply that its
+-- call has there, and they leave another
+abbrev pub Runs : ℕ → List Area → List Entry → List Area → Type 0
+Runs n A entries B = IsNumberedFrom n entries × Chains FitsAndReplies A entries B

@@ -1,7 +1,7 @@
 use Rattle.std.proofs.Common.{ℕ, ◌<◌, get_or}
 use Rattle.space_model.specs.declared.entries.Entry.{Entry}
 use Rattle.round_trip.specs.Logs.{HasWordNumbers}
-use Rattle.round_trip.proofs.logs.fit_words.Given as goal
+use Rattle.round_trip.proofs.logs.words_fit.Given as goal
 
 -- the numbers of the entries so far fit
 abbrev pub invariant-entries : goal.invariant-entries

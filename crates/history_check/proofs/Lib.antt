@@ -1,0 +1,12 @@
+pub mod Cutting
+pub mod OneVerdict
+pub mod Fitting
+pub mod Beginnings
+pub mod Remembering
+pub mod RestLines
+pub mod Reaching
+pub mod PrintedLines
+pub mod WordsBack
+pub mod NumbersBack
+pub mod RepliesBack
+pub mod LinesBack

@@ -1,0 +1,40 @@
+use Rattle.std.proofs.Common.{sym, subst}
+use Rattle.page_types.specs.declared.calls.Reply.{Reply}
+use Rattle.space_model.specs.Answers.{Answers}
+use Rattle.space_model.proofs.OneAnswer.{one_answer}
+use Rattle.history_check.proofs.Fitting.{fits_tells}
+use Rattle.history_check.proofs.taking.wrong_call.Goals as goal
+
+-- what the entry held doesn't fit
+pub returns-then-not-may_be : goal.returns-then-not-may_be
+returns-then-not-may_be c before place = (
+  place,
+  λ fits.
+      let told =
+      fits_tells _ _ c.in_ok-reply.exact c.args.entry.now.under c.areas-areas.ensures.in_order c.in_ok-reply.ensures.fits c.in_ok-reply.ensures.simple in
+      let may = c.may_be.ensures.1 (told.1 fits) in
+      absurd cc,
+)
+
+-- it fits, and the reply is another
+pub returns-then-not-same_reply : goal.returns-then-not-same_reply
+returns-then-not-same_reply c before place =
+    let told =
+    fits_tells _ _ c.in_ok-reply.exact c.args.entry.now.under c.areas-areas.ensures.in_order c.in_ok-reply.ensures.fits c.in_ok-reply.ensures.simple in (
+      place,
+      told.0 (c.may_be.ensures.0 c.if-not-may_be.false),
+      λ C right.
+          let one = one_answer _ _ _ _ _ C c.in_ok-reply.ensures.answer right in
+          let same = c.same_reply.ensures.1 (sym one.0) in
+          absurd cc,
+    )
+
+-- it fits, and the reply is right
+pub returns : goal.returns
+returns c =
+    let told =
+    fits_tells _ _ c.in_ok-reply.exact c.args.entry.now.under c.areas-areas.ensures.in_order c.in_ok-reply.ensures.fits c.in_ok-reply.ensures.simple in (
+      told.0 (c.may_be.ensures.0 c.if-not-may_be.false),
+      subst (λ (r : Reply). Answers c.args.space.now c.args.entry.now.call r c.step_under.new.self)
+          (sym (c.same_reply.ensures.0 c.if-not-same_reply.false)) c.in_ok-reply.ensures.answer,
+    )
