@@ -116,7 +116,7 @@ new_workers table start calls lists cs workers is same some_there new =
     }
 
 -- the new worker of a place
-new_at : (table : TableId) (start : List Area) (lists : List (List Line)) (workers : List WorkerView) (k : ℕ) (w : WorkerView)
+pub new_at : (table : TableId) (start : List Area) (lists : List (List Line)) (workers : List WorkerView) (k : ℕ) (w : WorkerView)
     → AreNewWorkers table start lists workers → get_elem? workers k ≡ some w → (ls : List Line) × IsNewWorker table start k ls w
 new_at table start lists workers k w new at =
     let lt = below workers k w at in

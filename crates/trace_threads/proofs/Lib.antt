@@ -3,3 +3,5 @@ pub mod Plays
 pub mod Lone
 pub mod Collecting
 pub mod Hirings
+pub mod Granted
+pub mod Touchers

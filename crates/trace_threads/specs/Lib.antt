@@ -1,10 +1,13 @@
 pub mod Workers
 pub mod Collected
 pub mod Hiring
+pub mod Touching
+pub mod Stages
 pub use Rattle.area_rows.specs.Callers
 pub use Rattle.area_rows.specs.Called
 pub use Rattle.area_rows.specs.History
 pub use Rattle.atomic_table.specs.Seated
+pub use Rattle.page_touch.specs.Touches
 pub use Rattle.page_types.specs.Named
 pub use Rattle.page_types.specs.PlainReply
 pub use Rattle.range_rw.specs.Contract

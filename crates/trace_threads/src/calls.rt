@@ -1,8 +1,8 @@
 //! The call of a line, handed on whole to the crate that makes it: a fault, a map, an unmap or a change of protection.
 //! Who makes a call is decided here alone, and the contract doesn't say.
-ghost use Rattle.std.specs.Prelude.{◌≡◌, None};
+ghost use Rattle.std.specs.Prelude.{◌≡◌, ◌<◌, None};
 ghost use Rattle.page_types.specs.Named.{IsNamedCall};
-ghost use Rattle.trace_threads.specs.Workers.{IsLineAnswer};
+ghost use Rattle.trace_threads.specs.Workers.{IsLineAnswer, IsPlayedAs};
 
 use crate::worker::Line;
 use area_protect::{Protected, make_protect};
@@ -10,6 +10,7 @@ use area_rows::{Answer, Caller, Space};
 use map_calls::make_change;
 use page_fault::make_fault;
 use page_types::Call;
+use space_model::Entry;
 use std::sync::Wait;
 
 /// A caller makes the call of a line.
@@ -29,5 +30,24 @@ pub(crate) fn make_call<R: Wait>(wait: &R, space: &Space, caller: &mut Caller, l
             Protected::Spent => Answer::Spent,
         },
         Call::Fault { .. } => make_fault(space, wait, caller, number, line.call),
+    }
+}
+
+/// A caller with a number left makes the call of a line, which then has an entry.
+pub(crate) fn answer_line<R: Wait>(
+    wait: &R,
+    space: &Space,
+    caller: &mut Caller,
+    line: Line,
+) -> Entry
+    requires table { caller.old.seat.table ≡ space.now.table }
+    requires free { caller.old.seat.held ≡ None }
+    requires left { 0 < caller.old.left }
+    requires named { IsNamedCall line.call }
+    ensures played { IsPlayedAs caller.old line result caller.new }
+{
+    match make_call(wait, space, caller, line) {
+        Answer::Given(entry) => entry,
+        Answer::Spent => unreachable!(),
     }
 }

@@ -6,7 +6,7 @@ ghost use Rattle.page_types.specs.Named.{IsNamedCall};
 ghost use Rattle.space_model.specs.declared.entries.Entry.{Entry};
 ghost use Rattle.trace_threads.specs.Workers.{AreOfTable, HasPlayed, HasDone, HavePlayed, IsPlayedAs};
 
-use crate::calls::make_call;
+use crate::calls::answer_line;
 use crate::gate::Gate;
 use crate::worker::{Line, Worker};
 use area_rows::{Caller, Space};
@@ -15,7 +15,7 @@ use std::thread;
 use std::thread::Threads;
 
 /// In how many threads at most workers play: as many as a space has callers.
-const MOST_THREADS: usize = 16;
+pub(crate) const MOST_THREADS: usize = 16;
 
 /// A caller plays one line, between the gate's two calls.
 fn play_line<R: Wait, G: Gate>(space: &Space, wait: &R, caller: &mut Caller, line: Line, gate: &G)
@@ -27,7 +27,7 @@ fn play_line<R: Wait, G: Gate>(space: &Space, wait: &R, caller: &mut Caller, lin
 {
     let worker = caller.worker();
     gate.before(worker, line.line);
-    make_call(wait, space, caller, line);
+    answer_line(wait, space, caller, line);
     gate.after(worker, line.line);
 }
 

@@ -64,7 +64,7 @@ fn dismiss(mut workers: Vec<Worker>, mut callers: Vec<Caller>) -> Vec<Caller>
 }
 
 /// A new space with one worker for each list of lines, and a list with room for the workers' callers.
-fn open_workers(
+pub(crate) fn open_workers(
     alloc: Global,
     start: &PlainSpace,
     lines: Vec<Vec<Line>>,

@@ -13,7 +13,7 @@ use space_model::{Area, Entry, PlainSpace, Under, have_named_calls, have_named_k
 use std::alloc::Global;
 use std::sync::Wait;
 use std::thread::Threads;
-use trace_threads::{Line, OpenGate};
+use trace_threads::{Line, OpenGate, play_touched_trace};
 
 /// The pages 16 to 19, which may be read.
 const READABLE: Area = Area {
@@ -184,4 +184,44 @@ fn a_waiting_call_does_not_hold_up_calls_elsewhere(rt: HostRuntime) {
         assert_eq!(rt; (last.worker, last.line), (1, 201));
         assert_eq!(rt; protects_over(before, 31, 34), 100);
     }
+}
+
+/// Three workers with one line each, which read a byte of these pages. Gives the pages that were touched.
+fn touched_by_three<R: Threads + Wait + Sync>(
+    rt: &R,
+    alloc: Global,
+    start: &PlainSpace,
+    pages: (u32, u32, u32),
+) -> Option<Vec<u64>> {
+    let Ok(first) = one_line(alloc, read_line(1, pages.0)) else {
+        return None;
+    };
+    let Ok(second) = one_line(alloc, read_line(1, pages.1)) else {
+        return None;
+    };
+    let Ok(third) = one_line(alloc, read_line(1, pages.2)) else {
+        return None;
+    };
+    let Ok(mut lists) = Vec::with_capacity(alloc, 3) else {
+        return None;
+    };
+    lists.push_reserved(first);
+    lists.push_reserved(second);
+    lists.push_reserved(third);
+    match play_touched_trace(rt, alloc, start, lists, &OpenGate) {
+        Ok((_, pages)) => Some(pages),
+        Err(_) => None,
+    }
+}
+
+#[test]
+fn the_pages_touched_are_those_of_granted_reads(rt: HostRuntime) {
+    let alloc = rt.alloc();
+    let start = PlainSpace::of_areas(alloc, &[READABLE]).expect(&rt, "an area list");
+    let some = touched_by_three(&rt, alloc, &start, (17, 3, 17)).expect(&rt, "memory");
+    assert_eq!(rt; some.as_slice(), [17].as_slice());
+    let none = touched_by_three(&rt, alloc, &start, (3, 4, 20)).expect(&rt, "memory");
+    assert_eq!(rt; none.as_slice(), [].as_slice());
+    let all = touched_by_three(&rt, alloc, &start, (19, 16, 18)).expect(&rt, "memory");
+    assert_eq!(rt; all.as_slice(), [16, 18, 19].as_slice());
 }

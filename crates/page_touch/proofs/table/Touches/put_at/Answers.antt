@@ -1,0 +1,18 @@
+use Rattle.std.proofs.Common.{◌∙◌, ap, sym, subst}
+use Rattle.page_touch.specs.Probes.{MayProbe}
+use Rattle.page_touch.proofs.Probing.{put_allows, word_there}
+use Rattle.page_touch.proofs.table.Touches.put_at.Goals as goal
+
+-- the exchange is of a word of the table, and keeps the rule
+pub compare_exchange-requires : goal.compare_exchange-requires
+compare_exchange-requires g c =
+    let shape = c.self.view_is in
+    let room = c.self.invariant.0 ∙ ap (λ s. s.room) shape in
+    let own = ap (λ s. s.own) c.token.view_is in (
+      ap (λ s. s.table) c.token.view_is ∙ (c.requires.table ∙ sym (ap (λ s. s.table) shape)),
+      word_there _ _ c.args.place (c.self.invariant.1 ∙ ap (λ s. s.room) shape) c.requires.may.within,
+      put_allows _ _ _ _ c.args.place c.args.page c.token.inside.seat.me _ _ _ (c.requires.picked.0
+          ∙ sym room) c.requires.picked.1 c.requires.picked.2
+          (subst (λ n. MayProbe n c.args.page c.args.place c.token.inside.seat.me.0) (sym room)
+          (subst (MayProbe c.args.self.now.room c.args.page c.args.place) (sym own) c.requires.may)),
+    )

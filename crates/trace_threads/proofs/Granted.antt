@@ -1,0 +1,67 @@
+-- A fault that is granted is at a page below the limit, so its page may be touched.
+use Rattle.std.proofs.Common.{◌≡◌, ℕ, zero, suc, ◌<◌, List, [], ◌∷◌, refl, sym, ap, ◌∙◌, cond, ⊎_elim, arith}
+use Rattle.std.proofs.lemmas.Bool.Decides.{leb_tells}
+use Rattle.std.specs.Prelude.{All, Some, None}
+use Rattle.page_types.specs.declared.TheConstants.{LIMIT}
+use Rattle.page_types.specs.declared.calls.Call.{Call}
+use Rattle.page_types.specs.declared.calls.Call.TheVariants.{Map, Unmap, Protect, Fault}
+use Rattle.page_types.specs.declared.calls.Reply.{Reply}
+use Rattle.page_types.specs.declared.calls.Reply.TheVariants.{At, Zero, Granted, Refused}
+use Rattle.page_types.specs.declared.calls.Kind.{Kind}
+use Rattle.page_types.specs.declared.calls.Why.TheVariants.{MapErr}
+use Rattle.page_types.specs.declared.sets.Access.{Access}
+use Rattle.page_types.specs.Pages.{page_of}
+use Rattle.page_types.specs.PlainReply.{plain_reply, fault_reply}
+use Rattle.space_model.specs.declared.areas.Area.{Area}
+use Rattle.space_model.specs.declared.entries.Entry.{Entry}
+use Rattle.space_model.specs.Answers.{Answers, by_arguments, refused, granted, done, too_many_rows}
+use Rattle.trace_threads.specs.Touching.{granted_page, page_by}
+
+-- a fault at or above the limit is refused by its arguments, so it is never granted
+not_granted : (A B : List Area) (c : Call) (r : Reply) (addr : ℕ) (access : Access) (kind : Kind) → c ≡ Fault addr access
+    → r ≡ Granted kind → fault_reply addr ≡ Some (Refused (MapErr (page_of addr))) → Answers A c r B → ⊥
+not_granted A B c r addr access kind is_c is_r high (by_arguments plain same) =
+    let p : fault_reply addr ≡ Some r = ap plain_reply (sym is_c) ∙ plain in
+    let q : Some (Refused (MapErr (page_of addr))) ≡ Some (Granted kind) = sym high ∙ (p ∙ ap (λ x. Some x) is_r) in cc
+not_granted A B c r addr access kind is_c is_r high (refused why plain by reply same) =
+    let p : fault_reply addr ≡ None = ap plain_reply (sym is_c) ∙ plain in
+    let q : Some (Refused (MapErr (page_of addr))) ≡ None = sym high ∙ p in cc
+not_granted A B c r addr access kind is_c is_r high (granted k plain by reply same) =
+    let p : fault_reply addr ≡ None = ap plain_reply (sym is_c) ∙ plain in
+    let q : Some (Refused (MapErr (page_of addr))) ≡ None = sym high ∙ p in cc
+not_granted A B c r addr access kind is_c is_r high (done lo hi plain by kinds few reply) =
+    let p : fault_reply addr ≡ None = ap plain_reply (sym is_c) ∙ plain in
+    let q : Some (Refused (MapErr (page_of addr))) ≡ None = sym high ∙ p in cc
+not_granted A B c r addr access kind is_c is_r high (too_many_rows lo hi C plain by kinds many reply same) =
+    let p : fault_reply addr ≡ None = ap plain_reply (sym is_c) ∙ plain in
+    let q : Some (Refused (MapErr (page_of addr))) ≡ None = sym high ∙ p in cc
+
+-- the page of a granted fault is below the limit
+below_limit : (A B : List Area) (addr : ℕ) (access : Access) (kind : Kind) → Answers A (Fault addr access) (Granted kind) B → page_of addr < LIMIT
+below_limit A B addr access kind is = ⊎_elim
+    (λ t. absurd (not_granted A B (Fault addr access) (Granted kind) addr access kind refl refl
+    (ap (λ b. cond b (Some (Refused (MapErr (page_of addr)))) None) t.0) is))
+    (λ t. t.1)
+    (leb_tells LIMIT (page_of addr))
+
+-- of no page and of one
+all_none : (P : ℕ → Type 0) → All P []
+all_none P i d lt = absurd (omega arith)
+
+all_one : (P : ℕ → Type 0) (x : ℕ) → P x → All P (x ∷ [])
+all_one P x p zero d lt = p
+all_one P x p (suc i) d lt = absurd (omega arith)
+
+-- the page of a call with a right reply is below the limit, if it has one
+by_call : (A B : List Area) (c : Call) (r : Reply) → Answers A c r B → All (λ page. page < LIMIT) (page_by c r)
+by_call A B (Map addr len prot flags) r is = all_none (λ page. page < LIMIT)
+by_call A B (Unmap addr len) r is = all_none (λ page. page < LIMIT)
+by_call A B (Protect addr len prot) r is = all_none (λ page. page < LIMIT)
+by_call A B (Fault addr access) (At at) is = all_none (λ page. page < LIMIT)
+by_call A B (Fault addr access) Zero is = all_none (λ page. page < LIMIT)
+by_call A B (Fault addr access) (Granted kind) is = all_one (λ page. page < LIMIT) (page_of addr) (below_limit A B addr access kind is)
+by_call A B (Fault addr access) (Refused why) is = all_none (λ page. page < LIMIT)
+
+-- so is that of an entry with a right reply
+pub entry_below : (A B : List Area) (e : Entry) → Answers A e.call e.reply B → All (λ page. page < LIMIT) (granted_page e)
+entry_below A B e is = by_call A B e.call e.reply is
