@@ -1,5 +1,5 @@
--- The spellings of the command line are read in one way: an option's third letter tells which it is, and its name has
--- no `=` in it. Options are asked for one by one: what was asked for so far, with what is left, is what all of them
+-- The spellings of the command line are read in one way: an option's first two letters tell which it is, and its name
+-- has no `=` in it. Options are asked for one by one: what was asked for so far, with what is left, is what all of them
 -- ask.
 use Rattle.std.proofs.Common.{◌≡◌, ℕ, ◌+◌, ◌<◌, ◌≤◌, ◌^◌, Bool, true, false, List, [], ◌∷◌, ◌++◌, length, get_or, take}
 use Rattle.std.proofs.Common.{drop, Option, Some, None, inl, inr, refl, sym, subst, ap, ◌∙◌, arith, append_assoc}
@@ -15,49 +15,55 @@ use Rattle.std.specs.Prelude.{◌==◌}
 use Rattle.std.specs.List.{filter_map, cons_option, position_or_len, before_first, after_first}
 use Rattle.command_words.specs.declared.commands.Asked.{Asked}
 use Rattle.command_words.specs.declared.commands.Command.{Command}
-use Rattle.command_words.specs.declared.commands.Command.TheVariants.{Play, Load}
+use Rattle.command_words.specs.declared.commands.Command.TheVariants.{Play, Load, Check}
 use Rattle.command_words.specs.declared.commands.Given.{Given}
-use Rattle.command_words.specs.declared.commands.Given.TheVariants.{Opening, Log, Threads, Seed, Calls}
+use Rattle.command_words.specs.declared.commands.Given.TheVariants.{Opening, Log, Touched, Threads, Seed, Calls}
 use Rattle.command_words.specs.Commands.{name_of, number_of, IsInRange, AreWritten, BeginsWith, AreSpellings, Kind}
-use Rattle.command_words.specs.Commands.{of_opening, of_log, of_threads, of_seed, of_calls, value_for, asked_for, DoAsk}
+use Rattle.command_words.specs.Commands.{of_opening, of_log, of_touched, of_threads, of_seed, of_calls, value_for, asked_for, DoAsk}
 use Rattle.command_words.specs.Commands.{IsCommand, HasRanges, Spells, IsFlag, IsNamed, IsNumbered, Adds, IsAsked}
 
--- the third letter of a word
+-- the first two letters of an option's name, behind its dashes, as one number
 abbrev letter : List ℕ → ℕ
-letter word = get_or word 2 0
+letter word = get_or word 2 0 + get_or word 3 0
 
 -- that of an option's name
 abbrev letter_of : Given → ℕ
-letter_of Opening = 111
-letter_of Log = 108
-letter_of (Threads n) = 116
-letter_of (Seed n) = 115
-letter_of (Calls n) = 99
+letter_of Opening = 223
+letter_of Log = 219
+letter_of Touched = 227
+letter_of (Threads n) = 220
+letter_of (Seed n) = 216
+letter_of (Calls n) = 196
 
 letter-name_of : (given : Given) → letter (name_of given) ≡ letter_of given
 letter-name_of Opening = refl
 letter-name_of Log = refl
+letter-name_of Touched = refl
 letter-name_of (Threads n) = refl
 letter-name_of (Seed n) = refl
 letter-name_of (Calls n) = refl
 
-name_is_long : (given : Given) → 2 < length (name_of given)
+name_is_long : (given : Given) → 3 < length (name_of given)
 name_is_long Opening = omega arith
 name_is_long Log = omega arith
+name_is_long Touched = omega arith
 name_is_long (Threads n) = omega arith
 name_is_long (Seed n) = omega arith
 name_is_long (Calls n) = omega arith
 
--- the first word of a spelling has the letter of its name
-first_letter : (name : List ℕ) (number : Option ℕ) (rest words : List (List ℕ)) → 2 < length name
+-- the first word of a spelling has the letters of its name
+first_letter : (name : List ℕ) (number : Option ℕ) (rest words : List (List ℕ)) → 3 < length name
     → AreWritten name number rest words → letter (get_or words 0 []) ≡ letter name
 first_letter name None rest words long e = ap (λ (ws : List (List ℕ)). letter (get_or ws 0 [])) e
 first_letter name (Some n) rest words long (inl e) = ap (λ (ws : List (List ℕ)). letter (get_or ws 0 [])) e
 first_letter name (Some n) rest words long (inr e) =
-    let within : 2 < length (name ++ codes "=") = simp length-append (omega arith) in
+    let within : 3 < length (name ++ codes "=") = simp length-append (omega arith) in
+    let third : get_or (name ++ codes "=" ++ decimal n) 2 0 ≡ get_or name 2 0 =
+    get_or_append_left (name ++ codes "=") (decimal n) 0 2 (omega (arith, within)) ∙ get_or_append_left name (codes "=") 0 2 (omega (arith, long)) in
+    let fourth : get_or (name ++ codes "=" ++ decimal n) 3 0 ≡ get_or name 3 0 =
+    get_or_append_left (name ++ codes "=") (decimal n) 0 3 within ∙ get_or_append_left name (codes "=") 0 3 long in
     ap (λ (ws : List (List ℕ)). letter (get_or ws 0 [])) e
-    ∙ get_or_append_left (name ++ codes "=") (decimal n) 0 2 within
-    ∙ get_or_append_left name (codes "=") 0 2 long
+    ∙ (let both : letter (name ++ codes "=" ++ decimal n) ≡ letter name = omega (arith, third, fourth) in both)
 
 begins_letter : (given : Given) (rest words : List (List ℕ)) → AreWritten (name_of given) (number_of given) rest words
     → letter (get_or words 0 []) ≡ letter_of given
@@ -94,6 +100,7 @@ same_number name m n r s words m_fits n_fits (inr a) (inr b) =
 pub begins_once : (g h : Given) (r s words : List (List ℕ)) → BeginsWith g r words → BeginsWith h s words → (g ≡ h) × (r ≡ s)
 begins_once Opening Opening r s words b d = (refl, ap (drop 1) (sym b.1 ∙ d.1))
 begins_once Log Log r s words b d = (refl, ap (drop 1) (sym b.1 ∙ d.1))
+begins_once Touched Touched r s words b d = (refl, ap (drop 1) (sym b.1 ∙ d.1))
 begins_once (Threads m) (Threads n) r s words b d =
     let (same, rest) = same_number (codes "--threads") m n r s words (omega (arith, b.0)) (omega (arith, d.0)) b.1 d.1 in
     (ap (λ (x : ℕ). Threads x) same, rest)
@@ -109,6 +116,7 @@ begins_once g h r s words b d = absurd (omega (arith, begins_letter g r words b.
 named_once : (g h : Given) (n : ℕ) → name_of g ≡ name_of h → number_of g ≡ Some n → number_of h ≡ Some n → g ≡ h
 named_once Opening Opening n e p q = refl
 named_once Log Log n e p q = refl
+named_once Touched Touched n e p q = refl
 named_once (Threads a) (Threads b) n e p q = let same : a ≡ b = cc in ap (λ (x : ℕ). Threads x) same
 named_once (Seed a) (Seed b) n e p q = let same : a ≡ b = cc in ap (λ (x : ℕ). Seed x) same
 named_once (Calls a) (Calls b) n e p q = let same : a ≡ b = cc in ap (λ (x : ℕ). Calls x) same
@@ -118,6 +126,7 @@ named_once g h n e p q = absurd (omega (arith, sym (letter-name_of g) ∙ ap let
 range_fits : (given : Given) (n : ℕ) → IsInRange given → number_of given ≡ Some n → n < 2 ^ 32
 range_fits Opening n in_range e = absurd cc
 range_fits Log n in_range e = absurd cc
+range_fits Touched n in_range e = absurd cc
 range_fits (Threads m) n in_range e = let same : m ≡ n = cc in omega (arith, in_range)
 range_fits (Seed m) n in_range e = let same : m ≡ n = cc in omega (arith, in_range)
 range_fits (Calls m) n in_range e = let same : m ≡ n = cc in omega (arith, in_range)
@@ -154,6 +163,7 @@ is_equals b = b == 61
 no_equals : (given : Given) → position_or_len is_equals (name_of given) ≡ length (name_of given)
 no_equals Opening = refl
 no_equals Log = refl
+no_equals Touched = refl
 no_equals (Threads n) = refl
 no_equals (Seed n) = refl
 no_equals (Calls n) = refl
@@ -162,6 +172,7 @@ no_equals (Calls n) = refl
 name_before : (given : Given) (value : List ℕ) → before_first is_equals (name_of given ++ codes "=" ++ value) ≡ name_of given
 name_before Opening value = refl
 name_before Log value = refl
+name_before Touched value = refl
 name_before (Threads n) value = refl
 name_before (Seed n) value = refl
 name_before (Calls n) value = refl
@@ -169,6 +180,7 @@ name_before (Calls n) value = refl
 value_after : (given : Given) (value : List ℕ) → after_first is_equals (name_of given ++ codes "=" ++ value) ≡ value
 value_after Opening value = refl
 value_after Log value = refl
+value_after Touched value = refl
 value_after (Threads n) value = refl
 value_after (Seed n) value = refl
 value_after (Calls n) value = refl
@@ -186,6 +198,7 @@ cut_at_equals word within =
 pub flag_begins : (word : List ℕ) (rest words : List (List ℕ)) (given : Given) → words ≡ word ∷ rest → IsFlag word given → BeginsWith given rest words
 flag_begins word rest words Opening e h = (tt, e ∙ ap (λ (w : List ℕ). w ∷ rest) h.0)
 flag_begins word rest words Log e h = (tt, e ∙ ap (λ (w : List ℕ). w ∷ rest) h.0)
+flag_begins word rest words Touched e h = (tt, e ∙ ap (λ (w : List ℕ). w ∷ rest) h.0)
 flag_begins word rest words (Threads n) e h = absurd (cc h.1)
 flag_begins word rest words (Seed n) e h = absurd (cc h.1)
 flag_begins word rest words (Calls n) e h = absurd (cc h.1)
@@ -385,6 +398,7 @@ of_option (Some x) = omega arith
 at_most_one : (kind : Kind) (asked : Asked) → length (asked_for kind asked) ≤ 1
 at_most_one of_opening asked = of_flag asked.opening
 at_most_one of_log asked = of_flag asked.log
+at_most_one of_touched asked = of_flag asked.touched
 at_most_one of_threads asked = of_option asked.threads
 at_most_one of_seed asked = of_option asked.seed
 at_most_one of_calls asked = of_option asked.calls
@@ -418,22 +432,25 @@ value_once None (Some y) e = cc
 value_once (Some x) None e = cc
 value_once (Some x) (Some y) e = cc
 
-make : Bool → Bool → Option ℕ → Option ℕ → Option ℕ → Asked
-make opening log threads seed calls = record { opening = opening; log = log; threads = threads; seed = seed; calls = calls }
+make : Bool → Bool → Bool → Option ℕ → Option ℕ → Option ℕ → Asked
+make opening log touched threads seed calls =
+    record { opening = opening; log = log; touched = touched; threads = threads; seed = seed; calls = calls }
 
 same_asked : (a b : Asked) → ((kind : Kind) → asked_for kind a ≡ asked_for kind b) → a ≡ b
 unfolding make
 same_asked a b h =
     let o = flag_once a.opening b.opening (h of_opening) in
     let l = flag_once a.log b.log (h of_log) in
+    let p = flag_once a.touched b.touched (h of_touched) in
     let t = value_once a.threads b.threads (h of_threads) in
     let s = value_once a.seed b.seed (h of_seed) in
     let c = value_once a.calls b.calls (h of_calls) in
-    ap (λ (x : Bool). make x a.log a.threads a.seed a.calls) o
-    ∙ ap (λ (x : Bool). make b.opening x a.threads a.seed a.calls) l
-    ∙ ap (λ (x : Option ℕ). make b.opening b.log x a.seed a.calls) t
-    ∙ ap (λ (x : Option ℕ). make b.opening b.log b.threads x a.calls) s
-    ∙ ap (λ (x : Option ℕ). make b.opening b.log b.threads b.seed x) c
+    ap (λ (x : Bool). make x a.log a.touched a.threads a.seed a.calls) o
+    ∙ ap (λ (x : Bool). make b.opening x a.touched a.threads a.seed a.calls) l
+    ∙ ap (λ (x : Bool). make b.opening b.log x a.threads a.seed a.calls) p
+    ∙ ap (λ (x : Option ℕ). make b.opening b.log b.touched x a.seed a.calls) t
+    ∙ ap (λ (x : Option ℕ). make b.opening b.log b.touched b.threads x a.calls) s
+    ∙ ap (λ (x : Option ℕ). make b.opening b.log b.touched b.threads b.seed x) c
 
 none_left : (given : List Given) (before after : Asked) → AreSpellings given []
     → ((kind : Kind) → asked_for kind before ++ filter_map (value_for kind) given ≡ asked_for kind after) → before ≡ after
@@ -498,6 +515,7 @@ spells_none first behind words e none command h =
 abbrev MayBe : Kind → ℕ → Type 0
 MayBe of_opening n = Unit {0}
 MayBe of_log n = Unit {0}
+MayBe of_touched n = Unit {0}
 MayBe of_threads n = (1 ≤ n) × (n ≤ 16)
 MayBe of_seed n = n ≤ 2147483647
 MayBe of_calls n = n ≤ 1048576
@@ -505,6 +523,7 @@ MayBe of_calls n = n ≤ 1048576
 value_in_range : (kind : Kind) (given : Given) (n : ℕ) → IsInRange given → value_for kind given ≡ Some n → MayBe kind n
 value_in_range of_opening given n in_range e = tt
 value_in_range of_log given n in_range e = tt
+value_in_range of_touched given n in_range e = tt
 value_in_range of_threads (Threads m) n in_range e = let same : m ≡ n = cc in (omega (arith, in_range), omega (arith, in_range))
 value_in_range of_seed (Seed m) n in_range e = let same : m ≡ n = cc in omega (arith, in_range)
 value_in_range of_calls (Calls m) n in_range e = let same : m ≡ n = cc in omega (arith, in_range)
@@ -538,12 +557,13 @@ pub has_ranges : (name : List ℕ) (words : List (List ℕ)) (asked : Asked) →
     → IsCommand name asked command → HasRanges command
 has_ranges name words asked h (Play options threads) is =
     let (low, high) = threads_in_range words asked asked.threads h refl in
-    let same = is.3 in
+    let same = is.4 in
     (omega arith, omega arith)
 has_ranges name words asked h (Load seed threads calls) is =
     let list = λ (v : Option ℕ). option_to_list v in
-    let (low, high) = asked_in_range of_threads words asked threads h (ap list is.4) in
-    (asked_in_range of_seed words asked seed h (ap list is.3), low, high, asked_in_range of_calls words asked calls h (ap list is.5))
+    let (low, high) = asked_in_range of_threads words asked threads h (ap list is.5) in
+    (asked_in_range of_seed words asked seed h (ap list is.4), low, high, asked_in_range of_calls words asked calls h (ap list is.6))
+has_ranges name words asked h (Check opening) is = tt
 
 -- what holds of an answer holds in each weaker form
 pub some_weaker : (answer : Option Command) (P Q : Command → Type 0) → ((command : Command) → P command → Q command) → IfSome answer P → IfSome answer Q
@@ -559,16 +579,17 @@ pub is_answer : (answer : Option Command) (command : Command) → answer ≡ Som
 is_answer answer command p none = let yes : is_some answer ≡ true = ap is_some p in absurd (cc (yes, none))
 
 -- at the start nothing was asked for
-nothing_asked : (kind : Kind) → asked_for kind (record { opening = false; log = false; threads = None; seed = None; calls = None }) ≡ []
+nothing_asked : (kind : Kind) → asked_for kind (record { opening = false; log = false; touched = false; threads = None; seed = None; calls = None }) ≡ []
 nothing_asked of_opening = refl
 nothing_asked of_log = refl
+nothing_asked of_touched = refl
 nothing_asked of_threads = refl
 nothing_asked of_seed = refl
 nothing_asked of_calls = refl
 
 -- what is left over at the start, where nothing was asked for, is what all words ask for
 pub to_all : (words : List (List ℕ)) (after : Asked)
-    → LeftOver (record { opening = false; log = false; threads = None; seed = None; calls = None }) words after → DoAsk words after
+    → LeftOver (record { opening = false; log = false; touched = false; threads = None; seed = None; calls = None }) words after → DoAsk words after
 to_all words after h = record {
   given = h.given;
   spelled = h.spelled;
@@ -577,7 +598,7 @@ to_all words after h = record {
 
 -- and what all words ask for is left over at the start
 pub from_all : (words : List (List ℕ)) (after : Asked) → DoAsk words after
-    → LeftOver (record { opening = false; log = false; threads = None; seed = None; calls = None }) words after
+    → LeftOver (record { opening = false; log = false; touched = false; threads = None; seed = None; calls = None }) words after
 from_all words after h = record {
   given = h.given;
   spelled = h.spelled;

@@ -1,14 +1,15 @@
--- What the words of the command line ask for, this project's own profile. Behind `play` or `load` stand options in any
--- order, each at most once; an option with a number is written as two words or as one with `=` in it. What is accepted
--- is said by what is written: the words are the spellings of some options, one behind the other. So a reader may rely
--- on each list of words asking for one thing at most.
-use Rattle.std.specs.Prelude.{◌≡◌, ℕ, ◌<◌, ◌≤◌, List, [], ◌∷◌, ◌++◌, Option, Some, None, ⊤, ◌⊎◌, option_to_list, unwrap_or, length, if◌then◌else◌, codes, false}
+-- What the words of the command line ask for, this project's own profile. Behind `play`, `load` or `check` stand
+-- options in any order, each at most once; an option with a number is written as two words or as one with `=` in it.
+-- What is accepted is said by what is written: the words are the spellings of some options, one behind the other. So a
+-- reader may rely on each list of words asking for one thing at most.
+use Rattle.std.specs.Prelude.{◌≡◌, ℕ, ◌<◌, ◌≤◌, List, [], ◌∷◌, ◌++◌, Option, Some, None, ⊤, ◌⊎◌, option_to_list}
+use Rattle.std.specs.Prelude.{unwrap_or, length, if◌then◌else◌, codes, Bool, false}
 use Rattle.std.specs.List.{filter_map}
 use Rattle.std.specs.Fmt.{decimal}
 use Rattle.command_words.specs.declared.commands.Command.{Command}
-use Rattle.command_words.specs.declared.commands.Command.TheVariants.{Play, Load}
+use Rattle.command_words.specs.declared.commands.Command.TheVariants.{Play, Load, Check}
 use Rattle.command_words.specs.declared.commands.Given.{Given}
-use Rattle.command_words.specs.declared.commands.Given.TheVariants.{Opening, Log, Threads, Seed, Calls}
+use Rattle.command_words.specs.declared.commands.Given.TheVariants.{Opening, Log, Touched, Threads, Seed, Calls}
 use Rattle.command_words.specs.declared.commands.Asked.{Asked}
 use Rattle.command_words.specs.declared.commands.Options.{Options}
 
@@ -16,6 +17,7 @@ use Rattle.command_words.specs.declared.commands.Options.{Options}
 abbrev pub name_of : Given → List ℕ
 name_of Opening = codes "--opening"
 name_of Log = codes "--log"
+name_of Touched = codes "--touched"
 name_of (Threads n) = codes "--threads"
 name_of (Seed n) = codes "--seed"
 name_of (Calls n) = codes "--calls"
@@ -24,6 +26,7 @@ name_of (Calls n) = codes "--calls"
 abbrev pub number_of : Given → Option ℕ
 number_of Opening = None
 number_of Log = None
+number_of Touched = None
 number_of (Threads n) = Some n
 number_of (Seed n) = Some n
 number_of (Calls n) = Some n
@@ -32,6 +35,7 @@ number_of (Calls n) = Some n
 abbrev pub IsInRange : Given → Type 0
 IsInRange Opening = ⊤
 IsInRange Log = ⊤
+IsInRange Touched = ⊤
 IsInRange (Threads n) = (1 ≤ n) × (n ≤ 16)
 IsInRange (Seed n) = n ≤ 2147483647
 IsInRange (Calls n) = n ≤ 1048576
@@ -56,6 +60,7 @@ AreSpellings (given ∷ more) words = (rest : List (List ℕ)) × BeginsWith giv
 pub data Kind : Type 0 where
   of_opening : Kind
   of_log : Kind
+  of_touched : Kind
   of_threads : Kind
   of_seed : Kind
   of_calls : Kind
@@ -64,6 +69,7 @@ pub data Kind : Type 0 where
 abbrev pub value_for : Kind → Given → Option ℕ
 value_for of_opening Opening = Some 0
 value_for of_log Log = Some 0
+value_for of_touched Touched = Some 0
 value_for of_threads (Threads n) = Some n
 value_for of_seed (Seed n) = Some n
 value_for of_calls (Calls n) = Some n
@@ -73,6 +79,7 @@ value_for _ _ = None
 abbrev pub asked_for : Kind → Asked → List ℕ
 asked_for of_opening asked = if asked.opening then 0 ∷ [] else []
 asked_for of_log asked = if asked.log then 0 ∷ [] else []
+asked_for of_touched asked = if asked.touched then 0 ∷ [] else []
 asked_for of_threads asked = option_to_list asked.threads
 asked_for of_seed asked = option_to_list asked.seed
 asked_for of_calls asked = option_to_list asked.calls
@@ -84,12 +91,13 @@ pub record DoAsk (words : List (List ℕ)) (asked : Asked) : Type 0 where
   pub asks : (kind : Kind) → filter_map (value_for kind) given ≡ asked_for kind asked
 
 -- what the first word makes of the options behind it. `play` takes its own alone, and is on one thread where no number
--- is asked for; `load` takes all three of its own, and no other
+-- is asked for; `load` takes all three of its own, and no other; `check` takes `--opening` alone
 abbrev pub IsCommand : List ℕ → Asked → Command → Type 0
 IsCommand name asked (Play options threads) =
     (name ≡ codes "play")
     × (asked.opening ≡ options.opening)
     × (asked.log ≡ options.log)
+    × (asked.touched ≡ options.touched)
     × (threads ≡ unwrap_or asked.threads 1)
     × (asked.seed ≡ None)
     × (asked.calls ≡ None)
@@ -97,9 +105,18 @@ IsCommand name asked (Load seed threads calls) =
     (name ≡ codes "load")
     × (asked.opening ≡ false)
     × (asked.log ≡ false)
+    × (asked.touched ≡ false)
     × (asked.seed ≡ Some seed)
     × (asked.threads ≡ Some threads)
     × (asked.calls ≡ Some calls)
+IsCommand name asked (Check opening) =
+    (name ≡ codes "check")
+    × (asked.opening ≡ opening)
+    × (asked.log ≡ false)
+    × (asked.touched ≡ false)
+    × (asked.threads ≡ None)
+    × (asked.seed ≡ None)
+    × (asked.calls ≡ None)
 
 -- the words ask for this
 pub record Spells (words : List (List ℕ)) (command : Command) : Type 0 where
@@ -122,6 +139,14 @@ AskToPlay words = (options : Options) × (threads : ℕ) × Spells words (Play o
 abbrev pub AskForLoad : List (List ℕ) → Type 0
 AskForLoad words = (seed : ℕ) × (threads : ℕ) × (calls : ℕ) × Spells words (Load seed threads calls)
 
+-- the words ask for a log to be checked
+abbrev pub AskForCheck : List (List ℕ) → Type 0
+AskForCheck words = (opening : Bool) × Spells words (Check opening)
+
+-- the words ask for something that reads the input
+abbrev pub AskToRead : List (List ℕ) → Type 0
+AskToRead words = AskToPlay words ⊎ AskForCheck words
+
 -- the words ask for one thing at most
 abbrev pub AskForOne : List (List ℕ) → Type 0
 AskForOne words = (first other : Command) → Spells words first → Spells words other → first ≡ other
@@ -130,6 +155,7 @@ AskForOne words = (first other : Command) → Spells words first → Spells word
 abbrev pub HasRanges : Command → Type 0
 HasRanges (Play options threads) = (1 ≤ threads) × (threads ≤ 16)
 HasRanges (Load seed threads calls) = (seed ≤ 2147483647) × (1 ≤ threads) × (threads ≤ 16) × (calls ≤ 1048576)
+HasRanges (Check opening) = ⊤
 
 -- an option that takes no number has this name
 abbrev pub IsFlag : List ℕ → Given → Type 0

@@ -1,6 +1,6 @@
-//! What the words of the command line ask for: `play` or `load`, each with its options in any order, none of them
-//! twice. `Spells` says it by what is written, and the words are this project's own profile. A reader may rely on an
-//! answer exactly where some spelling fits, and on there being no more than one. Reading the words takes no memory.
+//! What the words of the command line ask for: `play`, `load` or `check`, each with its options in any order, none of
+//! them twice. `Spells` says it by what is written, and the words are this project's own profile. A reader may rely on
+//! an answer exactly where some spelling fits, and on there being no more than one. Reading the words takes no memory.
 ghost use Rattle.std.specs.Prelude.{◌≡◌, ℕ, ◌+◌, ◌-◌, ◌<◌, ◌≤◌, ◌^◌, ◌↔◌, map, drop, codes, List, [], length, Some, None, false, IsTrue, IfSome, IsNone};
 ghost use Rattle.std.specs.Fmt.{decimal};
 ghost use Rattle.std.specs.String.{string_bytes};
@@ -17,6 +17,8 @@ pub struct Options {
     pub opening: bool,
     /// The log is written before the maps.
     pub log: bool,
+    /// How many pages were touched is written behind the summary.
+    pub touched: bool,
 }
 
 /// What the words of the command line ask for.
@@ -38,6 +40,11 @@ pub enum Command {
         /// How many: at most 1,048,576.
         calls: u32,
     },
+    /// Says whether the input is the log of a legal history.
+    Check {
+        /// The input begins with maps lines, up to the first empty line.
+        opening: bool,
+    },
 }
 
 /// An option, as it is given by one word or two.
@@ -47,6 +54,8 @@ pub enum Given {
     Opening,
     /// `--log`.
     Log,
+    /// `--touched`.
+    Touched,
     /// `--threads N`.
     Threads(u32),
     /// `--seed N`.
@@ -62,6 +71,8 @@ pub struct Asked {
     pub opening: bool,
     /// `--log` is among them.
     pub log: bool,
+    /// `--touched` is among them.
+    pub touched: bool,
     /// The number of `--threads`.
     pub threads: Option<u32>,
     /// The number of `--seed`.
@@ -100,6 +111,8 @@ fn command_named(name: &str, asked: Asked) -> Option<Command>
         play(asked)
     } else if name == "load" {
         load(asked)
+    } else if name == "check" {
+        check(asked)
     } else {
         None
     }
@@ -120,6 +133,7 @@ fn play(asked: Asked) -> Option<Command>
         options: Options {
             opening: asked.opening,
             log: asked.log,
+            touched: asked.touched,
         },
         threads: asked.threads.unwrap_or(1),
     })
@@ -136,6 +150,9 @@ fn load(asked: Asked) -> Option<Command>
     if asked.log {
         return None;
     }
+    if asked.touched {
+        return None;
+    }
     let seed = asked.seed?;
     let threads = asked.threads?;
     let calls = asked.calls?;
@@ -146,6 +163,30 @@ fn load(asked: Asked) -> Option<Command>
     })
 }
 
+/// What `check` makes of the options behind it.
+fn check(asked: Asked) -> Option<Command>
+    ensures is { IfSome result (IsCommand (codes "check") asked) }
+    ensures only { (command : Command) → IsCommand (codes "check") asked command → result ≡ Some command }
+{
+    if asked.log {
+        return None;
+    }
+    if asked.touched {
+        return None;
+    }
+    if asked.threads.is_some() {
+        return None;
+    }
+    if asked.seed.is_some() {
+        return None;
+    }
+    if asked.calls.is_some() {
+        return None;
+    }
+    let opening = asked.opening;
+    Some(Command::Check { opening })
+}
+
 /// What the words ask for, which are all options.
 fn asked_of(words: &[String]) -> Option<Asked>
     ensures asked { IfSome result (DoAsk (map string_bytes words.now)) }
@@ -154,6 +195,7 @@ fn asked_of(words: &[String]) -> Option<Asked>
     let mut asked = Asked {
         opening: false,
         log: false,
+        touched: false,
         threads: None,
         seed: None,
         calls: None,
@@ -177,6 +219,7 @@ impl Asked {
         match given {
             Given::Opening if !self.opening => asked.opening = true,
             Given::Log if !self.log => asked.log = true,
+            Given::Touched if !self.touched => asked.touched = true,
             Given::Threads(number) if self.threads.is_none() => asked.threads = Some(number),
             Given::Seed(number) if self.seed.is_none() => asked.seed = Some(number),
             Given::Calls(number) if self.calls.is_none() => asked.calls = Some(number),
@@ -218,6 +261,8 @@ fn flag(name: &str) -> Option<Given>
         Some(Given::Opening)
     } else if name == "--log" {
         Some(Given::Log)
+    } else if name == "--touched" {
+        Some(Given::Touched)
     } else {
         None
     }
@@ -258,7 +303,7 @@ fn is_in_range(given: Given) -> bool
     ensures { IsTrue result ↔ IsInRange given }
 {
     match given {
-        Given::Opening | Given::Log => true,
+        Given::Opening | Given::Log | Given::Touched => true,
         Given::Threads(number) => 1 <= number && number <= 16,
         Given::Seed(number) => number <= 2_147_483_647,
         Given::Calls(number) => number <= 1_048_576,

@@ -5,7 +5,7 @@ use std::alloc::{AllocError, Global};
 use std::test::Fail;
 
 /// Words that are not accepted.
-const REFUSED: [&str; 34] = [
+const REFUSED: [&str; 46] = [
     "",
     "--",
     "help",
@@ -29,6 +29,10 @@ const REFUSED: [&str; 34] = [
     "play --threads=2 --threads 3",
     "play --log --log",
     "play --log=1",
+    "play --touched --touched",
+    "play --touched=1",
+    "load --seed 1 --threads 1 --calls 1 --touched",
+    "check --touched",
     "play --opening --log --opening",
     "play --seed 1",
     "load",
@@ -40,6 +44,14 @@ const REFUSED: [&str; 34] = [
     "load --seed 1 --threads 1 --calls 1048577",
     "load --seed 1 --threads 0 --calls 1",
     "load --seed -1 --threads 1 --calls 1",
+    "check play",
+    "check --log",
+    "check --threads 1",
+    "check --seed 1",
+    "check --calls=1",
+    "check --opening --opening",
+    "check --opening=1",
+    "Check",
 ];
 
 /// What the words of this text ask for, which spaces are between.
@@ -54,7 +66,11 @@ fn asked(alloc: Global, text: &str) -> Result<Option<Command>, AllocError> {
 /// Playing with these options.
 fn play(opening: bool, log: bool, threads: u32) -> Option<Command> {
     Some(Command::Play {
-        options: Options { opening, log },
+        options: Options {
+            opening,
+            log,
+            touched: false,
+        },
         threads,
     })
 }
@@ -86,6 +102,24 @@ fn options_of_play_stand_in_any_order(rt: HostRuntime) -> Result<(), Fail> {
 }
 
 #[test]
+fn touched_stands_among_the_options_of_play(rt: HostRuntime) -> Result<(), Fail> {
+    let alloc = rt.alloc();
+    let touched = Options {
+        opening: false,
+        log: true,
+        touched: true,
+    };
+    assert_eq!(rt;
+        asked(alloc, "play --touched --threads 2 --log")?,
+        Some(Command::Play {
+            options: touched,
+            threads: 2
+        })
+    );
+    Ok(())
+}
+
+#[test]
 fn load_takes_all_three_of_its_options(rt: HostRuntime) -> Result<(), Fail> {
     let alloc = rt.alloc();
     assert_eq!(rt;
@@ -99,6 +133,20 @@ fn load_takes_all_three_of_its_options(rt: HostRuntime) -> Result<(), Fail> {
     assert_eq!(rt;
         asked(alloc, "load --threads 1 --calls=1048576 --seed 2147483647")?,
         load(2_147_483_647, 1, 1_048_576)
+    );
+    Ok(())
+}
+
+#[test]
+fn check_takes_an_opening_alone(rt: HostRuntime) -> Result<(), Fail> {
+    let alloc = rt.alloc();
+    assert_eq!(rt;
+        asked(alloc, "check")?,
+        Some(Command::Check { opening: false })
+    );
+    assert_eq!(rt;
+        asked(alloc, "check --opening")?,
+        Some(Command::Check { opening: true })
     );
     Ok(())
 }

@@ -14,12 +14,19 @@ use Rattle.byte_ports.proofs.Pieces.{AppendsPrefix-itself, AppendsPrefix-none}
 use Rattle.line_parts.specs.declared.refusal.What.{What}
 use Rattle.line_parts.specs.declared.refusal.What.TheVariants.{Number, Wide, Word, Comma, Close, Result as AtResult, Form, Order}
 use Rattle.range_cli.specs.declared.status.Status.{Status}
-use Rattle.range_cli.specs.declared.status.Status.TheVariants.{Done, Usage, BadLine, ReadFault, WriteFault, Memory, Limit}
+use Rattle.range_cli.specs.declared.status.Status.TheVariants.{Done, Usage, BadLine, ReadFault, WriteFault, Memory, Limit, Wrong}
 use Rattle.range_cli.specs.declared.status.Which.{Which}
 use Rattle.range_cli.specs.declared.status.Which.TheVariants.{Input, Line, Lines, Rows}
 use Rattle.range_cli.specs.Clean.{held_by, free_in, HasRoomForLine, HasRoomForReports, CallForDone, EndsAsCalledFor, IsDoneOrMemory}
 use Rattle.range_cli.specs.ErrorLine.{error_line, what_text, which_text, bad_line_text, numbered}
-use Rattle.range_cli.specs.Run.{Wrote, Complains, IsDone, IsOnlyOutcome, IsHindered}
+use Rattle.history_check.specs.declared.verdict.Verdict.{Verdict}
+use Rattle.history_check.specs.declared.verdict.Verdict.TheVariants.{Legal, Wrong as WrongVerdict}
+use Rattle.history_check.specs.declared.verdict.WrongLog.{WrongLog}
+use Rattle.history_check.specs.declared.verdict.WrongLog.TheVariants.{Form as FormWrong, Number as NumberWrong, Order as OrderWrong, Held, Reply, Rest}
+use Rattle.range_cli.specs.Checking.{verdict_line, why_text}
+use Rattle.range_cli.specs.Judging.{HasNumbers}
+use Rattle.range_cli.proofs.JudgeLemmas.{small_numbers}
+use Rattle.range_cli.specs.Run.{Wrote, Judged, Complains, IsDone, IsOnlyOutcome, IsHindered}
 use Rattle.range_cli.specs.Status.{ending}
 
 -- ---- lines on standard error
@@ -65,6 +72,30 @@ short_limit which value v =
     let rest = short_which which in
     omega arith
 
+short_why : (why : WrongLog) → length (why_text why) ≤ 40
+short_why FormWrong = omega arith
+short_why NumberWrong = omega arith
+short_why OrderWrong = omega arith
+short_why Held = omega arith
+short_why Reply = omega arith
+short_why Rest = omega arith
+
+-- the line of a verdict with small numbers has at most 200 bytes
+short_verdict : (before : ℕ) (verdict : Verdict) → HasNumbers before verdict → length (verdict_line before verdict) ≤ 200
+short_verdict before (Legal entries) small =
+    let whole = length_numbered (codes "legal ") (codes "\n") entries in
+    let one = short_decimal entries (omega (arith, small)) in
+    omega arith
+short_verdict before (WrongVerdict line why) small =
+    let whole = length_numbered (codes "wrong line ") (why_text why) (before + line) in
+    let one = short_decimal (before + line) (omega (arith, small)) in
+    let rest = short_why why in
+    omega arith
+
+short_judged : {words : List (List ℕ)} {i j : Option (List ℕ)} {P : ℕ → Verdict → Type 0} → (h : Judged words i j P)
+    → length (verdict_line h.before h.verdict) ≤ 200
+short_judged h = short_verdict h.before h.verdict (small_numbers h.opening h.bytes h.before h.verdict h.is h.input.1)
+
 -- ---- what a sized sink tells
 
 -- the length of its store, and then the bytes that it holds
@@ -83,18 +114,33 @@ prefix_alone : (n m : ℕ) (old new text : List ℕ) → AppendsPrefix (Some (n 
 prefix_alone n m old new text p =
     record { rest = p.rest; first = record { front = p.first.front; whole = p.first.whole; appended = ap rest_of p.first.appended } }
 
+-- what is so of a verdict is so in each weaker form
+judged_weaker : {words : List (List ℕ)} {i j : Option (List ℕ)} (P Q : ℕ → Verdict → Type 0)
+    → ((before : ℕ) (verdict : Verdict) → P before verdict → Q before verdict) → Judged words i j P → Judged words i j Q
+judged_weaker P Q weaker h = record {
+  opening = h.opening;
+  accepted = h.accepted;
+  bytes = h.bytes;
+  input = h.input;
+  before = h.before;
+  verdict = h.verdict;
+  is = h.is;
+  holds = weaker h.before h.verdict h.holds;
+}
+
 -- what a run wrote, of the bytes alone
 wrote_alone : (words : List (List ℕ)) (input_old input_new : Option (List ℕ)) (n m : ℕ) (old new : List ℕ) (status : Status)
     → Wrote words input_old input_new (Some (n ∷ old)) (Some (m ∷ new)) status → Wrote words input_old input_new (Some old) (Some new) status
-wrote_alone words i j n m old new (Done None) h = absurd h
+wrote_alone words i j n m old new (Done None) h = judged_weaker _ _ (λ before verdict x. (x.0, ap rest_of x.1)) h
 wrote_alone words i j n m old new (Done (Some closed)) h = (h.0, h.1, ap rest_of h.2)
-wrote_alone words i j n m old new (WriteFault None) h = absurd h
+wrote_alone words i j n m old new (WriteFault None) h = judged_weaker _ _ (λ before verdict x. prefix_alone n m old new (verdict_line before verdict) x) h
 wrote_alone words i j n m old new (WriteFault (Some closed)) h = (h.0, h.1, prefix_alone n m old new h.0 h.2)
 wrote_alone words i j n m old new Usage h = ap rest_of h
 wrote_alone words i j n m old new (BadLine line column what) h = ap rest_of h
 wrote_alone words i j n m old new ReadFault h = ap rest_of h
 wrote_alone words i j n m old new Memory h = ap rest_of h
 wrote_alone words i j n m old new (Limit which value) h = ap rest_of h
+wrote_alone words i j n m old new (Wrong line) h = judged_weaker _ _ (λ before verdict x. (x.0, ap rest_of x.1)) h
 
 -- the store is as long as before, and longer than the bytes, where a first part of a text was taken and there was room
 -- for more than the text
@@ -129,18 +175,24 @@ module _ (before after : CleanSink) where
   no_fault_kept : HasRoomForLine before → Keeps (told before) (told after) → after.faults ≡ 0
   no_fault_kept some h = no_fault [] (AppendsPrefix-none (told before) (told after) [] h) (omega (arith, some))
 
+  no_fault_verdict : (number : ℕ) (verdict : Verdict) → length (verdict_line number verdict) ≤ 200 → HasRoomForLine before
+      → Appends (told before) (told after) (verdict_line number verdict) → after.faults ≡ 0
+  no_fault_verdict number verdict short some h =
+      no_fault (verdict_line number verdict) (AppendsPrefix-itself (told before) (told after) (verdict_line number verdict) h) (omega (arith, some, short))
+
   -- whatever a run wrote, its output counts no failure
   no_fault_out : (words : List (List ℕ)) (bytes : List ℕ) (j : Option (List ℕ)) (status : Status) → HasRoomForLine before → HasRoomForReports words bytes before
       → Wrote words (Some bytes) j (told before) (told after) status → after.faults ≡ 0
-  no_fault_out words bytes j (Done None) some room h = absurd h
+  no_fault_out words bytes j (Done None) some room h = no_fault_verdict h.before h.verdict (short_judged h) some h.holds.1
   no_fault_out words bytes j (Done (Some closed)) some room h = no_fault h.0 (AppendsPrefix-itself (told before) (told after) h.0 h.2) (room j closed h.0 h.1)
-  no_fault_out words bytes j (WriteFault None) some room h = absurd h
+  no_fault_out words bytes j (WriteFault None) some room h = no_fault (verdict_line h.before h.verdict) h.holds (omega (arith, some, short_judged h))
   no_fault_out words bytes j (WriteFault (Some closed)) some room h = no_fault h.0 h.2 (room j closed h.0 h.1)
   no_fault_out words bytes j Usage some room h = no_fault_kept some h
   no_fault_out words bytes j (BadLine line column what) some room h = no_fault_kept some h
   no_fault_out words bytes j ReadFault some room h = no_fault_kept some h
   no_fault_out words bytes j Memory some room h = no_fault_kept some h
   no_fault_out words bytes j (Limit which value) some room h = no_fault_kept some h
+  no_fault_out words bytes j (Wrong line) some room h = no_fault_verdict h.before h.verdict (short_judged h) some h.holds.1
 
   -- nor does the other one, whose line is short
   no_fault_err : (status : Status) → length (error_line status) ≤ 200 → HasRoomForLine before
@@ -166,6 +218,7 @@ called_for words bytes before after ReadFault none (inr h) = absurd (never_rose 
 called_for words bytes before after (WriteFault closed) none (inr h) = absurd (never_rose before after none h)
 called_for words bytes before after Memory none (inr h) = inr refl
 called_for words bytes before after (Limit which value) none (inr h) = absurd h
+called_for words bytes before after (Wrong line) none (inr h) = absurd h
 
 done_alone : (status : Status) → Done None ≡ ending status → IsDone status
 done_alone (Done closed) e = tt
@@ -175,6 +228,7 @@ done_alone ReadFault e = absurd cc
 done_alone (WriteFault closed) e = absurd cc
 done_alone Memory e = absurd cc
 done_alone (Limit which value) e = absurd cc
+done_alone (Wrong line) e = absurd cc
 
 -- where being done is called for, the run is done
 pub is_done : (words : List (List ℕ)) (bytes : List ℕ) (status : Status) → EndsAsCalledFor words bytes status → CallForDone words bytes → IsDoneOrMemory status

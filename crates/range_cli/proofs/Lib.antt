@@ -1,4 +1,3 @@
-pub mod LineLemmas
 pub mod Draining
 pub mod TraceLemmas
 pub mod PlayLemmas
@@ -14,3 +13,6 @@ pub mod DealtLemmas
 pub mod OneWorker
 pub mod LoadLemmas
 pub mod CleanLemmas
+pub mod CheckLemmas
+pub mod JudgeLemmas
+pub mod Printed

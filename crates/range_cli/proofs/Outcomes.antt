@@ -1,7 +1,8 @@
 -- The words and the bytes of an input have one outcome: what reads an input and what ends a run exclude each other, and
 -- an input ends a run in one way. It rests on each text having one outcome, and on one area list having given kinds.
-use Rattle.std.proofs.Common.{◌≡◌, ◌⊎◌, Bool, true, false, ℕ, ◌+◌, ◌*◌, ◌≤◌, List, [], length, Option, None, Some}
-use Rattle.std.proofs.Common.{subst, inl, inr, refl, sym, ap, ◌∙◌, arith}
+use Rattle.std.proofs.Common.{◌≡◌, ◌⊎◌, Bool, true, false, ℕ, ◌+◌, ◌*◌, ◌<◌, ◌≤◌, List, [], ◌∷◌, ◌++◌, length, Option, None, Some}
+use Rattle.std.proofs.Common.{subst, inl, inr, refl, sym, ap, ◌∙◌, arith, append_assoc, length-append}
+use Rattle.std.proofs.lemmas.List.Elements.{All-head}
 use Rattle.page_types.specs.declared.calls.Kind.{Kind}
 use Rattle.area_rows.specs.Callers.{ClosedView}
 use Rattle.space_model.specs.declared.areas.Area.{Area}
@@ -16,23 +17,32 @@ use Rattle.strace_reader.specs.declared.joiner.Fed.{Fed}
 use Rattle.range_cli.specs.declared.status.EarlyEnd.{EarlyEnd}
 use Rattle.range_cli.specs.declared.status.EarlyEnd.TheVariants.{Refused, Failed, NoMemory, Above}
 use Rattle.range_cli.specs.declared.status.Status.{Status}
-use Rattle.range_cli.specs.declared.status.Status.TheVariants.{Done, Usage, BadLine, ReadFault, WriteFault, Memory, Limit}
+use Rattle.range_cli.specs.declared.status.Status.TheVariants.{Done, Usage, BadLine, ReadFault, WriteFault, Memory, Limit, Wrong}
 use Rattle.range_cli.specs.declared.status.Which.TheVariants.{Input, Line as OfLine, Lines as OfLines, Rows}
 use Rattle.range_cli.specs.declared.trace.Line.{Line}
-use Rattle.command_words.specs.declared.commands.Command.TheVariants.{Play, Load}
+use Rattle.command_words.specs.declared.commands.Command.TheVariants.{Play, Load, Check}
 use Rattle.command_words.specs.declared.commands.Options.{Options}
-use Rattle.range_cli.specs.Lines.{lines_of}
+use Rattle.line_parts.specs.Lines.{lines_of}
 use Rattle.range_cli.specs.Opening.{IsNext, IsRefused, EndsMap, ReadsMaps, EndsMaps, Opens, EndsOpening, map_start, map_stop}
 use Rattle.range_cli.specs.Opening.ReadsMaps.{over, empty as empty_map, mapped, past_end}
 use Rattle.range_cli.specs.Opening.EndsMaps.{here as here_map, later as later_map}
-use Rattle.range_cli.specs.Run.{Heard, Reports, Wrote, HasCause, IsOutcome, IsOnlyOutcome, IsHindered}
-use Rattle.range_cli.specs.Run.IsOutcome.{usage, too_long, early, done, loaded}
+use Rattle.range_cli.specs.Run.{Heard, Judged, EndsByInput, EndsByLog, Reports, Wrote, HasCause, IsOutcome, IsOnlyOutcome, IsHindered}
+use Rattle.range_cli.specs.Run.IsOutcome.{usage, too_long, early, done, loaded, check_early, checked}
 use Rattle.range_cli.specs.Script.{IsScript, EndsTrace, EndsInput}
 use Rattle.range_cli.specs.Status.{status_of, ending}
-use Rattle.range_cli.specs.Trace.{TracePosition, start_at, after, Asks, Ends, Reads, EndsAt, played_by}
+use Rattle.range_cli.proofs.CheckLemmas.{all_behind}
+use Rattle.range_cli.specs.Trace.{IsShort, TracePosition, start_at, after, Asks, Ends, Reads, EndsAt, played_by}
 use Rattle.range_cli.specs.Trace.Reads.{nothing, line}
 use Rattle.range_cli.specs.Trace.EndsAt.{here, later}
-use Rattle.command_words.specs.Commands.{Spells, AskForOne}
+use Rattle.command_words.specs.Commands.{Spells, RefusesWords, AskForOne, AskToRead}
+use Rattle.command_words.specs.declared.commands.Command.{Command}
+use Rattle.history_check.specs.declared.verdict.Verdict.{Verdict}
+use Rattle.history_check.specs.declared.verdict.Verdict.TheVariants.{Legal, Wrong as WrongVerdict}
+use Rattle.history_check.specs.Verdicts.{IsVerdict}
+use Rattle.history_check.proofs.Cutting.{places}
+use Rattle.history_check.proofs.Cutting.Places.{one_place as at_same, first_earlier as is_before, first_later as is_behind}
+use Rattle.history_check.proofs.OneVerdict.{one_verdict}
+use Rattle.range_cli.specs.Checking.{KeepsLimits, EndsBehind, EndsLog, EndsByLine, EndsByStart, EndsCheck, IsInputVerdict, verdict_status}
 
 -- a line that asks for something ends no run
 asks_ends : (stand : TracePosition) (text : List ℕ) (answer : Fed) (end : EarlyEnd) → Asks stand text answer → Ends stand text end → ⊥
@@ -253,59 +263,216 @@ input_ends_same options bytes s u (inr (inr e)) (inr (inr h)) =
     let k : HasKinds (kind_at e.head.areas) h.start = rw p.areas at h.kinds in
     e.is ∙ ap (λ l. Above Rows (row_count l)) (same_list (kind_at e.head.areas) e.start h.start e.kinds k) ∙ sym h.is
 
--- accepted words ask for one choice of options
-same_options : (words : List (List ℕ)) → AskForOne words → (o p : Options) (m n : ℕ) → Spells words (Play o m) → Spells words (Play p n) → o ≡ p
-same_options words one o p m n a b = let same : Play o m ≡ Play p n = one (Play o m) (Play p n) a b in cc same
+-- ---- the ends of a check
 
--- and not for a load too
-no_load : (words : List (List ℕ)) → AskForOne words → (o : Options) (m seed threads calls : ℕ) → Spells words (Play o m)
-    → Spells words (Load seed threads calls) → ⊥
-no_load words one o m seed threads calls a b = let same : Play o m ≡ Load seed threads calls = one (Play o m) (Load seed threads calls) a b in absurd (cc same)
+-- a line that ends a check is none of those that keep the limits
+ends_kept : (front : List (List ℕ)) (text : List ℕ) (more : List (List ℕ)) (end : EarlyEnd) → EndsBehind front text end → KeepsLimits (front ++ text ∷ more) → ⊥
+ends_kept front text more (Refused l k w) e kept = e
+ends_kept front text more Failed e kept = e
+ends_kept front text more NoMemory e kept = e
+ends_kept front text more (Above Input v) e kept = e
+ends_kept front text more (Above OfLine v) e kept =
+    let short = All-head IsShort text more (all_behind IsShort front (text ∷ more) kept.short) in omega (arith, short, e.0)
+ends_kept front text more (Above OfLines v) e kept =
+    let few = kept.few (front ++ text ∷ []) more (sym (append_assoc front (text ∷ []) more)) e.2 in
+    omega (arith, few, e.3, length-append front (text ∷ []))
+ends_kept front text more (Above Rows v) e kept = e
+
+-- a line ends a check in one way
+ends_behind_one : (front : List (List ℕ)) (text : List ℕ) (s u : EarlyEnd) → EndsBehind front text s → EndsBehind front text u → s ≡ u
+ends_behind_one front text (Refused l k w) u e h = absurd e
+ends_behind_one front text Failed u e h = absurd e
+ends_behind_one front text NoMemory u e h = absurd e
+ends_behind_one front text (Above Input a) u e h = absurd e
+ends_behind_one front text (Above OfLine a) (Refused l k w) e h = absurd h
+ends_behind_one front text (Above OfLine a) Failed e h = absurd h
+ends_behind_one front text (Above OfLine a) NoMemory e h = absurd h
+ends_behind_one front text (Above OfLine a) (Above Input b) e h = absurd h
+ends_behind_one front text (Above OfLine a) (Above OfLine b) e h = rw (e.1, h.1) refl
+ends_behind_one front text (Above OfLine a) (Above OfLines b) e h = absurd (omega (arith, e.0, h.0))
+ends_behind_one front text (Above OfLine a) (Above Rows b) e h = absurd h
+ends_behind_one front text (Above OfLines a) (Refused l k w) e h = absurd h
+ends_behind_one front text (Above OfLines a) Failed e h = absurd h
+ends_behind_one front text (Above OfLines a) NoMemory e h = absurd h
+ends_behind_one front text (Above OfLines a) (Above Input b) e h = absurd h
+ends_behind_one front text (Above OfLines a) (Above OfLine b) e h = absurd (omega (arith, e.0, h.0))
+ends_behind_one front text (Above OfLines a) (Above OfLines b) e h = rw (e.1, h.1) refl
+ends_behind_one front text (Above OfLines a) (Above Rows b) e h = absurd h
+ends_behind_one front text (Above Rows a) u e h = absurd e
+
+-- so do the lines of a log
+log_ends_same : (lines : List (List ℕ)) (s u : EarlyEnd) → EndsLog lines s → EndsLog lines u → s ≡ u
+log_ends_same lines s u a b =
+    elim (places a.front a.text a.behind b.front b.text b.behind (sym a.whole ∙ b.whole)) [
+      | at_same front text ↦
+          let there = subst (λ t. EndsBehind b.front t s) text (subst (λ f. EndsBehind f a.text s) front a.ends) in
+          ends_behind_one b.front b.text s u there b.ends
+      | is_before more is ↦ absurd (ends_kept a.front a.text more s a.ends (subst KeepsLimits is b.kept))
+      | is_behind more is ↦ absurd (ends_kept b.front b.text more u b.ends (subst KeepsLimits is a.kept))
+    ]
+
+-- lines that keep the limits end no check
+log_ends : (lines : List (List ℕ)) (end : EarlyEnd) → KeepsLimits lines → EndsLog lines end → ⊥
+log_ends lines end kept e = ends_kept e.front e.text e.behind end e.ends (subst KeepsLimits e.whole kept)
+
+line_ends : (opening : Bool) (bytes : List ℕ) (areas : List Area) (past next : ℕ) (left : List (List ℕ)) (end : EarlyEnd)
+    → Opens opening (lines_of bytes) areas past next left → KeepsLimits left → EndsByLine opening bytes end → ⊥
+line_ends opening bytes areas past next left end opens kept e =
+    let s = same_opens opening (lines_of bytes) _ _ _ _ _ _ _ _ e.head.opens opens in log_ends left end kept (rw s.left at e.ends)
+
+-- an input ends a check in one way
+check_ends_same : (opening : Bool) (bytes : List ℕ) (s u : EarlyEnd) → EndsCheck opening bytes s → EndsCheck opening bytes u → s ≡ u
+check_ends_same opening bytes s u (inl e) (inl h) = opening_ends_same opening (lines_of bytes) s u e h
+check_ends_same opening bytes s u (inl e) (inr (inl h)) = absurd (opening_ends opening (lines_of bytes) s _ _ _ _ h.head.opens e)
+check_ends_same opening bytes s u (inl e) (inr (inr h)) = absurd (opening_ends opening (lines_of bytes) s _ _ _ _ h.head.opens e)
+check_ends_same opening bytes s u (inr (inl e)) (inl h) = absurd (opening_ends opening (lines_of bytes) u _ _ _ _ e.head.opens h)
+check_ends_same opening bytes s u (inr (inl e)) (inr (inl h)) =
+    let p = same_opens opening (lines_of bytes) _ _ _ _ _ _ _ _ h.head.opens e.head.opens in
+    log_ends_same e.head.left s u e.ends (rw p.left at h.ends)
+check_ends_same opening bytes s u (inr (inl e)) (inr (inr h)) = absurd (line_ends opening bytes _ _ _ _ s h.head.opens h.limits e)
+check_ends_same opening bytes s u (inr (inr e)) (inl h) = absurd (opening_ends opening (lines_of bytes) u _ _ _ _ e.head.opens h)
+check_ends_same opening bytes s u (inr (inr e)) (inr (inl h)) = absurd (line_ends opening bytes _ _ _ _ u e.head.opens e.limits h)
+check_ends_same opening bytes s u (inr (inr e)) (inr (inr h)) =
+    let p = same_opens opening (lines_of bytes) _ _ _ _ _ _ _ _ h.head.opens e.head.opens in
+    let k : HasKinds (kind_at e.head.areas) h.start = rw p.areas at h.kinds in
+    e.is ∙ ap (λ l. Above Rows (row_count l)) (same_list (kind_at e.head.areas) e.start h.start e.kinds k) ∙ sym h.is
+
+-- an input that has a verdict ends no check
+verdict_ends : (opening : Bool) (bytes : List ℕ) (before : ℕ) (verdict : Verdict) (end : EarlyEnd) → IsInputVerdict opening bytes before verdict
+    → EndsCheck opening bytes end → ⊥
+verdict_ends opening bytes before verdict end v (inl e) = opening_ends opening (lines_of bytes) end _ _ _ _ v.head.opens e
+verdict_ends opening bytes before verdict end v (inr (inl e)) = line_ends opening bytes _ _ _ _ end v.head.opens v.limits e
+verdict_ends opening bytes before verdict end v (inr (inr e)) =
+    let s = same_opens opening (lines_of bytes) _ _ _ _ _ _ _ _ e.head.opens v.head.opens in
+    let k : HasKinds (kind_at v.head.areas) e.start = rw s.areas at e.kinds in
+    omega (arith, e.many_rows, v.few_rows, ap row_count (same_list (kind_at v.head.areas) e.start v.start k v.kinds))
+
+-- an input has one verdict
+verdict_same : (opening : Bool) (bytes : List ℕ) (m n : ℕ) (v w : Verdict) → IsInputVerdict opening bytes m v → IsInputVerdict opening bytes n w
+    → verdict_status m v ≡ verdict_status n w
+verdict_same opening bytes m n v w a b =
+    let s = same_opens opening (lines_of bytes) _ _ _ _ _ _ _ _ b.head.opens a.head.opens in
+    let k : HasKinds (kind_at a.head.areas) b.start = rw s.areas at b.kinds in
+    let list = same_list (kind_at a.head.areas) b.start a.start k a.kinds in
+    let there : IsVerdict a.start a.head.left w =
+    subst (λ A. IsVerdict A a.head.left w) list (subst (λ lines. IsVerdict b.start lines w) s.left b.verdict_is) in
+    let number : m ≡ n = omega (arith, s.next, a.next, b.next) in
+    let verdict = one_verdict a.start a.head.left v w a.verdict_is there in
+    λ i. verdict_status (number i) (verdict i)
+
+status_ends : (before : ℕ) (verdict : Verdict) → ending (verdict_status before verdict) ≡ verdict_status before verdict
+status_ends before (Legal entries) = refl
+status_ends before (WrongVerdict n why) = refl
+
+-- ---- one status
+
+-- what an input ends in that is to be read: it is too long, something ends the run early, or it is read to its last
+-- line
+data InputEnd (bytes : List ℕ) (Early : EarlyEnd → Type 0) (Last : Status → Type 0) (end : Status) : Type 0 where
+  long : 67108864 < length bytes → end ≡ Limit Input 67108865 → InputEnd bytes Early Last end
+  stops : (at : EarlyEnd) → length bytes ≤ 67108864 → Early at → end ≡ ending (status_of at) → InputEnd bytes Early Last end
+  last : length bytes ≤ 67108864 → Last end → InputEnd bytes Early Last end
+
+-- it ends in one way where each of these does
+one_end : {bytes : List ℕ} {Early : EarlyEnd → Type 0} {Last : Status → Type 0} {s u : Status} → ((a b : EarlyEnd) → Early a → Early b → a ≡ b)
+    → ((a : EarlyEnd) (e : Status) → Early a → Last e → ⊥) → ((e f : Status) → Last e → Last f → e ≡ f)
+    → InputEnd bytes Early Last s → InputEnd bytes Early Last u → s ≡ u
+one_end one apart whole (long high is) (long high2 is2) = is ∙ sym is2
+one_end one apart whole (long high is) (stops b fits h is2) = absurd (omega (arith, high, fits))
+one_end one apart whole (long high is) (last fits h) = absurd (omega (arith, high, fits))
+one_end one apart whole (stops a fits e is) (long high is2) = absurd (omega (arith, high, fits))
+one_end one apart whole (stops a fits e is) (stops b fits2 h is2) = is ∙ ap (λ x. ending (status_of x)) (one a b e h) ∙ sym is2
+one_end {u = u} one apart whole (stops a fits e is) (last fits2 h) = absurd (apart a u e h)
+one_end one apart whole (last fits h) (long high is) = absurd (omega (arith, high, fits))
+one_end {s = s} one apart whole (last fits h) (stops a fits2 e is) = absurd (apart a s e h)
+one_end {s = s} {u = u} one apart whole (last fits h) (last fits2 k) = whole s u h k
+
+-- the input asks for a script, and the run is done
+record Scripted (options : Options) (bytes : List ℕ) (end : Status) : Type 0 where
+  start : List Area
+  lines : List Line
+  skipped : ℕ
+  script : IsScript options bytes start lines skipped
+  is : end ≡ Done None
+
+-- the input has a verdict, and its status
+record Verdicted (opening : Bool) (bytes : List ℕ) (end : Status) : Type 0 where
+  before : ℕ
+  verdict : Verdict
+  verdict_is : IsInputVerdict opening bytes before verdict
+  is : end ≡ verdict_status before verdict
+
+-- what the words and the bytes call for where the words ask for this command
+abbrev CommandEnd : Command → List ℕ → Status → Type 0
+CommandEnd (Play options threads) bytes end = InputEnd bytes (EndsInput options bytes) (Scripted options bytes) end
+CommandEnd (Load seed threads calls) bytes end = end ≡ Done None
+CommandEnd (Check opening) bytes end = InputEnd bytes (EndsCheck opening bytes) (Verdicted opening bytes) end
+
+-- each command ends in one way
+one_command_end : (command : Command) (bytes : List ℕ) (s u : Status) → CommandEnd command bytes s → CommandEnd command bytes u → s ≡ u
+one_command_end (Play options threads) bytes s u a b =
+    one_end (λ x y e h. input_ends_same options bytes x y e h)
+    (λ x end e w. script_ends options bytes w.start w.lines w.skipped x w.script e) (λ e f v w. v.is ∙ sym w.is) a b
+one_command_end (Load seed threads calls) bytes s u a b = a ∙ sym b
+one_command_end (Check opening) bytes s u a b =
+    one_end (λ x y e h. check_ends_same opening bytes x y e h)
+    (λ x end e w. verdict_ends opening bytes w.before w.verdict x w.verdict_is e)
+    (λ e f v w. v.is ∙ verdict_same opening bytes v.before w.before v.verdict w.verdict v.verdict_is w.verdict_is ∙ sym w.is) a b
+
+-- an outcome is that of refused words, or of a command that the words spell
+record Spelled (words : List (List ℕ)) (bytes : List ℕ) (end : Status) : Type 0 where
+  command : Command
+  spells : Spells words command
+  ends : CommandEnd command bytes end
+
+spelled : {words : List (List ℕ)} {bytes : List ℕ} {s : Status} → IsOutcome words bytes s
+    → (RefusesWords words × (ending s ≡ Usage)) ⊎ Spelled words bytes (ending s)
+spelled (usage none) = inl (none, refl)
+spelled (too_long (inl (o, n, acc)) high) = inr (record { command = Play o n; spells = acc; ends = long high refl })
+spelled (too_long (inr (o, acc)) high) = inr (record { command = Check o; spells = acc; ends = long high refl })
+spelled (early {options = o} {threads = n} {end = e} acc fits ends is) =
+    inr (record { command = Play o n; spells = acc; ends = stops e fits ends (ap ending is) })
+spelled (done {options = o} {threads = n} {start = x} {lines = l} {skipped = k} acc fits script) =
+    inr (record { command = Play o n; spells = acc; ends = last fits (record { start = x; lines = l; skipped = k; script = script; is = refl }) })
+spelled (loaded {seed = x} {threads = n} {calls = k} acc) = inr (record { command = Load x n k; spells = acc; ends = refl })
+spelled (check_early {opening = o} {end = e} acc fits ends is) =
+    inr (record { command = Check o; spells = acc; ends = stops e fits ends (ap ending is) })
+spelled (checked {opening = o} {before = m} {verdict = v} acc fits verdict is) =
+    inr (record {
+      command = Check o;
+      spells = acc;
+      ends = last fits (record { before = m; verdict = v; verdict_is = verdict; is = ap ending is ∙ status_ends m v });
+    })
 
 -- words and an input have one outcome, but for the history that it carries
 one_status : {words : List (List ℕ)} {bytes : List ℕ} {s u : Status} → AskForOne words → IsOutcome words bytes s → IsOutcome words bytes u → ending s ≡ ending u
-one_status one (usage a) (usage b) = refl
-one_status one (usage a) (too_long (o, n, acc) high) = absurd (a (Play o n) acc)
-one_status one (usage a) (early {options = o} {threads = n} acc fits ends is) = absurd (a (Play o n) acc)
-one_status one (usage a) (done {options = o} {threads = n} acc fits script) = absurd (a (Play o n) acc)
-one_status one (usage a) (loaded {seed = x} {threads = n} {calls = k} acc) = absurd (a (Load x n k) acc)
-one_status one (too_long (o, n, acc) high) (usage b) = absurd (b (Play o n) acc)
-one_status one (too_long acc high) (too_long acc2 high2) = refl
-one_status one (too_long acc high) (early acc2 fits ends is) = absurd (omega (arith, high, fits))
-one_status one (too_long acc high) (done acc2 fits script) = absurd (omega (arith, high, fits))
-one_status {words = words} one (too_long (o, n, acc) high) (loaded {seed = x} {threads = m} {calls = k} acc2) = absurd (no_load words one o n x m k acc acc2)
-one_status one (early {options = o} {threads = n} acc fits ends is) (usage b) = absurd (b (Play o n) acc)
-one_status one (early acc fits ends is) (too_long acc2 high) = absurd (omega (arith, high, fits))
-one_status {words = words} {bytes = bytes} one (early {options = o} {threads = m} {end = e} acc fits ends is)
-    (early {options = p} {threads = n} {end = f} acc2 fits2 ends2 is2) =
-    let same = same_options words one p o n m acc2 acc in
-    ap ending (is ∙ ap status_of (input_ends_same o bytes e f ends (subst (λ q. EndsInput q bytes f) same ends2)) ∙ sym is2)
-one_status {words = words} {bytes = bytes} one (early {options = o} {threads = m} {end = e} acc fits ends is)
-    (done {options = p} {threads = n} {start = x} {lines = l} {skipped = k} acc2 fits2 script) =
-    absurd (script_ends p bytes x l k e script (subst (λ q. EndsInput q bytes e) (same_options words one o p m n acc acc2) ends))
-one_status {words = words} one (early {options = o} {threads = n} acc fits ends is)
-    (loaded {seed = x} {threads = m} {calls = k} acc2) = absurd (no_load words one o n x m k acc acc2)
-one_status one (done {options = o} {threads = n} acc fits script) (usage b) = absurd (b (Play o n) acc)
-one_status one (done acc fits script) (too_long acc2 high) = absurd (omega (arith, high, fits))
-one_status {words = words} {bytes = bytes} one
-    (done {options = p} {threads = n} {start = x} {lines = l} {skipped = k} acc2 fits2 script)
-    (early {options = o} {threads = m} {end = e} acc fits ends is) =
-    absurd (script_ends p bytes x l k e script (subst (λ q. EndsInput q bytes e) (same_options words one o p m n acc acc2) ends))
-one_status one (done acc fits script) (done acc2 fits2 script2) = refl
-one_status one (done acc fits script) (loaded acc2) = refl
-one_status one (loaded {seed = x} {threads = n} {calls = k} acc) (usage b) = absurd (b (Load x n k) acc)
-one_status {words = words} one (loaded {seed = x} {threads = m} {calls = k} acc) (too_long (o, n, acc2) high) = absurd (no_load words one o n x m k acc2 acc)
-one_status {words = words} one (loaded {seed = x} {threads = m} {calls = k} acc)
-    (early {options = o} {threads = n} acc2 fits ends is) = absurd (no_load words one o n x m k acc2 acc)
-one_status one (loaded acc) (done acc2 fits script) = refl
-one_status one (loaded acc) (loaded acc2) = refl
+one_status {bytes = bytes} {s = s} {u = u} one a b = elim (spelled a) [
+  | inl none ↦ elim (spelled b) [ inl other ↦ none.1 ∙ sym other.1 | inr some ↦ absurd (none.0 some.command some.spells) ]
+  | inr first ↦ elim (spelled b) [
+    | inl none ↦ absurd (none.0 first.command first.spells)
+    | inr other ↦
+        one_command_end first.command bytes (ending s) (ending u) first.ends
+        (subst (λ c. CommandEnd c bytes (ending u)) (one other.command first.command other.spells first.spells) other.ends)
+  ]
+]
 
--- what was heard of a known input is so of its bytes
-early_from : (words : List (List ℕ)) (bytes : List ℕ) (new : Option (List ℕ)) (end : EarlyEnd)
-    → Heard words (Some bytes) new (λ options threads all. EndsInput options all end) → IsOutcome words bytes (status_of end)
-early_from words bytes new end h =
+-- what ends a run by a known input is called for
+early_from : (words : List (List ℕ)) (bytes : List ℕ) (new : Option (List ℕ)) (end : EarlyEnd) → EndsByInput words (Some bytes) new end
+    → IsOutcome words bytes (status_of end)
+early_from words bytes new end (inl h) =
     let same = sym h.input.0.0 in
     early h.accepted (subst (λ b. length b ≤ 67108864) same h.input.1) (subst (λ b. EndsInput h.options b end) same h.holds) refl
+early_from words bytes new end (inr h) =
+    let same = sym h.input.0.0 in
+    check_early h.accepted (subst (λ b. length b ≤ 67108864) same h.input.1) (subst (λ b. EndsCheck h.opening b end) same h.ends) refl
+
+-- a verdict is called for
+checked_from : (words : List (List ℕ)) (bytes : List ℕ) (new : Option (List ℕ)) (status : Status) (P : ℕ → Verdict → Type 0)
+    → (h : Judged words (Some bytes) new P) → verdict_status h.before h.verdict ≡ status → IsOutcome words bytes status
+checked_from words bytes new status P h is =
+    let same = sym h.input.0.0 in
+    checked h.accepted (subst (λ b. length b ≤ 67108864) same h.input.1)
+    (subst (λ b. IsInputVerdict h.opening b h.before h.verdict) same h.is) (sym is)
 
 -- a report is called for
 done_outcome : (words : List (List ℕ)) (bytes : List ℕ) (new : Option (List ℕ)) (closed : ClosedView) (report : List ℕ)
@@ -320,7 +487,7 @@ done_outcome words bytes new closed report (inr h) = loaded h.accepted
 outcome_of : (words : List (List ℕ)) (bytes : List ℕ) (new out_old out_new : Option (List ℕ)) (input out : ℕ × ℕ) (result : Status)
     → Wrote words (Some bytes) new out_old out_new result → HasCause words (Some bytes) new input out result
     → IsOutcome words bytes result ⊎ IsHindered input out result
-outcome_of words bytes new out_old out_new input out (Done None) wrote cause = absurd wrote
+outcome_of words bytes new out_old out_new input out (Done None) wrote cause = inl (checked_from words bytes new (Done None) _ wrote wrote.holds.0)
 outcome_of words bytes new out_old out_new input out (Done (Some closed)) wrote cause =
     inl (done_outcome words bytes new closed wrote.0 wrote.1)
 outcome_of words bytes new out_old out_new input out Usage wrote cause = inl (usage cause)
@@ -333,6 +500,7 @@ outcome_of words bytes new out_old out_new input out (Limit Input v) wrote cause
 outcome_of words bytes new out_old out_new input out (Limit OfLine v) wrote cause = inl (early_from words bytes new (Above OfLine v) cause)
 outcome_of words bytes new out_old out_new input out (Limit OfLines v) wrote cause = inl (early_from words bytes new (Above OfLines v) cause)
 outcome_of words bytes new out_old out_new input out (Limit Rows v) wrote cause = inl (early_from words bytes new (Above Rows v) cause)
+outcome_of words bytes new out_old out_new input out (Wrong n) wrote cause = inl (checked_from words bytes new (Wrong n) _ wrote wrote.holds.0)
 
 -- and it is the only one
 pub complete : (words : List (List ℕ)) → AskForOne words → (bytes : List ℕ) (new out_old out_new : Option (List ℕ)) (input out : ℕ × ℕ) (result : Status)

@@ -67,10 +67,12 @@ module _ {X : Type 0} (key : X → ℕ) where
   cond_none true x xs e = absurd cc
   cond_none false x xs e = (refl, e)
 
-  rest_none : (n : ℕ) (x : X) (xs : List X) → NoneAbove n (x ∷ xs) → NoneAbove n xs
+  -- where no item has such a number none of the others has
+  pub rest_none : (n : ℕ) (x : X) (xs : List X) → NoneAbove n (x ∷ xs) → NoneAbove n xs
   rest_none n x xs none k above = (cond_none (key x == k) x (part xs k) (none k above)).1
 
-  first_below : (n : ℕ) (x : X) (xs : List X) → NoneAbove n (x ∷ xs) → key x < n
+  -- and the number of the first is below the bound
+  pub first_below : (n : ℕ) (x : X) (xs : List X) → NoneAbove n (x ∷ xs) → key x < n
   first_below n x xs none = elim (cases_lt (key x) n) [
     | inl below ↦ below
     | inr above ↦ elim (eqb_tells (key x) (key x)) [

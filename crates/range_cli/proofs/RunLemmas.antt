@@ -1,21 +1,24 @@
--- What ends a run early wrote nothing and has its cause.
-use Rattle.std.proofs.Common.{◌≡◌, Bool, true, false, inl, inr, ℕ, List, Option, None, Some, refl}
-use Rattle.std.specs.Io.KnownBytes.{Keeps}
+-- What ends a run early wrote nothing and has its cause, and a check that has its verdict wrote that.
+use Rattle.std.proofs.Common.{◌≡◌, Bool, true, false, ◌⊎◌, inl, inr, ℕ, List, Option, None, Some, refl, sym, subst}
+use Rattle.std.specs.Io.KnownBytes.{Appends, Keeps}
 use Rattle.range_cli.specs.declared.status.EarlyEnd.{EarlyEnd}
 use Rattle.range_cli.specs.declared.status.EarlyEnd.TheVariants.{Refused, Failed, NoMemory, Above}
 use Rattle.range_cli.specs.declared.status.Status.TheVariants.{Usage}
 use Rattle.range_cli.specs.declared.status.Which.TheVariants.{Input, Line as OfLine, Lines as OfLines, Rows}
-use Rattle.command_words.specs.declared.commands.Command.TheVariants.{Play}
+use Rattle.command_words.specs.declared.commands.Command.TheVariants.{Play, Check}
 use Rattle.command_words.specs.declared.commands.Options.{Options}
-use Rattle.range_cli.specs.Input.{IsInput}
+use Rattle.history_check.specs.declared.verdict.Verdict.{Verdict}
+use Rattle.history_check.specs.declared.verdict.Verdict.TheVariants.{Legal, Wrong as WrongVerdict}
+use Rattle.range_cli.specs.Checking.{EndsBehind, EndsCheck, EndsCheckEarly, HasRead, IsInputVerdict, verdict_line, verdict_status}
+use Rattle.range_cli.specs.Input.{EndsReading}
 use Rattle.range_cli.specs.Opening.{EndsMap, EndsMaps, EndsOpening}
 use Rattle.range_cli.specs.Opening.EndsMaps.{here as here_map, later as later_map}
 use Rattle.range_cli.specs.Script.{EndsInput, EndsEarly}
 use Rattle.range_cli.specs.Status.{status_of, OrMemory}
 use Rattle.range_cli.specs.Trace.{TracePosition, Ends, EndsAt}
 use Rattle.range_cli.specs.Trace.EndsAt.{here, later}
-use Rattle.command_words.specs.Commands.{Spells}
-use Rattle.range_cli.specs.Run.{Wrote, HasCause, EndsByInput}
+use Rattle.command_words.specs.Commands.{Spells, AskToRead}
+use Rattle.range_cli.specs.Run.{Wrote, HasCause, EndsByInput, Judged, IsUnwritten}
 
 -- the bytes of an input end a run with a refusal, or with another limit than that on their number
 abbrev IsOfBytes : EarlyEnd → Type 0
@@ -62,6 +65,20 @@ of_bytes options bytes end (inl h) = of_opening options.opening _ end h
 of_bytes options bytes end (inr (inl h)) = of_lines h.ends
 of_bytes options bytes end (inr (inr h)) = rw h.is tt
 
+of_behind : (front : List (List ℕ)) (text : List ℕ) (end : EarlyEnd) → EndsBehind front text end → IsOfBytes end
+of_behind front text (Refused line column what) h = absurd h
+of_behind front text Failed h = h
+of_behind front text NoMemory h = h
+of_behind front text (Above Input value) h = h
+of_behind front text (Above OfLine value) h = tt
+of_behind front text (Above OfLines value) h = tt
+of_behind front text (Above Rows value) h = absurd h
+
+of_check : (opening : Bool) (bytes : List ℕ) (end : EarlyEnd) → EndsCheck opening bytes end → IsOfBytes end
+of_check opening bytes end (inl h) = of_opening opening _ end h
+of_check opening bytes end (inr (inl h)) = of_behind h.ends.front h.ends.text end h.ends.ends
+of_check opening bytes end (inr (inr h)) = rw h.is tt
+
 keeps_same : (known : Option (List ℕ)) → Keeps known known
 keeps_same None = tt
 keeps_same (Some bytes) = refl
@@ -80,32 +97,89 @@ never_usage Failed is = cc
 never_usage NoMemory is = cc
 never_usage (Above which value) is = cc
 
--- its bytes ended the run
-by_bytes : (words : List (List ℕ)) (options : Options) (threads : ℕ) (a b : Option (List ℕ)) (end : EarlyEnd) → Spells words (Play options threads)
-    → ((bytes : List ℕ) × IsInput a b bytes × EndsInput options bytes end) → EndsByInput words a b end
-by_bytes words options threads a b end accepted (bytes, input, h) =
-    record { options = options; threads = threads; accepted = accepted; bytes = bytes; input = input; holds = h }
+-- ---- the cause of an early end
 
--- an early end has its cause
+-- an end while the input is read or by its bytes has its cause
+early_cause : (words : List (List ℕ)) (a b : Option (List ℕ)) (m n : ℕ) (failures : ℕ × ℕ) (end : EarlyEnd) → AskToRead words
+    → EndsReading a m n end ⊎ (EndsByInput words a b end × IsOfBytes end) → HasCause words a b (m, n) failures (status_of end)
+early_cause words a b m n failures (Refused line column what) asked (inl h) = absurd h
+early_cause words a b m n failures (Refused line column what) asked (inr h) = h.0
+early_cause words a b m n failures Failed asked (inl h) = h
+early_cause words a b m n failures Failed asked (inr h) = absurd h.1
+early_cause words a b m n failures NoMemory asked h = tt
+early_cause words a b m n failures (Above Input value) asked (inl h) = (h.0, h.1, asked)
+early_cause words a b m n failures (Above Input value) asked (inr h) = absurd h.1
+early_cause words a b m n failures (Above OfLine value) asked (inl h) = absurd h
+early_cause words a b m n failures (Above OfLine value) asked (inr h) = h.0
+early_cause words a b m n failures (Above OfLines value) asked (inl h) = absurd h
+early_cause words a b m n failures (Above OfLines value) asked (inr h) = h.0
+early_cause words a b m n failures (Above Rows value) asked (inl h) = absurd h
+early_cause words a b m n failures (Above Rows value) asked (inr h) = h.0
+
+no_memory : (words : List (List ℕ)) (a b : Option (List ℕ)) (m n : ℕ) (failures : ℕ × ℕ) (end : EarlyEnd) → end ≡ NoMemory
+    → HasCause words a b (m, n) failures (status_of end)
+no_memory words a b m n failures end is = subst (λ e. HasCause words a b (m, n) failures (status_of e)) (sym is) tt
+
+-- an early end of a trace has its cause
 pub has_cause : (words : List (List ℕ)) (options : Options) (threads : ℕ) (a b : Option (List ℕ)) (m n : ℕ) (failures : ℕ × ℕ)
     (end : EarlyEnd) → Spells words (Play options threads)
     → OrMemory (EndsEarly options a b m n) end → HasCause words a b (m, n) failures (status_of end)
-has_cause words options threads a b m n failures (Refused line column what) accepted (inl h) = absurd cc
-has_cause words options threads a b m n failures (Refused line column what) accepted (inr (inl h)) = absurd h
-has_cause words options threads a b m n failures (Refused line column what) accepted (inr (inr h)) = by_bytes words options threads a b _ accepted h
-has_cause words options threads a b m n failures Failed accepted (inl h) = absurd cc
-has_cause words options threads a b m n failures Failed accepted (inr (inl h)) = h
-has_cause words options threads a b m n failures Failed accepted (inr (inr h)) = absurd (of_bytes options h.0 Failed h.2)
-has_cause words options threads a b m n failures NoMemory accepted h = tt
-has_cause words options threads a b m n failures (Above Input value) accepted (inl h) = absurd cc
-has_cause words options threads a b m n failures (Above Input value) accepted (inr (inl h)) = (h.0, h.1, (options, threads, accepted))
-has_cause words options threads a b m n failures (Above Input value) accepted (inr (inr h)) = absurd (of_bytes options h.0 (Above Input value) h.2)
-has_cause words options threads a b m n failures (Above OfLine value) accepted (inl h) = absurd cc
-has_cause words options threads a b m n failures (Above OfLine value) accepted (inr (inl h)) = absurd h
-has_cause words options threads a b m n failures (Above OfLine value) accepted (inr (inr h)) = by_bytes words options threads a b _ accepted h
-has_cause words options threads a b m n failures (Above OfLines value) accepted (inl h) = absurd cc
-has_cause words options threads a b m n failures (Above OfLines value) accepted (inr (inl h)) = absurd h
-has_cause words options threads a b m n failures (Above OfLines value) accepted (inr (inr h)) = by_bytes words options threads a b _ accepted h
-has_cause words options threads a b m n failures (Above Rows value) accepted (inl h) = absurd cc
-has_cause words options threads a b m n failures (Above Rows value) accepted (inr (inl h)) = absurd h
-has_cause words options threads a b m n failures (Above Rows value) accepted (inr (inr h)) = by_bytes words options threads a b _ accepted h
+has_cause words options threads a b m n failures end accepted (inl memory) = no_memory words a b m n failures end memory
+has_cause words options threads a b m n failures end accepted (inr (inl h)) =
+    early_cause words a b m n failures end (inl (options, threads, accepted)) (inl h)
+has_cause words options threads a b m n failures end accepted (inr (inr h)) =
+    early_cause words a b m n failures end (inl (options, threads, accepted))
+    (inr (inl (record { options = options; threads = threads; accepted = accepted; bytes = h.0; input = h.1; holds = h.2 }), of_bytes options h.0 end h.2))
+
+-- so has an early end of a check
+pub has_check_cause : (words : List (List ℕ)) (opening : Bool) (a b : Option (List ℕ)) (m n : ℕ) (failures : ℕ × ℕ)
+    (end : EarlyEnd) → Spells words (Check opening)
+    → OrMemory (EndsCheckEarly opening a b m n) end → HasCause words a b (m, n) failures (status_of end)
+has_check_cause words opening a b m n failures end accepted (inl memory) = no_memory words a b m n failures end memory
+has_check_cause words opening a b m n failures end accepted (inr (inl h)) = early_cause words a b m n failures end (inr (opening, accepted)) (inl h)
+has_check_cause words opening a b m n failures end accepted (inr (inr h)) =
+    early_cause words a b m n failures end (inr (opening, accepted))
+    (inr (inr (record { opening = opening; accepted = accepted; bytes = h.0; input = h.1; ends = h.2 }), of_check opening h.0 end h.2))
+
+-- ---- what a check wrote
+
+-- the verdict on what was read, for words that ask for it
+pub judged_as : (words : List (List ℕ)) (opening : Bool) (a b : Option (List ℕ)) (before : ℕ) (verdict : Verdict) (P : ℕ → Verdict → Type 0)
+    → Spells words (Check opening) → HasRead a b (λ bytes. IsInputVerdict opening bytes before verdict) → P before verdict → Judged words a b P
+judged_as words opening a b before verdict P accepted read holds = record {
+  opening = opening;
+  accepted = accepted;
+  bytes = read.0;
+  input = read.1;
+  before = before;
+  verdict = verdict;
+  is = read.2;
+  holds = holds;
+}
+
+-- where its whole line was written, the run's status is that of the verdict
+pub wrote_verdict : (words : List (List ℕ)) (opening : Bool) (a b out_old out_new : Option (List ℕ)) (before : ℕ) (verdict : Verdict)
+    → Spells words (Check opening) → HasRead a b (λ bytes. IsInputVerdict opening bytes before verdict)
+    → Appends out_old out_new (verdict_line before verdict) → Wrote words a b out_old out_new (verdict_status before verdict)
+wrote_verdict words opening a b out_old out_new before (Legal entries) accepted read appends =
+    judged_as words opening a b before (Legal entries) _ accepted read (refl, appends)
+wrote_verdict words opening a b out_old out_new before (WrongVerdict line why) accepted read appends =
+    judged_as words opening a b before (WrongVerdict line why) _ accepted read (refl, appends)
+
+-- and this is its cause
+pub verdict_cause : (words : List (List ℕ)) (opening : Bool) (a b : Option (List ℕ)) (input out : ℕ × ℕ) (before : ℕ) (verdict : Verdict)
+    → Spells words (Check opening) → HasRead a b (λ bytes. IsInputVerdict opening bytes before verdict)
+    → HasCause words a b input out (verdict_status before verdict)
+verdict_cause words opening a b input out before (Legal entries) accepted read = tt
+verdict_cause words opening a b input out before (WrongVerdict line why) accepted read =
+    judged_as words opening a b before (WrongVerdict line why) _ accepted read refl
+
+-- the status of a verdict is never that of words that are not accepted, nor one that leaves the output alone
+pub verdict_never : (before : ℕ) (verdict : Verdict) → verdict_status before verdict ≡ Usage → ⊥
+verdict_never before (Legal entries) is = cc
+verdict_never before (WrongVerdict line why) is = cc
+
+-- it leaves no output alone
+pub verdict_written : (before : ℕ) (verdict : Verdict) → IsUnwritten (verdict_status before verdict) → ⊥
+verdict_written before (Legal entries) h = h
+verdict_written before (WrongVerdict line why) h = h

@@ -4,7 +4,7 @@ use Rattle.std.specs.Prelude.{ℕ, List, [], ◌++◌, codes, decimal}
 use Rattle.line_parts.specs.declared.refusal.What.{What}
 use Rattle.line_parts.specs.declared.refusal.What.TheVariants.{Number, Wide, Word, Comma, Close, Result as AtResult, Form, Order}
 use Rattle.range_cli.specs.declared.status.Status.{Status}
-use Rattle.range_cli.specs.declared.status.Status.TheVariants.{Done, Usage, BadLine, ReadFault, WriteFault, Memory, Limit}
+use Rattle.range_cli.specs.declared.status.Status.TheVariants.{Done, Usage, BadLine, ReadFault, WriteFault, Memory, Limit, Wrong}
 use Rattle.range_cli.specs.declared.status.Which.{Which}
 use Rattle.range_cli.specs.declared.status.Which.TheVariants.{Input, Line, Lines, Rows}
 
@@ -37,9 +37,10 @@ bad_line_text line column what = numbered (codes "line ") line (codes " column "
 -- the line for a status; none for a whole report
 unfoldable pub error_line : Status → List ℕ
 error_line (Done closed) = []
-error_line Usage = codes "usage: play [--threads N] [--opening] [--log] or load --seed N --threads N --calls N\n"
+error_line Usage = codes "usage: play [--threads N] [--opening] [--log] [--touched] or load --seed N --threads N --calls N or check [--opening]\n"
 error_line (BadLine line column what) = bad_line_text line column what
 error_line ReadFault = codes "read fault\n"
 error_line (WriteFault closed) = codes "write fault\n"
 error_line Memory = codes "out of memory\n"
 error_line (Limit which value) = numbered (which_text which) value (codes "\n")
+error_line (Wrong line) = codes "wrong log\n"

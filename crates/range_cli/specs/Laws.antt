@@ -1,5 +1,19 @@
--- What follows for a run by one worker: nothing is left to the threads.
-use Rattle.std.specs.Prelude.{◌≡◌, List, map}
+-- What follows for a run: by one worker nothing is left to the threads; and a log that was printed is one that a check
+-- of it finds legal.
+use Rattle.std.specs.Prelude.{◌≡◌, ℕ, Bool, true, List, ◌++◌, Option, Some, length, map}
+use Rattle.space_model.specs.Areas.{HasKinds, kind_at}
+use Rattle.area_rows.specs.Callers.{ClosedView}
+use Rattle.line_parts.specs.Lines.{lines_of}
+use Rattle.history_check.specs.declared.verdict.Verdict.TheVariants.{Legal}
+use Rattle.history_check.specs.Laws.{PrintedLogIsGood}
+use Rattle.history_check.specs.Verdicts.{IsVerdict}
+use Rattle.command_words.specs.declared.commands.Command.TheVariants.{Play}
+use Rattle.command_words.specs.declared.commands.Options.{Options}
+use Rattle.command_words.specs.Commands.{Spells}
+use Rattle.range_cli.specs.declared.status.Status.{Status}
+use Rattle.range_cli.specs.declared.status.Status.TheVariants.{Done}
+use Rattle.range_cli.specs.Checking.{HasRead}
+use Rattle.range_cli.specs.Script.{Begins}
 use Rattle.space_model.specs.declared.areas.Area.{Area}
 use Rattle.space_model.specs.declared.entries.Entry.{Entry}
 use Rattle.range_cli.specs.declared.trace.Line.{Line}
@@ -19,3 +33,22 @@ abbrev pub OneWorkerPlaysOneHistory : Type 0
 OneWorkerPlaysOneHistory =
     (opening : List Area) (lines : List Line) (entries others : List Entry) (last end : List Area) →
     IsPlayed 1 opening lines entries last → IsPlayed 1 opening lines others end → AreAlike entries others × (last ≡ end)
+
+-- the lines are a good log of so many entries from the areas with which this input begins
+pub record LegalFrom (opening : Bool) (bytes : List ℕ) (lines : List (List ℕ)) (entries : ℕ) : Type 0 where
+  pub head : Begins opening bytes
+  pub start : List Area
+  pub kinds : HasKinds (kind_at head.areas) start
+  pub verdict_is : IsVerdict start lines (Legal entries)
+
+-- Where a run that is done was asked for its log, and its output tells its bytes, the lines of what was written are a
+-- good log of its entries. So a check of them behind the same maps lines finds as many entries, within its limits.
+abbrev pub LogsAreGood : List (List ℕ) → Option (List ℕ) → Option (List ℕ) → Option (List ℕ) → Option (List ℕ) → Status → Type 0
+LogsAreGood words input_old input_new out_old out_new status =
+    (closed : ClosedView) (options : Options) (threads : ℕ) (old report : List ℕ) → status ≡ Done (Some closed)
+    → Spells words (Play options threads) → options.log ≡ true → out_old ≡ Some old → out_new ≡ Some (old ++ report)
+    → HasRead input_old input_new (λ bytes. LegalFrom options.opening bytes (lines_of report) (length closed.entries))
+
+-- whatever is printed of the history that a status carries is a good log
+abbrev pub HasGoodLog : Status → Type 0
+HasGoodLog status = (closed : ClosedView) → status ≡ Done (Some closed) → PrintedLogIsGood closed.entries

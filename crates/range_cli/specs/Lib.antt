@@ -1,4 +1,3 @@
-pub mod Lines
 pub mod Input
 pub mod Status
 pub mod Trace
@@ -13,3 +12,5 @@ pub mod Script
 pub mod Laws
 pub mod Load
 pub mod Clean
+pub mod Checking
+pub mod Judging

@@ -1,28 +1,30 @@
 -- What a run of the program says, and why it ends: the sentence that the whole program is proved to keep. Nothing here
 -- speaks of how lines are read or areas are kept. The statuses and their order are this project's own profile; the
 -- definitions below are in two directions, what comes only with its cause and what comes wherever its cause is there.
-use Rattle.std.specs.Prelude.{◌≡◌, ◌⊎◌, ℕ, ◌<◌, ◌≤◌, List, [], length, Option, None, Some, ⊤}
+use Rattle.std.specs.Prelude.{◌≡◌, ◌⊎◌, ℕ, ◌<◌, ◌≤◌, Bool, true, List, [], length, Option, None, Some, ⊤}
 use Rattle.std.specs.Io.KnownBytes.{Appends, Keeps}
 use Rattle.byte_ports.specs.Bytes.{AppendsPrefix}
 use Rattle.byte_ports.specs.Counts.{Rose}
 use Rattle.space_model.specs.declared.areas.Area.{Area}
 use Rattle.area_rows.specs.Callers.{ClosedView}
 use Rattle.maps_printer.specs.Lines.{summary_text}
-use Rattle.command_words.specs.declared.commands.Command.TheVariants.{Play, Load}
+use Rattle.command_words.specs.declared.commands.Command.TheVariants.{Play, Load, Check}
 use Rattle.command_words.specs.declared.commands.Options.{Options}
 use Rattle.range_cli.specs.declared.status.EarlyEnd.{EarlyEnd}
 use Rattle.range_cli.specs.declared.status.EarlyEnd.TheVariants.{Refused, Above}
 use Rattle.range_cli.specs.declared.status.Status.{Status}
-use Rattle.range_cli.specs.declared.status.Status.TheVariants.{Done, Usage, BadLine, ReadFault, WriteFault, Memory, Limit}
+use Rattle.range_cli.specs.declared.status.Status.TheVariants.{Done, Usage, BadLine, ReadFault, WriteFault, Memory, Limit, Wrong}
 use Rattle.range_cli.specs.declared.status.Which.{Which}
 use Rattle.range_cli.specs.declared.status.Which.TheVariants.{Input, Line as OfLine, Lines as OfLines, Rows}
 use Rattle.range_cli.specs.declared.trace.Line.{Line}
-use Rattle.command_words.specs.Commands.{Spells, RefusesWords, AskToPlay}
+use Rattle.command_words.specs.Commands.{Spells, RefusesWords, AskToRead}
+use Rattle.history_check.specs.declared.verdict.Verdict.{Verdict}
+use Rattle.range_cli.specs.Checking.{IsInputVerdict, EndsCheck, verdict_line, verdict_status}
 use Rattle.range_cli.specs.ErrorLine.{error_line}
 use Rattle.range_cli.specs.Input.{IsInput, IsTooLong}
 use Rattle.range_cli.specs.Load.{lines_of_load}
 use Rattle.range_cli.specs.Play.{IsPlayed}
-use Rattle.range_cli.specs.Report.{report_text, refused_count, Differing}
+use Rattle.range_cli.specs.Report.{report_text, refused_count, CountsTouched, Differing}
 use Rattle.range_cli.specs.Script.{IsScript, EndsInput}
 use Rattle.range_cli.specs.Status.{status_of, ending}
 
@@ -36,7 +38,10 @@ pub record IsReport (options : Options) (threads : ℕ) (bytes : List ℕ) (clos
   pub played : IsPlayed threads start lines closed.entries closed.areas
   pub differ : ℕ
   pub differs : Differing lines closed.entries differ
-  pub text : report ≡ report_text options closed.areas closed.entries (record { skipped = skipped; refused = refused_count closed.entries; differ = differ })
+  pub touched : ℕ
+  pub touches : options.touched ≡ true → CountsTouched closed.entries touched
+  pub text : report ≡ report_text options closed.areas closed.entries
+      (record { skipped = skipped; refused = refused_count closed.entries; differ = differ; touched = touched })
 
 -- the report of a load, by a space that was closed: the lines that the seed makes, played by so many workers from an
 -- empty space, are the space's history, and the summary is all that is printed. No line has a recorded result, so no
@@ -67,13 +72,27 @@ abbrev pub Reports : List (List ℕ) → Option (List ℕ) → Option (List ℕ)
 Reports words input_old input_new closed report =
     Heard words input_old input_new (λ options threads bytes. IsReport options threads bytes closed report) ⊎ Loaded words closed report
 
--- What a run wrote: the whole report, or a first part of it where the output failed, else nothing. Where something was
--- written the status carries the closed space whose history it is.
+-- with words that ask for a log to be checked the whole input was read, within its limit, its verdict is this one, and
+-- this holds
+pub record Judged (words : List (List ℕ)) (input_old input_new : Option (List ℕ)) (P : ℕ → Verdict → Type 0) : Type 0 where
+  pub opening : Bool
+  pub accepted : Spells words (Check opening)
+  pub bytes : List ℕ
+  pub input : IsInput input_old input_new bytes
+  pub before : ℕ
+  pub verdict : Verdict
+  pub is : IsInputVerdict opening bytes before verdict
+  pub holds : P before verdict
+
+-- What a run wrote: the whole report or the line of the verdict, or a first part of it where the output failed, else
+-- nothing. Where a report was written the status carries the closed space whose history it is.
 abbrev pub Wrote : List (List ℕ) → Option (List ℕ) → Option (List ℕ) → Option (List ℕ) → Option (List ℕ) → Status → Type 0
-Wrote words input_old input_new out_old out_new (Done None) = ⊥
+Wrote words input_old input_new out_old out_new (Done None) = Judged words input_old input_new
+    (λ before verdict. (verdict_status before verdict ≡ Done None) × Appends out_old out_new (verdict_line before verdict))
 Wrote words input_old input_new out_old out_new (Done (Some closed)) = (report : List ℕ)
     × Reports words input_old input_new closed report × Appends out_old out_new report
-Wrote words input_old input_new out_old out_new (WriteFault None) = ⊥
+Wrote words input_old input_new out_old out_new (WriteFault None) = Judged words input_old input_new
+    (λ before verdict. AppendsPrefix out_old out_new (verdict_line before verdict))
 Wrote words input_old input_new out_old out_new (WriteFault (Some closed)) = (report : List ℕ)
     × Reports words input_old input_new closed report × AppendsPrefix out_old out_new report
 Wrote words input_old input_new out_old out_new Usage = Keeps out_old out_new
@@ -81,8 +100,10 @@ Wrote words input_old input_new out_old out_new (BadLine line column what) = Kee
 Wrote words input_old input_new out_old out_new ReadFault = Keeps out_old out_new
 Wrote words input_old input_new out_old out_new Memory = Keeps out_old out_new
 Wrote words input_old input_new out_old out_new (Limit which value) = Keeps out_old out_new
+Wrote words input_old input_new out_old out_new (Wrong line) = Judged words input_old input_new
+    (λ before verdict. (verdict_status before verdict ≡ Wrong line) × Appends out_old out_new (verdict_line before verdict))
 
--- a run that ends so has written its whole report
+-- a run that ends so has written its whole report, or that a log is legal
 abbrev pub IsDone : Status → Type 0
 IsDone (Done closed) = ⊤
 IsDone Usage = ⊥
@@ -91,6 +112,7 @@ IsDone ReadFault = ⊥
 IsDone (WriteFault closed) = ⊥
 IsDone Memory = ⊥
 IsDone (Limit which value) = ⊥
+IsDone (Wrong line) = ⊥
 
 -- a run that ends so leaves its output alone
 abbrev pub IsUnwritten : Status → Type 0
@@ -101,19 +123,30 @@ IsUnwritten (BadLine line column what) = ⊤
 IsUnwritten ReadFault = ⊤
 IsUnwritten Memory = ⊤
 IsUnwritten (Limit which value) = ⊤
+IsUnwritten (Wrong line) = ⊥
+
+-- with words that ask for a log to be checked the whole input was read, within its limit, and its bytes end the run so
+pub record EndsByLog (words : List (List ℕ)) (input_old input_new : Option (List ℕ)) (end : EarlyEnd) : Type 0 where
+  pub opening : Bool
+  pub accepted : Spells words (Check opening)
+  pub bytes : List ℕ
+  pub input : IsInput input_old input_new bytes
+  pub ends : EndsCheck opening bytes end
 
 -- the input ends the run so: by the first of its lines that ends a run, or behind them by the rows that it opens with
 abbrev pub EndsByInput : List (List ℕ) → Option (List ℕ) → Option (List ℕ) → EarlyEnd → Type 0
-EndsByInput words input_old input_new end = Heard words input_old input_new (λ options threads bytes. EndsInput options bytes end)
+EndsByInput words input_old input_new end =
+    Heard words input_old input_new (λ options threads bytes. EndsInput options bytes end) ⊎ EndsByLog words input_old input_new end
 
 -- which limit was passed
 abbrev pub PassedLimit : List (List ℕ) → Option (List ℕ) → Option (List ℕ) → Which → ℕ → Type 0
-PassedLimit words input_old input_new Input value = (value ≡ 67108865) × IsTooLong input_old × AskToPlay words
+PassedLimit words input_old input_new Input value = (value ≡ 67108865) × IsTooLong input_old × AskToRead words
 PassedLimit words input_old input_new OfLine value = EndsByInput words input_old input_new (Above OfLine value)
 PassedLimit words input_old input_new OfLines value = EndsByInput words input_old input_new (Above OfLines value)
 PassedLimit words input_old input_new Rows value = EndsByInput words input_old input_new (Above Rows value)
 
--- the cause of each status: the words, the input, or a count of failed calls that rose; out of memory has none
+-- the cause of each status: the words, the input, its verdict, or a count of failed calls that rose; out of memory has
+-- none
 abbrev pub HasCause : List (List ℕ) → Option (List ℕ) → Option (List ℕ) → (ℕ × ℕ) → (ℕ × ℕ) → Status → Type 0
 HasCause words input_old input_new input_failures out_failures (Done closed) = ⊤
 HasCause words input_old input_new input_failures out_failures Usage = RefusesWords words
@@ -122,13 +155,15 @@ HasCause words input_old input_new input_failures out_failures ReadFault = Rose 
 HasCause words input_old input_new input_failures out_failures (WriteFault closed) = Rose out_failures.0 out_failures.1
 HasCause words input_old input_new input_failures out_failures Memory = ⊤
 HasCause words input_old input_new input_failures out_failures (Limit which value) = PassedLimit words input_old input_new which value
+HasCause words input_old input_new input_failures out_failures (Wrong line) =
+    Judged words input_old input_new (λ before verdict. verdict_status before verdict ≡ Wrong line)
 
 -- the words and an input with these bytes call for this status, whatever history it carries
 pub data IsOutcome (words : List (List ℕ)) (bytes : List ℕ) : Status → Type 0 where
   -- the words are not accepted
   usage : RefusesWords words → IsOutcome words bytes Usage
   -- the input has more bytes than it may have
-  too_long : AskToPlay words → 67108864 < length bytes → IsOutcome words bytes (Limit Input 67108865)
+  too_long : AskToRead words → 67108864 < length bytes → IsOutcome words bytes (Limit Input 67108865)
   -- one of its lines ends the run, or the rows of the areas that it starts with do
   early : {options : Options} {threads : ℕ} {end : EarlyEnd} {status : Status} → Spells words (Play options threads) → length bytes ≤ 67108864 →
       EndsInput options bytes end → status ≡ status_of end → IsOutcome words bytes status
@@ -138,6 +173,12 @@ pub data IsOutcome (words : List (List ℕ)) (bytes : List ℕ) : Status → Typ
       length bytes ≤ 67108864 → IsScript options bytes start lines skipped → IsOutcome words bytes (Done closed)
   -- a load is asked for, whatever the input is
   loaded : {seed threads calls : ℕ} {closed : Option ClosedView} → Spells words (Load seed threads calls) → IsOutcome words bytes (Done closed)
+  -- a log is asked to be checked, and one of the lines ends the run, or the rows of the areas that it starts with do
+  check_early : {opening : Bool} {end : EarlyEnd} {status : Status} → Spells words (Check opening) → length bytes ≤ 67108864 →
+      EndsCheck opening bytes end → status ≡ status_of end → IsOutcome words bytes status
+  -- its opening lines are readable and all limits are kept: it has a verdict
+  checked : {opening : Bool} {before : ℕ} {verdict : Verdict} {status : Status} → Spells words (Check opening) → length bytes ≤ 67108864 →
+      IsInputVerdict opening bytes before verdict → status ≡ verdict_status before verdict → IsOutcome words bytes status
 
 -- they call for this status, and for no other but with another history
 pub record IsOnlyOutcome (words : List (List ℕ)) (bytes : List ℕ) (status : Status) : Type 0 where
@@ -153,6 +194,7 @@ IsHindered input_failures out_failures ReadFault = Rose input_failures.0 input_f
 IsHindered input_failures out_failures (WriteFault closed) = Rose out_failures.0 out_failures.1
 IsHindered input_failures out_failures Memory = ⊤
 IsHindered input_failures out_failures (Limit which value) = ⊥
+IsHindered input_failures out_failures (Wrong line) = ⊥
 
 -- the status's line was written, or a first part of it where that output failed
 abbrev pub Complains : Option (List ℕ) → Option (List ℕ) → ℕ → ℕ → Status → Type 0

@@ -1,7 +1,7 @@
 -- What an input asks to play, and how an input ends a run before anything is played. The order of refusals is this
 -- project's own profile: the lines one after another, and last the rows of the areas that the input starts with. So an
 -- input has at most one early end.
-use Rattle.std.specs.Prelude.{◌≡◌, ◌⊎◌, ℕ, ◌+◌, ◌<◌, ◌≤◌, List, Option}
+use Rattle.std.specs.Prelude.{◌≡◌, ◌⊎◌, ℕ, ◌+◌, ◌<◌, ◌≤◌, Bool, List, Option}
 use Rattle.space_model.specs.declared.areas.Area.{Area}
 use Rattle.space_model.specs.Areas.{kind_at, row_count, HasKinds}
 use Rattle.range_cli.specs.declared.script.Script.{Script}
@@ -11,23 +11,23 @@ use Rattle.range_cli.specs.declared.status.Which.TheVariants.{Rows}
 use Rattle.range_cli.specs.declared.trace.Line.{Line}
 use Rattle.command_words.specs.declared.commands.Options.{Options}
 use Rattle.range_cli.specs.Input.{IsInput, EndsReading}
-use Rattle.range_cli.specs.Lines.{lines_of}
+use Rattle.line_parts.specs.Lines.{lines_of}
 use Rattle.range_cli.specs.Opening.{Opens, EndsOpening}
 use Rattle.range_cli.specs.Trace.{Reads, EndsAt, start_at}
 
--- the input begins with these areas, of which so many more lie past the user addresses, and its trace begins at line
--- `next` with the texts that are left
-pub record Begins (options : Options) (bytes : List ℕ) : Type 0 where
+-- the input begins with these areas, of which so many more lie past the user addresses, and its trace or its log begins
+-- at line `next` with the texts that are left
+pub record Begins (opening : Bool) (bytes : List ℕ) : Type 0 where
   pub areas : List Area
   pub past : ℕ
   pub next : ℕ
   pub left : List (List ℕ)
-  pub opens : Opens options.opening (lines_of bytes) areas past next left
+  pub opens : Opens opening (lines_of bytes) areas past next left
 
 -- the input asks for these lines, from the one area list with the kinds of the areas that it begins with, and so many
 -- lines are skipped
 pub record IsScript (options : Options) (bytes : List ℕ) (start : List Area) (lines : List Line) (skipped : ℕ) : Type 0 where
-  pub head : Begins options bytes
+  pub head : Begins options.opening bytes
   pub passed : ℕ
   pub reads : Reads (start_at head.next) head.left lines passed
   pub kinds : HasKinds (kind_at head.areas) start
@@ -39,12 +39,12 @@ IsScriptOf options bytes script = IsScript options bytes script.opening script.l
 
 -- a line of the trace ends the run so
 pub record EndsTrace (options : Options) (bytes : List ℕ) (end : EarlyEnd) : Type 0 where
-  pub head : Begins options bytes
+  pub head : Begins options.opening bytes
   pub ends : EndsAt (start_at head.next) head.left end
 
 -- all lines are read, and the areas that the input starts with have more rows than there may be
 pub record EndsByRows (options : Options) (bytes : List ℕ) (end : EarlyEnd) : Type 0 where
-  pub head : Begins options bytes
+  pub head : Begins options.opening bytes
   pub lines : List Line
   pub passed : ℕ
   pub reads : Reads (start_at head.next) head.left lines passed

@@ -5,7 +5,7 @@ use Rattle.std.specs.Prelude.{◌≡◌, ◌⊎◌, ℕ, None}
 use Rattle.range_cli.specs.declared.status.EarlyEnd.{EarlyEnd}
 use Rattle.range_cli.specs.declared.status.EarlyEnd.TheVariants.{Refused, Failed, NoMemory, Above}
 use Rattle.range_cli.specs.declared.status.Status.{Status}
-use Rattle.range_cli.specs.declared.status.Status.TheVariants.{Done, Usage, BadLine, ReadFault, WriteFault, Memory, Limit}
+use Rattle.range_cli.specs.declared.status.Status.TheVariants.{Done, Usage, BadLine, ReadFault, WriteFault, Memory, Limit, Wrong}
 
 -- the status of a run that ends so before anything is played
 abbrev pub status_of : EarlyEnd → Status
@@ -27,6 +27,7 @@ exit_code ReadFault = 4
 exit_code (WriteFault closed) = 5
 exit_code Memory = 6
 exit_code (Limit which value) = 7
+exit_code (Wrong line) = 8
 
 -- the status without the history that it carries
 abbrev pub ending : Status → Status
@@ -37,3 +38,4 @@ ending ReadFault = ReadFault
 ending (WriteFault closed) = WriteFault None
 ending Memory = Memory
 ending (Limit which value) = Limit which value
+ending (Wrong line) = Wrong line

@@ -14,7 +14,7 @@ use strace_reader::What;
 
 /// The line for wrong words, with its newline.
 const USAGE: &[u8] =
-    b"usage: play [--threads N] [--opening] [--log] or load --seed N --threads N --calls N\n";
+    b"usage: play [--threads N] [--opening] [--log] [--touched] or load --seed N --threads N --calls N or check [--opening]\n";
 
 /// Writes the line for a status. For `Done` it makes no call of the sink.
 ///
@@ -36,6 +36,7 @@ pub fn write_error<K: Sink>(err: &mut K, status: &Status) -> Result<(), Failed>
         Status::WriteFault(_) => write_all(err, b"write fault\n"),
         Status::Memory => write_all(err, b"out of memory\n"),
         Status::Limit { which, value } => write_numbered(err, limit(*which), *value, b"\n"),
+        Status::Wrong { .. } => write_all(err, b"wrong log\n"),
     }
 }
 
@@ -52,7 +53,7 @@ fn write_bad_line<K: Sink>(err: &mut K, line: u32, column: u32, what: What) -> R
 }
 
 /// Writes a number in decimal, with a text before it and one behind it.
-fn write_numbered<K: Sink>(
+pub(crate) fn write_numbered<K: Sink>(
     err: &mut K,
     before: &[u8],
     number: u64,

@@ -1,8 +1,20 @@
-//! A law of runs by one worker, the contract of a function with nothing to run. A reader may rely on such a run being
-//! decided by its input alone.
-ghost use Rattle.range_cli.specs.Laws.{OneWorkerPlaysOneHistory};
+//! Laws of runs, each the contract of a function that has nothing to do. A reader may rely on a run by one worker being
+//! decided by its input alone, and on a printed log being one that a check finds legal.
+ghost use Rattle.range_cli.specs.Laws.{OneWorkerPlaysOneHistory, HasGoodLog};
+
+use crate::status::Status;
+use history_check::printed_logs_are_good;
 
 /// By one worker, lines from given areas have one order, one reply each, and leave one list of areas. It does nothing.
 pub fn one_worker_plays_one_history()
     ensures { OneWorkerPlaysOneHistory }
 {}
+
+/// Whatever is printed of the history that a status carries, with its log, is a good log. It only looks at the entries.
+pub fn carried_logs_are_good(status: &Status)
+    ensures { HasGoodLog status.now }
+{
+    if let Status::Done(Some(closed)) = status {
+        printed_logs_are_good(closed.entries());
+    }
+}

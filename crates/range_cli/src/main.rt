@@ -3,6 +3,9 @@
 //! said on it. This file ties it to the process: its words, its standard streams and its exit status.
 #![tactic(auto)]
 
+#[cfg(test)]
+mod check_tests;
+mod checking;
 mod clean;
 #[cfg(test)]
 mod clean_tests;
@@ -12,7 +15,6 @@ mod error_line;
 mod gate_tests;
 mod input;
 mod laws;
-mod lines;
 mod load;
 mod opening;
 mod play;
@@ -25,6 +27,8 @@ mod script;
 mod status;
 #[cfg(test)]
 mod tests;
+#[cfg(test)]
+mod touched_tests;
 mod trace;
 #[cfg(test)]
 mod trial;

@@ -5,14 +5,14 @@
 ghost use Rattle.std.specs.Prelude.{◌≡◌, ◌≢◌, ◌+◌, ◌^◌, ◌<◌, ◌≤◌, [], length, IfOk, IfErr, OnOk};
 ghost use Rattle.space_model.specs.Areas.{HasNamedKinds};
 ghost use Rattle.strace_reader.specs.Maps.{IsNamedMapsItem};
-ghost use Rattle.range_cli.specs.Lines.{lines_of};
+ghost use Rattle.line_parts.specs.Lines.{lines_of};
 ghost use Rattle.range_cli.specs.Opening.{IsNext, EndsMap, EndsOpening, Opens, areas_with, past_with, map_start, map_stop};
 ghost use Rattle.range_cli.specs.Status.{OrMemory};
 ghost use Rattle.range_cli.specs.declared.input.TheConstants.{INPUT_LIMIT};
 
-use crate::lines::next_line;
 use crate::status::{EarlyEnd, Which};
 use crate::trace::LINE_LIMIT;
+use line_parts::next_line;
 use page_types::PAGE;
 use space_model::Area;
 use std::alloc::Global;

@@ -1,21 +1,23 @@
-//! The report of a run: the log where it is asked for, the maps that are left, and the summary. The texts of the parts
+//! The report of a run: the log where it is asked for, the maps that are left, the summary, and the count of touched
+//! pages where that is asked for. The texts of the parts
 //! are those of the crate `maps_printer`. A reader may rely on the output being the whole report, or a first part of it
 //! where the sink failed.
 ghost use Rattle.std.specs.Prelude.{◌≡◌, ◌≤◌, ◌^◌, ◌<◌, ◌↔◌, length, IfSome, IsNone, IsTrue, OnOk, OnErr};
 ghost use Rattle.std.specs.Io.KnownBytes.{Appends};
 ghost use Rattle.byte_ports.specs.Bytes.{AppendsPrefix};
 ghost use Rattle.byte_ports.specs.Counts.{Rose};
-ghost use Rattle.range_cli.specs.Report.{report_text, asked_log, is_refused, refused_count, Differing, DiffersFromLine, HasNoLine, IsPlaceOf, Rise};
+ghost use Rattle.range_cli.specs.Report.{report_text, asked_log, asked_touched, is_refused, refused_count};
+ghost use Rattle.range_cli.specs.Report.{Differing, DiffersFromLine, HasNoLine, IsPlaceOf, Rise};
 
 use crate::trace::Line;
 use byte_ports::{Failed, Sink};
 use command_words::Options;
-use maps_printer::{write_log, write_maps, write_summary};
+use maps_printer::{write_log, write_maps, write_summary, write_touched};
 use page_types::Reply;
 use space_model::{Area, Entry};
 use strace_reader::differs;
 
-/// The counts of a summary but that of the played calls, which is the number of entries.
+/// The counts of a report but that of the played calls, which is the number of entries.
 #[derive(Clone, Copy, Debug, PartialEq, Eq)]
 pub struct Counts {
     /// Lines that were passed over.
@@ -24,6 +26,8 @@ pub struct Counts {
     pub refused: u32,
     /// Replies that differ from the recorded result.
     pub differ: u32,
+    /// Pages of granted faults, each once; any number where it isn't asked for.
+    pub touched: u32,
 }
 
 /// Writes the report of what was played: the log is that of `entries`, at most 2^32 - 1 of them, and the maps are those
@@ -47,7 +51,24 @@ pub fn write_report<K: Sink>(
     write_asked_log(out, options, entries)?;
     write_maps(out, areas)?;
     let played = entries.len() as u32;
-    write_summary(out, played, counts.skipped, counts.refused, counts.differ)
+    write_summary(out, played, counts.skipped, counts.refused, counts.differ)?;
+    write_asked_touched(out, options, counts.touched)
+}
+
+/// Writes how many pages were touched where the options ask for it.
+fn write_asked_touched<K: Sink>(out: &mut K, options: Options, count: u32) -> Result<(), Failed>
+    ensures all { OnOk result
+        (Appends (K.contents out.old) (K.contents out.new) (asked_touched options count)) }
+    ensures failed_prefix { OnErr result
+        (AppendsPrefix (K.contents out.old) (K.contents out.new) (asked_touched options count)) }
+    ensures failed_rose { OnErr result (Rose (K.fault_count out.old) (K.fault_count out.new)) }
+    ensures never_falls { K.fault_count out.old ≤ K.fault_count out.new }
+{
+    if options.touched {
+        write_touched(out, count)
+    } else {
+        Ok(())
+    }
 }
 
 /// Writes the log where the options ask for it.

@@ -1,18 +1,21 @@
 //! The whole program over a source and two sinks: words, input, lines, calls, report. The calls are played by workers
 //! beside each other, on one shared address space. What `run` wrote is the report of that space's history, which its
-//! status carries; why it ended otherwise is said by its status too. Each status comes only with its cause, and the run
-//! ends with the one status that the words and the input call for, unless there was no memory or a port failed.
+//! status carries, or the verdict on a log; why it ended otherwise is said by its status too. Each status comes only
+//! with its cause, and the run ends with the one status that the words and the input call for, unless there was no
+//! memory or a port failed.
 ghost use Rattle.std.specs.Prelude.{◌≡◌, ◌≢◌, ◌⊎◌, ◌<◌, ◌≤◌, ℕ, List, Option, Some, map};
 ghost use Rattle.std.specs.String.{string_bytes};
 ghost use Rattle.load_lines.specs.declared.TheConstants.{SEED_LIMIT, THREADS_LIMIT, CALLS_LIMIT};
 ghost use Rattle.command_words.specs.Commands.{Spells, RefusesWords, AskForLoad, AskForOne};
-ghost use Rattle.command_words.specs.declared.commands.Command.TheVariants.{Play, Load};
+ghost use Rattle.command_words.specs.declared.commands.Command.TheVariants.{Play, Load, Check};
+ghost use Rattle.range_cli.specs.Laws.{LogsAreGood};
 ghost use Rattle.range_cli.specs.Run.{Wrote, IsDone, IsUnwritten, HasCause, IsOnlyOutcome, IsHindered, Complains};
 
+use crate::checking::{judge, write_verdict};
 use crate::error_line::write_error;
-use crate::laws::one_worker_plays_one_history;
+use crate::laws::{carried_logs_are_good, one_worker_plays_one_history};
 use crate::load::play_made;
-use crate::play::play;
+use crate::play::play_asked;
 use crate::report::{Counts, differ_count, refused_count, write_report};
 use crate::script::read_script;
 use crate::status::Status;
@@ -24,10 +27,10 @@ use std::sync::Wait;
 use std::thread::Threads;
 use trace_threads::Gate;
 
-/// Plays the trace of `input` or a load, as `words` ask for, the words behind the program's name, and writes the report
-/// to `out`.
-/// Where the run ends otherwise, the reason goes to `err` as one line; if that write fails the status stays. `gate` is
-/// called before and after each line. It waits until every worker has played its lines.
+/// Plays the trace of `input` or a load, or checks the log that `input` is, as `words` ask for, the words behind the
+/// program's name. It writes the report or the verdict to `out`.
+/// Where the run ends otherwise, or the log is wrong, the reason goes to `err` as one line; if that write fails the
+/// status stays. `gate` is called before and after each line. It waits until every worker has played its lines.
 ///
 /// The program's own run, on the streams of its process:
 ///
@@ -58,7 +61,8 @@ pub fn run<R: Threads + Wait + Sync, S: Source, K: Sink, G: Gate>(
         (S.remaining input.new) (S.fault_count input.old, S.fault_count input.new)
         (K.fault_count out.old, K.fault_count out.new) result }
     // The run ends with the one status that the words and the bytes of the input call for, unless there was no memory
-    // or a port failed. So with accepted words, readable lines and all limits kept it is done.
+    // or a port failed. So with accepted words, readable lines and all limits kept it is done, or the log is wrong; of
+    // a log only the opening lines need be readable.
     ensures complete { (bytes : List ℕ) → S.remaining input.old ≡ Some bytes
         → IsOnlyOutcome (map string_bytes words.now) bytes result
         ⊎ IsHindered (S.fault_count input.old, S.fault_count input.new)
@@ -70,9 +74,13 @@ pub fn run<R: Threads + Wait + Sync, S: Source, K: Sink, G: Gate>(
     ensures err { Complains (K.contents err.old) (K.contents err.new)
         (K.fault_count err.old) (K.fault_count err.new) result }
     ensures silent { IsDone result → err.new ≡ err.old }
+    // A log that was printed is good: from the areas that the input begins with, a check finds it legal.
+    ensures logs_are_good { LogsAreGood (map string_bytes words.now) (S.remaining input.old)
+        (S.remaining input.new) (K.contents out.old) (K.contents out.new) result }
 {
     one_worker_plays_one_history();
     let status = report(wait, alloc, words, input, out, gate);
+    carried_logs_are_good(&status);
     let _ = write_error(err, &status);
     status
 }
@@ -108,6 +116,7 @@ fn report<R: Threads + Wait + Sync, S: Source, K: Sink, G: Gate>(
                 calls,
             },
         ) => play_load(wait, alloc, seed, threads, calls, out, gate),
+        Some(Command::Check { opening }) => check_input(alloc, opening, input, out),
         None => Status::Usage,
     }
 }
@@ -136,17 +145,51 @@ fn play_input<R: Threads + Wait + Sync, S: Source, K: Sink, G: Gate>(
         Ok(script) => script,
         Err(end) => return end.status(),
     };
-    let Ok(closed) = play(wait, alloc, threads, &script.opening, &script.lines, gate) else {
+    let Ok((closed, touched)) = play_asked(
+        wait,
+        alloc,
+        options.touched,
+        threads,
+        &script.opening,
+        &script.lines,
+        gate,
+    ) else {
         return Status::Memory;
     };
     let counts = Counts {
         skipped: script.skipped,
         refused: refused_count(closed.entries()),
         differ: differ_count(&script.lines, closed.entries()),
+        touched,
     };
     match write_report(out, options, closed.entries(), closed.areas(), counts) {
         Ok(()) => Status::Done(Some(closed)),
         Err(_) => Status::WriteFault(Some(closed)),
+    }
+}
+
+/// Checks the log that is the input, and writes its verdict. What is said of it is so of all words that ask for this.
+fn check_input<S: Source, K: Sink>(
+    alloc: Global,
+    opening: bool,
+    input: &mut S,
+    out: &mut K,
+) -> Status
+    ensures out { (words : List (List ℕ)) → Spells words (Check opening) → Wrote words (S.remaining input.old)
+        (S.remaining input.new) (K.contents out.old) (K.contents out.new) result }
+    ensures cause { (words : List (List ℕ)) → Spells words (Check opening) → HasCause words (S.remaining input.old)
+        (S.remaining input.new) (S.fault_count input.old, S.fault_count input.new)
+        (K.fault_count out.old, K.fault_count out.new) result }
+    ensures no_usage { result ≢ Status.Usage }
+    ensures nothing_written { IsUnwritten result → out.new ≡ out.old }
+{
+    let judged = match judge(alloc, opening, input) {
+        Ok(judged) => judged,
+        Err(end) => return end.status(),
+    };
+    match write_verdict(out, &judged) {
+        Ok(()) => judged.status(),
+        Err(_) => Status::WriteFault(None),
     }
 }
 

@@ -13,7 +13,7 @@ pub enum Which {
     Input,
     /// The bytes of one line, without its newline.
     Line,
-    /// The lines that are played.
+    /// The lines that are played, or those of a log that is checked.
     Lines,
     /// The rows of the opening maps.
     Rows,
@@ -48,11 +48,11 @@ impl EarlyEnd {
     }
 }
 
-/// How a run ends. Where it wrote something it carries what the closing of its space gave: nothing else makes one, so
-/// the report is that of a space on which the run played.
+/// How a run ends. Where it played and wrote something it carries what the closing of its space gave: nothing else
+/// makes one, so the report is that of a space on which the run played. A run that checked a log carries none.
 #[derive(Drop)]
 pub enum Status {
-    /// The whole report was written.
+    /// The whole report was written, or that a log is legal.
     Done(Option<Closed>),
     /// The words of the command line are not accepted.
     Usage,
@@ -60,12 +60,15 @@ pub enum Status {
     BadLine { line: u32, column: u32, what: What },
     /// The input failed, and nothing was played.
     ReadFault,
-    /// The output failed; it has a first part of the report.
+    /// The output failed; it has a first part of the report or of the verdict.
     WriteFault(Option<Closed>),
     /// There was no memory.
     Memory,
     /// A limit is passed; the value is the first number above it, or the count of rows.
     Limit { which: Which, value: u64 },
+    /// The input is no log of a legal history, and its verdict was written: the number of its first wrong line, counted
+    /// from 1.
+    Wrong { line: u32 },
 }
 
 impl Status {
@@ -83,6 +86,7 @@ impl Status {
             Status::WriteFault(_) => 5,
             Status::Memory => 6,
             Status::Limit { .. } => 7,
+            Status::Wrong { .. } => 8,
         }
     }
 }

@@ -3,15 +3,15 @@
 //! calls. A reader may rely on `Reads`, which says line by line what becomes of a trace, up to the first line that ends
 //! the run.
 ghost use Rattle.std.specs.Prelude.{◌≡◌, ◌∷◌, ◌++◌, ◌+◌, ◌-◌, ◌*◌, ◌^◌, ◌<◌, ◌≤◌, [], List, ℕ, length, All, IfOk, IfErr, OnOk};
-ghost use Rattle.range_cli.specs.Lines.{lines_of};
+ghost use Rattle.line_parts.specs.Lines.{lines_of};
 ghost use Rattle.range_cli.specs.Trace.{TracePosition, Ends, EndsAt, Reads, start_at, lines_by, played_by, seen_by, skipped_by, IsNamedLine, IsNamedAnswer};
 ghost use Rattle.range_cli.specs.TraceReader.{IsBefore, IsFull, IsIndexed, StandsAt, Takes};
 ghost use Rattle.range_cli.specs.Status.{OrMemory};
 ghost use Rattle.range_cli.specs.declared.input.TheConstants.{INPUT_LIMIT};
 
-use crate::lines::next_line;
 use crate::processes::Processes;
 use crate::status::{EarlyEnd, Which};
+use line_parts::next_line;
 use page_types::Call;
 use std::alloc::Global;
 use strace_reader::{Fed, FeedFault, Joiner, Recorded};

@@ -2,10 +2,10 @@
 //! so in every order of their calls.
 use crate::run::run;
 use crate::status::Status;
+use crate::trial::{self, says};
 use byte_ports::{MemorySink, MemorySource};
 use maps_printer::{write_log, write_maps};
 use std::alloc::Global;
-use std::process::Abort;
 use std::sync::Wait;
 use std::test::Fail;
 use std::thread::Threads;
@@ -50,20 +50,6 @@ fn run_words<R: Threads + Wait + Sync>(
     Ok((status, out, source.calls))
 }
 
-/// Fails the test unless a run with these words is done and writes just `out`.
-fn leaves<R: Abort + Threads + Wait + Sync>(
-    rt: &R,
-    alloc: Global,
-    words: &[&str],
-    input: &str,
-    out: &str,
-) -> Result<(), Fail> {
-    let (status, written, _) = run_words(rt, alloc, words, input)?;
-    assert!(rt; matches!(status, Status::Done(Some(_))));
-    assert_eq!(rt; written.written(), out.as_bytes());
-    Ok(())
-}
-
 #[test]
 fn workers_leave_what_one_leaves(rt: HostRuntime) -> Result<(), Fail> {
     let lists: [&[&str]; 5] = [
@@ -74,14 +60,17 @@ fn workers_leave_what_one_leaves(rt: HostRuntime) -> Result<(), Fail> {
         &["play", "--threads=16"],
     ];
     for words in lists {
-        leaves(&rt, rt.alloc(), words, THREE, LEFT)?;
+        let input = THREE.as_bytes();
+        says(&rt, rt.alloc(), words, input, trial::Status::Done, LEFT, "")?;
     }
-    leaves(
+    says(
         &rt,
         rt.alloc(),
         &["play", "--threads", "2"],
-        "7 munmap(0x10000, 1 <unfinished ...>\n8 munmap(0x20000, 1) = 0\n7 <... munmap resumed>) = 0",
+        b"7 munmap(0x10000, 1 <unfinished ...>\n8 munmap(0x20000, 1) = 0\n7 <... munmap resumed>) = 0",
+        trial::Status::Done,
         "played 2 skipped 0 refused 0 differ 0\n",
+        "",
     )
 }
 
@@ -110,7 +99,7 @@ fn a_run_carries_the_history_that_it_printed(rt: HostRuntime) -> Result<(), Fail
 }
 
 #[test]
-fn a_load_writes_its_summary_and_reads_nothing(rt: HostRuntime) -> Result<(), Fail> {
+fn a_load_writes_one_summary_and_reads_nothing(rt: HostRuntime) -> Result<(), Fail> {
     let words = ["load", "--seed", "1", "--threads", "1", "--calls", "5"];
     let (status, written, reads) = run_words(&rt, rt.alloc(), &words, THREE)?;
     let out = "played 5 skipped 0 refused 4 differ 0\n";
@@ -120,11 +109,7 @@ fn a_load_writes_its_summary_and_reads_nothing(rt: HostRuntime) -> Result<(), Fa
         panic!(rt; "not done");
     };
     assert_eq!(rt; closed.entries().len(), 5);
-    Ok(())
-}
-
-#[test]
-fn a_load_on_four_threads_has_one_summary(rt: HostRuntime) -> Result<(), Fail> {
+    // Four workers write the same one twice.
     let words = ["load", "--calls=20000", "--threads=4", "--seed=1"];
     let (status, first, _) = run_words(&rt, rt.alloc(), &words, "")?;
     assert!(rt; matches!(status, Status::Done(Some(_))));

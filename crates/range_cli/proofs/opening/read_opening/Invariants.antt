@@ -1,6 +1,6 @@
 use Rattle.std.proofs.Common.{◌+◌, ◌<◌, ◌≤◌, length}
 use Rattle.space_model.specs.Areas.{HasNamedKinds}
-use Rattle.range_cli.specs.Lines.{lines_of}
+use Rattle.line_parts.specs.Lines.{lines_of}
 use Rattle.range_cli.proofs.OpeningLemmas.{MapsSoFar}
 use Rattle.range_cli.proofs.opening.read_opening.Given as goal
 

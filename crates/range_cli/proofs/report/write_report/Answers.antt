@@ -13,14 +13,21 @@ returns-in_err-write_maps-clause-failed_prefix g c =
     on_err c.from_residual-in_err-write_maps.result
     (AppendsPrefix-after _ _ c.in_ok-write_asked_log.ensures.all (AppendsPrefix-more _ c.in_err-write_maps.ensures.failed_prefix))
 
--- the log, the maps and the summary are the report
+-- so are the log and the maps with a first part of the summary
+pub returns-in_err-write_summary-clause-failed_prefix : goal.returns-in_err-write_summary-clause-failed_prefix
+returns-in_err-write_summary-clause-failed_prefix g c =
+    on_err c.from_residual-in_err-write_summary.result
+    (AppendsPrefix-after _ _ c.in_ok-write_asked_log.ensures.all
+    (AppendsPrefix-after _ _ c.in_ok-write_maps.ensures.text (AppendsPrefix-more _ c.in_err-write_summary.ensures.failed_prefix)))
+
+-- the log, the maps, the summary and the count are the report
 pub returns-clause-all : goal.returns-clause-all
 returns-clause-all g c =
-    report_all _ _ _ _ _ c.args.options _ c.args.entries.now _ c.in_ok-write_asked_log.ensures.all c.in_ok-write_maps.ensures.text
-    c.write_summary.ensures.text
+    report_all _ _ _ _ _ _ c.args.options _ c.args.entries.now _ c.in_ok-write_asked_log.ensures.all c.in_ok-write_maps.ensures.text
+    c.in_ok-write_summary.ensures.text c.write_asked_touched.ensures.all
 
--- so the log, the maps and a first part of the summary are a first part of it
+-- so these with a first part of the count are a first part of it
 pub returns-clause-failed_prefix : goal.returns-clause-failed_prefix
 returns-clause-failed_prefix g c =
-    report_prefix _ _ _ _ _ c.args.options _ c.args.entries.now _ c.in_ok-write_asked_log.ensures.all c.in_ok-write_maps.ensures.text
-    c.write_summary.ensures.failed_prefix
+    report_prefix _ _ _ _ _ _ c.args.options _ c.args.entries.now _ c.in_ok-write_asked_log.ensures.all c.in_ok-write_maps.ensures.text
+    c.in_ok-write_summary.ensures.text c.write_asked_touched.ensures.failed_prefix

@@ -20,7 +20,7 @@ of_pieces-requires-clause-in_order c = rw c.deref.ensures.value (opens_in_order 
 pub returns-then-rows-gt-ROWS-clause-stopped : goal.returns-then-rows-gt-ROWS-clause-stopped
 returns-then-rows-gt-ROWS-clause-stopped c =
     inr (inr (inr (record {
-      head = head_of c.args.options c.args.bytes.now _ _ _ _ c.in_ok-opening.ensures.opens;
+      head = head_of c.args.options.opening c.args.bytes.now _ _ _ _ c.in_ok-opening.ensures.opens;
       lines = c.in_ok-trace.trace.lines.items;
       passed = c.in_ok-trace.trace.skipped;
       reads = c.in_ok-trace.ensures.read;
@@ -33,7 +33,7 @@ returns-then-rows-gt-ROWS-clause-stopped c =
 -- the opening, its areas and the lines behind it are the script
 pub returns-clause-script : goal.returns-clause-script
 returns-clause-script c = record {
-  head = head_of c.args.options c.args.bytes.now _ _ _ _ c.in_ok-opening.ensures.opens;
+  head = head_of c.args.options.opening c.args.bytes.now _ _ _ _ c.in_ok-opening.ensures.opens;
   passed = c.in_ok-trace.trace.skipped;
   reads = c.in_ok-trace.ensures.read;
   kinds = rw c.deref.ensures.value at c.in-Ok.ensures;

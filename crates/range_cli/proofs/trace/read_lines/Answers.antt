@@ -1,6 +1,6 @@
 use Rattle.std.proofs.Common.{ℕ, List, length, refl, ap, subst, arith}
 use Rattle.std.proofs.lemmas.Result.{err_from_is_err_and}
-use Rattle.range_cli.specs.Lines.{lines_of}
+use Rattle.line_parts.specs.Lines.{lines_of}
 use Rattle.range_cli.proofs.TraceLemmas.{SoFar, so_far_start, so_far_step, so_far_all, so_far_ends, left_few}
 use Rattle.range_cli.proofs.trace.read_lines.Goals as goal
 

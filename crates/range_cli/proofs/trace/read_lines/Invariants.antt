@@ -1,6 +1,6 @@
 use Rattle.std.proofs.Common.{◌+◌, ◌*◌, ◌≤◌, length}
 use Rattle.std.specs.Prelude.{All}
-use Rattle.range_cli.specs.Lines.{lines_of}
+use Rattle.line_parts.specs.Lines.{lines_of}
 use Rattle.range_cli.specs.Trace.{IsNamedLine}
 use Rattle.range_cli.proofs.TraceLemmas.{SoFar}
 use Rattle.range_cli.proofs.trace.read_lines.Given as goal
