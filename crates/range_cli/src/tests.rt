@@ -15,16 +15,17 @@ const HALVES: &str =
         [pid     7] <... mmap resumed>) = 0x10000\n\
         [pid     7] munmap(0x10000, 4096) = 0\n";
 
-/// Worked runs: the words, the input, and the report. Each is done.
-const WORKED: [(&[&str], &str, &str); 20] = [
+/// Worked runs: the words, the input, the report, and what a check says of it where it begins with a log. Each is done.
+const WORKED: [(&[&str], &str, &str, &str); 20] = [
     // One mapping, and no line.
     (
         &["play"],
         FIRST,
         "00010000-00012000 rw-p 00000000 00:00 0\n\
     played 1 skipped 0 refused 0 differ 0\n",
+        "",
     ),
-    (&["play"], "", "played 0 skipped 0 refused 0 differ 0\n"),
+    (&["play"], "", "played 0 skipped 0 refused 0 differ 0\n", ""),
     // An unmapped page leaves both sides; what is free may be unmapped.
     (
         &["play"],
@@ -33,11 +34,13 @@ const WORKED: [(&[&str], &str, &str); 20] = [
         "00010000-00011000 rw-p 00000000 00:00 0\n\
     00012000-00013000 rw-p 00000000 00:00 0\n\
     played 2 skipped 0 refused 0 differ 0\n",
+        "",
     ),
     (
         &["play"],
         "munmap(0x10000, 4096)",
         "played 1 skipped 0 refused 0 differ 0\n",
+        "",
     ),
     // A protection of one area holds a page on each side of it.
     (
@@ -48,6 +51,7 @@ const WORKED: [(&[&str], &str, &str); 20] = [
     1 0 2 mprotect(0x10000, 8192, PROT_READ) = 0 under area 0xf-0x13\n\
     00010000-00012000 r--p 00000000 00:00 0\n\
     played 2 skipped 0 refused 0 differ 0\n",
+        "legal 2\n",
     ),
     (
         &["play", "--log"],
@@ -60,6 +64,7 @@ const WORKED: [(&[&str], &str, &str); 20] = [
     00010000-00011000 rw-p 00000000 00:00 0\n\
     00011000-00014000 r--p 00000000 00:00 0\n\
     played 3 skipped 0 refused 0 differ 0\n",
+        "legal 3\n",
     ),
     // One that splits an area or meets a hole holds everything.
     (
@@ -72,6 +77,7 @@ const WORKED: [(&[&str], &str, &str); 20] = [
     00011000-00012000 r--p 00000000 00:00 0\n\
     00012000-00013000 rw-p 00000000 00:00 0\n\
     played 2 skipped 0 refused 0 differ 0\n",
+        "legal 2\n",
     ),
     (
         &["play", "--log"],
@@ -84,6 +90,7 @@ const WORKED: [(&[&str], &str, &str); 20] = [
     00010000-00011000 rw-p 00000000 00:00 0\n\
     00012000-00013000 rw-p 00000000 00:00 0\n\
     played 3 skipped 0 refused 1 differ 0\n",
+        "legal 3\n",
     ),
     // What the arguments decide holds nothing.
     (
@@ -101,6 +108,7 @@ const WORKED: [(&[&str], &str, &str); 20] = [
     4 0 5 munmap(0x50000, 0) = -1 EINVAL len under none\n\
     5 0 6 mmap(0x7fffffffe000, 8192, PROT_READ, MAP_PRIVATE|MAP_FIXED, -1, 0) = -1 ENOMEM end page 0x800000000 under none\n\
     played 6 skipped 0 refused 4 differ 0\n",
+        "legal 6\n",
     ),
     // A fault reads the one page.
     (
@@ -117,6 +125,7 @@ const WORKED: [(&[&str], &str, &str); 20] = [
     4 0 5 fault(0x10000, PROT_WRITE) = -1 SEGV_ACCERR page 0x10 r--p under reader 0x10-0x11\n\
     00010000-00012000 r--p 00000000 00:00 0\n\
     played 5 skipped 0 refused 2 differ 0\n",
+        "legal 5\n",
     ),
     // A mapping is placed from the top, and at a recorded address where that is free.
     (
@@ -127,6 +136,7 @@ const WORKED: [(&[&str], &str, &str); 20] = [
     1 0 2 mmap(0x7fffffffe000, 4096, PROT_READ|PROT_WRITE, MAP_PRIVATE, -1, 0) = 0x7fffffffd000 under whole\n\
     7fffffffd000-7ffffffff000 rw-p 00000000 00:00 0\n\
     played 2 skipped 0 refused 0 differ 0\n",
+        "legal 2\n",
     ),
     (
         &["play", "--log"],
@@ -134,6 +144,7 @@ const WORKED: [(&[&str], &str, &str); 20] = [
         "0 0 1 mmap(0x7fffffffe000, 4096, PROT_READ, MAP_PRIVATE|MAP_FIXED, -1, 0) = 0x7fffffffe000 under whole\n\
     7fffffffe000-7ffffffff000 r--p 00000000 00:00 0\n\
     played 1 skipped 0 refused 0 differ 0\n",
+        "legal 1\n",
     ),
     (
         &["play"],
@@ -141,6 +152,7 @@ const WORKED: [(&[&str], &str, &str); 20] = [
     MAP_PRIVATE|MAP_ANONYMOUS|MAP_HUGETLB|21<<MAP_HUGE_SHIFT, -1, 0) = 0x40000000\n",
         "40000000-40200000 rw-p 00000000 00:00 0\n\
     played 1 skipped 0 refused 0 differ 0\n",
+        "",
     ),
     // One that may not replace names the lowest page.
     (
@@ -151,6 +163,7 @@ const WORKED: [(&[&str], &str, &str); 20] = [
     1 0 2 mmap(0xf000, 16384, PROT_READ, MAP_PRIVATE|MAP_FIXED_NOREPLACE, -1, 0) = -1 EEXIST page 0x10 under whole\n\
     00010000-00012000 r--p 00000000 00:00 0\n\
     played 2 skipped 0 refused 1 differ 0\n",
+        "legal 2\n",
     ),
     // A program starts with its maps.
     (
@@ -173,6 +186,7 @@ const WORKED: [(&[&str], &str, &str); 20] = [
     7f1200001000-7f1200002000 rw-p 00000000 00:00 0\n\
     7ffc10000000-7ffc10021000 rw-p 00000000 00:00 0\n\
     played 5 skipped 5 refused 0 differ 0\n",
+        "",
     ),
     (
         &["play", "--log", "--opening"],
@@ -181,12 +195,14 @@ const WORKED: [(&[&str], &str, &str); 20] = [
     00010000-00011000 r--p 00000000 00:00 0\n\
     00011000-00012000 rw-p 00000000 00:00 0\n\
     played 1 skipped 0 refused 0 differ 1\n",
+        "",
     ),
     // An unaligned fixed address is refused.
     (
         &["play"],
         "mmap(0x10001, 4096, PROT_READ|PROT_WRITE, MAP_PRIVATE|MAP_FIXED|MAP_ANONYMOUS, -1, 0)",
         "played 1 skipped 0 refused 1 differ 0\n",
+        "",
     ),
     // The halves of a call are played at the second, by one worker or two.
     (
@@ -194,12 +210,14 @@ const WORKED: [(&[&str], &str, &str); 20] = [
         HALVES,
         "00020000-00021000 r--p 00000000 00:00 0\n\
     played 3 skipped 0 refused 0 differ 0\n",
+        "",
     ),
     (
         &["play", "--threads", "2"],
         HALVES,
         "00020000-00021000 r--p 00000000 00:00 0\n\
     played 3 skipped 0 refused 0 differ 0\n",
+        "",
     ),
     (
         &["play", "--log"],
@@ -209,14 +227,19 @@ const WORKED: [(&[&str], &str, &str); 20] = [
     2 0 4 munmap(0x10000, 4096) = 0 under whole\n\
     00020000-00021000 r--p 00000000 00:00 0\n\
     played 3 skipped 0 refused 0 differ 0\n",
+        "legal 3\n",
     ),
 ];
 
 #[test]
 fn worked_runs_write_their_reports(rt: HostRuntime) -> Result<(), Fail> {
-    for (words, input, out) in WORKED {
+    for (words, input, out, verdict) in WORKED {
         let input = input.as_bytes();
         says(&rt, rt.alloc(), words, input, Status::Done, out, "")?;
+        if !verdict.is_empty() {
+            let log = out.as_bytes();
+            says(&rt, rt.alloc(), &["check"], log, Status::Done, verdict, "")?;
+        }
     }
     Ok(())
 }

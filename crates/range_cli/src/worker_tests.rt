@@ -123,3 +123,19 @@ fn a_load_writes_one_summary_and_reads_nothing(rt: HostRuntime) -> Result<(), Fa
     );
     Ok(())
 }
+
+#[test]
+fn the_log_of_a_load_by_sixteen_workers_is_legal(rt: HostRuntime) -> Result<(), Fail> {
+    let words = ["load", "--seed=1", "--threads=16", "--calls=2000"];
+    let (status, summary, _) = run_words(&rt, rt.alloc(), &words, "")?;
+    let Status::Done(Some(closed)) = status else {
+        panic!(rt; "not done");
+    };
+    let mut shown = MemorySink::new(vec![in rt.alloc(); 0u8; 400_000]?, Vec::new(rt.alloc()));
+    assert!(rt; write_log(&mut shown, closed.entries()).is_ok());
+    assert!(rt; write_maps(&mut shown, closed.areas()).is_ok());
+    let mut log = shown.written().to_vec(rt.alloc())?;
+    log.extend_from_slice(summary.written())?;
+    let done = trial::Status::Done;
+    says(&rt, rt.alloc(), &["check"], &log, done, "legal 2000\n", "")
+}
