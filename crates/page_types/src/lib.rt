@@ -16,11 +16,18 @@ pub use sets::{Access, MapFlags, Prot};
 /// address past them is 0x7ffffffff000.
 pub const LIMIT: u64 = 34_359_738_367;
 
+/// The lowest page at which a Map puts its pages where no fixed flag binds its address: page 16, which is
+/// address 0x10000.
+pub const LOWEST: u64 = 16;
+
 /// The most rows, areas and gaps counted together, that an address space may have after a change.
 pub const ROWS: usize = 4096;
 
+/// How many rows more than there were a change may make.
+pub const SPARE: usize = 2;
+
+/// How many halvings find one row among `ROWS`, which is at most 2 to this power.
+pub const SEARCH: u32 = 12;
+
 /// The number of bytes of a page.
 pub const PAGE: u64 = 4096;
-
-#[cfg(test)]
-mod tests;

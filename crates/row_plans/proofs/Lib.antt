@@ -1,6 +1,7 @@
 pub mod ReadBack
 pub mod RowLists
+pub mod OneList
 pub mod PutRows
 pub mod RowPages
-pub mod MapPlaces
+pub mod RowPatches
 pub mod PlanLeft

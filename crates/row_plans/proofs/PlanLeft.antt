@@ -2,6 +2,7 @@
 -- answer.
 use Rattle.std.proofs.Common.{◌≡◌, ◌≢◌, ℕ, suc, ◌+◌, ◌<◌, ◌≤◌, List, [], ◌∷◌, length, cond, sym, refl, ap, ◌∙◌, subst, arith, inl, inr}
 use Rattle.std.proofs.lemmas.Bool.{cases_lt, lt-ltb, le-ltb}
+use Rattle.std.proofs.lemmas.List.Elements.{All-nil, All-cons}
 use Rattle.std.specs.Prelude.{All, Option, Some, None}
 use Rattle.page_types.specs.declared.TheConstants.{LIMIT, ROWS}
 use Rattle.page_types.specs.declared.calls.Kind.{Kind}
@@ -9,19 +10,25 @@ use Rattle.page_types.specs.declared.calls.Call.{Call}
 use Rattle.page_types.specs.declared.calls.Reply.{Reply}
 use Rattle.page_types.specs.declared.calls.Reply.TheVariants.{Refused}
 use Rattle.page_types.specs.declared.calls.Why.{Why}
-use Rattle.page_types.specs.declared.calls.Why.TheVariants.{Enomem}
-use Rattle.page_types.specs.declared.calls.Short.TheVariants.{Rows}
 use Rattle.page_types.specs.PlainReply.{plain_reply}
+use Rattle.space_model.specs.declared.judged.Change.{Change}
+use Rattle.space_model.specs.declared.judged.Judged.TheVariants.{Refused as IsRefused, Keeps, Changes}
 use Rattle.space_model.specs.Areas.{IsAreaList, HasKinds, kind_at, gap_between, gaps_from, row_count}
-use Rattle.space_model.specs.Effect.{new_kind, effect_of, done_reply}
-use Rattle.space_model.specs.Answers.{Answers, IsPlace, RefusesByState}
-use Rattle.space_model.specs.Answers.Answers.{by_arguments, refused, done, too_many_rows}
-use Rattle.space_model.proofs.Changing.{kind_at-limit, within-after}
-use Rattle.row_plans.specs.RowWords.{row_start, row_kind}
+use Rattle.space_model.specs.Effect.{patched, AreRising}
+use Rattle.space_model.specs.Answers.{full_reply, Answers}
+use Rattle.space_model.specs.Answers.Answers.{by_arguments, refused, kept}
+use Rattle.space_model.specs.Judges.{IsJudged, patches_of}
+use Rattle.space_model.specs.Judges.Makes.{within, beyond}
+use Rattle.space_model.proofs.Changing.{kind_at-limit, rising_end, patched-behind}
+use Rattle.space_model.proofs.Judgements.{made_answers}
+use Rattle.space_model.proofs.Stepping.{one-patch}
+use Rattle.space_model.proofs.SomeAnswer.{leaves_areas}
+use Rattle.row_plans.specs.RowWords.{row_start, row_kind, row_word}
 use Rattle.row_plans.specs.RowLists.{rows_start, DiffersFrom, ShowFrom, IsBareGap, with_row, areas_from}
-use Rattle.row_plans.specs.Planning.{ShowTo}
+use Rattle.row_plans.specs.Planning.{ShowTo, IsMade}
 use Rattle.row_plans.specs.Plans.{PlanShows, IsRowList, planned_rows, IsPlan}
-use Rattle.row_plans.proofs.RowLists.{AreNext, are_next}
+use Rattle.row_plans.proofs.RowLists.{AreNext, are_next, areas_back}
+use Rattle.row_plans.proofs.PutRows.{some_rows}
 
 -- rows that show kinds up to LIMIT
 shows_all : (page : ℕ) (rows : List ℕ) (kinds : ℕ → Option Kind) → ShowTo page rows LIMIT kinds → ShowFrom page rows kinds
@@ -91,42 +98,66 @@ module _ (old new : List ℕ) (c : Call) (reply : Reply) (count : ℕ) (is : IsR
   plan_plain decided = plan_same (by_arguments decided refl)
 
   -- the plan of a call that the areas refuse is the refusal and the rows as they are
-  pub plan_refused : (why : Why) → plain_reply c ≡ None → RefusesByState (areas_from old) c why → reply ≡ Refused why
+  pub plan_refused : (why : Why) → plain_reply c ≡ None → IsJudged (kind_at (areas_from old)) c (IsRefused why) → reply ≡ Refused why
       → IsPlan c reply count (planned_rows old new) (areas_from old)
   plan_refused why open_still refuses says = plan_same (refused why open_still refuses says refl)
 
--- rows that show the kinds of a change are those of the area list that it leaves
-module _ (old rows : List ℕ) (c : Call) (lo hi : ℕ) (is : IsRowList old) (none : plain_reply c ≡ None)
-    (place : IsPlace (areas_from old) c lo hi) (low : hi ≤ LIMIT)
-    (show : ShowTo 0 rows LIMIT (effect_of (areas_from old) c lo hi)) where
-  shown : ShowFrom 0 rows (effect_of (areas_from old) c lo hi)
-  shown = shows_all 0 rows (effect_of (areas_from old) c lo hi) show
+  -- the plan of a call that changes nothing is its reply and the rows as they are
+  pub plan_kept : (said : Reply) → plain_reply c ≡ None → IsJudged (kind_at (areas_from old)) c (Keeps said) → reply ≡ said
+      → IsPlan c reply count (planned_rows old new) (areas_from old)
+  plan_kept said open_still keeps says =
+      plan_same (kept open_still (subst (λ r. IsJudged (kind_at (areas_from old)) c (Keeps r)) (sym says) keeps) refl)
 
-  left_kinds : HasKinds (effect_of (areas_from old) c lo hi) (areas_from rows)
-  left_kinds = let A = areas_from old in let next : AreNext 0 rows (effect_of A c lo hi) (areas_from rows) =
-      are_next 0 rows (effect_of A c lo hi) shown in record {
+-- a change that was judged rightly has one patch
+pub judged_one : (kinds : ℕ → Option Kind) (c : Call) (change : Change) → IsJudged kinds c (Changes change) → length (patches_of change) ≡ 1
+judged_one kinds c change judged = one-patch kinds c (patches_of change) change.reply change.full judged.0
+
+-- a change that was judged rightly, as it is made, is the plan
+pub plan_made : (old new : List ℕ) (c : Call) (change : Change) (reply : Reply) (count : ℕ) → plain_reply c ≡ None
+    → IsJudged (kind_at (areas_from old)) c (Changes change) → IsMade change reply count (planned_rows old new) (areas_from old)
+    → IsPlan c reply count (planned_rows old new) (areas_from old)
+plan_made old new c change reply count open_still judged m = record {
+  left = m.left;
+  answers = made_answers (areas_from old) c change reply m.left open_still judged m.made;
+  counted = m.counted;
+  shows = m.shows;
+}
+
+-- rows that show the kinds of a change are those of the area list that it leaves
+module _ (old rows : List ℕ) (change : Change) (is : IsRowList old) (rising : AreRising 0 (patches_of change))
+    (show : ShowTo 0 rows LIMIT (patched (patches_of change) (kind_at (areas_from old)))) where
+  shown : ShowFrom 0 rows (patched (patches_of change) (kind_at (areas_from old)))
+  shown = shows_all 0 rows (patched (patches_of change) (kind_at (areas_from old))) show
+
+  left_kinds : HasKinds (patched (patches_of change) (kind_at (areas_from old))) (areas_from rows)
+  left_kinds =
+      let A = areas_from old in
+      let kinds : ℕ → Option Kind = patched (patches_of change) (kind_at A) in
+      let end = (rising_end 0 (patches_of change) rising).1 in
+      let next : AreNext 0 rows kinds (areas_from rows) = are_next 0 rows kinds shown in
+      record {
         areas = next.areas;
-        kinds_are = λ p. elim (cases_lt p LIMIT) [
-          | inl lt ↦ next.same p (omega arith) lt
-          | inr ge ↦ kind_at-limit (areas_from rows) next.areas p ge
-              ∙ sym (within-after lo hi p (new_kind c (kind_at A p)) (kind_at A p) (omega arith)
-              ∙ kind_at-limit A (areas_in_order old is) p ge)
+        kinds_are = λ x. elim (cases_lt x LIMIT) [
+          | inl lt ↦ next.same x (omega arith) lt
+          | inr ge ↦ kind_at-limit (areas_from rows) next.areas x ge
+              ∙ sym (patched-behind 0 (patches_of change) (kind_at A) x rising (omega arith)
+              ∙ kind_at-limit A (areas_in_order old is) x ge)
         ];
       }
 
   left_count : length rows ≡ row_count (areas_from rows)
-  left_count = rows_counted 0 rows (effect_of (areas_from old) c lo hi) shown
+  left_count = rows_counted 0 rows (patched (patches_of change) (kind_at (areas_from old))) shown
 
-  -- where the changed rows are at most ROWS, the plan is the done reply and these rows
-  pub plan_done : (reply : Reply) (count : ℕ) → 0 < length rows → length rows ≤ ROWS → All IsBareGap rows
-      → reply ≡ done_reply c lo → count ≡ length rows → IsPlan c reply count (planned_rows old rows) (areas_from old)
-  plan_done reply count some few gaps says counts = record {
+  -- where the changed rows are at most ROWS, the change is made with its reply and these rows
+  pub made_done : (reply : Reply) (count : ℕ) → length rows ≤ ROWS → All IsBareGap rows
+      → reply ≡ change.reply → count ≡ length rows → IsMade change reply count (planned_rows old rows) (areas_from old)
+  made_done reply count few gaps says counts = record {
     left = areas_from rows;
-    answers = done lo hi none place left_kinds (subst (λ (n : ℕ). n ≤ ROWS) left_count few) says;
+    made = within left_kinds (subst (λ (n : ℕ). n ≤ ROWS) left_count few) says;
     counted = counts ∙ left_count;
-    shows = subst (λ (l : List ℕ). PlanShows l (kind_at (areas_from rows))) (planned_some old rows some)
+    shows = subst (λ (l : List ℕ). PlanShows l (kind_at (areas_from rows))) (planned_some old rows (some_rows rows _ show))
         (record {
-          some = some;
+          some = some_rows rows _ show;
           few = few;
           show = subst (λ (k : ℕ → Option Kind). ShowFrom 0 rows k)
               (λ i p. sym (left_kinds.kinds_are p) i) shown;
@@ -134,11 +165,36 @@ module _ (old rows : List ℕ) (c : Call) (lo hi : ℕ) (is : IsRowList old) (no
         });
   }
 
-  -- where they are more than ROWS, the plan is the refusal that counts them, and the rows as they are
-  pub plan_full : (new : List ℕ) (reply : Reply) (count : ℕ) → ROWS < length rows → new ≡ []
-      → reply ≡ Refused (Enomem (Rows (length rows))) → count ≡ length old
-      → IsPlan c reply count (planned_rows old new) (areas_from old)
-  plan_full new reply count many empty_new says counts =
-      plan_same old new c reply count is empty_new counts
-      (too_many_rows lo hi (areas_from rows) none place left_kinds (subst (λ (n : ℕ). ROWS < n) left_count many)
-      (says ∙ ap (λ n. Refused (Enomem (Rows n))) left_count) refl)
+  -- where they are more than ROWS, it has the full reply, and the rows are as they were
+  pub made_full : (new : List ℕ) (reply : Reply) (count : ℕ) → ROWS < length rows → new ≡ []
+      → reply ≡ full_reply change.full (length rows) → count ≡ length old
+      → IsMade change reply count (planned_rows old new) (areas_from old)
+  made_full new reply count many empty_new says counts = record {
+    left = areas_from old;
+    made = beyond (areas_from rows) left_kinds (subst (λ (n : ℕ). ROWS < n) left_count many)
+        (says ∙ ap (full_reply change.full) left_count) refl;
+    counted = counts ∙ counted_rows old is;
+    shows = subst (λ (l : List ℕ). PlanShows (planned_rows old l) (kind_at (areas_from old))) (sym empty_new) is;
+  }
+
+planned_list : (old plan : List ℕ) (c : Call) (reply : Reply) (count : ℕ) → IsRowList old → IsPlan c reply count plan (areas_from old)
+    → IsRowList plan
+planned_list old plan c reply count is p =
+    let areas = leaves_areas (areas_from old) c reply p.left (areas_in_order old is) p.answers in
+    let back : areas_from plan ≡ p.left = areas_back plan p.left p.shows.show areas in
+    subst (λ A. PlanShows plan (kind_at A)) (sym back) p.shows
+
+-- the rows that a call leaves are a row list
+pub planned_new : (old new : List ℕ) (c : Call) (reply : Reply) (count : ℕ) → IsRowList old → 0 < length new
+    → IsPlan c reply count (planned_rows old new) (areas_from old) → IsRowList new
+planned_new old new c reply count is some p =
+    subst IsRowList (sym (planned_some old new some)) (planned_list old (planned_rows old new) c reply count is p)
+
+-- so is the one gap of a space without areas
+pub no_area_list : (rows : List ℕ) → rows ≡ row_word 0 None ∷ [] → IsRowList rows
+no_area_list rows e = subst IsRowList (sym e) (record {
+  some = omega arith;
+  few = omega arith;
+  show = (omega arith, omega arith, tt, λ p low high. refl, refl);
+  gaps = All-cons IsBareGap (row_word 0 None) [] (λ _. omega arith) (All-nil IsBareGap);
+})

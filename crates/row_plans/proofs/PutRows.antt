@@ -1,20 +1,18 @@
--- Rows that are put together show what was put: a stretch at the end, the rows before a page copied, and those behind a
--- page behind them.
-use Rattle.std.proofs.Common.{◌≡◌, ◌≢◌, ℕ, zero, suc, ◌<◌, ◌≤◌, List, [], ◌∷◌, ◌++◌, ◌-◌, get_or, take, drop, length}
+-- Rows that are put together show what was put: a stretch at the end, and rows cut out of others.
+use Rattle.std.proofs.Common.{◌≡◌, ◌≢◌, ℕ, zero, suc, ◌+◌, ◌<◌, ◌≤◌, List, [], ◌∷◌, ◌++◌, ◌-◌, min, get_or, take, drop, length}
 use Rattle.std.proofs.Common.{Bool, true, false, cond, sym, refl, ap, ◌∙◌, subst, arith, inl, inr}
 use Rattle.std.proofs.lemmas.Bool.{cases_lt}
+use Rattle.std.proofs.Math.Seq.{drop-nil}
+use Rattle.std.proofs.lemmas.List.{length-drop}
 use Rattle.std.specs.Prelude.{Option}
 use Rattle.page_types.specs.declared.TheConstants.{LIMIT}
 use Rattle.page_types.specs.declared.calls.Kind.{Kind}
-use Rattle.page_types.specs.declared.calls.Call.{Call}
 use Rattle.page_types.specs.Named.{IsNamedOption}
-use Rattle.space_model.specs.Effect.{new_kind}
 use Rattle.space_model.specs.Starts.{same_option}
-use Rattle.space_model.proofs.Changing.{within-before, within-after}
 use Rattle.space_model.proofs.Counting.{same_option-true, same_option-same, same_option-false}
 use Rattle.row_plans.specs.RowWords.{row_start, row_kind, row_word}
 use Rattle.row_plans.specs.RowLists.{rows_start, DiffersFrom, ShowFrom}
-use Rattle.row_plans.specs.Planning.{start_or, ShowTo, ends_with, put, changed}
+use Rattle.row_plans.specs.Planning.{start_or, ShowTo, ends_with, put, StartBefore}
 use Rattle.row_plans.proofs.ReadBack.{start_back, kind_back}
 
 true_false : true ≡ false → ⊥
@@ -87,23 +85,20 @@ below_end_of from [] end kinds show = omega arith
 below_end_of from (word ∷ []) end kinds show = let l = show.1 in omega arith
 below_end_of from (word ∷ next ∷ rest) end kinds show = let l = show.1 in let r = below_end_of (row_start next) (next ∷ rest) end kinds show.4 in omega arith
 
--- rows that are copied: those before a page show what they showed
-same_below : (from : ℕ) (rows : List ℕ) (end : ℕ) (kinds others : ℕ → Option Kind) → ((p : ℕ) → p < end → others p ≡ kinds p)
-    → ShowTo from rows end kinds → ShowTo from rows end others
-same_below from [] end kinds others same show = show
-same_below from (word ∷ []) end kinds others same show = (show.0, show.1, tt, λ p low high. same p high ∙ show.3 p low high, refl)
-same_below from (word ∷ next ∷ rest) end kinds others same show =
-    let l = below_end_of (row_start next) (next ∷ rest) end kinds show.4 in
-    (show.0, show.1, show.2, λ p low high. same p (omega arith) ∙ show.3 p low high, same_below (row_start next) (next ∷ rest) end kinds others same show.4)
-
-front_shows : (i from : ℕ) (rows : List ℕ) (kinds : ℕ → Option Kind) → ShowFrom from rows kinds → ShowTo from (take i rows) (rows_start (drop i rows)) kinds
-front_shows zero from [] kinds show = show
-front_shows zero from (word ∷ rest) kinds show = sym show.0
-front_shows (suc i) from [] kinds show = show
-front_shows (suc zero) from (word ∷ rest) kinds show = (show.0, show.1, tt, show.3, refl)
-front_shows (suc (suc i)) from (word ∷ []) kinds show = (show.0, show.1, tt, show.3, refl)
-front_shows (suc (suc i)) from (word ∷ next ∷ rest) kinds show =
-    (show.0, show.1, show.2, show.3, front_shows (suc i) (row_start next) (next ∷ rest) kinds show.4)
+-- rows cut out of others show what those showed up to a page in the last of them
+slice_shows : (i from : ℕ) (rows : List ℕ) (to : ℕ) (kinds others : ℕ → Option Kind) → ShowFrom from rows kinds → i < length rows
+    → rows_start (drop i rows) < to → to ≤ rows_start (drop (suc i) rows) → ((p : ℕ) → from ≤ p → p < to → others p ≡ kinds p)
+    → ShowTo from (take (suc i) rows) to others
+slice_shows i from [] to kinds others show lt low high same = absurd (omega arith)
+slice_shows zero from (word ∷ rest) to kinds others show lt low high same =
+    let start = show.0 in
+    (start, omega arith, tt, λ p g l. same p g l ∙ show.3 p g (omega arith), refl)
+slice_shows (suc i) from (word ∷ []) to kinds others show lt low high same = absurd (omega arith)
+slice_shows (suc i) from (word ∷ next ∷ rest) to kinds others show lt low high same =
+    let above = show.1 in
+    let more = slice_shows i (row_start next) (next ∷ rest) to kinds others show.4 (omega arith) low high (λ p g l. same p (omega arith) l) in
+    let end = below_end_of (row_start next) (take (suc i) (next ∷ rest)) to others more in
+    (show.0, show.1, show.2, λ p g l. same p g (omega arith) ∙ show.3 p g l, more)
 
 inside : (word : ℕ) (rows : List ℕ) (new : ℕ) (b : Bool) → word ∷ cond b rows (rows ++ new ∷ []) ≡ cond b (word ∷ rows) (word ∷ rows ++ new ∷ [])
 inside word rows new true = refl
@@ -176,43 +171,47 @@ append_shows from (word ∷ []) (next ∷ rest) page end kinds some show differs
 append_shows from (word ∷ next ∷ rest) more page end kinds some show differs then =
     (show.0, show.1, show.2, show.3, append_shows (row_start next) (next ∷ rest) more page end kinds (omega arith) show.4 differs then)
 
--- rows that show kinds from a page on, up to LIMIT
-all_shown : (page : ℕ) (rows : List ℕ) (kinds : ℕ → Option Kind) → ShowFrom page rows kinds → ShowTo page rows LIMIT kinds
-all_shown page [] kinds show = show
-all_shown page (word ∷ []) kinds show = (show.0, show.1, tt, show.3, show.4)
-all_shown page (word ∷ next ∷ rest) kinds show = (show.0, show.1, show.2, show.3, all_shown (row_start next) (next ∷ rest) kinds show.4)
-
 differs_first : (word : ℕ) (rest : List ℕ) (next : ℕ) (more : List ℕ) → DiffersFrom word rest → rest ≡ next ∷ more → row_kind word ≢ row_kind next
 differs_first word rest next more d e = subst (DiffersFrom word) e d
 
--- the rows behind a page, where their first one isn't of the kind before it, or there is none
-pub rest_added : (rows more : List ℕ) (page : ℕ) (kinds : ℕ → Option Kind) → 0 < length rows
+-- rows are put behind others, where the first isn't of the kind of the last before it or one of the two is missing
+rows_added : (rows more : List ℕ) (page end : ℕ) (kinds : ℕ → Option Kind)
     → ((next : ℕ) (rest : List ℕ) → more ≡ next ∷ rest → ends_with rows (row_kind next) ≡ false) → ShowTo 0 rows page kinds
-    → ShowFrom page more kinds → ShowTo 0 (rows ++ more) LIMIT kinds
-rest_added rows more page kinds some differs show then = append_shows 0 rows more page LIMIT kinds some show differs (all_shown page more kinds then)
+    → ShowTo page more end kinds → ShowTo 0 (rows ++ more) end kinds
+rows_added [] more page end kinds differs show then = subst (λ (x : ℕ). ShowTo x more end kinds) (sym show) then
+rows_added (word ∷ rows) more page end kinds differs show then =
+    append_shows 0 (word ∷ rows) more page end kinds (omega arith) show differs then
 
--- and where it is: it lengthens the last row
-pub rest_joined : (rows : List ℕ) (word : ℕ) (rest : List ℕ) (page : ℕ) (kinds : ℕ → Option Kind) → IsNamedOption (row_kind word)
-    → 0 < length rows → ends_with rows (row_kind word) ≡ true → ShowTo 0 rows page kinds → ShowFrom page (word ∷ rest) kinds
-    → ShowTo 0 (rows ++ rest) LIMIT kinds
-rest_joined rows word rest page kinds named some same show then =
-    let longer : ShowTo 0 (put rows page (row_kind word)) (rows_start rest) kinds =
-    put_shows page (rows_start rest) (row_kind word) kinds named then.1 then.3 0 rows show in
-    rest_added rows rest (rows_start rest) kinds some
+-- and where it is of that kind, it lengthens the last row
+rows_joined : (rows : List ℕ) (word : ℕ) (rest : List ℕ) (page end : ℕ) (kinds : ℕ → Option Kind) → IsNamedOption (row_kind word)
+    → ends_with rows (row_kind word) ≡ true → ShowTo 0 rows page kinds → ShowTo page (word ∷ rest) end kinds
+    → ShowTo 0 (rows ++ rest) end kinds
+rows_joined rows word rest page end kinds named same show then =
+    let longer : ShowTo 0 (put rows page (row_kind word)) (start_or rest end) kinds =
+    put_shows page (start_or rest end) (row_kind word) kinds named then.1 then.3 0 rows show in
+    rows_added rows rest (start_or rest end) end kinds
     (λ next more e. ends_other rows (row_kind word) (row_kind next) same (differs_first word rest next more then.2 e))
-    (subst (λ (l : List ℕ). ShowTo 0 l (rows_start rest) kinds) (put_kept rows page (row_kind word) same) longer) then.4
+    (subst (λ (l : List ℕ). ShowTo 0 l (start_or rest end) kinds) (put_kept rows page (row_kind word) same) longer) then.4
 
--- the rows behind a page show what they showed
-same_above : (page : ℕ) (rows : List ℕ) (kinds others : ℕ → Option Kind) → ((p : ℕ) → page ≤ p → others p ≡ kinds p)
-    → ShowFrom page rows kinds → ShowFrom page rows others
-same_above page [] kinds others same show = show
-same_above page (word ∷ rest) kinds others same show = (
-  show.0,
-  show.1,
-  show.2,
-  (λ p low high. same p low ∙ show.3 p low high),
-  (let l = show.1 in same_above (rows_start rest) rest kinds others (λ p low. same p (omega arith)) show.4),
-)
+-- both, where the first of the rows was read
+pub more_after : (rows more : List ℕ) (kind : Option Kind) → kind ≡ row_kind (get_or more 0 0) → ends_with rows kind ≡ false
+    → (page end : ℕ) (kinds : ℕ → Option Kind) → ShowTo 0 rows page kinds → ShowTo page more end kinds → ShowTo 0 (rows ++ more) end kinds
+more_after rows more kind is other page end kinds show then =
+    rows_added rows more page end kinds (λ next rest e. ap (ends_with rows) (ap (λ l. row_kind (get_or l 0 0)) (sym e) ∙ sym is) ∙ other) show then
+
+-- where the rows end with the kind of the first one, that one is left out, and all kinds are shown
+pub more_same : (rows more : List ℕ) (kind : Option Kind) → kind ≡ row_kind (get_or more 0 0) → IsNamedOption kind → 0 < length more
+    → ends_with rows kind ≡ true → (page end : ℕ) (kinds : ℕ → Option Kind)
+    → ShowTo 0 rows page kinds → ShowTo page more end kinds → ShowTo 0 (rows ++ drop 1 more) end kinds
+more_same rows [] kind is named more same page end kinds show then = absurd (omega arith)
+more_same rows (word ∷ rest) kind is named more same page end kinds show then =
+    rows_joined rows word rest page end kinds (subst IsNamedOption is named) (ap (ends_with rows) (sym is) ∙ same) show then
+
+-- no rows are put
+pub no_more : (rows more : List ℕ) (page end : ℕ) (kinds : ℕ → Option Kind) → length more ≡ 0 → ShowTo 0 rows page kinds
+    → ShowTo page more end kinds → ShowTo 0 rows end kinds
+no_more rows [] page end kinds none show then = subst (λ (x : ℕ). ShowTo 0 rows x kinds) then show
+no_more rows (word ∷ more) page end kinds none show then = absurd (omega arith)
 
 drop_shows : (i page : ℕ) (rows : List ℕ) (kinds : ℕ → Option Kind) → ShowFrom page rows kinds → ShowFrom (rows_start (drop i rows)) (drop i rows) kinds
 drop_shows zero page [] kinds show = refl
@@ -220,31 +219,47 @@ drop_shows zero page (word ∷ rest) kinds show = subst (λ (x : ℕ). ShowFrom 
 drop_shows (suc i) page [] kinds show = refl
 drop_shows (suc i) page (word ∷ rest) kinds show = drop_shows i (rows_start rest) rest kinds show.4
 
--- the rows before the row of the span's first page, and those behind the row of its last one, show the changed kinds
-pub front_changed : (rows : List ℕ) (i : ℕ) (kinds : ℕ → Option Kind) (c : Call) (lo hi : ℕ) → rows_start (drop i rows) ≤ lo
-    → ShowFrom 0 rows kinds → ShowTo 0 (take i rows) (rows_start (drop i rows)) (changed kinds c lo hi)
-front_changed rows i kinds c lo hi le show =
-    same_below 0 (take i rows) (rows_start (drop i rows)) kinds (changed kinds c lo hi)
-    (λ p high. within-before lo hi p (new_kind c (kinds p)) (kinds p) (omega arith)) (front_shows i 0 rows kinds show)
+drop_more : (i j : ℕ) (rows : List ℕ) → drop j (drop i rows) ≡ drop (i + j) rows
+drop_more zero j rows = let e : j ≡ 0 + j = omega arith in ap (λ n. drop n rows) e
+drop_more (suc i) j [] = drop-nil j ∙ sym (drop-nil (suc i + j))
+drop_more (suc i) j (word ∷ rest) = let e : suc (i + j) ≡ suc i + j = omega arith in drop_more i j rest ∙ ap (λ n. drop n (word ∷ rest)) e
 
--- the rows behind the span show the changed kinds, which are the old ones there
-pub rest_changed : (rows : List ℕ) (i : ℕ) (kinds : ℕ → Option Kind) (c : Call) (lo hi : ℕ) → hi ≤ rows_start (drop i rows)
-    → ShowFrom 0 rows kinds → ShowFrom (rows_start (drop i rows)) (drop i rows) (changed kinds c lo hi)
-rest_changed rows i kinds c lo hi le show =
-    same_above (rows_start (drop i rows)) (drop i rows) kinds (changed kinds c lo hi)
-    (λ p low. within-after lo hi p (new_kind c (kinds p)) (kinds p) (omega arith)) (drop_shows i 0 rows kinds show)
+-- the old rows between two pages, as they are
+pub kept_shows : (old : List ℕ) (next stop from to : ℕ) (kinds others : ℕ → Option Kind) → ShowFrom 0 old kinds
+    → StartBefore old from next → StartBefore old to stop → next ≤ stop → ((p : ℕ) → from ≤ p → p < to → others p ≡ kinds p)
+    → ShowTo (min (rows_start (drop next old)) to) (take (stop - next) (drop next old)) to others
+kept_shows old next stop from to kinds others show low high ordered same =
+    elim (cases_lt next stop) [
+      | inl lt ↦
+          let i : ℕ = stop - next - 1 in
+          let rest : List ℕ = drop next old in
+          let start : ℕ = rows_start rest in
+          let last_is : next + i ≡ stop - 1 = omega arith in
+          let stop_is : next + suc i ≡ stop = omega arith in
+          let last : rows_start (drop i rest) < to =
+          subst (λ (l : List ℕ). rows_start l < to) (sym (drop_more next i old ∙ ap (λ n. drop n old) last_is)) (high.behind (omega arith)) in
+          let next_one : to ≤ rows_start (drop (suc i) rest) =
+          subst (λ (l : List ℕ). to ≤ rows_start l) (sym (drop_more next (suc i) old ∙ ap (λ n. drop n old) stop_is)) high.ahead in
+          let below : from ≤ start = low.ahead in
+          let show_rest = slice_shows i start rest to kinds others (drop_shows next 0 old kinds show)
+          (omega (arith, length-drop next old, high.there)) last next_one (λ p g l. same p (omega arith) l) in
+          let end = below_end_of start (take (suc i) rest) to others show_rest in
+          let count : suc i ≡ stop - next = omega arith in
+          let first : start ≡ min start to = omega arith in
+          subst (λ (n : ℕ). ShowTo (min start to) (take n rest) to others) count
+          (subst (λ (x : ℕ). ShowTo x (take (suc i) rest) to others) first show_rest)
+      | inr ge ↦
+          let none : stop - next ≡ 0 = omega arith in
+          let same_stop : stop ≡ next = omega arith in
+          let end : to ≤ rows_start (drop next old) = subst (λ (n : ℕ). to ≤ rows_start (drop n old)) same_stop high.ahead in
+          subst (λ (n : ℕ). ShowTo (min (rows_start (drop next old)) to) (take n (drop next old)) to others) (sym none) (omega arith)
+    ]
 
--- both, where the first of the rows behind a page was read
-pub rest_after : (rows more : List ℕ) (kind : Option Kind) → kind ≡ row_kind (get_or more 0 0) → 0 < length rows
-    → ends_with rows kind ≡ false → (page : ℕ) (kinds : ℕ → Option Kind) → ShowTo 0 rows page kinds → ShowFrom page more kinds
-    → ShowTo 0 (rows ++ more) LIMIT kinds
-rest_after rows more kind is some other page kinds show then =
-    rest_added rows more page kinds some (λ next rest e. ap (ends_with rows) (ap (λ l. row_kind (get_or l 0 0)) (sym e) ∙ sym is) ∙ other) show then
+-- rows that show kinds up to LIMIT are some
+pub some_rows : (rows : List ℕ) (kinds : ℕ → Option Kind) → ShowTo 0 rows LIMIT kinds → 0 < length rows
+some_rows [] kinds show = let e : 0 ≡ LIMIT = show in absurd (omega arith)
+some_rows (word ∷ rest) kinds show = omega arith
 
--- where the rows end with the kind of the first row behind a page, that one is left out, and all kinds are shown
-pub rest_same : (rows more : List ℕ) (kind : Option Kind) → kind ≡ row_kind (get_or more 0 0) → IsNamedOption kind
-    → 0 < length more → 0 < length rows → ends_with rows kind ≡ true → (page : ℕ) (kinds : ℕ → Option Kind)
-    → ShowTo 0 rows page kinds → ShowFrom page more kinds → ShowTo 0 (rows ++ drop 1 more) LIMIT kinds
-rest_same rows [] kind is named more some same page kinds show then = absurd (omega arith)
-rest_same rows (word ∷ rest) kind is named more some same page kinds show then =
-    rest_joined rows word rest page kinds (subst IsNamedOption is named) some (ap (ends_with rows) (sym is) ∙ same) show then
+-- rows up to page 0 are none
+pub none_shown : (rows : List ℕ) (kinds : ℕ → Option Kind) → rows ≡ [] → ShowTo 0 rows 0 kinds
+none_shown rows kinds e = subst (λ (l : List ℕ). ShowTo 0 l 0 kinds) (sym e) refl

@@ -114,14 +114,14 @@ shows_from page (a ∷ rest) kinds le areas above named same =
           (let e : a.lo ≡ page = omega arith in subst (λ x. ShowFrom x (word ∷ rows_from a.hi rest) kinds) e tail)
     ]
 
--- a gap's word has its last five bits 0, and an area's word is no gap's
+-- a gap's word is the one that is written for it, and an area's word is no gap's
 bare_gap : (lo hi : ℕ) → All IsBareGap (gap_rows lo hi)
 bare_gap lo hi = elim (nat_lt lo hi) as (λ b. All IsBareGap (cond b (row_word lo None ∷ []) [])) [
   | true ↦ All-cons IsBareGap (row_word lo None) [] (λ _. omega arith) (All-nil IsBareGap)
   | false ↦ All-nil IsBareGap
 ]
 
--- the gaps among the row words of an area list have their last five bits 0
+-- so it is of the gaps among the row words of an area list
 pub bare_from : (page : ℕ) (A : List Area) → HasNamedKinds A → All IsBareGap (rows_from page A)
 bare_from page [] named = bare_gap page LIMIT
 bare_from page (a ∷ rest) named =

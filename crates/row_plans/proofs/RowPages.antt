@@ -1,17 +1,19 @@
 -- What one row of those that show kinds says of its pages, and what a search over the rows knows when it has come to
 -- it.
-use Rattle.std.proofs.Common.{◌≡◌, ◌≢◌, ℕ, zero, suc, ◌+◌, ◌<◌, ◌≤◌, List, [], ◌∷◌, ◌-◌, max, get_or, drop, length}
-use Rattle.std.proofs.Common.{Bool, true, false, sym, refl, ap, ◌∙◌, subst, arith, ◌⊎◌, ⊎_elim, inl, inr}
+use Rattle.std.proofs.Common.{◌≡◌, ◌≢◌, ℕ, zero, suc, ◌+◌, ◌<◌, ◌≤◌, List, [], ◌∷◌, ◌-◌, min, max, get_or, drop, length}
+use Rattle.std.proofs.Common.{true, false, sym, refl, ap, ◌∙◌, subst, arith, ◌⊎◌, ⊎_elim, inl, inr}
+use Rattle.std.proofs.Common.{ltb, ltb-true, ltb-false}
+use Rattle.std.specs.List.Sorted.{IsNonDecreasingBy, IsPartitionPoint}
 use Rattle.std.proofs.lemmas.Bool.{cases_lt}
-use Rattle.std.specs.Prelude.{Option, Some, None, MatchOption}
-use Rattle.page_types.specs.declared.TheConstants.{LIMIT}
+use Rattle.std.specs.Prelude.{Option, None}
+use Rattle.page_types.specs.declared.TheConstants.{LIMIT, LOWEST}
 use Rattle.page_types.specs.declared.calls.Kind.{Kind}
-use Rattle.page_types.specs.declared.calls.Call.{Call}
-use Rattle.space_model.specs.Effect.{new_kind}
-use Rattle.space_model.proofs.Changing.{within-before, within-inside, within-after}
+use Rattle.space_model.specs.declared.sorts.Sort.{Sort}
+use Rattle.space_model.specs.Sorts.{is_sort, NoneOf, IsEnd}
+use Rattle.space_model.specs.Places.{FitsAt, IsHighestFit}
 use Rattle.row_plans.specs.RowWords.{row_start, row_kind}
 use Rattle.row_plans.specs.RowLists.{rows_start, ShowFrom}
-use Rattle.row_plans.specs.Planning.{changed, is_mapped, NoneSuch, IsLowestSuch, FreeAt, NoneEndsAbove, HighestPlace}
+use Rattle.row_plans.specs.Planning.{NoneEndsAbove, StartBefore}
 use Rattle.row_plans.proofs.RowLists.{starts_low}
 
 -- what one row of those that show kinds says of its pages
@@ -60,27 +62,41 @@ ends_all (w ∷ rest) zero le = absurd (omega arith)
 ends_all (w ∷ rest) (suc i) le = ends_all rest i (omega arith)
 
 -- one row more has no such page
-pub none_more : (rows : List ℕ) (kinds : ℕ → Option Kind) (mapped : Bool) (lo i start end : ℕ) (kind : Option Kind)
-    → RowPages rows kinds i start end kind → (end ≤ lo) ⊎ (is_mapped mapped kind ≡ false)
-    → NoneSuch kinds mapped lo (rows_start (drop i rows)) → NoneSuch kinds mapped lo (rows_start (drop (i + 1) rows))
-none_more rows kinds mapped lo i start end kind r passed none page from high =
+pub none_more : (rows : List ℕ) (kinds : ℕ → Option Kind) (sort : Sort) (lo i start end : ℕ) (kind : Option Kind)
+    → RowPages rows kinds i start end kind → (end ≤ lo) ⊎ (is_sort sort kind ≡ false)
+    → NoneOf kinds sort lo (rows_start (drop i rows)) → NoneOf kinds sort lo (rows_start (drop (i + 1) rows))
+none_more rows kinds sort lo i start end kind r passed none page from high =
     let b = r.begins in let e = r.ends in
     elim (cases_lt page start) [
       | inl lt ↦ none page from (omega arith)
-      | inr ge ↦ ⊎_elim (λ over. absurd (omega arith)) (λ other. ap (is_mapped mapped) (r.all page ge (omega arith)) ∙ other) passed
+      | inr ge ↦ ⊎_elim (λ over. absurd (omega arith)) (λ other. ap (is_sort sort) (r.all page ge (omega arith)) ∙ other) passed
     ]
 
--- or it has the lowest one
-pub lowest_here : (rows : List ℕ) (kinds : ℕ → Option Kind) (mapped : Bool) (lo hi i start end page : ℕ) (kind : Option Kind)
-    (result : Option ℕ) → RowPages rows kinds i start end kind → lo < end → is_mapped mapped kind ≡ true
-    → NoneSuch kinds mapped lo (rows_start (drop i rows)) → page ≡ max start lo
-    → MatchOption result (hi ≤ page) (λ p. (p ≡ page) × (page < hi)) → MatchOption result (NoneSuch kinds mapped lo hi) (IsLowestSuch kinds mapped lo hi)
-lowest_here rows kinds mapped lo hi i start end page kind None r some such none is over = let b = r.begins in λ p from high. none p from (omega arith)
-lowest_here rows kinds mapped lo hi i start end page kind (Some p) r some such none is found = let b = r.begins in
-    let s = r.some in let e = found.0 in let l = found.1 in record {
+-- or it has the lowest one, and the search ends there or at `hi`
+pub end_here : (rows : List ℕ) (kinds : ℕ → Option Kind) (sort : Sort) (lo hi i start end page result : ℕ) (kind : Option Kind)
+    → RowPages rows kinds i start end kind → lo ≤ hi → lo < end → is_sort sort kind ≡ true
+    → NoneOf kinds sort lo (rows_start (drop i rows)) → page ≡ max start lo → result ≡ min page hi → IsEnd kinds sort lo hi result
+end_here rows kinds sort lo hi i start end page result kind r ordered some such none is low =
+    let b = r.begins in
+    let s = r.some in
+    record {
       from = omega arith;
       within = omega arith;
-      such = ap (is_mapped mapped) (r.all p (omega arith) (omega arith)) ∙ such;
+      such = λ l.
+          let here : result ≡ max start lo = omega arith in
+          ap (λ p. is_sort sort (kinds p)) here ∙ (ap (is_sort sort) (r.all (max start lo) (omega arith) (omega arith)) ∙ such);
+      none_below = λ q from high. none q from (omega arith);
+    }
+
+-- where no row is left, the search ends at `hi`
+pub end_all : (rows : List ℕ) (kinds : ℕ → Option Kind) (sort : Sort) (lo hi i : ℕ) → lo ≤ hi → hi ≤ LIMIT → length rows ≤ i
+    → NoneOf kinds sort lo (rows_start (drop i rows)) → IsEnd kinds sort lo hi hi
+end_all rows kinds sort lo hi i ordered limit past none =
+    let e = ends_all rows i past in
+    record {
+      from = ordered;
+      within = omega arith;
+      such = λ l. absurd (omega arith);
       none_below = λ q from high. none q from (omega arith);
     }
 
@@ -114,7 +130,7 @@ row_before rows kinds i word start kind show lt w s k =
 module _ (kinds : ℕ → Option Kind) (pages start end : ℕ) (kind : Option Kind) (all : (p : ℕ) → start ≤ p → p < end
     → kinds p ≡ kind) (before : 0 < start → kinds (start - 1) ≢ kind) (some : 0 < pages) (grows : start < end)
     (ended : NoneEndsAbove kinds pages end) where
-  in_the_row : (s : ℕ) → s + pages ≤ end → ¬ (s + pages ≤ start) → FreeAt kinds pages s → (kind ≡ None) × (start ≤ s)
+  in_the_row : (s : ℕ) → s + pages ≤ end → ¬ (s + pages ≤ start) → FitsAt kinds pages s → (kind ≡ None) × (start ≤ s)
   in_the_row s fits new f =
       let last : kinds (s + pages - 1) ≡ None = f.free (s + pages - 1) (omega arith) (omega arith) in
       let own : kinds (s + pages - 1) ≡ kind = all (s + pages - 1) (omega arith) (omega arith) in
@@ -127,25 +143,30 @@ module _ (kinds : ℕ → Option Kind) (pages start end : ℕ) (kind : Option Ki
       )
 
   -- where so many pages don't fit into a row, no place ends above the row's start
-  pub ends_before : (kind ≡ None → max start 16 + pages ≤ end → ⊥) → NoneEndsAbove kinds pages start
-  ends_before no_fit s fits f =
-      let e : s + pages ≤ end = ended s fits f in
+  pub ends_before : (kind ≡ None → max start LOWEST + pages ≤ end → ⊥) → NoneEndsAbove kinds pages start
+  ends_before no_fit s f =
+      let e : s + pages ≤ end = ended s f in
       elim (cases_lt start (s + pages)) [
         | inl lt ↦ let i = in_the_row s e (omega arith) f in let l = f.low in let g = i.1 in absurd (no_fit i.0 (omega arith))
         | inr ge ↦ ge
       ]
 
   -- where they fit, the place at the row's end is the highest
-  pub ends_here : kind ≡ None → max start 16 + pages ≤ end → end ≤ LIMIT → HighestPlace kinds pages (Some (end - pages))
-  ends_here free fits low = (
-    omega arith,
-    record { low = omega arith; free = λ p above below. all p (omega arith) (omega arith) ∙ free },
-    λ s less f. let e : s + pages ≤ end = ended s less f in omega arith,
-  )
+  pub ends_here : kind ≡ None → max start LOWEST + pages ≤ end → end ≤ LIMIT → IsHighestFit kinds pages (end - pages)
+  ends_here free fits low =
+      record {
+        fits =
+            record {
+              low = omega arith;
+              high = omega arith;
+              free = λ p above below. all p (omega arith) (omega arith) ∙ free;
+            };
+        highest = λ s f. let e : s + pages ≤ end = ended s f in omega arith;
+      }
 
 -- past the first row there is no place
-pub no_place : (kinds : ℕ → Option Kind) (pages end : ℕ) → 0 < pages → end ≡ 0 → NoneEndsAbove kinds pages end → HighestPlace kinds pages None
-no_place kinds pages end some is ended = λ s fits f. let e : s + pages ≤ end = ended s fits f in omega arith
+pub no_place : (kinds : ℕ → Option Kind) (pages end : ℕ) → 0 < pages → end ≡ 0 → NoneEndsAbove kinds pages end → (s : ℕ) → ¬ FitsAt kinds pages s
+no_place kinds pages end some is ended = λ s f. let e : s + pages ≤ end = ended s f in absurd (omega arith)
 
 -- rows begin at page 0, a row that starts below LIMIT is there, and no row starts before the one before it
 pub first_row : (rows : List ℕ) (kinds : ℕ → Option Kind) → ShowFrom 0 rows kinds → (0 < length rows) × (rows_start rows ≡ 0)
@@ -166,23 +187,6 @@ next_start rows kinds i show = elim (cases_lt i (length rows)) [
   | inr ge ↦ let a = ends_all rows i ge in let b = ends_all rows (i + 1) (omega arith) in omega arith
 ]
 
--- the kinds of the pages of a row that lie in the span
-pub in_span : (kinds : ℕ → Option Kind) (c : Call) (lo hi from to : ℕ) (kind new : Option Kind) → lo ≤ from → to ≤ hi
-    → ((p : ℕ) → from ≤ p → p < to → kinds p ≡ kind) → new ≡ new_kind c kind → (p : ℕ) → from ≤ p → p < to
-    → changed kinds c lo hi p ≡ new
-in_span kinds c lo hi from to kind new low high all is p above below =
-    within-inside lo hi p (new_kind c (kinds p)) (kinds p) (omega arith) (omega arith) ∙ (ap (new_kind c) (all p above below) ∙ sym is)
-
--- those before it
-pub before_span : (kinds : ℕ → Option Kind) (c : Call) (lo hi from : ℕ) (kind : Option Kind)
-    → ((p : ℕ) → from ≤ p → p < lo → kinds p ≡ kind) → (p : ℕ) → from ≤ p → p < lo → changed kinds c lo hi p ≡ kind
-before_span kinds c lo hi from kind all p above below = within-before lo hi p (new_kind c (kinds p)) (kinds p) below ∙ all p above below
-
--- and those behind it
-pub behind_span : (kinds : ℕ → Option Kind) (c : Call) (lo hi to : ℕ) (kind : Option Kind)
-    → ((p : ℕ) → hi ≤ p → p < to → kinds p ≡ kind) → (p : ℕ) → hi ≤ p → p < to → changed kinds c lo hi p ≡ kind
-behind_span kinds c lo hi to kind all p above below = within-after lo hi p (new_kind c (kinds p)) (kinds p) above ∙ all p above below
-
 -- the pages of the last of the rows that are left
 pub last_pages : (rows : List ℕ) (kinds : ℕ → Option Kind) (i start end : ℕ) (kind : Option Kind) → ShowFrom 0 rows kinds → 0 < i
     → i ≤ length rows → start ≡ row_start (get_or rows (i - 1) 0) → kind ≡ row_kind (get_or rows (i - 1) 0)
@@ -190,3 +194,100 @@ pub last_pages : (rows : List ℕ) (kinds : ℕ → Option Kind) (i start end : 
 last_pages rows kinds i start end kind show more there s k e =
     let n : i ≡ i - 1 + 1 = omega arith in
     row_pages rows kinds (i - 1) (get_or rows (i - 1) 0) start end kind show (omega arith) refl s k (e ∙ ap (λ j. rows_start (drop j rows)) n)
+
+-- the row that has a page has its kind
+pub kind_there : (rows : List ℕ) (kinds : ℕ → Option Kind) (i page : ℕ) (kind : Option Kind) → ShowFrom 0 rows kinds → i < length rows
+    → rows_start (drop i rows) ≤ page → page < rows_start (drop (i + 1) rows) → kind ≡ row_kind (get_or rows i 0) → kind ≡ kinds page
+kind_there rows kinds i page kind show lt from until k =
+    let r = row_pages_at 0 rows kinds i show lt in
+    let b = r.begins in
+    k ∙ sym (r.all page (omega arith) until)
+
+-- later rows start higher
+rises_from : (page : ℕ) (rows : List ℕ) (kinds : ℕ → Option Kind) (k d : ℕ) → ShowFrom page rows kinds → k < length rows
+    → page ≤ row_start (get_or rows k d)
+rises_from page [] kinds k d show lt = absurd (omega arith)
+rises_from page (w ∷ rest) kinds zero d show lt = let s = show.0 in omega arith
+rises_from page (w ∷ rest) kinds (suc k) d show lt =
+    let l = show.1 in let r = rises_from (rows_start rest) rest kinds k d show.4 (omega arith) in omega arith
+
+-- so their starts don't fall
+pub starts_rise : (page : ℕ) (rows : List ℕ) (kinds : ℕ → Option Kind) → ShowFrom page rows kinds → IsNonDecreasingBy row_start rows
+starts_rise page [] kinds show i j d l h = absurd (omega arith)
+starts_rise page (w ∷ rest) kinds show zero zero d l h = omega arith
+starts_rise page (w ∷ rest) kinds show zero (suc j) d l h =
+    let s = show.0 in let b = show.1 in
+    let r = rises_from (rows_start rest) rest kinds j d show.4 (omega arith) in omega arith
+starts_rise page (w ∷ rest) kinds show (suc i) zero d l h = absurd (omega arith)
+starts_rise page (w ∷ rest) kinds show (suc i) (suc j) d l h = starts_rise (rows_start rest) rest kinds show.4 i j d (omega arith) (omega arith)
+
+-- the point up to which rows start before a page is how many do
+pub start_before : (rows : List ℕ) (kinds : ℕ → Option Kind) (page i : ℕ) → ShowFrom 0 rows kinds → page ≤ LIMIT → i ≤ length rows
+    → IsPartitionPoint (λ w. ltb (row_start w) page ≡ true) (λ w. ltb (row_start w) page ≡ false) rows i → StartBefore rows page i
+start_before rows kinds page i show limit there point = record {
+  there = there;
+  ahead = elim (cases_lt i (length rows)) [
+    | inl lt ↦
+        let r = row_pages_at 0 rows kinds i show lt in
+        let b = r.begins in
+        let l = ltb-false (row_start (get_or rows i 0)) page (point.1 i 0 (omega arith) lt) in omega arith
+    | inr ge ↦ let e = ends_all rows i ge in omega arith
+  ];
+  behind = λ some.
+      let lt : i - 1 < length rows = omega arith in
+      let r = row_pages_at 0 rows kinds (i - 1) show lt in
+      let b = r.begins in
+      let l = ltb-true (row_start (get_or rows (i - 1) 0)) page (point.0 (i - 1) 0 (omega arith) (omega arith)) in omega arith;
+}
+
+starts_up : (rows : List ℕ) (kinds : ℕ → Option Kind) (i n : ℕ) → ShowFrom 0 rows kinds
+    → rows_start (drop i rows) ≤ rows_start (drop (i + n) rows)
+starts_up rows kinds i zero show =
+    let e : i + 0 ≡ i = omega arith in
+    subst (λ (j : ℕ). rows_start (drop i rows) ≤ rows_start (drop j rows)) (sym e) (omega arith)
+starts_up rows kinds i (suc n) show =
+    let e : i + n + 1 ≡ i + suc n = omega arith in
+    let a = starts_up rows kinds i n show in
+    let b = next_start rows kinds (i + n) show in
+    subst (λ (j : ℕ). rows_start (drop i rows) ≤ rows_start (drop j rows)) e (omega arith)
+
+-- no fewer rows start before a later page
+pub more_before : (rows : List ℕ) (kinds : ℕ → Option Kind) (from to next stop : ℕ) → ShowFrom 0 rows kinds → from ≤ to
+    → StartBefore rows from next → StartBefore rows to stop → next ≤ stop
+more_before rows kinds from to next stop show ordered low high = elim (cases_lt stop next) [
+  | inl lt ↦
+      let b : rows_start (drop (next - 1) rows) < from = low.behind (omega arith) in
+      let a : to ≤ rows_start (drop stop rows) = high.ahead in
+      let e : stop + (next - 1 - stop) ≡ next - 1 = omega arith in
+      let up : rows_start (drop stop rows) ≤ rows_start (drop (next - 1) rows) =
+      subst (λ (j : ℕ). rows_start (drop stop rows) ≤ rows_start (drop j rows)) e (starts_up rows kinds stop (next - 1 - stop) show) in
+      absurd (omega arith)
+  | inr ge ↦ ge
+]
+
+-- before page 0 no row starts
+pub none_before : (rows : List ℕ) → StartBefore rows 0 0
+none_before rows = record { there = omega arith; ahead = omega arith; behind = λ l. absurd (omega arith) }
+
+-- a row starts before each page behind page 0
+pub some_before : (rows : List ℕ) (kinds : ℕ → Option Kind) (page i : ℕ) → ShowFrom 0 rows kinds → StartBefore rows page i → 0 < page → 0 < i
+some_before rows kinds page zero show before more = let f = (first_row rows kinds show).1 in let a = before.ahead in absurd (omega arith)
+some_before rows kinds page (suc i) show before more = omega arith
+
+-- where no row starts before a page, no page lies before the first row
+pub none_from : (rows : List ℕ) (kinds : ℕ → Option Kind) (i p : ℕ) → ShowFrom 0 rows kinds → i ≡ 0 → p < rows_start (drop i rows) → ⊥
+none_from rows kinds i p show is below =
+    let f = (first_row rows kinds show).1 in
+    let l : p < rows_start (drop 0 rows) = subst (λ (n : ℕ). p < rows_start (drop n rows)) is below in absurd (omega arith)
+
+-- behind a row of a span one row more starts before where the span goes on
+pub next_come : (rows : List ℕ) (i at to hi : ℕ) → at ≡ min (rows_start (drop i rows)) hi → at < hi
+    → to ≡ min (rows_start (drop (i + 1) rows)) hi → row_start (get_or rows i 0) < rows_start (drop (i + 1) rows)
+    → rows_start (drop i rows) ≡ row_start (get_or rows i 0) → i < length rows → StartBefore rows to (i + 1)
+next_come rows i at to hi starts below ends some begins lt = record {
+  there = omega arith;
+  ahead = omega arith;
+  behind = λ l.
+      let e : i + 1 - 1 ≡ i = omega arith in
+      subst (λ (n : ℕ). rows_start (drop n rows) < to) (sym e) (omega arith);
+}

@@ -1,15 +1,18 @@
--- How the rows that a call leaves are put together: stretches of pages are appended in order, and one whose kind is the
--- last row's lengthens that row. Only private functions speak of this; what callers see is the kinds of pages and the
--- reply.
-use Rattle.std.specs.Prelude.{ℕ, Bool, true, false, not, ◌≡◌, ◌<◌, ◌≤◌, ◌+◌, MatchOption, if◌then◌else◌, Option, Some, None, List, [], ◌∷◌}
-use Rattle.page_types.specs.declared.TheConstants.{LIMIT}
+-- How the rows that a call leaves are put together, from left to right: stretches of pages are appended in order, and
+-- one whose kind is the last row's lengthens that row. Each step goes on from the page and the old row that the one
+-- before has come to. Only private functions speak of this; what callers see is the kinds of pages and the reply.
+use Rattle.std.specs.Prelude.{ℕ, Bool, false, ◌≡◌, ◌<◌, ◌≤◌, ◌+◌, ◌-◌, min, if◌then◌else◌, Option, List, [], ◌∷◌, length, drop}
 use Rattle.page_types.specs.declared.calls.Kind.{Kind}
-use Rattle.page_types.specs.declared.calls.Call.{Call}
-use Rattle.space_model.specs.Areas.{is_within}
-use Rattle.space_model.specs.Effect.{new_kind}
+use Rattle.page_types.specs.declared.calls.Reply.{Reply}
+use Rattle.space_model.specs.declared.areas.Area.{Area}
+use Rattle.space_model.specs.declared.judged.Change.{Change}
+use Rattle.space_model.specs.Areas.{kind_at, row_count}
+use Rattle.space_model.specs.Judges.{Makes}
+use Rattle.space_model.specs.Places.{FitsAt}
 use Rattle.space_model.specs.Starts.{same_option}
+use Rattle.row_plans.specs.Plans.{PlanShows}
 use Rattle.row_plans.specs.RowWords.{row_start, row_kind, row_word}
-use Rattle.row_plans.specs.RowLists.{DiffersFrom}
+use Rattle.row_plans.specs.RowLists.{DiffersFrom, rows_start}
 
 -- the page where these rows start, or the page where they end where there is none
 abbrev pub start_or : List ℕ → ℕ → ℕ
@@ -35,36 +38,23 @@ put [] page kind = row_word page kind ∷ []
 put (word ∷ []) page kind = if same_option (row_kind word) kind then word ∷ [] else word ∷ row_word page kind ∷ []
 put (word ∷ next ∷ rest) page kind = word ∷ put (next ∷ rest) page kind
 
--- the kinds after a call whose place is the pages from lo up to hi
-abbrev pub changed : (ℕ → Option Kind) → Call → ℕ → ℕ → ℕ → Option Kind
-changed kinds c lo hi page = if is_within lo hi page then new_kind c (kinds page) else kinds page
+-- so many of the rows start before a page
+pub record StartBefore (rows : List ℕ) (page count : ℕ) : Type 0 where
+  pub there : count ≤ length rows
+  pub ahead : page ≤ rows_start (drop count rows)
+  pub behind : 0 < count → rows_start (drop (count - 1) rows) < page
 
--- a page of this kind is mapped, or isn't, as asked
-abbrev pub is_mapped : Bool → Option Kind → Bool
-is_mapped mapped None = not mapped
-is_mapped mapped (Some kind) = mapped
-
--- no page from lo up to hi is so
-abbrev pub NoneSuch : (ℕ → Option Kind) → Bool → ℕ → ℕ → Type 0
-NoneSuch kinds mapped lo hi = (page : ℕ) → lo ≤ page → page < hi → is_mapped mapped (kinds page) ≡ false
-
--- the lowest page from lo up to hi that is so
-pub record IsLowestSuch (kinds : ℕ → Option Kind) (mapped : Bool) (lo hi page : ℕ) : Type 0 where
-  pub from : lo ≤ page
-  pub within : page < hi
-  pub such : is_mapped mapped (kinds page) ≡ true
-  pub none_below : NoneSuch kinds mapped lo page
-
--- so many free pages start there, at or above page 16
-pub record FreeAt (kinds : ℕ → Option Kind) (pages start : ℕ) : Type 0 where
-  pub low : 16 ≤ start
-  pub free : (page : ℕ) → start ≤ page → page < start + pages → kinds page ≡ None
+-- 1 where a page, before which so many rows start, isn't the first of the next row
+abbrev pub part_left : List ℕ → ℕ → ℕ → ℕ
+part_left rows page count = min 1 (rows_start (drop count rows) - page)
 
 -- no place of so many free pages ends above a page
 abbrev pub NoneEndsAbove : (ℕ → Option Kind) → ℕ → ℕ → Type 0
-NoneEndsAbove kinds pages end = (s : ℕ) → s + pages ≤ LIMIT → FreeAt kinds pages s → s + pages ≤ end
+NoneEndsAbove kinds pages end = (s : ℕ) → FitsAt kinds pages s → s + pages ≤ end
 
--- the highest place of so many free pages, or that there is none
-abbrev pub HighestPlace : (ℕ → Option Kind) → ℕ → Option ℕ → Type 0
-HighestPlace kinds pages best = MatchOption best ((s : ℕ) → s + pages ≤ LIMIT → FreeAt kinds pages s → ⊥)
-    (λ b. (b + pages ≤ LIMIT) × FreeAt kinds pages b × ((s : ℕ) → s + pages ≤ LIMIT → FreeAt kinds pages s → s ≤ b))
+-- what a change of an area list leaves as row words: its reply, and how many rows and which the list has that it leaves
+pub record IsMade (change : Change) (reply : Reply) (count : ℕ) (plan : List ℕ) (state : List Area) : Type 0 where
+  pub left : List Area
+  pub made : Makes state change reply left
+  pub counted : count ≡ row_count left
+  pub shows : PlanShows plan (kind_at left)

@@ -5,19 +5,11 @@ use Rattle.std.specs.Prelude.{ℕ, ◌≡◌, ◌<◌, ◌≤◌, All, Option, L
 use Rattle.page_types.specs.declared.TheConstants.{ROWS}
 use Rattle.page_types.specs.declared.calls.Kind.{Kind}
 use Rattle.page_types.specs.declared.calls.Call.{Call}
-use Rattle.page_types.specs.declared.calls.Call.TheVariants.{Map, Unmap, Protect, Fault}
 use Rattle.page_types.specs.declared.calls.Reply.{Reply}
 use Rattle.space_model.specs.declared.areas.Area.{Area}
 use Rattle.space_model.specs.Areas.{kind_at, row_count}
 use Rattle.space_model.specs.Answers.{Answers}
 use Rattle.row_plans.specs.RowLists.{ShowFrom, IsBareGap, areas_from}
-
--- the call is a fault
-abbrev pub IsFault : Call → Type 0
-IsFault (Map addr len prot flags) = ⊥
-IsFault (Unmap addr len) = ⊥
-IsFault (Protect addr len prot) = ⊥
-IsFault (Fault addr access) = Unit {0}
 
 -- a list of row words shows these kinds of the pages below LIMIT, and an address space has room for them
 pub record PlanShows (rows : List ℕ) (kinds : ℕ → Option Kind) : Type 0 where

@@ -1,7 +1,7 @@
 -- What a list of row words shows: the kind of each page. Rows are areas and gaps in order, as the lines of
 -- proc_pid_maps(5) and what lies between them. `ShowFrom` takes the kinds as a function from pages, so that rows which
 -- lag behind a history at some pages are said by another function and not by another definition.
-use Rattle.std.specs.Prelude.{ℕ, ◌≡◌, ◌≢◌, ◌<◌, ◌≤◌, ◌%◌, nat_lt, if◌then◌else◌, Option, Some, None, List, [], ◌∷◌, ◌++◌}
+use Rattle.std.specs.Prelude.{ℕ, ◌≡◌, ◌≢◌, ◌<◌, ◌≤◌, nat_lt, if◌then◌else◌, Option, Some, None, List, [], ◌∷◌, ◌++◌}
 use Rattle.page_types.specs.declared.TheConstants.{LIMIT}
 use Rattle.page_types.specs.declared.calls.Kind.{Kind}
 use Rattle.space_model.specs.declared.areas.Area.{Area}
@@ -24,9 +24,9 @@ ShowFrom page (word ∷ rest) kinds =
     (row_start word ≡ page) × (page < rows_start rest) × DiffersFrom word rest ×
     ((p : ℕ) → page ≤ p → p < rows_start rest → kinds p ≡ row_kind word) × ShowFrom (rows_start rest) rest kinds
 
--- a gap's word has its last five bits 0, so there is one word for each row
+-- a gap's word is the one that is written for it, so there is one word for each row
 abbrev pub IsBareGap : ℕ → Type 0
-IsBareGap word = row_kind word ≡ None → word % 32 ≡ 0
+IsBareGap word = row_kind word ≡ None → word ≡ row_word (row_start word) None
 
 -- the areas before others, with one more where the row is no gap
 abbrev pub with_row : ℕ → Option Kind → ℕ → List Area → List Area

@@ -11,3 +11,6 @@ mod row_words;
 
 pub use plan::{Planned, plan_rows};
 pub use row_words::{read_row, write_row};
+
+#[cfg(test)]
+mod tests;

@@ -1,71 +1,100 @@
-//! Where a call's change takes place, looked for in row words: after mmap(2), at the address where it binds, at the
-//! hint where it fits, and otherwise as high as the pages fit, which is this project's own choice. Each search goes
-//! through the rows once, from one end. A reader may rely on what is found being so of all kinds that the rows show.
-ghost use Rattle.std.specs.Prelude.{max, None, ◌+◌, ◌^◌, ℕ, true, false, IsTrue, IsFalse, IfOk, IfErr, ◌⊎◌, ◌≡◌, ◌≢◌, ◌-◌, ◌<◌, ◌≤◌, ◌↔◌, Option, MatchOption};
-ghost use Rattle.page_types.specs.declared.TheConstants.{LIMIT};
+//! The searches that judging a call takes, over row words: the kind of a page, the lowest page of a sort, and the
+//! highest place of free pages, which is this project's own choice beside mmap(2). The first halves the rows, and the
+//! others go through them once, from one end. A reader may rely on what is found being so of all kinds that they show.
+ghost use Rattle.std.specs.Prelude.{max, None, ◌+◌, ◌^◌, ℕ, true, false, IsTrue, IsFalse, ◌⊎◌, ◌≡◌, ◌<◌, ◌≤◌, Option, MatchOption};
+ghost use Rattle.page_types.specs.declared.TheConstants.{LIMIT, LOWEST};
 ghost use Rattle.page_types.specs.declared.calls.Kind.{Kind};
-ghost use Rattle.page_types.specs.Pages.{page_of, page_count};
-ghost use Rattle.page_types.specs.PlainReply.{map_reply, plain_reply};
-ghost use Rattle.space_model.specs.Answers.{FitsAt, StartsAt, RefusesMap, IsPlace, RefusesByState};
+ghost use Rattle.space_model.specs.Areas.{kind_at};
+ghost use Rattle.space_model.specs.Sorts.{is_sort, IsEnd};
+ghost use Rattle.space_model.specs.Places.{FitsAt, IsHighestFit};
 ghost use Rattle.row_plans.specs.RowLists.{ShowFrom, areas_from};
-ghost use Rattle.row_plans.specs.Plans.{IsRowList};
-ghost use Rattle.row_plans.specs.Plans.{IsFault};
-ghost use Rattle.row_plans.specs.Planning.{is_mapped, NoneSuch, IsLowestSuch, HighestPlace};
 
-use crate::planning::row_end;
+use crate::planning::{row_at, row_end};
 use crate::row_words::read_row;
-use page_types::{Call, Kind, LIMIT, MapFlags, PAGE, Short, Span, Why, page_count};
-use space_model::LOWEST;
+use page_types::{Kind, LIMIT, LOWEST};
+use space_model::{Pages, Sort, is_sort};
+use std::marker::Model;
 
-/// Whether a page of that kind is mapped, or isn't, as asked.
-fn is_such(kind: Option<Kind>, mapped: bool) -> bool
-    ensures { result ≡ is_mapped mapped kind }
-{
-    match kind {
-        Some(_) => mapped,
-        None => !mapped,
+/// Row words that were read, as pages by their kinds: those of the areas that the rows stand for.
+#[derive(Drop)]
+pub(crate) struct ReadRows<'a> {
+    /// The words.
+    pub(crate) rows: &'a [u64],
+}
+
+impl<'a> Model for ReadRows<'a> {
+    ghost use Rattle.std.specs.Prelude.{ℕ, List};
+    ghost use Rattle.row_plans.specs.Plans.{IsRowList};
+
+    ghost Value = { List ℕ };
+
+    ghost view = { λ s. s.rows.now };
+
+    ghost invariant = { λ s. IsRowList s.rows.now };
+}
+
+impl<'a> Pages for ReadRows<'a> {
+    ghost kinds = { λ rows. kind_at (areas_from rows) };
+
+    fn kind_of(&self, page: u64) -> Option<Kind> {
+        let rows = self.rows;
+        kind_of(rows, page)
+    }
+
+    fn end_of(&self, sort: Sort, lo: u64, hi: u64) -> u64 {
+        let rows = self.rows;
+        end_of(rows, sort, lo, hi)
+    }
+
+    fn highest_fit(&self, pages: u64) -> Option<u64> {
+        let rows = self.rows;
+        highest_fit(rows, pages)
     }
 }
 
-/// Whether a row that ends there has pages from `lo` on, and they are such.
-fn is_found(end: u64, lo: u64, kind: Option<Kind>, mapped: bool) -> bool
-    ensures found { IsTrue result → (lo < end) × (is_mapped mapped kind ≡ true) }
-    ensures passed { IsFalse result → (end ≤ lo) ⊎ (is_mapped mapped kind ≡ false) }
-{
-    end > lo && is_such(kind, mapped)
-}
-
-/// The page, if it is below `hi`.
-fn below(page: u64, hi: u64) -> Option<u64>
-    ensures { MatchOption result (hi ≤ page) (λ p. (p ≡ page) × (page < hi)) }
-{
-    if page < hi { Some(page) } else { None }
-}
-
-/// The lowest page of those from `lo` up to `hi` that is mapped, or that isn't, as asked.
-fn lowest_such(rows: &[u64], lo: u64, hi: u64, mapped: bool) -> Option<u64>
+/// The kind of a page, or None where it isn't mapped.
+fn kind_of(rows: &[u64], page: u64) -> Option<Kind>
     requires shows { (kinds : ℕ → Option Kind) × ShowFrom 0 rows.now kinds }
+    requires page { page < LIMIT }
+    ensures { (kinds : ℕ → Option Kind) → ShowFrom 0 rows.now kinds → result ≡ kinds page }
+{
+    let (_, kind) = read_row(rows[row_at(rows, page)]);
+    kind
+}
+
+/// Whether a row that ends there has pages from `lo` on, and they are of the sort.
+fn is_found(end: u64, lo: u64, kind: Option<Kind>, sort: Sort) -> bool
+    ensures found { IsTrue result → (lo < end) × (is_sort sort kind ≡ true) }
+    ensures passed { IsFalse result → (end ≤ lo) ⊎ (is_sort sort kind ≡ false) }
+{
+    end > lo && is_sort(sort, kind)
+}
+
+/// The lowest page of a sort of those from `lo` up to `hi`, or `hi` where there is none.
+fn end_of(rows: &[u64], sort: Sort, lo: u64, hi: u64) -> u64
+    requires shows { (kinds : ℕ → Option Kind) × ShowFrom 0 rows.now kinds }
+    requires ordered { lo ≤ hi }
     requires limit { hi ≤ LIMIT }
-    ensures { (kinds : ℕ → Option Kind) → ShowFrom 0 rows.now kinds → MatchOption result (NoneSuch kinds mapped lo hi) (IsLowestSuch kinds mapped lo hi) }
+    ensures { (kinds : ℕ → Option Kind) → ShowFrom 0 rows.now kinds → IsEnd kinds sort lo hi result }
 {
     let mut i = 0;
     'rows: while i < rows.len() {
         let (start, kind) = read_row(rows[i]);
         let end = row_end(rows, i);
-        if is_found(end, lo, kind, mapped) {
-            return below(start.max(lo), hi);
+        if is_found(end, lo, kind, sort) {
+            return start.max(lo).min(hi);
         }
         i += 1;
     }
-    None
+    hi
 }
 
 /// Whether so many pages fit into a row, which is free.
 fn fits_in(start: u64, end: u64, kind: Option<Kind>, pages: u64) -> bool
     requires pages { pages < 2 ^ 62 }
     requires ends { (start < end) × (end ≤ LIMIT) }
-    ensures fit { IsTrue result → (kind ≡ None) × (max start 16 + pages ≤ end) }
-    ensures no_fit { IsFalse result → kind ≡ None → max start 16 + pages ≤ end → ⊥ }
+    ensures fit { IsTrue result → (kind ≡ None) × (max start LOWEST + pages ≤ end) }
+    ensures no_fit { IsFalse result → kind ≡ None → max start LOWEST + pages ≤ end → ⊥ }
 {
     match kind {
         Some(_) => false,
@@ -79,7 +108,8 @@ fn highest_fit(rows: &[u64], pages: u64) -> Option<u64>
     requires shows { (kinds : ℕ → Option Kind) × ShowFrom 0 rows.now kinds }
     requires some { 0 < pages }
     requires few { pages < 2 ^ 62 }
-    ensures { (kinds : ℕ → Option Kind) → ShowFrom 0 rows.now kinds → HighestPlace kinds pages result }
+    ensures { (kinds : ℕ → Option Kind) → ShowFrom 0 rows.now kinds
+        → MatchOption result ((start : ℕ) → ¬ FitsAt kinds pages start) (IsHighestFit kinds pages) }
 {
     let mut i = rows.len();
     let mut end = LIMIT;
@@ -92,68 +122,4 @@ fn highest_fit(rows: &[u64], pages: u64) -> Option<u64>
         i -= 1;
     }
     None
-}
-
-/// Whether so many free pages start at a page, at or above `LOWEST` and with the end at or below `LIMIT`.
-fn fits_at(rows: &[u64], pages: u64, start: u64) -> bool
-    requires rows { IsRowList rows.now }
-    requires fits { start + pages < 2 ^ 64 }
-    ensures { IsTrue result ↔ FitsAt (areas_from rows.now) pages start }
-{
-    start >= LOWEST
-        && start + pages <= LIMIT
-        && lowest_such(rows, start, start + pages, true).is_none()
-}
-
-/// The pages where a Map puts its pages, or why there are none.
-fn map_place(rows: &[u64], addr: u64, len: u64, flags: MapFlags) -> Result<Span, Why>
-    requires rows { IsRowList rows.now }
-    requires undecided { map_reply addr len flags ≡ None }
-    ensures start { IfOk result (λ place. StartsAt (areas_from rows.now) (page_of addr) (page_count len) flags place.lo) }
-    ensures end { IfOk result (λ place. place.hi ≡ place.lo + page_count len) }
-    ensures refused { IfErr result (RefusesMap (areas_from rows.now) (page_of addr) (page_count len) flags) }
-{
-    let hint = addr / PAGE;
-    let pages = page_count(len);
-    let end = hint + pages;
-    if flags.is_no_replace() {
-        return match lowest_such(rows, hint, end, true) {
-            Some(page) => Err(Why::Eexist(page)),
-            None => Ok(Span { lo: hint, hi: end }),
-        };
-    }
-    if flags.is_fixed() || fits_at(rows, pages, hint) {
-        return Ok(Span { lo: hint, hi: end });
-    }
-    match highest_fit(rows, pages) {
-        Some(lo) => Ok(Span { lo, hi: lo + pages }),
-        None => Err(Why::Enomem(Short::NoGap(pages))),
-    }
-}
-
-/// The pages that a call changes, or why the rows refuse it.
-pub(crate) fn place_of(rows: &[u64], call: &Call) -> Result<Span, Why>
-    requires rows { IsRowList rows.now }
-    requires call { ¬ IsFault call.now }
-    requires undecided { plain_reply call.now ≡ None }
-    ensures place { IfOk result (λ place. IsPlace (areas_from rows.now) call.now place.lo place.hi) }
-    ensures refused { IfErr result (RefusesByState (areas_from rows.now) call.now) }
-{
-    match *call {
-        Call::Map {
-            addr,
-            len,
-            flags,
-            ..
-        } => map_place(rows, addr, len, flags),
-        Call::Unmap { addr, len } => Ok(Span::of_valid(addr, len)),
-        Call::Protect { addr, len, .. } => {
-            let span = Span::of_valid(addr, len);
-            match lowest_such(rows, span.lo, span.hi, false) {
-                Some(page) => Err(Why::Enomem(Short::Missing(page))),
-                None => Ok(span),
-            }
-        }
-        Call::Fault { .. } => unreachable!(),
-    }
 }

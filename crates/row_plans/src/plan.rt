@@ -1,19 +1,19 @@
 //! The plan of a call that changes the address space: its reply and the rows that it leaves, from the rows as they were
 //! read, before any word is stored. It is what `PlainSpace::step` of `space_model` answers on the areas of these rows,
 //! after mmap(2), munmap(2) and mprotect(2). A reader may rely on that, and on no memory being taken.
-ghost use Rattle.std.specs.Prelude.{◌≡◌, ◌≤◌, ◌<◌, ◌+◌, None, [], length, vec_capacity};
-ghost use Rattle.page_types.specs.declared.TheConstants.{ROWS};
+ghost use Rattle.std.specs.Prelude.{◌≡◌, ◌≤◌, ◌<◌, ◌+◌, ◌*◌, None, [], length, vec_capacity};
+ghost use Rattle.page_types.specs.declared.TheConstants.{ROWS, SPARE};
 ghost use Rattle.page_types.specs.Named.{IsNamedCall};
-ghost use Rattle.page_types.specs.PlainReply.{plain_reply};
-ghost use Rattle.space_model.specs.Answers.{IsPlace};
+ghost use Rattle.space_model.specs.Effect.{AreRising};
+ghost use Rattle.space_model.specs.Judges.{IsNamedChange, patches_of};
 ghost use Rattle.row_plans.specs.RowLists.{areas_from};
-ghost use Rattle.row_plans.specs.Plans.{IsFault};
 ghost use Rattle.row_plans.specs.Plans.{IsRowList, planned_rows, IsPlan};
+ghost use Rattle.row_plans.specs.Planning.{IsMade};
 
-use crate::places::place_of;
+use crate::places::ReadRows;
 use crate::planning::change_rows;
-use page_types::{Call, ROWS, Reply, Short, Span, Why, plain};
-use space_model::done_reply;
+use page_types::{Call, ROWS, Reply, plain};
+use space_model::{Change, Judged, full_reply, judge};
 
 /// What a call answers, and how many rows the address space has after it.
 #[derive(Clone, Copy, Debug, PartialEq, Eq)]
@@ -39,43 +39,42 @@ fn unchanged(old: &[u64], reply: Reply, new: &mut Vec<u64>) -> Planned
     }
 }
 
-/// The plan of a call whose place is these pages: their change, unless the result would have more than `ROWS` rows.
-fn changed(old: &[u64], call: &Call, place: Span, new: &mut Vec<u64>) -> Planned
+/// The plan of a change, unless the result would have more than `ROWS` rows.
+fn changed(old: &[u64], change: Change, new: &mut Vec<u64>) -> Planned
     requires old { IsRowList old.now }
-    requires named { IsNamedCall call.now }
-    requires undecided { plain_reply call.now ≡ None }
-    requires place { IsPlace (areas_from old.now) call.now place.lo place.hi }
-    requires room { ROWS + 2 ≤ vec_capacity new.old }
-    ensures plan { IsPlan call.now result.reply result.rows (planned_rows old.now new.new.items) (areas_from old.now) }
+    requires named { IsNamedChange change }
+    requires rising { AreRising 0 (patches_of change) }
+    requires room { ROWS + 2 * length (patches_of change) ≤ vec_capacity new.old }
+    ensures made { IsMade change result.reply result.rows (planned_rows old.now new.new.items) (areas_from old.now) }
     ensures room { vec_capacity new.old ≤ vec_capacity new.new }
 {
-    change_rows(old, call, place, new);
+    change_rows(old, change, new);
     let rows = new.len() as u32;
     if rows as usize > ROWS {
-        return unchanged(old, Reply::Refused(Why::Enomem(Short::Rows(rows))), new);
+        return unchanged(old, full_reply(change.full, rows), new);
     }
     Planned {
-        reply: done_reply(call, place.lo),
+        reply: change.reply,
         rows,
     }
 }
 
-/// The plan of a call that is no fault, on rows as they were read. `new` gets the rows that the call leaves, or none
-/// where the call is refused or its arguments decide it: then they are those of `old`, and nothing is copied. It takes
-/// no memory: `new` has room for `ROWS + 2` rows.
+/// The plan of a call on rows as they were read. `new` gets the rows that the call leaves, or none where it changes
+/// nothing, as a refused one: then they are those of `old`, and nothing is copied. It takes
+/// no memory: `new` has room for `ROWS + SPARE` rows.
 pub fn plan_rows(old: &[u64], call: &Call, new: &mut Vec<u64>) -> Planned
     requires old { IsRowList old.now }
-    requires call { ¬ IsFault call.now }
     requires named { IsNamedCall call.now }
-    requires room { ROWS + 2 ≤ vec_capacity new.old }
+    requires room { ROWS + SPARE ≤ vec_capacity new.old }
     ensures plan { IsPlan call.now result.reply result.rows (planned_rows old.now new.new.items) (areas_from old.now) }
     ensures room { vec_capacity new.old ≤ vec_capacity new.new }
 {
     if let Some(reply) = plain(call) {
         return unchanged(old, reply, new);
     }
-    match place_of(old, call) {
-        Ok(place) => changed(old, call, place, new),
-        Err(why) => unchanged(old, Reply::Refused(why), new),
+    match judge(&ReadRows { rows: old }, call) {
+        Judged::Refused(why) => unchanged(old, Reply::Refused(why), new),
+        Judged::Keeps(reply) => unchanged(old, reply, new),
+        Judged::Changes(change) => changed(old, change, new),
     }
 }

@@ -1,20 +1,21 @@
-//! The rows that a change of a span of pages leaves, from the rows before it. The form of a row word says nothing of
-//! its place, so the rows before the span and those behind it keep their words and are copied. Only the rows of the
-//! span are put together anew, at most two more than there were, in the caller's own room. A reader may rely on the
-//! rows showing the kinds of the change, whatever kinds the rows before showed.
-ghost use Rattle.std.specs.Prelude.{ℕ, All, drop, ◌≡◌, ◌<◌, ◌≤◌, ◌+◌, ◌^◌, ◌++◌, [], Option, length, vec_capacity, vec_len};
+//! The rows that a change leaves, from the rows before it, put together once from left to right. The form of a row word
+//! says nothing of its place, so rows that stay keep their words and are copied; only those of a patch are put together
+//! anew, at most two more than there were for each, in the caller's own room. A reader may rely on the rows showing the
+//! kinds after the patches, whatever kinds the rows before showed.
+ghost use Rattle.std.specs.Prelude.{ℕ, All, take, drop, min, ◌≡◌, ◌<◌, ◌≤◌, ◌+◌, ◌*◌, ◌-◌, ◌++◌, [], Option, length, nat_lt, vec_capacity, vec_len};
 ghost use Rattle.page_types.specs.declared.calls.Kind.{Kind};
-ghost use Rattle.page_types.specs.declared.TheConstants.{LIMIT, ROWS};
-ghost use Rattle.page_types.specs.Named.{IsNamedCall, IsNamedOption};
+ghost use Rattle.page_types.specs.declared.TheConstants.{LIMIT};
+ghost use Rattle.page_types.specs.Named.{IsNamedOption};
 ghost use Rattle.space_model.specs.Starts.{same_option};
-ghost use Rattle.space_model.specs.Effect.{new_kind};
-ghost use Rattle.row_plans.specs.RowWords.{row_kind};
+ghost use Rattle.space_model.specs.Effect.{painted, patched, AreRising};
+ghost use Rattle.space_model.specs.Judges.{IsNamedPaint, AreNamedPaints, patches_of};
+ghost use Rattle.row_plans.specs.RowWords.{row_start, row_kind};
 ghost use Rattle.row_plans.specs.RowLists.{rows_start, ShowFrom, IsBareGap};
-ghost use Rattle.row_plans.specs.Planning.{ends_with, put, ShowTo, changed};
+ghost use Rattle.row_plans.specs.Planning.{ends_with, put, ShowTo, StartBefore, part_left};
 
 use crate::row_words::{read_row, write_row};
-use page_types::{Call, Kind, LIMIT, Span};
-use space_model::mapped_kind;
+use page_types::{Kind, LIMIT};
+use space_model::{Change, Paint, Patch};
 
 /// Whether two kinds are the same, None being that of a gap.
 fn same_option(one: Option<Kind>, other: Option<Kind>) -> bool
@@ -37,14 +38,13 @@ fn ends_with(rows: &[u64], kind: Option<Kind>) -> bool
 /// Appends a stretch of pages of one kind that begins where the rows end: a new row, unless the last one is of that
 /// kind.
 fn put_row(rows: &mut Vec<u64>, page: u64, kind: Option<Kind>)
-    requires page { page < 2 ^ 40 }
+    requires page { page ≤ LIMIT }
     requires named { IsNamedOption kind }
     requires room { length rows.old.items < vec_capacity rows.old }
     requires gaps { All IsBareGap rows.old.items }
     ensures items { rows.new.items ≡ put rows.old.items page kind }
     ensures room { vec_capacity rows.old ≤ vec_capacity rows.new }
     ensures few { length rows.new.items ≤ length rows.old.items + 1 }
-    ensures some { 0 < length rows.new.items }
     ensures gaps { All IsBareGap rows.new.items }
     ensures shows { (end : ℕ) (kinds : ℕ → Option Kind) → page < end → ((p : ℕ) → page ≤ p → p < end → kinds p ≡ kind)
         → ShowTo 0 rows.old.items page kinds → ShowTo 0 rows.new.items end kinds }
@@ -56,13 +56,12 @@ fn put_row(rows: &mut Vec<u64>, page: u64, kind: Option<Kind>)
 
 /// Appends the pages from one up to another, which have one kind, if there are any.
 fn put_part(rows: &mut Vec<u64>, from: u64, to: u64, kind: Option<Kind>)
-    requires page { from < 2 ^ 40 }
+    requires page { from ≤ LIMIT }
     requires named { IsNamedOption kind }
     requires room { length rows.old.items < vec_capacity rows.old }
     requires gaps { All IsBareGap rows.old.items }
     ensures room { vec_capacity rows.old ≤ vec_capacity rows.new }
-    ensures few { length rows.new.items ≤ length rows.old.items + 1 }
-    ensures some { 0 < length rows.old.items → 0 < length rows.new.items }
+    ensures few { length rows.new.items ≤ length rows.old.items + min 1 (to - from) }
     ensures gaps { All IsBareGap rows.new.items }
     ensures shows { (kinds : ℕ → Option Kind) → from ≤ to → ((p : ℕ) → from ≤ p → p < to → kinds p ≡ kind)
         → ShowTo 0 rows.old.items from kinds → ShowTo 0 rows.new.items to kinds }
@@ -72,21 +71,31 @@ fn put_part(rows: &mut Vec<u64>, from: u64, to: u64, kind: Option<Kind>)
     }
 }
 
-/// What a call makes of the kind of a page of its place.
-fn changed_kind(call: &Call, kind: Option<Kind>) -> Option<Kind>
-    requires call { IsNamedCall call.now }
+/// What becomes of the kind of a page that is painted.
+fn painted(paint: Paint, kind: Option<Kind>) -> Option<Kind>
+    requires paint { IsNamedPaint paint }
     requires kind { IsNamedOption kind }
-    ensures kind { result ≡ new_kind call.now kind }
+    ensures kind { result ≡ painted paint kind }
     ensures named { IsNamedOption result }
 {
-    match *call {
-        Call::Map { prot, flags, .. } => Some(mapped_kind(prot, flags)),
-        Call::Unmap { .. } => None,
-        Call::Protect { prot, .. } => match kind {
+    match paint {
+        Paint::Gives(new) => new,
+        Paint::Protects(prot) => match kind {
             Some(old) => Some(Kind { prot, ..old }),
             None => None,
         },
-        Call::Fault { .. } => kind,
+    }
+}
+
+/// Where row `i` starts, or `LIMIT` where there are not so many.
+fn start_of(rows: &[u64], i: usize) -> u64
+    ensures { result ≡ rows_start (drop i rows.now) }
+{
+    if i < rows.len() {
+        let (start, _) = read_row(rows[i]);
+        start
+    } else {
+        LIMIT
     }
 }
 
@@ -95,30 +104,60 @@ pub(crate) fn row_end(rows: &[u64], i: usize) -> u64
     requires there { i < length rows.now }
     ensures { result ≡ rows_start (drop (i + 1) rows.now) }
 {
-    if i + 1 < rows.len() {
-        let (start, _) = read_row(rows[i + 1]);
-        start
-    } else {
-        LIMIT
-    }
+    start_of(rows, i + 1)
+}
+
+/// The number of rows that start before a page, found by halving.
+fn rows_before(rows: &[u64], page: u64) -> usize
+    requires shows { (kinds : ℕ → Option Kind) × ShowFrom 0 rows.now kinds }
+    requires page { page ≤ LIMIT }
+    ensures { StartBefore rows.now page result }
+{
+    rows.partition_point(
+        |word: &u64| -> bool
+            ensures { result ≡ nat_lt (row_start word.now) page }
+        {
+            let (start, _) = read_row(*word);
+            start < page
+        },
+    )
 }
 
 /// The number of the row that has a page, counted from 0.
-fn row_at(rows: &[u64], page: u64) -> usize
+pub(crate) fn row_at(rows: &[u64], page: u64) -> usize
     requires shows { (kinds : ℕ → Option Kind) × ShowFrom 0 rows.now kinds }
     requires page { page < LIMIT }
     ensures there { result < length rows.now }
     ensures from { rows_start (drop result rows.now) ≤ page }
     ensures until { page < rows_start (drop (result + 1) rows.now) }
 {
-    let mut i = 0;
-    'rows: while row_end(rows, i) <= page {
-        i += 1;
-    }
-    i
+    rows_before(rows, page + 1) - 1
 }
 
-/// Appends rows as they are.
+/// The kind of the pages from one on, before which `next` rows start, up to where row `next` starts.
+fn kind_from(rows: &[u64], next: usize) -> Option<Kind>
+    requires there { next ≤ length rows.now }
+    ensures named { IsNamedOption result }
+    ensures kind { (page : ℕ) (kinds : ℕ → Option Kind) → StartBefore rows.now page next → ShowFrom 0 rows.now kinds
+        → (p : ℕ) → page ≤ p → p < rows_start (drop next rows.now) → kinds p ≡ result }
+{
+    if next == 0 {
+        return None;
+    }
+    let (_, kind) = read_row(rows[next - 1]);
+    kind
+}
+
+/// The rows from one number up to another.
+fn cut(rows: &[u64], next: usize, stop: usize) -> &[u64]
+    requires ordered { next ≤ stop }
+    requires there { stop ≤ length rows.now }
+    ensures { result.now ≡ take (stop - next) (drop next rows.now) }
+{
+    &rows[next..stop]
+}
+
+/// Appends rows without a look at them.
 fn copy_rows(rows: &mut Vec<u64>, more: &[u64])
     requires room { length rows.old.items + length more.now ≤ vec_capacity rows.old }
     ensures items { rows.new.items ≡ rows.old.items ++ more.now }
@@ -127,53 +166,16 @@ fn copy_rows(rows: &mut Vec<u64>, more: &[u64])
     let _ = rows.extend_from_slice(more);
 }
 
-/// Appends the pages of a span with their new kinds, and what is left of the row of its last page. The old row `first`
-/// has the span's first page. It gives the number of the old row behind those.
-fn put_span(rows: &mut Vec<u64>, old: &[u64], first: usize, call: &Call, span: Span) -> usize
-    requires call { IsNamedCall call.now }
-    requires shows { (kinds : ℕ → Option Kind) × ShowFrom 0 old.now kinds }
-    requires first { first < length old.now }
-    requires from { rows_start (drop first old.now) ≤ span.lo }
-    requires until { span.lo < rows_start (drop (first + 1) old.now) }
-    requires few { length rows.old.items ≤ first + 1 }
-    requires room { length old.now + 2 ≤ vec_capacity rows.old }
-    requires gaps { All IsBareGap rows.old.items }
-    ensures there { result ≤ length old.now }
-    ensures behind { span.hi ≤ rows_start (drop result old.now) }
-    ensures few { length rows.new.items ≤ result + 2 }
-    ensures some { 0 < length rows.new.items }
-    ensures room { vec_capacity rows.old ≤ vec_capacity rows.new }
-    ensures gaps { All IsBareGap rows.new.items }
-    ensures shows { (kinds : ℕ → Option Kind) → ShowFrom 0 old.now kinds
-        → ShowTo 0 rows.old.items span.lo (changed kinds call.now span.lo span.hi)
-        → ShowTo 0 rows.new.items (rows_start (drop result old.now)) (changed kinds call.now span.lo span.hi) }
-{
-    let mut next = first;
-    let mut at = span.lo();
-    let mut last = None;
-    'rows: while at < span.hi() {
-        let (_, kind) = read_row(old[next]);
-        put_row(rows, at, changed_kind(call, kind));
-        at = row_end(old, next);
-        last = kind;
-        next += 1;
-    }
-    put_part(rows, span.hi(), at, last);
-    next
-}
-
-/// Appends the rows behind a page as they are; the first one lengthens the last row where both are of one kind.
-fn put_rest(rows: &mut Vec<u64>, more: &[u64])
-    requires some { 0 < length rows.old.items }
+/// Appends rows as they are; the first one lengthens the last row where both are of one kind.
+fn put_rows(rows: &mut Vec<u64>, more: &[u64])
     requires room { length rows.old.items + length more.now ≤ vec_capacity rows.old }
     requires gaps { All IsBareGap rows.old.items }
     requires bare { All IsBareGap more.now }
-    ensures some { 0 < length rows.new.items }
     ensures few { length rows.new.items ≤ length rows.old.items + length more.now }
     ensures room { vec_capacity rows.old ≤ vec_capacity rows.new }
     ensures gaps { All IsBareGap rows.new.items }
-    ensures shows { (page : ℕ) (kinds : ℕ → Option Kind) → ShowTo 0 rows.old.items page kinds → ShowFrom page more.now kinds
-        → ShowTo 0 rows.new.items LIMIT kinds }
+    ensures shows { (page end : ℕ) (kinds : ℕ → Option Kind) → ShowTo 0 rows.old.items page kinds → ShowTo page more.now end kinds
+        → ShowTo 0 rows.new.items end kinds }
 {
     if more.is_empty() {
         return;
@@ -186,23 +188,92 @@ fn put_rest(rows: &mut Vec<u64>, more: &[u64])
     }
 }
 
-/// The rows after a change of the pages of a span.
-pub(crate) fn change_rows(old: &[u64], call: &Call, span: Span, rows: &mut Vec<u64>)
-    requires call { IsNamedCall call.now }
+/// Appends the pages from one up to another as they are. `next` old rows start before the first of them; it gives how
+/// many start before the page behind the last.
+fn keep_to(rows: &mut Vec<u64>, old: &[u64], from: u64, next: usize, to: u64) -> usize
     requires shows { (kinds : ℕ → Option Kind) × ShowFrom 0 old.now kinds }
-    requires gaps { All IsBareGap old.now }
-    requires room { length old.now + 2 ≤ vec_capacity rows.old }
-    ensures some { 0 < length rows.new.items }
-    ensures few { length rows.new.items ≤ length old.now + 2 }
+    requires bare { All IsBareGap old.now }
+    requires come { StartBefore old.now from next }
+    requires ordered { from ≤ to }
+    requires limit { to ≤ LIMIT }
+    requires room { length rows.old.items + length old.now + 1 ≤ next + vec_capacity rows.old }
+    requires gaps { All IsBareGap rows.old.items }
+    ensures come { StartBefore old.now to result }
+    ensures few { length rows.new.items + next ≤ length rows.old.items + result + part_left old.now from next }
     ensures room { vec_capacity rows.old ≤ vec_capacity rows.new }
     ensures gaps { All IsBareGap rows.new.items }
-    ensures shows { (kinds : ℕ → Option Kind) → ShowFrom 0 old.now kinds → ShowTo 0 rows.new.items LIMIT (changed kinds call.now span.lo span.hi) }
+    ensures shows { (kinds others : ℕ → Option Kind) → ShowFrom 0 old.now kinds
+        → ((p : ℕ) → from ≤ p → p < to → others p ≡ kinds p)
+        → ShowTo 0 rows.old.items from others → ShowTo 0 rows.new.items to others }
 {
-    let first = row_at(old, span.lo());
+    let end = start_of(old, next).min(to);
+    put_part(rows, from, end, kind_from(old, next));
+    let stop = rows_before(old, to);
+    put_rows(rows, cut(old, next, stop));
+    stop
+}
+
+/// Appends the pages of a patch with their new kinds. `first` old rows start before its first page; it gives how many
+/// start before the page behind its last.
+fn paint_to(rows: &mut Vec<u64>, old: &[u64], first: usize, patch: Patch) -> usize
+    requires paint { IsNamedPaint patch.paint }
+    requires shows { (kinds : ℕ → Option Kind) × ShowFrom 0 old.now kinds }
+    requires come { StartBefore old.now patch.lo first }
+    requires ordered { patch.lo ≤ patch.hi }
+    requires limit { patch.hi ≤ LIMIT }
+    requires room { length rows.old.items + length old.now + 1 ≤ first + vec_capacity rows.old }
+    requires gaps { All IsBareGap rows.old.items }
+    ensures come { StartBefore old.now patch.hi result }
+    ensures few { length rows.new.items + first ≤ length rows.old.items + result + part_left old.now patch.lo first }
+    ensures room { vec_capacity rows.old ≤ vec_capacity rows.new }
+    ensures gaps { All IsBareGap rows.new.items }
+    ensures shows { (kinds others : ℕ → Option Kind) → ShowFrom 0 old.now kinds
+        → ((p : ℕ) → patch.lo ≤ p → p < patch.hi → others p ≡ painted patch.paint (kinds p))
+        → ShowTo 0 rows.old.items patch.lo others → ShowTo 0 rows.new.items patch.hi others }
+{
+    let end = start_of(old, first).min(patch.hi);
+    put_part(
+        rows,
+        patch.lo,
+        end,
+        painted(patch.paint, kind_from(old, first)),
+    );
+    let mut next = first;
+    let mut at = end;
+    'rows: while at < patch.hi {
+        let (_, kind) = read_row(old[next]);
+        put_row(rows, at, painted(patch.paint, kind));
+        next += 1;
+        at = start_of(old, next).min(patch.hi);
+    }
+    next
+}
+
+/// The rows after a change.
+pub(crate) fn change_rows(old: &[u64], change: Change, rows: &mut Vec<u64>)
+    requires paints { AreNamedPaints (patches_of change) }
+    requires rising { AreRising 0 (patches_of change) }
+    requires shows { (kinds : ℕ → Option Kind) × ShowFrom 0 old.now kinds }
+    requires gaps { All IsBareGap old.now }
+    requires room { length old.now + 2 * length (patches_of change) ≤ vec_capacity rows.old }
+    ensures few { length rows.new.items ≤ length old.now + 2 * length (patches_of change) }
+    ensures room { vec_capacity rows.old ≤ vec_capacity rows.new }
+    ensures gaps { All IsBareGap rows.new.items }
+    ensures shows { (kinds : ℕ → Option Kind) → ShowFrom 0 old.now kinds
+        → ShowTo 0 rows.new.items LIMIT (patched (patches_of change) kinds) }
+{
     rows.clear();
-    copy_rows(rows, &old[..first]);
-    let (start, kind) = read_row(old[first]);
-    put_part(rows, start, span.lo(), kind);
-    let next = put_span(rows, old, first, call, span);
-    put_rest(rows, &old[next..]);
+    let first = change.first;
+    let start = keep_to(rows, old, 0, 0, first.lo);
+    let next = paint_to(rows, old, start, first);
+    match change.second {
+        None => {
+            keep_to(rows, old, first.hi, next, LIMIT);
+        }
+        Some(second) => {
+            let again = keep_to(rows, old, first.hi, next, second.lo);
+            let last = paint_to(rows, old, again, second);
+            keep_to(rows, old, second.hi, last, LIMIT);
+        }
+    }
 }

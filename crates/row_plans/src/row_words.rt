@@ -1,6 +1,7 @@
 //! Row words: one function writes the word of a row, and one reads it. The form is this project's own. A reader may
 //! rely on the word of a row with named bits reading back as that row.
-ghost use Rattle.std.specs.Prelude.{◌≡◌, ◌<◌, ◌^◌};
+ghost use Rattle.std.specs.Prelude.{◌≡◌, ◌≤◌};
+ghost use Rattle.page_types.specs.declared.TheConstants.{LIMIT};
 ghost use Rattle.page_types.specs.Named.{IsNamedOption};
 ghost use Rattle.row_plans.specs.RowWords.{row_start, row_kind, row_word};
 
@@ -25,9 +26,9 @@ pub fn read_row(word: u64) -> (u64, Option<Kind>)
     }
 }
 
-/// The word of a row that starts at this page, below 2^40, and whose pages have this kind, or None for a gap.
+/// The word of a row that starts at this page, at most `LIMIT`, and whose pages have this kind, or None for a gap.
 pub fn write_row(start: u64, kind: Option<Kind>) -> u64
-    requires start { start < 2 ^ 40 }
+    requires start { start ≤ LIMIT }
     requires named { IsNamedOption kind }
     ensures word { result ≡ row_word start kind }
     ensures start { row_start result ≡ start }

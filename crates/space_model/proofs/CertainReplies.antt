@@ -1,6 +1,6 @@
--- When a call is refused for its rows, and when a fault is granted.
-use Rattle.std.proofs.Common.{◌≡◌, ◌≢◌, ℕ, Bool, true, false, if◌then◌else◌, not, ◌&&◌, ◌==◌, nat_lt, List, [], ◌∷◌}
-use Rattle.std.proofs.Common.{Option, Some, None, ◌∙◌, ap, subst, refl, arith, inl, inr}
+-- When a call is refused for its rows, and what a fault answers.
+use Rattle.std.proofs.Common.{◌≡◌, ◌≢◌, ℕ, ◌+◌, ◌*◌, ◌<◌, ◌≤◌, Bool, true, false, if◌then◌else◌, not, ◌&&◌, ◌==◌, nat_lt, List, [], ◌∷◌}
+use Rattle.std.proofs.Common.{Option, Some, None, sym, ◌∙◌, ap, subst, refl, arith, inl, inr}
 use Rattle.std.specs.Prelude.{nat_le}
 use Rattle.std.proofs.lemmas.Bool.{cases_lt, lt-leb}
 use Rattle.page_types.specs.declared.TheConstants.{LIMIT}
@@ -8,25 +8,30 @@ use Rattle.page_types.specs.declared.calls.Kind.{Kind}
 use Rattle.page_types.specs.declared.calls.Call.{Call}
 use Rattle.page_types.specs.declared.calls.Call.TheVariants.{Map, Unmap, Protect, Fault}
 use Rattle.page_types.specs.declared.calls.Reply.{Reply}
-use Rattle.page_types.specs.declared.calls.Reply.TheVariants.{Zero, Granted, Refused}
+use Rattle.page_types.specs.declared.calls.Reply.TheVariants.{At, Zero, Granted, Refused}
 use Rattle.page_types.specs.declared.calls.Why.{Why}
 use Rattle.page_types.specs.declared.calls.Why.TheVariants.{Einval, Enomem, MapErr}
 use Rattle.page_types.specs.declared.calls.Short.TheVariants.{PastEnd, Rows}
 use Rattle.page_types.specs.declared.pages.Field.TheVariants.{Addr, Len, Flags, End}
 use Rattle.page_types.specs.declared.sets.Access.{Access}
 use Rattle.page_types.specs.declared.sets.MapFlags.{MapFlags}
+use Rattle.page_types.specs.declared.sets.Prot.{Prot}
 use Rattle.page_types.specs.Pages.{page_of, page_count, end_page, is_aligned}
 use Rattle.page_types.specs.Sets.{is_fixed, has_one_sharing}
 use Rattle.page_types.specs.PlainReply.{first_that_applies, fault_reply, plain_reply}
 use Rattle.space_model.specs.declared.areas.Area.{Area}
+use Rattle.space_model.specs.declared.paint.Paint.TheVariants.{Gives}
+use Rattle.space_model.specs.declared.sorts.Sort.TheVariants.{Mapped, Missing}
 use Rattle.space_model.specs.Areas.{IsAreaList, kind_at, row_count}
-use Rattle.space_model.specs.Answers.{RefusesAccess, RefusesMap, RefusesByState, LetsThrough, Answers}
-use Rattle.space_model.specs.Answers.RefusesMap.{exists, no_gap}
-use Rattle.space_model.specs.Answers.Answers.{by_arguments, refused, granted, done, too_many_rows}
-use Rattle.space_model.specs.Effect.{done_reply}
-use Rattle.space_model.specs.Laws.{AsksTwoRowsMore, GrantsWhatThePageAllows}
-use Rattle.space_model.proofs.Changing.{kind_at-limit}
-use Rattle.space_model.proofs.Counting.{row_count-after}
+use Rattle.space_model.specs.Effect.{mapped_kind, patch, patched}
+use Rattle.space_model.specs.Sorts.{Bar, IsBarred}
+use Rattle.space_model.specs.Sorts.Bar.{bar}
+use Rattle.space_model.specs.Answers.{bars, FindsNoPlace, RefusesByState, AnswersFault, LetsThrough, Does, full_reply, Answers}
+use Rattle.space_model.specs.Answers.Effect.{keeps}
+use Rattle.space_model.specs.Answers.Answers.{by_arguments, refused, kept, done, too_many_rows}
+use Rattle.space_model.specs.Laws.{AsksTwoRowsMore, GrantsWhatThePageAllows, FaultFindsMapped}
+use Rattle.space_model.proofs.Changing.{kind_at-limit, within-inside}
+use Rattle.space_model.proofs.TwiceOnce.{one_change, row_count-does}
 
 -- no check of the list has this reply
 NoCheckHas : Reply → List (Bool × Reply) → Type 0
@@ -72,45 +77,76 @@ plain_not_rows (Protect addr len prot) n =
     (λ d. cc, (λ d. cc, (λ d. cc, tt)))
 plain_not_rows (Fault addr access) n = fault_not (Refused (Enomem (Rows n))) addr (λ d. cc)
 
-map_not_rows : (A : List Area) (hint pages : ℕ) (flags : MapFlags) (why : Why) (n : ℕ) → RefusesMap A hint pages flags why → why ≡ Enomem (Rows n) → ⊥
-map_not_rows A hint pages flags why n (exists page r l e) d = cc
-map_not_rows A hint pages flags why n (no_gap h g e) d = cc
-
-access_not_rows : (o : Option Kind) (page : ℕ) (access : Access) (why : Why) (n : ℕ) → RefusesAccess o page access why → why ≡ Enomem (Rows n) → ⊥
-access_not_rows None page access why n r d = cc
-access_not_rows (Some kind) page access why n r d = let e = r.1 in cc
-
 -- nor is a refusal by the state
-state_not_rows : (A : List Area) (c : Call) (why : Why) (n : ℕ) → RefusesByState A c why → why ≡ Enomem (Rows n) → ⊥
-state_not_rows A (Map addr len prot flags) why n r d = map_not_rows A (page_of addr) (page_count len) flags why n r d
-state_not_rows A (Unmap addr len) why n r d = r
-state_not_rows A (Protect addr len prot) why n (page, l, e) d = cc
-state_not_rows A (Fault addr access) why n r d = access_not_rows (kind_at A (page_of addr)) (page_of addr) access why n r d
+state_not_rows : (kinds : ℕ → Option Kind) (c : Call) (why : Why) (n : ℕ) → RefusesByState kinds c why → why ≢ Enomem (Rows n)
+state_not_rows kinds c why n (inl r) d = barred (bars c) r
+  where
+    barred : (list : List Bar) → IsBarred kinds list why → ⊥
+    barred [] r = r
+    barred (bar Mapped lo hi ∷ rest) (inl (p, l, e)) = cc
+    barred (bar Missing lo hi ∷ rest) (inl (p, l, e)) = cc
+    barred (bar sort lo hi ∷ rest) (inr (m, r)) = barred rest r
+state_not_rows kinds c why n (inr (clear, r)) d = unplaced c r
+  where
+    unplaced : (c : Call) → FindsNoPlace kinds c why → ⊥
+    unplaced (Map addr len prot flags) r = let e = r.1 in cc
+    unplaced (Unmap addr len) r = r
+    unplaced (Protect addr len prot) r = r
+    unplaced (Fault addr access) r = r
+
+-- nor a reply that changes nothing
+kept_not_rows : (kinds : ℕ → Option Kind) (c : Call) (n : ℕ) → Does kinds c (keeps (Refused (Enomem (Rows n)))) → ⊥
+kept_not_rows kinds (Map addr len prot flags) n (start, s, d) = cc
+kept_not_rows kinds (Unmap addr len) n d = cc
+kept_not_rows kinds (Protect addr len prot) n d = cc
+kept_not_rows kinds (Fault addr access) n (r, h, d) = fault (kinds (page_of addr)) h cc
+  where
+    fault : (o : Option Kind) → AnswersFault o (page_of addr) access r → r ≢ Refused (Enomem (Rows n))
+    fault None h e = cc
+    fault (Some k) (inl h) e = let f = h.1 in cc
+    fault (Some k) (inr h) e = let f = h.1 in cc
 
 -- a call that is refused for its rows asks for more than ROWS, and for at most two more than there are
 pub two_rows_more : (A : List Area) (c : Call) → IsAreaList A → AsksTwoRowsMore A c
 two_rows_more A c w n B (by_arguments e b) = absurd (plain_not_rows c n e)
-two_rows_more A c w n B (refused why u r e b) = absurd (state_not_rows A c why n r cc)
-two_rows_more A c w n B (granted kind u g e b) = cc
-two_rows_more A c w n B (done lo hi u p k m e) = absurd (no_rows c e)
-  where
-    no_rows : (c : Call) → Refused (Enomem (Rows n)) ≡ done_reply c lo → ⊥
-    no_rows (Map addr len prot flags) e = cc
-    no_rows (Unmap addr len) e = cc
-    no_rows (Protect addr len prot) e = cc
-    no_rows (Fault addr access) e = cc
-two_rows_more A c w n B (too_many_rows lo hi C u p k m e b) =
+two_rows_more A c w n B (refused why u r e b) = absurd (state_not_rows (kind_at A) c why n r cc)
+two_rows_more A c w n B (kept u g b) = absurd (kept_not_rows (kind_at A) c n g.1)
+two_rows_more A c w n B (done ps f u p k m) = absurd ((one_change (kind_at A) c ps _ f p.1).done n refl)
+two_rows_more A c w n B (too_many_rows ps t f C u p k m e b) =
+    let one = one_change (kind_at A) c ps t f p.1 in
+    let says : Refused (Enomem (Rows n)) ≡ Refused (Enomem (Rows (row_count C))) = e ∙ ap (λ o. full_reply o (row_count C)) one.refuses in
     let same : n ≡ row_count C = cc in
-    (omega (arith, m, same), omega (arith, same, row_count-after A C c lo hi w k))
+    (omega (arith, m, same), omega (arith, same, row_count-does A C c ps t f w p.1 k))
 
-granted_from : (A : List Area) (addr : ℕ) (access : Access) (kind : Kind) (B : List Area) → Answers A (Fault addr access) (Granted kind) B →
+-- what a fault answers that its arguments don't decide: the reply that its page gives
+fault_from : (A : List Area) (addr : ℕ) (access : Access) (r : Reply) (B : List Area) → plain_reply (Fault addr access) ≡ None →
+    Answers A (Fault addr access) r B → AnswersFault (kind_at A (page_of addr)) (page_of addr) access r × (B ≡ A)
+fault_from A addr access r B v (by_arguments e b) = cc
+fault_from A addr access r B v (refused why u (inl f) e b) = absurd f
+fault_from A addr access r B v (refused why u (inr f) e b) = absurd f.1
+fault_from A addr access r B v (kept u (clear, (s, h, d)) b) =
+    let same : s ≡ r = cc in (subst (AnswersFault (kind_at A (page_of addr)) (page_of addr) access) same h, b)
+fault_from A addr access r B v (done ps f u (clear, (s, h, d)) k n) = cc
+fault_from A addr access r B v (too_many_rows ps t f C u (clear, (s, h, d)) k n e b) = cc
+
+granted_by : (o : Option Kind) (page : ℕ) (access : Access) (kind : Kind) → AnswersFault o page access (Granted kind) →
+    (o ≡ Some kind) × LetsThrough kind access
+granted_by None page access kind h = cc
+granted_by (Some k) page access kind (inl (t, e)) =
+    let same : k ≡ kind = cc in (ap (λ x. Some x) same, subst (λ x. LetsThrough x access) same t)
+granted_by (Some k) page access kind (inr (n, e)) = cc
+
+granted_from : (A : List Area) (addr : ℕ) (access : Access) (kind : Kind) (B : List Area) → (o : Option Reply) →
+    plain_reply (Fault addr access) ≡ o → Answers A (Fault addr access) (Granted kind) B →
     (kind_at A (page_of addr) ≡ Some kind) × LetsThrough kind access × (B ≡ A)
-granted_from A addr access kind B (by_arguments e b) = absurd (fault_not (Granted kind) addr (λ d. cc) e)
-granted_from A addr access kind B (refused why u r e b) = cc
-granted_from A addr access kind B (granted k u g e b) =
-    let same : k ≡ kind = cc in (g.0 ∙ ap (λ x. Some x) same, subst (λ x. LetsThrough x access) same g.1, b)
-granted_from A addr access kind B (done lo hi u p k m e) = absurd p
-granted_from A addr access kind B (too_many_rows lo hi C u p k m e b) = absurd p
+granted_from A addr access kind B None v answer =
+    let (h, b) = fault_from A addr access (Granted kind) B v answer in
+    let (e, t) = granted_by (kind_at A (page_of addr)) (page_of addr) access kind h in (e, t, b)
+granted_from A addr access kind B (Some r) v (by_arguments e b) = absurd (fault_not (Granted kind) addr (λ d. cc) e)
+granted_from A addr access kind B (Some r) v (refused why u f e b) = cc
+granted_from A addr access kind B (Some r) v (kept u g b) = cc
+granted_from A addr access kind B (Some r) v (done ps f u p k n) = cc
+granted_from A addr access kind B (Some r) v (too_many_rows ps t f C u p k n e b) = cc
 
 -- a mapped page is below LIMIT, so a fault on it isn't decided by its arguments
 undecided : (A : List Area) (addr : ℕ) (access : Access) (kind : Kind) → IsAreaList A → kind_at A (page_of addr) ≡ Some kind →
@@ -123,5 +159,53 @@ undecided A addr access kind w e =
 
 -- a fault is granted exactly where its page has a kind with the access's bit, and changes nothing
 pub grants_allowed : (A : List Area) (addr : ℕ) (access : Access) → IsAreaList A → GrantsWhatThePageAllows A addr access
-grants_allowed A addr access w kind B =
-    (granted_from A addr access kind B, λ g. granted kind (undecided A addr access kind w g.0) (g.0, g.1) refl g.2)
+grants_allowed A addr access w kind B = (
+  granted_from A addr access kind B (plain_reply (Fault addr access)) refl,
+  λ g.
+      let page = page_of addr in
+      let h : AnswersFault (kind_at A page) page access (Granted kind) =
+      subst (λ o. AnswersFault o page access (Granted kind)) (sym g.0) (inl (g.1, refl)) in
+      kept (undecided A addr access kind w g.0) (tt, (Granted kind, h, refl)) g.2,
+)
+
+-- no arguments alone place a Map
+plain_not_at : (addr len place : ℕ) (prot : Prot) (flags : MapFlags) → plain_reply (Map addr len prot flags) ≢ Some (At place)
+unfolding NoCheckHas
+plain_not_at addr len place prot flags =
+    first_not (At place)
+    ((is_fixed flags && not (is_aligned addr), Refused (Einval Addr)) ∷
+    (len == 0, Refused (Einval Len)) ∷
+    (not (has_one_sharing flags), Refused (Einval Flags)) ∷
+    (is_fixed flags && nat_lt LIMIT (end_page addr len), Refused (Enomem (PastEnd (end_page addr len)))) ∷ [])
+    (λ d. cc, (λ d. cc, (λ d. cc, (λ d. cc, tt))))
+
+-- the pages of a Map that was done have its kind, and what it leaves is an area list
+mapped_from : (A : List Area) (addr len place : ℕ) (prot : Prot) (flags : MapFlags) (B : List Area) (p : ℕ) →
+    Answers A (Map addr len prot flags) (At place) B → page_of place ≤ p → p < page_of place + page_count len →
+    IsAreaList B × (kind_at B p ≡ Some (mapped_kind prot flags))
+mapped_from A addr len place prot flags B p (by_arguments e b) l h = absurd (plain_not_at addr len place prot flags e)
+mapped_from A addr len place prot flags B p (refused why u f e b) l h = cc
+mapped_from A addr len place prot flags B p (kept u (clear, (start, s, d)) b) l h = cc
+mapped_from A addr len place prot flags B p (done ps f u (clear, (start, s, d)) k n) l h =
+    let kind = mapped_kind prot flags in
+    let count = page_count len in
+    let same : ps ≡ patch start (start + count) (Gives (Some kind)) ∷ [] = cc in
+    let at : At place ≡ At (start * 4096) = cc in
+    let there : place ≡ start * 4096 = cc in (
+      k.areas,
+      k.kinds_are p ∙ ap (λ l. patched l (kind_at A) p) same ∙
+          within-inside start (start + count) p (Some kind) (kind_at A p) (omega arith) (omega arith),
+    )
+mapped_from A addr len place prot flags B p (too_many_rows ps t f C u (clear, (start, s, d)) k n e b) l h =
+    let none : f ≡ None = cc in
+    let says : At place ≡ Refused (Enomem (Rows (row_count C))) = e ∙ ap (λ o. full_reply o (row_count C)) none in cc
+
+-- a fault on a page that a Map has just placed finds the kind that the Map gave
+pub finds_mapped : (A : List Area) (addr len : ℕ) (prot : Prot) (flags : MapFlags) (byte : ℕ) (access : Access) →
+    FaultFindsMapped A addr len prot flags byte access
+finds_mapped A addr len prot flags byte access place s B C first low high second =
+    let kind = mapped_kind prot flags in
+    let page = page_of byte in
+    let (w, is) = mapped_from A addr len place prot flags B page first low high in
+    let (h, b) = fault_from B byte access s C (undecided B byte access kind w is) second in
+    elim (subst (λ o. AnswersFault o page access s) is h) [ inl g ↦ inl g.1 | inr g ↦ inr g.1 ]

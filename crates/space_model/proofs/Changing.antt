@@ -1,17 +1,19 @@
--- The list that the body builds has the kinds that the effect says.
+-- The list that the body builds has the kinds after the patches.
 use Rattle.std.proofs.Common.{◌≡◌, ℕ, ◌<◌, ◌≤◌, ◌⊎◌, inl, inr, if◌then◌else◌, List, [], ◌∷◌, Option, Some, None, max, min, sym, ◌∙◌, ap, subst, refl, arith}
 use Rattle.std.specs.Option.{option_map}
 use Rattle.std.proofs.lemmas.Bool.{cases_lt, lt-ltb, le-ltb}
 use Rattle.std.proofs.lemmas.Bool.Decides.{nat_tests}
 use Rattle.page_types.specs.declared.TheConstants.{LIMIT}
 use Rattle.page_types.specs.declared.calls.Kind.{Kind}
-use Rattle.page_types.specs.declared.calls.Call.{Call}
-use Rattle.page_types.specs.declared.calls.Call.TheVariants.{Map, Unmap, Protect, Fault}
 use Rattle.page_types.specs.declared.sets.Prot.{Prot}
 use Rattle.space_model.specs.declared.areas.Area.{Area}
 use Rattle.space_model.specs.Areas.{is_within, IsInRange, IsAreaList, IsInOrder, HasKinds, kind_at}
-use Rattle.space_model.specs.Effect.{new_kind, effect_of, mapped_kind}
-use Rattle.space_model.specs.Building.{painted, part_of, parts, join_all, pieces_at, changed_list}
+use Rattle.space_model.specs.declared.paint.Paint.{Paint}
+use Rattle.space_model.specs.declared.paint.Paint.TheVariants.{Gives, Protects}
+use Rattle.space_model.specs.declared.paint.Patch.{Patch}
+use Rattle.space_model.specs.Effect.{painted, with_patch, patched, AreRising}
+use Rattle.space_model.specs.Building.{repainted, part_of, parts, join_all, pieces_at, with_next, changed_from, changed_list}
+use Rattle.space_model.specs.Cutting.{last_end}
 use Rattle.space_model.proofs.AreaKinds.{kind_at-here, kind_at-before, kind_at-after, side_of, IsAbove, above_zero, LeadsTo-above}
 use Rattle.space_model.proofs.AreaKinds.Side.{before, inside, after}
 use Rattle.space_model.proofs.Joining.{first_of, first_of-none, IsFreeFrom, join_all-kinds}
@@ -69,23 +71,23 @@ parts-skip from to prot a rest p out =
       | inr ge ↦ ap (λ list. kind_at list p) (parts-none from to prot a rest ge)
     ]
 
--- the kinds of the parts are those of the pages, painted
+-- the kinds of the parts are those of the pages, repainted
 pub parts-inside : (from to : ℕ) (prot : Option Prot) (A : List Area) (p : ℕ) → from ≤ p → p < to →
-    kind_at (parts from to prot A) p ≡ option_map (painted prot) (kind_at A p)
+    kind_at (parts from to prot A) p ≡ option_map (repainted prot) (kind_at A p)
 parts-inside from to prot [] p l h = refl
 parts-inside from to prot (a ∷ rest) p l h =
     let more = parts-inside from to prot rest p l h in
     elim (side_of a.lo a.hi p) [
       | before below ↦
           parts-skip from to prot a rest p (inl (omega arith)) ∙ more ∙
-          ap (option_map (painted prot)) (sym (kind_at-before a rest p below))
+          ap (option_map (repainted prot)) (sym (kind_at-before a rest p below))
       | inside low high ↦
           ap (λ list. kind_at list p) (parts-some from to prot a rest (omega arith)) ∙
           kind_at-here (part_of from to prot a) (parts from to prot rest) p (omega arith) (omega arith) ∙
-          ap (option_map (painted prot)) (sym (kind_at-here a rest p low high))
+          ap (option_map (repainted prot)) (sym (kind_at-here a rest p low high))
       | after above ↦
           parts-skip from to prot a rest p (inr (omega arith)) ∙ more ∙
-          ap (option_map (painted prot)) (sym (kind_at-after a rest p above))
+          ap (option_map (repainted prot)) (sym (kind_at-after a rest p above))
     ]
 
 -- outside of the pages from which the parts were taken, no page has a kind
@@ -96,10 +98,10 @@ parts-outside from to prot (a ∷ rest) p out =
     let away : (p < max a.lo from) ⊎ (min a.hi to ≤ p) = elim out [ inl l ↦ inl (omega arith) | inr g ↦ inr (omega arith) ] in
     parts-skip from to prot a rest p away ∙ parts-outside from to prot rest p out
 
--- nothing painted is nothing changed
-option_map-painted : (o : Option Kind) → option_map (painted None) o ≡ o
-option_map-painted None = refl
-option_map-painted (Some k) = refl
+-- with no new protection nothing changes
+option_map-repainted : (o : Option Kind) → option_map (repainted None) o ≡ o
+option_map-repainted None = refl
+option_map-repainted (Some k) = refl
 
 -- no page at or above LIMIT has a kind
 pub kind_at-limit : (A : List Area) → IsAreaList A → IsFreeFrom A LIMIT
@@ -108,96 +110,157 @@ kind_at-limit (a ∷ rest) w p l =
     kind_at-after a rest p (omega (arith, w.0.below_limit)) ∙ kind_at-limit rest w.2 p l
 
 -- what the pieces at a place have to give
-record PiecesAt (A : List Area) (c : Call) (lo hi : ℕ) : Type 0 where
-  pieces : IsInOrder lo (pieces_at A c lo hi)
-  inside_are : (p : ℕ) → lo ≤ p → p < hi → kind_at (pieces_at A c lo hi) p ≡ new_kind c (kind_at A p)
-  outside_are : (p : ℕ) → (p < lo) ⊎ (hi ≤ p) → kind_at (pieces_at A c lo hi) p ≡ None
+record PiecesAt (A : List Area) (lo hi : ℕ) (paint : Paint) : Type 0 where
+  pieces : IsInOrder lo (pieces_at A lo hi paint)
+  inside_are : (p : ℕ) → lo ≤ p → p < hi → kind_at (pieces_at A lo hi paint) p ≡ painted paint (kind_at A p)
+  outside_are : (p : ℕ) → (p < lo) ⊎ (hi ≤ p) → kind_at (pieces_at A lo hi paint) p ≡ None
 
-pieces_at-kinds : (A : List Area) (c : Call) (lo hi : ℕ) → IsAreaList A → lo < hi → hi ≤ LIMIT → PiecesAt A c lo hi
-pieces_at-kinds A (Map addr len prot flags) lo hi w l h =
-    let piece : Area = record { lo = lo; hi = hi; kind = mapped_kind prot flags } in
-    record {
-      pieces = (omega arith, record { has_page = l; below_limit = h }, tt);
-      inside_are = λ p low high. kind_at-here piece [] p low high;
-      outside_are = λ p out. elim out [ inl below ↦ kind_at-before piece [] p below | inr above ↦ kind_at-after piece [] p above ];
-    }
-pieces_at-kinds A (Unmap addr len) lo hi w l h =
-    record { pieces = tt; inside_are = λ p low high. refl; outside_are = λ p out. refl }
-pieces_at-kinds A (Protect addr len prot) lo hi w l h =
-    record {
-      pieces = parts-pieces lo hi (Some prot) A 0 lo w (above_zero A) (omega arith);
-      inside_are = λ p low high. parts-inside lo hi (Some prot) A p low high;
-      outside_are = λ p out. parts-outside lo hi (Some prot) A p out;
-    }
-pieces_at-kinds A (Fault addr access) lo hi w l h =
-    record {
-      pieces = parts-pieces lo hi None A 0 lo w (above_zero A) (omega arith);
-      inside_are = λ p low high. parts-inside lo hi None A p low high ∙ option_map-painted (kind_at A p);
-      outside_are = λ p out. parts-outside lo hi None A p out;
-    }
+protected_painted : (prot : Prot) (o : Option Kind) → option_map (repainted (Some prot)) o ≡ painted (Protects prot) o
+protected_painted prot None = refl
+protected_painted prot (Some k) = refl
 
--- the three parts of the list have the kinds of the effect
-three_parts : (f m b x y z : Option Kind) → f ≡ x → m ≡ y → b ≡ z → first_of (first_of f m) b ≡ first_of (first_of x y) z
-three_parts f m b x y z p q r =
-    ap (λ k. first_of (first_of k m) b) p ∙ ap (λ k. first_of (first_of x k) b) q ∙ ap (λ k. first_of (first_of x y) k) r
-
-first_of-nones : (o : Option Kind) → first_of (first_of o None) None ≡ o
-first_of-nones None = refl
-first_of-nones (Some k) = refl
-
-whole : (A : List Area) (c : Call) (lo hi : ℕ) → IsAreaList A → lo < hi → hi ≤ LIMIT → PiecesAt A c lo hi → (p : ℕ) →
-    first_of (first_of (kind_at (parts 0 lo None A) p) (kind_at (pieces_at A c lo hi) p)) (kind_at (parts hi LIMIT None A) p)
-    ≡ effect_of A c lo hi p
-whole A c lo hi w l h at p =
-    let front = kind_at (parts 0 lo None A) p in
-    let middle = kind_at (pieces_at A c lo hi) p in
-    let back = kind_at (parts hi LIMIT None A) p in
-    elim (side_of lo hi p) [
-      | before below ↦
-          three_parts front middle back (kind_at A p) None None
-          (parts-inside 0 lo None A p (omega arith) below ∙ option_map-painted (kind_at A p))
-          (at.outside_are p (inl below))
-          (parts-outside hi LIMIT None A p (inl (omega arith))) ∙
-          first_of-nones (kind_at A p) ∙
-          sym (within-before lo hi p (new_kind c (kind_at A p)) (kind_at A p) below)
-      | inside low high ↦
-          three_parts front middle back None (new_kind c (kind_at A p)) None
-          (parts-outside 0 lo None A p (inr low))
-          (at.inside_are p low high)
-          (parts-outside hi LIMIT None A p (inl high)) ∙
-          first_of-none (new_kind c (kind_at A p)) ∙
-          sym (within-inside lo hi p (new_kind c (kind_at A p)) (kind_at A p) low high)
-      | after above ↦
-          three_parts front middle back None None (kind_at A p)
-          (parts-outside 0 lo None A p (inr (omega arith)))
-          (at.outside_are p (inr above))
-          (elim (cases_lt p LIMIT) [
-            | inl lt ↦ parts-inside hi LIMIT None A p above lt ∙ option_map-painted (kind_at A p)
-            | inr ge ↦ parts-outside hi LIMIT None A p (inr ge) ∙ sym (kind_at-limit A w p ge)
-          ]) ∙
-          sym (within-after lo hi p (new_kind c (kind_at A p)) (kind_at A p) above)
+piece_at : (A : List Area) (lo hi : ℕ) (kind : Kind) → lo ≤ hi → hi ≤ LIMIT → PiecesAt A lo hi (Gives (Some kind))
+piece_at A lo hi kind l h =
+    let piece : Area = record { lo = lo; hi = hi; kind = kind } in
+    let some : lo < hi → pieces_at A lo hi (Gives (Some kind)) ≡ piece ∷ [] = λ lt. ap (λ t. if t then piece ∷ [] else []) (lt-ltb lo hi lt) in
+    let none : hi ≤ lo → pieces_at A lo hi (Gives (Some kind)) ≡ [] = λ ge. ap (λ t. if t then piece ∷ [] else []) (le-ltb lo hi ge) in
+    elim (cases_lt lo hi) [
+      | inl lt ↦
+          record {
+            pieces = subst (IsInOrder lo) (sym (some lt)) (omega arith, record { has_page = lt; below_limit = h }, tt);
+            inside_are = λ p low high. ap (λ list. kind_at list p) (some lt) ∙ kind_at-here piece [] p low high;
+            outside_are = λ p out.
+                ap (λ list. kind_at list p) (some lt) ∙
+                elim out [ inl below ↦ kind_at-before piece [] p below | inr above ↦ kind_at-after piece [] p above ];
+          }
+      | inr ge ↦
+          record {
+            pieces = subst (IsInOrder lo) (sym (none ge)) tt;
+            inside_are = λ p low high. absurd (omega arith);
+            outside_are = λ p out. ap (λ list. kind_at list p) (none ge);
+          }
     ]
 
--- the list that the body builds is the area list with the kinds of the effect
-pub changed_list-kinds : (A : List Area) (c : Call) (lo hi : ℕ) → IsAreaList A → lo < hi → hi ≤ LIMIT →
-    HasKinds (effect_of A c lo hi) (changed_list A c lo hi)
-changed_list-kinds A c lo hi w l h =
-    let at = pieces_at-kinds A c lo hi w l h in
-    let front = parts 0 lo None A in
-    let middle = pieces_at A c lo hi in
-    let back = parts hi LIMIT None A in
-    let one = join_all-kinds [] front 0 tt (λ p _. refl) (parts-pieces 0 lo None A 0 0 w (above_zero A) (omega arith)) in
-    let one_free : IsFreeFrom (join_all [] front) lo = λ p g. one.kinds_are p ∙ parts-outside 0 lo None A p (inr g) in
-    let two = join_all-kinds (join_all [] front) middle lo one.areas one_free at.pieces in
-    let two_free : IsFreeFrom (join_all (join_all [] front) middle) hi =
-    λ p g.
-    two.kinds_are p ∙ ap (λ k. first_of k (kind_at middle p)) (one_free p (omega arith)) ∙ at.outside_are p (inr g) in
-    let three =
-    join_all-kinds (join_all (join_all [] front) middle) back hi two.areas two_free
-    (parts-pieces hi LIMIT None A 0 hi w (above_zero A) (omega arith)) in
-    let all : (p : ℕ) →
-    kind_at (changed_list A c lo hi) p ≡ first_of (first_of (kind_at front p) (kind_at middle p)) (kind_at back p) =
-    λ p.
-    three.kinds_are p ∙
-    ap (λ k. first_of k (kind_at back p)) (two.kinds_are p ∙ ap (λ k. first_of k (kind_at middle p)) (one.kinds_are p)) in
-    record { areas = three.areas; kinds_are = λ p. all p ∙ whole A c lo hi w l h at p }
+pieces_at-kinds : (A : List Area) (lo hi : ℕ) (paint : Paint) → IsAreaList A → lo ≤ hi → hi ≤ LIMIT → PiecesAt A lo hi paint
+pieces_at-kinds A lo hi (Gives None) w l h =
+    record { pieces = tt; inside_are = λ p low high. refl; outside_are = λ p out. refl }
+pieces_at-kinds A lo hi (Gives (Some kind)) w l h = piece_at A lo hi kind l h
+pieces_at-kinds A lo hi (Protects prot) w l h =
+    record {
+      pieces = parts-pieces lo hi (Some prot) A 0 lo w (above_zero A) (omega arith);
+      inside_are = λ p low high. parts-inside lo hi (Some prot) A p low high ∙ protected_painted prot (kind_at A p);
+      outside_are = λ p out. parts-outside lo hi (Some prot) A p out;
+    }
+
+-- what patches make of a page's kind hangs on that kind alone
+pub patched-same : (patches : List Patch) (f g : ℕ → Option Kind) (page : ℕ) → f page ≡ g page → patched patches f page ≡ patched patches g page
+patched-same [] f g page e = e
+patched-same (p ∷ rest) f g page e =
+    patched-same rest (with_patch p f) (with_patch p g) page (ap (λ o. if is_within p.lo p.hi page then painted p.paint o else o) e)
+
+-- patches that rise from a page on end at or below LIMIT, and not below that page
+pub rising_end : (from : ℕ) (patches : List Patch) → AreRising from patches → (from ≤ last_end from patches) × (last_end from patches ≤ LIMIT)
+rising_end from [] r = (omega arith, r)
+rising_end from (p ∷ rest) r = let e = rising_end p.hi rest r.2 in (omega (arith, r.0, r.1, e.0), e.1)
+
+-- a page below them keeps its kind
+pub patched-before : (from : ℕ) (patches : List Patch) (f : ℕ → Option Kind) (page : ℕ) → AreRising from patches → page < from →
+    patched patches f page ≡ f page
+patched-before from [] f page r l = refl
+patched-before from (p ∷ rest) f page r l =
+    patched-before p.hi rest (with_patch p f) page r.2 (omega (arith, r.0, r.1)) ∙
+    within-before p.lo p.hi page (painted p.paint (f page)) (f page) (omega (arith, r.0))
+
+-- so does one behind them
+pub patched-behind : (from : ℕ) (patches : List Patch) (f : ℕ → Option Kind) (page : ℕ) → AreRising from patches →
+    last_end from patches ≤ page → patched patches f page ≡ f page
+patched-behind from [] f page r l = refl
+patched-behind from (p ∷ rest) f page r l =
+    patched-behind p.hi rest (with_patch p f) page r.2 l ∙
+    within-after p.lo p.hi page (painted p.paint (f page)) (f page) (omega (arith, (rising_end p.hi rest r.2).0))
+
+-- a page of the first patch gets its paint
+pub patched-inside : (p : Patch) (rest : List Patch) (f : ℕ → Option Kind) (page : ℕ) → AreRising p.hi rest → p.lo ≤ page → page < p.hi →
+    patched (p ∷ rest) f page ≡ painted p.paint (f page)
+patched-inside p rest f page r low high =
+    patched-before p.hi rest (with_patch p f) page r high ∙
+    within-inside p.lo p.hi page (painted p.paint (f page)) (f page) low high
+
+-- behind the first patch the others decide
+pub patched-next : (p : Patch) (rest : List Patch) (f : ℕ → Option Kind) (page : ℕ) → p.hi ≤ page →
+    patched (p ∷ rest) f page ≡ patched rest f page
+patched-next p rest f page l =
+    patched-same rest (with_patch p f) f page (within-after p.lo p.hi page (painted p.paint (f page)) (f page) l)
+
+-- the list has these kinds below a page, and none from there on
+record GoesTo (kinds : ℕ → Option Kind) (at : ℕ) (list : List Area) : Type 0 where
+  areas : IsAreaList list
+  below : (p : ℕ) → p < at → kind_at list p ≡ kinds p
+  free : IsFreeFrom list at
+
+goes_on_to : (kinds : ℕ → Option Kind) (at to : ℕ) (list pieces : List Area) → GoesTo kinds at list → at ≤ to → IsInOrder at pieces →
+    ((p : ℕ) → at ≤ p → p < to → kind_at pieces p ≡ kinds p) →
+    ((p : ℕ) → (p < at) ⊎ (to ≤ p) → kind_at pieces p ≡ None) → GoesTo kinds to (join_all list pieces)
+goes_on_to kinds at to list pieces g l order within none =
+    let all = join_all-kinds list pieces at g.areas g.free order in
+    record {
+      areas = all.areas;
+      below = λ p high.
+          all.kinds_are p ∙
+          elim (cases_lt p at) [
+            | inl lt ↦ ap (first_of (kind_at list p)) (none p (inl lt)) ∙ first_of-none (kind_at list p) ∙ g.below p lt
+            | inr ge ↦ ap (λ k. first_of k (kind_at pieces p)) (g.free p ge) ∙ within p ge high
+          ];
+      free = λ p ge. all.kinds_are p ∙ ap (λ k. first_of k (kind_at pieces p)) (g.free p (omega arith)) ∙ none p (inr ge);
+    }
+
+-- the areas up to a page are taken as they are
+parts_next : (A : List Area) (kinds : ℕ → Option Kind) (at to : ℕ) (list : List Area) → IsAreaList A → GoesTo kinds at list → at ≤ to →
+    ((p : ℕ) → at ≤ p → p < to → kinds p ≡ kind_at A p) → GoesTo kinds to (join_all list (parts at to None A))
+parts_next A kinds at to list w g l same =
+    goes_on_to kinds at to list (parts at to None A) g l (parts-pieces at to None A 0 at w (above_zero A) (omega arith))
+    (λ p low high. parts-inside at to None A p low high ∙ option_map-repainted (kind_at A p) ∙ sym (same p low high))
+    (λ p out. parts-outside at to None A p out)
+
+-- the pages of a patch get its paint
+pieces_next : (A : List Area) (kinds : ℕ → Option Kind) (p : Patch) (list : List Area) → IsAreaList A → GoesTo kinds p.lo list → p.lo ≤ p.hi →
+    p.hi ≤ LIMIT → ((page : ℕ) → p.lo ≤ page → page < p.hi → kinds page ≡ painted p.paint (kind_at A page)) →
+    GoesTo kinds p.hi (join_all list (pieces_at A p.lo p.hi p.paint))
+pieces_next A kinds p list w g l h same =
+    let at = pieces_at-kinds A p.lo p.hi p.paint w l h in
+    goes_on_to kinds p.lo p.hi list (pieces_at A p.lo p.hi p.paint) g l at.pieces
+    (λ page low high. at.inside_are page low high ∙ sym (same page low high)) at.outside_are
+
+changed_from-kinds : (A : List Area) (kinds : ℕ → Option Kind) (list : List Area) (from : ℕ) (patches : List Patch) → IsAreaList A →
+    GoesTo kinds from list → AreRising from patches → ((p : ℕ) → from ≤ p → kinds p ≡ patched patches (kind_at A) p) →
+    GoesTo kinds LIMIT (changed_from list from patches A)
+changed_from-kinds A kinds list from [] w g r same = parts_next A kinds from LIMIT list w g r (λ p low high. same p low)
+changed_from-kinds A kinds list from (q ∷ rest) w g r same =
+    let low : from ≤ q.lo = r.0 in
+    let own : q.lo ≤ q.hi = r.1 in
+    let end = rising_end q.hi rest r.2 in
+    let below = parts_next A kinds from q.lo list w g low
+    (λ p g h. same p g ∙ patched-before q.lo (q ∷ rest) (kind_at A) p (omega arith, own, r.2) h) in
+    let made : GoesTo kinds q.hi (with_next list from q A) =
+    pieces_next A kinds q (join_all list (parts from q.lo None A)) w below own (omega (arith, end.0, end.1))
+    (λ p g h. same p (omega arith) ∙ patched-inside q rest (kind_at A) p r.2 g h) in
+    changed_from-kinds A kinds (with_next list from q A) q.hi rest w made r.2
+    (λ p g. same p (omega arith) ∙ patched-next q rest (kind_at A) p g)
+
+-- the list that the body builds is the area list with the kinds after the patches
+pub changed_list-kinds : (A : List Area) (patches : List Patch) → IsAreaList A → AreRising 0 patches →
+    HasKinds (patched patches (kind_at A)) (changed_list A patches)
+changed_list-kinds A patches w r =
+    let kinds : ℕ → Option Kind = patched patches (kind_at A) in
+    let none : GoesTo kinds 0 [] = record { areas = tt; below = λ p l. absurd (omega arith); free = λ p l. refl } in
+    let all = changed_from-kinds A kinds [] 0 patches w none r (λ p l. refl) in
+    let end = rising_end 0 patches r in
+    record {
+      areas = all.areas;
+      kinds_are = λ p.
+          elim (cases_lt p LIMIT) [
+            | inl lt ↦ all.below p lt
+            | inr ge ↦
+                all.free p ge ∙ sym (patched-behind 0 patches (kind_at A) p r (omega (arith, end.1)) ∙ kind_at-limit A w p ge)
+          ];
+    }

@@ -7,9 +7,9 @@ use Rattle.std.proofs.lemmas.Bool.Decides.{nat_tests}
 use Rattle.page_types.specs.declared.TheConstants.{LIMIT}
 use Rattle.page_types.specs.declared.calls.Kind.{Kind}
 use Rattle.space_model.specs.declared.areas.Area.{Area}
-use Rattle.page_types.specs.declared.calls.Call.{Call}
 use Rattle.space_model.specs.Areas.{is_within, IsAreaList, HasKinds, kind_at, gap_between, gaps_from, gap_count, row_count}
-use Rattle.space_model.specs.Effect.{effect_of, new_kind}
+use Rattle.space_model.specs.declared.paint.Patch.{Patch}
+use Rattle.space_model.specs.Effect.{painted, with_patch}
 use Rattle.space_model.specs.Starts.{same_option, count_if, starts_row, start_count}
 use Rattle.space_model.proofs.AreaKinds.{kind_at-here, kind_at-after, kind_at-below, kind_at-end, IsAbove, above_zero, LeadsTo-above, side_of}
 use Rattle.space_model.proofs.AreaKinds.Side.{before, inside, after}
@@ -282,17 +282,17 @@ within_after : (lo hi p : ℕ) → hi ≤ p → is_within lo hi p ≡ false
 within_after lo hi p h = and_right (nat_le lo p) (nat_lt p hi) (le-ltb p hi h)
 
 -- where a change doesn't begin or end, two neighbours that were of one kind still are
-effect-same : (A : List Area) (c : Call) (lo hi p : ℕ) → p ≢ lo → p ≢ hi → 0 < p → kind_at A (p - 1) ≡ kind_at A p →
-    effect_of A c lo hi (p - 1) ≡ effect_of A c lo hi p
-effect-same A c lo hi p n m l e =
-    let b : is_within lo hi (p - 1) ≡ is_within lo hi p =
-    elim (side_of lo hi p) [
-      | before l' ↦ within_before lo hi (p - 1) (omega arith) ∙ sym (within_before lo hi p l')
-      | inside l' h ↦ within_inside lo hi (p - 1) (omega arith) (omega arith) ∙ sym (within_inside lo hi p l' h)
-      | after h ↦ within_after lo hi (p - 1) (omega arith) ∙ sym (within_after lo hi p h)
+effect-same : (A : List Area) (change : Patch) (p : ℕ) → p ≢ change.lo → p ≢ change.hi → 0 < p → kind_at A (p - 1) ≡ kind_at A p →
+    with_patch change (kind_at A) (p - 1) ≡ with_patch change (kind_at A) p
+effect-same A change p n m l e =
+    let b : is_within change.lo change.hi (p - 1) ≡ is_within change.lo change.hi p =
+    elim (side_of change.lo change.hi p) [
+      | before l' ↦ within_before change.lo change.hi (p - 1) (omega arith) ∙ sym (within_before change.lo change.hi p l')
+      | inside l' h ↦ within_inside change.lo change.hi (p - 1) (omega arith) (omega arith) ∙ sym (within_inside change.lo change.hi p l' h)
+      | after h ↦ within_after change.lo change.hi (p - 1) (omega arith) ∙ sym (within_after change.lo change.hi p h)
     ] in
-    ap (λ k. if is_within lo hi (p - 1) then new_kind c k else k) e ∙
-    ap (λ t. if t then new_kind c (kind_at A p) else kind_at A p) b
+    ap (λ k. if is_within change.lo change.hi (p - 1) then painted change.paint k else k) e ∙
+    ap (λ t. if t then painted change.paint (kind_at A p) else kind_at A p) b
 
 one-le : (b : Bool) → count_if b ≤ 1
 one-le true = omega arith
@@ -303,16 +303,16 @@ row_at-every f p true e = ap (λ x. count_if (x && true)) e
 row_at-every f p false e = ap (λ x. count_if (x && true)) e
 
 -- a row that starts where none did starts where the change begins or ends
-row-after : (A B : List Area) (c : Call) (lo hi p : ℕ) → HasKinds (effect_of A c lo hi) B →
-    row_at every (kind_at B) p ≤ row_at every (kind_at A) p + (only_at lo 1 p + only_at hi 1 p)
-row-after A B c lo hi p k =
+row-after : (A B : List Area) (change : Patch) (p : ℕ) → HasKinds (with_patch change (kind_at A)) B →
+    row_at every (kind_at B) p ≤ row_at every (kind_at A) p + (only_at change.lo 1 p + only_at change.hi 1 p)
+row-after A B change p k =
     let most : row_at every (kind_at B) p ≤ 1 = one-le (starts_row (kind_at B) p && every (kind_at B p)) in
-    elim (cases_eq p lo) [
+    elim (cases_eq p change.lo) [
       | inl e ↦
-          let a : only_at lo 1 p ≡ 1 = ap (only_at lo 1) e ∙ only_at-same lo 1 in omega (arith, most, a)
+          let a : only_at change.lo 1 p ≡ 1 = ap (only_at change.lo 1) e ∙ only_at-same change.lo 1 in omega (arith, most, a)
       | inr n ↦
-          elim (cases_eq p hi) [
-            | inl e ↦ let a : only_at hi 1 p ≡ 1 = ap (only_at hi 1) e ∙ only_at-same hi 1 in omega (arith, most, a)
+          elim (cases_eq p change.hi) [
+            | inl e ↦ let a : only_at change.hi 1 p ≡ 1 = ap (only_at change.hi 1) e ∙ only_at-same change.hi 1 in omega (arith, most, a)
             | inr m ↦
                 elim (cases_Bool (starts_row (kind_at A) p)) [
                   | inl t ↦
@@ -320,28 +320,28 @@ row-after A B c lo hi p k =
                   | inr f ↦
                       let was = starts_row-false (kind_at A) p f in
                       let same : kind_at B (p - 1) ≡ kind_at B p =
-                      k.kinds_are (p - 1) ∙ effect-same A c lo hi p n m was.0 was.1 ∙ sym (k.kinds_are p) in
+                      k.kinds_are (p - 1) ∙ effect-same A change p n m was.0 was.1 ∙ sym (k.kinds_are p) in
                       let a : row_at every (kind_at B) p ≡ 0 = row_at-every (kind_at B) p false (starts_row-not (kind_at B) p was.0 same) in
                       omega (arith, a)
                 ]
           ]
     ]
 
-row_count-after_at : (A B : List Area) (c : Call) (lo hi limit : ℕ) → limit ≡ LIMIT → IsAreaList A →
-    HasKinds (effect_of A c lo hi) B → row_count B ≤ row_count A + 2
-row_count-after_at A B c lo hi limit is w k =
+row_count-after_at : (A B : List Area) (change : Patch) (limit : ℕ) → limit ≡ LIMIT → IsAreaList A →
+    HasKinds (with_patch change (kind_at A)) B → row_count B ≤ row_count A + 2
+row_count-after_at A B change limit is w k =
     let before = every-rows A limit is w in
     let after = every-rows B limit is k.areas in
-    let most = sum-le limit 0 (row_at every (kind_at B)) (λ p. row_at every (kind_at A) p + (only_at lo 1 p + only_at hi 1 p))
-    (λ p. row-after A B c lo hi p k) in
-    let split = sum-add limit 0 (row_at every (kind_at A)) (λ p. only_at lo 1 p + only_at hi 1 p) in
-    let ends = sum-add limit 0 (only_at lo 1) (only_at hi 1) in
-    omega (arith, before, after, most, split, ends, sum-only_at-le limit 0 lo 1 (omega arith), sum-only_at-le limit 0 hi 1 (omega arith))
+    let most = sum-le limit 0 (row_at every (kind_at B)) (λ p. row_at every (kind_at A) p + (only_at change.lo 1 p + only_at change.hi 1 p))
+    (λ p. row-after A B change p k) in
+    let split = sum-add limit 0 (row_at every (kind_at A)) (λ p. only_at change.lo 1 p + only_at change.hi 1 p) in
+    let ends = sum-add limit 0 (only_at change.lo 1) (only_at change.hi 1) in
+    omega (arith, before, after, most, split, ends, sum-only_at-le limit 0 change.lo 1 (omega arith), sum-only_at-le limit 0 change.hi 1 (omega arith))
 
 -- a change makes at most two rows more
-pub row_count-after : (A B : List Area) (c : Call) (lo hi : ℕ) → IsAreaList A →
-    HasKinds (effect_of A c lo hi) B → row_count B ≤ row_count A + 2
-row_count-after A B c lo hi w k = row_count-after_at A B c lo hi LIMIT refl w k
+pub row_count-after : (A B : List Area) (change : Patch) → IsAreaList A →
+    HasKinds (with_patch change (kind_at A)) B → row_count B ≤ row_count A + 2
+row_count-after A B change w k = row_count-after_at A B change LIMIT refl w k
 
 -- the rows of an area list are the pages where one starts
 start_count-sum : (f : ℕ → Option Kind) (n : ℕ) → start_count f n ≡ sum_from 0 n (row_at every f)

@@ -12,7 +12,8 @@ use Rattle.space_model.specs.Areas.{IsAreaList, kind_at}
 use Rattle.space_model.specs.Held.{LiesIn}
 use Rattle.space_model.specs.Cutting.{IsCutBy, IsFirstAbove}
 use Rattle.space_model.proofs.AreaKinds.{kind_at-after}
-use Rattle.space_model.proofs.Searching.{Remains, remains_all, free_before, mapped_inside}
+use Rattle.space_model.specs.declared.sorts.Sort.{Sort}
+use Rattle.space_model.proofs.Searching.{Remains, remains_all, free_before, mapped_inside, EndsAbove, NoneSoFar}
 use Rattle.space_model.proofs.Simple.{member_in_range, kind_at-member}
 use Rattle.space_model.proofs.FourWays.{starts_after, after_member}
 
@@ -68,6 +69,21 @@ pub remains_cut : (A : List Area) (page : ℕ) (front rest : List Area) → IsAr
     Remains A rest page
 remains_cut A page front rest w cut =
     subst (λ X. Remains X rest page) (sym cut.whole) (remains_past front rest page (subst IsAreaList cut.whole w) cut.upto)
+
+ends_cut : (rest : List Area) (page : ℕ) → All (λ a. page < a.hi) rest → EndsAbove page rest
+ends_cut [] page all = tt
+ends_cut (a ∷ rest) page all = All-head (λ b. page < b.hi) a rest all
+
+-- behind the cut at the first page of a search, no page was passed yet
+pub none_cut : (A : List Area) (sort : Sort) (page : ℕ) (front rest : List Area) → IsAreaList A → IsCutBy (λ a. a.hi) A page front rest →
+    NoneSoFar A rest sort page page
+none_cut A sort page front rest w cut =
+    record {
+      remains = remains_cut A page front rest w cut;
+      ends = ends_cut rest page cut.above;
+      above = omega arith;
+      none = λ p l h. absurd (omega arith);
+    }
 
 -- where all areas end at or below a page, no page from it on has a kind
 pub free_past : (A : List Area) (page p : ℕ) → All (λ a. a.hi ≤ page) A → page ≤ p → kind_at A p ≡ None

@@ -5,10 +5,10 @@ use Rattle.std.specs.List.{Contains}
 use Rattle.std.proofs.lemmas.Bool.{cases_lt}
 use Rattle.std.proofs.lemmas.List.{take-append-drop, drop_all}
 use Rattle.std.proofs.lemmas.List.Elements.{Contains-get_or, Contains-append_right}
-use Rattle.page_types.specs.declared.TheConstants.{LIMIT}
+use Rattle.page_types.specs.declared.TheConstants.{LIMIT, LOWEST}
 use Rattle.space_model.specs.declared.areas.Area.{Area}
 use Rattle.space_model.specs.Areas.{IsAreaList, kind_at}
-use Rattle.space_model.specs.Answers.{FitsAt, IsHighestFit}
+use Rattle.space_model.specs.Places.{FitsAt, IsHighestFit}
 use Rattle.space_model.specs.Building.{no_area}
 use Rattle.space_model.specs.Cutting.{start_of}
 use Rattle.space_model.proofs.AreaKinds.{kind_at-after, kind_at-below, IsAbove}
@@ -41,7 +41,7 @@ pub record NoneAbove (A : List Area) (pages i to : ℕ) : Type 0 where
   -- it isn't above LIMIT
   pub high : to ≤ LIMIT
   -- each place ends at or below it
-  pub ends : (start : ℕ) → FitsAt A pages start → start + pages ≤ to
+  pub ends : (start : ℕ) → FitsAt (kind_at A) pages start → start + pages ≤ to
 
 -- at the start each place ends at or below LIMIT
 pub none_above_all : (A : List Area) (pages : ℕ) → NoneAbove A pages (length A) LIMIT
@@ -67,7 +67,7 @@ module _ (A : List Area) (pages i to : ℕ) (w : IsAreaList A) (within : i < len
       (free_between (take i A) here (drop (i + 1) A) p (subst IsAreaList cut w) l (omega (arith, above.at)))
 
   -- the gap behind the area at the index is long enough
-  found : max here.hi 16 + pages ≤ to → IsHighestFit A pages (to - pages)
+  found : max here.hi LOWEST + pages ≤ to → IsHighestFit (kind_at A) pages (to - pages)
   found l =
       record {
         fits =
@@ -80,7 +80,7 @@ module _ (A : List Area) (pages i to : ℕ) (w : IsAreaList A) (within : i < len
       }
 
   -- or it isn't, and then no place ends above the area
-  ends_below : to < max here.hi 16 + pages → (start : ℕ) → FitsAt A pages start → start + pages ≤ here.lo
+  ends_below : to < max here.hi LOWEST + pages → (start : ℕ) → FitsAt (kind_at A) pages start → start + pages ≤ here.lo
   ends_below l start fit =
       let n : here.lo < here.hi = (member_in_range A here w member).has_page in
       elim (cases_lt here.lo (start + pages)) [
@@ -96,7 +96,7 @@ module _ (A : List Area) (pages i to : ℕ) (w : IsAreaList A) (within : i < len
         | inr ge ↦ ge
       ]
 
-  next : to < max here.hi 16 + pages → NoneAbove A pages i here.lo
+  next : to < max here.hi LOWEST + pages → NoneAbove A pages i here.lo
   unfolding here
   next l =
       record {
@@ -107,22 +107,22 @@ module _ (A : List Area) (pages i to : ℕ) (w : IsAreaList A) (within : i < len
 
 -- the same, for an area that is the last one below a later index
 pub highest_here : (A : List Area) (pages k i to : ℕ) (a : Area) → k ≡ i + 1 → IsAreaList A → i < length A → 0 < pages →
-    NoneAbove A pages k to → a ≡ get_or A i no_area → max a.hi 16 + pages ≤ to → IsHighestFit A pages (to - pages)
+    NoneAbove A pages k to → a ≡ get_or A i no_area → max a.hi LOWEST + pages ≤ to → IsHighestFit (kind_at A) pages (to - pages)
 unfolding here
 highest_here A pages k i to a e w within some above is l =
-    found A pages i to w within some (subst (λ n. NoneAbove A pages n to) e above) (subst (λ b. max b.hi 16 + pages ≤ to) is l)
+    found A pages i to w within some (subst (λ n. NoneAbove A pages n to) e above) (subst (λ b. max b.hi LOWEST + pages ≤ to) is l)
 
 -- where the gap above an area is too short, each place ends at or below the area's start
 pub none_above_next : (A : List Area) (pages k i to : ℕ) (a : Area) → k ≡ i + 1 → IsAreaList A → i < length A → 0 < pages →
-    NoneAbove A pages k to → a ≡ get_or A i no_area → to < max a.hi 16 + pages → NoneAbove A pages i a.lo
+    NoneAbove A pages k to → a ≡ get_or A i no_area → to < max a.hi LOWEST + pages → NoneAbove A pages i a.lo
 unfolding here
 none_above_next A pages k i to a e w within some above is l =
     subst (λ b. NoneAbove A pages i b.lo) (sym is)
-    (next A pages i to w within some (subst (λ n. NoneAbove A pages n to) e above) (subst (λ b. to < max b.hi 16 + pages) is l))
+    (next A pages i to w within some (subst (λ n. NoneAbove A pages n to) e above) (subst (λ b. to < max b.hi LOWEST + pages) is l))
 
 -- below the first area
-pub highest_below : (A : List Area) (pages to : ℕ) → IsAreaList A → NoneAbove A pages 0 to → 16 + pages ≤ to →
-    IsHighestFit A pages (to - pages)
+pub highest_below : (A : List Area) (pages to : ℕ) → IsAreaList A → NoneAbove A pages 0 to → LOWEST + pages ≤ to →
+    IsHighestFit (kind_at A) pages (to - pages)
 highest_below A pages to w above l =
     record {
       fits =
@@ -135,5 +135,5 @@ highest_below A pages to w above l =
     }
 
 -- where the last gap is too short too, no place fits
-pub no_fit : (A : List Area) (pages to : ℕ) → NoneAbove A pages 0 to → to < 16 + pages → (start : ℕ) → FitsAt A pages start → ⊥
+pub no_fit : (A : List Area) (pages to : ℕ) → NoneAbove A pages 0 to → to < LOWEST + pages → (start : ℕ) → FitsAt (kind_at A) pages start → ⊥
 no_fit A pages to above l start fit = absurd (omega (arith, above.ends start fit, fit.low))

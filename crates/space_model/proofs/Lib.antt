@@ -7,6 +7,8 @@ pub mod NamedKinds
 pub mod Stepping
 pub mod InOrder
 pub mod Simple
+pub mod Deciding
+pub mod Judgements
 pub mod OneAnswer
 pub mod SomeAnswer
 pub mod TwiceOnce

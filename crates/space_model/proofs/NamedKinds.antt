@@ -3,12 +3,14 @@ use Rattle.std.proofs.Common.{ℕ, List, [], ◌∷◌, Option, Some, None, sym,
 use Rattle.std.proofs.lemmas.Bool.{cases_lt}
 use Rattle.std.proofs.lemmas.List.Elements.{All-nil, All-cons, All-head, All-tail}
 use Rattle.page_types.specs.declared.calls.Kind.{Kind}
-use Rattle.page_types.specs.declared.calls.Call.{Call}
-use Rattle.page_types.specs.declared.calls.Call.TheVariants.{Map, Unmap, Protect, Fault}
-use Rattle.page_types.specs.Named.{IsNamedKind, IsNamedOption, IsNamedCall}
+use Rattle.page_types.specs.Named.{IsNamedKind, IsNamedOption}
 use Rattle.space_model.specs.declared.areas.Area.{Area}
 use Rattle.space_model.specs.Areas.{IsAreaList, HasKinds, HasNamedKinds, kind_at}
-use Rattle.space_model.specs.Effect.{new_kind, effect_of}
+use Rattle.space_model.specs.declared.paint.Paint.{Paint}
+use Rattle.space_model.specs.declared.paint.Paint.TheVariants.{Gives, Protects}
+use Rattle.space_model.specs.declared.paint.Patch.{Patch}
+use Rattle.space_model.specs.Effect.{painted, with_patch, patched}
+use Rattle.space_model.specs.Judges.{IsNamedPaint, AreNamedPaints}
 use Rattle.space_model.proofs.AreaKinds.{kind_at-here, kind_at-before, kind_at-after, kind_at-below, LeadsTo-above, side_of}
 use Rattle.space_model.proofs.AreaKinds.Side.{before, inside, after}
 use Rattle.space_model.proofs.Changing.{within-before, within-inside, within-after}
@@ -35,26 +37,32 @@ named_all (a ∷ rest) w n =
       | inr g ↦ subst IsNamedOption (kind_at-after a rest p g) (n p)
     ]))
 
-named_new : (c : Call) (o : Option Kind) → IsNamedCall c → IsNamedOption o → IsNamedOption (new_kind c o)
-named_new (Map addr len prot flags) o n m = n.0
-named_new (Unmap addr len) o n m = tt
-named_new (Protect addr len prot) None n m = tt
-named_new (Protect addr len prot) (Some kind) n m = n
-named_new (Fault addr access) o n m = m
+-- a named paint leaves a kind with named bits alone
+pub named_new : (paint : Paint) (o : Option Kind) → IsNamedPaint paint → IsNamedOption o → IsNamedOption (painted paint o)
+named_new (Gives new) o n m = n
+named_new (Protects prot) None n m = tt
+named_new (Protects prot) (Some kind) n m = n
 
-named_effect : (A : List Area) (c : Call) (lo hi p : ℕ) → HasNamedKinds A → IsNamedCall c → IsNamedOption (effect_of A c lo hi p)
-named_effect A c lo hi p n m =
-    let old = named_at A p n in
-    elim (side_of lo hi p) [
-      | before l ↦ subst IsNamedOption (sym (within-before lo hi p (new_kind c (kind_at A p)) (kind_at A p) l)) old
+named_change : (kinds : ℕ → Option Kind) (change : Patch) → ((p : ℕ) → IsNamedOption (kinds p)) → IsNamedPaint change.paint →
+    (p : ℕ) → IsNamedOption (with_patch change kinds p)
+named_change kinds change n m p =
+    let new = painted change.paint (kinds p) in
+    elim (side_of change.lo change.hi p) [
+      | before l ↦ subst IsNamedOption (sym (within-before change.lo change.hi p new (kinds p) l)) (n p)
       | inside l h ↦
-          subst IsNamedOption (sym (within-inside lo hi p (new_kind c (kind_at A p)) (kind_at A p) l h))
-          (named_new c (kind_at A p) m old)
-      | after h ↦ subst IsNamedOption (sym (within-after lo hi p (new_kind c (kind_at A p)) (kind_at A p) h)) old
+          subst IsNamedOption (sym (within-inside change.lo change.hi p new (kinds p) l h))
+          (named_new change.paint (kinds p) m (n p))
+      | after h ↦ subst IsNamedOption (sym (within-after change.lo change.hi p new (kinds p) h)) (n p)
     ]
 
--- a call with named bits leaves named bits
-pub named-after : (A B : List Area) (c : Call) (lo hi : ℕ) → HasNamedKinds A → IsNamedCall c →
-    HasKinds (effect_of A c lo hi) B → HasNamedKinds B
-named-after A B c lo hi n m k =
-    named_all B k.areas (λ p. subst IsNamedOption (sym (k.kinds_are p)) (named_effect A c lo hi p n m))
+named_patched : (patches : List Patch) (kinds : ℕ → Option Kind) → ((p : ℕ) → IsNamedOption (kinds p)) → AreNamedPaints patches →
+    (p : ℕ) → IsNamedOption (patched patches kinds p)
+named_patched [] kinds n m p = n p
+named_patched (change ∷ rest) kinds n m p = named_patched rest (with_patch change kinds) (named_change kinds change n m.0) m.1 p
+
+-- named patches leave named bits
+pub named-after : (A B : List Area) (patches : List Patch) → HasNamedKinds A → AreNamedPaints patches →
+    HasKinds (patched patches (kind_at A)) B → HasNamedKinds B
+named-after A B patches n m k =
+    named_all B k.areas (λ p.
+    subst IsNamedOption (sym (k.kinds_are p)) (named_patched patches (kind_at A) (λ q. named_at A q n) m p))

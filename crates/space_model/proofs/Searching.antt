@@ -1,12 +1,13 @@
 -- What a search over the areas in order knows when it has come to one of them.
-use Rattle.std.proofs.Common.{◌≡◌, ℕ, ◌+◌, ◌<◌, ◌≤◌, inl, inr, List, [], ◌∷◌, length, drop, get_or, add-one, drop-cons}
-use Rattle.std.proofs.Common.{Option, Some, None, IsSome, max, sym, ◌∙◌, subst, refl, arith}
+use Rattle.std.proofs.Common.{◌≡◌, ℕ, ◌+◌, ◌<◌, ◌≤◌, inl, inr, true, false, List, [], ◌∷◌, length, drop, get_or, add-one}
+use Rattle.std.proofs.Common.{drop-cons, Some, None, min, max, sym, ◌∙◌, ap, subst, refl, arith}
 use Rattle.std.proofs.lemmas.Bool.{cases_lt}
-use Rattle.page_types.specs.declared.calls.Kind.{Kind}
 use Rattle.space_model.specs.declared.areas.Area.{Area}
 use Rattle.space_model.specs.Areas.{IsAreaList, kind_at}
 use Rattle.space_model.specs.Building.{no_area}
-use Rattle.space_model.specs.Answers.{IsUnmapped, IsMapped, IsLowestMapped}
+use Rattle.space_model.specs.Cutting.{IsFound}
+use Rattle.space_model.specs.declared.sorts.Sort.{Sort}
+use Rattle.space_model.specs.Sorts.{is_sort, NoneOf, IsEnd}
 use Rattle.space_model.proofs.AreaKinds.{kind_at-here, kind_at-after, kind_at-below}
 
 -- the areas from an index on, the first one apart
@@ -45,46 +46,111 @@ mapped_inside A a left from p r l low high = sym (r.kinds p l) ∙ kind_at-here 
 pub free_last : (A : List Area) (from p : ℕ) → Remains A [] from → from ≤ p → kind_at A p ≡ None
 free_last A from p r l = sym (r.kinds p l)
 
-some_is : {o : Option Kind} (k : Kind) → o ≡ Some k → IsSome o
-some_is k e = subst IsSome (sym e) refl
+-- the first of the areas that are left ends above a page
+abbrev pub EndsAbove : ℕ → List Area → Type 0
+EndsAbove page [] = Unit {0}
+EndsAbove page (a ∷ rest) = page < a.hi
 
--- lowest_mapped, at an area that ends above lo
-pub lowest_is : (A : List Area) (a : Area) (left : List Area) (lo hi : ℕ) →
-    Remains A (a ∷ left) lo → lo < a.hi → max a.lo lo < hi → IsLowestMapped A lo hi (max a.lo lo)
-lowest_is A a left lo hi r l h =
+ends_next : (a : Area) (rest : List Area) → IsAreaList (a ∷ rest) → EndsAbove a.hi rest
+ends_next a [] w = tt
+ends_next a (b ∷ rest) w = omega (arith, w.1.after, w.2.0.has_page)
+
+-- no page so far is of the sort, and these areas are left
+pub record NoneSoFar (A left : List Area) (sort : Sort) (from at : ℕ) : Type 0 where
+  -- these areas are left from the page on
+  pub remains : Remains A left at
+  -- the first of them ends above it
+  pub ends : EndsAbove at left
+  -- the page isn't below the start
+  pub above : from ≤ at
+  -- no page up to it is of the sort
+  pub none : NoneOf (kind_at A) sort from at
+
+module _ (A : List Area) (sort : Sort) (a : Area) (left : List Area) (lo hi at : ℕ) (o : lo ≤ hi)
+    (so : NoneSoFar A (a ∷ left) sort lo at) where
+  -- no page of the area is of the sort, nor one of the gap before it
+  pub none_next : IsFound sort at a None → NoneSoFar A left sort lo a.hi
+  none_next f =
+      record {
+        remains = remains_next A a left at a.hi so.remains (omega (arith, so.ends)) (omega arith);
+        ends = ends_next a left so.remains.areas;
+        above = omega (arith, so.above, so.ends);
+        none = λ p low high.
+            elim (cases_lt p at) [
+              | inl lt ↦ so.none p low lt
+              | inr ge ↦
+                  elim (cases_lt p a.lo) [
+                    | inl free ↦ ap (is_sort sort) (free_before A a left at p so.remains ge free) ∙ f.0 (omega arith)
+                    | inr mapped ↦ ap (is_sort sort) (mapped_inside A a left at p so.remains ge mapped high) ∙ f.1
+                  ]
+            ];
+      }
+
+  -- the page that is found, or `hi` where that is lower, is where the search ends
+  pub end_found : (page : ℕ) → IsFound sort at a (Some page) → IsEnd (kind_at A) sort lo hi (min page hi)
+  end_found page (inl (e, free, is)) =
+      record {
+        from = omega (arith, so.above);
+        within = omega arith;
+        such = λ l.
+            let here : min page hi ≡ at = omega arith in
+            ap (λ p. is_sort sort (kind_at A p)) here ∙
+            ap (is_sort sort) (free_before A a left at at so.remains (omega arith) free) ∙ is;
+        none_below = λ p low high. so.none p low (omega arith);
+      }
+  end_found page (inr (e, gap, is)) =
+      record {
+        from = omega (arith, so.above);
+        within = omega arith;
+        such = λ l.
+            let here : min page hi ≡ max a.lo at = omega arith in
+            ap (λ p. is_sort sort (kind_at A p)) here ∙
+            ap (is_sort sort)
+            (mapped_inside A a left at (max a.lo at) so.remains (omega arith) (omega arith)
+            (omega (arith, so.ends, so.remains.areas.0.has_page))) ∙ is;
+        none_below = λ p low high.
+            elim (cases_lt p at) [
+              | inl lt ↦ so.none p low lt
+              | inr ge ↦ ap (is_sort sort) (free_before A a left at p so.remains ge (omega arith)) ∙ gap (omega arith)
+            ];
+      }
+
+-- where no page up to `hi` is of the sort, the search ends there
+pub end_none : (A left : List Area) (sort : Sort) (lo hi at : ℕ) → lo ≤ hi → NoneSoFar A left sort lo at → hi ≤ at →
+    IsEnd (kind_at A) sort lo hi hi
+end_none A left sort lo hi at o so l =
     record {
-      from = omega arith;
-      within = h;
-      mapped =
-          some_is a.kind (mapped_inside A a left lo (max a.lo lo) r (omega arith) (omega arith) (omega (arith, r.areas.0.has_page)));
-      free_below = λ p low high. free_before A a left lo p r low (omega arith);
+      from = o;
+      within = omega arith;
+      such = λ below. absurd (omega arith);
+      none_below = λ p low high. so.none p low (omega arith);
     }
 
--- where the next area starts at or above `hi`, no page from `lo` up to `hi` is mapped
-pub lowest_none : (A : List Area) (a : Area) (left : List Area) (lo hi : ℕ) →
-    Remains A (a ∷ left) lo → hi ≤ max a.lo lo → IsUnmapped A lo hi
-lowest_none A a left lo hi r h p low high = free_before A a left lo p r low (omega arith)
-
--- mapped_end: the pages so far are mapped
-pub record MappedSoFar (A left : List Area) (from end : ℕ) : Type 0 where
-  -- these areas are left from the end on
-  pub remains : Remains A left end
-  -- the end isn't below the start
-  pub above : from ≤ end
-  -- all pages up to the end are mapped
-  pub mapped : IsMapped A from end
-
--- where the next area starts at or below the end so far, the pages up to its own end are mapped too
-pub mapped_next : (A : List Area) (a : Area) (left : List Area) (from end : ℕ) →
-    MappedSoFar A (a ∷ left) from end → a.lo ≤ end → MappedSoFar A left from (max end a.hi)
-mapped_next A a left from end m l =
+-- where no area is left, the pages from there on are free
+pub end_free : (A : List Area) (sort : Sort) (lo hi at : ℕ) → lo ≤ hi → NoneSoFar A [] sort lo at → is_sort sort None ≡ true →
+    IsEnd (kind_at A) sort lo hi (min at hi)
+end_free A sort lo hi at o so is =
     record {
-      remains = remains_next A a left end (max end a.hi) m.remains (omega arith) (omega arith);
-      above = omega (arith, m.above);
-      mapped = λ p low high.
-          elim (cases_lt p end) [
-            | inl lt ↦ m.mapped p low lt
-            | inr ge ↦ some_is a.kind (mapped_inside A a left end p m.remains ge (omega arith) (omega arith))
+      from = omega (arith, so.above);
+      within = omega arith;
+      such = λ l.
+          let here : min at hi ≡ at = omega arith in
+          ap (λ p. is_sort sort (kind_at A p)) here ∙ ap (is_sort sort) (free_last A at at so.remains (omega arith)) ∙ is;
+      none_below = λ p low high. so.none p low (omega arith);
+    }
+
+-- and where free pages aren't of the sort, the search ends at `hi`
+pub end_last : (A : List Area) (sort : Sort) (lo hi at : ℕ) → lo ≤ hi → NoneSoFar A [] sort lo at → is_sort sort None ≡ false →
+    IsEnd (kind_at A) sort lo hi hi
+end_last A sort lo hi at o so not =
+    record {
+      from = o;
+      within = omega arith;
+      such = λ below. absurd (omega arith);
+      none_below = λ p low high.
+          elim (cases_lt p at) [
+            | inl lt ↦ so.none p low lt
+            | inr ge ↦ ap (is_sort sort) (free_last A at p so.remains ge) ∙ not
           ];
     }
 
@@ -92,3 +158,8 @@ mapped_next A a left from end m l =
 pub remains_left : (A left : List Area) (i from : ℕ) → i < length left → Remains A (drop i left) from →
     Remains A (get_or left i no_area ∷ drop (i + 1) left) from
 remains_left A left i from l r = subst (λ more. Remains A more from) (drop_at left i l) r
+
+-- the same, where no page so far is of a sort
+pub none_left : (A left : List Area) (sort : Sort) (i from at : ℕ) → i < length left → NoneSoFar A (drop i left) sort from at →
+    NoneSoFar A (get_or left i no_area ∷ drop (i + 1) left) sort from at
+none_left A left sort i from at l so = subst (λ more. NoneSoFar A more sort from at) (drop_at left i l) so

@@ -11,7 +11,8 @@ use Rattle.page_types.specs.declared.sets.Prot.{Prot}
 use Rattle.page_types.specs.Pages.{page_of, end_page}
 use Rattle.space_model.specs.declared.areas.Area.{Area}
 use Rattle.space_model.specs.Areas.{IsInRange, IsAreaList, HasKinds, kind_at, gap_count}
-use Rattle.space_model.specs.Effect.{effect_of, protected_kind}
+use Rattle.space_model.specs.declared.paint.Paint.TheVariants.{Protects}
+use Rattle.space_model.specs.Effect.{protected_kind, patch, with_patch}
 use Rattle.space_model.specs.Held.{LiesIn, KeepsCounts, kind_before, IsSimpleIn, IsSimple}
 use Rattle.space_model.specs.Starts.{starts_row, same_option, same_kind, count_if, border, KeepsRows}
 use Rattle.space_model.specs.Building.{changed_list}
@@ -83,8 +84,8 @@ end_border f (suc q) k l e =
     ap (λ o. count_if (not (same_option o (f (suc q))) && is_some (f (suc q))) + count_if (is_none (f (suc q)))) d ∙
     end_cases (f (suc q)) k
 
-module _ (A B : List Area) (addr len : ℕ) (prot : Prot) (lo hi : ℕ) (a : Area) (w : IsAreaList A) (lies : LiesIn A a lo hi)
-    (l : lo < hi) (after_call : HasKinds (effect_of A (Protect addr len prot) lo hi) B) where
+module _ (A B : List Area) (prot : Prot) (lo hi : ℕ) (a : Area) (w : IsAreaList A) (lies : LiesIn A a lo hi)
+    (l : lo < hi) (after_call : HasKinds (with_patch (patch lo hi (Protects prot)) (kind_at A)) B) where
   new : Kind
   new = protected_kind prot a.kind
 
@@ -241,9 +242,9 @@ still_some : (prot : Prot) (o : Option Kind) → is_some (option_map (protected_
 still_some prot None = refl
 still_some prot (Some k) = refl
 
-mapped_still : (A B : List Area) (addr len : ℕ) (prot : Prot) (lo hi p : ℕ) →
-    HasKinds (effect_of A (Protect addr len prot) lo hi) B → is_some (kind_at B p) ≡ is_some (kind_at A p)
-mapped_still A B addr len prot lo hi p k =
+mapped_still : (A B : List Area) (prot : Prot) (lo hi p : ℕ) →
+    HasKinds (with_patch (patch lo hi (Protects prot)) (kind_at A)) B → is_some (kind_at B p) ≡ is_some (kind_at A p)
+mapped_still A B prot lo hi p k =
     let changed = option_map (protected_kind prot) (kind_at A p) in
     ap is_some (k.kinds_are p) ∙
     elim (side_of lo hi p) [
@@ -252,34 +253,34 @@ mapped_still A B addr len prot lo hi p k =
       | after b ↦ ap is_some (within-after lo hi p changed (kind_at A p) b)
     ]
 
-gaps_at : (A B : List Area) (addr len : ℕ) (prot : Prot) (lo hi limit : ℕ) → limit ≡ LIMIT → IsAreaList A →
-    HasKinds (effect_of A (Protect addr len prot) lo hi) B → gap_count B ≡ gap_count A
-gaps_at A B addr len prot lo hi limit is w k =
+gaps_at : (A B : List Area) (prot : Prot) (lo hi limit : ℕ) → limit ≡ LIMIT → IsAreaList A →
+    HasKinds (with_patch (patch lo hi (Protects prot)) (kind_at A)) B → gap_count B ≡ gap_count A
+gaps_at A B prot lo hi limit is w k =
     sym (gaps-rows B limit is k.areas) ∙
     sum-same limit 0 (row_at is_none (kind_at B)) (row_at is_none (kind_at A))
-    (gap_row (kind_at A) (kind_at B) (λ p. mapped_still A B addr len prot lo hi p k)) ∙
+    (gap_row (kind_at A) (kind_at B) (λ p. mapped_still A B prot lo hi p k)) ∙
     gaps-rows A limit is w
 
 -- a Protect keeps the number of gaps
-pub gaps-after : (A B : List Area) (addr len : ℕ) (prot : Prot) (lo hi : ℕ) → IsAreaList A →
-    HasKinds (effect_of A (Protect addr len prot) lo hi) B → gap_count B ≡ gap_count A
-gaps-after A B addr len prot lo hi w k = gaps_at A B addr len prot lo hi LIMIT refl w k
+pub gaps-after : (A B : List Area) (prot : Prot) (lo hi : ℕ) → IsAreaList A →
+    HasKinds (with_patch (patch lo hi (Protects prot)) (kind_at A)) B → gap_count B ≡ gap_count A
+gaps-after A B prot lo hi w k = gaps_at A B prot lo hi LIMIT refl w k
 
 -- so a Protect within one area keeps the counts exactly where it keeps the rows that start at its ends
-pub keeps_counts : (A : List Area) (addr len : ℕ) (prot : Prot) (lo hi : ℕ) (a : Area) → IsAreaList A → LiesIn A a lo hi →
+pub keeps_counts : (A : List Area) (prot : Prot) (lo hi : ℕ) (a : Area) → IsAreaList A → LiesIn A a lo hi →
     lo < hi → hi ≤ LIMIT → KeepsRows (kind_before A lo) a.kind (protected_kind prot a.kind) (kind_at A hi) →
-    (B : List Area) × KeepsCounts A (Protect addr len prot) lo hi B
-keeps_counts A addr len prot lo hi a w lies l h b =
-    let B = changed_list A (Protect addr len prot) lo hi in
-    let k = changed_list-kinds A (Protect addr len prot) lo hi w l h in
-    let n = length-after A B addr len prot lo hi a w lies l k in
-    (B, record { changed = k; areas = omega (arith, n, b); gaps = gaps-after A B addr len prot lo hi w k })
+    (B : List Area) × KeepsCounts A (patch lo hi (Protects prot)) B
+keeps_counts A prot lo hi a w lies l h b =
+    let B = changed_list A (patch lo hi (Protects prot) ∷ []) in
+    let k = changed_list-kinds A (patch lo hi (Protects prot) ∷ []) w (omega arith, omega arith, h) in
+    let n = length-after A B prot lo hi a w lies l k in
+    (B, record { changed = k; areas = omega (arith, n, b); gaps = gaps-after A B prot lo hi w k })
 
 -- a Protect within one area that keeps the counts keeps the rows that start at its ends
-pub keeps_borders : (A B : List Area) (addr len : ℕ) (prot : Prot) (lo hi : ℕ) (a : Area) → IsAreaList A → LiesIn A a lo hi →
-    lo < hi → KeepsCounts A (Protect addr len prot) lo hi B → KeepsRows (kind_before A lo) a.kind (protected_kind prot a.kind) (kind_at A hi)
-keeps_borders A B addr len prot lo hi a w lies l k =
-    omega (arith, length-after A B addr len prot lo hi a w lies l k.changed, k.areas)
+pub keeps_borders : (A B : List Area) (prot : Prot) (lo hi : ℕ) (a : Area) → IsAreaList A → LiesIn A a lo hi →
+    lo < hi → KeepsCounts A (patch lo hi (Protects prot)) B → KeepsRows (kind_before A lo) a.kind (protected_kind prot a.kind) (kind_at A hi)
+keeps_borders A B prot lo hi a w lies l k =
+    omega (arith, length-after A B prot lo hi a w lies l k.changed, k.areas)
 
 -- the same, of the span of the call
 pub simple_in : (A : List Area) (addr len : ℕ) (prot : Prot) (lo hi : ℕ) (a : Area) → lo ≡ page_of addr →
@@ -287,16 +288,13 @@ pub simple_in : (A : List Area) (addr len : ℕ) (prot : Prot) (lo hi : ℕ) (a 
     → KeepsRows (kind_before A lo) a.kind (protected_kind prot a.kind) (kind_at A hi) →
     IsSimpleIn A (Protect addr len prot) a
 simple_in A addr len prot lo hi a e f w lies l h b =
-    let c = Protect addr len prot in
-    subst (λ y. LiesIn A a (page_of addr) y × ((B : List Area) × KeepsCounts A c (page_of addr) y B)) f
-    (subst (λ x. LiesIn A a x hi × ((B : List Area) × KeepsCounts A c x hi B)) e
-    (lies, keeps_counts A addr len prot lo hi a w lies l h b))
+    subst (λ (z : ℕ × ℕ). LiesIn A a z.0 z.1 × ((B : List Area) × KeepsCounts A (patch z.0 z.1 (Protects prot)) B)) (λ i. (e i, f i))
+    (lies, keeps_counts A prot lo hi a w lies l h b)
 
 -- a simple Protect of pages within an area keeps the rows that start at its ends
 pub simple_borders : (A : List Area) (addr len : ℕ) (prot : Prot) (lo hi : ℕ) (a : Area) → lo ≡ page_of addr →
     hi ≡ end_page addr len → IsAreaList A → LiesIn A a lo hi → lo < hi → IsSimple A (Protect addr len prot) →
     KeepsRows (kind_before A lo) a.kind (protected_kind prot a.kind) (kind_at A hi)
 simple_borders A addr len prot lo hi a e f w lies l (other, (there, (B, k))) =
-    let c = Protect addr len prot in
-    keeps_borders A B addr len prot lo hi a w lies l
-    (subst (λ x. KeepsCounts A c x hi B) (sym e) (subst (λ y. KeepsCounts A c (page_of addr) y B) (sym f) k))
+    keeps_borders A B prot lo hi a w lies l
+    (subst (λ (z : ℕ × ℕ). KeepsCounts A (patch z.0 z.1 (Protects prot)) B) (λ i. (sym e i, sym f i)) k)

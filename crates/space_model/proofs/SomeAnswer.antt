@@ -1,34 +1,38 @@
 -- Each call has an answer on an area list: of the pages below a bound there is a lowest and a highest of a sort, or
 -- none.
-use Rattle.std.proofs.Common.{◌≡◌, ℕ, zero, suc, ◌+◌, ◌<◌, ◌≤◌, ◌≢◌, ◌⊎◌, inl, inr, Bool, true, false, ◌||◌, IsTrue}
-use Rattle.std.proofs.Common.{IsSome, List, Option, Some, None, sym, ◌∙◌, ap, subst, refl, arith}
+use Rattle.std.proofs.Common.{◌≡◌, ℕ, zero, suc, ◌+◌, ◌*◌, ◌<◌, ◌≤◌, ◌≢◌, ◌⊎◌, inl, inr, Bool, true, false, if◌then◌else◌}
+use Rattle.std.proofs.Common.{is_some, List, [], ◌∷◌, Option, Some, None, sym, ◌∙◌, subst, refl, arith}
 use Rattle.std.proofs.lemmas.Bool.{cases_lt, cases_Bool, true≢false}
-use Rattle.page_types.specs.declared.TheConstants.{LIMIT, ROWS}
+use Rattle.page_types.specs.declared.TheConstants.{LIMIT, LOWEST, ROWS}
 use Rattle.page_types.specs.declared.sets.Access.{Access}
-use Rattle.page_types.specs.declared.sets.MapFlags.{MapFlags}
 use Rattle.page_types.specs.declared.calls.Kind.{Kind}
 use Rattle.page_types.specs.declared.calls.Call.{Call}
 use Rattle.page_types.specs.declared.calls.Call.TheVariants.{Map, Unmap, Protect, Fault}
 use Rattle.page_types.specs.declared.calls.Reply.{Reply}
-use Rattle.page_types.specs.declared.calls.Reply.TheVariants.{Granted, Refused}
+use Rattle.page_types.specs.declared.calls.Reply.TheVariants.{At, Zero, Granted, Refused}
 use Rattle.page_types.specs.declared.calls.Why.{Why}
-use Rattle.page_types.specs.declared.calls.Why.TheVariants.{Enomem, Eexist, MapErr, AccErr}
-use Rattle.page_types.specs.declared.calls.Short.TheVariants.{Missing, NoGap, Rows}
+use Rattle.page_types.specs.declared.calls.Why.TheVariants.{Enomem, MapErr, AccErr}
+use Rattle.page_types.specs.declared.calls.Short.TheVariants.{NoGap}
 use Rattle.page_types.specs.Pages.{page_of, page_count, end_page}
-use Rattle.page_types.specs.Sets.{has_bits, flag_bits, prot_bits, access_bit, is_fixed}
+use Rattle.page_types.specs.Sets.{has_bits, prot_bits, access_bit, is_fixed}
 use Rattle.page_types.specs.PlainReply.{plain_reply}
 use Rattle.page_types.proofs.Undecided.{map-length, map-end, unmap-length, unmap-end, protect-length, protect-end}
 use Rattle.space_model.specs.declared.areas.Area.{Area}
+use Rattle.space_model.specs.declared.paint.Paint.TheVariants.{Gives, Protects}
+use Rattle.space_model.specs.declared.paint.Patch.{Patch}
+use Rattle.space_model.specs.declared.sorts.Sort.{Sort}
+use Rattle.space_model.specs.declared.sorts.Sort.TheVariants.{Mapped}
 use Rattle.space_model.specs.Areas.{IsAreaList, kind_at, row_count}
-use Rattle.space_model.specs.Effect.{done_reply}
-use Rattle.space_model.specs.Building.{changed_list}
+use Rattle.space_model.specs.Effect.{mapped_kind, patch, AreRising}
+use Rattle.space_model.specs.Sorts.{is_sort, NoneOf, IsLowest, Bar, why_of, IsBarred, IsClear}
+use Rattle.space_model.specs.Sorts.Bar.{bar}
+use Rattle.space_model.specs.Places.{FitsAt, Place, StartsBy, NoStart, StartsAt, HasNoPlace, map_places}
+use Rattle.space_model.specs.Places.Place.{fixed, free_at, highest}
+use Rattle.space_model.specs.Answers.{bars, AnswersFault, full_reply, IsEffect, Answers}
+use Rattle.space_model.specs.Answers.Effect.{changes}
+use Rattle.space_model.specs.Answers.Answers.{by_arguments, refused, kept, done, too_many_rows}
 use Rattle.space_model.specs.Laws.{HasSomeAnswer}
-use Rattle.space_model.specs.Answers.{IsUnmapped, IsMapped, IsLowestMapped, IsLowestMissing, FitsAt, Hints, StartsAt}
-use Rattle.space_model.specs.Answers.{IsPlace, RefusesMap, RefusesAccess, Answers}
-use Rattle.space_model.specs.Answers.StartsAt.{free as unmapped, replacing, hinted, highest}
-use Rattle.space_model.specs.Answers.RefusesMap.{exists, no_gap}
-use Rattle.space_model.specs.Answers.Answers.{by_arguments, refused, granted, done, too_many_rows}
-use Rattle.space_model.proofs.OneAnswer.{some_isnt_none}
+use Rattle.space_model.specs.Building.{changed_list}
 use Rattle.space_model.proofs.Changing.{changed_list-kinds}
 
 -- the lowest number of a sort from one bound up to another, or none
@@ -79,132 +83,110 @@ highest_of P test (suc hi) =
           ]
     ]
 
--- a page is mapped or not
-mapped_or_not : (o : Option Kind) → IsSome o ⊎ (¬ IsSome o)
-mapped_or_not None = inr (λ s. some_isnt_none None s refl)
-mapped_or_not (Some k) = inl refl
+-- a test is passed or not
+pub passed_or_not : (b : Bool) → (b ≡ true) ⊎ (b ≢ true)
+passed_or_not true = inl refl
+passed_or_not false = inr (λ e. true≢false (sym e))
 
-missing_or_not : (o : Option Kind) → (o ≡ None) ⊎ (o ≢ None)
-missing_or_not None = inl refl
-missing_or_not (Some k) = inr (λ e. some_isnt_none (Some k) refl e)
+-- a test that isn't passed says false
+pub not_passed : (b : Bool) → b ≢ true → b ≡ false
+not_passed true n = absurd (n refl)
+not_passed false n = refl
 
-none_from : (o : Option Kind) → ¬ IsSome o → o ≡ None
-none_from None n = refl
-none_from (Some k) n = absurd (n refl)
+-- a page that isn't mapped has no kind
+pub unmapped_none : (o : Option Kind) → is_some o ≡ false → o ≡ None
+unmapped_none None e = refl
+unmapped_none (Some k) e = cc
 
-some_from : (o : Option Kind) → o ≢ None → IsSome o
-some_from None n = absurd (n refl)
-some_from (Some k) n = refl
+-- and one with no kind isn't mapped
+pub none_unmapped : (o : Option Kind) → o ≡ None → is_some o ≡ false
+none_unmapped None e = refl
+none_unmapped (Some k) e = cc
 
-lowest_mapped : (A : List Area) (lo hi : ℕ) → IsUnmapped A lo hi ⊎ ((page : ℕ) × IsLowestMapped A lo hi page)
-lowest_mapped A lo hi =
-    elim (lowest_of (λ p. IsSome (kind_at A p)) (λ p. mapped_or_not (kind_at A p)) lo hi) [
-      | lowest_is q g l h below ↦
-          inr (q, record { from = g; within = l; mapped = h; free_below = λ p low high. none_from (kind_at A p) (below p low high) })
-      | no_lowest none ↦ inl (λ p g l. none_from (kind_at A p) (none p g l))
-    ]
+module _ (kinds : ℕ → Option Kind) where
+  lowest_such : (sort : Sort) (lo hi : ℕ) → NoneOf kinds sort lo hi ⊎ ((page : ℕ) × IsLowest kinds sort lo hi page)
+  lowest_such sort lo hi =
+      elim (lowest_of (λ p. is_sort sort (kinds p) ≡ true) (λ p. passed_or_not (is_sort sort (kinds p))) lo hi) [
+        | lowest_is q g l h below ↦
+            inr (
+              q,
+              record {
+                from = g;
+                within = l;
+                such = h;
+                none_below = λ p low high. not_passed (is_sort sort (kinds p)) (below p low high);
+              },
+            )
+        | no_lowest none ↦ inl (λ p g l. not_passed (is_sort sort (kinds p)) (none p g l))
+      ]
 
-lowest_missing : (A : List Area) (lo hi : ℕ) → IsMapped A lo hi ⊎ ((page : ℕ) × IsLowestMissing A lo hi page)
-lowest_missing A lo hi =
-    elim (lowest_of (λ p. kind_at A p ≡ None) (λ p. missing_or_not (kind_at A p)) lo hi) [
-      | lowest_is q g l h below ↦
-          inr (q, record { from = g; within = l; missing = h; mapped_below = λ p low high. some_from (kind_at A p) (below p low high) })
-      | no_lowest none ↦ inl (λ p g l. some_from (kind_at A p) (none p g l))
-    ]
+  bars_some : (list : List Bar) → IsClear kinds list ⊎ ((why : Why) × IsBarred kinds list why)
+  bars_some [] = inl tt
+  bars_some (bar sort lo hi ∷ rest) =
+      elim (lowest_such sort lo hi) [
+        | inr (q, first) ↦ inr (why_of sort q, inl (q, first, refl))
+        | inl none ↦
+            elim (bars_some rest) [
+              | inl clear ↦ inl (none, clear)
+              | inr (why, barred) ↦ inr (why, inr (none, barred))
+            ]
+      ]
 
-fits_or_not : (A : List Area) (pages start : ℕ) → FitsAt A pages start ⊎ (¬ FitsAt A pages start)
-fits_or_not A pages start =
-    elim (cases_lt start 16) [
-      | inl below ↦ inr (λ fit. absurd (omega (arith, fit.low)))
-      | inr low ↦
-          elim (cases_lt LIMIT (start + pages)) [
-            | inl above ↦ inr (λ fit. absurd (omega (arith, fit.high)))
-            | inr high ↦
-                elim (lowest_mapped A start (start + pages)) [
-                  | inl is_free ↦ inl (record { low = low; high = high; free = is_free })
-                  | inr (q, first) ↦
-                      inr (λ fit. some_isnt_none (kind_at A q) first.mapped (fit.free q first.from first.within))
-                ]
-          ]
-    ]
+  fits_or_not : (pages start : ℕ) → FitsAt kinds pages start ⊎ (¬ FitsAt kinds pages start)
+  fits_or_not pages start =
+      elim (cases_lt start LOWEST) [
+        | inl below ↦ inr (λ fit. absurd (omega (arith, fit.low)))
+        | inr low ↦
+            elim (cases_lt LIMIT (start + pages)) [
+              | inl above ↦ inr (λ fit. absurd (omega (arith, fit.high)))
+              | inr high ↦
+                  elim (lowest_such Mapped start (start + pages)) [
+                    | inl is_free ↦
+                        inl (record { low = low; high = high; free = λ p g l. unmapped_none (kinds p) (is_free p g l) })
+                    | inr (q, first) ↦
+                        inr (λ fit. true≢false (sym first.such ∙ none_unmapped (kinds q) (fit.free q first.from first.within)))
+                  ]
+            ]
+      ]
 
--- the flags of a Map
-fixed_by_no_replace : (a b : Bool) → b ≡ true → (a || b) ≡ true
-fixed_by_no_replace true b e = refl
-fixed_by_no_replace false b e = e
+  place_some : (pages : ℕ) (place : Place) → NoStart kinds pages place ⊎ ((start : ℕ) × StartsBy kinds pages place start)
+  place_some pages (fixed at) = inr (at, refl)
+  place_some pages (free_at at) = elim (fits_or_not pages at) [ inl fit ↦ inr (at, (fit, refl)) | inr unfit ↦ inl unfit ]
+  place_some pages highest =
+      elim (highest_of (FitsAt kinds pages) (fits_or_not pages) (LIMIT + 1)) [
+        | highest_is q l fit top ↦
+            inr (q, record { fits = fit; highest = λ other o. top other (omega (arith, o.high)) o })
+        | no_highest none ↦ inl (λ start o. none start (omega (arith, o.high)) o)
+      ]
 
-neither : (a b : Bool) → a ≡ false → b ≡ false → (a || b) ≡ false
-neither a b e d = ap (λ x. x || b) e ∙ d
+  places_some : (pages : ℕ) (list : List Place) → HasNoPlace kinds pages list ⊎ ((start : ℕ) × StartsAt kinds pages list start)
+  places_some pages [] = inl tt
+  places_some pages (place ∷ rest) =
+      elim (place_some pages place) [
+        | inr (start, by) ↦ inr (start, inl by)
+        | inl none ↦
+            elim (places_some pages rest) [
+              | inl nowhere ↦ inl (none, nowhere)
+              | inr (start, at) ↦ inr (start, inr (none, at))
+            ]
+      ]
 
--- a place of a Map that ends at or below LIMIT
-Placed : List Area → ℕ → ℕ → MapFlags → Type 0
-Placed A hint pages flags = (start : ℕ) × StartsAt A hint pages flags start × (start + pages ≤ LIMIT)
+  -- the pages of a Map end at or below LIMIT
+  placed_low : (b : Bool) (hint pages start : ℕ) → (b ≡ true → hint + pages ≤ LIMIT) →
+      StartsAt kinds pages (if b then fixed hint ∷ [] else free_at hint ∷ highest ∷ []) start → start + pages ≤ LIMIT
+  placed_low true hint pages start end (inl e) = omega (arith, end refl, e)
+  placed_low true hint pages start end (inr (n, s)) = absurd n
+  placed_low false hint pages start end (inl (fit, e)) = omega (arith, fit.high, e)
+  placed_low false hint pages start end (inr (n, inl fit)) = fit.fits.high
+  placed_low false hint pages start end (inr (n, inr (m, s))) = absurd s
 
-hinted_some : (A : List Area) (hint pages : ℕ) (flags : MapFlags) → Hints flags →
-    ((why : Why) × RefusesMap A hint pages flags why) ⊎ Placed A hint pages flags
-unfolding Placed
-hinted_some A hint pages flags h =
-    elim (fits_or_not A pages hint) [
-      | inl fit ↦ inr (hint, hinted h fit refl, fit.high)
-      | inr unfit ↦
-          elim (highest_of (FitsAt A pages) (fits_or_not A pages) (LIMIT + 1)) [
-            | highest_is q l fit top ↦
-                inr (
-                  q,
-                  highest h unfit (record { fits = fit; highest = λ other o. top other (omega (arith, o.high)) o }),
-                  fit.high,
-                )
-            | no_highest none ↦
-                inl (Enomem (NoGap pages), no_gap h (λ start o. none start (omega (arith, o.high)) o) refl)
-          ]
-    ]
-
-map_some : (A : List Area) (hint pages : ℕ) (flags : MapFlags) → (IsTrue (is_fixed flags) → hint + pages ≤ LIMIT) →
-    ((why : Why) × RefusesMap A hint pages flags why) ⊎ Placed A hint pages flags
-unfolding Placed
-map_some A hint pages flags end =
-    let fixed : Bool = has_bits (flag_bits flags) 4 in
-    let no_replace : Bool = has_bits (flag_bits flags) 8 in
-    elim (cases_Bool no_replace) [
-      | inl n ↦
-          elim (lowest_mapped A hint (hint + pages)) [
-            | inl is_free ↦ inr (hint, unmapped n is_free refl, end (fixed_by_no_replace fixed no_replace n))
-            | inr (q, first) ↦ inl (Eexist q, exists q n first refl)
-          ]
-      | inr may ↦
-          elim (cases_Bool fixed) [
-            | inl f ↦ inr (hint, replacing (record { fixed = f; may = may }) refl, end (ap (λ x. x || no_replace) f))
-            | inr f ↦ hinted_some A hint pages flags (neither fixed no_replace f may)
-          ]
-    ]
-
--- a change that has a place is done, or makes too many rows
-changed_some : (A : List Area) (c : Call) (lo hi : ℕ) → IsAreaList A → plain_reply c ≡ None → IsPlace A c lo hi → lo < hi →
-    hi ≤ LIMIT → HasSomeAnswer A c
-changed_some A c lo hi w u p l h =
-    let B = changed_list A c lo hi in
-    let k = changed_list-kinds A c lo hi w l h in
-    elim (cases_lt ROWS (row_count B)) [
-      | inl many ↦ (Refused (Enomem (Rows (row_count B))), A, too_many_rows lo hi B u p k many refl refl)
-      | inr few ↦ (done_reply c lo, B, done lo hi u p k few refl)
-    ]
-
-fault_some : (A : List Area) (addr : ℕ) (access : Access) (o : Option Kind) → kind_at A (page_of addr) ≡ o →
-    plain_reply (Fault addr access) ≡ None → HasSomeAnswer A (Fault addr access)
-fault_some A addr access None e u =
-    let page = page_of addr in
-    let why : RefusesAccess (kind_at A page) page access (MapErr page) =
-    subst (λ o. RefusesAccess o page access (MapErr page)) (sym e) refl in
-    (Refused (MapErr page), A, refused (MapErr page) u why refl refl)
-fault_some A addr access (Some k) e u =
-    let page = page_of addr in
-    elim (cases_Bool (has_bits (prot_bits k.prot) (access_bit access))) [
-      | inl t ↦ (Granted k, A, granted k u (e, t) refl refl)
-      | inr f ↦
-          let why : RefusesAccess (kind_at A page) page access (AccErr page k) =
-          subst (λ o. RefusesAccess o page access (AccErr page k)) (sym e) (λ t. true≢false (sym t ∙ f), refl) in
-          (Refused (AccErr page k), A, refused (AccErr page k) u why refl refl)
-    ]
+  fault_some : (o : Option Kind) (page : ℕ) (access : Access) → (r : Reply) × AnswersFault o page access r
+  fault_some None page access = (Refused (MapErr page), refl)
+  fault_some (Some k) page access =
+      elim (cases_Bool (has_bits (prot_bits k.prot) (access_bit access))) [
+        | inl t ↦ (Granted k, inl (t, refl))
+        | inr f ↦ (Refused (AccErr page k), inr (λ t. true≢false (sym t ∙ f), refl))
+      ]
 
 some_pages : (addr len : ℕ) → len ≢ 0 → page_of addr < end_page addr len
 some_pages addr len n = omega arith
@@ -212,26 +194,49 @@ some_pages addr len n = omega arith
 some_length : (len : ℕ) → len ≢ 0 → 0 < page_count len
 some_length len n = omega arith
 
-undecided_some : (A : List Area) (c : Call) → IsAreaList A → plain_reply c ≡ None → HasSomeAnswer A c
-unfolding Placed
-undecided_some A (Map addr len prot flags) w u =
-    elim (map_some A (page_of addr) (page_count len) flags (map-end addr len flags u)) [
-      | inl (why, r) ↦ (Refused why, A, refused why u r refl refl)
-      | inr (lo, s, h) ↦
-          changed_some A (Map addr len prot flags) lo (lo + page_count len) w u (s, refl)
-          (omega (arith, some_length len (map-length addr len flags u))) h
-    ]
-undecided_some A (Unmap addr len) w u =
-    changed_some A (Unmap addr len) (page_of addr) (end_page addr len) w u (refl, refl)
-    (some_pages addr len (unmap-length addr len u)) (unmap-end addr len u)
-undecided_some A (Protect addr len prot) w u =
-    elim (lowest_missing A (page_of addr) (end_page addr len)) [
-      | inl mapped ↦
-          changed_some A (Protect addr len prot) (page_of addr) (end_page addr len) w u (refl, refl, mapped)
-          (some_pages addr len (protect-length addr len u)) (protect-end addr len u)
-      | inr (q, first) ↦ (Refused (Enomem (Missing q)), A, refused (Enomem (Missing q)) u (q, first, refl) refl refl)
-    ]
-undecided_some A (Fault addr access) w u = fault_some A addr access (kind_at A (page_of addr)) refl u
+module _ (A : List Area) (w : IsAreaList A) where
+  -- a change is done, or makes too many rows
+  patched_some : (c : Call) (patches : List Patch) (reply : Reply) (full : Option Reply) → plain_reply c ≡ None →
+      IsEffect (kind_at A) c (changes patches reply full) → AreRising 0 patches → HasSomeAnswer A c
+  patched_some c patches reply full u e r =
+      let B = changed_list A patches in
+      let k = changed_list-kinds A patches w r in
+      elim (cases_lt ROWS (row_count B)) [
+        | inl many ↦ (full_reply full (row_count B), A, too_many_rows patches reply full B u e k many refl refl)
+        | inr few ↦ (reply, B, done patches full u e k few)
+      ]
+
+  changed_some : (c : Call) (change : Patch) (reply : Reply) (full : Option Reply) → plain_reply c ≡ None →
+      IsEffect (kind_at A) c (changes (change ∷ []) reply full) → change.lo < change.hi → change.hi ≤ LIMIT → HasSomeAnswer A c
+  changed_some c change reply full u e l h = patched_some c (change ∷ []) reply full u e (omega arith, omega arith, h)
+
+  clear_some : (c : Call) → plain_reply c ≡ None → IsClear (kind_at A) (bars c) → HasSomeAnswer A c
+  clear_some (Map addr len prot flags) u clear =
+      let count = page_count len in
+      elim (places_some (kind_at A) count (map_places flags (page_of addr))) [
+        | inl none ↦ (Refused (Enomem (NoGap count)), A, refused (Enomem (NoGap count)) u (inr (clear, (none, refl))) refl refl)
+        | inr (start, s) ↦
+            changed_some (Map addr len prot flags) (patch start (start + count) (Gives (Some (mapped_kind prot flags))))
+            (At (start * 4096)) None u (clear, (start, s, refl))
+            (omega (arith, some_length len (map-length addr len flags u)))
+            (placed_low (kind_at A) (is_fixed flags) (page_of addr) count start (map-end addr len flags u) s)
+      ]
+  clear_some (Unmap addr len) u clear =
+      changed_some (Unmap addr len) (patch (page_of addr) (end_page addr len) (Gives None)) Zero None u (clear, refl)
+      (some_pages addr len (unmap-length addr len u)) (unmap-end addr len u)
+  clear_some (Protect addr len prot) u clear =
+      changed_some (Protect addr len prot) (patch (page_of addr) (end_page addr len) (Protects prot)) Zero None u (clear, refl)
+      (some_pages addr len (protect-length addr len u)) (protect-end addr len u)
+  clear_some (Fault addr access) u clear =
+      let (r, h) = fault_some (kind_at A) (kind_at A (page_of addr)) (page_of addr) access in
+      (r, A, kept u (clear, (r, h, refl)) refl)
+
+  undecided_some : (c : Call) → plain_reply c ≡ None → HasSomeAnswer A c
+  undecided_some c u =
+      elim (bars_some (kind_at A) (bars c)) [
+        | inl clear ↦ clear_some c u clear
+        | inr (why, barred) ↦ (Refused why, A, refused why u (inl barred) refl refl)
+      ]
 
 decided_or_not : (o : Option Reply) → (o ≡ None) ⊎ ((r : Reply) × (o ≡ Some r))
 decided_or_not None = inl refl
@@ -241,7 +246,7 @@ decided_or_not (Some r) = inr (r, refl)
 pub some_answer : (A : List Area) (c : Call) → IsAreaList A → HasSomeAnswer A c
 some_answer A c w =
     elim (decided_or_not (plain_reply c)) [
-      | inl u ↦ undecided_some A c w u
+      | inl u ↦ undecided_some A w c u
       | inr (r, e) ↦ (r, A, by_arguments e refl)
     ]
 
@@ -249,6 +254,6 @@ some_answer A c w =
 pub leaves_areas : (A : List Area) (c : Call) (r : Reply) (B : List Area) → IsAreaList A → Answers A c r B → IsAreaList B
 leaves_areas A c r B w (by_arguments e b) = subst IsAreaList (sym b) w
 leaves_areas A c r B w (refused why u f e b) = subst IsAreaList (sym b) w
-leaves_areas A c r B w (granted kind u g e b) = subst IsAreaList (sym b) w
-leaves_areas A c r B w (done lo hi u p k n e) = k.areas
-leaves_areas A c r B w (too_many_rows lo hi C u p k n e b) = subst IsAreaList (sym b) w
+leaves_areas A c r B w (kept u g b) = subst IsAreaList (sym b) w
+leaves_areas A c r B w (done ps full u e k n) = k.areas
+leaves_areas A c r B w (too_many_rows ps said full C u e k n d b) = subst IsAreaList (sym b) w

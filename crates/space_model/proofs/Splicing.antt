@@ -1,6 +1,6 @@
--- Areas that a change doesn't touch stay: the list with only the middle built anew has the kinds of the effect, and its
+-- Areas that a change doesn't touch stay: the list with only the middle built anew has the kinds of the change, and its
 -- rows are those before, counted anew between the two cuts.
-use Rattle.std.proofs.Common.{◌≡◌, ◌≢◌, ℕ, zero, suc, ◌+◌, ◌-◌, ◌<◌, ◌≤◌, inl, inr, if◌then◌else◌, List, [], ◌∷◌, ◌++◌}
+use Rattle.std.proofs.Common.{◌≡◌, ◌≢◌, ℕ, zero, suc, ◌+◌, ◌-◌, ◌<◌, ◌≤◌, inl, inr, List, [], ◌∷◌, ◌++◌}
 use Rattle.std.proofs.Common.{length, length-append, append_assoc, take, drop, get_or, slice_get, Option, Some, None}
 use Rattle.std.proofs.Common.{MatchOption, All, sym, ◌∙◌, ap, subst, refl, arith}
 use Rattle.std.specs.List.{splice}
@@ -9,17 +9,16 @@ use Rattle.std.proofs.lemmas.List.{append-nil, take_at, drop_at}
 use Rattle.std.proofs.lemmas.Option.{slice_get-get_or}
 use Rattle.std.proofs.lemmas.List.Elements.{All-head, All-tail}
 use Rattle.page_types.specs.declared.TheConstants.{LIMIT}
-use Rattle.page_types.specs.declared.calls.Kind.{Kind}
-use Rattle.page_types.specs.declared.calls.Call.{Call}
+use Rattle.space_model.specs.declared.paint.Patch.{Patch}
 use Rattle.space_model.specs.declared.areas.Area.{Area}
-use Rattle.space_model.specs.Areas.{is_within, MayFollow, LeadsTo, IsAreaList, HasKinds, kind_at, gap_between, gaps_from, row_count}
-use Rattle.space_model.specs.Effect.{new_kind, effect_of}
+use Rattle.space_model.specs.Areas.{MayFollow, LeadsTo, IsAreaList, HasKinds, kind_at, gap_between, gaps_from, row_count}
+use Rattle.space_model.specs.Effect.{patched, AreRising}
 use Rattle.space_model.specs.Building.{no_area, changed_list}
-use Rattle.space_model.specs.Cutting.{IsCutBy, IsPlan, end_of, start_of, gaps_between, rows_between}
+use Rattle.space_model.specs.Cutting.{IsCutBy, IsPlan, end_of, start_of, gaps_between, rows_between, last_end}
 use Rattle.space_model.proofs.AreaKinds.{kind_at-here, kind_at-before, kind_at-after, kind_at-below, kind_at-end, IsAbove, LeadsTo-above, side_of}
 use Rattle.space_model.proofs.AreaKinds.Side.{before, inside, after}
 use Rattle.space_model.proofs.Joining.{first_of, first_of-none, kind_at-append, IsFreeFrom, ends_below}
-use Rattle.space_model.proofs.Changing.{within-before, within-inside, within-after, changed_list-kinds}
+use Rattle.space_model.proofs.Changing.{patched-same, patched-before, patched-behind, changed_list-kinds}
 use Rattle.space_model.proofs.FourWays.{starts_after, before_member}
 use Rattle.space_model.proofs.Highest.{member_between}
 
@@ -71,15 +70,15 @@ all_above : (B : List Area) (page : ℕ) → All (λ b. page < b.lo) B → IsAbo
 all_above [] page all = tt
 all_above (b ∷ B) page all = omega (arith, All-head (λ x. page < x.lo) b B all)
 
-module _ (A N : List Area) (c : Call) (lo hi : ℕ) (l : lo < hi) (k : HasKinds (effect_of A c lo hi) N) where
-  outside : (p : ℕ) → hi ≤ p → kind_at N p ≡ kind_at A p
-  outside p h = k.kinds_are p ∙ within-after lo hi p (new_kind c (kind_at A p)) (kind_at A p) h
+module _ (A N : List Area) (from : ℕ) (patches : List Patch) (r : AreRising from patches) (k : HasKinds (patched patches (kind_at A)) N) where
+  outside : (p : ℕ) → last_end from patches ≤ p → kind_at N p ≡ kind_at A p
+  outside p h = k.kinds_are p ∙ patched-behind from patches (kind_at A) p r h
 
   -- areas above the place stay behind what the place became
-  back_areas : (B : List Area) → IsAreaList (A ++ B) → All (λ b. hi < b.lo) B → IsAreaList (N ++ B)
+  back_areas : (B : List Area) → IsAreaList (A ++ B) → All (λ b. last_end from patches < b.lo) B → IsAreaList (N ++ B)
   back_areas [] w all = subst IsAreaList (sym (append-nil N)) k.areas
   back_areas (b ∷ B) w all =
-      let h : hi < b.lo = All-head (λ x. hi < x.lo) b B all in
+      let h : last_end from patches < b.lo = All-head (λ x. last_end from patches < x.lo) b B all in
       append_areas N b B k.areas (areas_right A (b ∷ B) w)
       (λ p g. outside p (omega arith) ∙ free_from_next A b B w p g)
       (λ p e s.
@@ -87,31 +86,23 @@ module _ (A N : List Area) (c : Call) (lo hi : ℕ) (l : lo < hi) (k : HasKinds 
       (kind_at-append A (b ∷ B) p ∙
       ap (λ o. first_of o (kind_at (b ∷ B) p)) (sym (outside p (omega arith)) ∙ s)))
 
-  back_kind : (B : List Area) (p : ℕ) → IsAreaList (A ++ B) → All (λ b. hi < b.lo) B →
-      kind_at (N ++ B) p ≡ effect_of (A ++ B) c lo hi p
+  back_kind : (B : List Area) (p : ℕ) → IsAreaList (A ++ B) → All (λ b. last_end from patches < b.lo) B →
+      kind_at (N ++ B) p ≡ patched patches (kind_at (A ++ B)) p
   back_kind B p w all =
-      let old : Option Kind = kind_at (A ++ B) p in
-      elim (side_of lo hi p) [
-        | before t ↦
-            kind_at-append N B p ∙
-            ap (λ o. first_of o (kind_at B p))
-            (k.kinds_are p ∙ within-before lo hi p (new_kind c (kind_at A p)) (kind_at A p) t) ∙
-            sym (kind_at-append A B p) ∙
-            sym (within-before lo hi p (new_kind c old) old t)
-        | inside g t ↦
-            let none : kind_at B p ≡ None = kind_at-below B hi p (areas_right A B w) (all_above B hi all) t in
+      let end : ℕ = last_end from patches in
+      elim (cases_lt p end) [
+        | inl lt ↦
+            let none : kind_at B p ≡ None = kind_at-below B end p (areas_right A B w) (all_above B end all) lt in
             kind_at-without N B p none ∙ k.kinds_are p ∙
-            within-inside lo hi p (new_kind c (kind_at A p)) (kind_at A p) g t ∙
-            ap (new_kind c) (sym (kind_at-without A B p none)) ∙
-            sym (within-inside lo hi p (new_kind c old) old g t)
-        | after t ↦
+            patched-same patches (kind_at A) (kind_at (A ++ B)) p (sym (kind_at-without A B p none))
+        | inr ge ↦
             kind_at-append N B p ∙
-            ap (λ o. first_of o (kind_at B p)) (outside p t) ∙
+            ap (λ o. first_of o (kind_at B p)) (outside p ge) ∙
             sym (kind_at-append A B p) ∙
-            sym (within-after lo hi p (new_kind c old) old t)
+            sym (patched-behind from patches (kind_at (A ++ B)) p r ge)
       ]
 
-  back_kinds : (B : List Area) → IsAreaList (A ++ B) → All (λ b. hi < b.lo) B → HasKinds (effect_of (A ++ B) c lo hi) (N ++ B)
+  back_kinds : (B : List Area) → IsAreaList (A ++ B) → All (λ b. last_end from patches < b.lo) B → HasKinds (patched patches (kind_at (A ++ B))) (N ++ B)
   back_kinds B w all = record { areas = back_areas B w all; kinds_are = λ p. back_kind B p w all }
 
 -- what follows an area may follow it still, where the pages up to a later one have the same kinds
@@ -135,15 +126,15 @@ leads_still a A (n ∷ N) lo w l v same =
     }
 
 -- an area below the place stays before what the place became
-front_area : (a : Area) (A N : List Area) (c : Call) (lo hi : ℕ) → IsAreaList (a ∷ A) → a.hi < lo →
-    HasKinds (effect_of A c lo hi) N → HasKinds (effect_of (a ∷ A) c lo hi) (a ∷ N)
-front_area a A N c lo hi w l k =
-    let below : (p : ℕ) → p < lo → kind_at N p ≡ kind_at A p =
-    λ p h. k.kinds_are p ∙ within-before lo hi p (new_kind c (kind_at A p)) (kind_at A p) h in
-    let first : (p : ℕ) → p < a.hi → kind_at (a ∷ N) p ≡ kind_at (a ∷ A) p → kind_at (a ∷ N) p ≡ effect_of (a ∷ A) c lo hi p =
-    λ p h e. e ∙ sym (within-before lo hi p (new_kind c (kind_at (a ∷ A) p)) (kind_at (a ∷ A) p) (omega arith)) in
+front_area : (a : Area) (A N : List Area) (from : ℕ) (patches : List Patch) → AreRising from patches → IsAreaList (a ∷ A) → a.hi < from →
+    HasKinds (patched patches (kind_at A)) N → HasKinds (patched patches (kind_at (a ∷ A))) (a ∷ N)
+front_area a A N from patches r w l k =
+    let below : (p : ℕ) → p < from → kind_at N p ≡ kind_at A p =
+    λ p h. k.kinds_are p ∙ patched-before from patches (kind_at A) p r h in
+    let first : (p : ℕ) → p < a.hi → kind_at (a ∷ N) p ≡ kind_at (a ∷ A) p → kind_at (a ∷ N) p ≡ patched patches (kind_at (a ∷ A)) p =
+    λ p h e. e ∙ sym (patched-before from patches (kind_at (a ∷ A)) p r (omega arith)) in
     record {
-      areas = (w.0, leads_still a A N lo w l k.areas below, k.areas);
+      areas = (w.0, leads_still a A N from w l k.areas below, k.areas);
       kinds_are = λ p.
           elim (side_of a.lo a.hi p) [
             | before h ↦
@@ -152,33 +143,39 @@ front_area a A N c lo hi w l k =
             | inside g h ↦ first p h (kind_at-here a N p g h ∙ sym (kind_at-here a A p g h))
             | after h ↦
                 kind_at-after a N p h ∙ k.kinds_are p ∙
-                ap (λ o. if is_within lo hi p then new_kind c o else o) (sym (kind_at-after a A p h))
+                patched-same patches (kind_at A) (kind_at (a ∷ A)) p (sym (kind_at-after a A p h))
           ];
     }
 
-front_kinds : (front A N : List Area) (c : Call) (lo hi : ℕ) → IsAreaList (front ++ A) → All (λ a. a.hi ≤ lo - 1) front →
-    HasKinds (effect_of A c lo hi) N → HasKinds (effect_of (front ++ A) c lo hi) (front ++ N)
-front_kinds [] A N c lo hi w all k = k
-front_kinds (a ∷ front) A N c lo hi w all k =
-    front_area a (front ++ A) (front ++ N) c lo hi w
-    (omega (arith, w.0.has_page, All-head (λ b. b.hi ≤ lo - 1) a front all))
-    (front_kinds front A N c lo hi w.2 (All-tail (λ b. b.hi ≤ lo - 1) a front all) k)
+front_kinds : (front A N : List Area) (from : ℕ) (patches : List Patch) → AreRising from patches → IsAreaList (front ++ A) →
+    All (λ a. a.hi ≤ from - 1) front → HasKinds (patched patches (kind_at A)) N → HasKinds (patched patches (kind_at (front ++ A))) (front ++ N)
+front_kinds [] A N from patches r w all k = k
+front_kinds (a ∷ front) A N from patches r w all k =
+    front_area a (front ++ A) (front ++ N) from patches r w
+    (omega (arith, w.0.has_page, All-head (λ b. b.hi ≤ from - 1) a front all))
+    (front_kinds front A N from patches r w.2 (All-tail (λ b. b.hi ≤ from - 1) a front all) k)
+
+-- patches that rise rise from the first page of the first one on
+rising_own : (q : Patch) (rest : List Patch) → AreRising 0 (q ∷ rest) → AreRising q.lo (q ∷ rest)
+rising_own q rest r = (omega arith, r.1, r.2)
 
 -- the list with the middle built anew
-pub spliced : (A front rest middle back N : List Area) (c : Call) (lo hi page : ℕ) → page ≡ lo - 1 → IsAreaList A → lo < hi → hi ≤ LIMIT →
-    IsCutBy (λ a. a.hi) A page front rest → IsCutBy (λ a. a.lo) rest hi middle back → N ≡ changed_list middle c lo hi →
-    HasKinds (effect_of A c lo hi) (front ++ (N ++ back))
-spliced A front rest middle back N c lo hi page e w l h low high is =
+pub spliced : (A front rest middle back N : List Area) (q : Patch) (more : List Patch) (page end : ℕ) → page ≡ q.lo - 1 →
+    end ≡ last_end 0 (q ∷ more) → IsAreaList A → AreRising 0 (q ∷ more) → IsCutBy (λ a. a.hi) A page front rest →
+    IsCutBy (λ a. a.lo) rest end middle back → N ≡ changed_list middle (q ∷ more) →
+    HasKinds (patched (q ∷ more) (kind_at A)) (front ++ (N ++ back))
+spliced A front rest middle back N q more page end e f w r low high is =
+    let patches : List Patch = q ∷ more in
     let whole : IsAreaList (front ++ rest) = subst IsAreaList low.whole w in
     let parts : IsAreaList (middle ++ back) = subst IsAreaList high.whole (areas_right front rest whole) in
-    let new : HasKinds (effect_of middle c lo hi) N =
-    subst (HasKinds (effect_of middle c lo hi)) (sym is)
-    (changed_list-kinds middle c lo hi (areas_left middle back parts) l h) in
-    let upper : HasKinds (effect_of rest c lo hi) (N ++ back) =
-    subst (λ X. HasKinds (effect_of X c lo hi) (N ++ back)) (sym high.whole)
-    (back_kinds middle N c lo hi l new back parts high.above) in
-    subst (λ X. HasKinds (effect_of X c lo hi) (front ++ (N ++ back))) (sym low.whole)
-    (front_kinds front rest (N ++ back) c lo hi whole (subst (λ p. All (λ a. a.hi ≤ p) front) e low.upto) upper)
+    let new : HasKinds (patched patches (kind_at middle)) N =
+    subst (HasKinds (patched patches (kind_at middle))) (sym is)
+    (changed_list-kinds middle patches (areas_left middle back parts) r) in
+    let upper : HasKinds (patched patches (kind_at rest)) (N ++ back) =
+    subst (λ X. HasKinds (patched patches (kind_at X)) (N ++ back)) (sym high.whole)
+    (back_kinds middle N 0 patches r new back parts (subst (λ n. All (λ a. n < a.lo) back) f high.above)) in
+    subst (λ X. HasKinds (patched patches (kind_at X)) (front ++ (N ++ back))) (sym low.whole)
+    (front_kinds front rest (N ++ back) q.lo patches (rising_own q more r) whole (subst (λ p. All (λ a. a.hi ≤ p) front) e low.upto) upper)
 
 -- the gaps before, in and behind the middle
 front_gaps : ℕ → List Area → ℕ
@@ -273,23 +270,23 @@ splice_is A front touched back N first end whole f e =
     ap (λ x. x ++ (N ++ drop end A)) (take_at front (touched ++ back) first (sym f)) ∙
     ap (λ x. front ++ (N ++ x)) behind
 
--- the list with the touched areas built anew, and its rows counted, is a plan of the call
-pub plan_of : (A front rest touched back N : List Area) (c : Call) (lo hi page first end rows : ℕ) → page ≡ lo - 1 → IsAreaList A →
-    lo < hi → hi ≤ LIMIT → IsCutBy (λ a. a.hi) A page front rest →
-    IsCutBy (λ a. a.lo) rest hi touched back → N ≡ changed_list touched c lo hi →
+-- the list with the touched areas built anew, and its rows counted, is a plan of the patches
+pub plan_of : (A front rest touched back N : List Area) (q : Patch) (more : List Patch) (page to first end rows : ℕ) → page ≡ q.lo - 1 →
+    to ≡ last_end 0 (q ∷ more) → IsAreaList A → AreRising 0 (q ∷ more) → IsCutBy (λ a. a.hi) A page front rest →
+    IsCutBy (λ a. a.lo) rest to touched back → N ≡ changed_list touched (q ∷ more) →
     first ≡ length front → end ≡ length front + length touched → rows ≡ row_count (front ++ (N ++ back)) →
-    IsPlan A c lo hi first end rows N
-plan_of A front rest touched back N c lo hi page first end rows p w l h low high is f e r =
+    IsPlan A (q ∷ more) first end rows N
+plan_of A front rest touched back N q more page to first end rows p t w r low high is f e c =
     let whole : A ≡ front ++ (touched ++ back) = low.whole ∙ ap (λ x. front ++ x) high.whole in
     let same : splice A first end N ≡ front ++ (N ++ back) = splice_is A front touched back N first end whole f e in
     record {
       ordered = omega arith;
       within = omega (arith, ap length whole, length-append front (touched ++ back), length-append touched back);
-      list = subst (HasKinds (effect_of A c lo hi)) (sym same) (spliced A front rest touched back N c lo hi page p w l h low high is);
-      counted = r ∙ ap row_count (sym same);
+      list = subst (HasKinds (patched (q ∷ more) (kind_at A))) (sym same) (spliced A front rest touched back N q more page to p t w r low high is);
+      counted = c ∙ ap row_count (sym same);
     }
 
 -- and it is that of the same list
-pub plan_for : (A B : List Area) (c : Call) (lo hi first end rows : ℕ) (middle : List Area) → A ≡ B →
-    IsPlan A c lo hi first end rows middle → IsPlan B c lo hi first end rows middle
-plan_for A B c lo hi first end rows middle same plan = subst (λ X. IsPlan X c lo hi first end rows middle) same plan
+pub plan_for : (A B : List Area) (patches : List Patch) (first end rows : ℕ) (middle : List Area) → A ≡ B →
+    IsPlan A patches first end rows middle → IsPlan B patches first end rows middle
+plan_for A B patches first end rows middle same plan = subst (λ X. IsPlan X patches first end rows middle) same plan

@@ -1,8 +1,8 @@
 -- The reply to a call on an area list, and the area list that the call leaves: the profile of mmap(2), munmap(2),
--- mprotect(2) and page faults that this project follows. The place of a Map is defined by what no other place has, and
--- not by a search, so a reader may check it against the manual.
-use Rattle.std.specs.Prelude.{ℕ, ◌≡◌, ◌<◌, ◌≤◌, ◌+◌, IsTrue, IsFalse, IsSome, Option, Some, None, List}
-use Rattle.page_types.specs.declared.TheConstants.{LIMIT, ROWS}
+-- mprotect(2) and page faults that this project follows. A call is decided by its arguments, or barred by pages, or
+-- finds no place, or does what it asks for: it gives a reply alone, or a reply and patches of pages.
+use Rattle.std.specs.Prelude.{ℕ, ◌≡◌, ◌<◌, ◌≤◌, ◌+◌, ◌*◌, ◌⊎◌, IsTrue, if◌then◌else◌, Option, Some, None, List, [], ◌∷◌}
+use Rattle.page_types.specs.declared.TheConstants.{ROWS}
 use Rattle.page_types.specs.declared.sets.Access.{Access}
 use Rattle.page_types.specs.declared.sets.MapFlags.{MapFlags}
 use Rattle.page_types.specs.declared.calls.Kind.{Kind}
@@ -11,122 +11,90 @@ use Rattle.page_types.specs.declared.calls.Call.TheVariants.{Map, Unmap, Protect
 use Rattle.page_types.specs.declared.calls.Reply.{Reply}
 use Rattle.page_types.specs.declared.calls.Reply.TheVariants.{At, Zero, Granted, Refused}
 use Rattle.page_types.specs.declared.calls.Why.{Why}
-use Rattle.page_types.specs.declared.calls.Why.TheVariants.{Enomem, Eexist, MapErr, AccErr}
-use Rattle.page_types.specs.declared.calls.Short.TheVariants.{Missing, NoGap, Rows}
+use Rattle.page_types.specs.declared.calls.Why.TheVariants.{Enomem, MapErr, AccErr}
+use Rattle.page_types.specs.declared.calls.Short.TheVariants.{NoGap, Rows}
 use Rattle.page_types.specs.Pages.{page_of, page_count, end_page}
-use Rattle.page_types.specs.Sets.{has_bits, flag_bits, prot_bits, access_bit, is_fixed}
+use Rattle.page_types.specs.Sets.{has_bits, flag_bits, prot_bits, access_bit}
 use Rattle.page_types.specs.PlainReply.{plain_reply}
 use Rattle.space_model.specs.declared.areas.Area.{Area}
+use Rattle.space_model.specs.declared.paint.Paint.TheVariants.{Gives, Protects}
+use Rattle.space_model.specs.declared.paint.Patch.{Patch}
+use Rattle.space_model.specs.declared.sorts.Sort.TheVariants.{Mapped, Missing}
 use Rattle.space_model.specs.Areas.{kind_at, row_count, HasKinds}
-use Rattle.space_model.specs.Effect.{effect_of, done_reply}
+use Rattle.space_model.specs.Effect.{mapped_kind, patch, patched}
+use Rattle.space_model.specs.Sorts.{Bar, IsBarred, IsClear}
+use Rattle.space_model.specs.Sorts.Bar.{bar}
+use Rattle.space_model.specs.Places.{StartsAt, HasNoPlace, map_places}
 
--- no page from lo up to hi is mapped
-abbrev pub IsUnmapped : List Area → ℕ → ℕ → Type 0
-IsUnmapped A lo hi = (page : ℕ) → lo ≤ page → page < hi → kind_at A page ≡ None
+-- mmap(2): with MAP_FIXED_NOREPLACE, which counts also beside MAP_FIXED, no page may be mapped
+abbrev pub map_bars : MapFlags → ℕ → ℕ → List Bar
+map_bars flags lo hi = if has_bits (flag_bits flags) 8 then bar Mapped lo hi ∷ [] else []
 
--- every page from lo up to hi is mapped
-abbrev pub IsMapped : List Area → ℕ → ℕ → Type 0
-IsMapped A lo hi = (page : ℕ) → lo ≤ page → page < hi → IsSome (kind_at A page)
+-- what bars a call, the first bar first; mprotect(2) wants all its pages mapped
+abbrev pub bars : Call → List Bar
+bars (Map addr len prot flags) = map_bars flags (page_of addr) (page_of addr + page_count len)
+bars (Unmap addr len) = []
+bars (Protect addr len prot) = bar Missing (page_of addr) (end_page addr len) ∷ []
+bars (Fault addr access) = []
 
--- the lowest mapped page of those from lo up to hi
-pub record IsLowestMapped (A : List Area) (lo hi page : ℕ) : Type 0 where
-  pub from : lo ≤ page
-  pub within : page < hi
-  pub mapped : IsSome (kind_at A page)
-  pub free_below : IsUnmapped A lo page
+-- pages are to be put somewhere, and no place applies
+abbrev pub FindsNoPlace : (ℕ → Option Kind) → Call → Why → Type 0
+FindsNoPlace kinds (Map addr len prot flags) why =
+    HasNoPlace kinds (page_count len) (map_places flags (page_of addr)) × (why ≡ Enomem (NoGap (page_count len)))
+FindsNoPlace kinds (Unmap addr len) why = ⊥
+FindsNoPlace kinds (Protect addr len prot) why = ⊥
+FindsNoPlace kinds (Fault addr access) why = ⊥
 
--- the lowest page that isn't mapped of those from lo up to hi
-pub record IsLowestMissing (A : List Area) (lo hi page : ℕ) : Type 0 where
-  pub from : lo ≤ page
-  pub within : page < hi
-  pub missing : kind_at A page ≡ None
-  pub mapped_below : IsMapped A lo page
+-- why the pages refuse a call that its arguments don't decide, before the row limit is asked
+abbrev pub RefusesByState : (ℕ → Option Kind) → Call → Why → Type 0
+RefusesByState kinds c why = IsBarred kinds (bars c) why ⊎ (IsClear kinds (bars c) × FindsNoPlace kinds c why)
 
--- a place of so many pages that no fixed flag asks for starts at or above page 16 (this project's own bound) and is
--- free
-pub record FitsAt (A : List Area) (pages start : ℕ) : Type 0 where
-  pub low : 16 ≤ start
-  pub high : start + pages ≤ LIMIT
-  pub free : IsUnmapped A start (start + pages)
-
--- no place of so many pages starts higher
-pub record IsHighestFit (A : List Area) (pages start : ℕ) : Type 0 where
-  pub fits : FitsAt A pages start
-  pub highest : (other : ℕ) → FitsAt A pages other → other ≤ start
-
--- mmap(2): MAP_FIXED_NOREPLACE, which counts also beside MAP_FIXED
-abbrev pub NoReplace : MapFlags → Type 0
-NoReplace flags = IsTrue (has_bits (flag_bits flags) 8)
-
--- mmap(2): MAP_FIXED without MAP_FIXED_NOREPLACE
-pub record Replaces (flags : MapFlags) : Type 0 where
-  pub fixed : IsTrue (has_bits (flag_bits flags) 4)
-  pub may : IsFalse (has_bits (flag_bits flags) 8)
-
--- mmap(2): the address is a hint
-abbrev pub Hints : MapFlags → Type 0
-Hints flags = IsFalse (is_fixed flags)
-
--- the page where a Map of so many pages puts them: at the address where that binds, at the hint where it fits, and
--- otherwise as high as they fit
-pub data StartsAt (A : List Area) (hint pages : ℕ) (flags : MapFlags) (start : ℕ) : Type 0 where
-  free : NoReplace flags → IsUnmapped A hint (hint + pages) → start ≡ hint → StartsAt A hint pages flags start
-  replacing : Replaces flags → start ≡ hint → StartsAt A hint pages flags start
-  hinted : Hints flags → FitsAt A pages hint → start ≡ hint → StartsAt A hint pages flags start
-  highest : Hints flags → ¬ FitsAt A pages hint → IsHighestFit A pages start → StartsAt A hint pages flags start
-
--- the pages from lo up to hi are those that an accepted call changes
-abbrev pub IsPlace : List Area → Call → ℕ → ℕ → Type 0
-IsPlace A (Map addr len prot flags) lo hi = StartsAt A (page_of addr) (page_count len) flags lo × (hi ≡ lo + page_count len)
-IsPlace A (Unmap addr len) lo hi = (lo ≡ page_of addr) × (hi ≡ end_page addr len)
-IsPlace A (Protect addr len prot) lo hi = (lo ≡ page_of addr) × (hi ≡ end_page addr len) × IsMapped A lo hi
-IsPlace A (Fault addr access) lo hi = ⊥
-
--- why a Map has no place: the lowest page that is mapped already, or so many pages that fit nowhere
-pub data RefusesMap (A : List Area) (hint pages : ℕ) (flags : MapFlags) (why : Why) : Type 0 where
-  exists : (page : ℕ) → NoReplace flags → IsLowestMapped A hint (hint + pages) page → why ≡ Eexist page → RefusesMap A hint pages flags why
-  no_gap : Hints flags → ((start : ℕ) → ¬ FitsAt A pages start) → why ≡ Enomem (NoGap pages) → RefusesMap A hint pages flags why
+-- what a call does: a reply alone; or patches, a reply, and the reply where they make too many rows, None for a refusal
+-- that counts them
+pub data Effect : Type 0 where
+  keeps : Reply → Effect
+  changes : List Patch → Reply → Option Reply → Effect
 
 -- the bit that the access needs is in the kind's protection
 abbrev pub LetsThrough : Kind → Access → Type 0
 LetsThrough kind access = IsTrue (has_bits (prot_bits kind.prot) (access_bit access))
 
--- why an access to a page is refused: SEGV_MAPERR where it has no kind, SEGV_ACCERR where the kind lacks the bit
-abbrev pub RefusesAccess : Option Kind → ℕ → Access → Why → Type 0
-RefusesAccess None page access why = why ≡ MapErr page
-RefusesAccess (Some kind) page access why = ¬ LetsThrough kind access × (why ≡ AccErr page kind)
-
--- the reply is the one to a fault on a page of this kind, or of none
+-- the reply to a fault on a page of this kind, or of none: SEGV_MAPERR where it has none, SEGV_ACCERR where the kind
+-- lacks the bit
 abbrev pub AnswersFault : Option Kind → ℕ → Access → Reply → Type 0
-AnswersFault kind page access (At addr) = ⊥
-AnswersFault kind page access Zero = ⊥
-AnswersFault kind page access (Granted k) = (kind ≡ Some k) × LetsThrough k access
-AnswersFault kind page access (Refused why) = RefusesAccess kind page access why
+AnswersFault None page access reply = reply ≡ Refused (MapErr page)
+AnswersFault (Some kind) page access reply =
+    (LetsThrough kind access × (reply ≡ Granted kind)) ⊎ (¬ LetsThrough kind access × (reply ≡ Refused (AccErr page kind)))
 
--- why the area list refuses a call that its arguments don't decide, before the row limit is asked
-abbrev pub RefusesByState : List Area → Call → Why → Type 0
-RefusesByState A (Map addr len prot flags) why = RefusesMap A (page_of addr) (page_count len) flags why
-RefusesByState A (Unmap addr len) why = ⊥
-RefusesByState A (Protect addr len prot) why =
-    (page : ℕ) × IsLowestMissing A (page_of addr) (end_page addr len) page × (why ≡ Enomem (Missing page))
-RefusesByState A (Fault addr access) why = RefusesAccess (kind_at A (page_of addr)) (page_of addr) access why
+-- what a call does that nothing refuses
+abbrev pub Does : (ℕ → Option Kind) → Call → Effect → Type 0
+Does kinds (Map addr len prot flags) e =
+    (start : ℕ) × StartsAt kinds (page_count len) (map_places flags (page_of addr)) start
+    × (e ≡ changes (patch start (start + page_count len) (Gives (Some (mapped_kind prot flags))) ∷ []) (At (start * 4096)) None)
+Does kinds (Unmap addr len) e = e ≡ changes (patch (page_of addr) (end_page addr len) (Gives None) ∷ []) Zero None
+Does kinds (Protect addr len prot) e = e ≡ changes (patch (page_of addr) (end_page addr len) (Protects prot) ∷ []) Zero None
+Does kinds (Fault addr access) e =
+    (reply : Reply) × AnswersFault (kinds (page_of addr)) (page_of addr) access reply × (e ≡ keeps reply)
 
--- the call is a Fault on a page of this kind, which lets the access through
-abbrev pub GrantsAccess : List Area → Call → Kind → Type 0
-GrantsAccess A (Map addr len prot flags) kind = ⊥
-GrantsAccess A (Unmap addr len) kind = ⊥
-GrantsAccess A (Protect addr len prot) kind = ⊥
-GrantsAccess A (Fault addr access) kind = (kind_at A (page_of addr) ≡ Some kind) × LetsThrough kind access
+-- no bar refuses the call, and this is what it does
+abbrev pub IsEffect : (ℕ → Option Kind) → Call → Effect → Type 0
+IsEffect kinds c e = IsClear kinds (bars c) × Does kinds c e
 
--- on area list A the call has this reply and leaves area list B: what its arguments decide, else what the list
--- refuses, else what is granted, else the change of its place, unless the result would have more than ROWS rows
+-- the reply where there would be so many rows
+abbrev pub full_reply : Option Reply → ℕ → Reply
+full_reply None rows = Refused (Enomem (Rows rows))
+full_reply (Some reply) rows = reply
+
+-- on area list A the call has this reply and leaves area list B: what its arguments decide, else what the pages refuse,
+-- else the reply alone, else the change, unless the result would have more than ROWS rows
 pub data Answers (A : List Area) (c : Call) (reply : Reply) (B : List Area) : Type 0 where
   by_arguments : plain_reply c ≡ Some reply → B ≡ A → Answers A c reply B
-  refused : (why : Why) → plain_reply c ≡ None → RefusesByState A c why → reply ≡ Refused why → B ≡ A → Answers A c reply B
-  granted : (kind : Kind) → plain_reply c ≡ None → GrantsAccess A c kind → reply ≡ Granted kind → B ≡ A → Answers A c reply B
+  refused : (why : Why) → plain_reply c ≡ None → RefusesByState (kind_at A) c why → reply ≡ Refused why → B ≡ A → Answers A c reply B
+  kept : plain_reply c ≡ None → IsEffect (kind_at A) c (keeps reply) → B ≡ A → Answers A c reply B
   done :
-      (lo hi : ℕ) → plain_reply c ≡ None → IsPlace A c lo hi → HasKinds (effect_of A c lo hi) B → row_count B ≤ ROWS →
-      reply ≡ done_reply c lo → Answers A c reply B
+      (patches : List Patch) (full : Option Reply) → plain_reply c ≡ None → IsEffect (kind_at A) c (changes patches reply full) →
+      HasKinds (patched patches (kind_at A)) B → row_count B ≤ ROWS → Answers A c reply B
   too_many_rows :
-      (lo hi : ℕ) (C : List Area) → plain_reply c ≡ None → IsPlace A c lo hi → HasKinds (effect_of A c lo hi) C →
-      ROWS < row_count C → reply ≡ Refused (Enomem (Rows (row_count C))) → B ≡ A → Answers A c reply B
+      (patches : List Patch) (said : Reply) (full : Option Reply) (C : List Area) → plain_reply c ≡ None →
+      IsEffect (kind_at A) c (changes patches said full) → HasKinds (patched patches (kind_at A)) C → ROWS < row_count C →
+      reply ≡ full_reply full (row_count C) → B ≡ A → Answers A c reply B

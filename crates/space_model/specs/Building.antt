@@ -6,15 +6,16 @@ use Rattle.std.specs.Prelude.{◌≡◌, ◌↔◌, IsTrue, Option, Some, None, 
 use Rattle.page_types.specs.declared.TheConstants.{LIMIT}
 use Rattle.page_types.specs.declared.sets.Prot.{Prot}
 use Rattle.page_types.specs.declared.calls.Kind.{Kind}
-use Rattle.page_types.specs.declared.calls.Call.{Call}
-use Rattle.page_types.specs.declared.calls.Call.TheVariants.{Map, Unmap, Protect, Fault}
 use Rattle.page_types.specs.declared.calls.Reply.{Reply}
 use Rattle.space_model.specs.Answers.{Answers}
 use Rattle.space_model.specs.declared.entries.Entry.{Entry}
 use Rattle.space_model.specs.declared.areas.Area.{Area}
 use Rattle.space_model.specs.Starts.{same_kind}
 use Rattle.space_model.specs.Areas.{IsInRange, MayFollow}
-use Rattle.space_model.specs.Effect.{mapped_kind, protected_kind}
+use Rattle.space_model.specs.Effect.{protected_kind}
+use Rattle.space_model.specs.declared.paint.Paint.{Paint}
+use Rattle.space_model.specs.declared.paint.Paint.TheVariants.{Gives, Protects}
+use Rattle.space_model.specs.declared.paint.Patch.{Patch}
 
 -- the area that is taken where a list has none
 abbrev pub no_area : Area
@@ -53,13 +54,13 @@ join_all list [] = list
 join_all list (a ∷ rest) = join_all (joined list a) rest
 
 -- a kind with a new protection, if there is one
-abbrev pub painted : Option Prot → Kind → Kind
-painted None kind = kind
-painted (Some prot) kind = protected_kind prot kind
+abbrev pub repainted : Option Prot → Kind → Kind
+repainted None kind = kind
+repainted (Some prot) kind = protected_kind prot kind
 
 -- the part of an area from one page up to another
 abbrev pub part_of : ℕ → ℕ → Option Prot → Area → Area
-part_of from to prot a = record { lo = max a.lo from; hi = min a.hi to; kind = painted prot a.kind }
+part_of from to prot a = record { lo = max a.lo from; hi = min a.hi to; kind = repainted prot a.kind }
 
 -- the parts of the areas from one page up to another, where they have pages
 abbrev pub parts : ℕ → ℕ → Option Prot → List Area → List Area
@@ -67,17 +68,24 @@ parts from to prot [] = []
 parts from to prot (a ∷ rest) =
     if nat_lt (max a.lo from) (min a.hi to) then part_of from to prot a ∷ parts from to prot rest else parts from to prot rest
 
--- what a call puts at its place
-abbrev pub pieces_at : List Area → Call → ℕ → ℕ → List Area
-pieces_at A (Map addr len prot flags) lo hi = record { lo = lo; hi = hi; kind = mapped_kind prot flags } ∷ []
-pieces_at A (Unmap addr len) lo hi = []
-pieces_at A (Protect addr len prot) lo hi = parts lo hi (Some prot) A
-pieces_at A (Fault addr access) lo hi = parts lo hi None A
+-- what a paint puts in the place of the pages from lo up to hi, if there are any
+abbrev pub pieces_at : List Area → ℕ → ℕ → Paint → List Area
+pieces_at A lo hi (Gives None) = []
+pieces_at A lo hi (Gives (Some kind)) = if nat_lt lo hi then record { lo = lo; hi = hi; kind = kind } ∷ [] else []
+pieces_at A lo hi (Protects prot) = parts lo hi (Some prot) A
 
--- the list after a call whose place is the pages from lo up to hi
-abbrev pub changed_list : List Area → Call → ℕ → ℕ → List Area
-changed_list A c lo hi =
-    join_all (join_all (join_all [] (parts 0 lo None A)) (pieces_at A c lo hi)) (parts hi LIMIT None A)
+-- the list with the areas from a page up to a patch at its end, and what the patch makes of its pages
+abbrev pub with_next : List Area → ℕ → Patch → List Area → List Area
+with_next list from p A = join_all (join_all list (parts from p.lo None A)) (pieces_at A p.lo p.hi p.paint)
+
+-- the list with the areas from a page on at its end, after patches
+abbrev pub changed_from : List Area → ℕ → List Patch → List Area → List Area
+changed_from list from [] A = join_all list (parts from LIMIT None A)
+changed_from list from (p ∷ rest) A = changed_from (with_next list from p A) p.hi rest A
+
+-- the list after patches
+abbrev pub changed_list : List Area → List Patch → List Area
+changed_list A patches = changed_from [] 0 patches A
 
 -- the call of an entry leaves area list B, and the test says whether the entry has this number and the call's reply
 abbrev pub IsNextAnswer : List Area → ℕ → Entry → Bool → List Area → Type 0

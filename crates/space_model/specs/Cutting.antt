@@ -1,13 +1,15 @@
 -- How the bodies of this crate find the areas round a page, and leave those alone that a change doesn't touch: the list
 -- is cut by halving, the areas at the place become others, and the rows are counted between the two cuts. This is the
 -- project's own way; only private functions speak of it, and what callers see is the kinds of pages.
-use Rattle.std.specs.Prelude.{ℕ, ◌+◌, ◌<◌, ◌≤◌, ◌≡◌, List, [], ◌∷◌, ◌++◌, length, All}
+use Rattle.std.specs.Prelude.{ℕ, ◌+◌, ◌<◌, ◌≤◌, ◌≡◌, ◌⊎◌, true, false, max, Option, Some, None, MatchOption, List, [], ◌∷◌, ◌++◌, length, All}
 use Rattle.std.specs.List.{splice}
 use Rattle.page_types.specs.declared.TheConstants.{LIMIT}
-use Rattle.page_types.specs.declared.calls.Call.{Call}
 use Rattle.space_model.specs.declared.areas.Area.{Area}
-use Rattle.space_model.specs.Areas.{gap_between, row_count, HasKinds}
-use Rattle.space_model.specs.Effect.{effect_of}
+use Rattle.space_model.specs.declared.paint.Patch.{Patch}
+use Rattle.space_model.specs.declared.sorts.Sort.{Sort}
+use Rattle.space_model.specs.Sorts.{is_sort}
+use Rattle.space_model.specs.Areas.{gap_between, row_count, kind_at, HasKinds}
+use Rattle.space_model.specs.Effect.{patched}
 
 -- the list in two parts: the areas up to a page, by a number of each, and those above it
 pub record IsCutBy (number : Area → ℕ) (A : List Area) (page : ℕ) (front rest : List Area) : Type 0 where
@@ -20,6 +22,16 @@ pub record IsFirstAbove (A : List Area) (page : ℕ) (a : Area) : Type 0 where
   pub front : List Area
   pub rest : List Area
   pub cut : IsCutBy (λ b. b.hi) A page front (a ∷ rest)
+
+-- what is found of a sort from a page on, up to the end of an area before which the pages are free: its lowest page, or
+-- that neither the free pages nor the area's are of the sort
+abbrev pub IsFound : Sort → ℕ → Area → Option ℕ → Type 0
+IsFound sort at a found =
+    MatchOption found
+    ((at < a.lo → is_sort sort None ≡ false) × (is_sort sort (Some a.kind) ≡ false))
+    (λ page.
+    ((page ≡ at) × (at < a.lo) × (is_sort sort None ≡ true)) ⊎
+    ((page ≡ max a.lo at) × (at < a.lo → is_sort sort None ≡ false) × (is_sort sort (Some a.kind) ≡ true)))
 
 -- the page behind the last area, or this one where there is none
 abbrev pub end_of : ℕ → List Area → ℕ
@@ -40,10 +52,14 @@ gaps_between from (a ∷ rest) to = gap_between from a.lo + gaps_between a.hi re
 abbrev pub rows_between : ℕ → List Area → ℕ → ℕ
 rows_between from list to = length list + gaps_between from list to
 
--- after a change of the pages from lo up to hi there are so many rows, and these areas in the place of those from one
--- index up to another
-pub record IsPlan (A : List Area) (c : Call) (lo hi first end rows : ℕ) (middle : List Area) : Type 0 where
+-- the page where the last patch ends, or this one where there is none
+abbrev pub last_end : ℕ → List Patch → ℕ
+last_end page [] = page
+last_end page (p ∷ rest) = last_end p.hi rest
+
+-- after patches there are so many rows, and these areas in the place of those from one index up to another
+pub record IsPlan (A : List Area) (patches : List Patch) (first end rows : ℕ) (middle : List Area) : Type 0 where
   pub ordered : first ≤ end
   pub within : end ≤ length A
-  pub list : HasKinds (effect_of A c lo hi) (splice A first end middle)
+  pub list : HasKinds (patched patches (kind_at A)) (splice A first end middle)
   pub counted : rows ≡ row_count (splice A first end middle)

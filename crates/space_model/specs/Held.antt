@@ -12,10 +12,12 @@ use Rattle.page_types.specs.declared.calls.Call.TheVariants.{Map, Unmap, Protect
 use Rattle.page_types.specs.Pages.{page_of, end_page}
 use Rattle.page_types.specs.PlainReply.{plain_reply}
 use Rattle.space_model.specs.declared.areas.Area.{Area}
+use Rattle.space_model.specs.declared.paint.Paint.TheVariants.{Protects}
+use Rattle.space_model.specs.declared.paint.Patch.{Patch}
 use Rattle.space_model.specs.declared.entries.Under.{Under}
 use Rattle.space_model.specs.declared.entries.Under.TheVariants.{Nothing, Reader, Area as Held, Whole}
 use Rattle.space_model.specs.Areas.{kind_at, gap_count, HasKinds}
-use Rattle.space_model.specs.Effect.{effect_of}
+use Rattle.space_model.specs.Effect.{patch, with_patch}
 
 -- the pages from lo up to hi lie in this area of the list
 pub record LiesIn (A : List Area) (a : Area) (lo hi : ℕ) : Type 0 where
@@ -24,8 +26,8 @@ pub record LiesIn (A : List Area) (a : Area) (lo hi : ℕ) : Type 0 where
   pub within : hi ≤ a.hi
 
 -- the list that the change of the pages gives, before the row limit is asked, has as many areas and as many gaps
-pub record KeepsCounts (A : List Area) (c : Call) (lo hi : ℕ) (B : List Area) : Type 0 where
-  pub changed : HasKinds (effect_of A c lo hi) B
+pub record KeepsCounts (A : List Area) (change : Patch) (B : List Area) : Type 0 where
+  pub changed : HasKinds (with_patch change (kind_at A)) B
   pub areas : length B ≡ length A
   pub gaps : gap_count B ≡ gap_count A
 
@@ -40,7 +42,7 @@ IsSimpleIn A (Map addr len prot flags) a = ⊥
 IsSimpleIn A (Unmap addr len) a = ⊥
 IsSimpleIn A (Protect addr len prot) a =
     LiesIn A a (page_of addr) (end_page addr len) ×
-    ((B : List Area) × KeepsCounts A (Protect addr len prot) (page_of addr) (end_page addr len) B)
+    ((B : List Area) × KeepsCounts A (patch (page_of addr) (end_page addr len) (Protects prot)) B)
 IsSimpleIn A (Fault addr access) a = ⊥
 
 -- a Protect is simple

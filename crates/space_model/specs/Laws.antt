@@ -2,7 +2,7 @@
 -- reader of mmap(2) and proc_pid_maps(5) expects. They follow from the definitions alone.
 use Rattle.std.specs.Prelude.{ℕ, ◌≡◌, ◌≢◌, ◌<◌, ◌≤◌, ◌+◌, ◌⊎◌, ◌↔◌, Option, Some, None, List, ◌++◌, map}
 use Rattle.std.specs.List.{Contains}
-use Rattle.page_types.specs.declared.TheConstants.{LIMIT, ROWS}
+use Rattle.page_types.specs.declared.TheConstants.{LIMIT, ROWS, SPARE}
 use Rattle.page_types.specs.declared.calls.Kind.{Kind}
 use Rattle.page_types.specs.declared.calls.Call.{Call}
 use Rattle.page_types.specs.declared.calls.Call.TheVariants.{Map, Protect, Fault}
@@ -47,13 +47,13 @@ FaultFindsMapped A addr len prot flags byte access =
 abbrev pub DoneTwiceIsOnce : List Area → Call → Type 0
 DoneTwiceIsOnce A c = (s : Reply) (B C : List Area) → Answers A c Zero B → Answers B c s C → (s ≡ Zero) × (C ≡ B)
 
--- one call makes at most two rows more
+-- one call makes at most SPARE rows more, which is two
 abbrev pub AddsTwoRows : List Area → Call → Type 0
-AddsTwoRows A c = (r : Reply) (B : List Area) → Answers A c r B → row_count B ≤ row_count A + 2
+AddsTwoRows A c = (r : Reply) (B : List Area) → Answers A c r B → row_count B ≤ row_count A + SPARE
 
--- a call that is refused for its rows asks for more than ROWS, and for at most two more than there are
+-- a call that is refused for its rows asks for more than ROWS, and for at most SPARE more than there are
 abbrev pub AsksTwoRowsMore : List Area → Call → Type 0
-AsksTwoRowsMore A c = (rows : ℕ) (B : List Area) → Answers A c (Refused (Enomem (Rows rows))) B → (ROWS < rows) × (rows ≤ row_count A + 2)
+AsksTwoRowsMore A c = (rows : ℕ) (B : List Area) → Answers A c (Refused (Enomem (Rows rows))) B → (ROWS < rows) × (rows ≤ row_count A + SPARE)
 
 -- the number of rows is the number of pages where one starts
 abbrev pub RowsAreStarts : List Area → Type 0

@@ -1,7 +1,10 @@
 pub mod Starts
 pub mod Areas
 pub mod Effect
+pub mod Sorts
+pub mod Places
 pub mod Answers
+pub mod Judges
 pub mod Held
 pub mod History
 pub mod Building

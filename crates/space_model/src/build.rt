@@ -5,22 +5,14 @@
 ghost use Rattle.std.specs.Prelude.{◌≡◌, ◌≤◌, [], length, OnOk, IfOk};
 ghost use Rattle.space_model.specs.Areas.{IsAreaList};
 ghost use Rattle.space_model.specs.Starts.{same_kind};
-ghost use Rattle.space_model.specs.Building.{goes_on, joined, join_all, painted, parts, pieces_at, changed_list};
-ghost use Rattle.space_model.specs.Effect.{mapped_kind};
+ghost use Rattle.space_model.specs.Judges.{patches_of};
+ghost use Rattle.space_model.specs.Building.{goes_on, joined, join_all, repainted, parts, pieces_at, with_next, changed_list};
 
 use crate::areas::Area;
-use page_types::{Call, Kind, LIMIT, MapFlags, Prot, Span};
+use crate::judged::Change;
+use crate::paint::{Paint, Patch};
+use page_types::{Kind, LIMIT, Prot};
 use std::alloc::{AllocError, Global};
-
-/// The kind that a Map gives its pages.
-pub fn mapped_kind(prot: Prot, flags: MapFlags) -> Kind
-    ensures { result ≡ mapped_kind prot flags }
-{
-    Kind {
-        prot,
-        shared: flags.is_shared(),
-    }
-}
 
 fn same_kind(a: Kind, b: Kind) -> bool
     ensures { result ≡ same_kind a b }
@@ -36,8 +28,8 @@ fn goes_on(last: Area, area: Area) -> bool
 }
 
 /// `kind` with a new protection, if there is one; sharing stays.
-pub fn painted(kind: Kind, prot: Option<Prot>) -> Kind
-    ensures { result ≡ painted prot kind }
+pub fn repainted(kind: Kind, prot: Option<Prot>) -> Kind
+    ensures { result ≡ repainted prot kind }
 {
     match prot {
         Some(prot) => Kind { prot, ..kind },
@@ -85,7 +77,7 @@ fn join_parts(
                 Area {
                     lo,
                     hi,
-                    kind: painted(area.kind, prot),
+                    kind: repainted(area.kind, prot),
                 },
             )?;
         }
@@ -93,34 +85,49 @@ fn join_parts(
     Ok(())
 }
 
-/// Puts into `list` the areas after a call whose place is `span`.
-pub fn changed(
+/// Appends what a patch makes of its pages.
+fn join_patch(list: &mut Vec<Area>, areas: &[Area], patch: Patch) -> Result<(), AllocError>
+    ensures { OnOk result (list.new.items ≡ join_all list.old.items (pieces_at areas.now patch.lo patch.hi patch.paint)) }
+{
+    let Patch { lo, hi, paint } = patch;
+    match paint {
+        Paint::Gives(Some(kind)) => {
+            if hi > lo {
+                join(list, Area { lo, hi, kind })?;
+            }
+        }
+        Paint::Gives(None) => {}
+        Paint::Protects(prot) => join_parts(list, areas, lo, hi, Some(prot))?,
+    }
+    Ok(())
+}
+
+/// Appends the parts of `areas` from page `from` up to a patch, and what the patch makes of its pages.
+fn join_up_to(
     list: &mut Vec<Area>,
     areas: &[Area],
-    call: &Call,
-    span: Span,
+    from: u64,
+    patch: Patch,
 ) -> Result<(), AllocError>
-    ensures { OnOk result (list.new.items ≡ changed_list areas.now call.now span.lo span.hi) }
+    ensures { OnOk result (list.new.items ≡ with_next list.old.items from patch areas.now) }
+{
+    join_parts(list, areas, from, patch.lo, None)?;
+    join_patch(list, areas, patch)
+}
+
+/// Puts into `list` the areas after a change, from left to right.
+pub fn changed(list: &mut Vec<Area>, areas: &[Area], change: Change) -> Result<(), AllocError>
+    ensures { OnOk result (list.new.items ≡ changed_list areas.now (patches_of change)) }
 {
     list.clear();
-    join_parts(list, areas, 0, span.lo, None)?;
-    match *call {
-        Call::Map { prot, flags, .. } => {
-            let kind = mapped_kind(prot, flags);
-            join(
-                list,
-                Area {
-                    lo: span.lo,
-                    hi: span.hi,
-                    kind,
-                },
-            )?;
+    join_up_to(list, areas, 0, change.first)?;
+    match change.second {
+        Some(second) => {
+            join_up_to(list, areas, change.first.hi, second)?;
+            join_parts(list, areas, second.hi, LIMIT, None)
         }
-        Call::Unmap { .. } => {}
-        Call::Protect { prot, .. } => join_parts(list, areas, span.lo, span.hi, Some(prot))?,
-        Call::Fault { .. } => join_parts(list, areas, span.lo, span.hi, None)?,
+        None => join_parts(list, areas, change.first.hi, LIMIT, None),
     }
-    join_parts(list, areas, span.hi, LIMIT, None)
 }
 
 /// The areas of pieces in order, where two that touch and are of one kind become one.

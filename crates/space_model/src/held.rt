@@ -11,7 +11,7 @@ ghost use Rattle.space_model.specs.Held.{LiesIn, kind_before, HoldsSomeArea, IsS
 ghost use Rattle.space_model.specs.Starts.{border, KeepsRows};
 
 use crate::areas::Area;
-use crate::build::painted;
+use crate::build::repainted;
 use crate::entries::Under;
 use crate::search::{first_above, kind_of};
 use page_types::{Call, Kind, Prot, Span};
@@ -71,7 +71,7 @@ fn is_simple_in(areas: &[Area], area: Area, span: Span, prot: Prot) -> bool
 {
     let before = kind_before(areas, span.lo);
     let after = kind_of(areas, span.hi);
-    keeps_rows(before, area.kind, painted(area.kind, Some(prot)), after)
+    keeps_rows(before, area.kind, repainted(area.kind, Some(prot)), after)
 }
 
 /// What a Protect that its arguments don't decide has to hold.

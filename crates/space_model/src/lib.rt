@@ -11,19 +11,23 @@ mod entries;
 mod faults;
 mod held;
 mod history;
+mod judged;
+mod judging;
 mod laws;
 mod order;
-mod place;
+mod paint;
 mod search;
+mod sorts;
 mod space;
 mod splice;
 
 pub use areas::{Area, have_named_kinds};
-pub use build::mapped_kind;
 pub use entries::{Entry, Under, have_named_calls};
 pub use faults::{AreasFault, NotAreas};
 pub use held::keeps_rows;
 pub use history::{by_number, legal};
+pub use judged::{Change, Judged, full_reply};
+pub use judging::{Pages, access_reply, judge, mapped_kind};
 pub use laws::{
     areas_are_maximal_runs, beginnings_are_legal, calls_add_at_most_two_rows,
     calls_have_one_answer, faults_are_granted_by_their_page, faults_find_what_was_mapped,
@@ -32,8 +36,8 @@ pub use laws::{
     simple_protects_are_of_four_kinds, simple_protects_keep_rows, states_follow_one_another,
     unmap_twice_is_once,
 };
-pub use place::{access_reply, done_reply};
-pub use search::LOWEST;
+pub use paint::{Paint, Patch};
+pub use sorts::{Sort, is_sort};
 pub use space::PlainSpace;
 
 #[cfg(test)]

@@ -5,15 +5,13 @@
 ghost use Rattle.std.specs.Prelude.{◌≡◌, ◌+◌, ◌<◌, ◌≤◌, ℕ, None, MatchOption, All};
 ghost use Rattle.page_types.specs.declared.TheConstants.{LIMIT};
 ghost use Rattle.space_model.specs.Areas.{IsAreaList, kind_at};
-ghost use Rattle.space_model.specs.Answers.{IsUnmapped, IsMapped, IsLowestMapped, IsLowestMissing, FitsAt, IsHighestFit};
-ghost use Rattle.space_model.specs.Cutting.{IsCutBy, IsFirstAbove};
+ghost use Rattle.space_model.specs.Sorts.{IsEnd};
+ghost use Rattle.space_model.specs.Places.{FitsAt, IsHighestFit};
+ghost use Rattle.space_model.specs.Cutting.{IsCutBy, IsFirstAbove, IsFound};
 
 use crate::areas::Area;
-use page_types::{Kind, LIMIT};
-
-/// The lowest page at which a Map puts its pages where no fixed flag binds its address: page 16, which is
-/// address 0x10000.
-pub const LOWEST: u64 = 16;
+use crate::sorts::{Sort, is_sort};
+use page_types::{Kind, LIMIT, LOWEST};
 
 /// The areas that end at or before a page, and the others.
 pub fn cut_by_end(areas: &[Area], page: u64) -> (&[Area], &[Area])
@@ -59,48 +57,38 @@ pub fn kind_of(areas: &[Area], page: u64) -> Option<Kind>
     }
 }
 
-/// The lowest mapped page of those from `lo` up to `hi`.
-pub fn lowest_mapped(areas: &[Area], lo: u64, hi: u64) -> Option<u64>
-    requires { IsAreaList areas.now }
-    ensures { MatchOption result (IsUnmapped areas.now lo hi) (IsLowestMapped areas.now lo hi) }
+/// The lowest page of a sort from `at` on, up to the end of an area before which the pages from `at` on are free.
+fn lowest_by(sort: Sort, at: u64, area: Area) -> Option<u64>
+    ensures { IsFound sort at area result }
 {
-    match first_above(areas, lo) {
-        Some(area) => {
-            let page = area.lo.max(lo);
-            if page < hi { Some(page) } else { None }
-        }
-        None => None,
+    if at < area.lo && is_sort(sort, None) {
+        return Some(at);
+    }
+    if is_sort(sort, Some(area.kind)) {
+        Some(area.lo.max(at))
+    } else {
+        None
     }
 }
 
-/// The first page at or above `from` that isn't mapped, or one at or above `to` where that comes first.
-fn mapped_end(areas: &[Area], from: u64, to: u64) -> u64
-    requires { IsAreaList areas.now }
-    ensures from { from ≤ result }
-    ensures missing { result < to → kind_at areas.now result ≡ None }
-    ensures mapped { IsMapped areas.now from result }
+/// The lowest page of a sort of those from `lo` up to `hi`, or `hi` where there is none.
+pub fn end_of(areas: &[Area], sort: Sort, lo: u64, hi: u64) -> u64
+    requires in_order { IsAreaList areas.now }
+    requires ordered { lo ≤ hi }
+    ensures { IsEnd (kind_at areas.now) sort lo hi result }
 {
-    let (_, rest) = cut_by_end(areas, from);
-    let mut end = from;
+    let (_, rest) = cut_by_end(areas, lo);
+    let mut at = lo;
     for area in rest {
-        if to <= end {
-            return end;
+        if let Some(page) = lowest_by(sort, at, *area) {
+            return page.min(hi);
         }
-        if end < area.lo {
-            return end;
+        at = area.hi;
+        if hi <= at {
+            return hi;
         }
-        end = end.max(area.hi);
     }
-    end
-}
-
-/// The lowest page that isn't mapped of those from `lo` up to `hi`.
-pub fn lowest_missing(areas: &[Area], lo: u64, hi: u64) -> Option<u64>
-    requires { IsAreaList areas.now }
-    ensures { MatchOption result (IsMapped areas.now lo hi) (IsLowestMissing areas.now lo hi) }
-{
-    let end = mapped_end(areas, lo, hi);
-    if end < hi { Some(end) } else { None }
+    if is_sort(sort, None) { at.min(hi) } else { hi }
 }
 
 /// The highest start of so many free pages, at or above `LOWEST` and with the end at or below `LIMIT`. It looks from
@@ -108,7 +96,7 @@ pub fn lowest_missing(areas: &[Area], lo: u64, hi: u64) -> Option<u64>
 pub fn highest_fit(areas: &[Area], pages: u64) -> Option<u64>
     requires in_order { IsAreaList areas.now }
     requires some { 0 < pages }
-    ensures { MatchOption result ((start : ℕ) → ¬ FitsAt areas.now pages start) (IsHighestFit areas.now pages) }
+    ensures { MatchOption result ((start : ℕ) → ¬ FitsAt (kind_at areas.now) pages start) (IsHighestFit (kind_at areas.now) pages) }
 {
     let mut to = LIMIT;
     for i in (0..areas.len()).rev() {

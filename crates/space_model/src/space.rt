@@ -6,7 +6,9 @@ ghost use Rattle.std.specs.Prelude.{◌≡◌, ◌^◌, ◌<◌, ◌↔◌, [], 
 ghost use Rattle.page_types.specs.Named.{IsNamedCall, IsNamedReply};
 ghost use Rattle.space_model.specs.Areas.{IsAreaList, IsInOrder, HasKinds, HasNamedKinds, kind_at, row_count};
 ghost use Rattle.page_types.specs.PlainReply.{plain_reply};
-ghost use Rattle.space_model.specs.Answers.{Answers, IsPlace};
+ghost use Rattle.space_model.specs.Answers.{Answers};
+ghost use Rattle.space_model.specs.Effect.{AreRising};
+ghost use Rattle.space_model.specs.Judges.{IsNamedChange, Makes, patches_of};
 ghost use Rattle.space_model.specs.Faults.{Explains};
 ghost use Rattle.space_model.specs.Held.{HoldsSomeArea, IsSimple, FitsByState, FitsUnder};
 
@@ -16,11 +18,13 @@ use crate::counts::row_count;
 use crate::entries::Under;
 use crate::faults::{AreasFault, NotAreas};
 use crate::held::protect_under;
+use crate::judged::{Change, Judged, full_reply};
+use crate::judging::{Pages, judge};
 use crate::order::first_wrong;
-use crate::place::{access_reply, done_reply, map_place};
-use crate::search::{kind_of, lowest_missing};
+use crate::search::{end_of, highest_fit, kind_of};
+use crate::sorts::Sort;
 use crate::splice::{planned, replace};
-use page_types::{Call, PAGE, ROWS, Reply, Short, Span, Why, plain};
+use page_types::{Call, Kind, PAGE, ROWS, Reply, Span, plain};
 use std::alloc::{AllocError, Global};
 use std::marker::Model;
 
@@ -203,48 +207,46 @@ impl PlainSpace {
         ensures named { IfOk result IsNamedReply }
         ensures memory { OnErr result (self.new ≡ self.old) }
     {
-        match *call {
-            Call::Map {
-                addr,
-                len,
-                flags,
-                ..
-            } => match map_place(self.areas.as_slice(), addr, len, flags) {
-                Ok(place) => self.change(call, place),
-                Err(why) => Ok(Reply::Refused(why)),
-            },
-            Call::Unmap { addr, len } => self.change(call, Span::of_valid(addr, len)),
-            Call::Protect { addr, len, .. } => {
-                let span = Span::of_valid(addr, len);
-                match lowest_missing(self.areas.as_slice(), span.lo, span.hi) {
-                    Some(page) => Ok(Reply::Refused(Why::Enomem(Short::Missing(page)))),
-                    None => self.change(call, span),
-                }
-            }
-            Call::Fault { addr, access } => {
-                let page = addr / PAGE;
-                Ok(access_reply(kind_of(self.areas.as_slice(), page), page, access))
-            }
+        let _ = &self.areas;
+        match judge(self, call) {
+            Judged::Refused(why) => Ok(Reply::Refused(why)),
+            Judged::Keeps(reply) => Ok(reply),
+            Judged::Changes(change) => self.change(change),
         }
     }
 
-    /// Changes the pages of a call's place, unless the result would have more than `ROWS` rows.
-    fn change(&mut self, call: &Call, place: Span) -> Result<Reply, AllocError>
-        requires named { IsNamedCall call.now }
-        requires undecided { plain_reply call.now ≡ None }
-        requires place { IsPlace self.old call.now place.lo place.hi }
-        ensures answer { IfOk result (λ reply. Answers self.old call.now reply self.new) }
+    /// Changes the pages of one patch or two, unless the result would have more than `ROWS` rows.
+    pub(crate) fn change(&mut self, change: Change) -> Result<Reply, AllocError>
+        requires named { IsNamedChange change }
+        requires rising { AreRising 0 (patches_of change) }
+        ensures made { IfOk result (λ reply. Makes self.old change reply self.new) }
         ensures named { IfOk result IsNamedReply }
         ensures memory { OnErr result (self.new ≡ self.old) }
     {
         let areas = self.areas.as_slice();
-        let plan = planned(&mut self.spare, areas, self.row_total, call, place)?;
+        let plan = planned(&mut self.spare, areas, self.row_total, change)?;
         let rows = plan.rows;
         if rows as usize > ROWS {
-            return Ok(Reply::Refused(Why::Enomem(Short::Rows(rows))));
+            return Ok(full_reply(change.full, rows));
         }
         replace(&mut self.areas, plan.first, plan.end, &mut self.spare)?;
         self.row_total = rows;
-        Ok(done_reply(call, place.lo))
+        Ok(change.reply)
+    }
+}
+
+impl Pages for PlainSpace {
+    ghost kinds = { kind_at };
+
+    fn kind_of(&self, page: u64) -> Option<Kind> {
+        kind_of(self.areas.as_slice(), page)
+    }
+
+    fn end_of(&self, sort: Sort, lo: u64, hi: u64) -> u64 {
+        end_of(self.areas.as_slice(), sort, lo, hi)
+    }
+
+    fn highest_fit(&self, pages: u64) -> Option<u64> {
+        highest_fit(self.areas.as_slice(), pages)
     }
 }

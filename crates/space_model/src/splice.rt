@@ -6,12 +6,15 @@ ghost use Rattle.std.specs.Prelude.{◌≡◌, ◌^◌, ◌<◌, ◌≤◌, ◌+
 ghost use Rattle.std.specs.List.{splice};
 ghost use Rattle.space_model.specs.Areas.{IsAreaList, row_count};
 ghost use Rattle.space_model.specs.Cutting.{end_of, start_of, IsPlan};
+ghost use Rattle.space_model.specs.Effect.{AreRising};
+ghost use Rattle.space_model.specs.Judges.{patches_of};
 
 use crate::areas::Area;
 use crate::build::changed;
 use crate::counts::rows_between;
+use crate::judged::Change;
 use crate::search::{cut_by_end, cut_by_start};
-use page_types::{Call, LIMIT, Span};
+use page_types::LIMIT;
 use std::alloc::AllocError;
 
 /// Which areas of a list become others, and how many rows there are then.
@@ -25,24 +28,22 @@ pub struct Plan {
     pub rows: u32,
 }
 
-/// Puts into `middle` the areas that a call with place `span` makes of those that it touches. `rows` is the number of
-/// rows before it.
+/// Puts into `middle` the areas that a change makes of those that it touches. `rows` is the number of rows before it.
 pub fn planned(
     middle: &mut Vec<Area>,
     areas: &[Area],
     rows: u32,
-    call: &Call,
-    span: Span,
+    change: Change,
 ) -> Result<Plan, AllocError>
     requires in_order { IsAreaList areas.now }
     requires few { length areas.now < 2 ^ 30 }
     requires counted { rows ≡ row_count areas.now }
-    ensures { IfOk result (λ plan.
-        IsPlan areas.now call.now span.lo span.hi plan.first plan.end plan.rows middle.new.items) }
+    requires rising { AreRising 0 (patches_of change) }
+    ensures { IfOk result (λ plan. IsPlan areas.now (patches_of change) plan.first plan.end plan.rows middle.new.items) }
 {
-    let (front, rest) = cut_by_end(areas, span.lo.saturating_sub(1));
-    let (touched, back) = cut_by_start(rest, span.hi);
-    changed(middle, touched, call, span)?;
+    let (front, rest) = cut_by_end(areas, change.first.lo.saturating_sub(1));
+    let (touched, back) = cut_by_start(rest, change.end());
+    changed(middle, touched, change)?;
     let rows = recounted(rows, front, touched, middle.as_slice(), back);
     let first = front.len();
     let end = first + touched.len();

@@ -10,7 +10,7 @@ pub rows-init : goal.rows-init
 rows-init c = record {
   there = search rules;
   end_is = let rows = c.args.rows.now in sym (ends_all rows (length rows) (omega arith));
-  ended = λ kinds show s fits f. fits;
+  ended = λ kinds show s f. f.high;
 }
 
 -- the row that was read has a page, and ends at or below LIMIT

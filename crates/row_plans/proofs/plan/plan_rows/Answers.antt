@@ -1,7 +1,7 @@
 use Rattle.std.proofs.Common.{rules, ◌≡◌, ◌∙◌, sym, ap}
 use Rattle.std.specs.Prelude.{None, Some}
 use Rattle.page_types.specs.PlainReply.{plain_reply}
-use Rattle.row_plans.proofs.PlanLeft.{plan_plain, plan_refused}
+use Rattle.row_plans.proofs.PlanLeft.{plan_plain, plan_refused, plan_kept, plan_made}
 use Rattle.row_plans.proofs.plan.plan_rows.Goals as goal
 
 -- what the arguments decide is the plan
@@ -12,9 +12,24 @@ returns-in-Some-clause-plan c =
     c.requires.old c.unchanged.ensures.none c.unchanged.ensures.rows decided
 
 -- what the rows refuse is the plan
-pub returns-in-Err-clause-plan : goal.returns-in-Err-clause-plan
-returns-in-Err-clause-plan c =
+pub returns-in-Refused-clause-plan : goal.returns-in-Refused-clause-plan
+returns-in-Refused-clause-plan c =
     let undecided : plain_reply c.args.call.now ≡ None = search rules in
-    plan_refused c.args.old.now c.unchanged-in-Err.new.new.items c.args.call.now c.unchanged-in-Err.result.reply
-    c.unchanged-in-Err.result.rows c.requires.old c.unchanged-in-Err.ensures.none c.unchanged-in-Err.ensures.rows
-    c.in-Err.why undecided c.in-Err.ensures.refused c.unchanged-in-Err.ensures.reply
+    plan_refused c.args.old.now c.unchanged-in-Refused.new.new.items c.args.call.now c.unchanged-in-Refused.result.reply
+    c.unchanged-in-Refused.result.rows c.requires.old c.unchanged-in-Refused.ensures.none c.unchanged-in-Refused.ensures.rows
+    c.in-Refused.why undecided c.in-Refused.ensures c.unchanged-in-Refused.ensures.reply
+
+-- so is a reply alone, with the rows as they are
+pub returns-in-Keeps-clause-plan : goal.returns-in-Keeps-clause-plan
+returns-in-Keeps-clause-plan c =
+    let undecided : plain_reply c.args.call.now ≡ None = search rules in
+    plan_kept c.args.old.now c.unchanged-in-Keeps.new.new.items c.args.call.now c.unchanged-in-Keeps.result.reply
+    c.unchanged-in-Keeps.result.rows c.requires.old c.unchanged-in-Keeps.ensures.none c.unchanged-in-Keeps.ensures.rows
+    c.in-Keeps.reply undecided c.in-Keeps.ensures c.unchanged-in-Keeps.ensures.reply
+
+-- and a change, as it is made
+pub returns-in-Changes-clause-plan : goal.returns-in-Changes-clause-plan
+returns-in-Changes-clause-plan c =
+    let undecided : plain_reply c.args.call.now ≡ None = search rules in
+    plan_made c.args.old.now c.changed.new.new.items c.args.call.now c.in-Changes.change c.changed.result.reply
+    c.changed.result.rows undecided c.in-Changes.ensures c.changed.ensures.made

@@ -1,48 +1,38 @@
-use Rattle.std.proofs.Common.{rules, ℕ, ◌≡◌, ◌<◌, ◌≤◌, ◌+◌, List, take, drop, get_or, refl, sym, subst, arith}
-use Rattle.std.proofs.lemmas.List.{take_rest}
-use Rattle.std.proofs.lemmas.List.Elements.{All-take}
-use Rattle.std.specs.Prelude.{All, Option}
+use Rattle.std.proofs.Common.{ℕ, ◌≡◌, [], ◌∷◌, Option, Some, None, sym, subst}
+use Rattle.page_types.specs.declared.TheConstants.{LIMIT}
 use Rattle.page_types.specs.declared.calls.Kind.{Kind}
-use Rattle.row_plans.specs.RowLists.{rows_start, ShowFrom, IsBareGap}
-use Rattle.row_plans.specs.Planning.{ShowTo, changed}
-use Rattle.row_plans.proofs.PutRows.{front_changed, rest_changed}
-use Rattle.row_plans.proofs.RowPages.{row_pages, before_span}
+use Rattle.space_model.specs.declared.paint.Patch.{Patch}
+use Rattle.space_model.specs.Effect.{patched, AreRising}
+use Rattle.space_model.specs.Judges.{second_of}
+use Rattle.row_plans.specs.Planning.{ShowTo}
+use Rattle.row_plans.proofs.PutRows.{none_shown}
+use Rattle.row_plans.proofs.RowPatches.{first_kept, first_painted, last_kept, second_kept, second_painted, both_kept}
 use Rattle.row_plans.proofs.planning.change_rows.Goals as goal
 
--- the copied rows before the span have bare gaps
-pub put_part-requires-clause-gaps : goal.put_part-requires-clause-gaps
-put_part-requires-clause-gaps c =
-    let old = c.args.old.now in
-    let first = c.row_at-first.result in
-    let items : c.copy_rows.new.rows.items ≡ take first old = search rules in
-    subst (All IsBareGap) (sym items) (All-take IsBareGap first old c.requires.gaps)
+-- one patch: the pages before it, its own, and those behind it
+pub returns-in-None-clause-shows : goal.returns-in-None-clause-shows
+returns-in-None-clause-shows c = λ kinds show.
+    let first = c.args.change.first in
+    let one : c.args.change.second ≡ None = c.in-None.is in
+    let rising : AreRising 0 (first ∷ []) = subst (λ (o : Option Patch). AreRising 0 (first ∷ second_of o)) one c.requires.rising in
+    let after : ℕ → Option Kind = patched (first ∷ []) kinds in
+    let start = c.keep_to-start.ensures.shows kinds after show (first_kept kinds first [] rising) (none_shown _ after c.clear.ensures.items) in
+    let own = c.paint_to-next.ensures.shows kinds after show (first_painted kinds first [] rising) start in
+    let all = c.keep_to.ensures.shows kinds after show (last_kept kinds first) own in
+    subst (λ (o : Option Patch). ShowTo 0 c.keep_to.new.rows.items LIMIT (patched (first ∷ second_of o) kinds)) (sym one) all
 
--- the rows before the span, those of it and those behind it show the changed kinds up to LIMIT
-pub returns-clause-shows : goal.returns-clause-shows
-returns-clause-shows c = λ kinds show.
-    let old = c.args.old.now in
-    let lo = c.args.span.lo in
-    let hi = c.args.span.hi in
-    let call = c.args.call.now in
-    let first = c.row_at-first.result in
-    let next = c.put_span-next.result in
-    let start = c.read_row-start.result.0 in
-    let kind = c.read_row-start.result.1 in
-    let after : ℕ → Option Kind = changed kinds call lo hi in
-    let items : c.copy_rows.new.rows.items ≡ take first old = search rules in
-    let from : rows_start (drop first old) ≤ lo = search rules in
-    let until : lo < rows_start (drop (first + 1) old) = search rules in
-    let to : c.lo-2.result ≡ lo = search rules in
-    let r = row_pages old kinds first (get_or old first 0) start (rows_start (drop (first + 1) old)) kind show
-    c.row_at-first.ensures.there refl c.read_row-start.ensures.start c.read_row-start.ensures.kind refl in
-    let b = r.begins in
-    let front : ShowTo 0 c.copy_rows.new.rows.items start after =
-    subst (λ (l : List ℕ). ShowTo 0 l start after) (sym items)
-    (subst (λ (x : ℕ). ShowTo 0 (take first old) x after) b (front_changed old first kinds call lo hi from show)) in
-    let before = c.put_part.ensures.shows after (omega arith)
-    (λ p low high. before_span kinds call lo hi start kind (λ q above below. r.all q above (omega arith)) p low (omega arith))
-    front in
-    let span = c.put_span-next.ensures.shows kinds show (subst (λ (x : ℕ). ShowTo 0 c.put_part.new.rows.items x after) to before) in
-    c.put_rest.ensures.shows (rows_start (drop next old)) after span
-    (subst (λ (l : List ℕ). ShowFrom (rows_start (drop next old)) l after) (sym (take_rest old next))
-    (rest_changed old next kinds call lo hi c.put_span-next.ensures.behind show))
+-- two: those between them as well
+pub returns-in-Some-clause-shows : goal.returns-in-Some-clause-shows
+returns-in-Some-clause-shows c = λ kinds show.
+    let first = c.args.change.first in
+    let second = c.in-Some.second in
+    let two : c.args.change.second ≡ Some second = c.in-Some.is in
+    let rising : AreRising 0 (first ∷ second ∷ []) = subst (λ (o : Option Patch). AreRising 0 (first ∷ second_of o)) two c.requires.rising in
+    let after : ℕ → Option Kind = patched (first ∷ second ∷ []) kinds in
+    let start = c.keep_to-start.ensures.shows kinds after show (first_kept kinds first (second ∷ []) rising)
+    (none_shown _ after c.clear.ensures.items) in
+    let own = c.paint_to-next.ensures.shows kinds after show (first_painted kinds first (second ∷ []) rising) start in
+    let again = c.keep_to-again.ensures.shows kinds after show (second_kept kinds first second rising) own in
+    let last = c.paint_to-last.ensures.shows kinds after show (second_painted kinds first second rising) again in
+    let all = c.keep_to-in-Some.ensures.shows kinds after show (both_kept kinds first second rising) last in
+    subst (λ (o : Option Patch). ShowTo 0 c.keep_to-in-Some.new.rows.items LIMIT (patched (first ∷ second_of o) kinds)) (sym two) all

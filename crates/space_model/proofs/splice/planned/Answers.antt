@@ -1,6 +1,7 @@
--- The list with its middle built anew has the kinds of the effect, and the rows that were counted.
+-- The list with its middle built anew has the kinds of the change, and the rows that were counted.
 use Rattle.std.proofs.Common.{◌^◌, ◌<◌, ◌++◌, ◌∙◌, sym, ap, subst, refl}
 use Rattle.space_model.specs.Areas.{IsAreaList, row_count}
+use Rattle.space_model.specs.Judges.{second_of}
 use Rattle.space_model.proofs.Splicing.{areas_right, spliced, plan_of}
 use Rattle.space_model.proofs.Stepping.{rows-fit}
 use Rattle.space_model.proofs.splice.planned.Goals as goal
@@ -24,17 +25,20 @@ recounted-rows-requires-clause-fits c =
     let front = c.cut_by_end.result.0.now in
     let back = c.cut_by_start.result.1.now in
     let N = c.changed.new.list.items in
+    let change = c.args.change in
     subst (λ X. row_count (front ++ (X ++ back)) < 2 ^ 32) (sym c.as_slice.ensures.value)
-    (rows-fit A (front ++ (N ++ back)) c.args.call.now c.args.span.lo c.args.span.hi c.requires.in_order c.requires.few
-    (spliced A front c.cut_by_end.result.1.now c.cut_by_start.result.0.now back N c.args.call.now c.args.span.lo c.args.span.hi _
-    c.saturating_sub.ensures c.requires.in_order c.args.span.ordered c.args.span.in_range c.cut_by_end.ensures c.cut_by_start.ensures c.in_ok-changed.ensures))
+    (rows-fit A (front ++ (N ++ back)) change c.requires.in_order c.requires.few c.requires.rising
+    (spliced A front c.cut_by_end.result.1.now c.cut_by_start.result.0.now back N change.first (second_of change.second) _ _
+    c.saturating_sub.ensures c.end.ensures c.requires.in_order c.requires.rising c.cut_by_end.ensures
+    c.cut_by_start.ensures c.in_ok-changed.ensures))
 
--- the new areas between the cuts, with the rows counted, are a plan of the call
+-- the new areas between the cuts, with the rows counted, are a plan of the change
 pub returns : goal.returns
 returns c =
     let front = c.cut_by_end.result.0.now in
     let back = c.cut_by_start.result.1.now in
+    let change = c.args.change in
     plan_of c.args.areas.now front c.cut_by_end.result.1.now c.cut_by_start.result.0.now back c.changed.new.list.items
-    c.args.call.now c.args.span.lo c.args.span.hi _ _ _ _ c.saturating_sub.ensures c.requires.in_order c.args.span.ordered c.args.span.in_range
-    c.cut_by_end.ensures c.cut_by_start.ensures c.in_ok-changed.ensures refl refl
+    change.first (second_of change.second) _ _ _ _ _ c.saturating_sub.ensures c.end.ensures c.requires.in_order
+    c.requires.rising c.cut_by_end.ensures c.cut_by_start.ensures c.in_ok-changed.ensures refl refl
     (c.recounted-rows.ensures ∙ ap (λ X. row_count (front ++ (X ++ back))) c.as_slice.ensures.value)

@@ -1,0 +1,197 @@
+ghost use Rattle.std.specs.Prelude.{◌≤◌, ◌<◌, IfOk, IsTrue};
+ghost use Rattle.page_types.specs.Named.{IsNamedCall};
+ghost use Rattle.space_model.specs.Judges.{IsNamedPaint};
+ghost use Rattle.row_plans.specs.Plans.{IsRowList};
+
+use crate::plan::plan_rows;
+use crate::planning::change_rows;
+use crate::row_words::{read_row, write_row};
+use page_types::{Call, Kind, LIMIT, MapFlags, PAGE, Prot, ROWS, Reply, SPARE};
+use space_model::{Change, Paint, Patch};
+use std::alloc::{AllocError, Global};
+use std::process::Abort;
+use std::test::Fail;
+
+/// The rows of a space in which nothing is mapped.
+fn no_areas(alloc: Global) -> Result<Vec<u64>, AllocError>
+    ensures { IfOk result (λ rows. IsRowList rows.items) }
+{
+    let mut rows = Vec::new(alloc);
+    rows.push(write_row(0, None))?;
+    Ok(rows)
+}
+
+/// The rows that a call leaves of others.
+fn rows_after(alloc: Global, rows: &[u64], call: &Call) -> Result<Vec<u64>, AllocError>
+    requires old { IsRowList rows.now }
+    requires named { IsNamedCall call.now }
+    ensures { IfOk result (λ new. IsRowList new.items) }
+{
+    let mut new = Vec::with_capacity(alloc, ROWS + SPARE)?;
+    plan_rows(rows, call, &mut new);
+    if new.is_empty() {
+        return Vec::from_slice(alloc, rows);
+    }
+    Ok(new)
+}
+
+/// Whether a paint gives no bit but the named ones.
+fn is_named(paint: Paint) -> bool
+    ensures { IsTrue result → IsNamedPaint paint }
+{
+    match paint {
+        Paint::Gives(Some(kind)) => kind.is_named(),
+        Paint::Gives(None) => true,
+        Paint::Protects(prot) => prot.is_named(),
+    }
+}
+
+/// Two patches at once, in the order of their pages.
+#[derive(Clone, Copy)]
+struct Two(Patch, Patch);
+
+/// Where a row starts, and its kind.
+type Row = (u64, Option<Kind>);
+
+/// Changes the rows that two Maps leave by two patches, and compares the rows.
+fn change_by(
+    rt: &(impl Abort + AllocGlobal),
+    maps: (Call, Call),
+    patches: Two,
+    after: &[Row],
+) -> Result<(), Fail> {
+    let Two(first, second) = patches;
+    assert!(rt; maps.0.is_named() && maps.1.is_named());
+    assert!(rt; is_named(first.paint) && is_named(second.paint));
+    assert!(rt; first.lo <= first.hi && first.hi <= second.lo);
+    assert!(rt; second.lo <= second.hi && second.hi <= LIMIT);
+    let none = no_areas(rt.alloc())?;
+    let one = rows_after(rt.alloc(), none.as_slice(), &maps.0)?;
+    let old = rows_after(rt.alloc(), one.as_slice(), &maps.1)?;
+    let change = Change {
+        first,
+        second: Some(second),
+        reply: Reply::Zero,
+        full: None,
+    };
+    let mut new = Vec::with_capacity(rt.alloc(), ROWS + 2 * SPARE)?;
+    change_rows(old.as_slice(), change, &mut new);
+    assert_eq!(rt; new.len(), after.len());
+    for i in 0..new.len() {
+        assert_eq!(rt; read_row(new[i]), after[i]);
+    }
+    Ok(())
+}
+
+fn kind(prot: Prot) -> Option<Kind> {
+    Some(Kind {
+        prot,
+        shared: false,
+    })
+}
+
+/// A Map of the pages from `lo` up to `hi`.
+fn map(lo: u64, hi: u64, prot: Prot) -> Call
+    requires { (lo ≤ hi) × (hi < 1000) }
+{
+    Call::Map {
+        addr: lo * PAGE,
+        len: (hi - lo) * PAGE,
+        prot,
+        flags: MapFlags::PRIVATE | MapFlags::FIXED,
+    }
+}
+
+fn patch(lo: u64, hi: u64, paint: Paint) -> Patch {
+    Patch { lo, hi, paint }
+}
+
+fn gives(lo: u64, hi: u64, prot: Prot) -> Patch {
+    patch(lo, hi, Paint::Gives(kind(prot)))
+}
+
+fn frees(lo: u64, hi: u64) -> Patch {
+    patch(lo, hi, Paint::Gives(None))
+}
+
+#[test]
+fn two_patches_are_made_at_once(rt: HostRuntime) -> Result<(), Fail> {
+    let both = Prot::READ | Prot::WRITE;
+    // apart: a page goes, and one in the middle of another area gets a new protection
+    change_by(
+        &rt,
+        (map(16, 18, both), map(20, 24, Prot::READ)),
+        Two(frees(17, 18), patch(21, 22, Paint::Protects(both))),
+        &[
+            (0, None),
+            (16, kind(both)),
+            (17, None),
+            (20, kind(Prot::READ)),
+            (21, kind(both)),
+            (22, kind(Prot::READ)),
+            (24, None),
+        ],
+    )?;
+    // the second begins where the first ends, in the middle of an area
+    change_by(
+        &rt,
+        (map(16, 24, both), map(30, 31, both)),
+        Two(frees(18, 20), gives(20, 22, Prot::READ)),
+        &[
+            (0, None),
+            (16, kind(both)),
+            (18, None),
+            (20, kind(Prot::READ)),
+            (22, kind(both)),
+            (24, None),
+            (30, kind(both)),
+            (31, None),
+        ],
+    )?;
+    // what they make is one row, with those on both sides
+    change_by(
+        &rt,
+        (map(16, 18, both), map(22, 24, both)),
+        Two(gives(18, 20, both), gives(20, 22, both)),
+        &[(0, None), (16, kind(both)), (24, None)],
+    )
+}
+
+#[test]
+fn patches_join_their_neighbours_and_make_four_rows_at_most(rt: HostRuntime) -> Result<(), Fail> {
+    let both = Prot::READ | Prot::WRITE;
+    // each joins with both of its neighbours, one of which they share
+    change_by(
+        &rt,
+        (map(16, 17, both), map(20, 21, Prot::READ)),
+        Two(frees(16, 17), frees(20, 21)),
+        &[(0, None)],
+    )?;
+    // one without a page changes nothing, and the other goes to the limit
+    change_by(
+        &rt,
+        (map(16, 24, both), map(30, 32, both)),
+        Two(gives(18, 18, Prot::READ), gives(31, LIMIT, Prot::READ)),
+        &[
+            (0, None),
+            (16, kind(both)),
+            (24, None),
+            (30, kind(both)),
+            (31, kind(Prot::READ)),
+        ],
+    )?;
+    // four rows more than before, by the middle of an area and of a gap; the first page is one of the patches'
+    change_by(
+        &rt,
+        (map(0, 4, both), map(2, 4, both)),
+        Two(frees(1, 2), gives(30, 31, both)),
+        &[
+            (0, kind(both)),
+            (1, None),
+            (2, kind(both)),
+            (4, None),
+            (30, kind(both)),
+            (31, None),
+        ],
+    )
+}

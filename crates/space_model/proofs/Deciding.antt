@@ -1,0 +1,111 @@
+-- Bars refuse with one reason, and where they don't they are clear; pages start at one place, or no place applies; and
+-- a call does one thing.
+use Rattle.std.proofs.Common.{◌≡◌, ℕ, ◌+◌, ◌*◌, inl, inr, List, [], ◌∷◌, Option, Some, None, sym, ◌∙◌, ap, arith}
+use Rattle.std.proofs.lemmas.Bool.{cases_order, true≢false}
+use Rattle.page_types.specs.declared.calls.Kind.{Kind}
+use Rattle.page_types.specs.declared.calls.Call.{Call}
+use Rattle.page_types.specs.declared.calls.Call.TheVariants.{Map, Unmap, Protect, Fault}
+use Rattle.page_types.specs.declared.calls.Reply.{Reply}
+use Rattle.page_types.specs.declared.calls.Reply.TheVariants.{At}
+use Rattle.page_types.specs.declared.calls.Why.{Why}
+use Rattle.page_types.specs.Pages.{page_of, page_count}
+use Rattle.space_model.specs.declared.paint.Paint.TheVariants.{Gives}
+use Rattle.space_model.specs.declared.sorts.Sort.{Sort}
+use Rattle.space_model.specs.Effect.{mapped_kind, patch}
+use Rattle.space_model.specs.Sorts.{IsLowest, Bar, why_of, IsBarred, IsClear}
+use Rattle.space_model.specs.Sorts.Bar.{bar}
+use Rattle.space_model.specs.Places.{Place, StartsBy, NoStart, StartsAt, HasNoPlace, map_places}
+use Rattle.space_model.specs.Places.Place.{fixed, free_at, highest}
+use Rattle.space_model.specs.Answers.{bars, FindsNoPlace, RefusesByState, Effect, AnswersFault, Does, IsEffect}
+use Rattle.space_model.specs.Answers.Effect.{keeps, changes}
+
+module _ (kinds : ℕ → Option Kind) where
+  lowest_one : (sort : Sort) (lo hi p q : ℕ) → IsLowest kinds sort lo hi p → IsLowest kinds sort lo hi q → p ≡ q
+  lowest_one sort lo hi p q a b =
+      elim (cases_order p q) [
+        | inl e ↦ e
+        | inr o ↦
+            elim o [
+              | inl l ↦ absurd (true≢false (sym a.such ∙ b.none_below p a.from l))
+              | inr l ↦ absurd (true≢false (sym b.such ∙ a.none_below q b.from l))
+            ]
+      ]
+
+  barred_one : (list : List Bar) (why because : Why) → IsBarred kinds list why → IsBarred kinds list because → why ≡ because
+  barred_one [] why because r s = absurd r
+  barred_one (bar sort lo hi ∷ rest) why because (inl (p, l, e)) (inl (q, m, d)) =
+      e ∙ ap (why_of sort) (lowest_one sort lo hi p q l m) ∙ sym d
+  barred_one (bar sort lo hi ∷ rest) why because (inl (p, l, e)) (inr (n, s)) = absurd (true≢false (sym l.such ∙ n p l.from l.within))
+  barred_one (bar sort lo hi ∷ rest) why because (inr (n, r)) (inl (q, m, d)) = absurd (true≢false (sym m.such ∙ n q m.from m.within))
+  barred_one (bar sort lo hi ∷ rest) why because (inr (n, r)) (inr (o, s)) = barred_one rest why because r s
+
+  clear_or_barred : (list : List Bar) (why : Why) → IsClear kinds list → IsBarred kinds list why → ⊥
+  clear_or_barred [] why c r = r
+  clear_or_barred (bar sort lo hi ∷ rest) why c (inl (p, l, e)) = true≢false (sym l.such ∙ c.0 p l.from l.within)
+  clear_or_barred (bar sort lo hi ∷ rest) why c (inr (n, r)) = clear_or_barred rest why c.1 r
+
+  start_by_one : (pages : ℕ) (place : Place) (p q : ℕ) → StartsBy kinds pages place p → StartsBy kinds pages place q → p ≡ q
+  start_by_one pages (fixed at) p q a b = a ∙ sym b
+  start_by_one pages (free_at at) p q a b = a.1 ∙ sym b.1
+  start_by_one pages highest p q a b = omega (arith, a.highest q b.fits, b.highest p a.fits)
+
+  start_or_none : (pages : ℕ) (place : Place) (p : ℕ) → NoStart kinds pages place → StartsBy kinds pages place p → ⊥
+  start_or_none pages (fixed at) p n s = n
+  start_or_none pages (free_at at) p n s = n s.0
+  start_or_none pages highest p n s = n p s.fits
+
+  starts_one : (pages : ℕ) (list : List Place) (p q : ℕ) → StartsAt kinds pages list p → StartsAt kinds pages list q → p ≡ q
+  starts_one pages [] p q a b = absurd a
+  starts_one pages (place ∷ rest) p q (inl a) (inl b) = start_by_one pages place p q a b
+  starts_one pages (place ∷ rest) p q (inl a) (inr (n, b)) = absurd (start_or_none pages place p n a)
+  starts_one pages (place ∷ rest) p q (inr (n, a)) (inl b) = absurd (start_or_none pages place q n b)
+  starts_one pages (place ∷ rest) p q (inr (n, a)) (inr (m, b)) = starts_one pages rest p q a b
+
+  place_or_none : (pages : ℕ) (list : List Place) (p : ℕ) → HasNoPlace kinds pages list → StartsAt kinds pages list p → ⊥
+  place_or_none pages [] p n s = s
+  place_or_none pages (place ∷ rest) p n (inl s) = start_or_none pages place p n.0 s
+  place_or_none pages (place ∷ rest) p n (inr (m, s)) = place_or_none pages rest p n.1 s
+
+  no_place_one : (c : Call) (why because : Why) → FindsNoPlace kinds c why → FindsNoPlace kinds c because → why ≡ because
+  no_place_one (Map addr len prot flags) why because r s = r.1 ∙ sym s.1
+  no_place_one (Unmap addr len) why because r s = absurd r
+  no_place_one (Protect addr len prot) why because r s = absurd r
+  no_place_one (Fault addr access) why because r s = absurd r
+
+  no_place_or_done : (c : Call) (why : Why) (e : Effect) → FindsNoPlace kinds c why → Does kinds c e → ⊥
+  no_place_or_done (Map addr len prot flags) why e r (p, s, d) = place_or_none (page_count len) (map_places flags (page_of addr)) p r.0 s
+  no_place_or_done (Unmap addr len) why e r d = r
+  no_place_or_done (Protect addr len prot) why e r d = r
+  no_place_or_done (Fault addr access) why e r d = r
+
+  -- a call is refused with one reason
+  pub refusal_one : (c : Call) (why because : Why) → RefusesByState kinds c why → RefusesByState kinds c because → why ≡ because
+  refusal_one c why because (inl r) (inl s) = barred_one (bars c) why because r s
+  refusal_one c why because (inl r) (inr s) = absurd (clear_or_barred (bars c) why s.0 r)
+  refusal_one c why because (inr r) (inl s) = absurd (clear_or_barred (bars c) because r.0 s)
+  refusal_one c why because (inr r) (inr s) = no_place_one c why because r.1 s.1
+
+  -- a call that is refused does nothing
+  pub refused_or_done : (c : Call) (why : Why) (e : Effect) → RefusesByState kinds c why → IsEffect kinds c e → ⊥
+  refused_or_done c why e (inl r) d = clear_or_barred (bars c) why d.0 r
+  refused_or_done c why e (inr r) d = no_place_or_done c why e r.1 d.1
+
+  does_one : (c : Call) (e f : Effect) → Does kinds c e → Does kinds c f → e ≡ f
+  does_one (Map addr len prot flags) e f (s, p, a) (t, q, b) =
+      a ∙ ap (λ x. changes (patch x (x + page_count len) (Gives (Some (mapped_kind prot flags))) ∷ []) (At (x * 4096)) None)
+      (starts_one (page_count len) (map_places flags (page_of addr)) s t p q) ∙ sym b
+  does_one (Unmap addr len) e f a b = a ∙ sym b
+  does_one (Protect addr len prot) e f a b = a ∙ sym b
+  does_one (Fault addr access) e f (r, p, a) (s, q, b) =
+      a ∙ ap (λ x. keeps x) (fault_one (kinds (page_of addr)) r s p q) ∙ sym b
+    where
+      fault_one : (o : Option Kind) (r s : Reply) → AnswersFault o (page_of addr) access r → AnswersFault o (page_of addr) access s → r ≡ s
+      fault_one None r s a b = a ∙ sym b
+      fault_one (Some k) r s (inl a) (inl b) = a.1 ∙ sym b.1
+      fault_one (Some k) r s (inl a) (inr b) = absurd (b.0 a.0)
+      fault_one (Some k) r s (inr a) (inl b) = absurd (a.0 b.0)
+      fault_one (Some k) r s (inr a) (inr b) = a.1 ∙ sym b.1
+
+  -- a call does one thing
+  pub effect_one : (c : Call) (e f : Effect) → IsEffect kinds c e → IsEffect kinds c f → e ≡ f
+  effect_one c e f a b = does_one c e f a.1 b.1

@@ -1,0 +1,10 @@
+use Rattle.std.proofs.Common.{ℕ, ◌∙◌, MatchOption, subst}
+use Rattle.space_model.specs.Areas.{kind_at}
+use Rattle.space_model.specs.Places.{FitsAt, IsHighestFit}
+use Rattle.space_model.proofs.space.PlainSpacePages.highest_fit.Goals as goal
+
+-- the areas that were looked at are those of the space
+pub returns : goal.returns
+returns c =
+    subst (λ A. MatchOption c.highest_fit.result ((start : ℕ) → ¬ FitsAt (kind_at A) c.args.pages start) (IsHighestFit (kind_at A) c.args.pages))
+    (c.as_slice.ensures.value ∙ c.self.view_is) c.highest_fit.ensures

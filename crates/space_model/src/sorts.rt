@@ -1,0 +1,26 @@
+//! Sorts of pages, by which the searches of this crate look: the lowest page of a sort bars a call, as mmap(2) and
+//! mprotect(2) say. `is_sort` in `specs/` says which kinds are of which sort.
+
+ghost use Rattle.std.specs.Prelude.{◌≡◌};
+ghost use Rattle.space_model.specs.Sorts.{is_sort};
+
+use page_types::Kind;
+
+/// A sort of pages, by their kind.
+#[derive(Clone, Copy, PartialEq, Eq, Hash, Debug)]
+pub enum Sort {
+    /// Pages that are mapped.
+    Mapped,
+    /// Pages that aren't.
+    Missing,
+}
+
+/// Whether a page of this kind is of the sort.
+pub fn is_sort(sort: Sort, kind: Option<Kind>) -> bool
+    ensures { result ≡ is_sort sort kind }
+{
+    match sort {
+        Sort::Mapped => kind.is_some(),
+        Sort::Missing => kind.is_none(),
+    }
+}
