@@ -2,7 +2,7 @@
 use Rattle.std.proofs.Common.{◌≡◌, ℕ, ◌<◌, subst, sym}
 use Rattle.std.specs.Prelude.{IsSome}
 use Rattle.page_types.specs.declared.calls.Call.{Call}
-use Rattle.page_types.specs.declared.calls.Call.TheVariants.{Map, Unmap, Protect, Fault}
+use Rattle.page_types.specs.declared.calls.Call.TheVariants.{Protect}
 use Rattle.page_types.specs.declared.sets.Prot.{Prot}
 use Rattle.page_types.specs.PlainReply.{plain_reply}
 use Rattle.space_model.specs.declared.entries.Entry.{Entry}
@@ -11,24 +11,21 @@ use Rattle.area_rows.specs.Called.{IsCalled}
 use Rattle.area_protect.specs.declared.path.Path.{Path}
 use Rattle.area_protect.specs.declared.path.Path.TheVariants.{Free}
 use Rattle.area_protect.specs.declared.path.Protected.TheVariants.{Given, Spent}
-use Rattle.area_protect.specs.Protects.{IsProtect, IsProtected, IsAnswerTo}
+use Rattle.page_types.specs.Classes.{IsProtect}
+use Rattle.area_protect.specs.Protects.{IsProtected, IsAnswerTo}
 
 -- who has no number left is told so, and nothing has changed
 pub spent_call : (before : CallerView) (line : ℕ) (call : Call) (after : CallerView) → IsProtect call → before.left ≡ 0
     → after ≡ before → IsAnswerTo before line call Spent after
-spent_call before line (Map addr len prot flags) after is none same = absurd is
-spent_call before line (Unmap addr len) after is none same = absurd is
 spent_call before line (Protect addr len prot) after is none same = (none, same)
-spent_call before line (Fault addr access) after is none same = absurd is
+spent_call before line call after is none same = absurd is
 
 -- a call that its arguments decide has its entry, and is free
 pub free_call : (before : CallerView) (line : ℕ) (call : Call) (e : Entry) (after : CallerView) → IsProtect call
     → 0 < before.left → IsSome (plain_reply call) → IsCalled before line call e after
     → IsAnswerTo before line call (Given e Free) after
-free_call before line (Map addr len prot flags) e after is left decided called = absurd is
-free_call before line (Unmap addr len) e after is left decided called = absurd is
-free_call before line (Protect addr len prot) e after is left decided called = (left, record { called = called; way = decided })
-free_call before line (Fault addr access) e after is left decided called = absurd is
+free_call before line (Protect addr len prot) e after is left decided called = (left, record { called = called; way = decided; looks = tt })
+free_call before line call e after is left decided called = absurd is
 
 -- a call with these arguments is answered as they are
 pub given_call : (before : CallerView) (line : ℕ) (call : Call) (addr len : ℕ) (prot : Prot) (e : Entry) (path : Path)

@@ -1,18 +1,20 @@
 -- What a look has shown of the history stays so of what the caller sees later, and looks and a call after them are one
 -- call.
-use Rattle.std.proofs.Common.{◌≡◌, ◌≢◌, ℕ, ◌+◌, ◌<◌, ◌≤◌, List, [], ◌∷◌, ◌++◌, take, length, sym, refl, ap, ◌∙◌, subst}
+use Rattle.std.proofs.Common.{◌≡◌, ◌≢◌, ℕ, ◌+◌, ◌<◌, ◌≤◌, ◌⊎◌, ⊎_elim, List, [], ◌∷◌, ◌++◌, take, length, sym, refl, ap, ◌∙◌, subst}
 use Rattle.std.proofs.Common.{arith, inl, inr, length-append, append_assoc}
 use Rattle.std.proofs.lemmas.Bool.{cases_lt}
 use Rattle.std.proofs.lemmas.List.{append-nil, take_all, take-append-le}
 use Rattle.std.specs.Prelude.{None}
 use Rattle.page_types.specs.declared.calls.Call.{Call}
 use Rattle.page_types.specs.declared.calls.Call.TheVariants.{Protect}
+use Rattle.page_types.specs.declared.pages.Span.{Span}
 use Rattle.page_types.specs.Pages.{page_of, end_page}
 use Rattle.space_model.specs.declared.areas.Area.{Area}
 use Rattle.space_model.specs.declared.entries.Entry.{Entry}
 use Rattle.space_model.specs.History.{StateAfter}
 use Rattle.range_rw.specs.Contract.{SeatState}
 use Rattle.area_rows.specs.Seated.{TableId}
+use Rattle.area_rows.specs.declared.guard.Look.{Look}
 use Rattle.area_rows.specs.declared.guard.Pass.{Pass}
 use Rattle.area_rows.specs.AreaPlans.{IsOneKind}
 use Rattle.area_rows.specs.History.{Runs, StartsWith, whole_count, planned_calls, IsAtRest}
@@ -24,9 +26,9 @@ use Rattle.area_protect.specs.declared.path.Cause.TheVariants.{NotOneArea, NotSi
 use Rattle.area_protect.specs.declared.steps.Attempt.{Attempt}
 use Rattle.area_protect.specs.declared.steps.Attempt.TheVariants.{Done, Again, Whole}
 use Rattle.area_protect.specs.declared.steps.Request.{Request}
-use Rattle.area_protect.specs.Looks.{IsAfter, HasWhole, HasLooked, IsLookedAt}
-use Rattle.area_protect.specs.Protects.{HasCause}
-use Rattle.area_protect.specs.Attempts.{MayCall, IsReason, IsChanged, IsAttempt, CallIs, NeedsMoreRows}
+use Rattle.area_protect.specs.Looks.{IsAfter, HasWhole, HasMade, KeepsLooks, IsFoundBy, IsFoundSince, LooksFirst, HasLooked, IsLookedAt}
+use Rattle.area_protect.specs.Protects.{HasCause, WereFound}
+use Rattle.area_protect.specs.Attempts.{MayCall, ArePagesOf, IsReason, IsChanged, IsAttempt, CallIs, NeedsMoreRows}
 
 -- beginnings of beginnings
 pub begins_on : (a b c : List Entry) → StartsWith b a → StartsWith c b → StartsWith c a
@@ -54,6 +56,60 @@ after_on a b m what start more le t = (
 pub whole_on : (a b : SeatState Pass) (m n : ℕ) → StartsWith b.pass.seen a.pass.seen → m ≤ length a.pass.seen → HasWhole a m n → HasWhole b m n
 whole_on a b m n more le t = ap whole_count (same_first a.pass.seen b.pass.seen m more le) ∙ t
 
+-- looks, and then others
+pub made_on : (a b c : SeatState Pass) (first later : List Look) → HasMade a first b → HasMade b later c → HasMade a (later ++ first) c
+made_on a b c first later f g = g ∙ (ap (λ l. later ++ l) f ∙ sym (append_assoc later first a.pass.looks))
+
+pub looks_on : (a b c : SeatState Pass) → KeepsLooks a b → KeepsLooks b c → KeepsLooks a c
+looks_on a b c f g = (g.0 ++ f.0, made_on a b c f.0 g.0 f.1 g.1)
+
+-- what was found is found still among more looks
+by_later : (later looks : List Look) (m : ℕ) → IsFoundBy looks m → IsFoundBy (later ++ looks) m
+by_later [] looks m h = h
+by_later (l ∷ later) looks m h = inr (by_later later looks m h)
+
+by_earlier : (looks earlier : List Look) (m : ℕ) → IsFoundBy looks m → IsFoundBy (looks ++ earlier) m
+by_earlier [] earlier m h = absurd h
+by_earlier (l ∷ looks) earlier m h = ⊎_elim (λ e. inl e) (λ t. inr (by_earlier looks earlier m t)) h
+
+pub found_more : (a b c : SeatState Pass) (m : ℕ) → IsFoundSince a m b → KeepsLooks b c → IsFoundSince a m c
+found_more a b c m f g = (g.0 ++ f.0, made_on a b c f.0 g.0 f.1 g.1, by_later g.0 f.0 m f.2)
+
+pub found_since : (a b c : SeatState Pass) (m : ℕ) → KeepsLooks a b → IsFoundSince b m c → IsFoundSince a m c
+found_since a b c m f g = (g.0 ++ f.0, made_on a b c f.0 g.0 f.1 g.1, by_earlier g.0 f.0 m g.2)
+
+-- no look at all
+pub no_more_looks : (b c : SeatState Pass) → c.pass.looks ≡ b.pass.looks → KeepsLooks b c
+no_more_looks b c same = ([], same)
+
+-- the first look of the first part is that of the whole
+pub first_more : (a b c : SeatState Pass) (lo hi : ℕ) → LooksFirst a lo hi b → KeepsLooks b c → LooksFirst a lo hi c
+first_more a b c lo hi f g = (
+  g.0 ++ f.0,
+  f.1,
+  made_on a b c (f.0 ++ f.1 ∷ []) g.0 f.2 g.1 ∙ ap (λ l. l ++ a.pass.looks) (sym (append_assoc g.0 f.0 (f.1 ∷ []))),
+  f.3,
+)
+
+-- and where no look was made before, it is that of the second part
+pub first_since : (a b c : SeatState Pass) (lo hi : ℕ) → (b.pass.looks ≡ a.pass.looks) ⊎ LooksFirst a lo hi b → LooksFirst b lo hi c
+    → LooksFirst a lo hi c
+first_since a b c lo hi f g = ⊎_elim
+    (λ same. (g.0, g.1, g.2 ∙ ap (λ l. (g.0 ++ g.1 ∷ []) ++ l) same, g.3))
+    (λ first. first_more a b c lo hi first (g.0 ++ g.1 ∷ [], g.2))
+    f
+
+-- so it is between two attempts
+pub first_again : (a b c : SeatState Pass) (lo hi : ℕ) → (b.pass.looks ≡ a.pass.looks) ⊎ LooksFirst a lo hi b → LooksFirst b lo hi c
+    → (c.pass.looks ≡ a.pass.looks) ⊎ LooksFirst a lo hi c
+first_again a b c lo hi f g = inr (first_since a b c lo hi f g)
+
+-- the pages of a request are those of its call
+pub first_asked : (a b c : SeatState Pass) (r : Request) (pages : Span) → ArePagesOf r pages → LooksFirst a pages.lo pages.hi b
+    → KeepsLooks b c → LooksFirst a (page_of r.addr) (end_page r.addr r.len) c
+first_asked a b c r pages are first more = subst (λ (z : ℕ × ℕ). LooksFirst a z.0 z.1 c) (λ i. (are.0 i, are.1 i))
+    (first_more a b c pages.lo pages.hi first more)
+
 -- looks, one after another
 pub looked_on : (a b c : CallerView) → HasLooked a b → HasLooked b c → HasLooked a c
 looked_on a b c f g = record {
@@ -62,10 +118,26 @@ looked_on a b c f g = record {
   start = g.start ∙ f.start;
   mine = g.mine ∙ f.mine;
   more = begins_on a.seat.pass.seen b.seat.pass.seen c.seat.pass.seen f.more g.more;
+  looks = looks_on a.seat b.seat c.seat f.looks g.looks;
   rest = g.rest;
   taken = let l = f.taken in let m = g.taken in omega arith;
   left = g.left ∙ f.left;
 }
+
+-- the first look of an attempt is that of its first step, whatever follows
+pub first_then : (a b c : CallerView) (lo hi : ℕ) → LooksFirst a.seat lo hi b.seat → HasLooked b c → LooksFirst a.seat lo hi c.seat
+first_then a b c lo hi first look = first_more a.seat b.seat c.seat lo hi first look.looks
+
+-- where the change got its entry
+pub first_changed : (a b c d : CallerView) (r : Request) (e : Entry) (lo hi : ℕ) → LooksFirst a.seat lo hi b.seat → HasLooked b c
+    → IsChanged c r d e → LooksFirst a.seat lo hi d.seat
+first_changed a b c d r e lo hi first look changed =
+    first_more a.seat c.seat d.seat lo hi (first_then a b c lo hi first look) (no_more_looks c.seat d.seat changed.looks)
+
+-- and where it needs more rows
+pub first_needs : (a b c d : CallerView) (r : Request) (at lo hi : ℕ) → LooksFirst a.seat lo hi b.seat → HasLooked b c
+    → NeedsMoreRows c r d at → LooksFirst a.seat lo hi d.seat
+first_needs a b c d r at lo hi first look needs = first_then a c d lo hi (first_then a b c lo hi first look) needs.looked
 
 -- a look shows the state after so many entries, and how many of them are under everything
 pub look_shows : (s u : SeatState Pass) (found : ℕ) (what : List Area → Type 0) → IsLook s found u → Shows s (λ _ state. what state) → IsAfter u found what
@@ -163,13 +235,31 @@ cause_of a b c r line e (Moved first second old new) look reason called =
       reason.5,
     )
 
+-- each number of entries that the reason names was found by a look, also of the call that follows
+pub found_of : (a b c : CallerView) (r : Request) (cause : Cause) → IsReason a r b cause → c.seat.pass.looks ≡ b.seat.pass.looks
+    → WereFound a.seat cause c.seat
+found_of a b c r (NotOneArea at) reason same = found_more a.seat b.seat c.seat at reason.0.2 (no_more_looks b.seat c.seat same)
+found_of a b c r (NotSimple at) reason same = found_more a.seat b.seat c.seat at reason.0.2 (no_more_looks b.seat c.seat same)
+found_of a b c r (Moved first second old new) reason same = (
+  found_more a.seat b.seat c.seat first reason.0.2 (no_more_looks b.seat c.seat same),
+  found_more a.seat b.seat c.seat second reason.1.2 (no_more_looks b.seat c.seat same),
+)
+
 -- what was met between two looks was met between looks round them
 pub at_more : (a b c : CallerView) (m : ℕ) → IsLookedAt a.seat m b.seat → HasLooked b c → IsLookedAt a.seat m c.seat
-at_more a b c m at look = (at.0, (let l = longer b.seat.pass.seen c.seat.pass.seen look.more in let h = at.1 in omega arith))
+at_more a b c m at look = (
+  at.0,
+  (let l = longer b.seat.pass.seen c.seat.pass.seen look.more in let h = at.1 in omega arith),
+  found_more a.seat b.seat c.seat m at.2 look.looks,
+)
 
 -- what was met at a look since a later moment was met since an earlier one
 pub at_since : (a b c : CallerView) (m : ℕ) → HasLooked a b → IsLookedAt b.seat m c.seat → IsLookedAt a.seat m c.seat
-at_since a b c m look at = ((let l = longer a.seat.pass.seen b.seat.pass.seen look.more in let h = at.0 in omega arith), at.1)
+at_since a b c m look at = (
+  (let l = longer a.seat.pass.seen b.seat.pass.seen look.more in let h = at.0 in omega arith),
+  at.1,
+  found_since a.seat b.seat c.seat m look.looks at.2,
+)
 
 -- a call under everything came between the first look and the second
 pub moved_between : (a b c : CallerView) (r : Request) (first second old new : ℕ) → HasLooked a b → HasLooked b c
@@ -204,6 +294,7 @@ looked_free a b look = record {
   start = look.start;
   mine = look.mine;
   more = look.more;
+  looks = look.looks;
   rest = look.rest;
   taken = look.taken;
   left = look.left;
@@ -222,6 +313,7 @@ no_look a rest = record {
   start = refl;
   mine = refl;
   more = ([], sym (append-nil a.seat.pass.seen));
+  looks = ([], refl);
   rest = rest;
   taken = omega arith;
   left = refl;

@@ -17,6 +17,8 @@ use Rattle.space_model.specs.History.{StateAfter}
 use Rattle.space_model.specs.Held.{HoldsSomeArea}
 use Rattle.lock_core.specs.declared.range.Held.{Held}
 use Rattle.range_rw.specs.Contract.{SeatState, IsLockCall, IsRelease, Record, client_trace}
+use Rattle.lock_core.specs.declared.range.Mode.TheVariants.{Reader}
+use Rattle.area_rows.specs.declared.guard.Look.{Look}
 use Rattle.area_rows.specs.declared.guard.Pass.{Pass}
 use Rattle.area_rows.specs.declared.guard.Pending.{Pending}
 use Rattle.area_rows.specs.declared.row.Row.{Row}
@@ -29,7 +31,7 @@ use Rattle.area_rows.proofs.Reading.{keeps_on}
 use Rattle.row_plans.proofs.RowLists.{some_none}
 use Rattle.area_protect.specs.declared.steps.Request.{Request}
 use Rattle.area_protect.specs.Attempts.{IsChanged}
-use Rattle.area_protect.specs.Looks.{IsAfter, HasWhole, HasLooked, IsLookedAt}
+use Rattle.area_protect.specs.Looks.{IsAfter, HasWhole, HasMade, LooksFirst, HasLooked, IsLookedAt}
 use Rattle.area_protect.proofs.Looking.{longer}
 
 -- pages that the row of the first one doesn't hold, or that aren't mapped there, are not of one kind
@@ -64,6 +66,7 @@ pub record IsFinished (drawn after : SeatState Pass) : Type 0 where
   pub seen : after.pass.seen ≡ drawn.pass.seen
   pub mine : after.pass.mine ≡ drawn.pass.mine
   pub drew : after.pass.drew ≡ drawn.pass.drew
+  pub looks : after.pass.looks ≡ drawn.pass.looks
   pub table : after.table ≡ drawn.table
   pub number : after.number ≡ drawn.number
   pub held : after.held ≡ drawn.held
@@ -77,6 +80,7 @@ nothing_to_store n rest = record {
   seen = refl;
   mine = refl;
   drew = refl;
+  looks = refl;
   table = refl;
   number = refl;
   held = refl;
@@ -91,6 +95,7 @@ stored_one n w index s = record {
   seen = s.seen;
   mine = s.mine;
   drew = s.drew;
+  looks = s.looks;
   table = s.table;
   number = s.number;
   held = s.held;
@@ -166,6 +171,29 @@ module _ (d e : SeatState Pass) (release : IsRelease rest_of d e) where
   pub whole_back : (m n : ℕ) → HasWhole d m n → HasWhole e m n
   whole_back m n t = ap (λ l. whole_count (take m l)) seen_back ∙ t
 
+-- the look that is made between holding and giving back: it is the only one, and was made under what was held
+abbrev looked_of : (a b c d e : CallerView) (found : ℕ) → IsLockCall a.seat b.seat → IsReading b.seat c.seat → IsLook c.seat found d.seat
+    → IsRelease rest_of d.seat e.seat → Look
+looked_of a b c d e found lock reading look release = record { found = length d.seat.pass.seen; held = c.seat.held }
+
+looks_round : (a b c d e : CallerView) (found : ℕ) (lock : IsLockCall a.seat b.seat) (reading : IsReading b.seat c.seat)
+    (look : IsLook c.seat found d.seat) (release : IsRelease rest_of d.seat e.seat)
+    → HasMade a.seat (looked_of a b c d e found lock reading look release ∷ []) e.seat
+looks_round a b c d e found lock reading look release = ap (λ (p : Pass). p.looks) release.pass
+    ∙ (ap (λ (p : Pass). p.looks) look.step.pass
+    ∙ ap (λ l. record { found = length d.seat.pass.seen; held = c.seat.held } ∷ l) (reading.looks ∙ ap (λ (p : Pass). p.looks) lock.pass))
+
+-- so it is the first look where none was made before
+pub first_round : (a b c d e : CallerView) (found lo hi : ℕ) → IsLockCall a.seat b.seat
+    → b.seat.held ≡ Some (record { range = record { lo = lo; hi = hi }; mode = Reader }) → IsReading b.seat c.seat
+    → IsLook c.seat found d.seat → IsRelease rest_of d.seat e.seat → LooksFirst a.seat lo hi e.seat
+first_round a b c d e found lo hi lock held reading look release = (
+  [],
+  record { found = length d.seat.pass.seen; held = c.seat.held },
+  looks_round a b c d e found lock reading look release,
+  reading.held ∙ held,
+)
+
 -- holding, reading, looking and giving back are a look
 pub looked_round : (a b c d e : CallerView) (found : ℕ) → IsLockCall a.seat b.seat → b.left ≡ a.left → IsAtRest b.seat.pass
     → IsReading b.seat c.seat → c.left ≡ b.left → IsLook c.seat found d.seat → d.left ≡ c.left → IsRelease rest_of d.seat e.seat
@@ -183,13 +211,22 @@ looked_round a b c d e found lock same_b rest reading same_c look same_d release
         start = ap (λ (p : Pass). p.start) release.pass ∙ (ap (λ (p : Pass). p.start) look.step.pass ∙ (reading.start ∙ ap (λ (p : Pass). p.start) lock.pass));
         mine = ap (λ (p : Pass). p.mine) release.pass ∙ (ap (λ (p : Pass). p.mine) look.step.pass ∙ (reading.mine ∙ ap (λ (p : Pass). p.mine) lock.pass));
         more = more;
+        looks = (looked_of a b c d e found lock reading look release ∷ [], looks_round a b c d e found lock reading look release);
         rest = ap (λ (p : Pass). p.pending) release.pass ∙ (ap (λ (p : Pass). p.pending) look.step.pass ∙ (reading.read.pending ∙ rest));
         taken = let l = lock.taken in let r = reading.taken in
             let t : d.seat.trace.taken ≡ c.seat.trace.taken + 1 = ap (λ (x : Record). x.taken) look.step.trace in
             let m = release.least in omega arith;
         left = same_e ∙ (same_d ∙ (same_c ∙ same_b));
       },
-      ((let l = longer a.seat.pass.seen e.seat.pass.seen more in omega arith), (let c = counted in omega arith)),
+      (
+        (let l = longer a.seat.pass.seen e.seat.pass.seen more in omega arith),
+        (let c = counted in omega arith),
+        (
+          looked_of a b c d e found lock reading look release ∷ [],
+          looks_round a b c d e found lock reading look release,
+          inl (look.count),
+        ),
+      ),
     )
 
 -- holding, reading and giving back, without a look
@@ -201,6 +238,7 @@ held_and_back a b c e lock same_b rest reading same_c release same_e = record {
   start = ap (λ (p : Pass). p.start) release.pass ∙ (reading.start ∙ ap (λ (p : Pass). p.start) lock.pass);
   mine = ap (λ (p : Pass). p.mine) release.pass ∙ (reading.mine ∙ ap (λ (p : Pass). p.mine) lock.pass);
   more = ([], ap (λ (p : Pass). p.seen) release.pass ∙ (reading.seen ∙ (ap (λ (p : Pass). p.seen) lock.pass ∙ sym (append-nil a.seat.pass.seen))));
+  looks = ([], ap (λ (p : Pass). p.looks) release.pass ∙ (reading.looks ∙ ap (λ (p : Pass). p.looks) lock.pass));
   rest = ap (λ (p : Pass). p.pending) release.pass ∙ (reading.read.pending ∙ rest);
   taken = let l = lock.taken in let r = reading.taken in let m = release.least in omega arith;
   left = same_e ∙ (same_c ∙ same_b);
@@ -215,6 +253,7 @@ held_and_read a b c lock same_b rest reading same_c = record {
   start = reading.start ∙ ap (λ (p : Pass). p.start) lock.pass;
   mine = reading.mine ∙ ap (λ (p : Pass). p.mine) lock.pass;
   more = ([], reading.seen ∙ (ap (λ (p : Pass). p.seen) lock.pass ∙ sym (append-nil a.seat.pass.seen)));
+  looks = ([], reading.looks ∙ ap (λ (p : Pass). p.looks) lock.pass);
   rest = reading.read.pending ∙ rest;
   taken = let l = lock.taken in let r = reading.taken in omega arith;
   left = same_c ∙ same_b;
@@ -263,6 +302,7 @@ changed_area b r n w d q e span pending reading same rest line_is call_is under 
       (counts_on b.seat r.seat k reading counts) in
       let stored : HasWhole w.seat e.number k = ap (λ l. whole_count (take e.number l)) finished.seen ∙ drew in
       whole_back w.seat d.seat release e.number k stored;
+  looks = ap (λ (p : Pass). p.looks) release.pass ∙ (finished.looks ∙ (drawn.looks ∙ reading.looks));
 }
 
 -- a caller that keeps its range has made no call of the lock

@@ -83,11 +83,12 @@ abbrev pub CallIs : CallerView → Request → Entry → CallerView → Type 0
 CallIs before r e after = IsCalled before r.line (Protect r.addr r.len r.prot) e after
 
 -- the change got its entry while the caller held its area; as many entries before it were under everything as the
--- caller knew
+-- caller knew, and it made no look
 pub record IsChanged (before : CallerView) (r : Request) (after : CallerView) (e : Entry) : Type 0 where
   pub called : CallIs (record before { seat = record before.seat { held = None } }) r e after
   pub area : HoldsSomeArea e.under
   pub whole : (n : ℕ) → CountsWhole before.seat n → HasWhole after.seat e.number n
+  pub looks : after.seat.pass.looks ≡ before.seat.pass.looks
 
 -- after so many entries the change of pages of one kind would have left another number of rows
 pub record NeedsMoreRows (before : CallerView) (r : Request) (after : CallerView) (at : ℕ) : Type 0 where

@@ -3,7 +3,7 @@
 -- caller had seen before the call and the call's own entry.
 use Rattle.std.specs.Prelude.{ℕ, ◌≡◌, ◌≢◌, ◌<◌, ◌≤◌, ◌↔◌, IsSome, None, length}
 use Rattle.page_types.specs.declared.calls.Call.{Call}
-use Rattle.page_types.specs.declared.calls.Call.TheVariants.{Map, Unmap, Protect, Fault}
+use Rattle.page_types.specs.declared.calls.Call.TheVariants.{Protect}
 use Rattle.page_types.specs.declared.sets.Prot.{Prot}
 use Rattle.page_types.specs.Pages.{page_of, end_page}
 use Rattle.page_types.specs.PlainReply.{plain_reply}
@@ -21,7 +21,7 @@ use Rattle.area_protect.specs.declared.path.Path.{Path}
 use Rattle.area_protect.specs.declared.path.Path.TheVariants.{Free, Area as OverArea, Whole}
 use Rattle.area_protect.specs.declared.path.Protected.{Protected}
 use Rattle.area_protect.specs.declared.path.Protected.TheVariants.{Given, Spent}
-use Rattle.area_protect.specs.Looks.{IsAfter, HasWhole}
+use Rattle.area_protect.specs.Looks.{IsAfter, HasWhole, IsFoundSince, LooksFirst}
 
 -- after so many entries: no fewer than the caller had seen before the call, and no more than came before its entry
 abbrev pub IsBetween : SeatState Pass → ℕ → Entry → Type 0
@@ -34,35 +34,40 @@ HasCause before call lo hi e after (NotSimple at) = IsBetween before at e × IsA
 HasCause before call lo hi e after (Moved first second old new) = IsBetween before first e × IsBetween before second e
     × (first < second) × HasWhole after first old × HasWhole after second new × (old ≢ new)
 
+-- each number of entries that a cause names was found by a look of the call
+abbrev pub WereFound : SeatState Pass → Cause → SeatState Pass → Type 0
+WereFound before (NotOneArea at) after = IsFoundSince before at after
+WereFound before (NotSimple at) after = IsFoundSince before at after
+WereFound before (Moved first second old new) after = IsFoundSince before first after × IsFoundSince before second after
+
+-- the looks of the call: the first one was made under its pages as a reader, unless its arguments decide it, and what
+-- its cause names was found by them
+abbrev pub HasLooks : SeatState Pass → ℕ → ℕ → Path → SeatState Pass → Type 0
+HasLooks before lo hi Free after = Unit {0}
+HasLooks before lo hi (OverArea seq) after = LooksFirst before lo hi after
+HasLooks before lo hi (Whole cause) after = LooksFirst before lo hi after × WereFound before cause after
+
 -- by which way the call went: free exactly where its arguments decide it
 abbrev pub HasPath : SeatState Pass → Call → ℕ → ℕ → Entry → SeatState Pass → Path → Type 0
 HasPath before call lo hi e after Free = IsSome (plain_reply call)
 HasPath before call lo hi e after (OverArea seq) = (plain_reply call ≡ None) × HoldsSomeArea e.under × HasWhole after e.number seq
 HasPath before call lo hi e after (Whole cause) = (plain_reply call ≡ None) × (e.under ≡ Everything) × HasCause before call lo hi e after cause
 
--- the call got one entry, as each call that gives one, and went that way
+-- the call got one entry, as each call that gives one, and went that way, by its own looks
 pub record IsProtected (before : CallerView) (line addr len : ℕ) (prot : Prot) (e : Entry) (path : Path) (after : CallerView) : Type 0 where
   pub called : IsCalled before line (Protect addr len prot) e after
   pub way : HasPath before.seat (Protect addr len prot) (page_of addr) (end_page addr len) e after.seat path
+  pub looks : HasLooks before.seat (page_of addr) (end_page addr len) path after.seat
 
 -- the answer: an entry where a number is left, and otherwise nothing has changed
 abbrev pub IsAnswer : CallerView → ℕ → ℕ → ℕ → Prot → Protected → CallerView → Type 0
 IsAnswer before line addr len prot (Given e path) after = (0 < before.left) × IsProtected before line addr len prot e path after
 IsAnswer before line addr len prot Spent after = (before.left ≡ 0) × (after ≡ before)
 
--- the call is a change of protection
-abbrev pub IsProtect : Call → Type 0
-IsProtect (Map addr len prot flags) = ⊥
-IsProtect (Unmap addr len) = ⊥
-IsProtect (Protect addr len prot) = Unit {0}
-IsProtect (Fault addr access) = ⊥
-
--- the answer of a call that is one
+-- the answer of a call that is a change of protection
 abbrev pub IsAnswerTo : CallerView → ℕ → Call → Protected → CallerView → Type 0
-IsAnswerTo before line (Map addr len prot flags) answer after = ⊥
-IsAnswerTo before line (Unmap addr len) answer after = ⊥
 IsAnswerTo before line (Protect addr len prot) answer after = IsAnswer before line addr len prot answer after
-IsAnswerTo before line (Fault addr access) answer after = ⊥
+IsAnswerTo before line call answer after = ⊥
 
 -- no entry came between what the caller had seen and its own entry
 abbrev pub IsLone : CallerView → Entry → Type 0

@@ -1,6 +1,6 @@
-//! The answer to a change of protection: its entry, and by which way it went. Each number in it was found in the number
-//! word or the sequence word by a step of the call; what it says of the history after so many entries is `HasPath` of
-//! `specs/Protects.antt`.
+//! The answer to a change of protection: its entry, and by which way it went. Each number of entries that a cause names
+//! was found in the number word by a load of the call (`HasLooks` of `specs/Protects.antt`). What it says of the
+//! history after so many entries is `HasPath` there.
 use space_model::Entry;
 
 /// Why a change of protection had to hold all pages. Entries are counted from the opening of the space.

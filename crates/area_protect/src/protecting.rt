@@ -3,7 +3,9 @@
 ghost use Rattle.std.specs.Prelude.{◌≡◌, ◌<◌, None};
 ghost use Rattle.page_types.specs.declared.calls.Call.TheVariants.{Protect};
 ghost use Rattle.page_types.specs.Named.{IsNamedCall};
-ghost use Rattle.area_protect.specs.Protects.{IsProtect, IsProtected, IsAnswer, IsAnswerTo};
+ghost use Rattle.page_types.specs.Classes.{IsProtect};
+ghost use Rattle.area_protect.specs.Looks.{LooksFirst};
+ghost use Rattle.area_protect.specs.Protects.{IsProtected, IsAnswer, IsAnswerTo};
 ghost use Rattle.area_protect.specs.Attempts.{MayCall, IsUndecided, ArePagesOf, IsAgain, IsAttempt};
 
 use crate::path::{Path, Protected};
@@ -29,6 +31,7 @@ fn attempts<R: Wait, L: Ledger>(
     requires asked { IsUndecided request }
     requires pages { ArePagesOf request pages }
     ensures free { caller.new.seat.held ≡ None }
+    ensures first { LooksFirst caller.old.seat pages.lo pages.hi caller.new.seat }
     ensures attempt { IsAttempt caller.old request caller.new result }
     ensures last { ¬ IsAgain result }
 {
@@ -111,9 +114,10 @@ pub fn make_protect<R: Wait>(
 /// Changes the protection of the `len` bytes from `addr` on, rounded up to whole pages, as mprotect(2) does. The caller
 /// is of this space and holds nothing, and `prot` has named bits alone; `line` is the line of the input that names the
 /// call, counted from 1. A change within one area that leaves the number of rows as it is holds that area and a page on
-/// each side, and every other one holds all pages; a call that its arguments decide holds nothing. It waits for the
-/// callers that hold these pages. The answer says by which way the call went and why. `Spent` comes exactly where the
-/// caller has no number left, and nothing has changed then. It takes no memory.
+/// each side, unless a call under everything came between its steps; every other one holds all pages, and a call that
+/// its arguments decide holds nothing. It waits for the callers that hold these pages. The answer says by which way the
+/// call went and why. `Spent` comes exactly where the caller has no number left, and nothing has changed then. It takes
+/// no memory.
 pub fn protect<R: Wait>(
     space: &Space,
     wait: &R,

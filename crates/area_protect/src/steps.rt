@@ -9,13 +9,13 @@ ghost use Rattle.page_types.specs.Pages.{page_of, end_page};
 ghost use Rattle.space_model.specs.Areas.{IsInRange};
 ghost use Rattle.space_model.specs.Held.{IsWidened};
 ghost use Rattle.area_rows.specs.History.{IsAtRest};
-ghost use Rattle.area_protect.specs.Looks.{HasLooked};
+ghost use Rattle.area_protect.specs.Looks.{HasLooked, LooksFirst};
 ghost use Rattle.area_protect.specs.Attempts.{MayCall, IsUndecided, ArePagesOf, HoldsRow, IsFound, IsOtherKind, IsHeld, IsChanged, NeedsMoreRows, IsAttempt};
 
 use crate::path::Cause;
 use area_rows::{AreaPlan, Caller, Row, Space};
 use lock_core::Mode;
-use page_types::{Call, Kind, Prot, Reply, Span};
+use page_types::{Call, Kind, Prot, Span};
 use space_model::{Area, Entry, Under};
 use std::sync::Wait;
 use std::sync::ledger::Ledger;
@@ -86,6 +86,7 @@ pub(crate) fn look_around<R: Wait, L: Ledger>(
     requires free { caller.old.seat.held ≡ None }
     ensures looked { HasLooked caller.old caller.new }
     ensures free { caller.new.seat.held ≡ None }
+    ensures first { LooksFirst caller.old.seat pages.lo pages.hi caller.new.seat }
     ensures found { IfOk result (IsFound caller.old.seat caller.new.seat pages) }
     ensures other { IfErr result (IsOtherKind caller.old.seat caller.new.seat pages) }
 {
@@ -182,19 +183,19 @@ pub(crate) fn change_area<L: Ledger>(
             space.release(caller, steps);
             Err(at)
         }
-        AreaPlan::Same => {
-            let entry = space.number(caller, line, call, Reply::Zero, under, steps);
+        AreaPlan::Same(reply) => {
+            let entry = space.number(caller, line, call, reply, under, steps);
             space.release(caller, steps);
             Ok(entry)
         }
-        AreaPlan::SetKind(change) => {
-            let entry = space.number(caller, line, call, Reply::Zero, under, steps);
+        AreaPlan::SetKind(change, reply) => {
+            let entry = space.number(caller, line, call, reply, under, steps);
             space.set_kind(caller, change.index, change.kind);
             space.release(caller, steps);
             Ok(entry)
         }
-        AreaPlan::MoveStart(change) => {
-            let entry = space.number(caller, line, call, Reply::Zero, under, steps);
+        AreaPlan::MoveStart(change, reply) => {
+            let entry = space.number(caller, line, call, reply, under, steps);
             space.move_start(caller, change.index, change.start);
             space.release(caller, steps);
             Ok(entry)
@@ -215,6 +216,7 @@ pub(crate) fn one_attempt<R: Wait, L: Ledger>(
     requires asked { IsUndecided request }
     requires pages { ArePagesOf request pages }
     ensures free { caller.new.seat.held ≡ None }
+    ensures first { LooksFirst caller.old.seat pages.lo pages.hi caller.new.seat }
     ensures attempt { IsAttempt caller.old request caller.new result }
 {
     let found = match look_around(space, wait, caller, pages, steps) {

@@ -3,7 +3,7 @@
 ghost use Rattle.std.specs.Prelude.{◌≡◌, ◌<◌, ◌≤◌, None};
 ghost use Rattle.page_types.specs.Named.{IsNamedCall};
 ghost use Rattle.page_types.specs.PlainReply.{plain_reply};
-ghost use Rattle.row_plans.specs.Plans.{IsFault};
+ghost use Rattle.page_types.specs.Classes.{IsFault};
 
 use crate::protecting::protect;
 use crate::steps::{Held, hold_area, look_around};

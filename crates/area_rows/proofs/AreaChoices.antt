@@ -3,7 +3,7 @@
 use Rattle.std.proofs.Common.{◌≡◌, ◌≢◌, ℕ, zero, suc, ◌+◌, ◌-◌, ◌<◌, ◌≤◌, ◌⊎◌, inl, inr, List, drop, get_or, sym, refl, ap, ◌∙◌, subst, arith, ⊎_elim}
 use Rattle.std.proofs.lemmas.Bool.{cases_lt}
 use Rattle.std.proofs.lemmas.List.{drop_all}
-use Rattle.std.specs.Prelude.{All, Option, Some, None, IsSome}
+use Rattle.std.specs.Prelude.{All, Option, Some, None, is_none, [], ◌∷◌}
 use Rattle.std.specs.Option.{option_map}
 use mathlib.Core.Option.{some}
 use lib.ListN.{get_elem?}
@@ -21,9 +21,11 @@ use Rattle.space_model.specs.declared.areas.Area.{Area}
 use Rattle.space_model.specs.declared.entries.Entry.{Entry}
 use Rattle.space_model.specs.declared.entries.Under.TheVariants.{Nothing, Area as OverArea}
 use Rattle.space_model.specs.Areas.{IsAreaList, kind_at}
-use Rattle.space_model.specs.Answers.{IsMapped}
+use Rattle.space_model.specs.declared.paint.Paint.TheVariants.{Protects}
+use Rattle.space_model.specs.declared.sorts.Sort.TheVariants.{Missing}
+use Rattle.space_model.specs.Sorts.{NoneOf}
 use Rattle.space_model.specs.Answers.Answers.{done}
-use Rattle.space_model.specs.Effect.{protected_kind}
+use Rattle.space_model.specs.Effect.{protected_kind, patch}
 use Rattle.space_model.specs.Held.{LiesIn, KeepsCounts, kind_before, IsSimpleIn, IsSimple, FitsByState}
 use Rattle.space_model.specs.Laws.{IsMaximalRun, FourCases}
 use Rattle.space_model.specs.Laws.FourCases.{nothing, whole as all_change, first_part as first_change, last_part as last_change}
@@ -240,11 +242,11 @@ module _ (seat : SeatState Pass) (span : Span) (row : Row) (kind : Kind) (before
     pub simple_in_own : IsSimpleIn state (Protect addr len prot) own
     simple_in_own = (four_ways state own addr len prot in_order undecided lies).1 way
 
-    counts : KeepsCounts state (Protect addr len prot) (page_of addr) (end_page addr len) simple_in_own.1.0
+    counts : KeepsCounts state (patch (page_of addr) (end_page addr len) (Protects prot)) simple_in_own.1.0
     counts = simple_in_own.1.1
 
-    mapped : IsMapped state (page_of addr) (end_page addr len)
-    mapped page low high = subst IsSome (sym (of_kind page (omega arith) (omega arith))) refl
+    mapped : NoneOf (kind_at state) Missing (page_of addr) (end_page addr len)
+    mapped page low high = ap is_none (of_kind page (omega arith) (omega arith))
 
     -- the call is right at this state, with the reply Zero and under the range that is held
     pub right : IsRight state (Protect addr len prot) Zero (OverArea span) simple_in_own.1.0
@@ -252,8 +254,8 @@ module _ (seat : SeatState Pass) (span : Span) (row : Row) (kind : Kind) (before
       fits = match_none (plain_reply (Protect addr len prot)) (FitsByState state (Protect addr len prot) (OverArea span))
           (λ (_ : Reply). OverArea span ≡ Nothing) undecided
           (inr (own, simple_in_own, record { first = round.0; end = round.1 }));
-      answers = done (page_of addr) (end_page addr len) undecided (refl, refl, mapped) counts.changed (let a = counts.areas in
-          let g = counts.gaps in let l = m.running.limit in omega arith) refl;
+      answers = done (patch (page_of addr) (end_page addr len) (Protects prot) ∷ []) None undecided ((mapped, tt), refl) counts.changed
+          (let a = counts.areas in let g = counts.gaps in let l = m.running.limit in omega arith);
     }
 
     kind_after : (page : ℕ) → page_of addr ≤ page → page < end_page addr len → kind_at simple_in_own.1.0 page ≡ Some (protected_kind prot kind)
@@ -362,13 +364,20 @@ module _ (c : CallerView) (span : Span) (row : Row) (kind : Kind) (before behind
             o.new_is)),
       )
 
-  one_store : (d : Change) → c.change ≡ Some d → IsOf d span (page_of addr) (end_page addr len) kind (protected_kind prot kind)
-      → IsOneStore row before behind d → d.new ≢ d.old → IsNamedKind d.kind → MayChange c (Protect addr len prot) span d
-  one_store d chosen o store differs named = record {
-    number = number_by (Some d) chosen
+  -- so may it with a reply that is that one
+  number_as : (reply : Reply) → reply ≡ Zero → MayNumber c (Protect addr len prot) Zero (OverArea span)
+      → MayNumber c (Protect addr len prot) reply (OverArea span)
+  number_as reply said number = subst (λ (r : Reply). MayNumber c (Protect addr len prot) r (OverArea span)) (sym said) number
+
+  one_store : (d : Change) (reply : Reply) → reply ≡ Zero → c.change ≡ Some d
+      → IsOf d span (page_of addr) (end_page addr len) kind (protected_kind prot kind)
+      → IsOneStore row before behind d → d.new ≢ d.old → IsNamedKind d.kind → MayChange c (Protect addr len prot) span d reply
+  one_store d reply said chosen o store differs named = record {
+    number = number_as reply said (number_by (Some d) chosen
         (λ A a g e. cases_of A a d span (page_of addr) (end_page addr len) kind (protected_kind prot kind) o
         (four_of A a row before behind d (subst (λ (k : Kind). IsAmong A a row k before behind) (sym o.old_is) g) store))
-        (λ state left none change. change d o);
+        (λ state left none change. change d o));
+    said = said;
     chosen = chosen;
     differs = differs;
     round = record {
@@ -421,15 +430,18 @@ module _ (c : CallerView) (span : Span) (row : Row) (kind : Kind) (before behind
             read_behind undecided some_page from until start history state words m row_is) chosen span (page_of addr)
             (end_page addr len) kind (protected_kind prot kind) o way)),
       )
-  plan_says chosen Same o old new is kept =
-      let same : protected_kind prot kind ≡ kind = sym o.new_is ∙ (is ∙ o.old_is) in
-      (kept, number_by None kept (λ A a g e. nothing (same ∙ sym e)) (λ state left none change. none same))
-  plan_says chosen (SetKind d) o old new is kept =
+  plan_says chosen (Same reply) o old new is kept =
+      let same : protected_kind prot kind ≡ kind = sym o.new_is ∙ (is.0 ∙ o.old_is) in (
+        kept,
+        number_as reply is.1 (number_by None kept (λ A a g e. nothing (same ∙ sym e)) (λ state left none change. none same)),
+        is.1,
+      )
+  plan_says chosen (SetKind d reply) o old new is kept =
       let of_d = of_like chosen d span (page_of addr) (end_page addr len) kind (protected_kind prot kind) is.0 o in
-      one_store d kept of_d is.1 (other_kind chosen d is.0 is.2) (named_of d of_d old new is.1)
-  plan_says chosen (MoveStart d) o old new is kept =
+      one_store d reply is.4 kept of_d is.1 (other_kind chosen d is.0 is.2) (named_of d of_d old new is.1)
+  plan_says chosen (MoveStart d reply) o old new is kept =
       let of_d = of_like chosen d span (page_of addr) (end_page addr len) kind (protected_kind prot kind) is.0 o in
-      one_store d kept of_d is.1 (other_kind chosen d is.0 is.2) (named_of d of_d old new is.1)
+      one_store d reply is.3 kept of_d is.1 (other_kind chosen d is.0 is.2) (named_of d of_d old new is.1)
 
 -- the same of a caller that has read the count once more and the kinds beside its row
 pub plan_made : (old a b : SeatState Pass) (v : CallerView) (span : Span) (row : Row) (kind : Kind) (before behind : Option Kind)

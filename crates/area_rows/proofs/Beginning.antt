@@ -113,7 +113,15 @@ runs_new start callers areas named few most = record {
   room = (opens_rows start areas named few).room;
   rows = λ none. (kind_at start, shown_new start callers, opens_rows start areas named few);
   parts = λ worker pass at. subst (λ (q : Pass). IsPart start [] (opening_words start) worker q) (passes_at (new_pass start) 0 callers worker pass at)
-      (record { began = refl; seen = ([], refl); mine = refl; few = omega arith; count = λ n e. absurd (none_is n e); sequence = λ n e. absurd (none_is n e) });
+      (record {
+        began = refl;
+        seen = ([], refl);
+        mine = refl;
+        few = omega arith;
+        owed = tt;
+        count = λ n e. absurd (none_is n e);
+        sequence = λ n e. absurd (none_is n e);
+      });
   no_other = λ worker le. refl;
   total = sym (no_entries start 0 callers);
 }

@@ -4,6 +4,7 @@ pub mod Gathering
 pub mod Reading
 pub mod Stepping
 pub mod StoringRows
+pub mod StoreCounts
 pub mod OneRow
 pub mod ReplacingRows
 pub mod AreaChoices

@@ -209,6 +209,7 @@ reading_on a b c f g = record {
   start = g.start ∙ f.start;
   seen = g.seen ∙ f.seen;
   mine = g.mine ∙ f.mine;
+  looks = g.looks ∙ f.looks;
   taken = let l = f.taken in let m = g.taken in omega arith;
   read = keeps_on a.pass b.pass c.pass f.read g.read;
 }
@@ -223,6 +224,7 @@ no_reading a = record {
   start = refl;
   seen = refl;
   mine = refl;
+  looks = refl;
   taken = omega arith;
   read = record { count = λ n e. e; rows = λ index word h. h; sequence = λ n e. e; pending = refl };
 }
@@ -233,8 +235,8 @@ step_taken a b place p s = ap (λ (r : Record). r.taken) s.trace
 
 -- a step that keeps what was seen, numbered and read is a reading
 pub step_reads : (a b : SeatState Pass) (place : ℕ) (p : Pass) → IsClientStep a place p b → p.start ≡ a.pass.start
-    → p.seen ≡ a.pass.seen → p.mine ≡ a.pass.mine → KeepsRead a.pass p → IsReading a b
-step_reads a b place p s x y z k = record {
+    → p.seen ≡ a.pass.seen → p.mine ≡ a.pass.mine → p.looks ≡ a.pass.looks → KeepsRead a.pass p → IsReading a b
+step_reads a b place p s x y z l k = record {
   table = s.table;
   number = s.number;
   held = s.held;
@@ -242,6 +244,7 @@ step_reads a b place p s x y z k = record {
   start = ap (λ (q : Pass). q.start) s.pass ∙ x;
   seen = ap (λ (q : Pass). q.seen) s.pass ∙ y;
   mine = ap (λ (q : Pass). q.mine) s.pass ∙ z;
+  looks = ap (λ (q : Pass). q.looks) s.pass ∙ l;
   taken = let t = step_taken a b place p s in omega arith;
   read = subst (KeepsRead a.pass) (sym s.pass) k;
 }
@@ -251,12 +254,12 @@ same_some n m e = ap Some e
 
 -- so is a load of the row count that finds what was found before
 pub count_reads : (a b : SeatState Pass) (n : ℕ) → IsClientStep a 2 (after_count n a.pass) b → ((m : ℕ) → a.pass.count ≡ Some m → n ≡ m) → IsReading a b
-count_reads a b n s again = step_reads a b 2 (after_count n a.pass) s refl refl refl
+count_reads a b n s again = step_reads a b 2 (after_count n a.pass) s refl refl refl refl
     (record { count = λ m e. same_some n m (again m e); rows = λ index word h. h; sequence = λ m e. e; pending = refl })
 
 -- so is a load of a row
 pub row_reads : (a b : SeatState Pass) (index word : ℕ) → IsClientStep a (3 + index) (after_row index word a.pass) b → IsReading a b
-row_reads a b index word s = step_reads a b (3 + index) (after_row index word a.pass) s refl refl refl
+row_reads a b index word s = step_reads a b (3 + index) (after_row index word a.pass) s refl refl refl refl
     (record { count = λ n e. e; rows = λ i w h. inr h; sequence = λ n e. e; pending = refl })
 
 -- what a range has shown lasts while the caller reads more rows

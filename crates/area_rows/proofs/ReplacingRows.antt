@@ -415,6 +415,7 @@ row_written s u index step = record {
   seen = ap (λ (x : Pass). x.seen) step.pass;
   mine = ap (λ (x : Pass). x.mine) step.pass;
   drew = ap (λ (x : Pass). x.drew) step.pass;
+  looks = ap (λ (x : Pass). x.looks) step.pass;
   table = step.table;
   number = step.number;
   held = step.held;

@@ -25,44 +25,44 @@ use Rattle.row_plans.specs.Plans.{IsRowList}
 use Rattle.area_rows.specs.Halving.{IsOnSameSide}
 use Rattle.area_rows.specs.Reads.{everything, IsHeldPage, HasRead, HasRows, StillStands}
 use Rattle.area_rows.specs.History.{Runs, StartsWith, planned_calls, RowsStandFor, HasHistory, Allowed, Here, MayLoad}
-use Rattle.area_rows.specs.History.{MayAdd, IsAtRest, IsRight, Leaves, HoldsFor, pending_of, entry_of, after_look}
+use Rattle.area_rows.specs.History.{MayAdd, IsAtRest, IsRight, Leaves, HoldsFor, HoldsJust, pending_of, entry_of, after_look}
 use Rattle.area_rows.specs.History.{after_count, after_sequence, after_row, after_draw}
 use Rattle.area_rows.specs.History.MayLoad.{number, glance, sequence, count, row}
 use Rattle.area_rows.specs.History.MayAdd.{draw, raise}
 use Rattle.area_rows.specs.Callers.{CallerView, HasToWrite, HasToStore, IsReadRound, IsReadBefore, IsReadBehind}
 use Rattle.area_rows.specs.Callers.{IsRowEnd, IsHeldPages, IsMoment, Shows, KeepsRead, KeepsRows, CountsWhole}
 use Rattle.area_rows.specs.Callers.{IsReading, IsLook, IsNumbered, IsDrawn}
-use Rattle.area_rows.specs.Draws.{draw_pending, draw_mine, draw_seen, draw_start, draw_drew}
+use Rattle.area_rows.specs.Draws.{draw_pending, draw_mine, draw_seen, draw_start, draw_drew, draw_looks}
 use Rattle.area_rows.specs.Keeping.{no_note}
 use Rattle.area_rows.specs.Parts.{none_is}
 use Rattle.area_rows.proofs.Reading.{step_reads}
 use Rattle.area_rows.proofs.Moments.{held_some, held_pages, first_row, row_below, row_list, stands, only_own_plan, nobody_plans, rows_are, here_at, moment_of}
 
-module _ (free held : Type 0) (words : List ℕ) (history : List Entry) (p after : Pass) where
+module _ (own : Option Held → Type 0) (free held : Type 0) (words : List ℕ) (history : List Entry) (p after : Pass) where
   -- what a load tells of the pass
-  look_tells : MayLoad free held words history 0 p after → after ≡ after_look history p
-  look_tells (number e is) = is
+  look_tells : MayLoad own free held words history 0 p after → (h : Option Held) × own h × (after ≡ after_look history h p)
+  look_tells (number h o e is) = (h, o, is)
   look_tells (glance f e is) = absurd (omega arith)
   look_tells (sequence h e is) = absurd (omega arith)
   look_tells (count h e is) = absurd (omega arith)
   look_tells (row i h few e is) = absurd (omega arith)
 
-  sequence_tells : MayLoad free held words history 1 p after → (free × (after ≡ p)) ⊎ (after ≡ after_sequence (slice_index words 1) p)
-  sequence_tells (number e is) = absurd (omega arith)
+  sequence_tells : MayLoad own free held words history 1 p after → (free × (after ≡ p)) ⊎ (after ≡ after_sequence (slice_index words 1) p)
+  sequence_tells (number h o e is) = absurd (omega arith)
   sequence_tells (glance f e is) = inl (f, is)
   sequence_tells (sequence h e is) = inr is
   sequence_tells (count h e is) = absurd (omega arith)
   sequence_tells (row i h few e is) = absurd (omega arith)
 
-  count_tells : MayLoad free held words history 2 p after → after ≡ after_count (slice_index words 2) p
-  count_tells (number e is) = absurd (omega arith)
+  count_tells : MayLoad own free held words history 2 p after → after ≡ after_count (slice_index words 2) p
+  count_tells (number h o e is) = absurd (omega arith)
   count_tells (glance f e is) = absurd (omega arith)
   count_tells (sequence h e is) = absurd (omega arith)
   count_tells (count h e is) = is
   count_tells (row i h few e is) = absurd (omega arith)
 
-  row_tells : (index : ℕ) → MayLoad free held words history (3 + index) p after → after ≡ after_row index (slice_index words (3 + index)) p
-  row_tells index (number e is) = absurd (omega arith)
+  row_tells : (index : ℕ) → MayLoad own free held words history (3 + index) p after → after ≡ after_row index (slice_index words (3 + index)) p
+  row_tells index (number h o e is) = absurd (omega arith)
   row_tells index (glance f e is) = absurd (omega arith)
   row_tells index (sequence h e is) = absurd (omega arith)
   row_tells index (count h e is) = absurd (omega arith)
@@ -87,7 +87,8 @@ may_sequence note seat (Some h) pass pages grants words passes m lt small = (
 module _ (note : Note) (seat : ℕ) (held : Option Held) (pass : Pass) where
   -- the guard allows a load of the number word at any time
   pub may_look : IsAllowed HasHistory Allowed note seat held pass (loads 0)
-  may_look grants words passes m lt small = (after_look m.met.1 pass, (here_at grants words passes seat held pass m, number refl refl))
+  may_look grants words passes m lt small =
+      (after_look m.met.1 held pass, (here_at grants words passes seat held pass m, number held m.grant refl refl))
 
   -- a load of the row count, while pages are held
   pub may_count : IsSome held → IsHeldPages held → IsAllowed HasHistory Allowed note seat held pass (loads 2)
@@ -144,7 +145,7 @@ module _ (note : Note) (seat : ℕ) (held : Option Held) (pass : Pass) where
         let same : here.pass ≡ pass = some-injective here.pass pass (sym here.own ∙ m.own) in
         let rows : RowsStandFor here.state s.2 s.1 = rows_here s.0 s.1 s.2 here some_held pages m.grant (ap (λ (x : Pass). x.pending) same ∙ rest) in
         let some_rows = rows.2.some in let few = rows.2.few in let e = s.4 in (
-          count_tells _ _ s.1 here.history here.pass after s.5.1 ∙ (λ i. after_count (e i) (same i)),
+          count_tells _ _ _ s.1 here.history here.pass after s.5.1 ∙ (λ i. after_count (e i) (same i)),
           omega arith,
           omega arith,
           λ n counted. sym e ∙ (here.running.parts seat here.pass here.own).count n (ap (λ (x : Pass). x.count) same ∙ counted),
@@ -160,7 +161,7 @@ module _ (note : Note) (seat : ℕ) (held : Option Held) (pass : Pass) where
         let same : here.pass ≡ pass = some-injective here.pass pass (sym here.own ∙ m.own) in
         let rows : RowsStandFor here.state s.2 s.1 = rows_here s.0 s.1 s.2 here some_held pages m.grant (ap (λ (x : Pass). x.pending) same ∙ rest) in
         let e = s.4 in (
-          row_tells _ _ s.1 here.history here.pass after index s.5.1 ∙ (λ i. after_row index (e i) (same i)),
+          row_tells _ _ _ s.1 here.history here.pass after index s.5.1 ∙ (λ i. after_row index (e i) (same i)),
           λ none. ap row_start (sym e ∙ ap (λ n. slice_index s.1 (3 + n)) none) ∙ first_row s.1 rows.0 rows.2,
           λ n counted lt.
               let c : slice_index s.1 2 ≡ n = (here.running.parts seat here.pass here.own).count n (ap (λ (x : Pass). x.count) same ∙ counted) in
@@ -185,7 +186,7 @@ module _ (note : Note) (seat : ℕ) (held : Option Held) (pass : Pass) where
         let m = s.3 in let here = s.5.0 in
         let same : here.pass ≡ pass = some-injective here.pass pass (sym here.own ∙ m.own) in
         let is : new ≡ after_row index found here.pass = new_is
-        ∙ (row_tells _ _ s.1 here.history here.pass after index s.5.1 ∙ (λ i. after_row index (s.4 i) here.pass)) in
+        ∙ (row_tells _ _ _ s.1 here.history here.pass after index s.5.1 ∙ (λ i. after_row index (s.4 i) here.pass)) in
         let holds : get_elem? s.0 seat ≡ some (Some everything) = m.grant ∙ ap some all in
         let stood : All (StillStands (Some everything) s.1) here.pass.rows = (here.backed seat here.pass here.own).rows (Some everything) holds in
         let part = here.running.parts seat here.pass here.own in
@@ -237,6 +238,7 @@ module _ (note : Note) (seat : ℕ) (held : Option Held) (pass : Pass) where
           words = s.1;
           moment = moment_of s.0 s.1 s.2 seat here t granted n old;
           drew = drew ∙ held_then;
+          looks = ap (λ (x : Pass). x.looks) new ∙ draw_looks here.history f d.held.0 t.pass note.pending;
           pools = call.pools;
           writes = ap (λ (x : Pass). x.pending) new ∙ draw_pending here.history f d.held.0 t.pass note.pending;
           keeps = subst (λ (x : Pass). KeepsRows note.pending t.pass x) (sym new) (draw_keeps here.history f note.pending d.held.0 t.pass);
@@ -255,7 +257,9 @@ pub look_is : (s u : SeatState Pass) (found : ℕ) → IsClientCall s 0 u
 look_is s u found call made =
     let m = made.3 in let here = made.5.0 in
     let same : here.pass ≡ s.pass = some-injective here.pass s.pass (sym here.own ∙ m.own) in
-    let is : u.pass ≡ after_look here.history s.pass = look_tells _ _ made.1 here.history here.pass u.pass made.5.1 ∙ ap (after_look here.history) same in
+    let told = look_tells (HoldsJust made.0 s.number) _ _ made.1 here.history here.pass u.pass made.5.1 in
+    let held : told.0 ≡ s.held = some-injective told.0 s.held (sym told.1 ∙ m.grant) in
+    let is : u.pass ≡ after_look here.history s.held s.pass = told.2 ∙ (λ i. after_look here.history (held i) (same i)) in
     let seen : u.pass.seen ≡ here.history = ap (λ (x : Pass). x.seen) is in
     record {
       state = here.state;
@@ -266,7 +270,7 @@ look_is s u found call made =
         number = call.number;
         held = call.held;
         pools = call.pools;
-        pass = is ∙ ap (λ h. after_look h s.pass) (sym seen);
+        pass = is ∙ ap (λ h. after_look h s.held s.pass) (sym seen);
         trace = call.trace;
       };
       more = subst (λ h. StartsWith h s.pass.seen) (sym seen)
@@ -312,7 +316,7 @@ sequence_is s u found pages call made =
         pools = call.pools;
         pass = is;
         trace = call.trace;
-      }) refl refl refl (keeps_all s.pass),
+      }) refl refl refl refl (keeps_all s.pass),
       λ some_held. let h = held_some s.held some_held in absurd (none_is h.0 (sym free ∙ h.1)),
     ))
     (λ is_then.
@@ -325,10 +329,10 @@ sequence_is s u found pages call made =
             pools = call.pools;
             pass = is;
             trace = call.trace;
-          }) refl refl refl (remembers s.pass found again),
+          }) refl refl refl refl (remembers s.pass found again),
       λ some_held. counts_whole u found (ap (λ (x : Pass). x.sequence) is) (subst IsSome (sym call.held) some_held) (subst IsHeldPages (sym call.held) pages),
     ))
-    (sequence_tells _ _ made.1 here.history here.pass u.pass made.5.1)
+    (sequence_tells _ _ _ made.1 here.history here.pass u.pass made.5.1)
 
 -- a caller that has drawn a number under everything has its plan to write
 pub writes_plan : (before after : CallerView) (e : Entry) (under : Under) → after.read ≡ before.read → after.plan ≡ before.plan

@@ -12,17 +12,17 @@ use Rattle.area_rows.specs.declared.guard.Pass.{Pass}
 use Rattle.area_rows.specs.declared.guard.Note.{Note}
 use Rattle.area_rows.specs.declared.guard.Pending.{Pending}
 use Rattle.area_rows.specs.declared.guard.Pending.TheVariants.{AtRest, Planned, OneRow}
-use Rattle.area_rows.specs.History.{FitsAndReplies, entries_of, entry_of, HoldsFor, IsRunningSpace, AreBacked, Here}
+use Rattle.area_rows.specs.History.{FitsAndReplies, entries_of, entry_of, HoldsFor, IsOwed, IsRunningSpace, Backs, AreBacked, Here}
 use Rattle.area_rows.specs.History.{Allowed, MayLoad, MayStore, MayWrite, MayAdd}
 use Rattle.area_rows.specs.History.MayLoad.{number, glance, sequence, count, row}
 use Rattle.area_rows.specs.History.MayStore.{store_row, store_count}
 use Rattle.area_rows.specs.History.MayAdd.{draw, raise}
-use Rattle.area_rows.specs.Draws.{draw_seen, draw_drew}
+use Rattle.area_rows.specs.Draws.{draw_seen, draw_drew, leaves_plan}
 use Rattle.lock_core.specs.Grants.{Grants}
 use Rattle.lock_core.specs.Client.{ClientStep, loads, stores, adds, exchanges}
 use Rattle.lock_core.specs.declared.range.Held.{Held}
 use Rattle.std.specs.Prelude.{Option}
-use Rattle.area_rows.specs.Stored.{Stores, IsStoredOnce, IsStored, HistoryIsStored, RunsAreLegal, DrawsHold, KeepsDraw, IsNoDraw, LastDrawIsKept}
+use Rattle.area_rows.specs.Stored.{Stores, IsStoredOnce, IsStored, HistoryIsStored, IsCountStore, CountIsOfWhole, RunsAreLegal, DrawsHold, KeepsDraw, IsNoDraw, LastDrawIsKept}
 use Rattle.lock_core.proofs.ByPlace.{there}
 use Rattle.area_rows.proofs.Gathering.{runs_number, own_at, at_own}
 
@@ -94,6 +94,7 @@ module _ (grants : Grants) (start : List Area) (history : List Entry) (state : L
     began = λ worker pass at. (r.parts worker pass at).began;
     rows = r.rows;
     pending = λ worker pass at. (backed worker pass at).pending;
+    owed = λ worker pass at. (r.parts worker pass at).owed;
     sequence = r.sequence;
     count = sym r.number;
     numbered = number_at;
@@ -105,6 +106,34 @@ module _ (grants : Grants) (start : List Area) (history : List Entry) (state : L
 -- the history of the rule is stored in the callers' lists
 pub all_stored : HistoryIsStored
 all_stored grants words passes h = (h.1, h.0, h.2, is_stored grants h.0 h.1 h.2 words passes h.3 h.4)
+
+-- what a caller that stores the row count has to write
+count_of : (grants : Grants) (words : List ℕ) (passes : List Pass) (worker value : ℕ) (here : Here grants words passes worker)
+    (pending : Pending) (after : Pass) → here.pass.pending ≡ pending → MayWrite words pending 2 value here.pass after
+    → IsCountStore grants passes worker value
+count_of grants words passes worker value here AtRest after is may = absurd may
+count_of grants words passes worker value here (Planned rows) after is (store_row index lt e v same) = absurd (omega arith)
+count_of grants words passes worker value here (Planned rows) after is (store_count e v same) =
+    let owed : IsOwed here.start here.history here.pass.mine (Planned rows) =
+    subst (IsOwed here.start here.history here.pass.mine) is (here.running.parts worker here.pass here.own).owed in
+    let backs : Backs grants here.state worker (Planned rows) = subst (Backs grants here.state worker) is (here.backed worker here.pass here.own).pending in
+    record {
+      pass = here.pass;
+      there = here.own;
+      rows = rows;
+      planned = is;
+      counted = v;
+      holds = backs.0;
+      others = owed.others;
+      entry = owed.entry;
+      last = owed.own;
+      under = (leaves_plan owed.found owed.left owed.entry.under rows owed.leaves).0;
+    }
+count_of grants words passes worker value here (OneRow c) after is may = let e : 2 ≡ 3 + c.index = may.0 in absurd (omega arith)
+
+-- the row count is stored by calls under everything alone
+pub count_stores : CountIsOfWhole
+count_stores grants words passes worker value note after may = count_of grants words passes worker value may.0 may.0.pass.pending after refl may.1
 
 hold_of : (grants : Grants) (words : List ℕ) (passes : List Pass) (worker : ℕ) (note : Note)
     (here : Here grants words passes worker) (after : Pass) → MayAdd grants words passes worker note here 0 after
@@ -129,13 +158,13 @@ all_hold grants words passes worker by note after may = hold_of grants words pas
 same_draw : (p q after : Pass) → after ≡ q → q.mine ≡ p.mine → q.drew ≡ p.drew → KeepsDraw p after
 same_draw p q after is m d = record { mine = ap (λ (x : Pass). x.mine) is ∙ m; drew = ap (λ (x : Pass). x.drew) is ∙ d }
 
-load_keeps : (free held : Type 0) (words : List ℕ) (history : List Entry) (place : ℕ) (p after : Pass)
-    → MayLoad free held words history place p after → KeepsDraw p after
-load_keeps free held words history place p after (number e is) = same_draw p _ after is refl refl
-load_keeps free held words history place p after (glance f e is) = same_draw p _ after is refl refl
-load_keeps free held words history place p after (sequence h e is) = same_draw p _ after is refl refl
-load_keeps free held words history place p after (count h e is) = same_draw p _ after is refl refl
-load_keeps free held words history place p after (row i h few e is) = same_draw p _ after is refl refl
+load_keeps : (own : Option Held → Type 0) (free held : Type 0) (words : List ℕ) (history : List Entry) (place : ℕ) (p after : Pass)
+    → MayLoad own free held words history place p after → KeepsDraw p after
+load_keeps own free held words history place p after (number h o e is) = same_draw p _ after is refl refl
+load_keeps own free held words history place p after (glance f e is) = same_draw p _ after is refl refl
+load_keeps own free held words history place p after (sequence h e is) = same_draw p _ after is refl refl
+load_keeps own free held words history place p after (count h e is) = same_draw p _ after is refl refl
+load_keeps own free held words history place p after (row i h few e is) = same_draw p _ after is refl refl
 
 store_keeps : (rows : List ℕ) (place value : ℕ) (p after : Pass) → MayStore rows place value p after → KeepsDraw p after
 store_keeps rows place value p after (store_row i lt e v is) = same_draw p _ after is refl refl
@@ -156,7 +185,7 @@ raise_keeps grants words passes worker place note here after differ (raise rows 
 step_keeps : (grants : Grants) (words : List ℕ) (passes : List Pass) (worker : ℕ) (step : ClientStep) (note : Note) (after : Pass)
     → IsNoDraw step → Allowed grants words passes worker step note after
     → (here : Here grants words passes worker) × KeepsDraw here.pass after
-step_keeps grants words passes worker (loads i) note after other may = (may.0, load_keeps _ _ words may.0.history i may.0.pass after may.1)
+step_keeps grants words passes worker (loads i) note after other may = (may.0, load_keeps _ _ _ words may.0.history i may.0.pass after may.1)
 step_keeps grants words passes worker (stores i value) note after other may = (may.0, write_keeps words may.0.pass.pending i value may.0.pass after may.1)
 step_keeps grants words passes worker (adds i by) note after other may = (may.1, raise_keeps grants words passes worker i note may.1 after other may.2)
 step_keeps grants words passes worker (exchanges i expected new) note after other may = absurd may

@@ -147,6 +147,10 @@ has_others index i w [] differ h = absurd h
 has_others index i w (r ∷ rest) differ h = has_one index i w r (without index rest) (eqb r.index index) refl differ
     (⊎_elim (λ t. inl t) (λ t. inr (has_others index i w rest differ t)) h)
 
+-- before the first store all rows are the old ones
+pub none_mixed : (p : Pass) (old plan : List ℕ) → HasRows p old → IsMixed p.rows old plan 0
+none_mixed p old plan has = record { below = λ i lt. absurd (omega arith); above = λ i le lt. has.1 i lt }
+
 -- one row more is the plan's
 pub mixed_stored : (rows : List ReadRow) (old plan : List ℕ) (index : ℕ) → IsMixed rows old plan index
     → IsMixed (record { index = index; word = slice_index plan index } ∷ without index rows) old plan (index + 1)
@@ -178,6 +182,7 @@ writing_on a b c f g = record {
   seen = g.seen ∙ f.seen;
   mine = g.mine ∙ f.mine;
   drew = g.drew ∙ f.drew;
+  looks = g.looks ∙ f.looks;
   pending = g.pending ∙ f.pending;
   taken = let l = f.taken in let m = g.taken in omega arith;
 }
@@ -193,6 +198,7 @@ no_writing a = record {
   seen = refl;
   mine = refl;
   drew = refl;
+  looks = refl;
   pending = refl;
   taken = omega arith;
 }
@@ -211,6 +217,7 @@ store_writes a b index value s = record {
   seen = ap (λ (x : Pass). x.seen) s.pass;
   mine = ap (λ (x : Pass). x.mine) s.pass;
   drew = ap (λ (x : Pass). x.drew) s.pass;
+  looks = ap (λ (x : Pass). x.looks) s.pass;
   pending = ap (λ (x : Pass). x.pending) s.pass;
   taken = step_more a b (3 + index) (after_store index value a.pass) s;
 }
@@ -226,6 +233,7 @@ count_writes a b value s = record {
   seen = ap (λ (x : Pass). x.seen) s.pass;
   mine = ap (λ (x : Pass). x.mine) s.pass;
   drew = ap (λ (x : Pass). x.drew) s.pass;
+  looks = ap (λ (x : Pass). x.looks) s.pass;
   pending = ap (λ (x : Pass). x.pending) s.pass;
   taken = step_more a b 2 (after_count value a.pass) s;
 }
@@ -242,6 +250,7 @@ all_written a b c w s = record {
   seen = ap (λ (x : Pass). x.seen) s.pass ∙ w.seen;
   mine = ap (λ (x : Pass). x.mine) s.pass ∙ w.mine;
   drew = ap (λ (x : Pass). x.drew) s.pass ∙ w.drew;
+  looks = ap (λ (x : Pass). x.looks) s.pass ∙ w.looks;
   table = s.table ∙ w.table;
   number = s.number ∙ w.number;
   held = s.held ∙ w.held;

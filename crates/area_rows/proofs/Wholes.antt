@@ -20,7 +20,8 @@ use Rattle.range_rw.specs.Contract.{Record}
 use Rattle.area_rows.specs.declared.guard.Pass.{Pass}
 use Rattle.area_rows.specs.declared.guard.Pending.{Pending}
 use Rattle.row_plans.specs.RowLists.{areas_from}
-use Rattle.row_plans.specs.Plans.{IsRowList, IsPlan, IsFault}
+use Rattle.row_plans.specs.Plans.{IsRowList, IsPlan}
+use Rattle.page_types.specs.Classes.{IsFault}
 use Rattle.area_rows.specs.Reads.{everything, HasRead, HasRows, StillStands}
 use Rattle.area_rows.specs.History.{StartsWith, Runs, IsAtRest, HoldsFor, after_row, rest_of}
 use Rattle.area_rows.specs.Callers.{CallerView, MayNumber, HasPlanned, IsReading, IsClientStep, IsNumbered, IsDrawn, IsWritten}

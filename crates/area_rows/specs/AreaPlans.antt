@@ -1,9 +1,10 @@
 -- What a change of protection over the area that its caller holds comes to: more rows or fewer, or one of four ways
--- that keep their number. The four are those of `FourCases` of `space_model`; that no other way keeps it is its law
--- `simple_protects_are_of_four_kinds`.
+-- that keep their number, with the call's reply. The four are those of `FourCases` of `space_model`; that no other way
+-- keeps it is its law `simple_protects_are_of_four_kinds`.
 use Rattle.std.specs.Prelude.{ℕ, ◌≡◌, ◌≢◌, ◌<◌, ◌≤◌, Option, Some, None, List}
 use Rattle.page_types.specs.declared.calls.Kind.{Kind}
 use Rattle.page_types.specs.declared.calls.Call.{Call}
+use Rattle.page_types.specs.declared.calls.Reply.{Reply}
 use Rattle.page_types.specs.declared.calls.Reply.TheVariants.{Zero}
 use Rattle.page_types.specs.declared.pages.Span.{Span}
 use Rattle.space_model.specs.declared.areas.Area.{Area}
@@ -37,23 +38,25 @@ pub record IsLike (c d : Change) : Type 0 where
   pub old : d.old ≡ c.old
   pub new : d.new ≡ c.new
 
--- the way was chosen by the row and the kinds beside it
+-- the way and the reply were chosen by the row and the kinds beside it
 abbrev pub IsChosen : Row → Change → Option Kind → Option Kind → AreaPlan → Type 0
 IsChosen row c before behind NotSimple = (A : List Area) (a : Area) → IsAmong A a row c.old before behind → ¬ FourCases A a c.place.lo c.place.hi c.new
-IsChosen row c before behind Same = c.new ≡ c.old
-IsChosen row c before behind (SetKind d) = IsLike c d × IsOneStore row before behind d × (c.new ≢ c.old) × (d.index ≡ row.index)
-IsChosen row c before behind (MoveStart d) = IsLike c d × IsOneStore row before behind d × (c.new ≢ c.old)
+IsChosen row c before behind (Same reply) = (c.new ≡ c.old) × (reply ≡ Zero)
+IsChosen row c before behind (SetKind d reply) =
+    IsLike c d × IsOneStore row before behind d × (c.new ≢ c.old) × (d.index ≡ row.index) × (reply ≡ Zero)
+IsChosen row c before behind (MoveStart d reply) = IsLike c d × IsOneStore row before behind d × (c.new ≢ c.old) × (reply ≡ Zero)
 
 -- the row that a plan changes
 abbrev pub planned_change : AreaPlan → Option Change
 planned_change NotSimple = None
-planned_change Same = None
-planned_change (SetKind c) = Some c
-planned_change (MoveStart c) = Some c
+planned_change (Same reply) = None
+planned_change (SetKind c reply) = Some c
+planned_change (MoveStart c reply) = Some c
 
--- a caller has chosen a change, which is one, and may number its call over the area that it holds
-pub record MayChange (c : CallerView) (call : Call) (span : Span) (change : Change) : Type 0 where
-  pub number : MayNumber c call Zero (OverArea span)
+-- a caller has chosen a change, which is one, and may number its call with this reply over the area that it holds
+pub record MayChange (c : CallerView) (call : Call) (span : Span) (change : Change) (reply : Reply) : Type 0 where
+  pub number : MayNumber c call reply (OverArea span)
+  pub said : reply ≡ Zero
   pub chosen : c.change ≡ Some change
   pub differs : change.new ≢ change.old
   pub round : IsReadRound c.seat change
@@ -62,6 +65,6 @@ pub record MayChange (c : CallerView) (call : Call) (span : Span) (change : Chan
 -- change; or number the call, and then store the row, where one changes
 abbrev pub IsAreaPlan : CallerView → Call → Span → ℕ → ℕ → AreaPlan → Type 0
 IsAreaPlan c call span lo hi NotSimple = Shows c.seat (λ _ state. IsOneKind state lo hi × ¬ IsSimple state call)
-IsAreaPlan c call span lo hi Same = (c.change ≡ None) × MayNumber c call Zero (OverArea span)
-IsAreaPlan c call span lo hi (SetKind change) = MayChange c call span change
-IsAreaPlan c call span lo hi (MoveStart change) = MayChange c call span change
+IsAreaPlan c call span lo hi (Same reply) = (c.change ≡ None) × MayNumber c call reply (OverArea span) × (reply ≡ Zero)
+IsAreaPlan c call span lo hi (SetKind change reply) = MayChange c call span change reply
+IsAreaPlan c call span lo hi (MoveStart change reply) = MayChange c call span change reply

@@ -36,7 +36,7 @@ use Rattle.row_plans.specs.Plans.{IsPlan}
 use Rattle.area_rows.specs.Reads.{IsHeldPage, HasRead, HasRows}
 use Rattle.area_rows.specs.Changes.{alone, IsOneStore, IsRound}
 use Rattle.area_rows.specs.History.{Runs, StartsWith, entries_of, HasNamedReplies, whole_count, planned_calls}
-use Rattle.area_rows.specs.History.{IsRunningSpace, AreBacked, HasPages, HoldsFor, IsAtRest, IsRight, Leaves, pending_of}
+use Rattle.area_rows.specs.History.{IsRunningSpace, AreBacked, HasPages, HoldsFor, IsAtRest, IsRight, Leaves, pending_of, after_look}
 
 -- a caller: its seat in the lock's table, whose pass is what it knows of the space; how many numbers it may still draw;
 -- the row words that it read for its last plan, and those that this plan leaves; and the row that its last plan over an
@@ -193,6 +193,7 @@ pub record IsStoredRow (before : SeatState Pass) (index : ℕ) (after : SeatStat
   pub seen : after.pass.seen ≡ before.pass.seen
   pub mine : after.pass.mine ≡ before.pass.mine
   pub drew : after.pass.drew ≡ before.pass.drew
+  pub looks : after.pass.looks ≡ before.pass.looks
   pub table : after.table ≡ before.table
   pub number : after.number ≡ before.number
   pub held : after.held ≡ before.held
@@ -201,7 +202,7 @@ pub record IsStoredRow (before : SeatState Pass) (index : ℕ) (after : SeatStat
 
 -- a new pass over these areas
 abbrev pub new_pass : List Area → Pass
-new_pass start = record { start = start; seen = []; mine = []; count = None; rows = []; sequence = None; pending = AtRest; drew = None }
+new_pass start = record { start = start; seen = []; mine = []; count = None; rows = []; sequence = None; pending = AtRest; drew = None; looks = [] }
 
 -- the client words of a space that starts with these areas: no entry, none under everything, the row count, the rows,
 -- and room for more
@@ -242,16 +243,18 @@ pub record IsReading (before after : SeatState Pass) : Type 0 where
   pub start : after.pass.start ≡ before.pass.start
   pub seen : after.pass.seen ≡ before.pass.seen
   pub mine : after.pass.mine ≡ before.pass.mine
+  pub looks : after.pass.looks ≡ before.pass.looks
   pub taken : before.trace.taken ≤ after.trace.taken
   pub read : KeepsRead before.pass after.pass
 
 -- a look at the number word: at a moment of the running space the caller sees the history so far, and it keeps what
--- it has read; so what its range has shown is so of the state that this history leaves
+-- it has read; so what its range has shown is so of the state that this history leaves. Its pass keeps how many entries
+-- were there, and what it held
 pub record IsLook (before : SeatState Pass) (found : ℕ) (after : SeatState Pass) : Type 0 where
   pub state : List Area
   pub words : List ℕ
   pub moment : IsMoment before before.pass.start after.pass.seen state words
-  pub step : IsClientStep before 0 (record before.pass { seen = after.pass.seen }) after
+  pub step : IsClientStep before 0 (after_look after.pass.seen before.held before.pass) after
   pub more : StartsWith after.pass.seen before.pass.seen
   pub count : length after.pass.seen ≡ found
 
@@ -290,6 +293,7 @@ pub record IsDrawn (before : SeatState Pass) (e : Entry) (pending : Pending) (af
   pub words : List ℕ
   pub moment : IsMoment before before.pass.start numbered.history numbered.state words
   pub drew : after.pass.drew ≡ before.held
+  pub looks : after.pass.looks ≡ before.pass.looks
   pub pools : after.pools ≡ before.pools
   pub writes : after.pass.pending ≡ pending
   pub keeps : KeepsRows pending before.pass after.pass
@@ -307,6 +311,7 @@ pub record IsWritten (before after : SeatState Pass) : Type 0 where
   pub seen : after.pass.seen ≡ before.pass.seen
   pub mine : after.pass.mine ≡ before.pass.mine
   pub drew : after.pass.drew ≡ before.pass.drew
+  pub looks : after.pass.looks ≡ before.pass.looks
   pub table : after.table ≡ before.table
   pub number : after.number ≡ before.number
   pub held : after.held ≡ before.held

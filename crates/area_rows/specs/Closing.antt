@@ -3,7 +3,7 @@
 use Rattle.std.specs.Prelude.{ℕ, ◌≡◌, ◌+◌, ◌≤◌, ◌<◌, ◌^◌, None, List, [], ◌∷◌, map, vec_len, vec_capacity}
 use mathlib.Core.Option.{some}
 use lib.ListN.{get_elem?}
-use Rattle.page_types.specs.declared.TheConstants.{ROWS}
+use Rattle.page_types.specs.declared.TheConstants.{ROWS, SPARE}
 use Rattle.space_model.specs.declared.entries.Entry.{Entry}
 use Rattle.range_rw.specs.Contract.{SeatState}
 use Rattle.area_rows.specs.declared.guard.Pass.{Pass}
@@ -48,7 +48,7 @@ pub record IsPair (s : SeatState Pass) (k : Kept) (c : CallerView) : Type 0 wher
   pub room : vec_len k.mine + k.left ≤ vec_capacity k.mine
   pub few : vec_len k.mine + k.left < 2 ^ 32
   pub read : ROWS ≤ vec_capacity k.read
-  pub plan : ROWS + 2 ≤ vec_capacity k.plan
+  pub plan : ROWS + SPARE ≤ vec_capacity k.plan
   pub planned : vec_len k.plan ≤ ROWS
   pub pages : IsHeldPages s.held
   pub rest : s.held ≡ None → IsAtRest s.pass

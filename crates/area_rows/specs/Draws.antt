@@ -32,6 +32,7 @@ use Rattle.area_rows.specs.Reads.{everything, StillStands}
 use Rattle.area_rows.specs.Changes.{alone, IsChange}
 use Rattle.area_rows.specs.History.{with_whole, IsPart, planned_calls, planned_count, IsShown}
 use Rattle.area_rows.specs.History.{RowsStandFor, IsRunningSpace, Backs, IsBacked, AreBacked, HoldsFor, Leaves, after_draw}
+use Rattle.area_rows.specs.History.{Runs, IsRight, IsOfLastEntry, IsOwed}
 use Rattle.area_rows.specs.Replies.{all_more, reply_named, left_named, left_few}
 use Rattle.area_rows.specs.Stands.{all_stand, same_low, low_rows, shown_set}
 use Rattle.area_rows.specs.Parts.{own_more, own_same, count_set, no_wrap, whole_more, planned_set, resting_of, none_is}
@@ -61,7 +62,7 @@ leaves_same state left (Area span) l = l
 leaves_same state left Whole l = absurd l
 
 -- a plan is of a call under everything
-leaves_plan : (state left : List Areas) (under : Under) (rows : List ℕ) → Leaves state under (Planned rows) left
+pub leaves_plan : (state left : List Areas) (under : Under) (rows : List ℕ) → Leaves state under (Planned rows) left
     → (under ≡ Whole) × PlanShows rows (kind_at left)
 leaves_plan state left Nothing rows l = absurd l
 leaves_plan state left (Reader span) rows l = absurd l
@@ -107,6 +108,52 @@ module _ (history : List Entry) (e : Entry) (held : Option Held) (p : Pass) wher
   draw_drew (Planned rows) = refl
   draw_drew (OneRow c) = refl
 
+  pub draw_looks : (pending : Pending) → (after_draw history e pending held p).looks ≡ p.looks
+  draw_looks AtRest = refl
+  draw_looks (Planned rows) = refl
+  draw_looks (OneRow c) = refl
+
+-- what another caller has to write is of its last entry, as before
+last_on : (start : List Areas) (history mine : List Entry) (pending : Pending) (e : Entry) → IsOfLastEntry start history mine pending
+    → IsOfLastEntry start (history ++ e ∷ []) mine pending
+last_on start history mine pending e o = record {
+  others = o.others;
+  entry = o.entry;
+  own = o.own;
+  before = o.before;
+  later = o.later ++ e ∷ [];
+  stands = ap (λ l. l ++ e ∷ []) o.stands ∙ append_assoc o.before (o.entry ∷ o.later) (e ∷ []);
+  found = o.found;
+  runs = o.runs;
+  left = o.left;
+  right = o.right;
+  leaves = o.leaves;
+}
+
+owed_on : (start : List Areas) (history mine : List Entry) (pending : Pending) (e : Entry) → IsOwed start history mine pending
+    → IsOwed start (history ++ e ∷ []) mine pending
+owed_on start history mine AtRest e o = tt
+owed_on start history mine (Planned rows) e o = last_on start history mine (Planned rows) e o
+owed_on start history mine (OneRow c) e o = last_on start history mine (OneRow c) e o
+
+-- what a draw leaves to be written is of the entry that it made
+last_drawn : (start : List Areas) (history mine : List Entry) (state left : List Areas) (pending : Pending) (e : Entry)
+    → Runs 0 start history state → IsRight state e.call e.reply e.under left → Leaves state e.under pending left
+    → IsOfLastEntry start (history ++ e ∷ []) (mine ++ e ∷ []) pending
+last_drawn start history mine state left pending e runs right leaves = record {
+  others = mine;
+  entry = e;
+  own = refl;
+  before = history;
+  later = [];
+  stands = refl;
+  found = state;
+  runs = runs;
+  left = left;
+  right = right;
+  leaves = leaves;
+}
+
 -- another caller's part, or the caller's own
 others_part : (start : List Areas) (history : List Entry) (words : List ℕ) (value worker : ℕ) (p : Pass) (e : Entry)
     → e.worker ≢ worker → IsPart start history words worker p → IsPart start (history ++ e ∷ []) (set words 0 value) worker p
@@ -115,35 +162,40 @@ others_part start history words value worker p e differ own = record {
   seen = (own.seen.0 ++ e ∷ [], ap (λ l. l ++ e ∷ []) own.seen.1 ∙ append_assoc p.seen own.seen.0 (e ∷ []));
   mine = own_same worker history e differ ∙ own.mine;
   few = own.few;
+  owed = owed_on start history p.mine p.pending e own.owed;
   count = λ n c. get_or-set_other words 0 2 value 0 (λ same. omega arith) ∙ own.count n c;
   sequence = λ n c. get_or-set_other words 0 1 value 0 (λ same. omega arith) ∙ own.sequence n c;
 }
 
-own_part : (start : List Areas) (history : List Entry) (words : List ℕ) (value worker : ℕ) (p : Pass) (e : Entry)
-    (pending : Pending) (held : Option Held) → e.worker ≡ worker → length p.mine + 1 < 2 ^ 32
+own_part : (start : List Areas) (history : List Entry) (state left : List Areas) (words : List ℕ) (value worker : ℕ)
+    (p : Pass) (e : Entry) (pending : Pending) (held : Option Held) → e.worker ≡ worker → length p.mine + 1 < 2 ^ 32
+    → Runs 0 start history state → IsRight state e.call e.reply e.under left → Leaves state e.under pending left
     → IsPart start history words worker p
     → IsPart start (history ++ e ∷ []) (set words 0 value) worker (after_draw history e pending held p)
-own_part start history words value worker p e AtRest held is few own = record {
+own_part start history state left words value worker p e AtRest held is few runs right leaves own = record {
   began = own.began;
   seen = ([], sym (append-nil (history ++ e ∷ [])));
   mine = own_more worker history e is ∙ ap (λ l. l ++ e ∷ []) own.mine;
   few = let l = length-append p.mine (e ∷ []) in omega arith;
+  owed = tt;
   count = λ n none. absurd (none_is n none);
   sequence = λ n none. absurd (none_is n none);
 }
-own_part start history words value worker p e (Planned rows) held is few own = record {
+own_part start history state left words value worker p e (Planned rows) held is few runs right leaves own = record {
   began = own.began;
   seen = ([], sym (append-nil (history ++ e ∷ [])));
   mine = own_more worker history e is ∙ ap (λ l. l ++ e ∷ []) own.mine;
   few = let l = length-append p.mine (e ∷ []) in omega arith;
+  owed = last_drawn start history p.mine state left (Planned rows) e runs right leaves;
   count = λ n c. get_or-set_other words 0 2 value 0 (λ same. omega arith) ∙ own.count n c;
   sequence = λ n c. get_or-set_other words 0 1 value 0 (λ same. omega arith) ∙ own.sequence n c;
 }
-own_part start history words value worker p e (OneRow c) held is few own = record {
+own_part start history state left words value worker p e (OneRow c) held is few runs right leaves own = record {
   began = own.began;
   seen = ([], sym (append-nil (history ++ e ∷ [])));
   mine = own_more worker history e is ∙ ap (λ l. l ++ e ∷ []) own.mine;
   few = let l = length-append p.mine (e ∷ []) in omega arith;
+  owed = last_drawn start history p.mine state left (OneRow c) e runs right leaves;
   count = λ n k. get_or-set_other words 0 2 value 0 (λ same. omega arith) ∙ own.count n k;
   sequence = λ n k. get_or-set_other words 0 1 value 0 (λ same. omega arith) ∙ own.sequence n k;
 }
@@ -210,7 +262,8 @@ module _ (grants : Grants) (start : List Areas) (history : List Entry) (state le
             at rest leaves (omega arith) (r.rows (omega arith));
         parts = λ other x there. ⊎_elim
             (λ t. subst (λ (z : ℕ × Pass). IsPart start (history ++ e ∷ []) (set words 0 value) z.0 z.1) (λ i. (sym t.0 i, t.1 i))
-            (own_part start history words value worker p e pending held is few (r.parts worker p at)))
+            (own_part start history state left words value worker p e pending held is few r.runs
+            (record { fits = fits; answers = answers }) leaves (r.parts worker p at)))
             (λ t. others_part start history words value other x e (λ w. t.0 (sym w ∙ is)) (r.parts other x t.1))
             (at_set passes worker other q x there);
         no_other = λ other le. let b = below passes worker p at in own_same other history e (λ w. omega arith) ∙ r.no_other other (omega arith);

@@ -75,13 +75,59 @@ StillCounts words count = (n : ℕ) → count ≡ Some n → slice_index words 2
 abbrev pub StillRaised : List ℕ → Option ℕ → Type 0
 StillRaised words sequence = (n : ℕ) → sequence ≡ Some n → slice_index words 1 ≡ n
 
+-- the call may be numbered at this state with this reply and under this range, and leaves another: it fits, and the
+-- reply is right
+pub record IsRight (state : List Areas) (call : Call) (reply : Reply) (under : Under) (left : List Areas) : Type 0 where
+  pub fits : FitsUnder state call under
+  pub answers : Answers state call reply left
+
+-- what is to be written after a draw is what the call leaves: under everything a plan that shows it, and over an area
+-- the change of one row. Otherwise it is nothing, and nothing has changed
+abbrev pub Leaves : List Areas → Under → Pending → List Areas → Type 0
+Leaves state Nothing AtRest left = left ≡ state
+Leaves state (Reader span) AtRest left = left ≡ state
+Leaves state (Area span) AtRest left = left ≡ state
+Leaves state Whole AtRest left = ⊥
+Leaves state Nothing (Planned rows) left = ⊥
+Leaves state (Reader span) (Planned rows) left = ⊥
+Leaves state (Area span) (Planned rows) left = ⊥
+Leaves state Whole (Planned rows) left = PlanShows rows (kind_at left)
+Leaves state Nothing (OneRow change) left = ⊥
+Leaves state (Reader span) (OneRow change) left = ⊥
+Leaves state (Area span) (OneRow change) left = IsChange state span change left
+Leaves state Whole (OneRow change) left = ⊥
+
+-- what is to be written is what one entry leaves: the last one of its caller. The entries before it lead to a state at
+-- which it is right, and from that state to the one that it leaves the change is the one that is to be written
+pub record IsOfLastEntry (start : List Areas) (history : List Entry) (mine : List Entry) (pending : Pending) : Type 0 where
+  pub others : List Entry
+  pub entry : Entry
+  pub own : mine ≡ others ++ entry ∷ []
+  pub before : List Entry
+  pub later : List Entry
+  pub stands : history ≡ before ++ entry ∷ later
+  pub found : List Areas
+  pub runs : Runs 0 start before found
+  pub left : List Areas
+  pub right : IsRight found entry.call entry.reply entry.under left
+  pub leaves : Leaves found entry.under pending left
+
+-- nothing is to be written, or what the caller's last entry leaves: a plan where that was numbered under everything,
+-- and the change of one row where it was numbered under the area that is held for it
+abbrev pub IsOwed : List Areas → List Entry → List Entry → Pending → Type 0
+IsOwed start history mine AtRest = Unit {0}
+IsOwed start history mine (Planned rows) = IsOfLastEntry start history mine (Planned rows)
+IsOwed start history mine (OneRow change) = IsOfLastEntry start history mine (OneRow change)
+
 -- one caller's part: it began with the same areas, has seen a beginning of the history, stores just its own entries,
--- below 2^32 of them, and what it has read of the row count and the sequence word is still so
+-- below 2^32 of them, what it has to write is what the last of these leaves, and what it has read of the row count and
+-- the sequence word is still so
 pub record IsPart (start : List Areas) (history : List Entry) (words : List ℕ) (worker : ℕ) (pass : Pass) : Type 0 where
   pub began : pass.start ≡ start
   pub seen : StartsWith history pass.seen
   pub mine : entries_of worker history ≡ pass.mine
   pub few : length pass.mine < 2 ^ 32
+  pub owed : IsOwed start history pass.mine pass.pending
   pub count : StillCounts words pass.count
   pub sequence : StillRaised words pass.sequence
 
@@ -180,7 +226,17 @@ HasHistory grants words passes = (start : List Areas) × (history : List Entry) 
 
 -- the pass of a new caller, over the client words of the opening
 abbrev pub newcomer : List ℕ → Pass
-newcomer words = record { start = areas_from (rows_in words); seen = []; mine = []; count = None; rows = []; sequence = None; pending = AtRest; drew = None }
+newcomer words = record {
+  start = areas_from (rows_in words);
+  seen = [];
+  mine = [];
+  count = None;
+  rows = [];
+  sequence = None;
+  pending = AtRest;
+  drew = None;
+  looks = [];
+}
 
 -- a pass when its range is given back: what was read under it may change from now on
 abbrev pub rest_of : Pass → Pass
@@ -197,12 +253,6 @@ HoldsFor held (Reader span) = held ≡ Some (record { range = record { lo = span
 HoldsFor held (Area span) = held ≡ Some (record { range = record { lo = span.lo; hi = span.hi }; mode = Alone })
 HoldsFor held Whole = held ≡ Some everything
 
--- the call may be numbered at this state with this reply and under this range, and leaves another: it fits, and the
--- reply is right
-pub record IsRight (state : List Areas) (call : Call) (reply : Reply) (under : Under) (left : List Areas) : Type 0 where
-  pub fits : FitsUnder state call under
-  pub answers : Answers state call reply left
-
 -- what a call over one area has to write: the row that it planned, or nothing
 abbrev pub change_pending : Option Change → Pending
 change_pending None = AtRest
@@ -215,22 +265,6 @@ pending_of Nothing rows change = AtRest
 pending_of (Reader span) rows change = AtRest
 pending_of (Area span) rows change = change_pending change
 pending_of Whole rows change = Planned rows
-
--- what is to be written after a draw is what the call leaves: under everything a plan that shows it, and over an area
--- the change of one row. Otherwise it is nothing, and nothing has changed
-abbrev pub Leaves : List Areas → Under → Pending → List Areas → Type 0
-Leaves state Nothing AtRest left = left ≡ state
-Leaves state (Reader span) AtRest left = left ≡ state
-Leaves state (Area span) AtRest left = left ≡ state
-Leaves state Whole AtRest left = ⊥
-Leaves state Nothing (Planned rows) left = ⊥
-Leaves state (Reader span) (Planned rows) left = ⊥
-Leaves state (Area span) (Planned rows) left = ⊥
-Leaves state Whole (Planned rows) left = PlanShows rows (kind_at left)
-Leaves state Nothing (OneRow change) left = ⊥
-Leaves state (Reader span) (OneRow change) left = ⊥
-Leaves state (Area span) (OneRow change) left = IsChange state span change left
-Leaves state Whole (OneRow change) left = ⊥
 
 -- the entry that a note becomes
 abbrev pub entry_of : ℕ → ℕ → Note → Entry
@@ -251,9 +285,10 @@ pub record Here (grants : Grants) (words : List ℕ) (passes : List Pass) (worke
   pub exclusive : IsExclusive grants
   pub own : get_elem? passes worker ≡ some pass
 
--- the pass after a load of the number word, by which the caller sees the history so far
-abbrev pub after_look : List Entry → Pass → Pass
-after_look history p = record p { seen = history }
+-- the pass after a load of the number word, by which the caller sees the history so far. It keeps how many entries
+-- there were, and what was held
+abbrev pub after_look : List Entry → Option Held → Pass → Pass
+after_look history held p = record p { seen = history; looks = record { found = length history; held = held } ∷ p.looks }
 
 -- the pass after a load of the sequence word
 abbrev pub after_sequence : ℕ → Pass → Pass
@@ -287,6 +322,7 @@ after_draw history e AtRest held p = record {
   sequence = None;
   pending = AtRest;
   drew = held;
+  looks = p.looks;
 }
 after_draw history e (Planned rows) held p = record {
   start = p.start;
@@ -297,6 +333,7 @@ after_draw history e (Planned rows) held p = record {
   sequence = p.sequence;
   pending = Planned rows;
   drew = held;
+  looks = p.looks;
 }
 after_draw history e (OneRow change) held p = record {
   start = p.start;
@@ -307,6 +344,7 @@ after_draw history e (OneRow change) held p = record {
   sequence = p.sequence;
   pending = OneRow change;
   drew = held;
+  looks = p.looks;
 }
 
 -- the pass after the sequence word was raised: all is written
@@ -318,14 +356,19 @@ abbrev pub after_change : Pass → Pass
 after_change p = record p { count = None; rows = []; sequence = None; pending = AtRest }
 
 -- the loads that a caller may make: the number word and the sequence word at any time. What it has read of the sequence
--- word, of the row count and of a row it remembers, and it reads the last two only while it holds pages
-pub data MayLoad (free held : Type 0) (words : List ℕ) (history : List Entry) (place : ℕ) (p after : Pass) : Type 0 where
-  number : place ≡ 0 → after ≡ after_look history p → MayLoad free held words history place p after
-  glance : free → place ≡ 1 → after ≡ p → MayLoad free held words history place p after
-  sequence : held → place ≡ 1 → after ≡ after_sequence (slice_index words 1) p → MayLoad free held words history place p after
-  count : held → place ≡ 2 → after ≡ after_count (slice_index words 2) p → MayLoad free held words history place p after
+-- word, of the row count and of a row it remembers, and it reads the last two only while it holds pages. Of a load of
+-- the number word it remembers what it found and held
+pub data MayLoad (own : Option Held → Type 0) (free held : Type 0) (words : List ℕ) (history : List Entry) (place : ℕ) (p after : Pass) : Type 0 where
+  number : (h : Option Held) → own h → place ≡ 0 → after ≡ after_look history h p → MayLoad own free held words history place p after
+  glance : free → place ≡ 1 → after ≡ p → MayLoad own free held words history place p after
+  sequence : held → place ≡ 1 → after ≡ after_sequence (slice_index words 1) p → MayLoad own free held words history place p after
+  count : held → place ≡ 2 → after ≡ after_count (slice_index words 2) p → MayLoad own free held words history place p after
   row : (index : ℕ) → held → index < ROWS → place ≡ 3 + index → after ≡ after_row index (slice_index words (3 + index)) p
-      → MayLoad free held words history place p after
+      → MayLoad own free held words history place p after
+
+-- the caller of that number holds this, or nothing
+abbrev pub HoldsJust : Grants → ℕ → Option Held → Type 0
+HoldsJust grants worker held = get_elem? grants worker ≡ some held
 
 -- the caller of that number holds nothing
 abbrev pub HoldsNothing : Grants → ℕ → Type 0
@@ -370,7 +413,7 @@ pub data MayAdd (grants : Grants) (words : List ℕ) (passes : List Pass) (worke
 abbrev pub Allowed : Grants → List ℕ → List Pass → ℕ → ClientStep → Note → Pass → Type 0
 Allowed grants words passes worker (loads i) note after =
     (here : Here grants words passes worker)
-    × MayLoad (HoldsNothing grants worker) (HoldsPages grants worker) words here.history i here.pass after
+    × MayLoad (HoldsJust grants worker) (HoldsNothing grants worker) (HoldsPages grants worker) words here.history i here.pass after
 Allowed grants words passes worker (stores i value) note after =
     (here : Here grants words passes worker) × MayWrite words here.pass.pending i value here.pass after
 Allowed grants words passes worker (exchanges i expected new) note after = ⊥

@@ -25,7 +25,7 @@ use Rattle.area_rows.specs.declared.guard.Pending.{Pending}
 use Rattle.area_rows.specs.declared.guard.Pending.TheVariants.{AtRest, Planned, OneRow}
 use Rattle.area_rows.specs.Reads.{everything, StillStands}
 use Rattle.area_rows.specs.Changes.{alone}
-use Rattle.area_rows.specs.History.{IsRunningSpace, HoldsPages, HoldsNothing, Backs, IsBacked, AreBacked, HasHistory}
+use Rattle.area_rows.specs.History.{IsRunningSpace, HoldsPages, HoldsJust, HoldsNothing, Backs, IsBacked, AreBacked, HasHistory}
 use Rattle.area_rows.specs.History.{rest_of, IsAtRest, entry_of, after_look, after_count, after_sequence, after_row}
 use Rattle.area_rows.specs.History.{Here, MayLoad, MayWrite, MayAdd, Allowed}
 use Rattle.area_rows.specs.History.MayLoad.{number, glance, sequence, count, row}
@@ -51,8 +51,9 @@ backed_set grants words state passes worker q all own other x there = ⊎_elim
 
 module _ (grants : Grants) (words : List ℕ) (history : List Entry) (state : List Areas) (worker place : ℕ) (p after : Pass)
     (b : IsBacked grants words state worker p) where
-  load_backed : MayLoad (HoldsNothing grants worker) (HoldsPages grants worker) words history place p after → IsBacked grants words state worker after
-  load_backed (number e is) = subst (IsBacked grants words state worker) (sym is) (record { reads = b.reads; rows = b.rows; pending = b.pending })
+  load_backed : MayLoad (HoldsJust grants worker) (HoldsNothing grants worker) (HoldsPages grants worker) words history place p after
+      → IsBacked grants words state worker after
+  load_backed (number h o e is) = subst (IsBacked grants words state worker) (sym is) (record { reads = b.reads; rows = b.rows; pending = b.pending })
   load_backed (glance free e is) = subst (IsBacked grants words state worker) (sym is) b
   load_backed (sequence h e is) = subst (IsBacked grants words state worker) (sym is) (record { reads = inr h; rows = b.rows; pending = b.pending })
   load_backed (count h e is) = subst (IsBacked grants words state worker) (sym is) (record { reads = inr h; rows = b.rows; pending = b.pending })
@@ -64,14 +65,14 @@ module _ (grants : Grants) (words : List ℕ) (history : List Entry) (state : Li
     pending = b.pending;
   })
 
-module _ (free held : Type 0) (start : List Areas) (history : List Entry) (state : List Areas) (words : List ℕ)
+module _ (mine : Option Held → Type 0) (free held : Type 0) (start : List Areas) (history : List Entry) (state : List Areas) (words : List ℕ)
     (passes : List Pass) (worker place : ℕ) (p after : Pass)
     (r : IsRunningSpace start history state words passes) (at : get_elem? passes worker ≡ some p) where
-  loads_keep : MayLoad free held words history place p after → IsRunningSpace start history state words (set passes worker after)
-  loads_keep (number e is) =
+  loads_keep : MayLoad mine free held words history place p after → IsRunningSpace start history state words (set passes worker after)
+  loads_keep (number h o e is) =
       subst (λ (q : Pass). IsRunningSpace start history state words (set passes worker q)) (sym is)
-      (replaced start history state words worker p (r.parts worker p at) passes (after_look history p) r at
-      (looked start history state words worker p (r.parts worker p at)) refl refl)
+      (replaced start history state words worker p (r.parts worker p at) passes (after_look history h p) r at
+      (looked start history state words worker p (r.parts worker p at) h) refl refl)
   loads_keep (glance f e is) =
       subst (λ (q : Pass). IsRunningSpace start history state words (set passes worker q)) (sym is)
       (replaced start history state words worker p (r.parts worker p at) passes p r at (r.parts worker p at) refl refl)
@@ -142,7 +143,8 @@ steps_keep grants words passes worker (loads i) note after kept may =
       h.start,
       h.history,
       h.state,
-      loads_keep (HoldsNothing grants worker) (HoldsPages grants worker) h.start h.history h.state words passes worker i h.pass after h.running h.own may.1,
+      loads_keep (HoldsJust grants worker) (HoldsNothing grants worker) (HoldsPages grants worker)
+          h.start h.history h.state words passes worker i h.pass after h.running h.own may.1,
       backed_set grants words h.state passes worker after h.backed
           (load_backed grants words h.history h.state worker i h.pass after (h.backed worker h.pass h.own) may.1),
     )

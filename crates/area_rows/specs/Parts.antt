@@ -1,6 +1,6 @@
 -- How many entries and how many unwritten calls the callers have together, and one caller's part of the rule, after its
 -- pass has changed. These are parts of the proofs in `Keeping`; a reader who trusts the check may pass them over.
-use Rattle.std.specs.Prelude.{Some, None, slice_index, sum_by}
+use Rattle.std.specs.Prelude.{Option, Some, None, slice_index, sum_by}
 use Rattle.std.proofs.Common.{◌≡◌, ◌≢◌, ℕ, suc, ◌+◌, ◌*◌, ◌^◌, ◌<◌, ◌≤◌, Bool, true, false, cond, eqb, List, [], ◌∷◌}
 use Rattle.std.proofs.Common.{◌++◌, length, set, sym, refl, ap, ◌∙◌, subst, arith, length-set, eq-eqb, ne_eqb, ⊎_elim}
 use Rattle.std.proofs.lemmas.List.{append-nil, get_or-set_same, get_or-set_other}
@@ -13,6 +13,7 @@ use Rattle.space_model.specs.declared.areas.Area.{Area as Areas}
 use Rattle.space_model.specs.declared.entries.Entry.{Entry}
 use Rattle.space_model.specs.declared.entries.Under.{Under}
 use Rattle.space_model.specs.declared.entries.Under.TheVariants.{Nothing, Reader, Area, Whole}
+use Rattle.lock_core.specs.declared.range.Held.{Held}
 use Rattle.area_rows.specs.declared.guard.Pass.{Pass}
 use Rattle.area_rows.specs.declared.guard.Pending.{Pending}
 use Rattle.area_rows.specs.declared.guard.Pending.TheVariants.{AtRest, Planned}
@@ -112,6 +113,7 @@ blank_part start history words others worker x n own = record {
   seen = own.seen;
   mine = own.mine;
   few = own.few;
+  owed = own.owed;
   count = λ m e. absurd (none_is m (sym n.0 ∙ e));
   sequence = λ m e. absurd (none_is m (sym n.2 ∙ e));
 }
@@ -124,14 +126,23 @@ beside_part start history words worker index value x own = record {
   seen = own.seen;
   mine = own.mine;
   few = own.few;
+  owed = own.owed;
   count = λ n e. get_or-set_other words (3 + index) 2 value 0 (λ same. omega arith) ∙ own.count n e;
   sequence = λ n e. get_or-set_other words (3 + index) 1 value 0 (λ same. omega arith) ∙ own.sequence n e;
 }
 
 module _ (start : List Areas) (history : List Entry) (state : List Areas) (words : List ℕ) (worker : ℕ) (p : Pass)
     (own : IsPart start history words worker p) where
-  pub looked : IsPart start history words worker (after_look history p)
-  looked = record { began = own.began; seen = ([], sym (append-nil history)); mine = own.mine; few = own.few; count = own.count; sequence = own.sequence }
+  pub looked : (held : Option Held) → IsPart start history words worker (after_look history held p)
+  looked held = record {
+    began = own.began;
+    seen = ([], sym (append-nil history));
+    mine = own.mine;
+    few = own.few;
+    owed = own.owed;
+    count = own.count;
+    sequence = own.sequence;
+  }
 
   pub counted : IsPart start history words worker (after_count (slice_index words 2) p)
   counted = record {
@@ -139,15 +150,24 @@ module _ (start : List Areas) (history : List Entry) (state : List Areas) (words
     seen = own.seen;
     mine = own.mine;
     few = own.few;
+    owed = own.owed;
     count = λ n e. some_is (slice_index words 2) n e;
     sequence = own.sequence;
   }
 
   pub raised : IsPart start history words worker (after_sequence (slice_index words 1) p)
-  raised = record { began = own.began; seen = own.seen; mine = own.mine; few = own.few; count = own.count; sequence = λ n e. some_is (slice_index words 1) n e }
+  raised = record {
+    began = own.began;
+    seen = own.seen;
+    mine = own.mine;
+    few = own.few;
+    owed = own.owed;
+    count = own.count;
+    sequence = λ n e. some_is (slice_index words 1) n e;
+  }
 
   pub read : (index word : ℕ) → IsPart start history words worker (after_row index word p)
-  read index word = record { began = own.began; seen = own.seen; mine = own.mine; few = own.few; count = own.count; sequence = own.sequence }
+  read index word = record { began = own.began; seen = own.seen; mine = own.mine; few = own.few; owed = own.owed; count = own.count; sequence = own.sequence }
 
   pub rested : IsPart start history words worker (rest_of p)
   rested = record {
@@ -155,6 +175,7 @@ module _ (start : List Areas) (history : List Entry) (state : List Areas) (words
     seen = own.seen;
     mine = own.mine;
     few = own.few;
+    owed = own.owed;
     count = λ n e. absurd (none_is n e);
     sequence = λ n e. absurd (none_is n e);
   }
@@ -165,6 +186,7 @@ module _ (start : List Areas) (history : List Entry) (state : List Areas) (words
     seen = own.seen;
     mine = own.mine;
     few = own.few;
+    owed = own.owed;
     count = λ n e. get_or-set_other words (3 + index) 2 value 0 (λ same. omega arith) ∙ own.count n e;
     sequence = λ n e. get_or-set_other words (3 + index) 1 value 0 (λ same. omega arith) ∙ own.sequence n e;
   }
@@ -175,6 +197,7 @@ module _ (start : List Areas) (history : List Entry) (state : List Areas) (words
     seen = own.seen;
     mine = own.mine;
     few = own.few;
+    owed = own.owed;
     count = λ n e. get_or-set_same words 2 value 0 there ∙ some_is value n e;
     sequence = λ n e. get_or-set_other words 2 1 value 0 (λ same. omega arith) ∙ own.sequence n e;
   }
@@ -185,6 +208,7 @@ module _ (start : List Areas) (history : List Entry) (state : List Areas) (words
     seen = own.seen;
     mine = own.mine;
     few = own.few;
+    owed = tt;
     count = λ n e. get_or-set_other words 1 2 value 0 (λ same. omega arith) ∙ own.count n e;
     sequence = λ n e. absurd (none_is n e);
   }
@@ -195,6 +219,7 @@ module _ (start : List Areas) (history : List Entry) (state : List Areas) (words
     seen = own.seen;
     mine = own.mine;
     few = own.few;
+    owed = tt;
     count = λ n e. absurd (none_is n e);
     sequence = λ n e. absurd (none_is n e);
   }

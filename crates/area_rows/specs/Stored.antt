@@ -1,19 +1,24 @@
 -- That the history of a running address space is the callers' entries, by number, that the rows show its last state,
 -- that it is legal as the one-thread model has it, and that each number is drawn under the range that its entry
 -- names. While a call under everything isn't written yet, its caller holds everything and has a plan that shows the
--- last state. Between two steps a reader may take the entry of a number from the one caller who stores it.
+-- last state. What a caller has to write is always what the last of its entries leaves. Between two steps a reader may
+-- take the entry of a number from the one caller who stores it.
 use Rattle.std.specs.Prelude.{ℕ, ◌≡◌, ◌≢◌, ◌+◌, Option, List, [], ◌∷◌, ◌++◌, length, slice_index}
 use mathlib.Core.Option.{some}
 use lib.ListN.{get_elem?}
 use Rattle.space_model.specs.declared.areas.Area.{Area}
 use Rattle.space_model.specs.declared.entries.Entry.{Entry}
+use Rattle.space_model.specs.declared.entries.Under.TheVariants.{Whole}
 use Rattle.space_model.specs.History.{IsLegal, StateAfter}
-use Rattle.lock_core.specs.Grants.{Grants}
+use Rattle.lock_core.specs.Grants.{Grants, Holds}
 use Rattle.lock_core.specs.Client.{ClientStep, loads, stores, adds, exchanges}
 use Rattle.lock_core.specs.declared.range.Held.{Held}
 use Rattle.area_rows.specs.declared.guard.Note.{Note}
 use Rattle.area_rows.specs.declared.guard.Pass.{Pass}
+use Rattle.area_rows.specs.declared.guard.Pending.TheVariants.{Planned}
+use Rattle.area_rows.specs.Reads.{everything}
 use Rattle.area_rows.specs.History.{Runs, StartsWith, whole_count, planned_count, RowsStandFor, Backs, HasHistory, HoldsFor, Allowed, entry_of, rest_of}
+use Rattle.area_rows.specs.History.{IsOwed}
 
 -- the caller of that number has the entry at that place among its own
 abbrev pub Stores : List Pass → ℕ → ℕ → Entry → Type 0
@@ -28,13 +33,14 @@ pub record IsStoredOnce (passes : List Pass) (e : Entry) : Type 0 where
 
 -- the history has as many entries as the number word says, and runs from the start with which each caller began to
 -- the state that the rows show, unless a call under everything isn't written yet; what is to be written is right for
--- that state, and its caller holds the range. The entry of each number is stored once, every stored entry is one of
--- them, and each caller has seen a beginning
+-- that state and is what its caller's last entry leaves, and the caller holds the range. The entry of each number is
+-- stored once, every stored entry is one of them, and each caller has seen a beginning
 pub record IsStored (grants : Grants) (words : List ℕ) (passes : List Pass) (history : List Entry) (start state : List Area) : Type 0 where
   pub runs : Runs 0 start history state
   pub began : (worker : ℕ) (pass : Pass) → get_elem? passes worker ≡ some pass → pass.start ≡ start
   pub rows : planned_count passes ≡ 0 → RowsStandFor state passes words
   pub pending : (worker : ℕ) (pass : Pass) → get_elem? passes worker ≡ some pass → Backs grants state worker pass.pending
+  pub owed : (worker : ℕ) (pass : Pass) → get_elem? passes worker ≡ some pass → IsOwed start history pass.mine pass.pending
   pub sequence : slice_index words 1 + planned_count passes ≡ whole_count history
   pub count : length history ≡ slice_index words 0
   pub numbered : (n : ℕ) (e : Entry) → get_elem? history n ≡ some e → e.number ≡ n
@@ -46,6 +52,25 @@ pub record IsStored (grants : Grants) (words : List ℕ) (passes : List Pass) (h
 abbrev pub HistoryIsStored : Type 0
 HistoryIsStored = (grants : Grants) (words : List ℕ) (passes : List Pass) → HasHistory grants words passes
     → (history : List Entry) × (start : List Area) × (state : List Area) × IsStored grants words passes history start state
+
+-- a store of the row count: its caller has rows to write, of which there are so many, and holds everything; its last
+-- entry was numbered under everything, and leaves these rows
+pub record IsCountStore (grants : Grants) (passes : List Pass) (worker value : ℕ) : Type 0 where
+  pub pass : Pass
+  pub there : get_elem? passes worker ≡ some pass
+  pub rows : List ℕ
+  pub planned : pass.pending ≡ Planned rows
+  pub counted : value ≡ length rows
+  pub holds : Holds grants worker everything
+  pub others : List Entry
+  pub entry : Entry
+  pub last : pass.mine ≡ others ++ entry ∷ []
+  pub under : entry.under ≡ Whole
+
+-- the row count is stored by calls under everything alone
+abbrev pub CountIsOfWhole : Type 0
+CountIsOfWhole = (grants : Grants) (words : List ℕ) (passes : List Pass) (worker value : ℕ) (note : Note) (after : Pass)
+    → Allowed grants words passes worker (stores 2 value) note after → IsCountStore grants passes worker value
 
 -- a run is legal, and leaves its last state
 abbrev pub RunsAreLegal : Type 0

@@ -16,20 +16,21 @@ ghost use Rattle.area_rows.specs.AreaPlans.{IsChosen, IsAreaPlan, planned_change
 use crate::guard::Change;
 use crate::row::Row;
 use crate::space::{Caller, Space};
-use page_types::{Kind, Prot, Span};
+use page_types::{Kind, Prot, Reply, Span};
 use row_plans::read_row;
 
-/// What a change of protection over the area that its caller holds comes to.
+/// What a change of protection over the area that its caller holds comes to. Each that is numbered over the area has
+/// the call's reply.
 #[derive(Clone, Copy, Debug, PartialEq, Eq)]
 pub enum AreaPlan {
     /// It would leave another number of rows, so it has to hold all pages.
     NotSimple,
     /// It changes nothing.
-    Same,
+    Same(Reply),
     /// The whole area gets another kind: `set_kind` writes it.
-    SetKind(Change),
+    SetKind(Change, Reply),
     /// A boundary of the area moves: `move_start` writes it.
-    MoveStart(Change),
+    MoveStart(Change, Reply),
 }
 
 /// The row that a plan changes.
@@ -37,8 +38,8 @@ fn change_in(plan: AreaPlan) -> Option<Change>
     ensures { result ≡ planned_change plan }
 {
     match plan {
-        AreaPlan::SetKind(change) | AreaPlan::MoveStart(change) => Some(change),
-        AreaPlan::NotSimple | AreaPlan::Same => None,
+        AreaPlan::SetKind(change, _) | AreaPlan::MoveStart(change, _) => Some(change),
+        AreaPlan::NotSimple | AreaPlan::Same(_) => None,
     }
 }
 
@@ -54,28 +55,30 @@ fn choose(row: &Row, change: Change, before: Option<Kind>, behind: Option<Kind>)
 {
     let new = change.new;
     if new == change.old {
-        return AreaPlan::Same;
+        return AreaPlan::Same(Reply::Zero);
     }
     let place = change.place;
     if place.lo == row.lo && place.hi == row.hi {
         if before == Some(new) || behind == Some(new) {
             return AreaPlan::NotSimple;
         }
-        return AreaPlan::SetKind(change);
+        return AreaPlan::SetKind(change, Reply::Zero);
     }
     if place.lo == row.lo && before == Some(new) {
-        return AreaPlan::MoveStart(Change {
+        let moved = Change {
             start: place.hi,
             kind: change.old,
             ..change
-        });
+        };
+        return AreaPlan::MoveStart(moved, Reply::Zero);
     }
     if place.hi == row.hi && behind == Some(new) {
-        return AreaPlan::MoveStart(Change {
+        let moved = Change {
             index: row.index + 1,
             start: place.lo,
             ..change
-        });
+        };
+        return AreaPlan::MoveStart(moved, Reply::Zero);
     }
     AreaPlan::NotSimple
 }
@@ -116,10 +119,11 @@ impl Space {
         kind
     }
 
-    /// Plans a Protect of pages that lie in one area: whether it leaves the number of rows as it is, and which row it
-    /// changes, which goes into the caller's own room. The caller is of this space, has read the area's row under the
-    /// range that it holds, which is the area and a page on each side as a writer, and has written what it has
-    /// numbered. The plan is right until the caller draws a number or gives the range back. It takes no memory.
+    /// Plans a Protect of pages that lie in one area: whether it leaves the number of rows as it is, its reply where it
+    /// does, and which row it changes, which goes into the caller's own room. The caller is of this space, has read the
+    /// area's row under the range that it holds, which is the area and a page on each side as a writer, and has written
+    /// what it has numbered. The plan is right until the caller draws a number or gives the range back. It takes no
+    /// memory.
     pub fn plan_area(
         &self,
         caller: &mut Caller,

@@ -55,6 +55,14 @@ pub struct Note {
     pub pending: Pending,
 }
 
+/// A look of a caller at the history, by a load of the number word.
+pub struct Look {
+    /// How many entries there were.
+    pub found: u64,
+    /// What the caller held.
+    pub held: Option<Held>,
+}
+
 /// What a caller knows. No value of it is made.
 pub struct Pass {
     /// The areas of the opening.
@@ -73,6 +81,8 @@ pub struct Pass {
     pub pending: Pending,
     /// What the caller held at the step that drew its last number.
     pub drew: Option<Held>,
+    /// The caller's looks at the history, the last one first.
+    pub looks: LinkedList<Look>,
 }
 
 /// The guard of the address space.

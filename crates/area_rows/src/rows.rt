@@ -2,7 +2,7 @@
 //! reader may rely on what they show of the history's state while the range is held. Others may move rows meanwhile,
 //! but none over a held page: so each row stays on the side of the page on which it was read (`specs/Halving.antt`).
 ghost use Rattle.std.specs.Prelude.{◌≡◌, ◌<◌, ◌≤◌, ◌+◌, ◌^◌, Some};
-ghost use Rattle.page_types.specs.declared.TheConstants.{LIMIT, ROWS};
+ghost use Rattle.page_types.specs.declared.TheConstants.{LIMIT, ROWS, SEARCH};
 ghost use Rattle.page_types.specs.Named.{IsNamedOption};
 ghost use Rattle.area_rows.specs.History.{IsAtRest};
 ghost use Rattle.area_rows.specs.Halving.{IsAmong};
@@ -52,7 +52,7 @@ impl Space {
         ensures reading { IsReading caller.old.seat caller.new.seat }
         ensures left { caller.new.left ≡ caller.old.left }
         ensures rows { HasSameRows caller.old caller.new }
-        ensures bound { caller.new.seat.trace.taken ≤ caller.old.seat.trace.taken + 12 }
+        ensures bound { caller.new.seat.trace.taken ≤ caller.old.seat.trace.taken + SEARCH }
         ensures counted { steps.new + caller.old.seat.trace.taken ≡ steps.old + caller.new.seat.trace.taken }
     {
         let mut base = 0;
@@ -119,8 +119,8 @@ impl Space {
     }
 
     /// The row of a page that the caller holds; the caller is of this space and has written what it has numbered. It is
-    /// looked for by halving, in at most 15 steps: one reads how many rows there are, at most 12 each read a row, and
-    /// two read the row that was found and the one behind it.
+    /// looked for by halving, in at most `SEARCH + 3` steps: one reads how many rows there are, at most `SEARCH` each
+    /// read a row, and two read the row that was found and the one behind it.
     /// `lo` and `hi` are as they were read. Where the caller holds a page past each of them, or up to 0 and `LIMIT`,
     /// as a writer, they are the row's own.
     pub fn row_of<L: Ledger>(&self, caller: &mut Caller, page: u64, steps: &mut Steps<L>) -> Row
@@ -136,7 +136,7 @@ impl Space {
         ensures reading { IsReading caller.old.seat caller.new.seat }
         ensures left { caller.new.left ≡ caller.old.left }
         ensures rows { HasSameRows caller.old caller.new }
-        ensures bound { caller.new.seat.trace.taken ≤ caller.old.seat.trace.taken + 15 }
+        ensures bound { caller.new.seat.trace.taken ≤ caller.old.seat.trace.taken + (SEARCH + 3) }
         ensures counted { steps.new + caller.old.seat.trace.taken ≡ steps.old + caller.new.seat.trace.taken }
     {
         caller.holds_pages();

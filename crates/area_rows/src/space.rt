@@ -61,7 +61,8 @@ pub struct Caller {
     pub(crate) left: u32,
     /// The row words that the last plan read, with room for `ROWS` of them.
     pub(crate) read: Vec<u64>,
-    /// The row words that the last plan put together, or none where those that it read stay; with room for `ROWS + 2`.
+    /// The row words that the last plan put together, or none where those that it read stay; with room for
+    /// `ROWS + SPARE`.
     pub(crate) plan: Vec<u64>,
     /// The row that the last plan over an area changes, or None where it changes nothing.
     pub(crate) change: Option<Change>,
@@ -69,7 +70,7 @@ pub struct Caller {
 
 impl Model for Caller {
     ghost use Rattle.std.specs.Prelude.{◌≡◌, ◌+◌, ◌≤◌, ◌<◌, ◌^◌, None, vec_len, vec_capacity};
-    ghost use Rattle.page_types.specs.declared.TheConstants.{ROWS};
+    ghost use Rattle.page_types.specs.declared.TheConstants.{ROWS, SPARE};
     ghost use Rattle.row_plans.specs.Plans.{planned_rows};
     ghost use Rattle.area_rows.specs.History.{IsAtRest};
     ghost use Rattle.area_rows.specs.Callers.{CallerView, IsHeldPages};
@@ -80,7 +81,7 @@ impl Model for Caller {
 
     ghost invariant = { λ c. (c.seat.number ≡ c.worker) × (c.mine.items ≡ c.seat.pass.mine)
         × (vec_len c.mine + c.left ≤ vec_capacity c.mine) × (vec_len c.mine + c.left < 2 ^ 32)
-        × (ROWS ≤ vec_capacity c.read) × (ROWS + 2 ≤ vec_capacity c.plan) × (vec_len c.plan ≤ ROWS)
+        × (ROWS ≤ vec_capacity c.read) × (ROWS + SPARE ≤ vec_capacity c.plan) × (vec_len c.plan ≤ ROWS)
         × IsHeldPages c.seat.held × (c.seat.held ≡ None → IsAtRest c.seat.pass) };
 }
 

@@ -4,13 +4,15 @@
 //! (`specs/Called.antt`), the one clause of all calls that give an entry.
 ghost use Rattle.std.specs.Prelude.{◌≡◌, ◌<◌, ◌+◌, ◌++◌, [], ◌∷◌, Some, None, length};
 ghost use Rattle.page_types.specs.declared.TheConstants.{ROWS};
+ghost use Rattle.page_types.specs.declared.calls.Reply.TheVariants.{Refused};
+ghost use Rattle.page_types.specs.declared.calls.Why.{Why};
 ghost use Rattle.page_types.specs.Named.{IsNamedCall};
 ghost use Rattle.page_types.specs.PlainReply.{plain_reply};
 ghost use Rattle.space_model.specs.declared.entries.Under.TheVariants.{Whole};
 ghost use Rattle.row_plans.specs.RowLists.{areas_from};
 ghost use Rattle.row_plans.specs.Plans.{IsRowList, IsPlan};
 ghost use Rattle.area_rows.specs.Reads.{everything, HasRows};
-ghost use Rattle.row_plans.specs.Plans.{IsFault};
+ghost use Rattle.page_types.specs.Classes.{IsFault};
 ghost use Rattle.area_rows.specs.History.{IsAtRest};
 ghost use Rattle.area_rows.specs.Callers.{HasPlanned, IsReading};
 ghost use Rattle.area_rows.specs.Called.{IsCalled};
@@ -46,7 +48,6 @@ impl Caller {
     /// Plans a call on the rows that were read.
     fn plan_call(&mut self, call: &Call) -> Planned
         requires list { IsRowList self.old.read }
-        requires call { ¬ IsFault call.now }
         requires named { IsNamedCall call.now }
         ensures seat { self.new.seat ≡ self.old.seat }
         ensures left { self.new.left ≡ self.old.left }
@@ -81,7 +82,8 @@ impl Space {
 
     /// Plans a call that is no fault, by the rows as they stand: its reply, and the rows that it leaves, which go into
     /// the caller's own room. The caller is of this space, holds everything as a writer, and has written what it has
-    /// numbered. The plan is right until the caller draws a number or gives the range back. It takes no memory.
+    /// numbered. The plan is right until the caller draws a number or gives the range back. That of a refused call is
+    /// the rows as they were read. It takes no memory.
     pub fn plan(&self, caller: &mut Caller, call: &Call) -> Planned
         requires table { caller.old.seat.table ≡ self.now.table }
         requires held { caller.old.seat.held ≡ Some everything }
@@ -89,6 +91,7 @@ impl Space {
         requires call { ¬ IsFault call.now }
         requires named { IsNamedCall call.now }
         ensures planned { HasPlanned call.now result.reply result.rows caller.new }
+        ensures refused { (why : Why) → result.reply ≡ Refused why → caller.new.plan ≡ caller.new.read }
         ensures reading { IsReading caller.old.seat caller.new.seat }
         ensures left { caller.new.left ≡ caller.old.left }
     {
@@ -126,6 +129,7 @@ impl Space {
         requires undecided { plain_reply call ≡ None }
         ensures called { IsCalled caller.old line call result caller.new }
         ensures under { result.under ≡ Whole }
+        ensures looks { caller.new.seat.pass.looks ≡ caller.old.seat.pass.looks }
     {
         caller.holds_pages();
         let all = Span { lo: 0, hi: LIMIT };

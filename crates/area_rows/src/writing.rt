@@ -8,7 +8,7 @@ ghost use Rattle.row_plans.specs.Plans.{planned_rows};
 ghost use Rattle.area_rows.specs.Reads.{HasRows};
 ghost use Rattle.area_rows.specs.History.{IsAtRest, after_count, after_store, after_raise};
 ghost use Rattle.area_rows.specs.Callers.{HasSameRows, HasToWrite, IsClientStep, IsWritten};
-ghost use Rattle.area_rows.specs.Writing.{IsMixed, IsWriting};
+ghost use Rattle.area_rows.specs.Writing.{IsMixed, IsWriting, new_row, new_count, stores_of};
 
 use crate::guard::{By, RowGuard};
 use crate::space::{Caller, Space};
@@ -58,6 +58,7 @@ impl Space {
         ensures mixed { IsMixed seat.new.pass.rows read.now plan.now (index + 1) }
         ensures count { seat.new.pass.count ≡ seat.old.pass.count }
         ensures writing { IsWriting seat.old seat.new }
+        ensures taken { seat.new.trace.taken ≡ seat.old.trace.taken + new_row read.now plan.now index }
     {
         let i = index as usize;
         if i >= read.len() || read[i] != plan[i] {
@@ -73,6 +74,7 @@ impl Space {
         requires mixed { IsMixed seat.old.pass.rows read.now plan.now (length plan.now) }
         ensures rows { HasRows seat.new.pass plan.now }
         ensures writing { IsWriting seat.old seat.new }
+        ensures taken { seat.new.trace.taken ≡ seat.old.trace.taken + new_count read.now plan.now }
     {
         if read.len() != plan.len() {
             self.store_count(seat, plan);
@@ -87,6 +89,7 @@ impl Space {
         requires read { HasRows seat.old.pass read.now }
         ensures rows { HasRows seat.new.pass plan.now }
         ensures writing { IsWriting seat.old seat.new }
+        ensures taken { seat.new.trace.taken ≡ seat.old.trace.taken + stores_of read.now plan.now }
     {
         let mut index = 0;
         'rows: while index < plan.len() {
@@ -104,6 +107,7 @@ impl Space {
         requires read { HasRows seat.old.pass read.now }
         ensures rows { HasRows seat.new.pass (planned_rows read.now plan.now) }
         ensures writing { IsWriting seat.old seat.new }
+        ensures taken { seat.new.trace.taken ≡ seat.old.trace.taken + stores_of read.now (planned_rows read.now plan.now) }
     {
         if !plan.is_empty() {
             self.write_rows(seat, read, plan);
@@ -112,11 +116,13 @@ impl Space {
 
     /// Writes what the caller's last call under everything left: the rows of its plan where they differ from those that
     /// it read, and their count; then it raises the sequence word. The caller is of this space, and has numbered that
-    /// call and not written it yet. A refused call leaves the rows as they are.
+    /// call and not written it yet. It makes one step for each word that differs, of a row or the count, and one more;
+    /// so it makes one step after a refused call, whose plan is the rows as they were read.
     pub fn write_plan(&self, caller: &mut Caller)
         requires table { caller.old.seat.table ≡ self.now.table }
         requires planned { HasToWrite caller.old }
         ensures written { IsWritten caller.old.seat caller.new.seat }
+        ensures steps { caller.new.seat.trace.taken ≡ caller.old.seat.trace.taken + (stores_of caller.old.read caller.old.plan + 1) }
         ensures left { caller.new.left ≡ caller.old.left }
         ensures rows { HasSameRows caller.old caller.new }
     {

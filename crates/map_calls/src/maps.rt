@@ -5,7 +5,7 @@
 ghost use Rattle.std.specs.Prelude.{◌≡◌, None};
 ghost use Rattle.page_types.specs.declared.calls.Call.TheVariants.{Map, Unmap};
 ghost use Rattle.page_types.specs.Named.{IsNamedCall};
-ghost use Rattle.row_plans.specs.Plans.{IsFault};
+ghost use Rattle.page_types.specs.Classes.{IsFault};
 ghost use Rattle.area_rows.specs.Called.{IsAnswered};
 
 use area_rows::{Answer, Caller, Space};

@@ -6,7 +6,7 @@ use Rattle.page_types.specs.declared.pages.Span.{Span}
 use Rattle.page_types.specs.declared.sets.Access.{Access}
 use Rattle.page_types.specs.declared.calls.Kind.{Kind}
 use Rattle.page_types.specs.declared.calls.Call.{Call}
-use Rattle.page_types.specs.declared.calls.Call.TheVariants.{Map, Unmap, Protect, Fault}
+use Rattle.page_types.specs.declared.calls.Call.TheVariants.{Fault}
 use Rattle.page_types.specs.declared.calls.Reply.{Reply}
 use Rattle.page_types.specs.Named.{IsNamedReply}
 use Rattle.page_types.specs.Pages.{page_of}
@@ -17,7 +17,7 @@ use Rattle.space_model.specs.declared.entries.Under.TheVariants.{Nothing, Reader
 use Rattle.space_model.specs.Areas.{kind_at}
 use Rattle.space_model.specs.Held.{FitsByState}
 use Rattle.space_model.specs.Answers.{AnswersFault}
-use Rattle.space_model.proofs.Stepping.{fault-answers}
+use Rattle.space_model.proofs.Judgements.{fault_answers}
 use Rattle.lock_core.specs.declared.range.Held.{Held}
 use Rattle.range_rw.specs.Contract.{IsRelease, IsReadyLeft, Pools, Record}
 use Rattle.area_rows.specs.declared.guard.Pass.{Pass}
@@ -37,7 +37,7 @@ held_right : (state : List Area) (addr : ℕ) (access : Access) (kind : Option K
     → IsRight state (Fault addr access) reply (Reader span) state
 held_right state addr access kind reply span undecided lo hi is answers = record {
   fits = match_none (plain_reply (Fault addr access)) (FitsByState state (Fault addr access) (Reader span)) (λ _. Reader span ≡ Nothing) undecided (lo, hi);
-  answers = fault-answers state (Fault addr access) addr access reply refl undecided (subst (λ k. AnswersFault k (page_of addr) access reply) (sym is) answers);
+  answers = fault_answers state addr access reply undecided (subst (λ k. AnswersFault k (page_of addr) access reply) (sym is) answers);
 }
 
 -- under the held page, whose row shows its kind, the reply of this access may be numbered
@@ -55,14 +55,12 @@ pub shows_fault : (c : CallerView) (held : Option Held) (row : Row) (call : Call
     → Shows c.seat (RowIs held span.lo row) → IsHeldPage held span.lo → row.lo ≤ span.lo → span.lo < row.hi
     → plain_reply call ≡ None → IsAccess call access span → AnswersFault row.kind span.lo access reply
     → MayNumber c call reply (Reader span)
-shows_fault c held row (Map addr len prot flags) access reply span shows here from until undecided is answers = absurd is
-shows_fault c held row (Unmap addr len) access reply span shows here from until undecided is answers = absurd is
-shows_fault c held row (Protect addr len prot) access reply span shows here from until undecided is answers = absurd is
 shows_fault c held row (Fault addr wanted) access reply span shows here from until undecided is answers =
     let at = subst (λ (z : ℕ × Access). Shows c.seat (RowIs held z.0 row) × IsHeldPage held z.0 × (row.lo ≤ z.0) × (z.0 < row.hi)
     × AnswersFault row.kind z.0 z.1 reply)
     (λ i. (is.1 i, is.0 i)) (shows, here, from, until, answers) in
     shows_access c held row addr wanted reply span at.0 at.1 at.2 at.3 undecided is.1 is.2 at.4
+shows_fault c held row call access reply span shows here from until undecided is answers = absurd is
 
 -- reading, numbering and giving back are one call that held nothing before
 pub called_held : (b r n d : CallerView) (e : Entry) (line : ℕ) (call : Call) (span : Span) → IsReading b.seat r.seat

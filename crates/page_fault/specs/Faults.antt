@@ -3,7 +3,7 @@
 -- the entry names: the page as a reader, or nothing where the arguments decide. The caller's pass keeps that range.
 use Rattle.std.specs.Prelude.{ℕ, ◌≡◌, ◌↔◌, ◌<◌, ◌+◌, None}
 use Rattle.page_types.specs.declared.sets.Access.{Access}
-use Rattle.page_types.specs.declared.calls.Call.TheVariants.{Map, Unmap, Protect, Fault}
+use Rattle.page_types.specs.declared.calls.Call.TheVariants.{Fault}
 use Rattle.page_types.specs.declared.calls.Call.{Call}
 use Rattle.page_types.specs.declared.pages.Span.{Span}
 use Rattle.page_types.specs.Pages.{page_of}
@@ -25,10 +25,8 @@ page_held addr = record { range = record { lo = page_of addr; hi = page_of addr 
 
 -- the call is this access to the one page of this span
 abbrev pub IsAccess : Call → Access → Span → Type 0
-IsAccess (Map addr len prot flags) access span = ⊥
-IsAccess (Unmap addr len) access span = ⊥
-IsAccess (Protect addr len prot) access span = ⊥
 IsAccess (Fault addr wanted) access span = (access ≡ wanted) × (span.lo ≡ page_of addr) × (span.hi ≡ page_of addr + 1)
+IsAccess call access span = ⊥
 
 -- the fault got one entry, as each call that gives one: with this line and these arguments, and with the next number,
 -- which was drawn while the caller held what the entry names; the caller holds what it held before

@@ -7,7 +7,8 @@ ghost use Rattle.page_types.specs.Named.{IsNamedCall};
 ghost use Rattle.page_types.specs.PlainReply.{plain_reply};
 ghost use Rattle.lock_core.specs.declared.range.Mode.TheVariants.{Reader};
 ghost use Rattle.range_rw.specs.Contract.{IsReadyLeft};
-ghost use Rattle.row_plans.specs.Plans.{IsFault};
+ghost use Rattle.page_types.specs.Classes.{IsFault};
+ghost use Rattle.page_types.specs.declared.TheConstants.{SEARCH};
 ghost use Rattle.area_rows.specs.History.{IsAtRest};
 ghost use Rattle.area_rows.specs.Callers.{held_span};
 ghost use Rattle.area_rows.specs.Called.{IsCalled, IsAnswered};
@@ -70,7 +71,7 @@ fn number_plain<L: Ledger>(
 }
 
 /// A fault whose page the caller holds: it reads the page's row, draws its number, and gives the page back, in at most
-/// 18 steps.
+/// `SEARCH + 6` steps.
 fn number_held<L: Ledger>(
     space: &Space,
     caller: &mut Caller,
@@ -88,7 +89,7 @@ fn number_held<L: Ledger>(
     requires rest { IsAtRest caller.old.seat.pass }
     ensures called { IsCalled (record caller.old { seat = record caller.old.seat { held = None } }) line call result caller.new }
     ensures ready { caller.new.seat.pools.ready ≡ caller.old.seat.pools.ready }
-    ensures bound { caller.new.seat.trace.taken ≤ caller.old.seat.trace.taken + 18 }
+    ensures bound { caller.new.seat.trace.taken ≤ caller.old.seat.trace.taken + (SEARCH + 6) }
     ensures counted { steps.new + caller.old.seat.trace.taken ≡ steps.old + caller.new.seat.trace.taken }
 {
     let page = span.lo;
@@ -166,8 +167,8 @@ pub fn fault<R: Wait>(
 /// The same with one try to hold the page, so that it waits for nobody.
 /// `NotHeld` comes only for a fault below `LIMIT`, and then exactly as for a try of the one page as a reader, by the
 /// same causes; the caller has seen and numbered what it had. Its ready nodes, if it had any, are afterwards as they
-/// were or without the first one. It takes at most 18 steps more than the lock's try: at most 15 find the row, one
-/// draws the number, and one or two give the page back.
+/// were or without the first one. It takes at most `SEARCH + 6` steps more than the lock's try: at most `SEARCH + 3`
+/// find the row, one draws the number, and one or two give the page back.
 pub fn try_fault<L: Ledger>(
     space: &Space,
     caller: &mut Caller,
@@ -180,7 +181,7 @@ pub fn try_fault<L: Ledger>(
     requires free { caller.old.seat.held ≡ None }
     ensures answer { IsTried space.now.seats caller.old line addr access result caller.new }
     ensures ready { IsReadyLeft caller.old.seat.pools.ready caller.new.seat.pools.ready }
-    ensures bound { caller.new.seat.trace.taken ≤ caller.old.seat.trace.taken + (64 + 386 * space.now.seats) + 18 }
+    ensures bound { caller.new.seat.trace.taken ≤ caller.old.seat.trace.taken + (64 + 386 * space.now.seats) + (SEARCH + 6) }
     ensures counted { steps.new + caller.old.seat.trace.taken ≡ steps.old + caller.new.seat.trace.taken }
 {
     if caller.left() == 0 {

@@ -11,8 +11,6 @@ mod plays;
 mod records;
 mod rule;
 mod table;
-#[cfg(test)]
-mod tests;
 mod threads;
 mod touching;
 

@@ -4,7 +4,7 @@
 ghost use Rattle.std.specs.Prelude.{◌<◌};
 
 use page_types::{Access, Call, Kind, PAGE, Prot, Reply, Short, Span, Why, plain};
-use space_model::{Area, access_reply, done_reply, mapped_kind};
+use space_model::{Area, access_reply, mapped_kind};
 use std::alloc::{AllocFailed, Global};
 use std::collections::BTreeMap;
 
@@ -54,14 +54,14 @@ pub fn answered(areas: &mut AreaMap, call: &Call) -> Result<Reply, NoRoom> {
                         kind: mapped_kind(prot, flags),
                     },
                 )?;
-                Ok(done_reply(call, span.lo))
+                Ok(Reply::At(span.lo * PAGE))
             }
             Err(field) => Ok(Reply::Refused(Why::Einval(field))),
         },
         Call::Unmap { addr, len } => match Span::of(addr, len) {
             Ok(span) => {
                 cut(areas, span.lo, span.hi)?;
-                Ok(done_reply(call, span.lo))
+                Ok(Reply::Zero)
             }
             Err(field) => Ok(Reply::Refused(Why::Einval(field))),
         },

@@ -2,7 +2,7 @@
 //! again, and numbers none.
 ghost use Rattle.std.specs.Prelude.{◌≡◌, ◌<◌, ◌^◌, Some};
 ghost use Rattle.page_types.specs.Named.{IsNamedCall};
-ghost use Rattle.row_plans.specs.Plans.{IsFault};
+ghost use Rattle.page_types.specs.Classes.{IsFault};
 ghost use Rattle.area_rows.specs.History.{IsAtRest};
 ghost use Rattle.area_rows.specs.Reads.{everything};
 ghost use Rattle.space_cost.specs.Ready.{IsReady};

@@ -5,6 +5,7 @@ use Rattle.page_types.specs.declared.calls.Call.{Call}
 use Rattle.page_types.specs.declared.calls.Call.TheVariants.{Map, Unmap, Protect, Fault}
 use Rattle.page_types.specs.declared.calls.Reply.{Reply}
 use Rattle.page_types.specs.declared.sets.Prot.{Prot}
+use Rattle.page_types.specs.Classes.{IsProtect}
 use Rattle.page_types.specs.Pages.{page_of}
 use Rattle.page_types.specs.PlainReply.{plain_reply}
 use Rattle.space_model.specs.declared.areas.Area.{Area}
@@ -23,13 +24,6 @@ use Rattle.area_protect.proofs.Lone.{lone_holds_area}
 use Rattle.trace_threads.specs.declared.worker.Line.{Line}
 use Rattle.trace_threads.specs.Workers.{IsPlayedAs, IsLineAnswer}
 
--- the call changes no protection
-abbrev pub IsOther : Call → Type 0
-IsOther (Map addr len prot flags) = Unit {0}
-IsOther (Unmap addr len) = Unit {0}
-IsOther (Protect addr len prot) = ⊥
-IsOther (Fault addr access) = Unit {0}
-
 -- who holds an area makes a call that its arguments don't decide
 undecided : (o : Option Reply) (P : Type 0) (under : Under) → MatchOption o P (λ (_ : Reply). under ≡ Nothing) → HoldsSomeArea under → (o ≡ None) × P
 undecided None P under fits holds = (refl, fits)
@@ -42,7 +36,7 @@ reads_no_area page (Held span) reads holds = reads
 reads_no_area page Whole reads holds = holds
 
 -- a call that changes no protection holds no area, and none is simple for it
-area_of_other : (A : List Area) (call : Call) (under : Under) → IsOther call → FitsUnder A call under
+area_of_other : (A : List Area) (call : Call) (under : Under) → (IsProtect call → ⊥) → FitsUnder A call under
     → HoldsSomeArea under ↔ ((plain_reply call ≡ None) × IsSimple A call)
 area_of_other A (Map addr len prot flags) under other fits = (
   λ holds. absurd (subst HoldsSomeArea (undecided (plain_reply (Map addr len prot flags)) (under ≡ Whole) under fits holds).1
@@ -53,7 +47,7 @@ area_of_other A (Unmap addr len) under other fits = (
   λ holds. absurd (subst HoldsSomeArea (undecided (plain_reply (Unmap addr len)) (under ≡ Whole) under fits holds).1 holds),
   λ h. absurd h.1.1,
 )
-area_of_other A (Protect addr len prot) under other fits = absurd other
+area_of_other A (Protect addr len prot) under other fits = absurd (other tt)
 area_of_other A (Fault addr access) under other fits = (
   λ holds. absurd (reads_no_area (page_of addr) under
       (undecided (plain_reply (Fault addr access)) (ReadsPage (page_of addr) under) under fits holds).1 holds),
@@ -61,14 +55,18 @@ area_of_other A (Fault addr access) under other fits = (
 )
 
 -- the answer of such a call
-pub other_answer : (before : CallerView) (l : Line) (answer : Answer) (after : CallerView) → IsOther l.call
+pub other_answer : (before : CallerView) (l : Line) (answer : Answer) (after : CallerView) → (IsProtect l.call → ⊥)
     → IsAnswered before l.line l.call answer after → IsLineAnswer before l answer after
 other_answer before l (Given e) after other is =
     let num = is.1.numbered in (
       is.0,
       record {
         called = is.1;
-        alone = λ _. record { fits = num.right.fits; area = area_of_other num.state e.call e.under (subst IsOther (sym is.1.call_is) other) num.right.fits };
+        alone = λ _. record {
+          fits = num.right.fits;
+          area = area_of_other num.state e.call e.under (subst (λ (c : Call). IsProtect c → ⊥) (sym is.1.call_is) other)
+              num.right.fits;
+        };
       },
     )
 other_answer before l Spent after other is = is
@@ -102,10 +100,8 @@ protect_entry before line addr len prot e path after p =
 protect_call : (before : CallerView) (line : ℕ) (call : Call) (e : Entry) (path : Path) (after : CallerView)
     → IsAnswerTo before line call (Way e path) after
     → (0 < before.left) × IsPlayedAs before (record { line = line; call = call }) e after
-protect_call before line (Map addr len prot flags) e path after answer = absurd answer
-protect_call before line (Unmap addr len) e path after answer = absurd answer
 protect_call before line (Protect addr len prot) e path after answer = (answer.0, protect_entry before line addr len prot e path after answer.1)
-protect_call before line (Fault addr access) e path after answer = absurd answer
+protect_call before line call e path after answer = absurd answer
 
 -- the answer of a line that changes protection, where it has an entry
 pub protect_answer : (before : CallerView) (l : Line) (e : Entry) (path : Path) (after : CallerView)
@@ -114,10 +110,8 @@ protect_answer before l e path after answer = protect_call before l.line l.call 
 
 spent_call : (before : CallerView) (line : ℕ) (call : Call) (after : CallerView) → IsAnswerTo before line call NoneLeft after
     → (before.left ≡ 0) × (after ≡ before)
-spent_call before line (Map addr len prot flags) after answer = absurd answer
-spent_call before line (Unmap addr len) after answer = absurd answer
 spent_call before line (Protect addr len prot) after answer = answer
-spent_call before line (Fault addr access) after answer = absurd answer
+spent_call before line call after answer = absurd answer
 
 -- the answer of such a line where the caller has no number left
 pub protect_spent : (before : CallerView) (l : Line) (after : CallerView) → IsAnswerTo before l.line l.call NoneLeft after

@@ -4,7 +4,7 @@ use Rattle.std.proofs.lemmas.Bool.Decides.{leb_tells}
 use Rattle.std.specs.Prelude.{All, Some, None}
 use Rattle.page_types.specs.declared.TheConstants.{LIMIT}
 use Rattle.page_types.specs.declared.calls.Call.{Call}
-use Rattle.page_types.specs.declared.calls.Call.TheVariants.{Map, Unmap, Protect, Fault}
+use Rattle.page_types.specs.declared.calls.Call.TheVariants.{Fault}
 use Rattle.page_types.specs.declared.calls.Reply.{Reply}
 use Rattle.page_types.specs.declared.calls.Reply.TheVariants.{At, Zero, Granted, Refused}
 use Rattle.page_types.specs.declared.calls.Kind.{Kind}
@@ -14,7 +14,8 @@ use Rattle.page_types.specs.Pages.{page_of}
 use Rattle.page_types.specs.PlainReply.{plain_reply, fault_reply}
 use Rattle.space_model.specs.declared.areas.Area.{Area}
 use Rattle.space_model.specs.declared.entries.Entry.{Entry}
-use Rattle.space_model.specs.Answers.{Answers, by_arguments, refused, granted, done, too_many_rows}
+use Rattle.space_model.specs.Answers.{Answers}
+use Rattle.space_model.specs.Answers.Answers.{by_arguments, refused, kept, done, too_many_rows}
 use Rattle.trace_threads.specs.Touching.{granted_page, page_by}
 
 -- a fault at or above the limit is refused by its arguments, so it is never granted
@@ -26,13 +27,13 @@ not_granted A B c r addr access kind is_c is_r high (by_arguments plain same) =
 not_granted A B c r addr access kind is_c is_r high (refused why plain by reply same) =
     let p : fault_reply addr ≡ None = ap plain_reply (sym is_c) ∙ plain in
     let q : Some (Refused (MapErr (page_of addr))) ≡ None = sym high ∙ p in cc
-not_granted A B c r addr access kind is_c is_r high (granted k plain by reply same) =
+not_granted A B c r addr access kind is_c is_r high (kept plain keeps same) =
     let p : fault_reply addr ≡ None = ap plain_reply (sym is_c) ∙ plain in
     let q : Some (Refused (MapErr (page_of addr))) ≡ None = sym high ∙ p in cc
-not_granted A B c r addr access kind is_c is_r high (done lo hi plain by kinds few reply) =
+not_granted A B c r addr access kind is_c is_r high (done patches full plain does kinds few) =
     let p : fault_reply addr ≡ None = ap plain_reply (sym is_c) ∙ plain in
     let q : Some (Refused (MapErr (page_of addr))) ≡ None = sym high ∙ p in cc
-not_granted A B c r addr access kind is_c is_r high (too_many_rows lo hi C plain by kinds many reply same) =
+not_granted A B c r addr access kind is_c is_r high (too_many_rows patches said full C plain does kinds many reply same) =
     let p : fault_reply addr ≡ None = ap plain_reply (sym is_c) ∙ plain in
     let q : Some (Refused (MapErr (page_of addr))) ≡ None = sym high ∙ p in cc
 
@@ -54,13 +55,11 @@ all_one P x p (suc i) d lt = absurd (omega arith)
 
 -- the page of a call with a right reply is below the limit, if it has one
 by_call : (A B : List Area) (c : Call) (r : Reply) → Answers A c r B → All (λ page. page < LIMIT) (page_by c r)
-by_call A B (Map addr len prot flags) r is = all_none (λ page. page < LIMIT)
-by_call A B (Unmap addr len) r is = all_none (λ page. page < LIMIT)
-by_call A B (Protect addr len prot) r is = all_none (λ page. page < LIMIT)
 by_call A B (Fault addr access) (At at) is = all_none (λ page. page < LIMIT)
 by_call A B (Fault addr access) Zero is = all_none (λ page. page < LIMIT)
 by_call A B (Fault addr access) (Granted kind) is = all_one (λ page. page < LIMIT) (page_of addr) (below_limit A B addr access kind is)
 by_call A B (Fault addr access) (Refused why) is = all_none (λ page. page < LIMIT)
+by_call A B c r is = all_none (λ page. page < LIMIT)
 
 -- so is that of an entry with a right reply
 pub entry_below : (A B : List Area) (e : Entry) → Answers A e.call e.reply B → All (λ page. page < LIMIT) (granted_page e)

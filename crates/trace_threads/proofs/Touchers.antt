@@ -15,7 +15,7 @@ use Rattle.lock_core.proofs.ByPlace.{below, there, at_or, same_lists}
 use Rattle.range_rw.proofs.Lists.{from_map}
 use Rattle.atomic_table.proofs.Lists.{at_map}
 use Rattle.page_types.specs.declared.calls.Call.{Call}
-use Rattle.page_types.specs.declared.calls.Call.TheVariants.{Map, Unmap, Protect, Fault}
+use Rattle.page_types.specs.declared.calls.Call.TheVariants.{Fault}
 use Rattle.page_types.specs.declared.calls.Reply.{Reply}
 use Rattle.page_types.specs.declared.calls.Reply.TheVariants.{At, Zero, Granted, Refused}
 use Rattle.page_touch.specs.Touches.{TouchView, IsRising, new_seat, seat_quota, seat_touched}
@@ -37,13 +37,11 @@ use Rattle.trace_threads.proofs.Hirings.{of_table, new_at, played_idle, all_play
 
 -- a call has a page at most where it is a fault
 few_pages : (c : Call) (r : Reply) → length (page_by c r) ≤ fault_in c
-few_pages (Map addr len prot flags) r = omega arith
-few_pages (Unmap addr len) r = omega arith
-few_pages (Protect addr len prot) r = omega arith
 few_pages (Fault addr access) (At at) = omega arith
 few_pages (Fault addr access) Zero = omega arith
 few_pages (Fault addr access) (Granted kind) = omega arith
 few_pages (Fault addr access) (Refused why) = omega arith
+few_pages c r = omega arith
 
 -- the entry of a line has a page at most where the line is a fault
 pub entry_few : (e : Entry) (l : Line) → e.call ≡ l.call → length (granted_page e) ≤ line_faults l
@@ -220,10 +218,8 @@ faults_few (l ∷ ls) =
     omega arith
   where
     by : (c : Call) → fault_in c ≤ 1
-    by (Map addr len prot flags) = omega arith
-    by (Unmap addr len) = omega arith
-    by (Protect addr len prot) = omega arith
     by (Fault addr access) = omega arith
+    by c = omega arith
 
 -- the workers of a new space have the faults of their lists
 pub new_faults : (table : TableId) (start : List Area) (lists : List (List Line)) (workers : List WorkerView)

@@ -6,7 +6,7 @@ use mathlib.Core.Option.{some}
 use lib.ListN.{get_elem?}
 use Rattle.atomic_table.specs.Seated.{TableId}
 use Rattle.page_types.specs.declared.calls.Call.{Call}
-use Rattle.page_types.specs.declared.calls.Call.TheVariants.{Map, Unmap, Protect, Fault}
+use Rattle.page_types.specs.declared.calls.Call.TheVariants.{Fault}
 use Rattle.page_types.specs.declared.calls.Reply.{Reply}
 use Rattle.page_types.specs.declared.calls.Reply.TheVariants.{At, Zero, Granted, Refused}
 use Rattle.page_types.specs.Pages.{page_of}
@@ -24,10 +24,8 @@ page_granted addr (Refused why) = []
 
 -- the page of a call, where it is a fault with that reply and was granted
 abbrev pub page_by : Call → Reply → List ℕ
-page_by (Map addr len prot flags) reply = []
-page_by (Unmap addr len) reply = []
-page_by (Protect addr len prot) reply = []
 page_by (Fault addr access) reply = page_granted addr reply
+page_by call reply = []
 
 -- the page of an entry that is a granted fault, and of another entry none
 abbrev pub granted_page : Entry → List ℕ
@@ -39,10 +37,8 @@ granted_pages entries = flat_map granted_page entries
 
 -- 1 for a fault
 abbrev pub fault_in : Call → ℕ
-fault_in (Map addr len prot flags) = 0
-fault_in (Unmap addr len) = 0
-fault_in (Protect addr len prot) = 0
 fault_in (Fault addr access) = 1
+fault_in call = 0
 
 abbrev pub line_faults : Line → ℕ
 line_faults l = fault_in l.call

@@ -1,7 +1,6 @@
 use Rattle.std.proofs.Common.{◌∙◌, ap, subst, sym, refl}
 use Rattle.page_types.specs.declared.calls.Call.{Call}
 use Rattle.page_types.specs.declared.calls.Call.TheVariants.{Protect}
-use Rattle.page_types.specs.declared.calls.Reply.TheVariants.{Zero}
 use Rattle.page_types.specs.Pages.{page_of, end_page}
 use Rattle.space_model.specs.declared.entries.Under.TheVariants.{Area as OverArea}
 use Rattle.space_model.specs.Held.{IsSimple}
@@ -15,14 +14,14 @@ use Rattle.area_protect.proofs.steps.change_area.Goals as goal
 -- a plan that changes no row says that the reply may be numbered
 pub number-entry-requires-clause-right : goal.number-entry-requires-clause-right
 number-entry-requires-clause-right g c = subst
-    (λ (call : Call). MayNumber c.plan_area-plan.new.caller call Zero (OverArea c.args.wide)) (sym c.call-call.ensures)
+    (λ (call : Call). MayNumber c.plan_area-plan.new.caller call c.in-Same.reply (OverArea c.args.wide)) (sym c.call-call.ensures)
     c.in-Same.ensures.plan.1
 
 -- a plan that sets a row's kind says that the reply may be numbered
 pub number-entry-requires-in-SetKind-clause-right : goal.number-entry-requires-in-SetKind-clause-right
 number-entry-requires-in-SetKind-clause-right g c =
-    subst (λ (call : Call). MayNumber c.plan_area-plan.new.caller call Zero (OverArea c.args.wide)) (sym c.call-call.ensures)
-    c.in-SetKind.ensures.plan.number
+    subst (λ (call : Call). MayNumber c.plan_area-plan.new.caller call c.in-SetKind.reply (OverArea c.args.wide))
+    (sym c.call-call.ensures) c.in-SetKind.ensures.plan.number
 
 -- the store that the plan asks for may be made behind the draw
 pub set_kind-requires-clause-store : goal.set_kind-requires-clause-store
@@ -33,8 +32,8 @@ set_kind-requires-clause-store g c =
 -- a plan that moves a row's start says that the reply may be numbered
 pub number-entry-requires-in-MoveStart-clause-right : goal.number-entry-requires-in-MoveStart-clause-right
 number-entry-requires-in-MoveStart-clause-right g c =
-    subst (λ (call : Call). MayNumber c.plan_area-plan.new.caller call Zero (OverArea c.args.wide)) (sym c.call-call.ensures)
-    c.in-MoveStart.ensures.plan.number
+    subst (λ (call : Call). MayNumber c.plan_area-plan.new.caller call c.in-MoveStart.reply (OverArea c.args.wide))
+    (sym c.call-call.ensures) c.in-MoveStart.ensures.plan.number
 
 -- the store of the start that the plan asks for may be made behind the draw
 pub move_start-requires-clause-store : goal.move_start-requires-clause-store

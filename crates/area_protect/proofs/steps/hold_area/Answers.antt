@@ -45,3 +45,11 @@ returns-in-Some-clause-held g c =
       whole = subst (λ n. CountsWhole r.new.caller.seat n) c.if-sequence-found.false
           (counts_on q.new.caller.seat r.new.caller.seat q.result r.ensures.reading (q.ensures.counts some));
     }
+
+-- holding, reading, looking and giving back are a look
+pub returns-then-sequence-found-clause-looked : goal.returns-then-sequence-found-clause-looked
+returns-then-sequence-found-clause-looked g c =
+    let a = c.acquire in let q = c.sequence-sequence in let l = c.look-second in let d = c.release in
+    (looked_round c.args.caller.now a.new.caller q.new.caller l.new.caller d.new.caller l.result a.ensures.call
+    a.ensures.left a.ensures.rest q.ensures.reading q.ensures.left l.ensures.look l.ensures.left d.ensures.release
+    d.ensures.left).0

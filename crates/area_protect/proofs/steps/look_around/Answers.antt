@@ -6,7 +6,7 @@ use Rattle.area_rows.specs.AreaPlans.{IsOneKind}
 use Rattle.area_rows.specs.Callers.{held_span}
 use Rattle.area_rows.proofs.Reading.{reading_on}
 use Rattle.area_protect.proofs.Looking.{look_shows, look_counts}
-use Rattle.area_protect.proofs.Stages.{other_shown, after_back, whole_back, looked_round, counts_on}
+use Rattle.area_protect.proofs.Stages.{other_shown, after_back, whole_back, looked_round, first_round, counts_on}
 use Rattle.area_protect.proofs.steps.look_around.Goals as goal
 
 -- a row with a kind that reaches behind the pages is an area with all of them
@@ -63,3 +63,49 @@ returns-in_default-2-clause-other g c =
           (look_shows r.new.caller.seat l.new.caller.seat l.result (λ A. ¬ IsOneKind A c.args.pages.lo c.args.pages.hi)
           l.ensures.look other),
     )
+
+-- the first look was made under the pages as a reader
+pub returns-in-Some-clause-first : goal.returns-in-Some-clause-first
+returns-in-Some-clause-first g c =
+    let a = c.acquire in let q = c.sequence-sequence in let r = c.row_of-row in let l = c.look-at in let d = c.release in
+    let read = reading_on a.new.caller.seat q.new.caller.seat r.new.caller.seat q.ensures.reading r.ensures.reading in
+    first_round c.args.caller.now a.new.caller r.new.caller l.new.caller d.new.caller l.result c.args.pages.lo c.args.pages.hi
+    a.ensures.call a.ensures.held read l.ensures.look d.ensures.release
+
+-- so it was where they reach behind the row of the first one
+pub returns-in_default-clause-first : goal.returns-in_default-clause-first
+returns-in_default-clause-first g c =
+    let a = c.acquire in let q = c.sequence-sequence in let r = c.row_of-row in let l = c.look-at in let d = c.release in
+    let read = reading_on a.new.caller.seat q.new.caller.seat r.new.caller.seat q.ensures.reading r.ensures.reading in
+    first_round c.args.caller.now a.new.caller r.new.caller l.new.caller d.new.caller l.result c.args.pages.lo c.args.pages.hi
+    a.ensures.call a.ensures.held read l.ensures.look d.ensures.release
+
+-- and where the first one isn't mapped
+pub returns-in_default-2-clause-first : goal.returns-in_default-2-clause-first
+returns-in_default-2-clause-first g c =
+    let a = c.acquire in let q = c.sequence-sequence in let r = c.row_of-row in let l = c.look-at in let d = c.release in
+    let read = reading_on a.new.caller.seat q.new.caller.seat r.new.caller.seat q.ensures.reading r.ensures.reading in
+    first_round c.args.caller.now a.new.caller r.new.caller l.new.caller d.new.caller l.result c.args.pages.lo c.args.pages.hi
+    a.ensures.call a.ensures.held read l.ensures.look d.ensures.release
+
+-- holding, reading, looking and giving back are a look
+pub returns-in-Some-clause-looked : goal.returns-in-Some-clause-looked
+returns-in-Some-clause-looked g c =
+    let a = c.acquire in let q = c.sequence-sequence in let r = c.row_of-row in let l = c.look-at in let d = c.release in
+    let read = reading_on a.new.caller.seat q.new.caller.seat r.new.caller.seat q.ensures.reading r.ensures.reading in
+    (looked_round c.args.caller.now a.new.caller r.new.caller l.new.caller d.new.caller l.result a.ensures.call a.ensures.left
+    a.ensures.rest read (r.ensures.left ∙ q.ensures.left) l.ensures.look l.ensures.left d.ensures.release d.ensures.left).0
+
+pub returns-in_default-clause-looked : goal.returns-in_default-clause-looked
+returns-in_default-clause-looked g c =
+    let a = c.acquire in let q = c.sequence-sequence in let r = c.row_of-row in let l = c.look-at in let d = c.release in
+    let read = reading_on a.new.caller.seat q.new.caller.seat r.new.caller.seat q.ensures.reading r.ensures.reading in
+    (looked_round c.args.caller.now a.new.caller r.new.caller l.new.caller d.new.caller l.result a.ensures.call a.ensures.left
+    a.ensures.rest read (r.ensures.left ∙ q.ensures.left) l.ensures.look l.ensures.left d.ensures.release d.ensures.left).0
+
+pub returns-in_default-2-clause-looked : goal.returns-in_default-2-clause-looked
+returns-in_default-2-clause-looked g c =
+    let a = c.acquire in let q = c.sequence-sequence in let r = c.row_of-row in let l = c.look-at in let d = c.release in
+    let read = reading_on a.new.caller.seat q.new.caller.seat r.new.caller.seat q.ensures.reading r.ensures.reading in
+    (looked_round c.args.caller.now a.new.caller r.new.caller l.new.caller d.new.caller l.result a.ensures.call a.ensures.left
+    a.ensures.rest read (r.ensures.left ∙ q.ensures.left) l.ensures.look l.ensures.left d.ensures.release d.ensures.left).0

@@ -36,3 +36,10 @@ returns-clause-called g c =
       written = ap (λ (x : Pass). x.pending) d.release.pass ∙ w.written.rest;
       left = ap (λ k. k + 1) (d.left ∙ w.left) ∙ (n.left ∙ (p.left ∙ b.left));
     }
+
+-- it made no look
+pub returns-clause-looks : goal.returns-clause-looks
+returns-clause-looks g c =
+    let looks = λ (x : Pass). x.looks in
+    ap looks c.release_uncounted.ensures.release.pass ∙ (c.write_plan.ensures.written.looks ∙ (c.draw-entry.ensures.drawn.looks
+    ∙ (c.plan-planned.ensures.reading.looks ∙ ap looks c.acquire.ensures.call.pass)))

@@ -1,5 +1,6 @@
 use Rattle.std.proofs.Common.{rules, arith, ◌+◌, ◌-◌, ◌/◌, ap, ◌∙◌, refl, subst, sym}
 use Rattle.std.specs.Prelude.{Option}
+use Rattle.page_types.specs.declared.TheConstants.{SEARCH}
 use Rattle.lock_core.specs.declared.range.Held.{Held}
 use Rattle.area_rows.specs.declared.guard.Pass.{Pass}
 use Rattle.area_rows.specs.Halving.{IsAmong}
@@ -8,7 +9,7 @@ use Rattle.area_rows.proofs.Halving.{all_rows, narrowed, halved}
 use Rattle.area_rows.proofs.Reading.{no_reading, reading_on, row_reads, step_taken}
 use Rattle.area_rows.proofs.space.Space.find_row.Goals as goal
 
--- the row of the page is among all rows, which are at most 2^12
+-- the row of the page is among all rows, which are at most 2^SEARCH
 pub halve-init : goal.halve-init
 halve-init g c = record {
   reading = no_reading c.args.caller.now.seat;
@@ -18,7 +19,7 @@ halve-init g c = record {
   counted = refl;
   count = c.requires.count;
   among = all_rows c.args.caller.now.seat.pass.rows c.args.page c.args.count c.requires.some;
-  room = (12, let few = c.requires.few in omega arith, omega arith);
+  room = (SEARCH, let few = c.requires.few in omega arith, omega arith);
 }
 
 -- one row more is read, and the row of the page is among the half that is left

@@ -1,12 +1,13 @@
 use Rattle.std.proofs.Common.{ℕ, ◌≡◌, ◌+◌, ◌^◌, ◌≤◌}
 use Rattle.std.specs.Prelude.{Some}
+use Rattle.page_types.specs.declared.TheConstants.{SEARCH}
 use Rattle.area_rows.specs.Halving.{IsAmong}
 use Rattle.area_rows.specs.History.{IsAtRest}
 use Rattle.area_rows.specs.Callers.{HasSameRows, IsReading}
 use Rattle.area_rows.proofs.space.Space.find_row.Given as goal
 
 -- the caller has read rows alone, the row of the page is among those that are left, and the steps
--- that were made and those that may come are at most 12
+-- that were made and those that may come are at most SEARCH
 abbrev pub invariant-halve : goal.invariant-halve
 invariant-halve g l = record {
   reading : IsReading l.initial.caller.seat l.caller.seat;
@@ -16,7 +17,7 @@ invariant-halve g l = record {
   counted : l.steps + l.initial.caller.seat.trace.taken ≡ l.initial.steps + l.caller.seat.trace.taken;
   count : l.caller.seat.pass.count ≡ Some l.count;
   among : IsAmong l.caller.seat.pass.rows l.page l.count l.base l.size;
-  room : (k : ℕ) × (l.size ≤ 2 ^ k) × (l.caller.seat.trace.taken + k ≤ l.initial.caller.seat.trace.taken + 12);
+  room : (k : ℕ) × (l.size ≤ 2 ^ k) × (l.caller.seat.trace.taken + k ≤ l.initial.caller.seat.trace.taken + SEARCH);
 }
 
 -- fewer rows are left each time

@@ -1,6 +1,35 @@
-use Rattle.std.proofs.Common.{rules, ℕ, ◌≡◌, ◌<◌, length, subst, arith}
+use Rattle.std.proofs.Common.{rules, ℕ, ◌≡◌, ◌<◌, ◌∙◌, length, subst, arith}
 use Rattle.area_rows.specs.Writing.{IsMixed}
+use Rattle.area_rows.proofs.StoringRows.{none_mixed, no_writing, writing_on}
+use Rattle.area_rows.proofs.StoreCounts.{first_stores, next_stores}
 use Rattle.area_rows.proofs.space.Space.write_rows.Goals as goal
+
+-- before the first row nothing is stored
+pub rows-init : goal.rows-init
+rows-init c =
+    let s = c.args.seat.now in
+    record {
+      mixed = none_mixed s.pass c.args.read.now c.args.plan.now c.requires.read;
+      writing = no_writing s;
+      count = c.requires.read.0;
+      bound = omega arith;
+      taken = first_stores s.trace.taken c.args.read.now c.args.plan.now;
+    }
+
+-- and then one row more each time
+pub rows-preserved : goal.rows-preserved
+rows-preserved c =
+    let i = c.rows.invariant in
+    let w = c.write_row_at.ensures in
+    let lt = c.rows-test.true in
+    record {
+      mixed = w.mixed;
+      writing = writing_on c.args.seat.now c.rows.seat c.write_row_at.new.seat i.writing w.writing;
+      count = w.count ∙ i.count;
+      bound = omega (arith, lt);
+      taken = next_stores c.args.seat.now.trace.taken c.rows.seat.trace.taken c.write_row_at.new.seat.trace.taken c.args.read.now
+          c.args.plan.now c.rows.index i.taken w.taken;
+    }
 
 -- once all rows are written they are the plan's
 pub write_count-requires-clause-mixed : goal.write_count-requires-clause-mixed
