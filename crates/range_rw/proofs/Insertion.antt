@@ -27,6 +27,7 @@ use Rattle.marked_list.specs.Leaves.{IsLaterInWalk, IsCall, IsSameLook, IsNewWal
 use Rattle.marked_list.specs.Causes.{asked_of, nodes_in, IsSpent}
 use Rattle.marked_list.specs.Answers.{Answers, Arrives, Links, IsLong, IsMarkCall, linked_own, aimed_own}
 use Rattle.range_rw.specs.Contract.{RefusesTry}
+use Rattle.range_rw.specs.Patience.{InsideEnds, HoldsOrNone}
 use Rattle.range_rw.specs.Trying.{has_come, IsFilling, IsLaterInTry, IsLaterInEpoch, Refuses, LinkEnds, ValidateEnds, InsertEnds, StaysFilled, LeavesNode, EpochEnds}
 use Rattle.range_rw.proofs.Later.{later_on, still_on, walk_still, inside_still, Keeps, refuses_after, refuses_from, walk_refuses, spent_look, long_after}
 
@@ -126,11 +127,12 @@ module _ {P : Type 0} (p q : SeatPart P) (a : Walked) (may : MayWalk p.core) (on
 -- ---- the validation
 
 -- an own node that has to be validated is not held
-to_do : (mode : Mode) → todo_of mode ≢ Done
+pub to_do : (mode : Mode) → todo_of mode ≢ Done
 to_do Reader e = absurd (let z : ◌≡◌ {A = Todo} Forward Done = e in cc)
 to_do Writer e = absurd (let z : ◌≡◌ {A = Todo} FromHead Done = e in cc)
 
-unheld : (own : Own) → HasToValidate own → held_at own ≡ None
+-- so nothing is held by it
+pub unheld : (own : Own) → HasToValidate own → held_at own ≡ None
 unheld own h = ap held_at h.is ∙ (ap (λ (t : Todo). held_at (Linked h.node.node h.node.range h.node.mode t)) h.todo ∙ by_mode h.node.mode)
   where
     by_mode : (mode : Mode) → held_at (Linked h.node.node h.node.range mode (todo_of mode)) ≡ None
@@ -204,7 +206,8 @@ module _ {P : Type 0} (p q : SeatPart P) (a : Walked) (own : HasToValidate p.cor
 
 -- ---- the two together
 
-asks_linked : (own now : Own) → HasEnds own → now ≡ linked_own todo_of own → asked_of now ≡ asked_of own
+-- a node that was linked asks for what it was filled with
+pub asks_linked : (own now : Own) → HasEnds own → now ≡ linked_own todo_of own → asked_of now ≡ asked_of own
 asks_linked own now e same =
     ap asked_of (same ∙ ap (linked_own todo_of) e.is)
     ∙ ((λ i. Some (record { range = record { lo = unwrap_or (e.low i) 0; hi = unwrap_or (e.high i) 0 }; mode = e.node.mode }))
@@ -224,7 +227,8 @@ validates_linked own now e same = record {
 }
 
 module _ {P : Type 0} (p q : SeatPart P) (a : Walked) (may : MayWalk p.core) (still : IsLaterInEpoch p q) (ends : LinkEnds p q a) where
-  placed : has_come a ≡ true → (q.core.own ≡ linked_own todo_of p.core.own) × (q.core.cursor ≡ None)
+  -- a node that came to its place is linked, and the cursor is gone
+  pub placed : has_come a ≡ true → (q.core.own ≡ linked_own todo_of p.core.own) × (q.core.cursor ≡ None)
   placed came = by_answer a came ends
     where
       by_answer : (b : Walked) → has_come b ≡ true → LinkEnds p q b → (q.core.own ≡ linked_own todo_of p.core.own) × (q.core.cursor ≡ None)
@@ -345,6 +349,11 @@ module _ {P : Type 0} (p e : SeatPart P) (own : HasEnds p.core.own) (entering : 
         → IsInside e.core → MayEnd f.core
     may_end_in a leaves ends i = record { inside = inside_still e f i still; own = may_leave_in a leaves ends }
 
+    -- the same after a patient insertion
+    pub may_end_patient : (b : Bool) → InsideEnds e f b → IsInside e.core → MayEnd f.core
+    may_end_patient true x i = record { inside = inside_still e f i still; own = x.1 }
+    may_end_patient false x i = record { inside = inside_still e f i still; own = leaves_back x }
+
     module _ (q : SeatPart P) (leaving : q ≡ quiet_after f Leave (left f.core)) where
       looked_out : q.trace.looked ≡ f.trace.looked
       looked_out = ap (λ (x : SeatPart P). x.trace.looked) leaving ∙ gone_looked f.trace f.core.cursor (is_judging Leave) (gained_by f.core (left f.core))
@@ -409,6 +418,11 @@ module _ {P : Type 0} (p e : SeatPart P) (own : HasEnds p.core.own) (entering : 
           → MatchOption a (LeavesNode p q × (leaves ≡ true)) (EpochEnds p q)
       insert_ends None leaves x = ((own_out ∙ kept_back (same_back x.0), ready_again x.0), x.1)
       insert_ends (Some b) leaves x = ends_walked b x
+
+      -- after a patient insertion the range is held, or the hand has no own node
+      pub patient_ends : (b : Bool) → InsideEnds e f b → HoldsOrNone p q b
+      patient_ends true x = ap held_at own_out ∙ (kept_held f.core.own ∙ (x.0 ∙ ap asked_of own_in))
+      patient_ends false x = own_out ∙ kept_back x
 
       long_back : (b : Walked) → IsBack → q.core.own ≡ Nothing → (IsLong b ↔ IsSpent f) → (IsLong b ↔ IsSpent q)
       long_back b x none l = long_after f q b (same_looked f q looked_out) seats_out (free_back x) (ap held_at none) l

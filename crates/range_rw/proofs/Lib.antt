@@ -2,6 +2,7 @@ pub mod Giving
 pub mod Insertion
 pub mod Later
 pub mod Lists
+pub mod Looking
 pub mod Scans
 pub mod SeatLists
 pub mod Seating

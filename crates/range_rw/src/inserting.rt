@@ -16,7 +16,7 @@ use std::sync::ledger::Ledger;
 use word_rows::Steps;
 
 /// Whether a walk came to its end.
-fn is_place(walked: &Walked) -> bool
+pub(crate) fn is_place(walked: &Walked) -> bool
     ensures { result ≡ has_come walked.now }
 {
     match walked {
@@ -37,7 +37,7 @@ fn found_empty<G: Guard>(hand: &Hand<G>) -> bool
 
 /// Walks to the place of the hand's filled node and links it there. `Place` says that it is linked. None comes only
 /// where `leaves` asks for it: the walk found the list empty, and the node is still being filled.
-fn walk_and_link<G: Guard, L: Ledger>(
+pub(crate) fn walk_and_link<G: Guard, L: Ledger>(
     list: &List<G>,
     hand: &mut Hand<G>,
     cursor: &mut Cursor,

@@ -9,6 +9,7 @@ mod client;
 mod inserting;
 mod laws;
 mod nodes;
+mod patience;
 mod refusals;
 mod release;
 mod scan;

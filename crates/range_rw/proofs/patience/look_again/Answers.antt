@@ -1,0 +1,7 @@
+use Rattle.range_rw.proofs.Looking.{may_look}
+use Rattle.range_rw.proofs.patience.look_again.Goals as goal
+
+-- the node in conflict may be looked at once more
+pub validate-walked-requires-clause-order : goal.validate-walked-requires-clause-order
+validate-walked-requires-clause-order g c = may_look c.args.hand.now.part c.loop.hand.part c.requires.inside c.requires.own c.requires.reader
+    c.loop.invariant.later c.loop.invariant.own c.loop.invariant.conflict
