@@ -8,10 +8,9 @@ static volatile int marks;
 __attribute__((noinline)) void mark(void) { marks++; }
 
 int main(void) {
-    const uint64_t none = 0;
-    gz_range handle = { 0 };
+    gz_range handle = GZ_RANGE_CLOSED;
     gz_busy busy;
-    if (gz_range_open(1, &none, 0, &handle)) return 1;
+    if (gz_range_open_plain(1, &handle)) return 1;
     for (int turn = 0; turn < 18; turn++) {
         mark();
         if (gz_range_try(&handle, 0, 10, true, 1, &busy)) return 1;

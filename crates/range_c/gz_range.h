@@ -1,33 +1,56 @@
-/* A range lock for up to 16 threads, proved, for programs in C.
+/* A range lock for up to 16 threads, proved, for programs in C and C++.
 
    A range is the whole numbers from lo on and below hi; what they number (bytes, pages, rows) is yours to say. A handle
    holds one range at a time, as a reader or as a writer. Two handles of one table never hold ranges that overlap at
    once where one of them is a writer's. Beside the lock a table has client words: 64-bit atomic numbers of yours.
 
    A table has a fixed number of seats, and each open handle has one. Open the first handle with gz_range_open, get one
-   more for each thread with gz_range_share, and close each with gz_range_close; the last one frees the table.
+   more for each thread with gz_range_share, and close each with gz_range_close; the last one frees the table. The seat
+   of a closed handle isn't given out again: at most as many handles as seats are ever opened over one table.
 
-       gz_range first = GZ_RANGE_CLOSED, second = GZ_RANGE_CLOSED;
-       if (gz_range_open(2, &none, 0, &first) || gz_range_share(&first, &second)) return 1;
-       if (gz_range_acquire(&first, 10, 20, true) == GZ_RANGE_DONE) {
-           ...                                      what 10 to 19 stand for is this thread's alone
+       #include <gz_range.h>
+       #include <stdio.h>
+
+       int main(void) {
+           gz_range first = GZ_RANGE_CLOSED, second = GZ_RANGE_CLOSED;
+           gz_busy busy;
+           if (gz_range_open_plain(2, &first) || gz_range_share(&first, &second)) return 1;
+           if (gz_range_acquire(&first, 10, 20, true)) return 1;
+           if (gz_range_try(&second, 15, 16, false, 64, &busy) == GZ_RANGE_BUSY)
+               printf("seat %u holds %u to %u\n", busy.owner, (unsigned)busy.lo, (unsigned)busy.hi);
            gz_range_release(&first);
+           gz_range_close(&first);
+           gz_range_close(&second);
+           return 0;
        }
-       gz_range_close(&first), gz_range_close(&second);
 
-   What each call answers and leaves is proved, over what this list says that C owes. Nothing checks the list:
+   It prints: seat 1 holds 10 to 20.
+
+   What you may rely on:
+   - What each call answers and leaves is proved, over what the list below says that you owe.
+   - What a thread wrote before it gave a range back is seen by each thread that later holds a range in conflict with
+     it: a release happens before that grant, in the words of C11. So does a step on a client word before a later step
+     on the same word. Two readers are in no order to each other, and neither are ranges that don't overlap. This isn't
+     proved of your memory: it rests on each step of the library being sequentially consistent, and on a compiler
+     moving no access across a call.
+   - No call sleeps or takes a lock, and gz_range_acquire alone waits, by trying again. open and share alone take
+     memory; the others can't fail for want of it. A table takes 2 to 23 KB for 1 to 16 seats,
+     twice as much while it is opened, and 8 bytes for each client word; each further handle takes 400 bytes.
+
+   What you owe. Nothing checks it:
    - A handle begins as GZ_RANGE_CLOSED, and nobody writes or copies it afterwards but these calls.
    - A handle is in one call at a time. The handles of one table may be in calls at once; that is what they are for.
    - A handle goes to another thread by a lock, by a thread's start or join, or by a sequentially consistent atomic.
-   - A pointer is to a live object of its type that nobody else uses meanwhile. None is null, also not words for no
-     words.
-   - No call is made in a signal handler, or in the forked child of a process that has threads.
+   - A pointer is to a live object of its type that nobody else uses meanwhile. None is null; for no client words there
+     is gz_range_open_plain, and for no busy gz_range_try_plain.
+   - No call is made in a signal handler, or in the forked child of a process that has threads. No call is left by
+     longjmp or by an asynchronous cancel; none is a point at which a deferred cancel comes.
    - malloc, realloc and free are of one allocator, which aligns a block to each power of two up to 16 that divides its
-     size. The kit's archive liblibc_c.a is linked behind this library's.
+     size.
    - A thread that ends without closing its handle leaves its range held for ever.
 
-   No call sleeps or takes a lock, and gz_range_acquire alone waits, by trying again. open and share alone take memory;
-   the others can't fail for want of it. */
+   The archive is for Linux on x86-64. Programs that aren't installed link two archives in order, librange_c.a and the
+   kit's liblibc_c.a; `install` beside this header makes one of them, with a file for pkg-config. */
 #ifndef GZ_RANGE_H
 #define GZ_RANGE_H
 
@@ -36,8 +59,27 @@
 #include <stddef.h>
 #include <stdint.h>
 
+#ifndef __x86_64__
+#error "gz_range.h: the range lock's archive is for x86-64"
+#endif
+
+/* The version of this header and its archive: 100 for each step of the first number, 1 for each of the second. */
+#define GZ_RANGE_VERSION 100
+#define GZ_RANGE_VERSION_TEXT "1.0"
+
+#ifdef __GNUC__
+#define GZ_RANGE_NONNULL __attribute__((nonnull))
+#define GZ_RANGE_MUST_CHECK __attribute__((nonnull, warn_unused_result))
+#else
+#define GZ_RANGE_NONNULL
+#define GZ_RANGE_MUST_CHECK
+#endif
+
 #ifdef __cplusplus
+#define GZ_RANGE_ASSERT static_assert
 extern "C" {
+#else
+#define GZ_RANGE_ASSERT _Static_assert
 #endif
 
 /* A handle: open, with a seat of a table behind it, or closed. Its members are the library's. */
@@ -46,25 +88,27 @@ typedef struct gz_range {
     uint64_t opened;
 } gz_range;
 
-/* What a handle begins as. */
-#define GZ_RANGE_CLOSED { 0, 0 }
+/* What a handle begins as. A handle that is all 0 is the same. */
+#define GZ_RANGE_CLOSED { NULL, 0 }
 
 /* The most seats that a table has, the most client words, and the highest end of a range. */
 #define GZ_RANGE_MOST_SEATS 16
 #define GZ_RANGE_MOST_WORDS 1048576
 #define GZ_RANGE_HIGHEST 4611686018427387904
 
-/* A range that another handle held or asked for, which refused a try: the numbers from lo on and below hi, the number
-   of that handle's seat, counted from 0, and whether it was a writer's. The first handle of a table of n seats has seat
-   n - 1, and each call of share on it gives the next one below. */
+/* A range of a handle, the numbers from lo on and below hi, with the number of that handle's seat, counted from 0, and
+   whether it is a writer's. A try that is refused shows the one that was in its way, and gz_range_held a handle's own.
+   The first handle of a table of n seats has seat n - 1, and each call of share on it gives the next one below. */
 typedef struct gz_busy {
     uint64_t lo, hi;
     uint32_t owner;
     bool writer;
 } gz_busy;
 
-/* What a call answers. Each call's comment names those that it gives. */
-enum {
+/* What a call answers. Each call's comment names those that it gives. BUSY, AGAIN, LONG and NO_NODE alone mean that a
+   later try may do better. The examples meet each answer but AGAIN, LONG and NO_NODE, which need another thread inside
+   a call. */
+typedef enum gz_range_answer {
     GZ_RANGE_DONE = 0,       /* the call did what it is for */
     GZ_RANGE_BUSY = 1,       /* at a step of the last try another seat held, or asked for, the range in busy */
     GZ_RANGE_AGAIN = 2,      /* another seat changed the list where the last try was about to */
@@ -82,35 +126,85 @@ enum {
     GZ_RANGE_NONE_LEFT = 14, /* the handle has no seat left to share */
     GZ_RANGE_NO_WORD = 15,   /* the table has no client word of that number */
     GZ_RANGE_OTHER = 16      /* the client word had another value than the expected one */
-};
+} gz_range_answer;
+
+/* The archive was made for these sizes. */
+GZ_RANGE_ASSERT(sizeof(gz_range) == 16 && sizeof(gz_busy) == 24, "the structs have the sizes of the archive");
+GZ_RANGE_ASSERT(sizeof(gz_range_answer) == 4 && sizeof(bool) == 1, "answers and flags have the sizes of the archive");
+GZ_RANGE_ASSERT(sizeof(size_t) == 8 && sizeof(void *) == 8, "sizes and pointers have 64 bits");
+
+/* What an answer means, for people. */
+static inline const char *gz_range_text(gz_range_answer answer) {
+    switch (answer) {
+    case GZ_RANGE_DONE: return "done";
+    case GZ_RANGE_BUSY: return "another handle holds or asks for a range in conflict";
+    case GZ_RANGE_AGAIN: return "another handle changed the list at the same place";
+    case GZ_RANGE_LONG: return "the walk of the list grew too long";
+    case GZ_RANGE_NO_NODE: return "no node of the handle is ready to be used again";
+    case GZ_RANGE_NOT_TRIED: return "no try was asked for";
+    case GZ_RANGE_BAD_RANGE: return "the ends bound no range";
+    case GZ_RANGE_HAS_ONE: return "the handle holds a range already";
+    case GZ_RANGE_HAS_NONE: return "the handle holds no range";
+    case GZ_RANGE_IS_CLOSED: return "the handle is closed";
+    case GZ_RANGE_IS_OPEN: return "the handle that is to be opened is open";
+    case GZ_RANGE_NO_MEMORY: return "out of memory";
+    case GZ_RANGE_BAD_SEATS: return "the number of seats isn't from 1 to 16";
+    case GZ_RANGE_BAD_WORDS: return "more than 1048576 client words";
+    case GZ_RANGE_NONE_LEFT: return "the handle has no seat left to share";
+    case GZ_RANGE_NO_WORD: return "the table has no client word of that number";
+    case GZ_RANGE_OTHER: return "the client word has another value than the expected one";
+    }
+    return "no answer of the range lock";
+}
 
 /* Opens a handle over a new table of so many seats, 1 to 16, whose client words begin as copies of these, at most 2^20.
    The handle holds nothing and has seats - 1 seats to share.
    DONE; IS_OPEN, BAD_WORDS, BAD_SEATS, NO_MEMORY, the first of these that is so. After a refusal nothing has changed.
    Any thread. It allocates. */
-uint32_t gz_range_open(uint32_t seats, const uint64_t *words, size_t count, gz_range *handle);
+GZ_RANGE_MUST_CHECK
+gz_range_answer gz_range_open(uint32_t seats, const uint64_t *words, size_t count, gz_range *handle);
+
+/* The same of a table without client words. */
+GZ_RANGE_MUST_CHECK
+static inline gz_range_answer gz_range_open_plain(uint32_t seats, gz_range *handle) {
+    const uint64_t none = 0;
+    return gz_range_open(seats, &none, 0, handle);
+}
 
 /* Opens a handle with a seat of its own in the table of `from`: the last of those that `from` has left to share. It
    holds nothing, and has none to share itself. What `from` holds stays.
    DONE; IS_OPEN of handle, IS_CLOSED of from, NONE_LEFT, NO_MEMORY, the first of these that is so. After a refusal
    nothing has changed.
    The thread that has `from`. It allocates. */
-uint32_t gz_range_share(gz_range *from, gz_range *handle);
+GZ_RANGE_MUST_CHECK
+gz_range_answer gz_range_share(gz_range *from, gz_range *handle);
 
 /* Tries to hold the numbers from lo on and below hi, at most 2^62, as a writer or as a reader: until a try is granted,
    and at most `tries` times, with a short pause between one try and the next. A try makes at most 64 atomic steps and
    386 for each seat of the table, whatever other threads do. With tries 1 it makes one, with no pause, and waits for
    nobody; with 0 it only looks at what is asked.
+   How many tries to ask for: a single try may be refused though no range is in conflict, as a weak compare-exchange may
+   fail. That is AGAIN, LONG or NO_NODE, and comes of another thread being at work in the list. Four busy threads at
+   ranges apart are refused more than half of their single tries so. Ask for 64 where you want the range, and for 1 only
+   where you have something else to do.
    DONE, and the range is held from a step of this call on; IS_CLOSED, HAS_ONE, BAD_RANGE, NOT_TRIED, the first of
    these that is so, with the handle as it was; BUSY, AGAIN, LONG or NO_NODE, where all tries were refused: why the last
    one was, with nothing held. busy is filled after BUSY, and all 0 after each other answer.
    The thread that has the handle. */
-uint32_t gz_range_try(gz_range *handle, uint64_t lo, uint64_t hi, bool writer, uint32_t tries, gz_busy *busy);
+GZ_RANGE_MUST_CHECK
+gz_range_answer gz_range_try(gz_range *handle, uint64_t lo, uint64_t hi, bool writer, uint32_t tries, gz_busy *busy);
 
 /* Gives the held range back, in one atomic step or two.
    DONE, and nothing is held; IS_CLOSED or HAS_NONE, with the handle as it was.
    The thread that has the handle. */
-uint32_t gz_range_release(gz_range *handle);
+GZ_RANGE_NONNULL
+gz_range_answer gz_range_release(gz_range *handle);
+
+/* Tells what the handle holds, and the number of its seat, in `held`. Nothing changes.
+   DONE, where it holds a range; HAS_NONE, with the number of the seat and all else 0; IS_CLOSED, with all 0.
+   The thread that has the handle. */
+GZ_RANGE_NONNULL
+gz_range_answer gz_range_held(gz_range *handle, gz_busy *held);
 
 /* Each of the next four is one sequentially consistent atomic step on client word i, counted from 0. No range need be
    held for it. What the handle holds stays.
@@ -118,40 +212,152 @@ uint32_t gz_range_release(gz_range *handle);
    The thread that has the handle. */
 
 /* Loads the word into *value. */
-uint32_t gz_range_load(gz_range *handle, uint32_t i, uint64_t *value);
+GZ_RANGE_NONNULL
+gz_range_answer gz_range_load(gz_range *handle, uint32_t i, uint64_t *value);
 
 /* Stores a value in the word. */
-uint32_t gz_range_store(gz_range *handle, uint32_t i, uint64_t value);
+GZ_RANGE_NONNULL
+gz_range_answer gz_range_store(gz_range *handle, uint32_t i, uint64_t value);
 
 /* Adds to the word, modulo 2^64. *before is its value before. */
-uint32_t gz_range_add(gz_range *handle, uint32_t i, uint64_t by, uint64_t *before);
+GZ_RANGE_NONNULL
+gz_range_answer gz_range_add(gz_range *handle, uint32_t i, uint64_t by, uint64_t *before);
 
 /* Puts value into the word where it is *expected. Where it has another value the answer is OTHER, the word stays, and
    *expected becomes what was found. */
-uint32_t gz_range_exchange(gz_range *handle, uint32_t i, uint64_t *expected, uint64_t value);
+GZ_RANGE_MUST_CHECK
+gz_range_answer gz_range_exchange(gz_range *handle, uint32_t i, uint64_t *expected, uint64_t value);
 
 /* What gz_range_close calls: it puts `next`, which is GZ_RANGE_CLOSED, in the place of the handle, and ends what that
    was. */
-uint32_t gz_range_end(gz_range *handle, gz_range next);
+GZ_RANGE_NONNULL
+gz_range_answer gz_range_end(gz_range *handle, gz_range next);
+
+/* ThreadSanitizer sees no step of the archive. In a program that is compiled for it the calls below this line go by
+   functions that tell it what they do: a grant and a release meet at each number of the range modulo 64, and two steps
+   on client words at each number of the word modulo 64. So it reports no right program, and of the wrong ones not
+   those that are in order only by such numbers, or by what readers do. */
+#if defined(__SANITIZE_THREAD__)
+#define GZ_RANGE_TELLS 1
+#elif defined(__has_feature)
+#if __has_feature(thread_sanitizer)
+#define GZ_RANGE_TELLS 1
+#endif
+#endif
+#ifdef GZ_RANGE_TELLS
+#include <sanitizer/tsan_interface.h>
+
+__attribute__((weak)) char gz_range_places[2][64];
+
+static inline void gz_range_tell_before(int words, uint64_t lo, uint64_t hi) {
+    for (uint64_t n = lo; n < hi && n - lo < 64; n++) __tsan_release(&gz_range_places[words][n % 64]);
+}
+
+static inline void gz_range_tell_after(int words, uint64_t lo, uint64_t hi) {
+    for (uint64_t n = lo; n < hi && n - lo < 64; n++) __tsan_acquire(&gz_range_places[words][n % 64]);
+}
+
+static inline void gz_range_tell_release(gz_range *handle) {
+    gz_busy held;
+    if (gz_range_held(handle, &held) == GZ_RANGE_DONE) gz_range_tell_before(0, held.lo, held.hi);
+}
+
+GZ_RANGE_MUST_CHECK
+static inline gz_range_answer gz_range_try_told(gz_range *handle, uint64_t lo, uint64_t hi, bool writer, uint32_t tries,
+                                                gz_busy *busy) {
+    gz_range_answer answer = gz_range_try(handle, lo, hi, writer, tries, busy);
+    if (answer == GZ_RANGE_DONE) gz_range_tell_after(0, lo, hi);
+    return answer;
+}
+
+GZ_RANGE_NONNULL
+static inline gz_range_answer gz_range_release_told(gz_range *handle) {
+    gz_range_tell_release(handle);
+    return gz_range_release(handle);
+}
+
+GZ_RANGE_NONNULL
+static inline gz_range_answer gz_range_end_told(gz_range *handle, gz_range next) {
+    gz_range_tell_release(handle);
+    return gz_range_end(handle, next);
+}
+
+GZ_RANGE_NONNULL
+static inline gz_range_answer gz_range_load_told(gz_range *handle, uint32_t i, uint64_t *value) {
+    gz_range_answer answer = gz_range_load(handle, i, value);
+    gz_range_tell_after(1, i, i + 1ull);
+    return answer;
+}
+
+GZ_RANGE_NONNULL
+static inline gz_range_answer gz_range_store_told(gz_range *handle, uint32_t i, uint64_t value) {
+    gz_range_tell_before(1, i, i + 1ull);
+    return gz_range_store(handle, i, value);
+}
+
+GZ_RANGE_NONNULL
+static inline gz_range_answer gz_range_add_told(gz_range *handle, uint32_t i, uint64_t by, uint64_t *before) {
+    gz_range_tell_before(1, i, i + 1ull);
+    gz_range_answer answer = gz_range_add(handle, i, by, before);
+    gz_range_tell_after(1, i, i + 1ull);
+    return answer;
+}
+
+GZ_RANGE_MUST_CHECK
+static inline gz_range_answer gz_range_exchange_told(gz_range *handle, uint32_t i, uint64_t *expected, uint64_t value) {
+    gz_range_tell_before(1, i, i + 1ull);
+    gz_range_answer answer = gz_range_exchange(handle, i, expected, value);
+    gz_range_tell_after(1, i, i + 1ull);
+    return answer;
+}
+
+#define gz_range_try gz_range_try_told
+#define gz_range_release gz_range_release_told
+#define gz_range_end gz_range_end_told
+#define gz_range_load gz_range_load_told
+#define gz_range_store gz_range_store_told
+#define gz_range_add gz_range_add_told
+#define gz_range_exchange gz_range_exchange_told
+#endif
+
+/* gz_range_try without busy, where who is in the way doesn't matter. */
+GZ_RANGE_MUST_CHECK
+static inline gz_range_answer gz_range_try_plain(gz_range *handle, uint64_t lo, uint64_t hi, bool writer,
+                                                 uint32_t tries) {
+    gz_busy busy;
+    return gz_range_try(handle, lo, hi, writer, tries, &busy);
+}
 
 /* Closes a handle: what it holds is given back, its seat is gone for good, and so are the seats that it had left to
    share. The last handle of a table frees it.
    DONE; IS_CLOSED where it was closed already. The handle is closed after both.
    The thread that has the handle. */
-static inline uint32_t gz_range_close(gz_range *handle) {
+GZ_RANGE_NONNULL
+static inline gz_range_answer gz_range_close(gz_range *handle) {
     gz_range closed = GZ_RANGE_CLOSED;
     return gz_range_end(handle, closed);
 }
 
+/* Whether a handle is open. */
+GZ_RANGE_NONNULL
+static inline bool gz_range_is_open(const gz_range *handle) { return handle->opened != 0; }
+
+/* Whether a try was refused in a way that a later one may not be: BUSY, AGAIN, LONG or NO_NODE. */
+static inline bool gz_range_may_retry(gz_range_answer answer) {
+    return answer >= GZ_RANGE_BUSY && answer <= GZ_RANGE_NO_NODE;
+}
+
 /* Holds a range, however long that takes: it tries 64 times, lets other threads run, and tries again. Nothing is
-   claimed of when it returns, or of any order among those that wait.
+   claimed of when it returns, or of any order among those that wait. It uses its processor as long as it waits, and
+   under SCHED_FIFO, where sched_yield gives nothing to threads of lower priority, it may try for ever. The example
+   waiting.c has two ways to wait by sleeping: until a deadline, and until another thread gives a range back.
    DONE; IS_CLOSED, HAS_ONE or BAD_RANGE at once, with the handle as it was.
    The thread that has the handle. */
-static inline uint32_t gz_range_acquire(gz_range *handle, uint64_t lo, uint64_t hi, bool writer) {
+GZ_RANGE_MUST_CHECK
+static inline gz_range_answer gz_range_acquire(gz_range *handle, uint64_t lo, uint64_t hi, bool writer) {
     for (;;) {
-        gz_busy busy;
-        uint32_t answer = gz_range_try(handle, lo, hi, writer, 64, &busy);
-        if (answer == GZ_RANGE_DONE || answer > GZ_RANGE_NO_NODE) return answer;
+        gz_range_answer answer = gz_range_try_plain(handle, lo, hi, writer, 64);
+        if (!gz_range_may_retry(answer)) return answer;
         sched_yield();
     }
 }

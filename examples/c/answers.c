@@ -1,6 +1,6 @@
-/* The names of all answers with their numbers, as gz_range.h has them; then the answers that a call may give, met on one
-   thread, and what is so after each. It prints one line for each call, with the number that the library answered and the
-   name that the header gives it, so two names that change places there are noticed. */
+/* The names of all answers with their numbers and texts, as gz_range.h has them; then the answers that a call may give,
+   met on one thread, and what is so after each. It prints one line for each call, with the number that the library
+   answered and the name that the header gives it, so two names that change places there are noticed. */
 #include "gz_range.h"
 
 #include <inttypes.h>
@@ -31,7 +31,8 @@ static const char *name_of(uint32_t answer) {
 }
 
 static void names(void) {
-    for (uint32_t answer = 0; answer <= GZ_RANGE_OTHER; answer++) printf("%2u %s\n", answer, name_of(answer));
+    for (uint32_t answer = 0; answer <= GZ_RANGE_OTHER + 1; answer++)
+        printf("%2u %-10s %s\n", answer, name_of(answer), gz_range_text((gz_range_answer)answer));
 }
 
 static void says(const char *call, uint32_t answer) { printf("%-44s %2u %s\n", call, answer, name_of(answer)); }
@@ -39,6 +40,13 @@ static void says(const char *call, uint32_t answer) { printf("%-44s %2u %s\n", c
 static void shows(const gz_busy *busy) {
     printf("    seat %u, %" PRIu64 " to %" PRIu64 ", %s\n", busy->owner, busy->lo, busy->hi,
            busy->writer ? "writer" : "reader");
+}
+
+/* What a handle holds, and the number of its seat. */
+static void looks(const char *whose, gz_range *handle) {
+    gz_busy held;
+    says(whose, gz_range_held(handle, &held));
+    shows(&held);
 }
 
 static void closed_handles(void) {
@@ -49,6 +57,7 @@ static void closed_handles(void) {
     says("try by a closed handle", gz_range_try(&handle, 0, 1, true, 1, &busy));
     says("acquire by a closed handle", gz_range_acquire(&handle, 0, 1, true));
     says("release by a closed handle", gz_range_release(&handle));
+    looks("what a closed handle holds", &handle);
     says("load by a closed handle", gz_range_load(&handle, 0, &value));
     says("store by a closed handle", gz_range_store(&handle, 0, 1));
     says("add by a closed handle", gz_range_add(&handle, 0, 1, &value));
@@ -68,7 +77,7 @@ static void openings(void) {
     says("open of 2^20 + 1 words", gz_range_open(2, many, GZ_RANGE_MOST_WORDS + 1, &handle));
     says("open of 2^20 words", gz_range_open(2, many, GZ_RANGE_MOST_WORDS, &handle));
     gz_range_close(&handle);
-    says("open of 2 seats and no word", gz_range_open(2, words, 0, &handle));
+    says("open of 2 seats and no word", gz_range_open_plain(2, &handle));
     says("open of an open handle", gz_range_open(2, words, 0, &handle));
     says("share of the second seat", gz_range_share(&handle, &other));
     says("share into an open handle", gz_range_share(&handle, &other));
@@ -76,6 +85,7 @@ static void openings(void) {
     says("share of a handle that was shared", gz_range_share(&other, &third));
     gz_range_close(&handle);
     says("store by the handle that is left", gz_range_store(&other, 0, 1));
+    looks("what it holds", &other);
     gz_range_close(&other);
     free(many);
 }
@@ -86,7 +96,9 @@ static void ranges(gz_range *a, gz_range *b) {
     says("try above 2^62", gz_range_try(a, 5, (uint64_t)GZ_RANGE_HIGHEST + 1, true, 1, &busy));
     says("no try", gz_range_try(a, 5, 9, true, 0, &busy));
     says("release of nothing", gz_range_release(a));
+    looks("what it holds", a);
     says("try of 5 to 9 as a writer", gz_range_try(a, 5, 9, true, 1, &busy));
+    looks("what it holds", a);
     says("try while one is held", gz_range_try(a, 20, 30, true, 1, &busy));
     says("acquire while one is held", gz_range_acquire(a, 20, 30, true));
     says("another's try of 8 to 10 as a reader", gz_range_try(b, 8, 10, false, 3, &busy));
@@ -96,7 +108,8 @@ static void ranges(gz_range *a, gz_range *b) {
     says("release", gz_range_release(b));
     says("release", gz_range_release(a));
     says("try of 0 to 2^62 as a reader", gz_range_try(a, 0, GZ_RANGE_HIGHEST, false, 1, &busy));
-    says("another's try of 3 to 4 as a reader", gz_range_try(b, 3, 4, false, 1, &busy));
+    says("another's try of 3 to 4 as a reader", gz_range_try_plain(b, 3, 4, false, 1));
+    looks("what the other one holds", b);
     says("release", gz_range_release(b));
     says("another's try of 3 to 4 as a writer", gz_range_try(b, 3, 4, true, 1, &busy));
     shows(&busy);

@@ -51,7 +51,7 @@ static int open_failing(unsigned seats, gz_range *handle) {
         int failed = left < 0;
         left = -1;
         if (!failed && answer == GZ_RANGE_DONE) return n;
-        if (!failed || answer != GZ_RANGE_NO_MEMORY || handle->opened || blocks != before) exit(1);
+        if (!failed || answer != GZ_RANGE_NO_MEMORY || gz_range_is_open(handle) || blocks != before) exit(1);
     }
 }
 
@@ -64,7 +64,7 @@ static int share_failing(gz_range *from, gz_range *handle) {
         int failed = left < 0;
         left = -1;
         if (!failed && answer == GZ_RANGE_DONE) return n;
-        if (!failed || answer != GZ_RANGE_NO_MEMORY || handle->opened || blocks != before) exit(1);
+        if (!failed || answer != GZ_RANGE_NO_MEMORY || gz_range_is_open(handle) || blocks != before) exit(1);
     }
 }
 

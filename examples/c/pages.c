@@ -80,11 +80,10 @@ static void *work(void *argument) {
 }
 
 int main(void) {
-    const uint64_t none = 0;
     static worker workers[THREADS]; /* all 0, so each handle is closed */
     for (unsigned i = 0; i < THREADS; i++) {
         workers[i].number = i;
-        uint32_t answer = i == 0 ? gz_range_open(THREADS, &none, 0, &workers[0].handle)
+        uint32_t answer = i == 0 ? gz_range_open_plain(THREADS, &workers[0].handle)
                                  : gz_range_share(&workers[0].handle, &workers[i].handle);
         if (answer != GZ_RANGE_DONE) return 1;
     }

@@ -36,11 +36,10 @@ static double of_range(gz_range *handle) {
 
 int main(void) {
     static const uint32_t seats[] = { 1, 2, 4, 16 };
-    const uint64_t none = 0;
     pthread_mutex_t mutex = PTHREAD_MUTEX_INITIALIZER;
     for (size_t k = 0; k < sizeof seats / sizeof *seats; k++) {
         gz_range handle = GZ_RANGE_CLOSED;
-        if (gz_range_open(seats[k], &none, 0, &handle)) return 1;
+        if (gz_range_open_plain(seats[k], &handle)) return 1;
         double mutex_least = 1e18, range_least = 1e18;
         for (int round = 0; round < ROUNDS; round++) {
             double a = of_mutex(&mutex), b = of_range(&handle);

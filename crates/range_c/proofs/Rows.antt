@@ -1,6 +1,6 @@
 -- What is so of each element of a list, by its place, is so of its last and of the others. A seat that is taken from
 -- the end of the row of those that are left to share is new, and the others stay so; put back, the row is as it was.
-use Rattle.std.proofs.Common.{◌≡◌, ℕ, ◌+◌, ◌≤◌, ◌^◌, ◌∙◌, List, [], ◌∷◌, ◌++◌, length, sym, refl, ap, subst}
+use Rattle.std.proofs.Common.{arith, ◌≡◌, ℕ, ◌+◌, ◌≤◌, ◌^◌, ◌∙◌, List, [], ◌∷◌, ◌++◌, length, sym, refl, ap, subst}
 use Rattle.std.proofs.lemmas.List.{length-append}
 use mathlib.Core.Option.{some}
 use lib.ListN.{get_elem?}
@@ -24,6 +24,10 @@ popped P old new a e all = (
 -- a list is one longer than without its last element
 pub longer : {A : Type 0} (old new : List A) (a : A) → old ≡ new ++ a ∷ [] → length new + 1 ≡ length old
 longer old new a e = sym (ap length e ∙ length-append new (a ∷ []))
+
+-- what is at least a list's length is at least that of one that is one shorter
+pub fewer : {m n k : ℕ} → m + 1 ≡ n → n ≤ k → m ≤ k
+fewer {m} {n} {k} e h = omega arith
 
 -- the seats that are left to share
 abbrev pub Row : Type 0

@@ -11,9 +11,11 @@ use Rattle.range_rw.specs.declared.refusals.NotHeld.{NotHeld}
 use Rattle.range_rw.specs.Contract.{SeatState, IsSeatCount, IsLockCall, IsClientCall, IsRelease, IsCause, IsLongRefusal, IsSpentIn, new_seat}
 use Rattle.range_c.specs.declared.answers.Answer.{Answer}
 use Rattle.range_c.specs.declared.answers.Answer.TheVariants.{Done, Refused, NotTried, BadRange, HasOne, HasNone, Memory, Seats, Words, NoneLeft, NoWord, Other}
+use Rattle.range_c.specs.declared.answers.GzBusy.{GzBusy}
 use Rattle.range_c.specs.declared.recording.Recorded.{Recorded}
 use Rattle.range_c.specs.declared.recording.WordStep.{WordStep}
 use Rattle.range_c.specs.declared.recording.WordStep.TheVariants.{Load, Store, Add, Exchange}
+use Rattle.range_c.specs.Codes.{held_shown}
 use Rattle.range_c.specs.Recording.{IsBegun, IsRecorded, begun, step_on, with_last}
 
 -- a seat of a table for C, with what it knows of the client words
@@ -148,6 +150,12 @@ IsReleased Done before after = (before.seat.held ≢ None) × IsRelease (λ p. p
     × (after.spare ≡ before.spare) × (after.words ≡ before.words) × (after.seats ≡ before.seats)
 IsReleased HasNone before after = (before.seat.held ≡ None) × (after ≡ before)
 IsReleased _ before after = ⊥
+
+-- what a look at a seat answers and shows: what it holds, with its number. Nothing has changed
+abbrev pub IsLooked : GzBusy → Answer → Behind → Behind → Type 0
+IsLooked shown Done before after = (before.seat.held ≢ None) × (shown ≡ held_shown before.seat.number before.seat.held) × (after ≡ before)
+IsLooked shown HasNone before after = (before.seat.held ≡ None) × (shown ≡ held_shown before.seat.number None) × (after ≡ before)
+IsLooked shown _ before after = ⊥
 
 -- one step was made on a client word, at a moment at which it found that value, and left that one; it is the last step
 -- that the seat knows of, and the seat holds what it held

@@ -3,8 +3,10 @@
 use Rattle.std.specs.Prelude.{◌≡◌, ℕ, List, Option, Some, None}
 use Rattle.range_c.specs.declared.answers.Answer.{Answer}
 use Rattle.range_c.specs.declared.answers.Answer.TheVariants.{Done, Closed, Open}
+use Rattle.range_c.specs.declared.answers.GzBusy.{GzBusy}
 use Rattle.range_c.specs.declared.recording.WordStep.{WordStep}
-use Rattle.range_c.specs.Behind.{Behind, IsNewBehind, IsNotOpened, IsShared, IsUnshared, IsStepped}
+use Rattle.range_c.specs.Behind.{Behind, IsNewBehind, IsNotOpened, IsShared, IsUnshared, IsLooked, IsStepped}
+use Rattle.range_c.specs.Codes.{nothing_shown}
 
 -- the handle is open before and after, and this is so of what is behind it
 abbrev pub Between : (Behind → Behind → Type 0) → Option Behind → Option Behind → Type 0
@@ -16,6 +18,12 @@ abbrev pub OnHandle : (Answer → Behind → Behind → Type 0) → Answer → O
 OnHandle R answer None None = answer ≡ Closed
 OnHandle R answer (Some before) (Some after) = R answer before after
 OnHandle R answer _ _ = ⊥
+
+-- a look at what a handle holds: where it is closed, what is shown is nothing
+abbrev pub OnLook : GzBusy → Answer → Option Behind → Option Behind → Type 0
+OnLook shown answer None None = (answer ≡ Closed) × (shown ≡ nothing_shown)
+OnLook shown answer (Some before) (Some after) = IsLooked shown answer before after
+OnLook shown answer _ _ = ⊥
 
 -- a step on a client word by a handle: where it is closed, what is said is what the call brought
 abbrev pub OnWord : ℕ → WordStep → ℕ → ℕ → Answer → Option Behind → Option Behind → Type 0

@@ -1,7 +1,8 @@
 -- The numbers by which answers go to C, and what C is shown of a range in conflict. They are this project's own, and
 -- `gz_range.h` has the same numbers as an enum. No two answers of different causes have one code, and the codes of
 -- refusals by the lock come first, so that a caller who tries again compares once.
-use Rattle.std.specs.Prelude.{◌≡◌, ℕ, Bool, true, false}
+use Rattle.std.specs.Prelude.{◌≡◌, ℕ, Bool, true, false, Option, Some, None}
+use Rattle.lock_core.specs.declared.range.Held.{Held}
 use Rattle.lock_core.specs.declared.range.Mode.{Mode}
 use Rattle.lock_core.specs.declared.range.Mode.TheVariants.{Reader, Writer}
 use Rattle.range_rw.specs.declared.refusals.NotHeld.{NotHeld}
@@ -57,3 +58,8 @@ shown_in _ = nothing_shown
 abbrev pub shown_of : Answer → GzBusy
 shown_of (Refused why) = shown_in why
 shown_of _ = nothing_shown
+
+-- what C is shown of what the seat of a number holds
+abbrev pub held_shown : ℕ → Option Held → GzBusy
+held_shown number None = record nothing_shown { owner = number }
+held_shown number (Some h) = record { lo = h.range.lo; hi = h.range.hi; owner = number; writer = is_writer h.mode }

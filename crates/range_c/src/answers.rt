@@ -40,7 +40,8 @@ pub enum Answer {
     Other,
 }
 
-/// The range of another seat that refused a try, as C reads it; all 0 where no try was refused so.
+/// A range of a seat, as C reads it: that of another seat which refused a try, all 0 where no try was refused so; or
+/// the one that a handle holds.
 #[repr(C)]
 #[derive(Clone, Copy, Drop)]
 pub struct GzBusy {
@@ -48,9 +49,9 @@ pub struct GzBusy {
     pub lo: u64,
     /// The first number above the range.
     pub hi: u64,
-    /// The number of the seat that held it, counted from 0.
+    /// The number of the seat that has it, counted from 0.
     pub owner: u32,
-    /// Whether it was held as a writer.
+    /// Whether it is a writer's.
     pub writer: bool,
 }
 
@@ -82,7 +83,7 @@ fn shown(why: &NotHeld) -> GzBusy
 }
 
 /// What C is shown where no range was in conflict.
-const NOTHING: GzBusy = GzBusy {
+pub(crate) const NOTHING: GzBusy = GzBusy {
     lo: 0,
     hi: 0,
     owner: 0,

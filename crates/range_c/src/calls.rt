@@ -2,9 +2,9 @@
 //! on a closed handle being told and left as it is.
 ghost use Rattle.std.specs.Prelude.{◌≡◌, Some, IfOk, IfErr};
 ghost use Rattle.range_c.specs.Behind.{IsOpen, IsTried, IsReleased, IsShared, IsNotShared};
-ghost use Rattle.range_c.specs.Calls.{Between, OnHandle, OnWord};
+ghost use Rattle.range_c.specs.Calls.{Between, OnHandle, OnLook, OnWord};
 
-use crate::answers::Answer;
+use crate::answers::{Answer, GzBusy, NOTHING};
 use crate::handle::GzRange;
 use crate::recording::WordStep;
 use crate::state::{Asked, State};
@@ -47,6 +47,25 @@ pub(crate) fn release_by(handle: &mut GzRange) -> Answer
         return Answer::Closed;
     }
     replace_with(handle, (), release_behind)
+}
+
+fn look_behind(handle: GzRange, _unit: ()) -> (GzRange, (Answer, GzBusy))
+    requires open { IsOpen handle.pointer.behind }
+    ensures looked { OnLook result.1.1 result.1.0 handle.pointer.behind result.0.pointer.behind }
+{
+    let b = handle.into_box();
+    let looked = b.look();
+    (GzRange::over(b), looked)
+}
+
+/// What the handle holds, with the number of its seat.
+pub(crate) fn look_by(handle: &mut GzRange) -> (Answer, GzBusy)
+    ensures looked { OnLook result.1 result.0 handle.old.pointer.behind handle.new.pointer.behind }
+{
+    if !handle.is_open() {
+        return (Answer::Closed, NOTHING);
+    }
+    replace_with(handle, (), look_behind)
 }
 
 /// A step on the client word of a number, counted from 0, and what is to be told where it finds no value.

@@ -4,10 +4,10 @@ ghost use Rattle.std.specs.Prelude.{◌≡◌, ◌<◌, ℕ, Some, None, length}
 ghost use Rattle.range_c.specs.declared.recording.WordStep.TheVariants.{Load, Store, Add, Exchange};
 ghost use Rattle.range_c.specs.Behind.{IsTried, IsReleased};
 ghost use Rattle.range_c.specs.Codes.{Says, shown_of};
-ghost use Rattle.range_c.specs.Calls.{OnHandle, OnWord, IsFresh, IsOpenRefusal, HandleShared, IsShareRefusal, IsEnd};
+ghost use Rattle.range_c.specs.Calls.{OnHandle, OnLook, OnWord, IsFresh, IsOpenRefusal, HandleShared, IsShareRefusal, IsEnd};
 
 use crate::answers::{Answer, GzBusy};
-use crate::calls::{WordCall, release_by, share_by, step_by, try_by};
+use crate::calls::{WordCall, look_by, release_by, share_by, step_by, try_by};
 use crate::handle::GzRange;
 use crate::opening::open_table;
 use crate::recording::WordStep;
@@ -99,6 +99,16 @@ pub extern "C" fn gz_range_release(handle: &mut GzRange) -> u32
     ensures released { Says (λ answer. OnHandle IsReleased answer handle.old.pointer.behind handle.new.pointer.behind) result }
 {
     release_by(handle).code()
+}
+
+/// Tells what the handle holds, and the number of its seat. Nothing changes.
+#[unsafe(no_mangle)]
+pub extern "C" fn gz_range_held(handle: &mut GzRange, held: &mut GzBusy) -> u32
+    ensures looked { Says (λ answer. OnLook held.new answer handle.old.pointer.behind handle.new.pointer.behind) result }
+{
+    let (answer, shown) = look_by(handle);
+    *held = shown;
+    answer.code()
 }
 
 /// Loads client word `i`, counted from 0, into `value`.

@@ -39,6 +39,7 @@ pub(crate) fn open_table(
     let state = State {
         table,
         seat,
+        number: seats - 1,
         spare,
         words,
     };
@@ -66,6 +67,7 @@ impl State {
         let state = State {
             table,
             seat,
+            number: self.spare.len() as u32,
             spare: Vec::new(alloc),
             words: self.words,
         };

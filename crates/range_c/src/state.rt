@@ -2,9 +2,9 @@
 //! call of C's is a method here. A reader may rely on all the seats being of that table, and on those that are left to
 //! share being as they were at the opening.
 ghost use Rattle.std.specs.Prelude.{◌≡◌, None, IfOk, IfErr};
-ghost use Rattle.range_c.specs.Behind.{IsTried, IsReleased, IsStepped, IsTrial, IsGranted, IsRefused, IsTrialAnswer, mode_for};
+ghost use Rattle.range_c.specs.Behind.{IsTried, IsReleased, IsStepped, IsTrial, IsGranted, IsRefused, IsTrialAnswer, IsLooked, mode_for};
 
-use crate::answers::Answer;
+use crate::answers::{Answer, GzBusy, NOTHING};
 use crate::recording::{Recording, WordStep};
 use lock_core::{Mode, Range};
 use range_rw::{NotHeld, RangeTable, Seat};
@@ -18,12 +18,14 @@ use std::sync::Arc;
 pub(crate) struct State {
     pub(crate) table: Arc<RangeTable<Recording>, Global>,
     pub(crate) seat: Seat<Recording>,
+    /// The seat's number, counted from 0.
+    pub(crate) number: u32,
     pub(crate) spare: Vec<Seat<Recording>>,
     pub(crate) words: u32,
 }
 
 impl Model for State {
-    ghost use Rattle.std.specs.Prelude.{◌≡◌, length};
+    ghost use Rattle.std.specs.Prelude.{◌≡◌, ◌≤◌, length};
     ghost use Rattle.std.specs.Arc.{arc_value};
     ghost use Rattle.range_rw.specs.Contract.{AreNewSeats};
     ghost use Rattle.range_c.specs.Recording.{begun};
@@ -34,7 +36,8 @@ impl Model for State {
     ghost view = { λ s. record { seat = s.seat; spare = length s.spare.items; words = s.words; seats = (arc_value s.table).seats } };
 
     ghost invariant = { λ s. (s.seat.table ≡ (arc_value s.table).table)
-        × AreNewSeats (arc_value s.table).table (begun s.seat.pass.opened) s.spare.items × ((arc_value s.table).client ≡ s.words) };
+        × AreNewSeats (arc_value s.table).table (begun s.seat.pass.opened) s.spare.items × ((arc_value s.table).client ≡ s.words)
+        × (s.seat.number ≡ s.number) × (length s.spare.items ≤ s.number) };
 }
 
 /// The range that a call of C's asks for, and how often it is to try.
@@ -113,6 +116,25 @@ impl State {
         }
         self.table.release_uncounted(&mut self.seat);
         Answer::Done
+    }
+
+    /// What the seat holds, with its number, as C is shown it.
+    pub(crate) fn look(&self) -> (Answer, GzBusy)
+        ensures looked { IsLooked result.1 result.0 self.now self.now }
+    {
+        let owner = self.number;
+        match self.table.held(&self.seat) {
+            Some((range, mode)) => {
+                let shown = GzBusy {
+                    lo: range.lo(),
+                    hi: range.hi(),
+                    owner,
+                    writer: mode == Mode::Writer,
+                };
+                (Answer::Done, shown)
+            }
+            None => (Answer::HasNone, GzBusy { owner, ..NOTHING }),
+        }
     }
 
     /// Makes a step on client word `i`, counted from 0, and returns what a load, an addition or an exchange found.

@@ -1,10 +1,10 @@
-use Rattle.std.proofs.Common.{rules, ◌≤◌, ◌^◌, ℕ, List, sym, ap, ◌∙◌, subst, length}
+use Rattle.std.proofs.Common.{rules, arith, ◌≡◌, ◌≤◌, ◌+◌, ◌-◌, ◌^◌, ℕ, List, sym, ap, ◌∙◌, subst, length}
 use Rattle.std.specs.Arc.{arc_value}
 use Rattle.atomic_table.specs.Seated.{TableId}
 use Rattle.range_rw.specs.Contract.{TableShape, AreNewSeats}
 use Rattle.range_c.specs.Behind.{RecordingSeat}
 use Rattle.range_c.specs.Recording.{begun}
-use Rattle.range_c.proofs.Rows.{taken, opens}
+use Rattle.range_c.proofs.Rows.{taken, longer, opens}
 use Rattle.range_c.proofs.Steps.{begins}
 use Rattle.range_c.proofs.opening.open_table.Goals as goal
 
@@ -19,10 +19,17 @@ invariant_of-state c =
     c.in-Some.ensures.items c.in-Ok.ensures.seats.1 in
     let table = sym (ap (λ (t : TableShape). t.table) c.in-Ok-new.ensures.ok) in
     let opened = sym (ap (λ (s : RecordingSeat). s.pass.opened) all.0) in
+    let one : length c.pop.new.self.items + 1 ≡ c.args.seats =
+    longer c.in-Ok.opened.1.items c.pop.new.self.items c.in-Some.seat c.in-Some.ensures.items ∙ c.in-Ok.ensures.seats.0 in
+    let own : c.in-Some.seat.number ≡ length c.pop.new.self.items = ap (λ (s : RecordingSeat). s.number) all.0 in
+    let number : c.in-Some.seat.number ≡ c.args.seats - 1 = omega arith in
+    let least : length c.pop.new.self.items ≤ c.args.seats - 1 = omega arith in
     let here = subst (λ (t : TableId). AreNewSeats t (begun c.args.client.now) c.pop.new.self.items) table all.1 in (
       ap (λ (s : RecordingSeat). s.table) all.0 ∙ table,
       subst (λ (w : List ℕ). AreNewSeats (arc_value c.in-Ok-new.table).table (begun w) c.pop.new.self.items) opened here,
       ap (λ (t : TableShape). t.client) c.in-Ok-new.ensures.ok ∙ c.in-Ok.ensures.shape.1,
+      number,
+      least,
     )
 
 -- what is in the box is what is behind a new handle of a new table
