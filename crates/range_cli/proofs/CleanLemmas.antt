@@ -23,7 +23,7 @@ use Rattle.history_check.specs.declared.verdict.Verdict.{Verdict}
 use Rattle.history_check.specs.declared.verdict.Verdict.TheVariants.{Legal, Wrong as WrongVerdict}
 use Rattle.history_check.specs.declared.verdict.WrongLog.{WrongLog}
 use Rattle.history_check.specs.declared.verdict.WrongLog.TheVariants.{Form as FormWrong, Number as NumberWrong, Order as OrderWrong, Held, Reply, Rest}
-use Rattle.range_cli.specs.Checking.{verdict_line, why_text}
+use Rattle.range_cli.specs.Checking.{verdict_line, wrong_text}
 use Rattle.range_cli.specs.Judging.{HasNumbers}
 use Rattle.range_cli.proofs.JudgeLemmas.{small_numbers}
 use Rattle.range_cli.specs.Run.{Wrote, Judged, Complains, IsDone, IsOnlyOutcome, IsHindered}
@@ -72,7 +72,7 @@ short_limit which value v =
     let rest = short_which which in
     omega arith
 
-short_why : (why : WrongLog) → length (why_text why) ≤ 40
+short_why : (why : WrongLog) → length (wrong_text why) ≤ 40
 short_why FormWrong = omega arith
 short_why NumberWrong = omega arith
 short_why OrderWrong = omega arith
@@ -87,7 +87,7 @@ short_verdict before (Legal entries) small =
     let one = short_decimal entries (omega (arith, small)) in
     omega arith
 short_verdict before (WrongVerdict line why) small =
-    let whole = length_numbered (codes "wrong line ") (why_text why) (before + line) in
+    let whole = length_numbered (codes "wrong line ") (wrong_text why) (before + line) in
     let one = short_decimal (before + line) (omega (arith, small)) in
     let rest = short_why why in
     omega arith

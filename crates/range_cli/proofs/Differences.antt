@@ -18,7 +18,7 @@ use Rattle.strace_reader.specs.declared.joiner.Fed.{Fed}
 use Rattle.strace_reader.specs.declared.joiner.Fed.TheVariants.{Played, Kept, Skipped, Blank}
 use Rattle.strace_reader.specs.Playing.{Differs}
 use Rattle.range_cli.specs.declared.trace.Line.{Line}
-use Rattle.range_cli.specs.Report.{Differing, DiffersFromLine, Rise, IsPlaceOf, HasNoLine}
+use Rattle.range_cli.specs.Report.{Differing, DiffersFromLine, LinesRise, IsPlaceOf, HasNoLine}
 use Rattle.range_cli.specs.Trace.{TracePosition, Reads, lines_by, index_among}
 use Rattle.range_cli.specs.Trace.Reads.{nothing, line}
 
@@ -57,7 +57,7 @@ completed lines entries i count above so_far =
 -- ---- the line of an entry
 
 -- two lines of one number are one
-one_place : (lines : List Line) (i j : ℕ) (d : Line) → Rise lines → i < length lines → j < length lines
+one_place : (lines : List Line) (i j : ℕ) (d : Line) → LinesRise lines → i < length lines → j < length lines
     → (get_or lines i d).number ≡ (get_or lines j d).number → i ≡ j
 one_place lines i j d rise low high same = elim (cases_lt i j) [
   | inl below ↦ absurd (omega (arith, rise i j d below high, same))
@@ -65,7 +65,7 @@ one_place lines i j d rise low high same = elim (cases_lt i j) [
 ]
 
 -- the line at the entry's place is the only one of its number, so it tells whether the entry differs
-pub tells_at : (is : Bool) (lines : List Line) (entry : Entry) (place : ℕ) (d : Line) → Rise lines → place < length lines
+pub tells_at : (is : Bool) (lines : List Line) (entry : Entry) (place : ℕ) (d : Line) → LinesRise lines → place < length lines
     → (get_or lines place d).number ≡ entry.line
     → IsTrue is ↔ Differs entry.reply (get_or lines place d).recorded → IsTrue is ↔ DiffersFromLine lines entry
 tells_at is lines entry place d rise low number tells = (
@@ -89,14 +89,14 @@ agrees false claim h tells holds = absurd (let e : false ≡ true = tells holds 
 -- ---- the search
 
 -- the comparisons with a number rise along the lines
-comparisons_rise : (lines : List Line) (number : ℕ) → Rise lines → IsNonDecreasingBy (λ (l : Line). ordering_index (nat_cmp l.number number)) lines
+comparisons_rise : (lines : List Line) (number : ℕ) → LinesRise lines → IsNonDecreasingBy (λ (l : Line). ordering_index (nat_cmp l.number number)) lines
 comparisons_rise lines number rise i j d le low = elim (cases_lt i j) [
   | inl below ↦ let up : (get_or lines i d).number < (get_or lines j d).number = rise i j d below low in grind (arith, nat_tests)
   | inr above ↦ let same : i ≡ j = omega arith in omega (arith, ap (λ k. ordering_index (nat_cmp (get_or lines k d).number number)) same)
 ]
 
 -- a search by number ends at its line, or no line has the number
-pub searched : (lines : List Line) (number : ℕ) → Rise lines → (r : Result ℕ ℕ) → IsSearchInRange r (length lines)
+pub searched : (lines : List Line) (number : ℕ) → LinesRise lines → (r : Result ℕ ℕ) → IsSearchInRange r (length lines)
     → IsBinarySearchResult (λ (l : Line). nat_cmp l.number number) lines r → IfOk r (IsPlaceOf lines number) × IfErr r (λ gap. HasNoLine lines number)
 searched lines number rise (Ok place) low equal = ((low, λ d. ranked _ number _ (sym (equal d))), tt)
 searched lines number rise (Err gap) low parted = (
@@ -124,8 +124,8 @@ from_first : (number : ℕ) (first : Line) (lines : List Line) → first.number 
 from_first number first lines is all zero d low = omega arith
 from_first number first lines is all (suc k) d low = from_next number lines all k d (omega arith)
 
-rise_on : (stand : TracePosition) (answer : Fed) (lines : List Line) → Rise lines → AreFrom (stand.number + 1) lines
-    → Rise (lines_by stand answer ++ lines) × AreFrom stand.number (lines_by stand answer ++ lines)
+rise_on : (stand : TracePosition) (answer : Fed) (lines : List Line) → LinesRise lines → AreFrom (stand.number + 1) lines
+    → LinesRise (lines_by stand answer ++ lines) × AreFrom stand.number (lines_by stand answer ++ lines)
 rise_on stand (Played pid call recorded skipped) lines rise from =
     let first : Line = record { number = stand.number; process = index_among stand.seen pid; call = call; recorded = recorded } in (
       AllPairs-cons (λ (one other : Line). one.number < other.number) first lines
@@ -138,6 +138,6 @@ rise_on stand Blank lines rise from = (rise, from_next stand.number lines from)
 
 -- they rise
 pub reads_rise : {stand : TracePosition} {texts : List (List ℕ)} {lines : List Line} {skipped : ℕ} → Reads stand texts lines skipped
-    → Rise lines × AreFrom stand.number lines
+    → LinesRise lines × AreFrom stand.number lines
 reads_rise (nothing left) = ((λ i j d below low. absurd (omega arith)), (λ k d low. absurd (omega arith)))
 reads_rise (line {stand = s} {lines = ls} answer asks reads) = let rest = reads_rise reads in rise_on s answer ls rest.0 rest.1

@@ -45,7 +45,8 @@ maps_few empty = omega arith
 maps_few (mapped next rest) = let few = maps_few rest in omega arith
 maps_few (past_end next rest) = let few = maps_few rest in omega arith
 
-opens_few : (has : Bool) (texts left : List (List ℕ)) (areas : List Area) (past next : ℕ) → Opens has texts areas past next left
+-- and so an input with lines without maps lines
+pub opens_few : (has : Bool) (texts left : List (List ℕ)) (areas : List Area) (past next : ℕ) → Opens has texts areas past next left
     → next + length left ≤ 1 + length texts
 opens_few true texts left areas past next h = maps_few h
 opens_few false texts left areas past next h = omega (arith, h.2, ap length h.3)
@@ -59,7 +60,7 @@ of_byte true byte lines n few = omega arith
 of_byte false byte lines n few = put_few byte lines n few
 
 -- a text has at most as many lines as bytes
-lines_few : (text : List ℕ) → length (lines_of text) ≤ length text
+pub lines_few : (text : List ℕ) → length (lines_of text) ≤ length text
 lines_few [] = omega arith
 lines_few (byte ∷ text) = let few = of_byte (byte == 10) byte (lines_of text) (length text) (lines_few text) in omega (arith, few)
 

@@ -16,3 +16,4 @@ pub mod CleanLemmas
 pub mod CheckLemmas
 pub mod JudgeLemmas
 pub mod Printed
+pub mod OneReport

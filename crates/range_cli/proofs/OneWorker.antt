@@ -16,7 +16,7 @@ use Rattle.range_cli.specs.Laws.{OneWorkerPlaysOneHistory}
 use Rattle.range_cli.proofs.Parts.{part_whole}
 
 -- one worker's entries are those of all its lines
-of_lines : (lines : List Line) (entries : List Entry) → IsCollected (dealt 1 lines) entries → AreEntriesOf 0 (worker_lines 1 lines 0) entries
+pub of_lines : (lines : List Line) (entries : List Entry) → IsCollected (dealt 1 lines) entries → AreEntriesOf 0 (worker_lines 1 lines 0) entries
 of_lines lines entries h =
     subst (AreEntriesOf 0 (worker_lines 1 lines 0)) (part_whole (λ (e : Entry). e.worker) entries h.no_other) (h.lines 0 (worker_lines 1 lines 0) refl)
 

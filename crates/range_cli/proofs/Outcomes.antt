@@ -56,7 +56,7 @@ asks_ends stand text answer (Above OfLines v) a e =
 asks_ends stand text answer (Above Rows v) a e = e
 
 -- a line has one answer
-asks_same : (stand : TracePosition) (text : List ℕ) (a b : Fed) → Asks stand text a → Asks stand text b → a ≡ b
+pub asks_same : (stand : TracePosition) (text : List ℕ) (a b : Fed) → Asks stand text a → Asks stand text b → a ≡ b
 asks_same stand text a b x y = (one_answer stand.fed text).item a b x.1 y.1
 
 -- lines that are all read end no run
@@ -182,16 +182,19 @@ maps_ends_same (later_map {number = n} {from = f} {text = t} item b h) (here_map
 maps_ends_same (later_map {number = n} {from = f} {text = t} {texts = ts} item b h) (later_map {end = u} other_item c k) =
     maps_ends_same h (subst (λ i. EndsMaps (n + 1) (map_stop i) ts u) (next_same f t other_item item c b) k)
 
-record Same (xs bs : List Area) (n m : ℕ) (l r : List (List ℕ)) : Type 0 where
+-- two openings have the same areas, as many lines past the user addresses, and the same lines behind them
+pub record Same (xs bs : List Area) (p q n m : ℕ) (l r : List (List ℕ)) : Type 0 where
   pub areas : xs ≡ bs
+  pub past : p ≡ q
   pub next : n ≡ m
   pub left : l ≡ r
 
 -- an input begins in one way
 same_maps : {number from past past2 next next2 : ℕ} {texts left left2 : List (List ℕ)} {areas areas2 : List Area}
-    → ReadsMaps number from texts areas past next left → ReadsMaps number from texts areas2 past2 next2 left2 → Same areas areas2 next next2 left left2
-same_maps over over = record { areas = refl; next = refl; left = refl }
-same_maps empty_map empty_map = record { areas = refl; next = refl; left = refl }
+    → ReadsMaps number from texts areas past next left → ReadsMaps number from texts areas2 past2 next2 left2
+    → Same areas areas2 past past2 next next2 left left2
+same_maps over over = record { areas = refl; past = refl; next = refl; left = refl }
+same_maps empty_map empty_map = record { areas = refl; past = refl; next = refl; left = refl }
 same_maps empty_map (mapped a r) = absurd (a.some refl)
 same_maps empty_map (past_end a r) = absurd (a.some refl)
 same_maps (mapped a r) empty_map = absurd (a.some refl)
@@ -200,7 +203,7 @@ same_maps (mapped {number = n} {from = f} {text = t} {texts = ts} {area = x} a r
     let is : Mapped y ≡ Mapped x = next_same f t (Mapped y) (Mapped x) b a in
     let same : y ≡ x = cc in
     let s = same_maps r (subst (λ k. ReadsMaps (n + 1) (k.hi * 4096) ts ys p m l) same q) in
-    record { areas = rw (same, s.areas) refl; next = s.next; left = s.left }
+    record { areas = rw (same, s.areas) refl; past = s.past; next = s.next; left = s.left }
 same_maps (mapped {from = f} {text = t} {area = x} a r) (past_end {start = u} {stop = v} b q) =
     absurd (let is : Mapped x ≡ Past u v = next_same f t (Mapped x) (Past u v) a b in cc)
 same_maps (past_end {from = f} {start = u} {stop = v} {text = t} a r) (mapped {area = x} b q) =
@@ -210,12 +213,14 @@ same_maps (past_end {number = n} {from = f} {start = u} {stop = v} {text = t} {t
     let is : Past w z ≡ Past u v = next_same f t (Past w z) (Past u v) b a in
     let same : z ≡ v = cc in
     let s = same_maps r (subst (λ k. ReadsMaps (n + 1) k ts ys p m l) same q) in
-    record { areas = s.areas; next = s.next; left = s.left }
+    record { areas = s.areas; past = ap (λ n. 1 + n) s.past; next = s.next; left = s.left }
 
-same_opens : (has : Bool) (texts : List (List ℕ)) (past past2 next next2 : ℕ) (left left2 : List (List ℕ)) (areas areas2 : List Area)
-    → Opens has texts areas past next left → Opens has texts areas2 past2 next2 left2 → Same areas areas2 next next2 left left2
+-- an input begins in one way, with maps lines or without
+pub same_opens : (has : Bool) (texts : List (List ℕ)) (past past2 next next2 : ℕ) (left left2 : List (List ℕ)) (areas areas2 : List Area)
+    → Opens has texts areas past next left → Opens has texts areas2 past2 next2 left2 → Same areas areas2 past past2 next next2 left left2
 same_opens true texts past past2 next next2 left left2 areas areas2 a b = same_maps a b
-same_opens false texts past past2 next next2 left left2 areas areas2 a b = record { areas = a.0 ∙ sym b.0; next = a.2 ∙ sym b.2; left = a.3 ∙ sym b.3 }
+same_opens false texts past past2 next next2 left left2 areas areas2 a b =
+    record { areas = a.0 ∙ sym b.0; past = a.1 ∙ sym b.1; next = a.2 ∙ sym b.2; left = a.3 ∙ sym b.3 }
 
 opening_ends : (has : Bool) (texts : List (List ℕ)) (end : EarlyEnd) (past next : ℕ) (left : List (List ℕ)) (areas : List Area)
     → Opens has texts areas past next left → EndsOpening has texts end → ⊥
@@ -227,7 +232,7 @@ opening_ends_same true texts s u e h = maps_ends_same e h
 opening_ends_same false texts s u e h = absurd e
 
 -- one area list has given kinds
-same_list : (kinds : ℕ → Option Kind) (A B : List Area) → HasKinds kinds A → HasKinds kinds B → A ≡ B
+pub same_list : (kinds : ℕ → Option Kind) (A B : List Area) → HasKinds kinds A → HasKinds kinds B → A ≡ B
 same_list kinds A B a b = only_one A B a.areas b.areas (λ page. a.kinds_are page ∙ sym (b.kinds_are page))
 
 trace_ends : (options : Options) (bytes : List ℕ) (lines : List Line) (passed past next : ℕ) (left : List (List ℕ)) (areas : List Area) (end : EarlyEnd)

@@ -17,7 +17,7 @@ use Rattle.trace_threads.specs.Workers.{AreEntriesOf}
 use Rattle.trace_threads.specs.Collected.{IsCollected, IsPlayed as WerePlayed}
 use Rattle.range_cli.specs.declared.trace.Line.{Line}
 use Rattle.range_cli.specs.Dealt.{worker_of, own_lines, worker_lines, played_line, dealt}
-use Rattle.range_cli.specs.Play.{IsPlayed}
+use Rattle.range_cli.specs.Play.{IsHistoryOf}
 use Rattle.range_cli.proofs.Parts.{total, total_same, parts_whole, none_above}
 
 -- as many entries as lines
@@ -77,7 +77,7 @@ dealt_total threads lines lists some_threads is =
 
 -- what workers have played is what `run` says of it
 pub played : (threads : ℕ) (opening : List Area) (lines : List Line) (entries : List Entry) (last : List Area)
-    → WerePlayed opening (dealt threads lines) entries last → IsPlayed threads opening lines entries last
+    → WerePlayed opening (dealt threads lines) entries last → IsHistoryOf threads opening lines entries last
 played threads opening lines entries last h =
     let replied = chains_weaker FitsAndReplies HasRightReply (λ A e B step. step.1) opening entries last h.runs.1 in
     record {

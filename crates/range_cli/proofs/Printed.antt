@@ -42,8 +42,8 @@ use Rattle.std.specs.Io.KnownBytes.{Appends}
 use Rattle.range_cli.specs.Checking.{HasRead}
 use Rattle.range_cli.specs.Dealt.{worker_of, own_lines, worker_lines, played_line, dealt}
 use Rattle.range_cli.specs.Laws.{LogsAreGood, HasGoodLog, LegalFrom}
-use Rattle.range_cli.specs.Play.{IsPlayed}
-use Rattle.range_cli.specs.Report.{Rise, asked_log, asked_touched, refused_count, CountsTouched}
+use Rattle.range_cli.specs.Play.{IsHistoryOf}
+use Rattle.range_cli.specs.Report.{LinesRise, asked_log, asked_touched, refused_count, CountsTouched}
 use Rattle.range_cli.specs.Run.{IsReport, Reports, Wrote}
 use Rattle.range_cli.proofs.Differences.{reads_rise}
 use Rattle.range_cli.proofs.Parts.{NoneAbove, rest_none, first_below}
@@ -144,7 +144,7 @@ turns_rise (l ∷ ls) rise =
     (turns_rise ls (pairs_tail NumberBelow l ls rise))
 
 -- the entries of workers that played lines which rise have lines that rise
-each_rises : (threads : ℕ) (lines : List Line) (entries : List Entry) → Rise lines → IsCollected (dealt threads lines) entries
+each_rises : (threads : ℕ) (lines : List Line) (entries : List Entry) → LinesRise lines → IsCollected (dealt threads lines) entries
     → (k : ℕ) → AllPairs LineBelow (entries_of k entries)
 each_rises threads lines entries rise collected k = elim (cases_lt k threads) [
   | inl below ↦
@@ -159,7 +159,7 @@ each_rises threads lines entries rise collected k = elim (cases_lt k threads) [
 -- ---- the whole log
 
 -- what was played runs from the opening areas to the last ones
-runs_to_last : (threads : ℕ) (start : List Area) (lines : List Line) (entries : List Entry) (last : List Area) → IsPlayed threads start lines entries last
+runs_to_last : (threads : ℕ) (start : List Area) (lines : List Line) (entries : List Entry) (last : List Area) → IsHistoryOf threads start lines entries last
     → Runs 0 start entries last
 runs_to_last threads start lines entries last h =
     let end = h.fits.0 in
@@ -168,7 +168,7 @@ runs_to_last threads start lines entries last h =
     (h.legal.0, subst (λ B. Chains FitsAndReplies start entries B) same h.fits.1)
 
 last_is_list : (threads : ℕ) (start : List Area) (lines : List Line) (entries : List Entry) (last : List Area) → IsAreaList start
-    → IsPlayed threads start lines entries last → IsAreaList last
+    → IsHistoryOf threads start lines entries last → IsAreaList last
 last_is_list threads start lines entries last list h =
     let left = area_state start entries list in
     subst IsAreaList (one_state start entries left.0 last left.2 h.leaves) left.1

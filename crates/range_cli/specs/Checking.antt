@@ -83,18 +83,18 @@ pub record IsInputVerdict (opening : Bool) (bytes : List ℕ) (before : ℕ) (ve
   pub verdict_is : IsVerdict start head.left verdict
 
 -- how a cause is written
-abbrev pub why_text : WrongLog → List ℕ
-why_text Form = codes ": form\n"
-why_text Number = codes ": number\n"
-why_text Order = codes ": order\n"
-why_text Held = codes ": held\n"
-why_text Reply = codes ": reply\n"
-why_text Rest = codes ": rest\n"
+abbrev pub wrong_text : WrongLog → List ℕ
+wrong_text Form = codes ": form\n"
+wrong_text Number = codes ": number\n"
+wrong_text Order = codes ": order\n"
+wrong_text Held = codes ": held\n"
+wrong_text Reply = codes ": reply\n"
+wrong_text Rest = codes ": rest\n"
 
 -- the line of a verdict, where so many lines of the input stand before those that were checked
 abbrev pub verdict_line : ℕ → Verdict → List ℕ
 verdict_line before (Legal entries) = numbered (codes "legal ") entries (codes "\n")
-verdict_line before (WrongVerdict line why) = numbered (codes "wrong line ") (before + line) (why_text why)
+verdict_line before (WrongVerdict line why) = numbered (codes "wrong line ") (before + line) (wrong_text why)
 
 -- the status of a run that wrote it
 abbrev pub verdict_status : ℕ → Verdict → Status

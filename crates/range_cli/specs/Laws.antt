@@ -1,15 +1,15 @@
--- What follows for a run: by one worker nothing is left to the threads; and a log that was printed is one that a check
--- of it finds legal.
-use Rattle.std.specs.Prelude.{◌≡◌, ℕ, Bool, true, List, ◌++◌, Option, Some, length, map}
+-- What follows for a run: by one worker nothing is left to the threads, and words and input have one report; and a log
+-- that was printed is one that a check of it finds legal.
+use Rattle.std.specs.Prelude.{◌≡◌, ◌⊎◌, ℕ, Bool, true, List, ◌++◌, Option, Some, length, map}
 use Rattle.space_model.specs.Areas.{HasKinds, kind_at}
 use Rattle.area_rows.specs.Callers.{ClosedView}
 use Rattle.line_parts.specs.Lines.{lines_of}
 use Rattle.history_check.specs.declared.verdict.Verdict.TheVariants.{Legal}
 use Rattle.history_check.specs.Laws.{PrintedLogIsGood}
 use Rattle.history_check.specs.Verdicts.{IsVerdict}
-use Rattle.command_words.specs.declared.commands.Command.TheVariants.{Play}
+use Rattle.command_words.specs.declared.commands.Command.TheVariants.{Play, Load}
 use Rattle.command_words.specs.declared.commands.Options.{Options}
-use Rattle.command_words.specs.Commands.{Spells}
+use Rattle.command_words.specs.Commands.{Spells, AskForOne}
 use Rattle.range_cli.specs.declared.status.Status.{Status}
 use Rattle.range_cli.specs.declared.status.Status.TheVariants.{Done}
 use Rattle.range_cli.specs.Checking.{HasRead}
@@ -17,7 +17,8 @@ use Rattle.range_cli.specs.Script.{Begins}
 use Rattle.space_model.specs.declared.areas.Area.{Area}
 use Rattle.space_model.specs.declared.entries.Entry.{Entry}
 use Rattle.range_cli.specs.declared.trace.Line.{Line}
-use Rattle.range_cli.specs.Play.{IsPlayed}
+use Rattle.range_cli.specs.Play.{IsHistoryOf}
+use Rattle.range_cli.specs.Run.{Reports, Loaded}
 
 -- the entries agree in all but the ranges that were held
 pub record AreAlike (entries others : List Entry) : Type 0 where
@@ -32,7 +33,30 @@ pub record AreAlike (entries others : List Entry) : Type 0 where
 abbrev pub OneWorkerPlaysOneHistory : Type 0
 OneWorkerPlaysOneHistory =
     (opening : List Area) (lines : List Line) (entries others : List Entry) (last end : List Area) →
-    IsPlayed 1 opening lines entries last → IsPlayed 1 opening lines others end → AreAlike entries others × (last ≡ end)
+    IsHistoryOf 1 opening lines entries last → IsHistoryOf 1 opening lines others end → AreAlike entries others × (last ≡ end)
+
+-- the words ask for a run by one worker
+abbrev pub AskForOneWorker : List (List ℕ) → Type 0
+AskForOneWorker words =
+    ((options : Options) × Spells words (Play options 1)) ⊎ ((seed : ℕ) × (calls : ℕ) × Spells words (Load seed 1 calls))
+
+-- two reports are the same bytes, of the same entries, with all that these say, and of the same last areas
+pub record AreOneReport (one other : ClosedView) (first second : List ℕ) : Type 0 where
+  pub entries : one.entries ≡ other.entries
+  pub areas : one.areas ≡ other.areas
+  pub bytes : first ≡ second
+
+-- Where the words ask for one worker, all is decided by them and by the bytes of the input: two reports of them are
+-- one, whatever the threads do. A load's is decided by the words alone, whatever the input is.
+pub record HasOneReport (words : List (List ℕ)) : Type 0 where
+  pub of_input : (bytes : List ℕ) (left other_left : Option (List ℕ)) (one other : ClosedView) (first second : List ℕ) → AskForOneWorker words
+      → Reports words (Some bytes) left one first → Reports words (Some bytes) other_left other second → AreOneReport one other first second
+  pub of_load : (one other : ClosedView) (first second : List ℕ) → AskForOneWorker words → Loaded words one first → Loaded words other second
+      → AreOneReport one other first second
+
+-- so of all words that ask for one thing at most, as all do
+abbrev pub OneWorkerHasOneReport : Type 0
+OneWorkerHasOneReport = (words : List (List ℕ)) → AskForOne words → HasOneReport words
 
 -- the lines are a good log of so many entries from the areas with which this input begins
 pub record LegalFrom (opening : Bool) (bytes : List ℕ) (lines : List (List ℕ)) (entries : ℕ) : Type 0 where

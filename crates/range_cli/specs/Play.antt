@@ -18,7 +18,7 @@ AllFit A entries = (B : List Area) × Chains FitsAndReplies A entries B
 -- The lines were played from the opening areas by so many workers as these entries, which leave the last areas. Where
 -- all entries are of one worker, each call that may hold its area alone does. Sets of bits have named bits alone, so
 -- that the log's text tells the entries.
-pub record IsPlayed (threads : ℕ) (opening : List Area) (lines : List Line) (entries : List Entry) (last : List Area) : Type 0 where
+pub record IsHistoryOf (threads : ℕ) (opening : List Area) (lines : List Line) (entries : List Entry) (last : List Area) : Type 0 where
   pub collected : IsCollected (dealt threads lines) entries
   pub legal : IsLegal opening entries
   pub fits : AllFit opening entries

@@ -26,8 +26,8 @@ abbrev pub refused_count : List Entry → ℕ
 refused_count entries = count_by (λ entry. is_refused entry.reply) entries
 
 -- the numbers of the lines rise
-abbrev pub Rise : List Line → Type 0
-Rise lines = AllPairs (λ one other. one.number < other.number) lines
+abbrev pub LinesRise : List Line → Type 0
+LinesRise lines = AllPairs (λ one other. one.number < other.number) lines
 
 -- the line of this number stands at that place
 abbrev pub IsPlaceOf : List Line → ℕ → ℕ → Type 0

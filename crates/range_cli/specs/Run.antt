@@ -23,7 +23,7 @@ use Rattle.range_cli.specs.Checking.{IsInputVerdict, EndsCheck, verdict_line, ve
 use Rattle.range_cli.specs.ErrorLine.{error_line}
 use Rattle.range_cli.specs.Input.{IsInput, IsTooLong}
 use Rattle.range_cli.specs.Load.{lines_of_load}
-use Rattle.range_cli.specs.Play.{IsPlayed}
+use Rattle.range_cli.specs.Play.{IsHistoryOf}
 use Rattle.range_cli.specs.Report.{report_text, refused_count, CountsTouched, Differing}
 use Rattle.range_cli.specs.Script.{IsScript, EndsInput}
 use Rattle.range_cli.specs.Status.{status_of, ending}
@@ -35,7 +35,7 @@ pub record IsReport (options : Options) (threads : ℕ) (bytes : List ℕ) (clos
   pub lines : List Line
   pub skipped : ℕ
   pub script : IsScript options bytes start lines skipped
-  pub played : IsPlayed threads start lines closed.entries closed.areas
+  pub played : IsHistoryOf threads start lines closed.entries closed.areas
   pub differ : ℕ
   pub differs : Differing lines closed.entries differ
   pub touched : ℕ
@@ -47,7 +47,7 @@ pub record IsReport (options : Options) (threads : ℕ) (bytes : List ℕ) (clos
 -- empty space, are the space's history, and the summary is all that is printed. No line has a recorded result, so no
 -- reply differs from one
 pub record IsLoadReport (seed threads calls : ℕ) (closed : ClosedView) (report : List ℕ) : Type 0 where
-  pub played : IsPlayed threads [] (lines_of_load seed threads calls) closed.entries closed.areas
+  pub played : IsHistoryOf threads [] (lines_of_load seed threads calls) closed.entries closed.areas
   pub text : report ≡ summary_text (length closed.entries) 0 (refused_count closed.entries) 0
 
 -- with words that ask for an input to be played the whole input was read, within its limit, and this holds of its bytes

@@ -2,6 +2,7 @@
 -- project's own profile: the lines one after another, and last the rows of the areas that the input starts with. So an
 -- input has at most one early end.
 use Rattle.std.specs.Prelude.{◌≡◌, ◌⊎◌, ℕ, ◌+◌, ◌<◌, ◌≤◌, Bool, List, Option}
+use Rattle.page_types.specs.declared.TheConstants.{ROWS}
 use Rattle.space_model.specs.declared.areas.Area.{Area}
 use Rattle.space_model.specs.Areas.{kind_at, row_count, HasKinds}
 use Rattle.range_cli.specs.declared.script.Script.{Script}
@@ -31,7 +32,7 @@ pub record IsScript (options : Options) (bytes : List ℕ) (start : List Area) (
   pub passed : ℕ
   pub reads : Reads (start_at head.next) head.left lines passed
   pub kinds : HasKinds (kind_at head.areas) start
-  pub few_rows : row_count start ≤ 4096
+  pub few_rows : row_count start ≤ ROWS
   pub counted : skipped ≡ head.past + passed
 
 abbrev pub IsScriptOf : Options → List ℕ → Script → Type 0
@@ -50,7 +51,7 @@ pub record EndsByRows (options : Options) (bytes : List ℕ) (end : EarlyEnd) : 
   pub reads : Reads (start_at head.next) head.left lines passed
   pub start : List Area
   pub kinds : HasKinds (kind_at head.areas) start
-  pub many_rows : 4096 < row_count start
+  pub many_rows : ROWS < row_count start
   pub is : end ≡ Above Rows (row_count start)
 
 -- the bytes of an input end the run so: the first line that ends a run does, or behind all lines the rows do

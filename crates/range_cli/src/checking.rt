@@ -8,7 +8,7 @@ ghost use Rattle.byte_ports.specs.Counts.{Rose};
 ghost use Rattle.history_check.specs.LogLines.{BeginsLog};
 ghost use Rattle.line_parts.specs.Lines.{lines_of};
 ghost use Rattle.range_cli.specs.Checking.{KeepsLimits, EndsLog, EndsCheck, EndsCheckEarly, IsInputVerdict, HasRead};
-ghost use Rattle.range_cli.specs.Checking.{verdict_line, verdict_status, why_text};
+ghost use Rattle.range_cli.specs.Checking.{verdict_line, verdict_status, wrong_text};
 ghost use Rattle.range_cli.specs.Judging.{HasNumbers};
 ghost use Rattle.range_cli.specs.Status.{OrMemory};
 ghost use Rattle.range_cli.specs.declared.input.TheConstants.{INPUT_LIMIT};
@@ -192,7 +192,7 @@ pub fn write_verdict<K: Sink>(out: &mut K, judged: &Judgement) -> Result<(), Fai
 
 /// How the line says why a log is wrong, with the colon before it and the newline.
 fn why_of(why: WrongLog) -> &'static [u8]
-    ensures { result.now ≡ why_text why }
+    ensures { result.now ≡ wrong_text why }
 {
     match why {
         WrongLog::Form => b": form\n",

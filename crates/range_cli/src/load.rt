@@ -7,7 +7,7 @@ ghost use Rattle.load_lines.specs.Calls.{IsNamedLine as IsNamedMade};
 ghost use Rattle.page_types.specs.Named.{IsNamedCall};
 ghost use Rattle.range_cli.specs.Dealt.{dealt};
 ghost use Rattle.range_cli.specs.Load.{line_of, lines_of_load};
-ghost use Rattle.range_cli.specs.Play.{IsPlayed};
+ghost use Rattle.range_cli.specs.Play.{IsHistoryOf};
 ghost use Rattle.range_cli.specs.Trace.{IsNamedLine};
 ghost use Rattle.range_cli.specs.declared.trace.TheConstants.{LINES_LIMIT};
 
@@ -35,7 +35,7 @@ pub fn play_made<R: Threads + Wait + Sync, G: Gate>(
     requires some_threads { 0 < threads }
     requires few_threads { threads ≤ THREADS_LIMIT }
     requires calls { calls ≤ CALLS_LIMIT }
-    ensures played { IfOk result (λ closed. IsPlayed threads [] (lines_of_load seed threads calls) closed.entries closed.areas) }
+    ensures played { IfOk result (λ closed. IsHistoryOf threads [] (lines_of_load seed threads calls) closed.entries closed.areas) }
     ensures few { IfOk result (λ closed. length closed.entries ≤ LINES_LIMIT) }
 {
     let lists = lists_of_load(alloc, seed, threads, calls)?;

@@ -6,7 +6,7 @@ ghost use Rattle.page_types.specs.Named.{IsNamedCall};
 ghost use Rattle.page_types.specs.declared.TheConstants.{ROWS};
 ghost use Rattle.space_model.specs.Areas.{row_count};
 ghost use Rattle.range_cli.specs.Dealt.{dealt};
-ghost use Rattle.range_cli.specs.Play.{IsPlayed};
+ghost use Rattle.range_cli.specs.Play.{IsHistoryOf};
 ghost use Rattle.range_cli.specs.Report.{CountsTouched};
 ghost use Rattle.range_cli.specs.Trace.{IsNamedLine};
 ghost use Rattle.range_cli.specs.declared.trace.TheConstants.{LINES_LIMIT};
@@ -35,7 +35,7 @@ pub fn play<R: Threads + Wait + Sync, G: Gate>(
     requires rows { row_count opening.now ≤ ROWS }
     requires named { All IsNamedLine lines.now }
     requires few { length lines.now ≤ LINES_LIMIT }
-    ensures { IfOk result (λ closed. IsPlayed threads opening.now lines.now closed.entries closed.areas) }
+    ensures { IfOk result (λ closed. IsHistoryOf threads opening.now lines.now closed.entries closed.areas) }
 {
     let lists = deal_lines(alloc, threads, lines)?;
     play_lists(wait, alloc, threads, opening, lists, gate)
@@ -57,7 +57,7 @@ pub fn play_lists<R: Threads + Wait + Sync, G: Gate>(
     requires few { All (λ own. vec_len own < 2 ^ 32) lists.items }
     requires named { All (λ own. All (λ line. IsNamedCall line.call) own) (map vec_items lists.items) }
     ensures { IfOk result (λ closed. (lines : List Line) → map vec_items lists.items ≡ dealt threads lines
-        → IsPlayed threads opening.now lines closed.entries closed.areas) }
+        → IsHistoryOf threads opening.now lines closed.entries closed.areas) }
 {
     match play_trace(wait, alloc, opening, lists, gate) {
         Ok(closed) => Ok(closed),
@@ -80,7 +80,7 @@ pub fn play_touched<R: Threads + Wait + Sync, G: Gate>(
     requires rows { row_count opening.now ≤ ROWS }
     requires named { All IsNamedLine lines.now }
     requires few { length lines.now ≤ LINES_LIMIT }
-    ensures played { IfOk result (λ r. IsPlayed threads opening.now lines.now r.0.entries r.0.areas) }
+    ensures played { IfOk result (λ r. IsHistoryOf threads opening.now lines.now r.0.entries r.0.areas) }
     ensures touched { IfOk result (λ r. CountsTouched r.0.entries r.1) }
 {
     let lists = deal_lines(alloc, threads, lines)?;
@@ -105,7 +105,7 @@ pub fn play_asked<R: Threads + Wait + Sync, G: Gate>(
     requires rows { row_count opening.now ≤ ROWS }
     requires named { All IsNamedLine lines.now }
     requires few { length lines.now ≤ LINES_LIMIT }
-    ensures played { IfOk result (λ r. IsPlayed threads opening.now lines.now r.0.entries r.0.areas) }
+    ensures played { IfOk result (λ r. IsHistoryOf threads opening.now lines.now r.0.entries r.0.areas) }
     ensures touched { IfOk result (λ r. touched ≡ true → CountsTouched r.0.entries r.1) }
 {
     if touched {

@@ -231,16 +231,6 @@ fn ports_of_single_bytes_carry_the_same_report(rt: HostRuntime) -> Result<(), Fa
     Ok(())
 }
 
-/// All bytes of the start.
-fn start_bytes(alloc: Global) -> Result<Vec<u8>, AllocError> {
-    let mut bytes = Vec::new(alloc);
-    for (line, _) in START {
-        bytes.extend_from_slice(line.as_bytes())?;
-        bytes.push(b'\n')?;
-    }
-    Ok(bytes)
-}
-
 /// Runs the start from a source, and says whether it was done. Where it wasn't, the test fails unless the run says
 /// that the source failed, and played and wrote nothing.
 fn is_read<R: Abort + Threads + Wait + Sync, S: Source>(
@@ -263,7 +253,11 @@ fn is_read<R: Abort + Threads + Wait + Sync, S: Source>(
 
 #[test]
 fn a_read_that_fails_plays_nothing(rt: HostRuntime) -> Result<(), Fail> {
-    let bytes = start_bytes(rt.alloc())?;
+    let mut bytes = Vec::new(rt.alloc());
+    for (line, _) in START {
+        bytes.extend_from_slice(line.as_bytes())?;
+        bytes.push(b'\n')?;
+    }
     let mut whole = 0u32;
     for call in 1..MOST_CALLS {
         let mut input = source(rt.alloc(), &bytes, &[call])?;

@@ -7,7 +7,7 @@ ghost use Rattle.std.specs.Io.KnownBytes.{Appends};
 ghost use Rattle.byte_ports.specs.Bytes.{AppendsPrefix};
 ghost use Rattle.byte_ports.specs.Counts.{Rose};
 ghost use Rattle.range_cli.specs.Report.{report_text, asked_log, asked_touched, is_refused, refused_count};
-ghost use Rattle.range_cli.specs.Report.{Differing, DiffersFromLine, HasNoLine, IsPlaceOf, Rise};
+ghost use Rattle.range_cli.specs.Report.{Differing, DiffersFromLine, HasNoLine, IsPlaceOf, LinesRise};
 
 use crate::trace::Line;
 use byte_ports::{Failed, Sink};
@@ -107,7 +107,7 @@ fn is_refused(reply: Reply) -> bool
 
 /// How many replies differ from the recorded result of their line.
 pub fn differ_count(lines: &[Line], entries: &[Entry]) -> u32
-    requires rising { Rise lines.now }
+    requires rising { LinesRise lines.now }
     requires few { length entries.now < 2 ^ 32 }
     ensures { Differing lines.now entries.now result }
 {
@@ -126,7 +126,7 @@ pub fn differ_count(lines: &[Line], entries: &[Entry]) -> u32
 /// Whether an entry's reply differs from the recorded result of its line, which is looked for at one place first; and
 /// where to look first for the line of the next entry.
 fn differs_from_line(lines: &[Line], entry: &Entry, near: usize) -> (bool, usize)
-    requires { Rise lines.now }
+    requires { LinesRise lines.now }
     ensures { IsTrue result.0 ↔ DiffersFromLine lines.now entry.now }
 {
     match place_of(lines, entry.line, near) {
@@ -137,7 +137,7 @@ fn differs_from_line(lines: &[Line], entry: &Entry, near: usize) -> (bool, usize
 
 /// Where the line of a number stands: looked for at one place first, and otherwise by halving.
 fn place_of(lines: &[Line], number: u32, near: usize) -> Option<usize>
-    requires rising { Rise lines.now }
+    requires rising { LinesRise lines.now }
     ensures found { IfSome result (IsPlaceOf lines.now number) }
     ensures none { IsNone result → HasNoLine lines.now number }
 {

@@ -8,12 +8,12 @@ ghost use Rattle.std.specs.String.{string_bytes};
 ghost use Rattle.load_lines.specs.declared.TheConstants.{SEED_LIMIT, THREADS_LIMIT, CALLS_LIMIT};
 ghost use Rattle.command_words.specs.Commands.{Spells, RefusesWords, AskForLoad, AskForOne};
 ghost use Rattle.command_words.specs.declared.commands.Command.TheVariants.{Play, Load, Check};
-ghost use Rattle.range_cli.specs.Laws.{LogsAreGood};
+ghost use Rattle.range_cli.specs.Laws.{LogsAreGood, HasOneReport};
 ghost use Rattle.range_cli.specs.Run.{Wrote, IsDone, IsUnwritten, HasCause, IsOnlyOutcome, IsHindered, Complains};
 
 use crate::checking::{judge, write_verdict};
 use crate::error_line::write_error;
-use crate::laws::{carried_logs_are_good, one_worker_plays_one_history};
+use crate::laws::{carried_logs_are_good, one_worker_has_one_report, one_worker_plays_one_history};
 use crate::load::play_made;
 use crate::play::play_asked;
 use crate::report::{Counts, differ_count, refused_count, write_report};
@@ -55,6 +55,9 @@ pub fn run<R: Threads + Wait + Sync, S: Source, K: Sink, G: Gate>(
     err: &mut K,
     gate: &G,
 ) -> Status
+    // Read `out` in this order: `Wrote`, by status; `Reports` and `Heard`, what words and input ask for; `IsReport`;
+    // then its parts: `IsScript`, the lines, `IsHistoryOf`, what became of them, and `report_text`, what is printed of
+    // that. The crate's README unfolds it once for two lines and two workers.
     ensures out { Wrote (map string_bytes words.now) (S.remaining input.old)
         (S.remaining input.new) (K.contents out.old) (K.contents out.new) result }
     ensures cause { HasCause (map string_bytes words.now) (S.remaining input.old)
@@ -77,8 +80,11 @@ pub fn run<R: Threads + Wait + Sync, S: Source, K: Sink, G: Gate>(
     // A log that was printed is good: from the areas that the input begins with, a check finds it legal.
     ensures logs_are_good { LogsAreGood (map string_bytes words.now) (S.remaining input.old)
         (S.remaining input.new) (K.contents out.old) (K.contents out.new) result }
+    // By one worker the words and the bytes of the input decide the report: no other run of them writes another.
+    ensures one_worker { HasOneReport (map string_bytes words.now) }
 {
     one_worker_plays_one_history();
+    one_worker_has_one_report();
     let status = report(wait, alloc, words, input, out, gate);
     carried_logs_are_good(&status);
     let _ = write_error(err, &status);

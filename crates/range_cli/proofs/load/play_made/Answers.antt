@@ -5,7 +5,7 @@ use Rattle.range_cli.specs.declared.trace.Line.{Line}
 use Rattle.range_cli.specs.declared.trace.TheConstants.{LINES_LIMIT}
 use Rattle.range_cli.specs.Dealt.{dealt}
 use Rattle.range_cli.specs.Load.{lines_of_load}
-use Rattle.range_cli.specs.Play.{IsPlayed}
+use Rattle.range_cli.specs.Play.{IsHistoryOf}
 use Rattle.range_cli.proofs.LoadLemmas.{load_count}
 use Rattle.range_cli.proofs.PlayLemmas.{as_many}
 use Rattle.range_cli.proofs.load.play_made.Goals as goal
@@ -14,7 +14,7 @@ use Rattle.range_cli.proofs.load.play_made.Goals as goal
 pub returns-clause-few : goal.returns-clause-few
 returns-clause-few g c = IfOk-weaker c.play_lists-2.result
     (λ closed. (lines : List Line) → map vec_items c.in_ok-lists.lists.items ≡ dealt c.args.threads lines
-    → IsPlayed c.args.threads c.new.result lines closed.entries closed.areas)
+    → IsHistoryOf c.args.threads c.new.result lines closed.entries closed.areas)
     (λ closed. length closed.entries ≤ LINES_LIMIT)
     (λ closed h.
     let played = h (lines_of_load c.args.seed c.args.threads c.args.calls) c.in_ok-lists.ensures.dealt in

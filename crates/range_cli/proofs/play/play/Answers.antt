@@ -2,13 +2,13 @@ use Rattle.std.proofs.lemmas.Result.{IfOk-weaker}
 use Rattle.std.specs.Prelude.{List, map, vec_items, ◌≡◌}
 use Rattle.range_cli.specs.declared.trace.Line.{Line}
 use Rattle.range_cli.specs.Dealt.{dealt}
-use Rattle.range_cli.specs.Play.{IsPlayed}
+use Rattle.range_cli.specs.Play.{IsHistoryOf}
 use Rattle.range_cli.proofs.play.play.Goals as goal
 
 -- what is played of the dealt lines is played of the lines
 pub returns : goal.returns
 returns g c = IfOk-weaker c.play_lists.result
     (λ closed. (lines : List Line) → map vec_items c.in_ok-lists.lists.items ≡ dealt c.args.threads lines
-    → IsPlayed c.args.threads c.args.opening.now lines closed.entries closed.areas)
-    (λ closed. IsPlayed c.args.threads c.args.opening.now c.args.lines.now closed.entries closed.areas)
+    → IsHistoryOf c.args.threads c.args.opening.now lines closed.entries closed.areas)
+    (λ closed. IsHistoryOf c.args.threads c.args.opening.now c.args.lines.now closed.entries closed.areas)
     (λ closed h. h c.args.lines.now c.in_ok-lists.ensures.dealt) c.play_lists.ensures

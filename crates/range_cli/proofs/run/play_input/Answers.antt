@@ -1,5 +1,5 @@
 use Rattle.std.proofs.Common.{sym, ap, subst, arith, length}
-use Rattle.range_cli.specs.Report.{Rise}
+use Rattle.range_cli.specs.Report.{LinesRise}
 use Rattle.range_cli.proofs.Differences.{reads_rise}
 use Rattle.range_cli.proofs.PlayLemmas.{as_many}
 use Rattle.range_cli.proofs.RunLemmas.{wrote_nothing, has_cause, never_usage}
@@ -25,7 +25,7 @@ refused_count-requires g c =
 
 -- the numbers of a trace's lines rise
 pub differ_count-requires-clause-rising : goal.differ_count-requires-clause-rising
-differ_count-requires-clause-rising g c = subst Rise (sym c.deref-2.ensures.value) (reads_rise c.in-Ok.ensures.read.2.reads).0
+differ_count-requires-clause-rising g c = subst LinesRise (sym c.deref-2.ensures.value) (reads_rise c.in-Ok.ensures.read.2.reads).0
 
 -- there are as many entries as lines, so those that differ have a count of 32 bits
 pub differ_count-requires-clause-few : goal.differ_count-requires-clause-few
