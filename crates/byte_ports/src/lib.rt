@@ -20,6 +20,3 @@ pub use memory::{MemorySink, MemorySource};
 pub use ports::{Failed, Sink, Source};
 pub use standard::{StdSink, StdSource};
 pub use whole::write_all;
-
-#[cfg(test)]
-mod tests;

@@ -6,6 +6,3 @@
 mod commands;
 
 pub use commands::{Asked, Command, Given, Options, command_of};
-
-#[cfg(test)]
-mod tests;

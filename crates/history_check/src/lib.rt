@@ -21,8 +21,3 @@ pub use holding::fits;
 pub use laws::printed_logs_are_good;
 pub use line::read_log_line;
 pub use verdict::{Verdict, WrongLog};
-
-#[cfg(test)]
-mod check_tests;
-#[cfg(test)]
-mod tests;

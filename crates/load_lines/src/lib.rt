@@ -9,8 +9,6 @@ ghost use Rattle.load_lines.specs.Calls.{lines_of, IsNamedLine};
 
 mod calls;
 mod draws;
-#[cfg(test)]
-mod tests;
 
 use crate::calls::next_line;
 pub use calls::MadeLine;

@@ -3,24 +3,24 @@
 //! another counts what the seats bring in. A reader may take them as examples of how a layer above the lock is written.
 #![tactic(auto)]
 
+#[cfg(test)]
 mod adds;
+#[cfg(test)]
 mod crowd;
+#[cfg(test)]
 mod opened;
+#[cfg(test)]
 mod pairs;
 mod repeats;
 mod tally;
 #[cfg(test)]
 mod tests;
+#[cfg(test)]
 mod turns;
 mod turnstile;
+#[cfg(test)]
 mod visits;
 
-pub use adds::add_turns;
-pub use crowd::{add_all, tally_of, visit_all};
-pub use opened::{open_tally, open_turnstile};
-pub use pairs::{both, in_order};
 pub use repeats::hold_times;
 pub use tally::{Brought, Tally};
-pub use turns::visit_turns;
 pub use turnstile::{Turnstile, Visits};
-pub use visits::{enter, leave, look};

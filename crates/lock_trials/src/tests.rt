@@ -1,6 +1,9 @@
 //! Worked tries, and threads that meet at one table. Each test ends by a stated number of turns; what it expects is
 //! reckoned by hand, never taken from the program.
-use crate::{both, hold_times, in_order, open_tally, open_turnstile, tally_of, visit_all};
+use crate::crowd::{tally_of, visit_all};
+use crate::hold_times;
+use crate::opened::{open_tally, open_turnstile};
+use crate::pairs::{both, in_order};
 use lock_core::{FreeGuard, Mode, Range};
 use range_rw::{NotHeld, OpenFault, RangeTable, Stuck};
 use std::sync::atomic::{AtomicU64, Ordering};

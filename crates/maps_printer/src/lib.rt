@@ -13,6 +13,3 @@ mod words;
 pub use calls::write_call;
 pub use log::{is_line_of, write_log};
 pub use maps::{is_line_of_area, write_maps, write_summary, write_touched};
-
-#[cfg(test)]
-mod tests;

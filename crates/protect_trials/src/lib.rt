@@ -8,14 +8,16 @@
 mod claims;
 #[cfg(test)]
 mod scan_tests;
+#[cfg(test)]
 mod scanning;
+mod single;
 #[cfg(test)]
 mod tests;
 #[cfg(test)]
 mod thread_tests;
+#[cfg(test)]
 mod trials;
+#[cfg(test)]
 mod ways;
 
-pub use scanning::try_beside_scan;
-pub use trials::{Trial, call_of, change_all, protect_by};
-pub use ways::Ways;
+pub use single::protect_by;

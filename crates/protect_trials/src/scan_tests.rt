@@ -1,6 +1,6 @@
 //! A worked case of a fault beside an open scan. What the test expects is reckoned by hand, never taken from the
 //! program.
-use crate::try_beside_scan;
+use crate::scanning::try_beside_scan;
 use crews::open_crew;
 use page_fault::TriedFault;
 use page_types::{Kind, Prot, Reply};

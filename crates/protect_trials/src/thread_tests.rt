@@ -1,7 +1,8 @@
 //! Threads that move the boundaries of areas that touch, beside threads that fault on both sides. Whatever their order,
 //! the history is legal by the one-thread model, and each way that `protect` told is true of this history.
 use crate::claims::{closed_right, is_true, play};
-use crate::{Trial, Ways, change_all};
+use crate::trials::{Trial, change_all};
+use crate::ways::Ways;
 use area_protect::Path;
 use crews::open_crew;
 use page_types::{Call, Kind, Prot};

@@ -1,15 +1,13 @@
-//! One caller of a crew changes a protection, or all callers of the crew take their turns, each on a thread of its own:
-//! the first four change protections at the boundaries between their areas, and the others read.
-ghost use Rattle.std.specs.Prelude.{◌≡◌, ◌<◌, ◌+◌, ◌^◌, None, drop};
-ghost use Rattle.page_types.specs.declared.calls.Call.TheVariants.{Protect};
+//! All callers of a crew take their turns, each on a thread of its own: the first four change protections at the
+//! boundaries between their areas, and the others read.
+ghost use Rattle.std.specs.Prelude.{◌≡◌, ◌<◌, ◌+◌, ◌^◌, None};
 ghost use Rattle.page_types.specs.Named.{IsNamedCall};
 ghost use Rattle.page_types.specs.Sets.{IsNamedProt};
 ghost use Rattle.area_rows.specs.Called.{IsAnswered};
 ghost use Rattle.crews.specs.Crews.{HasCalled, HaveCalled, IsCrew, IsIdleAgain};
-ghost use Rattle.protect_trials.specs.ProtectTrials.{FirstProtected};
 
 use crate::ways::Ways;
-use area_protect::{Protected, make_protect, protect};
+use area_protect::{Protected, make_protect};
 use area_rows::{Answer, Caller, Space};
 use crews::make_call;
 use page_types::{Access, Call, PAGE, Prot};
@@ -34,25 +32,6 @@ pub enum Trial {
     /// The same, but at each eighth turn the last of them gives a page in the middle of its area another protection, or
     /// its old one, which holds everything.
     Splits,
-}
-
-/// The first caller of the crew changes a protection, and the others are as they were.
-pub fn protect_by<R: Wait>(
-    rt: &R,
-    space: &Space,
-    callers: &mut [Caller],
-    line: u32,
-    addr: u64,
-    len: u64,
-    prot: Prot,
-) -> Protected
-    requires crew { IsCrew space.now.table space.now.seats callers.old }
-    requires named { IsNamedCall (Protect addr len prot) }
-    ensures crew { IsCrew space.now.table space.now.seats callers.new }
-    ensures answer { FirstProtected callers.old line addr len prot result callers.new }
-    ensures others { drop 1 callers.new ≡ drop 1 callers.old }
-{
-    protect(space, rt, &mut callers[0], line, addr, len, prot)
 }
 
 /// The protection of the areas, one and the other in turn.

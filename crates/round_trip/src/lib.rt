@@ -8,6 +8,3 @@ mod logs;
 
 pub use calls::{read_written, reads_back};
 pub use logs::{has_word_numbers, logs_tell_entries, words_fit};
-
-#[cfg(test)]
-mod tests;

@@ -26,6 +26,3 @@ pub use line_parts::What;
 pub use lines::read_line;
 pub use maps::{MapsItem, read_maps_line};
 pub use playing::{as_played, differs};
-
-#[cfg(test)]
-mod tests;

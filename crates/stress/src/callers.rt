@@ -8,7 +8,7 @@ ghost use Rattle.crews.specs.Crews.{HasCalled, HaveCalled, IsCrew, IsIdleAgain};
 use crate::calls::draw_call;
 use crate::counts::Tries;
 use crate::draws::below;
-use area_protect::{Protected, protect};
+use area_protect::{Protected, make_protect};
 use area_rows::{Answer, Caller, Space};
 use crews::make_call;
 use page_fault::{TriedFault, fault, try_fault};
@@ -56,12 +56,12 @@ fn make_drawn<R: Wait>(rt: &R, space: &Space, caller: &mut Caller, line: u32, ca
     requires named { IsNamedCall call }
     ensures answer { IsAnswered caller.old line call result caller.new }
 {
-    let Call::Protect { addr, len, prot } = call else {
-        return make_call(rt, space, caller, line, call);
-    };
-    match protect(space, rt, caller, line, addr, len, prot) {
-        Protected::Given { entry, .. } => Answer::Given(entry),
-        Protected::Spent => Answer::Spent,
+    match call {
+        Call::Protect { .. } => match make_protect(space, rt, caller, line, call) {
+            Protected::Given { entry, .. } => Answer::Given(entry),
+            Protected::Spent => Answer::Spent,
+        },
+        _ => make_call(rt, space, caller, line, call),
     }
 }
 

@@ -3,9 +3,10 @@
 ghost use Rattle.std.specs.Prelude.{◌<◌, ◌≤◌, length};
 ghost use Rattle.page_types.specs.Named.{IsNamedCall};
 
-use crate::{
-    Hold, Moment, SignGate, one_line, page_lines, play_beside_writer, play_reads, read_line,
-};
+use crate::beside::play_beside_writer;
+use crate::dealt::play_reads;
+use crate::signs::{Hold, Moment, SignGate};
+use crate::{one_line, page_lines, read_line};
 use area_rows::{Closed, SpaceFault};
 use bitflags::Flags;
 use page_types::{Call, Kind, MapFlags, PAGE, Prot, Span};

@@ -1,0 +1,132 @@
+//! What the arguments of a call decide, each case worked by hand, after mmap(2), munmap(2) and mprotect(2).
+use crate::einval;
+use page_types::{Access, Call, Field, LIMIT, MapFlags, Prot, Reply, Short, Span, Why, plain};
+use std::test::Fail;
+
+#[test]
+fn a_span_is_refused_by_the_first_wrong_argument(rt: HostRuntime) {
+    assert_eq!(rt; Span::of(0x10000, 4097), Ok(Span { lo: 16, hi: 18 }));
+    assert_eq!(rt; Span::of(0x10001, 0), Err(Field::Addr));
+    assert_eq!(rt; Span::of(0x10000, 0), Err(Field::Len));
+    assert_eq!(rt;
+        Span::of(0x7fff_ffff_e000, 4096),
+        Ok(Span {
+            lo: LIMIT - 1,
+            hi: LIMIT
+        })
+    );
+    assert_eq!(rt; Span::of(0x7fff_ffff_e000, 4097), Err(Field::End));
+    assert_eq!(rt; Span::of(0xffff_ffff_ffff_f000, u64::MAX), Err(Field::End));
+}
+
+#[test]
+fn a_map_with_a_hint_has_neither_alignment_nor_end(rt: HostRuntime) {
+    let prot = Prot::READ;
+    for (addr, len, flags, wanted) in [
+        (
+            0x10001,
+            0,
+            MapFlags::PRIVATE | MapFlags::FIXED,
+            einval(Field::Addr),
+        ),
+        (0x10001, 0, MapFlags::PRIVATE, einval(Field::Len)),
+        (
+            0x10001,
+            1,
+            MapFlags::PRIVATE | MapFlags::SHARED,
+            einval(Field::Flags),
+        ),
+        (0x10000, 1, MapFlags::FIXED, einval(Field::Flags)),
+        (0x10001, u64::MAX, MapFlags::SHARED, None),
+        (
+            0x7fff_ffff_e000,
+            8192,
+            MapFlags::PRIVATE | MapFlags::FIXED_NOREPLACE,
+            Some(Reply::Refused(Why::Enomem(Short::PastEnd(LIMIT + 1)))),
+        ),
+    ] {
+        assert_eq!(rt;
+            plain(&Call::Map {
+                addr,
+                len,
+                prot,
+                flags
+            }),
+            wanted
+        );
+    }
+}
+
+#[test]
+fn the_other_calls_are_decided_in_their_own_ways(rt: HostRuntime) {
+    let addr = 0x7fff_ffff_e000;
+    let prot = Prot::READ;
+    let access = Access::Read;
+    for (call, wanted) in [
+        (
+            Call::Unmap {
+                addr: 0x50000,
+                len: 0,
+            },
+            einval(Field::Len),
+        ),
+        (Call::Unmap { addr, len: 8192 }, einval(Field::End)),
+        (
+            Call::Protect {
+                addr: 0x10000,
+                len: 0,
+                prot,
+            },
+            Some(Reply::Zero),
+        ),
+        (
+            Call::Protect {
+                addr: 0x10001,
+                len: 0,
+                prot,
+            },
+            einval(Field::Addr),
+        ),
+        (
+            Call::Protect {
+                addr,
+                len: 8192,
+                prot,
+            },
+            Some(Reply::Refused(Why::Enomem(Short::PastEnd(LIMIT + 1)))),
+        ),
+        (
+            Call::Fault {
+                addr: 0x7fff_ffff_efff,
+                access,
+            },
+            None,
+        ),
+        (
+            Call::Fault {
+                addr: 0x7fff_ffff_f000,
+                access,
+            },
+            Some(Reply::Refused(Why::MapErr(LIMIT))),
+        ),
+    ] {
+        assert_eq!(rt; plain(&call), wanted);
+    }
+}
+
+#[test]
+fn a_refused_argument_is_printed(rt: HostRuntime) -> Result<(), Fail> {
+    for (field, wanted) in [
+        (Field::Addr, "the address is not a multiple of 4096"),
+        (Field::Len, "the length is 0"),
+        (
+            Field::Flags,
+            "the flags do not have exactly one of SHARED and PRIVATE",
+        ),
+        (Field::End, "the end is above page 34359738367"),
+    ] {
+        let text = format!(in rt.alloc(); "{field}")?;
+        assert_eq!(rt; text.as_str(), wanted);
+    }
+    Ok(())
+}

@@ -1,0 +1,345 @@
+//! Scripts of the calls on the running list, reckoned by hand, and threads that meet at one. Each row has the number of
+//! its hand, what the hand does, and what comes of it. Where two hands meet within one call, the call is made step by
+//! step. Each test ends by a stated number of turns.
+use crate::calls::{Answer, Call};
+use crate::keeping::{Seen, count_all, keep_turns, leave_all_away, mark_in_turn};
+use crate::rows::{Move, play};
+use crate::words::raise_word;
+use crate::{close_all, open_list};
+use epoch_pools::{Stuck, Taken, ready};
+use lock_core::{Mode, Step};
+use marked_list::Lost;
+use std::sync::atomic::{AtomicU64, Ordering};
+
+/// A call that comes to what was asked for.
+fn made(which: Call) -> Move {
+    Move::Call(which, Answer::Made)
+}
+
+/// A call whose exchange finds another value.
+fn lost(which: Call, place: u32, expected: u64, found: u64) -> Move {
+    Move::Call(
+        which,
+        Answer::Lost(Lost {
+            place,
+            expected,
+            found,
+        }),
+    )
+}
+
+/// A call that meets a node in conflict.
+fn meets(which: Call, owner: u32, lo: u64, hi: u64, mode: Mode) -> Move {
+    Move::Call(
+        which,
+        Answer::Conflict {
+            owner,
+            lo,
+            hi,
+            mode,
+        },
+    )
+}
+
+/// That node is taken.
+fn takes(node: u32) -> Move {
+    Move::Call(Call::Take, Answer::Taken(Taken::Node(node)))
+}
+
+/// No node is taken, and why.
+fn stuck(why: Stuck) -> Move {
+    Move::Call(Call::Take, Answer::Taken(Taken::Out(why)))
+}
+
+/// The node is filled with a range.
+fn fills(lo: u64, hi: u64, mode: Mode) -> Move {
+    made(Call::Fill { lo, hi, mode })
+}
+
+#[test]
+fn a_writer_meets_a_reader_that_was_linked_behind_its_walk(rt: HostRuntime) {
+    let (list, mut hands) = open_list(rt.alloc(), 3, 7).expect(&rt, "memory");
+    let script = [
+        (2, Move::Finds(32, 4, 5, Mode::Reader)),
+        (2, Move::Holds),
+        (1, Move::Finds(16, 10, 11, Mode::Writer)),
+        (0, Move::Finds(0, 2, 15, Mode::Reader)),
+        (0, Move::Holds),
+        (1, made(Call::Link)),
+        (1, meets(Call::Validate, 0, 2, 15, Mode::Reader)),
+        (1, made(Call::Mark)),
+        (1, made(Call::End)),
+        (1, Move::Step(Step::Enter, 0)),
+        (1, Move::Step(Step::Walk, 2)),
+        (1, Move::Step(Step::Walk, 66)),
+        (1, Move::Step(Step::ReadLo, 2)),
+        (1, Move::Step(Step::ReadHi, 30)),
+        (1, Move::Step(Step::Walk, 34)),
+        (1, Move::Step(Step::ReadLo, 4)),
+        (1, Move::Step(Step::ReadHi, 10)),
+        (1, Move::Step(Step::Walk, 1)),
+        (1, Move::Step(Step::Leave, 0)),
+    ];
+    assert_eq!(rt; play(&list, hands.as_mut_slice(), &script), None);
+}
+
+#[test]
+fn a_reader_waits_for_a_writer_that_was_linked_behind_its_place(rt: HostRuntime) {
+    let (list, mut hands) = open_list(rt.alloc(), 3, 7).expect(&rt, "memory");
+    let script = [
+        (2, Move::Finds(32, 4, 5, Mode::Reader)),
+        (2, Move::Holds),
+        (0, Move::Finds(0, 2, 15, Mode::Reader)),
+        (1, Move::Finds(16, 10, 11, Mode::Writer)),
+        (1, Move::Holds),
+        (0, made(Call::Link)),
+        (0, meets(Call::Validate, 1, 10, 11, Mode::Writer)),
+        (0, meets(Call::Validate, 1, 10, 11, Mode::Writer)),
+        (1, made(Call::Mark)),
+        (0, made(Call::Validate)),
+        (0, made(Call::End)),
+    ];
+    assert_eq!(rt; play(&list, hands.as_mut_slice(), &script), None);
+}
+
+#[test]
+fn a_link_is_lost_where_the_node_before_was_marked(rt: HostRuntime) {
+    let alloc = rt.alloc();
+    let (list, mut hands) = open_list(alloc, 2, 7).expect(&rt, "memory");
+    let script = [
+        (0, Move::Finds(0, 0, 1, Mode::Writer)),
+        (0, Move::Holds),
+        (1, Move::Finds(16, 10, 11, Mode::Writer)),
+        (0, made(Call::Mark)),
+        (1, lost(Call::Link, 5, 0, 1)),
+        (1, made(Call::Walk)),
+        (1, Move::Holds),
+        (0, Move::Sees(34)),
+        (1, made(Call::Mark)),
+    ];
+    assert_eq!(rt; play(&list, hands.as_mut_slice(), &script), None);
+    let words = close_all(list, alloc, hands).expect(&rt, "idle hands, and memory");
+    assert_eq!(rt; words.as_slice(), [7].as_slice());
+}
+
+#[test]
+fn a_quick_link_is_settled_by_the_walk_of_another(rt: HostRuntime) {
+    let (list, mut hands) = open_list(rt.alloc(), 2, 7).expect(&rt, "memory");
+    let script = [
+        (0, takes(0)),
+        (0, fills(0, 1, Mode::Writer)),
+        (0, made(Call::QuickLink)),
+        (1, Move::Finds(16, 10, 11, Mode::Writer)),
+        (1, Move::Holds),
+        (0, lost(Call::QuickUnlink, 0, 3, 2)),
+        (0, made(Call::Mark)),
+        (0, Move::Step(Step::Enter, 0)),
+        (0, Move::Step(Step::Walk, 2)),
+        (0, Move::Step(Step::Walk, 35)),
+        (0, Move::Step(Step::Leave, 0)),
+    ];
+    assert_eq!(rt; play(&list, hands.as_mut_slice(), &script), None);
+}
+
+#[test]
+fn a_sweep_unlinks_all_nodes_of_two_hands(rt: HostRuntime) {
+    let (list, mut hands) = open_list(rt.alloc(), 2, 7).expect(&rt, "memory");
+    assert!(rt; mark_in_turn(&list, hands.as_mut_slice()));
+    let script = [
+        (0, stuck(Stuck::Away { node: 0 })),
+        (1, made(Call::Sweep)),
+        (1, Move::Sees(0)),
+        (0, takes(0)),
+        (1, takes(16)),
+    ];
+    assert_eq!(rt; play(&list, hands.as_mut_slice(), &script), None);
+    for hand in hands.as_slice() {
+        assert_eq!(rt; ready(hand), 15);
+    }
+}
+
+#[test]
+fn a_hand_inside_holds_up_nodes_that_were_swept(rt: HostRuntime) {
+    let (list, mut hands) = open_list(rt.alloc(), 2, 7).expect(&rt, "memory");
+    let begins = [(1, made(Call::Begin))];
+    assert_eq!(rt; play(&list, hands.as_mut_slice(), &begins), None);
+    assert!(rt; keep_turns(&list, hands.as_mut_slice(), 0, 16));
+    let script = [
+        (0, made(Call::Sweep)),
+        (0, stuck(Stuck::Inside { seat: 1, epoch: 1 })),
+        (1, made(Call::End)),
+        (0, takes(0)),
+    ];
+    assert_eq!(rt; play(&list, hands.as_mut_slice(), &script), None);
+}
+
+#[test]
+fn a_node_is_not_used_again_under_a_traversal(rt: HostRuntime) {
+    let alloc = rt.alloc();
+    let (list, mut hands) = open_list(alloc, 3, 7).expect(&rt, "memory");
+    assert!(rt; keep_turns(&list, hands.as_mut_slice(), 0, 15));
+    let script = [
+        (0, Move::Finds(15, 0, 1, Mode::Writer)),
+        (0, Move::Holds),
+        (1, Move::Finds(16, 10, 11, Mode::Writer)),
+        (0, made(Call::Mark)),
+        (2, Move::Finds(32, 20, 21, Mode::Reader)),
+        (2, Move::Holds),
+        (0, stuck(Stuck::Inside { seat: 1, epoch: 1 })),
+        (1, lost(Call::Link, 66, 0, 1)),
+        (1, made(Call::End)),
+        (0, takes(0)),
+        (0, Move::Sees(66)),
+        (2, made(Call::Mark)),
+    ];
+    assert_eq!(rt; play(&list, hands.as_mut_slice(), &script), None);
+    assert!(rt; close_all(list, alloc, hands).is_some());
+}
+
+#[test]
+fn nodes_that_are_in_the_list_or_in_a_hand_are_away(rt: HostRuntime) {
+    let (list, mut hands) = open_list(rt.alloc(), 16, 7).expect(&rt, "memory");
+    assert!(rt; leave_all_away(&list, hands.as_mut_slice()));
+    let script = [
+        (1, Move::Step(Step::Enter, 0)),
+        (1, Move::Step(Step::Walk, 32)),
+        (1, Move::Step(Step::Walk, 35)),
+        (1, Move::Step(Step::Unlink, 32)),
+        (0, stuck(Stuck::Away { node: 0 })),
+        (1, Move::Step(Step::GiveHome, 0)),
+        (0, stuck(Stuck::Inside { seat: 1, epoch: 3 })),
+        (1, Move::Step(Step::Leave, 0)),
+        (0, takes(15)),
+    ];
+    assert_eq!(rt; play(&list, hands.as_mut_slice(), &script), None);
+}
+
+#[test]
+fn a_seat_alone_goes_round_its_nodes_and_steps_on_a_word(rt: HostRuntime) {
+    let alloc = rt.alloc();
+    let (list, mut hands) = open_list(alloc, 1, 7).expect(&rt, "memory");
+    assert!(rt; keep_turns(&list, hands.as_mut_slice(), 0, 20));
+    let script = [
+        (0, takes(4)),
+        (0, Move::Never(Call::Take)),
+        (0, Move::Sees(8)),
+    ];
+    assert_eq!(rt; play(&list, hands.as_mut_slice(), &script), None);
+    assert!(rt; raise_word(&list, hands.as_mut_slice(), 0));
+    let words = close_all(list, alloc, hands).expect(&rt, "idle hands, and memory");
+    assert_eq!(rt; words.as_slice(), [10].as_slice());
+}
+
+#[test]
+fn a_walk_and_a_sweep_lose_a_node_to_a_sweep(rt: HostRuntime) {
+    let (list, mut hands) = open_list(rt.alloc(), 3, 7).expect(&rt, "memory");
+    let script = [
+        (0, Move::Finds(0, 0, 1, Mode::Writer)),
+        (0, Move::Holds),
+        (0, made(Call::Mark)),
+        (1, takes(16)),
+        (1, fills(10, 11, Mode::Writer)),
+        (1, made(Call::Begin)),
+        (1, Move::Step(Step::Walk, 2)),
+        (1, Move::Step(Step::Walk, 1)),
+        (2, made(Call::Begin)),
+        (2, Move::Step(Step::Walk, 2)),
+        (2, Move::Step(Step::Walk, 1)),
+        (0, made(Call::Sweep)),
+        (1, Move::Step(Step::Unlink, 0)),
+        (1, made(Call::Walk)),
+        (1, Move::Holds),
+        (2, Move::Step(Step::Unlink, 34)),
+        (2, made(Call::End)),
+        (2, made(Call::Sweep)),
+    ];
+    assert_eq!(rt; play(&list, hands.as_mut_slice(), &script), None);
+}
+
+#[test]
+fn a_validation_loses_a_node_to_a_sweep(rt: HostRuntime) {
+    let (list, mut hands) = open_list(rt.alloc(), 2, 7).expect(&rt, "memory");
+    let script = [
+        (0, Move::Finds(0, 0, 1, Mode::Writer)),
+        (0, Move::Holds),
+        (1, Move::Finds(16, 10, 11, Mode::Writer)),
+        (1, made(Call::Link)),
+        (0, made(Call::Mark)),
+        (1, Move::Step(Step::Walk, 2)),
+        (1, Move::Step(Step::Walk, 35)),
+        (0, made(Call::Sweep)),
+        (1, Move::Step(Step::Unlink, 34)),
+        (1, Move::Never(Call::End)),
+        (1, made(Call::Validate)),
+        (1, made(Call::End)),
+    ];
+    assert_eq!(rt; play(&list, hands.as_mut_slice(), &script), None);
+}
+
+#[test]
+fn a_conflict_names_the_range_that_was_met(rt: HostRuntime) {
+    let alloc = rt.alloc();
+    let (list, mut hands) = open_list(alloc, 2, 7).expect(&rt, "memory");
+    let script = [
+        (0, takes(0)),
+        (0, fills(0, 1, Mode::Writer)),
+        (0, made(Call::QuickLink)),
+        (1, Move::Never(Call::Validate)),
+        (1, takes(16)),
+        (1, fills(0, 2, Mode::Reader)),
+        (1, lost(Call::QuickLink, 0, 0, 3)),
+        (1, made(Call::Begin)),
+        (1, meets(Call::Walk, 0, 0, 1, Mode::Writer)),
+        (1, Move::Never(Call::Link)),
+        (1, made(Call::End)),
+        (0, lost(Call::QuickUnlink, 0, 3, 2)),
+        (0, made(Call::Mark)),
+        (0, made(Call::Sweep)),
+    ];
+    assert_eq!(rt; play(&list, hands.as_mut_slice(), &script), None);
+    assert!(rt; close_all(list, alloc, hands).is_some());
+}
+
+#[test]
+fn a_range_that_was_linked_at_once_is_unlinked_at_once(rt: HostRuntime) {
+    let alloc = rt.alloc();
+    let (list, mut hands) = open_list(alloc, 2, 7).expect(&rt, "memory");
+    let script = [
+        (0, takes(0)),
+        (0, fills(0, 1, Mode::Writer)),
+        (0, made(Call::QuickLink)),
+        (0, made(Call::QuickUnlink)),
+        (0, Move::Step(Step::GiveHome, 0)),
+        (1, Move::Sees(0)),
+    ];
+    assert_eq!(rt; play(&list, hands.as_mut_slice(), &script), None);
+    assert!(rt; close_all(list, alloc, hands).is_some());
+}
+
+#[test]
+fn two_threads_hold_two_thousand_overlapping_ranges_each(rt: HostRuntime) {
+    let alloc = rt.alloc();
+    let (list, mut hands) = open_list(alloc, 2, 0).expect(&rt, "memory");
+    let seen = Seen {
+        most: AtomicU64::new(0),
+        met: AtomicU64::new(0),
+    };
+    count_all(&rt, &list, hands.as_mut_slice(), 2000, 0, &seen);
+    assert_eq!(rt; seen.most.load(Ordering::SeqCst), 0);
+    let words = close_all(list, alloc, hands).expect(&rt, "idle hands, and memory");
+    assert_eq!(rt; words.as_slice(), [0].as_slice());
+}
+
+#[test]
+fn two_threads_hold_two_thousand_disjoint_ranges_each(rt: HostRuntime) {
+    let alloc = rt.alloc();
+    let (list, mut hands) = open_list(alloc, 2, 0).expect(&rt, "memory");
+    let seen = Seen {
+        most: AtomicU64::new(0),
+        met: AtomicU64::new(0),
+    };
+    count_all(&rt, &list, hands.as_mut_slice(), 2000, 100, &seen);
+    assert_eq!(rt; seen.met.load(Ordering::SeqCst), 0);
+    let words = close_all(list, alloc, hands).expect(&rt, "idle hands, and memory");
+    assert_eq!(rt; words.as_slice(), [0].as_slice());
+}
