@@ -15,7 +15,7 @@ invariant_of-state c =
     c.in-Some.ensures.items c.self.invariant.1 in
     let count : vec_len c.pop.new.self ≡ length c.pop.new.self.items = search rules in
     let none : length c.new.result.items ≤ c.len.result = subst (λ (n : ℕ). n ≤ c.len.result) (sym (ap length c.new.ensures.items))
-        (omega arith) in (
+    (omega arith) in (
       ap (λ (s : RecordingSeat). s.table) all.0 ∙ sym (ap (λ (t : TableShape). t.table) c.in-Ok.ensures),
       λ k s at. absurd (some-ne-none s (sym (subst (λ (l : Row). get_elem? l k ≡ some s) c.new.ensures.items at))),
       ap (λ (t : TableShape). t.client) c.in-Ok.ensures ∙ c.self.invariant.2,
