@@ -1,8 +1,9 @@
 //! Trials of the running list lock: scripts of calls and single steps, each with what it comes to, and threads that
-//! hold ranges at one list. What a step or a call may be is asked of the hand's own view when a trial runs, so a trial
-//! can hand in any; a reader may rely on one that may not be made changing nothing. The calls are those of
-//! `marked_list`, after Kogan, Dice and Issa, EuroSys 2020, with this project's own barrier before a node is used
-//! again. All but lists and their closing is read with the tests alone.
+//! hold ranges at one list; and worked schedules of the pure machine whose steps these are. What a step or a call may
+//! be is asked of the hand's own view when a trial runs, so a trial can hand in any; a reader may rely on one that may
+//! not be made changing nothing. The calls are those of `marked_list`, after Kogan, Dice and Issa, EuroSys 2020, with
+//! this project's own barrier before a node is used again. All but lists and their closing is read with the tests
+//! alone.
 #![tactic(auto)]
 
 #[cfg(test)]
@@ -14,6 +15,8 @@ mod calls;
 #[cfg(test)]
 mod keeping;
 mod kept;
+#[cfg(test)]
+mod machine_tests;
 mod opened;
 #[cfg(test)]
 mod playing;

@@ -1,1 +1,2 @@
 pub mod HeldNode
+mod InFour

@@ -1,28 +1,43 @@
 //! Measures what holding a range and giving it back costs. Where nobody else wants one it stands beside a `Mutex` of
 //! std, and beside the seven operations of the fast path on plain words; the steps of the running list by themselves
 //! stand beside these words too. Then what a turn costs where 2, 4 and 16 threads want one range, and where each wants
-//! its own. The times are the least of many rounds, so that other work on the machine counts little. They go to
-//! standard error, since they differ from run to run; standard output says only that all turns were made. With the word
-//! `full` more is measured: the steps by themselves in as many rounds as the rest, and longer rounds of threads.
+//! its own; and what a set of 1, 2 and 4 ranges costs beside as many single tries, on one thread and on four. The times
+//! are the least of many rounds, so that other work on the machine counts little. They go to standard error, since they
+//! differ from run to run; standard output says only that all turns were made. With the word `full` more is measured:
+//! the steps by themselves and the sets in as many rounds as the rest, and longer rounds of threads. The word `touches`
+//! measures first touches of pages, on the set of `page_touch` beside sets of std, and without a word a few thousand.
 #![tactic(auto)]
 
+ghost use Rattle.std.specs.Prelude.{◌<◌, ◌≤◌};
+
+mod crews;
 mod crowd;
+mod fours;
 mod list;
 mod quick;
 mod rounds;
+mod sets;
+mod singles;
+mod touch_sets;
+mod touches;
 mod turns;
+mod watch;
 
 use anyhow::{Result, bail};
 use crowd::{Wants, least_of_crowd};
+use fours::open_fours;
 use list::{least_of_list, least_of_plain};
 use lock_core::Range;
 use rounds::{ROUNDS, least_of_mutex, least_of_table};
+use sets::{crew_of_sets, least_of_sets};
+use singles::{crew_of_singles, least_of_singles};
 use std::alloc::Global;
 use std::env;
-use std::io::Eprint;
+use std::io::{Eprint, Print};
 use std::sync::Wait;
 use std::thread::Threads;
 use std::time::Clock;
+use touches::{Size, measure_touches};
 use turns::{TURNS, open_one};
 
 /// How many turns each thread has in a round.
@@ -32,14 +47,32 @@ const CROWD_TURNS: u32 = 1_000;
 const LONG_CROWD_TURNS: u32 = 20_000;
 
 fn main(rt: HostRuntime) -> Result<()> {
-    let (rounds, turns) = match env::args(&rt)?.nth(1) {
-        Some(word) if word.as_str() == "full" => (ROUNDS, LONG_CROWD_TURNS),
-        Some(_) => bail!("usage: lock_cost [full]"),
-        None => (1, CROWD_TURNS),
-    };
-    measure_table(&rt, rt.alloc())?;
-    measure_list(&rt, rt.alloc(), rounds)?;
-    measure_crowds(&rt, rt.alloc(), turns)?;
+    match env::args(&rt)?.nth(1) {
+        Some(word) if word.as_str() == "full" => {
+            measure_lock(&rt, rt.alloc(), ROUNDS, LONG_CROWD_TURNS)
+        }
+        Some(word) if word.as_str() == "touches" => measure_touches(&rt, rt.alloc(), Size::FULL),
+        Some(_) => bail!("usage: lock_cost [full|touches]"),
+        None => {
+            measure_lock(&rt, rt.alloc(), 1, CROWD_TURNS)?;
+            measure_touches(&rt, rt.alloc(), Size::SMALL)
+        }
+    }
+}
+
+/// What the lock costs: so many rounds of steps and of sets by themselves, and so many turns of each thread in a round.
+fn measure_lock<R: Threads + Wait + Sync + Clock + Print + Eprint>(
+    rt: &R,
+    alloc: Global,
+    rounds: u32,
+    turns: u32,
+) -> Result<()> {
+    measure_table(rt, alloc)?;
+    measure_list(rt, alloc, rounds)?;
+    measure_crowds(rt, alloc, turns)?;
+    measure_sets(rt, alloc, 1, rounds, turns)?;
+    measure_sets(rt, alloc, 2, rounds, turns)?;
+    measure_sets(rt, alloc, 4, rounds, turns)?;
     println!(rt; "{ROUNDS} rounds of {TURNS} turns each")?;
     Ok(())
 }
@@ -106,5 +139,69 @@ fn measure_crowds<R: Threads + Wait + Sync + Clock + Eprint>(
             own / made
         )?;
     }
+    Ok(())
+}
+
+/// Sets of so many ranges, from one to four, of one thread and of four.
+fn measure_sets<R: Threads + Wait + Sync + Clock + Eprint>(
+    rt: &R,
+    alloc: Global,
+    count: usize,
+    rounds: u32,
+    turns: u32,
+) -> Result<()>
+    requires { (0 < count) × (count ≤ 4) }
+{
+    measure_set(rt, alloc, count, rounds)?;
+    measure_crews(rt, alloc, count, turns)
+}
+
+/// The least times of rounds of sets of so many ranges, from one to four, and of as many single tries, where nobody
+/// else wants any.
+fn times_alone<R: Clock>(rt: &R, alloc: Global, count: usize, rounds: u32) -> Result<(u128, u128)>
+    requires { (0 < count) × (count ≤ 4) }
+{
+    let Some((table, mut set, mut singles)) = open_fours(alloc) else {
+        bail!("out of memory");
+    };
+    let by_set = least_of_sets(rt, &table, &mut set, count, rounds);
+    let by_one = least_of_singles(rt, &table, &mut singles, count, rounds);
+    drop(singles);
+    drop(set);
+    drop(table);
+    Ok((by_set?, by_one?))
+}
+
+/// A set of so many ranges, from one to four, beside as many single tries, where nobody else wants any.
+fn measure_set<R: Clock + Eprint>(rt: &R, alloc: Global, count: usize, rounds: u32) -> Result<()>
+    requires { (0 < count) × (count ≤ 4) }
+{
+    let (by_set, by_one) = times_alone(rt, alloc, count, rounds)?;
+    let percent = by_set.saturating_mul(100) / by_one.max(1);
+    let turns = u128::from(TURNS);
+    eprintln!(rt;
+        "a set of {count}: {} ns, {percent} percent of as many single tries ({} ns)",
+        by_set / turns,
+        by_one / turns
+    )?;
+    Ok(())
+}
+
+/// The same of four threads at one table, each of which wants ranges of its own.
+fn measure_crews<R: Threads + Wait + Sync + Clock + Eprint>(
+    rt: &R,
+    alloc: Global,
+    count: usize,
+    turns: u32,
+) -> Result<()>
+    requires { (0 < count) × (count ≤ 4) }
+{
+    let sets = crew_of_sets(rt, alloc, count, turns)?;
+    let singles = crew_of_singles(rt, alloc, count, turns)?;
+    let percent = sets.each.saturating_mul(100) / singles.each.max(1);
+    eprintln!(rt;
+        "4 threads with sets of {count} apart: {} ns for each set, {percent} percent of as many single tries ({} ns); refused {} and {} of 1000",
+        sets.each, singles.each, sets.refused, singles.refused
+    )?;
     Ok(())
 }

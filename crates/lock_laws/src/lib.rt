@@ -12,6 +12,3 @@ pub use laws::{
     paths_are_short, reader_stands_first, start_is_lock, steps_keep, views_are_sound,
 };
 pub use runs::{play, runs_are_exclusive, runs_have_no_reuse};
-
-#[cfg(test)]
-mod tests;

@@ -1,3 +1,4 @@
 pub mod SeatLists
+mod SetSeats
 pub mod Tallying
 pub mod Visiting

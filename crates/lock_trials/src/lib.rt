@@ -12,6 +12,8 @@ mod opened;
 #[cfg(test)]
 mod pairs;
 mod repeats;
+#[cfg(test)]
+mod set_tests;
 mod tally;
 #[cfg(test)]
 mod tests;

@@ -1,3 +1,3 @@
 mod Clashing
-mod Opened
+pub mod NewSeats
 mod Places

@@ -6,8 +6,6 @@
 
 mod set;
 mod taking;
-#[cfg(test)]
-mod tests;
 mod threads;
 mod wants;
 

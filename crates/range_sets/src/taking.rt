@@ -87,9 +87,10 @@ impl<G: Guard> Place<G> {
         ensures why { result.why ≡ behind.why }
         ensures counted { steps.new + self.old.trace.taken ≡ steps.old + self.new.trace.taken }
     {
+        let index = behind.index + 1;
         self.give(table, steps);
         SetRefused {
-            index: behind.index + 1,
+            index,
             why: behind.why,
         }
     }

@@ -5,8 +5,7 @@
 //! standard error, since they differ from run to run; standard output says how many calls were played and how many of
 //! them refused, on which all agree. The word `full` plays 1,048,576 calls of `load` and `pager` a round, the word
 //! `areas` as many on 300 to 600 areas. The word `faults` measures single faults, changes and plans, and `history` how
-//! long `legal` takes to judge as many entries. The word `touches` measures first touches of pages, beside sets of std.
-//! Without a word each is measured with a few thousand calls.
+//! long `legal` takes to judge as many entries. Without a word each is measured with a few thousand calls.
 #![tactic(auto)]
 
 ghost use Rattle.std.specs.Prelude.{◌≤◌};
@@ -27,8 +26,6 @@ mod protects;
 mod rounds;
 mod size;
 mod starts;
-mod touch_sets;
-mod touches;
 mod watch;
 
 use anyhow::{Result, bail};
@@ -43,7 +40,6 @@ use std::io::{Eprint, Print};
 use std::sync::Wait;
 use std::thread::Threads;
 use std::time::Clock;
-use touches::measure_touches;
 
 fn main(rt: HostRuntime) -> Result<()> {
     match env::args(&rt)?.nth(1) {
@@ -51,14 +47,12 @@ fn main(rt: HostRuntime) -> Result<()> {
         Some(word) if word.as_str() == "areas" => measure_areas(&rt, rt.alloc(), Size::FULL),
         Some(word) if word.as_str() == "faults" => measure_faults(&rt, rt.alloc(), Size::TURNS),
         Some(word) if word.as_str() == "history" => measure_history(&rt, rt.alloc(), Size::FULL),
-        Some(word) if word.as_str() == "touches" => measure_touches(&rt, rt.alloc(), Size::FULL),
-        Some(_) => bail!("usage: space_cost [full|areas|faults|history|touches]"),
+        Some(_) => bail!("usage: space_cost [full|areas|faults|history]"),
         None => {
             measure_threads(&rt, rt.alloc(), Size::SMALL)?;
             measure_areas(&rt, rt.alloc(), Size::SMALL)?;
             measure_faults(&rt, rt.alloc(), Size::FEW_TURNS)?;
-            measure_history(&rt, rt.alloc(), Size::SMALL)?;
-            measure_touches(&rt, rt.alloc(), Size::SMALL)
+            measure_history(&rt, rt.alloc(), Size::SMALL)
         }
     }
 }

@@ -1,5 +1,5 @@
 use Rattle.std.proofs.Common.{◌≡◌, ◌+◌, ◌-◌, ◌≤◌, length}
-use Rattle.space_cost.proofs.touches.touch_each.Given as goal
+use Rattle.lock_cost.proofs.touches.touch_each.Given as goal
 
 -- the seat has touched a page at each turn
 abbrev pub invariant-turns : goal.invariant-turns

@@ -5,7 +5,6 @@
 ghost use Rattle.std.specs.Prelude.{◌≡◌, ◌<◌, ◌≤◌, ◌+◌, ◌*◌, ◌^◌, All, length};
 ghost use Rattle.page_types.specs.declared.TheConstants.{LIMIT};
 
-use crate::size::{Size, percent};
 use crate::touch_sets::{OneSet, PageSet, SixteenSets};
 use crate::watch::Watch;
 use anyhow::{Result, bail, ensure};
@@ -17,7 +16,6 @@ use std::sync::atomic::{AtomicU64, Ordering};
 use std::thread;
 use std::thread::Threads;
 use std::time::Clock;
-use trace_threads::Gate;
 
 /// How many pages there are, and the square root of that.
 const PAGES: u64 = 1 << 34;
@@ -48,6 +46,28 @@ struct Plan {
     ghost few: { threads ≤ 4 },
     ghost each_few: { each ≤ 524288 },
     ghost all: { threads * each ≤ 524288 },
+}
+
+/// How many rounds there are of each kind, and how many pages are touched in each.
+#[derive(Clone, Copy)]
+pub struct Size {
+    rounds: u32,
+    touches: u32,
+    ghost few: { touches ≤ 524288 },
+}
+
+impl Size {
+    /// Few touches, to see that all runs.
+    pub const SMALL: Size = Size {
+        rounds: 2,
+        touches: 2_048,
+    };
+
+    /// As many as the figures of the docs are taken with.
+    pub const FULL: Size = Size {
+        rounds: 5,
+        touches: 524_288,
+    };
 }
 
 /// The times of rounds of one plan, in nanoseconds.
@@ -114,12 +134,12 @@ fn touch_each(touches: &Touches, seat: &mut TouchSeat, plan: Plan, thread: u32) 
 }
 
 /// Each of these seats touches the pages of its thread, and all first touches are counted.
-fn touch_beside<R: Threads + Wait + Sync, G: Gate>(
+fn touch_beside<R: Threads + Wait + Clock + Sync>(
     rt: &R,
+    watch: &Watch<R>,
     touches: &Touches,
     seats: &mut [TouchSeat],
     plan: Plan,
-    gate: &G,
 ) -> u64
     requires tables { All (λ s. s.table ≡ touches.now.table) seats.old }
     requires left { All (λ s. length s.touched + plan.each ≤ s.quota) seats.old }
@@ -129,9 +149,9 @@ fn touch_beside<R: Threads + Wait + Sync, G: Gate>(
         requires { (seat.now.table ≡ touches.now.table) × (length seat.now.touched + plan.each ≤ seat.now.quota) }
     {
         let thread = u32::try_from(index).unwrap_or(0);
-        gate.before(thread, 1);
+        watch.begin();
         let count = touch_each(touches, seat, plan, thread);
-        gate.after(thread, plan.all());
+        watch.end();
         firsts.fetch_add(count, Ordering::SeqCst);
     };
     thread::for_each_mut(rt, seats, 16, &turn);
@@ -148,8 +168,8 @@ fn round_of_touches<R: Threads + Wait + Sync + Clock>(
     let Ok((touches, mut seats)) = Touches::open(alloc, &quotas[..plan.threads as usize]) else {
         bail!("no memory for a set of touched pages");
     };
-    let watch = Watch::new(rt, plan.threads, plan.all())?;
-    let firsts = touch_beside(rt, &touches, seats.as_mut_slice(), plan, &watch);
+    let watch = Watch::new(rt)?;
+    let firsts = touch_beside(rt, &watch, &touches, seats.as_mut_slice(), plan);
     ensure!(firsts == u64::from(plan.all()), "a page was touched before");
     Ok(watch.time())
 }
@@ -174,12 +194,12 @@ fn round_of_sets<R: Threads + Wait + Sync + Clock, S: PageSet>(
     plan: Plan,
 ) -> Result<u64> {
     let mut counts = [0u64; 4];
-    let watch = Watch::new(rt, plan.threads, plan.all())?;
+    let watch = Watch::new(rt)?;
     let turn = |index: usize, count: &mut u64| {
         let thread = u32::try_from(index).unwrap_or(0);
-        watch.before(thread, 1);
+        watch.begin();
         *count = put_each(rt, set, plan, thread);
-        watch.after(thread, plan.all());
+        watch.end();
     };
     thread::for_each_mut(rt, &mut counts[..plan.threads as usize], 16, &turn);
     let mut firsts = 0u64;
@@ -215,6 +235,11 @@ fn times_of_touches<R: Threads + Wait + Sync + Clock>(
     Ok(times)
 }
 
+/// One time in percent of another.
+fn percent(one: u64, other: u64) -> u64 {
+    one.saturating_mul(100) / other.max(1)
+}
+
 /// The times of a plan, each for one touch.
 fn print_touches<R: Threads + Wait + Sync + Clock + Print + Eprint>(
     rt: &R,
@@ -225,32 +250,27 @@ fn print_touches<R: Threads + Wait + Sync + Clock + Print + Eprint>(
     let Plan { pages, threads, .. } = plan;
     let name = pages.name();
     let times = times_of_touches(rt, alloc, rounds, plan)?;
-    let size = Size {
-        rounds,
-        calls: plan.all(),
-    };
-    println!(rt;
-        "touches of {name} pages, threads {threads}: {} first touches",
-        size.calls
-    )?;
+    let all = plan.all();
+    let touches = u64::from(all).max(1);
+    println!(rt; "touches of {name} pages, threads {threads}: {all} first touches")?;
     eprintln!(rt;
         "touches of {name} pages, threads {threads}: a touch takes {} ns, {} percent of a HashSet under a Mutex ({} ns), {} percent of sixteen ({} ns)",
-        size.each(times.touches),
+        times.touches / touches,
         percent(times.touches, times.one_set),
-        size.each(times.one_set),
+        times.one_set / touches,
         percent(times.touches, times.sixteen_sets),
-        size.each(times.sixteen_sets)
+        times.sixteen_sets / touches
     )?;
     Ok(())
 }
 
-/// First touches of both kinds of pages on 1, 2 and 4 threads: half as many as the size has calls, and at most 524,288.
+/// First touches of both kinds of pages on 1, 2 and 4 threads.
 pub fn measure_touches<R: Threads + Wait + Sync + Clock + Print + Eprint>(
     rt: &R,
     alloc: Global,
     size: Size,
 ) -> Result<()> {
-    let quarter = (size.calls / 8).min(131_072);
+    let quarter = size.touches / 4;
     for pages in [Pages::Neighbouring, Pages::Scattered] {
         let alone = Plan {
             pages,
