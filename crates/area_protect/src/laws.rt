@@ -4,7 +4,8 @@
 ghost use Rattle.area_protect.specs.Protects.{LoneHoldsArea, LonePathIsOne};
 
 /// A change of protection that its arguments don't decide, and beside which nothing was numbered, holds its area
-/// exactly where its pages lie in one area and the change leaves the number of rows as it is. It does nothing.
+/// exactly where its pages lie in one area, and that is sealed or the change leaves the number of rows as it is. It
+/// does nothing.
 pub fn lone_protects_hold_their_area()
     ensures { LoneHoldsArea }
 {}

@@ -113,11 +113,11 @@ pub fn make_protect<R: Wait>(
 
 /// Changes the protection of the `len` bytes from `addr` on, rounded up to whole pages, as mprotect(2) does. The caller
 /// is of this space and holds nothing, and `prot` has named bits alone; `line` is the line of the input that names the
-/// call, counted from 1. A change within one area that leaves the number of rows as it is holds that area and a page on
-/// each side, unless a call under everything came between its steps; every other one holds all pages, and a call that
-/// its arguments decide holds nothing. It waits for the callers that hold these pages. The answer says by which way the
-/// call went and why. `Spent` comes exactly where the caller has no number left, and nothing has changed then. It takes
-/// no memory.
+/// call, counted from 1. A change within one area that is sealed, which refuses it, or that leaves the number of rows
+/// as it is, holds that area and a page on each side, unless a call under everything came between its steps; every
+/// other one holds all pages, and a call that its arguments decide holds nothing. It waits for the callers that hold
+/// these pages. The answer says by which way the call went and why. `Spent` comes exactly where the caller has no
+/// number left, and nothing has changed then. It takes no memory.
 pub fn protect<R: Wait>(
     space: &Space,
     wait: &R,

@@ -144,8 +144,9 @@ pub(crate) fn hold_area<R: Wait, L: Ledger>(
     }
 }
 
-/// The change, where the area is held: it is planned, numbered and stored, and the range is given back. Where it would
-/// leave another number of rows it is not numbered, and the answer is after how many entries that was so.
+/// The change, where the area is held: it is planned, numbered and stored, and the range is given back. In a sealed
+/// area it is numbered as refused, and nothing is stored. Where it would leave another number of rows it is not
+/// numbered, and the answer is after how many entries that was so.
 pub(crate) fn change_area<L: Ledger>(
     space: &Space,
     caller: &mut Caller,
@@ -197,6 +198,11 @@ pub(crate) fn change_area<L: Ledger>(
         AreaPlan::MoveStart(change, reply) => {
             let entry = space.number(caller, line, call, reply, under, steps);
             space.move_start(caller, change.index, change.start);
+            space.release(caller, steps);
+            Ok(entry)
+        }
+        AreaPlan::Sealed(reply) => {
+            let entry = space.number(caller, line, call, reply, under, steps);
             space.release(caller, steps);
             Ok(entry)
         }

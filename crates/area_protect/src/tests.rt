@@ -80,6 +80,7 @@ fn a_boundary_that_moves_between_two_looks_is_seen(rt: HostRuntime) -> Result<()
     let kind = |prot: Prot| Kind {
         prot,
         shared: false,
+        sealed: false,
     };
     let areas = [
         Area {
@@ -126,6 +127,7 @@ fn a_map_between_two_looks_is_named(rt: HostRuntime) -> Result<(), Fail> {
         kind: Kind {
             prot: Prot::READ,
             shared: false,
+            sealed: false,
         },
     }];
     assert!(rt; have_named_kinds(&areas));

@@ -1,9 +1,10 @@
 -- What a plan over an area says: at every moment at which its caller holds the area and has read the rows round it, the
--- area is one of the state, and the change is simple exactly where one of the four ways was chosen.
+-- area is one of the state, and the change is simple exactly where the area is sealed or one of the four ways was
+-- chosen.
 use Rattle.std.proofs.Common.{◌≡◌, ◌≢◌, ℕ, zero, suc, ◌+◌, ◌-◌, ◌<◌, ◌≤◌, ◌⊎◌, inl, inr, List, drop, get_or, sym, refl, ap, ◌∙◌, subst, arith, ⊎_elim}
-use Rattle.std.proofs.lemmas.Bool.{cases_lt}
+use Rattle.std.proofs.lemmas.Bool.{cases_lt, true≢false}
 use Rattle.std.proofs.lemmas.List.{drop_all}
-use Rattle.std.specs.Prelude.{All, Option, Some, None, is_none, [], ◌∷◌}
+use Rattle.std.specs.Prelude.{All, Option, Some, None, is_none, Bool, true, false, IsTrue, [], ◌∷◌}
 use Rattle.std.specs.Option.{option_map}
 use mathlib.Core.Option.{some}
 use lib.ListN.{get_elem?}
@@ -11,7 +12,8 @@ use Rattle.page_types.specs.declared.TheConstants.{LIMIT, ROWS}
 use Rattle.page_types.specs.declared.calls.Kind.{Kind}
 use Rattle.page_types.specs.declared.calls.Call.TheVariants.{Protect}
 use Rattle.page_types.specs.declared.calls.Reply.{Reply}
-use Rattle.page_types.specs.declared.calls.Reply.TheVariants.{Zero}
+use Rattle.page_types.specs.declared.calls.Reply.TheVariants.{Zero, Refused}
+use Rattle.page_types.specs.declared.calls.Why.TheVariants.{Eperm}
 use Rattle.page_types.specs.declared.pages.Span.{Span}
 use Rattle.page_types.specs.declared.sets.Prot.{Prot}
 use Rattle.page_types.specs.Named.{IsNamedKind}
@@ -22,18 +24,18 @@ use Rattle.space_model.specs.declared.entries.Entry.{Entry}
 use Rattle.space_model.specs.declared.entries.Under.TheVariants.{Nothing, Area as OverArea}
 use Rattle.space_model.specs.Areas.{IsAreaList, kind_at}
 use Rattle.space_model.specs.declared.paint.Paint.TheVariants.{Protects}
-use Rattle.space_model.specs.declared.sorts.Sort.TheVariants.{Missing}
-use Rattle.space_model.specs.Sorts.{NoneOf}
-use Rattle.space_model.specs.Answers.Answers.{done}
+use Rattle.space_model.specs.declared.sorts.Sort.TheVariants.{Missing, Sealed as IsSealed}
+use Rattle.space_model.specs.Sorts.{is_sort, NoneOf, IsLowest}
+use Rattle.space_model.specs.Answers.Answers.{refused, done}
 use Rattle.space_model.specs.Effect.{protected_kind, patch}
-use Rattle.space_model.specs.Held.{LiesIn, KeepsCounts, kind_before, IsSimpleIn, IsSimple, FitsByState}
+use Rattle.space_model.specs.Held.{LiesIn, KeepsCounts, kind_before, IsSimpleIn, IsSimple, FitsByState, FitsUnder}
 use Rattle.space_model.specs.Laws.{IsMaximalRun, FourCases}
 use Rattle.space_model.specs.Laws.FourCases.{nothing, whole as all_change, first_part as first_change, last_part as last_change}
 use Rattle.space_model.proofs.AreaKinds.{only_one}
 use Rattle.space_model.proofs.Changing.{within-before, within-inside, within-after, kind_at-limit}
-use Rattle.space_model.proofs.FourWays.{four_ways, keeps_rows}
+use Rattle.space_model.proofs.FourWays.{four_ways, keeps_rows, rows_of_way}
 use Rattle.space_model.proofs.MaximalRuns.{maximal_runs}
-use Rattle.space_model.proofs.Simple.{simple_borders}
+use Rattle.space_model.proofs.Simple.{simple_borders, keeps_counts}
 use Rattle.lock_core.specs.declared.range.Held.{Held}
 use Rattle.range_rw.specs.Contract.{SeatState}
 use Rattle.area_rows.specs.declared.guard.Change.{Change}
@@ -48,7 +50,7 @@ use Rattle.area_rows.specs.Changes.IsOneStore.{whole, first_part, last_part}
 use Rattle.area_rows.specs.History.{RowsStandFor, IsAtRest, IsRight, Leaves, change_pending}
 use Rattle.area_rows.specs.Callers.{CallerView, MayNumber, IsReading, Shows, IsMoment, IsAsRead, IsReadBefore, IsReadBehind, RowIs}
 use Rattle.area_rows.specs.declared.area.AreaPlan.{AreaPlan}
-use Rattle.area_rows.specs.declared.area.AreaPlan.TheVariants.{NotSimple, Same, SetKind, MoveStart}
+use Rattle.area_rows.specs.declared.area.AreaPlan.TheVariants.{NotSimple, Sealed, Same, SetKind, MoveStart}
 use Rattle.area_rows.specs.AreaPlans.{IsOneKind, IsAmong, IsLike, IsChosen, planned_change, MayChange, IsAreaPlan}
 use Rattle.area_rows.specs.Writes.{span_pages}
 use Rattle.row_plans.proofs.RowLists.{row_says, some_none}
@@ -230,42 +232,71 @@ module _ (seat : SeatState Pass) (span : Span) (row : Row) (kind : Kind) (before
   pub one_kind : IsOneKind state (page_of addr) (end_page addr len)
   one_kind = (kind, λ page low high. of_kind page (omega arith) (omega arith))
 
-  -- no way was left
-  pub not_simple : (FourCases state own (page_of addr) (end_page addr len) (protected_kind prot kind) → ⊥) → IsSimple state (Protect addr len prot) → ⊥
-  not_simple no_way simple =
+  -- the area isn't sealed, and no way was left
+  pub not_simple : kind.sealed ≡ false → (FourCases state own (page_of addr) (end_page addr len) (protected_kind prot kind) → ⊥)
+      → IsSimple state (Protect addr len prot) → ⊥
+  not_simple unsealed no_way simple =
       let borders = simple_borders state addr len prot (page_of addr) (end_page addr len) own refl refl in_order lies some_page simple in
-      no_way ((four_ways state own addr len prot in_order undecided lies).0 ((keeps_rows state own addr len prot in_order undecided lies).1 borders))
+      ⊎_elim
+      (λ sealed. true≢false (sym sealed ∙ unsealed))
+      no_way
+      ((four_ways state own addr len prot in_order undecided lies).0 ((keeps_rows state own addr len prot in_order undecided lies).1 borders))
 
-  -- one of the four ways is simple, and right
-  module _ (way : FourCases state own (page_of addr) (end_page addr len) (protected_kind prot kind)) where
-    -- the call keeps the number of areas and of gaps, and its pages lie in the row's area
-    pub simple_in_own : IsSimpleIn state (Protect addr len prot) own
-    simple_in_own = (four_ways state own addr len prot in_order undecided lies).1 way
+  mapped : NoneOf (kind_at state) Missing (page_of addr) (end_page addr len)
+  mapped page low high = ap is_none (of_kind page (omega arith) (omega arith))
 
-    counts : KeepsCounts state (patch (page_of addr) (end_page addr len) (Protects prot)) simple_in_own.1.0
-    counts = simple_in_own.1.1
+  -- where the call is simple in the row's area the range that is held fits it
+  fits_own : IsSimpleIn state (Protect addr len prot) own → FitsUnder state (Protect addr len prot) (OverArea span)
+  fits_own simple = match_none (plain_reply (Protect addr len prot)) (FitsByState state (Protect addr len prot) (OverArea span))
+      (λ (_ : Reply). OverArea span ≡ Nothing) undecided
+      (inr (own, simple, record { first = round.0; end = round.1 }))
 
-    mapped : NoneOf (kind_at state) Missing (page_of addr) (end_page addr len)
-    mapped page low high = ap is_none (of_kind page (omega arith) (omega arith))
+  -- in a sealed area the call is refused for its first page, which is right under the range that is held
+  pub sealed_right : IsTrue kind.sealed
+      → IsRight state (Protect addr len prot) (Refused (Eperm (page_of addr))) (OverArea span) state
+  sealed_right sealed =
+      let lowest : IsLowest (kind_at state) IsSealed (page_of addr) (end_page addr len) (page_of addr) =
+      record {
+        from = omega arith;
+        within = some_page;
+        such = ap (is_sort IsSealed) (of_kind (page_of addr) from (omega arith)) ∙ sealed;
+        none_below = λ page low high. absurd (omega arith);
+      } in
+      record {
+        fits = fits_own (lies, inl sealed);
+        answers = refused (Eperm (page_of addr)) undecided (inl (inr (mapped, inl (page_of addr, lowest, refl)))) refl refl;
+      }
+
+  -- in one that isn't sealed one of the four ways is simple, and right
+  module _ (unsealed : kind.sealed ≡ false) (way : FourCases state own (page_of addr) (end_page addr len) (protected_kind prot kind)) where
+    -- the call keeps the number of areas and of gaps
+    pub done_list : (B : List Area) × KeepsCounts state (patch (page_of addr) (end_page addr len) (Protects prot)) B
+    done_list = keeps_counts state prot (page_of addr) (end_page addr len) own in_order lies some_page (omega arith)
+        (rows_of_way state own addr len prot in_order undecided lies way)
+
+    counts : KeepsCounts state (patch (page_of addr) (end_page addr len) (Protects prot)) done_list.0
+    counts = done_list.1
+
+    none_sealed : NoneOf (kind_at state) IsSealed (page_of addr) (end_page addr len)
+    none_sealed page low high = ap (is_sort IsSealed) (of_kind page (omega arith) (omega arith)) ∙ unsealed
 
     -- the call is right at this state, with the reply Zero and under the range that is held
-    pub right : IsRight state (Protect addr len prot) Zero (OverArea span) simple_in_own.1.0
+    pub right : IsRight state (Protect addr len prot) Zero (OverArea span) done_list.0
     right = record {
-      fits = match_none (plain_reply (Protect addr len prot)) (FitsByState state (Protect addr len prot) (OverArea span))
-          (λ (_ : Reply). OverArea span ≡ Nothing) undecided
-          (inr (own, simple_in_own, record { first = round.0; end = round.1 }));
-      answers = done (patch (page_of addr) (end_page addr len) (Protects prot) ∷ []) None undecided ((mapped, tt), refl) counts.changed
+      fits = fits_own (lies, inr done_list);
+      answers = done (patch (page_of addr) (end_page addr len) (Protects prot) ∷ []) None undecided
+          ((mapped, (none_sealed, tt)), refl) counts.changed
           (let a = counts.areas in let g = counts.gaps in let l = m.running.limit in omega arith);
     }
 
-    kind_after : (page : ℕ) → page_of addr ≤ page → page < end_page addr len → kind_at simple_in_own.1.0 page ≡ Some (protected_kind prot kind)
+    kind_after : (page : ℕ) → page_of addr ≤ page → page < end_page addr len → kind_at done_list.0 page ≡ Some (protected_kind prot kind)
     kind_after page low high = counts.changed.kinds_are page
         ∙ (within-inside (page_of addr) (end_page addr len) page (option_map (protected_kind prot) (kind_at state page)) (kind_at state page) low high
         ∙ ap (option_map (protected_kind prot)) (of_kind page (omega arith) (omega arith)))
 
     -- a page of the call, or one that keeps its kind
     elsewhere_or : (page : ℕ) → (page_of addr ≤ page → page < end_page addr len
-        → kind_at simple_in_own.1.0 page ≡ kind_at state page) → kind_at simple_in_own.1.0 page ≡ kind_at state page
+        → kind_at done_list.0 page ≡ kind_at state page) → kind_at done_list.0 page ≡ kind_at state page
     elsewhere_or page inside = elim (cases_lt page (page_of addr)) [
       | inl lt ↦ counts.changed.kinds_are page ∙ within-before (page_of addr) (end_page addr len) page
           (option_map (protected_kind prot) (kind_at state page)) (kind_at state page) lt
@@ -277,13 +308,13 @@ module _ (seat : SeatState Pass) (span : Span) (row : Row) (kind : Kind) (before
     ]
 
     -- where the kind is the same nothing changes
-    pub nothing_left : protected_kind prot kind ≡ kind → simple_in_own.1.0 ≡ state
-    nothing_left same = only_one simple_in_own.1.0 state counts.changed.areas in_order (λ page. elsewhere_or page
+    pub nothing_left : protected_kind prot kind ≡ kind → done_list.0 ≡ state
+    nothing_left same = only_one done_list.0 state counts.changed.areas in_order (λ page. elsewhere_or page
         (λ low high. kind_after page low high ∙ (ap Some same ∙ sym (of_kind page (omega arith) (omega arith)))))
 
     -- the change of one row is what is left
     pub change_left : (c : Change) → c.span ≡ span → c.place.lo ≡ page_of addr → c.place.hi ≡ end_page addr len → c.old ≡ kind
-        → c.new ≡ protected_kind prot kind → IsChange state span c simple_in_own.1.0
+        → c.new ≡ protected_kind prot kind → IsChange state span c done_list.0
     change_left c s lo hi old new = record {
       held = s;
       inside = let a = round.0 in let b = round.1 in let e = ap (λ (x : Span). x.lo) s in let f = ap (λ (x : Span). x.hi) s in (omega arith, omega arith);
@@ -336,44 +367,54 @@ module _ (c : CallerView) (span : Span) (row : Row) (kind : Kind) (before behind
     (from : row.lo ≤ page_of addr) (until : end_page addr len ≤ row.hi)
     (shows : Shows c.seat (RowIs c.seat.held (page_of addr) row)) where
   -- a call of one of the four ways may be numbered
-  number_by : (change : Option Change) → c.change ≡ change
+  number_by : (change : Option Change) → c.change ≡ change → kind.sealed ≡ false
       → ((A : List Area) (a : Area) → IsAmong A a row kind before behind → a.kind ≡ kind
       → FourCases A a (page_of addr) (end_page addr len) (protected_kind prot kind))
       → ((state left : List Area) → (protected_kind prot kind ≡ kind → left ≡ state)
       → ((d : Change) → IsOf d span (page_of addr) (end_page addr len) kind (protected_kind prot kind)
       → IsChange state span d left) → Leaves state (OverArea span) (change_pending change) left)
       → MayNumber c (Protect addr len prot) Zero (OverArea span)
-  number_by change chosen way leaves start history state words m =
+  number_by change chosen unsealed way leaves start history state words m =
       let is = shows start history state words m in
       let g = among c.seat span row kind before behind addr len prot held rest round limit is_kind read read_before read_behind
       undecided some_page from until start history state words m is in
       let mine = own c.seat span row kind before behind addr len prot held rest round limit is_kind read read_before read_behind
       undecided some_page from until start history state words m is in
       let w = way state mine g refl in
-      let s = simple_in_own c.seat span row kind before behind addr len prot held rest round limit is_kind read read_before
-      read_behind undecided some_page from until start history state words m is w in (
-        s.1.0,
+      let s = done_list c.seat span row kind before behind addr len prot held rest round limit is_kind read read_before
+      read_behind undecided some_page from until start history state words m is unsealed w in (
+        s.0,
         right c.seat span row kind before behind addr len prot held rest round limit is_kind read read_before read_behind
-            undecided some_page from until start history state words m is w,
-        subst (λ (o : Option Change). Leaves state (OverArea span) (change_pending o) s.1.0) (sym chosen)
-            (leaves state s.1.0
+            undecided some_page from until start history state words m is unsealed w,
+        subst (λ (o : Option Change). Leaves state (OverArea span) (change_pending o) s.0) (sym chosen)
+            (leaves state s.0
             (nothing_left c.seat span row kind before behind addr len prot held rest round limit is_kind read read_before
-            read_behind undecided some_page from until start history state words m is w)
+            read_behind undecided some_page from until start history state words m is unsealed w)
             (λ d o. change_left c.seat span row kind before behind addr len prot held rest round limit is_kind read read_before
-            read_behind undecided some_page from until start history state words m is w d o.span_is o.lo_is o.hi_is o.old_is
+            read_behind undecided some_page from until start history state words m is unsealed w d o.span_is o.lo_is o.hi_is o.old_is
             o.new_is)),
       )
 
-  -- so may it with a reply that is that one
-  number_as : (reply : Reply) → reply ≡ Zero → MayNumber c (Protect addr len prot) Zero (OverArea span)
-      → MayNumber c (Protect addr len prot) reply (OverArea span)
-  number_as reply said number = subst (λ (r : Reply). MayNumber c (Protect addr len prot) r (OverArea span)) (sym said) number
+  -- so may one in a sealed area, refused for its first page, with nothing to store
+  number_refused : c.change ≡ None → IsTrue kind.sealed
+      → MayNumber c (Protect addr len prot) (Refused (Eperm (page_of addr))) (OverArea span)
+  number_refused none sealed start history state words m = (
+    state,
+    sealed_right c.seat span row kind before behind addr len prot held rest round limit is_kind read read_before read_behind
+        undecided some_page from until start history state words m (shows start history state words m) sealed,
+    subst (λ (o : Option Change). Leaves state (OverArea span) (change_pending o) state) (sym none) refl,
+  )
 
-  one_store : (d : Change) (reply : Reply) → reply ≡ Zero → c.change ≡ Some d
+  -- so may it with a reply that is that one
+  number_as : (reply due : Reply) → reply ≡ due → MayNumber c (Protect addr len prot) due (OverArea span)
+      → MayNumber c (Protect addr len prot) reply (OverArea span)
+  number_as reply due said number = subst (λ (r : Reply). MayNumber c (Protect addr len prot) r (OverArea span)) (sym said) number
+
+  one_store : (d : Change) (reply : Reply) → reply ≡ Zero → c.change ≡ Some d → kind.sealed ≡ false
       → IsOf d span (page_of addr) (end_page addr len) kind (protected_kind prot kind)
       → IsOneStore row before behind d → d.new ≢ d.old → IsNamedKind d.kind → MayChange c (Protect addr len prot) span d reply
-  one_store d reply said chosen o store differs named = record {
-    number = number_as reply said (number_by (Some d) chosen
+  one_store d reply said chosen unsealed o store differs named = record {
+    number = number_as reply Zero said (number_by (Some d) chosen unsealed
         (λ A a g e. cases_of A a d span (page_of addr) (end_page addr len) kind (protected_kind prot kind) o
         (four_of A a row before behind d (subst (λ (k : Kind). IsAmong A a row k before behind) (sym o.old_is) g) store))
         (λ state left none change. change d o));
@@ -408,6 +449,11 @@ module _ (c : CallerView) (span : Span) (row : Row) (kind : Kind) (before behind
       → IsNamedKind (protected_kind prot kind) → IsOneStore row before behind d → IsNamedKind d.kind
   named_of d o old new store = named_by d (subst IsNamedKind (sym o.old_is) old) (subst IsNamedKind (sym o.new_is) new) store
 
+  -- the kind of a change of these pages is sealed as the row is
+  sealed_as : (d : Change) (b : Bool) → IsOf d span (page_of addr) (end_page addr len) kind (protected_kind prot kind)
+      → d.old.sealed ≡ b → kind.sealed ≡ b
+  sealed_as d b o is = ap (λ (k : Kind). k.sealed) (sym o.old_is) ∙ is
+
   -- a way that was chosen for a change of these pages and kinds is what a plan over the area promises
   pub plan_says : (chosen : Change) (plan : AreaPlan)
       → IsOf chosen span (page_of addr) (end_page addr len) kind (protected_kind prot kind) → IsNamedKind kind
@@ -418,8 +464,8 @@ module _ (c : CallerView) (span : Span) (row : Row) (kind : Kind) (before behind
         one_kind c.seat span row kind before behind addr len prot held rest round limit is_kind read read_before read_behind
             undecided some_page from until start history state words m row_is,
         not_simple c.seat span row kind before behind addr len prot held rest round limit is_kind read read_before read_behind
-            undecided some_page from until start history state words m row_is
-            (λ way. is state (own c.seat span row kind before behind addr len prot held rest round limit is_kind read read_before
+            undecided some_page from until start history state words m row_is (sealed_as chosen false o is.0)
+            (λ way. is.1 state (own c.seat span row kind before behind addr len prot held rest round limit is_kind read read_before
             read_behind undecided some_page from until start history state words m row_is)
             (subst (λ (k : Kind). IsAmong state (own c.seat span row kind before behind addr len prot held rest round limit
             is_kind read read_before read_behind undecided some_page from until start history state words m row_is) row k
@@ -430,18 +476,22 @@ module _ (c : CallerView) (span : Span) (row : Row) (kind : Kind) (before behind
             read_behind undecided some_page from until start history state words m row_is) chosen span (page_of addr)
             (end_page addr len) kind (protected_kind prot kind) o way)),
       )
+  plan_says chosen (Sealed reply) o old new is kept =
+      let said : reply ≡ Refused (Eperm (page_of addr)) = is.1 ∙ ap (λ (n : ℕ). Refused (Eperm n)) o.lo_is in
+      (kept, number_as reply (Refused (Eperm (page_of addr))) said (number_refused kept (sealed_as chosen true o is.0)), said)
   plan_says chosen (Same reply) o old new is kept =
-      let same : protected_kind prot kind ≡ kind = sym o.new_is ∙ (is.0 ∙ o.old_is) in (
+      let same : protected_kind prot kind ≡ kind = sym o.new_is ∙ (is.1 ∙ o.old_is) in (
         kept,
-        number_as reply is.1 (number_by None kept (λ A a g e. nothing (same ∙ sym e)) (λ state left none change. none same)),
-        is.1,
+        number_as reply Zero is.2
+            (number_by None kept (sealed_as chosen false o is.0) (λ A a g e. nothing (same ∙ sym e)) (λ state left none change. none same)),
+        is.2,
       )
   plan_says chosen (SetKind d reply) o old new is kept =
-      let of_d = of_like chosen d span (page_of addr) (end_page addr len) kind (protected_kind prot kind) is.0 o in
-      one_store d reply is.4 kept of_d is.1 (other_kind chosen d is.0 is.2) (named_of d of_d old new is.1)
+      let of_d = of_like chosen d span (page_of addr) (end_page addr len) kind (protected_kind prot kind) is.1 o in
+      one_store d reply is.5 kept (sealed_as chosen false o is.0) of_d is.2 (other_kind chosen d is.1 is.3) (named_of d of_d old new is.2)
   plan_says chosen (MoveStart d reply) o old new is kept =
-      let of_d = of_like chosen d span (page_of addr) (end_page addr len) kind (protected_kind prot kind) is.0 o in
-      one_store d reply is.3 kept of_d is.1 (other_kind chosen d is.0 is.2) (named_of d of_d old new is.1)
+      let of_d = of_like chosen d span (page_of addr) (end_page addr len) kind (protected_kind prot kind) is.1 o in
+      one_store d reply is.4 kept (sealed_as chosen false o is.0) of_d is.2 (other_kind chosen d is.1 is.3) (named_of d of_d old new is.2)
 
 -- the same of a caller that has read the count once more and the kinds beside its row
 pub plan_made : (old a b : SeatState Pass) (v : CallerView) (span : Span) (row : Row) (kind : Kind) (before behind : Option Kind)

@@ -4,7 +4,7 @@ use Rattle.std.proofs.Common.{sym, refl, ap, ◌∙◌, subst, arith, eq-eqb, ne
 use Rattle.std.proofs.lemmas.Bool.{lt-ltb, le-ltb}
 use Rattle.std.specs.Prelude.{Option, slice_index}
 use Rattle.page_types.specs.declared.calls.Call.{Call}
-use Rattle.page_types.specs.declared.calls.Call.TheVariants.{Map, Unmap, Protect, Fault}
+use Rattle.page_types.specs.declared.calls.Call.TheVariants.{Map, Unmap, Protect, Fault, Seal}
 use Rattle.page_types.specs.declared.calls.Kind.{Kind}
 use Rattle.page_types.specs.declared.calls.Reply.{Reply}
 use Rattle.page_types.specs.declared.calls.Reply.TheVariants.{At, Zero, Refused}
@@ -111,6 +111,7 @@ no_change : (kinds : ℕ → Option Kind) (c : Call) (patches : List Patch) (rep
 no_change kinds (Map addr len prot flags) patches reply full why (clear, (start, s, d)) is = let same : At (start * 4096) ≡ reply = cc in cc
 no_change kinds (Unmap addr len) patches reply full why (clear, d) is = let same : Zero ≡ reply = cc in cc
 no_change kinds (Protect addr len prot) patches reply full why (clear, d) is = let same : Zero ≡ reply = cc in cc
+no_change kinds (Seal addr len flags) patches reply full why (clear, d) is = let same : Zero ≡ reply = cc in cc
 no_change kinds (Fault addr access) patches reply full why (clear, (s, h, d)) is = cc
 
 -- a refused call leaves the areas that there were

@@ -7,7 +7,7 @@ use mathlib.Core.Option.{some}
 use lib.ListN.{get_elem?}
 use Rattle.page_types.specs.declared.TheConstants.{ROWS}
 use Rattle.page_types.specs.declared.calls.Call.{Call}
-use Rattle.page_types.specs.declared.calls.Call.TheVariants.{Map, Unmap, Protect, Fault}
+use Rattle.page_types.specs.declared.calls.Call.TheVariants.{Map, Unmap, Protect, Fault, Seal}
 use Rattle.page_types.specs.declared.calls.Reply.{Reply}
 use Rattle.page_types.specs.PlainReply.{plain_reply}
 use Rattle.space_model.specs.declared.areas.Area.{Area}
@@ -53,6 +53,7 @@ fits_whole A (Map addr len prot flags) no_fault = refl
 fits_whole A (Unmap addr len) no_fault = refl
 fits_whole A (Protect addr len prot) no_fault = inl refl
 fits_whole A (Fault addr access) no_fault = absurd (no_fault tt)
+fits_whole A (Seal addr len flags) no_fault = refl
 
 -- and may be numbered with what its plan says
 pub planned_right : (c : CallerView) (call : Call) (reply : Reply) (count : ℕ) → HasPlanned call reply count c

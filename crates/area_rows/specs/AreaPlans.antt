@@ -1,11 +1,12 @@
--- What a change of protection over the area that its caller holds comes to: more rows or fewer, or one of four ways
--- that keep their number, with the call's reply. The four are those of `FourCases` of `space_model`; that no other way
--- keeps it is its law `simple_protects_are_of_four_kinds`.
-use Rattle.std.specs.Prelude.{ℕ, ◌≡◌, ◌≢◌, ◌<◌, ◌≤◌, Option, Some, None, List}
+-- What a change of protection over the area that its caller holds comes to: a refusal where the area is sealed, as
+-- mseal(2) says; else more rows or fewer, or one of four ways that keep their number, with the call's reply. The four
+-- are those of `FourCases` of `space_model`; that no other way keeps it is its law `simple_protects_are_of_four_kinds`.
+use Rattle.std.specs.Prelude.{ℕ, ◌≡◌, ◌≢◌, ◌<◌, ◌≤◌, IsTrue, false, Option, Some, None, List}
 use Rattle.page_types.specs.declared.calls.Kind.{Kind}
 use Rattle.page_types.specs.declared.calls.Call.{Call}
 use Rattle.page_types.specs.declared.calls.Reply.{Reply}
-use Rattle.page_types.specs.declared.calls.Reply.TheVariants.{Zero}
+use Rattle.page_types.specs.declared.calls.Reply.TheVariants.{Zero, Refused}
+use Rattle.page_types.specs.declared.calls.Why.TheVariants.{Eperm}
 use Rattle.page_types.specs.declared.pages.Span.{Span}
 use Rattle.space_model.specs.declared.areas.Area.{Area}
 use Rattle.space_model.specs.declared.entries.Under.TheVariants.{Area as OverArea}
@@ -13,7 +14,7 @@ use Rattle.space_model.specs.Areas.{kind_at}
 use Rattle.space_model.specs.Held.{kind_before, IsSimple}
 use Rattle.space_model.specs.Laws.{FourCases}
 use Rattle.area_rows.specs.declared.area.AreaPlan.{AreaPlan}
-use Rattle.area_rows.specs.declared.area.AreaPlan.TheVariants.{NotSimple, Same, SetKind, MoveStart}
+use Rattle.area_rows.specs.declared.area.AreaPlan.TheVariants.{NotSimple, Sealed, Same, SetKind, MoveStart}
 use Rattle.area_rows.specs.declared.guard.Change.{Change}
 use Rattle.area_rows.specs.declared.row.Row.{Row}
 use Rattle.area_rows.specs.Changes.{IsOneStore}
@@ -40,15 +41,19 @@ pub record IsLike (c d : Change) : Type 0 where
 
 -- the way and the reply were chosen by the row and the kinds beside it
 abbrev pub IsChosen : Row → Change → Option Kind → Option Kind → AreaPlan → Type 0
-IsChosen row c before behind NotSimple = (A : List Area) (a : Area) → IsAmong A a row c.old before behind → ¬ FourCases A a c.place.lo c.place.hi c.new
-IsChosen row c before behind (Same reply) = (c.new ≡ c.old) × (reply ≡ Zero)
+IsChosen row c before behind NotSimple =
+    (c.old.sealed ≡ false) × ((A : List Area) (a : Area) → IsAmong A a row c.old before behind → ¬ FourCases A a c.place.lo c.place.hi c.new)
+IsChosen row c before behind (Sealed reply) = IsTrue c.old.sealed × (reply ≡ Refused (Eperm c.place.lo))
+IsChosen row c before behind (Same reply) = (c.old.sealed ≡ false) × (c.new ≡ c.old) × (reply ≡ Zero)
 IsChosen row c before behind (SetKind d reply) =
-    IsLike c d × IsOneStore row before behind d × (c.new ≢ c.old) × (d.index ≡ row.index) × (reply ≡ Zero)
-IsChosen row c before behind (MoveStart d reply) = IsLike c d × IsOneStore row before behind d × (c.new ≢ c.old) × (reply ≡ Zero)
+    (c.old.sealed ≡ false) × IsLike c d × IsOneStore row before behind d × (c.new ≢ c.old) × (d.index ≡ row.index) × (reply ≡ Zero)
+IsChosen row c before behind (MoveStart d reply) =
+    (c.old.sealed ≡ false) × IsLike c d × IsOneStore row before behind d × (c.new ≢ c.old) × (reply ≡ Zero)
 
 -- the row that a plan changes
 abbrev pub planned_change : AreaPlan → Option Change
 planned_change NotSimple = None
+planned_change (Sealed reply) = None
 planned_change (Same reply) = None
 planned_change (SetKind c reply) = Some c
 planned_change (MoveStart c reply) = Some c
@@ -62,9 +67,12 @@ pub record MayChange (c : CallerView) (call : Call) (span : Span) (change : Chan
   pub round : IsReadRound c.seat change
 
 -- what a caller that holds the area may do: not this, where the pages have one kind and the number of rows would
--- change; or number the call, and then store the row, where one changes
+-- change; or number the call, refused for its first page where the area is sealed, and then store the row, where one
+-- changes
 abbrev pub IsAreaPlan : CallerView → Call → Span → ℕ → ℕ → AreaPlan → Type 0
 IsAreaPlan c call span lo hi NotSimple = Shows c.seat (λ _ state. IsOneKind state lo hi × ¬ IsSimple state call)
+IsAreaPlan c call span lo hi (Sealed reply) =
+    (c.change ≡ None) × MayNumber c call reply (OverArea span) × (reply ≡ Refused (Eperm lo))
 IsAreaPlan c call span lo hi (Same reply) = (c.change ≡ None) × MayNumber c call reply (OverArea span) × (reply ≡ Zero)
 IsAreaPlan c call span lo hi (SetKind change reply) = MayChange c call span change reply
 IsAreaPlan c call span lo hi (MoveStart change reply) = MayChange c call span change reply

@@ -5,7 +5,7 @@ use Rattle.std.proofs.Common.{◌≡◌, ◌≤◌, Bool, true, false, not, List
 use Rattle.std.proofs.lemmas.List.Elements.{All-cons, All-head, All-tail}
 use Rattle.page_types.specs.declared.TheConstants.{LIMIT, ROWS}
 use Rattle.page_types.specs.declared.calls.Call.{Call}
-use Rattle.page_types.specs.declared.calls.Call.TheVariants.{Map, Unmap, Protect, Fault}
+use Rattle.page_types.specs.declared.calls.Call.TheVariants.{Map, Unmap, Protect, Fault, Seal}
 use Rattle.page_types.specs.declared.calls.Reply.{Reply}
 use Rattle.page_types.specs.declared.calls.Reply.TheVariants.{Zero, Refused}
 use Rattle.page_types.specs.declared.calls.Why.TheVariants.{Einval, Enomem, MapErr}
@@ -54,6 +54,11 @@ plain_named (Protect addr len prot) reply e = first_named
     (len == 0, Zero) ∷
     (nat_lt LIMIT (end_page addr len), Refused (Enomem (PastEnd (end_page addr len)))) ∷ []) reply (tt, (tt, (tt, tt))) e
 plain_named (Fault addr access) reply e = first_named ((nat_le LIMIT (page_of addr), Refused (MapErr (page_of addr))) ∷ []) reply (tt, tt) e
+plain_named (Seal addr len flags) reply e = first_named
+    ((not (is_aligned addr), Refused (Einval Addr)) ∷
+    (len == 0, Zero) ∷
+    (not (flags == 0), Refused (Einval Flags)) ∷
+    (nat_lt LIMIT (end_page addr len), Refused (Enomem (PastEnd (end_page addr len)))) ∷ []) reply (tt, (tt, (tt, (tt, tt)))) e
 
 -- where the state's kinds have named bits alone so has the reply
 pub reply_named : (A B : List Area) (c : Call) (reply : Reply) → HasNamedKinds A → Answers A c reply B → IsNamedReply reply

@@ -1,7 +1,8 @@
 //! The plan of a change of protection over the area that its caller holds, as `plan` is that of a call under
-//! everything. Four ways leave the number of rows as it is: nothing changes, the whole area changes, its first pages go
-//! to the area before it, or its last pages to the area behind it. This is the speculative mprotect of Kogan, Dice and
-//! Issa, EuroSys 2020; a reader may rely on `IsAreaPlan` (`specs/AreaPlans.antt`).
+//! everything. A sealed area refuses it, as mseal(2) says. Else four ways leave the number of rows as it is: nothing
+//! changes, the whole area changes, its first pages go to the area before it, or its last pages to the area behind it.
+//! This is the speculative mprotect of Kogan, Dice and Issa, EuroSys 2020; a reader may rely on `IsAreaPlan`
+//! (`specs/AreaPlans.antt`).
 ghost use Rattle.std.specs.Prelude.{◌≡◌, ◌<◌, ◌≤◌, ◌+◌, IsSome, None, Some};
 ghost use Rattle.page_types.specs.declared.TheConstants.{LIMIT, ROWS};
 ghost use Rattle.page_types.specs.declared.calls.Call.TheVariants.{Protect};
@@ -16,7 +17,7 @@ ghost use Rattle.area_rows.specs.AreaPlans.{IsChosen, IsAreaPlan, planned_change
 use crate::guard::Change;
 use crate::row::Row;
 use crate::space::{Caller, Space};
-use page_types::{Kind, Prot, Reply, Span};
+use page_types::{Kind, Prot, Reply, Span, Why};
 use row_plans::read_row;
 
 /// What a change of protection over the area that its caller holds comes to. Each that is numbered over the area has
@@ -25,6 +26,8 @@ use row_plans::read_row;
 pub enum AreaPlan {
     /// It would leave another number of rows, so it has to hold all pages.
     NotSimple,
+    /// The area is sealed: the reply is the refusal of the call's first page, and nothing changes.
+    Sealed(Reply),
     /// It changes nothing.
     Same(Reply),
     /// The whole area gets another kind: `set_kind` writes it.
@@ -39,13 +42,13 @@ fn change_in(plan: AreaPlan) -> Option<Change>
 {
     match plan {
         AreaPlan::SetKind(change, _) | AreaPlan::MoveStart(change, _) => Some(change),
-        AreaPlan::NotSimple | AreaPlan::Same(_) => None,
+        AreaPlan::NotSimple | AreaPlan::Sealed(_) | AreaPlan::Same(_) => None,
     }
 }
 
-/// Which of the four ways it is, by the kinds of the page before the row and of the page behind it, None where there is
-/// none. `change` has the pages of the call, which lie in the row, and their kinds, and names the row as if it changed
-/// whole.
+/// Whether the area is sealed, and else which of the four ways it is, by the kinds of the page before the row and of
+/// the page behind it, None where there is none. `change` has the pages of the call, which lie in the row, and their
+/// kinds, and names the row as if it changed whole.
 fn choose(row: &Row, change: Change, before: Option<Kind>, behind: Option<Kind>) -> AreaPlan
     requires index { row.now.index < ROWS }
     requires from { row.now.lo ≤ change.place.lo }
@@ -53,6 +56,9 @@ fn choose(row: &Row, change: Change, before: Option<Kind>, behind: Option<Kind>)
     requires at { (change.index ≡ row.now.index) × (change.start ≡ row.now.lo) × (change.kind ≡ change.new) }
     ensures { IsChosen row.now change before behind result }
 {
+    if change.old.sealed {
+        return AreaPlan::Sealed(Reply::Refused(Why::Eperm(change.place.lo)));
+    }
     let new = change.new;
     if new == change.old {
         return AreaPlan::Same(Reply::Zero);
@@ -119,11 +125,11 @@ impl Space {
         kind
     }
 
-    /// Plans a Protect of pages that lie in one area: whether it leaves the number of rows as it is, its reply where it
-    /// does, and which row it changes, which goes into the caller's own room. The caller is of this space, has read the
-    /// area's row under the range that it holds, which is the area and a page on each side as a writer, and has written
-    /// what it has numbered. The plan is right until the caller draws a number or gives the range back. It takes no
-    /// memory.
+    /// Plans a Protect of pages that lie in one area: whether the area is sealed, which refuses it, or it leaves the
+    /// number of rows as it is, its reply where either is so, and which row it changes, which goes into the caller's
+    /// own room. The caller is of this space, has read the area's row under the range that it holds, which is the area
+    /// and a page on each side as a writer, and has written what it has numbered. The plan is right until the caller
+    /// draws a number or gives the range back. It takes no memory.
     pub fn plan_area(
         &self,
         caller: &mut Caller,
@@ -155,10 +161,7 @@ impl Space {
         let count = self.load_count(caller);
         let before = self.kind_before(caller, row.index);
         let behind = self.kind_behind(caller, row.index, count);
-        let new = Kind {
-            prot,
-            shared: kind.shared,
-        };
+        let new = Kind { prot, ..kind };
         let change = Change {
             index: row.index,
             start: row.lo,

@@ -115,13 +115,27 @@ fn the_other_calls_are_decided_in_their_own_ways(rt: HostRuntime) {
 }
 
 #[test]
+fn a_seal_is_asked_for_its_length_before_its_flags(rt: HostRuntime) {
+    let past = Some(Reply::Refused(Why::Enomem(Short::PastEnd(LIMIT + 1))));
+    for (addr, len, flags, wanted) in [
+        (0x10001, 0, 1, einval(Field::Addr)),
+        (0x10000, 0, 1, Some(Reply::Zero)),
+        (0x7fff_ffff_e000, 8192, 1, einval(Field::Flags)),
+        (0x7fff_ffff_e000, 8192, 0, past),
+        (0x10000, 1, 0, None),
+    ] {
+        assert_eq!(rt; plain(&Call::Seal { addr, len, flags }), wanted);
+    }
+}
+
+#[test]
 fn a_refused_argument_is_printed(rt: HostRuntime) -> Result<(), Fail> {
     for (field, wanted) in [
         (Field::Addr, "the address is not a multiple of 4096"),
         (Field::Len, "the length is 0"),
         (
             Field::Flags,
-            "the flags do not have exactly one of SHARED and PRIVATE",
+            "the flags are not right: a Map has one of SHARED and PRIVATE, a Seal has none",
         ),
         (Field::End, "the end is above page 34359738367"),
     ] {

@@ -13,6 +13,8 @@ mod load_tests;
 mod port_tests;
 mod replies;
 #[cfg(test)]
+mod sealed_tests;
+#[cfg(test)]
 mod space_tests;
 
 pub use replies::einval;

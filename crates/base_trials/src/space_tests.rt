@@ -37,6 +37,7 @@ fn area(lo: u64, hi: u64, prot: Prot) -> Area {
         kind: Kind {
             prot,
             shared: false,
+            sealed: false,
         },
     }
 }
@@ -250,6 +251,7 @@ fn faults_hold_their_page_and_find_its_kind(rt: HostRuntime) -> Result<(), Fail>
     let kind = Kind {
         prot: Prot::READ,
         shared: false,
+        sealed: false,
     };
     play(
         &rt,
@@ -391,6 +393,7 @@ fn a_protect_keeps_the_sharing(rt: HostRuntime) -> Result<(), Fail> {
     let kind = Kind {
         prot: Prot::READ,
         shared: true,
+        sealed: false,
     };
     play(
         &rt,
@@ -425,7 +428,7 @@ fn a_protect_keeps_the_sharing(rt: HostRuntime) -> Result<(), Fail> {
 }
 
 /// Pages 16 to 4108 of two kinds in turn, and then an area of three pages: 4096 rows.
-fn full(alloc: Global) -> Result<Vec<Area>, AllocError> {
+pub(crate) fn full(alloc: Global) -> Result<Vec<Area>, AllocError> {
     let mut list = Vec::new(alloc);
     for page in 16..4109u64 {
         let prot = if page % 2 == 0 {
@@ -507,6 +510,7 @@ fn a_history_is_judged_by_number_and_reply(rt: HostRuntime) -> Result<(), Fail> 
     let kind = Kind {
         prot: Prot::READ,
         shared: false,
+        sealed: false,
     };
     let missing = Reply::Refused(Why::MapErr(16));
     assert_eq!(rt; judged(&rt, &[fault(0, Reply::Granted(kind))])?, Some(0));

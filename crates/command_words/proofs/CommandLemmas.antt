@@ -18,9 +18,9 @@ use Rattle.command_words.specs.declared.commands.Command.{Command}
 use Rattle.command_words.specs.declared.commands.Command.TheVariants.{Play, Load, Check}
 use Rattle.command_words.specs.declared.commands.Given.{Given}
 use Rattle.command_words.specs.declared.commands.Given.TheVariants.{Opening, Log, Touched, Threads, Seed, Calls}
-use Rattle.command_words.specs.Commands.{name_of, number_of, IsInRange, AreWritten, BeginsWith, AreSpellings, Kind}
+use Rattle.command_words.specs.Commands.{option_name, number_of, HasNumberInRange, AreWritten, BeginsWithOption, AreSpellings, Kind}
 use Rattle.command_words.specs.Commands.{of_opening, of_log, of_touched, of_threads, of_seed, of_calls, value_for, asked_for, DoAsk}
-use Rattle.command_words.specs.Commands.{IsCommand, HasRanges, Spells, IsFlag, IsNamed, IsNumbered, Adds, IsAsked}
+use Rattle.command_words.specs.Commands.{IsCommand, HasRanges, AskFor, IsFlag, IsNamed, IsNumbered, Adds, IsAsked}
 
 -- the first two letters of an option's name, behind its dashes, as one number
 abbrev letter : List ℕ → ℕ
@@ -35,15 +35,15 @@ letter_of (Threads n) = 220
 letter_of (Seed n) = 216
 letter_of (Calls n) = 196
 
-letter-name_of : (given : Given) → letter (name_of given) ≡ letter_of given
-letter-name_of Opening = refl
-letter-name_of Log = refl
-letter-name_of Touched = refl
-letter-name_of (Threads n) = refl
-letter-name_of (Seed n) = refl
-letter-name_of (Calls n) = refl
+letter-option_name : (given : Given) → letter (option_name given) ≡ letter_of given
+letter-option_name Opening = refl
+letter-option_name Log = refl
+letter-option_name Touched = refl
+letter-option_name (Threads n) = refl
+letter-option_name (Seed n) = refl
+letter-option_name (Calls n) = refl
 
-name_is_long : (given : Given) → 3 < length (name_of given)
+name_is_long : (given : Given) → 3 < length (option_name given)
 name_is_long Opening = omega arith
 name_is_long Log = omega arith
 name_is_long Touched = omega arith
@@ -65,10 +65,10 @@ first_letter name (Some n) rest words long (inr e) =
     ap (λ (ws : List (List ℕ)). letter (get_or ws 0 [])) e
     ∙ (let both : letter (name ++ codes "=" ++ decimal n) ≡ letter name = omega (arith, third, fourth) in both)
 
-begins_letter : (given : Given) (rest words : List (List ℕ)) → AreWritten (name_of given) (number_of given) rest words
+begins_letter : (given : Given) (rest words : List (List ℕ)) → AreWritten (option_name given) (number_of given) rest words
     → letter (get_or words 0 []) ≡ letter_of given
 begins_letter given rest words h =
-    first_letter (name_of given) (number_of given) rest words (name_is_long given) h ∙ letter-name_of given
+    first_letter (option_name given) (number_of given) rest words (name_is_long given) h ∙ letter-option_name given
 
 -- a name with `=` and a value behind it isn't the name
 longer : (name value : List ℕ) → name ≡ name ++ codes "=" ++ value → ⊥
@@ -97,7 +97,7 @@ same_number name m n r s words m_fits n_fits (inr a) (inr b) =
     (decimal_injective m n m_fits n_fits text, ap (drop 1) e)
 
 -- words begin with one option alone, and what is behind it is one rest
-pub begins_once : (g h : Given) (r s words : List (List ℕ)) → BeginsWith g r words → BeginsWith h s words → (g ≡ h) × (r ≡ s)
+pub begins_once : (g h : Given) (r s words : List (List ℕ)) → BeginsWithOption g r words → BeginsWithOption h s words → (g ≡ h) × (r ≡ s)
 begins_once Opening Opening r s words b d = (refl, ap (drop 1) (sym b.1 ∙ d.1))
 begins_once Log Log r s words b d = (refl, ap (drop 1) (sym b.1 ∙ d.1))
 begins_once Touched Touched r s words b d = (refl, ap (drop 1) (sym b.1 ∙ d.1))
@@ -113,17 +113,17 @@ begins_once (Calls m) (Calls n) r s words b d =
 begins_once g h r s words b d = absurd (omega (arith, begins_letter g r words b.1, begins_letter h s words d.1))
 
 -- a name and a number tell one option alone
-named_once : (g h : Given) (n : ℕ) → name_of g ≡ name_of h → number_of g ≡ Some n → number_of h ≡ Some n → g ≡ h
+named_once : (g h : Given) (n : ℕ) → option_name g ≡ option_name h → number_of g ≡ Some n → number_of h ≡ Some n → g ≡ h
 named_once Opening Opening n e p q = refl
 named_once Log Log n e p q = refl
 named_once Touched Touched n e p q = refl
 named_once (Threads a) (Threads b) n e p q = let same : a ≡ b = cc in ap (λ (x : ℕ). Threads x) same
 named_once (Seed a) (Seed b) n e p q = let same : a ≡ b = cc in ap (λ (x : ℕ). Seed x) same
 named_once (Calls a) (Calls b) n e p q = let same : a ≡ b = cc in ap (λ (x : ℕ). Calls x) same
-named_once g h n e p q = absurd (omega (arith, sym (letter-name_of g) ∙ ap letter e ∙ letter-name_of h))
+named_once g h n e p q = absurd (omega (arith, sym (letter-option_name g) ∙ ap letter e ∙ letter-option_name h))
 
 -- the number of an option fits 32 bits
-range_fits : (given : Given) (n : ℕ) → IsInRange given → number_of given ≡ Some n → n < 2 ^ 32
+range_fits : (given : Given) (n : ℕ) → HasNumberInRange given → number_of given ≡ Some n → n < 2 ^ 32
 range_fits Opening n in_range e = absurd cc
 range_fits Log n in_range e = absurd cc
 range_fits Touched n in_range e = absurd cc
@@ -148,19 +148,19 @@ pub not_named : (name value : List ℕ) (n : ℕ) → n < 2 ^ 32 → value ≡ d
 not_named name value n fits text none given h = none given (number_once name value n fits text given h)
 
 -- a number out of its option's range is no option's
-pub not_in_range : (name value : List ℕ) (n : ℕ) (g : Given) → n < 2 ^ 32 → value ≡ decimal n → IsNamed name n g → (IsInRange g → ⊥)
+pub not_in_range : (name value : List ℕ) (n : ℕ) (g : Given) → n < 2 ^ 32 → value ≡ decimal n → IsNamed name n g → (HasNumberInRange g → ⊥)
     → (given : Given) → IsNumbered name value given → ⊥
 not_in_range name value n g fits text named out given h =
     let other = number_once name value n fits text given h in
     let same : given ≡ g = named_once given g n (sym other.0 ∙ named.0) other.1 named.1 in
-    out (subst IsInRange same h.in_range)
+    out (subst HasNumberInRange same h.in_range)
 
 -- a byte is `=`
 abbrev is_equals : ℕ → Bool
 is_equals b = b == 61
 
 -- a name has no `=` in it
-no_equals : (given : Given) → position_or_len is_equals (name_of given) ≡ length (name_of given)
+no_equals : (given : Given) → position_or_len is_equals (option_name given) ≡ length (option_name given)
 no_equals Opening = refl
 no_equals Log = refl
 no_equals Touched = refl
@@ -169,7 +169,7 @@ no_equals (Seed n) = refl
 no_equals (Calls n) = refl
 
 -- a word is cut at the `=` behind the name
-name_before : (given : Given) (value : List ℕ) → before_first is_equals (name_of given ++ codes "=" ++ value) ≡ name_of given
+name_before : (given : Given) (value : List ℕ) → before_first is_equals (option_name given ++ codes "=" ++ value) ≡ option_name given
 name_before Opening value = refl
 name_before Log value = refl
 name_before Touched value = refl
@@ -177,7 +177,7 @@ name_before (Threads n) value = refl
 name_before (Seed n) value = refl
 name_before (Calls n) value = refl
 
-value_after : (given : Given) (value : List ℕ) → after_first is_equals (name_of given ++ codes "=" ++ value) ≡ value
+value_after : (given : Given) (value : List ℕ) → after_first is_equals (option_name given ++ codes "=" ++ value) ≡ value
 value_after Opening value = refl
 value_after Log value = refl
 value_after Touched value = refl
@@ -195,7 +195,7 @@ cut_at_equals word within =
     sym (take-append-drop at word) ∙ ap (λ (ws : List ℕ). take at word ++ ws) rest ∙ sym (append_assoc (take at word) (codes "=") (drop (at + 1) word))
 
 -- a flag begins the words
-pub flag_begins : (word : List ℕ) (rest words : List (List ℕ)) (given : Given) → words ≡ word ∷ rest → IsFlag word given → BeginsWith given rest words
+pub flag_begins : (word : List ℕ) (rest words : List (List ℕ)) (given : Given) → words ≡ word ∷ rest → IsFlag word given → BeginsWithOption given rest words
 flag_begins word rest words Opening e h = (tt, e ∙ ap (λ (w : List ℕ). w ∷ rest) h.0)
 flag_begins word rest words Log e h = (tt, e ∙ ap (λ (w : List ℕ). w ∷ rest) h.0)
 flag_begins word rest words Touched e h = (tt, e ∙ ap (λ (w : List ℕ). w ∷ rest) h.0)
@@ -204,13 +204,13 @@ flag_begins word rest words (Seed n) e h = absurd (cc h.1)
 flag_begins word rest words (Calls n) e h = absurd (cc h.1)
 
 -- an option that takes a number is written, either way
-written : (given : Given) (n : ℕ) (rest words : List (List ℕ)) → number_of given ≡ Some n → IsInRange given
-    → AreWritten (name_of given) (Some n) rest words → BeginsWith given rest words
-written given n rest words e in_range h = (in_range, subst (λ number. AreWritten (name_of given) number rest words) (sym e) h)
+written : (given : Given) (n : ℕ) (rest words : List (List ℕ)) → number_of given ≡ Some n → HasNumberInRange given
+    → AreWritten (option_name given) (Some n) rest words → BeginsWithOption given rest words
+written given n rest words e in_range h = (in_range, subst (λ number. AreWritten (option_name given) number rest words) (sym e) h)
 
 -- a name and the text of its number, as two words, begin the words with that option
 pub apart_begins : (name value : List ℕ) (rest words : List (List ℕ)) (given : Given) → words ≡ name ∷ value ∷ rest
-    → IsNumbered name value given → BeginsWith given rest words
+    → IsNumbered name value given → BeginsWithOption given rest words
 apart_begins name value rest words given e h =
     written given h.number rest words h.named.1 h.in_range
     (inl (e ∙ rw (h.named.0, h.text) refl))
@@ -218,82 +218,82 @@ apart_begins name value rest words given e h =
 -- a word of a name, `=` and the text of its number begins the words with that option
 pub joined_begins : (word name value : List ℕ) (rest words : List (List ℕ)) (given : Given) → words ≡ word ∷ rest
     → name ≡ before_first is_equals word → value ≡ after_first is_equals word → position_or_len is_equals word < length word
-    → IsNumbered name value given → BeginsWith given rest words
+    → IsNumbered name value given → BeginsWithOption given rest words
 joined_begins word name value rest words given e before after within h =
-    let whole : word ≡ name_of given ++ codes "=" ++ decimal h.number =
+    let whole : word ≡ option_name given ++ codes "=" ++ decimal h.number =
     cut_at_equals word within ∙ rw (sym before ∙ h.named.0, sym after ∙ h.text) refl in
     written given h.number rest words h.named.1 h.in_range (inr (e ∙ ap (λ (w : List ℕ). w ∷ rest) whole))
 
 -- how words that begin with an option may look
 pub data Looks (given : Given) (rest words : List (List ℕ)) : Type 0 where
-  as_flag : IsFlag (name_of given) given → words ≡ name_of given ∷ rest → Looks given rest words
-  as_two : (n : ℕ) → number_of given ≡ Some n → words ≡ name_of given ∷ decimal n ∷ rest → Looks given rest words
-  as_one : (n : ℕ) → number_of given ≡ Some n → words ≡ (name_of given ++ codes "=" ++ decimal n) ∷ rest → Looks given rest words
+  as_flag : IsFlag (option_name given) given → words ≡ option_name given ∷ rest → Looks given rest words
+  as_two : (n : ℕ) → number_of given ≡ Some n → words ≡ option_name given ∷ decimal n ∷ rest → Looks given rest words
+  as_one : (n : ℕ) → number_of given ≡ Some n → words ≡ (option_name given ++ codes "=" ++ decimal n) ∷ rest → Looks given rest words
 
 looks_with : (given : Given) (number : Option ℕ) (rest words : List (List ℕ)) → number_of given ≡ number
-    → AreWritten (name_of given) number rest words → Looks given rest words
+    → AreWritten (option_name given) number rest words → Looks given rest words
 looks_with given None rest words e h = as_flag (refl, e) h
 looks_with given (Some n) rest words e (inl h) = as_two n e h
 looks_with given (Some n) rest words e (inr h) = as_one n e h
 
-looks : (given : Given) (rest words : List (List ℕ)) → BeginsWith given rest words → Looks given rest words
+looks : (given : Given) (rest words : List (List ℕ)) → BeginsWithOption given rest words → Looks given rest words
 looks given rest words h = looks_with given (number_of given) rest words refl h.1
 
 -- a word with `=` is no name
-not_bare : (given : Given) (word : List ℕ) → word ≡ name_of given → position_or_len is_equals word < length word → ⊥
+not_bare : (given : Given) (word : List ℕ) → word ≡ option_name given → position_or_len is_equals word < length word → ⊥
 not_bare given word w within =
     let none = no_equals given in
-    let some : position_or_len is_equals (name_of given) < length (name_of given) =
+    let some : position_or_len is_equals (option_name given) < length (option_name given) =
     subst (λ (v : List ℕ). position_or_len is_equals v < length v) w within in
     omega arith
 
 -- a word with `=` that is no option begins none
 pub not_joined : (word name value : List ℕ) (behind words : List (List ℕ)) → words ≡ word ∷ behind
     → name ≡ before_first is_equals word → value ≡ after_first is_equals word → position_or_len is_equals word < length word
-    → ((given : Given) → IsNumbered name value given → ⊥) → (given : Given) (rest : List (List ℕ)) → BeginsWith given rest words → ⊥
+    → ((given : Given) → IsNumbered name value given → ⊥) → (given : Given) (rest : List (List ℕ)) → BeginsWithOption given rest words → ⊥
 not_joined word name value behind words e before after within none given rest begins =
     let head = λ (ws : List (List ℕ)). get_or ws 0 [] in
     elim (looks given rest words begins) [
       | as_flag h is ↦ absurd (not_bare given word (ap head (sym e ∙ is)) within)
       | as_two n h is ↦ absurd (not_bare given word (ap head (sym e ∙ is)) within)
       | as_one n h is ↦
-          let w : word ≡ name_of given ++ codes "=" ++ decimal n = ap head (sym e ∙ is) in
-          let p : name ≡ name_of given = before ∙ ap (before_first is_equals) w ∙ name_before given (decimal n) in
+          let w : word ≡ option_name given ++ codes "=" ++ decimal n = ap head (sym e ∙ is) in
+          let p : name ≡ option_name given = before ∙ ap (before_first is_equals) w ∙ name_before given (decimal n) in
           let q : value ≡ decimal n = after ∙ ap (after_first is_equals) w ∙ value_after given (decimal n) in
           none given (record { number = n; named = (p, h); text = q; in_range = begins.0 })
     ]
 
 -- a word without `=` is no option with its number in it
 not_one : (given : Given) (n : ℕ) (word : List ℕ) → position_or_len is_equals word ≡ length word
-    → word ≡ name_of given ++ codes "=" ++ decimal n → ⊥
+    → word ≡ option_name given ++ codes "=" ++ decimal n → ⊥
 not_one given n word none w =
-    let before : before_first is_equals word ≡ name_of given = ap (before_first is_equals) w ∙ name_before given (decimal n) in
-    let size : length word ≡ length (name_of given) + 1 + length (decimal n) = ap length w ∙ simp length-append refl in
+    let before : before_first is_equals word ≡ option_name given = ap (before_first is_equals) w ∙ name_before given (decimal n) in
+    let size : length word ≡ length (option_name given) + 1 + length (decimal n) = ap length w ∙ simp length-append refl in
     let whole : before_first is_equals word ≡ word = rw none (take-length word) in
-    let short : length (name_of given) ≡ length word = ap length (sym before ∙ whole) in
+    let short : length (option_name given) ≡ length word = ap length (sym before ∙ whole) in
     omega arith
 
 -- a word without `=` that is no flag, and is the last, begins no option
 pub not_alone : (word : List ℕ) (words : List (List ℕ)) → words ≡ word ∷ [] → position_or_len is_equals word ≡ length word
-    → ((given : Given) → IsFlag word given → ⊥) → (given : Given) (rest : List (List ℕ)) → BeginsWith given rest words → ⊥
+    → ((given : Given) → IsFlag word given → ⊥) → (given : Given) (rest : List (List ℕ)) → BeginsWithOption given rest words → ⊥
 not_alone word words e no_equals none given rest begins =
     let head = λ (ws : List (List ℕ)). get_or ws 0 [] in
     elim (looks given rest words begins) [
       | as_flag h is ↦ none given (ap head (sym e ∙ is), h.1)
-      | as_two n h is ↦ let size : length (word ∷ []) ≡ length (name_of given ∷ decimal n ∷ rest) = ap length (sym e ∙ is) in absurd (omega arith)
+      | as_two n h is ↦ let size : length (word ∷ []) ≡ length (option_name given ∷ decimal n ∷ rest) = ap length (sym e ∙ is) in absurd (omega arith)
       | as_one n h is ↦ not_one given n word no_equals (ap head (sym e ∙ is))
     ]
 
 -- nor does it where no option has its name with the next word as its number
 pub not_apart : (word value : List ℕ) (behind words : List (List ℕ)) → words ≡ word ∷ value ∷ behind
     → position_or_len is_equals word ≡ length word → ((given : Given) → IsFlag word given → ⊥)
-    → ((given : Given) → IsNumbered word value given → ⊥) → (given : Given) (rest : List (List ℕ)) → BeginsWith given rest words → ⊥
+    → ((given : Given) → IsNumbered word value given → ⊥) → (given : Given) (rest : List (List ℕ)) → BeginsWithOption given rest words → ⊥
 not_apart word value behind words e no_equals no_flag none given rest begins =
     let head = λ (ws : List (List ℕ)). get_or ws 0 [] in
     elim (looks given rest words begins) [
       | as_flag h is ↦ no_flag given (ap head (sym e ∙ is), h.1)
       | as_two n h is ↦
-          let w : word ≡ name_of given = ap head (sym e ∙ is) in
+          let w : word ≡ option_name given = ap head (sym e ∙ is) in
           let v : value ≡ decimal n = ap (λ (ws : List (List ℕ)). get_or ws 1 []) (sym e ∙ is) in
           none given (record { number = n; named = (w, h); text = v; in_range = begins.0 })
       | as_one n h is ↦ not_one given n word no_equals (ap head (sym e ∙ is))
@@ -323,7 +323,7 @@ both_parts before middle after given more kind adds =
 
 -- what is left behind an option that was added is left before it too, with that option in front
 pub left_before : (before middle after : Asked) (given : Given) (rest words : List (List ℕ)) → Adds before given middle
-    → BeginsWith given rest words → LeftOver middle rest after → LeftOver before words after
+    → BeginsWithOption given rest words → LeftOver middle rest after → LeftOver before words after
 left_before before middle after given rest words adds begins left = record {
   given = given ∷ left.given;
   spelled = (rest, begins, left.spelled);
@@ -339,7 +339,7 @@ pub record First (before : Asked) (words : List (List ℕ)) (after : Asked) : Ty
   -- the options of these
   pub more : List Given
   -- the words begin with the first option
-  pub begins : BeginsWith given rest words
+  pub begins : BeginsWithOption given rest words
   -- and go on with the others
   pub spelled : AreSpellings more rest
   -- of each kind, what was asked for and what all of them give is what is asked for in all
@@ -364,7 +364,7 @@ first_left before after words some left = first_with left.given before after wor
 
 -- what is left before an option is left behind it, once it was added
 pub left_behind : (before middle after : Asked) (given : Given) (rest words : List (List ℕ)) → Adds before given middle
-    → BeginsWith given rest words → 0 < length words → LeftOver before words after → LeftOver middle rest after
+    → BeginsWithOption given rest words → 0 < length words → LeftOver before words after → LeftOver middle rest after
 left_behind before middle after given rest words adds begins some left =
     let first = first_left before after words some left in
     let (same, behind) = begins_once first.given given first.rest rest words first.begins begins in record {
@@ -378,7 +378,7 @@ left_behind before middle after given rest words adds begins some left =
 
 -- words that begin with no option are no spelling
 pub left_of_none : (before after : Asked) (words : List (List ℕ)) → 0 < length words
-    → ((given : Given) (rest : List (List ℕ)) → BeginsWith given rest words → ⊥) → LeftOver before words after → ⊥
+    → ((given : Given) (rest : List (List ℕ)) → BeginsWithOption given rest words → ⊥) → LeftOver before words after → ⊥
 left_of_none before after words some none left =
     let first = first_left before after words some left in none first.given first.rest first.begins
 
@@ -405,7 +405,7 @@ at_most_one of_calls asked = of_option asked.calls
 
 -- words that begin with an option that was asked for already ask for nothing
 pub left_of_asked : (before after : Asked) (given : Given) (rest words : List (List ℕ)) → 0 < length words
-    → BeginsWith given rest words → IsAsked before given → LeftOver before words after → ⊥
+    → BeginsWithOption given rest words → IsAsked before given → LeftOver before words after → ⊥
 left_of_asked before after given rest words some begins again left =
     let first = first_left before after words some left in
     let (same, behind) = begins_once first.given given first.rest rest words first.begins begins in
@@ -476,7 +476,7 @@ nothing_left asked (w ∷ ws) e = absurd (omega arith)
 pub spells_once : (first : List ℕ) (behind words : List (List ℕ)) (asked : Asked) (result : Option Command) → words ≡ first ∷ behind
     → ((other : Asked) → DoAsk behind other → Some asked ≡ Some other)
     → ((command : Command) → IsCommand first asked command → result ≡ Some command)
-    → (command : Command) → Spells words command → result ≡ Some command
+    → (command : Command) → AskFor words command → result ≡ Some command
 spells_once first behind words asked result e asks only command h =
     let both : h.name ∷ h.rest ≡ first ∷ behind = sym h.whole ∙ e in
     let name : h.name ≡ first = ap (λ (ws : List (List ℕ)). get_or ws 0 []) both in
@@ -487,7 +487,7 @@ spells_once first behind words asked result e asks only command h =
 
 -- they spell what is asked for
 pub spells : (first : List ℕ) (behind words : List (List ℕ)) (asked : Asked) (command : Command) → words ≡ first ∷ behind
-    → DoAsk behind asked → IsCommand first asked command → Spells words command
+    → DoAsk behind asked → IsCommand first asked command → AskFor words command
 spells first behind words asked command e options is = record {
   name = first;
   rest = behind;
@@ -498,13 +498,13 @@ spells first behind words asked command e options is = record {
 }
 
 -- no words, or words behind which nothing is asked for, spell none
-pub spells_nothing : (words : List (List ℕ)) → length words ≡ 0 → (command : Command) → Spells words command → ⊥
+pub spells_nothing : (words : List (List ℕ)) → length words ≡ 0 → (command : Command) → AskFor words command → ⊥
 spells_nothing words none command h =
     let size : length words ≡ length (h.name ∷ h.rest) = ap length h.whole in omega arith
 
 -- where nothing is asked for by the words behind the first, there is no command
 pub spells_none : (first : List ℕ) (behind words : List (List ℕ)) → words ≡ first ∷ behind
-    → ((other : Asked) → DoAsk behind other → None ≡ Some other) → (command : Command) → Spells words command → ⊥
+    → ((other : Asked) → DoAsk behind other → None ≡ Some other) → (command : Command) → AskFor words command → ⊥
 spells_none first behind words e none command h =
     let both : h.name ∷ h.rest ≡ first ∷ behind = sym h.whole ∙ e in
     let options : DoAsk behind h.asked = subst (λ (ws : List (List ℕ)). DoAsk ws h.asked) (ap (drop 1) both) h.options in
@@ -520,7 +520,7 @@ MayBe of_threads n = (1 ≤ n) × (n ≤ 16)
 MayBe of_seed n = n ≤ 2147483647
 MayBe of_calls n = n ≤ 1048576
 
-value_in_range : (kind : Kind) (given : Given) (n : ℕ) → IsInRange given → value_for kind given ≡ Some n → MayBe kind n
+value_in_range : (kind : Kind) (given : Given) (n : ℕ) → HasNumberInRange given → value_for kind given ≡ Some n → MayBe kind n
 value_in_range of_opening given n in_range e = tt
 value_in_range of_log given n in_range e = tt
 value_in_range of_touched given n in_range e = tt
@@ -530,7 +530,7 @@ value_in_range of_calls (Calls m) n in_range e = let same : m ≡ n = cc in omeg
 value_in_range kind given n in_range e = absurd cc
 
 -- what is asked for of a kind is one of its numbers
-first_of_value : (kind : Kind) (given : Given) (rest : List ℕ) (n : ℕ) (more : List ℕ) (value : Option ℕ) → IsInRange given
+first_of_value : (kind : Kind) (given : Given) (rest : List ℕ) (n : ℕ) (more : List ℕ) (value : Option ℕ) → HasNumberInRange given
     → value_for kind given ≡ value → (rest ≡ n ∷ more → MayBe kind n) → cons_option value rest ≡ n ∷ more → MayBe kind n
 first_of_value kind given rest n more None in_range is later e = later e
 first_of_value kind given rest n more (Some m) in_range is later e =

@@ -14,13 +14,13 @@ use Rattle.command_words.specs.declared.commands.Asked.{Asked}
 use Rattle.command_words.specs.declared.commands.Options.{Options}
 
 -- the name of an option
-abbrev pub name_of : Given → List ℕ
-name_of Opening = codes "--opening"
-name_of Log = codes "--log"
-name_of Touched = codes "--touched"
-name_of (Threads n) = codes "--threads"
-name_of (Seed n) = codes "--seed"
-name_of (Calls n) = codes "--calls"
+abbrev pub option_name : Given → List ℕ
+option_name Opening = codes "--opening"
+option_name Log = codes "--log"
+option_name Touched = codes "--touched"
+option_name (Threads n) = codes "--threads"
+option_name (Seed n) = codes "--seed"
+option_name (Calls n) = codes "--calls"
 
 -- the number that it is given, if it takes one
 abbrev pub number_of : Given → Option ℕ
@@ -32,13 +32,13 @@ number_of (Seed n) = Some n
 number_of (Calls n) = Some n
 
 -- the numbers that it may be given
-abbrev pub IsInRange : Given → Type 0
-IsInRange Opening = ⊤
-IsInRange Log = ⊤
-IsInRange Touched = ⊤
-IsInRange (Threads n) = (1 ≤ n) × (n ≤ 16)
-IsInRange (Seed n) = n ≤ 2147483647
-IsInRange (Calls n) = n ≤ 1048576
+abbrev pub HasNumberInRange : Given → Type 0
+HasNumberInRange Opening = ⊤
+HasNumberInRange Log = ⊤
+HasNumberInRange Touched = ⊤
+HasNumberInRange (Threads n) = (1 ≤ n) × (n ≤ 16)
+HasNumberInRange (Seed n) = n ≤ 2147483647
+HasNumberInRange (Calls n) = n ≤ 1048576
 
 -- the words are an option with this name and number, and then the rest: the name alone, or the name and the number as
 -- two words, or as one with `=` between them. A number is written as it is printed, in decimal digits without a sign or
@@ -48,13 +48,13 @@ AreWritten name None rest words = words ≡ name ∷ rest
 AreWritten name (Some n) rest words = (words ≡ name ∷ decimal n ∷ rest) ⊎ (words ≡ (name ++ codes "=" ++ decimal n) ∷ rest)
 
 -- the words are the spelling of an option, and then the rest
-abbrev pub BeginsWith : Given → List (List ℕ) → List (List ℕ) → Type 0
-BeginsWith given rest words = IsInRange given × AreWritten (name_of given) (number_of given) rest words
+abbrev pub BeginsWithOption : Given → List (List ℕ) → List (List ℕ) → Type 0
+BeginsWithOption given rest words = HasNumberInRange given × AreWritten (option_name given) (number_of given) rest words
 
 -- the words are the spellings of these options, one behind the other
 abbrev pub AreSpellings : List Given → List (List ℕ) → Type 0
 AreSpellings [] words = words ≡ []
-AreSpellings (given ∷ more) words = (rest : List (List ℕ)) × BeginsWith given rest words × AreSpellings more rest
+AreSpellings (given ∷ more) words = (rest : List (List ℕ)) × BeginsWithOption given rest words × AreSpellings more rest
 
 -- which option it is
 pub data Kind : Type 0 where
@@ -119,7 +119,7 @@ IsCommand name asked (Check opening) =
     × (asked.calls ≡ None)
 
 -- the words ask for this
-pub record Spells (words : List (List ℕ)) (command : Command) : Type 0 where
+pub record AskFor (words : List (List ℕ)) (command : Command) : Type 0 where
   pub name : List ℕ
   pub rest : List (List ℕ)
   pub whole : words ≡ name ∷ rest
@@ -129,19 +129,19 @@ pub record Spells (words : List (List ℕ)) (command : Command) : Type 0 where
 
 -- the words ask for nothing that there is
 abbrev pub RefusesWords : List (List ℕ) → Type 0
-RefusesWords words = (command : Command) → ¬ Spells words command
+RefusesWords words = (command : Command) → ¬ AskFor words command
 
 -- the words ask for an input to be played
 abbrev pub AskToPlay : List (List ℕ) → Type 0
-AskToPlay words = (options : Options) × (threads : ℕ) × Spells words (Play options threads)
+AskToPlay words = (options : Options) × (threads : ℕ) × AskFor words (Play options threads)
 
 -- the words ask for a load
 abbrev pub AskForLoad : List (List ℕ) → Type 0
-AskForLoad words = (seed : ℕ) × (threads : ℕ) × (calls : ℕ) × Spells words (Load seed threads calls)
+AskForLoad words = (seed : ℕ) × (threads : ℕ) × (calls : ℕ) × AskFor words (Load seed threads calls)
 
 -- the words ask for a log to be checked
 abbrev pub AskForCheck : List (List ℕ) → Type 0
-AskForCheck words = (opening : Bool) × Spells words (Check opening)
+AskForCheck words = (opening : Bool) × AskFor words (Check opening)
 
 -- the words ask for something that reads the input
 abbrev pub AskToRead : List (List ℕ) → Type 0
@@ -149,7 +149,7 @@ AskToRead words = AskToPlay words ⊎ AskForCheck words
 
 -- the words ask for one thing at most
 abbrev pub AskForOne : List (List ℕ) → Type 0
-AskForOne words = (first other : Command) → Spells words first → Spells words other → first ≡ other
+AskForOne words = (first other : Command) → AskFor words first → AskFor words other → first ≡ other
 
 -- the numbers of a command are in their ranges
 abbrev pub HasRanges : Command → Type 0
@@ -159,18 +159,18 @@ HasRanges (Check opening) = ⊤
 
 -- an option that takes no number has this name
 abbrev pub IsFlag : List ℕ → Given → Type 0
-IsFlag name given = (name ≡ name_of given) × (number_of given ≡ None)
+IsFlag name given = (name ≡ option_name given) × (number_of given ≡ None)
 
 -- an option that takes this number has this name
 abbrev pub IsNamed : List ℕ → ℕ → Given → Type 0
-IsNamed name n given = (name ≡ name_of given) × (number_of given ≡ Some n)
+IsNamed name n given = (name ≡ option_name given) × (number_of given ≡ Some n)
 
 -- an option has this name, and this is the text of its number
 pub record IsNumbered (name value : List ℕ) (given : Given) : Type 0 where
   pub number : ℕ
   pub named : IsNamed name number given
   pub text : value ≡ decimal number
-  pub in_range : IsInRange given
+  pub in_range : HasNumberInRange given
 
 -- what was asked for, and this option besides
 abbrev pub Adds : Asked → Given → Asked → Type 0

@@ -1,11 +1,11 @@
 //! What the words of the command line ask for: `play`, `load` or `check`, each with its options in any order, none of
-//! them twice. `Spells` says it by what is written, and the words are this project's own profile. A reader may rely on
+//! them twice. `AskFor` says it by what is written, and the words are this project's own profile. A reader may rely on
 //! an answer exactly where some spelling fits, and on there being no more than one. Reading the words takes no memory.
 ghost use Rattle.std.specs.Prelude.{◌≡◌, ℕ, ◌+◌, ◌-◌, ◌<◌, ◌≤◌, ◌^◌, ◌↔◌, map, drop, codes, List, [], length, Some, None, false, IsTrue, IfSome, IsNone};
 ghost use Rattle.std.specs.Fmt.{decimal};
 ghost use Rattle.std.specs.String.{string_bytes};
-ghost use Rattle.command_words.specs.Commands.{Spells, RefusesWords, AskForOne, HasRanges, IsCommand, DoAsk};
-ghost use Rattle.command_words.specs.Commands.{BeginsWith, IsFlag, IsNamed, IsNumbered, IsInRange, Adds, IsAsked};
+ghost use Rattle.command_words.specs.Commands.{AskFor, RefusesWords, AskForOne, HasRanges, IsCommand, DoAsk};
+ghost use Rattle.command_words.specs.Commands.{BeginsWithOption, IsFlag, IsNamed, IsNumbered, HasNumberInRange, Adds, IsAsked};
 ghost use Rattle.command_words.specs.declared.commands.Asked.{Asked};
 ghost use Rattle.command_words.specs.declared.commands.Command.{Command};
 ghost use Rattle.command_words.specs.declared.commands.Given.{Given};
@@ -91,8 +91,8 @@ struct Head {
 
 /// What the words ask for, or `None` where they are not accepted.
 pub fn command_of(words: &[String]) -> Option<Command>
-    ensures spelled { IfSome result (Spells (map string_bytes words.now)) }
-    ensures only { (command : Command) → Spells (map string_bytes words.now) command → result ≡ Some command }
+    ensures spelled { IfSome result (AskFor (map string_bytes words.now)) }
+    ensures only { (command : Command) → AskFor (map string_bytes words.now) command → result ≡ Some command }
     ensures in_range { IfSome result HasRanges }
     ensures refused { IsNone result → RefusesWords (map string_bytes words.now) }
     ensures one { AskForOne (map string_bytes words.now) }
@@ -234,9 +234,9 @@ fn head_of(words: &[String]) -> Option<Head>
     ensures some { IfSome result (λ head. 0 < head.words) }
     ensures within { IfSome result (λ head. head.words ≤ length words.now) }
     ensures begins { IfSome result (λ head.
-        BeginsWith head.given (drop head.words (map string_bytes words.now)) (map string_bytes words.now)) }
+        BeginsWithOption head.given (drop head.words (map string_bytes words.now)) (map string_bytes words.now)) }
     ensures none { IsNone result
-        → (given : Given) (rest : List (List ℕ)) → ¬ BeginsWith given rest (map string_bytes words.now) }
+        → (given : Given) (rest : List (List ℕ)) → ¬ BeginsWithOption given rest (map string_bytes words.now) }
 {
     let (first, rest) = words.split_first()?;
     let word = first.as_str();
@@ -300,7 +300,7 @@ fn named(name: &str, number: u32) -> Option<Given>
 
 /// Whether an option may be given its number.
 fn is_in_range(given: Given) -> bool
-    ensures { IsTrue result ↔ IsInRange given }
+    ensures { IsTrue result ↔ HasNumberInRange given }
 {
     match given {
         Given::Opening | Given::Log | Given::Touched => true,

@@ -1,4 +1,4 @@
-//! Which words of a command line the program accepts, and what they ask for. `Spells` in `specs/Commands.antt` says it
+//! Which words of a command line the program accepts, and what they ask for. `AskFor` in `specs/Commands.antt` says it
 //! by what is written, a relation between whole lists of words and commands; the words are this project's own profile.
 //! `command_of` gives exactly that command, and a reader may rely on there being no other.
 #![tactic(auto)]

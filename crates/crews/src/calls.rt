@@ -24,7 +24,7 @@ pub fn make_call<R: Wait>(
     ensures answer { IsAnswered caller.old line call result caller.new }
 {
     match call {
-        Call::Map { .. } | Call::Unmap { .. } | Call::Protect { .. } => {
+        Call::Map { .. } | Call::Unmap { .. } | Call::Protect { .. } | Call::Seal { .. } => {
             make_change(space, rt, caller, line, call)
         }
         Call::Fault { .. } => make_fault(space, rt, caller, line, call),

@@ -35,6 +35,7 @@ fn area(lo: u64, hi: u64, prot: Prot) -> Area {
         kind: Kind {
             prot,
             shared: false,
+            sealed: false,
         },
     }
 }
@@ -65,6 +66,25 @@ fn protect(addr: u64, len: u64, prot: Prot, reply: Reply) -> Case {
         call: Call::Protect { addr, len, prot },
         reply,
         under: Under::Whole,
+    }
+}
+
+fn seal(addr: u64, len: u64, flags: u64, reply: Reply) -> Case {
+    Case {
+        call: Call::Seal { addr, len, flags },
+        reply,
+        under: Under::Whole,
+    }
+}
+
+/// The same area, sealed.
+fn sealed(area: Area) -> Area {
+    Area {
+        kind: Kind {
+            sealed: true,
+            ..area.kind
+        },
+        ..area
     }
 }
 
@@ -193,6 +213,32 @@ fn a_map_that_replaces_nothing_is_refused_at_the_lowest_mapped_page(
 }
 
 #[test]
+fn a_sealed_page_is_not_unmapped_replaced_or_protected(rt: HostRuntime) -> Result<(), Fail> {
+    let refused = Reply::Refused(Why::Eperm(17));
+    let cases = [
+        seal(0x11000, 4096, 0, Reply::Zero),
+        seal(0x11000, 4096, 1, Reply::Refused(Why::Einval(Field::Flags))).plain(),
+        seal(0x11000, 12288, 0, short(Short::Missing(19))),
+        unmap(0x10000, 12288, refused),
+        map(0x10000, 8192, Prot::READ, replacing(), refused),
+        protect(0x10000, 8192, Prot::READ, refused),
+        protect(0x11000, 4096, read_write(), refused),
+        unmap(0x12000, 4096, Reply::Zero),
+    ];
+    let left = [
+        area(16, 17, read_write()),
+        sealed(area(17, 18, read_write())),
+    ];
+    plays(
+        &rt,
+        rt.alloc(),
+        &[area(16, 19, read_write())],
+        &cases,
+        &left,
+    )
+}
+
+#[test]
 fn a_map_goes_as_high_as_it_fits_and_joins_the_area_there(rt: HostRuntime) -> Result<(), Fail> {
     let high = 0x7fffffffe000;
     let cases = [
@@ -265,6 +311,7 @@ fn read_of(page: u64) -> Reply {
     Reply::Granted(Kind {
         prot,
         shared: false,
+        sealed: false,
     })
 }
 

@@ -19,6 +19,7 @@ const PRIVATE: Area = Area {
     kind: Kind {
         prot: Prot::READ,
         shared: false,
+        sealed: false,
     },
 };
 
@@ -29,6 +30,7 @@ const SHARED: Area = Area {
     kind: Kind {
         prot: Prot::READ,
         shared: true,
+        sealed: false,
     },
 };
 
@@ -127,6 +129,7 @@ fn a_start_of_4097_rows_is_too_large(rt: HostRuntime) {
                 Prot::WRITE
             },
             shared: false,
+            sealed: false,
         };
         let area = Area {
             lo: page,
@@ -186,6 +189,7 @@ fn a_caller_with_one_number_faults_once(rt: HostRuntime) {
     wrong.reply = Reply::Granted(Kind {
         prot: Prot::READ,
         shared: false,
+        sealed: false,
     });
     let wrong = [wrong];
     assert!(rt; have_named_calls(&wrong));

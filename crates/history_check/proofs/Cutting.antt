@@ -8,8 +8,8 @@ use Rattle.space_model.specs.declared.entries.Entry.{Entry}
 use Rattle.space_model.specs.History.{FitsAndReplies, HasRightReply, IsNumberedFrom, Runs, StateAfter}
 use Rattle.space_model.proofs.Histories.{chains_split, chains_weaker, one_state, replied_state}
 use Rattle.round_trip.proofs.LogsRead.{cut_line}
-use Rattle.history_check.specs.LogLines.{AreLogLines, BeginsLog, BeginsNoLog, IsLogLine}
-use Rattle.history_check.specs.Logs.{AreRight, WorkersRise}
+use Rattle.history_check.specs.Logs.{AreLogLines, BeginsNoLog, AreRight, WorkersRise}
+use Rattle.history_check.specs.LogLines.{BeginsLog, IsLogLine}
 use Rattle.history_check.specs.Verdicts.{IsInPlace}
 
 -- ---- lists of lines

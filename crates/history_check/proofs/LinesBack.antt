@@ -51,7 +51,7 @@ head_reads n w l rest a b c =
 pub outcome_reads : (r : Reply) (rest : List ℕ) → FitsReply r → HasNarrowRows r → IsNamedReply r
     → outcome_at (codes " = " ++ (reply_text r ++ (codes " under " ++ rest))) ≡ Some (r, rest)
 unfolding outcome_at strip_at
-outcome_reads r rest fits narrow named = rw (reply_reads r (codes "under " ++ rest) fits narrow named) refl
+outcome_reads r rest fits narrow named = rw (reply_reads r (codes "under " ++ rest) fits narrow named refl) refl
 
 -- ---- what was held
 

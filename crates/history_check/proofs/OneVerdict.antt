@@ -9,8 +9,7 @@ use Rattle.history_check.specs.declared.verdict.WrongLog.{WrongLog}
 use Rattle.history_check.specs.declared.verdict.WrongLog.TheVariants.{Form, Number, Order, Held, Reply, Rest}
 use Rattle.history_check.specs.declared.verdict.Verdict.{Verdict}
 use Rattle.history_check.specs.declared.verdict.Verdict.TheVariants.{Legal, Wrong}
-use Rattle.history_check.specs.LogLines.{IsCut}
-use Rattle.history_check.specs.Logs.{AreRight, IsGoodLog, IsWholeRest}
+use Rattle.history_check.specs.Logs.{IsLogAndRest, AreRight, IsGoodLog, IsWholeRest}
 use Rattle.history_check.specs.Verdicts.{FailsAs, FailsLine, FailsInLog, FailsAt, FailsInRest, IsVerdict}
 use Rattle.history_check.proofs.Cutting.{GoesOn, in_log, one_cut, one_entry, one_right, places, right_split}
 use Rattle.history_check.proofs.Cutting.Places.{one_place, first_earlier, first_later}
@@ -102,7 +101,7 @@ one_wrong_line A lines line other why cause a b =
     ]
 
 -- a log whose lines are right fails at none of them
-no_wrong_line : (A : List Area) (lines log rest : List (List ℕ)) (es : List Entry) (B : List Area) (line : ℕ) (why : WrongLog) → IsCut lines log rest
+no_wrong_line : (A : List Area) (lines log rest : List (List ℕ)) (es : List Entry) (B : List Area) (line : ℕ) (why : WrongLog) → IsLogAndRest lines log rest
     → AreRight A log es B → FailsInLog A lines line why → ⊥
 no_wrong_line A lines log rest es B line why cut right f =
     let within = in_log log rest f.front f.text f.behind (sym cut.whole ∙ f.whole) cut.ended f.log_lines in

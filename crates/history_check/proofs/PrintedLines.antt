@@ -22,8 +22,8 @@ use Rattle.round_trip.proofs.NumbersRead.{decimal_digits}
 use Rattle.history_check.specs.Laws.{IsTouchedLine, PrintedLogIsGood}
 use Rattle.history_check.specs.Checking.{IsNarrow}
 use Rattle.round_trip.specs.Logs.{HasWordNumbers}
-use Rattle.history_check.specs.LogLines.{AreLogLines, BeginsLog, BeginsNoLog, IsLogEntry}
-use Rattle.history_check.specs.Logs.{IsWholeRest}
+use Rattle.history_check.specs.Logs.{AreLogLines, BeginsNoLog, IsWholeRest}
+use Rattle.history_check.specs.LogLines.{BeginsLog, IsLogEntry}
 use Rattle.history_check.proofs.RestLines.{both_lines, only_played, rest_on}
 
 -- ---- lines of a text in parts

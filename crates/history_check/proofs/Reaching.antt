@@ -12,8 +12,8 @@ use Rattle.history_check.specs.declared.verdict.WrongLog.TheVariants.{Form, Numb
 use Rattle.history_check.specs.declared.verdict.Verdict.{Verdict}
 use Rattle.history_check.specs.declared.verdict.Verdict.TheVariants.{Legal, Wrong}
 use Rattle.history_check.specs.declared.taking.Seen.{Seen}
-use Rattle.history_check.specs.LogLines.{AreLogLines, BeginsLog, IsLogLine}
-use Rattle.history_check.specs.Logs.{AreRight}
+use Rattle.history_check.specs.Logs.{AreLogLines, AreRight}
+use Rattle.history_check.specs.LogLines.{BeginsLog, IsLogLine}
 use Rattle.history_check.specs.Verdicts.{FailsInLog, IsVerdict}
 use Rattle.history_check.specs.Checking.{IsSeen, IsTaken, TellsRest}
 

@@ -1,7 +1,7 @@
--- The line of an entry in a printed log, and which lines of a text are its log. A line tells its entry, so the entries
--- meant here are those that a line can show: their sets have named bits alone, and their numbers have the widths of an
+-- The line of an entry in a printed log, and how a line of a log begins. A line tells its entry, so the entries meant
+-- here are those that a line can show: their sets have named bits alone, and their numbers have the widths of an
 -- entry's fields. The form of a line is this project's own profile, with the call as strace(1) prints it.
-use Rattle.std.specs.Prelude.{◌≡◌, ℕ, ◌<◌, ◌^◌, List, [], ◌∷◌, ◌++◌, All}
+use Rattle.std.specs.Prelude.{◌≡◌, ℕ, ◌<◌, ◌^◌, List, [], ◌∷◌, ◌++◌}
 use Rattle.line_parts.specs.Leaves.{IsRun, is_digit}
 use Rattle.page_types.specs.declared.calls.Reply.{Reply}
 use Rattle.page_types.specs.declared.calls.Reply.TheVariants.{Refused}
@@ -36,23 +36,3 @@ IsLogLine text e = IsLogEntry e × (text ++ 10 ∷ [] ≡ entry_line e)
 -- the line begins as one of a log: decimal digits and a space
 abbrev pub BeginsLog : List ℕ → Type 0
 BeginsLog text = (digits rest : List ℕ) × IsRun is_digit is_digit digits × (text ≡ digits ++ 32 ∷ rest)
-
--- there is no first line, or it begins as none of a log
-abbrev pub BeginsNoLog : List (List ℕ) → Type 0
-BeginsNoLog [] = Unit {0}
-BeginsNoLog (line ∷ lines) = ¬ BeginsLog line
-
--- the lines of the log, up to the first that doesn't begin so, and the rest
-pub record IsCut (lines log rest : List (List ℕ)) : Type 0 where
-  -- the log comes first
-  pub whole : lines ≡ log ++ rest
-  -- each of its lines begins as one of a log
-  pub log_lines : All BeginsLog log
-  -- the rest is empty or begins otherwise
-  pub ended : BeginsNoLog rest
-
--- each line is that of its entry
-abbrev pub AreLogLines : List (List ℕ) → List Entry → Type 0
-AreLogLines [] [] = Unit {0}
-AreLogLines (l ∷ ls) (e ∷ es) = IsLogLine l e × AreLogLines ls es
-AreLogLines _ _ = ⊥

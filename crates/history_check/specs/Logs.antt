@@ -2,14 +2,34 @@
 -- log as long as they begin as log lines do, so where the log ends is seen from the lines alone. A reader may rely on a
 -- good log to be one of a legal history, in which each call held what it has to. The form is this project's own
 -- profile.
-use Rattle.std.specs.Prelude.{◌≡◌, ◌⊎◌, ℕ, zero, suc, ◌<◌, List, [], ◌∷◌, ◌++◌, length, codes, slice_get, Some}
+use Rattle.std.specs.Prelude.{◌≡◌, ◌⊎◌, ℕ, zero, suc, ◌<◌, List, [], ◌∷◌, ◌++◌, length, codes, slice_get, Some, All}
 use Rattle.std.specs.List.{AllPairs}
 use Rattle.space_model.specs.declared.areas.Area.{Area}
 use Rattle.space_model.specs.declared.entries.Entry.{Entry}
 use Rattle.space_model.specs.History.{Runs}
 use Rattle.strace_reader.specs.Grammar.{BeginsWith}
 use Rattle.maps_printer.specs.Lines.{area_line}
-use Rattle.history_check.specs.LogLines.{AreLogLines, IsCut}
+use Rattle.history_check.specs.LogLines.{BeginsLog, IsLogLine}
+
+-- there is no first line, or it begins as none of a log
+abbrev pub BeginsNoLog : List (List ℕ) → Type 0
+BeginsNoLog [] = Unit {0}
+BeginsNoLog (line ∷ lines) = ¬ BeginsLog line
+
+-- the lines of the log, up to the first that doesn't begin so, and the rest
+pub record IsLogAndRest (lines log rest : List (List ℕ)) : Type 0 where
+  -- the log comes first
+  pub whole : lines ≡ log ++ rest
+  -- each of its lines begins as one of a log
+  pub log_lines : All BeginsLog log
+  -- the rest is empty or begins otherwise
+  pub ended : BeginsNoLog rest
+
+-- each line is that of its entry
+abbrev pub AreLogLines : List (List ℕ) → List Entry → Type 0
+AreLogLines [] [] = Unit {0}
+AreLogLines (l ∷ ls) (e ∷ es) = IsLogLine l e × AreLogLines ls es
+AreLogLines _ _ = ⊥
 
 -- the line numbers of each worker rise
 abbrev pub WorkersRise : List Entry → Type 0
@@ -46,6 +66,6 @@ pub record IsGoodLog (A : List Area) (lines : List (List ℕ)) (entries : List E
   pub rest : List (List ℕ)
   -- what the entries leave
   pub last : List Area
-  pub cut : IsCut lines log rest
+  pub cut : IsLogAndRest lines log rest
   pub right : AreRight A log entries last
   pub whole : (rest ≡ []) ⊎ IsWholeRest last rest

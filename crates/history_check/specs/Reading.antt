@@ -1,15 +1,16 @@
 -- Reading a log line from left to right: what the functions of src/ compute, as functions on lists. They are loose
 -- where the printer is strict (leading zeros, upper digits, any letter for a dash), since the whole line is compared
 -- with the printed one in the end. What is right is said in LogLines alone.
-use Rattle.std.specs.Prelude.{ℕ, ◌+◌, ◌^◌, ◌==◌, nat_lt, List, [], ◌∷◌, codes, Bool, Option, Some, None, if◌then◌else◌}
+use Rattle.std.specs.Prelude.{ℕ, ◌+◌, ◌^◌, ◌==◌, nat_lt, List, [], ◌∷◌, codes, Bool, true, false, Option, Some, None, if◌then◌else◌}
 use Rattle.line_parts.specs.Reading.{digits_of}
 use Rattle.page_types.specs.declared.pages.Field.{Field}
 use Rattle.page_types.specs.declared.pages.Field.TheVariants.{Addr, Len, Flags, End}
+use Rattle.page_types.specs.declared.sets.Prot.{Prot}
 use Rattle.page_types.specs.declared.calls.Kind.{Kind}
 use Rattle.page_types.specs.declared.calls.Reply.{Reply}
 use Rattle.page_types.specs.declared.calls.Reply.TheVariants.{At, Zero, Granted, Refused}
 use Rattle.page_types.specs.declared.calls.Why.{Why}
-use Rattle.page_types.specs.declared.calls.Why.TheVariants.{Einval, Enomem, Eexist, MapErr, AccErr}
+use Rattle.page_types.specs.declared.calls.Why.TheVariants.{Einval, Enomem, Eexist, Eperm, MapErr, AccErr}
 use Rattle.page_types.specs.declared.calls.Short.{Short}
 use Rattle.page_types.specs.declared.calls.Short.TheVariants.{Missing, PastEnd, NoGap, Rows}
 use Rattle.strace_reader.specs.Reading.{then_some}
@@ -46,13 +47,19 @@ marked_at letter (c ∷ rest) = Some (c == letter, rest)
 abbrev pub bit_if : Bool → ℕ → ℕ
 bit_if is_set bit = if is_set then bit else 0
 
--- the four characters of a kind
+-- a kind, sealed where ` sealed` is next
+abbrev pub sealed_or : Prot → Bool → List ℕ → Option (Kind × List ℕ)
+sealed_or prot shared text = given (strip_at (codes " sealed") text)
+    (λ rest. Some (record { prot = prot; shared = shared; sealed = true }, rest))
+    (Some (record { prot = prot; shared = shared; sealed = false }, text))
+
+-- the four characters of a kind, and the word of a sealed one
 unfoldable pub kind_at : List ℕ → Option (Kind × List ℕ)
 kind_at text = then_some (marked_at 114 text)
     (λ r. then_some (marked_at 119 r.1)
     (λ w. then_some (marked_at 120 w.1)
     (λ x. then_some (marked_at 115 x.1)
-    (λ s. Some (record { prot = record { 0 = bit_if r.0 1 + bit_if w.0 2 + bit_if x.0 4 }; shared = s.0 }, s.1)))))
+    (λ s. sealed_or (record { 0 = bit_if r.0 1 + bit_if w.0 2 + bit_if x.0 4 }) s.0 s.1))))
 
 -- the argument of an EINVAL
 unfoldable pub field_at : List ℕ → Option (Field × List ℕ)
@@ -69,13 +76,17 @@ short_at text = given (strip_at (codes "missing page ") text) (λ rest. then_som
     (λ rest. then_some (number_at 10 rest) (λ n. then_some (strip_at (codes " pages") n.1) (λ end. Some (NoGap n.0, end))))
     (then_some (strip_at (codes "rows ") text) (λ rest. then_some (small_at rest) (λ n. Some (Rows n.0, n.1))))))
 
+-- why a fault was refused
+unfoldable pub segv_at : List ℕ → Option (Why × List ℕ)
+segv_at text = given (strip_at (codes "SEGV_MAPERR page ") text) (λ rest. then_some (page_at rest) (λ n. Some (MapErr n.0, n.1)))
+    (then_some (strip_at (codes "SEGV_ACCERR page ") text)
+    (λ rest. then_some (page_at rest)
+    (λ n. then_some (strip_at (codes " ") n.1) (λ more. then_some (kind_at more) (λ k. Some (AccErr n.0 k.0, k.1))))))
+
 -- why a call was refused, where it names a page
 unfoldable pub paged_at : List ℕ → Option (Why × List ℕ)
 paged_at text = given (strip_at (codes "EEXIST page ") text) (λ rest. then_some (page_at rest) (λ n. Some (Eexist n.0, n.1)))
-    (given (strip_at (codes "SEGV_MAPERR page ") text) (λ rest. then_some (page_at rest) (λ n. Some (MapErr n.0, n.1)))
-    (then_some (strip_at (codes "SEGV_ACCERR page ") text)
-    (λ rest. then_some (page_at rest)
-    (λ n. then_some (strip_at (codes " ") n.1) (λ more. then_some (kind_at more) (λ k. Some (AccErr n.0 k.0, k.1)))))))
+    (given (strip_at (codes "EPERM page ") text) (λ rest. then_some (page_at rest) (λ n. Some (Eperm n.0, n.1))) (segv_at text))
 
 -- why a call was refused
 unfoldable pub why_at : List ℕ → Option (Why × List ℕ)

@@ -10,8 +10,8 @@ use Rattle.history_check.specs.declared.verdict.WrongLog.{WrongLog}
 use Rattle.history_check.specs.declared.verdict.WrongLog.TheVariants.{Form, Number, Order, Held, Reply, Rest}
 use Rattle.history_check.specs.declared.verdict.Verdict.{Verdict}
 use Rattle.history_check.specs.declared.verdict.Verdict.TheVariants.{Legal, Wrong}
-use Rattle.history_check.specs.LogLines.{BeginsLog, IsCut, IsLogLine}
-use Rattle.history_check.specs.Logs.{AreRight, AreRestLines, IsGoodLog, IsRestLine, WorkersRise}
+use Rattle.history_check.specs.LogLines.{BeginsLog, IsLogLine}
+use Rattle.history_check.specs.Logs.{IsLogAndRest, AreRight, AreRestLines, IsGoodLog, IsRestLine, WorkersRise}
 
 -- the line number of an entry behind these is above the last one of its worker, and its number is that of its place
 pub record IsInPlace (before : List Entry) (e : Entry) : Type 0 where
@@ -58,7 +58,7 @@ pub record FailsInRest (A : List Area) (lines : List (List ℕ)) (line : ℕ) : 
   pub entries : List Entry
   -- what the entries leave
   pub last : List Area
-  pub cut : IsCut lines log rest
+  pub cut : IsLogAndRest lines log rest
   pub right : AreRight A log entries last
   pub some_rest : rest ≢ []
   -- how many lines of the rest are right

@@ -10,9 +10,9 @@ use space_model::{Entry, PlainSpace, Under};
 
 /// Whether what the entry says was held fits its call on this space. Its number, worker, line and reply don't count.
 ///
-/// A call that its arguments decide holds nothing, a fault its page as a reader, a Map and an Unmap everything. Any
-/// other Protect holds everything, or its area with a page on each side where it keeps the number of areas and of gaps.
-/// It takes no memory.
+/// A call that its arguments decide holds nothing, a fault its page as a reader, a Map, an Unmap and a Seal everything.
+/// Any other Protect holds everything, or its area with a page on each side where it keeps the number of areas and of
+/// gaps, or where the area is sealed. It takes no memory.
 pub fn fits(space: &PlainSpace, entry: &Entry) -> bool
     ensures { IsTrue result ↔ FitsUnder space.now entry.now.call entry.now.under }
 {

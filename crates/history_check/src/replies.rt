@@ -2,7 +2,7 @@
 
 ghost use Rattle.std.specs.Prelude.{◌≡◌, ◌↔◌, IsTrue, option_map};
 ghost use Rattle.page_types.specs.Named.{IsNamedReply};
-ghost use Rattle.history_check.specs.Reading.{bit_if, marked_at, kind_at, field_at, short_at, paged_at, why_at, reply_at};
+ghost use Rattle.history_check.specs.Reading.{bit_if, marked_at, kind_at, field_at, short_at, segv_at, paged_at, why_at, reply_at};
 
 use crate::numbers::{DECIMAL, number, page, small, strip};
 use bitflags::Flags;
@@ -19,7 +19,7 @@ fn marked(text: &[u8], letter: u8) -> Option<(bool, &[u8])>
     }
 }
 
-/// The kind that four characters show.
+/// The kind that four characters show, and ` sealed` behind them where it is sealed.
 #[tactic(auto, unfolding(crate::specs::Reading::kind_at))]
 fn kind(text: &[u8]) -> Option<(Kind, &[u8])>
     ensures { option_map (λ x. (x.0, x.1.now)) result ≡ kind_at text.now }
@@ -30,7 +30,20 @@ fn kind(text: &[u8]) -> Option<(Kind, &[u8])>
     let (shared, rest) = marked(rest, b's')?;
     let bits = bit_if(read, 1) + bit_if(write, 2) + bit_if(exec, 4);
     let prot = Prot::from_bits_retain(bits);
-    Some((Kind { prot, shared }, rest))
+    if let Some(rest) = strip(rest, b" sealed") {
+        let kind = Kind {
+            prot,
+            shared,
+            sealed: true,
+        };
+        return Some((kind, rest));
+    }
+    let kind = Kind {
+        prot,
+        shared,
+        sealed: false,
+    };
+    Some((kind, rest))
 }
 
 /// The bit, or none where it isn't set.
@@ -79,6 +92,20 @@ fn short(text: &[u8]) -> Option<(Short, &[u8])>
     Some((Short::Rows(rows), rest))
 }
 
+/// Why a fault was refused, by the name of its SIGSEGV code.
+#[tactic(auto, unfolding(crate::specs::Reading::segv_at))]
+fn segv(text: &[u8]) -> Option<(Why, &[u8])>
+    ensures { option_map (λ x. (x.0, x.1.now)) result ≡ segv_at text.now }
+{
+    if let Some(rest) = strip(text, b"SEGV_MAPERR page ") {
+        let (found, rest) = page(rest)?;
+        return Some((Why::MapErr(found), rest));
+    }
+    let (found, rest) = page(strip(text, b"SEGV_ACCERR page ")?)?;
+    let (kind, rest) = kind(strip(rest, b" ")?)?;
+    Some((Why::AccErr(found, kind), rest))
+}
+
 /// Why a call was refused: what it names is a page.
 #[tactic(auto, unfolding(crate::specs::Reading::paged_at))]
 fn paged(text: &[u8]) -> Option<(Why, &[u8])>
@@ -88,13 +115,11 @@ fn paged(text: &[u8]) -> Option<(Why, &[u8])>
         let (found, rest) = page(rest)?;
         return Some((Why::Eexist(found), rest));
     }
-    if let Some(rest) = strip(text, b"SEGV_MAPERR page ") {
+    if let Some(rest) = strip(text, b"EPERM page ") {
         let (found, rest) = page(rest)?;
-        return Some((Why::MapErr(found), rest));
+        return Some((Why::Eperm(found), rest));
     }
-    let (found, rest) = page(strip(text, b"SEGV_ACCERR page ")?)?;
-    let (kind, rest) = kind(strip(rest, b" ")?)?;
-    Some((Why::AccErr(found, kind), rest))
+    segv(text)
 }
 
 /// Why a call was refused.

@@ -13,16 +13,16 @@ use Rattle.load_lines.specs.declared.calls.MadeLine.{MadeLine}
 use Rattle.load_lines.specs.Generator.{state_after, draw}
 
 -- the protection with these bits
-abbrev pub prot_of : ℕ → Prot
-prot_of bits = record { 0 = bits }
+abbrev pub prot_from_bits : ℕ → Prot
+prot_from_bits bits = record { 0 = bits }
 
 -- PRIVATE, which is 2, and FIXED, which is 4
 abbrev pub private_fixed : MapFlags
 private_fixed = record { 0 = 6 }
 
 -- what a fault does
-abbrev pub access_of : ℕ → Access
-access_of n = if n == 0 then Read else if n == 1 then Write else Exec
+abbrev pub drawn_access : ℕ → Access
+drawn_access n = if n == 0 then Read else if n == 1 then Write else Exec
 
 -- the address of a worker's page that is drawn
 abbrev pub address_of : ℕ → ℕ → ℕ
@@ -36,10 +36,10 @@ length_of size = (1 + size % 4) * 4096
 -- and 4 are a Protect, and the others a Fault
 abbrev pub call_of : ℕ → ℕ → ℕ → ℕ → ℕ → Call
 call_of worker kind place size sets =
-    if nat_lt (kind % 8) 2 then Map (address_of worker place) (length_of size) (prot_of (sets % 8)) private_fixed
+    if nat_lt (kind % 8) 2 then Map (address_of worker place) (length_of size) (prot_from_bits (sets % 8)) private_fixed
     else if kind % 8 == 2 then Unmap (address_of worker place) (length_of size)
-    else if nat_lt (kind % 8) 5 then Protect (address_of worker place) (length_of size) (prot_of (sets % 8))
-    else Fault (address_of worker place) (access_of (sets % 3))
+    else if nat_lt (kind % 8) 5 then Protect (address_of worker place) (length_of size) (prot_from_bits (sets % 8))
+    else Fault (address_of worker place) (drawn_access (sets % 3))
 
 -- the line behind `made` others, from the state that they left
 abbrev pub line_at : ℕ → ℕ → ℕ → MadeLine
@@ -51,9 +51,9 @@ line_at state threads made = record {
 
 -- the lines of a load with this seed, for so many threads: so many calls, each from the state that the draws of those
 -- before it left
-abbrev pub lines_of : ℕ → ℕ → ℕ → List MadeLine
-lines_of seed threads zero = []
-lines_of seed threads (suc made) = lines_of seed threads made ++ line_at (state_after seed (4 * made)) threads made ∷ []
+abbrev pub drawn_lines : ℕ → ℕ → ℕ → List MadeLine
+drawn_lines seed threads zero = []
+drawn_lines seed threads (suc made) = drawn_lines seed threads made ++ line_at (state_after seed (4 * made)) threads made ∷ []
 
 -- the call of a line has no bit but the named ones
 abbrev pub IsNamedLine : MadeLine → Type 0

@@ -3,7 +3,7 @@
 ghost use Rattle.std.specs.Prelude.{◌≡◌, ◌-◌, ◌<◌, ◌≤◌, ◌^◌};
 ghost use Rattle.page_types.specs.Named.{IsNamedCall};
 ghost use Rattle.load_lines.specs.Generator.{state_after};
-ghost use Rattle.load_lines.specs.Calls.{call_of, line_at, prot_of, private_fixed, access_of, IsNamedLine};
+ghost use Rattle.load_lines.specs.Calls.{call_of, line_at, prot_from_bits, private_fixed, drawn_access, IsNamedLine};
 
 use crate::draws::draw;
 use bitflags::Flags;
@@ -29,7 +29,7 @@ pub struct MadeLine {
 /// The protection with these bits.
 fn prot(bits: u8) -> Prot
     requires { bits < 8 }
-    ensures { result ≡ prot_of bits }
+    ensures { result ≡ prot_from_bits bits }
 {
     Prot::from_bits_retain(bits)
 }
@@ -43,7 +43,7 @@ fn private_and_fixed() -> MapFlags
 
 /// What a fault does.
 fn access(number: u64) -> Access
-    ensures { result ≡ access_of number }
+    ensures { result ≡ drawn_access number }
 {
     match number {
         0 => Access::Read,

@@ -5,7 +5,7 @@
 #![tactic(auto)]
 
 ghost use Rattle.std.specs.Prelude.{◌≡◌, ◌<◌, ◌≤◌, All, IfOk};
-ghost use Rattle.load_lines.specs.Calls.{lines_of, IsNamedLine};
+ghost use Rattle.load_lines.specs.Calls.{drawn_lines, IsNamedLine};
 
 mod calls;
 mod draws;
@@ -36,7 +36,7 @@ pub fn made_lines(
     requires some_threads { 0 < threads }
     requires few_threads { threads ≤ THREADS_LIMIT }
     requires calls { calls ≤ CALLS_LIMIT }
-    ensures lines { IfOk result (λ lines. lines.items ≡ lines_of seed threads calls) }
+    ensures lines { IfOk result (λ lines. lines.items ≡ drawn_lines seed threads calls) }
     ensures named { IfOk result (λ lines. All IsNamedLine lines.items) }
 {
     let mut lines = Vec::with_capacity(alloc, calls as usize)?;

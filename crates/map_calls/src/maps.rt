@@ -1,9 +1,9 @@
-//! The two calls: `map` is mmap(2), and `unmap` is munmap(2). Both are answered by `make_change`, which is the whole of
-//! this crate: nothing where the caller has no number left, the reply of the arguments where these decide, and
-//! otherwise the one call of `area_rows` that may change the number of rows. What a reader may rely on is `IsAnswered`
-//! of `area_rows`, one clause for all calls that give an entry.
+//! The three calls: `map` is mmap(2), `unmap` is munmap(2), and `seal` is in the manner of mseal(2). All are answered
+//! by `make_change`, which is the whole of this crate: nothing where the caller has no number left, the reply of the
+//! arguments where these decide, and otherwise the one call of `area_rows` that may change the number of rows. What a
+//! reader may rely on is `IsAnswered` of `area_rows`, one clause for all calls that give an entry.
 ghost use Rattle.std.specs.Prelude.{◌≡◌, None};
-ghost use Rattle.page_types.specs.declared.calls.Call.TheVariants.{Map, Unmap};
+ghost use Rattle.page_types.specs.declared.calls.Call.TheVariants.{Map, Unmap, Seal};
 ghost use Rattle.page_types.specs.Named.{IsNamedCall};
 ghost use Rattle.page_types.specs.Classes.{IsFault};
 ghost use Rattle.area_rows.specs.Called.{IsAnswered};
@@ -12,10 +12,10 @@ use area_rows::{Answer, Caller, Space};
 use page_types::{Call, MapFlags, Prot, plain};
 use std::sync::Wait;
 
-/// Makes a call that is no fault: a Map, an Unmap, or a Protect that is to hold all pages. The caller is of this space
-/// and holds nothing, and the call has named bits alone; `line` is the line of the input that names it, counted from 1.
-/// It waits until the caller holds all pages; a call that its arguments decide holds nothing. `Spent` comes exactly
-/// where the caller has no number left, and nothing has changed then.
+/// Makes a call that is no fault: a Map, an Unmap, a Seal, or a Protect that is to hold all pages. The caller is of
+/// this space and holds nothing, and the call has named bits alone; `line` is the line of the input that names it,
+/// counted from 1. It waits until the caller holds all pages; a call that its arguments decide holds nothing. `Spent`
+/// comes exactly where the caller has no number left, and nothing has changed then.
 pub fn make_change<R: Wait>(
     space: &Space,
     wait: &R,
@@ -84,4 +84,26 @@ pub fn unmap<R: Wait>(
     ensures answer { IsAnswered caller.old line (Unmap addr len) result caller.new }
 {
     make_change(space, wait, caller, line, Call::Unmap { addr, len })
+}
+
+/// Seals the pages of the `len` bytes from `addr` on, rounded up to whole pages, in the manner of mseal(2): from then
+/// on they refuse to be unmapped, replaced or protected, and nothing takes the seal away. A page that isn't mapped
+/// refuses it; one that is sealed already doesn't. `flags` is 0, or refused. The caller is of this space and holds
+/// nothing; `line` is the line of the input that names the call, counted from 1. It waits until the caller holds all
+/// pages; a call that its arguments decide holds nothing. `Spent` comes exactly where the caller has no number left,
+/// and nothing has changed then.
+pub fn seal<R: Wait>(
+    space: &Space,
+    wait: &R,
+    caller: &mut Caller,
+    line: u32,
+    addr: u64,
+    len: u64,
+    flags: u64,
+) -> Answer
+    requires table { caller.old.seat.table ≡ space.now.table }
+    requires free { caller.old.seat.held ≡ None }
+    ensures answer { IsAnswered caller.old line (Seal addr len flags) result caller.new }
+{
+    make_change(space, wait, caller, line, Call::Seal { addr, len, flags })
 }

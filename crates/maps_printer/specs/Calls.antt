@@ -5,23 +5,25 @@ use Rattle.std.specs.Prelude.{ℕ, List, ◌++◌, codes, decimal}
 use Rattle.page_types.specs.declared.pages.Field.{Field}
 use Rattle.page_types.specs.declared.pages.Field.TheVariants.{Addr, Len, Flags, End}
 use Rattle.page_types.specs.declared.calls.Call.{Call}
-use Rattle.page_types.specs.declared.calls.Call.TheVariants.{Map, Unmap, Protect, Fault}
+use Rattle.page_types.specs.declared.calls.Call.TheVariants.{Map, Unmap, Protect, Fault, Seal}
 use Rattle.page_types.specs.declared.calls.Reply.{Reply}
 use Rattle.page_types.specs.declared.calls.Reply.TheVariants.{At, Zero, Granted, Refused}
 use Rattle.page_types.specs.declared.calls.Why.{Why}
-use Rattle.page_types.specs.declared.calls.Why.TheVariants.{Einval, Enomem, Eexist, MapErr, AccErr}
+use Rattle.page_types.specs.declared.calls.Why.TheVariants.{Einval, Enomem, Eexist, Eperm, MapErr, AccErr}
 use Rattle.page_types.specs.declared.calls.Short.{Short}
 use Rattle.page_types.specs.declared.calls.Short.TheVariants.{Missing, PastEnd, NoGap, Rows}
 use Rattle.maps_printer.specs.Numbers.{address_text, prefixed_hex}
-use Rattle.maps_printer.specs.Words.{access_text, flags_text, kind_text, prot_text}
+use Rattle.maps_printer.specs.Words.{access_text, flags_text, log_kind, prot_text}
 
--- mmap(2), munmap(2), mprotect(2) as strace(1) prints them; no file backs the memory, and a fault is this project's own
+-- mmap(2), munmap(2), mprotect(2) and mseal(2) as strace(1) prints them, but for flags in decimal; no file backs the
+-- memory, and a fault is this project's own
 abbrev pub call_text : Call → List ℕ
 call_text (Map addr len prot flags) = codes "mmap(" ++ address_text addr ++ codes ", " ++ decimal len ++ codes ", "
     ++ prot_text prot ++ codes ", " ++ flags_text flags ++ codes ", -1, 0)"
 call_text (Unmap addr len) = codes "munmap(" ++ address_text addr ++ codes ", " ++ decimal len ++ codes ")"
 call_text (Protect addr len prot) = codes "mprotect(" ++ address_text addr ++ codes ", " ++ decimal len ++ codes ", " ++ prot_text prot ++ codes ")"
 call_text (Fault addr access) = codes "fault(" ++ address_text addr ++ codes ", " ++ access_text access ++ codes ")"
+call_text (Seal addr len flags) = codes "mseal(" ++ address_text addr ++ codes ", " ++ decimal len ++ codes ", " ++ decimal flags ++ codes ")"
 
 -- the argument that an EINVAL is about
 abbrev pub field_text : Field → List ℕ
@@ -42,12 +44,13 @@ abbrev pub why_text : Why → List ℕ
 why_text (Einval field) = codes "-1 EINVAL " ++ field_text field
 why_text (Enomem short) = codes "-1 ENOMEM " ++ short_text short
 why_text (Eexist page) = codes "-1 EEXIST page " ++ prefixed_hex page
+why_text (Eperm page) = codes "-1 EPERM page " ++ prefixed_hex page
 why_text (MapErr page) = codes "-1 SEGV_MAPERR page " ++ prefixed_hex page
-why_text (AccErr page kind) = codes "-1 SEGV_ACCERR page " ++ prefixed_hex page ++ codes " " ++ kind_text kind
+why_text (AccErr page kind) = codes "-1 SEGV_ACCERR page " ++ prefixed_hex page ++ codes " " ++ log_kind kind
 
 -- the reply of a call
 abbrev pub reply_text : Reply → List ℕ
 reply_text (At addr) = prefixed_hex addr
 reply_text Zero = codes "0"
-reply_text (Granted kind) = codes "granted " ++ kind_text kind
+reply_text (Granted kind) = codes "granted " ++ log_kind kind
 reply_text (Refused why) = why_text why

@@ -55,3 +55,7 @@ kind_text k = letter_if (has_bits (prot_bits k.prot) 1) 114
     ∷ letter_if (has_bits (prot_bits k.prot) 2) 119
     ∷ letter_if (has_bits (prot_bits k.prot) 4) 120
     ∷ (if k.shared then 115 else 112) ∷ []
+
+-- a kind in a log: behind the four characters of a sealed one stands ` sealed`; this project's own profile
+abbrev pub log_kind : Kind → List ℕ
+log_kind k = kind_text k ++ (if k.sealed then codes " sealed" else [])

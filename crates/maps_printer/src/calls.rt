@@ -1,6 +1,6 @@
-//! A call as text, as strace(1) prints a system call: `mmap`, `munmap` and `mprotect` with their arguments, and this
-//! project's own `fault`. The text is a function of the call, `call_text`. A reader may rely on it to read back as the
-//! same call, which the crate `round_trip` proves.
+//! A call as text, as strace(1) prints a system call: `mmap`, `munmap`, `mprotect` and `mseal` with their arguments,
+//! and this project's own `fault`. The text is a function of the call, `call_text`. A reader may rely on it to read
+//! back as the same call, which the crate `round_trip` proves.
 ghost use Rattle.std.specs.Prelude.{◌≡◌, ◌+◌, ◌≤◌, ◌++◌, length, codes, decimal, OnOk, OnErr};
 ghost use Rattle.std.specs.Io.KnownBytes.{Appends};
 ghost use Rattle.byte_ports.specs.Bytes.{AppendsPrefix};
@@ -60,6 +60,12 @@ pub(crate) fn push_call(buffer: &mut Buffer, call: Call)
             buffer.push(b"fault(");
             push_address(buffer, addr);
             push_word(buffer, access_text(access));
+            buffer.push(b")");
+        }
+        Call::Seal { addr, len, flags } => {
+            push_pages(buffer, b"mseal(", addr, len);
+            buffer.push(b", ");
+            push_decimal(buffer, flags);
             buffer.push(b")");
         }
     }

@@ -13,7 +13,7 @@ ghost use Rattle.maps_printer.specs.Numbers.{prefixed_hex};
 use crate::buffer::{Buffer, LINE, SIZE};
 use crate::calls::push_call;
 use crate::numbers::{push_decimal, push_prefixed_hex};
-use crate::words::push_kind;
+use crate::words::push_log_kind;
 use byte_ports::{Failed, Sink};
 use page_types::{Field, Reply, Short, Span, Why};
 use space_model::{Entry, Under};
@@ -65,28 +65,28 @@ fn push_entry(buffer: &mut Buffer, entry: &Entry)
     buffer.push(b"\n");
 }
 
-/// Adds a reply: at most 48 bytes.
+/// Adds a reply: at most 51 bytes.
 fn push_reply(buffer: &mut Buffer, reply: Reply)
-    requires { length buffer.old + 48 ≤ SIZE }
+    requires { length buffer.old + 51 ≤ SIZE }
     ensures text { buffer.new ≡ buffer.old ++ reply_text reply }
-    ensures room { length buffer.new ≤ length buffer.old + 48 }
+    ensures room { length buffer.new ≤ length buffer.old + 51 }
 {
     match reply {
         Reply::At(addr) => push_prefixed_hex(buffer, addr),
         Reply::Zero => buffer.push(b"0"),
         Reply::Granted(kind) => {
             buffer.push(b"granted ");
-            push_kind(buffer, kind);
+            push_log_kind(buffer, kind);
         }
         Reply::Refused(why) => push_why(buffer, why),
     }
 }
 
-/// Adds a refusal: at most 48 bytes.
+/// Adds a refusal: at most 51 bytes.
 fn push_why(buffer: &mut Buffer, why: Why)
-    requires { length buffer.old + 48 ≤ SIZE }
+    requires { length buffer.old + 51 ≤ SIZE }
     ensures text { buffer.new ≡ buffer.old ++ why_text why }
-    ensures room { length buffer.new ≤ length buffer.old + 48 }
+    ensures room { length buffer.new ≤ length buffer.old + 51 }
 {
     match why {
         Why::Einval(field) => {
@@ -98,11 +98,12 @@ fn push_why(buffer: &mut Buffer, why: Why)
             push_short(buffer, short);
         }
         Why::Eexist(page) => push_page(buffer, b"-1 EEXIST page ", page),
+        Why::Eperm(page) => push_page(buffer, b"-1 EPERM page ", page),
         Why::MapErr(page) => push_page(buffer, b"-1 SEGV_MAPERR page ", page),
         Why::AccErr(page, kind) => {
             push_page(buffer, b"-1 SEGV_ACCERR page ", page);
             buffer.push(b" ");
-            push_kind(buffer, kind);
+            push_log_kind(buffer, kind);
         }
     }
 }

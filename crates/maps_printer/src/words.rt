@@ -2,7 +2,7 @@
 //! prints them, and the four characters of proc_pid_maps(5). A set's bits that have no word aren't printed, so no call
 //! needs a condition.
 ghost use Rattle.std.specs.Prelude.{◌≡◌, ◌+◌, ◌≤◌, ◌++◌, length};
-ghost use Rattle.maps_printer.specs.Words.{access_text, letter_if, flags_text, kind_text, prot_text};
+ghost use Rattle.maps_printer.specs.Words.{access_text, letter_if, flags_text, kind_text, log_kind, prot_text};
 
 use crate::buffer::{Buffer, SIZE};
 use bitflags::Flags;
@@ -83,6 +83,18 @@ pub(crate) fn push_kind(buffer: &mut Buffer, kind: Kind)
         letter_if(kind.prot.contains(Prot::EXEC), b'x'),
         if kind.shared { b's' } else { b'p' },
     ]);
+}
+
+/// Adds a kind as a log has it: at most 11 bytes.
+pub(crate) fn push_log_kind(buffer: &mut Buffer, kind: Kind)
+    requires { length buffer.old + 11 ≤ SIZE }
+    ensures text { buffer.new ≡ buffer.old ++ log_kind kind }
+    ensures room { length buffer.new ≤ length buffer.old + 11 }
+{
+    push_kind(buffer, kind);
+    if kind.sealed {
+        buffer.push(b" sealed");
+    }
 }
 
 /// The letter, or `-` where its bit isn't set.

@@ -1,11 +1,11 @@
--- What a call's arguments alone decide, from mmap(2), munmap(2) and mprotect(2). Each call has a list of checks, and
--- the first that applies gives the reply. That a Map with both SHARED and PRIVATE is refused is this project's own
--- choice: on Linux both bits together are MAP_SHARED_VALIDATE.
+-- What a call's arguments alone decide, from mmap(2), munmap(2), mprotect(2) and mseal(2). Each call has a list of
+-- checks, and the first that applies gives the reply. That a Map with both SHARED and PRIVATE is refused is this
+-- project's own choice: on Linux both bits together are MAP_SHARED_VALIDATE.
 use Rattle.std.specs.Prelude.{ℕ, Bool, ◌&&◌, not, ◌==◌, nat_lt, if◌then◌else◌, Option, Some, None, List, [], ◌∷◌, nat_le}
 use Rattle.page_types.specs.declared.TheConstants.{LIMIT}
 use Rattle.page_types.specs.declared.sets.MapFlags.{MapFlags}
 use Rattle.page_types.specs.declared.calls.Call.{Call}
-use Rattle.page_types.specs.declared.calls.Call.TheVariants.{Map, Unmap, Protect, Fault}
+use Rattle.page_types.specs.declared.calls.Call.TheVariants.{Map, Unmap, Protect, Fault, Seal}
 use Rattle.page_types.specs.declared.calls.Reply.{Reply}
 use Rattle.page_types.specs.declared.calls.Reply.TheVariants.{Zero, Refused}
 use Rattle.page_types.specs.declared.calls.Why.TheVariants.{Einval, Enomem, MapErr}
@@ -48,9 +48,19 @@ protect_reply addr len =
 abbrev pub fault_reply : ℕ → Option Reply
 fault_reply addr = first_that_applies ((nat_le LIMIT (page_of addr), Refused (MapErr (page_of addr))) ∷ [])
 
+-- mseal(2), which knows no flag; a Seal of no bytes is done, whatever its flags are
+abbrev pub seal_reply : ℕ → ℕ → ℕ → Option Reply
+seal_reply addr len flags =
+    first_that_applies
+    ((not (is_aligned addr), Refused (Einval Addr)) ∷
+    (len == 0, Zero) ∷
+    (not (flags == 0), Refused (Einval Flags)) ∷
+    (nat_lt LIMIT (end_page addr len), Refused (Enomem (PastEnd (end_page addr len)))) ∷ [])
+
 -- the reply to a call that its arguments alone decide
 abbrev pub plain_reply : Call → Option Reply
 plain_reply (Map addr len prot flags) = map_reply addr len flags
 plain_reply (Unmap addr len) = unmap_reply addr len
 plain_reply (Protect addr len prot) = protect_reply addr len
 plain_reply (Fault addr access) = fault_reply addr
+plain_reply (Seal addr len flags) = seal_reply addr len flags

@@ -1,11 +1,11 @@
-//! The four calls on an address space, their replies, and the check of a call's arguments, which comes before any look
-//! at the space. The calls and the errors follow mmap(2), munmap(2) and mprotect(2); a fault's two errors are the
-//! SIGSEGV codes SEGV_MAPERR and SEGV_ACCERR of sigaction(2). `plain_reply` in `specs/` lists the checks in their
+//! The five calls on an address space, their replies, and the check of a call's arguments, which comes before any look
+//! at the space. The calls and the errors follow mmap(2), munmap(2), mprotect(2) and mseal(2); a fault's two errors are
+//! the SIGSEGV codes SEGV_MAPERR and SEGV_ACCERR of sigaction(2). `plain_reply` in `specs/` lists the checks in their
 //! order, and `plain` is exactly that list.
 
 ghost use Rattle.std.specs.Prelude.{◌≡◌, ◌↔◌, IsTrue};
 ghost use Rattle.page_types.specs.Sets.{is_fixed, has_one_sharing};
-ghost use Rattle.page_types.specs.PlainReply.{plain_reply, map_reply, unmap_reply, protect_reply, fault_reply};
+ghost use Rattle.page_types.specs.PlainReply.{plain_reply, map_reply, unmap_reply, protect_reply, fault_reply, seal_reply};
 ghost use Rattle.page_types.specs.Named.{IsNamedCall, IsNamedKind};
 
 use crate::pages::{Field, end_page};
@@ -13,13 +13,15 @@ use crate::sets::{Access, MapFlags, Prot};
 use crate::{LIMIT, PAGE};
 use bitflags::Flags;
 
-/// How a page is mapped: what may be done with it, and whether its writes are shared.
+/// How a page is mapped: what may be done with it, whether its writes are shared, and whether it is sealed.
 #[derive(Clone, Copy, PartialEq, Eq, Hash, Debug)]
 pub struct Kind {
     /// What may be done with the page.
     pub prot: Prot,
     /// Whether the page was mapped with SHARED.
     pub shared: bool,
+    /// Whether the page is sealed, in the manner of mseal(2): it refuses to be unmapped, replaced or protected.
+    pub sealed: bool,
 }
 
 /// A call on an address space. Addresses and lengths are in bytes.
@@ -59,6 +61,15 @@ pub enum Call {
         /// What is done to it.
         access: Access,
     },
+    /// Seals pages, in the manner of mseal(2): from then on they refuse to be unmapped, replaced or protected.
+    Seal {
+        /// The first byte.
+        addr: u64,
+        /// How many bytes, rounded up to whole pages.
+        len: u64,
+        /// No flag is known, so only 0 is right.
+        flags: u64,
+    },
 }
 
 impl Kind {
@@ -78,7 +89,7 @@ impl Call {
         match *self {
             Call::Map { prot, flags, .. } => prot.is_named() && flags.is_named(),
             Call::Protect { prot, .. } => prot.is_named(),
-            Call::Unmap { .. } | Call::Fault { .. } => true,
+            Call::Unmap { .. } | Call::Fault { .. } | Call::Seal { .. } => true,
         }
     }
 }
@@ -88,7 +99,7 @@ impl Call {
 pub enum Reply {
     /// The address in bytes at which a Map put its pages.
     At(u64),
-    /// An Unmap or a Protect was done.
+    /// An Unmap, a Protect or a Seal was done.
     Zero,
     /// A Fault found a page of this kind, which lets the access through.
     Granted(Kind),
@@ -105,6 +116,8 @@ pub enum Why {
     Enomem(Short),
     /// EEXIST: the lowest page that is mapped already.
     Eexist(u64),
+    /// EPERM: the lowest page that is sealed.
+    Eperm(u64),
     /// SEGV_MAPERR: the page isn't mapped.
     MapErr(u64),
     /// SEGV_ACCERR: the page, and its kind, which doesn't let the access through.
@@ -127,8 +140,8 @@ pub enum Short {
 /// The reply to a call that its arguments alone decide; None exactly where they don't.
 ///
 /// For each call the checks come in the order alignment, length, flags, end, and the first that fails decides. Only the
-/// fixed forms of a Map ask for an aligned address and an end at or below `LIMIT`; a Protect of no bytes is done; a
-/// Fault at or above `LIMIT` finds no page.
+/// fixed forms of a Map ask for an aligned address and an end at or below `LIMIT`; a Protect of no bytes is done, and
+/// so is a Seal, whatever its flags are; a Fault at or above `LIMIT` finds no page.
 pub fn plain(call: &Call) -> Option<Reply>
     ensures { result ≡ plain_reply call.now }
 {
@@ -142,6 +155,7 @@ pub fn plain(call: &Call) -> Option<Reply>
         Call::Unmap { addr, len } => plain_unmap(addr, len),
         Call::Protect { addr, len, .. } => plain_protect(addr, len),
         Call::Fault { addr, .. } => plain_fault(addr),
+        Call::Seal { addr, len, flags } => plain_seal(addr, len, flags),
     }
 }
 
@@ -202,6 +216,25 @@ fn plain_fault(addr: u64) -> Option<Reply>
     let page = addr / PAGE;
     if page >= LIMIT {
         return Some(Reply::Refused(Why::MapErr(page)));
+    }
+    None
+}
+
+fn plain_seal(addr: u64, len: u64, flags: u64) -> Option<Reply>
+    ensures { result ≡ seal_reply addr len flags }
+{
+    if addr % PAGE != 0 {
+        return Some(Reply::Refused(Why::Einval(Field::Addr)));
+    }
+    if len == 0 {
+        return Some(Reply::Zero);
+    }
+    if flags != 0 {
+        return Some(Reply::Refused(Why::Einval(Field::Flags)));
+    }
+    let end = end_page(addr, len);
+    if end > LIMIT {
+        return Some(Reply::Refused(Why::Enomem(Short::PastEnd(end))));
     }
     None
 }

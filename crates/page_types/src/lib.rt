@@ -1,7 +1,7 @@
-//! The words of an address space: pages and spans of pages, protections, and the four calls `mmap`, `munmap`,
-//! `mprotect` and a page's fault, with their replies. The calls follow mmap(2), munmap(2) and mprotect(2) for x86-64
-//! with 4-level paging. A reader may rely on `plain`, the check of a call's arguments: it gives the reply of exactly
-//! those calls for which no address space is needed.
+//! The words of an address space: pages and spans of pages, protections, and the five calls `mmap`, `munmap`,
+//! `mprotect`, `mseal` and a page's fault, with their replies. The calls follow mmap(2), munmap(2), mprotect(2) and
+//! mseal(2) for x86-64 with 4-level paging. A reader may rely on `plain`, the check of a call's arguments: it gives the
+//! reply of exactly those calls for which no address space is needed.
 #![tactic(auto)]
 
 mod calls;

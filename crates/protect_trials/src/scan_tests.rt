@@ -13,6 +13,7 @@ fn an_open_scan_hinders_no_fault(rt: HostRuntime) {
     let kind = Kind {
         prot: Prot::READ | Prot::WRITE,
         shared: false,
+        sealed: false,
     };
     let areas = [Area {
         lo: 16,

@@ -33,6 +33,7 @@ fn area(lo: u64, hi: u64, prot: Prot) -> Area {
         kind: Kind {
             prot,
             shared: false,
+            sealed: false,
         },
     }
 }
@@ -265,4 +266,43 @@ fn at_the_limit_on_rows_a_split_is_refused_and_a_recolouring_is_done(
     let mut after = Vec::from_slice(alloc, &before)?;
     after[0] = area(16, 17, Prot::READ | Prot::EXEC);
     plays(&rt, alloc, &before, &[split, recoloured], &after)
+}
+
+#[test]
+fn a_sealed_area_refuses_under_itself(rt: HostRuntime) -> Result<(), Fail> {
+    let own = area(16, 18, read_write());
+    let areas = [
+        Area {
+            kind: Kind {
+                sealed: true,
+                ..own.kind
+            },
+            ..own
+        },
+        area(18, 20, read_write()),
+    ];
+    // one that would split the area, and one that would change nothing
+    let split = Case {
+        addr: 0x11000,
+        len: 4096,
+        prot: Prot::READ,
+        reply: Reply::Refused(Why::Eperm(17)),
+        under: over(15, 19),
+        path: Path::Area { seq: 0 },
+    };
+    let nothing = Case {
+        addr: 0x10000,
+        len: 8192,
+        prot: read_write(),
+        reply: Reply::Refused(Why::Eperm(16)),
+        ..split
+    };
+    // over both areas, which look alike in the maps, everything is held
+    let both = Case {
+        len: 8192,
+        under: Under::Whole,
+        path: Path::Whole(Cause::NotOneArea { at: 2 }),
+        ..split
+    };
+    plays(&rt, rt.alloc(), &areas, &[split, nothing, both], &areas)
 }

@@ -30,6 +30,7 @@ fn area(lo: u64, hi: u64, prot: Prot) -> Area {
         kind: Kind {
             prot,
             shared: false,
+            sealed: false,
         },
     }
 }

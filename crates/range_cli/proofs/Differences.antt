@@ -19,8 +19,8 @@ use Rattle.strace_reader.specs.declared.joiner.Fed.TheVariants.{Played, Kept, Sk
 use Rattle.strace_reader.specs.Playing.{Differs}
 use Rattle.range_cli.specs.declared.trace.Line.{Line}
 use Rattle.range_cli.specs.Report.{Differing, DiffersFromLine, LinesRise, IsPlaceOf, HasNoLine}
-use Rattle.range_cli.specs.Trace.{TracePosition, Reads, lines_by, index_among}
-use Rattle.range_cli.specs.Trace.Reads.{nothing, line}
+use Rattle.range_cli.specs.Script.{TracePosition, Reads, lines_by, index_among}
+use Rattle.range_cli.specs.Script.Reads.{nothing, line}
 
 -- ---- the count
 

@@ -2,7 +2,7 @@
 use Rattle.std.proofs.Common.{◌≡◌, ℕ, List, [], Option, None, Some, refl, sym, ap, ◌∙◌, rules, take}
 use Rattle.std.proofs.lemmas.Grind.{common_steps}
 use Rattle.std.specs.Io.KnownBytes.{Consumes, IsAtEnd}
-use Rattle.range_cli.specs.Input.{Drains}
+use Rattle.range_cli.specs.TraceReader.{Drains}
 
 -- a read that moved nothing at the end of the input says that all bytes so far are the whole of it
 pub drained : (first before last : Option (List ℕ)) (all piece : List ℕ) (count : ℕ) → Consumes first before all

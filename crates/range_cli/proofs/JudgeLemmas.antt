@@ -11,12 +11,12 @@ use Rattle.history_check.specs.declared.verdict.Verdict.{Verdict}
 use Rattle.history_check.specs.declared.verdict.Verdict.TheVariants.{Legal, Wrong as WrongVerdict}
 use Rattle.history_check.specs.declared.verdict.WrongLog.{WrongLog}
 use Rattle.history_check.specs.declared.verdict.WrongLog.TheVariants.{Form, Number, Order, Held, Reply, Rest}
-use Rattle.history_check.specs.LogLines.{AreLogLines}
+use Rattle.history_check.specs.Logs.{AreLogLines}
 use Rattle.history_check.specs.Verdicts.{IsVerdict, FailsInLog, FailsInRest}
 use Rattle.range_cli.specs.Checking.{KeepsLimits, IsInputVerdict}
 use Rattle.range_cli.specs.Judging.{HasNumbers}
-use Rattle.range_cli.specs.Opening.{Opens, ReadsMaps}
-use Rattle.range_cli.specs.Opening.ReadsMaps.{over, empty, mapped, past_end}
+use Rattle.range_cli.specs.Script.{Opens, ReadsMaps}
+use Rattle.range_cli.specs.Script.ReadsMaps.{over, empty, mapped, past_end}
 use Rattle.std.proofs.lemmas.Option.{slice_get_within}
 
 -- ---- the verdict

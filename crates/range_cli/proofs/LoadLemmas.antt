@@ -2,24 +2,24 @@
 use Rattle.std.proofs.Common.{◌≡◌, ℕ, zero, suc, ◌+◌, ◌*◌, ◌<◌, List, [], ◌∷◌, ◌++◌, length, map, take, get_or, refl, sym, ap, subst, ◌∙◌, arith, length-append}
 use Rattle.std.proofs.lemmas.List.{length-map, map-append, take_more}
 use Rattle.load_lines.specs.declared.calls.MadeLine.{MadeLine}
-use Rattle.load_lines.specs.Calls.{lines_of, line_at}
+use Rattle.load_lines.specs.Calls.{drawn_lines, line_at}
 use Rattle.load_lines.specs.Generator.{state_after}
 use Rattle.trace_threads.specs.declared.worker.Line.{Line as Turn}
 use Rattle.range_cli.specs.declared.trace.Line.{Line}
 use Rattle.range_cli.specs.Dealt.{dealt}
-use Rattle.range_cli.specs.Load.{line_of, lines_of_load}
+use Rattle.range_cli.specs.Play.{line_of, lines_of_load}
 
 -- a generator makes as many lines as calls are asked for
-pub made_count : (seed threads calls : ℕ) → length (lines_of seed threads calls) ≡ calls
+pub made_count : (seed threads calls : ℕ) → length (drawn_lines seed threads calls) ≡ calls
 made_count seed threads zero = refl
 made_count seed threads (suc made) =
     let before = made_count seed threads made in
-    let more = length-append (lines_of seed threads made) (line_at (state_after seed (4 * made)) threads made ∷ []) in
+    let more = length-append (drawn_lines seed threads made) (line_at (state_after seed (4 * made)) threads made ∷ []) in
     omega (arith, before, more)
 
 -- a load has as many lines as calls
 pub load_count : (seed threads calls : ℕ) → length (lines_of_load seed threads calls) ≡ calls
-load_count seed threads calls = length-map (lines_of seed threads calls) line_of ∙ made_count seed threads calls
+load_count seed threads calls = length-map (drawn_lines seed threads calls) line_of ∙ made_count seed threads calls
 
 -- with the next made line dealt out the made lines up to it are
 pub next_made : (threads i : ℕ) (made : List MadeLine) (d : MadeLine) (line : Line) (all : List (List Turn)) → i < length made

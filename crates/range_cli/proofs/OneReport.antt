@@ -2,7 +2,7 @@
 -- have one history from given areas, with what each call held, and what is counted of lines and entries is one number.
 use Rattle.std.proofs.Common.{◌≡◌, ◌⊎◌, ◌↔◌, Bool, true, false, ℕ, zero, suc, ◌+◌, ◌<◌, ◌≤◌, List, [], ◌∷◌, ◌++◌, length}
 use Rattle.std.proofs.Common.{Option, None, Some, inl, inr, refl, sym, ap, subst, ◌∙◌, arith}
-use Rattle.std.specs.Prelude.{if◌then◌else◌}
+use Rattle.std.specs.Prelude.{if◌then◌else◌, All}
 use Rattle.std.specs.List.{AllPairs, Contains}
 use Rattle.std.proofs.lemmas.List.Kept.{AllPairs-from_increasing}
 use Rattle.page_types.specs.declared.calls.Call.{Call}
@@ -14,7 +14,7 @@ use Rattle.space_model.specs.Areas.{HasKinds, IsAreaList, kind_at}
 use Rattle.space_model.specs.Answers.{Answers}
 use Rattle.space_model.specs.Held.{FitsUnder, HoldsSomeArea, IsSimple}
 use Rattle.space_model.specs.History.{Chains, IsNumberedFrom, StateAfter}
-use Rattle.space_model.proofs.Histories.{one_state}
+use Rattle.space_model.proofs.Histories.{chains_weaker, one_state}
 use Rattle.space_model.proofs.OneAnswer.{one_answer}
 use Rattle.space_model.proofs.SomeAnswer.{leaves_areas}
 use Rattle.line_parts.specs.Lines.{lines_of}
@@ -25,24 +25,23 @@ use Rattle.maps_printer.specs.Lines.{maps_text, summary_text, touched_text}
 use Rattle.area_rows.specs.Callers.{ClosedView}
 use Rattle.trace_threads.specs.declared.worker.Line.{Line as Turn}
 use Rattle.trace_threads.specs.Workers.{AreEntriesOf}
-use Rattle.trace_threads.specs.Collected.{HeldAndReplies, IsAlone, IsCollected}
+use Rattle.area_rows.proofs.Storing.{all_legal}
+use Rattle.trace_threads.specs.Collected.{HeldAndReplies}
 use Rattle.command_words.specs.declared.commands.Command.TheVariants.{Play, Load}
 use Rattle.command_words.specs.declared.commands.Options.{Options}
-use Rattle.command_words.specs.Commands.{AskForOne, Spells}
+use Rattle.command_words.specs.Commands.{AskForOne, AskFor}
 use Rattle.range_cli.specs.declared.report.Counts.{Counts}
 use Rattle.range_cli.specs.declared.trace.Line.{Line}
-use Rattle.range_cli.specs.Dealt.{dealt, worker_lines}
+use Rattle.range_cli.specs.Play.{worker_lines, lines_of_load, IsHistoryOf}
 use Rattle.range_cli.specs.Laws.{AreOneReport, AskForOneWorker, OneWorkerHasOneReport}
-use Rattle.range_cli.specs.Load.{lines_of_load}
-use Rattle.range_cli.specs.Play.{IsHistoryOf}
 use Rattle.range_cli.specs.Report.{CountsTouched, Differing, asked_log, asked_touched, refused_count, report_text}
-use Rattle.range_cli.specs.Run.{Heard, IsLoadReport, IsReport, Loaded, Reports}
-use Rattle.range_cli.specs.Script.{IsScript}
-use Rattle.range_cli.specs.Trace.{Reads, TracePosition, after, lines_by, skipped_by, start_at}
-use Rattle.range_cli.specs.Trace.Reads.{nothing, line}
+use Rattle.range_cli.specs.Run.{Heard, IsReport, Loaded, Reports}
+use Rattle.range_cli.specs.Script.{IsScript, Reads, TracePosition, after, lines_by, skipped_by, start_at}
+use Rattle.range_cli.specs.Script.Reads.{nothing, line}
 use Rattle.range_cli.proofs.JudgeLemmas.{lines_few, opens_few}
 use Rattle.range_cli.proofs.OneWorker.{of_lines}
 use Rattle.range_cli.proofs.Outcomes.{asks_same, same_list, same_opens}
+use Rattle.range_cli.proofs.PlayLemmas.{HeldAsMay}
 
 -- ---- numbers that rise
 
@@ -160,20 +159,26 @@ entries_one (turn ∷ turns) (x ∷ xs) (y ∷ ys) n A B C w a b l m (D, (x_held
     (subst (λ X. Chains HeldAndReplies X ys C) (sym one.1) t) in
     λ i. (record { number = number i; worker = worker i; line = line_number i; call = call i; reply = one.0 i; under = under i }) ∷ rest i
 
--- no worker but the first has entries
-first_alone : (lines : List Line) (entries : List Entry) → IsCollected (dealt 1 lines) entries → IsAlone 0 entries
-first_alone lines entries h k apart = h.no_other k (omega (arith, apart))
+-- all entries are of the first worker
+first_alone : (entries : List Entry) → All (λ (e : Entry). e.worker < 1) entries → All (λ (e : Entry). e.worker ≡ 0) entries
+first_alone entries below k d within = let low = below k d within in omega (arith, low)
+
+-- what is held along a chain, as `entries_one` has it
+held_along : (A : List Area) (entries : List Entry) (B : List Area) → Chains HeldAsMay A entries B → Chains HeldAndReplies A entries B
+held_along = chains_weaker HeldAsMay HeldAndReplies (λ A e B step. (record { fits = step.0.0; area = step.1 }, step.0.1))
 
 -- by one worker, lines from an area list have one history, which leaves one list
 played_one : (opening : List Area) (lines : List Line) (entries others : List Entry) (last end : List Area) → IsAreaList opening
     → IsHistoryOf 1 opening lines entries last → IsHistoryOf 1 opening lines others end → (entries ≡ others) × (last ≡ end)
 played_one opening lines entries others last end w a b =
-    let held = a.alone 0 (first_alone lines entries a.collected) in
-    let other_held = b.alone 0 (first_alone lines others b.collected) in
+    let held = held_along opening entries last (a.alone 0 (first_alone entries a.no_other)) in
+    let other_held = held_along opening others end (b.alone 0 (first_alone others b.no_other)) in
     let same =
-    entries_one (worker_lines 1 lines 0) entries others 0 opening held.0 other_held.0 w (of_lines lines entries a.collected)
-    (of_lines lines others b.collected) a.legal.0 b.legal.0 held.1 other_held.1 in
-    (same, one_state opening entries last end a.leaves (subst (λ es. StateAfter opening es end) (sym same) b.leaves))
+    entries_one (worker_lines 1 lines 0) entries others 0 opening last end w (of_lines lines entries a.own a.no_other)
+    (of_lines lines others b.own b.no_other) a.runs.0 b.runs.0 held other_held in
+    let left = (all_legal opening last entries a.runs).1 in
+    let other_left = (all_legal opening end others b.runs).1 in
+    (same, one_state opening entries last end left (subst (λ es. StateAfter opening es end) (sym same) other_left))
 
 -- ---- one report
 
@@ -190,8 +195,7 @@ differing_one lines (e ∷ es) n m (inr a) (inr b) = differing_one lines es n m 
 touched_one : (entries : List Entry) (n m : ℕ) → CountsTouched entries n → CountsTouched entries m → n ≡ m
 touched_one entries n m a b =
     let one =
-    rising_one a.pages b.pages a.touched.rising b.touched.rising (λ z h. (b.touched.all z).1 ((a.touched.all z).0 h))
-    (λ z h. (a.touched.all z).1 ((b.touched.all z).0 h)) in
+    rising_one a.pages b.pages a.rising b.rising (λ z h. (b.all z).1 ((a.all z).0 h)) (λ z h. (a.all z).1 ((b.all z).0 h)) in
     a.counted ∙ ap length one ∙ sym b.counted
 
 where_asked : (asked : Bool) (n m : ℕ) → (asked ≡ true → n ≡ m) → (if asked then touched_text n else []) ≡ (if asked then touched_text m else [])
@@ -224,16 +228,18 @@ report_one options bytes one other first second few a b =
     record { entries = same.0; areas = same.1; bytes = a.text ∙ text ∙ sym b.text }
 
 -- two reports of one load by one worker are one
-load_one : (seed calls : ℕ) (one other : ClosedView) (first second : List ℕ) → IsLoadReport seed 1 calls one first → IsLoadReport seed 1 calls other second
-    → AreOneReport one other first second
-load_one seed calls one other first second a b =
-    let same = played_one [] (lines_of_load seed 1 calls) one.entries other.entries one.areas other.areas tt a.played b.played in
-    let text = ap (λ (es : List Entry). summary_text (length es) 0 (refused_count es) 0) same.0 in
-    record { entries = same.0; areas = same.1; bytes = a.text ∙ text ∙ sym b.text }
+load_one : (seed calls : ℕ) (one other : ClosedView) (first second : List ℕ) → IsHistoryOf 1 [] (lines_of_load seed 1 calls) one.entries one.areas
+    → IsHistoryOf 1 [] (lines_of_load seed 1 calls) other.entries other.areas
+    → first ≡ summary_text (length one.entries) 0 (refused_count one.entries) 0
+    → second ≡ summary_text (length other.entries) 0 (refused_count other.entries) 0 → AreOneReport one other first second
+load_one seed calls one other first second a b text other_text =
+    let same = played_one [] (lines_of_load seed 1 calls) one.entries other.entries one.areas other.areas tt a b in
+    let summary = ap (λ (es : List Entry). summary_text (length es) 0 (refused_count es) 0) same.0 in
+    record { entries = same.0; areas = same.1; bytes = text ∙ summary ∙ sym other_text }
 
 module _ (words : List (List ℕ)) (asks : AskForOne words) where
   -- the report of an input is by one worker where the words ask for one
-  by_one : (bytes : List ℕ) (left : Option (List ℕ)) (closed : ClosedView) (report : List ℕ) (options : Options) → Spells words (Play options 1)
+  by_one : (bytes : List ℕ) (left : Option (List ℕ)) (closed : ClosedView) (report : List ℕ) (options : Options) → AskFor words (Play options 1)
       → Heard words (Some bytes) left (λ o threads b. IsReport o threads b closed report)
       → (length bytes ≤ 67108864) × IsReport options 1 bytes closed report
   by_one bytes left closed report options spells h =
@@ -244,22 +250,22 @@ module _ (words : List (List ℕ)) (asks : AskForOne words) where
       (subst (λ l. length l ≤ 67108864) (sym b) h.input.1, rw (o, n, sym b) at h.holds)
 
   -- and the report of a load
-  load_by_one : (closed : ClosedView) (report : List ℕ) (seed calls : ℕ) → Spells words (Load seed 1 calls) → Loaded words closed report
-      → IsLoadReport seed 1 calls closed report
+  load_by_one : (closed : ClosedView) (report : List ℕ) (seed calls : ℕ) → AskFor words (Load seed 1 calls) → Loaded words closed report
+      → IsHistoryOf 1 [] (lines_of_load seed 1 calls) closed.entries closed.areas
   load_by_one closed report seed calls spells h =
       let same : Load h.seed h.threads h.calls ≡ Load seed 1 calls = asks _ _ h.accepted spells in
       let s : h.seed ≡ seed = cc in
       let n : h.threads ≡ 1 = cc in
       let c : h.calls ≡ calls = cc in
-      rw (s, n, c) at h.holds
+      rw (s, n, c) at h.played
 
   -- words that ask for an input to be played have no load
-  no_load : (closed : ClosedView) (report : List ℕ) (options : Options) (threads : ℕ) → Spells words (Play options threads) → Loaded words closed report → ⊥
+  no_load : (closed : ClosedView) (report : List ℕ) (options : Options) (threads : ℕ) → AskFor words (Play options threads) → Loaded words closed report → ⊥
   no_load closed report options threads spells h =
       let same : Load h.seed h.threads h.calls ≡ Play options threads = asks _ _ h.accepted spells in cc
 
   -- nor have those that ask for a load an input
-  no_input : (input left : Option (List ℕ)) (P : Options → ℕ → List ℕ → Type 0) (seed threads calls : ℕ) → Spells words (Load seed threads calls)
+  no_input : (input left : Option (List ℕ)) (P : Options → ℕ → List ℕ → Type 0) (seed threads calls : ℕ) → AskFor words (Load seed threads calls)
       → Heard words input left P → ⊥
   no_input input left P seed threads calls spells h =
       let same : Play h.options h.threads ≡ Load seed threads calls = asks _ _ h.accepted spells in cc
@@ -268,7 +274,7 @@ module _ (words : List (List ℕ)) (asks : AskForOne words) where
       → AreOneReport one other first second
   of_loads one other first second (inl (options, spells)) a b = absurd (no_load one first options 1 spells a)
   of_loads one other first second (inr (seed, calls, spells)) a b =
-      load_one seed calls one other first second (load_by_one one first seed calls spells a) (load_by_one other second seed calls spells b)
+      load_one seed calls one other first second (load_by_one one first seed calls spells a) (load_by_one other second seed calls spells b) a.text b.text
 
   of_inputs : (bytes : List ℕ) (left other_left : Option (List ℕ)) (one other : ClosedView) (first second : List ℕ) → AskForOneWorker words
       → Reports words (Some bytes) left one first → Reports words (Some bytes) other_left other second → AreOneReport one other first second
@@ -283,7 +289,7 @@ module _ (words : List (List ℕ)) (asks : AskForOne words) where
   of_inputs bytes left other_left one other first second (inr (seed, calls, spells)) (inr a) (inl b) =
       absurd (no_input (Some bytes) other_left _ seed 1 calls spells b)
   of_inputs bytes left other_left one other first second (inr (seed, calls, spells)) (inr a) (inr b) =
-      load_one seed calls one other first second (load_by_one one first seed calls spells a) (load_by_one other second seed calls spells b)
+      load_one seed calls one other first second (load_by_one one first seed calls spells a) (load_by_one other second seed calls spells b) a.text b.text
 
 -- by one worker words and input have one report
 pub one_report : OneWorkerHasOneReport

@@ -1,24 +1,28 @@
 -- One worker's entries are those of its lines in their order, so two histories of them have the same calls, and then
 -- the same replies and the same last areas.
-use Rattle.std.proofs.Common.{◌≡◌, ℕ, List, [], ◌∷◌, map, sym, refl, subst, ◌∙◌}
+use Rattle.std.proofs.Common.{◌≡◌, ℕ, ◌<◌, List, [], ◌∷◌, map, sym, refl, subst, ◌∙◌, arith}
+use Rattle.std.specs.Prelude.{All}
 use Rattle.space_model.specs.declared.areas.Area.{Area}
 use Rattle.space_model.specs.declared.entries.Entry.{Entry}
 use Rattle.space_model.specs.Answers.{Answers}
 use Rattle.space_model.specs.History.{StateAfter}
 use Rattle.space_model.proofs.Histories.{agree}
 use Rattle.space_model.proofs.OneAnswer.{one_answer}
+use Rattle.area_rows.proofs.Storing.{all_legal}
 use Rattle.trace_threads.specs.declared.worker.Line.{Line as Turn}
 use Rattle.trace_threads.specs.Workers.{AreEntriesOf}
-use Rattle.trace_threads.specs.Collected.{IsCollected}
 use Rattle.range_cli.specs.declared.trace.Line.{Line}
-use Rattle.range_cli.specs.Dealt.{worker_lines, dealt}
+use Rattle.range_cli.specs.Play.{worker_lines}
 use Rattle.range_cli.specs.Laws.{OneWorkerPlaysOneHistory}
 use Rattle.range_cli.proofs.Parts.{part_whole}
+use Rattle.range_cli.proofs.PlayLemmas.{AreOwn, none_from, of_worker}
 
 -- one worker's entries are those of all its lines
-pub of_lines : (lines : List Line) (entries : List Entry) → IsCollected (dealt 1 lines) entries → AreEntriesOf 0 (worker_lines 1 lines 0) entries
-of_lines lines entries h =
-    subst (AreEntriesOf 0 (worker_lines 1 lines 0)) (part_whole (λ (e : Entry). e.worker) entries h.no_other) (h.lines 0 (worker_lines 1 lines 0) refl)
+pub of_lines : (lines : List Line) (entries : List Entry) → AreOwn 1 lines entries → All (λ (e : Entry). e.worker < 1) entries
+    → AreEntriesOf 0 (worker_lines 1 lines 0) entries
+of_lines lines entries own below =
+    subst (AreEntriesOf 0 (worker_lines 1 lines 0)) (part_whole (λ (e : Entry). e.worker) entries (none_from 1 entries below))
+    (of_worker 1 lines entries 0 own (omega arith))
 
 -- what the entries of lines have of their lines
 record Agrees (worker : ℕ) (turns : List Turn) (entries : List Entry) : Type 0 where
@@ -53,10 +57,12 @@ one_end A (x ∷ xs) (y ∷ ys) B C same (D, (q, g), s) (E, (r, h), t) =
 -- two plays of one worker's lines from one opening agree, and leave the same areas
 pub one_history : OneWorkerPlaysOneHistory
 one_history opening lines entries others last end a b =
-    let x = agrees 0 (worker_lines 1 lines 0) entries (of_lines lines entries a.collected) in
-    let y = agrees 0 (worker_lines 1 lines 0) others (of_lines lines others b.collected) in
+    let x = agrees 0 (worker_lines 1 lines 0) entries (of_lines lines entries a.own a.no_other) in
+    let y = agrees 0 (worker_lines 1 lines 0) others (of_lines lines others b.own b.no_other) in
     let calls = x.calls ∙ sym y.calls in
-    let replies = agree opening entries others a.legal b.legal calls in (
+    let one = all_legal opening last entries a.runs in
+    let other = all_legal opening end others b.runs in
+    let replies = agree opening entries others one.0 other.0 calls in (
       record { numbers = replies.0; workers = x.workers ∙ sym y.workers; lines = x.lines ∙ sym y.lines; calls = calls; replies = replies.1 },
-      one_end opening entries others last end calls a.leaves b.leaves,
+      one_end opening entries others last end calls one.1 other.1,
     )

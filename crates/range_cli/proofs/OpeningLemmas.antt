@@ -11,9 +11,11 @@ use Rattle.strace_reader.specs.declared.maps.MapsItem.{MapsItem}
 use Rattle.strace_reader.specs.declared.maps.MapsItem.TheVariants.{Area as Mapped, Past}
 use Rattle.strace_reader.specs.Maps.{SpellsMaps, IsNamedMapsItem}
 use Rattle.range_cli.specs.declared.status.EarlyEnd.{EarlyEnd}
-use Rattle.range_cli.specs.Opening.{IsNext, EndsMap, Opens, ReadsMaps, EndsMaps, map_start, map_stop, areas_with, past_with}
-use Rattle.range_cli.specs.Opening.ReadsMaps.{over, empty, mapped, past_end}
-use Rattle.range_cli.specs.Opening.EndsMaps.{here, later}
+use Rattle.range_cli.specs.Script.{IsNext, Opens, ReadsMaps, map_start}
+use Rattle.range_cli.specs.Endings.{EndsMap, EndsMaps, map_stop}
+use Rattle.range_cli.specs.TraceReader.{areas_with, past_with}
+use Rattle.range_cli.specs.Script.ReadsMaps.{over, empty, mapped, past_end}
+use Rattle.range_cli.specs.Endings.EndsMaps.{here, later}
 
 -- the addresses of a maps line are in order and have 64 bits; those of an area are user addresses
 pub spells_fit : (text : List ℕ) (item : MapsItem) → SpellsMaps text item → (map_start item < map_stop item) × (map_stop item < 2 ^ 64)

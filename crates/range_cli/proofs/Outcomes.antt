@@ -23,18 +23,17 @@ use Rattle.range_cli.specs.declared.trace.Line.{Line}
 use Rattle.command_words.specs.declared.commands.Command.TheVariants.{Play, Load, Check}
 use Rattle.command_words.specs.declared.commands.Options.{Options}
 use Rattle.line_parts.specs.Lines.{lines_of}
-use Rattle.range_cli.specs.Opening.{IsNext, IsRefused, EndsMap, ReadsMaps, EndsMaps, Opens, EndsOpening, map_start, map_stop}
-use Rattle.range_cli.specs.Opening.ReadsMaps.{over, empty as empty_map, mapped, past_end}
-use Rattle.range_cli.specs.Opening.EndsMaps.{here as here_map, later as later_map}
+use Rattle.range_cli.specs.Script.{IsNext, ReadsMaps, Opens, map_start, IsScript, IsShort, TracePosition, start_at, after, Asks, Reads, played_by}
+use Rattle.range_cli.specs.Endings.{IsRefused, EndsMap, EndsMaps, EndsOpening, map_stop, EndsTrace, EndsInput, Ends, EndsAt}
+use Rattle.range_cli.specs.Script.ReadsMaps.{over, empty as empty_map, mapped, past_end}
+use Rattle.range_cli.specs.Endings.EndsMaps.{here as here_map, later as later_map}
 use Rattle.range_cli.specs.Run.{Heard, Judged, EndsByInput, EndsByLog, Reports, Wrote, HasCause, IsOutcome, IsOnlyOutcome, IsHindered}
 use Rattle.range_cli.specs.Run.IsOutcome.{usage, too_long, early, done, loaded, check_early, checked}
-use Rattle.range_cli.specs.Script.{IsScript, EndsTrace, EndsInput}
 use Rattle.range_cli.specs.Status.{status_of, ending}
 use Rattle.range_cli.proofs.CheckLemmas.{all_behind}
-use Rattle.range_cli.specs.Trace.{IsShort, TracePosition, start_at, after, Asks, Ends, Reads, EndsAt, played_by}
-use Rattle.range_cli.specs.Trace.Reads.{nothing, line}
-use Rattle.range_cli.specs.Trace.EndsAt.{here, later}
-use Rattle.command_words.specs.Commands.{Spells, RefusesWords, AskForOne, AskToRead}
+use Rattle.range_cli.specs.Script.Reads.{nothing, line}
+use Rattle.range_cli.specs.Endings.EndsAt.{here, later}
+use Rattle.command_words.specs.Commands.{AskFor, RefusesWords, AskForOne, AskToRead}
 use Rattle.command_words.specs.declared.commands.Command.{Command}
 use Rattle.history_check.specs.declared.verdict.Verdict.{Verdict}
 use Rattle.history_check.specs.declared.verdict.Verdict.TheVariants.{Legal, Wrong as WrongVerdict}
@@ -427,7 +426,7 @@ one_command_end (Check opening) bytes s u a b =
 -- an outcome is that of refused words, or of a command that the words spell
 record Spelled (words : List (List ℕ)) (bytes : List ℕ) (end : Status) : Type 0 where
   command : Command
-  spells : Spells words command
+  spells : AskFor words command
   ends : CommandEnd command bytes end
 
 spelled : {words : List (List ℕ)} {bytes : List ℕ} {s : Status} → IsOutcome words bytes s

@@ -1,6 +1,9 @@
 -- What the workers of a space have played is a legal history of just their lines, with as many entries as lines.
-use Rattle.std.proofs.Common.{◌≡◌, ℕ, zero, suc, ◌+◌, ◌<◌, List, [], ◌∷◌, length, map, refl, sym, ap, ◌∙◌, arith, mod-lt, add-one, Global}
-use Rattle.std.specs.Prelude.{Vec, vec_items, vec_len, sum_by}
+use Rattle.std.proofs.Common.{◌≡◌, ℕ, zero, suc, ◌+◌, ◌<◌, List, [], ◌∷◌, length, map, refl}
+use Rattle.std.proofs.Common.{sym, ap, subst, ◌∙◌, inl, inr, cond, None, arith, mod-lt, add-one, Global}
+use Rattle.std.specs.Prelude.{Vec, vec_items, vec_len, sum_by, All, ◌↔◌}
+use Rattle.std.proofs.lemmas.Bool.Decides.{eqb_tells}
+use Rattle.std.proofs.lemmas.List.Elements.{All-cons, All-head, All-nil, All-tail}
 use Rattle.std.proofs.lemmas.List.Sums.{sum_by-cons}
 use mathlib.Core.Option.{some}
 use lib.ListN.{get_elem?}
@@ -9,23 +12,19 @@ use Rattle.std.proofs.lemmas.List.{length-map}
 use Rattle.std.proofs.lemmas.List.FromFn.{length-map-range_with_len, sum_by-map-range_with_len_more}
 use Rattle.space_model.specs.declared.areas.Area.{Area}
 use Rattle.space_model.specs.declared.entries.Entry.{Entry}
-use Rattle.space_model.specs.History.{HasRightReply}
-use Rattle.space_model.proofs.Histories.{chains_weaker, replied_state}
-use Rattle.area_rows.specs.History.{FitsAndReplies, entries_of}
+use Rattle.page_types.specs.PlainReply.{plain_reply}
+use Rattle.space_model.specs.Held.{HoldsSomeArea, IsSimple}
+use Rattle.space_model.specs.History.{Chains, FitsAndReplies, HasRightReply, StateAfter}
+use Rattle.space_model.proofs.Histories.{chains_weaker, one_state, replied_state}
+use Rattle.area_rows.specs.History.{entries_of}
+use Rattle.area_rows.proofs.Storing.{all_legal}
 use Rattle.trace_threads.specs.declared.worker.Line.{Line as Turn}
 use Rattle.trace_threads.specs.Workers.{AreEntriesOf}
-use Rattle.trace_threads.specs.Collected.{IsCollected, IsPlayed as WerePlayed}
+use Rattle.trace_threads.specs.Collected.{AllHeld, HeldAndReplies, IsOnlyWorker, IsPlayed as WerePlayed}
 use Rattle.range_cli.specs.declared.trace.Line.{Line}
-use Rattle.range_cli.specs.Dealt.{worker_of, own_lines, worker_lines, played_line, dealt}
-use Rattle.range_cli.specs.Play.{IsHistoryOf}
-use Rattle.range_cli.proofs.Parts.{total, total_same, parts_whole, none_above}
-
--- as many entries as lines
-entries_length : (worker : ℕ) (lines : List Turn) (entries : List Entry) → AreEntriesOf worker lines entries → length entries ≡ length lines
-entries_length worker [] [] h = refl
-entries_length worker [] (e ∷ es) h = absurd h
-entries_length worker (l ∷ ls) [] h = absurd h
-entries_length worker (l ∷ ls) (e ∷ es) h = let rest = entries_length worker ls es h.1 in omega arith
+use Rattle.range_cli.specs.Dealt.{worker_of, own_lines, dealt}
+use Rattle.range_cli.specs.Play.{worker_lines, played_line, IsHistoryOf, turn_of}
+use Rattle.range_cli.proofs.Parts.{NoneAbove, first_below, rest_none, total, total_same, parts_whole, none_above}
 
 -- the list of each number
 pub numbered_list : {A : Type 0} (f : ℕ → A) (from n k j : ℕ) → k < n → from + k ≡ j → get_elem? (map f (range_with_len from n)) k ≡ some (f j)
@@ -37,15 +36,27 @@ numbered_list f from (suc n) (suc k) j low is = numbered_list f (from + 1) n k j
 pub dealt_length : (threads : ℕ) (lines : List Line) → length (dealt threads lines) ≡ threads
 dealt_length threads lines = length-map-range_with_len (worker_lines threads lines) 0 threads
 
+-- where each entry has a worker below a bound none has another
+pub none_from : (n : ℕ) (entries : List Entry) → All (λ (e : Entry). e.worker < n) entries → NoneAbove (λ (e : Entry). e.worker) n entries
+none_from n [] all k above = refl
+none_from n (e ∷ es) all k above = elim (eqb_tells e.worker k) [
+  | inl h ↦ absurd (let low = All-head (λ (x : Entry). x.worker < n) e es all in omega (arith, low, h.1, above))
+  | inr h ↦
+      ap (λ b. cond b (e ∷ entries_of k es) (entries_of k es)) h.0
+      ∙ none_from n es (All-tail (λ (x : Entry). x.worker < n) e es all) k above
+]
+
+-- the entries of each worker are those of its lines
+abbrev pub AreOwn : ℕ → List Line → List Entry → Type 0
+AreOwn threads lines entries = (worker : ℕ) → worker < threads → map turn_of (entries_of worker entries) ≡ worker_lines threads lines worker
+
 -- one entry for each line
-pub as_many : (threads : ℕ) (lines : List Line) (entries : List Entry) → 0 < threads → IsCollected (dealt threads lines) entries → length entries ≡ length lines
-as_many threads lines entries some_threads h =
-    let count = dealt_length threads lines in
-    sym (parts_whole (λ (e : Entry). e.worker) threads entries (λ k above. h.no_other k (omega arith)))
+pub as_many : (threads : ℕ) (lines : List Line) (entries : List Entry) → 0 < threads → AreOwn threads lines entries
+    → All (λ (e : Entry). e.worker < threads) entries → length entries ≡ length lines
+as_many threads lines entries some_threads own below =
+    sym (parts_whole (λ (e : Entry). e.worker) threads entries (none_from threads entries below))
     ∙ total_same threads (λ k. length (entries_of k entries)) (λ k. length (own_lines threads lines k))
-    (λ k low. entries_length k (worker_lines threads lines k) (entries_of k entries)
-    (h.lines k (worker_lines threads lines k) (numbered_list (worker_lines threads lines) 0 threads k k low (omega arith)))
-    ∙ length-map (own_lines threads lines k) played_line)
+    (λ k low. sym (length-map (entries_of k entries) turn_of) ∙ ap length (own k low) ∙ length-map (own_lines threads lines k) played_line)
     ∙ parts_whole (worker_of threads) threads lines (none_above (worker_of threads) threads (λ line. mod-lt line.process some_threads) lines)
 
 lists_total : (lists : List (Vec Turn Global)) → sum_by vec_len lists ≡ sum_by length (map vec_items lists)
@@ -75,17 +86,78 @@ dealt_total threads lines lists some_threads is =
     (λ k low. length-map (own_lines threads lines k) played_line)
     ∙ parts_whole (worker_of threads) threads lines (none_above (worker_of threads) threads (λ line. mod-lt line.process some_threads) lines)
 
+-- where all entries are of one worker no other has one
+alone_of : (worker : ℕ) (entries : List Entry) → All (λ (e : Entry). e.worker ≡ worker) entries → IsOnlyWorker worker entries
+alone_of worker [] all k apart = refl
+alone_of worker (e ∷ es) all k apart = elim (eqb_tells e.worker k) [
+  | inl h ↦ absurd (apart (sym h.1 ∙ All-head (λ (x : Entry). x.worker ≡ worker) e es all))
+  | inr h ↦
+      ap (λ b. cond b (e ∷ entries_of k es) (entries_of k es)) h.0
+      ∙ alone_of worker es (All-tail (λ (x : Entry). x.worker ≡ worker) e es all) k apart
+]
+
+-- what each call held is so on the way to the last state
+to_last : (A : List Area) (entries : List Entry) (last : List Area) → AllHeld A entries → StateAfter A entries last → Chains HeldAndReplies A entries last
+to_last A entries last (B, held) state =
+    let replied = chains_weaker HeldAndReplies HasRightReply (λ X e Y step. step.1) A entries B held in
+    subst (λ (X : List Area). Chains HeldAndReplies A entries X) (one_state A entries B last (replied_state A entries B replied) state) held
+
+-- what the entries of lines have of them are the lines
+turns_are : (worker : ℕ) (turns : List Turn) (es : List Entry) → AreEntriesOf worker turns es → map turn_of es ≡ turns
+turns_are worker [] [] h = refl
+turns_are worker [] (e ∷ es) h = absurd h
+turns_are worker (t ∷ ts) [] h = absurd h
+turns_are worker (t ∷ ts) (e ∷ es) h =
+    let rest = turns_are worker ts es h.1 in λ i. (record { line = h.0.line_is i; call = h.0.call_is i }) ∷ rest i
+
+-- entries of one worker are those of what they have of their lines
+are_entries : (worker : ℕ) (es : List Entry) → All (λ (e : Entry). e.worker ≡ worker) es → AreEntriesOf worker (map turn_of es) es
+are_entries worker [] all = tt
+are_entries worker (e ∷ es) all = (
+  record { worker_is = All-head (λ (x : Entry). x.worker ≡ worker) e es all; line_is = refl; call_is = refl },
+  are_entries worker es (All-tail (λ (x : Entry). x.worker ≡ worker) e es all),
+)
+
+own_are : (worker : ℕ) (entries : List Entry) → All (λ (e : Entry). e.worker ≡ worker) (entries_of worker entries)
+own_are worker [] = All-nil (λ (e : Entry). e.worker ≡ worker)
+own_are worker (e ∷ es) = elim (eqb_tells e.worker worker) [
+  | inl h ↦
+      subst (All (λ (x : Entry). x.worker ≡ worker)) (sym (ap (λ b. cond b (e ∷ entries_of worker es) (entries_of worker es)) h.0))
+      (All-cons (λ (x : Entry). x.worker ≡ worker) e (entries_of worker es) h.1 (own_are worker es))
+  | inr h ↦
+      subst (All (λ (x : Entry). x.worker ≡ worker)) (sym (ap (λ b. cond b (e ∷ entries_of worker es) (entries_of worker es)) h.0))
+      (own_are worker es)
+]
+
+-- the entries of a worker are those of its lines, one by one
+pub of_worker : (threads : ℕ) (lines : List Line) (entries : List Entry) (worker : ℕ) → AreOwn threads lines entries → worker < threads
+    → AreEntriesOf worker (worker_lines threads lines worker) (entries_of worker entries)
+of_worker threads lines entries worker own low =
+    subst (λ (ts : List Turn). AreEntriesOf worker ts (entries_of worker entries)) (own worker low)
+    (are_entries worker (entries_of worker entries) (own_are worker entries))
+
+-- no entry has a worker that isn't below the number of workers
+workers_below : (n : ℕ) (entries : List Entry) → NoneAbove (λ (e : Entry). e.worker) n entries → All (λ (e : Entry). e.worker < n) entries
+workers_below n [] none = All-nil (λ (e : Entry). e.worker < n)
+workers_below n (e ∷ es) none =
+    All-cons (λ (e : Entry). e.worker < n) e es (first_below (λ (e : Entry). e.worker) n e es none)
+    (workers_below n es (rest_none (λ (e : Entry). e.worker) n e es none))
+
+-- what a call holds, beside that it fits and that its reply is right
+abbrev pub HeldAsMay : List Area → Entry → List Area → Type 0
+HeldAsMay A e B = FitsAndReplies A e B × (HoldsSomeArea e.under ↔ ((plain_reply e.call ≡ None) × IsSimple A e.call))
+
 -- what workers have played is what `run` says of it
 pub played : (threads : ℕ) (opening : List Area) (lines : List Line) (entries : List Entry) (last : List Area)
     → WerePlayed opening (dealt threads lines) entries last → IsHistoryOf threads opening lines entries last
 played threads opening lines entries last h =
-    let replied = chains_weaker FitsAndReplies HasRightReply (λ A e B step. step.1) opening entries last h.runs.1 in
     record {
-      collected = h.collected;
-      legal = (h.runs.0, (last, replied));
-      fits = (last, h.runs.1);
-      alone = h.alone;
-      leaves = replied_state opening entries last replied;
-      calls = h.calls;
-      replies = h.replies;
+      own = λ worker low. turns_are worker (worker_lines threads lines worker) (entries_of worker entries)
+          (h.collected.lines worker (worker_lines threads lines worker)
+          (numbered_list (worker_lines threads lines) 0 threads worker worker low (omega arith)));
+      no_other = workers_below threads entries (λ k above. let count = dealt_length threads lines in h.collected.no_other k (omega arith));
+      runs = h.runs;
+      alone = λ worker all. chains_weaker HeldAndReplies HeldAsMay (λ A e B step. ((step.0.fits, step.1), step.0.area)) opening entries last
+          (to_last opening entries last (h.alone worker (alone_of worker entries all)) (all_legal opening last entries h.runs).1);
+      named = λ k d within. (h.calls k d within, h.replies k d within);
     }

@@ -9,18 +9,15 @@ use Rattle.std.proofs.lemmas.Bool.Decides.{eqb_tells}
 use Rattle.std.proofs.lemmas.List.{append_cancel_left}
 use Rattle.std.proofs.lemmas.List.Elements.{All-cons, All-head, All-nil, All-tail}
 use Rattle.std.proofs.lemmas.List.Kept.{AllPairs-cons, AllPairs-filter}
-use mathlib.Core.Option.{some}
-use lib.ListN.{get_elem?}
 use Rattle.space_model.specs.declared.areas.Area.{Area}
 use Rattle.space_model.specs.declared.entries.Entry.{Entry}
 use Rattle.space_model.specs.Areas.{IsAreaList}
-use Rattle.space_model.specs.History.{Chains, FitsAndReplies, HasRightReply, Runs, StateAfter}
-use Rattle.space_model.proofs.Histories.{area_state, chains_weaker, one_state, replied_state}
+use Rattle.space_model.proofs.Histories.{area_state, one_state}
+use Rattle.area_rows.proofs.Storing.{all_legal}
 use Rattle.area_rows.specs.Callers.{ClosedView}
 use Rattle.area_rows.specs.History.{entries_of}
 use Rattle.line_parts.specs.Lines.{lines_of}
 use Rattle.maps_printer.specs.Lines.{log_text, maps_text, summary_text, touched_text}
-use Rattle.round_trip.specs.Logs.{IsNamedEntry}
 use Rattle.line_parts.specs.Leaves.{worth}
 use Rattle.round_trip.proofs.LogsRead.{lacks, decimal_lacks}
 use Rattle.history_check.specs.Laws.{PrintedLogIsGood, IsTouchedLine}
@@ -29,34 +26,23 @@ use Rattle.history_check.specs.declared.verdict.Verdict.TheVariants.{Legal}
 use Rattle.history_check.specs.Verdicts.{IsVerdict}
 use Rattle.trace_threads.specs.declared.worker.Line.{Line as Turn}
 use Rattle.trace_threads.specs.Workers.{AreEntriesOf}
-use Rattle.trace_threads.specs.Collected.{IsCollected}
 use Rattle.command_words.specs.declared.commands.Command.{Command}
 use Rattle.command_words.specs.declared.commands.Command.TheVariants.{Play, Load}
 use Rattle.command_words.specs.declared.commands.Options.{Options}
-use Rattle.command_words.specs.Commands.{Spells, AskForOne, HasRanges}
+use Rattle.command_words.specs.Commands.{AskFor, AskForOne, HasRanges}
 use Rattle.command_words.proofs.CommandLemmas.{has_ranges}
 use Rattle.range_cli.specs.declared.status.Status.{Status}
 use Rattle.range_cli.specs.declared.status.Status.TheVariants.{Done}
 use Rattle.range_cli.specs.declared.trace.Line.{Line}
 use Rattle.std.specs.Io.KnownBytes.{Appends}
 use Rattle.range_cli.specs.Checking.{HasRead}
-use Rattle.range_cli.specs.Dealt.{worker_of, own_lines, worker_lines, played_line, dealt}
+use Rattle.range_cli.specs.Dealt.{worker_of, own_lines}
+use Rattle.range_cli.specs.Play.{worker_lines, played_line, IsHistoryOf}
 use Rattle.range_cli.specs.Laws.{LogsAreGood, HasGoodLog, LegalFrom}
-use Rattle.range_cli.specs.Play.{IsHistoryOf}
 use Rattle.range_cli.specs.Report.{LinesRise, asked_log, asked_touched, refused_count, CountsTouched}
 use Rattle.range_cli.specs.Run.{IsReport, Reports, Wrote}
 use Rattle.range_cli.proofs.Differences.{reads_rise}
-use Rattle.range_cli.proofs.Parts.{NoneAbove, rest_none, first_below}
-use Rattle.range_cli.proofs.PlayLemmas.{numbered_list, dealt_length}
-
--- ---- the workers
-
--- no entry has a worker that isn't below the number of workers
-workers_below : (n : ℕ) (entries : List Entry) → NoneAbove (λ (e : Entry). e.worker) n entries → All (λ (e : Entry). e.worker < n) entries
-workers_below n [] none = All-nil (λ (e : Entry). e.worker < n)
-workers_below n (e ∷ es) none =
-    All-cons (λ (e : Entry). e.worker < n) e es (first_below (λ (e : Entry). e.worker) n e es none)
-    (workers_below n es (rest_none (λ (e : Entry). e.worker) n e es none))
+use Rattle.range_cli.proofs.PlayLemmas.{AreOwn, none_from, of_worker}
 
 -- ---- the lines of each worker
 
@@ -144,34 +130,24 @@ turns_rise (l ∷ ls) rise =
     (turns_rise ls (pairs_tail NumberBelow l ls rise))
 
 -- the entries of workers that played lines which rise have lines that rise
-each_rises : (threads : ℕ) (lines : List Line) (entries : List Entry) → LinesRise lines → IsCollected (dealt threads lines) entries
-    → (k : ℕ) → AllPairs LineBelow (entries_of k entries)
-each_rises threads lines entries rise collected k = elim (cases_lt k threads) [
+each_rises : (threads : ℕ) (lines : List Line) (entries : List Entry) → LinesRise lines → AreOwn threads lines entries
+    → All (λ (e : Entry). e.worker < threads) entries → (k : ℕ) → AllPairs LineBelow (entries_of k entries)
+each_rises threads lines entries rise own low k = elim (cases_lt k threads) [
   | inl below ↦
-      own_rise k (worker_lines threads lines k) (entries_of k entries)
-      (collected.lines k (worker_lines threads lines k) (numbered_list (worker_lines threads lines) 0 threads k k below (omega arith)))
+      own_rise k (worker_lines threads lines k) (entries_of k entries) (of_worker threads lines entries k own below)
       (turns_rise (own_lines threads lines k) (AllPairs-filter NumberBelow (λ line. worker_of threads line == k) lines rise))
   | inr above ↦
-      let none = collected.no_other k (omega (arith, above, dealt_length threads lines)) in
+      let none = none_from threads entries low k above in
       subst (AllPairs LineBelow) (sym none) (λ i j d below low. absurd (omega arith))
 ]
 
 -- ---- the whole log
 
--- what was played runs from the opening areas to the last ones
-runs_to_last : (threads : ℕ) (start : List Area) (lines : List Line) (entries : List Entry) (last : List Area) → IsHistoryOf threads start lines entries last
-    → Runs 0 start entries last
-runs_to_last threads start lines entries last h =
-    let end = h.fits.0 in
-    let replied = chains_weaker FitsAndReplies HasRightReply (λ A e B step. step.1) start entries end h.fits.1 in
-    let same : end ≡ last = one_state start entries end last (replied_state start entries end replied) h.leaves in
-    (h.legal.0, subst (λ B. Chains FitsAndReplies start entries B) same h.fits.1)
-
 last_is_list : (threads : ℕ) (start : List Area) (lines : List Line) (entries : List Entry) (last : List Area) → IsAreaList start
     → IsHistoryOf threads start lines entries last → IsAreaList last
 last_is_list threads start lines entries last list h =
     let left = area_state start entries list in
-    subst IsAreaList (one_state start entries left.0 last left.2 h.leaves) left.1
+    subst IsAreaList (one_state start entries left.0 last left.2 (all_legal start last entries h.runs).1) left.1
 
 -- a text without a newline has no byte that is one
 lacks_all : (text : List ℕ) → lacks 10 text ≡ true → All (λ byte. byte ≢ 10) text
@@ -212,17 +188,12 @@ log_first_text options bytes threads closed report log h =
 report_is_good : (options : Options) (threads : ℕ) (bytes : List ℕ) (closed : ClosedView) (report : List ℕ) → threads ≤ 16 → options.log ≡ true
     → (h : IsReport options threads bytes closed report) → PrintedLogIsGood closed.entries → IsGoodLog h.start (lines_of report) closed.entries
 report_is_good options threads bytes closed report few log h law =
-    let collected = h.played.collected in
-    let none : NoneAbove (λ (e : Entry). e.worker) threads closed.entries =
-    (λ k above. collected.no_other k (omega (arith, above, dealt_length threads h.lines))) in
-    let low = workers_below threads closed.entries none in
+    let low = h.played.no_other in
     let workers : All (λ (e : Entry). e.worker < 16) closed.entries = (λ k d within. let below = low k d within in omega (arith, below, few)) in
-    let named : All IsNamedEntry closed.entries = (λ k d within. (h.played.calls k d within, h.played.replies k d within)) in
-    let rise = workers_rise closed.entries (each_rises threads h.lines closed.entries (reads_rise h.script.reads).0 collected) in
-    let runs = runs_to_last threads h.start h.lines closed.entries closed.areas h.played in
+    let rise = workers_rise closed.entries (each_rises threads h.lines closed.entries (reads_rise h.script.reads).0 h.played.own low) in
     let list = last_is_list threads h.start h.lines closed.entries closed.areas h.script.kinds.areas h.played in
-    let good = law h.start closed.areas (length closed.entries) h.skipped (refused_count closed.entries) h.differ (asked_touched options h.touched) named
-    workers runs rise list (touched_if options.touched closed.entries h.touched h.touches) in
+    let good = law h.start closed.areas (length closed.entries) h.skipped (refused_count closed.entries) h.differ (asked_touched options h.touched)
+    h.played.named workers h.played.runs rise list (touched_if options.touched closed.entries h.touched h.touches) in
     subst (λ text. IsGoodLog h.start (lines_of text) closed.entries) (log_first_text options bytes threads closed report log h) good
 
 -- ---- the clause
@@ -240,12 +211,12 @@ legal_report options threads bytes closed text report few log h same law = recor
 }
 
 -- a word list spells numbers in their ranges
-ranges_of : (words : List (List ℕ)) (command : Command) → Spells words command → HasRanges command
+ranges_of : (words : List (List ℕ)) (command : Command) → AskFor words command → HasRanges command
 ranges_of words command h = has_ranges h.name h.rest h.asked h.options command h.is
 
 -- the report of a run whose words ask for its log is such a one
 of_reports : (words : List (List ℕ)) (input_old input_new : Option (List ℕ)) (options : Options) (threads : ℕ) (closed : ClosedView) (text report : List ℕ)
-    → AskForOne words → Spells words (Play options threads) → options.log ≡ true → Reports words input_old input_new closed text → report ≡ text
+    → AskForOne words → AskFor words (Play options threads) → options.log ≡ true → Reports words input_old input_new closed text → report ≡ text
     → PrintedLogIsGood closed.entries
     → HasRead input_old input_new (λ bytes. LegalFrom options.opening bytes (lines_of report) (length closed.entries))
 of_reports words a b options threads closed text report one spells log (inl h) same law =

@@ -1,28 +1,63 @@
 -- A process that is new gets the next place, and each other keeps its own.
-use Rattle.std.proofs.Common.{◌≡◌, ◌≢◌, ℕ, ◌+◌, Bool, true, false, List, [], ◌∷◌, ◌++◌, length, Option, None, Some, ap}
-use Rattle.std.proofs.Common.{subst, sym, refl, ◌∙◌, arith, inl, inr, length-append}
-use Rattle.std.specs.Prelude.{◌==◌, if◌then◌else◌}
+use Rattle.std.proofs.Common.{◌≡◌, ◌≢◌, ℕ, suc, ◌+◌, Bool, true, false, List, [], ◌∷◌, ◌++◌, length, Option, None, Some, ap}
+use Rattle.std.proofs.Common.{cond, not, subst, sym, refl, ◌∙◌, arith, inl, inr, length-append}
+use Rattle.std.specs.Prelude.{◌==◌, ◌||◌, if◌then◌else◌}
+use Rattle.std.specs.List.{list_any}
 use Rattle.std.proofs.lemmas.Bool.{cases_eq}
 use Rattle.std.proofs.lemmas.Bool.Decides.{eqb_tells}
 use Rattle.std.specs.BTreeMap.{get}
 use Rattle.std.specs.Ordering.{nat_cmp}
 use Rattle.range_cli.specs.declared.processes.Processes.{Processes}
-use Rattle.range_cli.specs.Trace.{one_on, place_among, place_or, index_among, with_new, seen_with}
-use Rattle.range_cli.specs.TraceReader.{IsIndexed}
+use Rattle.range_cli.specs.Script.{index_among, seen_with}
+use Rattle.range_cli.specs.TraceReader.{IsIndexed, one_on, place_among}
+
+-- the place, or the next one where there is none
+abbrev place_or : Option ℕ → ℕ → ℕ
+place_or None next = next
+place_or (Some place) next = place
+
+index_behind : (here : Bool) (o : Option ℕ) (count index : ℕ) → place_or o count ≡ index
+    → place_or (if here then Some 0 else one_on o) (suc count) ≡ cond (not here) (1 + index) 0
+index_behind true o count index e = refl
+index_behind false None count index e = omega (arith, e)
+index_behind false (Some place) count index e = omega (arith, e)
+
+-- the index of a process is its place, or how many were seen
+index_is : (seen : List ℕ) (pid : ℕ) → place_or (place_among seen pid) (length seen) ≡ index_among seen pid
+index_is [] pid = refl
+index_is (first ∷ seen) pid = index_behind (first == pid) (place_among seen pid) (length seen) (index_among seen pid) (index_is seen pid)
 
 -- the place of a process that was seen is its index
 pub index_found : (seen : List ℕ) (pid place : ℕ) → place_among seen pid ≡ Some place → place ≡ index_among seen pid
-index_found seen pid place e = sym (ap (λ (o : Option ℕ). place_or o (length seen)) e)
+index_found seen pid place e = sym (ap (λ (o : Option ℕ). place_or o (length seen)) e) ∙ index_is seen pid
 
 -- the index of a process that wasn't seen is how many were
 pub index_new : (seen : List ℕ) (pid : ℕ) → place_among seen pid ≡ None → length seen ≡ index_among seen pid
-index_new seen pid e = sym (ap (λ (o : Option ℕ). place_or o (length seen)) e)
+index_new seen pid e = sym (ap (λ (o : Option ℕ). place_or o (length seen)) e) ∙ index_is seen pid
+
+abbrev is_there : Option ℕ → Bool
+is_there None = false
+is_there (Some place) = true
+
+there_behind : (here : Bool) (o : Option ℕ) (later : Bool) → is_there o ≡ later → is_there (if here then Some 0 else one_on o) ≡ (here || later)
+there_behind true o later e = refl
+there_behind false None later e = e
+there_behind false (Some place) later e = e
+
+-- a process has a place where it is among those that were seen
+there_is : (seen : List ℕ) (pid : ℕ) → is_there (place_among seen pid) ≡ list_any (λ first. first == pid) seen
+there_is [] pid = refl
+there_is (first ∷ seen) pid = there_behind (first == pid) (place_among seen pid) (list_any (λ f. f == pid) seen) (there_is seen pid)
 
 seen_found : (seen : List ℕ) (pid place : ℕ) → place_among seen pid ≡ Some place → seen ≡ seen_with seen pid
-seen_found seen pid place e = sym (ap (λ (o : Option ℕ). with_new o seen pid) e)
+seen_found seen pid place e =
+    let any : list_any (λ first. first == pid) seen ≡ true = sym (there_is seen pid) ∙ ap is_there e in
+    sym (ap (λ (b : Bool). if b then seen else seen ++ pid ∷ []) any)
 
 seen_new : (seen : List ℕ) (pid : ℕ) → place_among seen pid ≡ None → seen ++ pid ∷ [] ≡ seen_with seen pid
-seen_new seen pid e = sym (ap (λ (o : Option ℕ). with_new o seen pid) e)
+seen_new seen pid e =
+    let none : list_any (λ first. first == pid) seen ≡ false = sym (there_is seen pid) ∙ ap is_there e in
+    sym (ap (λ (b : Bool). if b then seen else seen ++ pid ∷ []) none)
 
 -- where a process is, by whether it is the first
 abbrev found_at : Bool → Option ℕ → Option ℕ

@@ -10,14 +10,12 @@ use Rattle.command_words.specs.declared.commands.Options.{Options}
 use Rattle.history_check.specs.declared.verdict.Verdict.{Verdict}
 use Rattle.history_check.specs.declared.verdict.Verdict.TheVariants.{Legal, Wrong as WrongVerdict}
 use Rattle.range_cli.specs.Checking.{EndsBehind, EndsCheck, EndsCheckEarly, HasRead, IsInputVerdict, verdict_line, verdict_status}
-use Rattle.range_cli.specs.Input.{EndsReading}
-use Rattle.range_cli.specs.Opening.{EndsMap, EndsMaps, EndsOpening}
-use Rattle.range_cli.specs.Opening.EndsMaps.{here as here_map, later as later_map}
-use Rattle.range_cli.specs.Script.{EndsInput, EndsEarly}
+use Rattle.range_cli.specs.Endings.{EndsReading, EndsMap, EndsMaps, EndsOpening, EndsInput, EndsEarly, Ends, EndsAt}
+use Rattle.range_cli.specs.Endings.EndsMaps.{here as here_map, later as later_map}
 use Rattle.range_cli.specs.Status.{status_of, OrMemory}
-use Rattle.range_cli.specs.Trace.{TracePosition, Ends, EndsAt}
-use Rattle.range_cli.specs.Trace.EndsAt.{here, later}
-use Rattle.command_words.specs.Commands.{Spells, AskToRead}
+use Rattle.range_cli.specs.Script.{TracePosition}
+use Rattle.range_cli.specs.Endings.EndsAt.{here, later}
+use Rattle.command_words.specs.Commands.{AskFor, AskToRead}
 use Rattle.range_cli.specs.Run.{Wrote, HasCause, EndsByInput, Judged, IsUnwritten}
 
 -- the bytes of an input end a run with a refusal, or with another limit than that on their number
@@ -122,7 +120,7 @@ no_memory words a b m n failures end is = subst (λ e. HasCause words a b (m, n)
 
 -- an early end of a trace has its cause
 pub has_cause : (words : List (List ℕ)) (options : Options) (threads : ℕ) (a b : Option (List ℕ)) (m n : ℕ) (failures : ℕ × ℕ)
-    (end : EarlyEnd) → Spells words (Play options threads)
+    (end : EarlyEnd) → AskFor words (Play options threads)
     → OrMemory (EndsEarly options a b m n) end → HasCause words a b (m, n) failures (status_of end)
 has_cause words options threads a b m n failures end accepted (inl memory) = no_memory words a b m n failures end memory
 has_cause words options threads a b m n failures end accepted (inr (inl h)) =
@@ -133,7 +131,7 @@ has_cause words options threads a b m n failures end accepted (inr (inr h)) =
 
 -- so has an early end of a check
 pub has_check_cause : (words : List (List ℕ)) (opening : Bool) (a b : Option (List ℕ)) (m n : ℕ) (failures : ℕ × ℕ)
-    (end : EarlyEnd) → Spells words (Check opening)
+    (end : EarlyEnd) → AskFor words (Check opening)
     → OrMemory (EndsCheckEarly opening a b m n) end → HasCause words a b (m, n) failures (status_of end)
 has_check_cause words opening a b m n failures end accepted (inl memory) = no_memory words a b m n failures end memory
 has_check_cause words opening a b m n failures end accepted (inr (inl h)) = early_cause words a b m n failures end (inr (opening, accepted)) (inl h)
@@ -145,7 +143,7 @@ has_check_cause words opening a b m n failures end accepted (inr (inr h)) =
 
 -- the verdict on what was read, for words that ask for it
 pub judged_as : (words : List (List ℕ)) (opening : Bool) (a b : Option (List ℕ)) (before : ℕ) (verdict : Verdict) (P : ℕ → Verdict → Type 0)
-    → Spells words (Check opening) → HasRead a b (λ bytes. IsInputVerdict opening bytes before verdict) → P before verdict → Judged words a b P
+    → AskFor words (Check opening) → HasRead a b (λ bytes. IsInputVerdict opening bytes before verdict) → P before verdict → Judged words a b P
 judged_as words opening a b before verdict P accepted read holds = record {
   opening = opening;
   accepted = accepted;
@@ -159,7 +157,7 @@ judged_as words opening a b before verdict P accepted read holds = record {
 
 -- where its whole line was written, the run's status is that of the verdict
 pub wrote_verdict : (words : List (List ℕ)) (opening : Bool) (a b out_old out_new : Option (List ℕ)) (before : ℕ) (verdict : Verdict)
-    → Spells words (Check opening) → HasRead a b (λ bytes. IsInputVerdict opening bytes before verdict)
+    → AskFor words (Check opening) → HasRead a b (λ bytes. IsInputVerdict opening bytes before verdict)
     → Appends out_old out_new (verdict_line before verdict) → Wrote words a b out_old out_new (verdict_status before verdict)
 wrote_verdict words opening a b out_old out_new before (Legal entries) accepted read appends =
     judged_as words opening a b before (Legal entries) _ accepted read (refl, appends)
@@ -168,7 +166,7 @@ wrote_verdict words opening a b out_old out_new before (WrongVerdict line why) a
 
 -- and this is its cause
 pub verdict_cause : (words : List (List ℕ)) (opening : Bool) (a b : Option (List ℕ)) (input out : ℕ × ℕ) (before : ℕ) (verdict : Verdict)
-    → Spells words (Check opening) → HasRead a b (λ bytes. IsInputVerdict opening bytes before verdict)
+    → AskFor words (Check opening) → HasRead a b (λ bytes. IsInputVerdict opening bytes before verdict)
     → HasCause words a b input out (verdict_status before verdict)
 verdict_cause words opening a b input out before (Legal entries) accepted read = tt
 verdict_cause words opening a b input out before (WrongVerdict line why) accepted read =

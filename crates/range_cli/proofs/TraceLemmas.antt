@@ -13,10 +13,11 @@ use Rattle.range_cli.specs.declared.status.EarlyEnd.{EarlyEnd}
 use Rattle.range_cli.specs.declared.trace.Line.{Line}
 use Rattle.range_cli.specs.declared.trace.TraceReader.{TraceReader}
 use Rattle.range_cli.specs.Status.{OrMemory}
-use Rattle.range_cli.specs.Trace.{TracePosition, start_at, after, lines_by, played_by, skipped_by, seen_by, IsShort, Ends, IsNamedAnswer, Reads, EndsAt}
-use Rattle.range_cli.specs.Trace.Reads.{nothing, line}
-use Rattle.range_cli.specs.Trace.EndsAt.{here, later}
-use Rattle.range_cli.specs.TraceReader.{IsIndexed, IsFull, StandsAt, Takes}
+use Rattle.range_cli.specs.Script.{TracePosition, start_at, after, lines_by, played_by, skipped_by, seen_by, IsShort, Reads}
+use Rattle.range_cli.specs.Endings.{Ends, EndsAt}
+use Rattle.range_cli.specs.TraceReader.{IsNamedAnswer, IsIndexed, IsFull, StandsAt, Takes}
+use Rattle.range_cli.specs.Script.Reads.{nothing, line}
+use Rattle.range_cli.specs.Endings.EndsAt.{here, later}
 
 -- ---- one line
 

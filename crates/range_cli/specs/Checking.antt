@@ -19,10 +19,8 @@ use Rattle.range_cli.specs.declared.status.Status.TheVariants.{Done, Wrong}
 use Rattle.range_cli.specs.declared.status.Which.{Which}
 use Rattle.range_cli.specs.declared.status.Which.TheVariants.{Input, Line as OfLine, Lines as OfLines, Rows}
 use Rattle.range_cli.specs.ErrorLine.{numbered}
-use Rattle.range_cli.specs.Input.{IsInput, EndsReading}
-use Rattle.range_cli.specs.Opening.{EndsOpening}
-use Rattle.range_cli.specs.Script.{Begins}
-use Rattle.range_cli.specs.Trace.{IsShort, IsTooLongLine}
+use Rattle.range_cli.specs.Script.{IsInput, IsShort, Begins}
+use Rattle.range_cli.specs.Endings.{EndsReading, EndsOpening, IsTooLongLine}
 
 -- each line is short enough, and no more lines belong to the log than there may be: the lines of the log are the first
 -- ones, as long as they begin as log lines do

@@ -9,7 +9,7 @@ use Rattle.history_check.specs.Laws.{PrintedLogIsGood}
 use Rattle.history_check.specs.Verdicts.{IsVerdict}
 use Rattle.command_words.specs.declared.commands.Command.TheVariants.{Play, Load}
 use Rattle.command_words.specs.declared.commands.Options.{Options}
-use Rattle.command_words.specs.Commands.{Spells, AskForOne}
+use Rattle.command_words.specs.Commands.{AskFor, AskForOne}
 use Rattle.range_cli.specs.declared.status.Status.{Status}
 use Rattle.range_cli.specs.declared.status.Status.TheVariants.{Done}
 use Rattle.range_cli.specs.Checking.{HasRead}
@@ -38,7 +38,7 @@ OneWorkerPlaysOneHistory =
 -- the words ask for a run by one worker
 abbrev pub AskForOneWorker : List (List ℕ) → Type 0
 AskForOneWorker words =
-    ((options : Options) × Spells words (Play options 1)) ⊎ ((seed : ℕ) × (calls : ℕ) × Spells words (Load seed 1 calls))
+    ((options : Options) × AskFor words (Play options 1)) ⊎ ((seed : ℕ) × (calls : ℕ) × AskFor words (Load seed 1 calls))
 
 -- two reports are the same bytes, of the same entries, with all that these say, and of the same last areas
 pub record AreOneReport (one other : ClosedView) (first second : List ℕ) : Type 0 where
@@ -70,7 +70,7 @@ pub record LegalFrom (opening : Bool) (bytes : List ℕ) (lines : List (List ℕ
 abbrev pub LogsAreGood : List (List ℕ) → Option (List ℕ) → Option (List ℕ) → Option (List ℕ) → Option (List ℕ) → Status → Type 0
 LogsAreGood words input_old input_new out_old out_new status =
     (closed : ClosedView) (options : Options) (threads : ℕ) (old report : List ℕ) → status ≡ Done (Some closed)
-    → Spells words (Play options threads) → options.log ≡ true → out_old ≡ Some old → out_new ≡ Some (old ++ report)
+    → AskFor words (Play options threads) → options.log ≡ true → out_old ≡ Some old → out_new ≡ Some (old ++ report)
     → HasRead input_old input_new (λ bytes. LegalFrom options.opening bytes (lines_of report) (length closed.entries))
 
 -- whatever is printed of the history that a status carries is a good log

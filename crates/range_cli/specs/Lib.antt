@@ -1,16 +1,13 @@
-pub mod Input
 pub mod Status
-pub mod Trace
 pub mod TraceReader
 pub mod ErrorLine
 pub mod Dealt
 pub mod Play
 pub mod Report
 pub mod Run
-pub mod Opening
 pub mod Script
+pub mod Endings
 pub mod Laws
-pub mod Load
 pub mod Clean
 pub mod Checking
 pub mod Judging

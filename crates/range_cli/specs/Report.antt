@@ -1,15 +1,18 @@
 -- The report of a run, as one text: the log where it is asked for, the maps of the last areas, the summary, and how
 -- many pages were touched where that is asked for. The texts of its parts are the printer's. The order of the parts and
 -- what is counted are this project's own profile.
-use Rattle.std.specs.Prelude.{◌≡◌, ◌≢◌, ◌⊎◌, ℕ, ◌+◌, ◌^◌, ◌<◌, ◌∷◌, Bool, true, false, List, [], ◌++◌, length, count_by, slice_index_or, if◌then◌else◌}
+use Rattle.std.specs.Prelude.{◌≡◌, ◌≢◌, ◌⊎◌, ◌↔◌, ℕ, ◌+◌, ◌^◌, ◌<◌, ◌∷◌, Bool, true, false, List, [], ◌++◌, length, count_by, slice_index_or, if◌then◌else◌}
 use Rattle.std.specs.List.{AllPairs, Contains}
+use Rattle.page_types.specs.declared.calls.Call.TheVariants.{Fault}
+use Rattle.page_types.specs.declared.calls.Kind.{Kind}
 use Rattle.page_types.specs.declared.calls.Reply.{Reply}
 use Rattle.page_types.specs.declared.calls.Reply.TheVariants.{At, Zero, Granted, Refused}
+use Rattle.page_types.specs.declared.sets.Access.{Access}
+use Rattle.page_types.specs.Pages.{page_of}
 use Rattle.space_model.specs.declared.areas.Area.{Area}
 use Rattle.space_model.specs.declared.entries.Entry.{Entry}
 use Rattle.maps_printer.specs.Lines.{log_text, maps_text, summary_text, touched_text}
 use Rattle.strace_reader.specs.Playing.{Differs}
-use Rattle.trace_threads.specs.Touching.{AreTouchedPages}
 use Rattle.range_cli.specs.declared.report.Counts.{Counts}
 use Rattle.range_cli.specs.declared.trace.Line.{Line}
 use Rattle.command_words.specs.declared.commands.Options.{Options}
@@ -52,10 +55,22 @@ Differing lines (entry ∷ entries) count =
 abbrev pub asked_log : Options → List Entry → List ℕ
 asked_log options entries = if options.log then log_text entries else []
 
+-- one of the entries is a fault on this page that was granted
+pub record IsGranted (entries : List Entry) (page : ℕ) : Type 0 where
+  pub entry : Entry
+  pub there : Contains entries entry
+  pub addr : ℕ
+  pub access : Access
+  pub fault : entry.call ≡ Fault addr access
+  pub kind : Kind
+  pub granted : entry.reply ≡ Granted kind
+  pub is : page ≡ page_of addr
+
 -- so many pages were touched: these are the pages of the faults among the entries that were granted, each counted once
 pub record CountsTouched (entries : List Entry) (count : ℕ) : Type 0 where
   pub pages : List ℕ
-  pub touched : AreTouchedPages entries pages
+  pub rising : AllPairs (λ one other. one < other) pages
+  pub all : (page : ℕ) → Contains pages page ↔ IsGranted entries page
   pub counted : count ≡ length pages
   pub narrow : count < 2 ^ 32
 
@@ -66,5 +81,6 @@ asked_touched options count = if options.touched then touched_text count else []
 -- the whole report
 abbrev pub report_text : Options → List Area → List Entry → Counts → List ℕ
 report_text options last entries counts =
-    asked_log options entries ++ (maps_text last
-    ++ (summary_text (length entries) counts.skipped counts.refused counts.differ ++ asked_touched options counts.touched))
+    (if options.log then log_text entries else []) ++ (maps_text last
+    ++ (summary_text (length entries) counts.skipped counts.refused counts.differ
+    ++ (if options.touched then touched_text counts.touched else [])))

@@ -17,15 +17,14 @@ use Rattle.range_cli.specs.declared.status.Status.TheVariants.{Done, Usage, BadL
 use Rattle.range_cli.specs.declared.status.Which.{Which}
 use Rattle.range_cli.specs.declared.status.Which.TheVariants.{Input, Line as OfLine, Lines as OfLines, Rows}
 use Rattle.range_cli.specs.declared.trace.Line.{Line}
-use Rattle.command_words.specs.Commands.{Spells, RefusesWords, AskToRead}
+use Rattle.command_words.specs.Commands.{AskFor, RefusesWords, AskToRead}
 use Rattle.history_check.specs.declared.verdict.Verdict.{Verdict}
 use Rattle.range_cli.specs.Checking.{IsInputVerdict, EndsCheck, verdict_line, verdict_status}
 use Rattle.range_cli.specs.ErrorLine.{error_line}
-use Rattle.range_cli.specs.Input.{IsInput, IsTooLong}
-use Rattle.range_cli.specs.Load.{lines_of_load}
-use Rattle.range_cli.specs.Play.{IsHistoryOf}
+use Rattle.range_cli.specs.Script.{IsInput, IsScript}
+use Rattle.range_cli.specs.Endings.{IsTooLong, EndsInput}
+use Rattle.range_cli.specs.Play.{lines_of_load, IsHistoryOf}
 use Rattle.range_cli.specs.Report.{report_text, refused_count, CountsTouched, Differing}
-use Rattle.range_cli.specs.Script.{IsScript, EndsInput}
 use Rattle.range_cli.specs.Status.{status_of, ending}
 
 -- the report of an input with these options, by a space that was closed: the input's lines, played by so many workers
@@ -43,29 +42,25 @@ pub record IsReport (options : Options) (threads : ℕ) (bytes : List ℕ) (clos
   pub text : report ≡ report_text options closed.areas closed.entries
       (record { skipped = skipped; refused = refused_count closed.entries; differ = differ; touched = touched })
 
--- the report of a load, by a space that was closed: the lines that the seed makes, played by so many workers from an
--- empty space, are the space's history, and the summary is all that is printed. No line has a recorded result, so no
--- reply differs from one
-pub record IsLoadReport (seed threads calls : ℕ) (closed : ClosedView) (report : List ℕ) : Type 0 where
-  pub played : IsHistoryOf threads [] (lines_of_load seed threads calls) closed.entries closed.areas
-  pub text : report ≡ summary_text (length closed.entries) 0 (refused_count closed.entries) 0
-
 -- with words that ask for an input to be played the whole input was read, within its limit, and this holds of its bytes
 pub record Heard (words : List (List ℕ)) (input_old input_new : Option (List ℕ)) (P : Options → ℕ → List ℕ → Type 0) : Type 0 where
   pub options : Options
   pub threads : ℕ
-  pub accepted : Spells words (Play options threads)
+  pub accepted : AskFor words (Play options threads)
   pub bytes : List ℕ
   pub input : IsInput input_old input_new bytes
   pub holds : P options threads bytes
 
--- with words that ask for a load this is its report, by that space
+-- with words that ask for a load this is its report, by a space that was closed: the lines that the seed makes, played
+-- by so many workers from an empty space, are the space's history, and the summary is all that is printed. No line has
+-- a recorded result, so no reply differs from one
 pub record Loaded (words : List (List ℕ)) (closed : ClosedView) (report : List ℕ) : Type 0 where
   pub seed : ℕ
   pub threads : ℕ
   pub calls : ℕ
-  pub accepted : Spells words (Load seed threads calls)
-  pub holds : IsLoadReport seed threads calls closed report
+  pub accepted : AskFor words (Load seed threads calls)
+  pub played : IsHistoryOf threads [] (lines_of_load seed threads calls) closed.entries closed.areas
+  pub text : report ≡ summary_text (length closed.entries) 0 (refused_count closed.entries) 0
 
 -- this is the report of the input or of the load, by that space
 abbrev pub Reports : List (List ℕ) → Option (List ℕ) → Option (List ℕ) → ClosedView → List ℕ → Type 0
@@ -76,7 +71,7 @@ Reports words input_old input_new closed report =
 -- this holds
 pub record Judged (words : List (List ℕ)) (input_old input_new : Option (List ℕ)) (P : ℕ → Verdict → Type 0) : Type 0 where
   pub opening : Bool
-  pub accepted : Spells words (Check opening)
+  pub accepted : AskFor words (Check opening)
   pub bytes : List ℕ
   pub input : IsInput input_old input_new bytes
   pub before : ℕ
@@ -128,7 +123,7 @@ IsUnwritten (Wrong line) = ⊥
 -- with words that ask for a log to be checked the whole input was read, within its limit, and its bytes end the run so
 pub record EndsByLog (words : List (List ℕ)) (input_old input_new : Option (List ℕ)) (end : EarlyEnd) : Type 0 where
   pub opening : Bool
-  pub accepted : Spells words (Check opening)
+  pub accepted : AskFor words (Check opening)
   pub bytes : List ℕ
   pub input : IsInput input_old input_new bytes
   pub ends : EndsCheck opening bytes end
@@ -165,19 +160,19 @@ pub data IsOutcome (words : List (List ℕ)) (bytes : List ℕ) : Status → Typ
   -- the input has more bytes than it may have
   too_long : AskToRead words → 67108864 < length bytes → IsOutcome words bytes (Limit Input 67108865)
   -- one of its lines ends the run, or the rows of the areas that it starts with do
-  early : {options : Options} {threads : ℕ} {end : EarlyEnd} {status : Status} → Spells words (Play options threads) → length bytes ≤ 67108864 →
+  early : {options : Options} {threads : ℕ} {end : EarlyEnd} {status : Status} → AskFor words (Play options threads) → length bytes ≤ 67108864 →
       EndsInput options bytes end → status ≡ status_of end → IsOutcome words bytes status
   -- every line is readable and all limits are kept
   done : {options : Options} {threads : ℕ} {start : List Area} {lines : List Line} {skipped : ℕ} {closed : Option ClosedView}
-      → Spells words (Play options threads) →
+      → AskFor words (Play options threads) →
       length bytes ≤ 67108864 → IsScript options bytes start lines skipped → IsOutcome words bytes (Done closed)
   -- a load is asked for, whatever the input is
-  loaded : {seed threads calls : ℕ} {closed : Option ClosedView} → Spells words (Load seed threads calls) → IsOutcome words bytes (Done closed)
+  loaded : {seed threads calls : ℕ} {closed : Option ClosedView} → AskFor words (Load seed threads calls) → IsOutcome words bytes (Done closed)
   -- a log is asked to be checked, and one of the lines ends the run, or the rows of the areas that it starts with do
-  check_early : {opening : Bool} {end : EarlyEnd} {status : Status} → Spells words (Check opening) → length bytes ≤ 67108864 →
+  check_early : {opening : Bool} {end : EarlyEnd} {status : Status} → AskFor words (Check opening) → length bytes ≤ 67108864 →
       EndsCheck opening bytes end → status ≡ status_of end → IsOutcome words bytes status
   -- its opening lines are readable and all limits are kept: it has a verdict
-  checked : {opening : Bool} {before : ℕ} {verdict : Verdict} {status : Status} → Spells words (Check opening) → length bytes ≤ 67108864 →
+  checked : {opening : Bool} {before : ℕ} {verdict : Verdict} {status : Status} → AskFor words (Check opening) → length bytes ≤ 67108864 →
       IsInputVerdict opening bytes before verdict → status ≡ verdict_status before verdict → IsOutcome words bytes status
 
 -- they call for this status, and for no other but with another history

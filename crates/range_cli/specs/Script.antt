@@ -1,20 +1,64 @@
--- What an input asks to play, and how an input ends a run before anything is played. The order of refusals is this
--- project's own profile: the lines one after another, and last the rows of the areas that the input starts with. So an
--- input has at most one early end.
-use Rattle.std.specs.Prelude.{◌≡◌, ◌⊎◌, ℕ, ◌+◌, ◌<◌, ◌≤◌, Bool, List, Option}
-use Rattle.page_types.specs.declared.TheConstants.{ROWS}
-use Rattle.space_model.specs.declared.areas.Area.{Area}
-use Rattle.space_model.specs.Areas.{kind_at, row_count, HasKinds}
-use Rattle.range_cli.specs.declared.script.Script.{Script}
-use Rattle.range_cli.specs.declared.status.EarlyEnd.{EarlyEnd}
-use Rattle.range_cli.specs.declared.status.EarlyEnd.TheVariants.{Above}
-use Rattle.range_cli.specs.declared.status.Which.TheVariants.{Rows}
-use Rattle.range_cli.specs.declared.trace.Line.{Line}
+-- What an input asks to play: the areas that it begins with, and its lines, each played, kept as the first half of a
+-- call, passed over or blank. The form of one line is the reader's, after proc_pid_maps(5) and strace(1). The limits,
+-- 64 MiB of input, 65,535 bytes of a line and 1,048,576 played lines, that maps lines come in order, and the index of a
+-- process are this project's own profile. How an input ends a run instead is said in Endings.antt.
+use Rattle.std.specs.Prelude.{◌≡◌, ℕ, ◌≤◌, List, [], length, Option, Some, IfSome, ◌≢◌, ◌+◌, ◌*◌, Bool, true, false, ◌∷◌, ◌++◌, ◌==◌, if◌then◌else◌}
+use Rattle.std.specs.List.{list_any, position_or_len}
 use Rattle.command_words.specs.declared.commands.Options.{Options}
-use Rattle.range_cli.specs.Input.{IsInput, EndsReading}
 use Rattle.line_parts.specs.Lines.{lines_of}
-use Rattle.range_cli.specs.Opening.{Opens, EndsOpening}
-use Rattle.range_cli.specs.Trace.{Reads, EndsAt, start_at}
+use Rattle.page_types.specs.declared.TheConstants.{ROWS}
+use Rattle.space_model.specs.Areas.{kind_at, row_count, HasKinds}
+use Rattle.space_model.specs.declared.areas.Area.{Area}
+use Rattle.strace_reader.specs.Joining.{CountsKept, IsAnswer}
+use Rattle.strace_reader.specs.Maps.{SpellsMaps}
+use Rattle.strace_reader.specs.declared.joiner.Fed.{Fed}
+use Rattle.strace_reader.specs.declared.joiner.Fed.TheVariants.{Played, Kept, Skipped, Blank}
+use Rattle.strace_reader.specs.declared.maps.MapsItem.{MapsItem}
+use Rattle.strace_reader.specs.declared.maps.MapsItem.TheVariants.{Area as Mapped, Past}
+use Rattle.range_cli.specs.declared.script.Script.{Script}
+use Rattle.range_cli.specs.declared.trace.Line.{Line}
+
+-- ---- the bytes
+
+-- these are the bytes of the input: it was read to its end, where it tells its bytes these are all of them and none is
+-- left, and they are no more than it may have
+abbrev pub IsInput : Option (List ℕ) → Option (List ℕ) → List ℕ → Type 0
+IsInput old new bytes = IfSome old (λ known. (known ≡ bytes) × (new ≡ Some [])) × (length bytes ≤ 67108864)
+
+-- the line is short enough to be looked at
+abbrev pub IsShort : List ℕ → Type 0
+IsShort text = length text ≤ 65535
+
+-- ---- the maps lines with which an input may begin
+
+-- the address, in bytes, at which a maps line starts, and the one behind it
+abbrev pub map_start : MapsItem → ℕ
+map_start (Mapped area) = area.lo * 4096
+map_start (Past start stop) = start
+
+-- behind a line that ends at this address, the text is this maps line
+pub record IsNext (from : ℕ) (text : List ℕ) (item : MapsItem) : Type 0 where
+  pub short : IsShort text
+  pub some : text ≢ []
+  pub spells : SpellsMaps text item
+  pub in_order : from ≤ map_start item
+
+-- the maps lines from line `number` on, behind a line that ends at this address, have these areas and so many lines
+-- past the user addresses; the trace begins at line `next` with the texts that are left
+pub data ReadsMaps : ℕ → ℕ → List (List ℕ) → List Area → ℕ → ℕ → List (List ℕ) → Type 0 where
+  over : {number from : ℕ} → ReadsMaps number from [] [] 0 number []
+  empty : {number from : ℕ} {texts : List (List ℕ)} → ReadsMaps number from ([] ∷ texts) [] 0 (number + 1) texts
+  mapped : {number from past next : ℕ} {text : List ℕ} {texts left : List (List ℕ)} {area : Area} {areas : List Area} →
+      IsNext from text (Mapped area) → ReadsMaps (number + 1) (area.hi * 4096) texts areas past next left →
+      ReadsMaps number from (text ∷ texts) (area ∷ areas) past next left
+  past_end : {number from past next start stop : ℕ} {text : List ℕ} {texts left : List (List ℕ)} {areas : List Area} →
+      IsNext from text (Past start stop) → ReadsMaps (number + 1) stop texts areas past next left →
+      ReadsMaps number from (text ∷ texts) areas (1 + past) next left
+
+-- how an input begins: with maps lines where they are asked for, else with the trace
+abbrev pub Opens : Bool → List (List ℕ) → List Area → ℕ → ℕ → List (List ℕ) → Type 0
+Opens true texts areas past next left = ReadsMaps 1 0 texts areas past next left
+Opens false texts areas past next left = (areas ≡ []) × (past ≡ 0) × (next ≡ 1) × (left ≡ texts)
 
 -- the input begins with these areas, of which so many more lie past the user addresses, and its trace or its log begins
 -- at line `next` with the texts that are left
@@ -24,6 +68,81 @@ pub record Begins (opening : Bool) (bytes : List ℕ) : Type 0 where
   pub next : ℕ
   pub left : List (List ℕ)
   pub opens : Opens opening (lines_of bytes) areas past next left
+
+-- ---- the lines of a trace
+
+-- a process's index: 0, 1, 2 and so on, as processes first appear; a new one gets the next
+abbrev pub index_among : List ℕ → ℕ → ℕ
+index_among seen pid = position_or_len (λ first. first == pid) seen
+
+-- those that were seen, each once, with this one
+abbrev pub seen_with : List ℕ → ℕ → List ℕ
+seen_with seen pid = if list_any (λ first. first == pid) seen then seen else seen ++ pid ∷ []
+
+-- Where the reading of a trace stands: the number of the next line, how many lines are played so far, the texts that
+-- were fed to the joiner, the last one first, and the processes of the played calls, each once, the first one first.
+pub record TracePosition : Type 0 where
+  pub number : ℕ
+  pub played : ℕ
+  pub fed : List (List ℕ)
+  pub seen : List ℕ
+
+-- before the first line of a trace, which has this number
+abbrev pub start_at : ℕ → TracePosition
+start_at number = record { number = number; played = 0; fed = []; seen = [] }
+
+-- how many lines more are played
+abbrev pub played_by : Fed → ℕ
+played_by (Played pid call recorded skipped) = 1
+played_by (Kept skipped) = 0
+played_by (Skipped skipped) = 0
+played_by Blank = 0
+
+-- how many lines are passed over
+abbrev pub skipped_by : Fed → ℕ
+skipped_by (Played pid call recorded skipped) = skipped
+skipped_by (Kept skipped) = skipped
+skipped_by (Skipped skipped) = skipped
+skipped_by Blank = 0
+
+-- the processes of the played calls, with that of an answer
+abbrev pub seen_by : List ℕ → Fed → List ℕ
+seen_by seen (Played pid call recorded skipped) = seen_with seen pid
+seen_by seen (Kept skipped) = seen
+seen_by seen (Skipped skipped) = seen
+seen_by seen Blank = seen
+
+-- The line that is played where the next text answers so. It has that text's number, also where the text is a second
+-- half.
+abbrev pub lines_by : TracePosition → Fed → List Line
+lines_by stand (Played pid call recorded skipped) =
+    record { number = stand.number; process = index_among stand.seen pid; call = call; recorded = recorded } ∷ []
+lines_by stand (Kept skipped) = []
+lines_by stand (Skipped skipped) = []
+lines_by stand Blank = []
+
+-- where the reading stands behind a text that answered so
+abbrev pub after : TracePosition → List ℕ → Fed → TracePosition
+after stand text answer = record {
+  number = stand.number + 1;
+  played = stand.played + played_by answer;
+  fed = text ∷ stand.fed;
+  seen = seen_by stand.seen answer;
+}
+
+-- the next line answers so, and the limits are kept
+abbrev pub Asks : TracePosition → List ℕ → Fed → Type 0
+Asks stand text answer = IsShort text × IsAnswer stand.fed text answer × (stand.played + played_by answer ≤ 1048576)
+
+-- From where the reading stands, all these lines are read: these are played and so many are skipped. First halves that
+-- are left at the end are skipped too.
+pub data Reads : TracePosition → List (List ℕ) → List Line → ℕ → Type 0 where
+  nothing : {stand : TracePosition} {left : ℕ} → CountsKept stand.fed left → Reads stand [] [] left
+  line : {stand : TracePosition} {text : List ℕ} {texts : List (List ℕ)} {lines : List Line} {skipped : ℕ} → (answer : Fed) →
+      Asks stand text answer → Reads (after stand text answer) texts lines skipped →
+      Reads stand (text ∷ texts) (lines_by stand answer ++ lines) (skipped_by answer + skipped)
+
+-- ---- the whole
 
 -- the input asks for these lines, from the one area list with the kinds of the areas that it begins with, and so many
 -- lines are skipped
@@ -38,32 +157,6 @@ pub record IsScript (options : Options) (bytes : List ℕ) (start : List Area) (
 abbrev pub IsScriptOf : Options → List ℕ → Script → Type 0
 IsScriptOf options bytes script = IsScript options bytes script.opening script.lines.items script.skipped
 
--- a line of the trace ends the run so
-pub record EndsTrace (options : Options) (bytes : List ℕ) (end : EarlyEnd) : Type 0 where
-  pub head : Begins options.opening bytes
-  pub ends : EndsAt (start_at head.next) head.left end
-
--- all lines are read, and the areas that the input starts with have more rows than there may be
-pub record EndsByRows (options : Options) (bytes : List ℕ) (end : EarlyEnd) : Type 0 where
-  pub head : Begins options.opening bytes
-  pub lines : List Line
-  pub passed : ℕ
-  pub reads : Reads (start_at head.next) head.left lines passed
-  pub start : List Area
-  pub kinds : HasKinds (kind_at head.areas) start
-  pub many_rows : ROWS < row_count start
-  pub is : end ≡ Above Rows (row_count start)
-
--- the bytes of an input end the run so: the first line that ends a run does, or behind all lines the rows do
-abbrev pub EndsInput : Options → List ℕ → EarlyEnd → Type 0
-EndsInput options bytes end =
-    EndsOpening options.opening (lines_of bytes) end ⊎ (EndsTrace options bytes end ⊎ EndsByRows options bytes end)
-
 -- the input was read to its end, and asks for this
 abbrev pub IsReadScript : Options → Option (List ℕ) → Option (List ℕ) → Script → Type 0
 IsReadScript options input_old input_new script = (bytes : List ℕ) × IsInput input_old input_new bytes × IsScriptOf options bytes script
-
--- the run ends so before anything is played: while the input is read, or by its bytes
-abbrev pub EndsEarly : Options → Option (List ℕ) → Option (List ℕ) → ℕ → ℕ → EarlyEnd → Type 0
-EndsEarly options input_old input_new before after end =
-    EndsReading input_old before after end ⊎ ((bytes : List ℕ) × IsInput input_old input_new bytes × EndsInput options bytes end)

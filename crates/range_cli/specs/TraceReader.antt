@@ -1,17 +1,58 @@
--- What the reader of a trace holds where the reading stands at some line: a joiner that was fed the texts before it,
--- the index of each process that was seen, and the played lines. It ties the code to the definitions of Trace.antt,
--- which speak of texts alone.
-use Rattle.std.specs.Prelude.{◌≡◌, ◌⊎◌, ℕ, ◌+◌, ◌<◌, List, ◌++◌, length}
+-- What the private functions that read an input say: that a source is drained, what a maps line adds, and what the
+-- reader of a trace holds where the reading stands at some line: a joiner that was fed the texts before it, the index
+-- of each process that was seen, and the played lines. It ties the code to the definitions of Script.antt, which speak
+-- of texts alone.
+use Rattle.std.specs.Prelude.{◌≡◌, ℕ, ◌<◌, List, [], length, Option, Some, IfSome, ◌⊎◌, ◌+◌, ◌∷◌, ◌++◌, ◌==◌, if◌then◌else◌, None}
 use Rattle.std.specs.BTreeMap.{get}
 use Rattle.std.specs.Ordering.{nat_cmp}
-use Rattle.strace_reader.specs.declared.joiner.Fed.{Fed}
+use Rattle.page_types.specs.Named.{IsNamedCall}
+use Rattle.space_model.specs.declared.areas.Area.{Area}
 use Rattle.strace_reader.specs.Joiner.{IsFed}
+use Rattle.strace_reader.specs.declared.joiner.Fed.{Fed}
+use Rattle.strace_reader.specs.declared.joiner.Fed.TheVariants.{Played, Kept, Skipped, Blank}
+use Rattle.strace_reader.specs.declared.maps.MapsItem.{MapsItem}
+use Rattle.strace_reader.specs.declared.maps.MapsItem.TheVariants.{Area as Mapped, Past}
+use Rattle.range_cli.specs.Script.{TracePosition, Asks, after, lines_by, played_by, skipped_by}
 use Rattle.range_cli.specs.declared.processes.Processes.{Processes}
 use Rattle.range_cli.specs.declared.status.EarlyEnd.{EarlyEnd}
-use Rattle.range_cli.specs.declared.status.EarlyEnd.TheVariants.{Above, NoMemory}
+use Rattle.range_cli.specs.declared.status.EarlyEnd.TheVariants.{NoMemory, Above}
 use Rattle.range_cli.specs.declared.status.Which.TheVariants.{Lines}
+use Rattle.range_cli.specs.declared.trace.Line.{Line}
 use Rattle.range_cli.specs.declared.trace.TraceReader.{TraceReader}
-use Rattle.range_cli.specs.Trace.{TracePosition, Asks, after, lines_by, place_among, played_by, skipped_by}
+
+-- the known bytes are all, and none of them is left
+abbrev pub Drains : Option (List ℕ) → Option (List ℕ) → List ℕ → Type 0
+Drains old new all = IfSome old (λ bytes. (bytes ≡ all) × (new ≡ Some []))
+
+-- the areas with those of one more line
+abbrev pub areas_with : List Area → MapsItem → List Area
+areas_with areas (Mapped area) = areas ++ area ∷ []
+areas_with areas (Past start stop) = areas
+
+-- the lines past the user addresses with one more line
+abbrev pub past_with : ℕ → MapsItem → ℕ
+past_with past (Mapped area) = past
+past_with past (Past start stop) = past + 1
+
+-- the sets of bits of a line's call have no bit but the named ones
+abbrev pub IsNamedLine : Line → Type 0
+IsNamedLine line = IsNamedCall line.call
+
+abbrev pub IsNamedAnswer : Fed → Type 0
+IsNamedAnswer (Played pid call recorded skipped) = IsNamedCall call
+IsNamedAnswer (Kept skipped) = Unit {0}
+IsNamedAnswer (Skipped skipped) = Unit {0}
+IsNamedAnswer Blank = Unit {0}
+
+-- the place before it, counted on by one
+abbrev pub one_on : Option ℕ → Option ℕ
+one_on None = None
+one_on (Some place) = Some (place + 1)
+
+-- where a process is among those that were seen, from 0 on
+abbrev pub place_among : List ℕ → ℕ → Option ℕ
+place_among [] pid = None
+place_among (first ∷ seen) pid = if first == pid then Some 0 else one_on (place_among seen pid)
 
 -- each process that was seen has its place as its index
 pub record IsIndexed (processes : Processes) (seen : List ℕ) : Type 0 where

@@ -2,7 +2,8 @@
 //! does; the bytes that come are joined until a read gives none. A reader may rely on the result being all that the
 //! source had left.
 ghost use Rattle.std.specs.Prelude.{◌≤◌, length, IfOk, IfErr};
-ghost use Rattle.range_cli.specs.Input.{Drains, EndsReading};
+ghost use Rattle.range_cli.specs.TraceReader.{Drains};
+ghost use Rattle.range_cli.specs.Endings.{EndsReading};
 ghost use Rattle.range_cli.specs.Status.{OrMemory};
 
 use crate::status::{EarlyEnd, Which};

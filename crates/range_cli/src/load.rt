@@ -6,9 +6,8 @@ ghost use Rattle.load_lines.specs.declared.TheConstants.{SEED_LIMIT, THREADS_LIM
 ghost use Rattle.load_lines.specs.Calls.{IsNamedLine as IsNamedMade};
 ghost use Rattle.page_types.specs.Named.{IsNamedCall};
 ghost use Rattle.range_cli.specs.Dealt.{dealt};
-ghost use Rattle.range_cli.specs.Load.{line_of, lines_of_load};
-ghost use Rattle.range_cli.specs.Play.{IsHistoryOf};
-ghost use Rattle.range_cli.specs.Trace.{IsNamedLine};
+ghost use Rattle.range_cli.specs.Play.{line_of, lines_of_load, IsHistoryOf};
+ghost use Rattle.range_cli.specs.TraceReader.{IsNamedLine};
 ghost use Rattle.range_cli.specs.declared.trace.TheConstants.{LINES_LIMIT};
 
 use crate::dealing::{deal_line, no_lines};

@@ -24,11 +24,11 @@ mod processes;
 mod report;
 mod run;
 mod script;
+#[cfg(test)]
+mod sealed_tests;
 mod status;
 #[cfg(test)]
 mod tests;
-#[cfg(test)]
-mod touched_tests;
 mod trace;
 #[cfg(test)]
 mod trial;

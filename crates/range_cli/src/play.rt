@@ -8,7 +8,7 @@ ghost use Rattle.space_model.specs.Areas.{row_count};
 ghost use Rattle.range_cli.specs.Dealt.{dealt};
 ghost use Rattle.range_cli.specs.Play.{IsHistoryOf};
 ghost use Rattle.range_cli.specs.Report.{CountsTouched};
-ghost use Rattle.range_cli.specs.Trace.{IsNamedLine};
+ghost use Rattle.range_cli.specs.TraceReader.{IsNamedLine};
 ghost use Rattle.range_cli.specs.declared.trace.TheConstants.{LINES_LIMIT};
 
 use crate::dealing::deal_lines;

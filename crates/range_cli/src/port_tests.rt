@@ -366,6 +366,7 @@ fn maps_with_gaps(alloc: Global) -> Result<MemorySource, Fail> {
     let kind = Kind {
         prot: Prot::READ,
         shared: false,
+        sealed: false,
     };
     let mut areas = Vec::new(alloc);
     for area in 0..2048u64 {

@@ -4,7 +4,7 @@
 ghost use Rattle.std.specs.Prelude.{◌≡◌, ◌≢◌, ◌+◌, ◌-◌, ◌^◌, ◌<◌, ◌≤◌, List, [], ℕ, Some, IfOk, OnOk, OnErr};
 ghost use Rattle.std.specs.BTreeMap.{get};
 ghost use Rattle.std.specs.Ordering.{nat_cmp};
-ghost use Rattle.range_cli.specs.Trace.{index_among, seen_with};
+ghost use Rattle.range_cli.specs.Script.{index_among, seen_with};
 ghost use Rattle.range_cli.specs.TraceReader.{IsIndexed};
 
 use std::alloc::{AllocError, Global};

@@ -6,7 +6,7 @@
 ghost use Rattle.std.specs.Prelude.{◌≡◌, ◌≢◌, ◌⊎◌, ◌<◌, ◌≤◌, ℕ, List, Option, Some, map};
 ghost use Rattle.std.specs.String.{string_bytes};
 ghost use Rattle.load_lines.specs.declared.TheConstants.{SEED_LIMIT, THREADS_LIMIT, CALLS_LIMIT};
-ghost use Rattle.command_words.specs.Commands.{Spells, RefusesWords, AskForLoad, AskForOne};
+ghost use Rattle.command_words.specs.Commands.{AskFor, RefusesWords, AskForLoad, AskForOne};
 ghost use Rattle.command_words.specs.declared.commands.Command.TheVariants.{Play, Load, Check};
 ghost use Rattle.range_cli.specs.Laws.{LogsAreGood, HasOneReport};
 ghost use Rattle.range_cli.specs.Run.{Wrote, IsDone, IsUnwritten, HasCause, IsOnlyOutcome, IsHindered, Complains};
@@ -139,9 +139,9 @@ fn play_input<R: Threads + Wait + Sync, S: Source, K: Sink, G: Gate>(
 ) -> Status
     requires some_threads { 0 < threads }
     requires few_threads { threads ≤ 16 }
-    ensures out { (words : List (List ℕ)) → Spells words (Play options threads) → Wrote words (S.remaining input.old)
+    ensures out { (words : List (List ℕ)) → AskFor words (Play options threads) → Wrote words (S.remaining input.old)
         (S.remaining input.new) (K.contents out.old) (K.contents out.new) result }
-    ensures cause { (words : List (List ℕ)) → Spells words (Play options threads) → HasCause words (S.remaining input.old)
+    ensures cause { (words : List (List ℕ)) → AskFor words (Play options threads) → HasCause words (S.remaining input.old)
         (S.remaining input.new) (S.fault_count input.old, S.fault_count input.new)
         (K.fault_count out.old, K.fault_count out.new) result }
     ensures no_usage { result ≢ Status.Usage }
@@ -181,9 +181,9 @@ fn check_input<S: Source, K: Sink>(
     input: &mut S,
     out: &mut K,
 ) -> Status
-    ensures out { (words : List (List ℕ)) → Spells words (Check opening) → Wrote words (S.remaining input.old)
+    ensures out { (words : List (List ℕ)) → AskFor words (Check opening) → Wrote words (S.remaining input.old)
         (S.remaining input.new) (K.contents out.old) (K.contents out.new) result }
-    ensures cause { (words : List (List ℕ)) → Spells words (Check opening) → HasCause words (S.remaining input.old)
+    ensures cause { (words : List (List ℕ)) → AskFor words (Check opening) → HasCause words (S.remaining input.old)
         (S.remaining input.new) (S.fault_count input.old, S.fault_count input.new)
         (K.fault_count out.old, K.fault_count out.new) result }
     ensures no_usage { result ≢ Status.Usage }
@@ -214,9 +214,9 @@ fn play_load<R: Threads + Wait + Sync, K: Sink, G: Gate>(
     requires some_threads { 0 < threads }
     requires few_threads { threads ≤ THREADS_LIMIT }
     requires calls { calls ≤ CALLS_LIMIT }
-    ensures out { (words : List (List ℕ)) (input : Option (List ℕ)) → Spells words (Load seed threads calls)
+    ensures out { (words : List (List ℕ)) (input : Option (List ℕ)) → AskFor words (Load seed threads calls)
         → Wrote words input input (K.contents out.old) (K.contents out.new) result }
-    ensures cause { (words : List (List ℕ)) (input : Option (List ℕ)) (failures : ℕ × ℕ) → Spells words (Load seed threads calls)
+    ensures cause { (words : List (List ℕ)) (input : Option (List ℕ)) (failures : ℕ × ℕ) → AskFor words (Load seed threads calls)
         → HasCause words input input failures (K.fault_count out.old, K.fault_count out.new) result }
     ensures no_usage { result ≢ Status.Usage }
     ensures nothing_written { IsUnwritten result → out.new ≡ out.old }

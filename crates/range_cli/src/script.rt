@@ -3,10 +3,11 @@
 //! profile. A reader may rely on the first line that ends the run being the one that is named.
 ghost use Rattle.std.specs.Prelude.{◌≤◌, length, All, IfOk, IfErr};
 ghost use Rattle.range_cli.specs.declared.trace.TheConstants.{LINES_LIMIT};
-ghost use Rattle.range_cli.specs.Script.{IsScriptOf, EndsInput, IsReadScript, EndsEarly};
+ghost use Rattle.range_cli.specs.Script.{IsScriptOf, IsReadScript};
+ghost use Rattle.range_cli.specs.Endings.{EndsInput, EndsEarly};
 ghost use Rattle.range_cli.specs.Status.{OrMemory};
 ghost use Rattle.range_cli.specs.declared.input.TheConstants.{INPUT_LIMIT};
-ghost use Rattle.range_cli.specs.Trace.{IsNamedLine};
+ghost use Rattle.range_cli.specs.TraceReader.{IsNamedLine};
 
 use crate::input::read_input;
 use crate::opening::read_opening;

@@ -16,7 +16,7 @@ const HALVES: &str =
         [pid     7] munmap(0x10000, 4096) = 0\n";
 
 /// Worked runs: the words, the input, the report, and what a check says of it where it begins with a log. Each is done.
-const WORKED: [(&[&str], &str, &str, &str); 20] = [
+const WORKED: [(&[&str], &str, &str, &str); 24] = [
     // One mapping, and no line.
     (
         &["play"],
@@ -228,6 +228,36 @@ const WORKED: [(&[&str], &str, &str, &str); 20] = [
     00020000-00021000 r--p 00000000 00:00 0\n\
     played 3 skipped 0 refused 0 differ 0\n",
         "legal 3\n",
+    ),
+    // Touched pages are counted once, behind the summary. Which worker touches one first is left to the threads, and
+    // the count is the same in every order. Here two of four faults are granted; then there are no calls, and then
+    // calls that touch nothing.
+    (
+        &["play", "--touched"],
+        "mmap(0x10000, 8192, PROT_READ, MAP_PRIVATE|MAP_FIXED, -1, 0)\n\
+        fault(0x10000, PROT_READ)\nfault(0x11fff, PROT_READ)\n\
+        fault(0x12000, PROT_READ)\nfault(0x10000, PROT_WRITE)\n",
+        "00010000-00012000 r--p 00000000 00:00 0\n\
+        played 5 skipped 0 refused 2 differ 0\ntouched 2\n",
+        "",
+    ),
+    (
+        &["play", "--touched"],
+        "",
+        "played 0 skipped 0 refused 0 differ 0\ntouched 0\n",
+        "",
+    ),
+    (
+        &["play", "--touched"],
+        "fault(0x10000, PROT_READ)\n",
+        "played 1 skipped 0 refused 1 differ 0\ntouched 0\n",
+        "",
+    ),
+    (
+        &["play", "--touched", "--threads=2"],
+        "8 fault(0x20000, PROT_READ)\n9 fault(0x20000, PROT_READ)\n",
+        "played 2 skipped 0 refused 2 differ 0\ntouched 0\n",
+        "",
     ),
 ];
 

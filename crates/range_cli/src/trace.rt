@@ -4,8 +4,9 @@
 //! the run.
 ghost use Rattle.std.specs.Prelude.{◌≡◌, ◌∷◌, ◌++◌, ◌+◌, ◌-◌, ◌*◌, ◌^◌, ◌<◌, ◌≤◌, [], List, ℕ, length, All, IfOk, IfErr, OnOk};
 ghost use Rattle.line_parts.specs.Lines.{lines_of};
-ghost use Rattle.range_cli.specs.Trace.{TracePosition, Ends, EndsAt, Reads, start_at, lines_by, played_by, seen_by, skipped_by, IsNamedLine, IsNamedAnswer};
-ghost use Rattle.range_cli.specs.TraceReader.{IsBefore, IsFull, IsIndexed, StandsAt, Takes};
+ghost use Rattle.range_cli.specs.Script.{TracePosition, Reads, start_at, lines_by, played_by, seen_by, skipped_by};
+ghost use Rattle.range_cli.specs.Endings.{Ends, EndsAt};
+ghost use Rattle.range_cli.specs.TraceReader.{IsNamedLine, IsNamedAnswer, IsBefore, IsFull, IsIndexed, StandsAt, Takes};
 ghost use Rattle.range_cli.specs.Status.{OrMemory};
 ghost use Rattle.range_cli.specs.declared.input.TheConstants.{INPUT_LIMIT};
 

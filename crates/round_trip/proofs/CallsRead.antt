@@ -13,17 +13,17 @@ use Rattle.line_parts.specs.Parts.{Part, chain, starts}
 use Rattle.line_parts.specs.Leaves.{is, letters, number, worth}
 use Rattle.line_parts.proofs.Numerals.{NoNumeral, zero_number}
 use Rattle.page_types.specs.declared.calls.Call.{Call}
-use Rattle.page_types.specs.declared.calls.Call.TheVariants.{Map, Unmap, Protect, Fault}
+use Rattle.page_types.specs.declared.calls.Call.TheVariants.{Map, Unmap, Protect, Fault, Seal}
 use Rattle.page_types.specs.declared.sets.Access.{Access}
 use Rattle.page_types.specs.declared.sets.Access.TheVariants.{Read, Write, Exec}
 use Rattle.page_types.specs.Named.{IsNamedCall}
 use Rattle.strace_reader.specs.declared.item.Item.TheVariants.{Played}
 use Rattle.strace_reader.specs.declared.item.Name.{Name}
-use Rattle.strace_reader.specs.declared.item.Name.TheVariants.{Mmap, Munmap, Mprotect, Fault as FaultName}
+use Rattle.strace_reader.specs.declared.item.Name.TheVariants.{Mmap, Munmap, Mprotect, Fault as FaultName, Mseal}
 use Rattle.strace_reader.specs.Words.{call_head, access_of}
 use Rattle.strace_reader.specs.Calls.{call, arguments, unrecorded, addr, comma, access, closing, map_tail, descriptor}
 use Rattle.strace_reader.specs.Calls.{prot, flags, protect_behind_prot, map_behind_prot, map_behind_flags}
-use Rattle.strace_reader.specs.Calls.{munmap_arguments, mprotect_arguments, fault_arguments, mmap_arguments}
+use Rattle.strace_reader.specs.Calls.{munmap_arguments, mprotect_arguments, fault_arguments, mseal_arguments, mmap_arguments}
 use Rattle.strace_reader.specs.Grammar.{Spells, IsBody, NeverReturned, EndsWith, unfinished}
 use Rattle.strace_reader.proofs.BodyAnswers.{call_cut}
 use Rattle.maps_printer.specs.Calls.{call_text}
@@ -127,6 +127,15 @@ fault_takes a which small =
     then_addr (λ a. chain comma (λ u. chain access (λ c. closing (Fault a c)))) a _ _ small (comma_ends_number [])
     (then_comma (chain access (λ c. closing (Fault a c))) (access_text which ++ codes ")") _ (rw append_assoc (access_starts which _))
     (access_text which, codes ")", which, refl, access_takes which, closing_takes (Fault a which)))
+
+mseal_takes : (a n f : ℕ) → a < 2 ^ 64 → n < 2 ^ 64 → f < 2 ^ 64
+    → mseal_arguments.takes (address_text a ++ (codes ", " ++ (decimal n ++ (codes ", " ++ (decimal f ++ codes ")"))))) []
+    (unrecorded (Seal a n f))
+mseal_takes a n f small_a small_n small_f =
+    then_addr (λ a. chain comma (λ u. chain (number Number) (λ n. chain comma (λ v. chain (number Number) (λ f. closing (Seal a n f)))))) a _ _
+    small_a (comma_ends_number [])
+    (then_length (λ n. chain comma (λ v. chain (number Number) (λ f. closing (Seal a n f)))) n _ _ small_n (comma_ends_number [])
+    (then_length (λ f. closing (Seal a n f)) f (codes ")") _ small_f close_ends_number (closing_takes (Seal a n f))))
 
 -- the descriptor -1 and the offset 0
 dropped_takes : (c : Call) → (map_tail c).takes (codes ", -1, 0)") [] (unrecorded c)
@@ -234,6 +243,11 @@ call_text_spells (Fault a which) named fits =
     (fault_takes a which fits)
     (nest_unmap (codes "fault(") (address_text a) (codes ", ") (access_text which) (codes ")"))
     refl
+call_text_spells (Seal a n f) named fits =
+    spelled Mseal _ (call_text (Seal a n f)) (codes "mseal(" ++ address_text a ++ codes ", " ++ decimal n ++ codes ", " ++ decimal f) _
+    (mseal_takes a n f fits.0 fits.1 fits.2)
+    (nest_protect (codes "mseal(") (address_text a) (codes ", ") (decimal n) (decimal f) (codes ")"))
+    refl
 
 -- ---- how long a text is
 
@@ -260,4 +274,9 @@ call_text_length (Protect a n p) named fits =
 call_text_length (Fault a which) named fits =
     let addr_short = address_length a fits in
     let access_short = access_length which in
+    simp length-append (omega arith)
+call_text_length (Seal a n f) named fits =
+    let addr_short = address_length a fits.0 in
+    let len_short = length-decimal-le 20 n (omega arith) (omega arith) fits.1 in
+    let flags_short = length-decimal-le 20 f (omega arith) (omega arith) fits.2 in
     simp length-append (omega arith)

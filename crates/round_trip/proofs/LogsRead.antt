@@ -12,12 +12,12 @@ use Rattle.std.proofs.lemmas.Fmt.{decimal_injective}
 use Rattle.line_parts.specs.Leaves.{worth, AllDigits, value}
 use Rattle.page_types.specs.declared.TheConstants.{LIMIT}
 use Rattle.page_types.specs.declared.calls.Call.{Call}
-use Rattle.page_types.specs.declared.calls.Call.TheVariants.{Map, Unmap, Protect, Fault}
+use Rattle.page_types.specs.declared.calls.Call.TheVariants.{Map, Unmap, Protect, Fault, Seal}
 use Rattle.page_types.specs.declared.calls.Kind.{Kind}
 use Rattle.page_types.specs.declared.calls.Reply.{Reply}
 use Rattle.page_types.specs.declared.calls.Reply.TheVariants.{At, Zero, Granted, Refused}
 use Rattle.page_types.specs.declared.calls.Why.{Why}
-use Rattle.page_types.specs.declared.calls.Why.TheVariants.{Einval, Enomem, Eexist, MapErr, AccErr}
+use Rattle.page_types.specs.declared.calls.Why.TheVariants.{Einval, Enomem, Eexist, Eperm, MapErr, AccErr}
 use Rattle.page_types.specs.declared.calls.Short.{Short}
 use Rattle.page_types.specs.declared.calls.Short.TheVariants.{Missing, PastEnd, NoGap, Rows}
 use Rattle.page_types.specs.declared.pages.Field.{Field}
@@ -38,7 +38,7 @@ use Rattle.strace_reader.proofs.OneOutcome.{one_outcome}
 use Rattle.maps_printer.specs.Calls.{call_text, reply_text, why_text, short_text, field_text}
 use Rattle.maps_printer.specs.Lines.{entry_line, log_text, under_text, span_text}
 use Rattle.maps_printer.specs.Numbers.{address_text, prefixed_hex, hex_digits}
-use Rattle.maps_printer.specs.Words.{prot_text, flags_text, access_text, kind_text, letter_if, words_or, word_if}
+use Rattle.maps_printer.specs.Words.{prot_text, flags_text, access_text, kind_text, log_kind, letter_if, words_or, word_if}
 use Rattle.round_trip.specs.Logs.{FitsCall, FitsReply, FitsWhy, FitsShort, FitsHeld, HasWordNumbers, IsNamedEntry}
 use Rattle.round_trip.proofs.CallsRead.{call_text_spells}
 use Rattle.round_trip.proofs.NumbersRead.{decimal_digits, hex_are_digits}
@@ -95,7 +95,7 @@ reply_bytes = codes "-01 ACEGILMNOPRSTVX_adefgilmnoprstwx"
 
 -- the bytes of those of a call, but for the closing parenthesis
 abbrev pub call_bytes : List ℕ
-call_bytes = codes "(,-0|1 ACDEFHILMNOPRSTUVWX_acefglmnoprtux"
+call_bytes = codes "(,-0|1 ACDEFHILMNOPRSTUVWX_acefglmnoprstux"
 
 -- a text that lacks the byte
 pub record Clean (b : ℕ) : Type 0 where
@@ -286,6 +286,10 @@ module _ (b : ℕ) (apart : IsApart b) where
   body_of (Fault a which) fits =
       let first = onto (word (codes "fault(") refl) (address_text a) (address a fits) in
       of_clean b (Fault a which) (more (more first (codes ", ") refl) (access_text which) (access_uses which)) refl
+  body_of (Seal a n f) fits =
+      let first = onto (word (codes "mseal(") refl) (address_text a) (address a fits.0) in
+      let len = onto (more first (codes ", ") refl) (decimal n) (number n fits.1) in
+      of_clean b (Seal a n f) (onto (more len (codes ", ") refl) (decimal f) (number f fits.2)) refl
 
 -- the text of a call lacks such a byte, where that isn't the parenthesis
 pub call_lacks : (b : ℕ) → IsApart b → lacks b (41 ∷ []) ≡ true → (c : Call) → FitsCall c → lacks b (call_text c) ≡ true
@@ -322,7 +326,7 @@ cut_call c d r s named_c named_d fits_c fits_d e =
 
 -- ---- replies: each is told back from its text
 
--- the kind that four characters show
+-- the kind that four characters show, sealed where a space stands behind them
 unfoldable pub kind_back : List ℕ → Kind
 kind_back text = record {
   prot = record {
@@ -330,37 +334,54 @@ kind_back text = record {
         cond (get_or text 0 0 == 114) 1 0 + cond (get_or text 1 0 == 119) 2 0 + cond (get_or text 2 0 == 120) 4 0;
   };
   shared = get_or text 3 0 == 115;
+  sealed = get_or text 4 0 == 32;
 }
 
-kind_at_bits : (bits : ℕ) (shared : Bool) → bits < 8
-    → kind_back (kind_text (record { prot = record { 0 = bits }; shared = shared })) ≡ record {
-      prot = record { 0 = bits };
-      shared = shared;
-    }
+-- the letters of a protection with these bits, before others
+abbrev letters : ℕ → List ℕ → List ℕ
+letters bits more = letter_if (has_bits bits 1) 114 ∷ letter_if (has_bits bits 2) 119 ∷ letter_if (has_bits bits 4) 120 ∷ more
+
+-- the bits are told back from the first three characters
+bits_told : (bits : ℕ) (more : List ℕ) → bits < 8
+    → cond (get_or (letters bits more) 0 0 == 114) 1 0 + cond (get_or (letters bits more) 1 0 == 119) 2 0
+    + cond (get_or (letters bits more) 2 0 == 120) 4 0 ≡ bits
+bits_told zero more low = refl
+bits_told (suc zero) more low = refl
+bits_told (suc (suc zero)) more low = refl
+bits_told (suc (suc (suc zero))) more low = refl
+bits_told (suc (suc (suc (suc zero)))) more low = refl
+bits_told (suc (suc (suc (suc (suc zero))))) more low = refl
+bits_told (suc (suc (suc (suc (suc (suc zero)))))) more low = refl
+bits_told (suc (suc (suc (suc (suc (suc (suc zero))))))) more low = refl
+bits_told (suc (suc (suc (suc (suc (suc (suc (suc n)))))))) more low = absurd (omega arith)
+
+-- the sharing from the fourth
+sharing_told : (r w x : ℕ) (shared : Bool) (more : List ℕ)
+    → (get_or (r ∷ w ∷ x ∷ (if shared then 115 else 112) ∷ more) 3 0 == 115) ≡ shared
+sharing_told r w x true more = refl
+sharing_told r w x false more = refl
+
+-- and the seal from what stands behind it
+seal_told : (r w x s : ℕ) (sealed : Bool) → (get_or (r ∷ w ∷ x ∷ s ∷ (if sealed then codes " sealed" else [])) 4 0 == 32) ≡ sealed
+seal_told r w x s true = refl
+seal_told r w x s false = refl
+
+-- a kind is told back from its text in a log
+pub kind_told : (k : Kind) → IsNamedKind k → kind_back (log_kind k) ≡ k
 unfolding kind_back
-kind_at_bits zero true low = refl
-kind_at_bits zero false low = refl
-kind_at_bits (suc zero) true low = refl
-kind_at_bits (suc zero) false low = refl
-kind_at_bits (suc (suc zero)) true low = refl
-kind_at_bits (suc (suc zero)) false low = refl
-kind_at_bits (suc (suc (suc zero))) true low = refl
-kind_at_bits (suc (suc (suc zero))) false low = refl
-kind_at_bits (suc (suc (suc (suc zero)))) true low = refl
-kind_at_bits (suc (suc (suc (suc zero)))) false low = refl
-kind_at_bits (suc (suc (suc (suc (suc zero))))) true low = refl
-kind_at_bits (suc (suc (suc (suc (suc zero))))) false low = refl
-kind_at_bits (suc (suc (suc (suc (suc (suc zero)))))) true low = refl
-kind_at_bits (suc (suc (suc (suc (suc (suc zero)))))) false low = refl
-kind_at_bits (suc (suc (suc (suc (suc (suc (suc zero))))))) true low = refl
-kind_at_bits (suc (suc (suc (suc (suc (suc (suc zero))))))) false low = refl
-kind_at_bits (suc (suc (suc (suc (suc (suc (suc (suc n)))))))) shared low = absurd (omega arith)
+kind_told k named =
+    let r = letter_if (has_bits (prot_bits k.prot) 1) 114 in
+    let w = letter_if (has_bits (prot_bits k.prot) 2) 119 in
+    let x = letter_if (has_bits (prot_bits k.prot) 4) 120 in
+    let s : ℕ = if k.shared then 115 else 112 in
+    let seal : List ℕ = if k.sealed then codes " sealed" else [] in
+    λ i. record {
+      prot = record { 0 = bits_told (prot_bits k.prot) (s ∷ seal) named i };
+      shared = sharing_told r w x k.shared seal i;
+      sealed = seal_told r w x s k.sealed i;
+    }
 
--- a kind is told back from its four characters
-pub kind_told : (k : Kind) → IsNamedKind k → kind_back (kind_text k) ≡ k
-kind_told k named = kind_at_bits (prot_bits k.prot) k.shared named
-
-kind_tells : (k j : Kind) → IsNamedKind k → IsNamedKind j → kind_text k ≡ kind_text j → k ≡ j
+kind_tells : (k j : Kind) → IsNamedKind k → IsNamedKind j → log_kind k ≡ log_kind j → k ≡ j
 kind_tells k j a b e = sym (kind_told k a) ∙ ap kind_back e ∙ kind_told j b
 
 -- what a text says of a refused argument, a want and a refusal, by the bytes that tell them apart
@@ -399,43 +420,55 @@ short_tells (Rows p) (PastEnd q) a b e = absurd (apart 0 _ _ (λ x. omega (arith
 short_tells (Rows p) (NoGap q) a b e = absurd (apart 0 _ _ (λ x. omega (arith, x)) e)
 short_tells (Rows p) (Rows q) a b e = ap Rows (decimal_injective p q a b (ap (drop 5) e))
 
-acc_err : (p q : ℕ) (k j : Kind) → why_text (AccErr p k) ≡ why_text (AccErr q j) → hex_digits p ++ 32 ∷ kind_text k ≡ hex_digits q ++ 32 ∷ kind_text j
+acc_err : (p q : ℕ) (k j : Kind) → why_text (AccErr p k) ≡ why_text (AccErr q j) → hex_digits p ++ 32 ∷ log_kind k ≡ hex_digits q ++ 32 ∷ log_kind j
 acc_err p q k j e =
-    sym (append_assoc (hex_digits p) (codes " ") (kind_text k)) ∙ ap (drop 22) e ∙ append_assoc (hex_digits q) (codes " ") (kind_text j)
+    sym (append_assoc (hex_digits p) (codes " ") (log_kind k)) ∙ ap (drop 22) e ∙ append_assoc (hex_digits q) (codes " ") (log_kind j)
 
 why_tells : (w v : Why) → FitsWhy w → FitsWhy v → IsNamedWhy w → IsNamedWhy v → why_text w ≡ why_text v → w ≡ v
 why_tells (Einval f) (Einval g) a b c d e = ap Einval (sym (field_told f) ∙ ap field_back (ap (drop 10) e) ∙ field_told g)
 why_tells (Einval f) (Enomem g) a b c d e = absurd (apart 4 _ _ (λ x. omega (arith, x)) e)
 why_tells (Einval f) (Eexist q) a b c d e = absurd (apart 4 _ _ (λ x. omega (arith, x)) e)
+why_tells (Einval f) (Eperm q) a b c d e = absurd (apart 4 _ _ (λ x. omega (arith, x)) e)
 why_tells (Einval f) (MapErr q) a b c d e = absurd (apart 3 _ _ (λ x. omega (arith, x)) e)
 why_tells (Einval f) (AccErr q j) a b c d e = absurd (apart 3 _ _ (λ x. omega (arith, x)) e)
 why_tells (Enomem f) (Einval g) a b c d e = absurd (apart 4 _ _ (λ x. omega (arith, x)) e)
 why_tells (Enomem f) (Enomem g) a b c d e = ap Enomem (short_tells f g a b (ap (drop 10) e))
 why_tells (Enomem f) (Eexist q) a b c d e = absurd (apart 4 _ _ (λ x. omega (arith, x)) e)
+why_tells (Enomem f) (Eperm q) a b c d e = absurd (apart 4 _ _ (λ x. omega (arith, x)) e)
 why_tells (Enomem f) (MapErr q) a b c d e = absurd (apart 3 _ _ (λ x. omega (arith, x)) e)
 why_tells (Enomem f) (AccErr q j) a b c d e = absurd (apart 3 _ _ (λ x. omega (arith, x)) e)
 why_tells (Eexist p) (Einval g) a b c d e = absurd (apart 4 _ _ (λ x. omega (arith, x)) e)
 why_tells (Eexist p) (Enomem g) a b c d e = absurd (apart 4 _ _ (λ x. omega (arith, x)) e)
 why_tells (Eexist p) (Eexist q) a b c d e = ap Eexist (hex_tells p q a b (ap (drop 17) e))
+why_tells (Eexist p) (Eperm q) a b c d e = absurd (apart 4 _ _ (λ x. omega (arith, x)) e)
 why_tells (Eexist p) (MapErr q) a b c d e = absurd (apart 3 _ _ (λ x. omega (arith, x)) e)
 why_tells (Eexist p) (AccErr q j) a b c d e = absurd (apart 3 _ _ (λ x. omega (arith, x)) e)
+why_tells (Eperm p) (Einval g) a b c d e = absurd (apart 4 _ _ (λ x. omega (arith, x)) e)
+why_tells (Eperm p) (Enomem g) a b c d e = absurd (apart 4 _ _ (λ x. omega (arith, x)) e)
+why_tells (Eperm p) (Eexist q) a b c d e = absurd (apart 4 _ _ (λ x. omega (arith, x)) e)
+why_tells (Eperm p) (Eperm q) a b c d e = ap Eperm (hex_tells p q a b (ap (drop 16) e))
+why_tells (Eperm p) (MapErr q) a b c d e = absurd (apart 3 _ _ (λ x. omega (arith, x)) e)
+why_tells (Eperm p) (AccErr q j) a b c d e = absurd (apart 3 _ _ (λ x. omega (arith, x)) e)
 why_tells (MapErr p) (Einval g) a b c d e = absurd (apart 3 _ _ (λ x. omega (arith, x)) e)
 why_tells (MapErr p) (Enomem g) a b c d e = absurd (apart 3 _ _ (λ x. omega (arith, x)) e)
 why_tells (MapErr p) (Eexist q) a b c d e = absurd (apart 3 _ _ (λ x. omega (arith, x)) e)
+why_tells (MapErr p) (Eperm q) a b c d e = absurd (apart 3 _ _ (λ x. omega (arith, x)) e)
 why_tells (MapErr p) (MapErr q) a b c d e = ap MapErr (hex_tells p q a b (ap (drop 22) e))
 why_tells (MapErr p) (AccErr q j) a b c d e = absurd (apart 8 _ _ (λ x. omega (arith, x)) e)
 why_tells (AccErr p k) (Einval g) a b c d e = absurd (apart 3 _ _ (λ x. omega (arith, x)) e)
 why_tells (AccErr p k) (Enomem g) a b c d e = absurd (apart 3 _ _ (λ x. omega (arith, x)) e)
 why_tells (AccErr p k) (Eexist q) a b c d e = absurd (apart 3 _ _ (λ x. omega (arith, x)) e)
+why_tells (AccErr p k) (Eperm q) a b c d e = absurd (apart 3 _ _ (λ x. omega (arith, x)) e)
 why_tells (AccErr p k) (MapErr q) a b c d e = absurd (apart 8 _ _ (λ x. omega (arith, x)) e)
 why_tells (AccErr p k) (AccErr q j) a b c d e = let h =
-    cut 32 (hex_digits p) (hex_digits q) (kind_text k) (kind_text j) (hex_lacks 32 p a space_ends) (hex_lacks 32 q b space_ends)
+    cut 32 (hex_digits p) (hex_digits q) (log_kind k) (log_kind j) (hex_lacks 32 p a space_ends) (hex_lacks 32 q b space_ends)
     (acc_err p q k j e) in λ i. AccErr (hex_tells p q a b h.0 i) (kind_tells k j c d h.1 i)
 
 minus : (w : Why) → get_or (why_text w) 0 0 ≡ 45
 minus (Einval f) = refl
 minus (Enomem f) = refl
 minus (Eexist p) = refl
+minus (Eperm p) = refl
 minus (MapErr p) = refl
 minus (AccErr p k) = refl
 
@@ -547,8 +580,16 @@ module _ (b : ℕ) (no_digit : 16 ≤ worth b) (no_word : lacks b reply_bytes �
   pub kind_lacks : (k : Kind) → lacks b (kind_text k) ≡ true
   kind_lacks k = lacks_used b reply_bytes (kind_text k) no_word (kind_uses k)
 
+  seal_lacks : (sealed : Bool) → lacks b (if sealed then codes " sealed" else []) ≡ true
+  seal_lacks true = lacks_used b reply_bytes (codes " sealed") no_word refl
+  seal_lacks false = refl
+
+  -- a kind in a log lacks it too
+  log_kind_lacks : (k : Kind) → lacks b (log_kind k) ≡ true
+  log_kind_lacks k = lacks_both b (kind_text k) (if k.sealed then codes " sealed" else []) (kind_lacks k) (seal_lacks k.sealed)
+
   abbrev with_kind : Clean b → (k : Kind) → Clean b
-  with_kind first k = onto first (kind_text k) (kind_lacks k)
+  with_kind first k = onto first (log_kind k) (log_kind_lacks k)
 
   abbrev with_page : Clean b → (n : ℕ) → n < 2 ^ 64 → Clean b
   with_page first n small = onto first (prefixed_hex n) (lacks_both b (codes "0x") (hex_digits n)
@@ -571,6 +612,7 @@ module _ (b : ℕ) (no_digit : 16 ≤ worth b) (no_word : lacks b reply_bytes �
   why_lacks (Einval End) a = (said (why_text (Einval End)) refl).lacks_it
   why_lacks (Enomem s) a = (onto (said (codes "-1 ENOMEM ") refl) (short_text s) (short_lacks s a)).lacks_it
   why_lacks (Eexist p) a = (with_page (said (codes "-1 EEXIST page ") refl) p a).lacks_it
+  why_lacks (Eperm p) a = (with_page (said (codes "-1 EPERM page ") refl) p a).lacks_it
   why_lacks (MapErr p) a = (with_page (said (codes "-1 SEGV_MAPERR page ") refl) p a).lacks_it
   why_lacks (AccErr p k) a =
       let page = with_page (said (codes "-1 SEGV_ACCERR page ") refl) p a in

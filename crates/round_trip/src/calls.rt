@@ -33,6 +33,10 @@ pub fn reads_back(call: Call)
             addr,
             access: _access,
         } => in_range(addr, addr),
+        Call::Seal { addr, len, flags } => {
+            in_range(addr, len);
+            in_range(flags, flags);
+        }
     }
 }
 

@@ -47,6 +47,10 @@ fn fits_call(call: Call)
         Call::Unmap { addr, len } => in_range(addr, len),
         Call::Protect { addr, len, .. } => in_range(addr, len),
         Call::Fault { addr, .. } => in_range(addr, addr),
+        Call::Seal { addr, len, flags } => {
+            in_range(addr, len);
+            in_range(flags, flags);
+        }
     }
 }
 
@@ -64,7 +68,9 @@ fn fits_reply(reply: Reply)
                 }
                 Short::Rows(rows) => in_range(rows as u64, rows as u64),
             },
-            Why::Eexist(page) | Why::MapErr(page) | Why::AccErr(page, _) => in_range(page, page),
+            Why::Eexist(page) | Why::Eperm(page) | Why::MapErr(page) | Why::AccErr(page, _) => {
+                in_range(page, page)
+            }
         },
     }
 }

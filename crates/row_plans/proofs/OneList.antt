@@ -9,19 +9,28 @@ use Rattle.row_plans.specs.RowWords.{row_start, row_kind, kind_bits, row_word}
 use Rattle.row_plans.specs.RowLists.{rows_start, ShowFrom, IsBareGap}
 use Rattle.row_plans.proofs.RowLists.{starts_low}
 
--- the kind that the low five bits say, as two tests of them
-abbrev low_kind : ℕ → Bool → Bool → Option Kind
-low_kind word mapped shared = cond mapped (Some (record { prot = record { 0 = word % 8 }; shared = shared })) None
+-- the kind that the low six bits say, as three tests of them
+abbrev low_kind : ℕ → Bool → Bool → Bool → Option Kind
+low_kind word mapped sealed shared =
+    cond mapped (Some (record { prot = record { 0 = word % 8 }; shared = shared; sealed = sealed })) None
 
-low_bits : (word : ℕ) (mapped shared : Bool) → eqb (word / 16 % 2) 1 ≡ mapped → eqb (word / 8 % 2) 1 ≡ shared
-    → (low_kind word mapped shared ≡ None → ⊥) → kind_bits (low_kind word mapped shared) ≡ word % 32
-low_bits word true true m s some_kind = let a = eqb-true (word / 16 % 2) 1 m in let b = eqb-true (word / 8 % 2) 1 s in omega arith
-low_bits word true false m s some_kind = let a = eqb-true (word / 16 % 2) 1 m in let b = eqb-false (word / 8 % 2) 1 s in omega arith
-low_bits word false shared m s some_kind = absurd (some_kind refl)
+low_bits : (word : ℕ) (mapped sealed shared : Bool) → eqb (word / 32 % 2) 1 ≡ mapped → eqb (word / 16 % 2) 1 ≡ sealed
+    → eqb (word / 8 % 2) 1 ≡ shared → (low_kind word mapped sealed shared ≡ None → ⊥)
+    → kind_bits (low_kind word mapped sealed shared) ≡ word % 64
+low_bits word true true true m e s some_kind =
+    let a = eqb-true (word / 32 % 2) 1 m in let b = eqb-true (word / 16 % 2) 1 e in let c = eqb-true (word / 8 % 2) 1 s in omega arith
+low_bits word true true false m e s some_kind =
+    let a = eqb-true (word / 32 % 2) 1 m in let b = eqb-true (word / 16 % 2) 1 e in let c = eqb-false (word / 8 % 2) 1 s in omega arith
+low_bits word true false true m e s some_kind =
+    let a = eqb-true (word / 32 % 2) 1 m in let b = eqb-false (word / 16 % 2) 1 e in let c = eqb-true (word / 8 % 2) 1 s in omega arith
+low_bits word true false false m e s some_kind =
+    let a = eqb-true (word / 32 % 2) 1 m in let b = eqb-false (word / 16 % 2) 1 e in let c = eqb-false (word / 8 % 2) 1 s in omega arith
+low_bits word false sealed shared m e s some_kind = absurd (some_kind refl)
 
--- a row's kind says the low five bits of its word, unless it is a gap
-bits_said : (word : ℕ) → (row_kind word ≡ None → ⊥) → kind_bits (row_kind word) ≡ word % 32
-bits_said word some_kind = low_bits word (eqb (word / 16 % 2) 1) (eqb (word / 8 % 2) 1) refl refl some_kind
+-- a row's kind says the low six bits of its word, unless it is a gap
+bits_said : (word : ℕ) → (row_kind word ≡ None → ⊥) → kind_bits (row_kind word) ≡ word % 64
+bits_said word some_kind =
+    low_bits word (eqb (word / 32 % 2) 1) (eqb (word / 16 % 2) 1) (eqb (word / 8 % 2) 1) refl refl refl some_kind
 
 none_or : (o : Option Kind) → (P : Type 0) → (o ≡ None → P) → ((o ≡ None → ⊥) → P) → P
 none_or None P gap area = gap refl

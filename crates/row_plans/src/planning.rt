@@ -84,6 +84,13 @@ fn painted(paint: Paint, kind: Option<Kind>) -> Option<Kind>
             Some(old) => Some(Kind { prot, ..old }),
             None => None,
         },
+        Paint::Seals => match kind {
+            Some(old) => Some(Kind {
+                sealed: true,
+                ..old
+            }),
+            None => None,
+        },
     }
 }
 

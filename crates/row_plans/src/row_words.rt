@@ -14,11 +14,12 @@ pub fn read_row(word: u64) -> (u64, Option<Kind>)
     ensures kind { result.1 ≡ row_kind word }
     ensures named { IsNamedOption result.1 }
 {
-    let start = word / 32;
-    if word / 16 % 2 == 1 {
+    let start = word / 64;
+    if word / 32 % 2 == 1 {
         let kind = Kind {
             prot: Prot::from_bits_retain((word % 8) as u8),
             shared: word / 8 % 2 == 1,
+            sealed: word / 16 % 2 == 1,
         };
         (start, Some(kind))
     } else {
@@ -37,9 +38,10 @@ pub fn write_row(start: u64, kind: Option<Kind>) -> u64
     let bits = match kind {
         Some(kind) => {
             let shared = if kind.shared { 8 } else { 0 };
-            16 + shared + kind.prot.bits()
+            let sealed = if kind.sealed { 16 } else { 0 };
+            32 + sealed + shared + kind.prot.bits()
         }
         None => 0,
     };
-    start * 32 + bits as u64
+    start * 64 + bits as u64
 }

@@ -41,7 +41,7 @@ fn is_named(paint: Paint) -> bool
 {
     match paint {
         Paint::Gives(Some(kind)) => kind.is_named(),
-        Paint::Gives(None) => true,
+        Paint::Gives(None) | Paint::Seals => true,
         Paint::Protects(prot) => prot.is_named(),
     }
 }
@@ -87,6 +87,7 @@ fn kind(prot: Prot) -> Option<Kind> {
     Some(Kind {
         prot,
         shared: false,
+        sealed: false,
     })
 }
 

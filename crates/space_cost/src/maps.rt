@@ -4,7 +4,7 @@
 ghost use Rattle.std.specs.Prelude.{◌<◌};
 
 use page_types::{Access, Call, Kind, PAGE, Prot, Reply, Short, Span, Why, plain};
-use space_model::{Area, access_reply, mapped_kind};
+use space_model::{Area, Sort, access_reply, is_sort, mapped_kind};
 use std::alloc::{AllocFailed, Global};
 use std::collections::BTreeMap;
 
@@ -46,6 +46,9 @@ pub fn answered(areas: &mut AreaMap, call: &Call) -> Result<Reply, NoRoom> {
             flags,
         } => match Span::of(addr, len) {
             Ok(span) => {
+                if let Some(page) = lowest(areas, Sort::Sealed, span.lo, span.hi) {
+                    return Ok(Reply::Refused(Why::Eperm(page)));
+                }
                 paint(
                     areas,
                     Area {
@@ -60,13 +63,20 @@ pub fn answered(areas: &mut AreaMap, call: &Call) -> Result<Reply, NoRoom> {
         },
         Call::Unmap { addr, len } => match Span::of(addr, len) {
             Ok(span) => {
+                if let Some(page) = lowest(areas, Sort::Sealed, span.lo, span.hi) {
+                    return Ok(Reply::Refused(Why::Eperm(page)));
+                }
                 cut(areas, span.lo, span.hi)?;
                 Ok(Reply::Zero)
             }
             Err(field) => Ok(Reply::Refused(Why::Einval(field))),
         },
         Call::Protect { addr, len, prot } => match Span::of(addr, len) {
-            Ok(span) => protected(areas, span.lo, span.hi, prot),
+            Ok(span) => repainted(areas, span.lo, span.hi, Some(prot)),
+            Err(field) => Ok(Reply::Refused(Why::Einval(field))),
+        },
+        Call::Seal { addr, len, .. } => match Span::of(addr, len) {
+            Ok(span) => repainted(areas, span.lo, span.hi, None),
             Err(field) => Ok(Reply::Refused(Why::Einval(field))),
         },
         Call::Fault { addr, access } => Ok(found(areas, addr, access)),
@@ -85,15 +95,24 @@ fn holding(areas: &AreaMap, page: u64) -> Option<Area> {
     if page < area.hi { Some(*area) } else { None }
 }
 
-/// The lowest page of those from `lo` up to `hi` that is in no area.
-fn lowest_missing(areas: &AreaMap, lo: u64, hi: u64) -> Option<u64> {
+/// The lowest page of a sort of those from `lo` up to `hi`.
+fn lowest(areas: &AreaMap, sort: Sort, lo: u64, hi: u64) -> Option<u64> {
     let mut at = lo;
     for _ in lo..hi {
-        match holding(areas, at) {
-            Some(area) if hi <= area.hi => return None,
-            Some(area) => at = area.hi,
-            None => return Some(at),
+        let (kind, end) = match holding(areas, at) {
+            Some(area) => (Some(area.kind), area.hi),
+            None => match areas.range(at..).next() {
+                Some((after, _)) => (None, *after),
+                None => (None, hi),
+            },
+        };
+        if is_sort(sort, kind) {
+            return Some(at);
         }
+        if hi <= end {
+            break;
+        }
+        at = end;
     }
     None
 }
@@ -139,10 +158,16 @@ fn paint(areas: &mut AreaMap, area: Area) -> Result<(), NoRoom> {
     Ok(())
 }
 
-/// Gives the pages from `lo` up to `hi` a protection, if all are mapped.
-fn protected(areas: &mut AreaMap, lo: u64, hi: u64, prot: Prot) -> Result<Reply, NoRoom> {
-    if let Some(page) = lowest_missing(areas, lo, hi) {
+/// Gives the pages from `lo` up to `hi` a protection, if none is sealed, or seals them where no protection is given;
+/// all have to be mapped.
+fn repainted(areas: &mut AreaMap, lo: u64, hi: u64, prot: Option<Prot>) -> Result<Reply, NoRoom> {
+    if let Some(page) = lowest(areas, Sort::Missing, lo, hi) {
         return Ok(Reply::Refused(Why::Enomem(Short::Missing(page))));
+    }
+    if prot.is_some() {
+        if let Some(page) = lowest(areas, Sort::Sealed, lo, hi) {
+            return Ok(Reply::Refused(Why::Eperm(page)));
+        }
     }
     let mut at = lo;
     for _ in lo..hi {
@@ -150,7 +175,13 @@ fn protected(areas: &mut AreaMap, lo: u64, hi: u64, prot: Prot) -> Result<Reply,
             break;
         };
         let end = area.hi.min(hi);
-        let kind = Kind { prot, ..area.kind };
+        let kind = match prot {
+            Some(prot) => Kind { prot, ..area.kind },
+            None => Kind {
+                sealed: true,
+                ..area.kind
+            },
+        };
         if kind != area.kind {
             paint(
                 areas,

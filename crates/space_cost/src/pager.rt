@@ -379,6 +379,7 @@ fn add(list: &mut Vec<Area>, lo: u64, pages: u64, prot: Prot) -> Result<(), Allo
         kind: Kind {
             prot,
             shared: false,
+            sealed: false,
         },
     })?;
     Ok(())

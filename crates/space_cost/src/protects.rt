@@ -54,6 +54,7 @@ pub fn own_areas(alloc: Global) -> Result<Vec<Area>, AllocError> {
             kind: Kind {
                 prot: Prot::READ,
                 shared: false,
+                sealed: false,
             },
         })?;
     }

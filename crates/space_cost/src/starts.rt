@@ -19,6 +19,7 @@ pub fn single_pages(alloc: Global, count: u32) -> Result<Vec<Area>, AllocError> 
             kind: Kind {
                 prot: Prot::READ,
                 shared: false,
+                sealed: false,
             },
         })?;
     }
@@ -40,6 +41,7 @@ pub fn spaced_areas(alloc: Global, rows: u32) -> Result<(Vec<Area>, u64), AllocE
             kind: Kind {
                 prot: Prot::READ,
                 shared: false,
+                sealed: false,
             },
         })?;
     }

@@ -6,7 +6,7 @@ use Rattle.std.proofs.lemmas.Bool.{cases_lt, lt-leb}
 use Rattle.page_types.specs.declared.TheConstants.{LIMIT}
 use Rattle.page_types.specs.declared.calls.Kind.{Kind}
 use Rattle.page_types.specs.declared.calls.Call.{Call}
-use Rattle.page_types.specs.declared.calls.Call.TheVariants.{Map, Unmap, Protect, Fault}
+use Rattle.page_types.specs.declared.calls.Call.TheVariants.{Map, Unmap, Protect, Fault, Seal}
 use Rattle.page_types.specs.declared.calls.Reply.{Reply}
 use Rattle.page_types.specs.declared.calls.Reply.TheVariants.{At, Zero, Granted, Refused}
 use Rattle.page_types.specs.declared.calls.Why.{Why}
@@ -21,7 +21,7 @@ use Rattle.page_types.specs.Sets.{is_fixed, has_one_sharing}
 use Rattle.page_types.specs.PlainReply.{first_that_applies, fault_reply, plain_reply}
 use Rattle.space_model.specs.declared.areas.Area.{Area}
 use Rattle.space_model.specs.declared.paint.Paint.TheVariants.{Gives}
-use Rattle.space_model.specs.declared.sorts.Sort.TheVariants.{Mapped, Missing}
+use Rattle.space_model.specs.declared.sorts.Sort.TheVariants.{Mapped, Missing, Sealed}
 use Rattle.space_model.specs.Areas.{IsAreaList, kind_at, row_count}
 use Rattle.space_model.specs.Effect.{mapped_kind, patch, patched}
 use Rattle.space_model.specs.Sorts.{Bar, IsBarred}
@@ -76,6 +76,13 @@ plain_not_rows (Protect addr len prot) n =
     (nat_lt LIMIT (end_page addr len), Refused (Enomem (PastEnd (end_page addr len)))) ∷ [])
     (λ d. cc, (λ d. cc, (λ d. cc, tt)))
 plain_not_rows (Fault addr access) n = fault_not (Refused (Enomem (Rows n))) addr (λ d. cc)
+plain_not_rows (Seal addr len flags) n =
+    first_not (Refused (Enomem (Rows n)))
+    ((not (is_aligned addr), Refused (Einval Addr)) ∷
+    (len == 0, Zero) ∷
+    (not (flags == 0), Refused (Einval Flags)) ∷
+    (nat_lt LIMIT (end_page addr len), Refused (Enomem (PastEnd (end_page addr len)))) ∷ [])
+    (λ d. cc, (λ d. cc, (λ d. cc, (λ d. cc, tt))))
 
 -- nor is a refusal by the state
 state_not_rows : (kinds : ℕ → Option Kind) (c : Call) (why : Why) (n : ℕ) → RefusesByState kinds c why → why ≢ Enomem (Rows n)
@@ -85,6 +92,7 @@ state_not_rows kinds c why n (inl r) d = barred (bars c) r
     barred [] r = r
     barred (bar Mapped lo hi ∷ rest) (inl (p, l, e)) = cc
     barred (bar Missing lo hi ∷ rest) (inl (p, l, e)) = cc
+    barred (bar Sealed lo hi ∷ rest) (inl (p, l, e)) = cc
     barred (bar sort lo hi ∷ rest) (inr (m, r)) = barred rest r
 state_not_rows kinds c why n (inr (clear, r)) d = unplaced c r
   where
@@ -93,12 +101,14 @@ state_not_rows kinds c why n (inr (clear, r)) d = unplaced c r
     unplaced (Unmap addr len) r = r
     unplaced (Protect addr len prot) r = r
     unplaced (Fault addr access) r = r
+    unplaced (Seal addr len flags) r = r
 
 -- nor a reply that changes nothing
 kept_not_rows : (kinds : ℕ → Option Kind) (c : Call) (n : ℕ) → Does kinds c (keeps (Refused (Enomem (Rows n)))) → ⊥
 kept_not_rows kinds (Map addr len prot flags) n (start, s, d) = cc
 kept_not_rows kinds (Unmap addr len) n d = cc
 kept_not_rows kinds (Protect addr len prot) n d = cc
+kept_not_rows kinds (Seal addr len flags) n d = cc
 kept_not_rows kinds (Fault addr access) n (r, h, d) = fault (kinds (page_of addr)) h cc
   where
     fault : (o : Option Kind) → AnswersFault o (page_of addr) access r → r ≢ Refused (Enomem (Rows n))

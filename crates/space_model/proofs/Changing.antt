@@ -9,7 +9,7 @@ use Rattle.page_types.specs.declared.sets.Prot.{Prot}
 use Rattle.space_model.specs.declared.areas.Area.{Area}
 use Rattle.space_model.specs.Areas.{is_within, IsInRange, IsAreaList, IsInOrder, HasKinds, kind_at}
 use Rattle.space_model.specs.declared.paint.Paint.{Paint}
-use Rattle.space_model.specs.declared.paint.Paint.TheVariants.{Gives, Protects}
+use Rattle.space_model.specs.declared.paint.Paint.TheVariants.{Gives, Protects, Seals}
 use Rattle.space_model.specs.declared.paint.Patch.{Patch}
 use Rattle.space_model.specs.Effect.{painted, with_patch, patched, AreRising}
 use Rattle.space_model.specs.Building.{repainted, part_of, parts, join_all, pieces_at, with_next, changed_from, changed_list}
@@ -18,31 +18,31 @@ use Rattle.space_model.proofs.AreaKinds.{kind_at-here, kind_at-before, kind_at-a
 use Rattle.space_model.proofs.AreaKinds.Side.{before, inside, after}
 use Rattle.space_model.proofs.Joining.{first_of, first_of-none, IsFreeFrom, join_all-kinds}
 
-parts-some : (from to : ℕ) (prot : Option Prot) (a : Area) (rest : List Area) → max a.lo from < min a.hi to →
-    parts from to prot (a ∷ rest) ≡ part_of from to prot a ∷ parts from to prot rest
-parts-some from to prot a rest l =
-    ap (λ t. if t then part_of from to prot a ∷ parts from to prot rest else parts from to prot rest) (lt-ltb _ _ l)
+parts-some : (from to : ℕ) (paint : Option Paint) (a : Area) (rest : List Area) → max a.lo from < min a.hi to →
+    parts from to paint (a ∷ rest) ≡ part_of from to paint a ∷ parts from to paint rest
+parts-some from to paint a rest l =
+    ap (λ t. if t then part_of from to paint a ∷ parts from to paint rest else parts from to paint rest) (lt-ltb _ _ l)
 
-parts-none : (from to : ℕ) (prot : Option Prot) (a : Area) (rest : List Area) → min a.hi to ≤ max a.lo from →
-    parts from to prot (a ∷ rest) ≡ parts from to prot rest
-parts-none from to prot a rest l =
-    ap (λ t. if t then part_of from to prot a ∷ parts from to prot rest else parts from to prot rest) (le-ltb _ _ l)
+parts-none : (from to : ℕ) (paint : Option Paint) (a : Area) (rest : List Area) → min a.hi to ≤ max a.lo from →
+    parts from to paint (a ∷ rest) ≡ parts from to paint rest
+parts-none from to paint a rest l =
+    ap (λ t. if t then part_of from to paint a ∷ parts from to paint rest else parts from to paint rest) (le-ltb _ _ l)
 
 -- the parts of an area list are pieces in order
-pub parts-pieces : (from to : ℕ) (prot : Option Prot) (A : List Area) (e low : ℕ) →
-    IsAreaList A → IsAbove e A → low ≤ max e from → IsInOrder low (parts from to prot A)
-parts-pieces from to prot [] e low w above l = tt
-parts-pieces from to prot (a ∷ rest) e low w above l =
+pub parts-pieces : (from to : ℕ) (paint : Option Paint) (A : List Area) (e low : ℕ) →
+    IsAreaList A → IsAbove e A → low ≤ max e from → IsInOrder low (parts from to paint A)
+parts-pieces from to paint [] e low w above l = tt
+parts-pieces from to paint (a ∷ rest) e low w above l =
     let n : a.lo < a.hi = w.0.has_page in
     elim (cases_lt (max a.lo from) (min a.hi to)) [
       | inl lt ↦
-          let range : IsInRange (part_of from to prot a) =
+          let range : IsInRange (part_of from to paint a) =
           record { has_page = lt; below_limit = omega (arith, w.0.below_limit) } in
-          let more = parts-pieces from to prot rest a.hi (min a.hi to) w.2 (LeadsTo-above a rest w.1) (omega arith) in
-          subst (IsInOrder low) (sym (parts-some from to prot a rest lt)) (omega (arith, above), range, more)
+          let more = parts-pieces from to paint rest a.hi (min a.hi to) w.2 (LeadsTo-above a rest w.1) (omega arith) in
+          subst (IsInOrder low) (sym (parts-some from to paint a rest lt)) (omega (arith, above), range, more)
       | inr ge ↦
-          subst (IsInOrder low) (sym (parts-none from to prot a rest ge))
-          (parts-pieces from to prot rest a.hi low w.2 (LeadsTo-above a rest w.1) (omega (arith, above)))
+          subst (IsInOrder low) (sym (parts-none from to paint a rest ge))
+          (parts-pieces from to paint rest a.hi low w.2 (LeadsTo-above a rest w.1) (omega (arith, above)))
     ]
 
 -- a choice by whether a page lies within a span
@@ -58,47 +58,47 @@ pub within-after : {A : Type 0} (lo hi p : ℕ) (x y : A) → hi ≤ p → (if i
 within-after lo hi p x y l = grind (arith, nat_tests)
 
 -- a page outside an area's part has the kind that the other parts give it
-parts-skip : (from to : ℕ) (prot : Option Prot) (a : Area) (rest : List Area) (p : ℕ) →
-    (p < max a.lo from) ⊎ (min a.hi to ≤ p) → kind_at (parts from to prot (a ∷ rest)) p ≡ kind_at (parts from to prot rest) p
-parts-skip from to prot a rest p out =
+parts-skip : (from to : ℕ) (paint : Option Paint) (a : Area) (rest : List Area) (p : ℕ) →
+    (p < max a.lo from) ⊎ (min a.hi to ≤ p) → kind_at (parts from to paint (a ∷ rest)) p ≡ kind_at (parts from to paint rest) p
+parts-skip from to paint a rest p out =
     elim (cases_lt (max a.lo from) (min a.hi to)) [
       | inl lt ↦
-          ap (λ list. kind_at list p) (parts-some from to prot a rest lt) ∙
+          ap (λ list. kind_at list p) (parts-some from to paint a rest lt) ∙
           elim out [
-            | inl l ↦ kind_at-before (part_of from to prot a) (parts from to prot rest) p l
-            | inr g ↦ kind_at-after (part_of from to prot a) (parts from to prot rest) p g
+            | inl l ↦ kind_at-before (part_of from to paint a) (parts from to paint rest) p l
+            | inr g ↦ kind_at-after (part_of from to paint a) (parts from to paint rest) p g
           ]
-      | inr ge ↦ ap (λ list. kind_at list p) (parts-none from to prot a rest ge)
+      | inr ge ↦ ap (λ list. kind_at list p) (parts-none from to paint a rest ge)
     ]
 
 -- the kinds of the parts are those of the pages, repainted
-pub parts-inside : (from to : ℕ) (prot : Option Prot) (A : List Area) (p : ℕ) → from ≤ p → p < to →
-    kind_at (parts from to prot A) p ≡ option_map (repainted prot) (kind_at A p)
-parts-inside from to prot [] p l h = refl
-parts-inside from to prot (a ∷ rest) p l h =
-    let more = parts-inside from to prot rest p l h in
+pub parts-inside : (from to : ℕ) (paint : Option Paint) (A : List Area) (p : ℕ) → from ≤ p → p < to →
+    kind_at (parts from to paint A) p ≡ option_map (repainted paint) (kind_at A p)
+parts-inside from to paint [] p l h = refl
+parts-inside from to paint (a ∷ rest) p l h =
+    let more = parts-inside from to paint rest p l h in
     elim (side_of a.lo a.hi p) [
       | before below ↦
-          parts-skip from to prot a rest p (inl (omega arith)) ∙ more ∙
-          ap (option_map (repainted prot)) (sym (kind_at-before a rest p below))
+          parts-skip from to paint a rest p (inl (omega arith)) ∙ more ∙
+          ap (option_map (repainted paint)) (sym (kind_at-before a rest p below))
       | inside low high ↦
-          ap (λ list. kind_at list p) (parts-some from to prot a rest (omega arith)) ∙
-          kind_at-here (part_of from to prot a) (parts from to prot rest) p (omega arith) (omega arith) ∙
-          ap (option_map (repainted prot)) (sym (kind_at-here a rest p low high))
+          ap (λ list. kind_at list p) (parts-some from to paint a rest (omega arith)) ∙
+          kind_at-here (part_of from to paint a) (parts from to paint rest) p (omega arith) (omega arith) ∙
+          ap (option_map (repainted paint)) (sym (kind_at-here a rest p low high))
       | after above ↦
-          parts-skip from to prot a rest p (inr (omega arith)) ∙ more ∙
-          ap (option_map (repainted prot)) (sym (kind_at-after a rest p above))
+          parts-skip from to paint a rest p (inr (omega arith)) ∙ more ∙
+          ap (option_map (repainted paint)) (sym (kind_at-after a rest p above))
     ]
 
 -- outside of the pages from which the parts were taken, no page has a kind
-pub parts-outside : (from to : ℕ) (prot : Option Prot) (A : List Area) (p : ℕ) → (p < from) ⊎ (to ≤ p) →
-    kind_at (parts from to prot A) p ≡ None
-parts-outside from to prot [] p out = refl
-parts-outside from to prot (a ∷ rest) p out =
+pub parts-outside : (from to : ℕ) (paint : Option Paint) (A : List Area) (p : ℕ) → (p < from) ⊎ (to ≤ p) →
+    kind_at (parts from to paint A) p ≡ None
+parts-outside from to paint [] p out = refl
+parts-outside from to paint (a ∷ rest) p out =
     let away : (p < max a.lo from) ⊎ (min a.hi to ≤ p) = elim out [ inl l ↦ inl (omega arith) | inr g ↦ inr (omega arith) ] in
-    parts-skip from to prot a rest p away ∙ parts-outside from to prot rest p out
+    parts-skip from to paint a rest p away ∙ parts-outside from to paint rest p out
 
--- with no new protection nothing changes
+-- with no paint nothing changes
 option_map-repainted : (o : Option Kind) → option_map (repainted None) o ≡ o
 option_map-repainted None = refl
 option_map-repainted (Some k) = refl
@@ -115,9 +115,13 @@ record PiecesAt (A : List Area) (lo hi : ℕ) (paint : Paint) : Type 0 where
   inside_are : (p : ℕ) → lo ≤ p → p < hi → kind_at (pieces_at A lo hi paint) p ≡ painted paint (kind_at A p)
   outside_are : (p : ℕ) → (p < lo) ⊎ (hi ≤ p) → kind_at (pieces_at A lo hi paint) p ≡ None
 
-protected_painted : (prot : Prot) (o : Option Kind) → option_map (repainted (Some prot)) o ≡ painted (Protects prot) o
+protected_painted : (prot : Prot) (o : Option Kind) → option_map (repainted (Some (Protects prot))) o ≡ painted (Protects prot) o
 protected_painted prot None = refl
 protected_painted prot (Some k) = refl
+
+sealed_painted : (o : Option Kind) → option_map (repainted (Some Seals)) o ≡ painted Seals o
+sealed_painted None = refl
+sealed_painted (Some k) = refl
 
 piece_at : (A : List Area) (lo hi : ℕ) (kind : Kind) → lo ≤ hi → hi ≤ LIMIT → PiecesAt A lo hi (Gives (Some kind))
 piece_at A lo hi kind l h =
@@ -147,9 +151,15 @@ pieces_at-kinds A lo hi (Gives None) w l h =
 pieces_at-kinds A lo hi (Gives (Some kind)) w l h = piece_at A lo hi kind l h
 pieces_at-kinds A lo hi (Protects prot) w l h =
     record {
-      pieces = parts-pieces lo hi (Some prot) A 0 lo w (above_zero A) (omega arith);
-      inside_are = λ p low high. parts-inside lo hi (Some prot) A p low high ∙ protected_painted prot (kind_at A p);
-      outside_are = λ p out. parts-outside lo hi (Some prot) A p out;
+      pieces = parts-pieces lo hi (Some (Protects prot)) A 0 lo w (above_zero A) (omega arith);
+      inside_are = λ p low high. parts-inside lo hi (Some (Protects prot)) A p low high ∙ protected_painted prot (kind_at A p);
+      outside_are = λ p out. parts-outside lo hi (Some (Protects prot)) A p out;
+    }
+pieces_at-kinds A lo hi Seals w l h =
+    record {
+      pieces = parts-pieces lo hi (Some Seals) A 0 lo w (above_zero A) (omega arith);
+      inside_are = λ p low high. parts-inside lo hi (Some Seals) A p low high ∙ sealed_painted (kind_at A p);
+      outside_are = λ p out. parts-outside lo hi (Some Seals) A p out;
     }
 
 -- what patches make of a page's kind hangs on that kind alone

@@ -4,7 +4,7 @@ use Rattle.std.proofs.Common.{◌≡◌, ℕ, ◌+◌, ◌*◌, inl, inr, List, 
 use Rattle.std.proofs.lemmas.Bool.{cases_order, true≢false}
 use Rattle.page_types.specs.declared.calls.Kind.{Kind}
 use Rattle.page_types.specs.declared.calls.Call.{Call}
-use Rattle.page_types.specs.declared.calls.Call.TheVariants.{Map, Unmap, Protect, Fault}
+use Rattle.page_types.specs.declared.calls.Call.TheVariants.{Map, Unmap, Protect, Fault, Seal}
 use Rattle.page_types.specs.declared.calls.Reply.{Reply}
 use Rattle.page_types.specs.declared.calls.Reply.TheVariants.{At}
 use Rattle.page_types.specs.declared.calls.Why.{Why}
@@ -71,12 +71,14 @@ module _ (kinds : ℕ → Option Kind) where
   no_place_one (Unmap addr len) why because r s = absurd r
   no_place_one (Protect addr len prot) why because r s = absurd r
   no_place_one (Fault addr access) why because r s = absurd r
+  no_place_one (Seal addr len flags) why because r s = absurd r
 
   no_place_or_done : (c : Call) (why : Why) (e : Effect) → FindsNoPlace kinds c why → Does kinds c e → ⊥
   no_place_or_done (Map addr len prot flags) why e r (p, s, d) = place_or_none (page_count len) (map_places flags (page_of addr)) p r.0 s
   no_place_or_done (Unmap addr len) why e r d = r
   no_place_or_done (Protect addr len prot) why e r d = r
   no_place_or_done (Fault addr access) why e r d = r
+  no_place_or_done (Seal addr len flags) why e r d = r
 
   -- a call is refused with one reason
   pub refusal_one : (c : Call) (why because : Why) → RefusesByState kinds c why → RefusesByState kinds c because → why ≡ because
@@ -96,6 +98,7 @@ module _ (kinds : ℕ → Option Kind) where
       (starts_one (page_count len) (map_places flags (page_of addr)) s t p q) ∙ sym b
   does_one (Unmap addr len) e f a b = a ∙ sym b
   does_one (Protect addr len prot) e f a b = a ∙ sym b
+  does_one (Seal addr len flags) e f a b = a ∙ sym b
   does_one (Fault addr access) e f (r, p, a) (s, q, b) =
       a ∙ ap (λ x. keeps x) (fault_one (kinds (page_of addr)) r s p q) ∙ sym b
     where

@@ -5,12 +5,13 @@ use Rattle.std.proofs.lemmas.Bool.{cases_lt, cases_Bool}
 use Rattle.page_types.specs.declared.calls.Kind.{Kind}
 use Rattle.page_types.specs.declared.sets.Prot.{Prot}
 use Rattle.page_types.specs.Pages.{page_of, end_page}
+use Rattle.page_types.specs.PlainReply.{protect_reply}
 use Rattle.page_types.proofs.Undecided.{protect-length, protect-end}
 use Rattle.space_model.specs.declared.areas.Area.{Area}
 use Rattle.space_model.specs.Areas.{IsAreaList, kind_at}
 use Rattle.space_model.specs.Effect.{protected_kind}
 use Rattle.space_model.specs.Held.{LiesIn, kind_before}
-use Rattle.space_model.specs.Starts.{same_option, count_if, border}
+use Rattle.space_model.specs.Starts.{same_option, count_if, border, KeepsRows}
 use Rattle.space_model.specs.Laws.{FourCases, SimpleInFourCases, SimpleKeepsRows}
 use Rattle.space_model.specs.Laws.FourCases.{nothing, whole, first_part, last_part}
 use Rattle.space_model.proofs.AreaKinds.{kind_at-here, kind_at-after, kind_at-below, kind_at-end, LeadsTo-above}
@@ -186,7 +187,16 @@ module _ (A : List Area) (a : Area) (lo hi : ℕ) (w : IsAreaList A) (lies : Lie
 has_pages : (addr len : ℕ) → len ≢ 0 → page_of addr < end_page addr len
 has_pages addr len n = omega arith
 
--- a Protect within an area is simple exactly in the four cases
+-- each of the four ways keeps the rows
+pub rows_of_way : (A : List Area) (a : Area) (addr len : ℕ) (prot : Prot) → IsAreaList A → protect_reply addr len ≡ None →
+    LiesIn A a (page_of addr) (end_page addr len) → FourCases A a (page_of addr) (end_page addr len) (protected_kind prot a.kind) →
+    KeepsRows (kind_before A (page_of addr)) a.kind (protected_kind prot a.kind) (kind_at A (end_page addr len))
+unfolding Borders
+rows_of_way A a addr len prot w undecided lies way =
+    four_to A a (page_of addr) (end_page addr len) w lies (has_pages addr len (protect-length addr len undecided))
+    (protected_kind prot a.kind) way
+
+-- a Protect within an area is simple exactly where the area is sealed, and in the four cases
 pub four_ways : (A : List Area) (a : Area) (addr len : ℕ) (prot : Prot) → IsAreaList A → SimpleInFourCases A a addr len prot
 unfolding Borders
 four_ways A a addr len prot w undecided lies =
@@ -194,14 +204,20 @@ four_ways A a addr len prot w undecided lies =
     let h = protect-end addr len undecided in
     let kind = protected_kind prot a.kind in (
       λ s.
-          four_from A a (page_of addr) (end_page addr len) w lies l kind
-          (simple_borders A addr len prot (page_of addr) (end_page addr len) a refl refl w lies l (a, s)),
+          elim (simple_borders A addr len prot (page_of addr) (end_page addr len) a refl refl w lies l (a, s)) [
+            | inl sealed ↦ inl sealed
+            | inr b ↦ inr (four_from A a (page_of addr) (end_page addr len) w lies l kind b)
+          ],
       λ f.
-          simple_in A addr len prot (page_of addr) (end_page addr len) a refl refl w lies l h
-          (four_to A a (page_of addr) (end_page addr len) w lies l kind f),
+          elim f [
+            | inl sealed ↦ simple_in A addr len prot (page_of addr) (end_page addr len) a refl refl w lies l h (inl sealed)
+            | inr way ↦
+                simple_in A addr len prot (page_of addr) (end_page addr len) a refl refl w lies l h
+                (inr (four_to A a (page_of addr) (end_page addr len) w lies l kind way))
+          ],
     )
 
--- and exactly where its change of kinds keeps the rows at its ends
+-- and exactly where the area is sealed or the change of kinds keeps the rows at its ends
 pub keeps_rows : (A : List Area) (a : Area) (addr len : ℕ) (prot : Prot) → IsAreaList A → SimpleKeepsRows A a addr len prot
 keeps_rows A a addr len prot w undecided lies =
     let l = has_pages addr len (protect-length addr len undecided) in

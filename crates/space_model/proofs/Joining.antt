@@ -1,6 +1,6 @@
 -- Lists put together in order have the kinds of their parts.
 use Rattle.std.proofs.Common.{◌≡◌, ℕ, ◌+◌, ◌<◌, ◌≤◌, length, inl, inr, Bool, true, false, if◌then◌else◌, List, [], ◌∷◌}
-use Rattle.std.proofs.Common.{◌++◌, Option, Some, None, nat_eq, max, sym, ◌∙◌, ap, subst, refl, arith, get_or, drop}
+use Rattle.std.proofs.Common.{◌++◌, ◌&&◌, Option, Some, None, nat_eq, max, sym, ◌∙◌, ap, subst, refl, arith, get_or, drop}
 use Rattle.std.proofs.Common.{drop-cons, add-one}
 use Rattle.std.proofs.lemmas.Bool.{cases_lt, cases_Bool, and_parts, and_from, eqb-true, eq-eqb, true≢false}
 use Rattle.std.proofs.lemmas.Bool.Decides.{nat_tests}
@@ -28,19 +28,22 @@ same_bool-same : (a : Bool) → same_bool a a ≡ true
 same_bool-same true = refl
 same_bool-same false = refl
 
-kind_of : ℕ → Bool → Kind
-kind_of n b = record { prot = record { 0 = n }; shared = b }
+kind_of : ℕ → Bool → Bool → Kind
+kind_of n b s = record { prot = record { 0 = n }; shared = b; sealed = s }
 
 -- kinds that the test calls equal are equal
 pub same_kind-true : (k m : Kind) → same_kind k m ≡ true → k ≡ m
 unfolding kind_of
 same_kind-true k m e =
-    let both : (nat_eq k.prot.0 m.prot.0 ≡ true) × (same_bool k.shared m.shared ≡ true) = and_parts _ _ e in
-    ap (λ n. kind_of n k.shared) (eqb-true _ _ both.0) ∙ ap (λ b. kind_of m.prot.0 b) (same_bool-true _ _ both.1)
+    let both : (nat_eq k.prot.0 m.prot.0 ≡ true) × ((same_bool k.shared m.shared && same_bool k.sealed m.sealed) ≡ true) = and_parts _ _ e in
+    let flags : (same_bool k.shared m.shared ≡ true) × (same_bool k.sealed m.sealed ≡ true) = and_parts _ _ both.1 in
+    ap (λ n. kind_of n k.shared k.sealed) (eqb-true _ _ both.0) ∙
+    ap (λ b. kind_of m.prot.0 b k.sealed) (same_bool-true _ _ flags.0) ∙
+    ap (λ b. kind_of m.prot.0 m.shared b) (same_bool-true _ _ flags.1)
 
 -- the test calls a kind equal to itself
 pub same_kind-same : (k : Kind) → same_kind k k ≡ true
-same_kind-same k = grind (arith, nat_tests, same_bool-same k.shared)
+same_kind-same k = grind (arith, nat_tests, same_bool-same k.shared, same_bool-same k.sealed)
 
 -- the first kind, or the second where there is none
 abbrev pub first_of : Option Kind → Option Kind → Option Kind

@@ -16,7 +16,7 @@ use Rattle.page_types.specs.Sets.{is_fixed, has_bits, flag_bits}
 use Rattle.space_model.specs.declared.areas.Area.{Area}
 use Rattle.space_model.specs.declared.judged.Change.{Change}
 use Rattle.space_model.specs.declared.judged.Judged.TheVariants.{Changes}
-use Rattle.space_model.specs.declared.sorts.Sort.TheVariants.{Mapped}
+use Rattle.space_model.specs.declared.sorts.Sort.TheVariants.{Mapped, Sealed}
 use Rattle.space_model.specs.Areas.{kind_at}
 use Rattle.space_model.specs.Sorts.{IsClear}
 use Rattle.space_model.specs.Sorts.Bar.{bar}
@@ -28,7 +28,8 @@ use Rattle.space_model.specs.Judges.{IsJudged, Makes, patches_of}
 use Rattle.space_model.specs.Judges.Makes.{within, beyond}
 
 module _ (kinds : ℕ → Option Kind) where
-  clear_if : (four eight : Bool) (lo hi : ℕ) → (four || eight) ≡ false → IsClear kinds (if eight then bar Mapped lo hi ∷ [] else [])
+  clear_if : (four eight : Bool) (lo hi : ℕ) → (four || eight) ≡ false →
+      IsClear kinds (if eight then bar Mapped lo hi ∷ [] else if four then bar Sealed lo hi ∷ [] else [])
   clear_if true eight lo hi e = cc
   clear_if false true lo hi e = cc
   clear_if false false lo hi e = tt

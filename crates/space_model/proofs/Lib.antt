@@ -19,3 +19,4 @@ pub mod CertainReplies
 pub mod Halving
 pub mod Highest
 pub mod Splicing
+pub mod SealedStay

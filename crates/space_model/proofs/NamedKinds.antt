@@ -7,7 +7,7 @@ use Rattle.page_types.specs.Named.{IsNamedKind, IsNamedOption}
 use Rattle.space_model.specs.declared.areas.Area.{Area}
 use Rattle.space_model.specs.Areas.{IsAreaList, HasKinds, HasNamedKinds, kind_at}
 use Rattle.space_model.specs.declared.paint.Paint.{Paint}
-use Rattle.space_model.specs.declared.paint.Paint.TheVariants.{Gives, Protects}
+use Rattle.space_model.specs.declared.paint.Paint.TheVariants.{Gives, Protects, Seals}
 use Rattle.space_model.specs.declared.paint.Patch.{Patch}
 use Rattle.space_model.specs.Effect.{painted, with_patch, patched}
 use Rattle.space_model.specs.Judges.{IsNamedPaint, AreNamedPaints}
@@ -42,6 +42,8 @@ pub named_new : (paint : Paint) (o : Option Kind) → IsNamedPaint paint → IsN
 named_new (Gives new) o n m = n
 named_new (Protects prot) None n m = tt
 named_new (Protects prot) (Some kind) n m = n
+named_new Seals None n m = tt
+named_new Seals (Some kind) n m = m
 
 named_change : (kinds : ℕ → Option Kind) (change : Patch) → ((p : ℕ) → IsNamedOption (kinds p)) → IsNamedPaint change.paint →
     (p : ℕ) → IsNamedOption (with_patch change kinds p)

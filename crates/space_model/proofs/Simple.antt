@@ -1,5 +1,5 @@
 -- When a Protect within one area keeps the number of areas and of gaps.
-use Rattle.std.proofs.Common.{◌≡◌, ◌≢◌, ℕ, zero, suc, ◌+◌, ◌-◌, ◌<◌, ◌≤◌, inl, inr, Bool, true, false, not, ◌&&◌, List}
+use Rattle.std.proofs.Common.{◌≡◌, ◌≢◌, ℕ, zero, suc, ◌+◌, ◌-◌, ◌<◌, ◌≤◌, ◌⊎◌, inl, inr, IsTrue, Bool, true, false, not, ◌&&◌, List}
 use Rattle.std.proofs.Common.{[], ◌∷◌, length, Option, Some, None, is_some, is_none, sym, ◌∙◌, ap, subst, refl, arith}
 use Rattle.std.specs.List.{Contains}
 use Rattle.std.specs.Option.{option_map}
@@ -282,19 +282,33 @@ pub keeps_borders : (A B : List Area) (prot : Prot) (lo hi : ℕ) (a : Area) →
 keeps_borders A B prot lo hi a w lies l k =
     omega (arith, length-after A B prot lo hi a w lies l k.changed, k.areas)
 
--- the same, of the span of the call
+-- the same, of the span of the call; one within a sealed area is simple whatever it does to the rows
 pub simple_in : (A : List Area) (addr len : ℕ) (prot : Prot) (lo hi : ℕ) (a : Area) → lo ≡ page_of addr →
-    hi ≡ end_page addr len → IsAreaList A → LiesIn A a lo hi → lo < hi → hi ≤ LIMIT
-    → KeepsRows (kind_before A lo) a.kind (protected_kind prot a.kind) (kind_at A hi) →
+    hi ≡ end_page addr len → IsAreaList A → LiesIn A a lo hi → lo < hi → hi ≤ LIMIT →
+    IsTrue a.kind.sealed ⊎ KeepsRows (kind_before A lo) a.kind (protected_kind prot a.kind) (kind_at A hi) →
     IsSimpleIn A (Protect addr len prot) a
-simple_in A addr len prot lo hi a e f w lies l h b =
+simple_in A addr len prot lo hi a e f w lies l h (inl sealed) =
+    (subst (λ (z : ℕ × ℕ). LiesIn A a z.0 z.1) (λ i. (e i, f i)) lies, inl sealed)
+simple_in A addr len prot lo hi a e f w lies l h (inr b) =
+    let both =
     subst (λ (z : ℕ × ℕ). LiesIn A a z.0 z.1 × ((B : List Area) × KeepsCounts A (patch z.0 z.1 (Protects prot)) B)) (λ i. (e i, f i))
-    (lies, keeps_counts A prot lo hi a w lies l h b)
+    (lies, keeps_counts A prot lo hi a w lies l h b) in
+    (both.0, inr both.1)
 
--- a simple Protect of pages within an area keeps the rows that start at its ends
+-- two areas of a list that have a page in common are of one kind
+one_kind : (A : List Area) (a other : Area) (p : ℕ) → kind_at A p ≡ Some a.kind → kind_at A p ≡ Some other.kind → other.kind ≡ a.kind
+one_kind A a other p e d = let same : Some other.kind ≡ Some a.kind = sym d ∙ e in cc
+
+-- of a simple Protect of pages within an area the area is sealed, or it keeps the rows that start at its ends
 pub simple_borders : (A : List Area) (addr len : ℕ) (prot : Prot) (lo hi : ℕ) (a : Area) → lo ≡ page_of addr →
     hi ≡ end_page addr len → IsAreaList A → LiesIn A a lo hi → lo < hi → IsSimple A (Protect addr len prot) →
-    KeepsRows (kind_before A lo) a.kind (protected_kind prot a.kind) (kind_at A hi)
-simple_borders A addr len prot lo hi a e f w lies l (other, (there, (B, k))) =
-    keeps_borders A B prot lo hi a w lies l
-    (subst (λ (z : ℕ × ℕ). KeepsCounts A (patch z.0 z.1 (Protects prot)) B) (λ i. (sym e i, sym f i)) k)
+    IsTrue a.kind.sealed ⊎ KeepsRows (kind_before A lo) a.kind (protected_kind prot a.kind) (kind_at A hi)
+simple_borders A addr len prot lo hi a e f w lies l (other, (there, inl sealed)) =
+    let its = subst (λ (z : ℕ × ℕ). LiesIn A other z.0 z.1) (λ i. (sym e i, sym f i)) there in
+    let same =
+    one_kind A a other lo (kind_at-member A a lo w lies.member lies.from (omega (arith, lies.within)))
+    (kind_at-member A other lo w its.member its.from (omega (arith, its.within))) in
+    inl (subst (λ (k : Kind). IsTrue k.sealed) same sealed)
+simple_borders A addr len prot lo hi a e f w lies l (other, (there, inr (B, k))) =
+    inr (keeps_borders A B prot lo hi a w lies l
+    (subst (λ (z : ℕ × ℕ). KeepsCounts A (patch z.0 z.1 (Protects prot)) B) (λ i. (sym e i, sym f i)) k))

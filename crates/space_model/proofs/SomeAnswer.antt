@@ -7,7 +7,7 @@ use Rattle.page_types.specs.declared.TheConstants.{LIMIT, LOWEST, ROWS}
 use Rattle.page_types.specs.declared.sets.Access.{Access}
 use Rattle.page_types.specs.declared.calls.Kind.{Kind}
 use Rattle.page_types.specs.declared.calls.Call.{Call}
-use Rattle.page_types.specs.declared.calls.Call.TheVariants.{Map, Unmap, Protect, Fault}
+use Rattle.page_types.specs.declared.calls.Call.TheVariants.{Map, Unmap, Protect, Fault, Seal}
 use Rattle.page_types.specs.declared.calls.Reply.{Reply}
 use Rattle.page_types.specs.declared.calls.Reply.TheVariants.{At, Zero, Granted, Refused}
 use Rattle.page_types.specs.declared.calls.Why.{Why}
@@ -16,9 +16,9 @@ use Rattle.page_types.specs.declared.calls.Short.TheVariants.{NoGap}
 use Rattle.page_types.specs.Pages.{page_of, page_count, end_page}
 use Rattle.page_types.specs.Sets.{has_bits, prot_bits, access_bit, is_fixed}
 use Rattle.page_types.specs.PlainReply.{plain_reply}
-use Rattle.page_types.proofs.Undecided.{map-length, map-end, unmap-length, unmap-end, protect-length, protect-end}
+use Rattle.page_types.proofs.Undecided.{map-length, map-end, unmap-length, unmap-end, protect-length, protect-end, seal-length, seal-end}
 use Rattle.space_model.specs.declared.areas.Area.{Area}
-use Rattle.space_model.specs.declared.paint.Paint.TheVariants.{Gives, Protects}
+use Rattle.space_model.specs.declared.paint.Paint.TheVariants.{Gives, Protects, Seals}
 use Rattle.space_model.specs.declared.paint.Patch.{Patch}
 use Rattle.space_model.specs.declared.sorts.Sort.{Sort}
 use Rattle.space_model.specs.declared.sorts.Sort.TheVariants.{Mapped}
@@ -227,6 +227,9 @@ module _ (A : List Area) (w : IsAreaList A) where
   clear_some (Protect addr len prot) u clear =
       changed_some (Protect addr len prot) (patch (page_of addr) (end_page addr len) (Protects prot)) Zero None u (clear, refl)
       (some_pages addr len (protect-length addr len u)) (protect-end addr len u)
+  clear_some (Seal addr len flags) u clear =
+      changed_some (Seal addr len flags) (patch (page_of addr) (end_page addr len) Seals) Zero None u (clear, refl)
+      (some_pages addr len (seal-length addr len flags u)) (seal-end addr len flags u)
   clear_some (Fault addr access) u clear =
       let (r, h) = fault_some (kind_at A) (kind_at A (page_of addr)) (page_of addr) access in
       (r, A, kept u (clear, (r, h, refl)) refl)

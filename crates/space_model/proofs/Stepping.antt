@@ -7,7 +7,7 @@ use Rattle.page_types.specs.Pages.{page_of, page_count, end_page}
 use Rattle.page_types.specs.Named.{IsNamedOption, IsNamedCall, IsNamedReply, IsNamedWhy}
 use Rattle.page_types.specs.declared.calls.Kind.{Kind}
 use Rattle.page_types.specs.declared.calls.Call.{Call}
-use Rattle.page_types.specs.declared.calls.Call.TheVariants.{Map, Unmap, Protect, Fault}
+use Rattle.page_types.specs.declared.calls.Call.TheVariants.{Map, Unmap, Protect, Fault, Seal}
 use Rattle.page_types.specs.declared.calls.Reply.{Reply}
 use Rattle.page_types.specs.declared.calls.Reply.TheVariants.{At, Zero}
 use Rattle.page_types.specs.declared.calls.Why.{Why}
@@ -15,9 +15,9 @@ use Rattle.page_types.specs.declared.sets.Access.{Access}
 use Rattle.space_model.specs.declared.areas.Area.{Area}
 use Rattle.space_model.specs.declared.judged.Change.{Change}
 use Rattle.space_model.specs.declared.judged.Judged.TheVariants.{Changes}
-use Rattle.space_model.specs.declared.paint.Paint.TheVariants.{Gives, Protects}
+use Rattle.space_model.specs.declared.paint.Paint.TheVariants.{Gives, Protects, Seals}
 use Rattle.space_model.specs.declared.paint.Patch.{Patch}
-use Rattle.space_model.specs.declared.sorts.Sort.TheVariants.{Mapped, Missing}
+use Rattle.space_model.specs.declared.sorts.Sort.TheVariants.{Mapped, Missing, Sealed}
 use Rattle.space_model.specs.Areas.{IsAreaList, HasKinds, kind_at, gaps_from, gap_between, row_count}
 use Rattle.space_model.specs.Effect.{mapped_kind, patch, with_patch, patched, AreRising}
 use Rattle.space_model.specs.Building.{changed_list}
@@ -90,6 +90,7 @@ refusal-named kinds c why (inl r) = barred (bars c) r
     barred [] r = absurd r
     barred (bar Mapped lo hi ∷ rest) (inl (p, l, e)) = subst IsNamedWhy (sym e) tt
     barred (bar Missing lo hi ∷ rest) (inl (p, l, e)) = subst IsNamedWhy (sym e) tt
+    barred (bar Sealed lo hi ∷ rest) (inl (p, l, e)) = subst IsNamedWhy (sym e) tt
     barred (bar sort lo hi ∷ rest) (inr (n, r)) = barred rest r
 refusal-named kinds c why (inr (clear, r)) = unplaced c r
   where
@@ -98,6 +99,7 @@ refusal-named kinds c why (inr (clear, r)) = unplaced c r
     unplaced (Unmap addr len) r = absurd r
     unplaced (Protect addr len prot) r = absurd r
     unplaced (Fault addr access) r = absurd r
+    unplaced (Seal addr len flags) r = absurd r
 
 -- the reply of a change, and the one where there are too many rows, have named bits alone
 abbrev pub IsSaid : Reply → Option Reply → Type 0
@@ -114,6 +116,7 @@ pub kept-named : (kinds : ℕ → Option Kind) (c : Call) (r : Reply) → ((p : 
 kept-named kinds (Map addr len prot flags) r n (clear, (start, s, d)) = cc
 kept-named kinds (Unmap addr len) r n (clear, d) = cc
 kept-named kinds (Protect addr len prot) r n (clear, d) = cc
+kept-named kinds (Seal addr len flags) r n (clear, d) = cc
 kept-named kinds (Fault addr access) r n (clear, (s, h, d)) =
     let same : s ≡ r = cc in
     subst IsNamedReply same (fault-named (kinds (page_of addr)) (page_of addr) access s (n (page_of addr)) h)
@@ -131,6 +134,9 @@ said-named kinds (Protect addr len prot) ps r f (clear, d) =
     let same : Zero ≡ r = cc in let none : None ≡ f = cc in
     subst (λ (z : Reply × Option Reply). IsSaid z.0 z.1) (λ i. (same i, none i)) (tt, tt)
 said-named kinds (Fault addr access) ps r f (clear, (s, h, d)) = cc
+said-named kinds (Seal addr len flags) ps r f (clear, d) =
+    let same : Zero ≡ r = cc in let none : None ≡ f = cc in
+    subst (λ (z : Reply × Option Reply). IsSaid z.0 z.1) (λ i. (same i, none i)) (tt, tt)
 
 -- and its paints, where the call has
 pub paints-named : (kinds : ℕ → Option Kind) (c : Call) (ps : List Patch) (r : Reply) (f : Option Reply) → IsNamedCall c →
@@ -143,6 +149,8 @@ paints-named kinds (Unmap addr len) ps r f m (clear, d) =
 paints-named kinds (Protect addr len prot) ps r f m (clear, d) =
     let same : patch (page_of addr) (end_page addr len) (Protects prot) ∷ [] ≡ ps = cc in subst AreNamedPaints same (m, tt)
 paints-named kinds (Fault addr access) ps r f m (clear, (s, h, d)) = cc
+paints-named kinds (Seal addr len flags) ps r f m (clear, d) =
+    let same : patch (page_of addr) (end_page addr len) Seals ∷ [] ≡ ps = cc in subst AreNamedPaints same (tt, tt)
 
 -- no call changes more than one stretch of pages
 pub one-patch : (kinds : ℕ → Option Kind) (c : Call) (ps : List Patch) (r : Reply) (f : Option Reply) → IsEffect kinds c (changes ps r f) →
@@ -154,6 +162,8 @@ one-patch kinds (Unmap addr len) ps r f (clear, d) =
 one-patch kinds (Protect addr len prot) ps r f (clear, d) =
     let same : patch (page_of addr) (end_page addr len) (Protects prot) ∷ [] ≡ ps = cc in ap length (sym same)
 one-patch kinds (Fault addr access) ps r f (clear, (s, h, d)) = cc
+one-patch kinds (Seal addr len flags) ps r f (clear, d) =
+    let same : patch (page_of addr) (end_page addr len) Seals ∷ [] ≡ ps = cc in ap length (sym same)
 
 -- a change of a call with named bits has named bits alone
 pub judged-named : (kinds : ℕ → Option Kind) (c : Call) (change : Change) → IsNamedCall c → IsJudged kinds c (Changes change) →

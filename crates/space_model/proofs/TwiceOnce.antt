@@ -1,10 +1,11 @@
 -- A change that was done is done again, and changes nothing then; and a call makes at most two rows more.
 use Rattle.std.proofs.Common.{◌≡◌, ◌≢◌, ℕ, ◌+◌, ◌≤◌, inl, inr, is_none, true, false, List, [], ◌∷◌, Option, Some, None, sym, ◌∙◌, ap, subst, refl, arith}
 use Rattle.std.specs.Option.{option_map}
+use Rattle.std.proofs.lemmas.Bool.{true≢false}
 use Rattle.page_types.specs.declared.sets.Prot.{Prot}
 use Rattle.page_types.specs.declared.calls.Kind.{Kind}
 use Rattle.page_types.specs.declared.calls.Call.{Call}
-use Rattle.page_types.specs.declared.calls.Call.TheVariants.{Map, Unmap, Protect, Fault}
+use Rattle.page_types.specs.declared.calls.Call.TheVariants.{Map, Unmap, Protect, Fault, Seal}
 use Rattle.page_types.specs.declared.calls.Reply.{Reply}
 use Rattle.page_types.specs.declared.calls.Reply.TheVariants.{Zero, Refused}
 use Rattle.page_types.specs.declared.calls.Why.{Why}
@@ -13,11 +14,12 @@ use Rattle.page_types.specs.declared.calls.Short.TheVariants.{Rows}
 use Rattle.page_types.specs.Pages.{page_of, page_count, end_page}
 use Rattle.space_model.specs.declared.areas.Area.{Area}
 use Rattle.space_model.specs.declared.paint.Paint.{Paint}
-use Rattle.space_model.specs.declared.paint.Paint.TheVariants.{Gives, Protects}
+use Rattle.space_model.specs.declared.paint.Paint.TheVariants.{Gives, Protects, Seals}
 use Rattle.space_model.specs.declared.paint.Patch.{Patch}
 use Rattle.space_model.specs.Areas.{IsAreaList, HasKinds, kind_at, row_count}
-use Rattle.space_model.specs.Effect.{painted, patch, with_patch, patched, mapped_kind, protected_kind}
-use Rattle.space_model.specs.Sorts.{IsClear}
+use Rattle.space_model.specs.Effect.{painted, patch, with_patch, patched, mapped_kind, protected_kind, sealed_kind}
+use Rattle.space_model.specs.declared.sorts.Sort.TheVariants.{Sealed}
+use Rattle.space_model.specs.Sorts.{is_sort, IsClear}
 use Rattle.space_model.specs.Answers.{bars, RefusesByState, Effect, Does, full_reply, Answers}
 use Rattle.space_model.specs.Answers.Effect.{keeps, changes}
 use Rattle.space_model.specs.Answers.Answers.{by_arguments, refused, kept, done, too_many_rows}
@@ -31,6 +33,8 @@ painted_twice : (paint : Paint) (o : Option Kind) → painted paint (painted pai
 painted_twice (Gives new) o = refl
 painted_twice (Protects prot) None = refl
 painted_twice (Protects prot) (Some k) = refl
+painted_twice Seals None = refl
+painted_twice Seals (Some k) = refl
 
 module _ (A B : List Area) (change : Patch) (k : HasKinds (with_patch change (kind_at A)) B) where
   again_at : (p : ℕ) → with_patch change (kind_at B) p ≡ kind_at B p
@@ -98,14 +102,31 @@ module _ (c : Call) (change : Patch) (one : DoesOne c change) (A : List Area) (s
 pub unmap_twice : (A : List Area) (addr len : ℕ) (s : Reply) (B C : List Area) →
     Answers A (Unmap addr len) Zero B → Answers B (Unmap addr len) s C → (s ≡ Zero) × (C ≡ B)
 unmap_twice A addr len s B C =
-    twice (Unmap addr len) (patch (page_of addr) (end_page addr len) (Gives None))
-    (record { does = λ kinds e d. d; still = λ A B why clear k r. elim r [ inl b ↦ b | inr n ↦ n.1 ] }) A s B C
+    twice (Unmap addr len) (patch lo hi (Gives None)) (record { does = λ kinds e d. d; still = still }) A s B C
+  where
+    lo : ℕ
+    lo = page_of addr
+
+    hi : ℕ
+    hi = end_page addr len
+
+    still : (A B : List Area) (why : Why) → IsClear (kind_at A) (bars (Unmap addr len)) →
+        HasKinds (with_patch (patch lo hi (Gives None)) (kind_at A)) B → RefusesByState (kind_at B) (Unmap addr len) why → ⊥
+    still A B why clear k (inl (inl (p, l, e))) =
+        true≢false (sym l.such ∙ ap (is_sort Sealed) (k.kinds_are p ∙ within-inside lo hi p None (kind_at A p) l.from l.within))
+    still A B why clear k (inl (inr (n, r))) = r
+    still A B why clear k (inr (n, r)) = r
 
 -- mapped pages stay mapped under a Protect
 still_mapped : (prot : Prot) (o q : Option Kind) → q ≡ option_map (protected_kind prot) o → is_none o ≡ false → is_none q ≡ true → ⊥
 still_mapped prot None q e m n = cc
 still_mapped prot (Some k) None e m n = cc
 still_mapped prot (Some k) (Some x) e m n = cc
+
+-- and a page is as sealed as before
+as_sealed : (prot : Prot) (o : Option Kind) → is_sort Sealed (option_map (protected_kind prot) o) ≡ is_sort Sealed o
+as_sealed prot None = refl
+as_sealed prot (Some k) = refl
 
 -- so is a Protect
 pub protect_twice : (A : List Area) (addr len : ℕ) (prot : Prot) (s : Reply) (B C : List Area) →
@@ -124,6 +145,39 @@ protect_twice A addr len prot s B C =
     still A B why clear k (inl (inl (p, l, e))) =
         still_mapped prot (kind_at A p) (kind_at B p)
         (k.kinds_are p ∙ within-inside lo hi p (option_map (protected_kind prot) (kind_at A p)) (kind_at A p) l.from l.within)
+        (clear.0 p l.from l.within) l.such
+    still A B why clear k (inl (inr (n, inl (p, l, e)))) =
+        true≢false
+        (sym l.such ∙
+        ap (is_sort Sealed)
+        (k.kinds_are p ∙ within-inside lo hi p (option_map (protected_kind prot) (kind_at A p)) (kind_at A p) l.from l.within) ∙
+        as_sealed prot (kind_at A p) ∙ clear.1.0 p l.from l.within)
+    still A B why clear k (inl (inr (n, inr (m, r)))) = r
+    still A B why clear k (inr (n, r)) = r
+
+-- mapped pages stay mapped under a Seal
+sealed_mapped : (o q : Option Kind) → q ≡ option_map sealed_kind o → is_none o ≡ false → is_none q ≡ true → ⊥
+sealed_mapped None q e m n = cc
+sealed_mapped (Some k) None e m n = cc
+sealed_mapped (Some k) (Some x) e m n = cc
+
+-- and a Seal
+pub seal_twice : (A : List Area) (addr len flags : ℕ) (s : Reply) (B C : List Area) →
+    Answers A (Seal addr len flags) Zero B → Answers B (Seal addr len flags) s C → (s ≡ Zero) × (C ≡ B)
+seal_twice A addr len flags s B C =
+    twice (Seal addr len flags) (patch lo hi Seals) (record { does = λ kinds e d. d; still = still }) A s B C
+  where
+    lo : ℕ
+    lo = page_of addr
+
+    hi : ℕ
+    hi = end_page addr len
+
+    still : (A B : List Area) (why : Why) → IsClear (kind_at A) (bars (Seal addr len flags)) →
+        HasKinds (with_patch (patch lo hi Seals) (kind_at A)) B → RefusesByState (kind_at B) (Seal addr len flags) why → ⊥
+    still A B why clear k (inl (inl (p, l, e))) =
+        sealed_mapped (kind_at A p) (kind_at B p)
+        (k.kinds_are p ∙ within-inside lo hi p (option_map sealed_kind (kind_at A p)) (kind_at A p) l.from l.within)
         (clear.0 p l.from l.within) l.such
     still A B why clear k (inl (inr (n, r))) = r
     still A B why clear k (inr (n, r)) = r
@@ -154,6 +208,8 @@ one_change kinds (Unmap addr len) ps r f d =
 one_change kinds (Protect addr len prot) ps r f d =
     record { change = patch (page_of addr) (end_page addr len) (Protects prot); only = cc; refuses = cc; done = λ n e. cc }
 one_change kinds (Fault addr access) ps r f (s, h, d) = cc
+one_change kinds (Seal addr len flags) ps r f d =
+    record { change = patch (page_of addr) (end_page addr len) Seals; only = cc; refuses = cc; done = λ n e. cc }
 
 -- what a call changes makes at most two rows more
 pub row_count-does : (A B : List Area) (c : Call) (ps : List Patch) (r : Reply) (f : Option Reply) → IsAreaList A →

@@ -1,13 +1,13 @@
 -- The reply to a call on an area list, and the area list that the call leaves: the profile of mmap(2), munmap(2),
--- mprotect(2) and page faults that this project follows. A call is decided by its arguments, or barred by pages, or
--- finds no place, or does what it asks for: it gives a reply alone, or a reply and patches of pages.
+-- mprotect(2), mseal(2) and page faults that this project follows. A call is decided by its arguments, or barred by
+-- pages, or finds no place, or does what it asks for: it gives a reply alone, or a reply and patches of pages.
 use Rattle.std.specs.Prelude.{ℕ, ◌≡◌, ◌<◌, ◌≤◌, ◌+◌, ◌*◌, ◌⊎◌, IsTrue, if◌then◌else◌, Option, Some, None, List, [], ◌∷◌}
 use Rattle.page_types.specs.declared.TheConstants.{ROWS}
 use Rattle.page_types.specs.declared.sets.Access.{Access}
 use Rattle.page_types.specs.declared.sets.MapFlags.{MapFlags}
 use Rattle.page_types.specs.declared.calls.Kind.{Kind}
 use Rattle.page_types.specs.declared.calls.Call.{Call}
-use Rattle.page_types.specs.declared.calls.Call.TheVariants.{Map, Unmap, Protect, Fault}
+use Rattle.page_types.specs.declared.calls.Call.TheVariants.{Map, Unmap, Protect, Fault, Seal}
 use Rattle.page_types.specs.declared.calls.Reply.{Reply}
 use Rattle.page_types.specs.declared.calls.Reply.TheVariants.{At, Zero, Granted, Refused}
 use Rattle.page_types.specs.declared.calls.Why.{Why}
@@ -17,25 +17,29 @@ use Rattle.page_types.specs.Pages.{page_of, page_count, end_page}
 use Rattle.page_types.specs.Sets.{has_bits, flag_bits, prot_bits, access_bit}
 use Rattle.page_types.specs.PlainReply.{plain_reply}
 use Rattle.space_model.specs.declared.areas.Area.{Area}
-use Rattle.space_model.specs.declared.paint.Paint.TheVariants.{Gives, Protects}
+use Rattle.space_model.specs.declared.paint.Paint.TheVariants.{Gives, Protects, Seals}
 use Rattle.space_model.specs.declared.paint.Patch.{Patch}
-use Rattle.space_model.specs.declared.sorts.Sort.TheVariants.{Mapped, Missing}
+use Rattle.space_model.specs.declared.sorts.Sort.TheVariants.{Mapped, Missing, Sealed}
 use Rattle.space_model.specs.Areas.{kind_at, row_count, HasKinds}
 use Rattle.space_model.specs.Effect.{mapped_kind, patch, patched}
 use Rattle.space_model.specs.Sorts.{Bar, IsBarred, IsClear}
 use Rattle.space_model.specs.Sorts.Bar.{bar}
 use Rattle.space_model.specs.Places.{StartsAt, HasNoPlace, map_places}
 
--- mmap(2): with MAP_FIXED_NOREPLACE, which counts also beside MAP_FIXED, no page may be mapped
+-- mmap(2): with MAP_FIXED_NOREPLACE, which counts also beside MAP_FIXED, no page may be mapped; with MAP_FIXED alone
+-- no page that is replaced may be sealed
 abbrev pub map_bars : MapFlags → ℕ → ℕ → List Bar
-map_bars flags lo hi = if has_bits (flag_bits flags) 8 then bar Mapped lo hi ∷ [] else []
+map_bars flags lo hi =
+    if has_bits (flag_bits flags) 8 then bar Mapped lo hi ∷ [] else if has_bits (flag_bits flags) 4 then bar Sealed lo hi ∷ [] else []
 
--- what bars a call, the first bar first; mprotect(2) wants all its pages mapped
+-- what bars a call, the first bar first; mprotect(2) and mseal(2) want all their pages mapped, and a sealed page
+-- refuses to be unmapped or protected, as mseal(2) says; one that is sealed already is no bar for a Seal
 abbrev pub bars : Call → List Bar
 bars (Map addr len prot flags) = map_bars flags (page_of addr) (page_of addr + page_count len)
-bars (Unmap addr len) = []
-bars (Protect addr len prot) = bar Missing (page_of addr) (end_page addr len) ∷ []
+bars (Unmap addr len) = bar Sealed (page_of addr) (end_page addr len) ∷ []
+bars (Protect addr len prot) = bar Missing (page_of addr) (end_page addr len) ∷ bar Sealed (page_of addr) (end_page addr len) ∷ []
 bars (Fault addr access) = []
+bars (Seal addr len flags) = bar Missing (page_of addr) (end_page addr len) ∷ []
 
 -- pages are to be put somewhere, and no place applies
 abbrev pub FindsNoPlace : (ℕ → Option Kind) → Call → Why → Type 0
@@ -44,6 +48,7 @@ FindsNoPlace kinds (Map addr len prot flags) why =
 FindsNoPlace kinds (Unmap addr len) why = ⊥
 FindsNoPlace kinds (Protect addr len prot) why = ⊥
 FindsNoPlace kinds (Fault addr access) why = ⊥
+FindsNoPlace kinds (Seal addr len flags) why = ⊥
 
 -- why the pages refuse a call that its arguments don't decide, before the row limit is asked
 abbrev pub RefusesByState : (ℕ → Option Kind) → Call → Why → Type 0
@@ -75,6 +80,7 @@ Does kinds (Unmap addr len) e = e ≡ changes (patch (page_of addr) (end_page ad
 Does kinds (Protect addr len prot) e = e ≡ changes (patch (page_of addr) (end_page addr len) (Protects prot) ∷ []) Zero None
 Does kinds (Fault addr access) e =
     (reply : Reply) × AnswersFault (kinds (page_of addr)) (page_of addr) access reply × (e ≡ keeps reply)
+Does kinds (Seal addr len flags) e = e ≡ changes (patch (page_of addr) (end_page addr len) Seals ∷ []) Zero None
 
 -- no bar refuses the call, and this is what it does
 abbrev pub IsEffect : (ℕ → Option Kind) → Call → Effect → Type 0

@@ -4,7 +4,6 @@
 use Rattle.std.specs.Prelude.{ℕ, ◌-◌, ◌<◌, slice_index_or, Bool, false, ◌&&◌, ◌==◌, nat_lt, if◌then◌else◌, min, max}
 use Rattle.std.specs.Prelude.{◌≡◌, ◌↔◌, IsTrue, Option, Some, None, List, [], ◌∷◌}
 use Rattle.page_types.specs.declared.TheConstants.{LIMIT}
-use Rattle.page_types.specs.declared.sets.Prot.{Prot}
 use Rattle.page_types.specs.declared.calls.Kind.{Kind}
 use Rattle.page_types.specs.declared.calls.Reply.{Reply}
 use Rattle.space_model.specs.Answers.{Answers}
@@ -12,14 +11,14 @@ use Rattle.space_model.specs.declared.entries.Entry.{Entry}
 use Rattle.space_model.specs.declared.areas.Area.{Area}
 use Rattle.space_model.specs.Starts.{same_kind}
 use Rattle.space_model.specs.Areas.{IsInRange, MayFollow}
-use Rattle.space_model.specs.Effect.{protected_kind}
+use Rattle.space_model.specs.Effect.{protected_kind, sealed_kind}
 use Rattle.space_model.specs.declared.paint.Paint.{Paint}
-use Rattle.space_model.specs.declared.paint.Paint.TheVariants.{Gives, Protects}
+use Rattle.space_model.specs.declared.paint.Paint.TheVariants.{Gives, Protects, Seals}
 use Rattle.space_model.specs.declared.paint.Patch.{Patch}
 
 -- the area that is taken where a list has none
 abbrev pub no_area : Area
-no_area = record { lo = 0; hi = 0; kind = record { prot = record { 0 = 0 }; shared = false } }
+no_area = record { lo = 0; hi = 0; kind = record { prot = record { 0 = 0 }; shared = false; sealed = false } }
 
 -- the area at an index of a list
 abbrev pub area_at : List Area → ℕ → Area
@@ -53,26 +52,30 @@ abbrev pub join_all : List Area → List Area → List Area
 join_all list [] = list
 join_all list (a ∷ rest) = join_all (joined list a) rest
 
--- a kind with a new protection, if there is one
-abbrev pub repainted : Option Prot → Kind → Kind
+-- the kind of an area of which a part stays, painted where there is a paint; one that gives a kind keeps no part, and
+-- isn't asked here
+abbrev pub repainted : Option Paint → Kind → Kind
 repainted None kind = kind
-repainted (Some prot) kind = protected_kind prot kind
+repainted (Some (Gives new)) kind = kind
+repainted (Some (Protects prot)) kind = protected_kind prot kind
+repainted (Some Seals) kind = sealed_kind kind
 
 -- the part of an area from one page up to another
-abbrev pub part_of : ℕ → ℕ → Option Prot → Area → Area
-part_of from to prot a = record { lo = max a.lo from; hi = min a.hi to; kind = repainted prot a.kind }
+abbrev pub part_of : ℕ → ℕ → Option Paint → Area → Area
+part_of from to paint a = record { lo = max a.lo from; hi = min a.hi to; kind = repainted paint a.kind }
 
 -- the parts of the areas from one page up to another, where they have pages
-abbrev pub parts : ℕ → ℕ → Option Prot → List Area → List Area
-parts from to prot [] = []
-parts from to prot (a ∷ rest) =
-    if nat_lt (max a.lo from) (min a.hi to) then part_of from to prot a ∷ parts from to prot rest else parts from to prot rest
+abbrev pub parts : ℕ → ℕ → Option Paint → List Area → List Area
+parts from to paint [] = []
+parts from to paint (a ∷ rest) =
+    if nat_lt (max a.lo from) (min a.hi to) then part_of from to paint a ∷ parts from to paint rest else parts from to paint rest
 
 -- what a paint puts in the place of the pages from lo up to hi, if there are any
 abbrev pub pieces_at : List Area → ℕ → ℕ → Paint → List Area
 pieces_at A lo hi (Gives None) = []
 pieces_at A lo hi (Gives (Some kind)) = if nat_lt lo hi then record { lo = lo; hi = hi; kind = kind } ∷ [] else []
-pieces_at A lo hi (Protects prot) = parts lo hi (Some prot) A
+pieces_at A lo hi (Protects prot) = parts lo hi (Some (Protects prot)) A
+pieces_at A lo hi Seals = parts lo hi (Some Seals) A
 
 -- the list with the areas from a page up to a patch at its end, and what the patch makes of its pages
 abbrev pub with_next : List Area → ℕ → Patch → List Area → List Area

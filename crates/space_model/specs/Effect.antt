@@ -1,6 +1,6 @@
--- What an accepted call does, as a function from pages to kinds: mmap(2), munmap(2) and mprotect(2) paint stretches of
--- pages and leave every other page as it is. Nothing here speaks of areas that are cut or joined.
-use Rattle.std.specs.Prelude.{ℕ, ◌≤◌, if◌then◌else◌, Option, List, [], ◌∷◌}
+-- What an accepted call does, as a function from pages to kinds: mmap(2), munmap(2), mprotect(2) and mseal(2) paint
+-- stretches of pages and leave every other page as it is. Nothing here speaks of areas that are cut or joined.
+use Rattle.std.specs.Prelude.{ℕ, ◌≤◌, true, false, if◌then◌else◌, Option, List, [], ◌∷◌}
 use Rattle.std.specs.Option.{option_map}
 use Rattle.page_types.specs.declared.TheConstants.{LIMIT}
 use Rattle.page_types.specs.Sets.{has_bits, flag_bits}
@@ -8,22 +8,27 @@ use Rattle.page_types.specs.declared.sets.Prot.{Prot}
 use Rattle.page_types.specs.declared.sets.MapFlags.{MapFlags}
 use Rattle.page_types.specs.declared.calls.Kind.{Kind}
 use Rattle.space_model.specs.declared.paint.Paint.{Paint}
-use Rattle.space_model.specs.declared.paint.Paint.TheVariants.{Gives, Protects}
+use Rattle.space_model.specs.declared.paint.Paint.TheVariants.{Gives, Protects, Seals}
 use Rattle.space_model.specs.declared.paint.Patch.{Patch}
 use Rattle.space_model.specs.Areas.{is_within}
 
--- the kind that a Map gives: its protection, and shared where SHARED is set
+-- the kind that a Map gives: its protection, shared where SHARED is set, and not sealed
 abbrev pub mapped_kind : Prot → MapFlags → Kind
-mapped_kind prot flags = record { prot = prot; shared = has_bits (flag_bits flags) 1 }
+mapped_kind prot flags = record { prot = prot; shared = has_bits (flag_bits flags) 1; sealed = false }
 
--- mprotect(2): the new protection, with the sharing kept
+-- mprotect(2): the new protection, with the rest kept
 abbrev pub protected_kind : Prot → Kind → Kind
-protected_kind prot kind = record { prot = prot; shared = kind.shared }
+protected_kind prot kind = record { prot = prot; shared = kind.shared; sealed = kind.sealed }
+
+-- mseal(2): sealed, with the rest kept
+abbrev pub sealed_kind : Kind → Kind
+sealed_kind kind = record { prot = kind.prot; shared = kind.shared; sealed = true }
 
 -- what becomes of the kind of a page that is painted
 abbrev pub painted : Paint → Option Kind → Option Kind
 painted (Gives new) kind = new
 painted (Protects prot) kind = option_map (protected_kind prot) kind
+painted Seals kind = option_map sealed_kind kind
 
 -- the pages from lo up to hi, and their paint
 abbrev pub patch : ℕ → ℕ → Paint → Patch

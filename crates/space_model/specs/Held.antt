@@ -1,14 +1,14 @@
 -- Which range is held when a call draws its number: none for a call that its arguments decide, the page as a reader
 -- for a fault, everything for a call that may change the number of rows, and the area with a page on each side for a
--- Protect that doesn't. The last is the speculative mprotect of Kogan, Dice and Issa, EuroSys 2020; the rest is this
--- project's own profile.
-use Rattle.std.specs.Prelude.{ℕ, zero, suc, Option, None, ◌≡◌, ◌≤◌, ◌+◌, ◌-◌, ◌⊎◌, min, MatchOption, List, length}
+-- Protect that doesn't, one that a sealed area refuses among them. The last is the speculative mprotect of Kogan, Dice
+-- and Issa, EuroSys 2020; the rest is this project's own profile.
+use Rattle.std.specs.Prelude.{ℕ, zero, suc, Option, None, ◌≡◌, ◌≤◌, ◌+◌, ◌-◌, ◌⊎◌, IsTrue, min, MatchOption, List, length}
 use Rattle.std.specs.List.{Contains}
 use Rattle.page_types.specs.declared.TheConstants.{LIMIT}
 use Rattle.page_types.specs.declared.pages.Span.{Span}
 use Rattle.page_types.specs.declared.calls.Kind.{Kind}
 use Rattle.page_types.specs.declared.calls.Call.{Call}
-use Rattle.page_types.specs.declared.calls.Call.TheVariants.{Map, Unmap, Protect, Fault}
+use Rattle.page_types.specs.declared.calls.Call.TheVariants.{Map, Unmap, Protect, Fault, Seal}
 use Rattle.page_types.specs.Pages.{page_of, end_page}
 use Rattle.page_types.specs.PlainReply.{plain_reply}
 use Rattle.space_model.specs.declared.areas.Area.{Area}
@@ -36,14 +36,15 @@ abbrev pub kind_before : List Area → ℕ → Option Kind
 kind_before A zero = None
 kind_before A (suc page) = kind_at A page
 
--- a Protect is simple in this area
+-- a Protect is simple in this area: all its pages lie there, and the area is sealed or the change keeps the counts
 abbrev pub IsSimpleIn : List Area → Call → Area → Type 0
 IsSimpleIn A (Map addr len prot flags) a = ⊥
 IsSimpleIn A (Unmap addr len) a = ⊥
 IsSimpleIn A (Protect addr len prot) a =
     LiesIn A a (page_of addr) (end_page addr len) ×
-    ((B : List Area) × KeepsCounts A (patch (page_of addr) (end_page addr len) (Protects prot)) B)
+    (IsTrue a.kind.sealed ⊎ ((B : List Area) × KeepsCounts A (patch (page_of addr) (end_page addr len) (Protects prot)) B))
 IsSimpleIn A (Fault addr access) a = ⊥
+IsSimpleIn A (Seal addr len flags) a = ⊥
 
 -- a Protect is simple
 abbrev pub IsSimple : List Area → Call → Type 0
@@ -82,6 +83,7 @@ FitsByState A (Unmap addr len) under = under ≡ Whole
 FitsByState A (Protect addr len prot) under =
     (under ≡ Whole) ⊎ ((a : Area) × IsSimpleIn A (Protect addr len prot) a × HoldsArea a under)
 FitsByState A (Fault addr access) under = ReadsPage (page_of addr) under
+FitsByState A (Seal addr len flags) under = under ≡ Whole
 
 -- what was held fits the call on this area list
 abbrev pub FitsUnder : List Area → Call → Under → Type 0

@@ -8,7 +8,7 @@ use Rattle.page_types.specs.declared.calls.Reply.{Reply}
 use Rattle.page_types.specs.Named.{IsNamedOption, IsNamedReply}
 use Rattle.page_types.specs.Sets.{IsNamedProt}
 use Rattle.space_model.specs.declared.paint.Paint.{Paint}
-use Rattle.space_model.specs.declared.paint.Paint.TheVariants.{Gives, Protects}
+use Rattle.space_model.specs.declared.paint.Paint.TheVariants.{Gives, Protects, Seals}
 use Rattle.space_model.specs.declared.paint.Patch.{Patch}
 use Rattle.space_model.specs.declared.areas.Area.{Area}
 use Rattle.space_model.specs.declared.judged.Change.{Change}
@@ -23,6 +23,7 @@ use Rattle.space_model.specs.Answers.Effect.{keeps, changes}
 abbrev pub IsNamedPaint : Paint → Type 0
 IsNamedPaint (Gives new) = IsNamedOption new
 IsNamedPaint (Protects prot) = IsNamedProt prot
+IsNamedPaint Seals = Unit {0}
 
 -- so do the paints of patches
 abbrev pub AreNamedPaints : List Patch → Type 0

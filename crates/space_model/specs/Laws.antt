@@ -1,6 +1,6 @@
 -- Laws of the definitions, each proved on a public function that does nothing: that the definitions hold together, as a
 -- reader of mmap(2) and proc_pid_maps(5) expects. They follow from the definitions alone.
-use Rattle.std.specs.Prelude.{ℕ, ◌≡◌, ◌≢◌, ◌<◌, ◌≤◌, ◌+◌, ◌⊎◌, ◌↔◌, Option, Some, None, List, ◌++◌, map}
+use Rattle.std.specs.Prelude.{ℕ, ◌≡◌, ◌≢◌, ◌<◌, ◌≤◌, ◌+◌, ◌⊎◌, ◌↔◌, IsTrue, Option, Some, None, List, ◌++◌, map}
 use Rattle.std.specs.List.{Contains}
 use Rattle.page_types.specs.declared.TheConstants.{LIMIT, ROWS, SPARE}
 use Rattle.page_types.specs.declared.calls.Kind.{Kind}
@@ -85,18 +85,20 @@ pub data FourCases (A : List Area) (a : Area) (lo hi : ℕ) (kind : Kind) : Type
   first_part : lo ≡ a.lo → hi < a.hi → kind_before A lo ≡ Some kind → FourCases A a lo hi kind
   last_part : a.lo < lo → hi ≡ a.hi → kind_at A hi ≡ Some kind → FourCases A a lo hi kind
 
--- a Protect within an area is simple exactly in these four cases
+-- a Protect within an area is simple exactly where the area is sealed, and in these four cases
 abbrev pub SimpleInFourCases : List Area → Area → ℕ → ℕ → Prot → Type 0
 SimpleInFourCases A a addr len prot =
     protect_reply addr len ≡ None → LiesIn A a (page_of addr) (end_page addr len) →
-    IsSimpleIn A (Protect addr len prot) a ↔ FourCases A a (page_of addr) (end_page addr len) (protected_kind prot a.kind)
+    IsSimpleIn A (Protect addr len prot) a ↔
+    (IsTrue a.kind.sealed ⊎ FourCases A a (page_of addr) (end_page addr len) (protected_kind prot a.kind))
 
--- a Protect within an area is simple exactly where its change of kinds keeps the rows
+-- a Protect within an area is simple exactly where the area is sealed or its change of kinds keeps the rows
 abbrev pub SimpleKeepsRows : List Area → Area → ℕ → ℕ → Prot → Type 0
 SimpleKeepsRows A a addr len prot =
     protect_reply addr len ≡ None → LiesIn A a (page_of addr) (end_page addr len) →
     IsSimpleIn A (Protect addr len prot) a ↔
-    KeepsRows (kind_before A (page_of addr)) a.kind (protected_kind prot a.kind) (kind_at A (end_page addr len))
+    (IsTrue a.kind.sealed ⊎
+    KeepsRows (kind_before A (page_of addr)) a.kind (protected_kind prot a.kind) (kind_at A (end_page addr len)))
 
 -- the entries leave at most one list of areas
 abbrev pub LeavesOneList : List Area → List Entry → Type 0
@@ -115,6 +117,12 @@ abbrev pub SameCallsSameReplies : List Area → List Entry → List Entry → Ty
 SameCallsSameReplies A entries others =
     IsLegal A entries → IsLegal A others → map (λ e. e.call) entries ≡ map (λ e. e.call) others →
     (map (λ e. e.number) entries ≡ map (λ e. e.number) others) × (map (λ e. e.reply) entries ≡ map (λ e. e.reply) others)
+
+-- no call changes a sealed page or takes it away: whatever calls the entries make, it has its kind after them
+abbrev pub SealedPagesStay : List Area → List Entry → Type 0
+SealedPagesStay A entries =
+    (B : List Area) (page : ℕ) (kind : Kind) → StateAfter A entries B → kind_at A page ≡ Some kind → IsTrue kind.sealed →
+    kind_at B page ≡ Some kind
 
 -- the entries leave an area list
 abbrev pub LeavesAreaListAfter : List Area → List Entry → Type 0

@@ -12,7 +12,7 @@ same_bool false b = not b
 
 -- two kinds are equal
 abbrev pub same_kind : Kind → Kind → Bool
-same_kind k m = (prot_bits k.prot == prot_bits m.prot) && same_bool k.shared m.shared
+same_kind k m = (prot_bits k.prot == prot_bits m.prot) && (same_bool k.shared m.shared && same_bool k.sealed m.sealed)
 
 -- two kinds, or none, are equal
 abbrev pub same_option : Option Kind → Option Kind → Bool

@@ -1,6 +1,6 @@
-//! Building the list of areas after a change, as mmap(2), munmap(2) and mprotect(2) make it: the parts before the
-//! place, what the place gets, and the parts after it, appended in order. An area that touches the last and is of its
-//! kind lengthens it, so the result is the one area list with the kinds of the change.
+//! Building the list of areas after a change, as mmap(2), munmap(2), mprotect(2) and mseal(2) make it: the parts before
+//! the place, what the place gets, and the parts after it, appended in order. An area that touches the last and is of
+//! its kind lengthens it, so the result is the one area list with the kinds of the change.
 
 ghost use Rattle.std.specs.Prelude.{◌≡◌, ◌≤◌, [], length, OnOk, IfOk};
 ghost use Rattle.space_model.specs.Areas.{IsAreaList};
@@ -11,7 +11,7 @@ ghost use Rattle.space_model.specs.Building.{goes_on, joined, join_all, repainte
 use crate::areas::Area;
 use crate::judged::Change;
 use crate::paint::{Paint, Patch};
-use page_types::{Kind, LIMIT, Prot};
+use page_types::{Kind, LIMIT};
 use std::alloc::{AllocError, Global};
 
 fn same_kind(a: Kind, b: Kind) -> bool
@@ -27,13 +27,18 @@ fn goes_on(last: Area, area: Area) -> bool
     last.hi == area.lo && same_kind(last.kind, area.kind)
 }
 
-/// `kind` with a new protection, if there is one; sharing stays.
-pub fn repainted(kind: Kind, prot: Option<Prot>) -> Kind
-    ensures { result ≡ repainted prot kind }
+/// What becomes of the kind of an area of which a part stays, painted where there is a paint. One that gives a kind
+/// keeps no part, and isn't asked here.
+pub fn repainted(kind: Kind, paint: Option<Paint>) -> Kind
+    ensures { result ≡ repainted paint kind }
 {
-    match prot {
-        Some(prot) => Kind { prot, ..kind },
-        None => kind,
+    match paint {
+        Some(Paint::Protects(prot)) => Kind { prot, ..kind },
+        Some(Paint::Seals) => Kind {
+            sealed: true,
+            ..kind
+        },
+        Some(Paint::Gives(_)) | None => kind,
     }
 }
 
@@ -58,15 +63,15 @@ fn join(list: &mut Vec<Area>, area: Area) -> Result<(), AllocError>
     Ok(())
 }
 
-/// Appends the parts of `areas` from page `from` up to page `to`, with a new protection, if there is one.
+/// Appends the parts of `areas` from page `from` up to page `to`, painted where there is a paint.
 fn join_parts(
     list: &mut Vec<Area>,
     areas: &[Area],
     from: u64,
     to: u64,
-    prot: Option<Prot>,
+    paint: Option<Paint>,
 ) -> Result<(), AllocError>
-    ensures { OnOk result (list.new.items ≡ join_all list.old.items (parts from to prot areas.now)) }
+    ensures { OnOk result (list.new.items ≡ join_all list.old.items (parts from to paint areas.now)) }
 {
     for area in areas {
         let lo = area.lo.max(from);
@@ -77,7 +82,7 @@ fn join_parts(
                 Area {
                     lo,
                     hi,
-                    kind: repainted(area.kind, prot),
+                    kind: repainted(area.kind, paint),
                 },
             )?;
         }
@@ -97,7 +102,7 @@ fn join_patch(list: &mut Vec<Area>, areas: &[Area], patch: Patch) -> Result<(), 
             }
         }
         Paint::Gives(None) => {}
-        Paint::Protects(prot) => join_parts(list, areas, lo, hi, Some(prot))?,
+        Paint::Protects(_) | Paint::Seals => join_parts(list, areas, lo, hi, Some(paint))?,
     }
     Ok(())
 }

@@ -1,9 +1,9 @@
-//! What a Protect has to hold: its area, where the change keeps the number of areas and of gaps, and otherwise
-//! everything, after the speculative mprotect of Kogan, Dice and Issa, EuroSys 2020. `IsSimple` in `specs/` counts the
-//! lists before and after; the code looks at the kinds round the two ends of the span alone, and the law
+//! What a Protect has to hold: its area, where that is sealed or the change keeps the number of areas and of gaps, and
+//! otherwise everything, after the speculative mprotect of Kogan, Dice and Issa, EuroSys 2020. `IsSimple` in `specs/`
+//! counts the lists before and after; the code looks at the kinds round the two ends of the span alone, and the law
 //! `simple_protects_keep_rows` says that this is the same.
 
-ghost use Rattle.std.specs.Prelude.{◌≡◌, ◌<◌, ◌↔◌, None, IsTrue, MatchOption};
+ghost use Rattle.std.specs.Prelude.{◌≡◌, ◌<◌, ◌↔◌, ◌⊎◌, None, IsTrue, MatchOption};
 ghost use Rattle.page_types.specs.PlainReply.{protect_reply};
 ghost use Rattle.space_model.specs.Areas.{IsAreaList, kind_at};
 ghost use Rattle.space_model.specs.Effect.{protected_kind};
@@ -13,6 +13,7 @@ ghost use Rattle.space_model.specs.Starts.{border, KeepsRows};
 use crate::areas::Area;
 use crate::build::repainted;
 use crate::entries::Under;
+use crate::paint::Paint;
 use crate::search::{first_above, kind_of};
 use page_types::{Call, Kind, Prot, Span};
 
@@ -63,15 +64,23 @@ pub fn keeps_rows(before: Option<Kind>, old: Kind, new: Kind, after: Option<Kind
     was == border(before, Some(new)) + border(Some(new), after)
 }
 
-/// Whether a Protect of a span within one area keeps the number of rows.
+/// Whether a Protect of a span within one area finds it sealed, or keeps the number of rows.
 fn is_simple_in(areas: &[Area], area: Area, span: Span, prot: Prot) -> bool
     requires { IsAreaList areas.now }
-    ensures { IsTrue result ↔
-        KeepsRows (kind_before areas.now span.lo) area.kind (protected_kind prot area.kind) (kind_at areas.now span.hi) }
+    ensures { IsTrue result ↔ (IsTrue area.kind.sealed
+        ⊎ KeepsRows (kind_before areas.now span.lo) area.kind (protected_kind prot area.kind) (kind_at areas.now span.hi)) }
 {
+    if area.kind.sealed {
+        return true;
+    }
     let before = kind_before(areas, span.lo);
     let after = kind_of(areas, span.hi);
-    keeps_rows(before, area.kind, repainted(area.kind, Some(prot)), after)
+    keeps_rows(
+        before,
+        area.kind,
+        repainted(area.kind, Some(Paint::Protects(prot))),
+        after,
+    )
 }
 
 /// What a Protect that its arguments don't decide has to hold.

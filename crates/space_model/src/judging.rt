@@ -1,15 +1,15 @@
 //! One body judges a call on pages, whichever way their kinds are kept: by the areas of a `PlainSpace`, or by row words
-//! that were read. It follows mmap(2), munmap(2) and mprotect(2), with this project's own choice of the highest place;
-//! a fault has the codes of sigaction(2). A reader may rely on `IsJudged`: the reply is the one of the model, and what
-//! is left to ask is how many rows a change makes.
+//! that were read. It follows mmap(2), munmap(2), mprotect(2) and mseal(2), with this project's own choice of the
+//! highest place; a fault has the codes of sigaction(2). A reader may rely on `IsJudged`: the reply is the one of the
+//! model, and what is left to ask is how many rows a change makes.
 
 ghost use Rattle.std.specs.Prelude.{ℕ, Option, None, IsTrue, IsFalse, Some, ◌↔◌, ◌*◌, ◌+◌, ◌≡◌, ◌<◌, ◌≤◌, ◌^◌, MatchOption};
 ghost use Rattle.page_types.specs.declared.TheConstants.{LIMIT};
 ghost use Rattle.page_types.specs.declared.calls.Kind.{Kind};
-ghost use Rattle.page_types.specs.declared.calls.Call.TheVariants.{Map, Unmap, Protect, Fault};
+ghost use Rattle.page_types.specs.declared.calls.Call.TheVariants.{Map, Unmap, Protect, Fault, Seal};
 ghost use Rattle.page_types.specs.declared.calls.Reply.TheVariants.{At};
 ghost use Rattle.page_types.specs.Pages.{page_count};
-ghost use Rattle.page_types.specs.PlainReply.{plain_reply, map_reply, unmap_reply, protect_reply};
+ghost use Rattle.page_types.specs.PlainReply.{plain_reply, map_reply, unmap_reply, protect_reply, seal_reply};
 ghost use Rattle.page_types.specs.Sets.{is_fixed};
 ghost use Rattle.space_model.specs.declared.paint.Paint.TheVariants.{Gives};
 ghost use Rattle.space_model.specs.Answers.{AnswersFault};
@@ -55,6 +55,7 @@ pub fn mapped_kind(prot: Prot, flags: MapFlags) -> Kind
     Kind {
         prot,
         shared: flags.is_shared(),
+        sealed: false,
     }
 }
 
@@ -121,12 +122,21 @@ fn judge_fixed<P: Pages>(pages: &P, addr: u64, len: u64, prot: Prot, flags: MapF
 {
     let hint = addr / PAGE;
     let count = page_count(len);
-    if flags.is_no_replace() {
-        if let Some(page) = lowest(pages, Sort::Mapped, hint, hint + count) {
-            return Judged::Refused(Why::Eexist(page));
+    let sort = if flags.is_no_replace() {
+        Sort::Mapped
+    } else {
+        Sort::Sealed
+    };
+    match lowest(pages, sort, hint, hint + count) {
+        Some(page) => {
+            if flags.is_no_replace() {
+                Judged::Refused(Why::Eexist(page))
+            } else {
+                Judged::Refused(Why::Eperm(page))
+            }
         }
+        None => mapped_at(hint, count, mapped_kind(prot, flags)),
     }
-    mapped_at(hint, count, mapped_kind(prot, flags))
 }
 
 /// A Map whose address is a hint.
@@ -146,13 +156,16 @@ fn judge_hinted<P: Pages>(pages: &P, addr: u64, len: u64, prot: Prot, flags: Map
     }
 }
 
-/// An Unmap, which looks at no page.
-fn judge_unmap(addr: u64, len: u64) -> Judged
+/// An Unmap.
+fn judge_unmap<P: Pages>(pages: &P, addr: u64, len: u64) -> Judged
     requires { unmap_reply addr len ≡ None }
-    ensures { (kinds : ℕ → Option Kind) → IsJudged kinds (Unmap addr len) result }
+    ensures { IsJudged (P.kinds pages.now) (Unmap addr len) result }
 {
-    let span = Span::of_valid(addr, len);
-    changed(span.lo, span.hi, Paint::Gives(None), Reply::Zero)
+    let gone = Span::of_valid(addr, len);
+    match lowest(pages, Sort::Sealed, gone.lo, gone.hi) {
+        Some(page) => Judged::Refused(Why::Eperm(page)),
+        None => changed(gone.lo, gone.hi, Paint::Gives(None), Reply::Zero),
+    }
 }
 
 /// A Protect.
@@ -161,9 +174,24 @@ fn judge_protect<P: Pages>(pages: &P, addr: u64, len: u64, prot: Prot) -> Judged
     ensures { IsJudged (P.kinds pages.now) (Protect addr len prot) result }
 {
     let span = Span::of_valid(addr, len);
+    if let Some(page) = lowest(pages, Sort::Missing, span.lo, span.hi) {
+        return Judged::Refused(Why::Enomem(Short::Missing(page)));
+    }
+    match lowest(pages, Sort::Sealed, span.lo, span.hi) {
+        Some(page) => Judged::Refused(Why::Eperm(page)),
+        None => changed(span.lo, span.hi, Paint::Protects(prot), Reply::Zero),
+    }
+}
+
+/// A Seal.
+fn judge_seal<P: Pages>(pages: &P, addr: u64, len: u64, flags: u64) -> Judged
+    requires { seal_reply addr len flags ≡ None }
+    ensures { IsJudged (P.kinds pages.now) (Seal addr len flags) result }
+{
+    let span = Span::of_valid(addr, len);
     match lowest(pages, Sort::Missing, span.lo, span.hi) {
         Some(page) => Judged::Refused(Why::Enomem(Short::Missing(page))),
-        None => changed(span.lo, span.hi, Paint::Protects(prot), Reply::Zero),
+        None => changed(span.lo, span.hi, Paint::Seals, Reply::Zero),
     }
 }
 
@@ -210,8 +238,9 @@ pub fn judge<P: Pages>(pages: &P, call: &Call) -> Judged
                 judge_hinted(pages, addr, len, prot, flags)
             }
         }
-        Call::Unmap { addr, len } => judge_unmap(addr, len),
+        Call::Unmap { addr, len } => judge_unmap(pages, addr, len),
         Call::Protect { addr, len, prot } => judge_protect(pages, addr, len, prot),
         Call::Fault { addr, access } => judge_fault(pages, addr, access),
+        Call::Seal { addr, len, flags } => judge_seal(pages, addr, len, flags),
     }
 }

@@ -12,6 +12,7 @@ ghost use Rattle.space_model.specs.declared.areas.Area.{Area};
 ghost use Rattle.space_model.specs.Areas.{IsAreaList, OnlyOneHasKinds};
 ghost use Rattle.space_model.specs.Laws.{HasSomeAnswer, HasOneAnswer, LeavesAreaList, FaultFindsMapped, DoneTwiceIsOnce, AddsTwoRows, SimpleInFourCases};
 ghost use Rattle.space_model.specs.Laws.{AsksTwoRowsMore, RowsAreStarts, AreasAreMaximalRuns, GrantsWhatThePageAllows, SimpleKeepsRows};
+ghost use Rattle.space_model.specs.Laws.{SealedPagesStay};
 ghost use Rattle.space_model.specs.Laws.{LeavesAreaListAfter, LeavesOneList, LegalLeavesList, BeginningsAreLegal, StateAfterBoth, SameCallsSameReplies};
 ghost use Rattle.space_model.specs.declared.entries.Entry.{Entry};
 
@@ -44,6 +45,11 @@ pub fn protect_twice_is_once()
     ensures { (A : List Area) (addr len : ℕ) (prot : Prot) → DoneTwiceIsOnce A (Call.Protect addr len prot) }
 {}
 
+/// A Seal done twice is a Seal done once.
+pub fn seal_twice_is_once()
+    ensures { (A : List Area) (addr len flags : ℕ) → DoneTwiceIsOnce A (Call.Seal addr len flags) }
+{}
+
 /// One call makes at most two rows more.
 pub fn calls_add_at_most_two_rows()
     ensures { (A : List Area) (c : Call) → IsAreaList A → AddsTwoRows A c }
@@ -70,16 +76,22 @@ pub fn faults_are_granted_by_their_page()
     ensures { (A : List Area) (addr : ℕ) (access : Access) → IsAreaList A → GrantsWhatThePageAllows A addr access }
 {}
 
-/// A Protect within one area is simple exactly where its change of kinds keeps the rows at the two ends of its span.
+/// A Protect within one area is simple exactly where the area is sealed, or the change of kinds keeps the rows at the
+/// two ends of the span.
 pub fn simple_protects_keep_rows()
     ensures { (A : List Area) (a : Area) (addr len : ℕ) (prot : Prot) → IsAreaList A → SimpleKeepsRows A a addr len prot }
 {}
 
-/// A Protect within one area keeps the number of areas and of gaps in four cases and no other: nothing changes;
-/// the whole area changes and equals no touching neighbour; its first part takes the kind of the touching area on
-/// its left; its last part takes the kind of the touching area on its right.
+/// A Protect within one area that isn't sealed keeps the number of areas and of gaps in four cases and no other:
+/// nothing changes; the whole area changes and equals no touching neighbour; its first part takes the kind of the
+/// touching area on its left; its last part takes the kind of the touching area on its right.
 pub fn simple_protects_are_of_four_kinds()
     ensures { (A : List Area) (a : Area) (addr len : ℕ) (prot : Prot) → IsAreaList A → SimpleInFourCases A a addr len prot }
+{}
+
+/// No call changes a sealed page or takes it away: whatever calls are made, it has its kind after them.
+pub fn sealed_pages_stay()
+    ensures { (A : List Area) (entries : List Entry) → SealedPagesStay A entries }
 {}
 
 /// Any entries leave one state from an area list, and it is an area list; a legal history leaves one from any list.

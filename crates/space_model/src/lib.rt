@@ -1,7 +1,7 @@
-//! The address space of one thread: a list of areas, changed by `mmap`, `munmap` and `mprotect` and asked by page
-//! faults, after mmap(2), munmap(2), mprotect(2) and proc_pid_maps(5). `Answers` in `specs/` says by the kinds of pages
-//! what each call replies and leaves; `PlainSpace::step` does exactly that, and `legal` judges a history of calls by
-//! it. Everything that runs calls beside each other is measured by this crate.
+//! The address space of one thread: a list of areas, changed by `mmap`, `munmap`, `mprotect` and `mseal` and asked by
+//! page faults, after mmap(2), munmap(2), mprotect(2), mseal(2) and proc_pid_maps(5). `Answers` in `specs/` says by
+//! the kinds of pages what each call replies and leaves; `PlainSpace::step` does exactly that, and `legal` judges a
+//! history of calls by it. Everything that runs calls beside each other is measured by this crate.
 #![tactic(auto)]
 
 mod areas;
@@ -33,8 +33,8 @@ pub use laws::{
     calls_have_one_answer, faults_are_granted_by_their_page, faults_find_what_was_mapped,
     histories_leave_one_state, only_one_list_has_kinds, protect_twice_is_once,
     refused_rows_are_few, rows_are_counted_by_their_starts, same_calls_have_same_replies,
-    simple_protects_are_of_four_kinds, simple_protects_keep_rows, states_follow_one_another,
-    unmap_twice_is_once,
+    seal_twice_is_once, sealed_pages_stay, simple_protects_are_of_four_kinds,
+    simple_protects_keep_rows, states_follow_one_another, unmap_twice_is_once,
 };
 pub use paint::{Paint, Patch};
 pub use sorts::{Sort, is_sort};

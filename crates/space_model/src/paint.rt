@@ -10,6 +10,8 @@ pub enum Paint {
     Gives(Option<Kind>),
     /// The new protection, where the page is mapped, with the rest of its kind kept, as mprotect(2) leaves it.
     Protects(Prot),
+    /// Sealed, where the page is mapped, with the rest of its kind kept, as mseal(2) leaves it.
+    Seals,
 }
 
 /// Pages, by their numbers, and their paint.

@@ -1,5 +1,5 @@
 //! Sorts of pages, by which the searches of this crate look: the lowest page of a sort bars a call, as mmap(2) and
-//! mprotect(2) say. `is_sort` in `specs/` says which kinds are of which sort.
+//! mprotect(2) say, and mseal(2) of sealed ones. `is_sort` in `specs/` says which kinds are of which sort.
 
 ghost use Rattle.std.specs.Prelude.{◌≡◌};
 ghost use Rattle.space_model.specs.Sorts.{is_sort};
@@ -13,6 +13,8 @@ pub enum Sort {
     Mapped,
     /// Pages that aren't.
     Missing,
+    /// Pages that are sealed.
+    Sealed,
 }
 
 /// Whether a page of this kind is of the sort.
@@ -22,5 +24,9 @@ pub fn is_sort(sort: Sort, kind: Option<Kind>) -> bool
     match sort {
         Sort::Mapped => kind.is_some(),
         Sort::Missing => kind.is_none(),
+        Sort::Sealed => match kind {
+            Some(kind) => kind.sealed,
+            None => false,
+        },
     }
 }

@@ -101,8 +101,8 @@ impl PlainSpace {
 
     /// The range that has to be held when a call draws its number on this space.
     ///
-    /// A Protect that its arguments don't decide holds its area exactly where the change keeps the number of
-    /// areas and of gaps, and everything otherwise. It takes no memory.
+    /// A Protect that its arguments don't decide holds its area exactly where that is sealed or the change keeps the
+    /// number of areas and of gaps, and everything otherwise. It takes no memory.
     pub fn under(&self, call: &Call) -> Under
         ensures fits { FitsUnder self.now call.now result }
         ensures simple { HoldsSomeArea result ↔ ((plain_reply call.now ≡ None) × IsSimple self.now call.now) }
@@ -120,7 +120,7 @@ impl PlainSpace {
         ensures simple { HoldsSomeArea result ↔ IsSimple self.now call.now }
     {
         match *call {
-            Call::Map { .. } | Call::Unmap { .. } => Under::Whole,
+            Call::Map { .. } | Call::Unmap { .. } | Call::Seal { .. } => Under::Whole,
             Call::Protect { addr, len, prot } => protect_under(
                 self.areas.as_slice(),
                 addr,

@@ -19,6 +19,7 @@ fn area(lo: u64, hi: u64, prot: Prot) -> Area {
         kind: Kind {
             prot,
             shared: false,
+            sealed: false,
         },
     }
 }
@@ -44,7 +45,7 @@ fn is_named(paint: Paint) -> bool
 {
     match paint {
         Paint::Gives(Some(kind)) => kind.is_named(),
-        Paint::Gives(None) => true,
+        Paint::Gives(None) | Paint::Seals => true,
         Paint::Protects(prot) => prot.is_named(),
     }
 }

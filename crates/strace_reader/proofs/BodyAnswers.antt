@@ -14,7 +14,7 @@ use Rattle.line_parts.proofs.Sequence.{refusal_within}
 use Rattle.strace_reader.specs.declared.item.Body.{Body}
 use Rattle.strace_reader.specs.declared.item.Body.TheVariants.{Called, FirstHalf, SecondHalf, Other}
 use Rattle.strace_reader.specs.declared.item.Name.{Name}
-use Rattle.strace_reader.specs.declared.item.Name.TheVariants.{Mmap, Munmap, Mprotect, Fault}
+use Rattle.strace_reader.specs.declared.item.Name.TheVariants.{Mmap, Munmap, Mprotect, Fault, Mseal}
 use Rattle.strace_reader.specs.Words.{call_head, resumed_head}
 use Rattle.strace_reader.specs.Calls.{call}
 use Rattle.strace_reader.specs.Grammar.{BeginsWith, EndsWith, unfinished, NeverReturned, IsPid, IsPrefixed}
@@ -59,12 +59,14 @@ call_head_kind Mmap text h = ap kind h.1
 call_head_kind Munmap text h = ap kind h.1
 call_head_kind Mprotect text h = ap kind h.1
 call_head_kind Fault text h = ap kind h.1
+call_head_kind Mseal text h = ap kind h.1
 
 resumed_head_kind : (name : Name) (text : List ℕ) → BeginsWith (resumed_head name) text → kind text ≡ 3
 resumed_head_kind Mmap text h = ap kind h.1
 resumed_head_kind Munmap text h = ap kind h.1
 resumed_head_kind Mprotect text h = ap kind h.1
 resumed_head_kind Fault text h = ap kind h.1
+resumed_head_kind Mseal text h = ap kind h.1
 
 digit_kind : (b : ℕ) (text : List ℕ) → is_digit b ≡ true → kind (b ∷ text) ≡ 2
 digit_kind b text h = grind (arith, nat_tests)
@@ -93,30 +95,41 @@ second_of Mmap = 109
 second_of Munmap = 117
 second_of Mprotect = 112
 second_of Fault = 97
+second_of Mseal = 115
 
 call_head_second : (name : Name) (text : List ℕ) → BeginsWith (call_head name) text → second text ≡ second_of name
 call_head_second Mmap text h = ap second h.1
 call_head_second Munmap text h = ap second h.1
 call_head_second Mprotect text h = ap second h.1
 call_head_second Fault text h = ap second h.1
+call_head_second Mseal text h = ap second h.1
 
 by_second : (m n : Name) → second_of m ≡ second_of n → m ≡ n
 by_second Mmap Mmap e = refl
 by_second Mmap Munmap e = absurd (omega arith)
 by_second Mmap Mprotect e = absurd (omega arith)
 by_second Mmap Fault e = absurd (omega arith)
+by_second Mmap Mseal e = absurd (omega arith)
 by_second Munmap Mmap e = absurd (omega arith)
 by_second Munmap Munmap e = refl
 by_second Munmap Mprotect e = absurd (omega arith)
 by_second Munmap Fault e = absurd (omega arith)
+by_second Munmap Mseal e = absurd (omega arith)
 by_second Mprotect Mmap e = absurd (omega arith)
 by_second Mprotect Munmap e = absurd (omega arith)
 by_second Mprotect Mprotect e = refl
 by_second Mprotect Fault e = absurd (omega arith)
+by_second Mprotect Mseal e = absurd (omega arith)
 by_second Fault Mmap e = absurd (omega arith)
 by_second Fault Munmap e = absurd (omega arith)
 by_second Fault Mprotect e = absurd (omega arith)
 by_second Fault Fault e = refl
+by_second Fault Mseal e = absurd (omega arith)
+by_second Mseal Mmap e = absurd (omega arith)
+by_second Mseal Munmap e = absurd (omega arith)
+by_second Mseal Mprotect e = absurd (omega arith)
+by_second Mseal Fault e = absurd (omega arith)
+by_second Mseal Mseal e = refl
 
 -- a text begins with the name of one call at most
 pub one_name : (m n : Name) (text : List ℕ) → BeginsWith (call_head m) text → BeginsWith (call_head n) text → m ≡ n
@@ -127,6 +140,7 @@ resumed_second Mmap text h = ap (λ (x : List ℕ). second (drop 5 x)) h.1
 resumed_second Munmap text h = ap (λ (x : List ℕ). second (drop 5 x)) h.1
 resumed_second Mprotect text h = ap (λ (x : List ℕ). second (drop 5 x)) h.1
 resumed_second Fault text h = ap (λ (x : List ℕ). second (drop 5 x)) h.1
+resumed_second Mseal text h = ap (λ (x : List ℕ). second (drop 5 x)) h.1
 
 one_resumption : (m n : Name) (text : List ℕ) → BeginsWith (resumed_head m) text → BeginsWith (resumed_head n) text → m ≡ n
 one_resumption m n text h g = by_second m n (sym (resumed_second m text h) ∙ resumed_second n text g)
@@ -385,12 +399,14 @@ head_some Mmap = omega arith
 head_some Munmap = omega arith
 head_some Mprotect = omega arith
 head_some Fault = omega arith
+head_some Mseal = omega arith
 
 resumed_some : (name : Name) → 0 < length (resumed_head name)
 resumed_some Mmap = omega arith
 resumed_some Munmap = omega arith
 resumed_some Mprotect = omega arith
 resumed_some Fault = omega arith
+resumed_some Mseal = omega arith
 
 -- a text that begins with a call's name has a byte at least
 pub some_head : (name : Name) (text : List ℕ) → BeginsWith (call_head name) text → 0 < length text

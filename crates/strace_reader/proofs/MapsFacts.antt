@@ -181,7 +181,7 @@ pub record KindFound (text : List ℕ) (kind : Kind) : Type 0 where
 -- what is read behind the first character, the second and the third
 abbrev behind_third : ℕ → ℕ → ℕ → List ℕ → Option Kind
 behind_third read write exec text = then_some (sharing_at text)
-    (λ s. ended_at (record { prot = record { 0 = bit_or (bit_or read write) exec }; shared = s.0 }) s.1)
+    (λ s. ended_at (record { prot = record { 0 = bit_or (bit_or read write) exec }; shared = s.0; sealed = false }) s.1)
 
 abbrev behind_second : ℕ → ℕ → List ℕ → Option Kind
 behind_second read write text = then_some (mark_at 120 4 text) (λ x. behind_third read write x.0 x.1)
@@ -201,12 +201,14 @@ pub record Fourth (read write exec : ℕ) (text : List ℕ) (kind : Kind) : Type
   pub rights : kind.prot ≡ record { 0 = bit_or (bit_or read write) exec }
   -- the fourth character says whether writes are shared
   pub sharing : ((s ≡ 115) × (kind.shared ≡ true)) ⊎ ((s ≡ 112) × (kind.shared ≡ false))
+  -- the kind isn't sealed
+  pub unsealed : kind.sealed ≡ false
   -- behind it the text ends or goes on with a space
   pub behind : (tail ≡ []) ⊎ (starts (is 32) tail ≡ true)
 
 fourth_is : (read write exec s : ℕ) (shared : Bool) (text tail : List ℕ) (kind : Kind) → text ≡ s ∷ tail
     → ((s ≡ 115) × (shared ≡ true)) ⊎ ((s ≡ 112) × (shared ≡ false))
-    → record { prot = record { 0 = bit_or (bit_or read write) exec }; shared = shared } ≡ kind
+    → record { prot = record { 0 = bit_or (bit_or read write) exec }; shared = shared; sealed = false } ≡ kind
     → (tail ≡ []) ⊎ (starts (is 32) tail ≡ true) → Fourth read write exec text kind
 fourth_is read write exec s shared text tail kind parts sharing same behind = record {
   s = s;
@@ -214,14 +216,16 @@ fourth_is read write exec s shared text tail kind parts sharing same behind = re
   parts = parts;
   rights = ap (λ (x : Kind). x.prot) (sym same);
   sharing = subst (λ (x : Kind). ((s ≡ 115) × (x.shared ≡ true)) ⊎ ((s ≡ 112) × (x.shared ≡ false))) same sharing;
+  unsealed = ap (λ (x : Kind). x.sealed) (sym same);
   behind = behind;
 }
 
 fourth_yes : (read write exec : ℕ) (text : List ℕ) (kind : Kind) → behind_third read write exec text ≡ Some kind → Fourth read write exec text kind
 fourth_yes read write exec text kind h =
-    let a = then_yes (sharing_at text) (λ s. ended_at (record { prot = record { 0 = bit_or (bit_or read write) exec }; shared = s.0 }) s.1) kind h in
+    let a = then_yes (sharing_at text)
+    (λ s. ended_at (record { prot = record { 0 = bit_or (bit_or read write) exec }; shared = s.0; sealed = false }) s.1) kind h in
     let b = sharing_yes text a.0.1 a.0.0 a.1 in
-    let c = ended_yes (record { prot = record { 0 = bit_or (bit_or read write) exec }; shared = a.0.0 }) kind a.0.1 a.2 in
+    let c = ended_yes (record { prot = record { 0 = bit_or (bit_or read write) exec }; shared = a.0.0; sealed = false }) kind a.0.1 a.2 in
     fourth_is read write exec b.0 a.0.0 text a.0.1 kind b.1 b.2 c.0 c.1
 
 -- the third character, and the fourth
@@ -292,6 +296,7 @@ kind_is text rest r read kind parts read_mark second =
         exec_mark = third.exec_mark;
         rights = fourth.rights;
         sharing = fourth.sharing;
+        unsealed = fourth.unsealed;
       };
       behind = fourth.behind;
     }
@@ -311,11 +316,12 @@ kind_no chars tail kind k behind =
     let q = mark_no 119 2 k.w k.write (k.x ∷ k.s ∷ tail) (λ z. cc) k.write_mark in
     let r = mark_no 120 4 k.x k.exec (k.s ∷ tail) (λ z. cc) k.exec_mark in
     let s = sharing_no k.s kind.shared tail k.sharing in
-    let t : record { prot = record { 0 = bit_or (bit_or k.read k.write) k.exec }; shared = kind.shared } ≡ kind =
-    ap (λ (x : Prot). record { prot = x; shared = kind.shared }) (sym k.rights) in
+    let t : record { prot = record { 0 = bit_or (bit_or k.read k.write) k.exec }; shared = kind.shared; sealed = false } ≡ kind =
+    λ i. record { prot = sym k.rights i; shared = kind.shared; sealed = sym k.unsealed i } in
     rw e (rw p (rw q (rw r (rw s (ended_no (record {
       prot = record { 0 = bit_or (bit_or k.read k.write) k.exec };
       shared = kind.shared;
+      sealed = false;
     }) tail behind ∙ ap (λ (x : Kind). Some x) t)))))
 
 -- ---- lines

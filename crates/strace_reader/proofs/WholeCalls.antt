@@ -15,16 +15,16 @@ use Rattle.line_parts.proofs.Numerals.{NoNumeral, number_good, number_heads}
 use Rattle.line_parts.proofs.Lists.{is_close, ListEnds, join_no_numeral, close_joins}
 use Rattle.page_types.specs.Named.{IsNamedCall}
 use Rattle.page_types.specs.declared.calls.Call.{Call}
-use Rattle.page_types.specs.declared.calls.Call.TheVariants.{Map, Unmap, Protect, Fault as FaultCall}
+use Rattle.page_types.specs.declared.calls.Call.TheVariants.{Map, Unmap, Protect, Fault as FaultCall, Seal}
 use Rattle.strace_reader.specs.declared.item.Body.{Body}
 use Rattle.strace_reader.specs.declared.item.Body.TheVariants.{Other}
 use Rattle.strace_reader.specs.declared.item.Name.{Name}
-use Rattle.strace_reader.specs.declared.item.Name.TheVariants.{Mmap, Munmap, Mprotect, Fault as FaultName}
+use Rattle.strace_reader.specs.declared.item.Name.TheVariants.{Mmap, Munmap, Mprotect, Fault as FaultName, Mseal}
 use Rattle.strace_reader.specs.Words.{call_head}
 use Rattle.strace_reader.specs.Calls.{comma, addr, prot, flags, descriptor, access, closing, munmap_arguments}
-use Rattle.strace_reader.specs.Calls.{protect_behind_prot, mprotect_arguments, fault_arguments, map_tail}
+use Rattle.strace_reader.specs.Calls.{protect_behind_prot, mprotect_arguments, fault_arguments, mseal_arguments, map_tail}
 use Rattle.strace_reader.specs.Calls.{map_behind_flags, map_behind_prot, mmap_arguments, arguments, call}
-use Rattle.strace_reader.specs.Reading.{munmap_at, protect_behind_prot_at, mprotect_at, fault_call_at, map_tail_at}
+use Rattle.strace_reader.specs.Reading.{munmap_at, protect_behind_prot_at, mprotect_at, fault_call_at, mseal_at, map_tail_at}
 use Rattle.strace_reader.specs.Reading.{map_behind_flags_at, map_behind_prot_at, mmap_at, arguments_at}
 use Rattle.strace_reader.proofs.ArgumentParts.{SpacesEnd, not_space, not_space_ends, digit_not_space, comma_closes}
 use Rattle.strace_reader.proofs.ArgumentParts.{paren_closes, comma_good, comma_heads, addr_good, prot_good, prot_heads}
@@ -106,6 +106,22 @@ fault_good =
     (spaced access access_heads (λ c. closing (FaultCall a c)) Last))
     (λ a b q w h hq. comma_begins (λ u. chain access (λ c. closing (FaultCall a c))) b q w h)
 
+-- ---- mseal
+
+-- the arguments of mseal are read by mseal_at, where nothing follows
+pub mseal_good : Good mseal_arguments Last mseal_at
+unfolding mseal_at
+mseal_good =
+    good_then addr_good
+    (λ a. good_then comma_good
+    (λ u. good_then length_good (λ n. good_then comma_good
+    (λ v. good_then length_good (λ f. closing_good (Seal a n f))
+    (λ f b q w h hq. paren_closes (b ++ q) (closing_heads (Seal a n f) b q w h)))
+    (spaced (number Number) number_starts (λ f. closing (Seal a n f)) Last))
+    (λ n b q w h hq. comma_closes (b ++ q) (comma_begins (λ v. chain (number Number) (λ f. closing (Seal a n f))) b q w h)))
+    (spaced (number Number) number_starts (λ n. chain comma (λ v. chain (number Number) (λ f. closing (Seal a n f)))) Last))
+    (λ a b q w h hq. comma_begins (λ u. chain (number Number) (λ n. chain comma (λ v. chain (number Number) (λ f. closing (Seal a n f))))) b q w h)
+
 -- ---- mmap
 
 map_tail_good : (c : Call) → Good (map_tail c) Last (map_tail_at c)
@@ -161,6 +177,7 @@ arguments_good Mmap = mmap_good
 arguments_good Munmap = munmap_good
 arguments_good Mprotect = mprotect_good
 arguments_good FaultName = fault_good
+arguments_good Mseal = mseal_good
 
 begun_took : (word rest : List ℕ) → Took (begun word) (word ++ rest) tt rest
 begun_took word rest = record { front = word; parts = refl; takes = refl; only = λ p q more w h e alike. (h, refl); clean = λ g o r w h e. h }
@@ -223,6 +240,12 @@ arguments_end Mprotect = chain_ends addr (λ a. chain comma (λ u. chain (number
 arguments_end FaultName = chain_ends addr (λ a. chain comma (λ u. chain access (λ c. closing (FaultCall a c))))
     (λ a. chain_ends comma (λ u. chain access (λ c. closing (FaultCall a c)))
     (λ u. chain_ends access (λ c. closing (FaultCall a c)) (λ c. closing_ends (FaultCall a c))))
+arguments_end Mseal = chain_ends addr
+    (λ a. chain comma (λ u. chain (number Number) (λ n. chain comma (λ v. chain (number Number) (λ f. closing (Seal a n f))))))
+    (λ a. chain_ends comma (λ u. chain (number Number) (λ n. chain comma (λ v. chain (number Number) (λ f. closing (Seal a n f)))))
+    (λ u. chain_ends (number Number) (λ n. chain comma (λ v. chain (number Number) (λ f. closing (Seal a n f))))
+    (λ n. chain_ends comma (λ v. chain (number Number) (λ f. closing (Seal a n f)))
+    (λ v. chain_ends (number Number) (λ f. closing (Seal a n f)) (λ f. closing_ends (Seal a n f))))))
 
 call_ends : (name : Name) → Ends (call name)
 unfolding call
@@ -335,6 +358,12 @@ arguments_values Mprotect = chain_values IsSound addr
 arguments_values FaultName = chain_values IsSound addr (λ a. chain comma (λ u. chain access (λ c. closing (FaultCall a c))))
     (λ a. chain_values IsSound comma (λ u. chain access (λ c. closing (FaultCall a c)))
     (λ u. chain_values IsSound access (λ c. closing (FaultCall a c)) (λ c. closing_values (FaultCall a c) tt)))
+arguments_values Mseal = chain_values IsSound addr
+    (λ a. chain comma (λ u. chain (number Number) (λ n. chain comma (λ v. chain (number Number) (λ f. closing (Seal a n f))))))
+    (λ a. chain_values IsSound comma (λ u. chain (number Number) (λ n. chain comma (λ v. chain (number Number) (λ f. closing (Seal a n f)))))
+    (λ u. chain_values IsSound (number Number) (λ n. chain comma (λ v. chain (number Number) (λ f. closing (Seal a n f))))
+    (λ n. chain_values IsSound comma (λ v. chain (number Number) (λ f. closing (Seal a n f)))
+    (λ v. chain_values IsSound (number Number) (λ f. closing (Seal a n f)) (λ f. closing_values (Seal a n f) tt)))))
 
 -- what a call is read as is a call with named bits alone, or is passed over
 pub call_values : (name : Name) → Values IsSound (call name)

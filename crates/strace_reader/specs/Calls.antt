@@ -1,4 +1,4 @@
--- The four calls of a line, from the name to the end, as strace(1) prints them: arguments that commas and spaces part,
+-- The five calls of a line, from the name to the end, as strace(1) prints them: arguments that commas and spaces part,
 -- a closing parenthesis, and a result. This project's own profile; docs/FORMATS.md has it as a table, and each
 -- definition here is one row of that table.
 use Rattle.std.specs.Prelude.{◌≡◌, ◌⊎◌, ℕ, List, [], false, codes, Option, Some, None}
@@ -8,14 +8,14 @@ use Rattle.line_parts.specs.Leaves.{is, byte, letters, IsRun, run, spaces, numbe
 use Rattle.line_parts.specs.Leaves.{many_digits, is_digit, is_capital, is_word_byte}
 use Rattle.line_parts.specs.Lists.{listed}
 use Rattle.page_types.specs.declared.calls.Call.{Call}
-use Rattle.page_types.specs.declared.calls.Call.TheVariants.{Map, Unmap, Protect, Fault}
+use Rattle.page_types.specs.declared.calls.Call.TheVariants.{Map, Unmap, Protect, Fault, Seal}
 use Rattle.page_types.specs.declared.sets.Access.{Access}
 use Rattle.strace_reader.specs.declared.item.Body.{Body}
 use Rattle.strace_reader.specs.declared.item.Body.TheVariants.{Called, Other}
 use Rattle.strace_reader.specs.declared.item.Recorded.{Recorded}
 use Rattle.strace_reader.specs.declared.item.Recorded.TheVariants.{Value, Failed}
 use Rattle.strace_reader.specs.declared.item.Name.{Name}
-use Rattle.strace_reader.specs.declared.item.Name.TheVariants.{Mmap, Munmap, Mprotect, Fault as FaultName}
+use Rattle.strace_reader.specs.declared.item.Name.TheVariants.{Mmap, Munmap, Mprotect, Fault as FaultName, Mseal}
 use Rattle.strace_reader.specs.Words.{prot_of, flag_of, access_of, errno_of, call_head}
 
 -- ---- parts of arguments
@@ -133,6 +133,11 @@ mprotect_arguments = chain addr (λ a. chain comma (λ u. chain (number Number) 
 abbrev pub fault_arguments : Part Body
 fault_arguments = chain addr (λ a. chain comma (λ u. chain access (λ c. closing (Fault a c))))
 
+-- mseal: an address, a length and a number, the flags
+abbrev pub mseal_arguments : Part Body
+mseal_arguments = chain addr
+    (λ a. chain comma (λ u. chain (number Number) (λ n. chain comma (λ v. chain (number Number) (λ f. closing (Seal a n f))))))
+
 -- the descriptor and the offset, which are read and let go, and what is left of the line
 abbrev pub map_tail : Call → Part Body
 map_tail call = chain comma (λ u. chain descriptor (λ v. chain comma (λ w. chain (number Number) (λ o. closing call))))
@@ -157,6 +162,7 @@ arguments Mmap = mmap_arguments
 arguments Munmap = munmap_arguments
 arguments Mprotect = mprotect_arguments
 arguments FaultName = fault_arguments
+arguments Mseal = mseal_arguments
 
 -- the whole body of a call; its value is Other where a word or number of the arguments leaves it unplayed
 unfoldable pub call : Name → Part Body

@@ -22,7 +22,8 @@ pub record IsAddress (digits : List ℕ) (addr : ℕ) : Type 0 where
 abbrev pub IsMark : ℕ → ℕ → ℕ → ℕ → Type 0
 IsMark letter bit char value = ((char ≡ letter) × (value ≡ bit)) ⊎ ((char ≡ 45) × (value ≡ 0))
 
--- r, w and x or dashes, and then s where writes are shared, p where they are not
+-- r, w and x or dashes, and then s where writes are shared, p where they are not; a line can't say that pages are
+-- sealed, so they aren't
 pub record IsKind (chars : List ℕ) (kind : Kind) : Type 0 where
   pub r : ℕ
   pub w : ℕ
@@ -37,6 +38,7 @@ pub record IsKind (chars : List ℕ) (kind : Kind) : Type 0 where
   pub exec_mark : IsMark 120 4 x exec
   pub rights : kind.prot ≡ record { 0 = bit_or (bit_or read write) exec }
   pub sharing : ((s ≡ 115) × (kind.shared ≡ true)) ⊎ ((s ≡ 112) × (kind.shared ≡ false))
+  pub unsealed : kind.sealed ≡ false
 
 -- a whole line, with its addresses in bytes and its kind
 pub record IsMapsLine (text : List ℕ) (start stop : ℕ) (kind : Kind) : Type 0 where

@@ -1,17 +1,17 @@
 -- How a line's call is played, and when a reply is what the trace recorded. The words of the results are those of
--- mmap(2), munmap(2) and mprotect(2), and the SIGSEGV codes of sigaction(2) for a page fault; that a recorded address
--- is taken as the hint of a Map is this project's own choice.
+-- mmap(2), munmap(2), mprotect(2) and mseal(2), and the SIGSEGV codes of sigaction(2) for a page fault; that a recorded
+-- address is taken as the hint of a Map is this project's own choice.
 use Rattle.std.specs.Prelude.{◌≡◌, Option, Some, None, if◌then◌else◌}
 use Rattle.page_types.specs.declared.calls.Call.{Call}
-use Rattle.page_types.specs.declared.calls.Call.TheVariants.{Map, Unmap, Protect, Fault}
+use Rattle.page_types.specs.declared.calls.Call.TheVariants.{Map, Unmap, Protect, Fault, Seal}
 use Rattle.page_types.specs.declared.calls.Reply.{Reply}
 use Rattle.page_types.specs.declared.calls.Reply.TheVariants.{At, Zero, Granted, Refused}
 use Rattle.page_types.specs.declared.calls.Why.{Why}
-use Rattle.page_types.specs.declared.calls.Why.TheVariants.{Einval, Enomem, Eexist, MapErr, AccErr}
+use Rattle.page_types.specs.declared.calls.Why.TheVariants.{Einval, Enomem, Eexist, Eperm, MapErr, AccErr}
 use Rattle.page_types.specs.Sets.{is_fixed}
 use Rattle.strace_reader.specs.declared.item.Errno.{Errno}
 use Rattle.strace_reader.specs.declared.item.Errno.TheVariants.{Einval as EinvalName, Enomem as EnomemName, Eexist as EexistName}
-use Rattle.strace_reader.specs.declared.item.Errno.TheVariants.{MapErr as MapErrName, AccErr as AccErrName}
+use Rattle.strace_reader.specs.declared.item.Errno.TheVariants.{Eperm as EpermName, MapErr as MapErrName, AccErr as AccErrName}
 use Rattle.strace_reader.specs.declared.item.Recorded.{Recorded}
 use Rattle.strace_reader.specs.declared.item.Recorded.TheVariants.{Value, Failed}
 
@@ -23,12 +23,14 @@ as_played (Map addr len prot flags) None = Map addr len prot flags
 as_played (Unmap addr len) recorded = Unmap addr len
 as_played (Protect addr len prot) recorded = Protect addr len prot
 as_played (Fault addr access) recorded = Fault addr access
+as_played (Seal addr len flags) recorded = Seal addr len flags
 
 -- the error's name of a refusal
 abbrev pub name_of : Why → Errno
 name_of (Einval field) = EinvalName
 name_of (Enomem short) = EnomemName
 name_of (Eexist page) = EexistName
+name_of (Eperm page) = EpermName
 name_of (MapErr page) = MapErrName
 name_of (AccErr page kind) = AccErrName
 

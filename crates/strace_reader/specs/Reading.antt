@@ -11,7 +11,7 @@ use Rattle.line_parts.specs.Reading.{◌>>=◌, refusal_at, byte_at, letters_at,
 use Rattle.std.specs.Int.RustNames.{bit_or}
 use Rattle.page_types.specs.declared.calls.Kind.{Kind}
 use Rattle.page_types.specs.declared.calls.Call.{Call}
-use Rattle.page_types.specs.declared.calls.Call.TheVariants.{Map, Unmap, Protect, Fault as FaultCall}
+use Rattle.page_types.specs.declared.calls.Call.TheVariants.{Map, Unmap, Protect, Fault as FaultCall, Seal}
 use Rattle.page_types.specs.declared.sets.Access.{Access}
 use Rattle.strace_reader.specs.declared.arguments.WordList.{WordList}
 use Rattle.strace_reader.specs.declared.arguments.WordList.TheVariants.{Prot, Flags}
@@ -22,7 +22,7 @@ use Rattle.strace_reader.specs.declared.item.Item.TheVariants.{Played, Unfinishe
 use Rattle.strace_reader.specs.declared.item.Recorded.{Recorded}
 use Rattle.strace_reader.specs.declared.item.Recorded.TheVariants.{Value, Failed}
 use Rattle.strace_reader.specs.declared.item.Name.{Name}
-use Rattle.strace_reader.specs.declared.item.Name.TheVariants.{Mmap, Munmap, Mprotect, Fault as FaultName}
+use Rattle.strace_reader.specs.declared.item.Name.TheVariants.{Mmap, Munmap, Mprotect, Fault as FaultName, Mseal}
 use Rattle.strace_reader.specs.Words.{prot_of, flag_of, access_of, errno_of}
 
 -- a comma and spaces
@@ -146,6 +146,11 @@ mprotect_at text = addr_at text >>= λ a. comma_at a.1 >>= λ u. number_at Numbe
 unfoldable pub fault_call_at : List ℕ → Result (Body × List ℕ) Refusal
 fault_call_at text = addr_at text >>= λ a. comma_at a.1 >>= λ u. access_at u.1 >>= λ c. closing_at (FaultCall a.0 c.0) c.1
 
+-- mseal
+unfoldable pub mseal_at : List ℕ → Result (Body × List ℕ) Refusal
+mseal_at text = addr_at text >>= λ a. comma_at a.1 >>= λ u. number_at Number u.1 >>= λ n. comma_at n.1
+    >>= λ v. number_at Number v.1 >>= λ f. closing_at (Seal a.0 n.0 f.0) f.1
+
 -- behind the flags: the descriptor and the offset
 unfoldable pub map_tail_at : Call → List ℕ → Result (Body × List ℕ) Refusal
 map_tail_at call text = comma_at text >>= λ u. descriptor_at u.1 >>= λ v. comma_at v.1 >>= λ w. number_at Number w.1 >>= λ o. closing_at call o.1
@@ -171,6 +176,7 @@ arguments_at Mmap text = mmap_at text
 arguments_at Munmap text = munmap_at text
 arguments_at Mprotect text = mprotect_at text
 arguments_at FaultName text = fault_call_at text
+arguments_at Mseal text = mseal_at text
 
 -- ---- maps lines
 
@@ -213,7 +219,7 @@ kind_at text = then_some (mark_at 114 1 text)
     (λ r. then_some (mark_at 119 2 r.1)
     (λ w. then_some (mark_at 120 4 w.1)
     (λ x. then_some (sharing_at x.1)
-    (λ s. ended_at (record { prot = record { 0 = bit_or (bit_or r.0 w.0) x.0 }; shared = s.0 }) s.1))))
+    (λ s. ended_at (record { prot = record { 0 = bit_or (bit_or r.0 w.0) x.0 }; shared = s.0; sealed = false }) s.1))))
 
 -- a maps line
 unfoldable pub maps_at : List ℕ → Option (ℕ × ℕ × Kind)

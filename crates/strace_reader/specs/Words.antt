@@ -5,9 +5,9 @@ use Rattle.std.specs.Str.{bytes_eq}
 use Rattle.page_types.specs.declared.sets.Access.{Access}
 use Rattle.page_types.specs.declared.sets.Access.TheVariants.{Read, Write, Exec}
 use Rattle.strace_reader.specs.declared.item.Errno.{Errno}
-use Rattle.strace_reader.specs.declared.item.Errno.TheVariants.{Einval, Enomem, Eexist, MapErr, AccErr, Other}
+use Rattle.strace_reader.specs.declared.item.Errno.TheVariants.{Einval, Enomem, Eexist, Eperm, MapErr, AccErr, Other}
 use Rattle.strace_reader.specs.declared.item.Name.{Name}
-use Rattle.strace_reader.specs.declared.item.Name.TheVariants.{Mmap, Munmap, Mprotect, Fault}
+use Rattle.strace_reader.specs.declared.item.Name.TheVariants.{Mmap, Munmap, Mprotect, Fault, Mseal}
 
 -- the bits of a protection word; another word is none
 unfoldable pub prot_of : List ℕ → Option ℕ
@@ -42,6 +42,7 @@ errno_of word =
     if bytes_eq word (codes "EINVAL") then Einval
     else if bytes_eq word (codes "ENOMEM") then Enomem
     else if bytes_eq word (codes "EEXIST") then Eexist
+    else if bytes_eq word (codes "EPERM") then Eperm
     else if bytes_eq word (codes "SEGV_MAPERR") then MapErr
     else if bytes_eq word (codes "SEGV_ACCERR") then AccErr
     else Other
@@ -52,6 +53,7 @@ call_head Mmap = codes "mmap("
 call_head Munmap = codes "munmap("
 call_head Mprotect = codes "mprotect("
 call_head Fault = codes "fault("
+call_head Mseal = codes "mseal("
 
 -- what the second half of an interrupted line begins with
 abbrev pub resumed_head : Name → List ℕ
@@ -59,3 +61,4 @@ resumed_head Mmap = codes "<... mmap resumed>"
 resumed_head Munmap = codes "<... munmap resumed>"
 resumed_head Mprotect = codes "<... mprotect resumed>"
 resumed_head Fault = codes "<... fault resumed>"
+resumed_head Mseal = codes "<... mseal resumed>"

@@ -1,4 +1,4 @@
-//! The four calls of a line, from behind the name to the end of the line. Each function gives the body that the line
+//! The five calls of a line, from behind the name to the end of the line. Each function gives the body that the line
 //! has and what is left of it, which is nothing, or the first refusal. `specs/Calls.antt` has the forms; what
 //! strace(1) prints between the arguments and behind them is taken as this project's own profile says.
 
@@ -7,7 +7,7 @@ ghost use Rattle.line_parts.specs.Reading.{Gives, end_at};
 ghost use Rattle.line_parts.specs.declared.refusal.What.TheVariants.{Result as AtResult};
 ghost use Rattle.strace_reader.specs.declared.item.Body.TheVariants.{Called};
 ghost use Rattle.strace_reader.specs.Reading.{failed_at, recorded_at, equals_at, tail_at, outcome_at, closing_at};
-ghost use Rattle.strace_reader.specs.Reading.{munmap_at, mprotect_at, fault_call_at, map_tail_at, mmap_at};
+ghost use Rattle.strace_reader.specs.Reading.{munmap_at, mprotect_at, fault_call_at, mseal_at, map_tail_at, mmap_at};
 ghost use Rattle.strace_reader.specs.Reading.{arguments_at};
 
 use crate::arguments::{access, addr, comma, descriptor, flags, prot};
@@ -132,6 +132,16 @@ fn fault(text: &[u8]) -> Result<(Body, &[u8]), Refusal>
     closing(Call::Fault { addr, access }, rest)
 }
 
+#[tactic(auto, unfolding(crate::specs::Reading::mseal_at))]
+fn mseal(text: &[u8]) -> Result<(Body, &[u8]), Refusal>
+    ensures { Gives (λ x. (x.0, x.1.now)) result (mseal_at text.now) }
+{
+    let (addr, rest) = addr(text)?;
+    let (len, rest) = number(comma(rest)?, What::Number)?;
+    let (flags, rest) = number(comma(rest)?, What::Number)?;
+    closing(Call::Seal { addr, len, flags }, rest)
+}
+
 /// The descriptor and the offset, which are read and let go, and the end of the line.
 #[tactic(auto, unfolding(crate::specs::Reading::map_tail_at))]
 fn map_tail(call: Call, text: &[u8]) -> Result<(Body, &[u8]), Refusal>
@@ -176,5 +186,6 @@ pub(crate) fn arguments(name: Name, text: &[u8]) -> Result<(Body, &[u8]), Refusa
         Name::Munmap => munmap(text),
         Name::Mprotect => mprotect(text),
         Name::Fault => fault(text),
+        Name::Mseal => mseal(text),
     }
 }

@@ -59,6 +59,9 @@ pub(crate) fn named(text: &[u8]) -> Option<(Name, &[u8])>
     if let Some(rest) = strip_front(text, b"fault(") {
         return Some((Name::Fault, rest));
     }
+    if let Some(rest) = strip_front(text, b"mseal(") {
+        return Some((Name::Mseal, rest));
+    }
     None
 }
 
@@ -77,6 +80,9 @@ pub(crate) fn resumed(text: &[u8]) -> Option<(Name, &[u8])>
     }
     if let Some(rest) = strip_front(text, b"<... fault resumed>") {
         return Some((Name::Fault, rest));
+    }
+    if let Some(rest) = strip_front(text, b"<... mseal resumed>") {
+        return Some((Name::Mseal, rest));
     }
     None
 }

@@ -1,12 +1,12 @@
 //! What a line of a trace says: a call with what the trace recorded of it, or nothing that is played. The error names
-//! are those that mmap(2), munmap(2) and mprotect(2) give, and the SIGSEGV codes of sigaction(2) for a page fault. A
-//! refusal says where the line stops being one that is read, and why.
+//! are those that mmap(2), munmap(2), mprotect(2) and mseal(2) give, and the SIGSEGV codes of sigaction(2) for a page
+//! fault. A refusal says where the line stops being one that is read, and why.
 
 use line_parts::What;
 use page_types::Call;
 use thiserror::Error;
 
-/// The four calls by the name that a line begins with.
+/// The five calls by the name that a line begins with.
 #[derive(Clone, Copy, PartialEq, Eq, Debug, Drop)]
 pub enum Name {
     /// `mmap`
@@ -17,6 +17,8 @@ pub enum Name {
     Mprotect,
     /// `fault`, this project's own word for an access of a thread to a page.
     Fault,
+    /// `mseal`
+    Mseal,
 }
 
 /// The error that a trace recorded, by its name in errno(3) or sigaction(2).
@@ -28,6 +30,8 @@ pub enum Errno {
     Enomem,
     /// `EEXIST`
     Eexist,
+    /// `EPERM`
+    Eperm,
     /// `SEGV_MAPERR`
     MapErr,
     /// `SEGV_ACCERR`

@@ -102,7 +102,12 @@ fn kind(text: &[u8]) -> Option<Kind>
     let (exec, rest) = mark(rest, b'x', Prot::EXEC.bits())?;
     let (shared, rest) = sharing(rest)?;
     let prot = Prot::from_bits_retain(read | write | exec);
-    ended(Kind { prot, shared }, rest)
+    let kind = Kind {
+        prot,
+        shared,
+        sealed: false,
+    };
+    ended(kind, rest)
 }
 
 #[tactic(auto, unfolding(crate::specs::Reading::maps_at))]

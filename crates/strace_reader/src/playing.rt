@@ -60,6 +60,7 @@ fn name_of(why: Why) -> Errno
         Why::Einval(_) => Errno::Einval,
         Why::Enomem(_) => Errno::Enomem,
         Why::Eexist(_) => Errno::Eexist,
+        Why::Eperm(_) => Errno::Eperm,
         Why::MapErr(_) => Errno::MapErr,
         Why::AccErr(_, _) => Errno::AccErr,
     }

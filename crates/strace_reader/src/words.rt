@@ -77,6 +77,8 @@ pub(crate) fn errno_named(word: &[u8]) -> Errno
         Errno::Enomem
     } else if word == b"EEXIST".as_slice() {
         Errno::Eexist
+    } else if word == b"EPERM".as_slice() {
+        Errno::Eperm
     } else if word == b"SEGV_MAPERR".as_slice() {
         Errno::MapErr
     } else if word == b"SEGV_ACCERR".as_slice() {

@@ -2,7 +2,7 @@
 use Rattle.std.proofs.Common.{◌≡◌, ◌<◌, ℕ, List, refl, subst, sym}
 use Rattle.std.specs.Prelude.{◌↔◌, Option, Some, None, MatchOption}
 use Rattle.page_types.specs.declared.calls.Call.{Call}
-use Rattle.page_types.specs.declared.calls.Call.TheVariants.{Map, Unmap, Protect, Fault}
+use Rattle.page_types.specs.declared.calls.Call.TheVariants.{Map, Unmap, Protect, Fault, Seal}
 use Rattle.page_types.specs.declared.calls.Reply.{Reply}
 use Rattle.page_types.specs.declared.sets.Prot.{Prot}
 use Rattle.page_types.specs.Classes.{IsProtect}
@@ -48,6 +48,10 @@ area_of_other A (Unmap addr len) under other fits = (
   λ h. absurd h.1.1,
 )
 area_of_other A (Protect addr len prot) under other fits = absurd (other tt)
+area_of_other A (Seal addr len flags) under other fits = (
+  λ holds. absurd (subst HoldsSomeArea (undecided (plain_reply (Seal addr len flags)) (under ≡ Whole) under fits holds).1 holds),
+  λ h. absurd h.1.1,
+)
 area_of_other A (Fault addr access) under other fits = (
   λ holds. absurd (reads_no_area (page_of addr) under
       (undecided (plain_reply (Fault addr access)) (ReadsPage (page_of addr) under) under fits holds).1 holds),

@@ -19,7 +19,7 @@ use Rattle.area_rows.specs.declared.space.SpaceFault.TheVariants.{Callers, Rows,
 use Rattle.area_rows.specs.Callers.{CallerView, IsSpaceFault, AreIdle, AreNewCallers, IsWhole}
 use Rattle.trace_threads.specs.declared.worker.Line.{Line}
 use Rattle.trace_threads.specs.Workers.{WorkerView, AreOfTable, Plays, HavePlayed}
-use Rattle.trace_threads.specs.Collected.{IsPlayed, IsTraceFault, HeldAndReplies, IsAlone, AllHeld, AreFresh, caller_of}
+use Rattle.trace_threads.specs.Collected.{IsPlayed, IsTraceFault, HeldAndReplies, IsOnlyWorker, AllHeld, AreFresh, caller_of}
 use Rattle.trace_threads.specs.Hiring.{MayPlay, AreReady, hired, IsNewWorker, AreNewWorkers}
 use Rattle.trace_threads.proofs.Lone.{held_chain, only_own}
 use Rattle.trace_threads.proofs.Collecting.{made, collected}
@@ -163,7 +163,7 @@ played_idle table start lists before after new played k c at = let b = before_at
 all_held : (table : TableId) (start : List Area) (lists : List (List Line)) (before after : List WorkerView)
     (entries : List Entry) (areas : List Area) → AreNewWorkers table start lists before → HavePlayed before after
     → IsWhole (map caller_of after) entries areas
-    → (worker : ℕ) → IsAlone worker entries → AllHeld start entries
+    → (worker : ℕ) → IsOnlyWorker worker entries → AllHeld start entries
 all_held table start lists before after entries areas new played whole worker alone =
     let own = only_own worker entries alone in
     ⊎_elim

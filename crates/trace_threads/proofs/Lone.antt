@@ -14,7 +14,7 @@ use Rattle.area_rows.specs.Callers.{CallerView}
 use Rattle.area_rows.proofs.Storing.{all_legal}
 use Rattle.trace_threads.specs.declared.worker.Line.{Line}
 use Rattle.trace_threads.specs.Workers.{IsHeld, Plays}
-use Rattle.trace_threads.specs.Collected.{HeldAndReplies, IsAlone}
+use Rattle.trace_threads.specs.Collected.{HeldAndReplies, IsOnlyWorker}
 
 -- a list that begins with another one of its length is that one
 same_history : (a b : List Entry) → StartsWith b a → length b ≡ length a → b ≡ a
@@ -51,24 +51,24 @@ held_chain (l ∷ ls) c (e ∷ es) after start front A B plays seen began runs n
     )
 
 -- who isn't the one worker has no entry at the head
-no_head : (worker : ℕ) (e : Entry) (es : List Entry) → IsAlone worker (e ∷ es) → e.worker ≢ worker → ⊥
+no_head : (worker : ℕ) (e : Entry) (es : List Entry) → IsOnlyWorker worker (e ∷ es) → e.worker ≢ worker → ⊥
 no_head worker e es none differ =
     let here : e ∷ entries_of e.worker es ≡ [] = subst (λ b. cond b (e ∷ entries_of e.worker es) (entries_of e.worker es) ≡ [])
     (eq-eqb e.worker e.worker refl) (none e.worker differ) in
     let n = ap length here in
     omega arith
 
-alone_behind : (worker : ℕ) (e : Entry) (es : List Entry) → IsAlone worker (e ∷ es) → e.worker ≡ worker → IsAlone worker es
+alone_behind : (worker : ℕ) (e : Entry) (es : List Entry) → IsOnlyWorker worker (e ∷ es) → e.worker ≡ worker → IsOnlyWorker worker es
 alone_behind worker e es none is k differ = subst (λ b. cond b (e ∷ entries_of k es) (entries_of k es) ≡ [])
     (ne_eqb e.worker k (λ same. differ (sym same ∙ is))) (none k differ)
 
-own_head : (worker : ℕ) (e : Entry) (es mine : List Entry) (b : Bool) → eqb e.worker worker ≡ b → IsAlone worker (e ∷ es)
-    → (IsAlone worker es → mine ≡ es) → cond b (e ∷ mine) mine ≡ e ∷ es
+own_head : (worker : ℕ) (e : Entry) (es mine : List Entry) (b : Bool) → eqb e.worker worker ≡ b → IsOnlyWorker worker (e ∷ es)
+    → (IsOnlyWorker worker es → mine ≡ es) → cond b (e ∷ mine) mine ≡ e ∷ es
 own_head worker e es mine true is none rest = ap (λ l. e ∷ l) (rest (alone_behind worker e es none (eqb-true e.worker worker is)))
 own_head worker e es mine false is none rest =
     absurd (no_head worker e es none (λ same. let both : true ≡ false = sym (eq-eqb e.worker worker same) ∙ is in cc))
 
 -- the entries of the one worker that has any are all of them
-pub only_own : (worker : ℕ) (es : List Entry) → IsAlone worker es → entries_of worker es ≡ es
+pub only_own : (worker : ℕ) (es : List Entry) → IsOnlyWorker worker es → entries_of worker es ≡ es
 only_own worker [] none = refl
 only_own worker (e ∷ es) none = own_head worker e es (entries_of worker es) (eqb e.worker worker) refl none (only_own worker es)

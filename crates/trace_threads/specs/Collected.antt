@@ -57,8 +57,8 @@ abbrev pub AllHeld : List Area → List Entry → Type 0
 AllHeld A entries = (B : List Area) × Chains HeldAndReplies A entries B
 
 -- no worker but this one has an entry
-abbrev pub IsAlone : ℕ → List Entry → Type 0
-IsAlone worker entries = (k : ℕ) → k ≢ worker → entries_of k entries ≡ []
+abbrev pub IsOnlyWorker : ℕ → List Entry → Type 0
+IsOnlyWorker worker entries = (k : ℕ) → k ≢ worker → entries_of k entries ≡ []
 
 -- the lines were played on a space that started with these areas: the entries are collected, run from the start to the
 -- areas that are left, and have named bits alone. Where one worker alone has lines, each call that may hold its area
@@ -70,7 +70,7 @@ pub record IsPlayed (start : List Area) (workers : List (List Line)) (entries : 
   pub replies : HasNamedReplies entries
   pub in_order : IsAreaList areas
   pub named : HasNamedKinds areas
-  pub alone : (worker : ℕ) → IsAlone worker entries → AllHeld start entries
+  pub alone : (worker : ℕ) → IsOnlyWorker worker entries → AllHeld start entries
 
 -- why no trace of so many lists was played on a start of so many rows. Want of memory may come at any growth
 abbrev pub IsTraceFault : ℕ → ℕ → SpaceFault → Type 0

@@ -1,5 +1,5 @@
-//! The call of a line, handed on whole to the crate that makes it: a fault, a map, an unmap or a change of protection.
-//! Who makes a call is decided here alone, and the contract doesn't say.
+//! The call of a line, handed on whole to the crate that makes it: a fault, a map, an unmap, a seal or a change of
+//! protection. Who makes a call is decided here alone, and the contract doesn't say.
 ghost use Rattle.std.specs.Prelude.{◌≡◌, ◌<◌, None};
 ghost use Rattle.page_types.specs.Named.{IsNamedCall};
 ghost use Rattle.trace_threads.specs.Workers.{IsLineAnswer, IsPlayedAs};
@@ -22,9 +22,9 @@ pub(crate) fn make_call<R: Wait>(wait: &R, space: &Space, caller: &mut Caller, l
 {
     let number = line.line;
     match line.call {
-        Call::Map { .. } | Call::Unmap { .. } => make_change(
-            space, wait, caller, number, line.call,
-        ),
+        Call::Map { .. } | Call::Unmap { .. } | Call::Seal { .. } => {
+            make_change(space, wait, caller, number, line.call)
+        }
         Call::Protect { .. } => match make_protect(space, wait, caller, number, line.call) {
             Protected::Given { entry, .. } => Answer::Given(entry),
             Protected::Spent => Answer::Spent,

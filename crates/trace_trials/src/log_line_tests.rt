@@ -38,6 +38,7 @@ fn a_line_of_a_log_is_read_as_its_entry(rt: HostRuntime) {
     let kind = Kind {
         prot: Prot::READ,
         shared: false,
+        sealed: false,
     };
     let reader = Under::Reader(Span { lo: 0x10, hi: 0x11 });
     let refused = Reply::Refused(Why::AccErr(0x10, kind));
@@ -47,12 +48,32 @@ fn a_line_of_a_log_is_read_as_its_entry(rt: HostRuntime) {
         ),
         Some(entry(7, 9, fault, refused, reader))
     );
+    let sealed = Kind {
+        sealed: true,
+        ..kind
+    };
+    assert_eq!(rt;
+        read_log_line(
+            b"7 0 9 fault(0x10000, PROT_WRITE) = granted r--p sealed under reader 0x10-0x11"
+        ),
+        Some(entry(7, 9, fault, Reply::Granted(sealed), reader))
+    );
+    let seal = Call::Seal {
+        addr: 0x10000,
+        len: 4096,
+        flags: 1,
+    };
+    let flags = Reply::Refused(Why::Einval(Field::Flags));
+    assert_eq!(rt;
+        read_log_line(b"5 0 6 mseal(0x10000, 4096, 1) = -1 EINVAL flags under none"),
+        Some(entry(5, 6, seal, flags, Under::Nothing))
+    );
 }
 
 #[test]
 fn each_refusal_is_read(rt: HostRuntime) {
     let call = Call::Unmap { addr: 0, len: 4096 };
-    let cases: [(&[u8], Why); 6] = [
+    let cases: [(&[u8], Why); 7] = [
         (
             b"0 0 1 munmap(NULL, 4096) = -1 EINVAL flags under none",
             Why::Einval(Field::Flags),
@@ -74,6 +95,10 @@ fn each_refusal_is_read(rt: HostRuntime) {
             Why::Eexist(0x10),
         ),
         (
+            b"0 0 1 munmap(NULL, 4096) = -1 EPERM page 0x10 under none",
+            Why::Eperm(0x10),
+        ),
+        (
             b"0 0 1 munmap(NULL, 4096) = -1 SEGV_MAPERR page 0x12 under none",
             Why::MapErr(0x12),
         ),
@@ -88,7 +113,7 @@ fn each_refusal_is_read(rt: HostRuntime) {
 
 #[test]
 fn no_other_line_is_read(rt: HostRuntime) {
-    let lines: [&[u8]; 14] = [
+    let lines: [&[u8]; 16] = [
         b"",
         b"played 2 skipped 0 refused 0 differ 0",
         b"0 16 1 munmap(NULL, 4096) = 0 under whole",
@@ -103,6 +128,8 @@ fn no_other_line_is_read(rt: HostRuntime) {
         b"0 0 1 munmap(NULL, 4096) = 0 under area 0x10-0x10",
         b"0 0 1 munmap(NULL, 4096) = 0 under area 0x10-0x800000000",
         b"0 0 1 munmap(NULL, 4096) = -1 ENOMEM rows 4294967296 under whole",
+        b"0 0 1 mseal(NULL, 4096, 0x0) = 0 under whole",
+        b"0 0 1 fault(NULL, PROT_READ) = granted r--p  sealed under reader 0x0-0x1",
     ];
     for line in lines {
         assert_eq!(rt; read_log_line(line), None);

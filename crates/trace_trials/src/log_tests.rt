@@ -153,6 +153,30 @@ fn what_was_held_is_asked_before_the_reply(rt: HostRuntime) -> Result<(), Fail> 
     Ok(())
 }
 
+#[test]
+fn sealed_pages_refuse_in_a_log(rt: HostRuntime) -> Result<(), Fail> {
+    let seal = "1 0 2 mseal(0x10000, 4096, 0) = 0 under whole";
+    let protect =
+        "2 0 3 mprotect(0x10000, 4096, PROT_READ) = -1 EPERM page 0x10 under area 0xf-0x12";
+    let unmap = "3 0 4 munmap(0x10000, 8192) = -1 EPERM page 0x10 under whole";
+    let fault = "4 0 5 fault(0x10000, PROT_WRITE) = granted rw-p sealed under reader 0x10-0x11";
+    let sealed = "00010000-00011000 rw-p 00000000 00:00 0";
+    let other = "00011000-00012000 rw-p 00000000 00:00 0";
+    let summary = "played 5 skipped 0 refused 2 differ 0";
+    expect(
+        &rt,
+        &[MAP, seal, protect, unmap, fault, sealed, other, summary],
+        legal(5),
+    )?;
+    let done = "2 0 3 mprotect(0x10000, 4096, PROT_READ) = 0 under area 0xf-0x12";
+    expect(&rt, &[MAP, seal, done], wrong(3, WrongLog::Reply))?;
+    let area = "1 0 2 mseal(0x10000, 4096, 0) = 0 under area 0xf-0x13";
+    expect(&rt, &[MAP, area], wrong(2, WrongLog::Held))?;
+    let unsealed = "2 0 3 fault(0x10000, PROT_WRITE) = granted rw-p under reader 0x10-0x11";
+    expect(&rt, &[MAP, seal, unsealed], wrong(3, WrongLog::Reply))?;
+    Ok(())
+}
+
 /// A space with one area, which may be read and executed.
 fn with_program(rt: &(impl Abort + AllocGlobal)) -> Result<PlainSpace, AllocError> {
     let mut space = PlainSpace::new(rt.alloc());

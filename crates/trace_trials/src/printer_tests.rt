@@ -19,6 +19,7 @@ fn private(bits: u8) -> Kind {
     Kind {
         prot: Prot::from_bits_retain(bits),
         shared: false,
+        sealed: false,
     }
 }
 
@@ -57,6 +58,7 @@ fn maps_have_a_line_for_each_area(rt: HostRuntime) -> Result<(), Fail> {
             kind: Kind {
                 prot: Prot::EXEC,
                 shared: true,
+                sealed: false,
             },
         },
         Area {
@@ -129,8 +131,12 @@ fn the_log_has_a_line_for_each_entry(rt: HostRuntime) -> Result<(), Fail> {
 
 #[test]
 fn each_reply_has_its_text(rt: HostRuntime) -> Result<(), Fail> {
-    let mut out = sink(rt.alloc(), 1000, &[])?;
+    let mut out = sink(rt.alloc(), 2000, &[])?;
     let page = Under::Reader(Span { lo: 0x12, hi: 0x13 });
+    let sealed = Kind {
+        sealed: true,
+        ..private(1)
+    };
     let refused = [
         Why::Einval(Field::Addr),
         Why::Einval(Field::Len),
@@ -141,8 +147,10 @@ fn each_reply_has_its_text(rt: HostRuntime) -> Result<(), Fail> {
         Why::Enomem(Short::NoGap(10)),
         Why::Enomem(Short::Rows(4097)),
         Why::Eexist(0x10),
+        Why::Eperm(0x10),
         Why::MapErr(0x12),
         Why::AccErr(0x10, private(1)),
+        Why::AccErr(u64::MAX, sealed),
     ];
     for why in refused {
         let entries = [entry(fault(), Reply::Refused(why), Under::Nothing)];
@@ -159,8 +167,10 @@ fn each_reply_has_its_text(rt: HostRuntime) -> Result<(), Fail> {
         0 0 1 fault(0x12000, PROT_READ) = -1 ENOMEM no gap of 10 pages under none\n\
         0 0 1 fault(0x12000, PROT_READ) = -1 ENOMEM rows 4097 under none\n\
         0 0 1 fault(0x12000, PROT_READ) = -1 EEXIST page 0x10 under none\n\
+        0 0 1 fault(0x12000, PROT_READ) = -1 EPERM page 0x10 under none\n\
         0 0 1 fault(0x12000, PROT_READ) = -1 SEGV_MAPERR page 0x12 under none\n\
         0 0 1 fault(0x12000, PROT_READ) = -1 SEGV_ACCERR page 0x10 r--p under none\n\
+        0 0 1 fault(0x12000, PROT_READ) = -1 SEGV_ACCERR page 0xffffffffffffffff r--p sealed under none\n\
         0 0 1 fault(0x12000, PROT_READ) = granted r-xp under reader 0x12-0x13\n";
     assert_eq!(rt; out.written(), expected.as_slice());
     Ok(())

@@ -33,7 +33,7 @@ fn refusal(line: &[u8]) -> Option<BadCall> {
 
 #[test]
 fn refusals_have_their_column_and_cause(rt: HostRuntime) {
-    let cases: [(&[u8], u32, What); 49] = [
+    let cases: [(&[u8], u32, What); 53] = [
         (b"munmap(x, 1)", 8, What::Number),
         (b"munmap(0x, 1)", 10, What::Number),
         (b"munmap(NUX, 1)", 10, What::Number),
@@ -87,6 +87,10 @@ fn refusals_have_their_column_and_cause(rt: HostRuntime) {
         (b"munmap(1, 2) = ??", 17, What::Result),
         (b"[pid     7] munmap(0x10000 4096) = 0", 27, What::Comma),
         (b"7  fault(1, PROT_READ, 0)", 22, What::Close),
+        (b"mseal(1, 2)", 11, What::Comma),
+        (b"mseal(1, 2, )", 13, What::Number),
+        (b"mseal(1, 2, MSEAL)", 13, What::Number),
+        (b"mseal(1, 2, 0x0, 0)", 16, What::Close),
     ];
     for (line, column, what) in cases {
         assert!(rt; refusal(line) == Some(BadCall { column, what }));
@@ -161,7 +165,7 @@ fn halves_and_processes_are_read(rt: HostRuntime) {
 
 #[test]
 fn calls_are_read(rt: HostRuntime) {
-    let cases: [(&[u8], Call, Option<Recorded>); 12] = [
+    let cases: [(&[u8], Call, Option<Recorded>); 14] = [
         (
             b"mmap(0x10000, 8192, PROT_READ|PROT_WRITE, MAP_PRIVATE|MAP_FIXED|MAP_ANONYMOUS, -1, 0)",
             map(0x10000, 8192, 3, 6),
@@ -241,6 +245,24 @@ fn calls_are_read(rt: HostRuntime) {
             },
             Some(Recorded::Failed(Errno::MapErr)),
         ),
+        (
+            b"mseal(0x10000, 0x1000, 0x0) = 0",
+            Call::Seal {
+                addr: 0x10000,
+                len: 4096,
+                flags: 0,
+            },
+            Some(Recorded::Value(0)),
+        ),
+        (
+            b"mseal(NULL, 1,18446744073709551615) = -1 EPERM (Operation not permitted)",
+            Call::Seal {
+                addr: 0,
+                len: 1,
+                flags: u64::MAX,
+            },
+            Some(Recorded::Failed(Errno::Eperm)),
+        ),
     ];
     for (line, call, recorded) in cases {
         assert!(rt; read_line(line) == played(call, recorded));
@@ -252,6 +274,7 @@ fn maps_lines_are_read(rt: HostRuntime) {
     let kind = Kind {
         prot: Prot::from_bits_retain(5),
         shared: false,
+        sealed: false,
     };
     let area = Area {
         lo: 0x400,

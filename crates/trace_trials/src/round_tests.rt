@@ -36,6 +36,11 @@ fn each_kind_of_call_reads_back(rt: HostRuntime) -> Result<(), Fail> {
             addr: 0x11fff,
             access: Access::Exec,
         },
+        Call::Seal {
+            addr: 0xffffffffffffffff,
+            len: 18446744073709551615,
+            flags: 18446744073709551615,
+        },
     ];
     for call in calls {
         let mut store = Vec::new(alloc);

@@ -23,6 +23,7 @@ const READABLE: Area = Area {
     kind: Kind {
         prot: Prot::READ,
         shared: false,
+        sealed: false,
     },
 };
 
@@ -99,6 +100,7 @@ fn writable(page: u64) -> Area
         kind: Kind {
             prot: Prot::READ.union(Prot::WRITE),
             shared: false,
+            sealed: false,
         },
     }
 }

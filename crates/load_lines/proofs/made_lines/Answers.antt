@@ -2,7 +2,7 @@ use Rattle.std.proofs.Common.{◌≡◌, ℕ, zero, suc, ◌+◌, ◌*◌, List,
 use Rattle.std.proofs.Math.Nat.{add-suc}
 use Rattle.std.proofs.lemmas.List.Elements.{All-push, All-same}
 use Rattle.load_lines.specs.declared.calls.MadeLine.{MadeLine}
-use Rattle.load_lines.specs.Calls.{lines_of, line_at, IsNamedLine}
+use Rattle.load_lines.specs.Calls.{drawn_lines, line_at, IsNamedLine}
 use Rattle.load_lines.specs.Generator.{state_after, next_state}
 use Rattle.load_lines.proofs.made_lines.Goals as goal
 
@@ -20,11 +20,11 @@ four_more seed made before after b a =
 
 -- one line more
 one_more : (seed threads made state : ℕ) (xs ys : List MadeLine) (line : MadeLine) → ys ≡ xs ++ line ∷ []
-    → xs ≡ lines_of seed threads made → state ≡ state_after seed (4 * made) → line ≡ line_at state threads made
-    → ys ≡ lines_of seed threads (made + 1)
+    → xs ≡ drawn_lines seed threads made → state ≡ state_after seed (4 * made) → line ≡ line_at state threads made
+    → ys ≡ drawn_lines seed threads (made + 1)
 one_more seed threads made state xs ys line p q s l =
     let last : line ≡ line_at (state_after seed (4 * made)) threads made = l ∙ ap (λ (at : ℕ). line_at at threads made) s in
-    rw add-one (p ∙ ap (λ (zs : List MadeLine). zs ++ line ∷ []) q ∙ ap (λ (z : MadeLine). lines_of seed threads made ++ z ∷ []) last)
+    rw add-one (p ∙ ap (λ (zs : List MadeLine). zs ++ line ∷ []) q ∙ ap (λ (z : MadeLine). drawn_lines seed threads made ++ z ∷ []) last)
 
 -- with one line more the lines are still the first of the load, and the state the one that their draws left
 pub loop-made-preserved : goal.loop-made-preserved
@@ -40,4 +40,4 @@ loop-made-preserved c = record {
 pub returns-clause-lines : goal.returns-clause-lines
 returns-clause-lines c =
     let end : c.loop-made.made ≡ c.args.calls = omega arith in
-    c.loop-made.invariant.lines ∙ ap (lines_of c.args.seed c.args.threads) end
+    c.loop-made.invariant.lines ∙ ap (drawn_lines c.args.seed c.args.threads) end

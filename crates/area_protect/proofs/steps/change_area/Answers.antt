@@ -41,6 +41,12 @@ move_start-requires-clause-store g c =
     let plan = c.in-MoveStart.ensures.plan in
     (c.in-MoveStart.change, c.number-entry-in-MoveStart.ensures.store c.args.wide c.in-MoveStart.change refl plan.chosen plan.round, refl, refl)
 
+-- a plan in a sealed area says that the refusal may be numbered
+pub number-entry-requires-in-Sealed-clause-right : goal.number-entry-requires-in-Sealed-clause-right
+number-entry-requires-in-Sealed-clause-right g c =
+    subst (λ (call : Call). MayNumber c.plan_area-plan.new.caller call c.in-Sealed.reply (OverArea c.args.wide))
+    (sym c.call-call.ensures) c.in-Sealed.ensures.plan.1
+
 -- a plan that isn't simple needs more rows after so many entries as the look found
 pub returns-in-NotSimple-clause-rows : goal.returns-in-NotSimple-clause-rows
 returns-in-NotSimple-clause-rows g c =
@@ -88,3 +94,13 @@ returns-in-MoveStart-clause-changed g c =
     (change_pending r.new.caller.change) p.reading p.left c.requires.rest e.line (e.call ∙ c.call-call.ensures) e.under
     e.named e.drawn e.left
     (stored_one n.new.caller.seat s.new.caller.seat c.in-MoveStart.change.index s.ensures.stored) s.ensures.left d.ensures.release d.ensures.left
+
+-- a change that a sealed area refuses got its entry, with nothing to store
+pub returns-in-Sealed-clause-changed : goal.returns-in-Sealed-clause-changed
+returns-in-Sealed-clause-changed g c =
+    let r = c.plan_area-plan in let p = c.in-Sealed.ensures in let n = c.number-entry-in-Sealed in let d = c.release-in-Sealed in
+    let e = n.ensures in
+    changed_area c.args.caller.now r.new.caller n.new.caller n.new.caller d.new.caller c.args.request n.result c.args.wide
+    (change_pending r.new.caller.change) p.reading p.left c.requires.rest e.line (e.call ∙ c.call-call.ensures) e.under
+    e.named e.drawn e.left
+    (nothing_to_store n.new.caller.seat (e.drawn.writes ∙ ap change_pending p.plan.0)) refl d.ensures.release d.ensures.left

@@ -2,7 +2,7 @@ use Rattle.std.proofs.Common.{◌≡◌, ◌≤◌, map, take, All}
 use Rattle.std.specs.Prelude.{vec_items, vec_len}
 use Rattle.page_types.specs.Named.{IsNamedCall}
 use Rattle.range_cli.specs.Dealt.{dealt}
-use Rattle.range_cli.specs.Load.{line_of}
+use Rattle.range_cli.specs.Play.{line_of}
 use Rattle.range_cli.proofs.load.deal_made.Given as goal
 
 -- the lines so far are dealt out

@@ -1,7 +1,8 @@
-use Rattle.std.proofs.Common.{subst, refl, List, arith}
+use Rattle.std.proofs.Common.{subst, List, arith}
 use Rattle.trace_threads.specs.declared.worker.Line.{Line as Turn}
 use Rattle.trace_threads.specs.Collected.{IsPlayed as WerePlayed}
 use Rattle.range_cli.proofs.PlayLemmas.{played, dealt_total}
+use Rattle.range_cli.proofs.TouchedPages.{counts}
 use Rattle.range_cli.proofs.play.play_touched.Goals as goal
 
 -- the lists have as many lines as were dealt out
@@ -15,3 +16,9 @@ returns-in-Ok-clause-played g c =
     played c.args.threads _ c.args.lines.now _ _
     (subst (λ (l : List (List Turn)). WerePlayed c.args.opening.now l c.in-Ok.closed.entries c.in-Ok.closed.areas) c.in_ok-lists.ensures.dealt
     c.in-Ok.ensures.played)
+
+-- the pages that were touched are those of granted faults
+pub returns-in-Ok-clause-touched : goal.returns-in-Ok-clause-touched
+returns-in-Ok-clause-touched g c =
+    counts _ _ _ c.in-Ok.ensures.touched (omega (arith, c.len.ensures, c.in-Ok.pages.ok.0))
+    (omega (arith, c.len.ensures, c.in-Ok.pages.ok.0, c.in-Ok.ensures.few))

@@ -20,7 +20,7 @@ returns-in-Err-clause-no_usage g c is = never_usage c.in-Err.end (rw c.status.en
 -- there are as many entries as lines, so their count has 32 bits
 pub refused_count-requires : goal.refused_count-requires
 refused_count-requires g c =
-    let many = as_many c.args.threads _ _ c.requires.some_threads c.in-Ok-play_asked.ensures.played.collected in
+    let many = let p = c.in-Ok-play_asked.ensures.played in as_many c.args.threads _ _ c.requires.some_threads p.own p.no_other in
     omega (arith, many, ap length c.entries.ensures, ap length c.deref.ensures.value, c.in-Ok.ensures.few)
 
 -- the numbers of a trace's lines rise
@@ -30,11 +30,11 @@ differ_count-requires-clause-rising g c = subst LinesRise (sym c.deref-2.ensures
 -- there are as many entries as lines, so those that differ have a count of 32 bits
 pub differ_count-requires-clause-few : goal.differ_count-requires-clause-few
 differ_count-requires-clause-few g c =
-    let many = as_many c.args.threads _ _ c.requires.some_threads c.in-Ok-play_asked.ensures.played.collected in
+    let many = let p = c.in-Ok-play_asked.ensures.played in as_many c.args.threads _ _ c.requires.some_threads p.own p.no_other in
     omega (arith, many, ap length c.entries-2.ensures, ap length c.deref.ensures.value, c.in-Ok.ensures.few)
 
 -- so many entries are few enough for a report
 pub write_report-requires : goal.write_report-requires
 write_report-requires g c =
-    let many = as_many c.args.threads _ _ c.requires.some_threads c.in-Ok-play_asked.ensures.played.collected in
+    let many = let p = c.in-Ok-play_asked.ensures.played in as_many c.args.threads _ _ c.requires.some_threads p.own p.no_other in
     omega (arith, many, ap length c.entries-3.ensures, ap length c.deref.ensures.value, c.in-Ok.ensures.few)

@@ -1,7 +1,7 @@
 use Rattle.std.proofs.Common.{◌+◌, ◌*◌, ◌≤◌, length}
 use Rattle.std.specs.Prelude.{All}
 use Rattle.line_parts.specs.Lines.{lines_of}
-use Rattle.range_cli.specs.Trace.{IsNamedLine}
+use Rattle.range_cli.specs.TraceReader.{IsNamedLine}
 use Rattle.range_cli.proofs.TraceLemmas.{SoFar}
 use Rattle.range_cli.proofs.trace.read_lines.Given as goal
 

@@ -21,6 +21,13 @@ returns-in-Protect c =
     let fits = subst FitsCall (sym c.in-Protect.is) (c.in_range-in-Protect.ensures.one, c.in_range-in-Protect.ensures.other) in
     record { spells = call_text_spells c.args.call c.requires fits; short = call_text_length c.args.call c.requires fits }
 
+-- the text of a Seal spells it, and has at most 143 bytes
+pub returns-in-Seal : goal.returns-in-Seal
+returns-in-Seal c =
+    let fits = subst FitsCall (sym c.in-Seal.is)
+    (c.in_range-in-Seal.ensures.one, c.in_range-in-Seal.ensures.other, c.in_range-in-Seal-2.ensures.one) in
+    record { spells = call_text_spells c.args.call c.requires fits; short = call_text_length c.args.call c.requires fits }
+
 -- the text of a page fault spells it, and has at most 143 bytes
 pub returns-in-Fault : goal.returns-in-Fault
 returns-in-Fault c =

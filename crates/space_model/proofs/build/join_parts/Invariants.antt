@@ -5,5 +5,5 @@ use Rattle.space_model.proofs.build.join_parts.Given as goal
 -- with the parts that are left the list is the whole one
 abbrev pub invariant-loop-area : goal.invariant-loop-area
 invariant-loop-area l =
-    join_all l.list.items (parts l.from l.to l.prot (drop l.area-index l.areas)) ≡
-    join_all l.initial.list.items (parts l.from l.to l.prot l.areas)
+    join_all l.list.items (parts l.from l.to l.paint (drop l.area-index l.areas)) ≡
+    join_all l.initial.list.items (parts l.from l.to l.paint l.areas)

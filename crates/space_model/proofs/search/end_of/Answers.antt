@@ -3,7 +3,7 @@ use Rattle.std.proofs.Common.{get_or, sym, subst}
 use Rattle.space_model.specs.Areas.{kind_at}
 use Rattle.space_model.specs.Building.{no_area}
 use Rattle.space_model.specs.Sorts.{IsEnd}
-use Rattle.space_model.proofs.Searching.{none_left, end_found, none_next}
+use Rattle.space_model.proofs.Searching.{none_left, end_found, none_next, end_none}
 use Rattle.space_model.proofs.Halving.{none_cut}
 use Rattle.space_model.proofs.search.end_of.Goals as goal
 
@@ -31,3 +31,14 @@ loop-area-preserved c =
     let at = c.loop-area.at in
     none_next A c.args.sort (get_or rest i no_area) _ c.args.lo c.args.hi at c.requires.ordered
     (none_left A rest c.args.sort i c.args.lo at c.loop-area-test.true c.loop-area.invariant) c.in_default.ensures
+
+-- and where that one begins at or behind `hi`, the search ends there
+pub returns-then-hi-at : goal.returns-then-hi-at
+returns-then-hi-at c =
+    let A = c.args.areas.now in
+    let rest = c.cut_by_end.result.1.now in
+    let i = c.loop-area.area-index in
+    let at = c.loop-area.at in
+    end_none A _ c.args.sort c.args.lo c.args.hi _ c.requires.ordered
+    (none_next A c.args.sort (get_or rest i no_area) _ c.args.lo c.args.hi at c.requires.ordered
+    (none_left A rest c.args.sort i c.args.lo at c.loop-area-test.true c.loop-area.invariant) c.in_default.ensures) c.if-hi-at.true

@@ -1,6 +1,0 @@
-use Rattle.range_sets.proofs.Opened.{new_are_idle}
-use Rattle.range_sets.proofs.tests.open_untouched.Goals as goal
-
--- the seats of the new table are all of it, and hold nothing
-pub next_seat-requires : goal.next_seat-requires
-next_seat-requires c = record { idle = new_are_idle _ _ _ c.in-Ok.ensures.seats.1 }
