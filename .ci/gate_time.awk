@@ -1,4 +1,6 @@
 # Reads lines `WORK<tab>CRATE<tab>TICKS` and writes the minutes of processor time by work, and by crate and work.
+# A process whose words could not be read has no crate.
+$2 ~ /[^a-z0-9_]/ { next }
 { sum[$1] += $3; by[$2 FS $1] += $3; if ($2 != "") all[$2] += $3 }
 END {
     print "Minutes of processor time, sampled each second. Programs are compiled and linked by other tools of the kit."
