@@ -1,7 +1,7 @@
 //! A list lock's table, and how it is opened with a hand for each number. Between opening and closing, hands may go to
 //! other threads, and the list is shared by reference. A reader may rely on a new hand having its own sixteen nodes
 //! ready, and on no call but `open` and `close` taking memory: a hand's lists have their room from here on.
-ghost use Rattle.std.specs.Prelude.{◌≡◌, ◌<◌, ◌≤◌, ◌^◌, ℕ, List, ◌++◌, IfOk, None, length, map, replicate};
+ghost use Rattle.std.specs.Prelude.{◌≡◌, ◌<◌, ◌≤◌, ◌+◌, ◌^◌, ℕ, List, ◌++◌, IfOk, None, length, map, replicate};
 ghost use Rattle.lock_core.specs.Machine.{numbers_from, start_view};
 ghost use Rattle.lock_core.specs.Words.{word_count};
 ghost use Rattle.epoch_pools.specs.Hands.{first_passes, IsSeatCount, AreNewHands};
@@ -69,7 +69,8 @@ fn first_views(alloc: Global, seats: u32) -> Result<Vec<View>, AllocError>
 }
 
 /// A list of that many seats, from 1 to 16, over these client words, and its hands in order of their numbers, from 0
-/// on. At most 2^20 client words, which meet the guard with no grant and the passes of all seats at the opening.
+/// on. At most 2^20 client words, which meet the guard with no grant and the passes of all seats at the opening. The
+/// table has the lock's words and these.
 /// The one refusal is that there is no memory.
 pub fn open<G: Guard>(
     alloc: Global,
@@ -80,6 +81,7 @@ pub fn open<G: Guard>(
     requires clients { length client.now ≤ 2 ^ 20 }
     requires rule { G.holds (replicate seats None) client.now (first_passes (G.first client.now) 0 seats) }
     ensures shape { IfOk result (λ r. (r.0.seats ≡ seats) × (r.0.client ≡ length client.now)) }
+    ensures words { IfOk result (λ r. r.0.table.words ≡ word_count seats + length client.now) }
     ensures hands { IfOk result (λ r. (length r.1.items ≡ seats) × AreNewHands r.0.table (G.first client.now) seats r.1.items) }
 {
     let words = opening_words(alloc, seats, client)?;

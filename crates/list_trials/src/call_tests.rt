@@ -1,15 +1,22 @@
 //! Scripts of the calls on the running list, reckoned by hand, and threads that meet at one. Each row has the number of
 //! its hand, what the hand does, and what comes of it. Where two hands meet within one call, the call is made step by
-//! step. Each test ends by a stated number of turns.
+//! step. Each test ends by a stated number of turns. A list and its hands are opened and dropped by the few functions
+//! that play a script, since each function that owns them takes long to prove.
+ghost use Rattle.epoch_pools.specs.Hands.{IsSeatCount};
+
 use crate::calls::{Answer, Call};
-use crate::keeping::{Seen, count_all, keep_turns, leave_all_away, mark_in_turn};
+use crate::keeping::{Seen, count_all, leave_all_away, mark_in_turn};
 use crate::rows::{Move, play};
 use crate::words::raise_word;
 use crate::{close_all, open_list};
 use epoch_pools::{Stuck, Taken, ready};
 use lock_core::{Mode, Step};
 use marked_list::Lost;
+use std::alloc::Global;
+use std::process::Abort;
+use std::sync::Wait;
 use std::sync::atomic::{AtomicU64, Ordering};
+use std::thread::Threads;
 
 /// A call that comes to what was asked for.
 fn made(which: Call) -> Move {
@@ -56,9 +63,45 @@ fn fills(lo: u64, hi: u64, mode: Mode) -> Move {
     made(Call::Fill { lo, hi, mode })
 }
 
+/// Plays a script on a new list of so many seats: each row comes to what it states.
+fn play_on_new(rt: &impl Abort, alloc: Global, seats: u32, script: &[(usize, Move)])
+    requires seats { IsSeatCount seats }
+{
+    let (list, mut hands) = open_list(alloc, seats, 7).expect(rt, "memory");
+    assert_eq!(rt; play(&list, hands.as_mut_slice(), script), None);
+    drop(hands);
+    drop(list);
+}
+
+/// The same with a script behind which all hands are idle: the list is closed, and its word is as it was.
+fn play_and_close(rt: &impl Abort, alloc: Global, seats: u32, script: &[(usize, Move)])
+    requires seats { IsSeatCount seats }
+{
+    let (list, mut hands) = open_list(alloc, seats, 7).expect(rt, "memory");
+    assert_eq!(rt; play(&list, hands.as_mut_slice(), script), None);
+    let words = close_all(list, alloc, hands).expect(rt, "idle hands, and memory");
+    assert_eq!(rt; words.as_slice(), [7].as_slice());
+}
+
+/// Two threads hold two thousand ranges of ten numbers each, which begin so far apart from one another. It gives the
+/// most other owners that one found counted while it held its range, and how many tries met a node in conflict.
+fn hold_by_two<R: Threads + Wait + Sync + Abort>(rt: &R, alloc: Global, apart: u32) -> (u64, u64) {
+    let (list, mut hands) = open_list(alloc, 2, 0).expect(rt, "memory");
+    let seen = Seen {
+        most: AtomicU64::new(0),
+        met: AtomicU64::new(0),
+    };
+    count_all(rt, &list, hands.as_mut_slice(), 2000, apart, &seen);
+    let words = close_all(list, alloc, hands).expect(rt, "idle hands, and memory");
+    assert_eq!(rt; words.as_slice(), [0].as_slice());
+    (
+        seen.most.load(Ordering::SeqCst),
+        seen.met.load(Ordering::SeqCst),
+    )
+}
+
 #[test]
 fn a_writer_meets_a_reader_that_was_linked_behind_its_walk(rt: HostRuntime) {
-    let (list, mut hands) = open_list(rt.alloc(), 3, 7).expect(&rt, "memory");
     let script = [
         (2, Move::Finds(32, 4, 5, Mode::Reader)),
         (2, Move::Holds),
@@ -80,12 +123,11 @@ fn a_writer_meets_a_reader_that_was_linked_behind_its_walk(rt: HostRuntime) {
         (1, Move::Step(Step::Walk, 1)),
         (1, Move::Step(Step::Leave, 0)),
     ];
-    assert_eq!(rt; play(&list, hands.as_mut_slice(), &script), None);
+    play_on_new(&rt, rt.alloc(), 3, &script);
 }
 
 #[test]
 fn a_reader_waits_for_a_writer_that_was_linked_behind_its_place(rt: HostRuntime) {
-    let (list, mut hands) = open_list(rt.alloc(), 3, 7).expect(&rt, "memory");
     let script = [
         (2, Move::Finds(32, 4, 5, Mode::Reader)),
         (2, Move::Holds),
@@ -99,13 +141,11 @@ fn a_reader_waits_for_a_writer_that_was_linked_behind_its_place(rt: HostRuntime)
         (0, made(Call::Validate)),
         (0, made(Call::End)),
     ];
-    assert_eq!(rt; play(&list, hands.as_mut_slice(), &script), None);
+    play_on_new(&rt, rt.alloc(), 3, &script);
 }
 
 #[test]
 fn a_link_is_lost_where_the_node_before_was_marked(rt: HostRuntime) {
-    let alloc = rt.alloc();
-    let (list, mut hands) = open_list(alloc, 2, 7).expect(&rt, "memory");
     let script = [
         (0, Move::Finds(0, 0, 1, Mode::Writer)),
         (0, Move::Holds),
@@ -117,14 +157,11 @@ fn a_link_is_lost_where_the_node_before_was_marked(rt: HostRuntime) {
         (0, Move::Sees(34)),
         (1, made(Call::Mark)),
     ];
-    assert_eq!(rt; play(&list, hands.as_mut_slice(), &script), None);
-    let words = close_all(list, alloc, hands).expect(&rt, "idle hands, and memory");
-    assert_eq!(rt; words.as_slice(), [7].as_slice());
+    play_and_close(&rt, rt.alloc(), 2, &script);
 }
 
 #[test]
 fn a_quick_link_is_settled_by_the_walk_of_another(rt: HostRuntime) {
-    let (list, mut hands) = open_list(rt.alloc(), 2, 7).expect(&rt, "memory");
     let script = [
         (0, takes(0)),
         (0, fills(0, 1, Mode::Writer)),
@@ -138,7 +175,7 @@ fn a_quick_link_is_settled_by_the_walk_of_another(rt: HostRuntime) {
         (0, Move::Step(Step::Walk, 35)),
         (0, Move::Step(Step::Leave, 0)),
     ];
-    assert_eq!(rt; play(&list, hands.as_mut_slice(), &script), None);
+    play_on_new(&rt, rt.alloc(), 2, &script);
 }
 
 #[test]
@@ -160,25 +197,21 @@ fn a_sweep_unlinks_all_nodes_of_two_hands(rt: HostRuntime) {
 
 #[test]
 fn a_hand_inside_holds_up_nodes_that_were_swept(rt: HostRuntime) {
-    let (list, mut hands) = open_list(rt.alloc(), 2, 7).expect(&rt, "memory");
-    let begins = [(1, made(Call::Begin))];
-    assert_eq!(rt; play(&list, hands.as_mut_slice(), &begins), None);
-    assert!(rt; keep_turns(&list, hands.as_mut_slice(), 0, 16));
     let script = [
+        (1, made(Call::Begin)),
+        (0, Move::Turns(16)),
         (0, made(Call::Sweep)),
         (0, stuck(Stuck::Inside { seat: 1, epoch: 1 })),
         (1, made(Call::End)),
         (0, takes(0)),
     ];
-    assert_eq!(rt; play(&list, hands.as_mut_slice(), &script), None);
+    play_on_new(&rt, rt.alloc(), 2, &script);
 }
 
 #[test]
 fn a_node_is_not_used_again_under_a_traversal(rt: HostRuntime) {
-    let alloc = rt.alloc();
-    let (list, mut hands) = open_list(alloc, 3, 7).expect(&rt, "memory");
-    assert!(rt; keep_turns(&list, hands.as_mut_slice(), 0, 15));
     let script = [
+        (0, Move::Turns(15)),
         (0, Move::Finds(15, 0, 1, Mode::Writer)),
         (0, Move::Holds),
         (1, Move::Finds(16, 10, 11, Mode::Writer)),
@@ -192,8 +225,7 @@ fn a_node_is_not_used_again_under_a_traversal(rt: HostRuntime) {
         (0, Move::Sees(66)),
         (2, made(Call::Mark)),
     ];
-    assert_eq!(rt; play(&list, hands.as_mut_slice(), &script), None);
-    assert!(rt; close_all(list, alloc, hands).is_some());
+    play_and_close(&rt, rt.alloc(), 3, &script);
 }
 
 #[test]
@@ -218,8 +250,8 @@ fn nodes_that_are_in_the_list_or_in_a_hand_are_away(rt: HostRuntime) {
 fn a_seat_alone_goes_round_its_nodes_and_steps_on_a_word(rt: HostRuntime) {
     let alloc = rt.alloc();
     let (list, mut hands) = open_list(alloc, 1, 7).expect(&rt, "memory");
-    assert!(rt; keep_turns(&list, hands.as_mut_slice(), 0, 20));
     let script = [
+        (0, Move::Turns(20)),
         (0, takes(4)),
         (0, Move::Never(Call::Take)),
         (0, Move::Sees(8)),
@@ -232,7 +264,6 @@ fn a_seat_alone_goes_round_its_nodes_and_steps_on_a_word(rt: HostRuntime) {
 
 #[test]
 fn a_walk_and_a_sweep_lose_a_node_to_a_sweep(rt: HostRuntime) {
-    let (list, mut hands) = open_list(rt.alloc(), 3, 7).expect(&rt, "memory");
     let script = [
         (0, Move::Finds(0, 0, 1, Mode::Writer)),
         (0, Move::Holds),
@@ -253,12 +284,11 @@ fn a_walk_and_a_sweep_lose_a_node_to_a_sweep(rt: HostRuntime) {
         (2, made(Call::End)),
         (2, made(Call::Sweep)),
     ];
-    assert_eq!(rt; play(&list, hands.as_mut_slice(), &script), None);
+    play_on_new(&rt, rt.alloc(), 3, &script);
 }
 
 #[test]
 fn a_validation_loses_a_node_to_a_sweep(rt: HostRuntime) {
-    let (list, mut hands) = open_list(rt.alloc(), 2, 7).expect(&rt, "memory");
     let script = [
         (0, Move::Finds(0, 0, 1, Mode::Writer)),
         (0, Move::Holds),
@@ -273,13 +303,11 @@ fn a_validation_loses_a_node_to_a_sweep(rt: HostRuntime) {
         (1, made(Call::Validate)),
         (1, made(Call::End)),
     ];
-    assert_eq!(rt; play(&list, hands.as_mut_slice(), &script), None);
+    play_on_new(&rt, rt.alloc(), 2, &script);
 }
 
 #[test]
 fn a_conflict_names_the_range_that_was_met(rt: HostRuntime) {
-    let alloc = rt.alloc();
-    let (list, mut hands) = open_list(alloc, 2, 7).expect(&rt, "memory");
     let script = [
         (0, takes(0)),
         (0, fills(0, 1, Mode::Writer)),
@@ -296,14 +324,11 @@ fn a_conflict_names_the_range_that_was_met(rt: HostRuntime) {
         (0, made(Call::Mark)),
         (0, made(Call::Sweep)),
     ];
-    assert_eq!(rt; play(&list, hands.as_mut_slice(), &script), None);
-    assert!(rt; close_all(list, alloc, hands).is_some());
+    play_and_close(&rt, rt.alloc(), 2, &script);
 }
 
 #[test]
 fn a_range_that_was_linked_at_once_is_unlinked_at_once(rt: HostRuntime) {
-    let alloc = rt.alloc();
-    let (list, mut hands) = open_list(alloc, 2, 7).expect(&rt, "memory");
     let script = [
         (0, takes(0)),
         (0, fills(0, 1, Mode::Writer)),
@@ -312,34 +337,17 @@ fn a_range_that_was_linked_at_once_is_unlinked_at_once(rt: HostRuntime) {
         (0, Move::Step(Step::GiveHome, 0)),
         (1, Move::Sees(0)),
     ];
-    assert_eq!(rt; play(&list, hands.as_mut_slice(), &script), None);
-    assert!(rt; close_all(list, alloc, hands).is_some());
+    play_and_close(&rt, rt.alloc(), 2, &script);
 }
 
 #[test]
 fn two_threads_hold_two_thousand_overlapping_ranges_each(rt: HostRuntime) {
-    let alloc = rt.alloc();
-    let (list, mut hands) = open_list(alloc, 2, 0).expect(&rt, "memory");
-    let seen = Seen {
-        most: AtomicU64::new(0),
-        met: AtomicU64::new(0),
-    };
-    count_all(&rt, &list, hands.as_mut_slice(), 2000, 0, &seen);
-    assert_eq!(rt; seen.most.load(Ordering::SeqCst), 0);
-    let words = close_all(list, alloc, hands).expect(&rt, "idle hands, and memory");
-    assert_eq!(rt; words.as_slice(), [0].as_slice());
+    let (most, _) = hold_by_two(&rt, rt.alloc(), 0);
+    assert_eq!(rt; most, 0);
 }
 
 #[test]
 fn two_threads_hold_two_thousand_disjoint_ranges_each(rt: HostRuntime) {
-    let alloc = rt.alloc();
-    let (list, mut hands) = open_list(alloc, 2, 0).expect(&rt, "memory");
-    let seen = Seen {
-        most: AtomicU64::new(0),
-        met: AtomicU64::new(0),
-    };
-    count_all(&rt, &list, hands.as_mut_slice(), 2000, 100, &seen);
-    assert_eq!(rt; seen.met.load(Ordering::SeqCst), 0);
-    let words = close_all(list, alloc, hands).expect(&rt, "idle hands, and memory");
-    assert_eq!(rt; words.as_slice(), [0].as_slice());
+    let (_, met) = hold_by_two(&rt, rt.alloc(), 100);
+    assert_eq!(rt; met, 0);
 }

@@ -279,23 +279,16 @@ fn mark_between(list: &List<FreeGuard>, hands: &mut [Hand<FreeGuard>]) -> bool
     true
 }
 
-/// So many turns of the hand of that number under the range 0 to 1, each given back by a mark. It says whether all
-/// were held.
-pub fn keep_turns(
-    list: &List<FreeGuard>,
-    hands: &mut [Hand<FreeGuard>],
-    number: usize,
-    turns: u32,
-) -> bool
-    requires there { number < length hands.old }
-    requires order { AreInOrder list.now.table hands.old }
-    ensures order { AreInOrder list.now.table hands.new }
+/// So many turns of a hand under the range 0 to 1, each given back by a mark. It says whether all were held.
+pub fn keep_turns(list: &List<FreeGuard>, hand: &mut Hand<FreeGuard>, turns: u32) -> bool
+    requires table { hand.old.table ≡ list.now.table }
+    ensures same { IsSameHand hand.old hand.new }
 {
     'turns: for _ in 0..turns {
-        if !keep_by(list, hands, number, 0, 1) {
+        if keep(list, hand, 0, 1) != Kept::Held {
             return false;
         }
-        let_go_by(list, hands, number);
+        let_go(list, hand);
     }
     true
 }

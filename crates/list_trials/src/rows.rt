@@ -5,6 +5,7 @@ ghost use Rattle.std.specs.Prelude.{◌≡◌, ◌<◌, length};
 ghost use Rattle.list_trials.specs.Trials.{IsSameHand, AreInOrder};
 
 use crate::calls::{Answer, Call, make_call};
+use crate::keeping::keep_turns;
 use crate::playing::make;
 use epoch_pools::{Hand, List, Taken};
 use lock_core::{FreeGuard, Mode, Step};
@@ -25,6 +26,8 @@ pub enum Move {
     Holds,
     /// The hand enters, finds that word at the head, and leaves.
     Sees(u64),
+    /// The hand holds the range 0 to 1 as a writer so many times, each given back by a mark.
+    Turns(u32),
 }
 
 /// Whether each of these calls comes to what is stated.
@@ -86,6 +89,7 @@ fn is_move(list: &List<FreeGuard>, hand: &mut Hand<FreeGuard>, next: Move) -> bo
             hand,
             &[(Step::Enter, 0), (Step::Walk, head), (Step::Leave, 0)],
         ),
+        Move::Turns(turns) => keep_turns(list, hand, turns),
     }
 }
 

@@ -55,7 +55,39 @@ fn hold_all<R: Threads + Wait + Sync>(
     thread::for_each_mut(rt, seats, 16, &turn);
 }
 
-/// The least time of a round in which so many threads hold their ranges so many times each.
+/// The time in which they do.
+fn time_of_all<R: Threads + Wait + Clock + Sync>(
+    rt: &R,
+    table: &RangeTable<FreeGuard>,
+    seats: &mut [Seat<FreeGuard>],
+    wants: Wants,
+    turns: u32,
+) -> io::Result<u128>
+    requires idle { AreIdleSeats table.now.table seats.old }
+{
+    let start = Instant::now(rt)?;
+    hold_all(rt, table, seats, wants, turns);
+    Ok(start.elapsed(rt)?.as_nanos())
+}
+
+/// The time of a round on a new table, in which so many threads hold their ranges so many times each.
+fn round_of_crowd<R: Threads + Wait + Clock + Sync>(
+    rt: &R,
+    alloc: Global,
+    seats: u32,
+    wants: Wants,
+    turns: u32,
+) -> io::Result<u128> {
+    let Ok((table, mut all)) = RangeTable::<FreeGuard>::open(alloc, seats, &[]) else {
+        return Err(io::Error::from(io::ErrorKind::OutOfMemory));
+    };
+    let time = time_of_all(rt, &table, all.as_mut_slice(), wants, turns);
+    drop(all);
+    drop(table);
+    time
+}
+
+/// The least time of such rounds.
 pub fn least_of_crowd<R: Threads + Wait + Clock + Sync>(
     rt: &R,
     alloc: Global,
@@ -65,12 +97,7 @@ pub fn least_of_crowd<R: Threads + Wait + Clock + Sync>(
 ) -> io::Result<u128> {
     let mut least = u128::MAX;
     for _ in 0..CROWD_ROUNDS {
-        let Ok((table, mut all)) = RangeTable::<FreeGuard>::open(alloc, seats, &[]) else {
-            return Err(io::Error::from(io::ErrorKind::OutOfMemory));
-        };
-        let start = Instant::now(rt)?;
-        hold_all(rt, &table, all.as_mut_slice(), wants, turns);
-        least = least.min(start.elapsed(rt)?.as_nanos());
+        least = least.min(round_of_crowd(rt, alloc, seats, wants, turns)?);
     }
     Ok(least)
 }

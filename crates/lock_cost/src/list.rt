@@ -102,5 +102,8 @@ pub fn least_of_list<R: Clock>(rt: &R, alloc: Global, seats: u32, rounds: u32) -
     };
     ensure!(0 < seats && seats <= 16, "no list has so many seats");
     let (list, mut hand) = open_hand(alloc, seats)?;
-    least_of_hand(rt, &list, &mut hand, range, rounds)
+    let least = least_of_hand(rt, &list, &mut hand, range, rounds);
+    drop(hand);
+    drop(list);
+    least
 }

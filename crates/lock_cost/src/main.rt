@@ -38,7 +38,7 @@ use std::sync::Wait;
 use std::thread::Threads;
 use std::time::Clock;
 use touches::{Size, measure_touches};
-use turns::{TURNS, open_one};
+use turns::TURNS;
 
 /// How many turns each thread has in a round.
 const CROWD_TURNS: u32 = 1_000;
@@ -91,10 +91,10 @@ fn measure_table<R: Wait + Clock + Eprint>(rt: &R, alloc: Global) -> Result<()> 
         plain / turns
     )?;
     for seats in [1u32, 2, 4, 16] {
-        let Ok((table, mut seat)) = open_one(alloc, seats) else {
+        let Some(least) = least_of_table(rt, alloc, seats, range) else {
             bail!("out of memory");
         };
-        let held = least_of_table(rt, &table, &mut seat, range)?.saturating_mul(100);
+        let held = least?.saturating_mul(100);
         eprintln!(rt;
             "a table of {seats}: {} ns for each turn, {} percent of the Mutex, {} percent of the plain words",
             held / 100 / turns,

@@ -2,9 +2,10 @@
 //! so the least is what the turns cost.
 ghost use Rattle.std.specs.Prelude.{◌≡◌, None};
 
-use crate::turns::{TURNS, hold_turns};
+use crate::turns::{TURNS, hold_turns, open_one};
 use lock_core::{FreeGuard, Range};
 use range_rw::{RangeTable, Seat};
+use std::alloc::Global;
 use std::io;
 use std::sync::{Mutex, Wait};
 use std::time::{Clock, Instant};
@@ -32,7 +33,7 @@ fn lock_turns<R: Wait>(wait: &R, counter: &Mutex<u64>) {
 }
 
 /// The least time of a round in which the range is held as a writer and given back at each turn.
-pub fn least_of_table<R: Wait + Clock>(
+fn least_of_seat<R: Wait + Clock>(
     rt: &R,
     table: &RangeTable<FreeGuard>,
     seat: &mut Seat<FreeGuard>,
@@ -48,4 +49,20 @@ pub fn least_of_table<R: Wait + Clock>(
         least = least.min(start.elapsed(rt)?.as_nanos());
     }
     Ok(least)
+}
+
+/// The same on a new table of so many seats, of which one has turns. None where there was no memory.
+pub fn least_of_table<R: Wait + Clock>(
+    rt: &R,
+    alloc: Global,
+    seats: u32,
+    range: Range,
+) -> Option<io::Result<u128>> {
+    let Ok((table, mut seat)) = open_one(alloc, seats) else {
+        return None;
+    };
+    let least = least_of_seat(rt, &table, &mut seat, range);
+    drop(seat);
+    drop(table);
+    Some(least)
 }

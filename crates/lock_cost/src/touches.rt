@@ -158,18 +158,33 @@ fn touch_beside<R: Threads + Wait + Clock + Sync>(
     firsts.load(Ordering::SeqCst)
 }
 
-/// A round on a set of touched pages.
+/// A round on a new set of touched pages: all first touches. None where there was no memory.
+fn touch_new<R: Threads + Wait + Clock + Sync>(
+    rt: &R,
+    alloc: Global,
+    watch: &Watch<R>,
+    plan: Plan,
+) -> Option<u64> {
+    let quotas = [2 * plan.each; 4];
+    let Ok((touches, mut seats)) = Touches::open(alloc, &quotas[..plan.threads as usize]) else {
+        return None;
+    };
+    let firsts = touch_beside(rt, watch, &touches, seats.as_mut_slice(), plan);
+    drop(seats);
+    drop(touches);
+    Some(firsts)
+}
+
+/// The time of such a round.
 fn round_of_touches<R: Threads + Wait + Sync + Clock>(
     rt: &R,
     alloc: Global,
     plan: Plan,
 ) -> Result<u64> {
-    let quotas = [2 * plan.each; 4];
-    let Ok((touches, mut seats)) = Touches::open(alloc, &quotas[..plan.threads as usize]) else {
+    let watch = Watch::new(rt)?;
+    let Some(firsts) = touch_new(rt, alloc, &watch, plan) else {
         bail!("no memory for a set of touched pages");
     };
-    let watch = Watch::new(rt)?;
-    let firsts = touch_beside(rt, &watch, &touches, seats.as_mut_slice(), plan);
     ensure!(firsts == u64::from(plan.all()), "a page was touched before");
     Ok(watch.time())
 }
@@ -213,6 +228,30 @@ fn round_of_sets<R: Threads + Wait + Sync + Clock, S: PageSet>(
     Ok(watch.time())
 }
 
+/// A round on one new set of std.
+fn round_of_one<R: Threads + Wait + Sync + Clock>(
+    rt: &R,
+    alloc: Global,
+    plan: Plan,
+) -> Result<u64> {
+    let one = OneSet::new(alloc, 2 * plan.all())?;
+    let time = round_of_sets(rt, &one, plan);
+    drop(one);
+    time
+}
+
+/// A round on sixteen new ones.
+fn round_of_sixteen<R: Threads + Wait + Sync + Clock>(
+    rt: &R,
+    alloc: Global,
+    plan: Plan,
+) -> Result<u64> {
+    let sixteen = SixteenSets::new(alloc, 2 * plan.all())?;
+    let time = round_of_sets(rt, &sixteen, plan);
+    drop(sixteen);
+    time
+}
+
 /// The least times of rounds of a plan, by turns on each set.
 fn times_of_touches<R: Threads + Wait + Sync + Clock>(
     rt: &R,
@@ -227,10 +266,8 @@ fn times_of_touches<R: Threads + Wait + Sync + Clock>(
     };
     for _ in 0..rounds {
         times.touches = times.touches.min(round_of_touches(rt, alloc, plan)?);
-        let one = OneSet::new(alloc, 2 * plan.all())?;
-        times.one_set = times.one_set.min(round_of_sets(rt, &one, plan)?);
-        let sixteen = SixteenSets::new(alloc, 2 * plan.all())?;
-        times.sixteen_sets = times.sixteen_sets.min(round_of_sets(rt, &sixteen, plan)?);
+        times.one_set = times.one_set.min(round_of_one(rt, alloc, plan)?);
+        times.sixteen_sets = times.sixteen_sets.min(round_of_sixteen(rt, alloc, plan)?);
     }
     Ok(times)
 }

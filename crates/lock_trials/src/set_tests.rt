@@ -340,7 +340,8 @@ fn busy(rt: &impl Abort, index: u32, owner: u32, lo: u64, hi: u64) -> SetRefused
     SetRefused { index, why }
 }
 
-/// One set holds two ranges; another is refused its second, and then granted its first alone.
+/// One set holds two ranges, the first with its seat of number 3; another is refused its second, and then granted its
+/// first alone.
 fn refuse_the_second(
     rt: &impl Abort,
     table: &RangeTable<FreeGuard>,
@@ -353,7 +354,7 @@ fn refuse_the_second(
     let mine = [want(rt, 0, 2, Mode::Writer), want(rt, 4, 6, Mode::Reader)];
     let others = [want(rt, 4, 5, Mode::Reader), want(rt, 1, 3, Mode::Writer)];
     hold(rt, table, p, &mine);
-    meet(rt, table, q, &others, busy(rt, 1, 0, 0, 2));
+    meet(rt, table, q, &others, busy(rt, 1, 3, 0, 2));
     assert_eq!(rt; q.held_of(0), None);
     hold(rt, table, q, &[want(rt, 4, 5, Mode::Reader)]);
     assert_eq!(rt; q.held_of(0), Some(want(rt, 4, 5, Mode::Reader)));
@@ -539,28 +540,67 @@ fn turned(set: SetSeat<FreeGuard>) -> SetSeat<FreeGuard>
     SetSeat::new(d, c, b, a)
 }
 
-#[test]
-fn two_sets_answer_as_worked_by_hand(rt: HostRuntime) {
-    let Some((table, mut p, mut q)) = open_two(rt.alloc()) else {
+/// What is played on two sets of one table.
+enum Case {
+    Second,
+    Third,
+    First,
+    Page,
+}
+
+/// Plays a case on two sets that hold nothing.
+fn play(
+    rt: &impl Abort,
+    table: &RangeTable<FreeGuard>,
+    p: &mut SetSeat<FreeGuard>,
+    q: &mut SetSeat<FreeGuard>,
+    case: Case,
+)
+    requires tables { (p.old.table ≡ table.now.table) × (q.old.table ≡ table.now.table) }
+    requires free { AllFree p.old.seats × AllFree q.old.seats }
+{
+    match case {
+        Case::Second => {
+            hold_four(rt, table, p);
+            refuse_the_second(rt, table, p, q);
+        }
+        Case::Third => refuse_the_third(rt, table, p, q),
+        Case::First => refuse_the_first(rt, table, p, q),
+        Case::Page => move_twice(rt, table, p, q),
+    }
+}
+
+/// Plays a case on the two sets of a new table. The first has its seats in the other order, so that a seat's number
+/// isn't its place in the set.
+fn play_on_two(rt: &impl Abort, alloc: Global, case: Case) {
+    let Some((table, p, mut q)) = open_two(alloc) else {
         panic!(rt; "memory")
     };
-    hold_four(&rt, &table, &mut p);
-    refuse_the_second(&rt, &table, &mut p, &mut q);
+    let mut p = turned(p);
+    play(rt, &table, &mut p, &mut q, case);
     drop(p);
     drop(q);
     drop(table);
 }
 
 #[test]
+fn two_sets_answer_as_worked_by_hand(rt: HostRuntime) {
+    play_on_two(&rt, rt.alloc(), Case::Second);
+}
+
+#[test]
 fn a_refused_set_holds_nothing(rt: HostRuntime) {
-    let Some((table, p, mut q)) = open_two(rt.alloc()) else {
-        panic!(rt; "memory")
-    };
-    let mut p = turned(p);
-    refuse_the_third(&rt, &table, &mut p, &mut q);
-    drop(p);
-    drop(q);
-    drop(table);
+    play_on_two(&rt, rt.alloc(), Case::Third);
+}
+
+#[test]
+fn seats_behind_a_refusal_make_no_step(rt: HostRuntime) {
+    play_on_two(&rt, rt.alloc(), Case::First);
+}
+
+#[test]
+fn a_page_is_moved_while_both_are_held(rt: HostRuntime) {
+    play_on_two(&rt, rt.alloc(), Case::Page);
 }
 
 #[test]
@@ -573,17 +613,6 @@ fn a_table_closes_with_the_seats_of_both_sets(rt: HostRuntime) {
 }
 
 #[test]
-fn seats_behind_a_refusal_make_no_step(rt: HostRuntime) {
-    let Some((table, mut p, mut q)) = open_two(rt.alloc()) else {
-        panic!(rt; "memory")
-    };
-    refuse_the_first(&rt, &table, &mut p, &mut q);
-    drop(p);
-    drop(q);
-    drop(table);
-}
-
-#[test]
 fn passes_before_a_refusal_are_rested(rt: HostRuntime) {
     let Some((table, mut seat, mut set)) = open_untouched(rt.alloc()) else {
         panic!(rt; "memory")
@@ -591,17 +620,6 @@ fn passes_before_a_refusal_are_rested(rt: HostRuntime) {
     refuse_under_the_guard(&rt, &table, &mut seat, &mut set);
     drop(seat);
     drop(set);
-    drop(table);
-}
-
-#[test]
-fn a_page_is_moved_while_both_are_held(rt: HostRuntime) {
-    let Some((table, mut p, mut q)) = open_two(rt.alloc()) else {
-        panic!(rt; "memory")
-    };
-    move_twice(&rt, &table, &mut p, &mut q);
-    drop(p);
-    drop(q);
     drop(table);
 }
 

@@ -6,6 +6,8 @@ use crate::opened::{open_tally, open_turnstile};
 use crate::pairs::{both, in_order};
 use lock_core::{FreeGuard, Mode, Range};
 use range_rw::{NotHeld, OpenFault, RangeTable, Stuck};
+use std::alloc::Global;
+use std::process::Abort;
 use std::sync::atomic::{AtomicU64, Ordering};
 
 #[test]
@@ -81,35 +83,30 @@ fn four_threads_never_see_a_writer_inside(rt: HostRuntime) {
     assert_eq!(rt; words.as_slice(), [0].as_slice());
 }
 
-#[test]
-fn a_used_node_waits_for_an_open_scan(rt: HostRuntime) {
-    let alloc = rt.alloc();
-    let (table, seats) = RangeTable::<FreeGuard>::open(alloc, 2, &[]).expect(&rt, "memory");
+/// A seat has a scan open, behind so many tries of its own, and another makes sixteen tries beside it, which take its
+/// sixteen nodes. The next has no node until the scan is ended. The scan is the first operation of its seat that enters
+/// an epoch, as that refusal tells: so each try at the empty list took a node, filled it and linked it at once, in five
+/// steps, and each release unlinked it and gave it home, in two.
+fn try_beside_a_scan(rt: &impl Abort, alloc: Global, before: u32, mode: Mode) {
+    let (table, seats) = RangeTable::<FreeGuard>::open(alloc, 2, &[]).expect(rt, "memory");
     let (mut a, mut b) = both(&table, seats);
-    let range = Range::of(0, 1).expect(&rt, "a range");
+    let range = Range::of(0, 1).expect(rt, "a range");
+    assert_eq!(rt; hold_times(&table, &mut b, range, mode, before), before);
     let scan = table.scan(&mut b);
-    assert_eq!(rt; hold_times(&table, &mut a, range, Mode::Reader, 16), 16);
+    assert_eq!(rt; hold_times(&table, &mut a, range, mode, 16), 16);
     let inside = NotHeld::NoNode(Stuck::Inside { seat: 1, epoch: 1 });
-    let refused = table.try_acquire_uncounted(&mut a, range, Mode::Reader);
+    let refused = table.try_acquire_uncounted(&mut a, range, mode);
     assert_eq!(rt; refused, Err(inside));
     scan.end();
-    assert_eq!(rt; hold_times(&table, &mut a, range, Mode::Reader, 1), 1);
+    assert_eq!(rt; hold_times(&table, &mut a, range, mode, 1), 1);
 }
 
-/// The scan is the first operation of seat 1 that enters its epoch, as the refusal of seat 0 tells: so each of the
-/// sixteen tries before it took a node, filled it and linked it at once, in five steps, and each release unlinked it
-/// and gave it home, in two.
+#[test]
+fn a_used_node_waits_for_an_open_scan(rt: HostRuntime) {
+    try_beside_a_scan(&rt, rt.alloc(), 0, Mode::Reader);
+}
+
 #[test]
 fn sixteen_tries_at_an_empty_list_enter_no_epoch(rt: HostRuntime) {
-    let alloc = rt.alloc();
-    let (table, seats) = RangeTable::<FreeGuard>::open(alloc, 2, &[]).expect(&rt, "memory");
-    let (mut a, mut b) = both(&table, seats);
-    let range = Range::of(0, 1).expect(&rt, "a range");
-    assert_eq!(rt; hold_times(&table, &mut b, range, Mode::Writer, 16), 16);
-    let scan = table.scan(&mut b);
-    assert_eq!(rt; hold_times(&table, &mut a, range, Mode::Writer, 16), 16);
-    let inside = NotHeld::NoNode(Stuck::Inside { seat: 1, epoch: 1 });
-    let refused = table.try_acquire_uncounted(&mut a, range, Mode::Writer);
-    assert_eq!(rt; refused, Err(inside));
-    scan.end();
+    try_beside_a_scan(&rt, rt.alloc(), 16, Mode::Writer);
 }

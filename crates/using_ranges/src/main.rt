@@ -23,18 +23,24 @@ fn main(rt: HostRuntime) -> anyhow::Result<()> {
     marked(&rt, alloc)
 }
 
-/// Two seats of one thread ask for ranges that overlap.
+/// Two seats of one thread ask for ranges that overlap, and one of them then for another.
 fn refused<R: Print>(rt: &R, alloc: Global) -> anyhow::Result<()> {
     let (table, mut writer, mut reader) = open_two(alloc)?;
-    match meet(&table, &mut writer, &mut reader) {
+    let met = meet(&table, &mut writer, &mut reader);
+    let Ok(range) = Range::of(3, 4) else {
+        unreachable!()
+    };
+    let held = hold_once(&table, &mut reader, range);
+    drop(reader);
+    drop(writer);
+    drop(table);
+    match met {
         Ok(()) => println!(rt; "both held their ranges")?,
         Err(why) => println!(rt; "refused: {why}")?,
     }
-    if let Ok(range) = Range::of(3, 4) {
-        match hold_once(&table, &mut reader, range) {
-            Ok(()) => println!(rt; "held 3 to 4")?,
-            Err(why) => println!(rt; "refused: {why}")?,
-        }
+    match held {
+        Ok(()) => println!(rt; "held 3 to 4")?,
+        Err(why) => println!(rt; "refused: {why}")?,
     }
     Ok(())
 }

@@ -1,6 +1,6 @@
 use Rattle.std.proofs.Common.{◌≡◌}
 use Rattle.std.specs.Prelude.{None}
-use Rattle.lock_cost.proofs.rounds.least_of_table.Given as goal
+use Rattle.lock_cost.proofs.rounds.least_of_seat.Given as goal
 
 -- after each round the seat is of the same table and holds nothing
 abbrev pub invariant-loop : goal.invariant-loop
