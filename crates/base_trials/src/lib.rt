@@ -10,6 +10,8 @@ mod command_tests;
 #[cfg(test)]
 mod load_tests;
 #[cfg(test)]
+mod move_tests;
+#[cfg(test)]
 mod port_tests;
 mod replies;
 #[cfg(test)]

@@ -192,17 +192,26 @@ fn a_seal_keeps_all_but_the_seal(rt: HostRuntime) -> Result<(), Fail> {
 #[test]
 fn a_seal_is_asked_for_its_rows(rt: HostRuntime) -> Result<(), Fail> {
     let list = full(rt.alloc())?;
-    assert!(rt; list.len() < 10_000 && have_named_kinds(&list));
+    assert!(rt; list.len() < 200_000 && have_named_kinds(&list));
     let mut space = PlainSpace::of_areas(rt.alloc(), &list)?;
     let whole = Under::Whole;
-    let rows = Reply::Refused(Why::Enomem(Short::Rows(4098)));
-    expect(&rt, &mut space, seal(0x100e000, 4096), whole, rows)?;
-    expect(&rt, &mut space, seal(0x100d000, 12288), whole, Reply::Zero)?;
+    let rows = Reply::Refused(Why::Enomem(Short::Rows(131_063)));
+    expect(&rt, &mut space, seal(0x2000_3000, 4096), whole, rows)?;
     expect(
         &rt,
         &mut space,
-        protect(0x100e000, 4096, Prot::READ),
-        Under::Area(Span { lo: 4108, hi: 4113 }),
-        Reply::Refused(Why::Eperm(0x100e)),
+        seal(0x2000_2000, 12288),
+        whole,
+        Reply::Zero,
+    )?;
+    expect(
+        &rt,
+        &mut space,
+        protect(0x2000_3000, 4096, Prot::READ),
+        Under::Area(Span {
+            lo: 131_073,
+            hi: 131_078,
+        }),
+        Reply::Refused(Why::Eperm(0x2_0003)),
     )
 }

@@ -1,6 +1,8 @@
 //! The space of one thread at cases worked by hand: what each call answers, what it has to hold, which areas it leaves,
 //! and which histories are legal. The profile of mmap(2), munmap(2) and mprotect(2) is this project's own.
-use page_types::{Access, Call, Field, Kind, LIMIT, MapFlags, PAGE, Prot, Reply, Short, Span, Why};
+use page_types::{
+    Access, Call, Field, Kind, LIMIT, LOW, MapFlags, PAGE, Prot, Reply, Short, Span, Why,
+};
 use space_model::{
     Area, AreasFault, Entry, NotAreas, PlainSpace, Under, by_number, have_named_calls,
     have_named_kinds, legal,
@@ -237,8 +239,13 @@ fn arguments_alone_decide_with_nothing_held(rt: HostRuntime) -> Result<(), Fail>
             ),
             Case(
                 map(0x7fff_ffff_e000, 8192, Prot::READ, fixed()),
+                Under::Whole,
+                Reply::At(0x7fff_ffff_e000),
+            ),
+            Case(
+                map(0xff_ffff_ffff_e000, 8192, Prot::READ, fixed()),
                 Under::Nothing,
-                Reply::Refused(Why::Enomem(Short::PastEnd(0x8_0000_0000))),
+                Reply::Refused(Why::Enomem(Short::PastEnd(0x1000_0000_0000))),
             ),
         ],
     )?;
@@ -343,7 +350,7 @@ fn a_place_is_the_lowest_conflict_or_the_highest_fit(rt: HostRuntime) -> Result<
 #[test]
 fn a_place_without_a_fixed_flag_starts_at_page_16_or_above(rt: HostRuntime) -> Result<(), Fail> {
     let mut space = PlainSpace::new(rt.alloc());
-    let pages = LIMIT - 16;
+    let pages = LOW - 16;
     let both = MapFlags::FIXED | MapFlags::FIXED_NOREPLACE;
     play(
         &rt,
@@ -381,6 +388,102 @@ fn a_place_without_a_fixed_flag_starts_at_page_16_or_above(rt: HostRuntime) -> R
                 map(0x10000, 4096, Prot::READ, MapFlags::PRIVATE | both),
                 Under::Whole,
                 Reply::Refused(Why::Eexist(16)),
+            ),
+        ],
+    )?;
+    Ok(())
+}
+
+#[test]
+fn a_place_ends_in_the_window_of_its_hint(rt: HostRuntime) -> Result<(), Fail> {
+    let mut space = PlainSpace::new(rt.alloc());
+    let flags = MapFlags::PRIVATE;
+    play(
+        &rt,
+        &mut space,
+        &[
+            // a hint below LOW whose end lies above isn't taken, and a gap over LOW is cut there
+            Case(
+                map(0x7fff_ffff_d000, 12288, Prot::READ, flags),
+                Under::Whole,
+                Reply::At(0x7fff_ffff_c000),
+            ),
+            // the last byte below LOW has the low window, and the first one at LOW the high one
+            Case(
+                map(0x7fff_ffff_efff, 12288, read_write(), flags),
+                Under::Whole,
+                Reply::At(0x7fff_ffff_9000),
+            ),
+            Case(
+                map(0x7fff_ffff_ffff, 12288, read_write(), flags),
+                Under::Whole,
+                Reply::At(0x7fff_ffff_f000),
+            ),
+            // a hint at or past the limit has the high window too, and is never taken
+            Case(
+                map(0xff_ffff_ffff_f000, 4096, Prot::READ, flags),
+                Under::Whole,
+                Reply::At(0xff_ffff_ffff_e000),
+            ),
+            Case(
+                map(u64::MAX, 1, Prot::READ, flags),
+                Under::Whole,
+                Reply::At(0xff_ffff_ffff_d000),
+            ),
+        ],
+    )?;
+    assert_eq!(rt;
+        space.areas(),
+        [
+            area(0x7_ffff_fff9, 0x7_ffff_fffc, read_write()),
+            area(0x7_ffff_fffc, LOW, Prot::READ),
+            area(LOW, LOW + 3, read_write()),
+            area(LIMIT - 2, LIMIT, Prot::READ)
+        ]
+        .as_slice()
+    );
+    Ok(())
+}
+
+#[test]
+fn a_window_that_is_full_has_no_place(rt: HostRuntime) -> Result<(), Fail> {
+    let mut space = PlainSpace::new(rt.alloc());
+    let flags = MapFlags::PRIVATE;
+    let none = Reply::Refused(Why::Enomem(Short::NoGap(1)));
+    play(
+        &rt,
+        &mut space,
+        &[
+            Case(
+                map(0x10000, (LOW - 16) * PAGE, Prot::READ, fixed()),
+                Under::Whole,
+                Reply::At(0x10000),
+            ),
+            Case(map(0, 4096, Prot::READ, flags), Under::Whole, none),
+            Case(
+                map(LOW * PAGE, 4096, Prot::WRITE, flags),
+                Under::Whole,
+                Reply::At(LOW * PAGE),
+            ),
+            Case(map(0x1000, 4096, Prot::READ, flags), Under::Whole, none),
+            // a high hint may find a place below
+            Case(
+                map(LOW * PAGE, (LIMIT - LOW) * PAGE, Prot::READ, fixed()),
+                Under::Whole,
+                Reply::At(LOW * PAGE),
+            ),
+            Case(
+                Call::Unmap {
+                    addr: 0x7fff_ffff_d000,
+                    len: 4096,
+                },
+                Under::Whole,
+                Reply::Zero,
+            ),
+            Case(
+                map(0x8000_0000_0000, 4096, read_write(), flags),
+                Under::Whole,
+                Reply::At(0x7fff_ffff_d000),
             ),
         ],
     )?;
@@ -427,10 +530,10 @@ fn a_protect_keeps_the_sharing(rt: HostRuntime) -> Result<(), Fail> {
     Ok(())
 }
 
-/// Pages 16 to 4108 of two kinds in turn, and then an area of three pages: 4096 rows.
+/// Pages 16 to 131,073 of two kinds in turn, and then an area of three pages: 131,061 rows.
 pub(crate) fn full(alloc: Global) -> Result<Vec<Area>, AllocError> {
     let mut list = Vec::new(alloc);
-    for page in 16..4109u64 {
+    for page in 16..131_074u64 {
         let prot = if page % 2 == 0 {
             Prot::READ
         } else {
@@ -438,7 +541,7 @@ pub(crate) fn full(alloc: Global) -> Result<Vec<Area>, AllocError> {
         };
         list.push(area(page, page + 1, prot))?;
     }
-    list.push(area(4109, 4112, read_write()))?;
+    list.push(area(131_074, 131_077, Prot::READ))?;
     Ok(list)
 }
 
@@ -447,17 +550,17 @@ fn the_row_limit_refuses_a_split_and_lets_a_simple_protect_through(
     rt: HostRuntime,
 ) -> Result<(), Fail> {
     let list = full(rt.alloc())?;
-    assert!(rt; list.len() == 4094);
+    assert!(rt; list.len() == 131_059);
     assert!(rt; have_named_kinds(&list));
     let mut space = PlainSpace::of_areas(rt.alloc(), &list)?;
-    assert_eq!(rt; space.rows(), 4096);
+    assert_eq!(rt; space.rows(), 131_061);
     play(
         &rt,
         &mut space,
         &[Case(
-            protect(0x100e000, 4096, Prot::READ),
+            protect(0x2000_3000, 4096, read_write()),
             Under::Whole,
-            Reply::Refused(Why::Enomem(Short::Rows(4098))),
+            Reply::Refused(Why::Enomem(Short::Rows(131_063))),
         )],
     )?;
     assert_eq!(rt; space.areas(), list.as_slice());

@@ -3,11 +3,11 @@
 use Rattle.std.specs.Prelude.{Option, Some, None}
 use Rattle.page_types.specs.declared.calls.Kind.{Kind}
 use Rattle.page_types.specs.declared.calls.Call.{Call}
-use Rattle.page_types.specs.declared.calls.Call.TheVariants.{Map, Unmap, Protect, Fault, Seal}
+use Rattle.page_types.specs.declared.calls.Call.TheVariants.{Map, Unmap, Protect, Fault, Seal, Brk, Remap}
 use Rattle.page_types.specs.declared.calls.Reply.{Reply}
 use Rattle.page_types.specs.declared.calls.Reply.TheVariants.{At, Zero, Granted, Refused}
 use Rattle.page_types.specs.declared.calls.Why.{Why}
-use Rattle.page_types.specs.declared.calls.Why.TheVariants.{Einval, Enomem, Eexist, Eperm, MapErr, AccErr}
+use Rattle.page_types.specs.declared.calls.Why.TheVariants.{Einval, Enomem, Eexist, Eperm, Efault, MapErr, AccErr}
 use Rattle.page_types.specs.Sets.{IsNamedProt, IsNamedFlags}
 
 -- the protection has no bit but the named ones
@@ -26,6 +26,8 @@ IsNamedCall (Unmap addr len) = Unit {0}
 IsNamedCall (Protect addr len prot) = IsNamedProt prot
 IsNamedCall (Fault addr access) = Unit {0}
 IsNamedCall (Seal addr len flags) = Unit {0}
+IsNamedCall (Brk base addr) = Unit {0}
+IsNamedCall (Remap addr old new may hint) = Unit {0}
 
 -- the kind that a refusal names has no bit but the named ones
 abbrev pub IsNamedWhy : Why → Type 0
@@ -33,6 +35,7 @@ IsNamedWhy (Einval field) = Unit {0}
 IsNamedWhy (Enomem short) = Unit {0}
 IsNamedWhy (Eexist page) = Unit {0}
 IsNamedWhy (Eperm page) = Unit {0}
+IsNamedWhy (Efault page) = Unit {0}
 IsNamedWhy (MapErr page) = Unit {0}
 IsNamedWhy (AccErr page kind) = IsNamedKind kind
 

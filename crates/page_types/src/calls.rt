@@ -1,11 +1,11 @@
-//! The five calls on an address space, their replies, and the check of a call's arguments, which comes before any look
-//! at the space. The calls and the errors follow mmap(2), munmap(2), mprotect(2) and mseal(2); a fault's two errors are
-//! the SIGSEGV codes SEGV_MAPERR and SEGV_ACCERR of sigaction(2). `plain_reply` in `specs/` lists the checks in their
-//! order, and `plain` is exactly that list.
+//! The seven calls on an address space, their replies, and the check of a call's arguments, which comes before any look
+//! at the space. The calls and the errors follow mmap(2), munmap(2), mprotect(2), mseal(2), brk(2) and mremap(2); a
+//! fault's two errors are the SIGSEGV codes SEGV_MAPERR and SEGV_ACCERR of sigaction(2). `plain_reply` in `specs/`
+//! lists the checks in their order, and `plain` is exactly that list.
 
 ghost use Rattle.std.specs.Prelude.{◌≡◌, ◌↔◌, IsTrue};
 ghost use Rattle.page_types.specs.Sets.{is_fixed, has_one_sharing};
-ghost use Rattle.page_types.specs.PlainReply.{plain_reply, map_reply, unmap_reply, protect_reply, fault_reply, seal_reply};
+ghost use Rattle.page_types.specs.PlainReply.{plain_reply, map_reply, unmap_reply, protect_reply, fault_reply, seal_reply, brk_reply, remap_reply};
 ghost use Rattle.page_types.specs.Named.{IsNamedCall, IsNamedKind};
 
 use crate::pages::{Field, end_page};
@@ -70,6 +70,27 @@ pub enum Call {
         /// No flag is known, so only 0 is right.
         flags: u64,
     },
+    /// Moves the end of the heap, as brk(2) does. Linux remembers where a program's heap begins; here each call says
+    /// it.
+    Brk {
+        /// The first byte of the heap, which is that of a page.
+        base: u64,
+        /// The byte behind the heap's last one, rounded up to whole pages.
+        addr: u64,
+    },
+    /// Makes pages of one kind more or fewer, as mremap(2) does.
+    Remap {
+        /// The first byte.
+        addr: u64,
+        /// How many bytes there are, rounded up to whole pages.
+        old_len: u64,
+        /// How many there are to be, rounded up to whole pages.
+        new_len: u64,
+        /// Whether they may be put elsewhere, as with MREMAP_MAYMOVE.
+        may_move: bool,
+        /// Where they are put before any other place is tried, or 0 for none. It counts only where they may move.
+        hint: u64,
+    },
 }
 
 impl Kind {
@@ -89,7 +110,11 @@ impl Call {
         match *self {
             Call::Map { prot, flags, .. } => prot.is_named() && flags.is_named(),
             Call::Protect { prot, .. } => prot.is_named(),
-            Call::Unmap { .. } | Call::Fault { .. } | Call::Seal { .. } => true,
+            Call::Unmap { .. }
+            | Call::Fault { .. }
+            | Call::Seal { .. }
+            | Call::Brk { .. }
+            | Call::Remap { .. } => true,
         }
     }
 }
@@ -97,7 +122,7 @@ impl Call {
 /// The reply to a call.
 #[derive(Clone, Copy, PartialEq, Eq, Hash, Debug)]
 pub enum Reply {
-    /// The address in bytes at which a Map put its pages.
+    /// The address in bytes at which a Map put its pages or a Remap left them, or at which the heap ends after a Brk.
     At(u64),
     /// An Unmap, a Protect or a Seal was done.
     Zero,
@@ -118,6 +143,8 @@ pub enum Why {
     Eexist(u64),
     /// EPERM: the lowest page that is sealed.
     Eperm(u64),
+    /// EFAULT: the lowest page that isn't mapped or isn't of the first page's kind.
+    Efault(u64),
     /// SEGV_MAPERR: the page isn't mapped.
     MapErr(u64),
     /// SEGV_ACCERR: the page, and its kind, which doesn't let the access through.
@@ -131,7 +158,7 @@ pub enum Short {
     Missing(u64),
     /// The page after the span's last one, which is above `LIMIT`.
     PastEnd(u64),
-    /// How many pages the call asks for, where no gap has so many.
+    /// How many pages the call asks for, where no place for so many is free.
     NoGap(u64),
     /// How many rows the result would have, which is more than `ROWS`.
     Rows(u32),
@@ -141,7 +168,8 @@ pub enum Short {
 ///
 /// For each call the checks come in the order alignment, length, flags, end, and the first that fails decides. Only the
 /// fixed forms of a Map ask for an aligned address and an end at or below `LIMIT`; a Protect of no bytes is done, and
-/// so is a Seal, whatever its flags are; a Fault at or above `LIMIT` finds no page.
+/// so is a Seal, whatever its flags are; a Fault at or above `LIMIT` finds no page. Of a Brk only the base is asked,
+/// and of a Remap the address, both lengths, and the end of the pages that there are.
 pub fn plain(call: &Call) -> Option<Reply>
     ensures { result ≡ plain_reply call.now }
 {
@@ -156,6 +184,13 @@ pub fn plain(call: &Call) -> Option<Reply>
         Call::Protect { addr, len, .. } => plain_protect(addr, len),
         Call::Fault { addr, .. } => plain_fault(addr),
         Call::Seal { addr, len, flags } => plain_seal(addr, len, flags),
+        Call::Brk { base, .. } => plain_brk(base),
+        Call::Remap {
+            addr,
+            old_len,
+            new_len,
+            ..
+        } => plain_remap(addr, old_len, new_len),
     }
 }
 
@@ -235,6 +270,39 @@ fn plain_seal(addr: u64, len: u64, flags: u64) -> Option<Reply>
     let end = end_page(addr, len);
     if end > LIMIT {
         return Some(Reply::Refused(Why::Enomem(Short::PastEnd(end))));
+    }
+    None
+}
+
+fn plain_brk(base: u64) -> Option<Reply>
+    ensures { result ≡ brk_reply base }
+{
+    if base == 0 {
+        return Some(Reply::Refused(Why::Einval(Field::Addr)));
+    }
+    if base % PAGE != 0 {
+        return Some(Reply::Refused(Why::Einval(Field::Addr)));
+    }
+    if base / PAGE >= LIMIT {
+        return Some(Reply::Refused(Why::Einval(Field::Addr)));
+    }
+    None
+}
+
+fn plain_remap(addr: u64, old_len: u64, new_len: u64) -> Option<Reply>
+    ensures { result ≡ remap_reply addr old_len new_len }
+{
+    if addr % PAGE != 0 {
+        return Some(Reply::Refused(Why::Einval(Field::Addr)));
+    }
+    if old_len == 0 {
+        return Some(Reply::Refused(Why::Einval(Field::Len)));
+    }
+    if new_len == 0 {
+        return Some(Reply::Refused(Why::Einval(Field::Len)));
+    }
+    if end_page(addr, old_len) > LIMIT {
+        return Some(Reply::Refused(Why::Einval(Field::End)));
     }
     None
 }

@@ -1,5 +1,5 @@
--- Kinds have one list of row words: two that show the same kinds are equal, word by word.
-use Rattle.std.proofs.Common.{◌≡◌, ℕ, ◌/◌, ◌%◌, ◌<◌, Bool, true, false, cond, eqb, List, [], ◌∷◌}
+-- Kinds have one list of row words: two that show the same kinds are equal, word by word, as far as they do.
+use Rattle.std.proofs.Common.{◌≡◌, ℕ, zero, suc, ◌+◌, ◌/◌, ◌%◌, ◌<◌, ◌≤◌, Bool, true, false, cond, eqb, List, [], ◌∷◌, length, get_or}
 use Rattle.std.proofs.Common.{sym, refl, ap, ◌∙◌, subst, arith, inl, inr}
 use Rattle.std.proofs.lemmas.Bool.{cases_lt, eqb-true, eqb-false}
 use Rattle.std.proofs.lemmas.List.Elements.{All-head, All-tail}
@@ -8,6 +8,7 @@ use Rattle.page_types.specs.declared.calls.Kind.{Kind}
 use Rattle.row_plans.specs.RowWords.{row_start, row_kind, kind_bits, row_word}
 use Rattle.row_plans.specs.RowLists.{rows_start, ShowFrom, IsBareGap}
 use Rattle.row_plans.proofs.RowLists.{starts_low}
+use Rattle.row_plans.proofs.RowPages.{rises_from}
 
 -- the kind that the low six bits say, as three tests of them
 abbrev low_kind : ℕ → Bool → Bool → Bool → Option Kind
@@ -46,16 +47,32 @@ one_word word other start kind bare other_bare = none_or (row_kind word) (word �
     let same : kind_bits (row_kind word) ≡ kind_bits (row_kind other) = ap kind_bits kind in
     omega arith)
 
--- the rows behind a row of theirs start no lower than those behind another row of the same kind
-no_lower : (page word other : ℕ) (rows more : List ℕ) (kinds : ℕ → Option Kind) → row_kind word ≡ row_kind other
-    → ShowFrom page (word ∷ rows) kinds → ShowFrom page (other ∷ more) kinds → rows_start rows < rows_start more → ⊥
-no_lower page word other [] more kinds same s t lt = let l = starts_low (rows_start more) more kinds t.4 in omega arith
-no_lower page word other (next ∷ rest) more kinds same s t lt =
+-- the rows behind a row of theirs start no lower than those behind another row of the same kind, where both lists show
+-- one kind at that start
+no_lower : (page word other : ℕ) (rows more : List ℕ) (kinds others : ℕ → Option Kind) → row_kind word ≡ row_kind other
+    → ShowFrom page (word ∷ rows) kinds → ShowFrom page (other ∷ more) others → kinds (rows_start rows) ≡ others (rows_start rows)
+    → rows_start rows < rows_start more → ⊥
+no_lower page word other [] more kinds others same s t agree lt = let l = starts_low (rows_start more) more others t.4 in omega arith
+no_lower page word other (next ∷ rest) more kinds others same s t agree lt =
     let from = s.1 in
     let start : row_start next ≡ rows_start (next ∷ rest) = refl in
     let here : kinds (row_start next) ≡ row_kind next = s.4.3 (row_start next) (omega arith) s.4.1 in
-    let there : kinds (row_start next) ≡ row_kind other = t.3 (row_start next) (omega arith) lt in
-    s.2 (same ∙ (sym there ∙ here))
+    let there : others (row_start next) ≡ row_kind other = t.3 (row_start next) (omega arith) lt in
+    s.2 (same ∙ (sym there ∙ (sym agree ∙ here)))
+
+-- rows of one kind that are the first of two lists are followed by rows with one start, where that is below a page up
+-- to which both lists show the same
+module _ (page w v : ℕ) (rest more : List ℕ) (kinds others : ℕ → Option Kind) (kind : row_kind w ≡ row_kind v)
+    (s : ShowFrom page (w ∷ rest) kinds) (t : ShowFrom page (v ∷ more) others) where
+  one_start : (end : ℕ) → ((p : ℕ) → page ≤ p → p < end → kinds p ≡ others p) → rows_start rest < end → rows_start rest ≡ rows_start more
+  one_start end same low = let from = s.1 in let other_from = t.1 in elim (cases_lt (rows_start rest) (rows_start more)) [
+    | inl lt ↦ absurd (no_lower page w v rest more kinds others kind s t (same (rows_start rest) (omega arith) low) lt)
+    | inr ge ↦ elim (cases_lt (rows_start more) (rows_start rest)) [
+      | inl less ↦ absurd (no_lower page v w more rest others kinds (sym kind) t s
+          (sym (same (rows_start more) (omega arith) (omega arith))) less)
+      | inr le ↦ omega arith
+    ]
+  ]
 
 -- rows that show kinds from a page on are the only ones
 pub one_list : (page : ℕ) (rows others : List ℕ) (kinds : ℕ → Option Kind) → ShowFrom page rows kinds → ShowFrom page others kinds
@@ -66,13 +83,31 @@ one_list page (w ∷ rest) [] kinds s t bare other_bare = let l = starts_low (ro
 one_list page (w ∷ rest) (v ∷ more) kinds s t bare other_bare =
     let kind : row_kind w ≡ row_kind v = sym (s.3 page (omega arith) s.1) ∙ t.3 page (omega arith) t.1 in
     let word : w ≡ v = one_word w v (s.0 ∙ sym t.0) kind (All-head IsBareGap w rest bare) (All-head IsBareGap v more other_bare) in
-    let start : rows_start rest ≡ rows_start more = elim (cases_lt (rows_start rest) (rows_start more)) [
-      | inl lt ↦ absurd (no_lower page w v rest more kinds kind s t lt)
-      | inr ge ↦ elim (cases_lt (rows_start more) (rows_start rest)) [
-        | inl less ↦ absurd (no_lower page v w more rest kinds (sym kind) t s less)
-        | inr le ↦ omega arith
-      ]
-    ] in
+    let start : rows_start rest ≡ rows_start more =
+    one_start page w v rest more kinds kinds kind s t (rows_start rest + 1) (λ p from below. refl) (omega arith) in
     let tail : rest ≡ more = one_list (rows_start rest) rest more kinds s.4 (subst (λ p. ShowFrom p more kinds) (sym start) t.4)
     (All-tail IsBareGap w rest bare) (All-tail IsBareGap v more other_bare) in
     λ i. word i ∷ tail i
+
+-- a row that starts below a page up to which two lists show the same stands in both, at the same place
+pub same_below : (page : ℕ) (rows others : List ℕ) (kinds other : ℕ → Option Kind) (end i : ℕ) → ShowFrom page rows kinds
+    → ShowFrom page others other → All IsBareGap rows → All IsBareGap others
+    → ((p : ℕ) → page ≤ p → p < end → kinds p ≡ other p) → i < length rows → row_start (get_or rows i 0) < end
+    → (i < length others) × (get_or others i 0 ≡ get_or rows i 0)
+same_below page [] others kinds other end i s t bare other_bare same lt low = absurd (omega arith)
+same_below page (w ∷ rest) [] kinds other end i s t bare other_bare same lt low =
+    let l = starts_low (rows_start rest) rest kinds s.4 in let h = s.1 in absurd (omega arith)
+same_below page (w ∷ rest) (v ∷ more) kinds other end zero s t bare other_bare same lt low =
+    let start = s.0 in
+    let kind : row_kind w ≡ row_kind v =
+    sym (s.3 page (omega arith) s.1) ∙ (same page (omega arith) (omega arith) ∙ t.3 page (omega arith) t.1) in
+    (omega arith, sym (one_word w v (s.0 ∙ sym t.0) kind (All-head IsBareGap w rest bare) (All-head IsBareGap v more other_bare)))
+same_below page (w ∷ rest) (v ∷ more) kinds other end (suc i) s t bare other_bare same lt low =
+    let from = s.1 in
+    let up = rises_from (rows_start rest) rest kinds i 0 s.4 (omega arith) in
+    let kind : row_kind w ≡ row_kind v =
+    sym (s.3 page (omega arith) s.1) ∙ (same page (omega arith) (omega arith) ∙ t.3 page (omega arith) t.1) in
+    let start : rows_start rest ≡ rows_start more = one_start page w v rest more kinds other kind s t end same (omega arith) in
+    let r = same_below (rows_start rest) rest more kinds other end i s.4 (subst (λ p. ShowFrom p more other) (sym start) t.4)
+    (All-tail IsBareGap w rest bare) (All-tail IsBareGap v more other_bare) (λ p above below. same p (omega arith) below) (omega arith) low in
+    (omega (arith, r.0), r.1)

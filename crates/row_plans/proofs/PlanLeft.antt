@@ -1,6 +1,7 @@
 -- The rows that a call leaves stand for the area list with the changed kinds: so the plan of a call is the model's
 -- answer.
-use Rattle.std.proofs.Common.{◌≡◌, ◌≢◌, ℕ, suc, ◌+◌, ◌<◌, ◌≤◌, List, [], ◌∷◌, length, cond, sym, refl, ap, ◌∙◌, subst, arith, inl, inr}
+use Rattle.std.proofs.Common.{◌≡◌, ◌≢◌, ℕ, suc, ◌+◌, ◌/◌, ◌%◌, ◌<◌, ◌≤◌, List, [], ◌∷◌, length}
+use Rattle.std.proofs.Common.{Bool, true, false, cond, eqb, sym, refl, ap, ◌∙◌, subst, arith, inl, inr}
 use Rattle.std.proofs.lemmas.Bool.{cases_lt, lt-ltb, le-ltb}
 use Rattle.std.proofs.lemmas.List.Elements.{All-nil, All-cons}
 use Rattle.std.specs.Prelude.{All, Option, Some, None}
@@ -10,25 +11,29 @@ use Rattle.page_types.specs.declared.calls.Call.{Call}
 use Rattle.page_types.specs.declared.calls.Reply.{Reply}
 use Rattle.page_types.specs.declared.calls.Reply.TheVariants.{Refused}
 use Rattle.page_types.specs.declared.calls.Why.{Why}
+use Rattle.page_types.specs.Named.{IsNamedKind, IsNamedOption, IsNamedCall}
 use Rattle.page_types.specs.PlainReply.{plain_reply}
+use Rattle.space_model.specs.declared.areas.Area.{Area}
 use Rattle.space_model.specs.declared.judged.Change.{Change}
 use Rattle.space_model.specs.declared.judged.Judged.TheVariants.{Refused as IsRefused, Keeps, Changes}
-use Rattle.space_model.specs.Areas.{IsAreaList, HasKinds, kind_at, gap_between, gaps_from, row_count}
+use Rattle.space_model.specs.Areas.{IsAreaList, HasKinds, HasNamedKinds, kind_at, gap_between, gaps_from, row_count}
 use Rattle.space_model.specs.Effect.{patched, AreRising}
 use Rattle.space_model.specs.Answers.{full_reply, Answers}
 use Rattle.space_model.specs.Answers.Answers.{by_arguments, refused, kept}
-use Rattle.space_model.specs.Judges.{IsJudged, patches_of}
+use Rattle.space_model.specs.Judges.{IsJudged, IsNamedChange, patches_of, second_of}
 use Rattle.space_model.specs.Judges.Makes.{within, beyond}
 use Rattle.space_model.proofs.Changing.{kind_at-limit, rising_end, patched-behind}
 use Rattle.space_model.proofs.Judgements.{made_answers}
-use Rattle.space_model.proofs.Stepping.{one-patch}
+use Rattle.space_model.proofs.Stepping.{patches_few, judged-named}
 use Rattle.space_model.proofs.SomeAnswer.{leaves_areas}
 use Rattle.row_plans.specs.RowWords.{row_start, row_kind, row_word}
 use Rattle.row_plans.specs.RowLists.{rows_start, DiffersFrom, ShowFrom, IsBareGap, with_row, areas_from}
-use Rattle.row_plans.specs.Planning.{ShowTo, IsMade}
-use Rattle.row_plans.specs.Plans.{PlanShows, IsRowList, planned_rows, IsPlan}
+use Rattle.row_plans.specs.Planning.{ShowTo, StartBefore, IsMade}
+use Rattle.row_plans.specs.Plans.{PlanShows, IsRowList, planned_rows, BeginsAs, IsPlan}
 use Rattle.row_plans.proofs.RowLists.{AreNext, are_next, areas_back}
 use Rattle.row_plans.proofs.PutRows.{some_rows}
+use Rattle.row_plans.proofs.FirstRows.{first_stay}
+use Rattle.row_plans.proofs.RowPatches.{first_kept}
 
 -- rows that show kinds up to LIMIT
 shows_all : (page : ℕ) (rows : List ℕ) (kinds : ℕ → Option Kind) → ShowTo page rows LIMIT kinds → ShowFrom page rows kinds
@@ -108,9 +113,33 @@ module _ (old new : List ℕ) (c : Call) (reply : Reply) (count : ℕ) (is : IsR
   plan_kept said open_still keeps says =
       plan_same (kept open_still (subst (λ r. IsJudged (kind_at (areas_from old)) c (Keeps r)) (sym says) keeps) refl)
 
--- a change that was judged rightly has one patch
-pub judged_one : (kinds : ℕ → Option Kind) (c : Call) (change : Change) → IsJudged kinds c (Changes change) → length (patches_of change) ≡ 1
-judged_one kinds c change judged = one-patch kinds c (patches_of change) change.reply change.full judged.0
+-- a change that was judged rightly has two patches at most
+pub judged_few : (kinds : ℕ → Option Kind) (c : Call) (change : Change) → IsJudged kinds c (Changes change) → length (patches_of change) ≤ 2
+judged_few kinds c change judged = patches_few change
+
+-- the kind of a row has named bits alone
+said_named : (b : Bool) (prot : ℕ) (shared sealed : Bool) → prot < 8
+    → IsNamedOption (cond b (Some (record { prot = record { 0 = prot }; shared = shared; sealed = sealed })) None)
+said_named true prot shared sealed few = few
+said_named false prot shared sealed few = tt
+
+word_named : (word : ℕ) → IsNamedOption (row_kind word)
+word_named word = said_named (eqb (word / 32 % 2) 1) (word % 8) (eqb (word / 8 % 2) 1) (eqb (word / 16 % 2) 1) (omega arith)
+
+with_named : (lo : ℕ) (o : Option Kind) (hi : ℕ) (rest : List Area) → IsNamedOption o → HasNamedKinds rest → HasNamedKinds (with_row lo o hi rest)
+with_named lo None hi rest own others = others
+with_named lo (Some k) hi rest own others = All-cons (λ x. IsNamedKind x.kind) (record { lo = lo; hi = hi; kind = k }) rest own others
+
+-- so have the areas that rows stand for
+pub areas_named : (rows : List ℕ) → HasNamedKinds (areas_from rows)
+areas_named [] = All-nil (λ x. IsNamedKind x.kind)
+areas_named (word ∷ rest) =
+    with_named (row_start word) (row_kind word) (rows_start rest) (areas_from rest) (word_named word) (areas_named rest)
+
+-- and a change of them by a call with named bits
+pub judged_named : (rows : List ℕ) (c : Call) (change : Change) → IsNamedCall c → IsJudged (kind_at (areas_from rows)) c (Changes change)
+    → IsNamedChange change
+judged_named rows c change named judged = judged-named (areas_from rows) c change (areas_named rows) named judged
 
 -- a change that was judged rightly, as it is made, is the plan
 pub plan_made : (old new : List ℕ) (c : Call) (change : Change) (reply : Reply) (count : ℕ) → plain_reply c ≡ None
@@ -164,6 +193,14 @@ module _ (old rows : List ℕ) (change : Change) (is : IsRowList old) (rising : 
           gaps = gaps;
         });
   }
+
+  -- and the rows before the pages that change are the first ones of both
+  pub made_first : (count : ℕ) → All IsBareGap rows → StartBefore old change.first.lo count → BeginsAs old (planned_rows old rows) count
+  made_first count gaps before =
+      subst (λ (l : List ℕ). BeginsAs old l count) (planned_some old rows (some_rows rows _ show))
+      (first_stay old rows (kind_at (areas_from old)) (patched (patches_of change) (kind_at (areas_from old))) change.first.lo count
+      is.show shown is.gaps gaps
+      (λ p low. first_kept (kind_at (areas_from old)) change.first (second_of change.second) rising p (omega arith) low) before)
 
   -- where they are more than ROWS, it has the full reply, and the rows are as they were
   pub made_full : (new : List ℕ) (reply : Reply) (count : ℕ) → ROWS < length rows → new ≡ []

@@ -1,7 +1,7 @@
 -- What one row of those that show kinds says of its pages, and what a search over the rows knows when it has come to
 -- it.
 use Rattle.std.proofs.Common.{◌≡◌, ◌≢◌, ℕ, zero, suc, ◌+◌, ◌<◌, ◌≤◌, List, [], ◌∷◌, ◌-◌, min, max, get_or, drop, length}
-use Rattle.std.proofs.Common.{true, false, sym, refl, ap, ◌∙◌, subst, arith, ◌⊎◌, ⊎_elim, inl, inr}
+use Rattle.std.proofs.Common.{true, false, sym, refl, ap, ◌∙◌, subst, arith, inl, inr}
 use Rattle.std.proofs.Common.{ltb, ltb-true, ltb-false}
 use Rattle.std.specs.List.Sorted.{IsNonDecreasingBy, IsPartitionPoint}
 use Rattle.std.proofs.lemmas.Bool.{cases_lt}
@@ -63,13 +63,13 @@ ends_all (w ∷ rest) (suc i) le = ends_all rest i (omega arith)
 
 -- one row more has no such page
 pub none_more : (rows : List ℕ) (kinds : ℕ → Option Kind) (sort : Sort) (lo i start end : ℕ) (kind : Option Kind)
-    → RowPages rows kinds i start end kind → (end ≤ lo) ⊎ (is_sort sort kind ≡ false)
+    → RowPages rows kinds i start end kind → is_sort sort kind ≡ false
     → NoneOf kinds sort lo (rows_start (drop i rows)) → NoneOf kinds sort lo (rows_start (drop (i + 1) rows))
-none_more rows kinds sort lo i start end kind r passed none page from high =
+none_more rows kinds sort lo i start end kind r other none page from high =
     let b = r.begins in let e = r.ends in
     elim (cases_lt page start) [
       | inl lt ↦ none page from (omega arith)
-      | inr ge ↦ ⊎_elim (λ over. absurd (omega arith)) (λ other. ap (is_sort sort) (r.all page ge (omega arith)) ∙ other) passed
+      | inr ge ↦ ap (is_sort sort) (r.all page ge (omega arith)) ∙ other
     ]
 
 -- or it has the lowest one, and the search ends there or at `hi`
@@ -88,17 +88,18 @@ end_here rows kinds sort lo hi i start end page result kind r ordered some such 
       none_below = λ q from high. none q from (omega arith);
     }
 
--- where no row is left, the search ends at `hi`
-pub end_all : (rows : List ℕ) (kinds : ℕ → Option Kind) (sort : Sort) (lo hi i : ℕ) → lo ≤ hi → hi ≤ LIMIT → length rows ≤ i
-    → NoneOf kinds sort lo (rows_start (drop i rows)) → IsEnd kinds sort lo hi hi
-end_all rows kinds sort lo hi i ordered limit past none =
-    let e = ends_all rows i past in
-    record {
-      from = ordered;
-      within = omega arith;
-      such = λ l. absurd (omega arith);
-      none_below = λ q from high. none q from (omega arith);
-    }
+-- no page lies before the one with which a search begins
+pub none_yet : (kinds : ℕ → Option Kind) (sort : Sort) (lo start : ℕ) → start ≤ lo → NoneOf kinds sort lo start
+none_yet kinds sort lo start le page from high = absurd (omega arith)
+
+-- where no page up to `hi` is of the sort, the search ends at `hi`
+pub end_passed : (kinds : ℕ → Option Kind) (sort : Sort) (lo hi at : ℕ) → lo ≤ hi → hi ≤ at → NoneOf kinds sort lo at → IsEnd kinds sort lo hi hi
+end_passed kinds sort lo hi at ordered past none = record {
+  from = ordered;
+  within = omega arith;
+  such = λ l. absurd (omega arith);
+  none_below = λ q from high. none q from (omega arith);
+}
 
 -- the page before a row isn't of its kind
 row_before_at : (page : ℕ) (rows : List ℕ) (kinds : ℕ → Option Kind) (i : ℕ) → ShowFrom page rows kinds → suc i < length rows
@@ -125,12 +126,12 @@ row_before rows kinds i word start kind show lt w s k =
     subst (λ (z : ℕ × Option Kind). 0 < z.0 → kinds (z.0 - 1) ≢ z.1)
     (λ j. (sym (s ∙ ap row_start w) j, sym (k ∙ ap row_kind w) j)) (row_before_by rows kinds i show lt)
 
--- a place that ends in a row lies in it, and the row is free: where none fits in the row each place ends before it, and
--- otherwise the row's end has the highest one
-module _ (kinds : ℕ → Option Kind) (pages start end : ℕ) (kind : Option Kind) (all : (p : ℕ) → start ≤ p → p < end
+-- a place that ends in a row lies in it, and the row is free: where none fits in the row and the window each place ends
+-- before it, and otherwise the row's end, or the window's, has the highest one
+module _ (kinds : ℕ → Option Kind) (window pages start end top : ℕ) (kind : Option Kind) (all : (p : ℕ) → start ≤ p → p < end
     → kinds p ≡ kind) (before : 0 < start → kinds (start - 1) ≢ kind) (some : 0 < pages) (grows : start < end)
-    (ended : NoneEndsAbove kinds pages end) where
-  in_the_row : (s : ℕ) → s + pages ≤ end → ¬ (s + pages ≤ start) → FitsAt kinds pages s → (kind ≡ None) × (start ≤ s)
+    (clipped : top ≡ min end window) (ended : NoneEndsAbove kinds window pages end) where
+  in_the_row : (s : ℕ) → s + pages ≤ end → ¬ (s + pages ≤ start) → FitsAt kinds window pages s → (kind ≡ None) × (start ≤ s)
   in_the_row s fits new f =
       let last : kinds (s + pages - 1) ≡ None = f.free (s + pages - 1) (omega arith) (omega arith) in
       let own : kinds (s + pages - 1) ≡ kind = all (s + pages - 1) (omega arith) (omega arith) in
@@ -143,17 +144,17 @@ module _ (kinds : ℕ → Option Kind) (pages start end : ℕ) (kind : Option Ki
       )
 
   -- where so many pages don't fit into a row, no place ends above the row's start
-  pub ends_before : (kind ≡ None → max start LOWEST + pages ≤ end → ⊥) → NoneEndsAbove kinds pages start
+  pub ends_before : (kind ≡ None → max start LOWEST + pages ≤ top → ⊥) → NoneEndsAbove kinds window pages start
   ends_before no_fit s f =
       let e : s + pages ≤ end = ended s f in
       elim (cases_lt start (s + pages)) [
-        | inl lt ↦ let i = in_the_row s e (omega arith) f in let l = f.low in let g = i.1 in absurd (no_fit i.0 (omega arith))
+        | inl lt ↦ let i = in_the_row s e (omega arith) f in let l = f.low in let h = f.high in let g = i.1 in absurd (no_fit i.0 (omega arith))
         | inr ge ↦ ge
       ]
 
-  -- where they fit, the place at the row's end is the highest
-  pub ends_here : kind ≡ None → max start LOWEST + pages ≤ end → end ≤ LIMIT → IsHighestFit kinds pages (end - pages)
-  ends_here free fits low =
+  -- where they fit, the place at the row's end, or the window's, is the highest
+  pub ends_here : kind ≡ None → max start LOWEST + pages ≤ top → IsHighestFit kinds window pages (top - pages)
+  ends_here free fits =
       record {
         fits =
             record {
@@ -161,12 +162,13 @@ module _ (kinds : ℕ → Option Kind) (pages start end : ℕ) (kind : Option Ki
               high = omega arith;
               free = λ p above below. all p (omega arith) (omega arith) ∙ free;
             };
-        highest = λ s f. let e : s + pages ≤ end = ended s f in omega arith;
+        highest = λ s f. let e : s + pages ≤ end = ended s f in let h = f.high in omega arith;
       }
 
 -- past the first row there is no place
-pub no_place : (kinds : ℕ → Option Kind) (pages end : ℕ) → 0 < pages → end ≡ 0 → NoneEndsAbove kinds pages end → (s : ℕ) → ¬ FitsAt kinds pages s
-no_place kinds pages end some is ended = λ s f. let e : s + pages ≤ end = ended s f in absurd (omega arith)
+pub no_place : (kinds : ℕ → Option Kind) (window pages end : ℕ) → 0 < pages → end ≡ 0 → NoneEndsAbove kinds window pages end → (s : ℕ)
+    → ¬ FitsAt kinds window pages s
+no_place kinds window pages end some is ended = λ s f. let e : s + pages ≤ end = ended s f in absurd (omega arith)
 
 -- rows begin at page 0, a row that starts below LIMIT is there, and no row starts before the one before it
 pub first_row : (rows : List ℕ) (kinds : ℕ → Option Kind) → ShowFrom 0 rows kinds → (0 < length rows) × (rows_start rows ≡ 0)
@@ -204,7 +206,7 @@ kind_there rows kinds i page kind show lt from until k =
     k ∙ sym (r.all page (omega arith) until)
 
 -- later rows start higher
-rises_from : (page : ℕ) (rows : List ℕ) (kinds : ℕ → Option Kind) (k d : ℕ) → ShowFrom page rows kinds → k < length rows
+pub rises_from : (page : ℕ) (rows : List ℕ) (kinds : ℕ → Option Kind) (k d : ℕ) → ShowFrom page rows kinds → k < length rows
     → page ≤ row_start (get_or rows k d)
 rises_from page [] kinds k d show lt = absurd (omega arith)
 rises_from page (w ∷ rest) kinds zero d show lt = let s = show.0 in omega arith

@@ -48,9 +48,9 @@ pub record StartBefore (rows : List ℕ) (page count : ℕ) : Type 0 where
 abbrev pub part_left : List ℕ → ℕ → ℕ → ℕ
 part_left rows page count = min 1 (rows_start (drop count rows) - page)
 
--- no place of so many free pages ends above a page
-abbrev pub NoneEndsAbove : (ℕ → Option Kind) → ℕ → ℕ → Type 0
-NoneEndsAbove kinds pages end = (s : ℕ) → FitsAt kinds pages s → s + pages ≤ end
+-- no place of so many free pages in the window ends above a page
+abbrev pub NoneEndsAbove : (ℕ → Option Kind) → ℕ → ℕ → ℕ → Type 0
+NoneEndsAbove kinds window pages end = (s : ℕ) → FitsAt kinds window pages s → s + pages ≤ end
 
 -- what a change of an area list leaves as row words: its reply, and how many rows and which the list has that it leaves
 pub record IsMade (change : Change) (reply : Reply) (count : ℕ) (plan : List ℕ) (state : List Area) : Type 0 where

@@ -1,7 +1,7 @@
 -- What a call on an address space leaves, as row words: a plan says the reply and the rows before any word is stored.
--- Both are those of `Answers`, this project's profile of mmap(2), munmap(2) and mprotect(2), at the areas that the rows
+-- Both are those of `Answers`, this project's profile of mmap(2) and the calls like it, at the areas that the rows
 -- before stand for. A call that changes nothing plans the rows as they are.
-use Rattle.std.specs.Prelude.{ℕ, ◌≡◌, ◌<◌, ◌≤◌, All, Option, List, [], ◌∷◌, length}
+use Rattle.std.specs.Prelude.{ℕ, ◌≡◌, ◌<◌, ◌≤◌, All, Option, List, [], ◌∷◌, length, slice_index}
 use Rattle.page_types.specs.declared.TheConstants.{ROWS}
 use Rattle.page_types.specs.declared.calls.Kind.{Kind}
 use Rattle.page_types.specs.declared.calls.Call.{Call}
@@ -26,6 +26,12 @@ IsRowList rows = PlanShows rows (kind_at (areas_from rows))
 abbrev pub planned_rows : List ℕ → List ℕ → List ℕ
 planned_rows old [] = old
 planned_rows old (word ∷ rest) = word ∷ rest
+
+-- so many rows at the beginning of one list are those at the beginning of another
+pub record BeginsAs (old new : List ℕ) (count : ℕ) : Type 0 where
+  pub there : count ≤ length old
+  pub few : count ≤ length new
+  pub same : (i : ℕ) → i < count → slice_index new i ≡ slice_index old i
 
 -- the plan of a call on an area list: its reply, and how many rows and which the list has that it leaves
 pub record IsPlan (call : Call) (reply : Reply) (count : ℕ) (plan : List ℕ) (state : List Area) : Type 0 where

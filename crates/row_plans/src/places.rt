@@ -1,15 +1,16 @@
 //! The searches that judging a call takes, over row words: the kind of a page, the lowest page of a sort, and the
-//! highest place of free pages, which is this project's own choice beside mmap(2). The first halves the rows, and the
-//! others go through them once, from one end. A reader may rely on what is found being so of all kinds that they show.
-ghost use Rattle.std.specs.Prelude.{max, None, ◌+◌, ◌^◌, ℕ, true, false, IsTrue, IsFalse, ◌⊎◌, ◌≡◌, ◌<◌, ◌≤◌, Option, MatchOption};
+//! highest place of free pages, which is this project's own choice beside mmap(2). The first two begin at a row that is
+//! found by halving, and the last goes down from the last row. A reader may rely on what is found being so of all kinds
+//! that the rows show.
+ghost use Rattle.std.specs.Prelude.{max, None, ◌+◌, ◌^◌, ℕ, IsTrue, IsFalse, ◌≡◌, ◌<◌, ◌≤◌, Option, MatchOption};
 ghost use Rattle.page_types.specs.declared.TheConstants.{LIMIT, LOWEST};
 ghost use Rattle.page_types.specs.declared.calls.Kind.{Kind};
 ghost use Rattle.space_model.specs.Areas.{kind_at};
-ghost use Rattle.space_model.specs.Sorts.{is_sort, IsEnd};
+ghost use Rattle.space_model.specs.Sorts.{IsEnd};
 ghost use Rattle.space_model.specs.Places.{FitsAt, IsHighestFit};
 ghost use Rattle.row_plans.specs.RowLists.{ShowFrom, areas_from};
 
-use crate::planning::{row_at, row_end};
+use crate::planning::{row_at, start_of};
 use crate::row_words::read_row;
 use page_types::{Kind, LIMIT, LOWEST};
 use space_model::{Pages, Sort, is_sort};
@@ -46,9 +47,9 @@ impl<'a> Pages for ReadRows<'a> {
         end_of(rows, sort, lo, hi)
     }
 
-    fn highest_fit(&self, pages: u64) -> Option<u64> {
+    fn highest_fit(&self, window: u64, pages: u64) -> Option<u64> {
         let rows = self.rows;
-        highest_fit(rows, pages)
+        highest_fit(rows, window, pages)
     }
 }
 
@@ -62,37 +63,35 @@ fn kind_of(rows: &[u64], page: u64) -> Option<Kind>
     kind
 }
 
-/// Whether a row that ends there has pages from `lo` on, and they are of the sort.
-fn is_found(end: u64, lo: u64, kind: Option<Kind>, sort: Sort) -> bool
-    ensures found { IsTrue result → (lo < end) × (is_sort sort kind ≡ true) }
-    ensures passed { IsFalse result → (end ≤ lo) ⊎ (is_sort sort kind ≡ false) }
-{
-    end > lo && is_sort(sort, kind)
-}
-
-/// The lowest page of a sort of those from `lo` up to `hi`, or `hi` where there is none.
+/// The lowest page of a sort of those from `lo` up to `hi`, or `hi` where there is none. It goes from the row that has
+/// page `lo` to the one that has the last page.
 fn end_of(rows: &[u64], sort: Sort, lo: u64, hi: u64) -> u64
     requires shows { (kinds : ℕ → Option Kind) × ShowFrom 0 rows.now kinds }
     requires ordered { lo ≤ hi }
     requires limit { hi ≤ LIMIT }
     ensures { (kinds : ℕ → Option Kind) → ShowFrom 0 rows.now kinds → IsEnd kinds sort lo hi result }
 {
-    let mut i = 0;
+    if lo == hi {
+        return hi;
+    }
+    let mut i = row_at(rows, lo);
     'rows: while i < rows.len() {
         let (start, kind) = read_row(rows[i]);
-        let end = row_end(rows, i);
-        if is_found(end, lo, kind, sort) {
+        if is_sort(sort, kind) {
             return start.max(lo).min(hi);
         }
         i += 1;
+        if start_of(rows, i) >= hi {
+            return hi;
+        }
     }
     hi
 }
 
-/// Whether so many pages fit into a row, which is free.
+/// Whether so many pages fit between a row's start and a page up to which the row goes, and the row is free.
 fn fits_in(start: u64, end: u64, kind: Option<Kind>, pages: u64) -> bool
     requires pages { pages < 2 ^ 62 }
-    requires ends { (start < end) × (end ≤ LIMIT) }
+    requires start { start ≤ LIMIT }
     ensures fit { IsTrue result → (kind ≡ None) × (max start LOWEST + pages ≤ end) }
     ensures no_fit { IsFalse result → kind ≡ None → max start LOWEST + pages ≤ end → ⊥ }
 {
@@ -102,21 +101,23 @@ fn fits_in(start: u64, end: u64, kind: Option<Kind>, pages: u64) -> bool
     }
 }
 
-/// The highest start of so many free pages, at or above `LOWEST` and with the end at or below `LIMIT`. The rows are
-/// gone through from the last one on, so the first that the pages fit in has it.
-fn highest_fit(rows: &[u64], pages: u64) -> Option<u64>
+/// The highest start of so many free pages, at or above `LOWEST` and with the end at or below the page where the window
+/// ends. The rows are gone through from the last one on, so the first that the pages fit in has it.
+fn highest_fit(rows: &[u64], window: u64, pages: u64) -> Option<u64>
     requires shows { (kinds : ℕ → Option Kind) × ShowFrom 0 rows.now kinds }
+    requires window { window ≤ LIMIT }
     requires some { 0 < pages }
     requires few { pages < 2 ^ 62 }
     ensures { (kinds : ℕ → Option Kind) → ShowFrom 0 rows.now kinds
-        → MatchOption result ((start : ℕ) → ¬ FitsAt kinds pages start) (IsHighestFit kinds pages) }
+        → MatchOption result ((start : ℕ) → ¬ FitsAt kinds window pages start) (IsHighestFit kinds window pages) }
 {
     let mut i = rows.len();
     let mut end = LIMIT;
     'rows: while i > 0 {
         let (start, kind) = read_row(rows[i - 1]);
-        if fits_in(start, end, kind, pages) {
-            return Some(end - pages);
+        let top = end.min(window);
+        if fits_in(start, top, kind, pages) {
+            return Some(top - pages);
         }
         end = start;
         i -= 1;

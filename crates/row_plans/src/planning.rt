@@ -95,7 +95,7 @@ fn painted(paint: Paint, kind: Option<Kind>) -> Option<Kind>
 }
 
 /// Where row `i` starts, or `LIMIT` where there are not so many.
-fn start_of(rows: &[u64], i: usize) -> u64
+pub(crate) fn start_of(rows: &[u64], i: usize) -> u64
     ensures { result ≡ rows_start (drop i rows.now) }
 {
     if i < rows.len() {
@@ -104,14 +104,6 @@ fn start_of(rows: &[u64], i: usize) -> u64
     } else {
         LIMIT
     }
-}
-
-/// Where row `i` ends.
-pub(crate) fn row_end(rows: &[u64], i: usize) -> u64
-    requires there { i < length rows.now }
-    ensures { result ≡ rows_start (drop (i + 1) rows.now) }
-{
-    start_of(rows, i + 1)
 }
 
 /// The number of rows that start before a page, found by halving.
@@ -256,8 +248,8 @@ fn paint_to(rows: &mut Vec<u64>, old: &[u64], first: usize, patch: Patch) -> usi
     next
 }
 
-/// The rows after a change.
-pub(crate) fn change_rows(old: &[u64], change: Change, rows: &mut Vec<u64>)
+/// The rows after a change. It gives how many old rows start before the first page that changes; they stay.
+pub(crate) fn change_rows(old: &[u64], change: Change, rows: &mut Vec<u64>) -> usize
     requires paints { AreNamedPaints (patches_of change) }
     requires rising { AreRising 0 (patches_of change) }
     requires shows { (kinds : ℕ → Option Kind) × ShowFrom 0 old.now kinds }
@@ -266,6 +258,7 @@ pub(crate) fn change_rows(old: &[u64], change: Change, rows: &mut Vec<u64>)
     ensures few { length rows.new.items ≤ length old.now + 2 * length (patches_of change) }
     ensures room { vec_capacity rows.old ≤ vec_capacity rows.new }
     ensures gaps { All IsBareGap rows.new.items }
+    ensures first { StartBefore old.now change.first.lo result }
     ensures shows { (kinds : ℕ → Option Kind) → ShowFrom 0 old.now kinds
         → ShowTo 0 rows.new.items LIMIT (patched (patches_of change) kinds) }
 {
@@ -283,4 +276,5 @@ pub(crate) fn change_rows(old: &[u64], change: Change, rows: &mut Vec<u64>)
             keep_to(rows, old, second.hi, last, LIMIT);
         }
     }
+    start
 }

@@ -74,7 +74,7 @@ fn change_by(
         reply: Reply::Zero,
         full: None,
     };
-    let mut new = Vec::with_capacity(rt.alloc(), ROWS + 2 * SPARE)?;
+    let mut new = Vec::with_capacity(rt.alloc(), ROWS + SPARE)?;
     change_rows(old.as_slice(), change, &mut new);
     assert_eq!(rt; new.len(), after.len());
     for i in 0..new.len() {

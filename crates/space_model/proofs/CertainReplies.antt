@@ -3,10 +3,10 @@ use Rattle.std.proofs.Common.{◌≡◌, ◌≢◌, ℕ, ◌+◌, ◌*◌, ◌<�
 use Rattle.std.proofs.Common.{Option, Some, None, sym, ◌∙◌, ap, subst, refl, arith, inl, inr}
 use Rattle.std.specs.Prelude.{nat_le}
 use Rattle.std.proofs.lemmas.Bool.{cases_lt, lt-leb}
-use Rattle.page_types.specs.declared.TheConstants.{LIMIT}
+use Rattle.page_types.specs.declared.TheConstants.{LIMIT, LOWEST}
 use Rattle.page_types.specs.declared.calls.Kind.{Kind}
 use Rattle.page_types.specs.declared.calls.Call.{Call}
-use Rattle.page_types.specs.declared.calls.Call.TheVariants.{Map, Unmap, Protect, Fault, Seal}
+use Rattle.page_types.specs.declared.calls.Call.TheVariants.{Map, Unmap, Protect, Fault, Seal, Brk, Remap}
 use Rattle.page_types.specs.declared.calls.Reply.{Reply}
 use Rattle.page_types.specs.declared.calls.Reply.TheVariants.{At, Zero, Granted, Refused}
 use Rattle.page_types.specs.declared.calls.Why.{Why}
@@ -21,20 +21,25 @@ use Rattle.page_types.specs.Sets.{is_fixed, has_one_sharing}
 use Rattle.page_types.specs.PlainReply.{first_that_applies, fault_reply, plain_reply}
 use Rattle.space_model.specs.declared.areas.Area.{Area}
 use Rattle.space_model.specs.declared.paint.Paint.TheVariants.{Gives}
-use Rattle.space_model.specs.declared.sorts.Sort.TheVariants.{Mapped, Missing, Sealed}
+use Rattle.space_model.specs.declared.sorts.Sort.TheVariants.{Mapped, Missing, Sealed, Unlike}
 use Rattle.space_model.specs.Areas.{IsAreaList, kind_at, row_count}
 use Rattle.space_model.specs.Effect.{mapped_kind, patch, patched}
 use Rattle.space_model.specs.Sorts.{Bar, IsBarred}
 use Rattle.space_model.specs.Sorts.Bar.{bar}
+use Rattle.space_model.specs.Places.{StartsAt, window_of, remap_places}
+use Rattle.space_model.specs.Places.Place.{fixed, free_at, highest_in}
 use Rattle.space_model.specs.Answers.{bars, FindsNoPlace, RefusesByState, AnswersFault, LetsThrough, Does, full_reply, Answers}
 use Rattle.space_model.specs.Answers.Effect.{keeps}
 use Rattle.space_model.specs.Answers.Answers.{by_arguments, refused, kept, done, too_many_rows}
-use Rattle.space_model.specs.Laws.{AsksTwoRowsMore, GrantsWhatThePageAllows, FaultFindsMapped}
+use Rattle.space_model.specs.Laws.{AsksFewRowsMore, GrantsWhatThePageAllows, FaultFindsMapped, EndsInItsWindow}
 use Rattle.space_model.proofs.Changing.{kind_at-limit, within-inside}
-use Rattle.space_model.proofs.TwiceOnce.{one_change, row_count-does}
+use Rattle.space_model.proofs.Effects.{Says, SaysFull, says, brk_kept, remap_kept}
+use Rattle.space_model.proofs.Effects.Says.{says_at, says_done}
+use Rattle.space_model.proofs.Effects.SaysFull.{counts_rows, full_at}
+use Rattle.space_model.proofs.TwiceOnce.{row_count-does}
 
 -- no check of the list has this reply
-NoCheckHas : Reply → List (Bool × Reply) → Type 0
+unfoldable pub NoCheckHas : Reply → List (Bool × Reply) → Type 0
 NoCheckHas s [] = Unit {0}
 NoCheckHas s (check ∷ checks) = (check.1 ≢ s) × NoCheckHas s checks
 
@@ -43,7 +48,7 @@ past s r true y n e = absurd (n cc)
 past s r false y n e = e
 
 -- so the list doesn't have it
-first_not : (s : Reply) (checks : List (Bool × Reply)) → NoCheckHas s checks → first_that_applies checks ≢ Some s
+pub first_not : (s : Reply) (checks : List (Bool × Reply)) → NoCheckHas s checks → first_that_applies checks ≢ Some s
 unfolding NoCheckHas
 first_not s [] n e = cc
 first_not s (check ∷ checks) n e = first_not s checks n.1 (past s check.1 check.0 (first_that_applies checks) n.0 e)
@@ -83,16 +88,30 @@ plain_not_rows (Seal addr len flags) n =
     (not (flags == 0), Refused (Einval Flags)) ∷
     (nat_lt LIMIT (end_page addr len), Refused (Enomem (PastEnd (end_page addr len)))) ∷ [])
     (λ d. cc, (λ d. cc, (λ d. cc, (λ d. cc, tt))))
+plain_not_rows (Brk base addr) n =
+    first_not (Refused (Enomem (Rows n)))
+    ((base == 0, Refused (Einval Addr)) ∷
+    (not (is_aligned base), Refused (Einval Addr)) ∷
+    (nat_le LIMIT (page_of base), Refused (Einval Addr)) ∷ [])
+    (λ d. cc, (λ d. cc, (λ d. cc, tt)))
+plain_not_rows (Remap addr old new may hint) n =
+    first_not (Refused (Enomem (Rows n)))
+    ((not (is_aligned addr), Refused (Einval Addr)) ∷
+    (old == 0, Refused (Einval Len)) ∷
+    (new == 0, Refused (Einval Len)) ∷
+    (nat_lt LIMIT (end_page addr old), Refused (Einval End)) ∷ [])
+    (λ d. cc, (λ d. cc, (λ d. cc, (λ d. cc, tt))))
 
 -- nor is a refusal by the state
 state_not_rows : (kinds : ℕ → Option Kind) (c : Call) (why : Why) (n : ℕ) → RefusesByState kinds c why → why ≢ Enomem (Rows n)
-state_not_rows kinds c why n (inl r) d = barred (bars c) r
+state_not_rows kinds c why n (inl r) d = barred (bars kinds c) r
   where
     barred : (list : List Bar) → IsBarred kinds list why → ⊥
     barred [] r = r
     barred (bar Mapped lo hi ∷ rest) (inl (p, l, e)) = cc
     barred (bar Missing lo hi ∷ rest) (inl (p, l, e)) = cc
     barred (bar Sealed lo hi ∷ rest) (inl (p, l, e)) = cc
+    barred (bar (Unlike first) lo hi ∷ rest) (inl (p, l, e)) = cc
     barred (bar sort lo hi ∷ rest) (inr (m, r)) = barred rest r
 state_not_rows kinds c why n (inr (clear, r)) d = unplaced c r
   where
@@ -102,6 +121,8 @@ state_not_rows kinds c why n (inr (clear, r)) d = unplaced c r
     unplaced (Protect addr len prot) r = r
     unplaced (Fault addr access) r = r
     unplaced (Seal addr len flags) r = r
+    unplaced (Brk base addr) r = r
+    unplaced (Remap addr old new may hint) r = let e = r.2 in cc
 
 -- nor a reply that changes nothing
 kept_not_rows : (kinds : ℕ → Option Kind) (c : Call) (n : ℕ) → Does kinds c (keeps (Refused (Enomem (Rows n)))) → ⊥
@@ -109,6 +130,10 @@ kept_not_rows kinds (Map addr len prot flags) n (start, s, d) = cc
 kept_not_rows kinds (Unmap addr len) n d = cc
 kept_not_rows kinds (Protect addr len prot) n d = cc
 kept_not_rows kinds (Seal addr len flags) n d = cc
+kept_not_rows kinds (Brk base addr) n (end, is, d) = let e = brk_kept kinds base addr end (Refused (Enomem (Rows n))) d in cc
+kept_not_rows kinds (Remap addr old new may hint) n d =
+    remap_kept kinds addr (page_count old) (page_count new) (remap_places (page_of addr) (end_page addr old) may hint)
+    (Refused (Enomem (Rows n))) d
 kept_not_rows kinds (Fault addr access) n (r, h, d) = fault (kinds (page_of addr)) h cc
   where
     fault : (o : Option Kind) → AnswersFault o (page_of addr) access r → r ≢ Refused (Enomem (Rows n))
@@ -116,17 +141,28 @@ kept_not_rows kinds (Fault addr access) n (r, h, d) = fault (kinds (page_of addr
     fault (Some k) (inl h) e = let f = h.1 in cc
     fault (Some k) (inr h) e = let f = h.1 in cc
 
--- a call that is refused for its rows asks for more than ROWS, and for at most two more than there are
-pub two_rows_more : (A : List Area) (c : Call) → IsAreaList A → AsksTwoRowsMore A c
-two_rows_more A c w n B (by_arguments e b) = absurd (plain_not_rows c n e)
-two_rows_more A c w n B (refused why u r e b) = absurd (state_not_rows (kind_at A) c why n r cc)
-two_rows_more A c w n B (kept u g b) = absurd (kept_not_rows (kind_at A) c n g.1)
-two_rows_more A c w n B (done ps f u p k m) = absurd ((one_change (kind_at A) c ps _ f p.1).done n refl)
-two_rows_more A c w n B (too_many_rows ps t f C u p k m e b) =
-    let one = one_change (kind_at A) c ps t f p.1 in
-    let says : Refused (Enomem (Rows n)) ≡ Refused (Enomem (Rows (row_count C))) = e ∙ ap (λ o. full_reply o (row_count C)) one.refuses in
-    let same : n ≡ row_count C = cc in
-    (omega (arith, m, same), omega (arith, same, row_count-does A C c ps t f w p.1 k))
+-- nor a change that was made
+said_not_rows : (r : Reply) (n : ℕ) → Says r → r ≢ Refused (Enomem (Rows n))
+said_not_rows r n (says_at m e) d = cc
+said_not_rows r n (says_done e) d = cc
+
+-- one that is refused for its rows says how many they would be
+full_rows : (f : Option Reply) (n rows : ℕ) → SaysFull f → Refused (Enomem (Rows n)) ≡ full_reply f rows → n ≡ rows
+full_rows f n rows (counts_rows e) d =
+    let both : Refused (Enomem (Rows n)) ≡ Refused (Enomem (Rows rows)) = d ∙ ap (λ o. full_reply o rows) e in cc
+full_rows f n rows (full_at m e) d =
+    let both : Refused (Enomem (Rows n)) ≡ At m = d ∙ ap (λ o. full_reply o rows) e in cc
+
+-- a call that is refused for its rows asks for more than ROWS, and for at most so many more than there are
+pub few_rows_more : (A : List Area) (c : Call) → IsAreaList A → AsksFewRowsMore A c
+few_rows_more A c w n B (by_arguments e b) = absurd (plain_not_rows c n e)
+few_rows_more A c w n B (refused why u r e b) = absurd (state_not_rows (kind_at A) c why n r cc)
+few_rows_more A c w n B (kept u g b) = absurd (kept_not_rows (kind_at A) c n g.1)
+few_rows_more A c w n B (done ps f u p k m) =
+    absurd (said_not_rows (Refused (Enomem (Rows n))) n (says (kind_at A) c ps (Refused (Enomem (Rows n))) f p.1).0 refl)
+few_rows_more A c w n B (too_many_rows ps t f C u p k m e b) =
+    let same : n ≡ row_count C = full_rows f n (row_count C) (says (kind_at A) c ps t f p.1).1 e in
+    (omega (arith, m, same), omega (arith, same, row_count-does A C c ps t f w u p.1 k))
 
 -- what a fault answers that its arguments don't decide: the reply that its page gives
 fault_from : (A : List Area) (addr : ℕ) (access : Access) (r : Reply) (B : List Area) → plain_reply (Fault addr access) ≡ None →
@@ -207,6 +243,29 @@ mapped_from A addr len place prot flags B p (done ps f u (clear, (start, s, d)) 
           within-inside start (start + count) p (Some kind) (kind_at A p) (omega arith) (omega arith),
     )
 mapped_from A addr len place prot flags B p (too_many_rows ps t f C u (clear, (start, s, d)) k n e b) l h =
+    let none : f ≡ None = cc in
+    let says : At place ≡ Refused (Enomem (Rows (row_count C))) = e ∙ ap (λ o. full_reply o (row_count C)) none in cc
+
+-- a place that isn't bound lies in the hint's window
+starts_within : (kinds : ℕ → Option Kind) (b : Bool) (hint window pages start : ℕ) → b ≡ false →
+    StartsAt kinds pages (if b then fixed hint ∷ [] else free_at window hint ∷ highest_in window ∷ []) start →
+    (LOWEST ≤ start) × (start + pages ≤ window)
+starts_within kinds true hint window pages start e s = cc
+starts_within kinds false hint window pages start e (inl (fit, at)) = (omega (arith, fit.low, at), omega (arith, fit.high, at))
+starts_within kinds false hint window pages start e (inr (n, inl fit)) = (fit.fits.low, fit.fits.high)
+starts_within kinds false hint window pages start e (inr (n, inr (m, s))) = absurd s
+
+-- the pages of a Map that binds no address end in its hint's window
+pub ends_in_window : (A : List Area) (addr len : ℕ) (prot : Prot) (flags : MapFlags) → EndsInItsWindow A addr len prot flags
+ends_in_window A addr len prot flags place B hints (by_arguments e b) = absurd (plain_not_at addr len place prot flags e)
+ends_in_window A addr len prot flags place B hints (refused why u f e b) = cc
+ends_in_window A addr len prot flags place B hints (kept u (clear, (start, s, d)) b) = cc
+ends_in_window A addr len prot flags place B hints (done ps f u (clear, (start, s, d)) k n) =
+    let at : At place ≡ At (start * 4096) = cc in
+    let there : place ≡ start * 4096 = cc in
+    let w = starts_within (kind_at A) (is_fixed flags) (page_of addr) (window_of (page_of addr)) (page_count len) start hints s in
+    (omega (arith, w.0, there), omega (arith, w.1, there))
+ends_in_window A addr len prot flags place B hints (too_many_rows ps t f C u (clear, (start, s, d)) k n e b) =
     let none : f ≡ None = cc in
     let says : At place ≡ Refused (Enomem (Rows (row_count C))) = e ∙ ap (λ o. full_reply o (row_count C)) none in cc
 

@@ -1,23 +1,27 @@
 -- Bars refuse with one reason, and where they don't they are clear; pages start at one place, or no place applies; and
 -- a call does one thing.
-use Rattle.std.proofs.Common.{◌≡◌, ℕ, ◌+◌, ◌*◌, inl, inr, List, [], ◌∷◌, Option, Some, None, sym, ◌∙◌, ap, arith}
+use Rattle.std.proofs.Common.{◌≡◌, ℕ, ◌+◌, ◌*◌, ◌<◌, inl, inr, List, [], ◌∷◌, Option, Some, None, sym, ◌∙◌, ap, subst, arith}
 use Rattle.std.proofs.lemmas.Bool.{cases_order, true≢false}
+use Rattle.page_types.specs.declared.TheConstants.{LIMIT}
 use Rattle.page_types.specs.declared.calls.Kind.{Kind}
 use Rattle.page_types.specs.declared.calls.Call.{Call}
-use Rattle.page_types.specs.declared.calls.Call.TheVariants.{Map, Unmap, Protect, Fault, Seal}
+use Rattle.page_types.specs.declared.calls.Call.TheVariants.{Map, Unmap, Protect, Fault, Seal, Brk, Remap}
 use Rattle.page_types.specs.declared.calls.Reply.{Reply}
 use Rattle.page_types.specs.declared.calls.Reply.TheVariants.{At}
 use Rattle.page_types.specs.declared.calls.Why.{Why}
-use Rattle.page_types.specs.Pages.{page_of, page_count}
+use Rattle.page_types.specs.Pages.{page_of, page_count, end_page}
 use Rattle.space_model.specs.declared.paint.Paint.TheVariants.{Gives}
 use Rattle.space_model.specs.declared.sorts.Sort.{Sort}
-use Rattle.space_model.specs.Effect.{mapped_kind, patch}
-use Rattle.space_model.specs.Sorts.{IsLowest, Bar, why_of, IsBarred, IsClear}
+use Rattle.space_model.specs.declared.sorts.Sort.TheVariants.{Unlike}
+use Rattle.space_model.specs.Effect.{mapped_kind, heap_kind, patch}
+use Rattle.space_model.specs.Sorts.{IsLowest, IsEnd, Bar, why_of, IsBarred, IsClear}
 use Rattle.space_model.specs.Sorts.Bar.{bar}
-use Rattle.space_model.specs.Places.{Place, StartsBy, NoStart, StartsAt, HasNoPlace, map_places}
-use Rattle.space_model.specs.Places.Place.{fixed, free_at, highest}
-use Rattle.space_model.specs.Answers.{bars, FindsNoPlace, RefusesByState, Effect, AnswersFault, Does, IsEffect}
+use Rattle.space_model.specs.Places.{Place, StartsBy, NoStart, StartsAt, HasNoPlace, map_places, remap_places}
+use Rattle.space_model.specs.Places.Place.{fixed, free_at, longer, highest_in}
+use Rattle.space_model.specs.Answers.{bars, FindsNoPlace, RefusesByState, Effect, AnswersFault, Breaks, Remaps, in_order, Does, IsEffect}
 use Rattle.space_model.specs.Answers.Effect.{keeps, changes}
+use Rattle.space_model.specs.Answers.Breaks.{below_base, shrinks, grows, no_room}
+use Rattle.space_model.specs.Answers.Remaps.{shorter, stays, moves}
 
 module _ (kinds : ℕ → Option Kind) where
   lowest_one : (sort : Sort) (lo hi p q : ℕ) → IsLowest kinds sort lo hi p → IsLowest kinds sort lo hi q → p ≡ q
@@ -46,15 +50,18 @@ module _ (kinds : ℕ → Option Kind) where
 
   start_by_one : (pages : ℕ) (place : Place) (p q : ℕ) → StartsBy kinds pages place p → StartsBy kinds pages place q → p ≡ q
   start_by_one pages (fixed at) p q a b = a ∙ sym b
-  start_by_one pages (free_at at) p q a b = a.1 ∙ sym b.1
-  start_by_one pages highest p q a b = omega (arith, a.highest q b.fits, b.highest p a.fits)
+  start_by_one pages (free_at window at) p q a b = a.1 ∙ sym b.1
+  start_by_one pages (longer at end) p q a b = a.1 ∙ sym b.1
+  start_by_one pages (highest_in window) p q a b = omega (arith, a.highest q b.fits, b.highest p a.fits)
 
   start_or_none : (pages : ℕ) (place : Place) (p : ℕ) → NoStart kinds pages place → StartsBy kinds pages place p → ⊥
   start_or_none pages (fixed at) p n s = n
-  start_or_none pages (free_at at) p n s = n s.0
-  start_or_none pages highest p n s = n p s.fits
+  start_or_none pages (free_at window at) p n s = n s.0
+  start_or_none pages (longer at end) p n s = n s.0
+  start_or_none pages (highest_in window) p n s = n p s.fits
 
-  starts_one : (pages : ℕ) (list : List Place) (p q : ℕ) → StartsAt kinds pages list p → StartsAt kinds pages list q → p ≡ q
+  -- pages start at one place
+  pub starts_one : (pages : ℕ) (list : List Place) (p q : ℕ) → StartsAt kinds pages list p → StartsAt kinds pages list q → p ≡ q
   starts_one pages [] p q a b = absurd a
   starts_one pages (place ∷ rest) p q (inl a) (inl b) = start_by_one pages place p q a b
   starts_one pages (place ∷ rest) p q (inl a) (inr (n, b)) = absurd (start_or_none pages place p n a)
@@ -72,6 +79,14 @@ module _ (kinds : ℕ → Option Kind) where
   no_place_one (Protect addr len prot) why because r s = absurd r
   no_place_one (Fault addr access) why because r s = absurd r
   no_place_one (Seal addr len flags) why because r s = absurd r
+  no_place_one (Brk base addr) why because r s = absurd r
+  no_place_one (Remap addr old new may hint) why because r s = r.2 ∙ sym s.2
+
+  remap_or_none : (addr old new : ℕ) (places : List Place) (e : Effect) → old < new → HasNoPlace kinds new places →
+      Remaps kinds addr old new places e → ⊥
+  remap_or_none addr old new places e l n (shorter m d) = absurd (omega arith)
+  remap_or_none addr old new places e l n (stays m s d) = place_or_none new places (page_of addr) n s
+  remap_or_none addr old new places e l n (moves start m s o d) = place_or_none new places start n s
 
   no_place_or_done : (c : Call) (why : Why) (e : Effect) → FindsNoPlace kinds c why → Does kinds c e → ⊥
   no_place_or_done (Map addr len prot flags) why e r (p, s, d) = place_or_none (page_count len) (map_places flags (page_of addr)) p r.0 s
@@ -79,18 +94,71 @@ module _ (kinds : ℕ → Option Kind) where
   no_place_or_done (Protect addr len prot) why e r d = r
   no_place_or_done (Fault addr access) why e r d = r
   no_place_or_done (Seal addr len flags) why e r d = r
+  no_place_or_done (Brk base addr) why e r d = r
+  no_place_or_done (Remap addr old new may hint) why e r d =
+      remap_or_none addr (page_count old) (page_count new) (remap_places (page_of addr) (end_page addr old) may hint) e r.0 r.1 d
 
   -- a call is refused with one reason
   pub refusal_one : (c : Call) (why because : Why) → RefusesByState kinds c why → RefusesByState kinds c because → why ≡ because
-  refusal_one c why because (inl r) (inl s) = barred_one (bars c) why because r s
-  refusal_one c why because (inl r) (inr s) = absurd (clear_or_barred (bars c) why s.0 r)
-  refusal_one c why because (inr r) (inl s) = absurd (clear_or_barred (bars c) because r.0 s)
+  refusal_one c why because (inl r) (inl s) = barred_one (bars kinds c) why because r s
+  refusal_one c why because (inl r) (inr s) = absurd (clear_or_barred (bars kinds c) why s.0 r)
+  refusal_one c why because (inr r) (inl s) = absurd (clear_or_barred (bars kinds c) because r.0 s)
   refusal_one c why because (inr r) (inr s) = no_place_one c why because r.1 s.1
 
   -- a call that is refused does nothing
   pub refused_or_done : (c : Call) (why : Why) (e : Effect) → RefusesByState kinds c why → IsEffect kinds c e → ⊥
-  refused_or_done c why e (inl r) d = clear_or_barred (bars c) why d.0 r
+  refused_or_done c why e (inl r) d = clear_or_barred (bars kinds c) why d.0 r
   refused_or_done c why e (inr r) d = no_place_or_done c why e r.1 d.1
+
+  -- a search ends at one page
+  pub end_one : (sort : Sort) (lo hi p q : ℕ) → IsEnd kinds sort lo hi p → IsEnd kinds sort lo hi q → p ≡ q
+  end_one sort lo hi p q a b =
+      let u = a.within in
+      let v = b.within in
+      elim (cases_order p q) [
+        | inl e ↦ e
+        | inr o ↦
+            elim o [
+              | inl l ↦ absurd (true≢false (sym (a.such (omega arith)) ∙ b.none_below p a.from l))
+              | inr l ↦ absurd (true≢false (sym (b.such (omega arith)) ∙ a.none_below q b.from l))
+            ]
+      ]
+
+  breaks_one : (base addr end : ℕ) (e f : Effect) → Breaks kinds base addr end e → Breaks kinds base addr end f → e ≡ f
+  breaks_one base addr end e f (below_base l a) (below_base m b) = a ∙ sym b
+  breaks_one base addr end e f (below_base l a) (shrinks m n b) = absurd (omega arith)
+  breaks_one base addr end e f (below_base l a) (grows m n r b) = absurd (omega arith)
+  breaks_one base addr end e f (below_base l a) (no_room m n r b) = absurd (omega arith)
+  breaks_one base addr end e f (shrinks k l a) (below_base m b) = absurd (omega arith)
+  breaks_one base addr end e f (shrinks k l a) (shrinks m n b) = a ∙ sym b
+  breaks_one base addr end e f (shrinks k l a) (grows m n r b) = absurd (omega arith)
+  breaks_one base addr end e f (shrinks k l a) (no_room m n r b) = absurd (omega arith)
+  breaks_one base addr end e f (grows k l q a) (below_base m b) = absurd (omega arith)
+  breaks_one base addr end e f (grows k l q a) (shrinks m n b) = absurd (omega arith)
+  breaks_one base addr end e f (grows k l q a) (grows m n r b) = a ∙ sym b
+  breaks_one base addr end e f (grows k l q a) (no_room m n r b) = absurd (r q)
+  breaks_one base addr end e f (no_room k l q a) (below_base m b) = absurd (omega arith)
+  breaks_one base addr end e f (no_room k l q a) (shrinks m n b) = absurd (omega arith)
+  breaks_one base addr end e f (no_room k l q a) (grows m n r b) = absurd (q r)
+  breaks_one base addr end e f (no_room k l q a) (no_room m n r b) = a ∙ sym b
+
+  remaps_one : (addr old new : ℕ) (places : List Place) (e f : Effect) → Remaps kinds addr old new places e →
+      Remaps kinds addr old new places f → e ≡ f
+  remaps_one addr old new places e f (shorter l a) (shorter m b) = a ∙ sym b
+  remaps_one addr old new places e f (shorter l a) (stays m s b) = absurd (omega arith)
+  remaps_one addr old new places e f (shorter l a) (moves t m s n b) = absurd (omega arith)
+  remaps_one addr old new places e f (stays l r a) (shorter m b) = absurd (omega arith)
+  remaps_one addr old new places e f (stays l r a) (stays m s b) = a ∙ sym b
+  remaps_one addr old new places e f (stays l r a) (moves t m s n b) = absurd (n (starts_one new places t (page_of addr) s r))
+  remaps_one addr old new places e f (moves t l r n a) (shorter m b) = absurd (omega arith)
+  remaps_one addr old new places e f (moves t l r n a) (stays m s b) = absurd (n (starts_one new places t (page_of addr) r s))
+  remaps_one addr old new places e f (moves t l r n a) (moves u m s o b) =
+      a ∙
+      (ap
+      (λ x.
+      changes
+      (in_order (patch (page_of addr) (page_of addr + old) (Gives None)) (patch x (x + new) (Gives (kinds (page_of addr)))))
+      (At (x * 4096)) None) (starts_one new places t u r s) ∙ sym b)
 
   does_one : (c : Call) (e f : Effect) → Does kinds c e → Does kinds c f → e ≡ f
   does_one (Map addr len prot flags) e f (s, p, a) (t, q, b) =
@@ -99,6 +167,11 @@ module _ (kinds : ℕ → Option Kind) where
   does_one (Unmap addr len) e f a b = a ∙ sym b
   does_one (Protect addr len prot) e f a b = a ∙ sym b
   does_one (Seal addr len flags) e f a b = a ∙ sym b
+  does_one (Brk base addr) e f (s, p, a) (t, q, b) =
+      breaks_one base addr t e f
+      (subst (λ (x : ℕ). Breaks kinds base addr x e) (end_one (Unlike (Some heap_kind)) (page_of base) LIMIT s t p q) a) b
+  does_one (Remap addr old new may hint) e f a b =
+      remaps_one addr (page_count old) (page_count new) (remap_places (page_of addr) (end_page addr old) may hint) e f a b
   does_one (Fault addr access) e f (r, p, a) (s, q, b) =
       a ∙ ap (λ x. keeps x) (fault_one (kinds (page_of addr)) r s p q) ∙ sym b
     where

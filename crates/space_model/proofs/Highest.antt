@@ -1,6 +1,6 @@
--- The highest place of so many free pages, looked for from the last area down.
+-- The highest place of so many free pages in a window, looked for from the last area down.
 use Rattle.std.proofs.Common.{◌≡◌, ℕ, ◌+◌, ◌-◌, ◌<◌, ◌≤◌, inl, inr, List, [], ◌∷◌, ◌++◌, length, take, drop, get_or}
-use Rattle.std.proofs.Common.{Some, None, max, sym, ◌∙◌, ap, subst, arith}
+use Rattle.std.proofs.Common.{Some, None, max, min, sym, ◌∙◌, ap, subst, arith}
 use Rattle.std.specs.List.{Contains}
 use Rattle.std.proofs.lemmas.Bool.{cases_lt}
 use Rattle.std.proofs.lemmas.List.{take-append-drop, drop_all}
@@ -34,22 +34,23 @@ free_between (x ∷ front) a rest p w l h =
     (omega (arith, starts_after x (front ++ a ∷ rest) a w m, (member_in_range (front ++ a ∷ rest) a w.2 m).has_page)) ∙
     free_between front a rest p w.2 l h
 
--- each place ends at or before the first page of the areas from an index on
-pub record NoneAbove (A : List Area) (pages i to : ℕ) : Type 0 where
-  -- it is the start of the first area that was passed, or LIMIT
-  pub at : to ≡ start_of (drop i A)
-  -- it isn't above LIMIT
-  pub high : to ≤ LIMIT
+-- each place ends at or before a page that no area from an index on starts before
+pub record NoneAbove (A : List Area) (window pages i to : ℕ) : Type 0 where
+  -- it isn't above the start of the first area that was passed
+  pub at : to ≤ start_of (drop i A)
+  -- it isn't above the window's end
+  pub high : to ≤ window
   -- each place ends at or below it
-  pub ends : (start : ℕ) → FitsAt (kind_at A) pages start → start + pages ≤ to
+  pub ends : (start : ℕ) → FitsAt (kind_at A) window pages start → start + pages ≤ to
 
--- at the start each place ends at or below LIMIT
-pub none_above_all : (A : List Area) (pages : ℕ) → NoneAbove A pages (length A) LIMIT
-none_above_all A pages =
-    record { at = sym (ap start_of (drop_all (length A) A (omega arith))); high = omega arith; ends = λ start fit. fit.high }
+-- at the start each place ends at or below the window's end
+pub none_above_all : (A : List Area) (window pages : ℕ) → window ≤ LIMIT → NoneAbove A window pages (length A) window
+none_above_all A window pages low =
+    let e : start_of (drop (length A) A) ≡ LIMIT = ap start_of (drop_all (length A) A (omega arith)) in
+    record { at = omega arith; high = omega arith; ends = λ start fit. fit.high }
 
-module _ (A : List Area) (pages i to : ℕ) (w : IsAreaList A) (within : i < length A) (some : 0 < pages)
-    (above : NoneAbove A pages (i + 1) to) where
+module _ (A : List Area) (window pages i to : ℕ) (w : IsAreaList A) (within : i < length A) (some : 0 < pages)
+    (above : NoneAbove A window pages (i + 1) to) where
   here : Area
   here = get_or A i no_area
 
@@ -67,7 +68,7 @@ module _ (A : List Area) (pages i to : ℕ) (w : IsAreaList A) (within : i < len
       (free_between (take i A) here (drop (i + 1) A) p (subst IsAreaList cut w) l (omega (arith, above.at)))
 
   -- the gap behind the area at the index is long enough
-  found : max here.hi LOWEST + pages ≤ to → IsHighestFit (kind_at A) pages (to - pages)
+  found : max here.hi LOWEST + pages ≤ to → IsHighestFit (kind_at A) window pages (to - pages)
   found l =
       record {
         fits =
@@ -80,7 +81,7 @@ module _ (A : List Area) (pages i to : ℕ) (w : IsAreaList A) (within : i < len
       }
 
   -- or it isn't, and then no place ends above the area
-  ends_below : to < max here.hi LOWEST + pages → (start : ℕ) → FitsAt (kind_at A) pages start → start + pages ≤ here.lo
+  ends_below : to < max here.hi LOWEST + pages → (start : ℕ) → FitsAt (kind_at A) window pages start → start + pages ≤ here.lo
   ends_below l start fit =
       let n : here.lo < here.hi = (member_in_range A here w member).has_page in
       elim (cases_lt here.lo (start + pages)) [
@@ -96,34 +97,37 @@ module _ (A : List Area) (pages i to : ℕ) (w : IsAreaList A) (within : i < len
         | inr ge ↦ ge
       ]
 
-  next : to < max here.hi LOWEST + pages → NoneAbove A pages i here.lo
+  next : to < max here.hi LOWEST + pages → NoneAbove A window pages i (min to here.lo)
   unfolding here
   next l =
+      let e : start_of (drop i A) ≡ here.lo = ap start_of (drop_at A i within) in
       record {
-        at = sym (ap start_of (drop_at A i within));
-        high = omega (arith, (member_in_range A here w member).has_page, (member_in_range A here w member).below_limit);
-        ends = ends_below l;
+        at = omega arith;
+        high = omega (arith, above.high);
+        ends = λ start fit. omega (arith, above.ends start fit, ends_below l start fit);
       }
 
 -- the same, for an area that is the last one below a later index
-pub highest_here : (A : List Area) (pages k i to : ℕ) (a : Area) → k ≡ i + 1 → IsAreaList A → i < length A → 0 < pages →
-    NoneAbove A pages k to → a ≡ get_or A i no_area → max a.hi LOWEST + pages ≤ to → IsHighestFit (kind_at A) pages (to - pages)
+pub highest_here : (A : List Area) (window pages k i to : ℕ) (a : Area) → k ≡ i + 1 → IsAreaList A → i < length A → 0 < pages →
+    NoneAbove A window pages k to → a ≡ get_or A i no_area → max a.hi LOWEST + pages ≤ to → IsHighestFit (kind_at A) window pages (to - pages)
 unfolding here
-highest_here A pages k i to a e w within some above is l =
-    found A pages i to w within some (subst (λ n. NoneAbove A pages n to) e above) (subst (λ b. max b.hi LOWEST + pages ≤ to) is l)
+highest_here A window pages k i to a e w within some above is l =
+    found A window pages i to w within some (subst (λ n. NoneAbove A window pages n to) e above)
+    (subst (λ b. max b.hi LOWEST + pages ≤ to) is l)
 
 -- where the gap above an area is too short, each place ends at or below the area's start
-pub none_above_next : (A : List Area) (pages k i to : ℕ) (a : Area) → k ≡ i + 1 → IsAreaList A → i < length A → 0 < pages →
-    NoneAbove A pages k to → a ≡ get_or A i no_area → to < max a.hi LOWEST + pages → NoneAbove A pages i a.lo
+pub none_above_next : (A : List Area) (window pages k i to : ℕ) (a : Area) → k ≡ i + 1 → IsAreaList A → i < length A → 0 < pages →
+    NoneAbove A window pages k to → a ≡ get_or A i no_area → to < max a.hi LOWEST + pages → NoneAbove A window pages i (min to a.lo)
 unfolding here
-none_above_next A pages k i to a e w within some above is l =
-    subst (λ b. NoneAbove A pages i b.lo) (sym is)
-    (next A pages i to w within some (subst (λ n. NoneAbove A pages n to) e above) (subst (λ b. to < max b.hi LOWEST + pages) is l))
+none_above_next A window pages k i to a e w within some above is l =
+    subst (λ b. NoneAbove A window pages i (min to b.lo)) (sym is)
+    (next A window pages i to w within some (subst (λ n. NoneAbove A window pages n to) e above)
+    (subst (λ b. to < max b.hi LOWEST + pages) is l))
 
 -- below the first area
-pub highest_below : (A : List Area) (pages to : ℕ) → IsAreaList A → NoneAbove A pages 0 to → LOWEST + pages ≤ to →
-    IsHighestFit (kind_at A) pages (to - pages)
-highest_below A pages to w above l =
+pub highest_below : (A : List Area) (window pages to : ℕ) → IsAreaList A → NoneAbove A window pages 0 to → LOWEST + pages ≤ to →
+    IsHighestFit (kind_at A) window pages (to - pages)
+highest_below A window pages to w above l =
     record {
       fits =
           record {
@@ -135,5 +139,6 @@ highest_below A pages to w above l =
     }
 
 -- where the last gap is too short too, no place fits
-pub no_fit : (A : List Area) (pages to : ℕ) → NoneAbove A pages 0 to → to < LOWEST + pages → (start : ℕ) → FitsAt (kind_at A) pages start → ⊥
-no_fit A pages to above l start fit = absurd (omega (arith, above.ends start fit, fit.low))
+pub no_fit : (A : List Area) (window pages to : ℕ) → NoneAbove A window pages 0 to → to < LOWEST + pages → (start : ℕ) →
+    FitsAt (kind_at A) window pages start → ⊥
+no_fit A window pages to above l start fit = absurd (omega (arith, above.ends start fit, fit.low))

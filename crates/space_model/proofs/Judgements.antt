@@ -1,10 +1,13 @@
 -- What a judged call comes to is an answer: a Map that finds no place is refused, and a change that was judged rightly
 -- gives, with the row limit asked, the reply and the areas of the model.
-use Rattle.std.proofs.Common.{◌≡◌, ℕ, Bool, true, false, ◌||◌, if◌then◌else◌, IsFalse, inr, List, [], ◌∷◌, Option, None, refl, sym, subst}
+use Rattle.std.proofs.Common.{◌≡◌, ℕ, ◌+◌, ◌*◌, ◌≤◌, Bool, true, false, ◌||◌, if◌then◌else◌, IsFalse, inl, inr, List, [], ◌∷◌}
+use Rattle.std.proofs.Common.{Option, Some, None, refl, sym, subst, arith}
+use Rattle.page_types.specs.declared.TheConstants.{LIMIT}
 use Rattle.page_types.specs.declared.calls.Kind.{Kind}
 use Rattle.page_types.specs.declared.calls.Call.{Call}
 use Rattle.page_types.specs.declared.calls.Call.TheVariants.{Map, Fault}
 use Rattle.page_types.specs.declared.calls.Reply.{Reply}
+use Rattle.page_types.specs.declared.calls.Reply.TheVariants.{At}
 use Rattle.page_types.specs.declared.calls.Why.TheVariants.{Enomem}
 use Rattle.page_types.specs.declared.calls.Short.TheVariants.{NoGap}
 use Rattle.page_types.specs.declared.sets.Access.{Access}
@@ -15,17 +18,25 @@ use Rattle.page_types.specs.PlainReply.{plain_reply}
 use Rattle.page_types.specs.Sets.{is_fixed, has_bits, flag_bits}
 use Rattle.space_model.specs.declared.areas.Area.{Area}
 use Rattle.space_model.specs.declared.judged.Change.{Change}
+use Rattle.space_model.specs.declared.judged.Judged.{Judged}
 use Rattle.space_model.specs.declared.judged.Judged.TheVariants.{Changes}
+use Rattle.space_model.specs.declared.paint.Paint.TheVariants.{Gives}
 use Rattle.space_model.specs.declared.sorts.Sort.TheVariants.{Mapped, Sealed}
 use Rattle.space_model.specs.Areas.{kind_at}
+use Rattle.space_model.specs.Effect.{mapped_kind}
 use Rattle.space_model.specs.Sorts.{IsClear}
 use Rattle.space_model.specs.Sorts.Bar.{bar}
-use Rattle.space_model.specs.Places.{FitsAt, HasNoPlace}
-use Rattle.space_model.specs.Places.Place.{fixed, free_at, highest}
+use Rattle.space_model.specs.Places.{FitsAt, IsHighestFit, StartsAt, HasNoPlace, window_of}
+use Rattle.space_model.specs.Places.Place.{fixed, free_at, highest_in}
 use Rattle.space_model.specs.Answers.{RefusesByState, AnswersFault, Answers}
 use Rattle.space_model.specs.Answers.Answers.{kept, done, too_many_rows}
 use Rattle.space_model.specs.Judges.{IsJudged, Makes, patches_of}
 use Rattle.space_model.specs.Judges.Makes.{within, beyond}
+
+-- the change of a Map whose pages are put there
+abbrev pub placed : ℕ → ℕ → Kind → Change
+placed start count kind =
+    record { first = record { lo = start; hi = start + count; paint = Gives (Some kind) }; second = None; reply = At (start * 4096); full = None }
 
 module _ (kinds : ℕ → Option Kind) where
   clear_if : (four eight : Bool) (lo hi : ℕ) → (four || eight) ≡ false →
@@ -34,15 +45,16 @@ module _ (kinds : ℕ → Option Kind) where
   clear_if false true lo hi e = cc
   clear_if false false lo hi e = tt
 
-  no_place_if : (b : Bool) (pages hint : ℕ) → b ≡ false → ((s : ℕ) → ¬ FitsAt kinds pages s) →
-      HasNoPlace kinds pages (if b then fixed hint ∷ [] else free_at hint ∷ highest ∷ [])
-  no_place_if true pages hint e n = cc
-  no_place_if false pages hint e n = (n hint, (n, tt))
+  no_place_if : (b : Bool) (window pages hint : ℕ) → b ≡ false → ((s : ℕ) → ¬ FitsAt kinds window pages s) →
+      HasNoPlace kinds pages (if b then fixed hint ∷ [] else free_at window hint ∷ highest_in window ∷ [])
+  no_place_if true window pages hint e n = cc
+  no_place_if false window pages hint e n = (n hint, (n, tt))
 
-  -- a Map whose address is a hint is refused where its pages fit nowhere
-  pub hinted_refused : (addr len : ℕ) (prot : Prot) (flags : MapFlags) (count : ℕ) → IsFalse (is_fixed flags) → count ≡ page_count len →
-      ((s : ℕ) → ¬ FitsAt kinds count s) → RefusesByState kinds (Map addr len prot flags) (Enomem (NoGap count))
-  hinted_refused addr len prot flags count hints c none =
+  -- a Map whose address is a hint is refused where its pages fit nowhere in the hint's window
+  pub hinted_refused : (addr len : ℕ) (prot : Prot) (flags : MapFlags) (window count : ℕ) → IsFalse (is_fixed flags) →
+      window ≡ window_of (page_of addr) → count ≡ page_count len → ((s : ℕ) → ¬ FitsAt kinds window count s) →
+      RefusesByState kinds (Map addr len prot flags) (Enomem (NoGap count))
+  hinted_refused addr len prot flags window count hints w c none =
       let hint = page_of addr in
       let four = has_bits (flag_bits flags) 4 in
       let eight = has_bits (flag_bits flags) 8 in
@@ -50,10 +62,45 @@ module _ (kinds : ℕ → Option Kind) where
       (inr (
         clear_if four eight hint _ hints,
         (
-          no_place_if (is_fixed flags) (page_count len) hint hints (subst (λ (n : ℕ). (s : ℕ) → ¬ FitsAt kinds n s) c none),
+          no_place_if (is_fixed flags) (window_of hint) (page_count len) hint hints
+              (subst (λ (z : ℕ × ℕ). (s : ℕ) → ¬ FitsAt kinds z.0 z.1 s) (λ i. (w i, c i)) none),
           refl,
         ),
       ))
+
+  placed_if : (b : Bool) (window pages hint start : ℕ) → b ≡ false → ¬ FitsAt kinds window pages hint →
+      IsHighestFit kinds window pages start →
+      StartsAt kinds pages (if b then fixed hint ∷ [] else free_at window hint ∷ highest_in window ∷ []) start
+  placed_if true window pages hint start e n fit = cc
+  placed_if false window pages hint start e n fit = inr (n, inl fit)
+
+  placed_judged : (addr len : ℕ) (prot : Prot) (flags : MapFlags) (start : ℕ) → IsFalse (is_fixed flags) →
+      ¬ FitsAt kinds (window_of (page_of addr)) (page_count len) (page_of addr) →
+      IsHighestFit kinds (window_of (page_of addr)) (page_count len) start → start + page_count len ≤ LIMIT →
+      IsJudged kinds (Map addr len prot flags) (Changes (placed start (page_count len) (mapped_kind prot flags)))
+  placed_judged addr len prot flags start hints none fit limit =
+      let hint = page_of addr in
+      let four = has_bits (flag_bits flags) 4 in
+      let eight = has_bits (flag_bits flags) 8 in (
+        (
+          clear_if four eight hint _ hints,
+          (start, placed_if (is_fixed flags) (window_of hint) (page_count len) hint start hints none fit, refl),
+        ),
+        (omega arith, omega arith, limit),
+      )
+
+  -- where the hint doesn't fit, its pages are put as high as they fit in the hint's window
+  pub hinted_placed : (addr len : ℕ) (prot : Prot) (flags : MapFlags) (window count start : ℕ) (kind : Kind) (j : Judged) →
+      IsFalse (is_fixed flags) → window ≡ window_of (page_of addr) → count ≡ page_count len → kind ≡ mapped_kind prot flags →
+      ¬ FitsAt kinds window count (page_of addr) → IsHighestFit kinds window count start → window ≤ LIMIT →
+      j ≡ Changes (placed start count kind) → IsJudged kinds (Map addr len prot flags) j
+  hinted_placed addr len prot flags window count start kind j hints w c k none fit low is =
+      let limit : start + count ≤ LIMIT = omega (arith, fit.fits.high, low) in
+      subst (IsJudged kinds (Map addr len prot flags)) (sym is)
+      (subst (λ (z : ℕ × ℕ × Kind).
+      ¬ FitsAt kinds z.0 z.1 (page_of addr) → IsHighestFit kinds z.0 z.1 start → start + z.1 ≤ LIMIT →
+      IsJudged kinds (Map addr len prot flags) (Changes (placed start z.1 z.2))) (λ i. (sym w i, sym c i, sym k i))
+      (placed_judged addr len prot flags start hints) none fit limit)
 
 -- a change that was judged rightly, made as the row limit allows, is the call's answer
 pub made_answers : (A : List Area) (c : Call) (change : Change) (r : Reply) (B : List Area) → plain_reply c ≡ None →

@@ -8,6 +8,10 @@ pub mod Stepping
 pub mod InOrder
 pub mod Simple
 pub mod Deciding
+pub mod Effects
+pub mod HeapEnds
+pub mod Remapping
+pub mod Remapped
 pub mod Judgements
 pub mod OneAnswer
 pub mod SomeAnswer

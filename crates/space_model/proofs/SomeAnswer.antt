@@ -1,13 +1,13 @@
 -- Each call has an answer on an area list: of the pages below a bound there is a lowest and a highest of a sort, or
 -- none.
 use Rattle.std.proofs.Common.{◌≡◌, ℕ, zero, suc, ◌+◌, ◌*◌, ◌<◌, ◌≤◌, ◌≢◌, ◌⊎◌, inl, inr, Bool, true, false, if◌then◌else◌}
-use Rattle.std.proofs.Common.{is_some, List, [], ◌∷◌, Option, Some, None, sym, ◌∙◌, subst, refl, arith}
-use Rattle.std.proofs.lemmas.Bool.{cases_lt, cases_Bool, true≢false}
-use Rattle.page_types.specs.declared.TheConstants.{LIMIT, LOWEST, ROWS}
+use Rattle.std.proofs.Common.{nat_lt, is_some, List, [], ◌∷◌, Option, Some, None, sym, ◌∙◌, subst, refl, arith}
+use Rattle.std.proofs.lemmas.Bool.{cases_lt, cases_eq, cases_Bool, true≢false}
+use Rattle.page_types.specs.declared.TheConstants.{LIMIT, LOW, LOWEST, ROWS}
 use Rattle.page_types.specs.declared.sets.Access.{Access}
 use Rattle.page_types.specs.declared.calls.Kind.{Kind}
 use Rattle.page_types.specs.declared.calls.Call.{Call}
-use Rattle.page_types.specs.declared.calls.Call.TheVariants.{Map, Unmap, Protect, Fault, Seal}
+use Rattle.page_types.specs.declared.calls.Call.TheVariants.{Map, Unmap, Protect, Fault, Seal, Brk, Remap}
 use Rattle.page_types.specs.declared.calls.Reply.{Reply}
 use Rattle.page_types.specs.declared.calls.Reply.TheVariants.{At, Zero, Granted, Refused}
 use Rattle.page_types.specs.declared.calls.Why.{Why}
@@ -17,23 +17,27 @@ use Rattle.page_types.specs.Pages.{page_of, page_count, end_page}
 use Rattle.page_types.specs.Sets.{has_bits, prot_bits, access_bit, is_fixed}
 use Rattle.page_types.specs.PlainReply.{plain_reply}
 use Rattle.page_types.proofs.Undecided.{map-length, map-end, unmap-length, unmap-end, protect-length, protect-end, seal-length, seal-end}
+use Rattle.page_types.proofs.Undecided.{brk-base, remap-end}
 use Rattle.space_model.specs.declared.areas.Area.{Area}
 use Rattle.space_model.specs.declared.paint.Paint.TheVariants.{Gives, Protects, Seals}
 use Rattle.space_model.specs.declared.paint.Patch.{Patch}
 use Rattle.space_model.specs.declared.sorts.Sort.{Sort}
-use Rattle.space_model.specs.declared.sorts.Sort.TheVariants.{Mapped}
+use Rattle.space_model.specs.declared.sorts.Sort.TheVariants.{Mapped, Unlike}
 use Rattle.space_model.specs.Areas.{IsAreaList, kind_at, row_count}
-use Rattle.space_model.specs.Effect.{mapped_kind, patch, AreRising}
-use Rattle.space_model.specs.Sorts.{is_sort, NoneOf, IsLowest, Bar, why_of, IsBarred, IsClear}
+use Rattle.space_model.specs.Effect.{mapped_kind, heap_kind, patch, AreRising}
+use Rattle.space_model.specs.Sorts.{is_sort, NoneOf, IsLowest, IsEnd, Bar, why_of, IsBarred, IsClear}
 use Rattle.space_model.specs.Sorts.Bar.{bar}
-use Rattle.space_model.specs.Places.{FitsAt, Place, StartsBy, NoStart, StartsAt, HasNoPlace, map_places}
-use Rattle.space_model.specs.Places.Place.{fixed, free_at, highest}
-use Rattle.space_model.specs.Answers.{bars, AnswersFault, full_reply, IsEffect, Answers}
-use Rattle.space_model.specs.Answers.Effect.{changes}
+use Rattle.space_model.specs.Places.{FitsAt, HasRoom, Place, StartsBy, NoStart, StartsAt, HasNoPlace, map_places, remap_places, window_of}
+use Rattle.space_model.specs.Places.Place.{fixed, free_at, longer, highest_in}
+use Rattle.space_model.specs.Answers.{bars, AnswersFault, in_order, full_reply, IsHeapEnd, IsEffect, Answers}
+use Rattle.space_model.specs.Answers.Effect.{keeps, changes}
+use Rattle.space_model.specs.Answers.Breaks.{below_base, shrinks, grows, no_room}
+use Rattle.space_model.specs.Answers.Remaps.{shorter, stays, moves}
 use Rattle.space_model.specs.Answers.Answers.{by_arguments, refused, kept, done, too_many_rows}
 use Rattle.space_model.specs.Laws.{HasSomeAnswer}
 use Rattle.space_model.specs.Building.{changed_list}
 use Rattle.space_model.proofs.Changing.{changed_list-kinds}
+use Rattle.space_model.proofs.Remapping.{placed_low, move_rises}
 
 -- the lowest number of a sort from one bound up to another, or none
 data Lowest (P : ℕ → Type 0) (lo hi : ℕ) : Type 0 where
@@ -120,6 +124,18 @@ module _ (kinds : ℕ → Option Kind) where
         | no_lowest none ↦ inl (λ p g l. not_passed (is_sort sort (kinds p)) (none p g l))
       ]
 
+  -- the search for a sort ends somewhere
+  end_some : (sort : Sort) (lo hi : ℕ) → lo ≤ hi → (end : ℕ) × IsEnd kinds sort lo hi end
+  end_some sort lo hi l =
+      elim (lowest_such sort lo hi) [
+        | inl none ↦ (hi, record { from = l; within = omega arith; such = λ past. absurd (omega arith); none_below = none })
+        | inr (q, first) ↦
+            let h = first.within in (
+              q,
+              record { from = first.from; within = omega arith; such = λ _. first.such; none_below = first.none_below },
+            )
+      ]
+
   bars_some : (list : List Bar) → IsClear kinds list ⊎ ((why : Why) × IsBarred kinds list why)
   bars_some [] = inl tt
   bars_some (bar sort lo hi ∷ rest) =
@@ -132,12 +148,12 @@ module _ (kinds : ℕ → Option Kind) where
             ]
       ]
 
-  fits_or_not : (pages start : ℕ) → FitsAt kinds pages start ⊎ (¬ FitsAt kinds pages start)
-  fits_or_not pages start =
+  fits_or_not : (window pages start : ℕ) → FitsAt kinds window pages start ⊎ (¬ FitsAt kinds window pages start)
+  fits_or_not window pages start =
       elim (cases_lt start LOWEST) [
         | inl below ↦ inr (λ fit. absurd (omega (arith, fit.low)))
         | inr low ↦
-            elim (cases_lt LIMIT (start + pages)) [
+            elim (cases_lt window (start + pages)) [
               | inl above ↦ inr (λ fit. absurd (omega (arith, fit.high)))
               | inr high ↦
                   elim (lowest_such Mapped start (start + pages)) [
@@ -149,11 +165,26 @@ module _ (kinds : ℕ → Option Kind) where
             ]
       ]
 
+  room_or_not : (lo hi : ℕ) → HasRoom kinds lo hi ⊎ (¬ HasRoom kinds lo hi)
+  room_or_not lo hi =
+      elim (cases_lt LIMIT hi) [
+        | inl above ↦ inr (λ room. absurd (omega (arith, room.0)))
+        | inr high ↦
+            elim (lowest_such Mapped lo hi) [
+              | inl is_free ↦ inl (high, λ p g l. unmapped_none (kinds p) (is_free p g l))
+              | inr (q, first) ↦
+                  inr (λ room. true≢false (sym first.such ∙ none_unmapped (kinds q) (room.1 q first.from first.within)))
+            ]
+      ]
+
   place_some : (pages : ℕ) (place : Place) → NoStart kinds pages place ⊎ ((start : ℕ) × StartsBy kinds pages place start)
   place_some pages (fixed at) = inr (at, refl)
-  place_some pages (free_at at) = elim (fits_or_not pages at) [ inl fit ↦ inr (at, (fit, refl)) | inr unfit ↦ inl unfit ]
-  place_some pages highest =
-      elim (highest_of (FitsAt kinds pages) (fits_or_not pages) (LIMIT + 1)) [
+  place_some pages (free_at window at) =
+      elim (fits_or_not window pages at) [ inl fit ↦ inr (at, (fit, refl)) | inr unfit ↦ inl unfit ]
+  place_some pages (longer at end) =
+      elim (room_or_not end (at + pages)) [ inl room ↦ inr (at, (room, refl)) | inr none ↦ inl none ]
+  place_some pages (highest_in window) =
+      elim (highest_of (FitsAt kinds window pages) (fits_or_not window pages) (window + 1)) [
         | highest_is q l fit top ↦
             inr (q, record { fits = fit; highest = λ other o. top other (omega (arith, o.high)) o })
         | no_highest none ↦ inl (λ start o. none start (omega (arith, o.high)) o)
@@ -172,13 +203,13 @@ module _ (kinds : ℕ → Option Kind) where
       ]
 
   -- the pages of a Map end at or below LIMIT
-  placed_low : (b : Bool) (hint pages start : ℕ) → (b ≡ true → hint + pages ≤ LIMIT) →
-      StartsAt kinds pages (if b then fixed hint ∷ [] else free_at hint ∷ highest ∷ []) start → start + pages ≤ LIMIT
-  placed_low true hint pages start end (inl e) = omega (arith, end refl, e)
-  placed_low true hint pages start end (inr (n, s)) = absurd n
-  placed_low false hint pages start end (inl (fit, e)) = omega (arith, fit.high, e)
-  placed_low false hint pages start end (inr (n, inl fit)) = fit.fits.high
-  placed_low false hint pages start end (inr (n, inr (m, s))) = absurd s
+  mapped_low : (b : Bool) (hint window pages start : ℕ) → window ≤ LIMIT → (b ≡ true → hint + pages ≤ LIMIT) →
+      StartsAt kinds pages (if b then fixed hint ∷ [] else free_at window hint ∷ highest_in window ∷ []) start → start + pages ≤ LIMIT
+  mapped_low true hint window pages start low end (inl e) = omega (arith, end refl, e)
+  mapped_low true hint window pages start low end (inr (n, s)) = absurd n
+  mapped_low false hint window pages start low end (inl (fit, e)) = omega (arith, fit.high, e)
+  mapped_low false hint window pages start low end (inr (n, inl fit)) = omega (arith, fit.fits.high)
+  mapped_low false hint window pages start low end (inr (n, inr (m, s))) = absurd s
 
   fault_some : (o : Option Kind) (page : ℕ) (access : Access) → (r : Reply) × AnswersFault o page access r
   fault_some None page access = (Refused (MapErr page), refl)
@@ -190,6 +221,11 @@ module _ (kinds : ℕ → Option Kind) where
 
 some_pages : (addr len : ℕ) → len ≢ 0 → page_of addr < end_page addr len
 some_pages addr len n = omega arith
+
+-- a window ends at or below LIMIT
+window_low : (b : Bool) → (if b then LOW else LIMIT) ≤ LIMIT
+window_low true = omega arith
+window_low false = omega arith
 
 some_length : (len : ℕ) → len ≢ 0 → 0 < page_count len
 some_length len n = omega arith
@@ -210,7 +246,64 @@ module _ (A : List Area) (w : IsAreaList A) where
       IsEffect (kind_at A) c (changes (change ∷ []) reply full) → change.lo < change.hi → change.hi ≤ LIMIT → HasSomeAnswer A c
   changed_some c change reply full u e l h = patched_some c (change ∷ []) reply full u e (omega arith, omega arith, h)
 
-  clear_some : (c : Call) → plain_reply c ≡ None → IsClear (kind_at A) (bars c) → HasSomeAnswer A c
+  -- a Brk of a heap that ends there
+  brk_some : (base addr end : ℕ) → plain_reply (Brk base addr) ≡ None → IsHeapEnd (kind_at A) base end → HasSomeAnswer A (Brk base addr)
+  brk_some base addr end u is =
+      let c : Call = Brk base addr in
+      let stays_at : Reply = At (end * 4096) in
+      let limit = is.within in
+      elim (cases_lt addr base) [
+        | inl low ↦ (stays_at, A, kept u (tt, (end, is, below_base low refl)) refl)
+        | inr high ↦
+            elim (cases_lt end (page_count addr)) [
+              | inr back ↦
+                  patched_some c (patch (page_count addr) end (Gives None) ∷ []) (At addr) (Some stays_at) u
+                  (tt, (end, is, shrinks high back refl)) (omega arith, back, limit)
+              | inl on ↦
+                  elim (room_or_not (kind_at A) end (page_count addr)) [
+                    | inl room ↦
+                        patched_some c (patch end (page_count addr) (Gives (Some heap_kind)) ∷ []) (At addr) (Some stays_at) u
+                        (tt, (end, is, grows high on room refl)) (omega arith, omega arith, room.0)
+                    | inr none ↦ (stays_at, A, kept u (tt, (end, is, no_room high on none refl)) refl)
+                  ]
+            ]
+      ]
+
+  -- a Remap that nothing bars
+  remap_some : (addr old new : ℕ) (may : Bool) (hint : ℕ) → plain_reply (Remap addr old new may hint) ≡ None →
+      IsClear (kind_at A) (bars (kind_at A) (Remap addr old new may hint)) → HasSomeAnswer A (Remap addr old new may hint)
+  remap_some addr old new may hint u clear =
+      let c : Call = Remap addr old new may hint in
+      let lo = page_of addr in
+      let end = end_page addr old in
+      let count = page_count new in
+      let kind = kind_at A lo in
+      let limit = remap-end addr old new u in
+      elim (cases_lt (page_count old) count) [
+        | inr fewer ↦
+            patched_some c (patch (lo + count) end (Gives None) ∷ []) (At addr) None u (clear, shorter fewer refl)
+            (omega arith, omega arith, limit)
+        | inl more ↦
+            elim (places_some (kind_at A) count (remap_places lo end may hint)) [
+              | inl none ↦
+                  (Refused (Enomem (NoGap count)), A, refused (Enomem (NoGap count)) u (inr (clear, (more, none, refl))) refl refl)
+              | inr (start, s) ↦
+                  elim (cases_eq start lo) [
+                    | inl same ↦
+                        let t : StartsAt (kind_at A) count (remap_places lo end may hint) lo =
+                        subst (StartsAt (kind_at A) count (remap_places lo end may hint)) same s in
+                        patched_some c (patch lo (lo + count) (Gives kind) ∷ []) (At addr) None u (clear, stays more t refl)
+                        (omega arith, omega arith, placed_low (kind_at A) count lo end may hint lo t)
+                    | inr differs ↦
+                        patched_some c
+                        (in_order (patch lo end (Gives None)) (patch start (start + count) (Gives kind)))
+                        (At (start * 4096)) None u (clear, moves start more s differs refl)
+                        (move_rises (kind_at A) addr old new may hint start u clear.0 s differs)
+                  ]
+            ]
+      ]
+
+  clear_some : (c : Call) → plain_reply c ≡ None → IsClear (kind_at A) (bars (kind_at A) c) → HasSomeAnswer A c
   clear_some (Map addr len prot flags) u clear =
       let count = page_count len in
       elim (places_some (kind_at A) count (map_places flags (page_of addr))) [
@@ -219,7 +312,8 @@ module _ (A : List Area) (w : IsAreaList A) where
             changed_some (Map addr len prot flags) (patch start (start + count) (Gives (Some (mapped_kind prot flags))))
             (At (start * 4096)) None u (clear, (start, s, refl))
             (omega (arith, some_length len (map-length addr len flags u)))
-            (placed_low (kind_at A) (is_fixed flags) (page_of addr) count start (map-end addr len flags u) s)
+            (mapped_low (kind_at A) (is_fixed flags) (page_of addr) (window_of (page_of addr)) count start
+            (window_low (nat_lt (page_of addr) LOW)) (map-end addr len flags u) s)
       ]
   clear_some (Unmap addr len) u clear =
       changed_some (Unmap addr len) (patch (page_of addr) (end_page addr len) (Gives None)) Zero None u (clear, refl)
@@ -230,13 +324,18 @@ module _ (A : List Area) (w : IsAreaList A) where
   clear_some (Seal addr len flags) u clear =
       changed_some (Seal addr len flags) (patch (page_of addr) (end_page addr len) Seals) Zero None u (clear, refl)
       (some_pages addr len (seal-length addr len flags u)) (seal-end addr len flags u)
+  clear_some (Brk base addr) u clear =
+      let l = brk-base base u in
+      let (end, is) = end_some (kind_at A) (Unlike (Some heap_kind)) (page_of base) LIMIT (omega arith) in
+      brk_some base addr end u is
+  clear_some (Remap addr old new may hint) u clear = remap_some addr old new may hint u clear
   clear_some (Fault addr access) u clear =
       let (r, h) = fault_some (kind_at A) (kind_at A (page_of addr)) (page_of addr) access in
       (r, A, kept u (clear, (r, h, refl)) refl)
 
   undecided_some : (c : Call) → plain_reply c ≡ None → HasSomeAnswer A c
   undecided_some c u =
-      elim (bars_some (kind_at A) (bars c)) [
+      elim (bars_some (kind_at A) (bars (kind_at A) c)) [
         | inl clear ↦ clear_some c u clear
         | inr (why, barred) ↦ (Refused why, A, refused why u (inl barred) refl refl)
       ]

@@ -1,32 +1,40 @@
--- A change that was done is done again, and changes nothing then; and a call makes at most two rows more.
-use Rattle.std.proofs.Common.{◌≡◌, ◌≢◌, ℕ, ◌+◌, ◌≤◌, inl, inr, is_none, true, false, List, [], ◌∷◌, Option, Some, None, sym, ◌∙◌, ap, subst, refl, arith}
+-- A change that was done is done again, and changes nothing then; and a call makes few rows more.
+use Rattle.std.proofs.Common.{◌≡◌, ℕ, ◌+◌, ◌≤◌, inl, inr, is_none, Bool, true, false, nat_lt, if◌then◌else◌, List, [], ◌∷◌}
+use Rattle.std.proofs.Common.{Option, Some, None, sym, ◌∙◌, ap, subst, refl, arith}
 use Rattle.std.specs.Option.{option_map}
 use Rattle.std.proofs.lemmas.Bool.{true≢false}
+use Rattle.page_types.specs.declared.TheConstants.{LIMIT, SPARE}
 use Rattle.page_types.specs.declared.sets.Prot.{Prot}
 use Rattle.page_types.specs.declared.calls.Kind.{Kind}
 use Rattle.page_types.specs.declared.calls.Call.{Call}
-use Rattle.page_types.specs.declared.calls.Call.TheVariants.{Map, Unmap, Protect, Fault, Seal}
+use Rattle.page_types.specs.declared.calls.Call.TheVariants.{Map, Unmap, Protect, Fault, Seal, Brk, Remap}
 use Rattle.page_types.specs.declared.calls.Reply.{Reply}
-use Rattle.page_types.specs.declared.calls.Reply.TheVariants.{Zero, Refused}
+use Rattle.page_types.specs.declared.calls.Reply.TheVariants.{Zero}
 use Rattle.page_types.specs.declared.calls.Why.{Why}
-use Rattle.page_types.specs.declared.calls.Why.TheVariants.{Enomem}
-use Rattle.page_types.specs.declared.calls.Short.TheVariants.{Rows}
 use Rattle.page_types.specs.Pages.{page_of, page_count, end_page}
+use Rattle.page_types.specs.PlainReply.{plain_reply}
+use Rattle.page_types.proofs.Undecided.{remap-end}
 use Rattle.space_model.specs.declared.areas.Area.{Area}
 use Rattle.space_model.specs.declared.paint.Paint.{Paint}
 use Rattle.space_model.specs.declared.paint.Paint.TheVariants.{Gives, Protects, Seals}
 use Rattle.space_model.specs.declared.paint.Patch.{Patch}
 use Rattle.space_model.specs.Areas.{IsAreaList, HasKinds, kind_at, row_count}
-use Rattle.space_model.specs.Effect.{painted, patch, with_patch, patched, mapped_kind, protected_kind, sealed_kind}
+use Rattle.space_model.specs.Effect.{painted, patch, with_patch, patched, mapped_kind, protected_kind, sealed_kind, heap_kind, AreRising}
 use Rattle.space_model.specs.declared.sorts.Sort.TheVariants.{Sealed}
 use Rattle.space_model.specs.Sorts.{is_sort, IsClear}
-use Rattle.space_model.specs.Answers.{bars, RefusesByState, Effect, Does, full_reply, Answers}
+use Rattle.space_model.specs.Places.{remap_places}
+use Rattle.space_model.specs.Answers.{bars, RefusesByState, Effect, Breaks, Remaps, in_order, Does, full_reply, Answers}
 use Rattle.space_model.specs.Answers.Effect.{keeps, changes}
+use Rattle.space_model.specs.Answers.Breaks.{below_base, shrinks, grows, no_room}
+use Rattle.space_model.specs.Answers.Remaps.{shorter, stays, moves}
 use Rattle.space_model.specs.Answers.Answers.{by_arguments, refused, kept, done, too_many_rows}
+use Rattle.space_model.specs.Building.{changed_list}
+use Rattle.space_model.specs.Laws.{rows_added}
 use Rattle.space_model.proofs.AreaKinds.{only_one, side_of}
 use Rattle.space_model.proofs.AreaKinds.Side.{before, inside, after}
-use Rattle.space_model.proofs.Changing.{within-before, within-inside, within-after}
+use Rattle.space_model.proofs.Changing.{within-before, within-inside, within-after, patched-same, changed_list-kinds}
 use Rattle.space_model.proofs.Counting.{row_count-after}
+use Rattle.space_model.proofs.Remapping.{placed_end}
 
 -- painting a kind twice is painting it once
 painted_twice : (paint : Paint) (o : Option Kind) → painted paint (painted paint o) ≡ painted paint o
@@ -59,7 +67,7 @@ module _ (A B : List Area) (change : Patch) (k : HasKinds (with_patch change (ki
 record DoesOne (c : Call) (change : Patch) : Type 0 where
   does : (kinds : ℕ → Option Kind) (e : Effect) → Does kinds c e → e ≡ changes (change ∷ []) Zero None
   still :
-      (A B : List Area) (why : Why) → IsClear (kind_at A) (bars c) → HasKinds (with_patch change (kind_at A)) B →
+      (A B : List Area) (why : Why) → IsClear (kind_at A) (bars (kind_at A) c) → HasKinds (with_patch change (kind_at A)) B →
       RefusesByState (kind_at B) c why → ⊥
 
 module _ (c : Call) (change : Patch) (one : DoesOne c change) (A : List Area) (s : Reply) (B C : List Area) where
@@ -110,7 +118,7 @@ unmap_twice A addr len s B C =
     hi : ℕ
     hi = end_page addr len
 
-    still : (A B : List Area) (why : Why) → IsClear (kind_at A) (bars (Unmap addr len)) →
+    still : (A B : List Area) (why : Why) → IsClear (kind_at A) (bars (kind_at A) (Unmap addr len)) →
         HasKinds (with_patch (patch lo hi (Gives None)) (kind_at A)) B → RefusesByState (kind_at B) (Unmap addr len) why → ⊥
     still A B why clear k (inl (inl (p, l, e))) =
         true≢false (sym l.such ∙ ap (is_sort Sealed) (k.kinds_are p ∙ within-inside lo hi p None (kind_at A p) l.from l.within))
@@ -140,7 +148,7 @@ protect_twice A addr len prot s B C =
     hi : ℕ
     hi = end_page addr len
 
-    still : (A B : List Area) (why : Why) → IsClear (kind_at A) (bars (Protect addr len prot)) →
+    still : (A B : List Area) (why : Why) → IsClear (kind_at A) (bars (kind_at A) (Protect addr len prot)) →
         HasKinds (with_patch (patch lo hi (Protects prot)) (kind_at A)) B → RefusesByState (kind_at B) (Protect addr len prot) why → ⊥
     still A B why clear k (inl (inl (p, l, e))) =
         still_mapped prot (kind_at A p) (kind_at B p)
@@ -173,7 +181,7 @@ seal_twice A addr len flags s B C =
     hi : ℕ
     hi = end_page addr len
 
-    still : (A B : List Area) (why : Why) → IsClear (kind_at A) (bars (Seal addr len flags)) →
+    still : (A B : List Area) (why : Why) → IsClear (kind_at A) (bars (kind_at A) (Seal addr len flags)) →
         HasKinds (with_patch (patch lo hi Seals) (kind_at A)) B → RefusesByState (kind_at B) (Seal addr len flags) why → ⊥
     still A B why clear k (inl (inl (p, l, e))) =
         sealed_mapped (kind_at A p) (kind_at B p)
@@ -182,47 +190,98 @@ seal_twice A addr len flags s B C =
     still A B why clear k (inl (inr (n, r))) = r
     still A B why clear k (inr (n, r)) = r
 
--- a call changes by one patch, and is refused where that makes too many rows
-pub record IsOneChange (ps : List Patch) (reply : Reply) (full : Option Reply) : Type 0 where
-  -- the patch
-  pub change : Patch
-  -- it is the only one
-  pub only : ps ≡ change ∷ []
-  -- too many rows are refused
-  pub refuses : full ≡ None
-  -- the reply isn't that refusal
-  pub done : (n : ℕ) → reply ≢ Refused (Enomem (Rows n))
-
--- so does each call that changes pages
-pub one_change : (kinds : ℕ → Option Kind) (c : Call) (ps : List Patch) (r : Reply) (f : Option Reply) → Does kinds c (changes ps r f) →
-    IsOneChange ps r f
-one_change kinds (Map addr len prot flags) ps r f (start, s, d) =
-    record {
-      change = patch start (start + page_count len) (Gives (Some (mapped_kind prot flags)));
-      only = cc;
-      refuses = cc;
-      done = λ n e. cc;
-    }
-one_change kinds (Unmap addr len) ps r f d =
-    record { change = patch (page_of addr) (end_page addr len) (Gives None); only = cc; refuses = cc; done = λ n e. cc }
-one_change kinds (Protect addr len prot) ps r f d =
-    record { change = patch (page_of addr) (end_page addr len) (Protects prot); only = cc; refuses = cc; done = λ n e. cc }
-one_change kinds (Fault addr access) ps r f (s, h, d) = cc
-one_change kinds (Seal addr len flags) ps r f d =
-    record { change = patch (page_of addr) (end_page addr len) Seals; only = cc; refuses = cc; done = λ n e. cc }
-
--- what a call changes makes at most two rows more
-pub row_count-does : (A B : List Area) (c : Call) (ps : List Patch) (r : Reply) (f : Option Reply) → IsAreaList A →
-    Does (kind_at A) c (changes ps r f) → HasKinds (patched ps (kind_at A)) B → row_count B ≤ row_count A + 2
-row_count-does A B c ps r f w d k =
-    let one = one_change (kind_at A) c ps r f d in
-    row_count-after A B one.change w (subst (λ l. HasKinds (patched l (kind_at A)) B) one.only k)
-
--- one call makes at most two rows more
-pub two_rows : (A : List Area) (c : Call) (r : Reply) (B : List Area) → IsAreaList A → Answers A c r B →
+-- one patch makes at most two rows more
+one_patch : (A B : List Area) (ps : List Patch) (change : Patch) → IsAreaList A → ps ≡ change ∷ [] → HasKinds (patched ps (kind_at A)) B →
     row_count B ≤ row_count A + 2
-two_rows A c r B w (by_arguments e b) = omega (arith, ap row_count b)
-two_rows A c r B w (refused why u f e b) = omega (arith, ap row_count b)
-two_rows A c r B w (kept u g b) = omega (arith, ap row_count b)
-two_rows A c r B w (done ps f u p k n) = row_count-does A B c ps r f w p.1 k
-two_rows A c r B w (too_many_rows ps t f D u p k n e b) = omega (arith, ap row_count b)
+one_patch A B ps change w only k = row_count-after A B change w (subst (λ l. HasKinds (patched l (kind_at A)) B) only k)
+
+-- and two at most four
+two_patches : (A B : List Area) (p q : Patch) → IsAreaList A → p.lo ≤ p.hi → p.hi ≤ LIMIT →
+    HasKinds (patched (p ∷ q ∷ []) (kind_at A)) B → row_count B ≤ row_count A + 4
+two_patches A B p q w o l k =
+    let own : AreRising 0 (p ∷ []) = (omega arith, o, l) in
+    let C = changed_list A (p ∷ []) in
+    let one : HasKinds (with_patch p (kind_at A)) C = changed_list-kinds A (p ∷ []) w own in
+    let more : HasKinds (with_patch q (kind_at C)) B =
+    record {
+      areas = k.areas;
+      kinds_are = λ x. k.kinds_are x ∙ patched-same (q ∷ []) (with_patch p (kind_at A)) (kind_at C) x (sym (one.kinds_are x));
+    } in
+    omega (arith, row_count-after A C p w one, row_count-after C B q one.areas more)
+
+-- so they do in either order
+ordered_rows : (b : Bool) (A B : List Area) (p q : Patch) → IsAreaList A → p.lo ≤ p.hi → p.hi ≤ LIMIT → q.lo ≤ q.hi → q.hi ≤ LIMIT →
+    HasKinds (patched (if b then p ∷ q ∷ [] else q ∷ p ∷ []) (kind_at A)) B → row_count B ≤ row_count A + 4
+ordered_rows true A B p q w o l n m k = two_patches A B p q w o l k
+ordered_rows false A B p q w o l n m k = two_patches A B q p w n m k
+
+module _ (A B : List Area) (w : IsAreaList A) (ps : List Patch) (r : Reply) (f : Option Reply) (k : HasKinds (patched ps (kind_at A)) B) where
+  brk_rows : (base addr end : ℕ) → Breaks (kind_at A) base addr end (changes ps r f) → row_count B ≤ row_count A + 2
+  brk_rows base addr end (below_base l d) = cc
+  brk_rows base addr end (shrinks m l d) =
+      let only : ps ≡ patch (page_count addr) end (Gives None) ∷ [] = cc in
+      one_patch A B ps (patch (page_count addr) end (Gives None)) w only k
+  brk_rows base addr end (grows m l h d) =
+      let only : ps ≡ patch end (page_count addr) (Gives (Some heap_kind)) ∷ [] = cc in
+      one_patch A B ps (patch end (page_count addr) (Gives (Some heap_kind))) w only k
+  brk_rows base addr end (no_room m l h d) = cc
+
+  remap_rows : (addr old new : ℕ) (may : Bool) (hint : ℕ) → page_of addr + old ≤ LIMIT →
+      Remaps (kind_at A) addr old new (remap_places (page_of addr) (page_of addr + old) may hint) (changes ps r f) →
+      row_count B ≤ row_count A + 4
+  remap_rows addr old new may hint limit (shorter l d) =
+      let change = patch (page_of addr + new) (page_of addr + old) (Gives None) in
+      let only : ps ≡ change ∷ [] = cc in omega (arith, one_patch A B ps change w only k)
+  remap_rows addr old new may hint limit (stays l s d) =
+      let change = patch (page_of addr) (page_of addr + new) (Gives (kind_at A (page_of addr))) in
+      let only : ps ≡ change ∷ [] = cc in omega (arith, one_patch A B ps change w only k)
+  remap_rows addr old new may hint limit (moves start l s n d) =
+      let lo = page_of addr in
+      let p = patch lo (lo + old) (Gives None) in
+      let q = patch start (start + new) (Gives (kind_at A lo)) in
+      let only : ps ≡ in_order p q = cc in
+      ordered_rows (nat_lt lo start) A B p q w (omega arith) limit (omega arith)
+      (placed_end (kind_at A) new lo (lo + old) may hint start s n)
+      (subst (λ l. HasKinds (patched l (kind_at A)) B) only k)
+
+-- what a call changes makes at most so many rows more
+pub row_count-does : (A B : List Area) (c : Call) (ps : List Patch) (r : Reply) (f : Option Reply) → IsAreaList A → plain_reply c ≡ None →
+    Does (kind_at A) c (changes ps r f) → HasKinds (patched ps (kind_at A)) B → row_count B ≤ row_count A + rows_added c
+row_count-does A B (Map addr len prot flags) ps r f w u (start, s, d) k =
+    let change = patch start (start + page_count len) (Gives (Some (mapped_kind prot flags))) in
+    let only : ps ≡ change ∷ [] = cc in one_patch A B ps change w only k
+row_count-does A B (Unmap addr len) ps r f w u d k =
+    let change = patch (page_of addr) (end_page addr len) (Gives None) in
+    let only : ps ≡ change ∷ [] = cc in one_patch A B ps change w only k
+row_count-does A B (Protect addr len prot) ps r f w u d k =
+    let change = patch (page_of addr) (end_page addr len) (Protects prot) in
+    let only : ps ≡ change ∷ [] = cc in one_patch A B ps change w only k
+row_count-does A B (Fault addr access) ps r f w u (s, h, d) k = cc
+row_count-does A B (Seal addr len flags) ps r f w u d k =
+    let change = patch (page_of addr) (end_page addr len) Seals in
+    let only : ps ≡ change ∷ [] = cc in one_patch A B ps change w only k
+row_count-does A B (Brk base addr) ps r f w u (end, is, d) k = brk_rows A B w ps r f k base addr end d
+row_count-does A B (Remap addr old new may hint) ps r f w u d k =
+    remap_rows A B w ps r f k addr (page_count old) (page_count new) may hint (remap-end addr old new u) d
+
+-- one call makes at most so many rows more
+pub few_rows : (A : List Area) (c : Call) (r : Reply) (B : List Area) → IsAreaList A → Answers A c r B →
+    row_count B ≤ row_count A + rows_added c
+few_rows A c r B w (by_arguments e b) = omega (arith, ap row_count b)
+few_rows A c r B w (refused why u f e b) = omega (arith, ap row_count b)
+few_rows A c r B w (kept u g b) = omega (arith, ap row_count b)
+few_rows A c r B w (done ps f u p k n) = row_count-does A B c ps r f w u p.1 k
+few_rows A c r B w (too_many_rows ps t f D u p k n e b) = omega (arith, ap row_count b)
+
+rows_spare : (c : Call) → rows_added c ≤ SPARE
+rows_spare (Map addr len prot flags) = omega arith
+rows_spare (Unmap addr len) = omega arith
+rows_spare (Protect addr len prot) = omega arith
+rows_spare (Fault addr access) = omega arith
+rows_spare (Seal addr len flags) = omega arith
+rows_spare (Brk base addr) = omega arith
+rows_spare (Remap addr old new may hint) = omega arith
+
+-- so at most SPARE, whichever call it is
+pub spare_rows : (A : List Area) (c : Call) (r : Reply) (B : List Area) → IsAreaList A → Answers A c r B → row_count B ≤ row_count A + SPARE
+spare_rows A c r B w answer = omega (arith, few_rows A c r B w answer, rows_spare c)

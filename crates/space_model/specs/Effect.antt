@@ -1,5 +1,6 @@
--- What an accepted call does, as a function from pages to kinds: mmap(2), munmap(2), mprotect(2) and mseal(2) paint
--- stretches of pages and leave every other page as it is. Nothing here speaks of areas that are cut or joined.
+-- What an accepted call does, as a function from pages to kinds: mmap(2), munmap(2), mprotect(2), mseal(2), brk(2) and
+-- mremap(2) paint stretches of pages and leave every other page as it is. Nothing here speaks of areas that are cut or
+-- joined.
 use Rattle.std.specs.Prelude.{ℕ, ◌≤◌, true, false, if◌then◌else◌, Option, List, [], ◌∷◌}
 use Rattle.std.specs.Option.{option_map}
 use Rattle.page_types.specs.declared.TheConstants.{LIMIT}
@@ -23,6 +24,10 @@ protected_kind prot kind = record { prot = prot; shared = kind.shared; sealed = 
 -- mseal(2): sealed, with the rest kept
 abbrev pub sealed_kind : Kind → Kind
 sealed_kind kind = record { prot = kind.prot; shared = kind.shared; sealed = true }
+
+-- brk(2): the heap's pages may be read and written, their writes are its own, and they aren't sealed
+abbrev pub heap_kind : Kind
+heap_kind = record { prot = record { 0 = 3 }; shared = false; sealed = false }
 
 -- what becomes of the kind of a page that is painted
 abbrev pub painted : Paint → Option Kind → Option Kind

@@ -8,7 +8,7 @@ use Rattle.page_types.specs.declared.TheConstants.{LIMIT}
 use Rattle.page_types.specs.declared.pages.Span.{Span}
 use Rattle.page_types.specs.declared.calls.Kind.{Kind}
 use Rattle.page_types.specs.declared.calls.Call.{Call}
-use Rattle.page_types.specs.declared.calls.Call.TheVariants.{Map, Unmap, Protect, Fault, Seal}
+use Rattle.page_types.specs.declared.calls.Call.TheVariants.{Map, Unmap, Protect, Fault, Seal, Brk, Remap}
 use Rattle.page_types.specs.Pages.{page_of, end_page}
 use Rattle.page_types.specs.PlainReply.{plain_reply}
 use Rattle.space_model.specs.declared.areas.Area.{Area}
@@ -45,6 +45,8 @@ IsSimpleIn A (Protect addr len prot) a =
     (IsTrue a.kind.sealed ⊎ ((B : List Area) × KeepsCounts A (patch (page_of addr) (end_page addr len) (Protects prot)) B))
 IsSimpleIn A (Fault addr access) a = ⊥
 IsSimpleIn A (Seal addr len flags) a = ⊥
+IsSimpleIn A (Brk base addr) a = ⊥
+IsSimpleIn A (Remap addr old new may hint) a = ⊥
 
 -- a Protect is simple
 abbrev pub IsSimple : List Area → Call → Type 0
@@ -84,6 +86,8 @@ FitsByState A (Protect addr len prot) under =
     (under ≡ Whole) ⊎ ((a : Area) × IsSimpleIn A (Protect addr len prot) a × HoldsArea a under)
 FitsByState A (Fault addr access) under = ReadsPage (page_of addr) under
 FitsByState A (Seal addr len flags) under = under ≡ Whole
+FitsByState A (Brk base addr) under = under ≡ Whole
+FitsByState A (Remap addr old new may hint) under = under ≡ Whole
 
 -- what was held fits the call on this area list
 abbrev pub FitsUnder : List Area → Call → Under → Type 0

@@ -1,5 +1,5 @@
 -- What a body that judges a call comes to: a refusal, a reply that leaves the pages as they are, or a change of pages.
--- One body serves the areas of a `PlainSpace` and the rows of a shared space, after mmap(2), munmap(2) and mprotect(2).
+-- One body serves the areas of a `PlainSpace` and the rows of a shared space, after mmap(2) and the calls like it.
 use Rattle.std.specs.Prelude.{ℕ, ◌≡◌, ◌<◌, ◌≤◌, Option, Some, None, MatchOption, List, [], ◌∷◌}
 use Rattle.page_types.specs.declared.TheConstants.{ROWS}
 use Rattle.page_types.specs.declared.calls.Kind.{Kind}

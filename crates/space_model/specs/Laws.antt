@@ -1,11 +1,11 @@
 -- Laws of the definitions, each proved on a public function that does nothing: that the definitions hold together, as a
 -- reader of mmap(2) and proc_pid_maps(5) expects. They follow from the definitions alone.
-use Rattle.std.specs.Prelude.{ℕ, ◌≡◌, ◌≢◌, ◌<◌, ◌≤◌, ◌+◌, ◌⊎◌, ◌↔◌, IsTrue, Option, Some, None, List, ◌++◌, map}
+use Rattle.std.specs.Prelude.{ℕ, Bool, ◌≡◌, ◌≢◌, ◌<◌, ◌≤◌, ◌+◌, ◌⊎◌, ◌↔◌, IsTrue, IsFalse, Option, Some, None, List, ◌++◌, map}
 use Rattle.std.specs.List.{Contains}
-use Rattle.page_types.specs.declared.TheConstants.{LIMIT, ROWS, SPARE}
+use Rattle.page_types.specs.declared.TheConstants.{LIMIT, LOWEST, ROWS}
 use Rattle.page_types.specs.declared.calls.Kind.{Kind}
 use Rattle.page_types.specs.declared.calls.Call.{Call}
-use Rattle.page_types.specs.declared.calls.Call.TheVariants.{Map, Protect, Fault}
+use Rattle.page_types.specs.declared.calls.Call.TheVariants.{Map, Unmap, Protect, Fault, Seal, Brk, Remap}
 use Rattle.page_types.specs.declared.calls.Reply.{Reply}
 use Rattle.page_types.specs.declared.calls.Reply.TheVariants.{At, Zero, Granted, Refused}
 use Rattle.page_types.specs.declared.calls.Why.TheVariants.{Enomem, AccErr}
@@ -15,11 +15,13 @@ use Rattle.page_types.specs.declared.sets.MapFlags.{MapFlags}
 use Rattle.page_types.specs.declared.sets.Prot.{Prot}
 use Rattle.page_types.specs.Pages.{page_of, page_count, end_page}
 use Rattle.page_types.specs.PlainReply.{protect_reply}
+use Rattle.page_types.specs.Sets.{is_fixed}
 use Rattle.space_model.specs.declared.areas.Area.{Area}
 use Rattle.space_model.specs.Starts.{KeepsRows, start_count}
 use Rattle.space_model.specs.Areas.{IsAreaList, row_count, kind_at}
 use Rattle.space_model.specs.Effect.{mapped_kind, protected_kind}
-use Rattle.space_model.specs.Answers.{LetsThrough, Answers}
+use Rattle.space_model.specs.Places.{window_of}
+use Rattle.space_model.specs.Answers.{LetsThrough, IsHeapEnd, Answers}
 use Rattle.space_model.specs.declared.entries.Entry.{Entry}
 use Rattle.space_model.specs.History.{StateAfter, IsLegal}
 use Rattle.space_model.specs.Held.{LiesIn, IsSimpleIn, kind_before}
@@ -43,17 +45,59 @@ FaultFindsMapped A addr len prot flags byte access =
     page_of place ≤ page_of byte → page_of byte < page_of place + page_count len → Answers B (Fault byte access) s C →
     (s ≡ Granted (mapped_kind prot flags)) ⊎ (s ≡ Refused (AccErr (page_of byte) (mapped_kind prot flags)))
 
+-- a Map that binds no address is placed at or above LOWEST, and its pages end in its hint's window
+abbrev pub EndsInItsWindow : List Area → ℕ → ℕ → Prot → MapFlags → Type 0
+EndsInItsWindow A addr len prot flags =
+    (place : ℕ) (B : List Area) → IsFalse (is_fixed flags) → Answers A (Map addr len prot flags) (At place) B →
+    (LOWEST ≤ page_of place) × (page_of place + page_count len ≤ window_of (page_of addr))
+
+-- a Remap that was done has left its pages so: those of the place have the kind of the old pages' first, each old page
+-- that isn't in the place is free, and every other page is as before
+pub record IsRemapped (A : List Area) (addr old new place : ℕ) (B : List Area) : Type 0 where
+  pub placed :
+      (page : ℕ) → page_of place ≤ page → page < page_of place + page_count new → kind_at B page ≡ kind_at A (page_of addr)
+  pub left :
+      (page : ℕ) → page_of addr ≤ page → page < end_page addr old →
+      (page < page_of place) ⊎ (page_of place + page_count new ≤ page) → kind_at B page ≡ None
+  pub others :
+      (page : ℕ) → (page < page_of addr) ⊎ (end_page addr old ≤ page) →
+      (page < page_of place) ⊎ (page_of place + page_count new ≤ page) → kind_at B page ≡ kind_at A page
+
+-- so does every Remap that answers a place
+abbrev pub RemapsItsPages : List Area → ℕ → ℕ → ℕ → Bool → ℕ → Type 0
+RemapsItsPages A addr old new may hint =
+    (place : ℕ) (B : List Area) → Answers A (Remap addr old new may hint) (At place) B → IsRemapped A addr old new place B
+
+-- a Brk changes no page outside of its heap: none below the base, and none at or above both the end that the heap had
+-- and the address, rounded up to pages
+abbrev pub KeepsToItsHeap : List Area → ℕ → ℕ → Type 0
+KeepsToItsHeap A base addr =
+    (r : Reply) (B : List Area) (end page : ℕ) → Answers A (Brk base addr) r B → IsHeapEnd (kind_at A) base end →
+    (page < page_of base) ⊎ ((end ≤ page) × (page_count addr ≤ page)) → kind_at B page ≡ kind_at A page
+
 -- a call that was done is done again, and then changes nothing
 abbrev pub DoneTwiceIsOnce : List Area → Call → Type 0
 DoneTwiceIsOnce A c = (s : Reply) (B C : List Area) → Answers A c Zero B → Answers B c s C → (s ≡ Zero) × (C ≡ B)
 
--- one call makes at most SPARE rows more, which is two
-abbrev pub AddsTwoRows : List Area → Call → Type 0
-AddsTwoRows A c = (r : Reply) (B : List Area) → Answers A c r B → row_count B ≤ row_count A + SPARE
+-- how many rows more a call may make: two where one stretch of pages changes, and four where a Remap moves its pages,
+-- which changes two
+abbrev pub rows_added : Call → ℕ
+rows_added (Map addr len prot flags) = 2
+rows_added (Unmap addr len) = 2
+rows_added (Protect addr len prot) = 2
+rows_added (Fault addr access) = 0
+rows_added (Seal addr len flags) = 2
+rows_added (Brk base addr) = 2
+rows_added (Remap addr old new may hint) = 4
 
--- a call that is refused for its rows asks for more than ROWS, and for at most SPARE more than there are
-abbrev pub AsksTwoRowsMore : List Area → Call → Type 0
-AsksTwoRowsMore A c = (rows : ℕ) (B : List Area) → Answers A c (Refused (Enomem (Rows rows))) B → (ROWS < rows) × (rows ≤ row_count A + SPARE)
+-- one call makes at most so many rows more
+abbrev pub AddsFewRows : List Area → Call → Type 0
+AddsFewRows A c = (r : Reply) (B : List Area) → Answers A c r B → row_count B ≤ row_count A + rows_added c
+
+-- a call that is refused for its rows asks for more than ROWS, and for at most so many more than there are
+abbrev pub AsksFewRowsMore : List Area → Call → Type 0
+AsksFewRowsMore A c =
+    (rows : ℕ) (B : List Area) → Answers A c (Refused (Enomem (Rows rows))) B → (ROWS < rows) × (rows ≤ row_count A + rows_added c)
 
 -- the number of rows is the number of pages where one starts
 abbrev pub RowsAreStarts : List Area → Type 0

@@ -1,21 +1,23 @@
 -- Sorts of pages, and what bars a call: the lowest page of a sort in its span. The manual pages of mmap(2),
--- mprotect(2) and mseal(2) name such errors, and the bars of a call are a list in the order in which they are looked
--- for: the first that has such a page refuses the call. Everything is said of kinds by page, so it serves areas and
--- rows alike.
-use Rattle.std.specs.Prelude.{ℕ, ◌≡◌, ◌<◌, ◌≤◌, ◌⊎◌, Bool, true, false, is_some, is_none, Option, Some, None, List, [], ◌∷◌}
+-- mprotect(2), mseal(2) and mremap(2) name such errors, and the bars of a call are a list in the order in which they
+-- are looked for: the first that has such a page refuses the call. Everything is said of kinds by page, so it serves
+-- areas and rows alike.
+use Rattle.std.specs.Prelude.{ℕ, ◌≡◌, ◌<◌, ◌≤◌, ◌⊎◌, Bool, true, false, not, ◌&&◌, is_some, is_none, Option, Some, None, List, [], ◌∷◌}
 use Rattle.page_types.specs.declared.calls.Kind.{Kind}
 use Rattle.page_types.specs.declared.calls.Why.{Why}
-use Rattle.page_types.specs.declared.calls.Why.TheVariants.{Enomem, Eexist, Eperm}
+use Rattle.page_types.specs.declared.calls.Why.TheVariants.{Enomem, Eexist, Eperm, Efault}
 use Rattle.page_types.specs.declared.calls.Short.TheVariants.{Missing as MissingPage}
+use Rattle.space_model.specs.Starts.{same_option}
 use Rattle.space_model.specs.declared.sorts.Sort.{Sort}
-use Rattle.space_model.specs.declared.sorts.Sort.TheVariants.{Mapped, Missing, Sealed}
+use Rattle.space_model.specs.declared.sorts.Sort.TheVariants.{Mapped, Missing, Sealed, Unlike}
 
--- a page of this kind is of the sort
+-- a page of this kind is of the sort; one that isn't mapped is unlike every kind, and unlike none
 abbrev pub is_sort : Sort → Option Kind → Bool
 is_sort Mapped kind = is_some kind
 is_sort Missing kind = is_none kind
 is_sort Sealed None = false
 is_sort Sealed (Some kind) = kind.sealed
+is_sort (Unlike first) kind = not (is_some kind && same_option first kind)
 
 -- no page from lo up to hi is of the sort
 abbrev pub NoneOf : (ℕ → Option Kind) → Sort → ℕ → ℕ → Type 0
@@ -44,6 +46,7 @@ abbrev pub why_of : Sort → ℕ → Why
 why_of Mapped page = Eexist page
 why_of Missing page = Enomem (MissingPage page)
 why_of Sealed page = Eperm page
+why_of (Unlike first) page = Efault page
 
 -- the first bar that has such a page refuses for its lowest one
 abbrev pub IsBarred : (ℕ → Option Kind) → List Bar → Why → Type 0

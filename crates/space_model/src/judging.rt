@@ -1,7 +1,7 @@
-//! One body judges a call on pages, whichever way their kinds are kept: by the areas of a `PlainSpace`, or by row words
-//! that were read. It follows mmap(2), munmap(2), mprotect(2) and mseal(2), with this project's own choice of the
-//! highest place; a fault has the codes of sigaction(2). A reader may rely on `IsJudged`: the reply is the one of the
-//! model, and what is left to ask is how many rows a change makes.
+//! A call, judged on pages, whichever way their kinds are kept: by the areas of a `PlainSpace`, or by row words that
+//! were read. Here are mmap(2), munmap(2), mprotect(2) and mseal(2), with this project's own choice of the highest
+//! place in a window, and a fault, with the codes of sigaction(2). A reader may rely on `IsJudged`: the reply is the
+//! one of the model, and what is left to ask is how many rows a change makes.
 
 ghost use Rattle.std.specs.Prelude.{ℕ, Option, None, IsTrue, IsFalse, Some, ◌↔◌, ◌*◌, ◌+◌, ◌≡◌, ◌<◌, ◌≤◌, ◌^◌, MatchOption};
 ghost use Rattle.page_types.specs.declared.TheConstants.{LIMIT};
@@ -15,14 +15,14 @@ ghost use Rattle.space_model.specs.declared.paint.Paint.TheVariants.{Gives};
 ghost use Rattle.space_model.specs.Answers.{AnswersFault};
 ghost use Rattle.space_model.specs.Effect.{mapped_kind};
 ghost use Rattle.space_model.specs.Sorts.{NoneOf, IsLowest, IsEnd};
-ghost use Rattle.space_model.specs.Places.{FitsAt, IsHighestFit};
+ghost use Rattle.space_model.specs.Places.{FitsAt, IsHighestFit, window_of};
 ghost use Rattle.space_model.specs.Judges.{IsJudged};
 
 use crate::judged::{Change, Judged};
 use crate::paint::{Paint, Patch};
 use crate::sorts::Sort;
 use page_types::{
-    Access, Call, Kind, LIMIT, LOWEST, MapFlags, PAGE, Prot, Reply, Short, Span, Why, page_count,
+    Access, Kind, LIMIT, LOW, LOWEST, MapFlags, PAGE, Prot, Reply, Short, Span, Why, page_count,
 };
 
 /// Pages by their kinds, with the three searches that judging a call takes.
@@ -41,11 +41,13 @@ pub trait Pages {
         requires limit { hi ≤ LIMIT }
         ensures { IsEnd (kinds self.now) sort lo hi result };
 
-    /// The highest start of so many free pages, at or above `LOWEST` and with the end at or below `LIMIT`.
-    fn highest_fit(&self, pages: u64) -> Option<u64>
+    /// The highest start of so many free pages, at or above `LOWEST` and with the end at or below the page where the
+    /// window ends.
+    fn highest_fit(&self, window: u64, pages: u64) -> Option<u64>
+        requires window { window ≤ LIMIT }
         requires some { 0 < pages }
         requires few { pages < 2 ^ 62 }
-        ensures { MatchOption result ((start : ℕ) → ¬ FitsAt (kinds self.now) pages start) (IsHighestFit (kinds self.now) pages) };
+        ensures { MatchOption result ((start : ℕ) → ¬ FitsAt (kinds self.now) window pages start) (IsHighestFit (kinds self.now) window pages) };
 }
 
 /// The kind that a Map gives its pages.
@@ -59,8 +61,17 @@ pub fn mapped_kind(prot: Prot, flags: MapFlags) -> Kind
     }
 }
 
+/// Where the window of a Map ends that binds no address: `LOW` for a hint below it, so that no page above is chosen for
+/// a program that knows no such addresses, and otherwise `LIMIT`.
+fn window_of(hint: u64) -> u64
+    ensures window { result ≡ window_of hint }
+    ensures limit { result ≤ LIMIT }
+{
+    if hint < LOW { LOW } else { LIMIT }
+}
+
 /// The lowest page of a sort of those from `lo` up to `hi`.
-fn lowest<P: Pages>(pages: &P, sort: Sort, lo: u64, hi: u64) -> Option<u64>
+pub(crate) fn lowest<P: Pages>(pages: &P, sort: Sort, lo: u64, hi: u64) -> Option<u64>
     requires ordered { lo ≤ hi }
     requires limit { hi ≤ LIMIT }
     ensures { MatchOption result (NoneOf (P.kinds pages.now) sort lo hi) (IsLowest (P.kinds pages.now) sort lo hi) }
@@ -69,18 +80,19 @@ fn lowest<P: Pages>(pages: &P, sort: Sort, lo: u64, hi: u64) -> Option<u64>
     if end < hi { Some(end) } else { None }
 }
 
-/// Whether so many free pages start at a page, at or above `LOWEST` and with the end at or below `LIMIT`.
-fn fits_at<P: Pages>(pages: &P, count: u64, start: u64) -> bool
-    requires { start + count < 2 ^ 64 }
-    ensures { IsTrue result ↔ FitsAt (P.kinds pages.now) count start }
+/// Whether so many free pages start at a page, at or above `LOWEST` and with the end at or below that of the window.
+pub(crate) fn fits_at<P: Pages>(pages: &P, window: u64, count: u64, start: u64) -> bool
+    requires window { window ≤ LIMIT }
+    requires end { start + count < 2 ^ 64 }
+    ensures { IsTrue result ↔ FitsAt (P.kinds pages.now) window count start }
 {
     start >= LOWEST
-        && start + count <= LIMIT
+        && start + count <= window
         && pages.end_of(Sort::Mapped, start, start + count) == start + count
 }
 
-/// A change by one patch.
-fn changed(lo: u64, hi: u64, paint: Paint, reply: Reply) -> Judged
+/// A change by one patch, which is refused where there would be too many rows.
+pub(crate) fn changed(lo: u64, hi: u64, paint: Paint, reply: Reply) -> Judged
     ensures { result ≡ Judged.Changes (record {
       first = record { lo = lo; hi = hi; paint = paint };
       second = None;
@@ -115,7 +127,13 @@ fn mapped_at(start: u64, count: u64, kind: Kind) -> Judged
 }
 
 /// A Map whose address binds.
-fn judge_fixed<P: Pages>(pages: &P, addr: u64, len: u64, prot: Prot, flags: MapFlags) -> Judged
+pub(crate) fn judge_fixed<P: Pages>(
+    pages: &P,
+    addr: u64,
+    len: u64,
+    prot: Prot,
+    flags: MapFlags,
+) -> Judged
     requires undecided { map_reply addr len flags ≡ None }
     requires fixed { IsTrue (is_fixed flags) }
     ensures { IsJudged (P.kinds pages.now) (Map addr len prot flags) result }
@@ -140,24 +158,31 @@ fn judge_fixed<P: Pages>(pages: &P, addr: u64, len: u64, prot: Prot, flags: MapF
 }
 
 /// A Map whose address is a hint.
-fn judge_hinted<P: Pages>(pages: &P, addr: u64, len: u64, prot: Prot, flags: MapFlags) -> Judged
+pub(crate) fn judge_hinted<P: Pages>(
+    pages: &P,
+    addr: u64,
+    len: u64,
+    prot: Prot,
+    flags: MapFlags,
+) -> Judged
     requires undecided { map_reply addr len flags ≡ None }
     requires hint { IsFalse (is_fixed flags) }
     ensures { IsJudged (P.kinds pages.now) (Map addr len prot flags) result }
 {
     let hint = addr / PAGE;
     let count = page_count(len);
-    if fits_at(pages, count, hint) {
+    let window = window_of(hint);
+    if fits_at(pages, window, count, hint) {
         return mapped_at(hint, count, mapped_kind(prot, flags));
     }
-    match pages.highest_fit(count) {
+    match pages.highest_fit(window, count) {
         Some(start) => mapped_at(start, count, mapped_kind(prot, flags)),
         None => Judged::Refused(Why::Enomem(Short::NoGap(count))),
     }
 }
 
 /// An Unmap.
-fn judge_unmap<P: Pages>(pages: &P, addr: u64, len: u64) -> Judged
+pub(crate) fn judge_unmap<P: Pages>(pages: &P, addr: u64, len: u64) -> Judged
     requires { unmap_reply addr len ≡ None }
     ensures { IsJudged (P.kinds pages.now) (Unmap addr len) result }
 {
@@ -169,7 +194,7 @@ fn judge_unmap<P: Pages>(pages: &P, addr: u64, len: u64) -> Judged
 }
 
 /// A Protect.
-fn judge_protect<P: Pages>(pages: &P, addr: u64, len: u64, prot: Prot) -> Judged
+pub(crate) fn judge_protect<P: Pages>(pages: &P, addr: u64, len: u64, prot: Prot) -> Judged
     requires { protect_reply addr len ≡ None }
     ensures { IsJudged (P.kinds pages.now) (Protect addr len prot) result }
 {
@@ -184,7 +209,7 @@ fn judge_protect<P: Pages>(pages: &P, addr: u64, len: u64, prot: Prot) -> Judged
 }
 
 /// A Seal.
-fn judge_seal<P: Pages>(pages: &P, addr: u64, len: u64, flags: u64) -> Judged
+pub(crate) fn judge_seal<P: Pages>(pages: &P, addr: u64, len: u64, flags: u64) -> Judged
     requires { seal_reply addr len flags ≡ None }
     ensures { IsJudged (P.kinds pages.now) (Seal addr len flags) result }
 {
@@ -212,35 +237,10 @@ pub fn access_reply(kind: Option<Kind>, page: u64, access: Access) -> Reply
 }
 
 /// A Fault.
-fn judge_fault<P: Pages>(pages: &P, addr: u64, access: Access) -> Judged
+pub(crate) fn judge_fault<P: Pages>(pages: &P, addr: u64, access: Access) -> Judged
     requires { plain_reply (Fault addr access) ≡ None }
     ensures { IsJudged (P.kinds pages.now) (Fault addr access) result }
 {
     let page = addr / PAGE;
     Judged::Keeps(access_reply(pages.kind_of(page), page, access))
-}
-
-/// What a call comes to that its arguments don't decide.
-pub fn judge<P: Pages>(pages: &P, call: &Call) -> Judged
-    requires { plain_reply call.now ≡ None }
-    ensures { IsJudged (P.kinds pages.now) call.now result }
-{
-    match *call {
-        Call::Map {
-            addr,
-            len,
-            prot,
-            flags,
-        } => {
-            if flags.is_fixed() {
-                judge_fixed(pages, addr, len, prot, flags)
-            } else {
-                judge_hinted(pages, addr, len, prot, flags)
-            }
-        }
-        Call::Unmap { addr, len } => judge_unmap(pages, addr, len),
-        Call::Protect { addr, len, prot } => judge_protect(pages, addr, len, prot),
-        Call::Fault { addr, access } => judge_fault(pages, addr, access),
-        Call::Seal { addr, len, flags } => judge_seal(pages, addr, len, flags),
-    }
 }

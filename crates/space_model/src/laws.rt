@@ -3,16 +3,16 @@
 //! pages of one kind, and a fault finds what a Map gave. Which place, effect and refusal are the right ones, the
 //! definitions alone say; tests compare them with worked cases.
 
-ghost use Rattle.std.specs.Prelude.{ℕ, List, ◌+◌};
+ghost use Rattle.std.specs.Prelude.{ℕ, Bool, List, ◌+◌};
 ghost use Rattle.page_types.specs.declared.calls.Call.{Call};
 ghost use Rattle.page_types.specs.declared.sets.Access.{Access};
 ghost use Rattle.page_types.specs.declared.sets.MapFlags.{MapFlags};
 ghost use Rattle.page_types.specs.declared.sets.Prot.{Prot};
 ghost use Rattle.space_model.specs.declared.areas.Area.{Area};
 ghost use Rattle.space_model.specs.Areas.{IsAreaList, OnlyOneHasKinds};
-ghost use Rattle.space_model.specs.Laws.{HasSomeAnswer, HasOneAnswer, LeavesAreaList, FaultFindsMapped, DoneTwiceIsOnce, AddsTwoRows, SimpleInFourCases};
-ghost use Rattle.space_model.specs.Laws.{AsksTwoRowsMore, RowsAreStarts, AreasAreMaximalRuns, GrantsWhatThePageAllows, SimpleKeepsRows};
-ghost use Rattle.space_model.specs.Laws.{SealedPagesStay};
+ghost use Rattle.space_model.specs.Laws.{HasSomeAnswer, HasOneAnswer, LeavesAreaList, FaultFindsMapped, DoneTwiceIsOnce, AddsFewRows, SimpleInFourCases};
+ghost use Rattle.space_model.specs.Laws.{AsksFewRowsMore, RowsAreStarts, AreasAreMaximalRuns, GrantsWhatThePageAllows, SimpleKeepsRows};
+ghost use Rattle.space_model.specs.Laws.{SealedPagesStay, EndsInItsWindow, RemapsItsPages, KeepsToItsHeap};
 ghost use Rattle.space_model.specs.Laws.{LeavesAreaListAfter, LeavesOneList, LegalLeavesList, BeginningsAreLegal, StateAfterBoth, SameCallsSameReplies};
 ghost use Rattle.space_model.specs.declared.entries.Entry.{Entry};
 
@@ -35,6 +35,12 @@ pub fn faults_find_what_was_mapped()
         FaultFindsMapped A addr len prot flags byte access }
 {}
 
+/// A Map that binds no address is placed at or above `LOWEST`, and its pages end in the window of its hint: no page at
+/// or above `LOW` is chosen for a hint below it.
+pub fn places_end_in_their_window()
+    ensures { (A : List Area) (addr len : ℕ) (prot : Prot) (flags : MapFlags) → EndsInItsWindow A addr len prot flags }
+{}
+
 /// An Unmap done twice is an Unmap done once.
 pub fn unmap_twice_is_once()
     ensures { (A : List Area) (addr len : ℕ) → DoneTwiceIsOnce A (Call.Unmap addr len) }
@@ -50,14 +56,27 @@ pub fn seal_twice_is_once()
     ensures { (A : List Area) (addr len flags : ℕ) → DoneTwiceIsOnce A (Call.Seal addr len flags) }
 {}
 
-/// One call makes at most two rows more.
-pub fn calls_add_at_most_two_rows()
-    ensures { (A : List Area) (c : Call) → IsAreaList A → AddsTwoRows A c }
+/// A Remap that was done has left its pages so: the place has the kind that they had, the old ones that aren't in the
+/// place are free, and every other page is as before.
+pub fn remaps_leave_their_pages()
+    ensures { (A : List Area) (addr old new : ℕ) (may : Bool) (hint : ℕ) → RemapsItsPages A addr old new may hint }
 {}
 
-/// A call that is refused for its rows asks for more than `ROWS`, and for at most two more than there are.
+/// A Brk changes no page outside of its heap, which goes from the base to the higher one of the ends that it had and
+/// was asked for.
+pub fn brks_keep_to_their_heap()
+    ensures { (A : List Area) (base addr : ℕ) → KeepsToItsHeap A base addr }
+{}
+
+/// One call makes at most two rows more at each stretch of pages that it changes: none for a Fault, four for a Remap,
+/// and two for every other call.
+pub fn calls_add_few_rows()
+    ensures { (A : List Area) (c : Call) → IsAreaList A → AddsFewRows A c }
+{}
+
+/// A call that is refused for its rows asks for more than `ROWS`, and for at most so many more than there are.
 pub fn refused_rows_are_few()
-    ensures { (A : List Area) (c : Call) → IsAreaList A → AsksTwoRowsMore A c }
+    ensures { (A : List Area) (c : Call) → IsAreaList A → AsksFewRowsMore A c }
 {}
 
 /// The number of rows is the number of pages where one starts: page 0, and each page of another kind than the one

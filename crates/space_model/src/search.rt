@@ -11,7 +11,7 @@ ghost use Rattle.space_model.specs.Cutting.{IsCutBy, IsFirstAbove, IsFound};
 
 use crate::areas::Area;
 use crate::sorts::{Sort, is_sort};
-use page_types::{Kind, LIMIT, LOWEST};
+use page_types::{Kind, LOWEST};
 
 /// The areas that end at or before a page, and the others.
 pub fn cut_by_end(areas: &[Area], page: u64) -> (&[Area], &[Area])
@@ -91,21 +91,23 @@ pub fn end_of(areas: &[Area], sort: Sort, lo: u64, hi: u64) -> u64
     if is_sort(sort, None) { at.min(hi) } else { hi }
 }
 
-/// The highest start of so many free pages, at or above `LOWEST` and with the end at or below `LIMIT`. It looks from
-/// the last area down.
-pub fn highest_fit(areas: &[Area], pages: u64) -> Option<u64>
+/// The highest start of so many free pages, at or above `LOWEST` and with the end at or below the page where the window
+/// ends. It looks from the last area down.
+pub fn highest_fit(areas: &[Area], window: u64, pages: u64) -> Option<u64>
     requires in_order { IsAreaList areas.now }
+    requires window { window ≤ LIMIT }
     requires some { 0 < pages }
-    ensures { MatchOption result ((start : ℕ) → ¬ FitsAt (kind_at areas.now) pages start) (IsHighestFit (kind_at areas.now) pages) }
+    ensures { MatchOption result ((start : ℕ) → ¬ FitsAt (kind_at areas.now) window pages start)
+        (IsHighestFit (kind_at areas.now) window pages) }
 {
-    let mut to = LIMIT;
+    let mut to = window;
     for i in (0..areas.len()).rev() {
         let area = areas[i];
         let from = area.hi.max(LOWEST);
         if pages <= to.saturating_sub(from) {
             return Some(to - pages);
         }
-        to = area.lo;
+        to = to.min(area.lo);
     }
     if pages <= to.saturating_sub(LOWEST) {
         Some(to - pages)

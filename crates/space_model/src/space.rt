@@ -14,12 +14,13 @@ ghost use Rattle.space_model.specs.Held.{HoldsSomeArea, IsSimple, FitsByState, F
 
 use crate::areas::Area;
 use crate::build::joined_pieces;
+use crate::calls::judge;
 use crate::counts::row_count;
 use crate::entries::Under;
 use crate::faults::{AreasFault, NotAreas};
 use crate::held::protect_under;
 use crate::judged::{Change, Judged, full_reply};
-use crate::judging::{Pages, judge};
+use crate::judging::Pages;
 use crate::order::first_wrong;
 use crate::search::{end_of, highest_fit, kind_of};
 use crate::sorts::Sort;
@@ -120,7 +121,11 @@ impl PlainSpace {
         ensures simple { HoldsSomeArea result ↔ IsSimple self.now call.now }
     {
         match *call {
-            Call::Map { .. } | Call::Unmap { .. } | Call::Seal { .. } => Under::Whole,
+            Call::Map { .. }
+            | Call::Unmap { .. }
+            | Call::Seal { .. }
+            | Call::Brk { .. }
+            | Call::Remap { .. } => Under::Whole,
             Call::Protect { addr, len, prot } => protect_under(
                 self.areas.as_slice(),
                 addr,
@@ -216,7 +221,7 @@ impl PlainSpace {
     }
 
     /// Changes the pages of one patch or two, unless the result would have more than `ROWS` rows.
-    pub(crate) fn change(&mut self, change: Change) -> Result<Reply, AllocError>
+    fn change(&mut self, change: Change) -> Result<Reply, AllocError>
         requires named { IsNamedChange change }
         requires rising { AreRising 0 (patches_of change) }
         ensures made { IfOk result (λ reply. Makes self.old change reply self.new) }
@@ -246,7 +251,7 @@ impl Pages for PlainSpace {
         end_of(self.areas.as_slice(), sort, lo, hi)
     }
 
-    fn highest_fit(&self, pages: u64) -> Option<u64> {
-        highest_fit(self.areas.as_slice(), pages)
+    fn highest_fit(&self, window: u64, pages: u64) -> Option<u64> {
+        highest_fit(self.areas.as_slice(), window, pages)
     }
 }

@@ -5,23 +5,23 @@ use Rattle.row_plans.specs.RowLists.{rows_start, ShowFrom}
 use Rattle.row_plans.proofs.RowPages.{RowPages, last_pages, row_before, first_row, ends_all, ends_before, ends_here, no_place}
 use Rattle.row_plans.proofs.places.highest_fit.Goals as goal
 
--- at the start each place ends at or below LIMIT
+-- at the start each place ends at or below LIMIT, since the window does
 pub rows-init : goal.rows-init
 rows-init c = record {
   there = search rules;
   end_is = let rows = c.args.rows.now in sym (ends_all rows (length rows) (omega arith));
-  ended = λ kinds show s f. f.high;
+  ended = λ kinds show s f. let h = f.high in let w = c.requires.window in omega arith;
 }
 
--- the row that was read has a page, and ends at or below LIMIT
-pub fits_in-requires-clause-ends : goal.fits_in-requires-clause-ends
-fits_in-requires-clause-ends c =
+-- the row that was read starts at or below LIMIT
+pub fits_in-requires-clause-start : goal.fits_in-requires-clause-start
+fits_in-requires-clause-start c =
     let r = last_pages c.args.rows.now c.requires.shows.0 c.rows.i c.read_row-start.result.0 c.rows.end c.read_row-start.result.1
     c.requires.shows.1 (search rules) c.rows.invariant.there c.read_row-start.ensures.start c.read_row-start.ensures.kind
     c.rows.invariant.end_is in
-    (r.some, r.low)
+    let s = r.some in let l = r.low in omega arith
 
--- where the pages fit into the row, the place at its end is the highest
+-- where the pages fit into the row, the place at its end, or at the window's, is the highest
 pub returns-then-fits_in : goal.returns-then-fits_in
 returns-then-fits_in c = λ kinds show.
     let rows = c.args.rows.now in
@@ -36,7 +36,8 @@ returns-then-fits_in c = λ kinds show.
     c.read_row-start.ensures.kind c.rows.invariant.end_is in
     let before = row_before rows kinds (i - 1) (get_or rows (i - 1) 0) start kind show (omega arith) refl
     c.read_row-start.ensures.start c.read_row-start.ensures.kind in
-    ends_here kinds c.args.pages start c.rows.end kind r.all before c.requires.some r.some (c.rows.invariant.ended kinds show) fit.0 fit.1 r.low
+    ends_here kinds c.args.window c.args.pages start c.rows.end c.min-top.result kind r.all before c.requires.some r.some c.min-top.ensures
+    (c.rows.invariant.ended kinds show) fit.0 fit.1
 
 -- where they don't, no place ends above the row's start
 pub rows-preserved : goal.rows-preserved
@@ -57,8 +58,8 @@ rows-preserved c =
           let r = pages kinds show in
           let before = row_before rows kinds (i - 1) (get_or rows (i - 1) 0) start kind show (omega arith) refl
           c.read_row-start.ensures.start c.read_row-start.ensures.kind in
-          ends_before kinds c.args.pages start c.rows.end kind r.all before c.requires.some r.some
-          (c.rows.invariant.ended kinds show) (c.fits_in.ensures.no_fit not_fit);
+          ends_before kinds c.args.window c.args.pages start c.rows.end c.min-top.result kind r.all before c.requires.some r.some
+          c.min-top.ensures (c.rows.invariant.ended kinds show) (c.fits_in.ensures.no_fit not_fit);
     }
 
 -- where no row is left, there is no place
@@ -66,6 +67,6 @@ pub returns : goal.returns
 returns c = λ kinds show.
     let rows = c.args.rows.now in
     let none : c.rows.i ≡ 0 = search rules in
-    no_place kinds c.args.pages c.rows.end c.requires.some
+    no_place kinds c.args.window c.args.pages c.rows.end c.requires.some
     (c.rows.invariant.end_is ∙ (ap (λ j. rows_start (drop j rows)) none ∙ (first_row rows kinds show).1))
     (c.rows.invariant.ended kinds show)

@@ -10,7 +10,7 @@ abbrev pub invariant-rows : goal.invariant-rows
 invariant-rows l = record {
   there : l.i ≤ length l.rows;
   end_is : l.end ≡ rows_start (drop l.i l.rows);
-  ended : (kinds : ℕ → Option Kind) → ShowFrom 0 l.rows kinds → NoneEndsAbove kinds l.pages l.end;
+  ended : (kinds : ℕ → Option Kind) → ShowFrom 0 l.rows kinds → NoneEndsAbove kinds l.window l.pages l.end;
 }
 
 -- with each turn one row less is left

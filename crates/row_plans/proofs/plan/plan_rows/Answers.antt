@@ -1,7 +1,8 @@
 use Rattle.std.proofs.Common.{rules, ◌≡◌, ◌∙◌, sym, ap}
 use Rattle.std.specs.Prelude.{None, Some}
 use Rattle.page_types.specs.PlainReply.{plain_reply}
-use Rattle.row_plans.proofs.PlanLeft.{plan_plain, plan_refused, plan_kept, plan_made}
+use Rattle.row_plans.proofs.FirstRows.{all_stay}
+use Rattle.row_plans.proofs.PlanLeft.{judged_named, plan_plain, plan_refused, plan_kept, plan_made}
 use Rattle.row_plans.proofs.plan.plan_rows.Goals as goal
 
 -- what the arguments decide is the plan
@@ -27,9 +28,31 @@ returns-in-Keeps-clause-plan c =
     c.unchanged-in-Keeps.result.rows c.requires.old c.unchanged-in-Keeps.ensures.none c.unchanged-in-Keeps.ensures.rows
     c.in-Keeps.reply undecided c.in-Keeps.ensures c.unchanged-in-Keeps.ensures.reply
 
--- and a change, as it is made
+-- a change has named bits alone
+pub changed-requires-clause-named : goal.changed-requires-clause-named
+changed-requires-clause-named c =
+    judged_named c.args.old.now c.args.call.now c.in-Changes.change c.requires.named c.in-Changes.ensures
+
+-- and is the plan, as it is made
 pub returns-in-Changes-clause-plan : goal.returns-in-Changes-clause-plan
 returns-in-Changes-clause-plan c =
     let undecided : plain_reply c.args.call.now ≡ None = search rules in
     plan_made c.args.old.now c.changed.new.new.items c.args.call.now c.in-Changes.change c.changed.result.reply
     c.changed.result.rows undecided c.in-Changes.ensures c.changed.ensures.made
+
+-- then all rows stay
+pub returns-in-Some-clause-first : goal.returns-in-Some-clause-first
+returns-in-Some-clause-first c =
+    all_stay c.args.old.now c.unchanged.new.new.items c.unchanged.result.first c.unchanged.ensures.none c.unchanged.ensures.first
+
+-- then all rows stay
+pub returns-in-Refused-clause-first : goal.returns-in-Refused-clause-first
+returns-in-Refused-clause-first c =
+    let kept = c.unchanged-in-Refused in
+    all_stay c.args.old.now kept.new.new.items kept.result.first kept.ensures.none kept.ensures.first
+
+-- then all rows stay
+pub returns-in-Keeps-clause-first : goal.returns-in-Keeps-clause-first
+returns-in-Keeps-clause-first c =
+    let kept = c.unchanged-in-Keeps in
+    all_stay c.args.old.now kept.new.new.items kept.result.first kept.ensures.none kept.ensures.first

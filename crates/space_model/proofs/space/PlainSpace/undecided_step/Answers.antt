@@ -4,7 +4,7 @@ use Rattle.std.proofs.lemmas.Result.{IfOk-weaker}
 use Rattle.space_model.specs.Areas.{HasNamedKinds, kind_at}
 use Rattle.space_model.specs.Answers.Answers.{refused}
 use Rattle.space_model.proofs.NamedKinds.{named_at}
-use Rattle.space_model.proofs.Stepping.{kept-named}
+use Rattle.space_model.proofs.Stepping.{kept-named, judged-named}
 use Rattle.space_model.proofs.Judgements.{made_answers}
 use Rattle.space_model.proofs.space.PlainSpace.undecided_step.Goals as goal
 
@@ -18,6 +18,13 @@ returns-in-Keeps-clause-named c =
     let A = c.args.self.now in
     kept-named (kind_at A) c.args.call.now c.in-Keeps.reply
     (λ p. named_at A p (subst HasNamedKinds c.self.view_is c.self.invariant.1)) c.in-Keeps.ensures
+
+-- so has a change
+pub change-requires-clause-named : goal.change-requires-clause-named
+change-requires-clause-named c =
+    let A = c.args.self.now in
+    judged-named A c.args.call.now c.in-Changes.change (subst HasNamedKinds c.self.view_is c.self.invariant.1) c.requires.named
+    c.in-Changes.ensures
 
 -- a change is made, and that is the answer
 pub returns-in-Changes-clause-answer : goal.returns-in-Changes-clause-answer

@@ -6,5 +6,7 @@ use Rattle.space_model.proofs.space.PlainSpacePages.highest_fit.Goals as goal
 -- the areas that were looked at are those of the space
 pub returns : goal.returns
 returns c =
-    subst (λ A. MatchOption c.highest_fit.result ((start : ℕ) → ¬ FitsAt (kind_at A) c.args.pages start) (IsHighestFit (kind_at A) c.args.pages))
+    subst (λ A.
+    MatchOption c.highest_fit.result ((start : ℕ) → ¬ FitsAt (kind_at A) c.args.window c.args.pages start)
+    (IsHighestFit (kind_at A) c.args.window c.args.pages))
     (c.as_slice.ensures.value ∙ c.self.view_is) c.highest_fit.ensures
