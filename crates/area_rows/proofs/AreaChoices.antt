@@ -37,13 +37,14 @@ use Rattle.space_model.proofs.FourWays.{four_ways, keeps_rows, rows_of_way}
 use Rattle.space_model.proofs.MaximalRuns.{maximal_runs}
 use Rattle.space_model.proofs.Simple.{simple_borders, keeps_counts}
 use Rattle.lock_core.specs.declared.range.Held.{Held}
+use Rattle.atomic_table.specs.Seated.{TableId}
 use Rattle.range_rw.specs.Contract.{SeatState}
 use Rattle.area_rows.specs.declared.guard.Change.{Change}
 use Rattle.area_rows.specs.declared.guard.Pass.{Pass}
 use Rattle.area_rows.specs.declared.row.Row.{Row}
 use Rattle.row_plans.specs.RowWords.{row_start}
 use Rattle.row_plans.specs.RowLists.{rows_start, ShowFrom}
-use Rattle.area_rows.specs.Rows.{rows_in}
+use Rattle.area_rows.specs.Rows.{rows_in, room_of}
 use Rattle.area_rows.specs.Reads.{IsHeldPage, StillStands}
 use Rattle.area_rows.specs.Changes.{alone, IsChange, IsOneStore, IsRound}
 use Rattle.area_rows.specs.Changes.IsOneStore.{whole, first_part, last_part}
@@ -361,7 +362,8 @@ cases_to A a c span lo hi old new o way = subst (λ (z : ℕ × ℕ × Kind). Fo
 module _ (c : CallerView) (span : Span) (row : Row) (kind : Kind) (before behind : Option Kind) (addr len : ℕ) (prot : Prot)
     (held : c.seat.held ≡ Some (alone span)) (rest : IsAtRest c.seat.pass) (round : IsRound row span) (limit : row.hi ≤ LIMIT)
     (is_kind : row.kind ≡ Some kind)
-    (read : IsAsRead c.seat.pass row) (few : read.count ≤ ROWS) (read_before : IsReadBefore c.seat.pass.rows row.index before)
+    (read : IsAsRead c.seat.pass row) (few : read.count ≤ ROWS) (fits : read.count ≤ room_of c.seat.table)
+    (read_before : IsReadBefore c.seat.pass.rows row.index before)
     (read_behind : IsReadBehind c.seat.pass.rows read.count row.index behind)
     (undecided : plain_reply (Protect addr len prot) ≡ None) (some_page : page_of addr < end_page addr len)
     (from : row.lo ≤ page_of addr) (until : end_page addr len ≤ row.hi)
@@ -431,6 +433,7 @@ module _ (c : CallerView) (span : Span) (row : Row) (kind : Kind) (before behind
       limit = limit;
       read = read;
       few = few;
+      fits = fits;
       kind = is_kind ∙ ap Some (sym o.old_is);
       named = named;
       read_before = read_before;
@@ -497,7 +500,7 @@ module _ (c : CallerView) (span : Span) (row : Row) (kind : Kind) (before behind
 pub plan_made : (old a b : SeatState Pass) (v : CallerView) (span : Span) (row : Row) (kind : Kind) (before behind : Option Kind)
     (addr len count : ℕ) (prot : Prot) → old.held ≡ Some (alone span) → IsAtRest old.pass → IsRound row span → row.hi ≤ LIMIT
     → row.kind ≡ Some kind → (read : IsAsRead old.pass row)
-    → read.count ≤ ROWS → plain_reply (Protect addr len prot) ≡ None → page_of addr < end_page addr len → row.lo ≤ page_of addr
+    → read.count ≤ ROWS → read.count ≤ room_of old.table → plain_reply (Protect addr len prot) ≡ None → page_of addr < end_page addr len → row.lo ≤ page_of addr
     → end_page addr len ≤ row.hi → Shows old (RowIs old.held (page_of addr) row) → count ≡ read.count → IsReading old a
     → IsReading a b → IsReading b v.seat
     → IsReadBefore b.pass.rows row.index before → IsReadBehind v.seat.pass.rows count row.index behind
@@ -505,12 +508,13 @@ pub plan_made : (old a b : SeatState Pass) (v : CallerView) (span : Span) (row :
     (protected_kind prot kind) → IsNamedKind kind → IsNamedKind (protected_kind prot kind)
     → IsChosen row chosen before behind plan
     → v.change ≡ planned_change plan → IsAreaPlan v (Protect addr len prot) span (page_of addr) (end_page addr len) plan
-plan_made old a b v span row kind before behind addr len count prot held rest round limit is_kind read few undecided some_page
+plan_made old a b v span row kind before behind addr len count prot held rest round limit is_kind read few fits undecided some_page
     from until shows counted one two three read_before read_behind chosen plan of_call named named_new is kept =
     let on : IsReading old v.seat = reading_on old b v.seat (reading_on old a b one two) three in
     let now : IsAsRead v.seat.pass row = as_read_on old.pass v.seat.pass row on.read read in
     let same : old.held ≡ v.seat.held = sym on.held in
     plan_says v span row kind before behind addr len prot (on.held ∙ held) (on.read.pending ∙ rest) round limit is_kind now few
+    (subst (λ (t : TableId). read.count ≤ room_of t) (sym on.table) fits)
     (before_on b.pass v.seat.pass row.index before three.read read_before)
     (subst (λ (n : ℕ). IsReadBehind v.seat.pass.rows n row.index behind) counted read_behind)
     undecided some_page from until

@@ -27,7 +27,6 @@ use Rattle.area_rows.specs.History.{Runs, entries_of, planned_calls, LagsAt, Row
 use Rattle.area_rows.specs.Parts.{none_is}
 use Rattle.area_rows.specs.Callers.{CallerView, IsWhole}
 use Rattle.area_rows.specs.Closing.{AllStand, AgreesAt, ArePlaced, AreBelow, AreKept, callers_count, caller_pass}
-use Rattle.page_types.specs.declared.TheConstants.{ROWS}
 use Rattle.page_types.specs.declared.calls.Kind.{Kind}
 use Rattle.std.proofs.lemmas.List.{append-nil, length-map, length-take-le, length-drop, drop_all}
 use Rattle.row_plans.specs.RowWords.{row_start, row_kind}
@@ -209,33 +208,33 @@ drop_next : (l : List ℕ) (i : ℕ) → i < length l → drop i l ≡ get_or l 
 drop_next l i lt = rw (add-one, drop-cons l i 0) refl
 
 -- there are as many row words in the list as the row count says
-pub length-rows : (words : List ℕ) → length words ≡ 3 + ROWS → slice_index words 2 ≤ ROWS → length (rows_in words) ≡ slice_index words 2
-length-rows words wide few = let d = length-drop 3 words in length-take-le (slice_index words 2) (drop 3 words) (omega arith)
+pub length-rows : (words : List ℕ) → 3 + slice_index words 2 ≤ length words → length (rows_in words) ≡ slice_index words 2
+length-rows words wide = let d = length-drop 3 words in length-take-le (slice_index words 2) (drop 3 words) (omega arith)
 
 row_apart : (lo : ℕ) (kind : Option Kind) (hi : ℕ) (rest : List Area) → with_row lo kind hi rest ≡ with_row lo kind hi [] ++ rest
 row_apart lo None hi rest = refl
 row_apart lo (Some kind) hi rest = refl
 
 -- the areas so far, with that of one row more, and those of the rows behind it are all the areas still
-pub row_step : (words : List ℕ) (i lo hi : ℕ) (kind : Option Kind) (out new all : List Area) → length words ≡ 3 + ROWS
-    → slice_index words 2 ≤ ROWS → i < slice_index words 2 → lo ≡ row_start (slice_index words (3 + i))
+pub row_step : (words : List ℕ) (i lo hi : ℕ) (kind : Option Kind) (out new all : List Area)
+    → 3 + slice_index words 2 ≤ length words → i < slice_index words 2 → lo ≡ row_start (slice_index words (3 + i))
     → kind ≡ row_kind (slice_index words (3 + i)) → hi ≡ rows_start (drop (i + 1) (rows_in words))
     → new ≡ out ++ with_row lo kind hi [] → out ++ areas_from (drop i (rows_in words)) ≡ all → new ++ areas_from (drop (i + 1) (rows_in words)) ≡ all
-row_step words i lo hi kind out new all wide few lt l k h is before =
+row_step words i lo hi kind out new all wide lt l k h is before =
     let rows = rows_in words in
     let rest = areas_from (drop (i + 1) rows) in
     let w = slice_index words (3 + i) in
     let here : get_or rows i 0 ≡ w = at_row words i lt in
-    let head : drop i rows ≡ w ∷ drop (i + 1) rows = drop_next rows i (let n = length-rows words wide few in omega arith)
+    let head : drop i rows ≡ w ∷ drop (i + 1) rows = drop_next rows i (let n = length-rows words wide in omega arith)
     ∙ ap (λ x. x ∷ drop (i + 1) rows) here in
     let one : with_row lo kind hi rest ≡ areas_from (drop i rows) = (λ j. with_row (l j) (k j) (h j) rest) ∙ sym (ap areas_from head) in
     ap (λ x. x ++ rest) is ∙ (append_assoc out (with_row lo kind hi []) rest ∙ (ap (λ x. out ++ x) (sym (row_apart lo kind hi rest) ∙ one) ∙ before))
 
 -- where no row is left, the areas so far are all of them
-pub rows_done : (words : List ℕ) (i : ℕ) (out all : List Area) → length words ≡ 3 + ROWS → slice_index words 2 ≤ ROWS
+pub rows_done : (words : List ℕ) (i : ℕ) (out all : List Area) → 3 + slice_index words 2 ≤ length words
     → ¬ (i < slice_index words 2) → out ++ areas_from (drop i (rows_in words)) ≡ all → out ≡ all
-rows_done words i out all wide few not_more before =
-    sym (append-nil out) ∙ (ap (λ l. out ++ areas_from l) (sym (drop_all i (rows_in words) (let n = length-rows words wide few in omega arith))) ∙ before)
+rows_done words i out all wide not_more before =
+    sym (append-nil out) ∙ (ap (λ l. out ++ areas_from l) (sym (drop_all i (rows_in words) (let n = length-rows words wide in omega arith))) ∙ before)
 
 -- the rows behind a row start where the word of the next row says
 pub next_start : (words : List ℕ) (i : ℕ) → 3 + slice_index words 2 ≤ length words → i + 1 < slice_index words 2

@@ -11,7 +11,7 @@ use mathlib.Core.Logic.{dite}
 use native.Mathlib.Decide.{ℕ_discrete}
 use lib.ListN.{get_elem?}
 use Rattle.atomic_table.proofs.Lists.{at_set}
-use Rattle.page_types.specs.declared.TheConstants.{LIMIT, ROWS}
+use Rattle.page_types.specs.declared.TheConstants.{LIMIT}
 use Rattle.page_types.specs.declared.calls.Kind.{Kind}
 use Rattle.lock_core.specs.declared.range.Held.{Held}
 use Rattle.lock_core.specs.Grants.{Grants, Holds, IsExclusive}
@@ -50,7 +50,7 @@ held_pages grants seat held at some_held pages = let h = held_some held some_hel
 -- the row words among the client words
 pub length-rows_in : (words : List ℕ) (kinds : ℕ → Option Kind) → RowsShow words kinds → length (rows_in words) ≡ slice_index words 2
 length-rows_in words kinds s =
-    let r = s.room in let f = s.few in let d = length-drop 3 words in
+    let r = s.room in let d = length-drop 3 words in
     length-take-le (slice_index words 2) (drop 3 words) (omega arith)
 
 -- the row word at place i of the list is the client word at place 3 + i
@@ -84,9 +84,9 @@ same_by (x ∷ xs) (y ∷ ys) l all =
     λ i. first i ∷ rest i
 
 -- row words that are known one by one are all the rows that there are
-pub rows_known : (words rows : List ℕ) → length words ≡ 3 + ROWS → length rows ≤ ROWS → slice_index words 2 ≡ length rows
+pub rows_known : (words rows : List ℕ) → 3 + length rows ≤ length words → slice_index words 2 ≡ length rows
     → ((i : ℕ) → i < length rows → slice_index words (3 + i) ≡ slice_index rows i) → rows_in words ≡ rows
-rows_known words rows room few count all = same_by (rows_in words) rows
+rows_known words rows room count all = same_by (rows_in words) rows
     (length-take-le (slice_index words 2) (drop 3 words) (let d = length-drop 3 words in omega arith) ∙ count)
     (λ i lt. at_row words i (omega arith) ∙ all i lt)
 
@@ -189,7 +189,8 @@ rows_are grants start history state words passes worker p rows r backed exclusiv
     let s : RowsStandFor state passes words = r.rows (nobody_plans grants words state passes worker p exclusive backed at rest pages) in
     let few = s.2.few in
     let some_row = s.2.some in
-    let is : rows_in words ≡ rows = rows_known words rows r.room (omega arith) count all in
+    let fits = s.2.room in
+    let is : rows_in words ≡ rows = rows_known words rows (omega arith) count all in
     let agree : (page : ℕ) → page < LIMIT → kind_at state page ≡ s.0 page =
     λ page low. sym (shows_held grants words state passes worker p exclusive backed at rest (Some everything) held s.0 s.1
     page (in_everything page low)) in

@@ -23,7 +23,7 @@ use Rattle.area_rows.specs.declared.guard.ReadRow.{ReadRow}
 use Rattle.area_rows.specs.declared.row.Row.{Row}
 use Rattle.row_plans.specs.RowWords.{row_start, row_kind}
 use Rattle.row_plans.specs.RowLists.{rows_start, ShowFrom, IsBareGap, areas_from}
-use Rattle.area_rows.specs.Rows.{rows_in, RowsShow, IsRowOf}
+use Rattle.area_rows.specs.Rows.{rows_in, room_of, RowsShow, IsRowOf}
 use Rattle.area_rows.specs.Reads.{IsHeldPage, HasRead, StillStands}
 use Rattle.area_rows.specs.Changes.{IsIn, alone, new_word, IsInside, with_change, MayReplace, IsOneStore, IsRound}
 use Rattle.area_rows.specs.Changes.IsOneStore.{whole, first_part, last_part}
@@ -40,14 +40,14 @@ use Rattle.area_rows.proofs.Reading.{row_is_still}
 use Rattle.area_rows.proofs.OneRow.{IsRowIn, ShownAt, shown_at, next_is, replaced_shows}
 
 -- the rows among the client words, after a row word was stored
-rows_set : (words : List ℕ) (index word : ℕ) → length words ≡ 3 + ROWS → slice_index words 2 ≤ ROWS → index < slice_index words 2
+rows_set : (words : List ℕ) (index word : ℕ) → 3 + slice_index words 2 ≤ length words → index < slice_index words 2
     → rows_in (set words (3 + index) word) ≡ set (rows_in words) index word
-rows_set words index word room few lt =
+rows_set words index word room lt =
     let count : slice_index (set words (3 + index) word) 2 ≡ slice_index words 2 = get_or-set_other words (3 + index) 2 word 0 (λ e. omega arith) in
-    let wide : length (rows_in words) ≡ slice_index words 2 = length-rows words room few in
-    let room_after : length (set words (3 + index) word) ≡ 3 + ROWS = length-set words (3 + index) word ∙ room in
+    let wide : length (rows_in words) ≡ slice_index words 2 = length-rows words room in
+    let same_wide = length-set words (3 + index) word in
     let wide_after : length (rows_in (set words (3 + index) word)) ≡ slice_index words 2 =
-    length-rows (set words (3 + index) word) room_after (omega arith) ∙ count in
+    length-rows (set words (3 + index) word) (omega arith) ∙ count in
     let same_length : length (set (rows_in words) index word) ≡ length (rows_in words) = length-set (rows_in words) index word in
     same_by (rows_in (set words (3 + index) word)) (set (rows_in words) index word) (omega arith) (λ i below. dite (ℕ_discrete i index)
     (λ same.
@@ -235,11 +235,12 @@ module _ (words : List ℕ) (kinds : ℕ → Option Kind) (s : RowsShow words ki
   shows_after lt others o =
       let count : slice_index (set words (3 + c.index) (new_word c)) 2 ≡ slice_index words 2 =
       get_or-set_other words (3 + c.index) 2 (new_word c) 0 (λ e. omega arith) in
-      let some_row = o.some in let few = o.few in
+      let some_row = o.some in let few = o.few in let room = o.room in
+      let same_wide = length-set words (3 + c.index) (new_word c) in
       let rows : rows_in (set words (3 + c.index) (new_word c)) ≡ set (rows_in words) c.index (new_word c) =
-      rows_set words c.index (new_word c) o.room o.few lt in
+      rows_set words c.index (new_word c) (omega arith) lt in
       record {
-        room = length-set words (3 + c.index) (new_word c) ∙ o.room;
+        room = omega arith;
         some = omega arith;
         few = omega arith;
         show = subst (λ l. ShowFrom 0 l (with_change c others)) (sym rows)
@@ -290,7 +291,7 @@ module _ (words : List ℕ) (kinds : ℕ → Option Kind) (s : RowsShow words ki
   may_by : IsOneStore r.row r.before r.behind c → c.index < slice_index words 2 → MayReplace words c
   may_by (whole index at new lo hi not_before not_behind) lt =
       let at_index : row_start (slice_index words (3 + c.index)) ≡ r.row.lo = ap (λ n. row_start (slice_index words (3 + n))) index ∙ start_here in
-      let few = s.few in
+      let room = s.room in
       let w = named_word in
       record {
         there = omega arith;
@@ -303,7 +304,7 @@ module _ (words : List ℕ) (kinds : ℕ → Option Kind) (s : RowsShow words ki
       }
   may_by (first_part index at same_kind lo hi is_before) lt =
       let at_index : row_start (slice_index words (3 + c.index)) ≡ r.row.lo = ap (λ n. row_start (slice_index words (3 + n))) index ∙ start_here in
-      let few = s.few in
+      let room = s.room in
       let w = named_word in
       record {
         there = omega arith;
@@ -318,7 +319,7 @@ module _ (words : List ℕ) (kinds : ℕ → Option Kind) (s : RowsShow words ki
   may_by (last_part index at new lo hi is_behind_new) lt =
       let more : r.row.index + 1 < r.read.count = omega arith in
       let at_index : row_start (slice_index words (3 + c.index)) ≡ r.row.hi = ap (λ n. row_start (slice_index words (3 + n))) index ∙ start_next more in
-      let few = s.few in
+      let room = s.room in
       let low_end = row_below words kinds c.index s lt in
       let b = r.round.1 in
       let w = named_word in
@@ -341,7 +342,7 @@ module _ (words : List ℕ) (kinds : ℕ → Option Kind) (s : RowsShow words ki
   pub may_replace : MayReplace words c
   may_replace = may_by r.store (there_is r.store)
 
--- a change starts below the limit, at a row that there is room for
+-- a change starts below the limit
 low_start : (s : SeatState Pass) (c : Change) (r : IsReadRound s c) → IsOneStore r.row r.before r.behind c → c.start < LIMIT
 low_start s c r (whole index at new lo hi not_before not_behind) = let p = r.pages in let l = r.limit in omega arith
 low_start s c r (first_part index at same_kind lo hi is_before) = let l = r.limit in omega arith
@@ -357,7 +358,7 @@ low_index s c r (first_part index at same_kind lo hi is_before) = let t = r.read
 low_index s c r (last_part index at new lo hi is_behind) = let f = r.few in
     ⊎_elim (λ t. absurd (some_none c.new r.behind t.1 is_behind)) (λ t. let n = t.0 in omega arith) r.read_behind
 
--- its number is below the number of rows that there is room for
+-- its number is below the most rows that there may be
 pub index_low : (s : SeatState Pass) (c : Change) → IsReadRound s c → c.index < ROWS
 index_low s c r = low_index s c r r.store
 
@@ -432,3 +433,13 @@ chosen_store u v c d index word same has at own is =
     let o = h.chosen in
     let e : d ≡ c = cc in
     (c, h.pending, h.round, at, is e)
+
+room_index : (s : SeatState Pass) (c : Change) (r : IsReadRound s c) → IsOneStore r.row r.before r.behind c → c.index < room_of s.table
+room_index s c r (whole index at new lo hi not_before not_behind) = let t = r.read.there in let f = r.fits in omega arith
+room_index s c r (first_part index at same_kind lo hi is_before) = let t = r.read.there in let f = r.fits in omega arith
+room_index s c r (last_part index at new lo hi is_behind) = let f = r.fits in
+    ⊎_elim (λ t. absurd (some_none c.new r.behind t.1 is_behind)) (λ t. let n = t.0 in omega arith) r.read_behind
+
+-- and there is room for it
+pub index_fits : (s : SeatState Pass) (c : Change) → IsReadRound s c → c.index < room_of s.table
+index_fits s c r = room_index s c r r.store

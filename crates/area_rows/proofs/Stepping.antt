@@ -1,10 +1,11 @@
 -- The guard allows the steps by which a caller reads words and draws a number, and what each tells.
-use Rattle.std.proofs.Common.{◌≡◌, ℕ, ⊎_elim, inl, inr, ◌⊎◌, ◌+◌, ◌<◌, ◌≤◌, ◌^◌, List, length, sym, refl, ap, ◌∙◌, subst, arith}
+use Rattle.std.proofs.Common.{◌≡◌, ℕ, ⊎_elim, inl, inr, ◌⊎◌, ◌+◌, ◌<◌, ◌≤◌, List, length, sym, refl, ap, ◌∙◌, subst, arith}
 use Rattle.std.specs.Prelude.{◌↔◌, All, Option, Some, None, IsSome, slice_index}
 use mathlib.Core.Option.{some, some-injective}
 use lib.ListN.{get_elem?}
 use Rattle.page_types.specs.declared.TheConstants.{LIMIT, ROWS}
 use Rattle.page_types.specs.Named.{IsNamedCall}
+use Rattle.atomic_table.specs.Seated.{TableId}
 use Rattle.lock_core.specs.declared.range.Held.{Held}
 use Rattle.lock_core.specs.Grants.{Grants}
 use Rattle.lock_core.specs.Client.{loads, adds, IsAllowed, IsMade}
@@ -25,14 +26,15 @@ use Rattle.row_plans.specs.Plans.{IsRowList}
 use Rattle.area_rows.specs.Halving.{IsOnSameSide}
 use Rattle.area_rows.specs.Reads.{everything, IsHeldPage, HasRead, HasRows, StillStands}
 use Rattle.area_rows.specs.History.{Runs, StartsWith, planned_calls, RowsStandFor, HasHistory, Allowed, Here, MayLoad}
-use Rattle.area_rows.specs.History.{MayAdd, IsAtRest, IsRight, Leaves, HoldsFor, HoldsJust, pending_of, entry_of, after_look}
+use Rattle.area_rows.specs.Rows.{room_of}
+use Rattle.area_rows.specs.History.{MayAdd, IsAtRest, IsRight, Leaves, FitsIn, HoldsFor, HoldsJust, pending_of, entry_of, after_look}
 use Rattle.area_rows.specs.History.{after_count, after_sequence, after_row, after_draw}
 use Rattle.area_rows.specs.History.MayLoad.{number, glance, sequence, count, row}
 use Rattle.area_rows.specs.History.MayAdd.{draw, raise}
 use Rattle.area_rows.specs.Callers.{CallerView, HasToWrite, HasToStore, IsReadRound, IsReadBefore, IsReadBehind}
 use Rattle.area_rows.specs.Callers.{IsRowEnd, IsHeldPages, IsMoment, Shows, KeepsRead, KeepsRows, CountsWhole}
 use Rattle.area_rows.specs.Callers.{IsReading, IsLook, IsNumbered, IsDrawn}
-use Rattle.area_rows.specs.Draws.{draw_pending, draw_mine, draw_seen, draw_start, draw_drew, draw_looks}
+use Rattle.area_rows.specs.Draws.{draw_pending, draw_mine, draw_seen, draw_start, draw_drew, draw_looks, draw_room, draw_most, plan_fits}
 use Rattle.area_rows.specs.Keeping.{no_note}
 use Rattle.area_rows.specs.Parts.{none_is}
 use Rattle.area_rows.proofs.Reading.{step_reads}
@@ -112,7 +114,7 @@ module _ (note : Note) (seat : ℕ) (held : Option Held) (pass : Pass) where
 
   -- a draw of a number, by a caller at rest that holds what the entry names and whose reply is right
   -- at every moment
-  pub may_draw : (s : SeatState Pass) → s.number ≡ seat → s.held ≡ held → s.pass ≡ pass → length pass.mine + 1 < 2 ^ 32
+  pub may_draw : (s : SeatState Pass) → s.number ≡ seat → s.held ≡ held → s.pass ≡ pass → length pass.mine + 1 ≤ pass.most
       → IsNamedCall note.call → IsAtRest pass → HoldsFor held note.under
       → Shows s (λ (words : List ℕ) (state : List Area). (left : List Area) × IsRight state note.call note.reply note.under left
       × Leaves state note.under note.pending left) → IsAllowed HasHistory Allowed note seat held pass (adds 0 1)
@@ -135,19 +137,22 @@ module _ (note : Note) (seat : ℕ) (held : Option Held) (pass : Pass) where
       (held_pages grants seat held at some_held pages))
 
   module _ (found : ℕ) (after : Pass) where
-    -- a load of the row count is kept in the pass: at least one row, at most as many as there is room for, and as many
-    -- as were found before
+    -- a load of the row count is kept in the pass: at least one row, at most as many as there may be and as there is
+    -- room for, and as many as were found before
     pub counts : IsSome held → IsHeldPages held → IsAtRest pass
         → IsMade HasHistory Allowed note seat held pass (loads 2) found after
-        → (after ≡ after_count found pass) × (0 < found) × (found ≤ ROWS) × ((n : ℕ) → pass.count ≡ Some n → found ≡ n)
+        → (after ≡ after_count found pass) × (0 < found) × (found ≤ ROWS) × (found ≤ pass.room)
+        × ((n : ℕ) → pass.count ≡ Some n → found ≡ n)
     counts some_held pages rest s =
         let m = s.3 in let here = s.5.0 in
         let same : here.pass ≡ pass = some-injective here.pass pass (sym here.own ∙ m.own) in
         let rows : RowsStandFor here.state s.2 s.1 = rows_here s.0 s.1 s.2 here some_held pages m.grant (ap (λ (x : Pass). x.pending) same ∙ rest) in
-        let some_rows = rows.2.some in let few = rows.2.few in let e = s.4 in (
+        let some_rows = rows.2.some in let few = rows.2.few in let fits = rows.2.room in let e = s.4 in
+        let room = (here.running.parts seat here.pass here.own).room in (
           count_tells _ _ _ s.1 here.history here.pass after s.5.1 ∙ (λ i. after_count (e i) (same i)),
           omega arith,
           omega arith,
+          subst (λ (x : Pass). found ≤ x.room) same (omega arith),
           λ n counted. sym e ∙ (here.running.parts seat here.pass here.own).count n (ap (λ (x : Pass). x.count) same ∙ counted),
         )
 
@@ -215,6 +220,7 @@ module _ (note : Note) (seat : ℕ) (held : Option Held) (pass : Pass) where
         let granted : get_elem? s.0 seat ≡ some t.held = m.grant ∙ ap some (sym h) in
         let drew : u.pass.drew ≡ d.held.0 = ap (λ (x : Pass). x.drew) new ∙ draw_drew here.history f d.held.0 t.pass note.pending in
         let held_then : d.held.0 ≡ t.held = some-injective d.held.0 t.held (sym d.held.1 ∙ granted) in
+        let room_is : u.pass.room ≡ t.pass.room = ap (λ (x : Pass). x.room) new ∙ draw_room here.history f d.held.0 t.pass note.pending in
         let num_is : IsNumbered t f u = record {
           history = here.history;
           state = here.state;
@@ -240,6 +246,11 @@ module _ (note : Note) (seat : ℕ) (held : Option Held) (pass : Pass) where
           drew = drew ∙ held_then;
           looks = ap (λ (x : Pass). x.looks) new ∙ draw_looks here.history f d.held.0 t.pass note.pending;
           pools = call.pools;
+          room = room_is;
+          most = ap (λ (x : Pass). x.most) new ∙ draw_most here.history f d.held.0 t.pass note.pending;
+          fits = subst (FitsIn note.pending) (ap (λ (x : Pass). x.room) old ∙ sym room_is)
+              (plan_fits here.start here.history here.state d.left s.1 s.2 seat here.pass note.call note.reply note.under note.pending
+              here.running here.own d.few d.right.answers d.leaves);
           writes = ap (λ (x : Pass). x.pending) new ∙ draw_pending here.history f d.held.0 t.pass note.pending;
           keeps = subst (λ (x : Pass). KeepsRows note.pending t.pass x) (sym new) (draw_keeps here.history f note.pending d.held.0 t.pass);
           trace = call.trace;
@@ -336,22 +347,27 @@ sequence_is s u found pages call made =
 
 -- a caller that has drawn a number under everything has its plan to write
 pub writes_plan : (before after : CallerView) (e : Entry) (under : Under) → after.read ≡ before.read → after.plan ≡ before.plan
+    → before.seat.pass.room ≡ room_of before.seat.table
     → IsDrawn before.seat e (pending_of under before.plan before.change) after.seat → under ≡ Whole
     → HasRows before.seat.pass before.read → HasToWrite after
-writes_plan before after e under read plan d whole has =
+writes_plan before after e under read plan room d whole has =
     let is : pending_of under before.plan before.change ≡ Planned after.plan =
     ap (λ (w : Under). pending_of w before.plan before.change) whole ∙ ap Planned (sym plan) in
     let k : KeepsRows (Planned after.plan) before.seat.pass after.seat.pass =
     subst (λ (q : Pending). KeepsRows q before.seat.pass after.seat.pass) is d.keeps in
+    let fits : length after.plan ≤ after.seat.pass.room = subst (λ (q : Pending). FitsIn q after.seat.pass.room) is d.fits in
+    let table : room_of after.seat.table ≡ room_of before.seat.table = ap room_of d.numbered.table in
+    let same_room = d.room in
     record {
       pending = d.writes ∙ is;
+      fits = omega arith;
       read = subst (HasRows after.seat.pass) (sym read) (k.0 ∙ has.0, λ i lt. subst (λ r. HasRead r i (slice_index before.read i)) (sym k.1) (has.1 i lt));
     }
 
 -- what was read round a change is read still where the range and the rows are the same
-pub round_on : (a b : SeatState Pass) (change : Change) → b.held ≡ a.held → b.pass.count ≡ a.pass.count → b.pass.rows ≡ a.pass.rows
-    → IsReadRound a change → IsReadRound b change
-round_on a b change same_held same_count same_rows r =
+pub round_on : (a b : SeatState Pass) (change : Change) → b.table ≡ a.table → b.held ≡ a.held → b.pass.count ≡ a.pass.count
+    → b.pass.rows ≡ a.pass.rows → IsReadRound a change → IsReadRound b change
+round_on a b change same_table same_held same_count same_rows r =
     let read = r.read in
     record {
       row = r.row;
@@ -372,6 +388,7 @@ round_on a b change same_held same_count same_rows r =
         hi = subst (λ (l : List ReadRow). IsRowEnd l read.count r.row.index r.row.hi) (sym same_rows) read.hi;
       };
       few = r.few;
+      fits = subst (λ (t : TableId). read.count ≤ room_of t) (sym same_table) r.fits;
       kind = r.kind;
       named = r.named;
       read_before = subst (λ (l : List ReadRow). IsReadBefore l r.row.index r.before) (sym same_rows) r.read_before;
@@ -389,5 +406,5 @@ writes_row before after e under span change same d over chosen round =
     record {
       pending = d.writes ∙ is;
       chosen = same ∙ chosen;
-      round = round_on before.seat after.seat change d.numbered.held k.0 k.1 round;
+      round = round_on before.seat after.seat change d.numbered.table d.numbered.held k.0 k.1 round;
     }

@@ -1,13 +1,12 @@
 -- How many stores a plan takes, store by store, and that the plan of a refused call is the rows as they were read.
-use Rattle.std.proofs.Common.{◌≡◌, ℕ, zero, suc, ◌+◌, ◌*◌, ◌<◌, ◌≤◌, cond, eqb, ◌&&◌, List, [], length}
+use Rattle.std.proofs.Common.{◌≡◌, ℕ, zero, suc, ◌+◌, ◌*◌, ◌<◌, ◌≤◌, cond, eqb, ◌&&◌, List, [], ◌∷◌, length}
 use Rattle.std.proofs.Common.{sym, refl, ap, ◌∙◌, subst, arith, eq-eqb, ne_eqb, add-one}
 use Rattle.std.proofs.lemmas.Bool.{lt-ltb, le-ltb}
 use Rattle.std.specs.Prelude.{Option, slice_index}
 use Rattle.page_types.specs.declared.calls.Call.{Call}
-use Rattle.page_types.specs.declared.calls.Call.TheVariants.{Map, Unmap, Protect, Fault, Seal}
 use Rattle.page_types.specs.declared.calls.Kind.{Kind}
 use Rattle.page_types.specs.declared.calls.Reply.{Reply}
-use Rattle.page_types.specs.declared.calls.Reply.TheVariants.{At, Zero, Refused}
+use Rattle.page_types.specs.declared.calls.Reply.TheVariants.{Refused}
 use Rattle.page_types.specs.declared.calls.Why.{Why}
 use Rattle.space_model.specs.declared.areas.Area.{Area}
 use Rattle.space_model.specs.declared.paint.Patch.{Patch}
@@ -15,9 +14,11 @@ use Rattle.space_model.specs.Areas.{kind_at}
 use Rattle.space_model.specs.Answers.{Answers, IsEffect}
 use Rattle.space_model.specs.Answers.Answers.{by_arguments, refused, kept, done, too_many_rows}
 use Rattle.space_model.specs.Answers.Effect.{changes}
+use Rattle.space_model.proofs.Effects.{Says, says}
+use Rattle.space_model.proofs.Effects.Says.{says_at, says_done}
 use Rattle.range_rw.specs.Contract.{Record, SeatState}
 use Rattle.row_plans.specs.RowLists.{ShowFrom, areas_from}
-use Rattle.row_plans.specs.Plans.{IsRowList, planned_rows, IsPlan}
+use Rattle.row_plans.specs.Plans.{IsRowList, planned_rows, BeginsAs, IsPlan}
 use Rattle.row_plans.proofs.OneList.{one_list}
 use Rattle.area_rows.specs.declared.guard.Pass.{Pass}
 use Rattle.area_rows.specs.Callers.{IsClientStep}
@@ -51,19 +52,22 @@ pub one_row_more : (old plan : List ℕ) (index : ℕ) → new_rows old plan (in
 unfolding new_rows
 one_row_more old plan index = ap (new_rows old plan) (add-one index)
 
--- no row of a list is new where the list itself stood there
-none_new : (rows : List ℕ) (index : ℕ) → index ≤ length rows → new_rows rows rows index ≡ 0
-none_new rows zero le = no_rows rows rows
-none_new rows (suc index) le =
-    let more : new_rows rows rows (suc index) ≡ new_rows rows rows index + new_row rows rows index =
-    ap (new_rows rows rows) (sym (add-one index)) ∙ one_row_more rows rows index in
-    let rest = none_new rows index (omega arith) in
-    let here = row_same rows rows index (omega arith) refl in
+-- of the rows at the beginning that stood there none is new
+none_new : (old plan : List ℕ) (count index : ℕ) → BeginsAs old plan count → index ≤ count → new_rows old plan index ≡ 0
+none_new old plan count zero begins le = no_rows old plan
+none_new old plan count (suc index) begins le =
+    let more : new_rows old plan (suc index) ≡ new_rows old plan index + new_row old plan index =
+    ap (new_rows old plan) (sym (add-one index)) ∙ one_row_more old plan index in
+    let there = begins.there in
+    let rest = none_new old plan count index begins (omega arith) in
+    let here = row_same old plan index (omega arith) (sym (begins.same index (omega arith))) in
     omega arith
 
 -- rows that stay take no store
 pub no_stores : (rows : List ℕ) → stores_of rows rows ≡ 0
-no_stores rows = let a = none_new rows (length rows) (omega arith) in let b = count_same rows rows refl in omega arith
+no_stores rows =
+    let all : BeginsAs rows rows (length rows) = record { there = omega arith; few = omega arith; same = λ i lt. refl } in
+    let a = none_new rows rows (length rows) (length rows) all (omega arith) in let b = count_same rows rows refl in omega arith
 
 -- the rows, and then their count
 pub all_stores : (a b c : ℕ) (old plan : List ℕ) (index : ℕ) → index ≡ length plan → b ≡ a + new_rows old plan index
@@ -92,13 +96,18 @@ module _ (s u : SeatState Pass) (old plan : List ℕ) (index : ℕ) where
   pub count_not_stored : length old ≡ length plan → s.trace.taken ≡ s.trace.taken + new_count old plan
   count_not_stored same = let z = count_same old plan same in omega arith
 
--- the stores so far, row by row
-pub first_stores : (a : ℕ) (old plan : List ℕ) → a ≡ a + new_rows old plan 0
-first_stores a old plan = let z = no_rows old plan in omega arith
+-- the stores so far, row by row: none of those that stay
+pub first_stores : (a : ℕ) (old plan : List ℕ) (count : ℕ) → BeginsAs old plan count → a ≡ a + new_rows old plan count
+first_stores a old plan count begins = let z = none_new old plan count count begins (omega arith) in omega arith
 
 pub next_stores : (a b c : ℕ) (old plan : List ℕ) (index : ℕ) → b ≡ a + new_rows old plan index → c ≡ b + new_row old plan index
     → c ≡ a + new_rows old plan (index + 1)
 next_stores a b c old plan index so_far here = let z = one_row_more old plan index in omega arith
+
+-- the rows that were put together are no more than the plan's
+pub plan_within : (read plan : List ℕ) (room : ℕ) → length (planned_rows read plan) ≤ room → length plan ≤ room
+plan_within read [] room few = omega arith
+plan_within read (w ∷ rest) room few = few
 
 -- where no row was put together those that were read stay
 pub planned_none : (a : ℕ) (read plan : List ℕ) → plan ≡ [] → a ≡ a + stores_of read (planned_rows read plan)
@@ -106,13 +115,13 @@ planned_none a read plan none =
     let z : stores_of read (planned_rows read plan) ≡ 0 = ap (λ l. stores_of read (planned_rows read l)) none ∙ no_stores read in omega arith
 
 -- a change of pages isn't answered by a refusal
+said_not_refused : (reply : Reply) (why : Why) → Says reply → reply ≡ Refused why → ⊥
+said_not_refused reply why (says_at n said) is = cc
+said_not_refused reply why (says_done said) is = cc
+
 no_change : (kinds : ℕ → Option Kind) (c : Call) (patches : List Patch) (reply : Reply) (full : Option Reply) (why : Why)
     → IsEffect kinds c (changes patches reply full) → reply ≡ Refused why → ⊥
-no_change kinds (Map addr len prot flags) patches reply full why (clear, (start, s, d)) is = let same : At (start * 4096) ≡ reply = cc in cc
-no_change kinds (Unmap addr len) patches reply full why (clear, d) is = let same : Zero ≡ reply = cc in cc
-no_change kinds (Protect addr len prot) patches reply full why (clear, d) is = let same : Zero ≡ reply = cc in cc
-no_change kinds (Seal addr len flags) patches reply full why (clear, d) is = let same : Zero ≡ reply = cc in cc
-no_change kinds (Fault addr access) patches reply full why (clear, (s, h, d)) is = cc
+no_change kinds c patches reply full why does is = said_not_refused reply why (says kinds c patches reply full does.1).0 is
 
 -- a refused call leaves the areas that there were
 refused_same : (A B : List Area) (c : Call) (reply : Reply) (why : Why) → Answers A c reply B → reply ≡ Refused why → B ≡ A

@@ -18,6 +18,7 @@ use Rattle.area_rows.specs.declared.guard.Pass.{Pass}
 use Rattle.area_rows.specs.declared.guard.Pending.{Pending}
 use Rattle.area_rows.specs.declared.guard.Pending.TheVariants.{Planned}
 use Rattle.row_plans.specs.RowLists.{ShowFrom, IsBareGap}
+use Rattle.row_plans.specs.Plans.{BeginsAs}
 use Rattle.area_rows.specs.Rows.{rows_in, RowsShow}
 use Rattle.area_rows.specs.Reads.{everything, HasRead, HasRows, StillStands}
 use Rattle.area_rows.specs.History.{HasHistory, Allowed, Here, MayStore, MayWrite, MayAdd, Backs, without, after_count, after_store, after_raise}
@@ -26,6 +27,8 @@ use Rattle.area_rows.specs.History.MayAdd.{draw, raise}
 use Rattle.area_rows.specs.Callers.{IsClientStep, IsWritten}
 use Rattle.area_rows.specs.Writing.{IsMixed, IsWriting}
 use Rattle.area_rows.specs.Keeping.{no_note}
+use Rattle.area_rows.specs.Parts.{rows_fit}
+use Rattle.area_rows.specs.Writes.{plan_length}
 use Rattle.area_rows.proofs.Moments.{here_at, rows_known, stands}
 
 module _ (note : Note) (seat : ℕ) (held : Option Held) (pass : Pass) (plan : List ℕ) (planned : pass.pending ≡ Planned plan) where
@@ -64,13 +67,14 @@ module _ (note : Note) (seat : ℕ) (held : Option Held) (pass : Pass) (plan : L
       let shows = backs.1 in
       let stood : All (StillStands (Some everything) words) here.pass.rows = backed.rows (Some everything) backs.0 in
       let count : slice_index words 2 ≡ length plan = part.count (length plan) (ap (λ (x : Pass). x.count) same ∙ has.0) in
-      let room = here.running.room in
+      let fits = rows_fit here.start here.history here.state words passes here.running in
+      let long = plan_length plan here.state here.running.in_order shows in
       let few = shows.few in
-      let rows : rows_in words ≡ plan = rows_known words plan room few count
+      let rows : rows_in words ≡ plan = rows_known words plan (omega arith) count
       (λ i lt. (stands (Some everything) words here.pass.rows i (slice_index plan i) stood
       (subst (λ (x : Pass). HasRead x.rows i (slice_index plan i)) (sym same) (has.1 i lt))).word refl) in
       record {
-        room = room;
+        room = omega arith;
         some = let s = shows.some in omega arith;
         few = omega arith;
         show = subst (λ (l : List ℕ). ShowFrom 0 l (kind_at here.state)) (sym rows) shows.show;
@@ -147,9 +151,16 @@ has_others index i w [] differ h = absurd h
 has_others index i w (r ∷ rest) differ h = has_one index i w r (without index rest) (eqb r.index index) refl differ
     (⊎_elim (λ t. inl t) (λ t. inr (has_others index i w rest differ t)) h)
 
--- before the first store all rows are the old ones
-pub none_mixed : (p : Pass) (old plan : List ℕ) → HasRows p old → IsMixed p.rows old plan 0
-none_mixed p old plan has = record { below = λ i lt. absurd (omega arith); above = λ i le lt. has.1 i lt }
+-- before the first store all rows are the old ones, of which those at the beginning that stay are the plan's as well
+pub first_mixed : (p : Pass) (old plan : List ℕ) (count : ℕ) → HasRows p old → BeginsAs old plan count → IsMixed p.rows old plan count
+first_mixed p old plan count has begins = let there = begins.there in record {
+  below = λ i lt. subst (HasRead p.rows i) (sym (begins.same i lt)) (has.1 i (omega arith));
+  above = λ i le lt. has.1 i lt;
+}
+
+-- of no row it is known that it stays
+pub none_stay : (old plan : List ℕ) → BeginsAs old plan 0
+none_stay old plan = record { there = omega arith; few = omega arith; same = λ i lt. absurd (omega arith) }
 
 -- one row more is the plan's
 pub mixed_stored : (rows : List ReadRow) (old plan : List ℕ) (index : ℕ) → IsMixed rows old plan index
@@ -179,6 +190,8 @@ writing_on a b c f g = record {
   held = g.held ∙ f.held;
   pools = g.pools ∙ f.pools;
   start = g.start ∙ f.start;
+  room = g.room ∙ f.room;
+  most = g.most ∙ f.most;
   seen = g.seen ∙ f.seen;
   mine = g.mine ∙ f.mine;
   drew = g.drew ∙ f.drew;
@@ -195,6 +208,8 @@ no_writing a = record {
   held = refl;
   pools = refl;
   start = refl;
+  room = refl;
+  most = refl;
   seen = refl;
   mine = refl;
   drew = refl;
@@ -214,6 +229,8 @@ store_writes a b index value s = record {
   held = s.held;
   pools = s.pools;
   start = ap (λ (x : Pass). x.start) s.pass;
+  room = ap (λ (x : Pass). x.room) s.pass;
+  most = ap (λ (x : Pass). x.most) s.pass;
   seen = ap (λ (x : Pass). x.seen) s.pass;
   mine = ap (λ (x : Pass). x.mine) s.pass;
   drew = ap (λ (x : Pass). x.drew) s.pass;
@@ -230,6 +247,8 @@ count_writes a b value s = record {
   held = s.held;
   pools = s.pools;
   start = ap (λ (x : Pass). x.start) s.pass;
+  room = ap (λ (x : Pass). x.room) s.pass;
+  most = ap (λ (x : Pass). x.most) s.pass;
   seen = ap (λ (x : Pass). x.seen) s.pass;
   mine = ap (λ (x : Pass). x.mine) s.pass;
   drew = ap (λ (x : Pass). x.drew) s.pass;

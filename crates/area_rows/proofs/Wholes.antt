@@ -7,7 +7,7 @@ use mathlib.Core.Option.{some}
 use lib.ListN.{get_elem?}
 use Rattle.page_types.specs.declared.TheConstants.{ROWS}
 use Rattle.page_types.specs.declared.calls.Call.{Call}
-use Rattle.page_types.specs.declared.calls.Call.TheVariants.{Map, Unmap, Protect, Fault, Seal}
+use Rattle.page_types.specs.declared.calls.Call.TheVariants.{Map, Unmap, Protect, Fault, Seal, Brk, Remap}
 use Rattle.page_types.specs.declared.calls.Reply.{Reply}
 use Rattle.page_types.specs.PlainReply.{plain_reply}
 use Rattle.space_model.specs.declared.areas.Area.{Area}
@@ -15,6 +15,7 @@ use Rattle.space_model.specs.declared.entries.Entry.{Entry}
 use Rattle.space_model.specs.declared.entries.Under.TheVariants.{Nothing, Whole}
 use Rattle.space_model.specs.Answers.Answers.{by_arguments}
 use Rattle.space_model.specs.Held.{FitsByState}
+use Rattle.atomic_table.specs.Seated.{TableId}
 use Rattle.range_rw.specs.Contract.{SeatState, IsLockCall, IsRelease}
 use Rattle.range_rw.specs.Contract.{Record}
 use Rattle.area_rows.specs.declared.guard.Pass.{Pass}
@@ -22,6 +23,7 @@ use Rattle.area_rows.specs.declared.guard.Pending.{Pending}
 use Rattle.row_plans.specs.RowLists.{areas_from}
 use Rattle.row_plans.specs.Plans.{IsRowList, IsPlan}
 use Rattle.page_types.specs.Classes.{IsFault}
+use Rattle.area_rows.specs.Rows.{room_of}
 use Rattle.area_rows.specs.Reads.{everything, HasRead, HasRows, StillStands}
 use Rattle.area_rows.specs.History.{StartsWith, Runs, IsAtRest, HoldsFor, after_row, rest_of}
 use Rattle.area_rows.specs.Callers.{CallerView, MayNumber, HasPlanned, IsReading, IsClientStep, IsNumbered, IsDrawn, IsWritten}
@@ -54,6 +56,8 @@ fits_whole A (Unmap addr len) no_fault = refl
 fits_whole A (Protect addr len prot) no_fault = inl refl
 fits_whole A (Fault addr access) no_fault = absurd (no_fault tt)
 fits_whole A (Seal addr len flags) no_fault = refl
+fits_whole A (Brk base addr) no_fault = refl
+fits_whole A (Remap addr old new may hint) no_fault = refl
 
 -- and may be numbered with what its plan says
 pub planned_right : (c : CallerView) (call : Call) (reply : Reply) (count : ℕ) → HasPlanned call reply count c
@@ -97,8 +101,10 @@ pub record IsReadSoFar (before now : CallerView) (count index : ℕ) : Type 0 wh
   pub counted : now.seat.pass.count ≡ Some count
   -- there is a row
   pub some : 0 < count
-  -- and there are no more than there is room for
+  -- there are no more than there may be
   pub few : count ≤ ROWS
+  -- and no more than there is room for
+  pub fits : count ≤ room_of now.seat.table
   -- no row behind the last was read
   pub bound : index ≤ count
   -- the list in the caller's room has the words that were read
@@ -110,14 +116,15 @@ pub record IsReadSoFar (before now : CallerView) (count index : ℕ) : Type 0 wh
 
 -- at the beginning none is read
 pub none_read : (c : CallerView) (count : ℕ) → IsAtRest c.seat.pass → c.seat.pass.count ≡ Some count → 0 < count → count ≤ ROWS
-    → c.read ≡ [] → IsReadSoFar c c count 0
-none_read c count rest counted positive few empty = record {
+    → count ≤ room_of c.seat.table → c.read ≡ [] → IsReadSoFar c c count 0
+none_read c count rest counted positive few fits empty = record {
   reading = no_reading c.seat;
   left = refl;
   rest = rest;
   counted = counted;
   some = positive;
   few = few;
+  fits = fits;
   bound = omega arith;
   wide = ap length empty;
   rows = λ i lt. absurd (omega arith);
@@ -159,6 +166,7 @@ one_more_read before old mid new count index word s lt held step left read whole
       counted = subst (λ (k : SeatState Pass). k.pass.count ≡ Some count) (sym same) counted;
       some = s.some;
       few = s.few;
+      fits = subst (λ (k : SeatState Pass). count ≤ room_of k.table) (sym same) (subst (λ (t : TableId). count ≤ room_of t) (sym step.table) s.fits);
       bound = omega arith;
       wide = wide;
       rows = λ i below. subst (λ (k : SeatState Pass). HasRead k.pass.rows i (slice_index new.read i)) (sym same) (rows i below);

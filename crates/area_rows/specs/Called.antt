@@ -1,5 +1,5 @@
--- What every call promises that gives an entry, whichever it is: a fault, a map, an unmap, a seal or a change of
--- protection. It is one clause, so that who uses several of them needs one lemma. The entry stands in the one history
+-- What every call promises that gives an entry, whichever it is: a fault, a change of protection, or one that changes
+-- rows. It is one clause, so that who uses several of them needs one lemma. The entry stands in the one history
 -- (Herlihy and Wing, TOPLAS 1990), and the caller held what it names at the step that drew its number.
 use Rattle.std.specs.Prelude.{ℕ, ◌≡◌, ◌<◌, ◌≤◌, ◌+◌, ◌⊎◌, Some}
 use Rattle.page_types.specs.declared.calls.Call.{Call}

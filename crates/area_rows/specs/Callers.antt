@@ -1,10 +1,10 @@
 -- What contracts see of a caller and of a space, and what each call says. What a caller's range has shown of the
 -- history is stated as what is so at every moment at which the caller holds that range and has read those rows; so it
 -- lasts while the caller keeps both. The definitions are this project's own.
-use Rattle.std.specs.Prelude.{ℕ, ◌≡◌, ◌≢◌, ◌<◌, ◌≤◌, ◌+◌, ◌-◌, Option, Some, None, List, [], ◌∷◌, ◌++◌, drop, length, min, replicate, slice_index, ◌⊎◌}
+use Rattle.std.specs.Prelude.{ℕ, ◌≡◌, ◌≢◌, ◌<◌, ◌≤◌, ◌+◌, ◌-◌, Option, Some, None, List, [], ◌∷◌, ◌++◌, ◌*◌, drop, length, min, replicate, slice_index, ◌⊎◌}
 use mathlib.Core.Option.{some}
 use lib.ListN.{get_elem?}
-use Rattle.page_types.specs.declared.TheConstants.{LIMIT, ROWS}
+use Rattle.page_types.specs.declared.TheConstants.{LIMIT, ROWS, SPARE}
 use Rattle.space_model.specs.declared.areas.Area.{Area}
 use Rattle.space_model.specs.declared.entries.Entry.{Entry}
 use Rattle.space_model.specs.declared.entries.Under.{Under}
@@ -31,12 +31,12 @@ use Rattle.area_rows.specs.declared.space.SpaceFault.{SpaceFault}
 use Rattle.area_rows.specs.declared.space.SpaceFault.TheVariants.{Callers, Rows, Memory}
 use Rattle.row_plans.specs.RowWords.{row_start, row_kind}
 use Rattle.row_plans.specs.RowLists.{rows_start, rows_from}
-use Rattle.area_rows.specs.Rows.{IsRowOf, rows_in}
+use Rattle.area_rows.specs.Rows.{IsRowOf, room_of, rows_in}
 use Rattle.row_plans.specs.Plans.{IsPlan}
 use Rattle.area_rows.specs.Reads.{IsHeldPage, HasRead, HasRows}
 use Rattle.area_rows.specs.Changes.{alone, IsOneStore, IsRound}
 use Rattle.area_rows.specs.History.{Runs, StartsWith, entries_of, HasNamedReplies, whole_count, planned_calls}
-use Rattle.area_rows.specs.History.{IsRunningSpace, AreBacked, HasPages, HoldsFor, IsAtRest, IsRight, Leaves, pending_of, after_look}
+use Rattle.area_rows.specs.History.{IsRunningSpace, AreBacked, HasPages, HoldsFor, IsAtRest, IsRight, Leaves, FitsIn, pending_of, after_look}
 
 -- a caller: its seat in the lock's table, whose pass is what it knows of the space; how many numbers it may still draw;
 -- the row words that it read for its last plan, and those that this plan leaves; and the row that its last plan over an
@@ -115,9 +115,11 @@ pub record HasPlanned (call : Call) (reply : Reply) (count : ℕ) (c : CallerVie
   pub shows : Shows c.seat (λ _ state. IsPlan call reply count c.plan state)
   pub read : HasRows c.seat.pass c.read
 
--- a caller has its plan to write: it has numbered the call, and has read or stored the rows that stand there
+-- a caller has its plan to write: it has numbered the call, has read or stored the rows that stand there, and the table
+-- has room for the plan's
 pub record HasToWrite (c : CallerView) : Type 0 where
   pub pending : c.seat.pass.pending ≡ Planned c.plan
+  pub fits : length c.plan ≤ room_of c.seat.table
   pub read : HasRows c.seat.pass c.read
 
 -- where a row ends, by what was read: where the next one starts, or at LIMIT
@@ -173,6 +175,7 @@ pub record IsReadRound (seat : SeatState Pass) (change : Change) : Type 0 where
   pub limit : row.hi ≤ LIMIT
   pub read : IsAsRead seat.pass row
   pub few : read.count ≤ ROWS
+  pub fits : read.count ≤ room_of seat.table
   pub kind : row.kind ≡ Some change.old
   pub named : IsNamedKind change.kind
   pub read_before : IsReadBefore seat.pass.rows row.index before
@@ -200,19 +203,51 @@ pub record IsStoredRow (before : SeatState Pass) (index : ℕ) (after : SeatStat
   pub pools : after.pools ≡ before.pools
   pub trace : after.trace ≡ client_trace before.trace (3 + index)
 
--- a new pass over these areas
-abbrev pub new_pass : List Area → Pass
-new_pass start = record { start = start; seen = []; mine = []; count = None; rows = []; sequence = None; pending = AtRest; drew = None; looks = [] }
+-- a new pass over these areas, in a table with so much room for rows, of a caller that may have so many entries
+abbrev pub new_pass : List Area → ℕ → ℕ → Pass
+new_pass start room most = record {
+  start = start;
+  room = room;
+  most = most;
+  seen = [];
+  mine = [];
+  count = None;
+  rows = [];
+  sequence = None;
+  pending = AtRest;
+  drew = None;
+  looks = [];
+}
 
--- the client words of a space that starts with these areas: no entry, none under everything, the row count, the rows,
--- and room for more
-abbrev pub opening_words : List Area → List ℕ
-opening_words start = 0 ∷ 0 ∷ row_count start ∷ (rows_from 0 start ++ replicate (ROWS - row_count start) 0)
+-- how many entries each of sixteen callers may have, 0 where there is no such caller
+abbrev pub quotas : List ℕ → List ℕ
+quotas calls = calls ++ replicate (16 - length calls) 0
+
+-- the first client words of a space that starts with these areas: no entry, none under everything, the row count, the
+-- rows, and room for more
+abbrev pub opening_rows : List Area → ℕ → List ℕ
+opening_rows start room = 0 ∷ 0 ∷ row_count start ∷ (rows_from 0 start ++ replicate (room - row_count start) 0)
+
+-- all of them: behind the room for rows they say how many entries each caller may have. No step reads these or changes
+-- them; they tell the callers' first passes
+abbrev pub opening_words : List Area → List ℕ → ℕ → List ℕ
+opening_words start calls room = opening_rows start room ++ quotas calls
+
+-- which room for rows is enough: for as many as there may be, or for those of the start and SPARE for each of so many
+-- calls
+abbrev pub IsEnough : ℕ → ℕ → ℕ → Type 0
+IsEnough room rows calls = room < ROWS → rows + SPARE * calls ≤ room
 
 -- the callers of a new space, in order of their numbers, each with as many numbers to draw as was asked
 abbrev pub AreNewCallers : TableId → List Area → List ℕ → List CallerView → Type 0
 AreNewCallers table start calls callers = (k : ℕ) (c : CallerView) → get_elem? callers k ≡ some c
-    → c ≡ record { seat = new_seat table (λ _. new_pass start) k; left = slice_index calls k; read = []; plan = []; change = None }
+    → c ≡ record {
+      seat = new_seat table (λ n. new_pass start (room_of table) (slice_index calls n)) k;
+      left = slice_index calls k;
+      read = [];
+      plan = [];
+      change = None;
+    }
 
 -- why no space is opened for so many callers over so many rows
 abbrev pub IsSpaceFault : ℕ → ℕ → SpaceFault → Type 0
@@ -295,6 +330,9 @@ pub record IsDrawn (before : SeatState Pass) (e : Entry) (pending : Pending) (af
   pub drew : after.pass.drew ≡ before.held
   pub looks : after.pass.looks ≡ before.pass.looks
   pub pools : after.pools ≡ before.pools
+  pub room : after.pass.room ≡ before.pass.room
+  pub most : after.pass.most ≡ before.pass.most
+  pub fits : FitsIn pending after.pass.room
   pub writes : after.pass.pending ≡ pending
   pub keeps : KeepsRows pending before.pass after.pass
   pub trace : after.trace ≡ client_trace before.trace 0

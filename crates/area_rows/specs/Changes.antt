@@ -2,8 +2,8 @@
 -- Dice and Issa, EuroSys 2020: pages of one area get another kind, so the area changes whole, or the boundary to a
 -- neighbour moves, and either is one store. Its caller holds the area and a page on each side, so calls elsewhere go
 -- on.
-use Rattle.std.specs.Prelude.{ℕ, ◌≡◌, ◌≢◌, ◌<◌, ◌≤◌, ◌+◌, ◌-◌, ◌⊎◌, min, if◌then◌else◌, Option, Some, List, slice_index, slice_set}
-use Rattle.page_types.specs.declared.TheConstants.{LIMIT, ROWS}
+use Rattle.std.specs.Prelude.{ℕ, ◌≡◌, ◌≢◌, ◌<◌, ◌≤◌, ◌+◌, ◌-◌, ◌⊎◌, min, if◌then◌else◌, Option, Some, List, length, slice_index, slice_set}
+use Rattle.page_types.specs.declared.TheConstants.{LIMIT}
 use Rattle.page_types.specs.declared.calls.Kind.{Kind}
 use Rattle.page_types.specs.declared.pages.Span.{Span}
 use Rattle.space_model.specs.declared.areas.Area.{Area}
@@ -47,7 +47,7 @@ pub record IsChange (state : List Area) (span : Span) (c : Change) (left : List 
 -- the row of a change may get its new word: the rows then show the changed kinds. Its start moves over held pages
 -- alone, and from a page that is held on both sides; and it gets another kind only where all its pages are held
 pub record MayReplace (words : List ℕ) (c : Change) : Type 0 where
-  pub there : c.index < ROWS
+  pub there : 3 + c.index < length words
   pub up : (page : ℕ) → row_start (slice_index words (3 + c.index)) ≤ page → page < row_start (new_word c) → IsIn c.span page
   pub down : (page : ℕ) → row_start (new_word c) ≤ page → page < row_start (slice_index words (3 + c.index)) → IsIn c.span page
   pub stood : row_start (slice_index words (3 + c.index)) ≢ row_start (new_word c)

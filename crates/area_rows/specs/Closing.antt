@@ -8,6 +8,7 @@ use Rattle.space_model.specs.declared.entries.Entry.{Entry}
 use Rattle.range_rw.specs.Contract.{SeatState}
 use Rattle.area_rows.specs.declared.guard.Pass.{Pass}
 use Rattle.area_rows.specs.declared.close.Kept.{Kept}
+use Rattle.area_rows.specs.Rows.{room_of}
 use Rattle.area_rows.specs.History.{entry_count, IsAtRest}
 use Rattle.row_plans.specs.Plans.{planned_rows}
 use Rattle.area_rows.specs.Callers.{CallerView, IsHeldPages}
@@ -46,12 +47,14 @@ pub record IsPair (s : SeatState Pass) (k : Kept) (c : CallerView) : Type 0 wher
   pub number : s.number ≡ k.worker
   pub mine : k.mine.items ≡ s.pass.mine
   pub room : vec_len k.mine + k.left ≤ vec_capacity k.mine
-  pub few : vec_len k.mine + k.left < 2 ^ 32
-  pub read : ROWS ≤ vec_capacity k.read
-  pub plan : ROWS + SPARE ≤ vec_capacity k.plan
+  pub few : vec_len k.mine + k.left ≤ s.pass.most
+  pub read : s.pass.room ≤ vec_capacity k.read
+  pub plan : s.pass.room + SPARE ≤ vec_capacity k.plan
   pub planned : vec_len k.plan ≤ ROWS
   pub pages : IsHeldPages s.held
   pub rest : s.held ≡ None → IsAtRest s.pass
+  pub rows : s.pass.room ≡ room_of s.table
+  pub most : s.pass.most < 2 ^ 32
 
 -- the same of lists of them
 abbrev pub ArePairs : List (SeatState Pass) → List Kept → List CallerView → Type 0

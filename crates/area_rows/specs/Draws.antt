@@ -1,7 +1,7 @@
 -- That a draw of a number keeps the rule: the history grows by the entry, and what its call leaves is to be written.
 -- These are parts of the proofs in `Keeping`; a reader who trusts the check may pass them over.
 use Rattle.std.specs.Prelude.{Option, slice_index}
-use Rattle.std.proofs.Common.{◌≡◌, ◌≢◌, ℕ, ◌+◌, ◌%◌, ◌^◌, ◌<◌, inl, inr, List, [], ◌∷◌, ◌++◌, length, set, sym, refl}
+use Rattle.std.proofs.Common.{◌≡◌, ◌≢◌, ℕ, ◌+◌, ◌%◌, ◌^◌, ◌<◌, ◌≤◌, inl, inr, List, [], ◌∷◌, ◌++◌, length, set, sym, refl}
 use Rattle.std.proofs.Common.{ap, ◌∙◌, subst, arith, length-set, length-append, append_assoc, ⊎_elim}
 use Rattle.std.proofs.lemmas.List.{append-nil, get_or-set_same, get_or-set_other}
 use Rattle.std.proofs.lemmas.List.Elements.{All-nil}
@@ -11,15 +11,18 @@ use Rattle.atomic_table.proofs.Lists.{at_set}
 use Rattle.lock_core.proofs.ByPlace.{below}
 use Rattle.page_types.specs.Named.{IsNamedCall, IsNamedReply}
 use Rattle.page_types.specs.declared.pages.Span.{Span}
+use Rattle.page_types.specs.declared.calls.Call.{Call}
+use Rattle.page_types.specs.declared.calls.Reply.{Reply}
 use Rattle.space_model.specs.declared.areas.Area.{Area as Areas}
 use Rattle.space_model.specs.declared.entries.Entry.{Entry}
 use Rattle.space_model.specs.declared.entries.Under.{Under}
 use Rattle.space_model.specs.declared.entries.Under.TheVariants.{Nothing, Reader, Area, Whole}
-use Rattle.space_model.specs.Areas.{kind_at}
+use Rattle.space_model.specs.Areas.{kind_at, row_count}
 use Rattle.space_model.specs.Answers.{Answers}
 use Rattle.space_model.specs.Held.{FitsUnder}
 pub use Rattle.space_model.proofs.Histories.{runs_more}
 use Rattle.space_model.proofs.SomeAnswer.{leaves_areas}
+use Rattle.space_model.proofs.TwiceOnce.{spare_rows}
 use Rattle.lock_core.specs.Grants.{Grants, Holds, IsExclusive}
 use Rattle.lock_core.specs.Client.{adds, words_after}
 use Rattle.lock_core.specs.declared.range.Held.{Held}
@@ -32,11 +35,11 @@ use Rattle.area_rows.specs.Reads.{everything, StillStands}
 use Rattle.area_rows.specs.Changes.{alone, IsChange}
 use Rattle.area_rows.specs.History.{with_whole, IsPart, planned_calls, planned_count, IsShown}
 use Rattle.area_rows.specs.History.{RowsStandFor, IsRunningSpace, Backs, IsBacked, AreBacked, HoldsFor, Leaves, after_draw}
-use Rattle.area_rows.specs.History.{Runs, IsRight, IsOfLastEntry, IsOwed}
+use Rattle.area_rows.specs.History.{Runs, IsRight, FitsIn, IsOfLastEntry, IsOwed}
 use Rattle.area_rows.specs.Replies.{all_more, reply_named, left_named, left_few}
 use Rattle.area_rows.specs.Stands.{all_stand, same_low, low_rows, shown_set}
-use Rattle.area_rows.specs.Parts.{own_more, own_same, count_set, no_wrap, whole_more, planned_set, resting_of, none_is}
-use Rattle.area_rows.specs.Writes.{everything_pages, span_pages, clash}
+use Rattle.area_rows.specs.Parts.{own_more, own_same, count_set, most_set, room_kept, rows_fit, rows_fit_more, no_wrap, whole_more, planned_set, resting_of, none_is}
+use Rattle.area_rows.specs.Writes.{everything_pages, span_pages, clash, plan_length}
 use Rattle.area_rows.specs.RowStores.{shown_after_draw, others_back}
 
 -- what is to be written goes with what is held
@@ -103,6 +106,16 @@ module _ (history : List Entry) (e : Entry) (held : Option Held) (p : Pass) wher
   draw_start (Planned rows) = refl
   draw_start (OneRow c) = refl
 
+  pub draw_room : (pending : Pending) → (after_draw history e pending held p).room ≡ p.room
+  draw_room AtRest = refl
+  draw_room (Planned rows) = refl
+  draw_room (OneRow c) = refl
+
+  pub draw_most : (pending : Pending) → (after_draw history e pending held p).most ≡ p.most
+  draw_most AtRest = refl
+  draw_most (Planned rows) = refl
+  draw_most (OneRow c) = refl
+
   pub draw_drew : (pending : Pending) → (after_draw history e pending held p).drew ≡ held
   draw_drew AtRest = refl
   draw_drew (Planned rows) = refl
@@ -162,13 +175,14 @@ others_part start history words value worker p e differ own = record {
   seen = (own.seen.0 ++ e ∷ [], ap (λ l. l ++ e ∷ []) own.seen.1 ∙ append_assoc p.seen own.seen.0 (e ∷ []));
   mine = own_same worker history e differ ∙ own.mine;
   few = own.few;
+  room = own.room ∙ sym (length-set words 0 value);
   owed = owed_on start history p.mine p.pending e own.owed;
   count = λ n c. get_or-set_other words 0 2 value 0 (λ same. omega arith) ∙ own.count n c;
   sequence = λ n c. get_or-set_other words 0 1 value 0 (λ same. omega arith) ∙ own.sequence n c;
 }
 
 own_part : (start : List Areas) (history : List Entry) (state left : List Areas) (words : List ℕ) (value worker : ℕ)
-    (p : Pass) (e : Entry) (pending : Pending) (held : Option Held) → e.worker ≡ worker → length p.mine + 1 < 2 ^ 32
+    (p : Pass) (e : Entry) (pending : Pending) (held : Option Held) → e.worker ≡ worker → length p.mine + 1 ≤ p.most
     → Runs 0 start history state → IsRight state e.call e.reply e.under left → Leaves state e.under pending left
     → IsPart start history words worker p
     → IsPart start (history ++ e ∷ []) (set words 0 value) worker (after_draw history e pending held p)
@@ -177,6 +191,7 @@ own_part start history state left words value worker p e AtRest held is few runs
   seen = ([], sym (append-nil (history ++ e ∷ [])));
   mine = own_more worker history e is ∙ ap (λ l. l ++ e ∷ []) own.mine;
   few = let l = length-append p.mine (e ∷ []) in omega arith;
+  room = own.room ∙ sym (length-set words 0 value);
   owed = tt;
   count = λ n none. absurd (none_is n none);
   sequence = λ n none. absurd (none_is n none);
@@ -186,6 +201,7 @@ own_part start history state left words value worker p e (Planned rows) held is 
   seen = ([], sym (append-nil (history ++ e ∷ [])));
   mine = own_more worker history e is ∙ ap (λ l. l ++ e ∷ []) own.mine;
   few = let l = length-append p.mine (e ∷ []) in omega arith;
+  room = own.room ∙ sym (length-set words 0 value);
   owed = last_drawn start history p.mine state left (Planned rows) e runs right leaves;
   count = λ n c. get_or-set_other words 0 2 value 0 (λ same. omega arith) ∙ own.count n c;
   sequence = λ n c. get_or-set_other words 0 1 value 0 (λ same. omega arith) ∙ own.sequence n c;
@@ -195,6 +211,7 @@ own_part start history state left words value worker p e (OneRow c) held is few 
   seen = ([], sym (append-nil (history ++ e ∷ [])));
   mine = own_more worker history e is ∙ ap (λ l. l ++ e ∷ []) own.mine;
   few = let l = length-append p.mine (e ∷ []) in omega arith;
+  room = own.room ∙ sym (length-set words 0 value);
   owed = last_drawn start history p.mine state left (OneRow c) e runs right leaves;
   count = λ n k. get_or-set_other words 0 2 value 0 (λ same. omega arith) ∙ own.count n k;
   sequence = λ n k. get_or-set_other words 0 1 value 0 (λ same. omega arith) ∙ own.sequence n k;
@@ -231,7 +248,7 @@ module _ (grants : Grants) (start : List Areas) (history : List Entry) (state le
     (exclusive : IsExclusive grants) (has : get_elem? grants worker ≡ some held) (holds : HoldsFor held e.under)
     (at : get_elem? passes worker ≡ some p) (num : e.number ≡ length history) (is : e.worker ≡ worker)
     (leaves : Leaves state e.under pending left) (rest : p.pending ≡ AtRest) where
-  pub drawn : IsNamedCall e.call → FitsUnder state e.call e.under → Answers state e.call e.reply left → length p.mine + 1 < 2 ^ 32
+  pub drawn : IsNamedCall e.call → FitsUnder state e.call e.under → Answers state e.call e.reply left → length p.mine + 1 ≤ p.most
       → IsRunningSpace start (history ++ e ∷ []) left (words_after words (adds 0 1)) (set passes worker (after_draw history e pending held p))
   drawn call fits answers few =
       let q : Pass = after_draw history e pending held p in
@@ -242,8 +259,9 @@ module _ (grants : Grants) (start : List Areas) (history : List Entry) (state le
       let s = planned_set passes worker p q at in let z = resting_of p.pending rest in
       let c = ap planned_calls (draw_pending history e held p pending) in omega arith in
       let grown : length q.mine ≡ length p.mine + 1 = ap length (draw_mine history e held p pending) ∙ length-append p.mine (e ∷ []) in
-      let room = r.room in
+      let fits_rows = rows_fit start history state words passes r in
       let there : 0 < length words = omega arith in
+      let rows_more = spare_rows state e.call e.reply left r.in_order answers in
       record {
         callers = let c = r.callers in omega arith;
         runs = runs_more history 0 start state left e r.runs (let z : length history ≡ 0 + length history = omega arith in num ∙ z) fits answers;
@@ -252,12 +270,15 @@ module _ (grants : Grants) (start : List Areas) (history : List Entry) (state le
         in_order = leaves_areas state e.call e.reply left r.in_order answers;
         named = left_named state left e.call e.reply r.named call answers;
         limit = left_few state left e.call e.reply r.limit answers;
+        grown = let g = r.grown in omega arith;
         number = let g : slice_index (set words 0 value) 0 ≡ value = get_or-set_same words 0 value 0 there in let n = r.number in
             let w = no_wrap start history state words passes r in omega arith;
         sequence = let g : slice_index (set words 0 value) 1 ≡ slice_index words 1 =
             get_or-set_other words 0 1 value 0 (λ same. omega arith) in let s = r.sequence in let m = whole_more history e in
             let c = leaves_counts state left e.under pending leaves in omega arith;
-        room = length-set words 0 value ∙ r.room;
+        small = let m = most_set passes worker p q at (draw_most history e held p pending) in let f = r.small in omega arith;
+        room = room_kept words (set words 0 value) (row_count start) passes worker p q at (draw_most history e held p pending)
+            (length-set words 0 value) r.room;
         rows = λ none. shown_drawn grants history state left words passes worker value p e pending held backed exclusive has holds
             at rest leaves (omega arith) (r.rows (omega arith));
         parts = λ other x there. ⊎_elim
@@ -269,6 +290,22 @@ module _ (grants : Grants) (start : List Areas) (history : List Entry) (state le
         no_other = λ other le. let b = below passes worker p at in own_same other history e (λ w. omega arith) ∙ r.no_other other (omega arith);
         total = let s = count_set passes worker p q 1 at grown in let t = r.total in omega arith;
       }
+
+-- there is room for what a draw leaves to be written
+pub plan_fits : (start : List Areas) (history : List Entry) (state left : List Areas) (words : List ℕ) (passes : List Pass)
+    (worker : ℕ) (p : Pass) (call : Call) (reply : Reply) (under : Under) (pending : Pending)
+    → IsRunningSpace start history state words passes → get_elem? passes worker ≡ some p → length p.mine + 1 ≤ p.most
+    → Answers state call reply left → Leaves state under pending left → FitsIn pending p.room
+plan_fits start history state left words passes worker p call reply under AtRest r at few answers leaves = tt
+plan_fits start history state left words passes worker p call reply under (Planned rows) r at few answers leaves =
+    let plan = leaves_plan state left under rows leaves in
+    let long = plan_length rows left (leaves_areas state call reply left r.in_order answers) plan.1 in
+    let more = spare_rows state call reply left r.in_order answers in
+    let limit = left_few state left call reply r.limit answers in
+    let room = (r.parts worker p at).room in
+    let fits = rows_fit_more start history state words passes worker (row_count left) p r at few more limit in
+    omega arith
+plan_fits start history state left words passes worker p call reply under (OneRow c) r at few answers leaves = tt
 
 -- the rule's part on grants, after a draw
 module _ (grants : Grants) (state left : List Areas) (words : List ℕ) (value : ℕ) where

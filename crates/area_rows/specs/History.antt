@@ -2,10 +2,10 @@
 -- rows stand for the state after it. It is stored in the callers' lists, by number, so it isn't just some history that
 -- exists. It is legal as a sequential history of an object (Herlihy and Wing, TOPLAS 1990), and each entry was
 -- numbered under the range that it names.
-use Rattle.std.specs.Prelude.{ℕ, ◌≡◌, ◌<◌, ◌≤◌, ◌+◌, ◌^◌, ◌==◌, ◌⊎◌, All, Option, Some, None, List, [], ◌∷◌, ◌++◌, not, filter, length, slice_index, sum_by}
+use Rattle.std.specs.Prelude.{ℕ, ◌≡◌, ◌<◌, ◌≤◌, ◌+◌, ◌-◌, ◌*◌, ◌^◌, ◌==◌, ◌⊎◌, All, Option, Some, None, List, [], ◌∷◌, ◌++◌, not, filter, length, slice_index, sum_by}
 use mathlib.Core.Option.{some}
 use lib.ListN.{get_elem?}
-use Rattle.page_types.specs.declared.TheConstants.{LIMIT, ROWS}
+use Rattle.page_types.specs.declared.TheConstants.{LIMIT, ROWS, SPARE}
 use Rattle.page_types.specs.declared.calls.Call.{Call}
 use Rattle.page_types.specs.declared.calls.Kind.{Kind}
 use Rattle.page_types.specs.declared.calls.Reply.{Reply}
@@ -67,6 +67,19 @@ own_count pass = length pass.mine
 abbrev pub entry_count : List Pass → ℕ
 entry_count passes = sum_by own_count passes
 
+-- how many entries a caller may have
+abbrev pub own_most : Pass → ℕ
+own_most pass = pass.most
+
+-- how many the callers may have together
+abbrev pub most_count : List Pass → ℕ
+most_count passes = sum_by own_most passes
+
+-- so many client words have room for as many rows as there may be, or for those of the start and SPARE more for each
+-- entry that the callers may have
+abbrev pub HasRoom : ℕ → ℕ → ℕ → Type 0
+HasRoom wide rows most = (19 + ROWS ≤ wide) ⊎ (19 + (rows + SPARE * most) ≤ wide)
+
 -- what a caller has read of the row count under its range is so
 abbrev pub StillCounts : List ℕ → Option ℕ → Type 0
 StillCounts words count = (n : ℕ) → count ≡ Some n → slice_index words 2 ≡ n
@@ -97,6 +110,12 @@ Leaves state (Reader span) (OneRow change) left = ⊥
 Leaves state (Area span) (OneRow change) left = IsChange state span change left
 Leaves state Whole (OneRow change) left = ⊥
 
+-- there is room for the rows that are to be written
+abbrev pub FitsIn : Pending → ℕ → Type 0
+FitsIn AtRest room = Unit {0}
+FitsIn (Planned rows) room = length rows ≤ room
+FitsIn (OneRow change) room = Unit {0}
+
 -- what is to be written is what one entry leaves: the last one of its caller. The entries before it lead to a state at
 -- which it is right, and from that state to the one that it leaves the change is the one that is to be written
 pub record IsOfLastEntry (start : List Areas) (history : List Entry) (mine : List Entry) (pending : Pending) : Type 0 where
@@ -120,13 +139,14 @@ IsOwed start history mine (Planned rows) = IsOfLastEntry start history mine (Pla
 IsOwed start history mine (OneRow change) = IsOfLastEntry start history mine (OneRow change)
 
 -- one caller's part: it began with the same areas, has seen a beginning of the history, stores just its own entries,
--- below 2^32 of them, what it has to write is what the last of these leaves, and what it has read of the row count and
--- the sequence word is still so
+-- no more of them than it may have, knows the room for rows, what it has to write is what the last of these entries
+-- leaves, and what it has read of the row count and the sequence word is still so
 pub record IsPart (start : List Areas) (history : List Entry) (words : List ℕ) (worker : ℕ) (pass : Pass) : Type 0 where
   pub began : pass.start ≡ start
   pub seen : StartsWith history pass.seen
   pub mine : entries_of worker history ≡ pass.mine
-  pub few : length pass.mine < 2 ^ 32
+  pub few : length pass.mine ≤ pass.most
+  pub room : 19 + pass.room ≡ length words
   pub owed : IsOwed start history pass.mine pass.pending
   pub count : StillCounts words pass.count
   pub sequence : StillRaised words pass.sequence
@@ -179,9 +199,12 @@ pub record IsRunningSpace (start : List Areas) (history : List Entry) (state : L
   pub in_order : IsAreaList state
   pub named : HasNamedKinds state
   pub limit : row_count state ≤ ROWS
+  -- each entry has made SPARE rows more at most
+  pub grown : row_count state ≤ row_count start + SPARE * length history
   pub number : slice_index words 0 ≡ length history
   pub sequence : slice_index words 1 + planned_count passes ≡ whole_count history
-  pub room : length words ≡ 3 + ROWS
+  pub small : most_count passes < 2 ^ 40
+  pub room : HasRoom (length words) (row_count start) (most_count passes)
   pub rows : planned_count passes ≡ 0 → RowsStandFor state passes words
   pub parts : (worker : ℕ) (pass : Pass) → get_elem? passes worker ≡ some pass → IsPart start history words worker pass
   -- no entry is of another caller
@@ -224,10 +247,13 @@ abbrev pub HasHistory : Grants → List ℕ → List Pass → Type 0
 HasHistory grants words passes = (start : List Areas) × (history : List Entry) × (state : List Areas)
     × IsRunningSpace start history state words passes × AreBacked grants words state passes
 
--- the pass of a new caller, over the client words of the opening
-abbrev pub newcomer : List ℕ → Pass
-newcomer words = record {
+-- the pass of the new caller of that number, over the client words of the opening, whose last sixteen say how many
+-- entries each caller may have
+abbrev pub newcomer : List ℕ → ℕ → Pass
+newcomer words number = record {
   start = areas_from (rows_in words);
+  room = length words - 19;
+  most = slice_index words (length words - 16 + number);
   seen = [];
   mine = [];
   count = None;
@@ -315,6 +341,8 @@ after_store index word p = record p { rows = record { index = index; word = word
 abbrev pub after_draw : List Entry → Entry → Pending → Option Held → Pass → Pass
 after_draw history e AtRest held p = record {
   start = p.start;
+  room = p.room;
+  most = p.most;
   seen = history ++ e ∷ [];
   mine = p.mine ++ e ∷ [];
   count = None;
@@ -326,6 +354,8 @@ after_draw history e AtRest held p = record {
 }
 after_draw history e (Planned rows) held p = record {
   start = p.start;
+  room = p.room;
+  most = p.most;
   seen = history ++ e ∷ [];
   mine = p.mine ++ e ∷ [];
   count = p.count;
@@ -337,6 +367,8 @@ after_draw history e (Planned rows) held p = record {
 }
 after_draw history e (OneRow change) held p = record {
   start = p.start;
+  room = p.room;
+  most = p.most;
   seen = history ++ e ∷ [];
   mine = p.mine ++ e ∷ [];
   count = p.count;
@@ -375,7 +407,7 @@ abbrev pub HoldsNothing : Grants → ℕ → Type 0
 HoldsNothing grants worker = get_elem? grants worker ≡ some None
 
 -- a draw of a number: the entry is right at the state, and what its call leaves is to be written; the range that it
--- names is held, nothing else is to be written, and the caller has fewer than 2^32 entries with it
+-- names is held, nothing else is to be written, and the caller has no more entries with it than it may have
 pub record MayDraw (grants : Grants) (words : List ℕ) (passes : List Pass) (worker : ℕ) (note : Note)
     (here : Here grants words passes worker) : Type 0 where
   pub left : List Areas
@@ -384,7 +416,7 @@ pub record MayDraw (grants : Grants) (words : List ℕ) (passes : List Pass) (wo
   pub leaves : Leaves here.state note.under note.pending left
   pub rest : IsAtRest here.pass
   pub held : (h : Option Held) × (get_elem? grants worker ≡ some h) × HoldsFor h note.under
-  pub few : length here.pass.mine + 1 < 2 ^ 32
+  pub few : length here.pass.mine + 1 ≤ here.pass.most
 
 -- the stores of a call under everything: a row of its plan, or the count of its rows
 pub data MayStore (rows : List ℕ) (place value : ℕ) (p after : Pass) : Type 0 where

@@ -72,23 +72,23 @@ module _ (mine : Option Held → Type 0) (free held : Type 0) (start : List Area
   loads_keep (number h o e is) =
       subst (λ (q : Pass). IsRunningSpace start history state words (set passes worker q)) (sym is)
       (replaced start history state words worker p (r.parts worker p at) passes (after_look history h p) r at
-      (looked start history state words worker p (r.parts worker p at) h) refl refl)
+      (looked start history state words worker p (r.parts worker p at) h) refl refl refl)
   loads_keep (glance f e is) =
       subst (λ (q : Pass). IsRunningSpace start history state words (set passes worker q)) (sym is)
-      (replaced start history state words worker p (r.parts worker p at) passes p r at (r.parts worker p at) refl refl)
+      (replaced start history state words worker p (r.parts worker p at) passes p r at (r.parts worker p at) refl refl refl)
   loads_keep (sequence h e is) =
       subst (λ (q : Pass). IsRunningSpace start history state words (set passes worker q)) (sym is)
       (replaced start history state words worker p (r.parts worker p at) passes (after_sequence (slice_index words 1) p) r at
-      (raised start history state words worker p (r.parts worker p at)) refl refl)
+      (raised start history state words worker p (r.parts worker p at)) refl refl refl)
   loads_keep (count h e is) =
       subst (λ (q : Pass). IsRunningSpace start history state words (set passes worker q)) (sym is)
       (replaced start history state words worker p (r.parts worker p at) passes (after_count (slice_index words 2) p) r at
-      (counted start history state words worker p (r.parts worker p at)) refl refl)
+      (counted start history state words worker p (r.parts worker p at)) refl refl refl)
   loads_keep (row index h few e is) =
       subst (λ (q : Pass). IsRunningSpace start history state words (set passes worker q)) (sym is)
       (replaced start history state words worker p (r.parts worker p at) passes
       (after_row index (slice_index words (3 + index)) p) r at
-      (read start history state words worker p (r.parts worker p at) index (slice_index words (3 + index))) refl refl)
+      (read start history state words worker p (r.parts worker p at) index (slice_index words (3 + index))) refl refl refl)
 
 adds_keep : (grants : Grants) (words : List ℕ) (passes : List Pass) (worker : ℕ) (note : Note)
     (here : Here grants words passes worker) (place : ℕ) (after : Pass) → MayAdd grants words passes worker note here place after
@@ -223,7 +223,7 @@ losses_keep grants words passes seat p kept at rest =
       kept.1,
       kept.2,
       replaced kept.0 kept.1 kept.2 words seat p (r.parts seat p at) passes (rest_of p) r at
-          (rested kept.0 kept.1 kept.2 words seat p (r.parts seat p at)) refl refl,
+          (rested kept.0 kept.1 kept.2 words seat p (r.parts seat p at)) refl refl refl,
       λ other x there. ⊎_elim
           (λ t. subst (λ (z : ℕ × Pass). IsBacked (set grants seat None) words kept.2 z.0 z.1) (λ i. (sym t.0 i, t.1 i))
           (record {

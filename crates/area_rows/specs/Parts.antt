@@ -1,7 +1,7 @@
 -- How many entries and how many unwritten calls the callers have together, and one caller's part of the rule, after its
 -- pass has changed. These are parts of the proofs in `Keeping`; a reader who trusts the check may pass them over.
 use Rattle.std.specs.Prelude.{Option, Some, None, slice_index, sum_by}
-use Rattle.std.proofs.Common.{◌≡◌, ◌≢◌, ℕ, suc, ◌+◌, ◌*◌, ◌^◌, ◌<◌, ◌≤◌, Bool, true, false, cond, eqb, List, [], ◌∷◌}
+use Rattle.std.proofs.Common.{◌≡◌, ◌≢◌, ℕ, suc, ◌+◌, ◌^◌, ◌<◌, ◌≤◌, inl, inr, Bool, true, false, cond, eqb, List, [], ◌∷◌}
 use Rattle.std.proofs.Common.{◌++◌, length, set, sym, refl, ap, ◌∙◌, subst, arith, length-set, eq-eqb, ne_eqb, ⊎_elim}
 use Rattle.std.proofs.lemmas.List.{append-nil, get_or-set_same, get_or-set_other}
 use Rattle.std.proofs.lemmas.List.Sums.{sum_by-cons, sum_by-set}
@@ -9,6 +9,11 @@ use mathlib.Core.Option.{some}
 use lib.ListN.{get_elem?}
 use Rattle.atomic_table.proofs.Lists.{at_set}
 use Rattle.lock_core.proofs.ByPlace.{below, at_or}
+use Rattle.page_types.specs.declared.TheConstants.{ROWS, SPARE}
+use Rattle.page_types.specs.declared.calls.Call.TheVariants.{Fault}
+use Rattle.page_types.specs.declared.calls.Reply.TheVariants.{Zero}
+use Rattle.page_types.specs.declared.sets.Access.TheVariants.{Read}
+use Rattle.space_model.specs.Areas.{row_count}
 use Rattle.space_model.specs.declared.areas.Area.{Area as Areas}
 use Rattle.space_model.specs.declared.entries.Entry.{Entry}
 use Rattle.space_model.specs.declared.entries.Under.{Under}
@@ -17,7 +22,7 @@ use Rattle.lock_core.specs.declared.range.Held.{Held}
 use Rattle.area_rows.specs.declared.guard.Pass.{Pass}
 use Rattle.area_rows.specs.declared.guard.Pending.{Pending}
 use Rattle.area_rows.specs.declared.guard.Pending.TheVariants.{AtRest, Planned}
-use Rattle.area_rows.specs.History.{entries_of, with_whole, whole_count, own_count, entry_count, IsPart, planned_calls}
+use Rattle.area_rows.specs.History.{entries_of, with_whole, whole_count, own_count, entry_count, own_most, most_count, HasRoom, IsPart, planned_calls}
 use Rattle.area_rows.specs.History.{own_planned, planned_count, RowsStandFor, IsRunningSpace, HasReadNothing, rest_of}
 use Rattle.area_rows.specs.History.{after_look, after_count, after_sequence, after_row, after_store, after_raise}
 use Rattle.area_rows.specs.History.{after_change}
@@ -37,6 +42,10 @@ own_same worker (x ∷ xs) e not = keep_end (eqb x.worker worker) x (entries_of 
     (own_same worker xs e not ∙ sym (append-nil (entries_of worker xs)))
     ∙ append-nil (cond (eqb x.worker worker) (x ∷ entries_of worker xs) (entries_of worker xs))
 
+-- some entry
+no_entry : Entry
+no_entry = record { number = 0; worker = 0; line = 0; call = Fault 0 Read; reply = Zero; under = Nothing }
+
 -- a sum over the callers, after one caller's pass has changed
 sum_set : (f : Pass → ℕ) (passes : List Pass) (worker : ℕ) (p q : Pass) → get_elem? passes worker ≡ some p
     → sum_by f (set passes worker q) + f p ≡ sum_by f passes + f q
@@ -50,16 +59,54 @@ pub count_set : (passes : List Pass) (worker : ℕ) (p q : Pass) (k : ℕ) → g
     → length q.mine ≡ length p.mine + k → entry_count (set passes worker q) ≡ entry_count passes + k
 count_set passes worker p q k at e = let s = sum_set own_count passes worker p q at in omega arith
 
-count_bound : (passes : List Pass) → ((worker : ℕ) (p : Pass) → get_elem? passes worker ≡ some p → length p.mine < 2 ^ 32)
-    → entry_count passes ≤ length passes * 2 ^ 32
-count_bound [] all = omega arith
-count_bound (x ∷ xs) all = let h = all 0 x refl in let r = count_bound xs (λ i p at. all (suc i) p at) in let s = sum_by-cons own_count x xs in omega arith
+-- how many entries the callers may have together, after one caller's pass has changed to one that may have as many
+pub most_set : (passes : List Pass) (worker : ℕ) (p q : Pass) → get_elem? passes worker ≡ some p → q.most ≡ p.most
+    → most_count (set passes worker q) ≡ most_count passes
+most_set passes worker p q at same = let s = sum_set own_most passes worker p q at in omega arith
 
--- the number word doesn't wrap: 16 callers have below 2^32 entries each
+-- so there is room as before, where there are as many words
+pub room_kept : (words others : List ℕ) (rows : ℕ) (passes : List Pass) (worker : ℕ) (p q : Pass) → get_elem? passes worker ≡ some p
+    → q.most ≡ p.most → length others ≡ length words → HasRoom (length words) rows (most_count passes)
+    → HasRoom (length others) rows (most_count (set passes worker q))
+room_kept words others rows passes worker p q at same wide room =
+    let m = most_set passes worker p q at same in
+    ⊎_elim (λ all. inl (omega arith)) (λ some_rows. inr (omega arith)) room
+
+-- the callers' entries together are no more than they may have
+count_most : (passes : List Pass) → ((worker : ℕ) (p : Pass) → get_elem? passes worker ≡ some p → length p.mine ≤ p.most)
+    → entry_count passes ≤ most_count passes
+count_most [] all = omega arith
+count_most (x ∷ xs) all =
+    let h = all 0 x refl in let r = count_most xs (λ i p at. all (suc i) p at) in
+    let s = sum_by-cons own_count x xs in let t = sum_by-cons own_most x xs in omega arith
+
+-- there is room for the rows of the state
+pub rows_fit : (start : List Areas) (history : List Entry) (state : List Areas) (words : List ℕ) (passes : List Pass)
+    → IsRunningSpace start history state words passes → 19 + row_count state ≤ length words
+rows_fit start history state words passes r =
+    let b = count_most passes (λ i p at. (r.parts i p at).few) in let t = r.total in let g = r.grown in let l = r.limit in
+    ⊎_elim (λ all. omega arith) (λ some_rows. omega arith) r.room
+
+-- and for SPARE more, or as many as there may be, where a caller may have one entry more
+pub rows_fit_more : (start : List Areas) (history : List Entry) (state : List Areas) (words : List ℕ) (passes : List Pass)
+    (worker rows : ℕ) (p : Pass) → IsRunningSpace start history state words passes → get_elem? passes worker ≡ some p
+    → length p.mine + 1 ≤ p.most → rows ≤ row_count state + SPARE → rows ≤ ROWS → 19 + rows ≤ length words
+rows_fit_more start history state words passes worker rows p r at more few limit =
+    let own : Pass = record p { mine = no_entry ∷ p.mine } in
+    let all : (i : ℕ) (q : Pass) → get_elem? (set passes worker own) i ≡ some q → length q.mine ≤ q.most =
+    λ i q there. ⊎_elim (λ t. subst (λ (x : Pass). length x.mine ≤ x.most) t.1 (omega arith)) (λ t. (r.parts i q t.1).few)
+    (at_set passes worker i own q there) in
+    let b = count_most (set passes worker own) all in
+    let c = count_set passes worker p own 1 at (omega arith) in
+    let m = most_set passes worker p own at refl in
+    let t = r.total in let g = r.grown in
+    ⊎_elim (λ all_rows. omega arith) (λ some_rows. omega arith) r.room
+
+-- the number word doesn't wrap: the callers may have fewer than 2^40 entries together
 pub no_wrap : (start : List Areas) (history : List Entry) (state : List Areas) (words : List ℕ) (passes : List Pass)
     → IsRunningSpace start history state words passes → length history + 1 < 2 ^ 64
 no_wrap start history state words passes r =
-    let b = count_bound passes (λ i p at. (r.parts i p at).few) in let t = r.total in let c = r.callers in omega arith
+    let b = count_most passes (λ i p at. (r.parts i p at).few) in let t = r.total in let m = r.small in omega arith
 
 -- one entry more under everything, or not
 with_more : (u : Under) (n k : ℕ) → with_whole u (n + k) ≡ with_whole u n + k
@@ -107,12 +154,13 @@ none_is a e = cc
 
 -- the part of a caller that has read nothing of what changes
 pub blank_part : (start : List Areas) (history : List Entry) (words others : List ℕ) (worker : ℕ) (x : Pass) → HasReadNothing x
-    → IsPart start history words worker x → IsPart start history others worker x
-blank_part start history words others worker x n own = record {
+    → length others ≡ length words → IsPart start history words worker x → IsPart start history others worker x
+blank_part start history words others worker x n wide own = record {
   began = own.began;
   seen = own.seen;
   mine = own.mine;
   few = own.few;
+  room = own.room ∙ sym wide;
   owed = own.owed;
   count = λ m e. absurd (none_is m (sym n.0 ∙ e));
   sequence = λ m e. absurd (none_is m (sym n.2 ∙ e));
@@ -126,6 +174,7 @@ beside_part start history words worker index value x own = record {
   seen = own.seen;
   mine = own.mine;
   few = own.few;
+  room = own.room ∙ sym (length-set words (3 + index) value);
   owed = own.owed;
   count = λ n e. get_or-set_other words (3 + index) 2 value 0 (λ same. omega arith) ∙ own.count n e;
   sequence = λ n e. get_or-set_other words (3 + index) 1 value 0 (λ same. omega arith) ∙ own.sequence n e;
@@ -139,6 +188,7 @@ module _ (start : List Areas) (history : List Entry) (state : List Areas) (words
     seen = ([], sym (append-nil history));
     mine = own.mine;
     few = own.few;
+    room = own.room;
     owed = own.owed;
     count = own.count;
     sequence = own.sequence;
@@ -150,6 +200,7 @@ module _ (start : List Areas) (history : List Entry) (state : List Areas) (words
     seen = own.seen;
     mine = own.mine;
     few = own.few;
+    room = own.room;
     owed = own.owed;
     count = λ n e. some_is (slice_index words 2) n e;
     sequence = own.sequence;
@@ -161,13 +212,23 @@ module _ (start : List Areas) (history : List Entry) (state : List Areas) (words
     seen = own.seen;
     mine = own.mine;
     few = own.few;
+    room = own.room;
     owed = own.owed;
     count = own.count;
     sequence = λ n e. some_is (slice_index words 1) n e;
   }
 
   pub read : (index word : ℕ) → IsPart start history words worker (after_row index word p)
-  read index word = record { began = own.began; seen = own.seen; mine = own.mine; few = own.few; owed = own.owed; count = own.count; sequence = own.sequence }
+  read index word = record {
+    began = own.began;
+    seen = own.seen;
+    mine = own.mine;
+    few = own.few;
+    room = own.room;
+    owed = own.owed;
+    count = own.count;
+    sequence = own.sequence;
+  }
 
   pub rested : IsPart start history words worker (rest_of p)
   rested = record {
@@ -175,6 +236,7 @@ module _ (start : List Areas) (history : List Entry) (state : List Areas) (words
     seen = own.seen;
     mine = own.mine;
     few = own.few;
+    room = own.room;
     owed = own.owed;
     count = λ n e. absurd (none_is n e);
     sequence = λ n e. absurd (none_is n e);
@@ -186,6 +248,7 @@ module _ (start : List Areas) (history : List Entry) (state : List Areas) (words
     seen = own.seen;
     mine = own.mine;
     few = own.few;
+    room = own.room ∙ sym (length-set words (3 + index) value);
     owed = own.owed;
     count = λ n e. get_or-set_other words (3 + index) 2 value 0 (λ same. omega arith) ∙ own.count n e;
     sequence = λ n e. get_or-set_other words (3 + index) 1 value 0 (λ same. omega arith) ∙ own.sequence n e;
@@ -197,6 +260,7 @@ module _ (start : List Areas) (history : List Entry) (state : List Areas) (words
     seen = own.seen;
     mine = own.mine;
     few = own.few;
+    room = own.room ∙ sym (length-set words 2 value);
     owed = own.owed;
     count = λ n e. get_or-set_same words 2 value 0 there ∙ some_is value n e;
     sequence = λ n e. get_or-set_other words 2 1 value 0 (λ same. omega arith) ∙ own.sequence n e;
@@ -208,27 +272,29 @@ module _ (start : List Areas) (history : List Entry) (state : List Areas) (words
     seen = own.seen;
     mine = own.mine;
     few = own.few;
+    room = own.room ∙ sym (length-set words 1 value);
     owed = tt;
     count = λ n e. get_or-set_other words 1 2 value 0 (λ same. omega arith) ∙ own.count n e;
     sequence = λ n e. absurd (none_is n e);
   }
 
-  pub changed : (others : List ℕ) → IsPart start history others worker (after_change p)
-  changed others = record {
+  pub changed : (others : List ℕ) → length others ≡ length words → IsPart start history others worker (after_change p)
+  changed others wide = record {
     began = own.began;
     seen = own.seen;
     mine = own.mine;
     few = own.few;
+    room = own.room ∙ sym wide;
     owed = tt;
     count = λ n e. absurd (none_is n e);
     sequence = λ n e. absurd (none_is n e);
   }
 
-  -- another pass of this caller with as many entries and as much to write
+  -- another pass of this caller with as many entries, as many that it may have, and as much to write
   pub replaced : (passes : List Pass) (q : Pass) → IsRunningSpace start history state words passes
       → get_elem? passes worker ≡ some p → IsPart start history words worker q → length q.mine ≡ length p.mine
-      → q.pending ≡ p.pending → IsRunningSpace start history state words (set passes worker q)
-  replaced passes q r at part same pends =
+      → q.most ≡ p.most → q.pending ≡ p.pending → IsRunningSpace start history state words (set passes worker q)
+  replaced passes q r at part same may pends =
       let wide : length (set passes worker q) ≡ length passes = length-set passes worker q in
       let pending : planned_count (set passes worker q) ≡ planned_count passes = let s = planned_set passes worker p q at in
       let t = ap planned_calls pends in omega arith in
@@ -240,9 +306,11 @@ module _ (start : List Areas) (history : List Entry) (state : List Areas) (words
         in_order = r.in_order;
         named = r.named;
         limit = r.limit;
+        grown = r.grown;
         number = r.number;
         sequence = ap (λ n. slice_index words 1 + n) pending ∙ r.sequence;
-        room = r.room;
+        small = let m = most_set passes worker p q at may in let f = r.small in omega arith;
+        room = room_kept words words (row_count start) passes worker p q at may refl r.room;
         rows = λ none. let s : RowsStandFor state passes words = r.rows (sym pending ∙ none) in (s.0, shown_set state passes worker p q s.0 at pends s.1, s.2);
         parts = λ other x there. ⊎_elim
             (λ t. subst (λ (z : ℕ × Pass). IsPart start history words z.0 z.1) (λ i. (sym t.0 i, t.1 i)) part)

@@ -5,7 +5,7 @@ use Rattle.std.proofs.Common.{◌≡◌, ◌≤◌, Bool, true, false, not, List
 use Rattle.std.proofs.lemmas.List.Elements.{All-cons, All-head, All-tail}
 use Rattle.page_types.specs.declared.TheConstants.{LIMIT, ROWS}
 use Rattle.page_types.specs.declared.calls.Call.{Call}
-use Rattle.page_types.specs.declared.calls.Call.TheVariants.{Map, Unmap, Protect, Fault, Seal}
+use Rattle.page_types.specs.declared.calls.Call.TheVariants.{Map, Unmap, Protect, Fault, Seal, Brk, Remap}
 use Rattle.page_types.specs.declared.calls.Reply.{Reply}
 use Rattle.page_types.specs.declared.calls.Reply.TheVariants.{Zero, Refused}
 use Rattle.page_types.specs.declared.calls.Why.TheVariants.{Einval, Enomem, MapErr}
@@ -59,6 +59,15 @@ plain_named (Seal addr len flags) reply e = first_named
     (len == 0, Zero) ∷
     (not (flags == 0), Refused (Einval Flags)) ∷
     (nat_lt LIMIT (end_page addr len), Refused (Enomem (PastEnd (end_page addr len)))) ∷ []) reply (tt, (tt, (tt, (tt, tt)))) e
+plain_named (Brk base addr) reply e = first_named
+    ((base == 0, Refused (Einval Addr)) ∷
+    (not (is_aligned base), Refused (Einval Addr)) ∷
+    (nat_le LIMIT (page_of base), Refused (Einval Addr)) ∷ []) reply (tt, (tt, (tt, tt))) e
+plain_named (Remap addr old new may hint) reply e = first_named
+    ((not (is_aligned addr), Refused (Einval Addr)) ∷
+    (old == 0, Refused (Einval Len)) ∷
+    (new == 0, Refused (Einval Len)) ∷
+    (nat_lt LIMIT (end_page addr old), Refused (Einval End)) ∷ []) reply (tt, (tt, (tt, (tt, tt)))) e
 
 -- where the state's kinds have named bits alone so has the reply
 pub reply_named : (A B : List Area) (c : Call) (reply : Reply) → HasNamedKinds A → Answers A c reply B → IsNamedReply reply
@@ -75,7 +84,7 @@ left_named A B c reply named call (by_arguments decided same) = subst HasNamedKi
 left_named A B c reply named call (refused why none refuses is same) = subst HasNamedKinds (sym same) named
 left_named A B c reply named call (kept none keeps same) = subst HasNamedKinds (sym same) named
 left_named A B c reply named call (done patches full none does kinds few) =
-    named-after A B patches named (paints-named (kind_at A) c patches reply full call does) kinds
+    named-after A B patches named (paints-named (kind_at A) c patches reply full (λ page. named_at A page named) call does) kinds
 left_named A B c reply named call (too_many_rows patches said full C none does kinds many is same) = subst HasNamedKinds (sym same) named
 
 -- and what it leaves has no more rows than there is room for

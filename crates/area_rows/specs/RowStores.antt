@@ -17,7 +17,7 @@ use Rattle.page_types.specs.declared.calls.Kind.{Kind}
 use Rattle.page_types.specs.declared.pages.Span.{Span}
 use Rattle.space_model.specs.declared.areas.Area.{Area as Areas}
 use Rattle.space_model.specs.declared.entries.Entry.{Entry}
-use Rattle.space_model.specs.Areas.{kind_at}
+use Rattle.space_model.specs.Areas.{kind_at, row_count}
 use Rattle.space_model.proofs.Changing.{within-before, within-inside, within-after}
 use Rattle.lock_core.specs.Grants.{Grants, Holds, IsExclusive}
 use Rattle.lock_core.specs.declared.range.Held.{Held}
@@ -29,7 +29,7 @@ use Rattle.area_rows.specs.Reads.{IsHeldPage, StillStands}
 use Rattle.area_rows.specs.Changes.{IsIn, alone, new_word, IsInside, with_change, IsChange, MayReplace}
 use Rattle.area_rows.specs.History.{IsPart, planned_calls, planned_count, LagsAt, ShowsBefore, IsShown, RowsStandFor}
 use Rattle.area_rows.specs.History.{IsRunningSpace, Backs, IsBacked, AreBacked, HasReadNothing, after_change}
-use Rattle.area_rows.specs.Parts.{some_is, count_set, planned_set, beside_part, changed}
+use Rattle.area_rows.specs.Parts.{some_is, count_set, most_set, room_kept, planned_set, beside_part, changed}
 use Rattle.area_rows.specs.Writes.{span_pages, clash}
 use Rattle.area_rows.specs.Beside.{apart_pages, all_stand_on}
 
@@ -181,16 +181,20 @@ module _ (grants : Grants) (start : List Areas) (history : List Entry) (state : 
         in_order = r.in_order;
         named = r.named;
         limit = r.limit;
+        grown = r.grown;
         number = get_or-set_other words (3 + c.index) 0 value 0 (λ e. omega arith) ∙ r.number;
         sequence = ap (λ n. n + planned_count (set passes worker q))
             (get_or-set_other words (3 + c.index) 1 value 0 (λ e. omega arith))
             ∙ (ap (λ n. slice_index words 1 + n) pending ∙ r.sequence);
-        room = length-set words (3 + c.index) value ∙ r.room;
+        small = let m = most_set passes worker p q at refl in let f = r.small in omega arith;
+        room = room_kept words (set words (3 + c.index) value) (row_count start) passes worker p q at refl
+            (length-set words (3 + c.index) value) r.room;
         rows = λ no_plan. let s : RowsStandFor state passes words = r.rows (sym pending ∙ no_plan) in
             (with_change c s.0, shown_after_store s.0 s.1, may.shows s.0 s.2);
         parts = λ other x there. ⊎_elim
             (λ t. subst (λ (z : ℕ × Pass). IsPart start history (set words (3 + c.index) value) z.0 z.1) (λ i. (sym t.0 i, t.1 i))
-            (changed start history state words worker p (r.parts worker p at) (set words (3 + c.index) value)))
+            (changed start history state words worker p (r.parts worker p at) (set words (3 + c.index) value)
+            (length-set words (3 + c.index) value)))
             (λ t. beside_part start history words other c.index value x (r.parts other x t.1))
             (at_set passes worker other q x there);
         no_other = λ other le. r.no_other other (omega arith);
@@ -202,13 +206,12 @@ module _ (grants : Grants) (start : List Areas) (history : List Entry) (state : 
       → IsBacked grants (set words (3 + c.index) (new_word c)) state other x
   stood_beside may other x differ there =
       let b = backed other x there in
-      let room = r.room in let few = may.there in
       record {
         reads = b.reads;
         rows = λ held has. ⊎_elim
             (λ n. subst (All (StillStands held (set words (3 + c.index) (new_word c)))) (sym n.1)
             (All-nil (StillStands held (set words (3 + c.index) (new_word c)))))
-            (λ low. all_stand_on held words c may (omega arith) low
+            (λ low. all_stand_on held words c may may.there low
             (λ page h i. apart_pages grants worker other c.span exclusive differ change_backs.0 held has page h i) x.rows
             (b.rows held has))
             (held_below grants words state other x b held has);

@@ -12,7 +12,7 @@ use Rattle.page_types.specs.declared.calls.Kind.{Kind}
 use Rattle.page_types.specs.declared.pages.Span.{Span}
 use Rattle.space_model.specs.declared.areas.Area.{Area as Areas}
 use Rattle.space_model.specs.declared.entries.Entry.{Entry}
-use Rattle.space_model.specs.Areas.{kind_at}
+use Rattle.space_model.specs.Areas.{IsAreaList, kind_at, row_count}
 use Rattle.lock_core.specs.Grants.{Grants, Holds, IsExclusive}
 use Rattle.lock_core.specs.Client.{adds, words_after}
 use Rattle.lock_core.specs.declared.range.Held.{Held}
@@ -21,6 +21,9 @@ use Rattle.area_rows.specs.declared.guard.Pending.{Pending}
 use Rattle.area_rows.specs.declared.guard.Pending.TheVariants.{AtRest, Planned, OneRow}
 use Rattle.area_rows.specs.Rows.{RowsShow}
 use Rattle.row_plans.specs.Plans.{PlanShows}
+use Rattle.row_plans.specs.RowLists.{areas_from}
+use Rattle.row_plans.proofs.PlanLeft.{counted_rows}
+use Rattle.row_plans.proofs.RowLists.{areas_back}
 use Rattle.area_rows.specs.Reads.{everything, StillStands}
 use Rattle.area_rows.specs.Changes.{alone}
 use Rattle.area_rows.specs.History.{IsPart, planned_calls, planned_count, ShowsBefore, IsShown, IsRunningSpace}
@@ -28,7 +31,8 @@ use Rattle.area_rows.specs.History.{HasPages, HoldsPages, HasReadNothing, Backs,
 use Rattle.area_rows.specs.History.{after_store, after_raise, MayStore}
 use Rattle.area_rows.specs.History.MayStore.{store_row, store_count}
 use Rattle.area_rows.specs.Stands.{all_stand, same_low, low_rows, stored_all, counted_all}
-use Rattle.area_rows.specs.Parts.{count_set, no_wrap, whole_few, planned_set, planned_le, planned_of, blank_part, stored, stored_count, raised_after}
+use Rattle.area_rows.specs.Parts.{count_set, most_set, room_kept, rows_fit, no_wrap, whole_few, planned_set, planned_le, planned_of, blank_part}
+use Rattle.area_rows.specs.Parts.{stored, stored_count, raised_after}
 
 -- who holds everything as a writer holds pages alone, and nobody else does
 pub everything_pages : HasPages everything
@@ -70,6 +74,12 @@ blank_backed grants words others state worker x n b = record {
 pub held_is : (grants : Grants) (worker : ℕ) (h : Held) (held : Option Held) → Holds grants worker h → get_elem? grants worker ≡ some held → held ≡ Some h
 held_is grants worker h held holds at = some-injective held (Some h) (sym at ∙ holds)
 
+-- rows that show an area list are as many as it has
+pub plan_length : (rows : List ℕ) (state : List Areas) → IsAreaList state → PlanShows rows (kind_at state) → length rows ≡ row_count state
+plan_length rows state in_order shows =
+    let back : areas_from rows ≡ state = areas_back rows state shows.show in_order in
+    counted_rows rows (subst (λ (A : List Areas). PlanShows rows (kind_at A)) (sym back) shows) ∙ ap row_count back
+
 -- a store by the caller of an unwritten call under everything
 module _ (grants : Grants) (start : List Areas) (history : List Entry) (state : List Areas) (words : List ℕ)
     (passes : List Pass) (worker : ℕ) (p : Pass) (rows : List ℕ)
@@ -84,13 +94,15 @@ module _ (grants : Grants) (start : List Areas) (history : List Entry) (state : 
   other_blank : (other : ℕ) (x : Pass) → other ≢ worker → get_elem? passes other ≡ some x → HasReadNothing x
   other_blank other x differ there = others_blank grants words state worker other x exclusive differ plan_held.0 (backed other x there)
 
-  other_part : (others : List ℕ) (other : ℕ) (x : Pass) → other ≢ worker → get_elem? passes other ≡ some x → IsPart start history others other x
-  other_part others other x differ there = blank_part start history words others other x (other_blank other x differ there) (r.parts other x there)
+  other_part : (others : List ℕ) (other : ℕ) (x : Pass) → length others ≡ length words → other ≢ worker → get_elem? passes other ≡ some x
+      → IsPart start history others other x
+  other_part others other x wide differ there =
+      blank_part start history words others other x (other_blank other x differ there) wide (r.parts other x there)
 
   store_keeps : (place value : ℕ) (q : Pass) → 1 < place → IsPart start history (set words place value) worker q
-      → length q.mine ≡ length p.mine → q.pending ≡ p.pending
+      → length q.mine ≡ length p.mine → q.most ≡ p.most → q.pending ≡ p.pending
       → IsRunningSpace start history state (set words place value) (set passes worker q)
-  store_keeps place value q high part same pended =
+  store_keeps place value q high part same may pended =
       let wide : length (set passes worker q) ≡ length passes = length-set passes worker q in
       let pending : planned_count (set passes worker q) ≡ planned_count passes = let s = planned_set passes worker p q at in
       let t = ap planned_calls pended in omega arith in
@@ -104,14 +116,16 @@ module _ (grants : Grants) (start : List Areas) (history : List Entry) (state : 
         in_order = r.in_order;
         named = r.named;
         limit = r.limit;
+        grown = r.grown;
         number = get_or-set_other words place 0 value 0 (λ e. omega arith) ∙ r.number;
         sequence = ap (λ n. n + planned_count (set passes worker q)) (get_or-set_other words place 1 value 0 (λ e. omega arith))
             ∙ (ap (λ n. slice_index words 1 + n) pending ∙ r.sequence);
-        room = length-set words place value ∙ r.room;
+        small = let m = most_set passes worker p q at may in let f = r.small in omega arith;
+        room = room_kept words (set words place value) (row_count start) passes worker p q at may (length-set words place value) r.room;
         rows = λ none. absurd (omega arith);
         parts = λ other x there. ⊎_elim
             (λ t. subst (λ (z : ℕ × Pass). IsPart start history (set words place value) z.0 z.1) (λ i. (sym t.0 i, t.1 i)) part)
-            (λ t. other_part (set words place value) other x t.0 t.1)
+            (λ t. other_part (set words place value) other x (length-set words place value) t.0 t.1)
             (at_set passes worker other q x there);
         no_other = λ other le. r.no_other other (omega arith);
         total = r.total ∙ (let s = count_set passes worker p q 0 at (omega arith) in omega arith);
@@ -133,20 +147,21 @@ module _ (grants : Grants) (start : List Areas) (history : List Entry) (state : 
       → IsRunningSpace start history state (set words place value) (set passes worker after)
       × AreBacked grants (set words place value) state (set passes worker after)
   stores_keep place value after (store_row index few e v is) =
-      let room = r.room in let plan = plan_held.1.few in
+      let fits = rows_fit start history state words passes r in
+      let plan = plan_length rows state r.in_order plan_held.1 in
       subst (λ (z : ℕ × Pass). IsRunningSpace start history state (set words z.0 value) (set passes worker z.1)
       × AreBacked grants (set words z.0 value) state (set passes worker z.1)) (λ i. (sym e i, sym is i)) (
         store_keeps (3 + index) value (after_store index value p) (omega arith)
-            (stored start history state words worker p (r.parts worker p at) index value) refl refl,
+            (stored start history state words worker p (r.parts worker p at) index value) refl refl refl,
         store_backed (set words (3 + index) value) (after_store index value p)
             (stored_all words index value p.rows (omega arith) own_rows) (backed worker p at).pending,
       )
   stores_keep place value after (store_count e v is) =
-      let room = r.room in
+      let fits = rows_fit start history state words passes r in
       subst (λ (z : ℕ × Pass). IsRunningSpace start history state (set words z.0 value) (set passes worker z.1)
       × AreBacked grants (set words z.0 value) state (set passes worker z.1)) (λ i. (sym e i, sym is i)) (
         store_keeps 2 value (after_count value p) (omega arith)
-            (stored_count start history state words worker p (r.parts worker p at) value (omega arith)) refl refl,
+            (stored_count start history state words worker p (r.parts worker p at) value (omega arith)) refl refl refl,
         store_backed (set words 2 value) (after_count value p) (counted_all words value p.rows own_rows) (backed worker p at).pending,
       )
 
@@ -165,7 +180,7 @@ module _ (grants : Grants) (start : List Areas) (history : List Entry) (state : 
       let q : Pass = after_raise p in
       let value = (slice_index words 1 + 1) % 2 ^ 64 in
       let wide : length (set passes worker q) ≡ length passes = length-set passes worker q in
-      let room = r.room in
+      let fits = rows_fit start history state words passes r in
       let there : 1 < length words = omega arith in
       let one = planned_of p.pending rows pends in
       let pending : planned_count (set passes worker q) + 1 ≡ planned_count passes = let s = planned_set passes worker p q at in omega arith in
@@ -177,15 +192,17 @@ module _ (grants : Grants) (start : List Areas) (history : List Entry) (state : 
         in_order = r.in_order;
         named = r.named;
         limit = r.limit;
+        grown = r.grown;
         number = get_or-set_other words 1 0 value 0 (λ e. omega arith) ∙ r.number;
         sequence = let g : slice_index (set words 1 value) 1 ≡ value = get_or-set_same words 1 value 0 there in
             let s = r.sequence in let f = whole_few history in let w = no_wrap start history state words passes r in omega arith;
-        room = length-set words 1 value ∙ r.room;
+        small = let m = most_set passes worker p q at refl in let f = r.small in omega arith;
+        room = room_kept words (set words 1 value) (row_count start) passes worker p q at refl (length-set words 1 value) r.room;
         rows = λ none. (kind_at state, shown_after, low_rows words 1 value (kind_at state) (omega arith) written);
         parts = λ other x there. ⊎_elim
             (λ t. subst (λ (z : ℕ × Pass). IsPart start history (set words 1 value) z.0 z.1) (λ i. (sym t.0 i, t.1 i))
             (raised_after start history state words worker p (r.parts worker p at) value))
-            (λ t. other_part (set words 1 value) other x t.0 t.1)
+            (λ t. other_part (set words 1 value) other x (length-set words 1 value) t.0 t.1)
             (at_set passes worker other q x there);
         no_other = λ other le. r.no_other other (omega arith);
         total = r.total ∙ (let s = count_set passes worker p q 0 at (omega arith) in omega arith);

@@ -19,6 +19,8 @@ pub record IsWriting (before after : SeatState Pass) : Type 0 where
   pub held : after.held ≡ before.held
   pub pools : after.pools ≡ before.pools
   pub start : after.pass.start ≡ before.pass.start
+  pub room : after.pass.room ≡ before.pass.room
+  pub most : after.pass.most ≡ before.pass.most
   pub seen : after.pass.seen ≡ before.pass.seen
   pub mine : after.pass.mine ≡ before.pass.mine
   pub drew : after.pass.drew ≡ before.pass.drew

@@ -9,6 +9,7 @@ ghost use Rattle.page_types.specs.declared.calls.Call.TheVariants.{Protect};
 ghost use Rattle.page_types.specs.Named.{IsNamedCall, IsNamedKind};
 ghost use Rattle.page_types.specs.Pages.{page_of, end_page};
 ghost use Rattle.page_types.specs.PlainReply.{plain_reply};
+ghost use Rattle.area_rows.specs.Rows.{room_of};
 ghost use Rattle.area_rows.specs.Changes.{alone, IsRound};
 ghost use Rattle.area_rows.specs.History.{IsAtRest};
 ghost use Rattle.area_rows.specs.Callers.{IsAsRead, IsReadBefore, IsReadBehind, IsReading, RowIs, Shows};
@@ -96,6 +97,7 @@ impl Space {
         requires held { IsSome caller.old.seat.held }
         requires rest { IsAtRest caller.old.seat.pass }
         requires index { index < ROWS }
+        requires room { index < room_of caller.old.seat.table }
         ensures read { IsReadBefore caller.new.seat.pass.rows index result }
         ensures reading { IsReading caller.old.seat caller.new.seat }
         ensures left { caller.new.left ≡ caller.old.left }
@@ -114,6 +116,7 @@ impl Space {
         requires rest { IsAtRest caller.old.seat.pass }
         requires index { index < count }
         requires few { count ≤ ROWS }
+        requires fits { count ≤ room_of caller.old.seat.table }
         ensures read { IsReadBehind caller.new.seat.pass.rows count index result }
         ensures reading { IsReading caller.old.seat caller.new.seat }
         ensures left { caller.new.left ≡ caller.old.left }

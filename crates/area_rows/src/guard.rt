@@ -67,6 +67,10 @@ pub struct Look {
 pub struct Pass {
     /// The areas of the opening.
     pub start: LinkedList<Area>,
+    /// How many rows the table has room for.
+    pub room: u64,
+    /// How many entries the caller may have.
+    pub most: u64,
     /// The beginning of the history that the caller has seen.
     pub seen: LinkedList<Entry>,
     /// The caller's own entries, in order.
@@ -96,7 +100,7 @@ impl Guard for RowGuard {
 
     type Note = Note;
 
-    ghost first = { λ words _. newcomer words };
+    ghost first = { newcomer };
 
     ghost holds = { HasHistory };
 

@@ -6,6 +6,7 @@ ghost use Rattle.page_types.specs.declared.TheConstants.{LIMIT, ROWS, SEARCH};
 ghost use Rattle.page_types.specs.Named.{IsNamedOption};
 ghost use Rattle.area_rows.specs.History.{IsAtRest};
 ghost use Rattle.area_rows.specs.Halving.{IsAmong};
+ghost use Rattle.area_rows.specs.Rows.{room_of};
 ghost use Rattle.area_rows.specs.Reads.{IsHeldPage};
 ghost use Rattle.area_rows.specs.Callers.{HasSameRows, IsHeldPages, IsReading, IsAsRead, RowIs, Shows};
 
@@ -48,6 +49,7 @@ impl Space {
         requires count { caller.old.seat.pass.count ≡ Some count }
         requires some { 0 < count }
         requires few { count ≤ ROWS }
+        requires fits { count ≤ room_of caller.old.seat.table }
         ensures found { IsAmong caller.new.seat.pass.rows page count result 1 }
         ensures reading { IsReading caller.old.seat caller.new.seat }
         ensures left { caller.new.left ≡ caller.old.left }
@@ -83,6 +85,7 @@ impl Space {
         requires rest { IsAtRest caller.old.seat.pass }
         requires count { caller.old.seat.pass.count ≡ Some count }
         requires few { count ≤ ROWS }
+        requires fits { count ≤ room_of caller.old.seat.table }
         requires found { IsAmong caller.old.seat.pass.rows page count index 1 }
         ensures from { result.lo ≤ page }
         ensures until { page < result.hi }

@@ -17,7 +17,7 @@ pub enum SpaceFault {
     #[error("{0} callers, where 1 to 16 may be")]
     Callers(u32),
     /// The number of rows of the start, where it is above `ROWS`.
-    #[error("{0} rows, where at most 4096 may be")]
+    #[error("{0} rows, where at most {most} may be", most = ROWS)]
     Rows(u32),
     /// There was no memory.
     #[error("out of memory")]
@@ -38,18 +38,20 @@ pub enum SpaceFault {
 #[derive(Drop)]
 pub struct Space {
     pub(crate) table: RangeTable<RowGuard>,
+    /// How many rows the table has room for.
+    pub(crate) room: u32,
 }
 
 impl Model for Space {
     ghost use Rattle.std.specs.Prelude.{◌≡◌, ◌+◌};
-    ghost use Rattle.page_types.specs.declared.TheConstants.{ROWS};
     ghost use Rattle.range_rw.specs.Contract.{TableShape};
+    ghost use Rattle.area_rows.specs.Rows.{room_of};
 
     ghost Value = { TableShape };
 
     ghost view = { λ s. s.table };
 
-    ghost invariant = { λ s. s.table.client ≡ 3 + ROWS };
+    ghost invariant = { λ s. (s.table.client ≡ 19 + s.room) × (s.room ≡ room_of s.table.table) };
 }
 
 /// One caller of a space. It holds one range at a time, and each of its calls has one entry in the history.
@@ -59,10 +61,10 @@ pub struct Caller {
     pub(crate) worker: u32,
     pub(crate) mine: Vec<Entry>,
     pub(crate) left: u32,
-    /// The row words that the last plan read, with room for `ROWS` of them.
+    /// The row words that the last plan read, with room for as many as the table has room for.
     pub(crate) read: Vec<u64>,
-    /// The row words that the last plan put together, or none where those that it read stay; with room for
-    /// `ROWS + SPARE`.
+    /// The row words that the last plan put together, or none where those that it read stay; with room for `SPARE`
+    /// more.
     pub(crate) plan: Vec<u64>,
     /// The row that the last plan over an area changes, or None where it changes nothing.
     pub(crate) change: Option<Change>,
@@ -72,6 +74,7 @@ impl Model for Caller {
     ghost use Rattle.std.specs.Prelude.{◌≡◌, ◌+◌, ◌≤◌, ◌<◌, ◌^◌, None, vec_len, vec_capacity};
     ghost use Rattle.page_types.specs.declared.TheConstants.{ROWS, SPARE};
     ghost use Rattle.row_plans.specs.Plans.{planned_rows};
+    ghost use Rattle.area_rows.specs.Rows.{room_of};
     ghost use Rattle.area_rows.specs.History.{IsAtRest};
     ghost use Rattle.area_rows.specs.Callers.{CallerView, IsHeldPages};
 
@@ -80,9 +83,10 @@ impl Model for Caller {
     ghost view = { λ c. record { seat = c.seat; left = c.left; read = c.read.items; plan = planned_rows c.read.items c.plan.items; change = c.change } };
 
     ghost invariant = { λ c. (c.seat.number ≡ c.worker) × (c.mine.items ≡ c.seat.pass.mine)
-        × (vec_len c.mine + c.left ≤ vec_capacity c.mine) × (vec_len c.mine + c.left < 2 ^ 32)
-        × (ROWS ≤ vec_capacity c.read) × (ROWS + SPARE ≤ vec_capacity c.plan) × (vec_len c.plan ≤ ROWS)
-        × IsHeldPages c.seat.held × (c.seat.held ≡ None → IsAtRest c.seat.pass) };
+        × (vec_len c.mine + c.left ≤ vec_capacity c.mine) × (vec_len c.mine + c.left ≤ c.seat.pass.most)
+        × (c.seat.pass.room ≤ vec_capacity c.read) × (c.seat.pass.room + SPARE ≤ vec_capacity c.plan) × (vec_len c.plan ≤ ROWS)
+        × IsHeldPages c.seat.held × (c.seat.held ≡ None → IsAtRest c.seat.pass) × (c.seat.pass.room ≡ room_of c.seat.table)
+        × (c.seat.pass.most < 2 ^ 32) };
 }
 
 impl Caller {

@@ -12,6 +12,7 @@ ghost use Rattle.space_model.specs.declared.entries.Under.TheVariants.{Area as O
 ghost use Rattle.row_plans.specs.RowWords.{row_start};
 ghost use Rattle.row_plans.specs.Plans.{IsRowList, planned_rows};
 ghost use Rattle.area_rows.specs.Halving.{IsOnSameSide};
+ghost use Rattle.area_rows.specs.Rows.{room_of};
 ghost use Rattle.area_rows.specs.Reads.{everything, HasRows, IsHeldPage};
 ghost use Rattle.area_rows.specs.History.{HoldsFor, IsAtRest, IsRight, Leaves, pending_of, after_count, after_row, entry_note};
 ghost use Rattle.area_rows.specs.Callers.{HasSameRows, HasToWrite, HasToStore, IsReadRound, CountsWhole, IsReading};
@@ -28,8 +29,8 @@ use std::sync::ledger::Ledger;
 use word_rows::Steps;
 
 impl Space {
-    /// Loads the row count, from 1 to `ROWS`. The caller is of this space, holds a range, and has written what it has
-    /// numbered.
+    /// Loads the row count, from 1 to `ROWS`, and no more than there is room for. The caller is of this space, holds a
+    /// range, and has written what it has numbered.
     pub(crate) fn load_count(&self, caller: &mut Caller) -> u64
         requires table { caller.old.seat.table ≡ self.now.table }
         requires held { IsSome caller.old.seat.held }
@@ -39,6 +40,7 @@ impl Space {
         ensures rows { HasSameRows caller.old caller.new }
         ensures some { 0 < result }
         ensures few { result ≤ ROWS }
+        ensures fits { result ≤ room_of caller.old.seat.table }
         ensures again { (n : ℕ) → caller.old.seat.pass.count ≡ Some n → result ≡ n }
     {
         self.table
@@ -53,6 +55,7 @@ impl Space {
         requires held { IsSome caller.old.seat.held }
         requires rest { IsAtRest caller.old.seat.pass }
         requires index { index < ROWS }
+        requires room { index < room_of caller.old.seat.table }
         ensures step { IsClientStep caller.old.seat (3 + index) (after_row index result caller.old.seat.pass) caller.new.seat }
         ensures left { caller.new.left ≡ caller.old.left }
         ensures rows { HasSameRows caller.old caller.new }
@@ -105,7 +108,7 @@ impl Space {
         requires note { N.noted ≡ entry_note draft.now (pending_of draft.now.under (planned_rows read.now plan.now) change) }
         requires table { seat.old.table ≡ self.now.table }
         requires worker { seat.old.number ≡ draft.now.worker }
-        requires few { length seat.old.pass.mine + 1 < 2 ^ 32 }
+        requires few { length seat.old.pass.mine + 1 ≤ seat.old.pass.most }
         requires named { IsNamedCall draft.now.call }
         requires rest { IsAtRest seat.old.pass }
         requires held { HoldsFor seat.old.held draft.now.under }

@@ -1,10 +1,12 @@
-//! The rows that a call under everything leaves are written, one by one and only where they differ, then their count,
-//! and then the sequence word is raised. Only the caller that has the plan stores rows, and nobody else reads them
-//! meanwhile; a reader may rely on the rows showing the last state again when the sequence word is raised.
+//! The rows that a call under everything leaves are written, from the first that changes on, one by one and only where
+//! they differ, then their count, and then the sequence word is raised. Only the caller that has the plan stores rows,
+//! and nobody else reads them meanwhile; a reader may rely on the rows showing the last state again when the sequence
+//! word is raised.
 ghost use Rattle.std.specs.Prelude.{ℕ, List, ◌≡◌, ◌≤◌, ◌<◌, ◌+◌, Some, length, slice_index};
 ghost use Rattle.page_types.specs.declared.TheConstants.{ROWS};
 ghost use Rattle.area_rows.specs.declared.guard.Pending.TheVariants.{Planned};
-ghost use Rattle.row_plans.specs.Plans.{planned_rows};
+ghost use Rattle.row_plans.specs.Plans.{planned_rows, BeginsAs};
+ghost use Rattle.area_rows.specs.Rows.{room_of};
 ghost use Rattle.area_rows.specs.Reads.{HasRows};
 ghost use Rattle.area_rows.specs.History.{IsAtRest, after_count, after_store, after_raise};
 ghost use Rattle.area_rows.specs.Callers.{HasSameRows, HasToWrite, IsClientStep, IsWritten};
@@ -22,6 +24,7 @@ impl Space {
         requires table { seat.old.table ≡ self.now.table }
         requires planned { seat.old.pass.pending ≡ Planned plan.now }
         requires few { length plan.now ≤ ROWS }
+        requires room { length plan.now ≤ room_of seat.old.table }
         requires index { index < length plan.now }
         ensures step { IsClientStep seat.old (3 + index) (after_store index (slice_index plan.now index) seat.old.pass) seat.new }
     {
@@ -53,6 +56,7 @@ impl Space {
         requires table { seat.old.table ≡ self.now.table }
         requires planned { seat.old.pass.pending ≡ Planned plan.now }
         requires few { length plan.now ≤ ROWS }
+        requires room { length plan.now ≤ room_of seat.old.table }
         requires index { index < length plan.now }
         requires mixed { IsMixed seat.old.pass.rows read.now plan.now index }
         ensures mixed { IsMixed seat.new.pass.rows read.now plan.now (index + 1) }
@@ -81,17 +85,20 @@ impl Space {
         }
     }
 
-    /// Writes the rows of the plan and their count where they differ from what was read.
-    fn write_rows(&self, seat: &mut Seat<RowGuard>, read: &[u64], plan: &[u64])
+    /// Writes the rows of the plan and their count where they differ from what was read. The `first` rows at the
+    /// beginning are known to be the same, and aren't looked at.
+    fn write_rows(&self, seat: &mut Seat<RowGuard>, read: &[u64], plan: &[u64], first: u32)
         requires table { seat.old.table ≡ self.now.table }
         requires planned { seat.old.pass.pending ≡ Planned plan.now }
         requires few { length plan.now ≤ ROWS }
+        requires room { length plan.now ≤ room_of seat.old.table }
+        requires first { BeginsAs read.now plan.now first }
         requires read { HasRows seat.old.pass read.now }
         ensures rows { HasRows seat.new.pass plan.now }
         ensures writing { IsWriting seat.old seat.new }
         ensures taken { seat.new.trace.taken ≡ seat.old.trace.taken + stores_of read.now plan.now }
     {
-        let mut index = 0;
+        let mut index = first as usize;
         'rows: while index < plan.len() {
             self.write_row_at(seat, read, plan, index as u32);
             index += 1;
@@ -100,18 +107,40 @@ impl Space {
     }
 
     /// Writes what was planned. Where nothing was put together the rows stay, and are not looked at.
-    fn write_planned(&self, seat: &mut Seat<RowGuard>, read: &[u64], plan: &[u64])
+    fn write_planned(&self, seat: &mut Seat<RowGuard>, read: &[u64], plan: &[u64], first: u32)
         requires table { seat.old.table ≡ self.now.table }
         requires planned { seat.old.pass.pending ≡ Planned (planned_rows read.now plan.now) }
         requires few { length plan.now ≤ ROWS }
+        requires room { length plan.now ≤ room_of seat.old.table }
+        requires first { BeginsAs read.now (planned_rows read.now plan.now) first }
         requires read { HasRows seat.old.pass read.now }
         ensures rows { HasRows seat.new.pass (planned_rows read.now plan.now) }
         ensures writing { IsWriting seat.old seat.new }
         ensures taken { seat.new.trace.taken ≡ seat.old.trace.taken + stores_of read.now (planned_rows read.now plan.now) }
     {
         if !plan.is_empty() {
-            self.write_rows(seat, read, plan);
+            self.write_rows(seat, read, plan, first);
         }
+    }
+
+    /// The same as `write_plan`, where the `first` rows at the beginning of the plan are those that were read: it
+    /// doesn't look at them.
+    pub(crate) fn write_from(&self, caller: &mut Caller, first: u32)
+        requires table { caller.old.seat.table ≡ self.now.table }
+        requires planned { HasToWrite caller.old }
+        requires first { BeginsAs caller.old.read caller.old.plan first }
+        ensures written { IsWritten caller.old.seat caller.new.seat }
+        ensures steps { caller.new.seat.trace.taken ≡ caller.old.seat.trace.taken + (stores_of caller.old.read caller.old.plan + 1) }
+        ensures left { caller.new.left ≡ caller.old.left }
+        ensures rows { HasSameRows caller.old caller.new }
+    {
+        self.write_planned(
+            &mut caller.seat,
+            caller.read.as_slice(),
+            caller.plan.as_slice(),
+            first,
+        );
+        self.raise_sequence(&mut caller.seat);
     }
 
     /// Writes what the caller's last call under everything left: the rows of its plan where they differ from those that
@@ -126,11 +155,6 @@ impl Space {
         ensures left { caller.new.left ≡ caller.old.left }
         ensures rows { HasSameRows caller.old caller.new }
     {
-        self.write_planned(
-            &mut caller.seat,
-            caller.read.as_slice(),
-            caller.plan.as_slice(),
-        );
-        self.raise_sequence(&mut caller.seat);
+        self.write_from(caller, 0);
     }
 }

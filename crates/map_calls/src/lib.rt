@@ -6,4 +6,4 @@
 
 mod maps;
 
-pub use maps::{make_change, map, seal, unmap};
+pub use maps::{map, seal, unmap};

@@ -1,42 +1,15 @@
 //! The three calls: `map` is mmap(2), `unmap` is munmap(2), and `seal` is in the manner of mseal(2). All are answered
-//! by `make_change`, which is the whole of this crate: nothing where the caller has no number left, the reply of the
-//! arguments where these decide, and otherwise the one call of `area_rows` that may change the number of rows. What a
-//! reader may rely on is `IsAnswered` of `area_rows`, one clause for all calls that give an entry.
+//! by `Space::call` of `area_rows`: nothing where the caller has no number left, the reply of the arguments where these
+//! decide, and otherwise a call that may change the number of rows. What a reader may rely on is `IsAnswered` of
+//! `area_rows`, one clause for all calls that give an entry.
 ghost use Rattle.std.specs.Prelude.{◌≡◌, None};
 ghost use Rattle.page_types.specs.declared.calls.Call.TheVariants.{Map, Unmap, Seal};
 ghost use Rattle.page_types.specs.Named.{IsNamedCall};
-ghost use Rattle.page_types.specs.Classes.{IsFault};
 ghost use Rattle.area_rows.specs.Called.{IsAnswered};
 
 use area_rows::{Answer, Caller, Space};
-use page_types::{Call, MapFlags, Prot, plain};
+use page_types::{Call, MapFlags, Prot};
 use std::sync::Wait;
-
-/// Makes a call that is no fault: a Map, an Unmap, a Seal, or a Protect that is to hold all pages. The caller is of
-/// this space and holds nothing, and the call has named bits alone; `line` is the line of the input that names it,
-/// counted from 1. It waits until the caller holds all pages; a call that its arguments decide holds nothing. `Spent`
-/// comes exactly where the caller has no number left, and nothing has changed then.
-pub fn make_change<R: Wait>(
-    space: &Space,
-    wait: &R,
-    caller: &mut Caller,
-    line: u32,
-    call: Call,
-) -> Answer
-    requires table { caller.old.seat.table ≡ space.now.table }
-    requires free { caller.old.seat.held ≡ None }
-    requires call { ¬ IsFault call }
-    requires named { IsNamedCall call }
-    ensures answer { IsAnswered caller.old line call result caller.new }
-{
-    if caller.left() == 0 {
-        return Answer::Spent;
-    }
-    match plain(&call) {
-        Some(reply) => Answer::Given(space.call_plain(caller, line, call, reply)),
-        None => Answer::Given(space.call_whole(wait, caller, line, call)),
-    }
-}
 
 /// Maps the `len` bytes from `addr` on, rounded up to whole pages, as mmap(2) does; where no fixed flag binds it `addr`
 /// is a hint, and the pages go as high as they fit. The caller is of this space and holds nothing, and `prot` and
@@ -64,7 +37,7 @@ pub fn map<R: Wait>(
         prot,
         flags,
     };
-    make_change(space, wait, caller, line, call)
+    space.call(wait, caller, line, call)
 }
 
 /// Takes the pages of the `len` bytes from `addr` on away, as munmap(2) does; pages that aren't mapped are no error.
@@ -83,7 +56,7 @@ pub fn unmap<R: Wait>(
     requires free { caller.old.seat.held ≡ None }
     ensures answer { IsAnswered caller.old line (Unmap addr len) result caller.new }
 {
-    make_change(space, wait, caller, line, Call::Unmap { addr, len })
+    space.call(wait, caller, line, Call::Unmap { addr, len })
 }
 
 /// Seals the pages of the `len` bytes from `addr` on, rounded up to whole pages, in the manner of mseal(2): from then
@@ -105,5 +78,5 @@ pub fn seal<R: Wait>(
     requires free { caller.old.seat.held ≡ None }
     ensures answer { IsAnswered caller.old line (Seal addr len flags) result caller.new }
 {
-    make_change(space, wait, caller, line, Call::Seal { addr, len, flags })
+    space.call(wait, caller, line, Call::Seal { addr, len, flags })
 }

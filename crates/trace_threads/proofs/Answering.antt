@@ -2,7 +2,7 @@
 use Rattle.std.proofs.Common.{◌≡◌, ◌<◌, ℕ, List, refl, subst, sym}
 use Rattle.std.specs.Prelude.{◌↔◌, Option, Some, None, MatchOption}
 use Rattle.page_types.specs.declared.calls.Call.{Call}
-use Rattle.page_types.specs.declared.calls.Call.TheVariants.{Map, Unmap, Protect, Fault, Seal}
+use Rattle.page_types.specs.declared.calls.Call.TheVariants.{Map, Unmap, Protect, Fault, Seal, Brk, Remap}
 use Rattle.page_types.specs.declared.calls.Reply.{Reply}
 use Rattle.page_types.specs.declared.sets.Prot.{Prot}
 use Rattle.page_types.specs.Classes.{IsProtect}
@@ -50,6 +50,15 @@ area_of_other A (Unmap addr len) under other fits = (
 area_of_other A (Protect addr len prot) under other fits = absurd (other tt)
 area_of_other A (Seal addr len flags) under other fits = (
   λ holds. absurd (subst HoldsSomeArea (undecided (plain_reply (Seal addr len flags)) (under ≡ Whole) under fits holds).1 holds),
+  λ h. absurd h.1.1,
+)
+area_of_other A (Brk base addr) under other fits = (
+  λ holds. absurd (subst HoldsSomeArea (undecided (plain_reply (Brk base addr)) (under ≡ Whole) under fits holds).1 holds),
+  λ h. absurd h.1.1,
+)
+area_of_other A (Remap addr old new may hint) under other fits = (
+  λ holds. absurd (subst HoldsSomeArea (undecided (plain_reply (Remap addr old new may hint)) (under ≡ Whole) under fits holds).1
+      holds),
   λ h. absurd h.1.1,
 )
 area_of_other A (Fault addr access) under other fits = (

@@ -1,5 +1,6 @@
-//! The call of a line, handed on whole to the crate that makes it: a fault, a map, an unmap, a seal or a change of
-//! protection. Who makes a call is decided here alone, and the contract doesn't say.
+//! The call of a line, handed on whole to who makes it: a fault to `page_fault`, a change of protection to
+//! `area_protect`, and any other to the space itself. Who makes a call is decided here alone, and the contract doesn't
+//! say.
 ghost use Rattle.std.specs.Prelude.{◌≡◌, ◌<◌, None};
 ghost use Rattle.page_types.specs.Named.{IsNamedCall};
 ghost use Rattle.trace_threads.specs.Workers.{IsLineAnswer, IsPlayedAs};
@@ -7,7 +8,6 @@ ghost use Rattle.trace_threads.specs.Workers.{IsLineAnswer, IsPlayedAs};
 use crate::worker::Line;
 use area_protect::{Protected, make_protect};
 use area_rows::{Answer, Caller, Space};
-use map_calls::make_change;
 use page_fault::make_fault;
 use page_types::Call;
 use space_model::Entry;
@@ -22,9 +22,11 @@ pub(crate) fn make_call<R: Wait>(wait: &R, space: &Space, caller: &mut Caller, l
 {
     let number = line.line;
     match line.call {
-        Call::Map { .. } | Call::Unmap { .. } | Call::Seal { .. } => {
-            make_change(space, wait, caller, number, line.call)
-        }
+        Call::Map { .. }
+        | Call::Unmap { .. }
+        | Call::Seal { .. }
+        | Call::Brk { .. }
+        | Call::Remap { .. } => space.call(wait, caller, number, line.call),
         Call::Protect { .. } => match make_protect(space, wait, caller, number, line.call) {
             Protected::Given { entry, .. } => Answer::Given(entry),
             Protected::Spent => Answer::Spent,

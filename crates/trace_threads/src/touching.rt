@@ -69,7 +69,12 @@ fn granted_page(entry: &Entry) -> Option<u64>
     ensures { cons_option result [] ≡ page_in entry.now }
 {
     match entry.call {
-        Call::Map { .. } | Call::Unmap { .. } | Call::Protect { .. } | Call::Seal { .. } => None,
+        Call::Map { .. }
+        | Call::Unmap { .. }
+        | Call::Protect { .. }
+        | Call::Seal { .. }
+        | Call::Brk { .. }
+        | Call::Remap { .. } => None,
         Call::Fault { addr, .. } => match entry.reply {
             Reply::Granted(_) => Some(addr / PAGE),
             Reply::At(_) | Reply::Zero | Reply::Refused(_) => None,

@@ -26,6 +26,8 @@ pair c = let i = c.seat.invariant in record {
   planned = i.6;
   pages = i.7;
   rest = i.8;
+  rows = i.9;
+  most = i.10;
 }
 
 -- one caller more was taken apart, and its seat and the rest belong together

@@ -1,6 +1,5 @@
 use Rattle.std.specs.Prelude.{None, slice_index}
-use Rattle.std.proofs.Common.{replicate, ◌≤◌, ℕ, List, map, length, sym, ap, ◌∙◌, subst, arith}
-use Rattle.page_types.specs.declared.TheConstants.{ROWS}
+use Rattle.std.proofs.Common.{replicate, ◌≤◌, ◌+◌, ℕ, List, map, length, sym, ap, ◌∙◌, subst, arith}
 use Rattle.range_rw.specs.Contract.{pass_in}
 use Rattle.area_rows.specs.declared.guard.Pass.{Pass}
 use Rattle.area_rows.specs.declared.close.Kept.{Kept}
@@ -62,9 +61,20 @@ returns-in-Err-clause-refused c =
     let r = join_ready _ c.in-Err.field-0.seats.items _ c.args.callers.items c.in-Err.ensures.refused.1 c.part-callers.ensures.pairs in
     (c.in-Err.ensures.refused.0 ∙ c.self.view_is, c.join.ensures ∙ r.1)
 
--- there are no more rows than there is room for
-pub collect-requires-clause-few : goal.collect-requires-clause-few
-collect-requires-clause-few c =
+-- the rows stand before the last sixteen words
+pub collect-requires-clause-wide : goal.collect-requires-clause-wide
+collect-requires-clause-wide c =
     let h = c.in-Ok-close.ensures.guard in
-    subst (λ (w : List ℕ). slice_index w 2 ≤ ROWS) (sym c.as_slice-in-Ok-close.ensures.value)
-    (idle_rows _ h.0 h.1 h.2 c.in-Ok-close.words.items (map pass_in c.part-callers.result.1.items) h.3 h.4).few
+    let room = (idle_rows _ h.0 h.1 h.2 c.in-Ok-close.words.items (map pass_in c.part-callers.result.1.items) h.3 h.4).room in
+    subst (λ (w : List ℕ). 3 + slice_index w 2 ≤ length w) (sym c.as_slice-in-Ok-close.ensures.value) (omega arith)
+
+-- so there is room for their areas
+pub collect-requires-clause-room : goal.collect-requires-clause-room
+collect-requires-clause-room c =
+    let h = c.in-Ok-close.ensures.guard in
+    let room = (idle_rows _ h.0 h.1 h.2 c.in-Ok-close.words.items (map pass_in c.part-callers.result.1.items) h.3 h.4).room in
+    let wide = c.in-Ok-close.ensures.words in
+    let own = c.self.invariant.0 in
+    let areas = c.in-Ok.ensures.room.2 in
+    let same = ap (λ (w : List ℕ). slice_index w 2) c.as_slice-in-Ok-close.ensures.value in
+    omega arith

@@ -4,6 +4,7 @@ use Rattle.page_types.specs.declared.TheConstants.{SEARCH}
 use Rattle.lock_core.specs.declared.range.Held.{Held}
 use Rattle.area_rows.specs.declared.guard.Pass.{Pass}
 use Rattle.area_rows.specs.Halving.{IsAmong}
+use Rattle.area_rows.specs.Rows.{room_of}
 use Rattle.area_rows.specs.Reads.{IsHeldPage}
 use Rattle.area_rows.proofs.Halving.{all_rows, narrowed, halved}
 use Rattle.area_rows.proofs.Reading.{no_reading, reading_on, row_reads, step_taken}
@@ -21,6 +22,13 @@ halve-init g c = record {
   among = all_rows c.args.caller.now.seat.pass.rows c.args.page c.args.count c.requires.some;
   room = (SEARCH, let few = c.requires.few in omega arith, omega arith);
 }
+
+-- there is room for the middle row
+pub load_row-word-requires-clause-room : goal.load_row-word-requires-clause-room
+load_row-word-requires-clause-room g c =
+    let i = c.halve.invariant in
+    let table = ap room_of i.reading.table in
+    let fits = c.requires.fits in let there = i.among.there in let lt = c.halve-test.true in omega arith
 
 -- one row more is read, and the row of the page is among the half that is left
 pub halve-preserved : goal.halve-preserved

@@ -1,5 +1,6 @@
-use Rattle.std.proofs.Common.{rules, ap, ◌∙◌}
+use Rattle.std.proofs.Common.{rules, ℕ, ◌≤◌, ap, ◌∙◌, subst}
 use Rattle.area_rows.specs.Keeping.{no_note}
+use Rattle.area_rows.specs.Rows.{room_of}
 use Rattle.area_rows.specs.Callers.{CallerView}
 use Rattle.area_rows.proofs.Stepping.{may_count, counts}
 use Rattle.area_rows.proofs.space.Space.load_count.Goals as goal
@@ -15,12 +16,21 @@ returns-clause-some c =
     (counts no_note s.number s.held s.pass c.load_as_uncounted.result c.load_as_uncounted.new.seat.pass
     (search rules) c.caller.invariant.7 (search rules) c.load_as_uncounted.ensures.made).1
 
--- there are no more rows than there is room for
+-- there are no more rows than there may be
 pub returns-clause-few : goal.returns-clause-few
 returns-clause-few c =
     let s = c.caller.inside.seat in
     (counts no_note s.number s.held s.pass c.load_as_uncounted.result c.load_as_uncounted.new.seat.pass
     (search rules) c.caller.invariant.7 (search rules) c.load_as_uncounted.ensures.made).2
+
+-- and no more than there is room for
+pub returns-clause-fits : goal.returns-clause-fits
+returns-clause-fits c =
+    let s = c.caller.inside.seat in
+    let r = counts no_note s.number s.held s.pass c.load_as_uncounted.result c.load_as_uncounted.new.seat.pass
+    (search rules) c.caller.invariant.7 (search rules) c.load_as_uncounted.ensures.made in
+    subst (λ (v : CallerView). c.load_as_uncounted.result ≤ room_of v.seat.table) c.caller.view_is
+    (subst (λ (n : ℕ). c.load_as_uncounted.result ≤ n) c.caller.invariant.9 r.3)
 
 -- the count is what was found before, where the caller has read it
 pub returns-clause-again : goal.returns-clause-again
@@ -28,4 +38,4 @@ returns-clause-again c = λ n counted.
     let s = c.caller.inside.seat in
     let r = counts no_note s.number s.held s.pass c.load_as_uncounted.result c.load_as_uncounted.new.seat.pass (search rules) c.caller.invariant.7
     (search rules) c.load_as_uncounted.ensures.made in
-    r.3 n (ap (λ (v : CallerView). v.seat.pass.count) c.caller.view_is ∙ counted)
+    r.4 n (ap (λ (v : CallerView). v.seat.pass.count) c.caller.view_is ∙ counted)

@@ -1,4 +1,6 @@
-use Rattle.std.proofs.Common.{rules, ap, ◌∙◌, refl, subst}
+use Rattle.std.proofs.Common.{rules, ◌≡◌, arith, ap, ◌∙◌, refl, subst, sym}
+use Rattle.range_rw.specs.Contract.{TableShape}
+use Rattle.area_rows.specs.Rows.{room_of}
 use Rattle.area_rows.specs.Keeping.{no_note}
 use Rattle.area_rows.specs.Halving.{IsOnSameSide}
 use Rattle.area_rows.specs.Reads.{IsHeldPage}
@@ -9,6 +11,14 @@ use Rattle.area_rows.proofs.space.Space.load_row.Goals as goal
 -- the guard allows the load of a row
 pub load_as_uncounted-requires-clause-allowed : goal.load_as_uncounted-requires-clause-allowed
 load_as_uncounted-requires-clause-allowed c = may_row no_note _ _ _ c.args.index c.requires.index (search rules) c.caller.invariant.7
+
+-- there is a client word for the row
+pub load_as_uncounted-requires-clause-place : goal.load_as_uncounted-requires-clause-place
+load_as_uncounted-requires-clause-place c =
+    let same = ap (λ (v : CallerView). room_of v.seat.table) c.caller.view_is in
+    let table : room_of c.args.caller.now.seat.table ≡ room_of c.self.inside.table.table =
+    ap room_of (c.requires.table ∙ sym (ap (λ (t : TableShape). t.table) c.self.view_is)) in
+    let wide = c.self.invariant.0 in let room = c.self.invariant.1 in let lt = c.requires.room in omega arith
 
 -- a row that is counted starts below the limit
 pub returns-clause-below : goal.returns-clause-below

@@ -2,7 +2,7 @@ use Rattle.std.proofs.Common.{ℕ, List, ◌∙◌, ap, sym, subst}
 use Rattle.range_rw.specs.Contract.{SeatState}
 use Rattle.area_rows.specs.declared.guard.Pass.{Pass}
 use Rattle.row_plans.specs.RowLists.{areas_from}
-use Rattle.row_plans.specs.Plans.{IsPlan}
+use Rattle.row_plans.specs.Plans.{BeginsAs, IsPlan}
 use Rattle.area_rows.specs.Reads.{HasRows}
 use Rattle.area_rows.proofs.Wholes.{plan_shows}
 use Rattle.area_rows.proofs.StoreCounts.{refused_rows}
@@ -27,3 +27,9 @@ returns-clause-refused c = λ why is.
     let e = c.plan_call.ensures in
     let p = c.plan_call.result in
     refused_rows c.read_rows.new.caller.read c.plan_call.new.self.plan c.args.call.now p.reply p.rows why r.list e.plan is ∙ sym e.read
+
+-- those that stay at the beginning are those that were read
+pub returns-clause-first : goal.returns-clause-first
+returns-clause-first c =
+    let e = c.plan_call.ensures in
+    subst (λ (l : List ℕ). BeginsAs l c.plan_call.new.self.plan c.plan_call.result.first) (sym e.read) e.first

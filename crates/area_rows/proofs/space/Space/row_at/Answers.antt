@@ -3,10 +3,16 @@ use Rattle.std.specs.Prelude.{Option}
 use Rattle.lock_core.specs.declared.range.Held.{Held}
 use Rattle.area_rows.specs.declared.guard.Pass.{Pass}
 use Rattle.area_rows.specs.Halving.{IsOnSameSide}
+use Rattle.area_rows.specs.Rows.{room_of}
 use Rattle.area_rows.specs.Reads.{IsHeldPage, HasRead}
 use Rattle.area_rows.proofs.Halving.{starts_up_to, starts_behind}
 use Rattle.area_rows.proofs.Reading.{found_row, last_row, found_read}
 use Rattle.area_rows.proofs.space.Space.row_at.Goals as goal
+
+-- the table has room for the next row
+pub load_row-next-requires-clause-room : goal.load_row-next-requires-clause-room
+load_row-next-requires-clause-room g c =
+    let table = ap room_of c.load_row-word.ensures.step.table in let fits = c.requires.fits in let lt = c.if-index-count.true in omega arith
 
 -- the row starts at or before the page
 pub returns-then-index-count-clause-from : goal.returns-then-index-count-clause-from

@@ -1,10 +1,11 @@
-use Rattle.std.proofs.Common.{rules, ◌<◌, length, ap, ◌∙◌, sym, arith}
+use Rattle.std.proofs.Common.{rules, ◌≡◌, ◌+◌, ◌<◌, ◌≤◌, ◌^◌, length, vec_len, vec_capacity, ap, ◌∙◌, sym, arith}
 use Rattle.std.specs.Prelude.{slice_index}
 use Rattle.range_rw.specs.Contract.{SeatState}
 use Rattle.std.proofs.lemmas.List.Edits.{length-remove}
 use Rattle.area_rows.specs.declared.guard.Pass.{Pass}
-use Rattle.area_rows.specs.Callers.{new_pass}
-use Rattle.area_rows.proofs.Beginning.{first_seats, next_seat, seats_on, one_caller, new_caller}
+use Rattle.page_types.specs.declared.TheConstants.{SPARE}
+use Rattle.area_rows.specs.Rows.{room_of}
+use Rattle.area_rows.proofs.Beginning.{first_of, first_seats, next_seat, seats_on, one_caller, new_caller}
 use Rattle.area_rows.specs.Parts.{none_is}
 use Rattle.area_rows.proofs.space.Space.seat_callers.Goals as goal
 
@@ -12,17 +13,23 @@ use Rattle.area_rows.proofs.space.Space.seat_callers.Goals as goal
 pub invariant_of-push_reserved : goal.invariant_of-push_reserved
 invariant_of-push_reserved c =
     let some_left : 0 < length c.seats.seats.items = search rules in
-    let s = next_seat c.args.table.now.table (new_pass c.args.start.now) c.seats.worker c.seats.seats.items c.remove-seat.result
+    let table = c.args.table.now.table in
+    let first = first_of c.args.start.now c.args.calls.now (room_of table) in
+    let s = next_seat table first c.seats.worker c.seats.seats.items c.remove-seat.result
     c.seats.invariant.rest some_left c.remove-seat.ensures.value in (
       ap (λ (x : SeatState Pass). x.number) s,
       search rules ∙ sym (ap (λ (x : SeatState Pass). x.pass.mine) s),
       search rules,
-      search rules,
-      search rules,
-      search rules,
+      let m = ap (λ (x : SeatState Pass). x.pass.most) s in let e : vec_len c.in_ok-mine.mine ≡ 0 = search rules in omega arith,
+      let r = ap (λ (x : SeatState Pass). x.pass.room) s in let w : c.args.room ≤ vec_capacity c.in_ok-read.read = search rules in
+          let is = c.requires.room in omega arith,
+      let r = ap (λ (x : SeatState Pass). x.pass.room) s in let w : c.args.room + SPARE ≤ vec_capacity c.in_ok-plan.plan = search rules in
+          let is = c.requires.room in omega arith,
       search rules,
       λ h e. absurd (none_is h (sym (ap (λ (x : SeatState Pass). x.held) s) ∙ e)),
       λ _. ap (λ (x : SeatState Pass). x.pass.pending) s,
+      ap (λ (x : SeatState Pass). x.pass.room) s ∙ ap (λ (x : SeatState Pass). room_of x.table) (sym s),
+      let m = ap (λ (x : SeatState Pass). x.pass.most) s in let left : slice_index c.args.calls.now c.seats.worker < 2 ^ 32 = search rules in omega arith,
     )
 
 -- before the first caller all seats wait
@@ -32,7 +39,7 @@ seats-init c = record {
   count = search rules;
   sum = search rules;
   new = search rules;
-  rest = first_seats c.args.table.now.table (new_pass c.args.start.now) c.args.seats.items c.requires.seats;
+  rest = first_seats c.args.table.now.table (first_of c.args.start.now c.args.calls.now (room_of c.args.table.now.table)) c.args.seats.items c.requires.seats;
 }
 
 -- one new caller more is made, and the seats that wait go on with the next number
@@ -41,8 +48,9 @@ seats-preserved c =
     let i = c.seats.invariant in
     let some_left : 0 < length c.seats.seats.items = search rules in
     let table = c.args.table.now.table in
+    let first = first_of c.args.start.now c.args.calls.now (room_of table) in
     let start = c.args.start.now in
-    let s = next_seat table (new_pass start) c.seats.worker c.seats.seats.items c.remove-seat.result i.rest some_left c.remove-seat.ensures.value in
+    let s = next_seat table first c.seats.worker c.seats.seats.items c.remove-seat.result i.rest some_left c.remove-seat.ensures.value in
     record {
       room = search rules;
       count = search rules;
@@ -52,5 +60,5 @@ seats-preserved c =
           let p = c.in_ok-plan.ensures.items in
           rw c.push_reserved.ensures.items (one_caller table start c.args.calls.now c.seats.made.items _ c.seats.worker i.count
           i.new (new_caller _ _ (slice_index c.args.calls.now c.seats.worker) _ _ s r p));
-      rest = seats_on table (new_pass start) c.seats.worker c.seats.seats.items c.remove-seat.new.self.items i.rest c.remove-seat.ensures.items;
+      rest = seats_on table first c.seats.worker c.seats.seats.items c.remove-seat.new.self.items i.rest c.remove-seat.ensures.items;
     }

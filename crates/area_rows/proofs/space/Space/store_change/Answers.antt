@@ -1,11 +1,22 @@
+use Rattle.std.proofs.Common.{◌≡◌, arith, ap, ◌∙◌, sym}
+use Rattle.range_rw.specs.Contract.{TableShape}
+use Rattle.area_rows.specs.Rows.{room_of}
 use Rattle.area_rows.specs.Keeping.{no_note}
-use Rattle.area_rows.proofs.ReplacingRows.{may_store_change, change_stored}
+use Rattle.area_rows.proofs.ReplacingRows.{may_store_change, change_stored, index_fits}
 use Rattle.area_rows.proofs.space.Space.store_change.Goals as goal
 
 -- the guard allows the store of the change
 pub store_as_uncounted-requires-clause-allowed : goal.store_as_uncounted-requires-clause-allowed
 store_as_uncounted-requires-clause-allowed c = let w = c.requires.change in may_store_change no_note c.args.seat.now w.0 w.1 w.2 c.args.index
     c.args.word w.3 w.4
+
+-- there is a client word for the row
+pub store_as_uncounted-requires-clause-place : goal.store_as_uncounted-requires-clause-place
+store_as_uncounted-requires-clause-place c =
+    let w = c.requires.change in
+    let table : room_of c.args.seat.now.table ≡ room_of c.self.inside.table.table =
+    ap room_of (c.requires.table ∙ sym (ap (λ (t : TableShape). t.table) c.self.view_is)) in
+    let wide = c.self.invariant.0 in let room = c.self.invariant.1 in let lt = index_fits c.args.seat.now w.0 w.2 in let at = w.3 in omega arith
 
 -- it was one step of the seat, after which all is written
 pub returns : goal.returns

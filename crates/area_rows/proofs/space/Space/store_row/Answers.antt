@@ -1,4 +1,6 @@
-use Rattle.std.proofs.Common.{rules}
+use Rattle.std.proofs.Common.{rules, ◌≡◌, arith, ap, ◌∙◌, sym}
+use Rattle.range_rw.specs.Contract.{TableShape}
+use Rattle.area_rows.specs.Rows.{room_of}
 use Rattle.area_rows.specs.Keeping.{no_note}
 use Rattle.area_rows.proofs.StoringRows.{may_store_row, row_stored}
 use Rattle.area_rows.proofs.space.Space.store_row.Goals as goal
@@ -7,6 +9,13 @@ use Rattle.area_rows.proofs.space.Space.store_row.Goals as goal
 pub store_as_uncounted-requires-clause-allowed : goal.store_as_uncounted-requires-clause-allowed
 store_as_uncounted-requires-clause-allowed c = let s = c.args.seat.now in
     may_store_row no_note s.number s.held s.pass c.args.plan.now c.requires.planned c.args.index _ c.requires.index (search rules)
+
+-- there is a client word for the row
+pub store_as_uncounted-requires-clause-place : goal.store_as_uncounted-requires-clause-place
+store_as_uncounted-requires-clause-place c =
+    let table : room_of c.args.seat.now.table ≡ room_of c.self.inside.table.table =
+    ap room_of (c.requires.table ∙ sym (ap (λ (t : TableShape). t.table) c.self.view_is)) in
+    let wide = c.self.invariant.0 in let room = c.self.invariant.1 in let fits = c.requires.room in let lt = c.requires.index in omega arith
 
 -- it was one step of the seat, after which its pass has that row
 pub returns : goal.returns

@@ -1,20 +1,25 @@
-use Rattle.std.proofs.Common.{rules, ℕ, ◌≡◌, ◌<◌, ◌∙◌, length, subst, arith}
+use Rattle.std.proofs.Common.{rules, ℕ, ◌≡◌, ◌<◌, ◌∙◌, ap, length, subst, arith}
+use Rattle.area_rows.specs.Rows.{room_of}
 use Rattle.area_rows.specs.Writing.{IsMixed}
-use Rattle.area_rows.proofs.StoringRows.{none_mixed, no_writing, writing_on}
+use Rattle.area_rows.proofs.StoringRows.{first_mixed, no_writing, writing_on}
 use Rattle.area_rows.proofs.StoreCounts.{first_stores, next_stores}
 use Rattle.area_rows.proofs.space.Space.write_rows.Goals as goal
 
--- before the first row nothing is stored
+-- before the first row that may change nothing is stored
 pub rows-init : goal.rows-init
 rows-init c =
     let s = c.args.seat.now in
     record {
-      mixed = none_mixed s.pass c.args.read.now c.args.plan.now c.requires.read;
+      mixed = first_mixed s.pass c.args.read.now c.args.plan.now c.args.first c.requires.read c.requires.first;
       writing = no_writing s;
       count = c.requires.read.0;
-      bound = omega arith;
-      taken = first_stores s.trace.taken c.args.read.now c.args.plan.now;
+      bound = c.requires.first.few;
+      taken = first_stores s.trace.taken c.args.read.now c.args.plan.now c.args.first c.requires.first;
     }
+
+-- the table has room for the row
+pub write_row_at-requires-clause-room : goal.write_row_at-requires-clause-room
+write_row_at-requires-clause-room c = let table = ap room_of c.rows.invariant.writing.table in let room = c.requires.room in omega arith
 
 -- and then one row more each time
 pub rows-preserved : goal.rows-preserved
