@@ -3,7 +3,7 @@ use Rattle.std.specs.Prelude.{MatchOption}
 use Rattle.std.specs.List.{Contains}
 use Rattle.std.proofs.Common.{◌≡◌, ◌⊎◌, ◌↔◌, ℕ, zero, suc, ◌<◌, ◌≤◌, List, [], ◌∷◌, Option, Some, None, refl, sym, ap, ◌∙◌, subst, inl, inr, arith}
 use Rattle.page_types.specs.declared.calls.Call.{Call}
-use Rattle.page_types.specs.declared.calls.Call.TheVariants.{Map, Unmap, Protect, Fault, Seal}
+use Rattle.page_types.specs.declared.calls.Call.TheVariants.{Map, Unmap, Protect, Fault, Seal, Brk, Remap}
 use Rattle.page_types.specs.declared.calls.Reply.{Reply}
 use Rattle.page_types.specs.declared.pages.Span.{Span}
 use Rattle.page_types.specs.declared.sets.Prot.{Prot}
@@ -89,6 +89,8 @@ state_tells A (Map addr len prot flags) exact under w none area e f = inl (f ∙
 state_tells A (Unmap addr len) exact under w none area e f = inl (f ∙ sym e)
 state_tells A (Protect addr len prot) exact under w none area e f = protect_tells A addr len prot exact under w none area e f
 state_tells A (Seal addr len flags) exact under w none area e f = inl (f ∙ sym e)
+state_tells A (Brk base addr) exact under w none area e f = inl (f ∙ sym e)
+state_tells A (Remap addr old new may hint) exact under w none area e f = inl (f ∙ sym e)
 state_tells A (Fault addr access) exact under w none area e f = inl (one_reader (page_of addr) under exact f e)
 
 -- everything fits a simple call
@@ -98,6 +100,8 @@ whole_fits A (Unmap addr len) simple = absurd simple.1
 whole_fits A (Protect addr len prot) simple = inl refl
 whole_fits A (Fault addr access) simple = absurd simple.1
 whole_fits A (Seal addr len flags) simple = absurd simple.1
+whole_fits A (Brk base addr) simple = absurd simple.1
+whole_fits A (Remap addr old new may hint) simple = absurd simple.1
 
 -- where exactly this has to be held, that may be held which is the same, or everything in place of an area
 pub fits_tells : (A : List Area) (c : Call) (exact under : Under) → IsAreaList A → FitsUnder A c exact

@@ -8,7 +8,7 @@ use Rattle.page_types.specs.declared.calls.Kind.{Kind}
 use Rattle.page_types.specs.declared.calls.Reply.{Reply}
 use Rattle.page_types.specs.declared.calls.Reply.TheVariants.{At, Zero, Granted, Refused}
 use Rattle.page_types.specs.declared.calls.Why.{Why}
-use Rattle.page_types.specs.declared.calls.Why.TheVariants.{Einval, Enomem, Eexist, Eperm, MapErr, AccErr}
+use Rattle.page_types.specs.declared.calls.Why.TheVariants.{Einval, Enomem, Eexist, Eperm, Efault, MapErr, AccErr}
 use Rattle.page_types.specs.declared.calls.Short.{Short}
 use Rattle.page_types.specs.declared.calls.Short.TheVariants.{Missing, PastEnd, NoGap, Rows}
 use Rattle.page_types.specs.Named.{IsNamedKind, IsNamedReply, IsNamedWhy}
@@ -20,7 +20,7 @@ use Rattle.round_trip.specs.Logs.{FitsReply, FitsShort, FitsWhy}
 use Rattle.round_trip.proofs.LogsRead.{space_ends, kind_back, kind_told}
 use Rattle.history_check.specs.LogLines.{HasNarrowRows}
 use Rattle.history_check.specs.Reading.{given, strip_at, marked_at, sealed_or, kind_at, field_at}
-use Rattle.history_check.specs.Reading.{short_at, segv_at, paged_at, why_at, reply_at, page_at}
+use Rattle.history_check.specs.Reading.{short_at, segv_at, faulted_at, paged_at, why_at, reply_at, page_at}
 use Rattle.history_check.proofs.NumbersBack.{decimal_back, small_back, page_back}
 
 -- a space is no digit of a count
@@ -72,11 +72,12 @@ acc_parts hex kind rest = simp append_assoc
 
 why_reads : (w : Why) (more : List ℕ) → FitsWhy w → HasNarrowRows (Refused w) → IsNamedWhy w
     → strip_at (codes " sealed") (32 ∷ more) ≡ None → reply_at (why_text w ++ 32 ∷ more) ≡ Some (Refused w, 32 ∷ more)
-unfolding reply_at why_at paged_at segv_at strip_at
+unfolding reply_at why_at paged_at faulted_at segv_at strip_at
 why_reads (Einval f) more fits narrow named none = rw (field_reads f (32 ∷ more)) refl
 why_reads (Enomem s) more fits narrow named none = rw (short_reads s more fits narrow) refl
 why_reads (Eexist p) more fits narrow named none = rw (page_back p (32 ∷ more) fits space_ends) refl
 why_reads (Eperm p) more fits narrow named none = rw (page_back p (32 ∷ more) fits space_ends) refl
+why_reads (Efault p) more fits narrow named none = rw (page_back p (32 ∷ more) fits space_ends) refl
 why_reads (MapErr p) more fits narrow named none = rw (page_back p (32 ∷ more) fits space_ends) refl
 why_reads (AccErr p k) more fits narrow named none =
     rw (

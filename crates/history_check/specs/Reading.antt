@@ -10,7 +10,7 @@ use Rattle.page_types.specs.declared.calls.Kind.{Kind}
 use Rattle.page_types.specs.declared.calls.Reply.{Reply}
 use Rattle.page_types.specs.declared.calls.Reply.TheVariants.{At, Zero, Granted, Refused}
 use Rattle.page_types.specs.declared.calls.Why.{Why}
-use Rattle.page_types.specs.declared.calls.Why.TheVariants.{Einval, Enomem, Eexist, Eperm, MapErr, AccErr}
+use Rattle.page_types.specs.declared.calls.Why.TheVariants.{Einval, Enomem, Eexist, Eperm, Efault, MapErr, AccErr}
 use Rattle.page_types.specs.declared.calls.Short.{Short}
 use Rattle.page_types.specs.declared.calls.Short.TheVariants.{Missing, PastEnd, NoGap, Rows}
 use Rattle.strace_reader.specs.Reading.{then_some}
@@ -83,10 +83,14 @@ segv_at text = given (strip_at (codes "SEGV_MAPERR page ") text) (λ rest. then_
     (λ rest. then_some (page_at rest)
     (λ n. then_some (strip_at (codes " ") n.1) (λ more. then_some (kind_at more) (λ k. Some (AccErr n.0 k.0, k.1))))))
 
+-- a page that isn't mapped as the call needs it
+unfoldable pub faulted_at : List ℕ → Option (Why × List ℕ)
+faulted_at text = given (strip_at (codes "EFAULT page ") text) (λ rest. then_some (page_at rest) (λ n. Some (Efault n.0, n.1))) (segv_at text)
+
 -- why a call was refused, where it names a page
 unfoldable pub paged_at : List ℕ → Option (Why × List ℕ)
 paged_at text = given (strip_at (codes "EEXIST page ") text) (λ rest. then_some (page_at rest) (λ n. Some (Eexist n.0, n.1)))
-    (given (strip_at (codes "EPERM page ") text) (λ rest. then_some (page_at rest) (λ n. Some (Eperm n.0, n.1))) (segv_at text))
+    (given (strip_at (codes "EPERM page ") text) (λ rest. then_some (page_at rest) (λ n. Some (Eperm n.0, n.1))) (faulted_at text))
 
 -- why a call was refused
 unfoldable pub why_at : List ℕ → Option (Why × List ℕ)

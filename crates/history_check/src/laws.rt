@@ -50,8 +50,12 @@ fn rows_fit(reply: Reply)
                 Short::Rows(rows) => in_range(rows),
                 Short::Missing(_) | Short::PastEnd(_) | Short::NoGap(_) => {}
             },
-            Why::Einval(_) | Why::Eexist(_) | Why::Eperm(_) | Why::MapErr(_) | Why::AccErr(_, _) =>
-                {}
+            Why::Einval(_)
+            | Why::Eexist(_)
+            | Why::Eperm(_)
+            | Why::Efault(_)
+            | Why::MapErr(_)
+            | Why::AccErr(_, _) => {}
         },
     }
 }

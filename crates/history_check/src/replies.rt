@@ -2,7 +2,7 @@
 
 ghost use Rattle.std.specs.Prelude.{◌≡◌, ◌↔◌, IsTrue, option_map};
 ghost use Rattle.page_types.specs.Named.{IsNamedReply};
-ghost use Rattle.history_check.specs.Reading.{bit_if, marked_at, kind_at, field_at, short_at, segv_at, paged_at, why_at, reply_at};
+ghost use Rattle.history_check.specs.Reading.{bit_if, marked_at, kind_at, field_at, short_at, segv_at, faulted_at, paged_at, why_at, reply_at};
 
 use crate::numbers::{DECIMAL, number, page, small, strip};
 use bitflags::Flags;
@@ -106,6 +106,18 @@ fn segv(text: &[u8]) -> Option<(Why, &[u8])>
     Some((Why::AccErr(found, kind), rest))
 }
 
+/// Why a call was refused: a page that isn't mapped as the call needs it.
+#[tactic(auto, unfolding(crate::specs::Reading::faulted_at))]
+fn faulted(text: &[u8]) -> Option<(Why, &[u8])>
+    ensures { option_map (λ x. (x.0, x.1.now)) result ≡ faulted_at text.now }
+{
+    if let Some(rest) = strip(text, b"EFAULT page ") {
+        let (found, rest) = page(rest)?;
+        return Some((Why::Efault(found), rest));
+    }
+    segv(text)
+}
+
 /// Why a call was refused: what it names is a page.
 #[tactic(auto, unfolding(crate::specs::Reading::paged_at))]
 fn paged(text: &[u8]) -> Option<(Why, &[u8])>
@@ -119,7 +131,7 @@ fn paged(text: &[u8]) -> Option<(Why, &[u8])>
         let (found, rest) = page(rest)?;
         return Some((Why::Eperm(found), rest));
     }
-    segv(text)
+    faulted(text)
 }
 
 /// Why a call was refused.

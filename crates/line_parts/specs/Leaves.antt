@@ -67,6 +67,10 @@ worth b = if nat_lt b 48 then 99
     else if nat_lt b 103 then b - 87
     else 99
 
+-- a digit from 0 to 9, or from a to f in either case
+abbrev pub is_hex : ℕ → Bool
+is_hex b = nat_lt (worth b) 16
+
 -- each byte is a digit of the base
 abbrev pub AllDigits : ℕ → List ℕ → Type 0
 AllDigits base [] = Unit {0}

@@ -14,5 +14,5 @@ pub use bytes::{
     begins, begins_digit, behind_first, byte, letters, name, skip_digits, skip_spaces, until, word,
 };
 pub use lines::next_line;
-pub use numbers::{digits, number};
+pub use numbers::{digits, is_hex, number};
 pub use refusal::{Refusal, What};

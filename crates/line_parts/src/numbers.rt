@@ -3,7 +3,7 @@
 //! end, so no refusal comes from inside a number. `number` in `specs/Leaves.antt` is the definition.
 
 ghost use Rattle.std.specs.Prelude.{◌≡◌, ◌+◌, ◌*◌, ◌<◌, ℕ};
-ghost use Rattle.line_parts.specs.Leaves.{worth};
+ghost use Rattle.line_parts.specs.Leaves.{is_hex, worth};
 ghost use Rattle.line_parts.specs.Reading.{Gives, digits_of, digits_read, narrow, number_at};
 
 use crate::refusal::{Refusal, What};
@@ -26,6 +26,13 @@ fn digit(byte: u8) -> u64
         b'a'..=b'f' => (byte - b'a') as u64 + DECIMAL,
         _ => NO_DIGIT,
     }
+}
+
+/// Whether the byte is a hexadecimal digit, of either case.
+pub fn is_hex(byte: u8) -> bool
+    ensures { result ≡ is_hex byte }
+{
+    digit(byte) < HEXADECIMAL
 }
 
 /// The number with one more digit.

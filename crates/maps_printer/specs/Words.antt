@@ -45,6 +45,10 @@ access_text Read = codes "PROT_READ"
 access_text Write = codes "PROT_WRITE"
 access_text Exec = codes "PROT_EXEC"
 
+-- mremap(2): the word by which pages may be put elsewhere, or 0
+abbrev pub move_text : Bool → List ℕ
+move_text may = if may then codes "MREMAP_MAYMOVE" else codes "0"
+
 -- a letter, or `-` where its bit isn't set
 abbrev pub letter_if : Bool → ℕ → ℕ
 letter_if is_set letter = if is_set then letter else 45

@@ -1,16 +1,16 @@
-//! A call as text, as strace(1) prints a system call: `mmap`, `munmap`, `mprotect` and `mseal` with their arguments,
-//! and this project's own `fault`. The text is a function of the call, `call_text`. A reader may rely on it to read
-//! back as the same call, which the crate `round_trip` proves.
+//! A call as text, as strace(1) prints a system call: `mmap`, `munmap`, `mprotect`, `mseal`, `brk` and `mremap` with
+//! their arguments, and this project's own `fault`. The text is a function of the call, `call_text`. A reader may rely
+//! on it to read back as the same call, which the crate `round_trip` proves.
 ghost use Rattle.std.specs.Prelude.{◌≡◌, ◌+◌, ◌≤◌, ◌++◌, length, codes, decimal, OnOk, OnErr};
 ghost use Rattle.std.specs.Io.KnownBytes.{Appends};
 ghost use Rattle.byte_ports.specs.Bytes.{AppendsPrefix};
 ghost use Rattle.byte_ports.specs.Counts.{Rose};
-ghost use Rattle.maps_printer.specs.Calls.{call_text};
+ghost use Rattle.maps_printer.specs.Calls.{call_text, hint_text};
 ghost use Rattle.maps_printer.specs.Numbers.{address_text};
 
 use crate::buffer::{Buffer, SIZE};
-use crate::numbers::{push_address, push_decimal};
-use crate::words::{access_text, flags_text, prot_text};
+use crate::numbers::{push_address, push_decimal, push_prefixed_hex};
+use crate::words::{access_text, flags_text, move_text, prot_text};
 use byte_ports::{Failed, Sink};
 use page_types::Call;
 
@@ -68,6 +68,27 @@ pub(crate) fn push_call(buffer: &mut Buffer, call: Call)
             push_decimal(buffer, flags);
             buffer.push(b")");
         }
+        Call::Brk { base, addr } => {
+            buffer.push(b"brk(");
+            push_address(buffer, addr);
+            buffer.push(b", ");
+            push_address(buffer, base);
+            buffer.push(b")");
+        }
+        Call::Remap {
+            addr,
+            old_len,
+            new_len,
+            may_move,
+            hint,
+        } => {
+            push_pages(buffer, b"mremap(", addr, old_len);
+            buffer.push(b", ");
+            push_decimal(buffer, new_len);
+            push_word(buffer, move_text(may_move));
+            push_hint(buffer, hint);
+            buffer.push(b")");
+        }
     }
 }
 
@@ -82,6 +103,18 @@ fn push_pages(buffer: &mut Buffer, name: &[u8], addr: u64, len: u64)
     push_address(buffer, addr);
     buffer.push(b", ");
     push_decimal(buffer, len);
+}
+
+/// Adds a comma and a hint, where there is one: at most 20 bytes.
+fn push_hint(buffer: &mut Buffer, hint: u64)
+    requires { length buffer.old + 20 ≤ SIZE }
+    ensures text { buffer.new ≡ buffer.old ++ hint_text hint }
+    ensures room { length buffer.new ≤ length buffer.old + 20 }
+{
+    if hint != 0 {
+        buffer.push(b", ");
+        push_prefixed_hex(buffer, hint);
+    }
 }
 
 /// Adds a comma and one more argument: at most 2 bytes more than it has.

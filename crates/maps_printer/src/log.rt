@@ -99,6 +99,7 @@ fn push_why(buffer: &mut Buffer, why: Why)
         }
         Why::Eexist(page) => push_page(buffer, b"-1 EEXIST page ", page),
         Why::Eperm(page) => push_page(buffer, b"-1 EPERM page ", page),
+        Why::Efault(page) => push_page(buffer, b"-1 EFAULT page ", page),
         Why::MapErr(page) => push_page(buffer, b"-1 SEGV_MAPERR page ", page),
         Why::AccErr(page, kind) => {
             push_page(buffer, b"-1 SEGV_ACCERR page ", page);

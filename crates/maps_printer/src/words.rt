@@ -2,7 +2,7 @@
 //! prints them, and the four characters of proc_pid_maps(5). A set's bits that have no word aren't printed, so no call
 //! needs a condition.
 ghost use Rattle.std.specs.Prelude.{◌≡◌, ◌+◌, ◌≤◌, ◌++◌, length};
-ghost use Rattle.maps_printer.specs.Words.{access_text, letter_if, flags_text, kind_text, log_kind, prot_text};
+ghost use Rattle.maps_printer.specs.Words.{access_text, letter_if, flags_text, kind_text, log_kind, move_text, prot_text};
 
 use crate::buffer::{Buffer, SIZE};
 use bitflags::Flags;
@@ -69,6 +69,14 @@ pub(crate) fn access_text(access: Access) -> &'static str
         Access::Write => "PROT_WRITE",
         Access::Exec => "PROT_EXEC",
     }
+}
+
+/// The word by which mremap(2) may put pages elsewhere, or 0: at most 14 bytes.
+pub(crate) fn move_text(may_move: bool) -> &'static str
+    ensures text { result.now ≡ move_text may_move }
+    ensures short { length result.now ≤ 14 }
+{
+    if may_move { "MREMAP_MAYMOVE" } else { "0" }
 }
 
 /// Adds the four characters of a kind.

@@ -1,7 +1,7 @@
 -- The text of a call is read as the call: each argument with the comma behind it, and then the end of the line.
 use Rattle.std.proofs.Common.{rules, ◌≡◌, ◌≢◌, ℕ, zero, suc, ◌^◌, ◌<◌, ◌≤◌, List, [], ◌∷◌, ◌++◌, length, get_or, codes}
 use Rattle.std.proofs.Common.{decimal, if◌then◌else◌, ◌==◌, false, Option, Some, None, refl, sym, ap, subst, ◌∙◌, arith}
-use Rattle.std.proofs.Common.{append_assoc, append-nil}
+use Rattle.std.proofs.Common.{append_assoc, append-nil, Bool, true}
 use Rattle.std.proofs.lemmas.List.{length-append}
 use Rattle.std.proofs.lemmas.Bool.Decides.{nat_tests}
 use Rattle.std.proofs.lemmas.Fmt.{length-decimal-le}
@@ -9,26 +9,27 @@ use Rattle.maps_printer.proofs.Hex.{length-hex_digits}
 use Rattle.std.proofs.Math.Seq.{get_or-append_seam}
 use Rattle.line_parts.specs.declared.refusal.What.{What}
 use Rattle.line_parts.specs.declared.refusal.What.TheVariants.{Number}
-use Rattle.line_parts.specs.Parts.{Part, chain, starts}
-use Rattle.line_parts.specs.Leaves.{is, letters, number, worth}
+use Rattle.line_parts.specs.Parts.{Part, chain, arm, done, starts}
+use Rattle.line_parts.specs.Leaves.{is, byte, letters, number, worth, anything, no_byte}
 use Rattle.line_parts.proofs.Numerals.{NoNumeral, zero_number}
 use Rattle.page_types.specs.declared.calls.Call.{Call}
-use Rattle.page_types.specs.declared.calls.Call.TheVariants.{Map, Unmap, Protect, Fault, Seal}
+use Rattle.page_types.specs.declared.calls.Call.TheVariants.{Map, Unmap, Protect, Fault, Seal, Brk, Remap}
 use Rattle.page_types.specs.declared.sets.Access.{Access}
 use Rattle.page_types.specs.declared.sets.Access.TheVariants.{Read, Write, Exec}
 use Rattle.page_types.specs.Named.{IsNamedCall}
 use Rattle.strace_reader.specs.declared.item.Item.TheVariants.{Played}
 use Rattle.strace_reader.specs.declared.item.Name.{Name}
-use Rattle.strace_reader.specs.declared.item.Name.TheVariants.{Mmap, Munmap, Mprotect, Fault as FaultName, Mseal}
-use Rattle.strace_reader.specs.Words.{call_head, access_of}
+use Rattle.strace_reader.specs.declared.item.Name.TheVariants.{Mmap, Munmap, Mprotect, Fault as FaultName, Mseal, Brk as BrkName, Mremap}
+use Rattle.strace_reader.specs.Words.{call_head, access_of, may_of}
 use Rattle.strace_reader.specs.Calls.{call, arguments, unrecorded, addr, comma, access, closing, map_tail, descriptor}
 use Rattle.strace_reader.specs.Calls.{prot, flags, protect_behind_prot, map_behind_prot, map_behind_flags}
 use Rattle.strace_reader.specs.Calls.{munmap_arguments, mprotect_arguments, fault_arguments, mseal_arguments, mmap_arguments}
+use Rattle.strace_reader.specs.Calls.{optional, is_more, alone, hex_number, moving, brk_arguments, remap_lengths, remap_behind, mremap_arguments}
 use Rattle.strace_reader.specs.Grammar.{Spells, IsBody, NeverReturned, EndsWith, unfinished}
 use Rattle.strace_reader.proofs.BodyAnswers.{call_cut}
-use Rattle.maps_printer.specs.Calls.{call_text}
+use Rattle.maps_printer.specs.Calls.{call_text, hint_text}
 use Rattle.maps_printer.specs.Numbers.{address_text, prefixed_hex}
-use Rattle.maps_printer.specs.Words.{prot_text, flags_text, access_text}
+use Rattle.maps_printer.specs.Words.{prot_text, flags_text, access_text, move_text}
 use Rattle.round_trip.specs.Logs.{FitsCall}
 use Rattle.round_trip.proofs.NumbersRead.{decimal_takes, hex_takes, decimal_starts}
 use Rattle.round_trip.proofs.WordsRead.{Ends, comma_ends, comma_ends_number, prot_takes, flags_takes}
@@ -137,6 +138,104 @@ mseal_takes a n f small_a small_n small_f =
     (then_length (λ n. chain comma (λ v. chain (number Number) (λ f. closing (Seal a n f)))) n _ _ small_n (comma_ends_number [])
     (then_length (λ f. closing (Seal a n f)) f (codes ")") _ small_f close_ends_number (closing_takes (Seal a n f))))
 
+address_starts : (n : ℕ) (rest : List ℕ) → starts (is 32) (address_text n ++ rest) ≡ false
+address_starts zero rest = refl
+address_starts (suc k) rest =
+    let some : (suc k == 0) ≡ false = grind (arith, nat_tests) in
+    subst (λ none. starts (is 32) ((if none then codes "NULL" else prefixed_hex (suc k)) ++ rest) ≡ false) (sym some) refl
+
+-- the base behind the address
+then_base : {B : Type 0} (next : ℕ → Part B) (n : ℕ) (more : List ℕ) (w : B) → n < 2 ^ 64 → NoNumeral (more ++ []) → (next n).takes more [] w
+    → (chain optional next).takes (codes ", " ++ (address_text n ++ more)) [] w
+then_base next n more w small ends h = (
+  codes ", " ++ address_text n,
+  more,
+  n,
+  refl,
+  (
+    codes ", ",
+    address_text n,
+    tt,
+    refl,
+    comma_takes (address_text n ++ (more ++ [])) (address_starts n (more ++ [])),
+    addr_takes n (more ++ []) small ends,
+  ),
+  h,
+)
+
+brk_takes : (b a : ℕ) → b < 2 ^ 64 → a < 2 ^ 64
+    → brk_arguments.takes (address_text a ++ (codes ", " ++ (address_text b ++ codes ")"))) [] (unrecorded (Brk b a))
+brk_takes b a small_b small_a =
+    then_addr (λ a. chain optional (λ b. closing (Brk b a))) a (codes ", " ++ (address_text b ++ codes ")")) _ small_a (comma_ends_number [])
+    (then_base (λ b. closing (Brk b a)) b (codes ")") _ small_b close_ends_number (closing_takes (Brk b a)))
+
+-- the word or the 0 of a remap, before what goes on with no byte of either
+move_takes : (may : Bool) (rest : List ℕ) → Ends rest → starts is_more rest ≡ false → starts (is 120) rest ≡ false
+    → moving.takes (move_text may) rest (Some may)
+unfolding may_of
+move_takes true rest ends no_more no_x = (
+  codes "MREMAP_MAYMOVE",
+  [],
+  codes "MREMAP_MAYMOVE",
+  refl,
+  (refl, search rules, ends.no_word),
+  subst (λ (x : Bool). (arm (anything no_byte None) (done (Some true)) x).takes [] rest (Some true)) (sym ends.no_bar) (refl, refl),
+)
+move_takes false rest ends no_more no_x =
+    let said = subst (λ (x : Bool). (arm (anything no_byte None) (done (Some false)) x).takes [] rest (Some false)) (sym no_more) (refl, refl) in
+    let behind = subst (λ (x : Bool). (arm (chain (byte 120 Number) (λ v. hex_number)) (alone is_more false) x).takes [] rest (Some false))
+    (sym no_x) said in
+    (48 ∷ [], [], tt, refl, refl, behind)
+
+move_starts : (may : Bool) (more : List ℕ) → starts (is 32) (move_text may ++ more) ≡ false
+move_starts true more = refl
+move_starts false more = refl
+
+-- the word or the 0, and the hint behind it, where there is one
+then_move : (a o n : ℕ) (may : Bool) (h : ℕ) → h < 2 ^ 64
+    → (chain moving (remap_behind a o n)).takes (move_text may ++ (hint_text h ++ codes ")")) [] (unrecorded (Remap a o n may h))
+then_move a o n may zero small = (
+  move_text may,
+  codes ")",
+  Some may,
+  refl,
+  move_takes may (codes ")") close_ends refl refl,
+  ([], codes ")", 0, refl, (refl, refl), closing_takes (Remap a o n may 0)),
+)
+then_move a o n may (suc k) small =
+    let some : (suc k == 0) ≡ false = grind (arith, nat_tests) in
+    let hint = codes ", " ++ prefixed_hex (suc k) in
+    let hex = hex_takes Number (suc k) (codes ")") small close_ends_number in
+    subst
+    (λ none. (chain moving (remap_behind a o n)).takes (move_text may ++ ((if none then [] else hint) ++ codes ")")) []
+    (unrecorded (Remap a o n may (suc k)))) (sym some) (
+      move_text may,
+      hint ++ codes ")",
+      Some may,
+      refl,
+      move_takes may ((hint ++ codes ")") ++ []) (comma_ends _) refl refl,
+      (
+        hint,
+        codes ")",
+        suc k,
+        refl,
+        (codes ", ", prefixed_hex (suc k), tt, refl, comma_takes (prefixed_hex (suc k) ++ codes ")") refl, hex),
+        closing_takes (Remap a o n may (suc k)),
+      ),
+    )
+
+mremap_takes : (a o n : ℕ) (may : Bool) (h : ℕ) → a < 2 ^ 64 → o < 2 ^ 64 → n < 2 ^ 64 → h < 2 ^ 64
+    → mremap_arguments.takes
+    (address_text a ++ (codes ", " ++ (decimal o ++ (codes ", "
+    ++ (decimal n ++ (codes ", " ++ (move_text may ++ (hint_text h ++ codes ")")))))))) []
+    (unrecorded (Remap a o n may h))
+mremap_takes a o n may h small_a small_o small_n small_h =
+    then_addr (λ a. chain comma (λ u. chain (number Number) (remap_lengths a))) a _ _ small_a (comma_ends_number [])
+    (then_length (remap_lengths a) o _ _ small_o (comma_ends_number [])
+    (then_length (λ n. chain comma (λ v. chain moving (remap_behind a o n))) n _ _ small_n (comma_ends_number [])
+    (then_comma (chain moving (remap_behind a o n)) (move_text may ++ (hint_text h ++ codes ")")) _ (rw append_assoc (move_starts may _))
+    (then_move a o n may h small_h))))
+
 -- the descriptor -1 and the offset 0
 dropped_takes : (c : Call) → (map_tail c).takes (codes ", -1, 0)") [] (unrecorded c)
 dropped_takes c =
@@ -217,6 +316,9 @@ nest_map o a c n p f t = simp append_assoc
 nest_protect : (o a c n p t : List ℕ) → o ++ a ++ c ++ n ++ c ++ p ++ t ≡ o ++ (a ++ (c ++ (n ++ (c ++ (p ++ t)))))
 nest_protect o a c n p t = simp append_assoc
 
+nest_remap : (o a c n m w h t : List ℕ) → o ++ a ++ c ++ n ++ c ++ m ++ c ++ w ++ h ++ t ≡ o ++ (a ++ (c ++ (n ++ (c ++ (m ++ (c ++ (w ++ (h ++ t))))))))
+nest_remap o a c n m w h t = simp append_assoc
+
 nest_unmap : (o a c n t : List ℕ) → o ++ a ++ c ++ n ++ t ≡ o ++ (a ++ (c ++ (n ++ t)))
 nest_unmap o a c n t = simp append_assoc
 
@@ -248,11 +350,29 @@ call_text_spells (Seal a n f) named fits =
     (mseal_takes a n f fits.0 fits.1 fits.2)
     (nest_protect (codes "mseal(") (address_text a) (codes ", ") (decimal n) (decimal f) (codes ")"))
     refl
+call_text_spells (Brk b a) named fits =
+    spelled BrkName _ (call_text (Brk b a)) (codes "brk(" ++ address_text a ++ codes ", " ++ address_text b) _
+    (brk_takes b a fits.0 fits.1)
+    (nest_unmap (codes "brk(") (address_text a) (codes ", ") (address_text b) (codes ")"))
+    refl
+call_text_spells (Remap a o n may h) named fits =
+    let body = codes "mremap(" ++ address_text a ++ codes ", " ++ decimal o ++ codes ", " ++ decimal n ++ codes ", " ++ move_text may ++ hint_text h in
+    spelled Mremap _ (call_text (Remap a o n may h)) body _
+    (mremap_takes a o n may h fits.0 fits.1 fits.2 fits.3)
+    (nest_remap (codes "mremap(") (address_text a) (codes ", ") (decimal o) (decimal n) (move_text may) (hint_text h) (codes ")"))
+    refl
 
 -- ---- how long a text is
 
 address_length : (n : ℕ) → n < 2 ^ 64 → length (address_text n) ≤ 18
 address_length n small = let digits = length-hex_digits n small in grind (arith, length-append {A = ℕ})
+
+hint_length : (n : ℕ) → n < 2 ^ 64 → length (hint_text n) ≤ 20
+hint_length n small = let digits = length-hex_digits n small in grind (arith, length-append {A = ℕ})
+
+move_length : (may : Bool) → length (move_text may) ≤ 14
+move_length true = omega arith
+move_length false = omega arith
 
 -- what is written of a call has at most 143 bytes
 pub call_text_length : (c : Call) → IsNamedCall c → FitsCall c → length (call_text c) ≤ 143
@@ -279,4 +399,15 @@ call_text_length (Seal a n f) named fits =
     let addr_short = address_length a fits.0 in
     let len_short = length-decimal-le 20 n (omega arith) (omega arith) fits.1 in
     let flags_short = length-decimal-le 20 f (omega arith) (omega arith) fits.2 in
+    simp length-append (omega arith)
+call_text_length (Brk b a) named fits =
+    let base_short = address_length b fits.0 in
+    let addr_short = address_length a fits.1 in
+    simp length-append (omega arith)
+call_text_length (Remap a o n may h) named fits =
+    let addr_short = address_length a fits.0 in
+    let old_short = length-decimal-le 20 o (omega arith) (omega arith) fits.1 in
+    let new_short = length-decimal-le 20 n (omega arith) (omega arith) fits.2 in
+    let move_short = move_length may in
+    let hint_short = hint_length h fits.3 in
     simp length-append (omega arith)

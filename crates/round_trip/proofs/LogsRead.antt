@@ -12,12 +12,12 @@ use Rattle.std.proofs.lemmas.Fmt.{decimal_injective}
 use Rattle.line_parts.specs.Leaves.{worth, AllDigits, value}
 use Rattle.page_types.specs.declared.TheConstants.{LIMIT}
 use Rattle.page_types.specs.declared.calls.Call.{Call}
-use Rattle.page_types.specs.declared.calls.Call.TheVariants.{Map, Unmap, Protect, Fault, Seal}
+use Rattle.page_types.specs.declared.calls.Call.TheVariants.{Map, Unmap, Protect, Fault, Seal, Brk, Remap}
 use Rattle.page_types.specs.declared.calls.Kind.{Kind}
 use Rattle.page_types.specs.declared.calls.Reply.{Reply}
 use Rattle.page_types.specs.declared.calls.Reply.TheVariants.{At, Zero, Granted, Refused}
 use Rattle.page_types.specs.declared.calls.Why.{Why}
-use Rattle.page_types.specs.declared.calls.Why.TheVariants.{Einval, Enomem, Eexist, Eperm, MapErr, AccErr}
+use Rattle.page_types.specs.declared.calls.Why.TheVariants.{Einval, Enomem, Eexist, Eperm, Efault, MapErr, AccErr}
 use Rattle.page_types.specs.declared.calls.Short.{Short}
 use Rattle.page_types.specs.declared.calls.Short.TheVariants.{Missing, PastEnd, NoGap, Rows}
 use Rattle.page_types.specs.declared.pages.Field.{Field}
@@ -35,10 +35,10 @@ use Rattle.space_model.specs.declared.entries.Under.TheVariants.{Nothing, Reader
 use Rattle.strace_reader.specs.declared.item.Item.TheVariants.{Played}
 use Rattle.strace_reader.specs.Grammar.{Spells}
 use Rattle.strace_reader.proofs.OneOutcome.{one_outcome}
-use Rattle.maps_printer.specs.Calls.{call_text, reply_text, why_text, short_text, field_text}
+use Rattle.maps_printer.specs.Calls.{call_text, hint_text, reply_text, why_text, short_text, field_text}
 use Rattle.maps_printer.specs.Lines.{entry_line, log_text, under_text, span_text}
 use Rattle.maps_printer.specs.Numbers.{address_text, prefixed_hex, hex_digits}
-use Rattle.maps_printer.specs.Words.{prot_text, flags_text, access_text, kind_text, log_kind, letter_if, words_or, word_if}
+use Rattle.maps_printer.specs.Words.{prot_text, flags_text, access_text, move_text, kind_text, log_kind, letter_if, words_or, word_if}
 use Rattle.round_trip.specs.Logs.{FitsCall, FitsReply, FitsWhy, FitsShort, FitsHeld, HasWordNumbers, IsNamedEntry}
 use Rattle.round_trip.proofs.CallsRead.{call_text_spells}
 use Rattle.round_trip.proofs.NumbersRead.{decimal_digits, hex_are_digits}
@@ -91,11 +91,11 @@ lacks_used b bytes (x ∷ xs) none all = elim (eqb_tells x b) [
 
 -- the bytes of the fixed words of a reply; there is no `u` among them
 abbrev pub reply_bytes : List ℕ
-reply_bytes = codes "-01 ACEGILMNOPRSTVX_adefgilmnoprstwx"
+reply_bytes = codes "-01 ACEFGILMNOPRSTUVX_adefgilmnoprstwx"
 
 -- the bytes of those of a call, but for the closing parenthesis
 abbrev pub call_bytes : List ℕ
-call_bytes = codes "(,-0|1 ACDEFHILMNOPRSTUVWX_acefglmnoprstux"
+call_bytes = codes "(,-0|1 ACDEFHILMNOPRSTUVWXY_abcefgklmnoprstux"
 
 -- a text that lacks the byte
 pub record Clean (b : ℕ) : Type 0 where
@@ -230,6 +230,10 @@ access_uses Read = refl
 access_uses Write = refl
 access_uses Exec = refl
 
+move_uses : (may : Bool) → uses call_bytes (move_text may) ≡ true
+move_uses true = refl
+move_uses false = refl
+
 -- the text of a call up to its closing parenthesis
 record Body (b : ℕ) (c : Call) : Type 0 where
   -- what stands before the parenthesis
@@ -265,6 +269,12 @@ module _ (b : ℕ) (apart : IsApart b) where
       address_lacks b n small (lacks_used b call_bytes (codes "NULL") apart.no_word refl)
       (lacks_used b call_bytes (codes "0x") apart.no_word refl) apart.no_digit
 
+  hint : (n : ℕ) → n < 2 ^ 64 → lacks b (hint_text n) ≡ true
+  hint n small = elim (n == 0) as (λ t. lacks b (cond t [] (codes ", " ++ prefixed_hex n)) ≡ true) [
+    | true ↦ refl
+    | false ↦ lacks_both b (codes ", 0x") (hex_digits n) (lacks_used b call_bytes (codes ", 0x") apart.no_word refl) (hex_lacks b n small apart.no_digit)
+  ]
+
   body_of : (c : Call) → FitsCall c → Body b c
   body_of (Map a n p f) fits =
       let first = onto (word (codes "mmap(") refl) (address_text a) (address a fits.0) in
@@ -290,6 +300,15 @@ module _ (b : ℕ) (apart : IsApart b) where
       let first = onto (word (codes "mseal(") refl) (address_text a) (address a fits.0) in
       let len = onto (more first (codes ", ") refl) (decimal n) (number n fits.1) in
       of_clean b (Seal a n f) (onto (more len (codes ", ") refl) (decimal f) (number f fits.2)) refl
+  body_of (Brk base a) fits =
+      let first = onto (word (codes "brk(") refl) (address_text a) (address a fits.1) in
+      of_clean b (Brk base a) (onto (more first (codes ", ") refl) (address_text base) (address base fits.0)) refl
+  body_of (Remap a o n may h) fits =
+      let first = onto (word (codes "mremap(") refl) (address_text a) (address a fits.0) in
+      let old = onto (more first (codes ", ") refl) (decimal o) (number o fits.1) in
+      let new = onto (more old (codes ", ") refl) (decimal n) (number n fits.2) in
+      let moves = more (more new (codes ", ") refl) (move_text may) (move_uses may) in
+      of_clean b (Remap a o n may h) (onto moves (hint_text h) (hint h fits.3)) refl
 
 -- the text of a call lacks such a byte, where that isn't the parenthesis
 pub call_lacks : (b : ℕ) → IsApart b → lacks b (41 ∷ []) ≡ true → (c : Call) → FitsCall c → lacks b (call_text c) ≡ true
@@ -429,36 +448,49 @@ why_tells (Einval f) (Einval g) a b c d e = ap Einval (sym (field_told f) ∙ ap
 why_tells (Einval f) (Enomem g) a b c d e = absurd (apart 4 _ _ (λ x. omega (arith, x)) e)
 why_tells (Einval f) (Eexist q) a b c d e = absurd (apart 4 _ _ (λ x. omega (arith, x)) e)
 why_tells (Einval f) (Eperm q) a b c d e = absurd (apart 4 _ _ (λ x. omega (arith, x)) e)
+why_tells (Einval f) (Efault q) a b c d e = absurd (apart 4 _ _ (λ x. omega (arith, x)) e)
 why_tells (Einval f) (MapErr q) a b c d e = absurd (apart 3 _ _ (λ x. omega (arith, x)) e)
 why_tells (Einval f) (AccErr q j) a b c d e = absurd (apart 3 _ _ (λ x. omega (arith, x)) e)
 why_tells (Enomem f) (Einval g) a b c d e = absurd (apart 4 _ _ (λ x. omega (arith, x)) e)
 why_tells (Enomem f) (Enomem g) a b c d e = ap Enomem (short_tells f g a b (ap (drop 10) e))
 why_tells (Enomem f) (Eexist q) a b c d e = absurd (apart 4 _ _ (λ x. omega (arith, x)) e)
 why_tells (Enomem f) (Eperm q) a b c d e = absurd (apart 4 _ _ (λ x. omega (arith, x)) e)
+why_tells (Enomem f) (Efault q) a b c d e = absurd (apart 4 _ _ (λ x. omega (arith, x)) e)
 why_tells (Enomem f) (MapErr q) a b c d e = absurd (apart 3 _ _ (λ x. omega (arith, x)) e)
 why_tells (Enomem f) (AccErr q j) a b c d e = absurd (apart 3 _ _ (λ x. omega (arith, x)) e)
 why_tells (Eexist p) (Einval g) a b c d e = absurd (apart 4 _ _ (λ x. omega (arith, x)) e)
 why_tells (Eexist p) (Enomem g) a b c d e = absurd (apart 4 _ _ (λ x. omega (arith, x)) e)
 why_tells (Eexist p) (Eexist q) a b c d e = ap Eexist (hex_tells p q a b (ap (drop 17) e))
 why_tells (Eexist p) (Eperm q) a b c d e = absurd (apart 4 _ _ (λ x. omega (arith, x)) e)
+why_tells (Eexist p) (Efault q) a b c d e = absurd (apart 4 _ _ (λ x. omega (arith, x)) e)
 why_tells (Eexist p) (MapErr q) a b c d e = absurd (apart 3 _ _ (λ x. omega (arith, x)) e)
 why_tells (Eexist p) (AccErr q j) a b c d e = absurd (apart 3 _ _ (λ x. omega (arith, x)) e)
 why_tells (Eperm p) (Einval g) a b c d e = absurd (apart 4 _ _ (λ x. omega (arith, x)) e)
 why_tells (Eperm p) (Enomem g) a b c d e = absurd (apart 4 _ _ (λ x. omega (arith, x)) e)
 why_tells (Eperm p) (Eexist q) a b c d e = absurd (apart 4 _ _ (λ x. omega (arith, x)) e)
 why_tells (Eperm p) (Eperm q) a b c d e = ap Eperm (hex_tells p q a b (ap (drop 16) e))
+why_tells (Eperm p) (Efault q) a b c d e = absurd (apart 4 _ _ (λ x. omega (arith, x)) e)
 why_tells (Eperm p) (MapErr q) a b c d e = absurd (apart 3 _ _ (λ x. omega (arith, x)) e)
 why_tells (Eperm p) (AccErr q j) a b c d e = absurd (apart 3 _ _ (λ x. omega (arith, x)) e)
+why_tells (Efault p) (Einval g) a b c d e = absurd (apart 4 _ _ (λ x. omega (arith, x)) e)
+why_tells (Efault p) (Enomem g) a b c d e = absurd (apart 4 _ _ (λ x. omega (arith, x)) e)
+why_tells (Efault p) (Eexist q) a b c d e = absurd (apart 4 _ _ (λ x. omega (arith, x)) e)
+why_tells (Efault p) (Eperm q) a b c d e = absurd (apart 4 _ _ (λ x. omega (arith, x)) e)
+why_tells (Efault p) (Efault q) a b c d e = ap Efault (hex_tells p q a b (ap (drop 17) e))
+why_tells (Efault p) (MapErr q) a b c d e = absurd (apart 3 _ _ (λ x. omega (arith, x)) e)
+why_tells (Efault p) (AccErr q j) a b c d e = absurd (apart 3 _ _ (λ x. omega (arith, x)) e)
 why_tells (MapErr p) (Einval g) a b c d e = absurd (apart 3 _ _ (λ x. omega (arith, x)) e)
 why_tells (MapErr p) (Enomem g) a b c d e = absurd (apart 3 _ _ (λ x. omega (arith, x)) e)
 why_tells (MapErr p) (Eexist q) a b c d e = absurd (apart 3 _ _ (λ x. omega (arith, x)) e)
 why_tells (MapErr p) (Eperm q) a b c d e = absurd (apart 3 _ _ (λ x. omega (arith, x)) e)
+why_tells (MapErr p) (Efault q) a b c d e = absurd (apart 3 _ _ (λ x. omega (arith, x)) e)
 why_tells (MapErr p) (MapErr q) a b c d e = ap MapErr (hex_tells p q a b (ap (drop 22) e))
 why_tells (MapErr p) (AccErr q j) a b c d e = absurd (apart 8 _ _ (λ x. omega (arith, x)) e)
 why_tells (AccErr p k) (Einval g) a b c d e = absurd (apart 3 _ _ (λ x. omega (arith, x)) e)
 why_tells (AccErr p k) (Enomem g) a b c d e = absurd (apart 3 _ _ (λ x. omega (arith, x)) e)
 why_tells (AccErr p k) (Eexist q) a b c d e = absurd (apart 3 _ _ (λ x. omega (arith, x)) e)
 why_tells (AccErr p k) (Eperm q) a b c d e = absurd (apart 3 _ _ (λ x. omega (arith, x)) e)
+why_tells (AccErr p k) (Efault q) a b c d e = absurd (apart 3 _ _ (λ x. omega (arith, x)) e)
 why_tells (AccErr p k) (MapErr q) a b c d e = absurd (apart 8 _ _ (λ x. omega (arith, x)) e)
 why_tells (AccErr p k) (AccErr q j) a b c d e = let h =
     cut 32 (hex_digits p) (hex_digits q) (log_kind k) (log_kind j) (hex_lacks 32 p a space_ends) (hex_lacks 32 q b space_ends)
@@ -469,6 +501,7 @@ minus (Einval f) = refl
 minus (Enomem f) = refl
 minus (Eexist p) = refl
 minus (Eperm p) = refl
+minus (Efault p) = refl
 minus (MapErr p) = refl
 minus (AccErr p k) = refl
 
@@ -613,6 +646,7 @@ module _ (b : ℕ) (no_digit : 16 ≤ worth b) (no_word : lacks b reply_bytes �
   why_lacks (Enomem s) a = (onto (said (codes "-1 ENOMEM ") refl) (short_text s) (short_lacks s a)).lacks_it
   why_lacks (Eexist p) a = (with_page (said (codes "-1 EEXIST page ") refl) p a).lacks_it
   why_lacks (Eperm p) a = (with_page (said (codes "-1 EPERM page ") refl) p a).lacks_it
+  why_lacks (Efault p) a = (with_page (said (codes "-1 EFAULT page ") refl) p a).lacks_it
   why_lacks (MapErr p) a = (with_page (said (codes "-1 SEGV_MAPERR page ") refl) p a).lacks_it
   why_lacks (AccErr p k) a =
       let page = with_page (said (codes "-1 SEGV_ACCERR page ") refl) p a in

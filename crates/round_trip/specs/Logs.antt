@@ -2,11 +2,11 @@
 -- their numbers fit in 64 bits, as those of every entry of a program do. The text is the printer's.
 use Rattle.std.specs.Prelude.{◌<◌, ◌^◌}
 use Rattle.page_types.specs.declared.calls.Call.{Call}
-use Rattle.page_types.specs.declared.calls.Call.TheVariants.{Map, Unmap, Protect, Fault, Seal}
+use Rattle.page_types.specs.declared.calls.Call.TheVariants.{Map, Unmap, Protect, Fault, Seal, Brk, Remap}
 use Rattle.page_types.specs.declared.calls.Reply.{Reply}
 use Rattle.page_types.specs.declared.calls.Reply.TheVariants.{At, Zero, Granted, Refused}
 use Rattle.page_types.specs.declared.calls.Why.{Why}
-use Rattle.page_types.specs.declared.calls.Why.TheVariants.{Einval, Enomem, Eexist, Eperm, MapErr, AccErr}
+use Rattle.page_types.specs.declared.calls.Why.TheVariants.{Einval, Enomem, Eexist, Eperm, Efault, MapErr, AccErr}
 use Rattle.page_types.specs.declared.calls.Short.{Short}
 use Rattle.page_types.specs.declared.calls.Short.TheVariants.{Missing, PastEnd, NoGap, Rows}
 use Rattle.page_types.specs.Named.{IsNamedCall, IsNamedReply}
@@ -21,6 +21,8 @@ FitsCall (Unmap addr len) = (addr < 2 ^ 64) × (len < 2 ^ 64)
 FitsCall (Protect addr len prot) = (addr < 2 ^ 64) × (len < 2 ^ 64)
 FitsCall (Fault addr access) = addr < 2 ^ 64
 FitsCall (Seal addr len flags) = (addr < 2 ^ 64) × (len < 2 ^ 64) × (flags < 2 ^ 64)
+FitsCall (Brk base addr) = (base < 2 ^ 64) × (addr < 2 ^ 64)
+FitsCall (Remap addr old new may hint) = (addr < 2 ^ 64) × (old < 2 ^ 64) × (new < 2 ^ 64) × (hint < 2 ^ 64)
 
 -- so does the number that an ENOMEM names
 abbrev pub FitsShort : Short → Type 0
@@ -35,6 +37,7 @@ FitsWhy (Einval field) = Unit {0}
 FitsWhy (Enomem short) = FitsShort short
 FitsWhy (Eexist page) = page < 2 ^ 64
 FitsWhy (Eperm page) = page < 2 ^ 64
+FitsWhy (Efault page) = page < 2 ^ 64
 FitsWhy (MapErr page) = page < 2 ^ 64
 FitsWhy (AccErr page kind) = page < 2 ^ 64
 

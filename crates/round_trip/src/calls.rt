@@ -37,6 +37,17 @@ pub fn reads_back(call: Call)
             in_range(addr, len);
             in_range(flags, flags);
         }
+        Call::Brk { base, addr } => in_range(base, addr),
+        Call::Remap {
+            addr,
+            old_len,
+            new_len,
+            hint,
+            may_move: _may_move,
+        } => {
+            in_range(addr, old_len);
+            in_range(new_len, hint);
+        }
     }
 }
 

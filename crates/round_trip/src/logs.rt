@@ -51,6 +51,17 @@ fn fits_call(call: Call)
             in_range(addr, len);
             in_range(flags, flags);
         }
+        Call::Brk { base, addr } => in_range(base, addr),
+        Call::Remap {
+            addr,
+            old_len,
+            new_len,
+            hint,
+            ..
+        } => {
+            in_range(addr, old_len);
+            in_range(new_len, hint);
+        }
     }
 }
 
@@ -68,9 +79,11 @@ fn fits_reply(reply: Reply)
                 }
                 Short::Rows(rows) => in_range(rows as u64, rows as u64),
             },
-            Why::Eexist(page) | Why::Eperm(page) | Why::MapErr(page) | Why::AccErr(page, _) => {
-                in_range(page, page)
-            }
+            Why::Eexist(page)
+            | Why::Eperm(page)
+            | Why::Efault(page)
+            | Why::MapErr(page)
+            | Why::AccErr(page, _) => in_range(page, page),
         },
     }
 }

@@ -17,7 +17,7 @@ use Rattle.line_parts.proofs.Sequence.{Took, Stuck, Reads, Fine, Good, Follows, 
 use Rattle.line_parts.proofs.Choices.{Nonempty, Full, good_choice, narrower, full_nonempty, full_stays, chain_full, byte_full, letters_full, run_full}
 use Rattle.line_parts.proofs.Leaves.{byte_good, done_good, letters_good, run_good, spaces_good, until_good, digits_good}
 use Rattle.line_parts.proofs.Leaves.{anything_took, same_is, is_same, run_starts, no_byte_starts}
-use Rattle.line_parts.proofs.Numerals.{NoNumeral, number_good, number_full, zero_number}
+use Rattle.line_parts.proofs.Numerals.{NoNumeral, number_good, number_full, number_heads, zero_number}
 use Rattle.line_parts.proofs.Lists.{is_join, is_close, ItemEnds, ListEnds, Shortens, listed_good, listed_heads, join_fails, join_no_numeral, close_joins}
 use Rattle.page_types.specs.declared.sets.Access.{Access}
 use Rattle.page_types.specs.declared.sets.Access.TheVariants.{Read}
@@ -25,9 +25,10 @@ use Rattle.strace_reader.specs.Words.{prot_of, flag_of, access_of}
 use Rattle.strace_reader.specs.declared.arguments.WordList.{WordList}
 use Rattle.strace_reader.specs.declared.arguments.WordList.TheVariants.{Prot, Flags}
 use Rattle.strace_reader.specs.Calls.{comma, addr, word, known, prot_word, prot, commented, operand, shifted, flag_word, flags, path, descriptor, access}
+use Rattle.strace_reader.specs.Calls.{optional}
 use Rattle.strace_reader.specs.Reading.{comma_at, addr_at, word_at, known_at, prot_word_at, prot_at, commented_at}
 use Rattle.strace_reader.specs.Reading.{operand_at, shifted_at, flag_word_at, flags_at, listed_word_at, listed_at}
-use Rattle.strace_reader.specs.Reading.{path_at, descriptor_at, access_read, access_at}
+use Rattle.strace_reader.specs.Reading.{path_at, descriptor_at, access_read, access_at, optional_at}
 
 -- ---- what may follow
 
@@ -117,18 +118,79 @@ null_full = chain_full (letters (codes "NULL") Number) (λ u. done 0) (letters_f
 comma_no_numeral : (q : List ℕ) → starts (is 44) q ≡ true → NoNumeral q
 comma_no_numeral q h = join_no_numeral q (comma_joins q h)
 
--- an address is read by addr_at, where a comma follows
-pub addr_good : Good addr CommaEnds addr_at
+-- a comma or a closing parenthesis follows
+abbrev pub CloseEnds : {A : Type 0} → A → List ℕ → Type 0
+CloseEnds v q = starts is_close q ≡ true
+
+-- what ends a number
+pub close_no_numeral : (q : List ℕ) → starts is_close q ≡ true → NoNumeral q
+close_no_numeral q h = join_no_numeral q (close_joins q h)
+
+-- an address is read by addr_at, where a comma or a parenthesis follows
+pub addr_closed : Good addr CloseEnds addr_at
 unfolding addr_at
-addr_good =
-    good_choice (is 78) (good_then (letters_good (codes "NULL") Number) (λ u. done_good 0 CommaEnds) (λ v b q w h hq. tt))
-    (narrower (λ v q h. comma_no_numeral q h) (number_good Number))
-    (full_nonempty (is 78) (chain (letters (codes "NULL") Number) (λ u. done 0)) null_full) (full_stays (is 78) (number Number) CommaEnds (number_full Number))
-    (48 ∷ [], 0, λ q h. zero_number q (comma_no_numeral q h))
+addr_closed =
+    good_choice (is 78) (good_then (letters_good (codes "NULL") Number) (λ u. done_good 0 CloseEnds) (λ v b q w h hq. tt))
+    (narrower (λ v q h. close_no_numeral q h) (number_good Number))
+    (full_nonempty (is 78) (chain (letters (codes "NULL") Number) (λ u. done 0)) null_full) (full_stays (is 78) (number Number) CloseEnds (number_full Number))
+    (48 ∷ [], 0, λ q h. zero_number q (close_no_numeral q h))
+
+-- so it is where a comma follows
+pub addr_good : Good addr CommaEnds addr_at
+addr_good = narrower (λ v q h. comma_closes q h) addr_closed
+
+n_not_space : (q : List ℕ) → starts (is 78) q ≡ true → starts not_space q ≡ true
+n_not_space [] h = h
+n_not_space (c ∷ q) h = ap not_space (same_is 78 c h)
+
+addr_starts : (b q : List ℕ) (n : ℕ) (x : Bool) → starts (is 78) (b ++ q) ≡ x
+    → (arm (chain (letters (codes "NULL") Number) (λ u. done 0)) (number Number) x).takes b q n → starts not_space (b ++ q) ≡ true
+addr_starts b q n true e h = n_not_space (b ++ q) e
+addr_starts b q n false e h = digit_not_space (b ++ q) (number_heads Number b q n h)
+
+-- an address begins with a byte that is no space
+pub addr_heads : Heads not_space addr
+addr_heads b q n h = addr_starts b q n (starts (is 78) (b ++ q)) refl h
+
+-- ---- an address that may be missing
+
+-- a closing parenthesis follows
+abbrev pub ParenEnds : {A : Type 0} → A → List ℕ → Type 0
+ParenEnds v q = starts (is 41) q ≡ true
+
+paren_no_comma : (q : List ℕ) → starts (is 41) q ≡ true → starts (is 44) q ≡ false
+paren_no_comma [] h = refl
+paren_no_comma (c ∷ q) h = ap (is 44) (same_is 41 c h)
+
+comma_full : {B : Type 0} (next : Unit {0} → Part B) → Full (chain comma next)
+comma_full next = chain_full comma next (chain_full (byte 44 Comma) (λ u. spaces) (byte_full 44 Comma))
+
+-- an address that may be missing is read by optional_at, where a parenthesis follows
+pub optional_good : Good optional ParenEnds optional_at
+unfolding optional_at
+optional_good =
+    good_choice (is 44) (good_then comma_good (λ u. narrower (λ v q h. paren_closes q h) addr_closed)
+    (λ v b q w h hq. not_space_ends (b ++ q) (addr_heads b q w h))) (done_good 0 ParenEnds)
+    (full_nonempty (is 44) (chain comma (λ u. addr)) (comma_full (λ u. addr))) (λ rest q v h hq. paren_no_comma q hq)
+    ([], 0, λ q h. subst (λ (x : Bool). (arm (chain comma (λ u. addr)) (done 0) x).takes [] q 0) (sym (paren_no_comma q h)) (refl, refl))
+
+optional_starts : (x more : List ℕ) (n : ℕ) (t : Bool) → starts (is 44) (x ++ more) ≡ t
+    → (arm (chain comma (λ u. addr)) (done 0) t).takes x more n → starts (is 41) more ≡ true → starts is_close (x ++ more) ≡ true
+optional_starts x more n true e h paren = comma_closes (x ++ more) e
+optional_starts x more n false e h paren = ap (λ (y : List ℕ). starts is_close (y ++ more)) h.0 ∙ paren_closes more paren
+
+-- one behind which a parenthesis is due may stand behind a number
+pub optional_closes : {B : Type 0} (next : ℕ → Part B) → ((n : ℕ) → Heads (is 41) (next n)) → (b q : List ℕ) (w : B)
+    → (chain optional next).takes b q w → starts is_close (b ++ q) ≡ true
+optional_closes next heads b q w h =
+    let e : b ++ q ≡ h.0 ++ (h.1 ++ q) = ap (λ (y : List ℕ). y ++ q) h.3 ∙ append_assoc h.0 h.1 q in
+    ap (starts is_close) e ∙
+    optional_starts h.0 (h.1 ++ q) h.2 (starts (is 44) (h.0 ++ (h.1 ++ q))) refl h.4 (heads h.2 h.1 q w h.5)
 
 -- ---- words
 
-word_good : Good word WordEnds word_at
+-- a word is read by word_at, where no byte of a word follows
+pub word_good : Good word WordEnds word_at
 word_good = run_good is_capital is_word_byte Word 65 refl
 
 known_follows : (x : Option ℕ) (b q : List ℕ) (u : Option ℕ) → (known x).takes b q u → ItemEnds u q → starts is_word_byte (b ++ q) ≡ false
@@ -156,7 +218,8 @@ known_word f =
 known_word_full : (f : List ℕ → Option ℕ) → Full (chain word (λ w. known (f w)))
 known_word_full f = chain_full word (λ w. known (f w)) (run_full is_capital is_word_byte Word)
 
-word_heads : Heads not_space word
+-- a word begins with a byte that is no space
+pub word_heads : Heads not_space word
 word_heads b q w h = capital_not_space (b ++ q) (run_starts is_capital is_word_byte b q h.1)
 
 -- ---- protections

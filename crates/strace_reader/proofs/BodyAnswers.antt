@@ -14,7 +14,7 @@ use Rattle.line_parts.proofs.Sequence.{refusal_within}
 use Rattle.strace_reader.specs.declared.item.Body.{Body}
 use Rattle.strace_reader.specs.declared.item.Body.TheVariants.{Called, FirstHalf, SecondHalf, Other}
 use Rattle.strace_reader.specs.declared.item.Name.{Name}
-use Rattle.strace_reader.specs.declared.item.Name.TheVariants.{Mmap, Munmap, Mprotect, Fault, Mseal}
+use Rattle.strace_reader.specs.declared.item.Name.TheVariants.{Mmap, Munmap, Mprotect, Fault, Mseal, Brk, Mremap}
 use Rattle.strace_reader.specs.Words.{call_head, resumed_head}
 use Rattle.strace_reader.specs.Calls.{call}
 use Rattle.strace_reader.specs.Grammar.{BeginsWith, EndsWith, unfinished, NeverReturned, IsPid, IsPrefixed}
@@ -52,7 +52,7 @@ pub record BodyAnswers (text : List ℕ) (r : Result Body Refusal) : Type 0 wher
 abbrev kind : List ℕ → ℕ
 kind [] = 0
 kind (c ∷ text) = if is 45 c then 1 else if is 43 c then 1 else if is 60 c then 3 else if is 109 c then 4 else if is 102 c then 4
-    else if is 91 c then 2 else if is_digit c then 2 else 5
+    else if is 98 c then 4 else if is 91 c then 2 else if is_digit c then 2 else 5
 
 call_head_kind : (name : Name) (text : List ℕ) → BeginsWith (call_head name) text → kind text ≡ 4
 call_head_kind Mmap text h = ap kind h.1
@@ -60,6 +60,8 @@ call_head_kind Munmap text h = ap kind h.1
 call_head_kind Mprotect text h = ap kind h.1
 call_head_kind Fault text h = ap kind h.1
 call_head_kind Mseal text h = ap kind h.1
+call_head_kind Brk text h = ap kind h.1
+call_head_kind Mremap text h = ap kind h.1
 
 resumed_head_kind : (name : Name) (text : List ℕ) → BeginsWith (resumed_head name) text → kind text ≡ 3
 resumed_head_kind Mmap text h = ap kind h.1
@@ -67,6 +69,8 @@ resumed_head_kind Munmap text h = ap kind h.1
 resumed_head_kind Mprotect text h = ap kind h.1
 resumed_head_kind Fault text h = ap kind h.1
 resumed_head_kind Mseal text h = ap kind h.1
+resumed_head_kind Brk text h = ap kind h.1
+resumed_head_kind Mremap text h = ap kind h.1
 
 digit_kind : (b : ℕ) (text : List ℕ) → is_digit b ≡ true → kind (b ∷ text) ≡ 2
 digit_kind b text h = grind (arith, nat_tests)
@@ -85,65 +89,96 @@ call_cut name text h = inr (refl, refl, λ n rest p. let k = prefix_kind text n 
 
 -- ---- a call has one name
 
-abbrev second : List ℕ → ℕ
-second [] = 0
-second (a ∷ []) = 0
-second (a ∷ b ∷ text) = b
+-- the first two bytes together tell the names apart
+abbrev lead : List ℕ → ℕ
+lead [] = 0
+lead (a ∷ []) = 0
+lead (a ∷ b ∷ text) = a + b
 
-abbrev second_of : Name → ℕ
-second_of Mmap = 109
-second_of Munmap = 117
-second_of Mprotect = 112
-second_of Fault = 97
-second_of Mseal = 115
+abbrev lead_of : Name → ℕ
+lead_of Mmap = 218
+lead_of Munmap = 226
+lead_of Mprotect = 221
+lead_of Fault = 199
+lead_of Mseal = 224
+lead_of Brk = 212
+lead_of Mremap = 223
 
-call_head_second : (name : Name) (text : List ℕ) → BeginsWith (call_head name) text → second text ≡ second_of name
-call_head_second Mmap text h = ap second h.1
-call_head_second Munmap text h = ap second h.1
-call_head_second Mprotect text h = ap second h.1
-call_head_second Fault text h = ap second h.1
-call_head_second Mseal text h = ap second h.1
+call_head_lead : (name : Name) (text : List ℕ) → BeginsWith (call_head name) text → lead text ≡ lead_of name
+call_head_lead Mmap text h = ap lead h.1
+call_head_lead Munmap text h = ap lead h.1
+call_head_lead Mprotect text h = ap lead h.1
+call_head_lead Fault text h = ap lead h.1
+call_head_lead Mseal text h = ap lead h.1
+call_head_lead Brk text h = ap lead h.1
+call_head_lead Mremap text h = ap lead h.1
 
-by_second : (m n : Name) → second_of m ≡ second_of n → m ≡ n
-by_second Mmap Mmap e = refl
-by_second Mmap Munmap e = absurd (omega arith)
-by_second Mmap Mprotect e = absurd (omega arith)
-by_second Mmap Fault e = absurd (omega arith)
-by_second Mmap Mseal e = absurd (omega arith)
-by_second Munmap Mmap e = absurd (omega arith)
-by_second Munmap Munmap e = refl
-by_second Munmap Mprotect e = absurd (omega arith)
-by_second Munmap Fault e = absurd (omega arith)
-by_second Munmap Mseal e = absurd (omega arith)
-by_second Mprotect Mmap e = absurd (omega arith)
-by_second Mprotect Munmap e = absurd (omega arith)
-by_second Mprotect Mprotect e = refl
-by_second Mprotect Fault e = absurd (omega arith)
-by_second Mprotect Mseal e = absurd (omega arith)
-by_second Fault Mmap e = absurd (omega arith)
-by_second Fault Munmap e = absurd (omega arith)
-by_second Fault Mprotect e = absurd (omega arith)
-by_second Fault Fault e = refl
-by_second Fault Mseal e = absurd (omega arith)
-by_second Mseal Mmap e = absurd (omega arith)
-by_second Mseal Munmap e = absurd (omega arith)
-by_second Mseal Mprotect e = absurd (omega arith)
-by_second Mseal Fault e = absurd (omega arith)
-by_second Mseal Mseal e = refl
+by_lead : (m n : Name) → lead_of m ≡ lead_of n → m ≡ n
+by_lead Mmap Mmap e = refl
+by_lead Mmap Munmap e = absurd (omega arith)
+by_lead Mmap Mprotect e = absurd (omega arith)
+by_lead Mmap Fault e = absurd (omega arith)
+by_lead Mmap Mseal e = absurd (omega arith)
+by_lead Mmap Brk e = absurd (omega arith)
+by_lead Mmap Mremap e = absurd (omega arith)
+by_lead Munmap Mmap e = absurd (omega arith)
+by_lead Munmap Munmap e = refl
+by_lead Munmap Mprotect e = absurd (omega arith)
+by_lead Munmap Fault e = absurd (omega arith)
+by_lead Munmap Mseal e = absurd (omega arith)
+by_lead Munmap Brk e = absurd (omega arith)
+by_lead Munmap Mremap e = absurd (omega arith)
+by_lead Mprotect Mmap e = absurd (omega arith)
+by_lead Mprotect Munmap e = absurd (omega arith)
+by_lead Mprotect Mprotect e = refl
+by_lead Mprotect Fault e = absurd (omega arith)
+by_lead Mprotect Mseal e = absurd (omega arith)
+by_lead Mprotect Brk e = absurd (omega arith)
+by_lead Mprotect Mremap e = absurd (omega arith)
+by_lead Fault Mmap e = absurd (omega arith)
+by_lead Fault Munmap e = absurd (omega arith)
+by_lead Fault Mprotect e = absurd (omega arith)
+by_lead Fault Fault e = refl
+by_lead Fault Mseal e = absurd (omega arith)
+by_lead Fault Brk e = absurd (omega arith)
+by_lead Fault Mremap e = absurd (omega arith)
+by_lead Mseal Mmap e = absurd (omega arith)
+by_lead Mseal Munmap e = absurd (omega arith)
+by_lead Mseal Mprotect e = absurd (omega arith)
+by_lead Mseal Fault e = absurd (omega arith)
+by_lead Mseal Mseal e = refl
+by_lead Mseal Brk e = absurd (omega arith)
+by_lead Mseal Mremap e = absurd (omega arith)
+by_lead Brk Mmap e = absurd (omega arith)
+by_lead Brk Munmap e = absurd (omega arith)
+by_lead Brk Mprotect e = absurd (omega arith)
+by_lead Brk Fault e = absurd (omega arith)
+by_lead Brk Mseal e = absurd (omega arith)
+by_lead Brk Brk e = refl
+by_lead Brk Mremap e = absurd (omega arith)
+by_lead Mremap Mmap e = absurd (omega arith)
+by_lead Mremap Munmap e = absurd (omega arith)
+by_lead Mremap Mprotect e = absurd (omega arith)
+by_lead Mremap Fault e = absurd (omega arith)
+by_lead Mremap Mseal e = absurd (omega arith)
+by_lead Mremap Brk e = absurd (omega arith)
+by_lead Mremap Mremap e = refl
 
 -- a text begins with the name of one call at most
 pub one_name : (m n : Name) (text : List ℕ) → BeginsWith (call_head m) text → BeginsWith (call_head n) text → m ≡ n
-one_name m n text h g = by_second m n (sym (call_head_second m text h) ∙ call_head_second n text g)
+one_name m n text h g = by_lead m n (sym (call_head_lead m text h) ∙ call_head_lead n text g)
 
-resumed_second : (name : Name) (text : List ℕ) → BeginsWith (resumed_head name) text → second (drop 5 text) ≡ second_of name
-resumed_second Mmap text h = ap (λ (x : List ℕ). second (drop 5 x)) h.1
-resumed_second Munmap text h = ap (λ (x : List ℕ). second (drop 5 x)) h.1
-resumed_second Mprotect text h = ap (λ (x : List ℕ). second (drop 5 x)) h.1
-resumed_second Fault text h = ap (λ (x : List ℕ). second (drop 5 x)) h.1
-resumed_second Mseal text h = ap (λ (x : List ℕ). second (drop 5 x)) h.1
+resumed_lead : (name : Name) (text : List ℕ) → BeginsWith (resumed_head name) text → lead (drop 5 text) ≡ lead_of name
+resumed_lead Mmap text h = ap (λ (x : List ℕ). lead (drop 5 x)) h.1
+resumed_lead Munmap text h = ap (λ (x : List ℕ). lead (drop 5 x)) h.1
+resumed_lead Mprotect text h = ap (λ (x : List ℕ). lead (drop 5 x)) h.1
+resumed_lead Fault text h = ap (λ (x : List ℕ). lead (drop 5 x)) h.1
+resumed_lead Mseal text h = ap (λ (x : List ℕ). lead (drop 5 x)) h.1
+resumed_lead Brk text h = ap (λ (x : List ℕ). lead (drop 5 x)) h.1
+resumed_lead Mremap text h = ap (λ (x : List ℕ). lead (drop 5 x)) h.1
 
 one_resumption : (m n : Name) (text : List ℕ) → BeginsWith (resumed_head m) text → BeginsWith (resumed_head n) text → m ≡ n
-one_resumption m n text h g = by_second m n (sym (resumed_second m text h) ∙ resumed_second n text g)
+one_resumption m n text h g = by_lead m n (sym (resumed_lead m text h) ∙ resumed_lead n text g)
 
 no_same : (a b : ℕ) → a ≡ 63 → b ≡ 62 → a ≡ b → ⊥
 no_same a b h g e = omega arith
@@ -400,6 +435,8 @@ head_some Munmap = omega arith
 head_some Mprotect = omega arith
 head_some Fault = omega arith
 head_some Mseal = omega arith
+head_some Brk = omega arith
+head_some Mremap = omega arith
 
 resumed_some : (name : Name) → 0 < length (resumed_head name)
 resumed_some Mmap = omega arith
@@ -407,6 +444,8 @@ resumed_some Munmap = omega arith
 resumed_some Mprotect = omega arith
 resumed_some Fault = omega arith
 resumed_some Mseal = omega arith
+resumed_some Brk = omega arith
+resumed_some Mremap = omega arith
 
 -- a text that begins with a call's name has a byte at least
 pub some_head : (name : Name) (text : List ℕ) → BeginsWith (call_head name) text → 0 < length text

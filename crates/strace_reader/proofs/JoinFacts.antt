@@ -19,7 +19,7 @@ use Rattle.strace_reader.specs.declared.item.Body.TheVariants.{FirstHalf}
 use Rattle.strace_reader.specs.declared.item.Item.{Item}
 use Rattle.strace_reader.specs.declared.item.Item.TheVariants.{Played, Unfinished, Resumed, Other as Passed, Blank as Nothing}
 use Rattle.strace_reader.specs.declared.item.Name.{Name}
-use Rattle.strace_reader.specs.declared.item.Name.TheVariants.{Mmap, Munmap, Mprotect, Fault, Mseal}
+use Rattle.strace_reader.specs.declared.item.Name.TheVariants.{Mmap, Munmap, Mprotect, Fault, Mseal, Brk, Mremap}
 use Rattle.strace_reader.specs.declared.half.Half.{Half}
 use Rattle.strace_reader.specs.declared.joiner.Joiner.{Joiner}
 use Rattle.strace_reader.specs.declared.joiner.Fed.{Fed}
@@ -311,6 +311,20 @@ head_no_ending Mseal = (
     (
       (omega arith, omega arith),
       ((omega arith, omega arith), ((omega arith, omega arith), ((omega arith, omega arith), tt))),
+    ),
+  ),
+)
+head_no_ending Brk = (
+  (omega arith, omega arith),
+  ((omega arith, omega arith), ((omega arith, omega arith), ((omega arith, omega arith), tt))),
+)
+head_no_ending Mremap = (
+  (omega arith, omega arith),
+  (
+    (omega arith, omega arith),
+    (
+      (omega arith, omega arith),
+      ((omega arith, omega arith), ((omega arith, omega arith), ((omega arith, omega arith), ((omega arith, omega arith), tt)))),
     ),
   ),
 )

@@ -1,4 +1,5 @@
 pub mod ArgumentParts
+pub mod MovingParts
 pub mod ResultParts
 pub mod WholeCalls
 pub mod FormFacts

@@ -1,5 +1,5 @@
 -- A whole line of a call is read as its part says, each refusal at its one place.
-use Rattle.std.proofs.Common.{◌≡◌, ℕ, ◌+◌, ◌<◌, ◌^◌, List, [], ◌∷◌, ◌++◌, length, Ok, Err, Option, Some, None, true}
+use Rattle.std.proofs.Common.{◌≡◌, ℕ, ◌+◌, ◌<◌, ◌^◌, List, [], ◌∷◌, ◌++◌, length, Ok, Err, Option, Some, None, Bool, true}
 use Rattle.std.proofs.Common.{false, refl, sym, ap, subst, ◌∙◌, append_assoc, arith}
 use Rattle.std.proofs.lemmas.List.{append-nil, length-append, append_cancel_left}
 use Rattle.line_parts.specs.declared.refusal.Refusal.{Refusal}
@@ -11,25 +11,29 @@ use Rattle.line_parts.specs.Reading.{number_at}
 use Rattle.line_parts.proofs.Sequence.{Took, Stuck, Reads, Fine, Good, Follows, Heads, reads_then, good_then, heads_then, alike_same}
 use Rattle.line_parts.proofs.Choices.{narrower}
 use Rattle.line_parts.proofs.Leaves.{Any, Last, done_good, same_is}
-use Rattle.line_parts.proofs.Numerals.{NoNumeral, number_good, number_heads}
-use Rattle.line_parts.proofs.Lists.{is_close, ListEnds, join_no_numeral, close_joins}
+use Rattle.line_parts.proofs.Numerals.{number_good, number_heads}
+use Rattle.line_parts.proofs.Lists.{is_close, ListEnds}
 use Rattle.page_types.specs.Named.{IsNamedCall}
 use Rattle.page_types.specs.declared.calls.Call.{Call}
-use Rattle.page_types.specs.declared.calls.Call.TheVariants.{Map, Unmap, Protect, Fault as FaultCall, Seal}
+use Rattle.page_types.specs.declared.calls.Call.TheVariants.{Map, Unmap, Protect, Fault as FaultCall, Seal, Brk, Remap}
 use Rattle.strace_reader.specs.declared.item.Body.{Body}
 use Rattle.strace_reader.specs.declared.item.Body.TheVariants.{Other}
 use Rattle.strace_reader.specs.declared.item.Name.{Name}
-use Rattle.strace_reader.specs.declared.item.Name.TheVariants.{Mmap, Munmap, Mprotect, Fault as FaultName, Mseal}
+use Rattle.strace_reader.specs.declared.item.Name.TheVariants.{Mmap, Munmap, Mprotect, Fault as FaultName, Mseal, Brk as BrkName, Mremap}
 use Rattle.strace_reader.specs.Words.{call_head}
 use Rattle.strace_reader.specs.Calls.{comma, addr, prot, flags, descriptor, access, closing, munmap_arguments}
 use Rattle.strace_reader.specs.Calls.{protect_behind_prot, mprotect_arguments, fault_arguments, mseal_arguments, map_tail}
 use Rattle.strace_reader.specs.Calls.{map_behind_flags, map_behind_prot, mmap_arguments, arguments, call}
+use Rattle.strace_reader.specs.Calls.{optional, moving, brk_arguments, remap_behind, remap_lengths, mremap_arguments}
 use Rattle.strace_reader.specs.Reading.{munmap_at, protect_behind_prot_at, mprotect_at, fault_call_at, mseal_at, map_tail_at}
 use Rattle.strace_reader.specs.Reading.{map_behind_flags_at, map_behind_prot_at, mmap_at, arguments_at}
+use Rattle.strace_reader.specs.Reading.{brk_at, remap_behind_at, remap_lengths_at, mremap_at}
 use Rattle.strace_reader.proofs.ArgumentParts.{SpacesEnd, not_space, not_space_ends, digit_not_space, comma_closes}
 use Rattle.strace_reader.proofs.ArgumentParts.{paren_closes, comma_good, comma_heads, addr_good, prot_good, prot_heads}
 use Rattle.strace_reader.proofs.ArgumentParts.{flags_good, flags_heads, descriptor_good, descriptor_heads, access_good}
 use Rattle.strace_reader.proofs.ArgumentParts.{access_heads, prot_end, flags_end, Below, prot_below, flags_below}
+use Rattle.strace_reader.proofs.ArgumentParts.{CloseEnds, close_no_numeral, addr_closed, ParenEnds, optional_good, optional_closes}
+use Rattle.strace_reader.proofs.MovingParts.{MoveEnds, moving_good, moving_heads, moving_end}
 use Rattle.strace_reader.proofs.ResultParts.{closing_good, closing_heads, Ends, chain_ends, closing_ends, IsSound, Values, chain_values, closing_values}
 
 -- ---- what stands behind what
@@ -45,16 +49,9 @@ number_starts b q n h = digit_not_space (b ++ q) (number_heads Number b q n h)
 comma_begins : {B : Type 0} (next : Unit {0} → Part B) → Heads (is 44) (chain comma next)
 comma_begins next = heads_then (is 44) comma next comma_heads
 
-close_no_numeral : (q : List ℕ) → starts is_close q ≡ true → NoNumeral q
-close_no_numeral q h = join_no_numeral q (close_joins q h)
-
 paren_no_word : (q : List ℕ) → starts (is 41) q ≡ true → starts is_word_byte q ≡ false
 paren_no_word [] h = refl
 paren_no_word (c ∷ q) h = ap is_word_byte (same_is 41 c h)
-
--- a number with a comma or a parenthesis behind it
-abbrev CloseEnds : ℕ → List ℕ → Type 0
-CloseEnds n q = starts is_close q ≡ true
 
 length_good : Good (number Number) CloseEnds (number_at Number)
 length_good = narrower (λ v q h. close_no_numeral q h) (number_good Number)
@@ -122,6 +119,50 @@ mseal_good =
     (spaced (number Number) number_starts (λ n. chain comma (λ v. chain (number Number) (λ f. closing (Seal a n f)))) Last))
     (λ a b q w h hq. comma_begins (λ u. chain (number Number) (λ n. chain comma (λ v. chain (number Number) (λ f. closing (Seal a n f))))) b q w h)
 
+-- ---- brk
+
+-- the arguments of brk are read by brk_at, where nothing follows
+pub brk_good : Good brk_arguments Last brk_at
+unfolding brk_at
+brk_good =
+    good_then addr_closed
+    (λ a. good_then optional_good (λ b. closing_good (Brk b a)) (λ b f q w h hq. closing_heads (Brk b a) f q w h))
+    (λ a b q w h hq. optional_closes (λ n. closing (Brk n a)) (λ n. closing_heads (Brk n a)) b q w h)
+
+-- ---- mremap
+
+remap_behind_good : (a o n : ℕ) (m : Option Bool) → Good (remap_behind a o n m) Last (remap_behind_at a o n m)
+remap_behind_good a o n None = done_good Other Last
+remap_behind_good a o n (Some may) =
+    good_then optional_good (λ h. closing_good (Remap a o n may h)) (λ h f q w k kq. closing_heads (Remap a o n may h) f q w k)
+
+remap_behind_follows : (a o n : ℕ) → Follows MoveEnds (remap_behind a o n) Last
+remap_behind_follows a o n None b q w h hq = ap (λ (y : List ℕ). y ++ q) h.0 ∙ hq
+remap_behind_follows a o n (Some may) b q w h hq =
+    optional_closes (λ k. closing (Remap a o n may k)) (λ k. closing_heads (Remap a o n may k)) b q w h
+
+remap_lengths_good : (a o : ℕ) → Good (remap_lengths a o) Last (remap_lengths_at a o)
+unfolding remap_lengths_at
+remap_lengths_good a o =
+    good_then comma_good
+    (λ u. good_then length_good
+    (λ n. good_then comma_good (λ v. good_then moving_good (remap_behind_good a o n) (remap_behind_follows a o n))
+    (spaced moving moving_heads (remap_behind a o n) Last))
+    (λ n b q w h hq. comma_closes (b ++ q) (comma_begins (λ v. chain moving (remap_behind a o n)) b q w h)))
+    (spaced (number Number) number_starts (λ n. chain comma (λ v. chain moving (remap_behind a o n))) Last)
+
+-- the arguments of mremap are read by mremap_at, where nothing follows
+pub mremap_good : Good mremap_arguments Last mremap_at
+unfolding mremap_at
+mremap_good =
+    good_then addr_good
+    (λ a. good_then comma_good
+    (λ u. good_then length_good (remap_lengths_good a)
+    (λ o b q w h hq. comma_closes (b ++ q)
+    (comma_begins (λ v. chain (number Number) (λ n. chain comma (λ x. chain moving (remap_behind a o n)))) b q w h)))
+    (spaced (number Number) number_starts (remap_lengths a) Last))
+    (λ a b q w h hq. comma_begins (λ u. chain (number Number) (remap_lengths a)) b q w h)
+
 -- ---- mmap
 
 map_tail_good : (c : Call) → Good (map_tail c) Last (map_tail_at c)
@@ -178,6 +219,8 @@ arguments_good Munmap = munmap_good
 arguments_good Mprotect = mprotect_good
 arguments_good FaultName = fault_good
 arguments_good Mseal = mseal_good
+arguments_good BrkName = brk_good
+arguments_good Mremap = mremap_good
 
 begun_took : (word rest : List ℕ) → Took (begun word) (word ++ rest) tt rest
 begun_took word rest = record { front = word; parts = refl; takes = refl; only = λ p q more w h e alike. (h, refl); clean = λ g o r w h e. h }
@@ -223,6 +266,18 @@ map_behind_prot_ends a n (Some p) f q v b h k =
     chain_ends comma (λ u. chain flags (map_behind_flags a n p))
     (λ u c q w m. map_behind_flags_ends a n p m.2 m.0 q w m.1 m.4 m.5) b q v k
 
+remap_behind_ends : (a o n : ℕ) (m : Option Bool) (f q : List ℕ) (v : Body) (b : List ℕ) → moving.takes f (b ++ q) m
+    → (remap_behind a o n m).takes b q v → q ≡ []
+remap_behind_ends a o n None f q v b h k = behind_nothing b q k.0 (moving_end f (b ++ q) None h refl)
+remap_behind_ends a o n (Some may) f q v b h k =
+    chain_ends optional (λ x. closing (Remap a o n may x)) (λ x. closing_ends (Remap a o n may x)) b q v k
+
+remap_lengths_ends : (a o : ℕ) → Ends (remap_lengths a o)
+remap_lengths_ends a o = chain_ends comma (λ u. chain (number Number) (λ n. chain comma (λ v. chain moving (remap_behind a o n))))
+    (λ u. chain_ends (number Number) (λ n. chain comma (λ v. chain moving (remap_behind a o n)))
+    (λ n. chain_ends comma (λ v. chain moving (remap_behind a o n))
+    (λ v c q w m. remap_behind_ends a o n m.2 m.0 q w m.1 m.4 m.5)))
+
 arguments_end : (name : Name) → Ends (arguments name)
 arguments_end Mmap = chain_ends addr (λ a. chain comma (λ u. chain (number Number) (λ n. chain comma (λ v. chain prot (map_behind_prot a n)))))
     (λ a. chain_ends comma (λ u. chain (number Number) (λ n. chain comma (λ v. chain prot (map_behind_prot a n))))
@@ -246,6 +301,11 @@ arguments_end Mseal = chain_ends addr
     (λ u. chain_ends (number Number) (λ n. chain comma (λ v. chain (number Number) (λ f. closing (Seal a n f))))
     (λ n. chain_ends comma (λ v. chain (number Number) (λ f. closing (Seal a n f)))
     (λ v. chain_ends (number Number) (λ f. closing (Seal a n f)) (λ f. closing_ends (Seal a n f))))))
+arguments_end BrkName = chain_ends addr (λ a. chain optional (λ b. closing (Brk b a)))
+    (λ a. chain_ends optional (λ b. closing (Brk b a)) (λ b. closing_ends (Brk b a)))
+arguments_end Mremap = chain_ends addr (λ a. chain comma (λ u. chain (number Number) (remap_lengths a)))
+    (λ a. chain_ends comma (λ u. chain (number Number) (remap_lengths a))
+    (λ u. chain_ends (number Number) (remap_lengths a) (λ o. remap_lengths_ends a o)))
 
 call_ends : (name : Name) → Ends (call name)
 unfolding call
@@ -340,6 +400,18 @@ map_behind_prot_values a n (Some p) b f q v h =
     chain_values IsSound comma (λ u. chain flags (map_behind_flags a n p))
     (λ u g t w m. map_behind_flags_values a n p m.2 b (flags_below m.0 (m.1 ++ t) m.2 m.4) m.1 t w m.5) f q v h
 
+remap_behind_values : (a o n : ℕ) (m : Option Bool) → Values IsSound (remap_behind a o n m)
+remap_behind_values a o n None f q v h = subst IsSound (sym h.1) tt
+remap_behind_values a o n (Some may) f q v h =
+    chain_values IsSound optional (λ x. closing (Remap a o n may x)) (λ x. closing_values (Remap a o n may x) tt) f q v h
+
+remap_lengths_values : (a o : ℕ) → Values IsSound (remap_lengths a o)
+remap_lengths_values a o =
+    chain_values IsSound comma (λ u. chain (number Number) (λ n. chain comma (λ v. chain moving (remap_behind a o n))))
+    (λ u. chain_values IsSound (number Number) (λ n. chain comma (λ v. chain moving (remap_behind a o n)))
+    (λ n. chain_values IsSound comma (λ v. chain moving (remap_behind a o n))
+    (λ v. chain_values IsSound moving (remap_behind a o n) (λ m. remap_behind_values a o n m))))
+
 arguments_values : (name : Name) → Values IsSound (arguments name)
 arguments_values Mmap = chain_values IsSound addr (λ a. chain comma (λ u. chain (number Number) (λ n. chain comma (λ v. chain prot (map_behind_prot a n)))))
     (λ a. chain_values IsSound comma (λ u. chain (number Number) (λ n. chain comma (λ v. chain prot (map_behind_prot a n))))
@@ -364,6 +436,11 @@ arguments_values Mseal = chain_values IsSound addr
     (λ u. chain_values IsSound (number Number) (λ n. chain comma (λ v. chain (number Number) (λ f. closing (Seal a n f))))
     (λ n. chain_values IsSound comma (λ v. chain (number Number) (λ f. closing (Seal a n f)))
     (λ v. chain_values IsSound (number Number) (λ f. closing (Seal a n f)) (λ f. closing_values (Seal a n f) tt)))))
+arguments_values BrkName = chain_values IsSound addr (λ a. chain optional (λ b. closing (Brk b a)))
+    (λ a. chain_values IsSound optional (λ b. closing (Brk b a)) (λ b. closing_values (Brk b a) tt))
+arguments_values Mremap = chain_values IsSound addr (λ a. chain comma (λ u. chain (number Number) (remap_lengths a)))
+    (λ a. chain_values IsSound comma (λ u. chain (number Number) (remap_lengths a))
+    (λ u. chain_values IsSound (number Number) (remap_lengths a) (λ o. remap_lengths_values a o)))
 
 -- what a call is read as is a call with named bits alone, or is passed over
 pub call_values : (name : Name) → Values IsSound (call name)

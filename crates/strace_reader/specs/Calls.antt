@@ -1,22 +1,22 @@
--- The five calls of a line, from the name to the end, as strace(1) prints them: arguments that commas and spaces part,
+-- The seven calls of a line, from the name to the end, as strace(1) prints them: arguments that commas and spaces part,
 -- a closing parenthesis, and a result. This project's own profile; docs/FORMATS.md has it as a table, and each
 -- definition here is one row of that table.
-use Rattle.std.specs.Prelude.{◌≡◌, ◌⊎◌, ℕ, List, [], false, codes, Option, Some, None}
+use Rattle.std.specs.Prelude.{◌≡◌, ◌⊎◌, ℕ, List, [], Bool, true, false, codes, Option, Some, None, if◌then◌else◌}
 use Rattle.line_parts.specs.declared.refusal.What.TheVariants.{Number, Word, Comma, Close, Result as AtResult}
 use Rattle.line_parts.specs.Parts.{Part, chain, choice, done, starts}
 use Rattle.line_parts.specs.Leaves.{is, byte, letters, IsRun, run, spaces, number, until, end, anything, begun, no_byte}
-use Rattle.line_parts.specs.Leaves.{many_digits, is_digit, is_capital, is_word_byte}
+use Rattle.line_parts.specs.Leaves.{many_digits, is_digit, is_hex, is_capital, is_word_byte}
 use Rattle.line_parts.specs.Lists.{listed}
 use Rattle.page_types.specs.declared.calls.Call.{Call}
-use Rattle.page_types.specs.declared.calls.Call.TheVariants.{Map, Unmap, Protect, Fault, Seal}
+use Rattle.page_types.specs.declared.calls.Call.TheVariants.{Map, Unmap, Protect, Fault, Seal, Brk, Remap}
 use Rattle.page_types.specs.declared.sets.Access.{Access}
 use Rattle.strace_reader.specs.declared.item.Body.{Body}
 use Rattle.strace_reader.specs.declared.item.Body.TheVariants.{Called, Other}
 use Rattle.strace_reader.specs.declared.item.Recorded.{Recorded}
 use Rattle.strace_reader.specs.declared.item.Recorded.TheVariants.{Value, Failed}
 use Rattle.strace_reader.specs.declared.item.Name.{Name}
-use Rattle.strace_reader.specs.declared.item.Name.TheVariants.{Mmap, Munmap, Mprotect, Fault as FaultName, Mseal}
-use Rattle.strace_reader.specs.Words.{prot_of, flag_of, access_of, errno_of, call_head}
+use Rattle.strace_reader.specs.declared.item.Name.TheVariants.{Mmap, Munmap, Mprotect, Fault as FaultName, Mseal, Brk as BrkName, Mremap}
+use Rattle.strace_reader.specs.Words.{prot_of, flag_of, access_of, may_of, errno_of, call_head}
 
 -- ---- parts of arguments
 
@@ -82,6 +82,38 @@ access = record {
       ⊎ (IsRun is_capital is_word_byte over × (starts is_word_byte rest ≡ false) × (access_of over ≡ None)));
 }
 
+-- a comma and an address, or nothing, which is 0
+abbrev pub optional : Part ℕ
+optional = choice (is 44) (chain comma (λ u. addr)) (done 0)
+
+-- a bar or a digit
+abbrev pub is_more : ℕ → Bool
+is_more b = if is 124 b then true else is_digit b
+
+-- Whether pages may move, where it is said by what stands here alone: where a byte that passes the test comes, the line
+-- is left as it is, to its end.
+abbrev pub alone : (ℕ → Bool) → Bool → Part (Option Bool)
+alone test may = choice test (anything no_byte None) (done (Some may))
+
+-- behind 0x: a line with a digit there is left as it is, to its end
+abbrev pub hex_number : Part (Option Bool)
+hex_number = chain (run is_hex is_hex Number) (λ d. anything is_hex None)
+
+-- a number: 0 says that pages may not move; with another one the line is left as it is, to its end
+abbrev pub move_number : Part (Option Bool)
+move_number = choice (is 48)
+    (chain (byte 48 Number) (λ u. choice (is 120) (chain (byte 120 Number) (λ v. hex_number)) (alone is_more false)))
+    (anything no_byte None)
+
+-- a word that is known stands alone; with another one the line is left as it is, to its end
+abbrev pub moved : Option Bool → Part (Option Bool)
+moved None = anything is_word_byte None
+moved (Some may) = alone (is 124) may
+
+-- the flags of mremap(2): the one word, or 0
+abbrev pub moving : Part (Option Bool)
+moving = choice is_digit move_number (chain word (λ w. moved (may_of w)))
+
 -- ---- the result
 
 -- a number, or -1 and an error's name
@@ -138,6 +170,23 @@ abbrev pub mseal_arguments : Part Body
 mseal_arguments = chain addr
     (λ a. chain comma (λ u. chain (number Number) (λ n. chain comma (λ v. chain (number Number) (λ f. closing (Seal a n f))))))
 
+-- brk: an address, and the base, if there is one
+abbrev pub brk_arguments : Part Body
+brk_arguments = chain addr (λ a. chain optional (λ b. closing (Brk b a)))
+
+-- behind the flags of mremap: nothing, where they took the line to its end, or the hint, if there is one
+abbrev pub remap_behind : ℕ → ℕ → ℕ → Option Bool → Part Body
+remap_behind a o n None = done Other
+remap_behind a o n (Some may) = chain optional (λ h. closing (Remap a o n may h))
+
+-- behind the old length: the new one and the flags
+abbrev pub remap_lengths : ℕ → ℕ → Part Body
+remap_lengths a o = chain comma (λ u. chain (number Number) (λ n. chain comma (λ v. chain moving (remap_behind a o n))))
+
+-- mremap: an address, two lengths, and flags
+abbrev pub mremap_arguments : Part Body
+mremap_arguments = chain addr (λ a. chain comma (λ u. chain (number Number) (remap_lengths a)))
+
 -- the descriptor and the offset, which are read and let go, and what is left of the line
 abbrev pub map_tail : Call → Part Body
 map_tail call = chain comma (λ u. chain descriptor (λ v. chain comma (λ w. chain (number Number) (λ o. closing call))))
@@ -163,6 +212,8 @@ arguments Munmap = munmap_arguments
 arguments Mprotect = mprotect_arguments
 arguments FaultName = fault_arguments
 arguments Mseal = mseal_arguments
+arguments BrkName = brk_arguments
+arguments Mremap = mremap_arguments
 
 -- the whole body of a call; its value is Other where a word or number of the arguments leaves it unplayed
 unfoldable pub call : Name → Part Body

@@ -24,6 +24,10 @@ BeginsWith word text = (rest : List ℕ) × (text ≡ word ++ rest)
 abbrev pub EndsWith : List ℕ → List ℕ → Type 0
 EndsWith word text = (front : List ℕ) × (text ≡ front ++ word)
 
+-- the text doesn't begin as the call of this name
+abbrev pub NoHead : (Name → List ℕ) → Name → List ℕ → Type 0
+NoHead head name text = (rest : List ℕ) → text ≢ head name ++ rest
+
 -- how the first half of an interrupted line ends
 abbrev pub unfinished : List ℕ
 unfinished = codes "<unfinished ...>"

@@ -52,9 +52,9 @@ pub record IsMapsLine (text : List ℕ) (start stop : ℕ) (kind : Kind) : Type 
   pub is_kind : IsKind chars kind
   pub behind : (tail ≡ []) ⊎ (starts (is 32) tail ≡ true)
 
--- the first address behind the user addresses
+-- the first address behind the user addresses, which are those of LIMIT pages
 abbrev pub user_end : ℕ
-user_end = 0x7ffffffff000
+user_end = 0xfffffffffff000
 
 -- a line and what it is
 unfoldable pub SpellsMaps : List ℕ → MapsItem → Type 0

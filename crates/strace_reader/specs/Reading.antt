@@ -6,12 +6,12 @@ use Rattle.std.specs.Prelude.{false, Option, Some, None, Result, Ok, Err, if◌t
 use Rattle.line_parts.specs.declared.refusal.Refusal.{Refusal}
 use Rattle.line_parts.specs.declared.refusal.What.TheVariants.{Number, Word, Comma, Close, Result as AtResult}
 use Rattle.line_parts.specs.Parts.{starts}
-use Rattle.line_parts.specs.Leaves.{is, is_digit, is_capital, is_word_byte}
+use Rattle.line_parts.specs.Leaves.{is, is_digit, is_hex, is_capital, is_word_byte}
 use Rattle.line_parts.specs.Reading.{◌>>=◌, refusal_at, byte_at, letters_at, after_spaces, run_at, digits_end, number_at, until_at, end_at, list_at, digits_of}
 use Rattle.std.specs.Int.RustNames.{bit_or}
 use Rattle.page_types.specs.declared.calls.Kind.{Kind}
 use Rattle.page_types.specs.declared.calls.Call.{Call}
-use Rattle.page_types.specs.declared.calls.Call.TheVariants.{Map, Unmap, Protect, Fault as FaultCall, Seal}
+use Rattle.page_types.specs.declared.calls.Call.TheVariants.{Map, Unmap, Protect, Fault as FaultCall, Seal, Brk, Remap}
 use Rattle.page_types.specs.declared.sets.Access.{Access}
 use Rattle.strace_reader.specs.declared.arguments.WordList.{WordList}
 use Rattle.strace_reader.specs.declared.arguments.WordList.TheVariants.{Prot, Flags}
@@ -22,8 +22,9 @@ use Rattle.strace_reader.specs.declared.item.Item.TheVariants.{Played, Unfinishe
 use Rattle.strace_reader.specs.declared.item.Recorded.{Recorded}
 use Rattle.strace_reader.specs.declared.item.Recorded.TheVariants.{Value, Failed}
 use Rattle.strace_reader.specs.declared.item.Name.{Name}
-use Rattle.strace_reader.specs.declared.item.Name.TheVariants.{Mmap, Munmap, Mprotect, Fault as FaultName, Mseal}
-use Rattle.strace_reader.specs.Words.{prot_of, flag_of, access_of, errno_of}
+use Rattle.strace_reader.specs.declared.item.Name.TheVariants.{Mmap, Munmap, Mprotect, Fault as FaultName, Mseal, Brk as BrkName, Mremap}
+use Rattle.strace_reader.specs.Words.{prot_of, flag_of, access_of, may_of, errno_of}
+use Rattle.strace_reader.specs.Calls.{is_more}
 
 -- a comma and spaces
 unfoldable pub comma_at : List ℕ → Result (Unit {0} × List ℕ) Refusal
@@ -100,6 +101,39 @@ access_read text rest (Some a) = Ok (a, rest)
 unfoldable pub access_at : List ℕ → Result (Access × List ℕ) Refusal
 access_at text = word_at text >>= λ w. access_read text w.1 (access_of w.0)
 
+-- an optional address
+unfoldable pub optional_at : List ℕ → Result (ℕ × List ℕ) Refusal
+optional_at text = if starts (is 44) text then (comma_at text >>= λ u. addr_at u.1) else Ok (0, text)
+
+-- what stands alone, or all that is left
+abbrev pub alone_at : (ℕ → Bool) → Bool → List ℕ → Result (Option Bool × List ℕ) Refusal
+alone_at test may text = if starts test text then Ok (None, []) else Ok (Some may, text)
+
+-- behind 0x
+unfoldable pub hex_number_at : List ℕ → Result (Option Bool × List ℕ) Refusal
+hex_number_at text = run_at is_hex is_hex Number text >>= λ d. Ok (None, [])
+
+-- behind a first 0
+unfoldable pub zero_behind_at : List ℕ → Result (Option Bool × List ℕ) Refusal
+zero_behind_at text = if starts (is 120) text then (byte_at 120 Number text >>= λ u. hex_number_at u.1) else alone_at is_more false text
+
+-- a number of mremap's flags
+unfoldable pub move_number_at : List ℕ → Result (Option Bool × List ℕ) Refusal
+move_number_at text = if starts (is 48) text then (byte_at 48 Number text >>= λ u. zero_behind_at u.1) else Ok (None, [])
+
+-- behind a word of mremap's flags
+abbrev pub moved_at : Option Bool → List ℕ → Result (Option Bool × List ℕ) Refusal
+moved_at None text = Ok (None, [])
+moved_at (Some may) text = alone_at (is 124) may text
+
+-- a word of mremap's flags
+unfoldable pub move_word_at : List ℕ → Result (Option Bool × List ℕ) Refusal
+move_word_at text = word_at text >>= λ w. moved_at (may_of w.0) w.1
+
+-- mremap's flags
+unfoldable pub moving_at : List ℕ → Result (Option Bool × List ℕ) Refusal
+moving_at text = if starts is_digit text then move_number_at text else move_word_at text
+
 -- an error's name or a number
 unfoldable pub failed_at : List ℕ → Result (Option Recorded × List ℕ) Refusal
 failed_at text = if starts (is 45) text
@@ -151,6 +185,24 @@ unfoldable pub mseal_at : List ℕ → Result (Body × List ℕ) Refusal
 mseal_at text = addr_at text >>= λ a. comma_at a.1 >>= λ u. number_at Number u.1 >>= λ n. comma_at n.1
     >>= λ v. number_at Number v.1 >>= λ f. closing_at (Seal a.0 n.0 f.0) f.1
 
+-- brk
+unfoldable pub brk_at : List ℕ → Result (Body × List ℕ) Refusal
+brk_at text = addr_at text >>= λ a. optional_at a.1 >>= λ b. closing_at (Brk b.0 a.0) b.1
+
+-- mremap, behind its flags
+abbrev pub remap_behind_at : ℕ → ℕ → ℕ → Option Bool → List ℕ → Result (Body × List ℕ) Refusal
+remap_behind_at a o n None text = Ok (Other, text)
+remap_behind_at a o n (Some may) text = optional_at text >>= λ h. closing_at (Remap a o n may h.0) h.1
+
+-- mremap, behind its old length
+unfoldable pub remap_lengths_at : ℕ → ℕ → List ℕ → Result (Body × List ℕ) Refusal
+remap_lengths_at a o text = comma_at text >>= λ u. number_at Number u.1 >>= λ n. comma_at n.1
+    >>= λ v. moving_at v.1 >>= λ m. remap_behind_at a o n.0 m.0 m.1
+
+-- mremap
+unfoldable pub mremap_at : List ℕ → Result (Body × List ℕ) Refusal
+mremap_at text = addr_at text >>= λ a. comma_at a.1 >>= λ u. number_at Number u.1 >>= λ o. remap_lengths_at a.0 o.0 o.1
+
 -- behind the flags: the descriptor and the offset
 unfoldable pub map_tail_at : Call → List ℕ → Result (Body × List ℕ) Refusal
 map_tail_at call text = comma_at text >>= λ u. descriptor_at u.1 >>= λ v. comma_at v.1 >>= λ w. number_at Number w.1 >>= λ o. closing_at call o.1
@@ -177,6 +229,8 @@ arguments_at Munmap text = munmap_at text
 arguments_at Mprotect text = mprotect_at text
 arguments_at FaultName text = fault_call_at text
 arguments_at Mseal text = mseal_at text
+arguments_at BrkName text = brk_at text
+arguments_at Mremap text = mremap_at text
 
 -- ---- maps lines
 

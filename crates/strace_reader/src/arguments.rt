@@ -6,11 +6,14 @@ ghost use Rattle.std.specs.Prelude.{◌≡◌};
 ghost use Rattle.line_parts.specs.Reading.{Gives};
 ghost use Rattle.strace_reader.specs.Reading.{comma_at, addr_at, prot_word_at, prot_at, commented_at, operand_at};
 ghost use Rattle.strace_reader.specs.Reading.{shifted_at, flag_word_at, flags_at, listed_word_at, listed_at, path_at};
-ghost use Rattle.strace_reader.specs.Reading.{descriptor_at, access_at};
+ghost use Rattle.strace_reader.specs.Reading.{descriptor_at, access_at, optional_at, alone_at, hex_number_at};
+ghost use Rattle.strace_reader.specs.Reading.{zero_behind_at, move_number_at, move_word_at, moving_at};
+ghost use Rattle.strace_reader.specs.Calls.{is_more};
+ghost use Rattle.line_parts.specs.Parts.{starts};
 
-use crate::words::{access_named, flag_bits, prot_bits};
+use crate::words::{access_named, flag_bits, may_move, prot_bits};
 use line_parts::{
-    Refusal, What, begins, begins_digit, behind_first, byte, letters, number, skip_digits,
+    Refusal, What, begins, begins_digit, behind_first, byte, is_hex, letters, number, skip_digits,
     skip_spaces, until, word,
 };
 use page_types::Access;
@@ -181,5 +184,108 @@ pub(crate) fn access(text: &[u8]) -> Result<(Access, &[u8]), Refusal>
             left: text.len(),
             what: What::Word,
         }),
+    }
+}
+
+/// An address behind a comma, or 0 where there is none.
+#[tactic(auto, unfolding(crate::specs::Reading::optional_at))]
+pub(crate) fn optional(text: &[u8]) -> Result<(u64, &[u8]), Refusal>
+    ensures { Gives (λ x. (x.0, x.1.now)) result (optional_at text.now) }
+{
+    if begins(text, b',') {
+        addr(comma(text)?)
+    } else {
+        Ok((0, text))
+    }
+}
+
+fn is_more(byte: u8) -> bool
+    ensures { result ≡ is_more byte }
+{
+    if byte == b'|' {
+        true
+    } else {
+        b'/' < byte && byte < b':'
+    }
+}
+
+/// Whether the text begins with a bar or a digit.
+fn begins_more(text: &[u8]) -> bool
+    ensures { result ≡ starts is_more text.now }
+{
+    match text {
+        [first, ..] => is_more(*first),
+        [] => false,
+    }
+}
+
+/// Behind `0x`: a line with a digit there is left unplayed.
+#[tactic(auto, unfolding(crate::specs::Reading::hex_number_at, line_parts::specs::Reading::run_at))]
+fn hex_number(text: &[u8]) -> Result<(Option<bool>, &[u8]), Refusal>
+    ensures { Gives (λ x. (x.0, x.1.now)) result (hex_number_at text.now) }
+{
+    match text {
+        [first, ..] if is_hex(*first) => Ok((None, &[])),
+        _ => Err(Refusal {
+            left: text.len(),
+            what: What::Number,
+        }),
+    }
+}
+
+/// Behind a first 0: where it stands alone, pages may not move.
+#[tactic(auto, unfolding(crate::specs::Reading::zero_behind_at))]
+fn zero_behind(text: &[u8]) -> Result<(Option<bool>, &[u8]), Refusal>
+    ensures { Gives (λ x. (x.0, x.1.now)) result (zero_behind_at text.now) }
+{
+    if begins(text, b'x') {
+        return hex_number(byte(text, b'x', What::Number)?);
+    }
+    if begins_more(text) {
+        Ok((None, &[]))
+    } else {
+        Ok((Some(false), text))
+    }
+}
+
+/// A number of mremap's flags, None where it leaves the line unplayed.
+#[tactic(auto, unfolding(crate::specs::Reading::move_number_at))]
+fn move_number(text: &[u8]) -> Result<(Option<bool>, &[u8]), Refusal>
+    ensures { Gives (λ x. (x.0, x.1.now)) result (move_number_at text.now) }
+{
+    if begins(text, b'0') {
+        zero_behind(byte(text, b'0', What::Number)?)
+    } else {
+        Ok((None, &[]))
+    }
+}
+
+/// A word of mremap's flags, None where it, or a bar behind it, leaves the line unplayed.
+#[tactic(auto, unfolding(crate::specs::Reading::move_word_at))]
+fn move_word(text: &[u8]) -> Result<(Option<bool>, &[u8]), Refusal>
+    ensures { Gives (λ x. (x.0, x.1.now)) result (move_word_at text.now) }
+{
+    let (name, rest) = word(text)?;
+    match may_move(name) {
+        None => Ok((None, &[])),
+        Some(may) => {
+            if begins(rest, b'|') {
+                Ok((None, &[]))
+            } else {
+                Ok((Some(may), rest))
+            }
+        }
+    }
+}
+
+/// Whether mremap's flags say that pages may move, None where a word or a number leaves the line unplayed.
+#[tactic(auto, unfolding(crate::specs::Reading::moving_at))]
+pub(crate) fn moving(text: &[u8]) -> Result<(Option<bool>, &[u8]), Refusal>
+    ensures { Gives (λ x. (x.0, x.1.now)) result (moving_at text.now) }
+{
+    if begins_digit(text) {
+        move_number(text)
+    } else {
+        move_word(text)
     }
 }

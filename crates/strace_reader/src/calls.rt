@@ -1,4 +1,4 @@
-//! The five calls of a line, from behind the name to the end of the line. Each function gives the body that the line
+//! The seven calls of a line, from behind the name to the end of the line. Each function gives the body that the line
 //! has and what is left of it, which is nothing, or the first refusal. `specs/Calls.antt` has the forms; what
 //! strace(1) prints between the arguments and behind them is taken as this project's own profile says.
 
@@ -8,9 +8,10 @@ ghost use Rattle.line_parts.specs.declared.refusal.What.TheVariants.{Result as A
 ghost use Rattle.strace_reader.specs.declared.item.Body.TheVariants.{Called};
 ghost use Rattle.strace_reader.specs.Reading.{failed_at, recorded_at, equals_at, tail_at, outcome_at, closing_at};
 ghost use Rattle.strace_reader.specs.Reading.{munmap_at, mprotect_at, fault_call_at, mseal_at, map_tail_at, mmap_at};
+ghost use Rattle.strace_reader.specs.Reading.{brk_at, remap_lengths_at, mremap_at};
 ghost use Rattle.strace_reader.specs.Reading.{arguments_at};
 
-use crate::arguments::{access, addr, comma, descriptor, flags, prot};
+use crate::arguments::{access, addr, comma, descriptor, flags, moving, optional, prot};
 use crate::item::{Body, Name, Recorded};
 use crate::words::errno_named;
 use bitflags::Flags;
@@ -142,6 +143,47 @@ fn mseal(text: &[u8]) -> Result<(Body, &[u8]), Refusal>
     closing(Call::Seal { addr, len, flags }, rest)
 }
 
+#[tactic(auto, unfolding(crate::specs::Reading::brk_at))]
+fn brk(text: &[u8]) -> Result<(Body, &[u8]), Refusal>
+    ensures { Gives (λ x. (x.0, x.1.now)) result (brk_at text.now) }
+{
+    let (addr, rest) = addr(text)?;
+    let (base, rest) = optional(rest)?;
+    closing(Call::Brk { base, addr }, rest)
+}
+
+/// The new length, the flags and the hint, and the end of the line.
+#[tactic(auto, unfolding(crate::specs::Reading::remap_lengths_at))]
+fn remap_lengths(addr: u64, old_len: u64, text: &[u8]) -> Result<(Body, &[u8]), Refusal>
+    ensures { Gives (λ x. (x.0, x.1.now)) result (remap_lengths_at addr old_len text.now) }
+{
+    let (new_len, rest) = number(comma(text)?, What::Number)?;
+    let (may, rest) = moving(comma(rest)?)?;
+    match may {
+        None => Ok((Body::Other, rest)),
+        Some(may_move) => {
+            let (hint, rest) = optional(rest)?;
+            let call = Call::Remap {
+                addr,
+                old_len,
+                new_len,
+                may_move,
+                hint,
+            };
+            closing(call, rest)
+        }
+    }
+}
+
+#[tactic(auto, unfolding(crate::specs::Reading::mremap_at))]
+fn mremap(text: &[u8]) -> Result<(Body, &[u8]), Refusal>
+    ensures { Gives (λ x. (x.0, x.1.now)) result (mremap_at text.now) }
+{
+    let (addr, rest) = addr(text)?;
+    let (old_len, rest) = number(comma(rest)?, What::Number)?;
+    remap_lengths(addr, old_len, rest)
+}
+
 /// The descriptor and the offset, which are read and let go, and the end of the line.
 #[tactic(auto, unfolding(crate::specs::Reading::map_tail_at))]
 fn map_tail(call: Call, text: &[u8]) -> Result<(Body, &[u8]), Refusal>
@@ -187,5 +229,7 @@ pub(crate) fn arguments(name: Name, text: &[u8]) -> Result<(Body, &[u8]), Refusa
         Name::Mprotect => mprotect(text),
         Name::Fault => fault(text),
         Name::Mseal => mseal(text),
+        Name::Brk => brk(text),
+        Name::Mremap => mremap(text),
     }
 }

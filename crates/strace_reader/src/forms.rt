@@ -6,8 +6,9 @@ ghost use Rattle.std.specs.Prelude.{◌≡◌, ◌≢◌, ◌++◌, [], ◌∷�
 ghost use Rattle.std.specs.Bool.{Decides};
 ghost use Rattle.line_parts.specs.Leaves.{is, EachIs, NoDigit};
 ghost use Rattle.strace_reader.specs.declared.item.Name.{Name as NameOf};
+ghost use Rattle.strace_reader.specs.declared.item.Name.TheVariants.{Mmap, Munmap, Mprotect, Mremap};
 ghost use Rattle.strace_reader.specs.Words.{call_head, resumed_head};
-ghost use Rattle.strace_reader.specs.Grammar.{BeginsWith, EndsWith, unfinished, NeverReturned, IsBracketed, IsPrefixed, IsCut, IsHalf, PidThen};
+ghost use Rattle.strace_reader.specs.Grammar.{BeginsWith, EndsWith, unfinished, NeverReturned, IsBracketed, IsPrefixed, IsCut, IsHalf, NoHead, PidThen};
 
 use crate::item::Name;
 use line_parts::{digits, skip_spaces};
@@ -43,9 +44,11 @@ fn strip_back<'a>(text: &'a [u8], word: &[u8]) -> Option<&'a [u8]>
     text.strip_suffix(word)
 }
 
-/// The name of a call that the text begins with, and what is left behind it and its parenthesis.
-pub(crate) fn named(text: &[u8]) -> Option<(Name, &[u8])>
-    ensures { MatchOption result ((name : NameOf) → (rest : List ℕ) → text.now ≢ call_head name ++ rest) (λ x. text.now ≡ call_head x.0 ++ x.1.now) }
+/// The name of one of the four calls that map or protect, and what is left behind it and its parenthesis.
+fn named_maps(text: &[u8]) -> Option<(Name, &[u8])>
+    ensures { MatchOption result
+        (NoHead call_head Mmap text.now × NoHead call_head Munmap text.now × NoHead call_head Mprotect text.now × NoHead call_head Mremap text.now)
+        (λ x. text.now ≡ call_head x.0 ++ x.1.now) }
 {
     if let Some(rest) = strip_front(text, b"mmap(") {
         return Some((Name::Mmap, rest));
@@ -56,6 +59,22 @@ pub(crate) fn named(text: &[u8]) -> Option<(Name, &[u8])>
     if let Some(rest) = strip_front(text, b"mprotect(") {
         return Some((Name::Mprotect, rest));
     }
+    if let Some(rest) = strip_front(text, b"mremap(") {
+        return Some((Name::Mremap, rest));
+    }
+    None
+}
+
+/// The name of a call that the text begins with, and what is left behind it and its parenthesis.
+pub(crate) fn named(text: &[u8]) -> Option<(Name, &[u8])>
+    ensures { MatchOption result ((name : NameOf) → NoHead call_head name text.now) (λ x. text.now ≡ call_head x.0 ++ x.1.now) }
+{
+    if let Some(found) = named_maps(text) {
+        return Some(found);
+    }
+    if let Some(rest) = strip_front(text, b"brk(") {
+        return Some((Name::Brk, rest));
+    }
     if let Some(rest) = strip_front(text, b"fault(") {
         return Some((Name::Fault, rest));
     }
@@ -65,9 +84,12 @@ pub(crate) fn named(text: &[u8]) -> Option<(Name, &[u8])>
     None
 }
 
-/// The name of a call whose second half the text begins as, and what is left behind that beginning.
-pub(crate) fn resumed(text: &[u8]) -> Option<(Name, &[u8])>
-    ensures { MatchOption result ((name : NameOf) → (rest : List ℕ) → text.now ≢ resumed_head name ++ rest) (λ x. text.now ≡ resumed_head x.0 ++ x.1.now) }
+/// The name of one of the four calls that map or protect, whose second half the text begins as, and what is left behind
+/// that beginning.
+fn resumed_maps(text: &[u8]) -> Option<(Name, &[u8])>
+    ensures { MatchOption result
+        (NoHead resumed_head Mmap text.now × NoHead resumed_head Munmap text.now × NoHead resumed_head Mprotect text.now × NoHead resumed_head Mremap text.now)
+        (λ x. text.now ≡ resumed_head x.0 ++ x.1.now) }
 {
     if let Some(rest) = strip_front(text, b"<... mmap resumed>") {
         return Some((Name::Mmap, rest));
@@ -77,6 +99,22 @@ pub(crate) fn resumed(text: &[u8]) -> Option<(Name, &[u8])>
     }
     if let Some(rest) = strip_front(text, b"<... mprotect resumed>") {
         return Some((Name::Mprotect, rest));
+    }
+    if let Some(rest) = strip_front(text, b"<... mremap resumed>") {
+        return Some((Name::Mremap, rest));
+    }
+    None
+}
+
+/// The name of a call whose second half the text begins as, and what is left behind that beginning.
+pub(crate) fn resumed(text: &[u8]) -> Option<(Name, &[u8])>
+    ensures { MatchOption result ((name : NameOf) → NoHead resumed_head name text.now) (λ x. text.now ≡ resumed_head x.0 ++ x.1.now) }
+{
+    if let Some(found) = resumed_maps(text) {
+        return Some(found);
+    }
+    if let Some(rest) = strip_front(text, b"<... brk resumed>") {
+        return Some((Name::Brk, rest));
     }
     if let Some(rest) = strip_front(text, b"<... fault resumed>") {
         return Some((Name::Fault, rest));

@@ -1,12 +1,12 @@
 //! What a line of a trace says: a call with what the trace recorded of it, or nothing that is played. The error names
-//! are those that mmap(2), munmap(2), mprotect(2) and mseal(2) give, and the SIGSEGV codes of sigaction(2) for a page
-//! fault. A refusal says where the line stops being one that is read, and why.
+//! are those that mmap(2) and the calls like it give, and the SIGSEGV codes of sigaction(2) for a page fault. A refusal
+//! says where the line stops being one that is read, and why.
 
 use line_parts::What;
 use page_types::Call;
 use thiserror::Error;
 
-/// The five calls by the name that a line begins with.
+/// The seven calls by the name that a line begins with.
 #[derive(Clone, Copy, PartialEq, Eq, Debug, Drop)]
 pub enum Name {
     /// `mmap`
@@ -19,6 +19,10 @@ pub enum Name {
     Fault,
     /// `mseal`
     Mseal,
+    /// `brk`
+    Brk,
+    /// `mremap`
+    Mremap,
 }
 
 /// The error that a trace recorded, by its name in errno(3) or sigaction(2).
@@ -32,6 +36,8 @@ pub enum Errno {
     Eexist,
     /// `EPERM`
     Eperm,
+    /// `EFAULT`
+    Efault,
     /// `SEGV_MAPERR`
     MapErr,
     /// `SEGV_ACCERR`

@@ -25,4 +25,4 @@ pub use laws::{
 pub use line_parts::What;
 pub use lines::read_line;
 pub use maps::{MapsItem, read_maps_line};
-pub use playing::{as_played, differs};
+pub use playing::{as_played, base_behind, differs, on_base};

@@ -1,5 +1,5 @@
 //! Reads a line of a trace: first the prefix that names a process, then the body behind it. The forms of a body are
-//! tried in their order, which decides what it is; a body that names one of the five calls and is no spelling of it
+//! tried in their order, which decides what it is; a body that names one of the seven calls and is no spelling of it
 //! is refused at the first byte that cannot go on. `Spells` and `Refuses` in `specs/Grammar.antt` are the two
 //! relations, this project's own profile of strace(1); the reader is exactly them.
 
@@ -78,7 +78,7 @@ fn item(len: usize, pid: u32, body_len: usize, body: Body) -> Item
 
 /// What a line is, without its newline. It has at most 131,072 bytes.
 ///
-/// A refusal comes exactly where the line names one of the five calls behind its prefix and is no spelling of it. Its
+/// A refusal comes exactly where the line names one of the seven calls behind its prefix and is no spelling of it. Its
 /// column is then the first byte at which the bytes up to it begin no spelling of that call, behind the last byte where
 /// the line ends too early; for a number of more than 64 bits and for an access that is another word it is the first
 /// byte of that number or word. Nothing is allocated.

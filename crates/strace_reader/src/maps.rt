@@ -32,7 +32,7 @@ pub enum MapsItem {
     Past {
         /// The first byte.
         start: u64,
-        /// The byte behind the last one, above 0x7ffffffff000.
+        /// The byte behind the last one, above 0xfffffffffff000.
         end: u64,
     },
 }
@@ -124,7 +124,7 @@ fn maps_form(text: &[u8]) -> Option<(u64, u64, Kind)>
 ///
 /// `What::Form` comes exactly where the line has another form, or an address is no multiple of 4096 or is
 /// wider than 64 bits; otherwise `What::Order` exactly where the start isn't below the end. Both have
-/// column 1. A `Past` comes exactly where neither does and the end is above 0x7ffffffff000. Nothing is
+/// column 1. A `Past` comes exactly where neither does and the end is above 0xfffffffffff000. Nothing is
 /// allocated.
 pub fn read_maps_line(text: &[u8]) -> Result<MapsItem, BadCall>
     // What is read is spelled so.

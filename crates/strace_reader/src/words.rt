@@ -3,7 +3,7 @@
 //! function here gives exactly what it says.
 
 ghost use Rattle.std.specs.Prelude.{◌≡◌};
-ghost use Rattle.strace_reader.specs.Words.{prot_of, flag_of, access_of, errno_of};
+ghost use Rattle.strace_reader.specs.Words.{prot_of, flag_of, access_of, may_of, errno_of};
 
 use crate::item::Errno;
 use bitflags::Flags;
@@ -66,6 +66,18 @@ pub(crate) fn access_named(word: &[u8]) -> Option<Access>
     }
 }
 
+/// What a word of mremap's flags says of whether pages may be put elsewhere; None where it leaves the line unplayed.
+#[tactic(auto, unfolding(crate::specs::Words::may_of))]
+pub(crate) fn may_move(word: &[u8]) -> Option<bool>
+    ensures { result ≡ may_of word.now }
+{
+    if word == b"MREMAP_MAYMOVE".as_slice() {
+        Some(true)
+    } else {
+        None
+    }
+}
+
 /// The error of a name.
 #[tactic(auto, unfolding(crate::specs::Words::errno_of))]
 pub(crate) fn errno_named(word: &[u8]) -> Errno
@@ -79,6 +91,8 @@ pub(crate) fn errno_named(word: &[u8]) -> Errno
         Errno::Eexist
     } else if word == b"EPERM".as_slice() {
         Errno::Eperm
+    } else if word == b"EFAULT".as_slice() {
+        Errno::Efault
     } else if word == b"SEGV_MAPERR".as_slice() {
         Errno::MapErr
     } else if word == b"SEGV_ACCERR".as_slice() {

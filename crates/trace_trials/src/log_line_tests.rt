@@ -68,12 +68,33 @@ fn a_line_of_a_log_is_read_as_its_entry(rt: HostRuntime) {
         read_log_line(b"5 0 6 mseal(0x10000, 4096, 1) = -1 EINVAL flags under none"),
         Some(entry(5, 6, seal, flags, Under::Nothing))
     );
+    let brk = Call::Brk {
+        base: 0x20000,
+        addr: 0x22000,
+    };
+    assert_eq!(rt;
+        read_log_line(b"1 0 2 brk(0x22000, 0x20000) = 0x22000 under whole"),
+        Some(entry(1, 2, brk, Reply::At(0x22000), Under::Whole))
+    );
+    let remap = Call::Remap {
+        addr: 0x20000,
+        old_len: 8192,
+        new_len: 12288,
+        may_move: true,
+        hint: 0x40000,
+    };
+    assert_eq!(rt;
+        read_log_line(
+            b"4 0 5 mremap(0x20000, 8192, 12288, MREMAP_MAYMOVE, 0x40000) = 0x40000 under whole"
+        ),
+        Some(entry(4, 5, remap, Reply::At(0x40000), Under::Whole))
+    );
 }
 
 #[test]
 fn each_refusal_is_read(rt: HostRuntime) {
     let call = Call::Unmap { addr: 0, len: 4096 };
-    let cases: [(&[u8], Why); 7] = [
+    let cases: [(&[u8], Why); 8] = [
         (
             b"0 0 1 munmap(NULL, 4096) = -1 EINVAL flags under none",
             Why::Einval(Field::Flags),
@@ -99,6 +120,10 @@ fn each_refusal_is_read(rt: HostRuntime) {
             Why::Eperm(0x10),
         ),
         (
+            b"0 0 1 munmap(NULL, 4096) = -1 EFAULT page 0x10 under none",
+            Why::Efault(0x10),
+        ),
+        (
             b"0 0 1 munmap(NULL, 4096) = -1 SEGV_MAPERR page 0x12 under none",
             Why::MapErr(0x12),
         ),
@@ -113,7 +138,7 @@ fn each_refusal_is_read(rt: HostRuntime) {
 
 #[test]
 fn no_other_line_is_read(rt: HostRuntime) {
-    let lines: [&[u8]; 16] = [
+    let lines: [&[u8]; 19] = [
         b"",
         b"played 2 skipped 0 refused 0 differ 0",
         b"0 16 1 munmap(NULL, 4096) = 0 under whole",
@@ -126,9 +151,12 @@ fn no_other_line_is_read(rt: HostRuntime) {
         b"0 0 1 munmap(NULL, 4096) = 0 under whole\r",
         b"0 0 1 munmap(NULL, 4096) = 0 under all",
         b"0 0 1 munmap(NULL, 4096) = 0 under area 0x10-0x10",
-        b"0 0 1 munmap(NULL, 4096) = 0 under area 0x10-0x800000000",
+        b"0 0 1 munmap(NULL, 4096) = 0 under area 0x10-0x100000000000",
         b"0 0 1 munmap(NULL, 4096) = -1 ENOMEM rows 4294967296 under whole",
         b"0 0 1 mseal(NULL, 4096, 0x0) = 0 under whole",
+        b"0 0 1 brk(NULL) = 0x20000 under whole",
+        b"0 0 1 mremap(0x10000, 4096, 4096, 0, NULL) = 0x10000 under whole",
+        b"0 0 1 mremap(0x10000, 4096, 4096, 0x0) = 0x10000 under whole",
         b"0 0 1 fault(NULL, PROT_READ) = granted r--p  sealed under reader 0x0-0x1",
     ];
     for line in lines {

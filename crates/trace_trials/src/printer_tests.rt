@@ -143,11 +143,12 @@ fn each_reply_has_its_text(rt: HostRuntime) -> Result<(), Fail> {
         Why::Einval(Field::Flags),
         Why::Einval(Field::End),
         Why::Enomem(Short::Missing(0x11)),
-        Why::Enomem(Short::PastEnd(0x800000000)),
+        Why::Enomem(Short::PastEnd(0x100000000000)),
         Why::Enomem(Short::NoGap(10)),
-        Why::Enomem(Short::Rows(4097)),
+        Why::Enomem(Short::Rows(131063)),
         Why::Eexist(0x10),
         Why::Eperm(0x10),
+        Why::Efault(0x10),
         Why::MapErr(0x12),
         Why::AccErr(0x10, private(1)),
         Why::AccErr(u64::MAX, sealed),
@@ -163,11 +164,12 @@ fn each_reply_has_its_text(rt: HostRuntime) -> Result<(), Fail> {
         0 0 1 fault(0x12000, PROT_READ) = -1 EINVAL flags under none\n\
         0 0 1 fault(0x12000, PROT_READ) = -1 EINVAL end under none\n\
         0 0 1 fault(0x12000, PROT_READ) = -1 ENOMEM missing page 0x11 under none\n\
-        0 0 1 fault(0x12000, PROT_READ) = -1 ENOMEM end page 0x800000000 under none\n\
+        0 0 1 fault(0x12000, PROT_READ) = -1 ENOMEM end page 0x100000000000 under none\n\
         0 0 1 fault(0x12000, PROT_READ) = -1 ENOMEM no gap of 10 pages under none\n\
-        0 0 1 fault(0x12000, PROT_READ) = -1 ENOMEM rows 4097 under none\n\
+        0 0 1 fault(0x12000, PROT_READ) = -1 ENOMEM rows 131063 under none\n\
         0 0 1 fault(0x12000, PROT_READ) = -1 EEXIST page 0x10 under none\n\
         0 0 1 fault(0x12000, PROT_READ) = -1 EPERM page 0x10 under none\n\
+        0 0 1 fault(0x12000, PROT_READ) = -1 EFAULT page 0x10 under none\n\
         0 0 1 fault(0x12000, PROT_READ) = -1 SEGV_MAPERR page 0x12 under none\n\
         0 0 1 fault(0x12000, PROT_READ) = -1 SEGV_ACCERR page 0x10 r--p under none\n\
         0 0 1 fault(0x12000, PROT_READ) = -1 SEGV_ACCERR page 0xffffffffffffffff r--p sealed under none\n\
@@ -178,7 +180,7 @@ fn each_reply_has_its_text(rt: HostRuntime) -> Result<(), Fail> {
 
 #[test]
 fn a_call_has_no_newline(rt: HostRuntime) -> Result<(), Fail> {
-    let mut out = sink(rt.alloc(), 200, &[])?;
+    let mut out = sink(rt.alloc(), 300, &[])?;
     let map = Call::Map {
         addr: 0,
         len: 18446744073709551615,
@@ -191,8 +193,30 @@ fn a_call_has_no_newline(rt: HostRuntime) -> Result<(), Fail> {
     };
     assert_eq!(rt; write_call(&mut out, &map), Ok(()));
     assert_eq!(rt; write_call(&mut out, &unmap), Ok(()));
+    let brk = Call::Brk {
+        base: 0,
+        addr: 0x21001,
+    };
+    let stays = Call::Remap {
+        addr: 0x20000,
+        old_len: 4096,
+        new_len: 8192,
+        may_move: false,
+        hint: 0x40000,
+    };
+    let moves = Call::Remap {
+        addr: 0,
+        old_len: 0,
+        new_len: 1,
+        may_move: true,
+        hint: 0,
+    };
+    assert_eq!(rt; write_call(&mut out, &brk), Ok(()));
+    assert_eq!(rt; write_call(&mut out, &stays), Ok(()));
+    assert_eq!(rt; write_call(&mut out, &moves), Ok(()));
     let expected =
-        b"mmap(NULL, 18446744073709551615, PROT_NONE, 0, -1, 0)munmap(0xffffffffffffffff, 0)";
+        b"mmap(NULL, 18446744073709551615, PROT_NONE, 0, -1, 0)munmap(0xffffffffffffffff, 0)\
+        brk(0x21001, NULL)mremap(0x20000, 4096, 8192, 0, 0x40000)mremap(NULL, 0, 1, MREMAP_MAYMOVE)";
     assert_eq!(rt; out.written(), expected.as_slice());
     Ok(())
 }

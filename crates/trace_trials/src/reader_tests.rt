@@ -16,6 +16,16 @@ fn map(addr: u64, len: u64, prot: u8, flags: u8) -> Call {
     }
 }
 
+fn remap(addr: u64, old_len: u64, new_len: u64, may_move: bool, hint: u64) -> Call {
+    Call::Remap {
+        addr,
+        old_len,
+        new_len,
+        may_move,
+        hint,
+    }
+}
+
 fn played(call: Call, recorded: Option<Recorded>) -> Result<Item, BadCall> {
     Ok(Item::Played {
         pid: 0,
@@ -33,7 +43,7 @@ fn refusal(line: &[u8]) -> Option<BadCall> {
 
 #[test]
 fn refusals_have_their_column_and_cause(rt: HostRuntime) {
-    let cases: [(&[u8], u32, What); 53] = [
+    let cases: [(&[u8], u32, What); 64] = [
         (b"munmap(x, 1)", 8, What::Number),
         (b"munmap(0x, 1)", 10, What::Number),
         (b"munmap(NUX, 1)", 10, What::Number),
@@ -91,6 +101,17 @@ fn refusals_have_their_column_and_cause(rt: HostRuntime) {
         (b"mseal(1, 2, )", 13, What::Number),
         (b"mseal(1, 2, MSEAL)", 13, What::Number),
         (b"mseal(1, 2, 0x0, 0)", 16, What::Close),
+        (b"brk(x)", 5, What::Number),
+        (b"brk(NULL x)", 9, What::Close),
+        (b"brk(NULL, )", 11, What::Number),
+        (b"brk(1, 2, 3)", 9, What::Close),
+        (b"mremap(1, 2)", 12, What::Comma),
+        (b"mremap(1, 2, 3, x)", 17, What::Word),
+        (b"mremap(1, 2, 3, 0x)", 19, What::Number),
+        (b"mremap(1, 2, 3, 0 )", 18, What::Close),
+        (b"mremap(1, 2, 3, MREMAP_MAYMOVE )", 31, What::Close),
+        (b"mremap(1, 2, 3, MREMAP_MAYMOVE, )", 33, What::Number),
+        (b"mremap(1, 2, 3, 0, 4, 5)", 21, What::Close),
     ];
     for (line, column, what) in cases {
         assert!(rt; refusal(line) == Some(BadCall { column, what }));
@@ -99,16 +120,23 @@ fn refusals_have_their_column_and_cause(rt: HostRuntime) {
 
 #[test]
 fn other_lines_are_skipped(rt: HostRuntime) -> Result<(), Fail> {
-    let lines: [&[u8]; 17] = [
+    let lines: [&[u8]; 24] = [
         b"--- SIGSEGV {si_signo=SIGSEGV} ---",
         b"+++ exited with 0 +++",
         b"execve(\"/bin/true\", [\"true\"], 0x7ffc1001f000 /* 3 vars */) = 0",
-        b"brk(NULL)                               = 0x1c3a000",
+        b"getpid()                                = 7",
+        b"madvise(0x1c3a000, 4096, MADV_DONTNEED) = 0",
         b"exit_group(0)                           = ?",
         b"mprotect(0x1000, 4096, PROT_SEM) = 0",
         b"mprotect(0x1000, 4096, PROT_READ|99999999999999999999",
         b"mprotect(0x1000, 4096, PROT_RE",
         b"mmap(1, 2, PROT_READ, MAP_SHARED_VALIDATE|x",
+        b"mremap(1, 2, 3, MREMAP_MAYMOVE|MREMAP_FIXED, 4) = 4",
+        b"mremap(1, 2, 3, MREMAP_DONTUNMAP",
+        b"mremap(1, 2, 3, 1) = 1",
+        b"mremap(1, 2, 3, 00) = 1",
+        b"mremap(1, 2, 3, 0x0) = 1",
+        b"mremap(1, 2, 3, 0|x",
         b"munmap(0x1000 <unfinished ...>)   = ?",
         b" ",
         b"munmap",
@@ -165,7 +193,7 @@ fn halves_and_processes_are_read(rt: HostRuntime) {
 
 #[test]
 fn calls_are_read(rt: HostRuntime) {
-    let cases: [(&[u8], Call, Option<Recorded>); 14] = [
+    let cases: [(&[u8], Call, Option<Recorded>); 19] = [
         (
             b"mmap(0x10000, 8192, PROT_READ|PROT_WRITE, MAP_PRIVATE|MAP_FIXED|MAP_ANONYMOUS, -1, 0)",
             map(0x10000, 8192, 3, 6),
@@ -263,6 +291,37 @@ fn calls_are_read(rt: HostRuntime) {
             },
             Some(Recorded::Failed(Errno::Eperm)),
         ),
+        (
+            b"brk(NULL)                               = 0x1c3a000",
+            Call::Brk { base: 0, addr: 0 },
+            Some(Recorded::Value(0x1c3a000)),
+        ),
+        (
+            b"brk(0x21001,0x20000)",
+            Call::Brk {
+                base: 0x20000,
+                addr: 0x21001,
+            },
+            None,
+        ),
+        (
+            b"brk(0x21001, NULL) = ?",
+            Call::Brk {
+                base: 0,
+                addr: 0x21001,
+            },
+            None,
+        ),
+        (
+            b"mremap(0x20000, 4096, 0x2000, MREMAP_MAYMOVE) = 0x40000",
+            remap(0x20000, 4096, 8192, true, 0),
+            Some(Recorded::Value(0x40000)),
+        ),
+        (
+            b"mremap(NULL, 0, 18446744073709551615, 0, 0x10) = -1 EFAULT (Bad address)",
+            remap(0, 0, u64::MAX, false, 0x10),
+            Some(Recorded::Failed(Errno::Efault)),
+        ),
     ];
     for (line, call, recorded) in cases {
         assert!(rt; read_line(line) == played(call, recorded));
@@ -312,12 +371,66 @@ fn recorded_results_are_hints_and_answers(rt: HostRuntime) {
     let value = Some(Recorded::Value(0x7000));
     assert!(rt; as_played(&map(0, 1, 1, 2), value) == map(0x7000, 1, 1, 2));
     assert!(rt; as_played(&map(0, 1, 1, 6), value) == map(0, 1, 1, 6));
+    assert!(rt; as_played(&remap(1, 2, 3, true, 0), value) == remap(1, 2, 3, true, 0x7000));
+    assert!(rt; as_played(&remap(1, 2, 3, true, 4), value) == remap(1, 2, 3, true, 4));
+    assert!(rt; as_played(&remap(1, 2, 3, false, 0), value) == remap(1, 2, 3, false, 0));
     assert!(rt; !differs(&Reply::At(0x7000), value));
     assert!(rt; differs(&Reply::Zero, value));
     assert!(rt; !differs(&Reply::Zero, None));
     let einval = Reply::Refused(Why::Einval(Field::Len));
     assert!(rt; !differs(&einval, Some(Recorded::Failed(Errno::Einval))));
     assert!(rt; differs(&einval, Some(Recorded::Failed(Errno::Enomem))));
+}
+
+#[test]
+fn a_recorded_value_is_the_base_of_a_trace(rt: HostRuntime) {
+    let asked = |base: u64, recorded: Option<Recorded>| Fed::Played {
+        pid: 7,
+        call: Call::Brk { base, addr: 0 },
+        recorded,
+        skipped: 0,
+    };
+    let cases: [(Option<Recorded>, u64); 5] = [
+        (None, 0),
+        (Some(Recorded::Failed(Errno::Enomem)), 0),
+        (Some(Recorded::Value(0)), 0),
+        (Some(Recorded::Value(0x20001)), 0),
+        (Some(Recorded::Value(0x20000)), 0x20000),
+    ];
+    for (recorded, base) in cases {
+        assert!(rt; base_behind(0, &asked(0, recorded)) == base);
+        assert!(rt; base_behind(0x30000, &asked(0, recorded)) == 0x30000);
+        assert!(rt; base_behind(0, &asked(0x30000, recorded)) == 0);
+    }
+}
+
+#[test]
+fn a_brk_has_the_base_of_its_trace(rt: HostRuntime) {
+    let without = Fed::Played {
+        pid: 7,
+        call: Call::Brk {
+            base: 0,
+            addr: 0x21000,
+        },
+        recorded: Some(Recorded::Value(0x20000)),
+        skipped: 1,
+    };
+    let with = Fed::Played {
+        pid: 7,
+        call: Call::Brk {
+            base: 0x20000,
+            addr: 0x21000,
+        },
+        recorded: Some(Recorded::Value(0x20000)),
+        skipped: 1,
+    };
+    let kept = Fed::Kept { skipped: 1 };
+    assert!(rt; base_behind(0, &without) == 0);
+    assert!(rt; on_base(0, &without) == Fed::Skipped(2));
+    assert!(rt; on_base(0x20000, &without) == with);
+    assert!(rt; on_base(0, &with) == with);
+    assert!(rt; on_base(0x30000, &with) == with);
+    assert!(rt; on_base(0, &kept) == kept);
 }
 
 #[test]
@@ -344,7 +457,7 @@ fn halves_are_joined_by_process(rt: HostRuntime) -> Result<(), Fail> {
             b"7 munmap(0x10000 <unfinished ...>",
             Fed::Kept { skipped: 0 },
         ),
-        (b"7 brk(NULL) = 0", Fed::Skipped(1)),
+        (b"7 getpid() = 7", Fed::Skipped(1)),
         (b"", Fed::Blank),
         (
             b"7 munmap(0x10000 <unfinished ...>",

@@ -41,6 +41,25 @@ fn each_kind_of_call_reads_back(rt: HostRuntime) -> Result<(), Fail> {
             len: 18446744073709551615,
             flags: 18446744073709551615,
         },
+        Call::Brk { base: 0, addr: 0 },
+        Call::Brk {
+            base: 0xfffffffffff000,
+            addr: 0xffffffffffffffff,
+        },
+        Call::Remap {
+            addr: 0x10000,
+            old_len: 18446744073709551615,
+            new_len: 18446744073709551615,
+            may_move: true,
+            hint: 0xffffffffffffffff,
+        },
+        Call::Remap {
+            addr: 0,
+            old_len: 0,
+            new_len: 4096,
+            may_move: false,
+            hint: 0,
+        },
     ];
     for call in calls {
         let mut store = Vec::new(alloc);

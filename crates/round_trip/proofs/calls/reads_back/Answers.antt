@@ -33,3 +33,20 @@ pub returns-in-Fault : goal.returns-in-Fault
 returns-in-Fault c =
     let fits = subst FitsCall (sym c.in-Fault.is) c.in_range-in-Fault.ensures.one in
     record { spells = call_text_spells c.args.call c.requires fits; short = call_text_length c.args.call c.requires fits }
+
+-- the text of a Brk spells it, and has at most 143 bytes
+pub returns-in-Brk : goal.returns-in-Brk
+returns-in-Brk c =
+    let fits = subst FitsCall (sym c.in-Brk.is) (c.in_range-in-Brk.ensures.one, c.in_range-in-Brk.ensures.other) in
+    record { spells = call_text_spells c.args.call c.requires fits; short = call_text_length c.args.call c.requires fits }
+
+-- the text of a Remap spells it, and has at most 143 bytes
+pub returns-in-Remap : goal.returns-in-Remap
+returns-in-Remap c =
+    let fits = subst FitsCall (sym c.in-Remap.is) (
+      c.in_range-in-Remap.ensures.one,
+      c.in_range-in-Remap.ensures.other,
+      c.in_range-in-Remap-2.ensures.one,
+      c.in_range-in-Remap-2.ensures.other,
+    ) in
+    record { spells = call_text_spells c.args.call c.requires fits; short = call_text_length c.args.call c.requires fits }
