@@ -19,7 +19,7 @@ use Rattle.strace_reader.specs.declared.joiner.Fed.TheVariants.{Played, Kept, Sk
 use Rattle.strace_reader.specs.Playing.{Differs}
 use Rattle.range_cli.specs.declared.trace.Line.{Line}
 use Rattle.range_cli.specs.Report.{Differing, DiffersFromLine, LinesRise, IsPlaceOf, HasNoLine}
-use Rattle.range_cli.specs.Script.{TracePosition, Reads, lines_by, index_among}
+use Rattle.range_cli.specs.Script.{TracePosition, Reads, lines_by, index_among, taken}
 use Rattle.range_cli.specs.Script.Reads.{nothing, line}
 
 -- ---- the count
@@ -140,4 +140,4 @@ rise_on stand Blank lines rise from = (rise, from_next stand.number lines from)
 pub reads_rise : {stand : TracePosition} {texts : List (List ℕ)} {lines : List Line} {skipped : ℕ} → Reads stand texts lines skipped
     → LinesRise lines × AreFrom stand.number lines
 reads_rise (nothing left) = ((λ i j d below low. absurd (omega arith)), (λ k d low. absurd (omega arith)))
-reads_rise (line {stand = s} {lines = ls} answer asks reads) = let rest = reads_rise reads in rise_on s answer ls rest.0 rest.1
+reads_rise (line {stand = s} {lines = ls} answer asks reads) = let rest = reads_rise reads in rise_on s (taken s answer) ls rest.0 rest.1

@@ -3,6 +3,7 @@
 use Rattle.std.proofs.Common.{◌≡◌, ◌⊎◌, Bool, true, false, inl, inr, ℕ, zero, suc, ◌+◌, ◌<◌, ◌≤◌, List, [], ◌∷◌, ◌++◌, length}
 use Rattle.std.proofs.Common.{Some, refl, sym, ap, subst, ◌∙◌, arith, length-append}
 use Rattle.std.specs.Prelude.{◌==◌, if◌then◌else◌}
+use Rattle.page_types.specs.declared.TheConstants.{ROWS}
 use Rattle.space_model.specs.declared.areas.Area.{Area}
 use Rattle.space_model.specs.declared.entries.Entry.{Entry}
 use Rattle.space_model.specs.Areas.{HasKinds, kind_at, row_count}
@@ -24,7 +25,7 @@ use Rattle.std.proofs.lemmas.Option.{slice_get_within}
 -- the verdict on the lines behind the opening is that on the input
 pub input_verdict : (opening : Bool) (bytes : List ℕ) (areas : List Area) (past next before : ℕ) (left : List (List ℕ)) (start : List Area) (verdict : Verdict)
     → Opens opening (lines_of bytes) areas past next left → next ≡ before + 1 → KeepsLimits left → HasKinds (kind_at areas) start
-    → row_count start ≤ 4096 → IsVerdict start left verdict → IsInputVerdict opening bytes before verdict
+    → row_count start ≤ ROWS → IsVerdict start left verdict → IsInputVerdict opening bytes before verdict
 input_verdict opening bytes areas past next before left start verdict opens number limits kinds few is = record {
   head = record { areas = areas; past = past; next = next; left = left; opens = opens };
   next = number;

@@ -36,7 +36,8 @@ use Rattle.range_cli.specs.Play.{worker_lines, lines_of_load, IsHistoryOf}
 use Rattle.range_cli.specs.Laws.{AreOneReport, AskForOneWorker, OneWorkerHasOneReport}
 use Rattle.range_cli.specs.Report.{CountsTouched, Differing, asked_log, asked_touched, refused_count, report_text}
 use Rattle.range_cli.specs.Run.{Heard, IsReport, Loaded, Reports}
-use Rattle.range_cli.specs.Script.{IsScript, Reads, TracePosition, after, lines_by, skipped_by, start_at}
+use Rattle.strace_reader.specs.Playing.{skipped_by}
+use Rattle.range_cli.specs.Script.{IsScript, Reads, TracePosition, after, lines_by, start_at, taken}
 use Rattle.range_cli.specs.Script.Reads.{nothing, line}
 use Rattle.range_cli.proofs.JudgeLemmas.{lines_few, opens_few}
 use Rattle.range_cli.proofs.OneWorker.{of_lines}
@@ -104,7 +105,7 @@ reads_one (nothing {stand = s} {left = n} a) (nothing {left = m} b) few = (refl,
 reads_one (line {stand = s} {text = t} {texts = ts} answer a r) (line {lines = ys} {skipped = m} other b q) few =
     let same : other ≡ answer = asks_same s t other answer b a in
     let rest = reads_one r (subst (λ x. Reads (after s t x) ts ys m) same q) (omega (arith, few)) in
-    ((λ i. lines_by s (sym same i) ++ rest.0 i), (λ i. skipped_by (sym same i) + rest.1 i))
+    ((λ i. lines_by s (taken s (sym same i)) ++ rest.0 i), (λ i. skipped_by (taken s (sym same i)) + rest.1 i))
 
 record SameScript (A B : List Area) (xs ys : List Line) (n m : ℕ) : Type 0 where
   pub start : A ≡ B

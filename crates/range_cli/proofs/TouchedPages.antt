@@ -4,7 +4,7 @@ use Rattle.std.proofs.Common.{◌≡◌, ℕ, zero, suc, ◌^◌, ◌<◌, List,
 use Rattle.std.specs.Prelude.{Contains}
 use Rattle.std.proofs.lemmas.List.Elements.{Contains-append_left, Contains-append_right, Contains-append_cases}
 use Rattle.page_types.specs.declared.calls.Call.{Call}
-use Rattle.page_types.specs.declared.calls.Call.TheVariants.{Map, Unmap, Protect, Fault, Seal}
+use Rattle.page_types.specs.declared.calls.Call.TheVariants.{Map, Unmap, Protect, Fault, Seal, Brk, Remap}
 use Rattle.page_types.specs.declared.calls.Reply.{Reply}
 use Rattle.page_types.specs.declared.calls.Reply.TheVariants.{At, Zero, Granted, Refused}
 use Rattle.page_types.specs.Pages.{page_of}
@@ -23,6 +23,8 @@ of_call entries e page (Map addr len prot flags) r there call reply (k, low, at)
 of_call entries e page (Unmap addr len) r there call reply (k, low, at) = absurd (omega (arith, low))
 of_call entries e page (Protect addr len prot) r there call reply (k, low, at) = absurd (omega (arith, low))
 of_call entries e page (Seal addr len flags) r there call reply (k, low, at) = absurd (omega (arith, low))
+of_call entries e page (Brk base addr) r there call reply (k, low, at) = absurd (omega (arith, low))
+of_call entries e page (Remap addr old new may hint) r there call reply (k, low, at) = absurd (omega (arith, low))
 of_call entries e page (Fault addr access) (At at) there call reply (k, low, is) = absurd (omega (arith, low))
 of_call entries e page (Fault addr access) Zero there call reply (k, low, is) = absurd (omega (arith, low))
 of_call entries e page (Fault addr access) (Refused why) there call reply (k, low, is) = absurd (omega (arith, low))

@@ -3,6 +3,7 @@
 -- stand the limits, the number of a line in the whole input, and the text. The order of refusals is that of a trace,
 -- and this project's own profile: the lines one after another, then the rows.
 use Rattle.std.specs.Prelude.{◌≡◌, ◌⊎◌, ℕ, ◌+◌, ◌<◌, ◌≤◌, Bool, List, [], ◌∷◌, ◌++◌, Option, None, All, length, codes}
+use Rattle.page_types.specs.declared.TheConstants.{ROWS}
 use Rattle.space_model.specs.declared.areas.Area.{Area}
 use Rattle.space_model.specs.Areas.{kind_at, row_count, HasKinds}
 use Rattle.line_parts.specs.Lines.{lines_of}
@@ -62,7 +63,7 @@ pub record EndsByStart (opening : Bool) (bytes : List ℕ) (end : EarlyEnd) : Ty
   pub limits : KeepsLimits head.left
   pub start : List Area
   pub kinds : HasKinds (kind_at head.areas) start
-  pub many_rows : 4096 < row_count start
+  pub many_rows : ROWS < row_count start
   pub is : end ≡ Above Rows (row_count start)
 
 -- the bytes of an input end a check so: the first line that ends the run does, or behind all lines the rows do
@@ -77,7 +78,7 @@ pub record IsInputVerdict (opening : Bool) (bytes : List ℕ) (before : ℕ) (ve
   pub limits : KeepsLimits head.left
   pub start : List Area
   pub kinds : HasKinds (kind_at head.areas) start
-  pub few_rows : row_count start ≤ 4096
+  pub few_rows : row_count start ≤ ROWS
   pub verdict_is : IsVerdict start head.left verdict
 
 -- how a cause is written

@@ -15,7 +15,7 @@ use Rattle.strace_reader.specs.declared.item.BadCall.{BadCall}
 use Rattle.strace_reader.specs.declared.joiner.Fed.{Fed}
 use Rattle.strace_reader.specs.declared.maps.MapsItem.{MapsItem}
 use Rattle.strace_reader.specs.declared.maps.MapsItem.TheVariants.{Area as Mapped, Past}
-use Rattle.range_cli.specs.Script.{IsShort, IsInput, Reads, start_at, TracePosition, Asks, after, played_by, map_start, IsNext, Begins}
+use Rattle.range_cli.specs.Script.{IsShort, IsInput, Reads, start_at, TracePosition, Asks, after, taken, played_by, map_start, IsNext, Begins}
 use Rattle.range_cli.specs.declared.status.EarlyEnd.{EarlyEnd}
 use Rattle.range_cli.specs.declared.status.EarlyEnd.TheVariants.{Refused, Failed, NoMemory, Above}
 use Rattle.range_cli.specs.declared.status.Which.{Which}
@@ -83,7 +83,7 @@ abbrev pub Passes : TracePosition → List ℕ → Which → ℕ → Type 0
 Passes stand text Input value = ⊥
 Passes stand text OfLine value = IsTooLongLine text value
 Passes stand text OfLines value = IsShort text × (value ≡ 1048577)
-    × ((answer : Fed) × IsAnswer stand.fed text answer × (1048576 < stand.played + played_by answer))
+    × ((answer : Fed) × IsAnswer stand.fed text answer × (1048576 < stand.played + played_by (taken stand answer)))
 Passes stand text Rows value = ⊥
 
 -- The next line ends the run so. Halves that are refused together have the number of the second, and a column in both.

@@ -15,7 +15,7 @@ use Rattle.strace_reader.specs.Playing.{as_played}
 use Rattle.trace_threads.specs.declared.worker.Line.{Line as Turn}
 use Rattle.range_cli.specs.declared.trace.Line.{Line}
 
--- a line as it is played: its recorded address is its hint where mmap(2) leaves the choice
+-- a line as it is played: its recorded address is its hint where mmap(2) or mremap(2) leaves the choice
 abbrev pub played_line : Line → Turn
 played_line line = record { line = line.number; call = as_played line.call line.recorded }
 

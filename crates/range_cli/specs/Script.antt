@@ -1,7 +1,8 @@
 -- What an input asks to play: the areas that it begins with, and its lines, each played, kept as the first half of a
--- call, passed over or blank. The form of one line is the reader's, after proc_pid_maps(5) and strace(1). The limits,
--- 64 MiB of input, 65,535 bytes of a line and 1,048,576 played lines, that maps lines come in order, and the index of a
--- process are this project's own profile. How an input ends a run instead is said in Endings.antt.
+-- call, passed over or blank. The form of one line is the reader's, after proc_pid_maps(5) and strace(1), and what
+-- becomes of a Brk by the base that the trace told stands in the reader's Playing.antt. The limits, 64 MiB of input,
+-- 65,535 bytes of a line and 1,048,576 played lines, that maps lines come in order, and the index of a process are this
+-- project's own profile. How an input ends a run instead is said in Endings.antt.
 use Rattle.std.specs.Prelude.{◌≡◌, ℕ, ◌≤◌, List, [], length, Option, Some, IfSome, ◌≢◌, ◌+◌, ◌*◌, Bool, true, false, ◌∷◌, ◌++◌, ◌==◌, if◌then◌else◌}
 use Rattle.std.specs.List.{list_any, position_or_len}
 use Rattle.command_words.specs.declared.commands.Options.{Options}
@@ -11,6 +12,7 @@ use Rattle.space_model.specs.Areas.{kind_at, row_count, HasKinds}
 use Rattle.space_model.specs.declared.areas.Area.{Area}
 use Rattle.strace_reader.specs.Joining.{CountsKept, IsAnswer}
 use Rattle.strace_reader.specs.Maps.{SpellsMaps}
+use Rattle.strace_reader.specs.Playing.{base_behind, on_base, skipped_by}
 use Rattle.strace_reader.specs.declared.joiner.Fed.{Fed}
 use Rattle.strace_reader.specs.declared.joiner.Fed.TheVariants.{Played, Kept, Skipped, Blank}
 use Rattle.strace_reader.specs.declared.maps.MapsItem.{MapsItem}
@@ -80,30 +82,25 @@ abbrev pub seen_with : List ℕ → ℕ → List ℕ
 seen_with seen pid = if list_any (λ first. first == pid) seen then seen else seen ++ pid ∷ []
 
 -- Where the reading of a trace stands: the number of the next line, how many lines are played so far, the texts that
--- were fed to the joiner, the last one first, and the processes of the played calls, each once, the first one first.
+-- were fed to the joiner, the last one first, the processes of the played calls, each once, the first one first, and
+-- the base of heaps that was told, or 0.
 pub record TracePosition : Type 0 where
   pub number : ℕ
   pub played : ℕ
   pub fed : List (List ℕ)
   pub seen : List ℕ
+  pub base : ℕ
 
 -- before the first line of a trace, which has this number
 abbrev pub start_at : ℕ → TracePosition
-start_at number = record { number = number; played = 0; fed = []; seen = [] }
+start_at number = record { number = number; played = 0; fed = []; seen = []; base = 0 }
 
--- how many lines more are played
+-- how many lines more are played where this becomes of a text
 abbrev pub played_by : Fed → ℕ
 played_by (Played pid call recorded skipped) = 1
 played_by (Kept skipped) = 0
 played_by (Skipped skipped) = 0
 played_by Blank = 0
-
--- how many lines are passed over
-abbrev pub skipped_by : Fed → ℕ
-skipped_by (Played pid call recorded skipped) = skipped
-skipped_by (Kept skipped) = skipped
-skipped_by (Skipped skipped) = skipped
-skipped_by Blank = 0
 
 -- the processes of the played calls, with that of an answer
 abbrev pub seen_by : List ℕ → Fed → List ℕ
@@ -112,8 +109,8 @@ seen_by seen (Kept skipped) = seen
 seen_by seen (Skipped skipped) = seen
 seen_by seen Blank = seen
 
--- The line that is played where the next text answers so. It has that text's number, also where the text is a second
--- half.
+-- The line that is played where this becomes of the next text. It has that text's number, also where the text is a
+-- second half.
 abbrev pub lines_by : TracePosition → Fed → List Line
 lines_by stand (Played pid call recorded skipped) =
     record { number = stand.number; process = index_among stand.seen pid; call = call; recorded = recorded } ∷ []
@@ -121,18 +118,23 @@ lines_by stand (Kept skipped) = []
 lines_by stand (Skipped skipped) = []
 lines_by stand Blank = []
 
+-- what becomes of a text that answered so: its call has the base that the trace told, or isn't played
+abbrev pub taken : TracePosition → Fed → Fed
+taken stand answer = on_base (base_behind stand.base answer) answer
+
 -- where the reading stands behind a text that answered so
 abbrev pub after : TracePosition → List ℕ → Fed → TracePosition
 after stand text answer = record {
   number = stand.number + 1;
-  played = stand.played + played_by answer;
+  played = stand.played + played_by (taken stand answer);
   fed = text ∷ stand.fed;
-  seen = seen_by stand.seen answer;
+  seen = seen_by stand.seen (taken stand answer);
+  base = base_behind stand.base answer;
 }
 
 -- the next line answers so, and the limits are kept
 abbrev pub Asks : TracePosition → List ℕ → Fed → Type 0
-Asks stand text answer = IsShort text × IsAnswer stand.fed text answer × (stand.played + played_by answer ≤ 1048576)
+Asks stand text answer = IsShort text × IsAnswer stand.fed text answer × (stand.played + played_by (taken stand answer) ≤ 1048576)
 
 -- From where the reading stands, all these lines are read: these are played and so many are skipped. First halves that
 -- are left at the end are skipped too.
@@ -140,7 +142,7 @@ pub data Reads : TracePosition → List (List ℕ) → List Line → ℕ → Typ
   nothing : {stand : TracePosition} {left : ℕ} → CountsKept stand.fed left → Reads stand [] [] left
   line : {stand : TracePosition} {text : List ℕ} {texts : List (List ℕ)} {lines : List Line} {skipped : ℕ} → (answer : Fed) →
       Asks stand text answer → Reads (after stand text answer) texts lines skipped →
-      Reads stand (text ∷ texts) (lines_by stand answer ++ lines) (skipped_by answer + skipped)
+      Reads stand (text ∷ texts) (lines_by stand (taken stand answer) ++ lines) (skipped_by (taken stand answer) + skipped)
 
 -- ---- the whole
 

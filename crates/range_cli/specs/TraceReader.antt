@@ -12,7 +12,8 @@ use Rattle.strace_reader.specs.declared.joiner.Fed.{Fed}
 use Rattle.strace_reader.specs.declared.joiner.Fed.TheVariants.{Played, Kept, Skipped, Blank}
 use Rattle.strace_reader.specs.declared.maps.MapsItem.{MapsItem}
 use Rattle.strace_reader.specs.declared.maps.MapsItem.TheVariants.{Area as Mapped, Past}
-use Rattle.range_cli.specs.Script.{TracePosition, Asks, after, lines_by, played_by, skipped_by}
+use Rattle.strace_reader.specs.Playing.{skipped_by}
+use Rattle.range_cli.specs.Script.{TracePosition, Asks, after, lines_by, played_by, taken}
 use Rattle.range_cli.specs.declared.processes.Processes.{Processes}
 use Rattle.range_cli.specs.declared.status.EarlyEnd.{EarlyEnd}
 use Rattle.range_cli.specs.declared.status.EarlyEnd.TheVariants.{NoMemory, Above}
@@ -64,6 +65,7 @@ pub record StandsAt (reader : TraceReader) (stand : TracePosition) : Type 0 wher
   pub fed : IsFed reader.joiner stand.fed
   pub indexed : IsIndexed reader.processes stand.seen
   pub played : stand.played ≡ length reader.lines.items
+  pub base : stand.base ≡ reader.base
 
 -- the reading stands somewhere, before the line of this number
 abbrev pub IsBefore : TraceReader → ℕ → Type 0
@@ -74,9 +76,9 @@ pub record Takes (stand : TracePosition) (text : List ℕ) (old new : TraceReade
   pub answer : Fed
   pub asks : Asks stand text answer
   pub stands : StandsAt new (after stand text answer)
-  pub lines : new.lines.items ≡ old.lines.items ++ lines_by stand answer
-  pub skipped : new.skipped ≡ old.skipped + skipped_by answer
+  pub lines : new.lines.items ≡ old.lines.items ++ lines_by stand (taken stand answer)
+  pub skipped : new.skipped ≡ old.skipped + skipped_by (taken stand answer)
 
--- why an answer is not taken, with so many lines played before it
+-- why what became of a text is not taken, with so many lines played before it
 abbrev pub IsFull : ℕ → Fed → EarlyEnd → Type 0
 IsFull played answer end = (end ≡ NoMemory) ⊎ ((end ≡ Above Lines 1048577) × (1048576 < played + played_by answer))

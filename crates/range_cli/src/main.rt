@@ -3,8 +3,6 @@
 //! said on it. This file ties it to the process: its words, its standard streams and its exit status.
 #![tactic(auto)]
 
-#[cfg(test)]
-mod check_tests;
 mod checking;
 mod clean;
 #[cfg(test)]
@@ -24,11 +22,7 @@ mod processes;
 mod report;
 mod run;
 mod script;
-#[cfg(test)]
-mod sealed_tests;
 mod status;
-#[cfg(test)]
-mod tests;
 mod trace;
 #[cfg(test)]
 mod trial;

@@ -4,7 +4,8 @@
 //! the run.
 ghost use Rattle.std.specs.Prelude.{◌≡◌, ◌∷◌, ◌++◌, ◌+◌, ◌-◌, ◌*◌, ◌^◌, ◌<◌, ◌≤◌, [], List, ℕ, length, All, IfOk, IfErr, OnOk};
 ghost use Rattle.line_parts.specs.Lines.{lines_of};
-ghost use Rattle.range_cli.specs.Script.{TracePosition, Reads, start_at, lines_by, played_by, seen_by, skipped_by};
+ghost use Rattle.strace_reader.specs.Playing.{skipped_by};
+ghost use Rattle.range_cli.specs.Script.{TracePosition, Reads, start_at, lines_by, played_by, seen_by};
 ghost use Rattle.range_cli.specs.Endings.{Ends, EndsAt};
 ghost use Rattle.range_cli.specs.TraceReader.{IsNamedLine, IsNamedAnswer, IsBefore, IsFull, IsIndexed, StandsAt, Takes};
 ghost use Rattle.range_cli.specs.Status.{OrMemory};
@@ -15,7 +16,7 @@ use crate::status::{EarlyEnd, Which};
 use line_parts::next_line;
 use page_types::Call;
 use std::alloc::Global;
-use strace_reader::{Fed, FeedFault, Joiner, Recorded};
+use strace_reader::{Fed, FeedFault, Joiner, Recorded, base_behind, on_base};
 
 /// How many bytes a line may have, without its newline.
 pub const LINE_LIMIT: usize = 65_535;
@@ -30,7 +31,7 @@ pub struct Line {
     pub number: u32,
     /// The index of its process: 0, 1, 2 and so on, as processes first appear among the played lines.
     pub process: u32,
-    /// The call that it names.
+    /// The call that it names; a Brk has a base.
     pub call: Call,
     /// The result that the trace recorded, where it recorded one.
     pub recorded: Option<Recorded>,
@@ -80,6 +81,8 @@ struct TraceReader {
     joiner: Joiner,
     /// The processes of the played lines.
     processes: Processes,
+    /// The base of heaps that the trace told, or 0.
+    base: u64,
     /// The lines that are played.
     lines: Vec<Line>,
     /// How many lines were passed over.
@@ -97,6 +100,7 @@ impl TraceReader {
         TraceReader {
             joiner: Joiner::new(alloc),
             processes: Processes::new(alloc),
+            base: 0,
             lines: Vec::new(alloc),
             skipped: 0,
         }
@@ -122,7 +126,12 @@ impl TraceReader {
             });
         }
         match self.joiner.feed(text) {
-            Ok(fed) => self.add(fed, number),
+            Ok(fed) => {
+                let base = base_behind(self.base, &fed);
+                let told = on_base(base, &fed);
+                self.base = base;
+                self.add(told, number)
+            }
             Err(FeedFault::Bad(bad)) => Err(EarlyEnd::Refused {
                 line: number,
                 column: bad.column,
@@ -132,7 +141,7 @@ impl TraceReader {
         }
     }
 
-    /// Adds what the line of this number answered.
+    /// Adds what became of the line of this number.
     fn add(&mut self, fed: Fed, number: u32) -> Result<(), EarlyEnd>
         requires skips { skipped_by fed ≤ 2 }
         requires named { IsNamedAnswer fed }
@@ -140,6 +149,7 @@ impl TraceReader {
         requires processes { self.old.processes.count ≤ length self.old.lines.items }
         requires few { length self.old.lines.items ≤ LINES_LIMIT }
         ensures joiner { OnOk result (self.new.joiner ≡ self.old.joiner) }
+        ensures base { OnOk result (self.new.base ≡ self.old.base) }
         ensures lines { OnOk result ((stand : TracePosition) → stand.number ≡ number → IsIndexed self.old.processes stand.seen
             → self.new.lines.items ≡ self.old.lines.items ++ lines_by stand fed) }
         ensures seen { OnOk result ((seen : List ℕ) → IsIndexed self.old.processes seen → IsIndexed self.new.processes (seen_by seen fed)) }

@@ -1,15 +1,13 @@
-//! Runs for tests, behind an open gate. What a run's history is, its log shows; so a trial's status leaves it away and
-//! can be compared.
-use crate::run::run;
+//! What the tests of runs share: how a run ended, without the history that it carries, so that it can be compared; and
+//! the maps lines of many areas.
 use crate::status::{self, Which};
-use byte_ports::{MemorySink, MemorySource};
+use byte_ports::{MemorySink, Sink};
+use maps_printer::write_maps;
+use page_types::{Kind, Prot};
+use space_model::Area;
 use std::alloc::Global;
-use std::process::Abort;
-use std::sync::Wait;
 use std::test::Fail;
-use std::thread::Threads;
 use strace_reader::What;
-use trace_threads::OpenGate;
 
 /// How a run ended.
 #[derive(Clone, Copy, Debug, PartialEq, Eq)]
@@ -24,40 +22,25 @@ pub enum Status {
     Wrong { line: u32 },
 }
 
-/// A run over ports in memory.
-pub fn try_run<R: Threads + Wait + Sync>(
-    rt: &R,
-    alloc: Global,
-    words: &[String],
-    input: &mut MemorySource,
-    out: &mut MemorySink,
-    err: &mut MemorySink,
-) -> Status {
-    plain(run(rt, alloc, words, input, out, err, &OpenGate))
-}
-
-/// Fails the test unless a run with these words over ports in memory ends so and writes just this.
-pub fn says<R: Abort + Threads + Wait + Sync>(
-    rt: &R,
-    alloc: Global,
-    words: &[&str],
-    input: &[u8],
-    status: Status,
-    out: &str,
-    err: &str,
-) -> Result<(), Fail> {
-    let mut owned = Vec::new(alloc);
-    for word in words {
-        owned.push(String::from_str(alloc, word)?)?;
+/// The maps lines of so many areas of one readable page each, at the odd pages from 1 on.
+pub fn odd_pages(alloc: Global, count: u64) -> Result<Vec<u8>, Fail> {
+    let kind = Kind {
+        prot: Prot::READ,
+        shared: false,
+        sealed: false,
+    };
+    let mut areas = Vec::new(alloc);
+    for area in 0..count {
+        let lo = area.saturating_mul(2).saturating_add(1);
+        areas.push(Area {
+            lo,
+            hi: lo.saturating_add(1),
+            kind,
+        })?;
     }
-    let mut source = MemorySource::new(input.to_vec(alloc)?, Vec::new(alloc));
-    let mut written = MemorySink::new(vec![in alloc; 0u8; 4096]?, Vec::new(alloc));
-    let mut complaint = MemorySink::new(vec![in alloc; 0u8; 256]?, Vec::new(alloc));
-    let ended = try_run(rt, alloc, &owned, &mut source, &mut written, &mut complaint);
-    assert_eq!(rt; ended, status);
-    assert_eq!(rt; written.written(), out.as_bytes());
-    assert_eq!(rt; complaint.written(), err.as_bytes());
-    Ok(())
+    let mut maps = MemorySink::new(vec![in alloc; 0u8; 3_000_000]?, Vec::new(alloc));
+    write_maps(&mut maps, &areas)?;
+    Ok(maps.written().to_vec(alloc)?)
 }
 
 /// A run's status without the history that it carries.
