@@ -1,14 +1,16 @@
-//! Makes page faults over as many rows as a space may have, by one caller that meets no other, so that the gate can
-//! count their steps: as many faults as the first word says, and eighteen without one. Two runs differ by the steps of
-//! the faults that one makes more. The rows are pages that may be read and gaps between them, in turn; each fault reads
-//! another page than the one before. It prints how many faults there were, and how many of them were granted.
+//! Makes page faults over a large table by one caller that meets no other, so that the gate can count their steps: as
+//! many faults as the first word says, over as many rows as the second says; eighteen, and as many rows as a space may
+//! have, where there is no such word. Two runs over the same rows differ by the steps of the faults that one makes
+//! more. The rows are pages that may be read and gaps between them, in turn; each fault reads another page than the one
+//! before. It prints how many faults there were, over how many rows, and how many of the faults were granted.
 #![tactic(auto)]
 
 mod faults;
 mod start;
 
-use anyhow::{Result, bail};
-use faults::{granted, make_faults, open_one};
+use anyhow::Result;
+use faults::made_and_granted;
+use page_types::ROWS;
 use start::every_other_page;
 use std::env;
 
@@ -20,12 +22,12 @@ fn main(rt: HostRuntime) -> Result<()> {
         Some(word) => word.as_str().parse::<u32>()?,
         None => FAULTS,
     };
-    let start = every_other_page(rt.alloc())?;
-    let Ok((space, mut caller)) = open_one(rt.alloc(), &start, faults) else {
-        bail!("no memory for a space");
+    let rows = match env::args(&rt)?.nth(2) {
+        Some(word) => word.as_str().parse::<u32>()?,
+        None => ROWS as u32,
     };
-    make_faults(&rt, &space, &mut caller, faults);
-    let entries = caller.entries();
-    println!(rt; "faults {}, granted {}", entries.len(), granted(entries))?;
+    let start = every_other_page(rt.alloc(), rows)?;
+    let (made, granted) = made_and_granted(&rt, rt.alloc(), &start, faults)?;
+    println!(rt; "faults {made} over {rows} rows, granted {granted}")?;
     Ok(())
 }

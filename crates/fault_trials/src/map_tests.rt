@@ -1,6 +1,6 @@
-//! Worked cases of maps and unmaps over a running space, both sides of the limit on rows, and threads that map, unmap
-//! and fault on shared pages. What a test expects is reckoned by hand or by the one-thread model, never taken from the
-//! program.
+//! Worked cases of maps, unmaps, heaps and moves over a running space, both sides of the limit on rows, and threads
+//! that map, unmap and fault on shared pages. What a test expects is reckoned by hand or by the one-thread model, never
+//! taken from the program.
 ghost use Rattle.std.specs.Prelude.{◌≡◌};
 ghost use Rattle.crews.specs.Crews.{IsCrew};
 
@@ -8,7 +8,7 @@ use crate::replies::short;
 use area_rows::{Answer, Caller, Closed, Space};
 use crews::{Work, call_at, call_by, not_replacing, open_crew, replacing, try_by, work_all};
 use page_fault::TriedFault;
-use page_types::{Call, Field, Kind, LIMIT, MapFlags, PAGE, Prot, Reply, Short, Why};
+use page_types::{Call, Field, Kind, LIMIT, LOW, MapFlags, PAGE, Prot, Reply, Short, Why};
 use space_model::{Area, PlainSpace, Under, have_named_calls, have_named_kinds, legal};
 use std::alloc::Global;
 use std::process::Abort;
@@ -72,6 +72,33 @@ fn protect(addr: u64, len: u64, prot: Prot, reply: Reply) -> Case {
 fn seal(addr: u64, len: u64, flags: u64, reply: Reply) -> Case {
     Case {
         call: Call::Seal { addr, len, flags },
+        reply,
+        under: Under::Whole,
+    }
+}
+
+/// A heap that begins at page 32 is asked to end there.
+fn brk(addr: u64, reply: Reply) -> Case {
+    Case {
+        call: Call::Brk {
+            base: 0x20000,
+            addr,
+        },
+        reply,
+        under: Under::Whole,
+    }
+}
+
+/// A Remap that may move, to that hint if it isn't 0.
+fn remap(addr: u64, old_len: u64, new_len: u64, hint: u64, reply: Reply) -> Case {
+    Case {
+        call: Call::Remap {
+            addr,
+            old_len,
+            new_len,
+            may_move: true,
+            hint,
+        },
         reply,
         under: Under::Whole,
     }
@@ -181,7 +208,7 @@ fn an_unmap_of_no_page_is_done_and_one_of_no_bytes_is_refused(rt: HostRuntime) -
 
 #[test]
 fn a_map_may_end_at_the_limit_and_not_past_it(rt: HostRuntime) -> Result<(), Fail> {
-    let addr = 0x7fffffffe000;
+    let addr = 0xffffffffffe000;
     let cases = [
         map(addr, 4096, Prot::READ, replacing(), Reply::At(addr)),
         map(
@@ -189,7 +216,7 @@ fn a_map_may_end_at_the_limit_and_not_past_it(rt: HostRuntime) -> Result<(), Fai
             8192,
             Prot::READ,
             replacing(),
-            short(Short::PastEnd(0x800000000)),
+            short(Short::PastEnd(0x100000000000)),
         )
         .plain(),
     ];
@@ -239,6 +266,61 @@ fn a_sealed_page_is_not_unmapped_replaced_or_protected(rt: HostRuntime) -> Resul
 }
 
 #[test]
+fn a_heap_ends_where_its_pages_do(rt: HostRuntime) -> Result<(), Fail> {
+    let areas = [area(34, 35, Prot::READ)];
+    let cases = [
+        // one byte has a page, and the reply is the address itself
+        brk(0x20001, Reply::At(0x20001)),
+        // the page of another area is no room, and the heap's end is its page's
+        brk(0x23000, Reply::At(0x21000)),
+        brk(0x22000, Reply::At(0x22000)),
+        brk(0x1f000, Reply::At(0x22000)),
+        brk(0x21000, Reply::At(0x21000)),
+    ];
+    let left = [area(32, 33, read_write()), area(34, 35, Prot::READ)];
+    plays(&rt, rt.alloc(), &areas, &cases, &left)
+}
+
+#[test]
+fn a_move_leaves_no_page_where_it_was(rt: HostRuntime) -> Result<(), Fail> {
+    let areas = [area(32, 35, Prot::READ), area(40, 41, read_write())];
+    let unlike = Reply::Refused(Why::Efault(35));
+    let cases = [
+        // the middle page of an area goes to a hint that touches another one
+        remap(0x21000, 4096, 8192, 0x29000, Reply::At(0x29000)),
+        // a page that isn't mapped, or is of another kind, refuses the whole
+        remap(0x22000, 8192, 4096, 0, unlike),
+        remap(0x28000, 8192, 4096, 0, Reply::Refused(Why::Efault(41))),
+        // the last page grows where it is, and goes down again
+        remap(0x22000, 4096, 8192, 0, Reply::At(0x22000)),
+        remap(0x22000, 8192, 1, 0, Reply::At(0x22000)),
+        // where nothing is free behind it, it goes up as high as it fits
+        remap(0x28000, 4096, 8192, 0, Reply::At(0x7fffffffd000)),
+    ];
+    let left = [
+        area(32, 33, Prot::READ),
+        area(34, 35, Prot::READ),
+        area(41, 43, Prot::READ),
+        area(LOW - 2, LOW, read_write()),
+    ];
+    plays(&rt, rt.alloc(), &areas, &cases, &left)
+}
+
+#[test]
+fn a_sealed_page_is_not_moved(rt: HostRuntime) -> Result<(), Fail> {
+    let areas = [sealed(area(32, 34, read_write()))];
+    let refused = Reply::Refused(Why::Eperm(32));
+    let cases = [
+        remap(0x20000, 8192, 4096, 0, refused),
+        remap(0x20000, 4096, 8192, 0x40000, refused),
+        // nor is it of the heap, though it is read and written
+        brk(0x20000, Reply::At(0x20000)),
+        brk(0x21000, Reply::At(0x20000)),
+    ];
+    plays(&rt, rt.alloc(), &areas, &cases, &areas)
+}
+
+#[test]
 fn a_map_goes_as_high_as_it_fits_and_joins_the_area_there(rt: HostRuntime) -> Result<(), Fail> {
     let high = 0x7fffffffe000;
     let cases = [
@@ -256,14 +338,14 @@ fn a_map_goes_as_high_as_it_fits_and_joins_the_area_there(rt: HostRuntime) -> Re
         rt.alloc(),
         &[],
         &cases,
-        &[area(LIMIT - 2, LIMIT, read_write())],
+        &[area(LOW - 2, LOW, read_write())],
     )
 }
 
-/// The pages from 16 up to 4109 of two kinds in turn, and then an area of three pages: 4096 rows.
+/// The pages from 16 up to 131,074 of two kinds in turn, and then an area of three pages: 131,061 rows.
 fn full(alloc: Global) -> Result<Vec<Area>, Fail> {
     let mut list = Vec::new(alloc);
-    for page in 16..4109u64 {
+    for page in 16..131_074u64 {
         let prot = if page % 2 == 0 {
             Prot::READ
         } else {
@@ -271,39 +353,58 @@ fn full(alloc: Global) -> Result<Vec<Area>, Fail> {
         };
         list.push(area(page, page + 1, prot))?;
     }
-    list.push(area(4109, 4112, read_write()))?;
+    list.push(area(131_074, 131_077, Prot::READ))?;
     Ok(list)
 }
 
 #[test]
-fn a_change_may_leave_4096_rows_and_no_more(rt: HostRuntime) -> Result<(), Fail> {
+fn a_change_may_leave_131061_rows_and_no_more(rt: HostRuntime) -> Result<(), Fail> {
     let areas = full(rt.alloc())?;
-    let page = 4109 * PAGE;
-    let end = 4112 * PAGE;
+    let page = 131_074 * PAGE;
+    let end = 131_077 * PAGE;
+    let one_more = short(Short::Rows(131_062));
+    let two_more = short(Short::Rows(131_063));
     let cases = [
-        unmap(page + PAGE, PAGE, short(Short::Rows(4098))),
-        unmap(page, PAGE, short(Short::Rows(4097))),
-        map(
-            page + PAGE,
-            PAGE,
-            Prot::READ,
-            replacing(),
-            short(Short::Rows(4098)),
-        ),
-        map(end, PAGE, Prot::READ, replacing(), short(Short::Rows(4097))),
-        protect(page + PAGE, PAGE, Prot::READ, short(Short::Rows(4098))),
-        map(end, PAGE, read_write(), replacing(), Reply::At(end)),
+        unmap(page + PAGE, PAGE, two_more),
+        unmap(page, PAGE, one_more),
+        map(page + PAGE, PAGE, read_write(), replacing(), two_more),
+        map(end, PAGE, read_write(), replacing(), one_more),
+        protect(page + PAGE, PAGE, read_write(), two_more),
+        map(end, PAGE, Prot::READ, replacing(), Reply::At(end)),
         unmap(end, PAGE, Reply::Zero),
+    ];
+    plays(&rt, rt.alloc(), &areas, &cases, &areas)
+}
+
+#[test]
+fn a_move_asks_for_four_rows_and_a_heap_for_none(rt: HostRuntime) -> Result<(), Fail> {
+    let areas = full(rt.alloc())?;
+    let page = 131_074 * PAGE;
+    let four_more = short(Short::Rows(131_065));
+    let two_more = short(Short::Rows(131_063));
+    let high = 0x30000000;
+    let far = |addr: u64, reply: Reply| Case {
+        call: Call::Brk { base: high, addr },
+        reply,
+        under: Under::Whole,
+    };
+    let cases = [
+        // the middle page of the last area would move away, or go where two of its pages become one
+        remap(page + PAGE, PAGE, 2 * PAGE, high, four_more),
+        remap(page, 2 * PAGE, PAGE, 0, two_more),
+        // the first page of a heap away from all would be two rows more
+        far(high + 1, Reply::At(high)),
+        far(high, Reply::At(high)),
     ];
     plays(&rt, rt.alloc(), &areas, &cases, &areas)
 }
 
 /// What a read of a page of that space answers.
 fn read_of(page: u64) -> Reply {
-    if !(16..4112).contains(&page) {
+    if !(16..131_077).contains(&page) {
         return Reply::Refused(Why::MapErr(page));
     }
-    let prot = if page < 4109 && page % 2 == 0 {
+    let prot = if page >= 131_074 || page % 2 == 0 {
         Prot::READ
     } else {
         read_write()
@@ -315,7 +416,7 @@ fn read_of(page: u64) -> Reply {
     })
 }
 
-/// The first caller tries at each of these pages, and the answers are those of the space of 4096 rows.
+/// The first caller tries at each of these pages, and the answers are those of the space of 131,061 rows.
 fn tries<R: Abort>(rt: &R, space: &Space, callers: &mut [Caller], pages: &[u64])
     requires { IsCrew space.now.table space.now.seats callers.old }
     ensures { IsCrew space.now.table space.now.seats callers.new }
@@ -330,10 +431,10 @@ fn tries<R: Abort>(rt: &R, space: &Space, callers: &mut [Caller], pages: &[u64])
 }
 
 #[test]
-fn a_try_finds_its_page_among_4096_rows(rt: HostRuntime) -> Result<(), Fail> {
+fn a_try_finds_its_page_among_131061_rows(rt: HostRuntime) -> Result<(), Fail> {
     let alloc = rt.alloc();
     let areas = full(alloc)?;
-    assert!(rt; have_named_kinds(&areas) && areas.len() == 4094);
+    assert!(rt; have_named_kinds(&areas) && areas.len() == 131_059);
     let start = PlainSpace::of_areas(alloc, &areas)?;
     let Ok((space, mut crew)) = open_crew(alloc, &[24], &start) else {
         panic!(rt; "no space");
@@ -342,7 +443,7 @@ fn a_try_finds_its_page_among_4096_rows(rt: HostRuntime) -> Result<(), Fail> {
         16, 17, 18, 19, 20, 21, 22, 23, 24, 25, 26, 27, 28, 29, 30, 31,
     ];
     tries(&rt, &space, crew.as_mut_slice(), &first);
-    let others = [0, 15, 2063, 4108, 4109, 4111, 4112, LIMIT - 1];
+    let others = [0, 15, 65_545, 131_073, 131_074, 131_076, 131_077, LIMIT - 1];
     tries(&rt, &space, crew.as_mut_slice(), &others);
     closed_right(&rt, alloc, space, crew, &start, 24)?;
     Ok(())

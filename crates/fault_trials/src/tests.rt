@@ -118,10 +118,10 @@ fn four_threads_draw_two_thousand_numbers(rt: HostRuntime) {
 }
 
 #[test]
-fn a_start_of_4097_rows_is_too_large(rt: HostRuntime) {
+fn a_start_of_131062_rows_is_too_large(rt: HostRuntime) {
     let alloc = rt.alloc();
     let mut areas = Vec::new(alloc);
-    for page in 16..4111 {
+    for page in 16..131_076 {
         let kind = Kind {
             prot: if page % 2 == 0 {
                 Prot::READ
@@ -138,12 +138,14 @@ fn a_start_of_4097_rows_is_too_large(rt: HostRuntime) {
         };
         areas.push(area).expect(&rt, "memory");
     }
-    assert!(rt; areas.len() == 4095 && have_named_kinds(&areas));
+    assert!(rt; areas.len() == 131_060 && have_named_kinds(&areas));
     let start = PlainSpace::of_areas(alloc, &areas).expect(&rt, "an area list");
     match open_crew(alloc, &[1], &start) {
-        Ok(_) => panic!(rt; "a space of 4097 rows"),
-        Err(refusal) => assert_eq!(rt; refusal, SpaceFault::Rows(4097)),
+        Ok(_) => panic!(rt; "a space of 131062 rows"),
+        Err(refusal) => assert_eq!(rt; refusal, SpaceFault::Rows(131_062)),
     }
+    let text = format!(in alloc; "{}", SpaceFault::Rows(131_062)).expect(&rt, "memory");
+    assert_eq!(rt; text.as_str(), "131062 rows, where at most 131061 may be");
 }
 
 /// The first caller's two answers to a call on line 1 and the same call on line 2.

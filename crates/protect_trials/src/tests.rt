@@ -238,7 +238,7 @@ fn at_the_limit_on_rows_a_split_is_refused_and_a_recolouring_is_done(
 ) -> Result<(), Fail> {
     let alloc = rt.alloc();
     let mut before = Vec::new(alloc);
-    for page in 16..4109 {
+    for page in 16..131_074 {
         let prot = if page % 2 == 0 {
             Prot::READ
         } else {
@@ -246,12 +246,12 @@ fn at_the_limit_on_rows_a_split_is_refused_and_a_recolouring_is_done(
         };
         before.push(area(page, page + 1, prot))?;
     }
-    before.push(area(4109, 4112, read_write()))?;
+    before.push(area(131_074, 131_077, Prot::READ))?;
     let split = Case {
-        addr: 0x100_e000,
+        addr: 0x2000_3000,
         len: 4096,
-        prot: Prot::READ,
-        reply: Reply::Refused(Why::Enomem(Short::Rows(4098))),
+        prot: read_write(),
+        reply: Reply::Refused(Why::Enomem(Short::Rows(131_063))),
         under: Under::Whole,
         path: Path::Whole(Cause::NotSimple { at: 0 }),
     };

@@ -3,7 +3,6 @@
 ghost use Rattle.std.specs.Prelude.{◌<◌, ◌≤◌, IfOk};
 ghost use Rattle.space_cost.specs.Ready.{IsReady};
 
-use crate::maps::{AreaMap, found};
 use crate::size::{FaultTimes, Size};
 use crate::watch::since;
 use anyhow::{Result, bail, ensure};
@@ -14,6 +13,7 @@ use space_model::PlainSpace;
 use std::alloc::Global;
 use std::sync::{RwLock, Wait};
 use std::time::{Clock, Instant};
+use workloads::{AreaMap, found};
 
 /// A space over this start with so many callers, from 1 to 16, and its caller of number 0, which may draw so many
 /// numbers.
@@ -34,6 +34,47 @@ pub fn open_first(
     Ok((space, first))
 }
 
+fn fault_turns<R: Wait>(wait: &R, space: &Space, caller: &mut Caller, addr: u64, turns: u32)
+    requires ready { IsReady space.now caller.old }
+    ensures ready { IsReady space.now caller.new }
+{
+    for turn in 0..turns {
+        fault(space, wait, caller, turn, addr, Access::Read);
+    }
+}
+
+fn time_of_turns<R: Wait + Clock>(
+    rt: &R,
+    space: &Space,
+    caller: &mut Caller,
+    addr: u64,
+    turns: u32,
+) -> Result<u64>
+    requires ready { IsReady space.now caller.old }
+{
+    let begin = Instant::now(rt)?;
+    fault_turns(rt, space, caller, addr, turns);
+    Ok(since(rt, &begin)?)
+}
+
+/// What a round takes on a space of its own.
+fn time_of_round<R: Wait + Clock>(
+    rt: &R,
+    size: Size,
+    alloc: Global,
+    start: &PlainSpace,
+    callers: usize,
+    addr: u64,
+) -> Result<u64>
+    requires some { 0 < callers }
+    requires few { callers ≤ 16 }
+{
+    let Ok((space, mut caller)) = open_first(alloc, start, callers, size.calls) else {
+        bail!("no memory for a space");
+    };
+    time_of_turns(rt, &space, &mut caller, addr, size.calls)
+}
+
 /// What rounds take in which one caller of so many reads the byte at `addr` at each turn. Each round has a space of
 /// its own, whose entries stand in memory that the round before has given back.
 pub fn times_of_faults<R: Wait + Clock>(
@@ -49,23 +90,10 @@ pub fn times_of_faults<R: Wait + Clock>(
 {
     let mut times = FaultTimes::NONE;
     for round in 0..size.rounds {
-        let Ok((space, mut caller)) = open_first(alloc, start, callers, size.calls) else {
-            bail!("no memory for a space");
-        };
-        let begin = Instant::now(rt)?;
-        fault_turns(rt, &space, &mut caller, addr, size.calls);
-        times = times.with(round, since(rt, &begin)?);
+        let time = time_of_round(rt, size, alloc, start, callers, addr)?;
+        times = times.with(round, time);
     }
     Ok(times)
-}
-
-fn fault_turns<R: Wait>(wait: &R, space: &Space, caller: &mut Caller, addr: u64, turns: u32)
-    requires ready { IsReady space.now caller.old }
-    ensures ready { IsReady space.now caller.new }
-{
-    for turn in 0..turns {
-        fault(space, wait, caller, turn, addr, Access::Read);
-    }
 }
 
 /// The least time of a round in which the page of the byte `addr` is looked up in the map at each turn. It is refused

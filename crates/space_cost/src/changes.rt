@@ -6,7 +6,6 @@ ghost use Rattle.page_types.specs.Named.{IsNamedCall};
 ghost use Rattle.space_cost.specs.Ready.{IsReady};
 
 use crate::alone::open_first;
-use crate::maps::{AreaMap, answered};
 use crate::size::Size;
 use crate::watch::since;
 use anyhow::{Result, bail};
@@ -17,6 +16,7 @@ use space_model::PlainSpace;
 use std::alloc::Global;
 use std::sync::{Mutex, Wait};
 use std::time::{Clock, Instant};
+use workloads::{AreaMap, answered};
 
 /// A change that is measured.
 #[derive(Clone, Copy)]
@@ -137,6 +137,23 @@ fn round_of_space<R: Wait + Clock>(
     Ok(sums)
 }
 
+/// A round on a space of its own.
+fn sums_of_space<R: Wait + Clock>(
+    rt: &R,
+    size: Size,
+    alloc: Global,
+    start: &PlainSpace,
+    lo: u64,
+) -> Result<Sums>
+    requires { lo < 2 ^ 40 }
+{
+    let calls = size.calls.saturating_mul(4);
+    let Ok((space, mut caller)) = open_first(alloc, start, 1, calls) else {
+        bail!("no memory for a space");
+    };
+    round_of_space(rt, &space, &mut caller, lo, size.calls)
+}
+
 /// The least that the changes of a round take in a space that starts with an area of three pages at page `lo`.
 pub fn least_of_space<R: Wait + Clock>(
     rt: &R,
@@ -149,14 +166,7 @@ pub fn least_of_space<R: Wait + Clock>(
 {
     let mut least = [u64::MAX; 4];
     for _ in 0..size.rounds {
-        let calls = size.calls.saturating_mul(4);
-        let Ok((space, mut caller)) = open_first(alloc, start, 1, calls) else {
-            bail!("no memory for a space");
-        };
-        least = lesser(
-            least,
-            round_of_space(rt, &space, &mut caller, lo, size.calls)?,
-        );
+        least = lesser(least, sums_of_space(rt, size, alloc, start, lo)?);
     }
     Ok(least)
 }

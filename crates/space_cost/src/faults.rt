@@ -7,19 +7,19 @@
 use crate::alone::{least_of_lookups, times_of_faults};
 use crate::changes::{Sums, least_of_clock, least_of_map, least_of_space};
 use crate::crowd::times_of_crowd;
-use crate::maps::map_of;
 use crate::plans::least_of_plans;
 use crate::protects::{least_of_map_own, least_of_own, own_areas};
 use crate::size::{Size, percent};
-use crate::starts::{single_pages, spaced_areas};
+use crate::starts::{single_pages, space_of, spaced_areas};
 use anyhow::{Result, bail, ensure};
 use page_types::PAGE;
-use space_model::{PlainSpace, have_named_kinds};
+use space_model::PlainSpace;
 use std::alloc::Global;
 use std::io::{Eprint, Print};
 use std::sync::{Mutex, RwLock, Wait};
 use std::thread::Threads;
 use std::time::Clock;
+use workloads::map_of;
 
 /// All of these, and a line that says how much was measured.
 pub fn measure_faults<R: Threads + Wait + Sync + Clock + Print + Eprint>(
@@ -57,13 +57,22 @@ fn measure_alone<R: Wait + Clock + Eprint>(
     let map = RwLock::new(map_of(alloc, &list)?);
     let lookup = least_of_lookups(rt, size, &map, addr)?;
     eprintln!(rt; "areas {count}: a lookup takes {} ns", size.each(lookup))?;
-    ensure!(
-        have_named_kinds(&list) && list.len() < 1 << 30,
-        "no area list"
-    );
-    let start = PlainSpace::of_areas(alloc, &list)?;
+    let start = space_of(alloc, &list)?;
+    measure_callers(rt, alloc, size, &start, count, addr, lookup)
+}
+
+/// Faults of one caller beside idle ones, on the byte at `addr` of a space of so many areas, with what a lookup takes.
+fn measure_callers<R: Wait + Clock + Eprint>(
+    rt: &R,
+    alloc: Global,
+    size: Size,
+    start: &PlainSpace,
+    count: u32,
+    addr: u64,
+    lookup: u64,
+) -> Result<()> {
     for callers in [1usize, 2, 4, 16] {
-        let times = times_of_faults(rt, size, alloc, &start, callers, addr)?;
+        let times = times_of_faults(rt, size, alloc, start, callers, addr)?;
         eprintln!(rt;
             "areas {count}, callers {callers}: a fault takes {} ns, {} percent of the lookup; in the first round {} ns",
             size.each(times.least),
@@ -100,11 +109,7 @@ fn measure_own<R: Threads + Wait + Sync + Clock + Eprint>(
     size: Size,
 ) -> Result<()> {
     let list = own_areas(alloc)?;
-    ensure!(
-        have_named_kinds(&list) && list.len() < 1 << 30,
-        "no area list"
-    );
-    let start = PlainSpace::of_areas(alloc, &list)?;
+    let start = space_of(alloc, &list)?;
     let map = RwLock::new(map_of(alloc, &list)?);
     let space = least_of_own(rt, size, alloc, &start)?;
     let locked = least_of_map_own(rt, size, &map)?;
@@ -125,11 +130,7 @@ fn measure_changes<R: Wait + Clock + Eprint>(
     rows: u32,
 ) -> Result<()> {
     let (list, lo) = spaced_areas(alloc, rows)?;
-    ensure!(
-        have_named_kinds(&list) && list.len() < 1 << 30,
-        "no area list"
-    );
-    let start = PlainSpace::of_areas(alloc, &list)?;
+    let start = space_of(alloc, &list)?;
     ensure!(start.rows() == rows, "not so many rows");
     let map = Mutex::new(map_of(alloc, &list)?);
     let clock = least_of_clock(rt, size)?;

@@ -2,7 +2,6 @@
 //! asked about the entries.
 ghost use Rattle.std.specs.Prelude.{◌≤◌};
 
-use crate::lines::Workload;
 use crate::plain::entries_of_plain;
 use crate::size::Size;
 use crate::watch::{Watch, since};
@@ -11,6 +10,7 @@ use space_model::{PlainSpace, have_named_calls, legal};
 use std::alloc::Global;
 use std::io::{Eprint, Print};
 use std::time::{Clock, Instant};
+use workloads::Workload;
 
 /// The calls of the workload `areas`, once played and once judged.
 pub fn measure_history<R: Clock + Sync + Print + Eprint>(

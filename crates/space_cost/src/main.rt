@@ -5,7 +5,9 @@
 //! standard error, since they differ from run to run; standard output says how many calls were played and how many of
 //! them refused, on which all agree. The word `full` plays 1,048,576 calls of `load` and `pager` a round, the word
 //! `areas` as many on 300 to 600 areas. The word `faults` measures single faults, changes and plans, and `history` how
-//! long `legal` takes to judge as many entries. Without a word each is measured with a few thousand calls.
+//! long `legal` takes to judge as many entries. The word `tables` measures faults and unmaps over as many rows as there
+//! may be, `openings` what opening and closing a space takes, and `hold` is a run whose memory is looked at from
+//! outside. Without a word each is measured with a few thousand calls.
 #![tactic(auto)]
 
 ghost use Rattle.std.specs.Prelude.{◌≤◌};
@@ -16,9 +18,7 @@ mod crowd;
 mod faults;
 mod history;
 mod lines;
-mod locks;
-mod maps;
-mod pager;
+mod openings;
 mod peers;
 mod plain;
 mod plans;
@@ -26,12 +26,13 @@ mod protects;
 mod rounds;
 mod size;
 mod starts;
+mod tables;
 mod watch;
 
 use anyhow::{Result, bail};
 use faults::measure_faults;
 use history::measure_history;
-use lines::Workload;
+use openings::{hold_open, measure_openings};
 use rounds::{Times, least_of_plain, times_of};
 use size::{Size, percent};
 use std::alloc::Global;
@@ -40,6 +41,8 @@ use std::io::{Eprint, Print};
 use std::sync::Wait;
 use std::thread::Threads;
 use std::time::Clock;
+use tables::measure_tables;
+use workloads::Workload;
 
 fn main(rt: HostRuntime) -> Result<()> {
     match env::args(&rt)?.nth(1) {
@@ -47,12 +50,17 @@ fn main(rt: HostRuntime) -> Result<()> {
         Some(word) if word.as_str() == "areas" => measure_areas(&rt, rt.alloc(), Size::FULL),
         Some(word) if word.as_str() == "faults" => measure_faults(&rt, rt.alloc(), Size::TURNS),
         Some(word) if word.as_str() == "history" => measure_history(&rt, rt.alloc(), Size::FULL),
-        Some(_) => bail!("usage: space_cost [full|areas|faults|history]"),
+        Some(word) if word.as_str() == "tables" => measure_tables(&rt, rt.alloc(), Size::TURNS),
+        Some(word) if word.as_str() == "openings" => measure_openings(&rt, rt.alloc(), Size::TURNS),
+        Some(word) if word.as_str() == "hold" => hold_open(&rt, rt.alloc()),
+        Some(_) => bail!("usage: space_cost [full|areas|faults|history|tables|openings|hold]"),
         None => {
             measure_threads(&rt, rt.alloc(), Size::SMALL)?;
             measure_areas(&rt, rt.alloc(), Size::SMALL)?;
             measure_faults(&rt, rt.alloc(), Size::FEW_TURNS)?;
-            measure_history(&rt, rt.alloc(), Size::SMALL)
+            measure_history(&rt, rt.alloc(), Size::SMALL)?;
+            measure_tables(&rt, rt.alloc(), Size::FEW_TURNS)?;
+            measure_openings(&rt, rt.alloc(), Size::FEW_TURNS)
         }
     }
 }

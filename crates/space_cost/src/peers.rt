@@ -1,7 +1,6 @@
 //! Rounds of workers that play their lines on a map of areas under a lock, each on a thread of its own. Each call's
 //! entry is kept, in room that is taken before the clock starts.
 
-use crate::locks::SharedAreas;
 use crate::rounds::{Played, count_refused};
 use crate::watch::Watch;
 use anyhow::Result;
@@ -12,6 +11,7 @@ use std::thread;
 use std::thread::Threads;
 use std::time::Clock;
 use trace_threads::{Gate, Line};
+use workloads::SharedAreas;
 
 /// In how many threads at most workers play.
 const MOST_THREADS: usize = 16;

@@ -3,7 +3,7 @@
 ghost use Rattle.std.specs.Prelude.{◌≤◌, All};
 ghost use Rattle.page_types.specs.Named.{IsNamedCall};
 
-use crate::lines::Workload;
+use crate::lines::{lines_of, start_of};
 use crate::rounds::{Played, count_refused};
 use crate::watch::Watch;
 use anyhow::Result;
@@ -11,6 +11,7 @@ use space_model::{Entry, PlainSpace};
 use std::alloc::{AllocError, Global};
 use std::time::Clock;
 use trace_threads::{Gate, Line};
+use workloads::Workload;
 
 /// A worker plays its lines in their order.
 fn play_lines<G: Gate>(
@@ -48,8 +49,8 @@ pub fn entries_of_plain<G: Gate>(
 ) -> Result<Vec<Entry>>
     requires calls { calls ≤ 1048576 }
 {
-    let mut space = workload.start(alloc)?;
-    let lines = workload.lines_of(alloc, 0, 1, calls)?;
+    let mut space = start_of(workload, alloc)?;
+    let lines = lines_of(workload, alloc, 0, 1, calls)?;
     let mut entries = Vec::with_capacity(alloc, lines.len())?;
     play_lines(&mut space, &lines, &mut entries, gate)?;
     Ok(entries)

@@ -7,7 +7,6 @@ ghost use Rattle.page_types.specs.Sets.{IsNamedProt};
 ghost use Rattle.crews.specs.Crews.{IsCrew};
 ghost use Rattle.space_cost.specs.Ready.{IsReady};
 
-use crate::maps::{AreaMap, NoRoom, answered, found};
 use crate::size::Size;
 use crate::watch::since;
 use anyhow::{Result, bail};
@@ -23,6 +22,7 @@ use std::sync::{RwLock, Wait};
 use std::thread;
 use std::thread::Threads;
 use std::time::{Clock, Instant};
+use workloads::{AreaMap, NoRoom, answered, found};
 
 /// How many callers work beside each other.
 const CALLERS: u32 = 4;
@@ -106,6 +106,34 @@ fn work_own<R: Threads + Wait + Sync>(rt: &R, space: &Space, callers: &mut [Call
     thread::for_each_mut(rt, callers, 16, &work);
 }
 
+/// What the work of a crew takes.
+fn time_of_crew<R: Threads + Wait + Sync + Clock>(
+    rt: &R,
+    space: &Space,
+    crew: &mut [Caller],
+    turns: u32,
+) -> Result<u64>
+    requires { IsCrew space.now.table space.now.seats crew.old }
+{
+    let begin = Instant::now(rt)?;
+    work_own(rt, space, crew, turns);
+    Ok(since(rt, &begin)?)
+}
+
+/// What a round takes on a space of its own.
+fn time_of_own<R: Threads + Wait + Sync + Clock>(
+    rt: &R,
+    size: Size,
+    alloc: Global,
+    start: &PlainSpace,
+) -> Result<u64> {
+    let calls = [u32::saturating_mul(size.calls, CALLS); CALLERS as usize];
+    let Ok((space, mut crew)) = open_crew(alloc, &calls, start) else {
+        bail!("no memory for a space");
+    };
+    time_of_crew(rt, &space, crew.as_mut_slice(), size.calls)
+}
+
 /// The least that a round takes, over a space that starts with the callers' areas.
 pub fn least_of_own<R: Threads + Wait + Sync + Clock>(
     rt: &R,
@@ -114,14 +142,8 @@ pub fn least_of_own<R: Threads + Wait + Sync + Clock>(
     start: &PlainSpace,
 ) -> Result<u64> {
     let mut least = u64::MAX;
-    let calls = [u32::saturating_mul(size.calls, CALLS); CALLERS as usize];
     for _ in 0..size.rounds {
-        let Ok((space, mut crew)) = open_crew(alloc, &calls, start) else {
-            bail!("no memory for a space");
-        };
-        let begin = Instant::now(rt)?;
-        work_own(rt, &space, crew.as_mut_slice(), size.calls);
-        least = least.min(since(rt, &begin)?);
+        least = least.min(time_of_own(rt, size, alloc, start)?);
     }
     Ok(least)
 }

@@ -2,9 +2,7 @@
 //! times of them. A round that nothing disturbed is the shortest. All of them refuse the same calls, which is seen to.
 ghost use Rattle.std.specs.Prelude.{◌≤◌};
 
-use crate::lines::Workload;
-use crate::locks::{UnderMutex, UnderRwLock};
-use crate::maps::map_of;
+use crate::lines::{all_lines, start_of};
 use crate::peers::{map_workers, round_of_map};
 use crate::plain::round_of_plain;
 use crate::size::Size;
@@ -17,6 +15,7 @@ use std::sync::Wait;
 use std::thread::Threads;
 use std::time::Clock;
 use trace_threads::play_trace;
+use workloads::{UnderMutex, UnderRwLock, Workload, map_of};
 
 /// What came of a round.
 #[derive(Clone, Copy)]
@@ -63,8 +62,8 @@ fn round_of_space<R: Threads + Wait + Sync + Clock>(
     requires few { threads ≤ 16 }
     requires calls { calls ≤ 1048576 }
 {
-    let start = workload.start(alloc)?;
-    let lines = workload.lines(alloc, threads, calls)?;
+    let start = start_of(workload, alloc)?;
+    let lines = all_lines(workload, alloc, threads, calls)?;
     let watch = Watch::new(rt, threads, calls)?;
     let Ok(closed) = play_trace(rt, alloc, &start, lines, &watch) else {
         bail!("no memory for a space");
@@ -88,8 +87,8 @@ fn round_of_rw_lock<R: Threads + Wait + Sync + Clock>(
     requires few { threads ≤ 16 }
     requires calls { calls ≤ 1048576 }
 {
-    let start = workload.start(alloc)?;
-    let workers = map_workers(alloc, workload.lines(alloc, threads, calls)?)?;
+    let start = start_of(workload, alloc)?;
+    let workers = map_workers(alloc, all_lines(workload, alloc, threads, calls)?)?;
     let areas = UnderRwLock::new(map_of(alloc, start.areas())?);
     round_of_map(rt, &areas, workers, threads, calls)
 }
@@ -105,8 +104,8 @@ fn round_of_mutex<R: Threads + Wait + Sync + Clock>(
     requires few { threads ≤ 16 }
     requires calls { calls ≤ 1048576 }
 {
-    let start = workload.start(alloc)?;
-    let workers = map_workers(alloc, workload.lines(alloc, threads, calls)?)?;
+    let start = start_of(workload, alloc)?;
+    let workers = map_workers(alloc, all_lines(workload, alloc, threads, calls)?)?;
     let areas = UnderMutex::new(map_of(alloc, start.areas())?);
     round_of_map(rt, &areas, workers, threads, calls)
 }

@@ -44,6 +44,14 @@ impl Size {
         calls: 5_000,
     };
 
+    /// The same with so few rounds and turns that a change of a large table may be measured.
+    pub fn scarce(self) -> Size {
+        Size {
+            rounds: self.rounds.min(5),
+            calls: (self.calls / 50).max(1),
+        }
+    }
+
     /// The time of one call, of that of a round.
     pub fn each(self, round: u64) -> u64 {
         round / u64::from(self.calls).max(1)

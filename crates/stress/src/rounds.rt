@@ -34,6 +34,25 @@ fn are_all_lines(entries: &[Entry], calls: u32) -> bool {
     made.iter().all(|count| *count == calls)
 }
 
+/// Plays entries on the space of one thread.
+fn play_on(model: &mut PlainSpace, entries: &[Entry]) -> Result<()> {
+    'entries: for entry in entries {
+        ensure!(entry.call.is_named(), "a call has unnamed bits");
+        model.step(&entry.call)?;
+    }
+    Ok(())
+}
+
+/// Whether the areas that are left are those of the model, which begins with this space.
+fn leaves_the_same(alloc: Global, start: &PlainSpace, closed: &Closed) -> Result<bool> {
+    let mut model = start.copied(alloc)?;
+    let played = play_on(&mut model, closed.entries());
+    let same = model.areas() == closed.areas();
+    drop(model);
+    played?;
+    Ok(same)
+}
+
 /// Judges a history that began with this space.
 fn judge(alloc: Global, start: &PlainSpace, closed: &Closed, calls: u32) -> Result<()>
     ensures legal { OnOk result (IsLegal start.now closed.now.entries) }
@@ -47,12 +66,10 @@ fn judge(alloc: Global, start: &PlainSpace, closed: &Closed, calls: u32) -> Resu
     if let Some(first) = legal(alloc, start, entries)? {
         bail!("entry {first} is not as a legal history has it");
     }
-    let mut model = start.copied(alloc)?;
-    'entries: for entry in entries {
-        ensure!(entry.call.is_named(), "a call has unnamed bits");
-        model.step(&entry.call)?;
-    }
-    ensure!(model.areas() == closed.areas(), "other areas are left");
+    ensure!(
+        leaves_the_same(alloc, start, closed)?,
+        "other areas are left"
+    );
     Ok(())
 }
 
@@ -67,6 +84,22 @@ fn close(alloc: Global, space: Space, callers: Vec<Caller>) -> Result<Closed>
     Ok(closed)
 }
 
+/// One round of so many calls of each caller on a space that begins with this one: its closed history.
+fn closed_round<R: Threads + Wait + Sync>(
+    rt: &R,
+    alloc: Global,
+    start: &PlainSpace,
+    seed: u64,
+    calls: u32,
+    total: &Mutex<Tries>,
+) -> Result<Closed> {
+    let Ok((space, mut callers)) = open_crew(alloc, &[calls; CALLERS], start) else {
+        bail!("no memory for a space");
+    };
+    call_all(rt, &space, callers.as_mut_slice(), seed, calls, total);
+    close(alloc, space, callers)
+}
+
 /// One round of so many calls of each caller, and its entries by what they are.
 fn play_round<R: Threads + Wait + Sync>(
     rt: &R,
@@ -77,16 +110,14 @@ fn play_round<R: Threads + Wait + Sync>(
     total: &Mutex<Tries>,
 ) -> Result<()> {
     let start = PlainSpace::new(alloc);
-    let Ok((space, mut callers)) = open_crew(alloc, &[calls; CALLERS], &start) else {
-        bail!("no memory for a space");
-    };
-    call_all(rt, &space, callers.as_mut_slice(), seed, calls, total);
-    let closed = close(alloc, space, callers)?;
-    judge(alloc, &start, &closed, calls)?;
+    let closed = closed_round(rt, alloc, &start, seed, calls, total)?;
+    let judged = judge(alloc, &start, &closed, calls);
     for entry in closed.entries() {
         entries.count(entry);
     }
-    Ok(())
+    drop(closed);
+    drop(start);
+    judged
 }
 
 /// What rounds on address spaces came to.

@@ -2,7 +2,7 @@ use Rattle.std.proofs.Common.{All, List}
 use Rattle.std.proofs.lemmas.List.Elements.{All-map}
 use Rattle.page_types.specs.Named.{IsNamedCall}
 use Rattle.trace_threads.specs.declared.worker.Line.{Line}
-use Rattle.space_cost.proofs.lines.Workload.lines.Goals as goal
+use Rattle.space_cost.proofs.lines.all_lines.Goals as goal
 
 -- the calls of each list have named bits alone
 pub returns-clause-named : goal.returns-clause-named

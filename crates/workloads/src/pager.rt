@@ -4,14 +4,16 @@
 //! mapped and unmapped. Beside the arenas stand 128 areas that all workers share. The profile is this project's own.
 ghost use Rattle.std.specs.Prelude.{◌<◌, ◌≤◌, ◌^◌, IfOk, All, vec_len};
 ghost use Rattle.page_types.specs.Named.{IsNamedCall};
-ghost use Rattle.page_types.specs.Sets.{IsNamedFlags, IsNamedProt};
+ghost use Rattle.page_types.specs.Sets.{IsNamedProt};
+ghost use Rattle.load_lines.specs.Calls.{IsNamedLine};
 
+use crate::areas::fixed;
+use crate::loads::SEED;
 use bitflags::Flags;
-use load_lines::draw;
-use page_types::{Access, Call, Kind, MapFlags, PAGE, Prot};
+use load_lines::{MadeLine, draw};
+use page_types::{Access, Call, Kind, PAGE, Prot};
 use space_model::Area;
 use std::alloc::{AllocError, Global};
-use trace_threads::Line;
 
 /// How many arenas there are, with a worker or without.
 const ARENAS: u32 = 16;
@@ -111,13 +113,6 @@ fn card_prot(opens: bool) -> Prot
     ensures { IsNamedProt result }
 {
     if opens { both() } else { Prot::READ }
-}
-
-/// The flags of a private map at its address.
-fn fixed() -> MapFlags
-    ensures { IsNamedFlags result }
-{
-    MapFlags::PRIVATE.union(MapFlags::FIXED)
 }
 
 /// The first page of an arena.
@@ -342,24 +337,24 @@ fn first_player(worker: u32, threads: u32) -> Player
 /// counted from 0, leave its own number as the remainder.
 pub fn pager_lines(
     alloc: Global,
-    seed: u32,
     worker: u32,
     threads: u32,
     calls: u32,
-) -> Result<Vec<Line>, AllocError>
+) -> Result<Vec<MadeLine>, AllocError>
     requires some { worker < threads }
     requires few { threads ≤ 16 }
-    ensures named { IfOk result (λ lines. All (λ l. IsNamedCall l.call) lines.items) }
+    ensures named { IfOk result (λ lines. All IsNamedLine lines.items) }
     ensures count { IfOk result (λ lines. vec_len lines < 2 ^ 32) }
 {
     let mut lines = Vec::with_capacity(alloc, (calls / threads) as usize + 1)?;
-    let mut state = first_state(seed, worker);
+    let mut state = first_state(SEED, worker);
     let mut player = first_player(worker, threads);
     for made in 0..calls {
         if made % threads == worker {
             let (next, call) = make_call(player, next_draws(&mut state));
             player = next;
-            lines.push(Line {
+            lines.push(MadeLine {
+                worker,
                 line: made + 1,
                 call,
             })?;

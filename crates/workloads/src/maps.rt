@@ -1,6 +1,7 @@
 //! The areas of a program that knows no range lock: they stand by their first pages in a `BTreeMap`. Areas are cut at
 //! the ends of a change, and one that touches another of its kind is joined with it, as the address space does. Replies
-//! are by the rules of the space; a Map has FIXED, as the workloads' have, and rows are not counted.
+//! are by the rules of the space; a Map has FIXED, as the workloads' have, and rows are not counted. No workload has a
+//! Brk or a Remap, and here they find no room.
 ghost use Rattle.std.specs.Prelude.{◌<◌};
 
 use page_types::{Access, Call, Kind, PAGE, Prot, Reply, Short, Span, Why, plain};
@@ -80,6 +81,7 @@ pub fn answered(areas: &mut AreaMap, call: &Call) -> Result<Reply, NoRoom> {
             Err(field) => Ok(Reply::Refused(Why::Einval(field))),
         },
         Call::Fault { addr, access } => Ok(found(areas, addr, access)),
+        Call::Brk { .. } | Call::Remap { .. } => Ok(Reply::Refused(Why::Enomem(Short::NoGap(0)))),
     }
 }
 

@@ -1,12 +1,11 @@
 use Rattle.std.proofs.Common.{◌≤◌, All, vec_len, drop}
-use Rattle.page_types.specs.Named.{IsNamedCall}
 use Rattle.load_lines.specs.Calls.{IsNamedLine}
-use Rattle.space_cost.proofs.lines.lines_by.Given as goal
+use Rattle.workloads.proofs.loads.lines_by.Given as goal
 
 -- the lines that are left are named, and so are those that were taken, which are no more than asked for
 abbrev pub invariant-all : goal.invariant-all
 invariant-all l = record {
   rest : All IsNamedLine (drop l.one-index l.made);
-  named : All (λ m. IsNamedCall m.call) l.lines.items;
+  named : All IsNamedLine l.lines.items;
   count : vec_len l.lines ≤ l.calls;
 }

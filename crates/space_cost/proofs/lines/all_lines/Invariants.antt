@@ -1,7 +1,7 @@
 use Rattle.std.proofs.Common.{◌<◌, ◌≤◌, ◌^◌, All, length, map}
 use Rattle.std.specs.Prelude.{vec_items, vec_len}
 use Rattle.page_types.specs.Named.{IsNamedCall}
-use Rattle.space_cost.proofs.lines.Workload.lines.Given as goal
+use Rattle.space_cost.proofs.lines.all_lines.Given as goal
 
 -- the lists so far are named, each below 2^32 long, and no more than workers were counted
 abbrev pub invariant-loop-worker : goal.invariant-loop-worker
