@@ -4,9 +4,14 @@
 # program is loaded at the beginning of a page, so the last three digits of an instruction's address are the same in
 # both.
 #
-# Where the table is, the opening shows: it copies the first values of all words there, the client words last. No other
-# row of stores, each beginning where the one before ended, is as long and comes as late.
-BEGIN { client_bytes = 8 * (3 + 4096) }
+# Where the table is, the opening shows: it copies the first values of all words there, the client words last. These are
+# 19 and the room for rows, which is at least as many as there are (`-v rows=`). No other row of stores, each beginning
+# where the one before ended, is as long and comes as late. Most lines are those of the opening, some twenty million, so
+# as little as can be is done for each.
+BEGIN {
+    client_bytes = 8 * (19 + rows)
+    for (i = 0; i < 4096; i++) in_page[sprintf("%03x", i)] = i
+}
 
 function number(digits, sum, i) {
     for (i = 1; i <= length(digits); i++) sum = 16 * sum + index("123456789abcdef", substr(digits, i, 1))
@@ -17,24 +22,32 @@ function offset_in_page(address) { return substr(address, length(address) - 2) }
 
 # The instruction before is over: what it did with the table.
 function count_step() {
+    sub(/,.*/, "", instruction)
     if (touched == "L") loads++
-    else if (touched && instruction in locked) steps++
-    else if (touched) others++
+    else if (offset_in_page(instruction) in locked) steps++
+    else others++
     touched = ""
+}
+
+/^I/ { if (touched != "") count_step(); instruction = $2; next }
+
+/^ L/ && !table { next }
+
+/^ [LSM]/ {
+    split($2, access, ",")
+    digits = length(access[1]) - 3
+    page = substr(access[1], 1, digits)
+    if (!(page in first)) first[page] = 4096 * number(page)
+    at = first[page] + in_page[substr(access[1], digits + 1)]
+    if ($1 != "L") {
+        if (at != row_end) row = at
+        row_end = at + access[2]
+        if (row_end - row >= client_bytes) { table = row; table_end = row_end; steps = loads = others = 0; next }
+    }
+    if (table <= at && at < table_end && touched != "M") touched = $1 == "L" ? "L" : "M"
+    next
 }
 
 /^ *[0-9a-f]+:\t(lock |xchg .*\()/ { sub(/:/, "", $1); locked[offset_in_page($1)] }
 
-/^I / { count_step(); sub(/,.*/, "", $2); instruction = offset_in_page($2) }
-
-/^ [LSM] / { split($2, access, ","); at = number(access[1]) }
-
-/^ [SM] / {
-    if (at != row_end) row = at
-    row_end = at + access[2]
-    if (row_end - row >= client_bytes) { table = row; table_end = row_end; steps = loads = others = 0; next }
-}
-
-/^ [LSM] / && table <= at && at < table_end { if (touched != "M") touched = $1 == "L" ? "L" : "M" }
-
-END { count_step(); print steps + 0, loads + 0, others + 0 }
+END { if (touched != "") count_step(); print steps + 0, loads + 0, others + 0 }
