@@ -2,7 +2,8 @@ pub mod ReadBack
 pub mod RowLists
 pub mod RowPages
 pub mod OneList
-pub mod FirstRows
 pub mod PutRows
+pub mod Splices
+pub mod RowChanges
 pub mod RowPatches
 pub mod PlanLeft

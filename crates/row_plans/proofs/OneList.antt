@@ -1,5 +1,5 @@
--- Kinds have one list of row words: two that show the same kinds are equal, word by word, as far as they do.
-use Rattle.std.proofs.Common.{◌≡◌, ℕ, zero, suc, ◌+◌, ◌/◌, ◌%◌, ◌<◌, ◌≤◌, Bool, true, false, cond, eqb, List, [], ◌∷◌, length, get_or}
+-- Kinds have one list of row words: two that show the same kinds are equal, word by word.
+use Rattle.std.proofs.Common.{◌≡◌, ℕ, ◌+◌, ◌/◌, ◌%◌, ◌<◌, ◌≤◌, Bool, true, false, cond, eqb, List, [], ◌∷◌}
 use Rattle.std.proofs.Common.{sym, refl, ap, ◌∙◌, subst, arith, inl, inr}
 use Rattle.std.proofs.lemmas.Bool.{cases_lt, eqb-true, eqb-false}
 use Rattle.std.proofs.lemmas.List.Elements.{All-head, All-tail}
@@ -8,7 +8,6 @@ use Rattle.page_types.specs.declared.calls.Kind.{Kind}
 use Rattle.row_plans.specs.RowWords.{row_start, row_kind, kind_bits, row_word}
 use Rattle.row_plans.specs.RowLists.{rows_start, ShowFrom, IsBareGap}
 use Rattle.row_plans.proofs.RowLists.{starts_low}
-use Rattle.row_plans.proofs.RowPages.{rises_from}
 
 -- the kind that the low six bits say, as three tests of them
 abbrev low_kind : ℕ → Bool → Bool → Bool → Option Kind
@@ -88,26 +87,3 @@ one_list page (w ∷ rest) (v ∷ more) kinds s t bare other_bare =
     let tail : rest ≡ more = one_list (rows_start rest) rest more kinds s.4 (subst (λ p. ShowFrom p more kinds) (sym start) t.4)
     (All-tail IsBareGap w rest bare) (All-tail IsBareGap v more other_bare) in
     λ i. word i ∷ tail i
-
--- a row that starts below a page up to which two lists show the same stands in both, at the same place
-pub same_below : (page : ℕ) (rows others : List ℕ) (kinds other : ℕ → Option Kind) (end i : ℕ) → ShowFrom page rows kinds
-    → ShowFrom page others other → All IsBareGap rows → All IsBareGap others
-    → ((p : ℕ) → page ≤ p → p < end → kinds p ≡ other p) → i < length rows → row_start (get_or rows i 0) < end
-    → (i < length others) × (get_or others i 0 ≡ get_or rows i 0)
-same_below page [] others kinds other end i s t bare other_bare same lt low = absurd (omega arith)
-same_below page (w ∷ rest) [] kinds other end i s t bare other_bare same lt low =
-    let l = starts_low (rows_start rest) rest kinds s.4 in let h = s.1 in absurd (omega arith)
-same_below page (w ∷ rest) (v ∷ more) kinds other end zero s t bare other_bare same lt low =
-    let start = s.0 in
-    let kind : row_kind w ≡ row_kind v =
-    sym (s.3 page (omega arith) s.1) ∙ (same page (omega arith) (omega arith) ∙ t.3 page (omega arith) t.1) in
-    (omega arith, sym (one_word w v (s.0 ∙ sym t.0) kind (All-head IsBareGap w rest bare) (All-head IsBareGap v more other_bare)))
-same_below page (w ∷ rest) (v ∷ more) kinds other end (suc i) s t bare other_bare same lt low =
-    let from = s.1 in
-    let up = rises_from (rows_start rest) rest kinds i 0 s.4 (omega arith) in
-    let kind : row_kind w ≡ row_kind v =
-    sym (s.3 page (omega arith) s.1) ∙ (same page (omega arith) (omega arith) ∙ t.3 page (omega arith) t.1) in
-    let start : rows_start rest ≡ rows_start more = one_start page w v rest more kinds other kind s t end same (omega arith) in
-    let r = same_below (rows_start rest) rest more kinds other end i s.4 (subst (λ p. ShowFrom p more other) (sym start) t.4)
-    (All-tail IsBareGap w rest bare) (All-tail IsBareGap v more other_bare) (λ p above below. same p (omega arith) below) (omega arith) low in
-    (omega (arith, r.0), r.1)

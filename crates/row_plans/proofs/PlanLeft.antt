@@ -20,7 +20,7 @@ use Rattle.space_model.specs.Areas.{IsAreaList, HasKinds, HasNamedKinds, kind_at
 use Rattle.space_model.specs.Effect.{patched, AreRising}
 use Rattle.space_model.specs.Answers.{full_reply, Answers}
 use Rattle.space_model.specs.Answers.Answers.{by_arguments, refused, kept}
-use Rattle.space_model.specs.Judges.{IsJudged, IsNamedChange, patches_of, second_of}
+use Rattle.space_model.specs.Judges.{IsJudged, IsNamedChange, patches_of}
 use Rattle.space_model.specs.Judges.Makes.{within, beyond}
 use Rattle.space_model.proofs.Changing.{kind_at-limit, rising_end, patched-behind}
 use Rattle.space_model.proofs.Judgements.{made_answers}
@@ -28,18 +28,12 @@ use Rattle.space_model.proofs.Stepping.{patches_few, judged-named}
 use Rattle.space_model.proofs.SomeAnswer.{leaves_areas}
 use Rattle.row_plans.specs.RowWords.{row_start, row_kind, row_word}
 use Rattle.row_plans.specs.RowLists.{rows_start, DiffersFrom, ShowFrom, IsBareGap, with_row, areas_from}
-use Rattle.row_plans.specs.Planning.{ShowTo, StartBefore, IsMade}
-use Rattle.row_plans.specs.Plans.{PlanShows, IsRowList, planned_rows, BeginsAs, IsPlan}
+use Rattle.row_plans.specs.Planning.{IsMade}
+use Rattle.row_plans.specs.declared.planning.Cut.{Cut}
+use Rattle.row_plans.specs.Plans.{PlanShows, IsRowList, spliced, IsPlan}
 use Rattle.row_plans.proofs.RowLists.{AreNext, are_next, areas_back}
-use Rattle.row_plans.proofs.PutRows.{some_rows}
-use Rattle.row_plans.proofs.FirstRows.{first_stay}
-use Rattle.row_plans.proofs.RowPatches.{first_kept}
-
--- rows that show kinds up to LIMIT
-shows_all : (page : ℕ) (rows : List ℕ) (kinds : ℕ → Option Kind) → ShowTo page rows LIMIT kinds → ShowFrom page rows kinds
-shows_all page [] kinds show = show
-shows_all page (word ∷ []) kinds show = (show.0, show.1, tt, show.3, show.4)
-shows_all page (word ∷ next ∷ rest) kinds show = (show.0, show.1, show.2, show.3, shows_all (row_start next) (next ∷ rest) kinds show.4)
+use Rattle.row_plans.proofs.Splices.{some_shown}
+use Rattle.std.specs.List.{splice}
 
 -- the rows are as many as the model counts of their areas
 gap_one : (lo hi : ℕ) → lo < hi → gap_between lo hi ≡ 1
@@ -84,32 +78,32 @@ areas_in_order rows is = (are_next 0 rows (kind_at (areas_from rows)) is.show).a
 pub counted_rows : (rows : List ℕ) → IsRowList rows → length rows ≡ row_count (areas_from rows)
 counted_rows rows is = rows_counted 0 rows (kind_at (areas_from rows)) is.show
 
-planned_some : (old new : List ℕ) → 0 < length new → new ≡ planned_rows old new
-planned_some old [] some = absurd (omega arith)
-planned_some old (word ∷ rest) some = refl
+-- where no row goes and none comes the rows are as they were
+pub as_they_were : (old more : List ℕ) (cut : Cut) → cut.first ≡ 0 → cut.end ≡ 0 → more ≡ [] → spliced old cut more ≡ old
+as_they_were old more cut first end none = λ i. splice old (first i) (end i) (none i)
 
 -- a call that changes nothing plans the rows as they are
-module _ (old new : List ℕ) (c : Call) (reply : Reply) (count : ℕ) (is : IsRowList old) (none : new ≡ []) (counts : count ≡ length old) where
-  plan_same : Answers (areas_from old) c reply (areas_from old) → IsPlan c reply count (planned_rows old new) (areas_from old)
+module _ (old plan : List ℕ) (c : Call) (reply : Reply) (count : ℕ) (is : IsRowList old) (same : plan ≡ old) (counts : count ≡ length old) where
+  plan_same : Answers (areas_from old) c reply (areas_from old) → IsPlan c reply count plan (areas_from old)
   plan_same answers = record {
     left = areas_from old;
     answers = answers;
     counted = counts ∙ counted_rows old is;
-    shows = subst (λ (l : List ℕ). PlanShows (planned_rows old l) (kind_at (areas_from old))) (sym none) is;
+    shows = subst (λ (l : List ℕ). PlanShows l (kind_at (areas_from old))) (sym same) is;
   }
 
   -- the plan of a call that its arguments decide is that reply and the rows as they are
-  pub plan_plain : plain_reply c ≡ Some reply → IsPlan c reply count (planned_rows old new) (areas_from old)
+  pub plan_plain : plain_reply c ≡ Some reply → IsPlan c reply count plan (areas_from old)
   plan_plain decided = plan_same (by_arguments decided refl)
 
   -- the plan of a call that the areas refuse is the refusal and the rows as they are
   pub plan_refused : (why : Why) → plain_reply c ≡ None → IsJudged (kind_at (areas_from old)) c (IsRefused why) → reply ≡ Refused why
-      → IsPlan c reply count (planned_rows old new) (areas_from old)
+      → IsPlan c reply count plan (areas_from old)
   plan_refused why open_still refuses says = plan_same (refused why open_still refuses says refl)
 
   -- the plan of a call that changes nothing is its reply and the rows as they are
   pub plan_kept : (said : Reply) → plain_reply c ≡ None → IsJudged (kind_at (areas_from old)) c (Keeps said) → reply ≡ said
-      → IsPlan c reply count (planned_rows old new) (areas_from old)
+      → IsPlan c reply count plan (areas_from old)
   plan_kept said open_still keeps says =
       plan_same (kept open_still (subst (λ r. IsJudged (kind_at (areas_from old)) c (Keeps r)) (sym says) keeps) refl)
 
@@ -142,10 +136,10 @@ pub judged_named : (rows : List ℕ) (c : Call) (change : Change) → IsNamedCal
 judged_named rows c change named judged = judged-named (areas_from rows) c change (areas_named rows) named judged
 
 -- a change that was judged rightly, as it is made, is the plan
-pub plan_made : (old new : List ℕ) (c : Call) (change : Change) (reply : Reply) (count : ℕ) → plain_reply c ≡ None
-    → IsJudged (kind_at (areas_from old)) c (Changes change) → IsMade change reply count (planned_rows old new) (areas_from old)
-    → IsPlan c reply count (planned_rows old new) (areas_from old)
-plan_made old new c change reply count open_still judged m = record {
+pub plan_made : (old plan : List ℕ) (c : Call) (change : Change) (reply : Reply) (count : ℕ) → plain_reply c ≡ None
+    → IsJudged (kind_at (areas_from old)) c (Changes change) → IsMade change reply count plan (areas_from old)
+    → IsPlan c reply count plan (areas_from old)
+plan_made old plan c change reply count open_still judged m = record {
   left = m.left;
   answers = made_answers (areas_from old) c change reply m.left open_still judged m.made;
   counted = m.counted;
@@ -154,10 +148,7 @@ plan_made old new c change reply count open_still judged m = record {
 
 -- rows that show the kinds of a change are those of the area list that it leaves
 module _ (old rows : List ℕ) (change : Change) (is : IsRowList old) (rising : AreRising 0 (patches_of change))
-    (show : ShowTo 0 rows LIMIT (patched (patches_of change) (kind_at (areas_from old)))) where
-  shown : ShowFrom 0 rows (patched (patches_of change) (kind_at (areas_from old)))
-  shown = shows_all 0 rows (patched (patches_of change) (kind_at (areas_from old))) show
-
+    (shown : ShowFrom 0 rows (patched (patches_of change) (kind_at (areas_from old)))) where
   left_kinds : HasKinds (patched (patches_of change) (kind_at (areas_from old))) (areas_from rows)
   left_kinds =
       let A = areas_from old in
@@ -179,53 +170,37 @@ module _ (old rows : List ℕ) (change : Change) (is : IsRowList old) (rising : 
 
   -- where the changed rows are at most ROWS, the change is made with its reply and these rows
   pub made_done : (reply : Reply) (count : ℕ) → length rows ≤ ROWS → All IsBareGap rows
-      → reply ≡ change.reply → count ≡ length rows → IsMade change reply count (planned_rows old rows) (areas_from old)
+      → reply ≡ change.reply → count ≡ length rows → IsMade change reply count rows (areas_from old)
   made_done reply count few gaps says counts = record {
     left = areas_from rows;
     made = within left_kinds (subst (λ (n : ℕ). n ≤ ROWS) left_count few) says;
     counted = counts ∙ left_count;
-    shows = subst (λ (l : List ℕ). PlanShows l (kind_at (areas_from rows))) (planned_some old rows (some_rows rows _ show))
-        (record {
-          some = some_rows rows _ show;
-          few = few;
-          show = subst (λ (k : ℕ → Option Kind). ShowFrom 0 rows k)
-              (λ i p. sym (left_kinds.kinds_are p) i) shown;
-          gaps = gaps;
-        });
+    shows = record {
+      some = some_shown rows _ shown;
+      few = few;
+      show = subst (λ (k : ℕ → Option Kind). ShowFrom 0 rows k) (λ i p. sym (left_kinds.kinds_are p) i) shown;
+      gaps = gaps;
+    };
   }
 
-  -- and the rows before the pages that change are the first ones of both
-  pub made_first : (count : ℕ) → All IsBareGap rows → StartBefore old change.first.lo count → BeginsAs old (planned_rows old rows) count
-  made_first count gaps before =
-      subst (λ (l : List ℕ). BeginsAs old l count) (planned_some old rows (some_rows rows _ show))
-      (first_stay old rows (kind_at (areas_from old)) (patched (patches_of change) (kind_at (areas_from old))) change.first.lo count
-      is.show shown is.gaps gaps
-      (λ p low. first_kept (kind_at (areas_from old)) change.first (second_of change.second) rising p (omega arith) low) before)
-
   -- where they are more than ROWS, it has the full reply, and the rows are as they were
-  pub made_full : (new : List ℕ) (reply : Reply) (count : ℕ) → ROWS < length rows → new ≡ []
-      → reply ≡ full_reply change.full (length rows) → count ≡ length old
-      → IsMade change reply count (planned_rows old new) (areas_from old)
-  made_full new reply count many empty_new says counts = record {
+  pub made_full : (plan : List ℕ) (reply : Reply) (count : ℕ) → ROWS < length rows → plan ≡ old
+      → reply ≡ full_reply change.full (length rows) → count ≡ length old → IsMade change reply count plan (areas_from old)
+  made_full plan reply count many same says counts = record {
     left = areas_from old;
     made = beyond (areas_from rows) left_kinds (subst (λ (n : ℕ). ROWS < n) left_count many)
         (says ∙ ap (full_reply change.full) left_count) refl;
     counted = counts ∙ counted_rows old is;
-    shows = subst (λ (l : List ℕ). PlanShows (planned_rows old l) (kind_at (areas_from old))) (sym empty_new) is;
+    shows = subst (λ (l : List ℕ). PlanShows l (kind_at (areas_from old))) (sym same) is;
   }
 
-planned_list : (old plan : List ℕ) (c : Call) (reply : Reply) (count : ℕ) → IsRowList old → IsPlan c reply count plan (areas_from old)
+-- the rows that a call leaves are a row list
+pub planned_list : (old plan : List ℕ) (c : Call) (reply : Reply) (count : ℕ) → IsRowList old → IsPlan c reply count plan (areas_from old)
     → IsRowList plan
 planned_list old plan c reply count is p =
     let areas = leaves_areas (areas_from old) c reply p.left (areas_in_order old is) p.answers in
     let back : areas_from plan ≡ p.left = areas_back plan p.left p.shows.show areas in
     subst (λ A. PlanShows plan (kind_at A)) (sym back) p.shows
-
--- the rows that a call leaves are a row list
-pub planned_new : (old new : List ℕ) (c : Call) (reply : Reply) (count : ℕ) → IsRowList old → 0 < length new
-    → IsPlan c reply count (planned_rows old new) (areas_from old) → IsRowList new
-planned_new old new c reply count is some p =
-    subst IsRowList (sym (planned_some old new some)) (planned_list old (planned_rows old new) c reply count is p)
 
 -- so is the one gap of a space without areas
 pub no_area_list : (rows : List ℕ) → rows ≡ row_word 0 None ∷ [] → IsRowList rows

@@ -5,14 +5,13 @@ use Rattle.std.proofs.lemmas.Bool.{cases_lt}
 use Rattle.std.proofs.Math.Seq.{drop-nil}
 use Rattle.std.proofs.lemmas.List.{length-drop}
 use Rattle.std.specs.Prelude.{Option}
-use Rattle.page_types.specs.declared.TheConstants.{LIMIT}
 use Rattle.page_types.specs.declared.calls.Kind.{Kind}
 use Rattle.page_types.specs.Named.{IsNamedOption}
 use Rattle.space_model.specs.Starts.{same_option}
 use Rattle.space_model.proofs.Counting.{same_option-true, same_option-same, same_option-false}
 use Rattle.row_plans.specs.RowWords.{row_start, row_kind, row_word}
 use Rattle.row_plans.specs.RowLists.{rows_start, DiffersFrom, ShowFrom}
-use Rattle.row_plans.specs.Planning.{start_or, ShowTo, ends_with, put, StartBefore}
+use Rattle.row_plans.specs.Planning.{start_or, ShowTo, ends_with, put, GoesOn, StartBefore}
 use Rattle.row_plans.proofs.ReadBack.{start_back, kind_back}
 
 true_false : true ≡ false → ⊥
@@ -139,11 +138,12 @@ none_ends [] kind e = refl
 none_ends (word ∷ rest) kind e = absurd (omega arith)
 
 -- a stretch of no page, or of some
-pub no_part : (rows : List ℕ) (from to : ℕ) (kinds : ℕ → Option Kind) → from ≤ to → ¬ (from < to) → ShowTo 0 rows from kinds → ShowTo 0 rows to kinds
-no_part rows from to kinds le none show = let e : from ≡ to = omega arith in subst (λ (x : ℕ). ShowTo 0 rows x kinds) e show
+pub no_part : (first : ℕ) (rows : List ℕ) (from to : ℕ) (kinds : ℕ → Option Kind) → from ≤ to → ¬ (from < to) → ShowTo first rows from kinds
+    → ShowTo first rows to kinds
+no_part first rows from to kinds le none show = let e : from ≡ to = omega arith in subst (λ (x : ℕ). ShowTo first rows x kinds) e show
 
 -- a row whose kind is the last one's isn't of another kind
-ends_other : (rows : List ℕ) (kind other : Option Kind) → ends_with rows kind ≡ true → kind ≢ other → ends_with rows other ≡ false
+pub ends_other : (rows : List ℕ) (kind other : Option Kind) → ends_with rows kind ≡ true → kind ≢ other → ends_with rows other ≡ false
 ends_other [] kind other e differs = absurd (true_false (sym e))
 ends_other (word ∷ []) kind other e differs = same_option-false (row_kind word) other (λ same. differs (sym (same_option-true (row_kind word) kind e) ∙ same))
 ends_other (word ∷ next ∷ rest) kind other e differs = ends_other (next ∷ rest) kind other e differs
@@ -171,49 +171,15 @@ append_shows from (word ∷ []) (next ∷ rest) page end kinds some show differs
 append_shows from (word ∷ next ∷ rest) more page end kinds some show differs then =
     (show.0, show.1, show.2, show.3, append_shows (row_start next) (next ∷ rest) more page end kinds (omega arith) show.4 differs then)
 
-differs_first : (word : ℕ) (rest : List ℕ) (next : ℕ) (more : List ℕ) → DiffersFrom word rest → rest ≡ next ∷ more → row_kind word ≢ row_kind next
-differs_first word rest next more d e = subst (DiffersFrom word) e d
-
 -- rows are put behind others, where the first isn't of the kind of the last before it or one of the two is missing
-rows_added : (rows more : List ℕ) (page end : ℕ) (kinds : ℕ → Option Kind)
-    → ((next : ℕ) (rest : List ℕ) → more ≡ next ∷ rest → ends_with rows (row_kind next) ≡ false) → ShowTo 0 rows page kinds
-    → ShowTo page more end kinds → ShowTo 0 (rows ++ more) end kinds
-rows_added [] more page end kinds differs show then = subst (λ (x : ℕ). ShowTo x more end kinds) (sym show) then
-rows_added (word ∷ rows) more page end kinds differs show then =
-    append_shows 0 (word ∷ rows) more page end kinds (omega arith) show differs then
+pub rows_added : (from : ℕ) (rows more : List ℕ) (page end : ℕ) (kinds : ℕ → Option Kind) → GoesOn rows more
+    → ShowTo from rows page kinds → ShowTo page more end kinds → ShowTo from (rows ++ more) end kinds
+rows_added from [] more page end kinds differs show then = subst (λ (x : ℕ). ShowTo x more end kinds) (sym show) then
+rows_added from (word ∷ rows) more page end kinds differs show then =
+    append_shows from (word ∷ rows) more page end kinds (omega arith) show differs then
 
--- and where it is of that kind, it lengthens the last row
-rows_joined : (rows : List ℕ) (word : ℕ) (rest : List ℕ) (page end : ℕ) (kinds : ℕ → Option Kind) → IsNamedOption (row_kind word)
-    → ends_with rows (row_kind word) ≡ true → ShowTo 0 rows page kinds → ShowTo page (word ∷ rest) end kinds
-    → ShowTo 0 (rows ++ rest) end kinds
-rows_joined rows word rest page end kinds named same show then =
-    let longer : ShowTo 0 (put rows page (row_kind word)) (start_or rest end) kinds =
-    put_shows page (start_or rest end) (row_kind word) kinds named then.1 then.3 0 rows show in
-    rows_added rows rest (start_or rest end) end kinds
-    (λ next more e. ends_other rows (row_kind word) (row_kind next) same (differs_first word rest next more then.2 e))
-    (subst (λ (l : List ℕ). ShowTo 0 l (start_or rest end) kinds) (put_kept rows page (row_kind word) same) longer) then.4
-
--- both, where the first of the rows was read
-pub more_after : (rows more : List ℕ) (kind : Option Kind) → kind ≡ row_kind (get_or more 0 0) → ends_with rows kind ≡ false
-    → (page end : ℕ) (kinds : ℕ → Option Kind) → ShowTo 0 rows page kinds → ShowTo page more end kinds → ShowTo 0 (rows ++ more) end kinds
-more_after rows more kind is other page end kinds show then =
-    rows_added rows more page end kinds (λ next rest e. ap (ends_with rows) (ap (λ l. row_kind (get_or l 0 0)) (sym e) ∙ sym is) ∙ other) show then
-
--- where the rows end with the kind of the first one, that one is left out, and all kinds are shown
-pub more_same : (rows more : List ℕ) (kind : Option Kind) → kind ≡ row_kind (get_or more 0 0) → IsNamedOption kind → 0 < length more
-    → ends_with rows kind ≡ true → (page end : ℕ) (kinds : ℕ → Option Kind)
-    → ShowTo 0 rows page kinds → ShowTo page more end kinds → ShowTo 0 (rows ++ drop 1 more) end kinds
-more_same rows [] kind is named more same page end kinds show then = absurd (omega arith)
-more_same rows (word ∷ rest) kind is named more same page end kinds show then =
-    rows_joined rows word rest page end kinds (subst IsNamedOption is named) (ap (ends_with rows) (sym is) ∙ same) show then
-
--- no rows are put
-pub no_more : (rows more : List ℕ) (page end : ℕ) (kinds : ℕ → Option Kind) → length more ≡ 0 → ShowTo 0 rows page kinds
-    → ShowTo page more end kinds → ShowTo 0 rows end kinds
-no_more rows [] page end kinds none show then = subst (λ (x : ℕ). ShowTo 0 rows x kinds) then show
-no_more rows (word ∷ more) page end kinds none show then = absurd (omega arith)
-
-drop_shows : (i page : ℕ) (rows : List ℕ) (kinds : ℕ → Option Kind) → ShowFrom page rows kinds → ShowFrom (rows_start (drop i rows)) (drop i rows) kinds
+-- the rows from one on show the kinds from its start on
+pub drop_shows : (i page : ℕ) (rows : List ℕ) (kinds : ℕ → Option Kind) → ShowFrom page rows kinds → ShowFrom (rows_start (drop i rows)) (drop i rows) kinds
 drop_shows zero page [] kinds show = refl
 drop_shows zero page (word ∷ rest) kinds show = subst (λ (x : ℕ). ShowFrom x (word ∷ rest) kinds) (sym show.0) show
 drop_shows (suc i) page [] kinds show = refl
@@ -254,12 +220,3 @@ kept_shows old next stop from to kinds others show low high ordered same =
           let end : to ≤ rows_start (drop next old) = subst (λ (n : ℕ). to ≤ rows_start (drop n old)) same_stop high.ahead in
           subst (λ (n : ℕ). ShowTo (min (rows_start (drop next old)) to) (take n (drop next old)) to others) (sym none) (omega arith)
     ]
-
--- rows that show kinds up to LIMIT are some
-pub some_rows : (rows : List ℕ) (kinds : ℕ → Option Kind) → ShowTo 0 rows LIMIT kinds → 0 < length rows
-some_rows [] kinds show = let e : 0 ≡ LIMIT = show in absurd (omega arith)
-some_rows (word ∷ rest) kinds show = omega arith
-
--- rows up to page 0 are none
-pub none_shown : (rows : List ℕ) (kinds : ℕ → Option Kind) → rows ≡ [] → ShowTo 0 rows 0 kinds
-none_shown rows kinds e = subst (λ (l : List ℕ). ShowTo 0 l 0 kinds) (sym e) refl

@@ -9,8 +9,8 @@ use Rattle.page_types.specs.declared.TheConstants.{LIMIT}
 use Rattle.page_types.specs.declared.calls.Kind.{Kind}
 use Rattle.page_types.specs.Named.{IsNamedKind}
 use Rattle.space_model.specs.declared.areas.Area.{Area}
-use Rattle.space_model.specs.Areas.{IsAreaList, LeadsTo, HasNamedKinds, kind_at, gap_between, gaps_from, row_count}
-use Rattle.space_model.proofs.AreaKinds.{kind_at-here, kind_at-before, kind_at-after, kind_at-below, IsAbove, LeadsTo-above, only_one}
+use Rattle.space_model.specs.Areas.{IsAreaList, HasNamedKinds, kind_at, gap_between, gaps_from, row_count}
+use Rattle.space_model.proofs.AreaKinds.{kind_at-here, kind_at-before, kind_at-after, kind_at-below, IsAbove, LeadsTo, LeadsTo-above, only_one}
 use Rattle.space_model.proofs.Changing.{kind_at-limit}
 use Rattle.row_plans.specs.RowWords.{row_start, row_kind, row_word}
 use Rattle.row_plans.specs.RowLists.{rows_start, DiffersFrom, ShowFrom, with_row, areas_from, gap_rows, rows_from, IsBareGap}

@@ -253,6 +253,19 @@ starts_up rows kinds i (suc n) show =
     let b = next_start rows kinds (i + n) show in
     subst (λ (j : ℕ). rows_start (drop i rows) ≤ rows_start (drop j rows)) e (omega arith)
 
+-- a later row starts higher
+pub rows_apart : (rows : List ℕ) (kinds : ℕ → Option Kind) (a b : ℕ) → ShowFrom 0 rows kinds → a < b → b < length rows
+    → row_start (get_or rows a 0) < row_start (get_or rows b 0)
+rows_apart rows kinds a b show lt there =
+    let low = row_pages_at 0 rows kinds a show (omega arith) in
+    let high = row_pages_at 0 rows kinds b show there in
+    let some = low.some in
+    let begins = high.begins in
+    let at : a + 1 + (b - (a + 1)) ≡ b = omega arith in
+    let up : rows_start (drop (a + 1) rows) ≤ rows_start (drop b rows) =
+    subst (λ (n : ℕ). rows_start (drop (a + 1) rows) ≤ rows_start (drop n rows)) at (starts_up rows kinds (a + 1) (b - (a + 1)) show) in
+    omega arith
+
 -- no fewer rows start before a later page
 pub more_before : (rows : List ℕ) (kinds : ℕ → Option Kind) (from to next stop : ℕ) → ShowFrom 0 rows kinds → from ≤ to
     → StartBefore rows from next → StartBefore rows to stop → next ≤ stop

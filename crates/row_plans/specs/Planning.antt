@@ -1,13 +1,16 @@
--- How the rows that a call leaves are put together, from left to right: stretches of pages are appended in order, and
--- one whose kind is the last row's lengthens that row. Each step goes on from the page and the old row that the one
--- before has come to. Only private functions speak of this; what callers see is the kinds of pages and the reply.
-use Rattle.std.specs.Prelude.{ℕ, Bool, false, ◌≡◌, ◌<◌, ◌≤◌, ◌+◌, ◌-◌, min, if◌then◌else◌, Option, List, [], ◌∷◌, length, drop}
+-- How the rows that come where a call changes pages are put together, from left to right: stretches of pages are
+-- appended in order, and one whose kind is the last row's lengthens that row. Each step goes on from the page and the
+-- old row that the one before has come to. Only private functions speak of this; what callers see is the kinds of pages
+-- and the reply.
+use Rattle.std.specs.Prelude.{ℕ, Bool, false, ◌≡◌, ◌<◌, ◌≤◌, ◌+◌, ◌-◌, min, if◌then◌else◌, Option, Some, None, List, [], ◌∷◌, length, drop}
 use Rattle.page_types.specs.declared.calls.Kind.{Kind}
 use Rattle.page_types.specs.declared.calls.Reply.{Reply}
 use Rattle.space_model.specs.declared.areas.Area.{Area}
 use Rattle.space_model.specs.declared.judged.Change.{Change}
 use Rattle.space_model.specs.Areas.{kind_at, row_count}
-use Rattle.space_model.specs.Judges.{Makes}
+use Rattle.space_model.specs.declared.paint.Paint.{Paint}
+use Rattle.space_model.specs.Effect.{painted}
+use Rattle.space_model.specs.Judges.{Makes, IsNamedPaint}
 use Rattle.space_model.specs.Places.{FitsAt}
 use Rattle.space_model.specs.Starts.{same_option}
 use Rattle.row_plans.specs.Plans.{PlanShows}
@@ -37,6 +40,20 @@ abbrev pub put : List ℕ → ℕ → Option Kind → List ℕ
 put [] page kind = row_word page kind ∷ []
 put (word ∷ []) page kind = if same_option (row_kind word) kind then word ∷ [] else word ∷ row_word page kind ∷ []
 put (word ∷ next ∷ rest) page kind = word ∷ put (next ∷ rest) page kind
+
+-- the next of the rows behind isn't of the kind of the last row
+abbrev pub GoesOn : List ℕ → List ℕ → Type 0
+GoesOn rows behind = (next : ℕ) (rest : List ℕ) → behind ≡ next ∷ rest → ends_with rows (row_kind next) ≡ false
+
+-- what becomes of the kind of a page that is painted, or stays as it is
+abbrev pub repainted : Option Paint → Option Kind → Option Kind
+repainted None kind = kind
+repainted (Some paint) kind = painted paint kind
+
+-- and if it is painted, by no bit but the named ones
+abbrev pub IsNamedRepaint : Option Paint → Type 0
+IsNamedRepaint None = Unit {0}
+IsNamedRepaint (Some paint) = IsNamedPaint paint
 
 -- so many of the rows start before a page
 pub record StartBefore (rows : List ℕ) (page count : ℕ) : Type 0 where

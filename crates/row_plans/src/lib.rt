@@ -1,16 +1,19 @@
-//! The rows of an address space as words, and what a call leaves of them: a plan, from the rows as they were read,
-//! before any word is stored. There are no atomics here and no threads; `area_rows` reads the rows under a held range,
-//! and writes what was planned. A reader may rely on a plan being what the one-thread model of `space_model` answers on
-//! the areas of the rows, and on no memory being taken.
+//! The rows of an address space as words, and what a call makes of them: a plan, which is a splice of the rows, before
+//! any word is stored. Rows are loaded where the plan needs them. There are no atomics here and no threads; `area_rows`
+//! loads rows under a held range, and writes what was planned. A reader may rely on a plan being what the one-thread
+//! model of `space_model` answers on the areas of the rows, and on no memory being taken.
 #![tactic(auto)]
 
 mod places;
 mod plan;
 mod planning;
 mod row_words;
+mod rows;
 
 pub use plan::{Planned, plan_rows};
+pub use planning::Cut;
 pub use row_words::{read_row, write_row};
+pub use rows::Rows;
 
 #[cfg(test)]
 mod tests;

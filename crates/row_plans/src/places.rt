@@ -1,87 +1,141 @@
-//! The searches that judging a call takes, over row words: the kind of a page, the lowest page of a sort, and the
-//! highest place of free pages, which is this project's own choice beside mmap(2). The first two begin at a row that is
-//! found by halving, and the last goes down from the last row. A reader may rely on what is found being so of all kinds
-//! that the rows show.
-ghost use Rattle.std.specs.Prelude.{max, None, ◌+◌, ◌^◌, ℕ, IsTrue, IsFalse, ◌≡◌, ◌<◌, ◌≤◌, Option, MatchOption};
+//! The searches that judging a call takes, over rows that are loaded: the kind of a page, the lowest page of a sort,
+//! and the highest place of free pages, which is this project's own choice beside mmap(2). The first two begin at a row
+//! that is found by halving, and the last goes down from the last row of its window until it finds a gap. A reader may
+//! rely on what is found being so of all kinds that the rows show.
+ghost use Rattle.std.specs.Prelude.{max, drop, length, None, ◌+◌, ◌^◌, ℕ, IsTrue, IsFalse, ◌≡◌, ◌<◌, ◌≤◌, Option, MatchOption};
 ghost use Rattle.page_types.specs.declared.TheConstants.{LIMIT, LOWEST};
 ghost use Rattle.page_types.specs.declared.calls.Kind.{Kind};
+ghost use Rattle.page_types.specs.Named.{IsNamedOption};
 ghost use Rattle.space_model.specs.Areas.{kind_at};
 ghost use Rattle.space_model.specs.Sorts.{IsEnd};
 ghost use Rattle.space_model.specs.Places.{FitsAt, IsHighestFit};
-ghost use Rattle.row_plans.specs.RowLists.{ShowFrom, areas_from};
+ghost use Rattle.row_plans.specs.RowWords.{row_start, row_kind};
+ghost use Rattle.row_plans.specs.RowLists.{rows_start, ShowFrom, areas_from};
+ghost use Rattle.row_plans.specs.Planning.{StartBefore};
 
-use crate::planning::{row_at, start_of};
 use crate::row_words::read_row;
+use crate::rows::Rows;
 use page_types::{Kind, LIMIT, LOWEST};
 use space_model::{Pages, Sort, is_sort};
-use std::marker::Model;
 
-/// Row words that were read, as pages by their kinds: those of the areas that the rows stand for.
+/// Rows, as pages by their kinds: those of the areas that the rows stand for.
 #[derive(Drop)]
-pub(crate) struct ReadRows<'a> {
-    /// The words.
-    pub(crate) rows: &'a [u64],
+pub(crate) struct RowPages<'a, R: Rows> {
+    /// The rows.
+    pub(crate) rows: &'a R,
 }
 
-impl<'a> Model for ReadRows<'a> {
-    ghost use Rattle.std.specs.Prelude.{ℕ, List};
-    ghost use Rattle.row_plans.specs.Plans.{IsRowList};
+impl<'a, R: Rows> Pages for RowPages<'a, R> {
+    type Hand = R::Hand;
 
-    ghost Value = { List ℕ };
+    ghost may_look = { λ pages hand. R.may_load pages.rows.now hand };
 
-    ghost view = { λ s. s.rows.now };
+    ghost kinds = { λ pages hand. kind_at (areas_from (R.words pages.rows.now hand)) };
 
-    ghost invariant = { λ s. IsRowList s.rows.now };
+    ghost looked = { λ pages one two. R.loaded pages.rows.now one two };
+
+    ghost no_look = { λ pages hand. R.no_load pages.rows.now hand };
+
+    ghost looks_on = { λ pages one two three. R.loads_on pages.rows.now one two three };
+
+    ghost same_kinds = { λ pages one two may loaded.
+        ((R.same_words pages.rows.now one two may loaded).0, λ i. kind_at (areas_from ((R.same_words pages.rows.now one two may loaded).1 i))) };
+
+    fn kind_of(&self, hand: &mut R::Hand, page: u64) -> Option<Kind> {
+        let rows = self.rows;
+        kind_of(rows, hand, page)
+    }
+
+    fn end_of(&self, hand: &mut R::Hand, sort: Sort, lo: u64, hi: u64) -> u64 {
+        let rows = self.rows;
+        end_of(rows, hand, sort, lo, hi)
+    }
+
+    fn highest_fit(&self, hand: &mut R::Hand, window: u64, pages: u64) -> Option<u64> {
+        let rows = self.rows;
+        highest_fit(rows, hand, window, pages)
+    }
 }
 
-impl<'a> Pages for ReadRows<'a> {
-    ghost kinds = { λ rows. kind_at (areas_from rows) };
-
-    fn kind_of(&self, page: u64) -> Option<Kind> {
-        let rows = self.rows;
-        kind_of(rows, page)
+/// Where row `i` starts, or `LIMIT` where there are not so many.
+pub(crate) fn start_of<R: Rows>(rows: &R, hand: &mut R::Hand, i: u32) -> u64
+    requires may { R.may_load rows.now hand.old }
+    ensures start { result ≡ rows_start (drop i (R.words rows.now hand.old)) }
+    ensures loaded { R.loaded rows.now hand.old hand.new }
+{
+    if i < rows.count() {
+        let (start, _) = read_row(rows.load(hand, i));
+        start
+    } else {
+        LIMIT
     }
+}
 
-    fn end_of(&self, sort: Sort, lo: u64, hi: u64) -> u64 {
-        let rows = self.rows;
-        end_of(rows, sort, lo, hi)
+/// The number of rows that start before a page, found by halving.
+pub(crate) fn rows_before<R: Rows>(rows: &R, hand: &mut R::Hand, page: u64) -> u32
+    requires may { R.may_load rows.now hand.old }
+    requires page { page ≤ LIMIT }
+    ensures before { StartBefore (R.words rows.now hand.old) page result }
+    ensures loaded { R.loaded rows.now hand.old hand.new }
+{
+    let mut low = 0;
+    let mut high = rows.count();
+    'halve: while low < high {
+        let middle = low + (high - low) / 2;
+        let (start, _) = read_row(rows.load(hand, middle));
+        if start < page {
+            low = middle + 1;
+        } else {
+            high = middle;
+        }
     }
+    low
+}
 
-    fn highest_fit(&self, window: u64, pages: u64) -> Option<u64> {
-        let rows = self.rows;
-        highest_fit(rows, window, pages)
-    }
+/// The number of the row that has a page, counted from 0.
+fn row_at<R: Rows>(rows: &R, hand: &mut R::Hand, page: u64) -> u32
+    requires may { R.may_load rows.now hand.old }
+    requires page { page < LIMIT }
+    ensures there { result < length (R.words rows.now hand.old) }
+    ensures from { rows_start (drop result (R.words rows.now hand.old)) ≤ page }
+    ensures until { page < rows_start (drop (result + 1) (R.words rows.now hand.old)) }
+    ensures loaded { R.loaded rows.now hand.old hand.new }
+{
+    rows_before(rows, hand, page + 1) - 1
 }
 
 /// The kind of a page, or None where it isn't mapped.
-fn kind_of(rows: &[u64], page: u64) -> Option<Kind>
-    requires shows { (kinds : ℕ → Option Kind) × ShowFrom 0 rows.now kinds }
+fn kind_of<R: Rows>(rows: &R, hand: &mut R::Hand, page: u64) -> Option<Kind>
+    requires may { R.may_load rows.now hand.old }
     requires page { page < LIMIT }
-    ensures { (kinds : ℕ → Option Kind) → ShowFrom 0 rows.now kinds → result ≡ kinds page }
+    ensures kind { result ≡ kind_at (areas_from (R.words rows.now hand.old)) page }
+    ensures loaded { R.loaded rows.now hand.old hand.new }
 {
-    let (_, kind) = read_row(rows[row_at(rows, page)]);
+    let at = row_at(rows, hand, page);
+    let (_, kind) = read_row(rows.load(hand, at));
     kind
 }
 
 /// The lowest page of a sort of those from `lo` up to `hi`, or `hi` where there is none. It goes from the row that has
 /// page `lo` to the one that has the last page.
-fn end_of(rows: &[u64], sort: Sort, lo: u64, hi: u64) -> u64
-    requires shows { (kinds : ℕ → Option Kind) × ShowFrom 0 rows.now kinds }
+fn end_of<R: Rows>(rows: &R, hand: &mut R::Hand, sort: Sort, lo: u64, hi: u64) -> u64
+    requires may { R.may_load rows.now hand.old }
     requires ordered { lo ≤ hi }
     requires limit { hi ≤ LIMIT }
-    ensures { (kinds : ℕ → Option Kind) → ShowFrom 0 rows.now kinds → IsEnd kinds sort lo hi result }
+    ensures end { IsEnd (kind_at (areas_from (R.words rows.now hand.old))) sort lo hi result }
+    ensures loaded { R.loaded rows.now hand.old hand.new }
 {
     if lo == hi {
         return hi;
     }
-    let mut i = row_at(rows, lo);
-    'rows: while i < rows.len() {
-        let (start, kind) = read_row(rows[i]);
+    let mut i = row_at(rows, hand, lo);
+    'rows: while i < rows.count() {
+        let (start, kind) = read_row(rows.load(hand, i));
         if is_sort(sort, kind) {
             return start.max(lo).min(hi);
         }
         i += 1;
-        if start_of(rows, i) >= hi {
+        if start_of(rows, hand, i) >= hi {
             return hi;
         }
     }
@@ -102,19 +156,21 @@ fn fits_in(start: u64, end: u64, kind: Option<Kind>, pages: u64) -> bool
 }
 
 /// The highest start of so many free pages, at or above `LOWEST` and with the end at or below the page where the window
-/// ends. The rows are gone through from the last one on, so the first that the pages fit in has it.
-fn highest_fit(rows: &[u64], window: u64, pages: u64) -> Option<u64>
-    requires shows { (kinds : ℕ → Option Kind) × ShowFrom 0 rows.now kinds }
+/// ends. The rows are gone through from the last one on that starts in the window, so the first that the pages fit in
+/// has it.
+fn highest_fit<R: Rows>(rows: &R, hand: &mut R::Hand, window: u64, pages: u64) -> Option<u64>
+    requires may { R.may_load rows.now hand.old }
     requires window { window ≤ LIMIT }
     requires some { 0 < pages }
     requires few { pages < 2 ^ 62 }
-    ensures { (kinds : ℕ → Option Kind) → ShowFrom 0 rows.now kinds
-        → MatchOption result ((start : ℕ) → ¬ FitsAt kinds window pages start) (IsHighestFit kinds window pages) }
+    ensures fit { MatchOption result ((start : ℕ) → ¬ FitsAt (kind_at (areas_from (R.words rows.now hand.old))) window pages start)
+        (IsHighestFit (kind_at (areas_from (R.words rows.now hand.old))) window pages) }
+    ensures loaded { R.loaded rows.now hand.old hand.new }
 {
-    let mut i = rows.len();
-    let mut end = LIMIT;
+    let mut i = rows_before(rows, hand, window);
+    let mut end = start_of(rows, hand, i);
     'rows: while i > 0 {
-        let (start, kind) = read_row(rows[i - 1]);
+        let (start, kind) = read_row(rows.load(hand, i - 1));
         let top = end.min(window);
         if fits_in(start, top, kind, pages) {
             return Some(top - pages);

@@ -1,89 +1,99 @@
-//! The plan of a call that changes the address space: its reply and the rows that it leaves, from the rows as they were
-//! read, before any word is stored. It is what `PlainSpace::step` of `space_model` answers on the areas of these rows,
-//! after mmap(2) and the calls like it. A reader may rely on that, and on no memory being taken.
+//! The plan of a call that changes the address space: its reply and the splice that it makes of the rows, from rows
+//! that are loaded where it needs them, before any word is stored. It is what `PlainSpace::step` of `space_model`
+//! answers on the areas of these rows, after mmap(2) and the calls like it. A reader may rely on that, and on no memory
+//! being taken.
 ghost use Rattle.std.specs.Prelude.{◌≡◌, ◌≤◌, ◌<◌, ◌+◌, ◌*◌, None, [], length, vec_capacity};
 ghost use Rattle.page_types.specs.declared.TheConstants.{ROWS, SPARE};
 ghost use Rattle.page_types.specs.Named.{IsNamedCall};
 ghost use Rattle.space_model.specs.Effect.{AreRising};
 ghost use Rattle.space_model.specs.Judges.{IsNamedChange, patches_of};
 ghost use Rattle.row_plans.specs.RowLists.{areas_from};
-ghost use Rattle.row_plans.specs.Plans.{IsRowList, planned_rows, BeginsAs, IsPlan};
+ghost use Rattle.row_plans.specs.Plans.{spliced, IsPlan};
 ghost use Rattle.row_plans.specs.Planning.{IsMade};
 
-use crate::places::ReadRows;
-use crate::planning::change_rows;
+use crate::places::RowPages;
+use crate::planning::{Cut, plan_change};
+use crate::rows::Rows;
 use page_types::{Call, ROWS, Reply, plain};
 use space_model::{Change, Judged, full_reply, judge};
 
-/// What a call answers, and how many rows the address space has after it.
+/// What a call answers, how many rows the address space has after it, and which rows go.
 #[derive(Clone, Copy, Debug, PartialEq, Eq)]
 pub struct Planned {
     /// The reply.
     pub reply: Reply,
     /// The number of rows that the call leaves: areas, and gaps between 0 and `LIMIT`.
     pub rows: u32,
-    /// How many rows at the beginning stay as they are: those that start before the pages that change, or all of them
-    /// where nothing changes.
-    pub first: u32,
+    /// The rows that go. None does where nothing changes.
+    pub cut: Cut,
 }
 
-/// The plan of a call that changes nothing: no row is put together for it.
-fn unchanged(old: &[u64], reply: Reply, new: &mut Vec<u64>) -> Planned
-    requires few { length old.now ≤ ROWS }
+/// The plan of a call that changes nothing: no row goes, and none comes.
+fn unchanged(count: u32, reply: Reply, new: &mut Vec<u64>) -> Planned
     ensures reply { result.reply ≡ reply }
-    ensures rows { result.rows ≡ length old.now }
-    ensures first { result.first ≡ length old.now }
+    ensures rows { result.rows ≡ count }
+    ensures first { result.cut.first ≡ 0 }
+    ensures end { result.cut.end ≡ 0 }
     ensures none { new.new.items ≡ [] }
     ensures room { vec_capacity new.old ≤ vec_capacity new.new }
 {
     new.clear();
-    let rows = old.len() as u32;
     Planned {
         reply,
-        rows,
-        first: rows,
+        rows: count,
+        cut: Cut { first: 0, end: 0 },
     }
 }
 
 /// The plan of a change, unless the result would have more than `ROWS` rows.
-fn changed(old: &[u64], change: Change, new: &mut Vec<u64>) -> Planned
-    requires old { IsRowList old.now }
+fn changed<R: Rows>(old: &R, hand: &mut R::Hand, change: Change, new: &mut Vec<u64>) -> Planned
+    requires may { R.may_load old.now hand.old }
     requires named { IsNamedChange change }
     requires rising { AreRising 0 (patches_of change) }
-    requires room { length old.now + 2 * length (patches_of change) ≤ vec_capacity new.old }
-    ensures made { IsMade change result.reply result.rows (planned_rows old.now new.new.items) (areas_from old.now) }
-    ensures first { BeginsAs old.now (planned_rows old.now new.new.items) result.first }
+    requires room { length (R.words old.now hand.old) + 2 * length (patches_of change) ≤ vec_capacity new.old }
+    ensures made { IsMade change result.reply result.rows (spliced (R.words old.now hand.old) result.cut new.new.items)
+        (areas_from (R.words old.now hand.old)) }
+    ensures ordered { result.cut.first ≤ result.cut.end }
+    ensures there { result.cut.end ≤ length (R.words old.now hand.old) }
     ensures room { vec_capacity new.old ≤ vec_capacity new.new }
+    ensures loaded { R.loaded old.now hand.old hand.new }
 {
-    let first = change_rows(old, change, new) as u32;
-    let rows = new.len() as u32;
+    let count = old.count();
+    let cut = plan_change(old, hand, change, new);
+    let rows = count - (cut.end - cut.first) + new.len() as u32;
     if rows as usize > ROWS {
-        return unchanged(old, full_reply(change.full, rows), new);
+        return unchanged(count, full_reply(change.full, rows), new);
     }
     Planned {
         reply: change.reply,
         rows,
-        first,
+        cut,
     }
 }
 
-/// The plan of a call on rows as they were read. `new` gets the rows that the call leaves, or none where it changes
-/// nothing, as a refused one: then they are those of `old`, and nothing is copied. It takes
-/// no memory: `new` has room for `SPARE` rows more than there are.
-pub fn plan_rows(old: &[u64], call: &Call, new: &mut Vec<u64>) -> Planned
-    requires old { IsRowList old.now }
+/// The plan of a call on rows that are loaded: its reply, and the splice that it makes of the rows. Those that come go
+/// into `new`; it gives which go. Where the call changes nothing, as a refused one, none goes and none comes. A call
+/// whose pages are fixed loads the rows of these pages, one on each side, and as many more as halving takes; one that
+/// looks for a place loads the rows from the last one of its window down to the gap that it finds. It takes no memory:
+/// `new` has room for `SPARE` rows more than there are.
+pub fn plan_rows<R: Rows>(old: &R, hand: &mut R::Hand, call: &Call, new: &mut Vec<u64>) -> Planned
+    requires may { R.may_load old.now hand.old }
     requires named { IsNamedCall call.now }
-    requires room { length old.now + SPARE ≤ vec_capacity new.old }
-    ensures plan { IsPlan call.now result.reply result.rows (planned_rows old.now new.new.items) (areas_from old.now) }
-    ensures first { BeginsAs old.now (planned_rows old.now new.new.items) result.first }
+    requires room { length (R.words old.now hand.old) + SPARE ≤ vec_capacity new.old }
+    ensures plan { IsPlan call.now result.reply result.rows (spliced (R.words old.now hand.old) result.cut new.new.items)
+        (areas_from (R.words old.now hand.old)) }
+    ensures ordered { result.cut.first ≤ result.cut.end }
+    ensures there { result.cut.end ≤ length (R.words old.now hand.old) }
     ensures room { vec_capacity new.old ≤ vec_capacity new.new }
+    ensures loaded { R.loaded old.now hand.old hand.new }
 {
     if let Some(reply) = plain(call) {
-        return unchanged(old, reply, new);
+        return unchanged(old.count(), reply, new);
     }
-    match judge(&ReadRows { rows: old }, call) {
-        Judged::Refused(why) => unchanged(old, Reply::Refused(why), new),
-        Judged::Keeps(reply) => unchanged(old, reply, new),
-        Judged::Changes(change) => changed(old, change, new),
+    let pages = RowPages { rows: old };
+    match judge(&pages, hand, call) {
+        Judged::Refused(why) => unchanged(old.count(), Reply::Refused(why), new),
+        Judged::Keeps(reply) => unchanged(old.count(), reply, new),
+        Judged::Changes(change) => changed(old, hand, change, new),
     }
 }

@@ -1,21 +1,41 @@
-//! The rows that a change leaves, from the rows before it, put together once from left to right. The form of a row word
-//! says nothing of its place, so rows that stay keep their words and are copied; only those of a patch are put together
-//! anew, at most two more than there were for each, in the caller's own room. A reader may rely on the rows showing the
-//! kinds after the patches, whatever kinds the rows before showed.
-ghost use Rattle.std.specs.Prelude.{ℕ, All, take, drop, min, ◌≡◌, ◌<◌, ◌≤◌, ◌+◌, ◌*◌, ◌-◌, ◌++◌, [], Option, length, nat_lt, vec_capacity, vec_len};
+//! The rows that come where pages change, in the place of those that go: a splice of a list of rows. The form of a row
+//! word says nothing of its place, so rows behind the splice keep their words, and only those of the pages that change
+//! are put together anew, from left to right, at most two more than go for each stretch of pages, in the caller's own
+//! room. A reader may rely on the rows after the splice showing the kinds after the patches, whatever kinds the rows
+//! before showed.
+ghost use Rattle.std.specs.Prelude.{ℕ, All, take, drop, min, ◌≡◌, ◌<◌, ◌≤◌, ◌+◌, ◌*◌, ◌-◌, [], Option, length, vec_capacity};
 ghost use Rattle.page_types.specs.declared.calls.Kind.{Kind};
 ghost use Rattle.page_types.specs.declared.TheConstants.{LIMIT};
 ghost use Rattle.page_types.specs.Named.{IsNamedOption};
 ghost use Rattle.space_model.specs.Starts.{same_option};
 ghost use Rattle.space_model.specs.Effect.{painted, patched, AreRising};
 ghost use Rattle.space_model.specs.Judges.{IsNamedPaint, AreNamedPaints, patches_of};
-ghost use Rattle.row_plans.specs.RowWords.{row_start, row_kind};
 ghost use Rattle.row_plans.specs.RowLists.{rows_start, ShowFrom, IsBareGap};
-ghost use Rattle.row_plans.specs.Planning.{ends_with, put, ShowTo, StartBefore, part_left};
+ghost use Rattle.row_plans.specs.Plans.{spliced};
+ghost use Rattle.row_plans.specs.Planning.{ends_with, put, ShowTo, StartBefore, part_left, repainted, IsNamedRepaint, GoesOn};
 
+use crate::places::{rows_before, start_of};
 use crate::row_words::{read_row, write_row};
+use crate::rows::Rows;
 use page_types::{Kind, LIMIT};
 use space_model::{Change, Paint, Patch};
+
+/// The rows that go where a list of rows is changed: those from number `first` up to `end`, counted from 0.
+#[derive(Clone, Copy, Debug, PartialEq, Eq)]
+pub struct Cut {
+    /// The number of the first row that goes.
+    pub first: u32,
+    /// The number behind that of the last one.
+    pub end: u32,
+}
+
+/// Pages, by their numbers, and what becomes of them: they are painted, or stay as they are.
+#[derive(Clone, Copy)]
+struct Stretch {
+    from: u64,
+    to: u64,
+    paint: Option<Paint>,
+}
 
 /// Whether two kinds are the same, None being that of a gap.
 fn same_option(one: Option<Kind>, other: Option<Kind>) -> bool
@@ -46,8 +66,8 @@ fn put_row(rows: &mut Vec<u64>, page: u64, kind: Option<Kind>)
     ensures room { vec_capacity rows.old ≤ vec_capacity rows.new }
     ensures few { length rows.new.items ≤ length rows.old.items + 1 }
     ensures gaps { All IsBareGap rows.new.items }
-    ensures shows { (end : ℕ) (kinds : ℕ → Option Kind) → page < end → ((p : ℕ) → page ≤ p → p < end → kinds p ≡ kind)
-        → ShowTo 0 rows.old.items page kinds → ShowTo 0 rows.new.items end kinds }
+    ensures shows { (from end : ℕ) (kinds : ℕ → Option Kind) → page < end → ((p : ℕ) → page ≤ p → p < end → kinds p ≡ kind)
+        → ShowTo from rows.old.items page kinds → ShowTo from rows.new.items end kinds }
 {
     if !ends_with(rows.as_slice(), kind) {
         rows.push_reserved(write_row(page, kind));
@@ -63,8 +83,8 @@ fn put_part(rows: &mut Vec<u64>, from: u64, to: u64, kind: Option<Kind>)
     ensures room { vec_capacity rows.old ≤ vec_capacity rows.new }
     ensures few { length rows.new.items ≤ length rows.old.items + min 1 (to - from) }
     ensures gaps { All IsBareGap rows.new.items }
-    ensures shows { (kinds : ℕ → Option Kind) → from ≤ to → ((p : ℕ) → from ≤ p → p < to → kinds p ≡ kind)
-        → ShowTo 0 rows.old.items from kinds → ShowTo 0 rows.new.items to kinds }
+    ensures shows { (first : ℕ) (kinds : ℕ → Option Kind) → from ≤ to → ((p : ℕ) → from ≤ p → p < to → kinds p ≡ kind)
+        → ShowTo first rows.old.items from kinds → ShowTo first rows.new.items to kinds }
 {
     if from < to {
         put_row(rows, from, kind);
@@ -94,187 +114,179 @@ fn painted(paint: Paint, kind: Option<Kind>) -> Option<Kind>
     }
 }
 
-/// Where row `i` starts, or `LIMIT` where there are not so many.
-pub(crate) fn start_of(rows: &[u64], i: usize) -> u64
-    ensures { result ≡ rows_start (drop i rows.now) }
+/// What becomes of the kind of a page that is painted, or stays as it is.
+fn repainted(paint: Option<Paint>, kind: Option<Kind>) -> Option<Kind>
+    requires paint { IsNamedRepaint paint }
+    requires kind { IsNamedOption kind }
+    ensures kind { result ≡ repainted paint kind }
+    ensures named { IsNamedOption result }
 {
-    if i < rows.len() {
-        let (start, _) = read_row(rows[i]);
-        start
-    } else {
-        LIMIT
+    match paint {
+        Some(paint) => painted(paint, kind),
+        None => kind,
     }
 }
 
-/// The number of rows that start before a page, found by halving.
-fn rows_before(rows: &[u64], page: u64) -> usize
-    requires shows { (kinds : ℕ → Option Kind) × ShowFrom 0 rows.now kinds }
-    requires page { page ≤ LIMIT }
-    ensures { StartBefore rows.now page result }
-{
-    rows.partition_point(
-        |word: &u64| -> bool
-            ensures { result ≡ nat_lt (row_start word.now) page }
-        {
-            let (start, _) = read_row(*word);
-            start < page
-        },
-    )
-}
-
-/// The number of the row that has a page, counted from 0.
-pub(crate) fn row_at(rows: &[u64], page: u64) -> usize
-    requires shows { (kinds : ℕ → Option Kind) × ShowFrom 0 rows.now kinds }
-    requires page { page < LIMIT }
-    ensures there { result < length rows.now }
-    ensures from { rows_start (drop result rows.now) ≤ page }
-    ensures until { page < rows_start (drop (result + 1) rows.now) }
-{
-    rows_before(rows, page + 1) - 1
-}
-
 /// The kind of the pages from one on, before which `next` rows start, up to where row `next` starts.
-fn kind_from(rows: &[u64], next: usize) -> Option<Kind>
-    requires there { next ≤ length rows.now }
+fn kind_from<R: Rows>(old: &R, hand: &mut R::Hand, next: u32) -> Option<Kind>
+    requires may { R.may_load old.now hand.old }
+    requires there { next ≤ length (R.words old.now hand.old) }
     ensures named { IsNamedOption result }
-    ensures kind { (page : ℕ) (kinds : ℕ → Option Kind) → StartBefore rows.now page next → ShowFrom 0 rows.now kinds
-        → (p : ℕ) → page ≤ p → p < rows_start (drop next rows.now) → kinds p ≡ result }
+    ensures kind { (page : ℕ) (kinds : ℕ → Option Kind) → StartBefore (R.words old.now hand.old) page next
+        → ShowFrom 0 (R.words old.now hand.old) kinds
+        → (p : ℕ) → page ≤ p → p < rows_start (drop next (R.words old.now hand.old)) → kinds p ≡ result }
+    ensures loaded { R.loaded old.now hand.old hand.new }
 {
     if next == 0 {
         return None;
     }
-    let (_, kind) = read_row(rows[next - 1]);
+    let (_, kind) = read_row(old.load(hand, next - 1));
     kind
 }
 
-/// The rows from one number up to another.
-fn cut(rows: &[u64], next: usize, stop: usize) -> &[u64]
-    requires ordered { next ≤ stop }
-    requires there { stop ≤ length rows.now }
-    ensures { result.now ≡ take (stop - next) (drop next rows.now) }
-{
-    &rows[next..stop]
-}
-
-/// Appends rows without a look at them.
-fn copy_rows(rows: &mut Vec<u64>, more: &[u64])
-    requires room { length rows.old.items + length more.now ≤ vec_capacity rows.old }
-    ensures items { rows.new.items ≡ rows.old.items ++ more.now }
+/// Puts the row before so many as it stands, where there is one: the rows that come go on from it. It gives the number
+/// of that row.
+fn put_before<R: Rows>(rows: &mut Vec<u64>, old: &R, hand: &mut R::Hand, start: u32) -> u32
+    requires may { R.may_load old.now hand.old }
+    requires none { rows.old.items ≡ [] }
+    requires there { start ≤ length (R.words old.now hand.old) }
+    requires room { 0 < vec_capacity rows.old }
+    ensures before { result ≡ start - 1 }
+    ensures items { rows.new.items ≡ take (start - result) (drop result (R.words old.now hand.old)) }
     ensures room { vec_capacity rows.old ≤ vec_capacity rows.new }
+    ensures loaded { R.loaded old.now hand.old hand.new }
 {
-    let _ = rows.extend_from_slice(more);
-}
-
-/// Appends rows as they are; the first one lengthens the last row where both are of one kind.
-fn put_rows(rows: &mut Vec<u64>, more: &[u64])
-    requires room { length rows.old.items + length more.now ≤ vec_capacity rows.old }
-    requires gaps { All IsBareGap rows.old.items }
-    requires bare { All IsBareGap more.now }
-    ensures few { length rows.new.items ≤ length rows.old.items + length more.now }
-    ensures room { vec_capacity rows.old ≤ vec_capacity rows.new }
-    ensures gaps { All IsBareGap rows.new.items }
-    ensures shows { (page end : ℕ) (kinds : ℕ → Option Kind) → ShowTo 0 rows.old.items page kinds → ShowTo page more.now end kinds
-        → ShowTo 0 rows.new.items end kinds }
-{
-    if more.is_empty() {
-        return;
+    if start == 0 {
+        return 0;
     }
-    let (_, kind) = read_row(more[0]);
-    if ends_with(rows.as_slice(), kind) {
-        copy_rows(rows, &more[1..]);
-    } else {
-        copy_rows(rows, more);
-    }
+    rows.push_reserved(old.load(hand, start - 1));
+    start - 1
 }
 
-/// Appends the pages from one up to another as they are. `next` old rows start before the first of them; it gives how
-/// many start before the page behind the last.
-fn keep_to(rows: &mut Vec<u64>, old: &[u64], from: u64, next: usize, to: u64) -> usize
-    requires shows { (kinds : ℕ → Option Kind) × ShowFrom 0 old.now kinds }
-    requires bare { All IsBareGap old.now }
-    requires come { StartBefore old.now from next }
-    requires ordered { from ≤ to }
-    requires limit { to ≤ LIMIT }
-    requires room { length rows.old.items + length old.now + 1 ≤ next + vec_capacity rows.old }
+/// Appends the pages of a stretch with the kinds that they get. `first` old rows start before the first of them; it
+/// gives how many start before the page behind the last.
+fn put_to<R: Rows>(
+    rows: &mut Vec<u64>,
+    old: &R,
+    hand: &mut R::Hand,
+    pages: Stretch,
+    first: u32,
+) -> u32
+    requires may { R.may_load old.now hand.old }
+    requires paint { IsNamedRepaint pages.paint }
+    requires come { StartBefore (R.words old.now hand.old) pages.from first }
+    requires ordered { pages.from ≤ pages.to }
+    requires limit { pages.to ≤ LIMIT }
+    requires room { length rows.old.items + length (R.words old.now hand.old) + 1 ≤ first + vec_capacity rows.old }
     requires gaps { All IsBareGap rows.old.items }
-    ensures come { StartBefore old.now to result }
-    ensures few { length rows.new.items + next ≤ length rows.old.items + result + part_left old.now from next }
+    ensures come { StartBefore (R.words old.now hand.old) pages.to result }
+    ensures few { length rows.new.items + first ≤ length rows.old.items + result + part_left (R.words old.now hand.old) pages.from first }
     ensures room { vec_capacity rows.old ≤ vec_capacity rows.new }
     ensures gaps { All IsBareGap rows.new.items }
-    ensures shows { (kinds others : ℕ → Option Kind) → ShowFrom 0 old.now kinds
-        → ((p : ℕ) → from ≤ p → p < to → others p ≡ kinds p)
-        → ShowTo 0 rows.old.items from others → ShowTo 0 rows.new.items to others }
+    ensures shows { (from : ℕ) (kinds others : ℕ → Option Kind) → ShowFrom 0 (R.words old.now hand.old) kinds
+        → ((p : ℕ) → pages.from ≤ p → p < pages.to → others p ≡ repainted pages.paint (kinds p))
+        → ShowTo from rows.old.items pages.from others → ShowTo from rows.new.items pages.to others }
+    ensures loaded { R.loaded old.now hand.old hand.new }
 {
-    let end = start_of(old, next).min(to);
-    put_part(rows, from, end, kind_from(old, next));
-    let stop = rows_before(old, to);
-    put_rows(rows, cut(old, next, stop));
-    stop
-}
-
-/// Appends the pages of a patch with their new kinds. `first` old rows start before its first page; it gives how many
-/// start before the page behind its last.
-fn paint_to(rows: &mut Vec<u64>, old: &[u64], first: usize, patch: Patch) -> usize
-    requires paint { IsNamedPaint patch.paint }
-    requires shows { (kinds : ℕ → Option Kind) × ShowFrom 0 old.now kinds }
-    requires come { StartBefore old.now patch.lo first }
-    requires ordered { patch.lo ≤ patch.hi }
-    requires limit { patch.hi ≤ LIMIT }
-    requires room { length rows.old.items + length old.now + 1 ≤ first + vec_capacity rows.old }
-    requires gaps { All IsBareGap rows.old.items }
-    ensures come { StartBefore old.now patch.hi result }
-    ensures few { length rows.new.items + first ≤ length rows.old.items + result + part_left old.now patch.lo first }
-    ensures room { vec_capacity rows.old ≤ vec_capacity rows.new }
-    ensures gaps { All IsBareGap rows.new.items }
-    ensures shows { (kinds others : ℕ → Option Kind) → ShowFrom 0 old.now kinds
-        → ((p : ℕ) → patch.lo ≤ p → p < patch.hi → others p ≡ painted patch.paint (kinds p))
-        → ShowTo 0 rows.old.items patch.lo others → ShowTo 0 rows.new.items patch.hi others }
-{
-    let end = start_of(old, first).min(patch.hi);
-    put_part(
-        rows,
-        patch.lo,
-        end,
-        painted(patch.paint, kind_from(old, first)),
-    );
+    let end = start_of(old, hand, first).min(pages.to);
+    let kind = kind_from(old, hand, first);
+    put_part(rows, pages.from, end, repainted(pages.paint, kind));
     let mut next = first;
     let mut at = end;
-    'rows: while at < patch.hi {
-        let (_, kind) = read_row(old[next]);
-        put_row(rows, at, painted(patch.paint, kind));
+    'rows: while at < pages.to {
+        let (_, kind) = read_row(old.load(hand, next));
+        put_row(rows, at, repainted(pages.paint, kind));
         next += 1;
-        at = start_of(old, next).min(patch.hi);
+        at = start_of(old, hand, next).min(pages.to);
     }
     next
 }
 
-/// The rows after a change. It gives how many old rows start before the first page that changes; they stay.
-pub(crate) fn change_rows(old: &[u64], change: Change, rows: &mut Vec<u64>) -> usize
-    requires paints { AreNamedPaints (patches_of change) }
-    requires rising { AreRising 0 (patches_of change) }
-    requires shows { (kinds : ℕ → Option Kind) × ShowFrom 0 old.now kinds }
-    requires gaps { All IsBareGap old.now }
-    requires room { length old.now + 2 * length (patches_of change) ≤ vec_capacity rows.old }
-    ensures few { length rows.new.items ≤ length old.now + 2 * length (patches_of change) }
+/// Ends the rows that come, behind a page before which `next` old rows start. What is left of the last of these is put
+/// as it was, and the row behind goes where it is of the kind of the last row that comes. It gives the number of the
+/// first old row that stays.
+fn join_on<R: Rows>(rows: &mut Vec<u64>, old: &R, hand: &mut R::Hand, to: u64, next: u32) -> u32
+    requires may { R.may_load old.now hand.old }
+    requires come { StartBefore (R.words old.now hand.old) to next }
+    requires limit { to ≤ LIMIT }
+    requires room { length rows.old.items < vec_capacity rows.old }
+    requires gaps { All IsBareGap rows.old.items }
+    ensures next { next ≤ result }
+    ensures there { result ≤ length (R.words old.now hand.old) }
+    ensures few { length rows.new.items ≤ length rows.old.items + part_left (R.words old.now hand.old) to next }
     ensures room { vec_capacity rows.old ≤ vec_capacity rows.new }
     ensures gaps { All IsBareGap rows.new.items }
-    ensures first { StartBefore old.now change.first.lo result }
-    ensures shows { (kinds : ℕ → Option Kind) → ShowFrom 0 old.now kinds
-        → ShowTo 0 rows.new.items LIMIT (patched (patches_of change) kinds) }
+    ensures ahead { to ≤ rows_start (drop result (R.words old.now hand.old)) }
+    ensures shows { (from : ℕ) (kinds others : ℕ → Option Kind) → ShowFrom 0 (R.words old.now hand.old) kinds
+        → ((p : ℕ) → to ≤ p → p < LIMIT → others p ≡ kinds p) → ShowTo from rows.old.items to others
+        → ShowTo from rows.new.items (rows_start (drop result (R.words old.now hand.old))) others }
+    ensures differs { GoesOn rows.new.items (drop result (R.words old.now hand.old)) }
+    ensures loaded { R.loaded old.now hand.old hand.new }
+{
+    let end = start_of(old, hand, next);
+    let kind = kind_from(old, hand, next);
+    put_part(rows, to, end, kind);
+    if next < old.count() {
+        let (_, kind) = read_row(old.load(hand, next));
+        if ends_with(rows.as_slice(), kind) {
+            return next + 1;
+        }
+    }
+    next
+}
+
+/// The splice that a change makes of the rows: which go, and which come in their place.
+pub(crate) fn plan_change<R: Rows>(
+    old: &R,
+    hand: &mut R::Hand,
+    change: Change,
+    rows: &mut Vec<u64>,
+) -> Cut
+    requires may { R.may_load old.now hand.old }
+    requires paints { AreNamedPaints (patches_of change) }
+    requires rising { AreRising 0 (patches_of change) }
+    requires room { length (R.words old.now hand.old) + 2 * length (patches_of change) ≤ vec_capacity rows.old }
+    ensures ordered { result.first ≤ result.end }
+    ensures there { result.end ≤ length (R.words old.now hand.old) }
+    ensures few { length rows.new.items ≤ result.end - result.first + 2 * length (patches_of change) }
+    ensures room { vec_capacity rows.old ≤ vec_capacity rows.new }
+    ensures gaps { All IsBareGap (spliced (R.words old.now hand.old) result rows.new.items) }
+    ensures shows { (kinds : ℕ → Option Kind) → ShowFrom 0 (R.words old.now hand.old) kinds
+        → ShowFrom 0 (spliced (R.words old.now hand.old) result rows.new.items) (patched (patches_of change) kinds) }
+    ensures loaded { R.loaded old.now hand.old hand.new }
 {
     rows.clear();
     let first = change.first;
-    let start = keep_to(rows, old, 0, 0, first.lo);
-    let next = paint_to(rows, old, start, first);
+    let start = rows_before(old, hand, first.lo);
+    let begin = put_before(rows, old, hand, start);
+    let own = Stretch {
+        from: first.lo,
+        to: first.hi,
+        paint: Some(first.paint),
+    };
+    let next = put_to(rows, old, hand, own, start);
     match change.second {
-        None => {
-            keep_to(rows, old, first.hi, next, LIMIT);
-        }
+        None => Cut {
+            first: begin,
+            end: join_on(rows, old, hand, first.hi, next),
+        },
         Some(second) => {
-            let again = keep_to(rows, old, first.hi, next, second.lo);
-            let last = paint_to(rows, old, again, second);
-            keep_to(rows, old, second.hi, last, LIMIT);
+            let between = Stretch {
+                from: first.hi,
+                to: second.lo,
+                paint: None,
+            };
+            let again = put_to(rows, old, hand, between, next);
+            let other = Stretch {
+                from: second.lo,
+                to: second.hi,
+                paint: Some(second.paint),
+            };
+            let last = put_to(rows, old, hand, other, again);
+            Cut {
+                first: begin,
+                end: join_on(rows, old, hand, second.hi, last),
+            }
         }
     }
-    start
 }

@@ -1,14 +1,16 @@
-ghost use Rattle.std.specs.Prelude.{◌≤◌, ◌<◌, IfOk, IsTrue};
+ghost use Rattle.std.specs.Prelude.{◌≡◌, ◌≤◌, ◌<◌, IfOk, IsTrue, length};
 ghost use Rattle.page_types.specs.Named.{IsNamedCall};
 ghost use Rattle.space_model.specs.Judges.{IsNamedPaint};
-ghost use Rattle.row_plans.specs.Plans.{IsRowList};
+ghost use Rattle.row_plans.specs.Plans.{IsRowList, spliced};
 
 use crate::plan::plan_rows;
-use crate::planning::change_rows;
+use crate::planning::{Cut, plan_change};
 use crate::row_words::{read_row, write_row};
+use crate::rows::Rows;
 use page_types::{Call, Kind, LIMIT, MapFlags, PAGE, Prot, ROWS, Reply, SPARE};
 use space_model::{Change, Paint, Patch};
 use std::alloc::{AllocError, Global};
+use std::marker::Model;
 use std::process::Abort;
 use std::test::Fail;
 
@@ -21,6 +23,64 @@ fn no_areas(alloc: Global) -> Result<Vec<u64>, AllocError>
     Ok(rows)
 }
 
+/// Rows that were read, as a list.
+#[derive(Drop)]
+struct ReadRows<'a> {
+    rows: &'a [u64],
+}
+
+impl<'a> Model for ReadRows<'a> {
+    ghost use Rattle.std.specs.Prelude.{ℕ, List};
+    ghost use Rattle.row_plans.specs.Plans.{IsRowList};
+
+    ghost Value = { List ℕ };
+
+    ghost view = { λ s. s.rows.now };
+
+    ghost invariant = { λ s. IsRowList s.rows.now };
+}
+
+impl<'a> Rows for ReadRows<'a> {
+    ghost use Rattle.std.specs.Prelude.{refl};
+    ghost use Rattle.row_plans.specs.Plans.{IsRowList};
+
+    type Hand = ();
+
+    ghost may_load = { λ rows _. IsRowList rows };
+
+    ghost words = { λ rows _. rows };
+
+    ghost loaded = { λ _ _ _. Unit {0} };
+
+    ghost no_load = { λ _ _. tt };
+
+    ghost loads_on = { λ _ _ _ _ _ _. tt };
+
+    ghost same_words = { λ _ _ _ may _. (may, refl) };
+
+    ghost are_rows = { λ _ _ may. may };
+
+    fn count(&self) -> u32 {
+        self.rows.len() as u32
+    }
+
+    fn load(&self, _hand: &mut (), index: u32) -> u64 {
+        self.rows[index as usize]
+    }
+}
+
+/// The list with the splice in it.
+fn spliced(alloc: Global, rows: &[u64], cut: Cut, more: &[u64]) -> Result<Vec<u64>, AllocError>
+    requires ordered { cut.first ≤ cut.end }
+    requires there { cut.end ≤ length rows.now }
+    ensures { IfOk result (λ new. new.items ≡ spliced rows.now cut more.now) }
+{
+    let mut new = Vec::from_slice(alloc, &rows[..cut.first as usize])?;
+    new.extend_from_slice(more)?;
+    new.extend_from_slice(&rows[cut.end as usize..])?;
+    Ok(new)
+}
+
 /// The rows that a call leaves of others.
 fn rows_after(alloc: Global, rows: &[u64], call: &Call) -> Result<Vec<u64>, AllocError>
     requires old { IsRowList rows.now }
@@ -28,11 +88,8 @@ fn rows_after(alloc: Global, rows: &[u64], call: &Call) -> Result<Vec<u64>, Allo
     ensures { IfOk result (λ new. IsRowList new.items) }
 {
     let mut new = Vec::with_capacity(alloc, ROWS + SPARE)?;
-    plan_rows(rows, call, &mut new);
-    if new.is_empty() {
-        return Vec::from_slice(alloc, rows);
-    }
-    Ok(new)
+    let planned = plan_rows(&ReadRows { rows }, &mut (), call, &mut new);
+    spliced(alloc, rows, planned.cut, new.as_slice())
 }
 
 /// Whether a paint gives no bit but the named ones.
@@ -74,8 +131,16 @@ fn change_by(
         reply: Reply::Zero,
         full: None,
     };
-    let mut new = Vec::with_capacity(rt.alloc(), ROWS + SPARE)?;
-    change_rows(old.as_slice(), change, &mut new);
+    let mut more = Vec::with_capacity(rt.alloc(), ROWS + SPARE)?;
+    let cut = plan_change(
+        &ReadRows {
+            rows: old.as_slice(),
+        },
+        &mut (),
+        change,
+        &mut more,
+    );
+    let new = spliced(rt.alloc(), old.as_slice(), cut, more.as_slice())?;
     assert_eq!(rt; new.len(), after.len());
     for i in 0..new.len() {
         assert_eq!(rt; read_row(new[i]), after[i]);

@@ -1,10 +1,11 @@
 -- The kinds of an area list, page by page, and that they give back the list.
 use Rattle.std.proofs.Common.{◌≡◌, ◌≢◌, ℕ, ◌<◌, ◌≤◌, inl, inr, List, [], ◌∷◌, Some, None, sym, ◌∙◌, ap, refl, arith}
+use Rattle.std.specs.Prelude.{IfSome, slice_get}
 use Rattle.std.proofs.lemmas.Bool.{cases_lt, cases_order}
 use Rattle.std.proofs.lemmas.Bool.Decides.{nat_tests}
 use Rattle.page_types.specs.declared.calls.Kind.{Kind}
 use Rattle.space_model.specs.declared.areas.Area.{Area}
-use Rattle.space_model.specs.Areas.{LeadsTo, IsAreaList, kind_at, OnlyOneHasKinds}
+use Rattle.space_model.specs.Areas.{MayFollow, IsAreaList, kind_at, OnlyOneHasKinds}
 
 -- a page of the first area has its kind
 pub kind_at-here : (a : Area) (rest : List Area) (p : ℕ) → a.lo ≤ p → p < a.hi → kind_at (a ∷ rest) p ≡ Some a.kind
@@ -41,6 +42,10 @@ IsAbove e (a ∷ rest) = e ≤ a.lo
 pub above_zero : (A : List Area) → IsAbove 0 A
 above_zero [] = tt
 above_zero (a ∷ rest) = omega arith
+
+-- the list's first area, if it has one, may follow this one
+abbrev pub LeadsTo : Area → List Area → Type 0
+LeadsTo a list = IfSome (slice_get list 0) (MayFollow a)
 
 -- the areas that may follow an area don't start below its end
 pub LeadsTo-above : (a : Area) (rest : List Area) → LeadsTo a rest → IsAbove a.hi rest

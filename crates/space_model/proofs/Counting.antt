@@ -7,7 +7,7 @@ use Rattle.std.proofs.lemmas.Bool.Decides.{nat_tests}
 use Rattle.page_types.specs.declared.TheConstants.{LIMIT}
 use Rattle.page_types.specs.declared.calls.Kind.{Kind}
 use Rattle.space_model.specs.declared.areas.Area.{Area}
-use Rattle.space_model.specs.Areas.{is_within, IsAreaList, HasKinds, kind_at, gap_between, gaps_from, gap_count, row_count}
+use Rattle.space_model.specs.Areas.{is_within, IsAreaList, HasKinds, kind_at, gap_between, gaps_from, row_count}
 use Rattle.space_model.specs.declared.paint.Patch.{Patch}
 use Rattle.space_model.specs.Effect.{painted, with_patch}
 use Rattle.space_model.specs.Starts.{same_option, count_if, starts_row, start_count}
@@ -258,7 +258,7 @@ length-rows A limit is w = all_rows is_some A limit is w ∙ rows_by-length 0 A
 
 -- the gaps of an area list are as many as the pages without a kind at which a row starts
 pub gaps-rows : (A : List Area) (limit : ℕ) → limit ≡ LIMIT → IsAreaList A →
-    sum_from 0 limit (row_at is_none (kind_at A)) ≡ gap_count A
+    sum_from 0 limit (row_at is_none (kind_at A)) ≡ gaps_from 0 A
 gaps-rows A limit is w = all_rows is_none A limit is w ∙ rows_by-gaps 0 A
 
 -- the rows of an area list are as many as the pages at which a row starts

@@ -1,8 +1,7 @@
 -- A Brk changes no page outside of its heap, and where its heap ends there is one page.
-use Rattle.std.proofs.Common.{◌≡◌, ℕ, ◌<◌, ◌≤◌, ◌⊎◌, inl, inr, List, [], ◌∷◌, Option, Some, None, sym, ◌∙◌, ap, subst, arith}
+use Rattle.std.proofs.Common.{◌≡◌, ℕ, ◌<◌, ◌≤◌, ◌⊎◌, inl, inr, List, [], ◌∷◌, Option, Some, None, ◌∙◌, ap, subst, arith}
 use Rattle.page_types.specs.declared.TheConstants.{LIMIT}
 use Rattle.page_types.specs.declared.calls.Kind.{Kind}
-use Rattle.page_types.specs.declared.calls.Call.TheVariants.{Brk}
 use Rattle.page_types.specs.declared.calls.Reply.{Reply}
 use Rattle.page_types.specs.Pages.{page_of, page_count}
 use Rattle.space_model.specs.declared.areas.Area.{Area}
@@ -12,7 +11,7 @@ use Rattle.space_model.specs.declared.paint.Patch.{Patch}
 use Rattle.space_model.specs.declared.sorts.Sort.TheVariants.{Unlike}
 use Rattle.space_model.specs.Areas.{kind_at}
 use Rattle.space_model.specs.Effect.{heap_kind, painted, patch, with_patch, patched}
-use Rattle.space_model.specs.Answers.{Breaks, IsHeapEnd, Answers}
+use Rattle.space_model.specs.Answers.{Breaks}
 use Rattle.space_model.specs.Answers.Effect.{changes}
 use Rattle.space_model.specs.Answers.Breaks.{below_base, shrinks, grows, no_room}
 use Rattle.space_model.specs.Answers.Answers.{by_arguments, refused, kept, done, too_many_rows}

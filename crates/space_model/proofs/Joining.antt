@@ -6,10 +6,10 @@ use Rattle.std.proofs.lemmas.Bool.{cases_lt, cases_Bool, and_parts, and_from, eq
 use Rattle.std.proofs.lemmas.Bool.Decides.{nat_tests}
 use Rattle.page_types.specs.declared.calls.Kind.{Kind}
 use Rattle.space_model.specs.declared.areas.Area.{Area}
-use Rattle.space_model.specs.Areas.{IsInRange, MayFollow, LeadsTo, IsAreaList, IsInOrder, HasKinds, kind_at}
+use Rattle.space_model.specs.Areas.{IsInRange, MayFollow, IsAreaList, IsInOrder, HasKinds, kind_at}
 use Rattle.space_model.specs.Starts.{same_bool, same_kind}
 use Rattle.space_model.specs.Building.{goes_on, merged, pair_joined, joined, join_all}
-use Rattle.space_model.proofs.AreaKinds.{kind_at-here, kind_at-before, kind_at-after, side_of}
+use Rattle.space_model.proofs.AreaKinds.{kind_at-here, kind_at-before, kind_at-after, LeadsTo, side_of}
 use Rattle.space_model.proofs.AreaKinds.Side.{before, inside, after}
 
 -- an area is joined with the last of a list, and those before it stay

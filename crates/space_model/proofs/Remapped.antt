@@ -20,7 +20,7 @@ use Rattle.space_model.specs.Areas.{HasKinds, kind_at, row_count}
 use Rattle.space_model.specs.Effect.{painted, patch, with_patch, patched}
 use Rattle.space_model.specs.Sorts.{NoneOf}
 use Rattle.space_model.specs.Places.{Place, remap_places}
-use Rattle.space_model.specs.Answers.{Remaps, in_order, full_reply, Answers}
+use Rattle.space_model.specs.Answers.{Remaps, in_order, full_reply}
 use Rattle.space_model.specs.Answers.Effect.{changes}
 use Rattle.space_model.specs.Answers.Remaps.{shorter, stays, moves}
 use Rattle.space_model.specs.Answers.Answers.{by_arguments, refused, kept, done, too_many_rows}

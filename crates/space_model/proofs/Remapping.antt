@@ -1,13 +1,13 @@
 -- Where a Remap puts its pages: a place that isn't the old start was free and lies apart from the old pages, so both
 -- are changed at once, in the order of their pages.
-use Rattle.std.proofs.Common.{◌≡◌, ◌≢◌, ℕ, ◌+◌, ◌*◌, ◌<◌, ◌≤◌, ◌⊎◌, inl, inr, Bool, true, false, not, ◌&&◌, ◌==◌, nat_lt}
-use Rattle.std.proofs.Common.{if◌then◌else◌, List, [], ◌∷◌, ◌++◌, Option, Some, None, refl, sym, ◌∙◌, ap, subst, arith}
+use Rattle.std.proofs.Common.{◌≡◌, ◌≢◌, ℕ, ◌+◌, ◌*◌, ◌<◌, ◌≤◌, ◌⊎◌, inl, inr, Bool, true, false, not, ◌&&◌, ◌==◌}
+use Rattle.std.proofs.Common.{if◌then◌else◌, [], ◌∷◌, ◌++◌, Option, Some, None, MatchOption, refl, sym, ◌∙◌, ap, subst, arith}
 use Rattle.std.proofs.lemmas.Bool.{cases_lt, lt-ltb, le-ltb}
 use Rattle.page_types.specs.declared.TheConstants.{LIMIT, LOW}
 use Rattle.page_types.specs.declared.calls.Kind.{Kind}
 use Rattle.page_types.specs.declared.calls.Call.TheVariants.{Remap}
 use Rattle.page_types.specs.declared.calls.Reply.TheVariants.{At}
-use Rattle.page_types.specs.declared.calls.Why.TheVariants.{Enomem}
+use Rattle.page_types.specs.declared.calls.Why.TheVariants.{Enomem, Eperm}
 use Rattle.page_types.specs.declared.calls.Short.TheVariants.{NoGap}
 use Rattle.page_types.specs.Pages.{page_of, is_aligned, page_count, end_page}
 use Rattle.page_types.specs.PlainReply.{plain_reply}
@@ -16,15 +16,15 @@ use Rattle.space_model.specs.declared.judged.Judged.{Judged}
 use Rattle.space_model.specs.declared.judged.Judged.TheVariants.{Changes}
 use Rattle.space_model.specs.declared.paint.Paint.TheVariants.{Gives}
 use Rattle.space_model.specs.declared.paint.Patch.{Patch}
-use Rattle.space_model.specs.declared.sorts.Sort.TheVariants.{Unlike}
+use Rattle.space_model.specs.declared.sorts.Sort.TheVariants.{Sealed, Unlike}
 use Rattle.space_model.specs.Effect.{patch, AreRising}
 use Rattle.space_model.specs.Starts.{same_option}
-use Rattle.space_model.specs.Sorts.{is_sort, NoneOf, IsClear}
-use Rattle.space_model.specs.Places.{IsUnmapped, StartsAt, HasNoPlace, remap_places}
+use Rattle.space_model.specs.Sorts.{is_sort, NoneOf, IsLowest, IsClear}
+use Rattle.space_model.specs.Places.{IsUnmapped, FitsAt, IsHighestFit, HasRoom, StartsAt, HasNoPlace, remap_places}
 use Rattle.space_model.specs.Places.Place.{free_at, longer, highest_in}
 use Rattle.space_model.specs.Answers.{bars, RefusesByState, in_order}
 use Rattle.space_model.specs.Answers.Effect.{changes}
-use Rattle.space_model.specs.Answers.Remaps.{stays, moves}
+use Rattle.space_model.specs.Answers.Remaps.{shorter, stays, moves}
 use Rattle.space_model.specs.Judges.{IsJudged}
 use Rattle.space_model.proofs.Counting.{same_option-true}
 
@@ -87,6 +87,38 @@ module _ (kinds : ℕ → Option Kind) (count lo end : ℕ) where
   behind_by false true hint start (inr (k, inl fit)) at page low behind high = fit.fits.free page (omega arith) (omega arith)
   behind_by false true hint start (inr (k, inr (j, s))) at page low behind high = absurd s
   behind_by false false hint start (inr (k, s)) at page low behind high = absurd s
+
+  -- a place is the hint where the pages may go there, and otherwise one of the places behind it
+  pub at_hint : (b may : Bool) (hint : ℕ) → b ≡ true → FitsAt kinds LIMIT count hint →
+      StartsAt kinds count
+      ((if b then free_at LIMIT hint ∷ [] else []) ++ longer lo end ∷ (if may then highest_in LOW ∷ [] else [])) hint
+  at_hint true may hint e fit = inl (fit, refl)
+  at_hint false may hint e fit = cc
+
+  pub past_hint : (b may : Bool) (hint start : ℕ) → (b ≡ true → ¬ FitsAt kinds LIMIT count hint) →
+      StartsAt kinds count (longer lo end ∷ (if may then highest_in LOW ∷ [] else [])) start →
+      StartsAt kinds count
+      ((if b then free_at LIMIT hint ∷ [] else []) ++ longer lo end ∷ (if may then highest_in LOW ∷ [] else [])) start
+  past_hint true may hint start n s = inr (n refl, s)
+  past_hint false may hint start n s = s
+
+  pub no_hint : (b may : Bool) (hint : ℕ) → (b ≡ true → ¬ FitsAt kinds LIMIT count hint) →
+      HasNoPlace kinds count (longer lo end ∷ (if may then highest_in LOW ∷ [] else [])) →
+      HasNoPlace kinds count
+      ((if b then free_at LIMIT hint ∷ [] else []) ++ longer lo end ∷ (if may then highest_in LOW ∷ [] else []))
+  no_hint true may hint n s = (n refl, s)
+  no_hint false may hint n s = s
+
+  -- where the pages don't stay, they are put as high as they fit, if they may move
+  pub found_last : (may : Bool) (hint : ℕ) (found : Option ℕ) → may ≡ true →
+      (may && not (hint == 0) && is_aligned hint ≡ true → ¬ FitsAt kinds LIMIT count (page_of hint)) → ¬ HasRoom kinds end (lo + count) →
+      MatchOption found ((start : ℕ) → ¬ FitsAt kinds LOW count start) (IsHighestFit kinds LOW count) →
+      MatchOption found (HasNoPlace kinds count (remap_places lo end may hint)) (StartsAt kinds count (remap_places lo end may hint))
+  found_last true hint None e n room none =
+      no_hint (true && not (hint == 0) && is_aligned hint) true (page_of hint) n (room, (none, tt))
+  found_last true hint (Some start) e n room fit =
+      past_hint (true && not (hint == 0) && is_aligned hint) true (page_of hint) start n (inr (room, inl fit))
+  found_last false hint found e n room fit = cc
 
   -- the same of the places of a Remap
   pub placed_free : (may : Bool) (hint start : ℕ) → StartsAt kinds count (remap_places lo end may hint) start → start ≢ lo →
@@ -226,3 +258,53 @@ unplaced_judged kinds addr old new may hint end count clear more none e c =
     let nowhere : HasNoPlace kinds (page_count new) (remap_places (page_of addr) (end_page addr old) may hint) =
     subst (λ (z : ℕ × ℕ). HasNoPlace kinds z.0 (remap_places (page_of addr) z.1 may hint)) (λ i. (c i, e i)) none in
     inr (clear, (more, nowhere, ap (λ n. Enomem (NoGap n)) c))
+
+-- what two looks find of the pages of a Remap is so at the kinds as they were: nothing bars it
+pub remap_clear : (kinds one two : ℕ → Option Kind) (addr old new : ℕ) (may : Bool) (hint end : ℕ) (kind : Option Kind) →
+    one ≡ kinds → two ≡ kinds → kind ≡ kinds (page_of addr) → end ≡ end_page addr old →
+    NoneOf one (Unlike kind) (page_of addr) end → NoneOf two Sealed (page_of addr) end →
+    IsClear kinds (bars kinds (Remap addr old new may hint))
+remap_clear kinds one two addr old new may hint end kind o t k e like open_to = (
+  subst (λ (z : (ℕ → Option Kind) × Option Kind × ℕ). NoneOf z.0 (Unlike z.1) (page_of addr) z.2) (λ i. (o i, k i, e i)) like,
+  (subst (λ (z : (ℕ → Option Kind) × ℕ). NoneOf z.0 Sealed (page_of addr) z.1) (λ i. (t i, e i)) open_to, tt),
+)
+
+-- or its lowest sealed page does
+pub sealed_refuses : (kinds one two : ℕ → Option Kind) (addr old new : ℕ) (may : Bool) (hint end page : ℕ) (kind : Option Kind) →
+    one ≡ kinds → two ≡ kinds → kind ≡ kinds (page_of addr) → end ≡ end_page addr old →
+    NoneOf one (Unlike kind) (page_of addr) end → IsLowest two Sealed (page_of addr) end page →
+    RefusesByState kinds (Remap addr old new may hint) (Eperm page)
+sealed_refuses kinds one two addr old new may hint end page kind o t k e like low =
+    inl (inr (
+      subst (λ (z : (ℕ → Option Kind) × Option Kind × ℕ). NoneOf z.0 (Unlike z.1) (page_of addr) z.2) (λ i. (o i, k i, e i)) like,
+      inl (
+        page,
+        subst (λ (z : (ℕ → Option Kind) × ℕ). IsLowest z.0 Sealed (page_of addr) z.1 page) (λ i. (t i, e i)) low,
+        refl,
+      ),
+    ))
+
+-- pages that become fewer, or stay as many, are judged rightly
+pub fewer_judged : (kinds : ℕ → Option Kind) (addr old new : ℕ) (may : Bool) (hint end count : ℕ) (j : Judged) →
+    plain_reply (Remap addr old new may hint) ≡ None → IsClear kinds (bars kinds (Remap addr old new may hint)) →
+    count ≤ page_count old → end ≡ end_page addr old → count ≡ page_count new →
+    j ≡
+    Changes
+    (record {
+      first = record { lo = page_of addr + count; hi = end; paint = Gives None };
+      second = None;
+      reply = At addr;
+      full = None;
+    }) → IsJudged kinds (Remap addr old new may hint) j
+fewer_judged kinds addr old new may hint end count j u clear few e c is =
+    subst (IsJudged kinds (Remap addr old new may hint))
+    (sym
+    (is ∙
+    (λ i. Changes
+    (record {
+      first = record { lo = page_of addr + c i; hi = e i; paint = Gives None };
+      second = None;
+      reply = At addr;
+      full = None;
+    }))))
+    ((clear, shorter (omega (arith, few, c)) refl), (omega arith, omega (arith, few, c), remap-end addr old new u))

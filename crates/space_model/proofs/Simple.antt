@@ -10,10 +10,11 @@ use Rattle.page_types.specs.declared.calls.Call.TheVariants.{Protect}
 use Rattle.page_types.specs.declared.sets.Prot.{Prot}
 use Rattle.page_types.specs.Pages.{page_of, end_page}
 use Rattle.space_model.specs.declared.areas.Area.{Area}
-use Rattle.space_model.specs.Areas.{IsInRange, IsAreaList, HasKinds, kind_at, gap_count}
+use Rattle.space_model.specs.Areas.{IsInRange, IsAreaList, HasKinds, kind_at, gaps_from}
 use Rattle.space_model.specs.declared.paint.Paint.TheVariants.{Protects}
 use Rattle.space_model.specs.Effect.{protected_kind, patch, with_patch}
-use Rattle.space_model.specs.Held.{LiesIn, KeepsCounts, kind_before, IsSimpleIn, IsSimple}
+use Rattle.space_model.specs.declared.paint.Patch.{Patch}
+use Rattle.space_model.specs.Held.{LiesIn, kind_before, IsSimpleIn, IsSimple}
 use Rattle.space_model.specs.Starts.{starts_row, same_option, same_kind, count_if, border, KeepsRows}
 use Rattle.space_model.specs.Building.{changed_list}
 use Rattle.space_model.proofs.AreaKinds.{kind_at-here, kind_at-after, kind_at-below, LeadsTo-above, side_of}
@@ -254,7 +255,7 @@ mapped_still A B prot lo hi p k =
     ]
 
 gaps_at : (A B : List Area) (prot : Prot) (lo hi limit : ℕ) → limit ≡ LIMIT → IsAreaList A →
-    HasKinds (with_patch (patch lo hi (Protects prot)) (kind_at A)) B → gap_count B ≡ gap_count A
+    HasKinds (with_patch (patch lo hi (Protects prot)) (kind_at A)) B → gaps_from 0 B ≡ gaps_from 0 A
 gaps_at A B prot lo hi limit is w k =
     sym (gaps-rows B limit is k.areas) ∙
     sum-same limit 0 (row_at is_none (kind_at B)) (row_at is_none (kind_at A))
@@ -263,8 +264,14 @@ gaps_at A B prot lo hi limit is w k =
 
 -- a Protect keeps the number of gaps
 pub gaps-after : (A B : List Area) (prot : Prot) (lo hi : ℕ) → IsAreaList A →
-    HasKinds (with_patch (patch lo hi (Protects prot)) (kind_at A)) B → gap_count B ≡ gap_count A
+    HasKinds (with_patch (patch lo hi (Protects prot)) (kind_at A)) B → gaps_from 0 B ≡ gaps_from 0 A
 gaps-after A B prot lo hi w k = gaps_at A B prot lo hi LIMIT refl w k
+
+-- the list that the change of the pages gives has as many areas and as many gaps
+pub record KeepsCounts (A : List Area) (change : Patch) (B : List Area) : Type 0 where
+  pub changed : HasKinds (with_patch change (kind_at A)) B
+  pub areas : length B ≡ length A
+  pub gaps : gaps_from 0 B ≡ gaps_from 0 A
 
 -- so a Protect within one area keeps the counts exactly where it keeps the rows that start at its ends
 pub keeps_counts : (A : List Area) (prot : Prot) (lo hi : ℕ) (a : Area) → IsAreaList A → LiesIn A a lo hi →
@@ -288,12 +295,15 @@ pub simple_in : (A : List Area) (addr len : ℕ) (prot : Prot) (lo hi : ℕ) (a 
     IsTrue a.kind.sealed ⊎ KeepsRows (kind_before A lo) a.kind (protected_kind prot a.kind) (kind_at A hi) →
     IsSimpleIn A (Protect addr len prot) a
 simple_in A addr len prot lo hi a e f w lies l h (inl sealed) =
-    (subst (λ (z : ℕ × ℕ). LiesIn A a z.0 z.1) (λ i. (e i, f i)) lies, inl sealed)
+    let its = subst (λ (z : ℕ × ℕ). LiesIn A a z.0 z.1) (λ i. (e i, f i)) lies in
+    (its.member, its.from, its.within, inl sealed)
 simple_in A addr len prot lo hi a e f w lies l h (inr b) =
     let both =
     subst (λ (z : ℕ × ℕ). LiesIn A a z.0 z.1 × ((B : List Area) × KeepsCounts A (patch z.0 z.1 (Protects prot)) B)) (λ i. (e i, f i))
     (lies, keeps_counts A prot lo hi a w lies l h b) in
-    (both.0, inr both.1)
+    let its = both.0 in
+    let kept = both.1.1 in
+    (its.member, its.from, its.within, inr (both.1.0, kept.changed, kept.areas, kept.gaps))
 
 -- two areas of a list that have a page in common are of one kind
 one_kind : (A : List Area) (a other : Area) (p : ℕ) → kind_at A p ≡ Some a.kind → kind_at A p ≡ Some other.kind → other.kind ≡ a.kind
@@ -303,12 +313,14 @@ one_kind A a other p e d = let same : Some other.kind ≡ Some a.kind = sym d �
 pub simple_borders : (A : List Area) (addr len : ℕ) (prot : Prot) (lo hi : ℕ) (a : Area) → lo ≡ page_of addr →
     hi ≡ end_page addr len → IsAreaList A → LiesIn A a lo hi → lo < hi → IsSimple A (Protect addr len prot) →
     IsTrue a.kind.sealed ⊎ KeepsRows (kind_before A lo) a.kind (protected_kind prot a.kind) (kind_at A hi)
-simple_borders A addr len prot lo hi a e f w lies l (other, (there, inl sealed)) =
+simple_borders A addr len prot lo hi a e f w lies l (other, (member, from, within, inl sealed)) =
+    let there : LiesIn A other (page_of addr) (end_page addr len) = record { member = member; from = from; within = within } in
     let its = subst (λ (z : ℕ × ℕ). LiesIn A other z.0 z.1) (λ i. (sym e i, sym f i)) there in
     let same =
     one_kind A a other lo (kind_at-member A a lo w lies.member lies.from (omega (arith, lies.within)))
     (kind_at-member A other lo w its.member its.from (omega (arith, its.within))) in
     inl (subst (λ (k : Kind). IsTrue k.sealed) same sealed)
-simple_borders A addr len prot lo hi a e f w lies l (other, (there, inr (B, k))) =
+simple_borders A addr len prot lo hi a e f w lies l (other, (member, from, within, inr (B, changed, areas, gaps))) =
+    let k : KeepsCounts A (patch (page_of addr) (end_page addr len) (Protects prot)) B = record { changed = changed; areas = areas; gaps = gaps } in
     inr (keeps_borders A B prot lo hi a w lies l
     (subst (λ (z : ℕ × ℕ). KeepsCounts A (patch z.0 z.1 (Protects prot)) B) (λ i. (sym e i, sym f i)) k))

@@ -30,7 +30,7 @@ use Rattle.space_model.specs.Sorts.Bar.{bar}
 use Rattle.space_model.specs.Places.{FitsAt, HasRoom, Place, StartsBy, NoStart, StartsAt, HasNoPlace, map_places, remap_places, window_of}
 use Rattle.space_model.specs.Places.Place.{fixed, free_at, longer, highest_in}
 use Rattle.space_model.specs.Answers.{bars, AnswersFault, in_order, full_reply, IsHeapEnd, IsEffect, Answers}
-use Rattle.space_model.specs.Answers.Effect.{keeps, changes}
+use Rattle.space_model.specs.Answers.Effect.{changes}
 use Rattle.space_model.specs.Answers.Breaks.{below_base, shrinks, grows, no_room}
 use Rattle.space_model.specs.Answers.Remaps.{shorter, stays, moves}
 use Rattle.space_model.specs.Answers.Answers.{by_arguments, refused, kept, done, too_many_rows}

@@ -11,11 +11,11 @@ use Rattle.std.proofs.lemmas.List.Elements.{All-head, All-tail}
 use Rattle.page_types.specs.declared.TheConstants.{LIMIT}
 use Rattle.space_model.specs.declared.paint.Patch.{Patch}
 use Rattle.space_model.specs.declared.areas.Area.{Area}
-use Rattle.space_model.specs.Areas.{MayFollow, LeadsTo, IsAreaList, HasKinds, kind_at, gap_between, gaps_from, row_count}
+use Rattle.space_model.specs.Areas.{MayFollow, IsAreaList, HasKinds, kind_at, gap_between, gaps_from, row_count}
 use Rattle.space_model.specs.Effect.{patched, AreRising}
 use Rattle.space_model.specs.Building.{no_area, changed_list}
 use Rattle.space_model.specs.Cutting.{IsCutBy, IsPlan, end_of, start_of, gaps_between, rows_between, last_end}
-use Rattle.space_model.proofs.AreaKinds.{kind_at-here, kind_at-before, kind_at-after, kind_at-below, kind_at-end, IsAbove, LeadsTo-above, side_of}
+use Rattle.space_model.proofs.AreaKinds.{kind_at-here, kind_at-before, kind_at-after, kind_at-below, kind_at-end, IsAbove, LeadsTo, LeadsTo-above, side_of}
 use Rattle.space_model.proofs.AreaKinds.Side.{before, inside, after}
 use Rattle.space_model.proofs.Joining.{first_of, first_of-none, kind_at-append, IsFreeFrom, ends_below}
 use Rattle.space_model.proofs.Changing.{patched-same, patched-before, patched-behind, changed_list-kinds}

@@ -1,6 +1,6 @@
 -- An address space as the list of its areas: proc_pid_maps(5) has one line for each. What counts is the kind of each
 -- page; the area list is the one list that has these kinds, since two areas that touch differ in kind.
-use Rattle.std.specs.Prelude.{ℕ, Bool, ◌&&◌, nat_le, nat_lt, if◌then◌else◌, ◌≡◌, ◌≢◌, ◌<◌, ◌≤◌, ◌+◌, Option, Some, None, List, [], ◌∷◌, length, take, All}
+use Rattle.std.specs.Prelude.{ℕ, Bool, ◌&&◌, nat_le, nat_lt, if◌then◌else◌, ◌≡◌, ◌≢◌, ◌<◌, ◌≤◌, ◌+◌, Option, Some, None, IfSome, List, [], ◌∷◌, length, take, slice_get, All}
 use Rattle.page_types.specs.declared.TheConstants.{LIMIT}
 use Rattle.page_types.specs.declared.calls.Kind.{Kind}
 use Rattle.page_types.specs.Named.{IsNamedKind}
@@ -16,15 +16,11 @@ pub record MayFollow (a b : Area) : Type 0 where
   pub after : a.hi ≤ b.lo
   pub differs : a.hi ≡ b.lo → a.kind ≢ b.kind
 
--- the list's first area may follow this one
-abbrev pub LeadsTo : Area → List Area → Type 0
-LeadsTo a [] = Unit {0}
-LeadsTo a (b ∷ rest) = MayFollow a b
-
--- proc_pid_maps(5): areas in range, sorted and disjoint, and two that touch differ in kind
+-- proc_pid_maps(5): areas in range, sorted and disjoint, and two that touch differ in kind: the next one, if there is
+-- one, may follow the first
 abbrev pub IsAreaList : List Area → Type 0
 IsAreaList [] = Unit {0}
-IsAreaList (a ∷ rest) = IsInRange a × LeadsTo a rest × IsAreaList rest
+IsAreaList (a ∷ rest) = IsInRange a × IfSome (slice_get rest 0) (MayFollow a) × IsAreaList rest
 
 -- the areas before this index are an area list, and with the one at the index they aren't
 pub record IsFirstWrong (list : List Area) (index : ℕ) : Type 0 where
@@ -64,13 +60,9 @@ abbrev pub gaps_from : ℕ → List Area → ℕ
 gaps_from page [] = gap_between page LIMIT
 gaps_from page (a ∷ rest) = gap_between page a.lo + gaps_from a.hi rest
 
--- the gaps between 0 and LIMIT
-abbrev pub gap_count : List Area → ℕ
-gap_count list = gaps_from 0 list
-
 -- areas and gaps between 0 and LIMIT; this project's own count, 1 for an empty list
 abbrev pub row_count : List Area → ℕ
-row_count list = length list + gap_count list
+row_count list = length list + gaps_from 0 list
 
 -- only one area list has given kinds
 abbrev pub OnlyOneHasKinds : List Area → List Area → Type 0

@@ -13,10 +13,9 @@ use Rattle.page_types.specs.Pages.{page_of, end_page}
 use Rattle.page_types.specs.PlainReply.{plain_reply}
 use Rattle.space_model.specs.declared.areas.Area.{Area}
 use Rattle.space_model.specs.declared.paint.Paint.TheVariants.{Protects}
-use Rattle.space_model.specs.declared.paint.Patch.{Patch}
 use Rattle.space_model.specs.declared.entries.Under.{Under}
 use Rattle.space_model.specs.declared.entries.Under.TheVariants.{Nothing, Reader, Area as Held, Whole}
-use Rattle.space_model.specs.Areas.{kind_at, gap_count, HasKinds}
+use Rattle.space_model.specs.Areas.{kind_at, gaps_from, HasKinds}
 use Rattle.space_model.specs.Effect.{patch, with_patch}
 
 -- the pages from lo up to hi lie in this area of the list
@@ -25,24 +24,20 @@ pub record LiesIn (A : List Area) (a : Area) (lo hi : ℕ) : Type 0 where
   pub from : a.lo ≤ lo
   pub within : hi ≤ a.hi
 
--- the list that the change of the pages gives, before the row limit is asked, has as many areas and as many gaps
-pub record KeepsCounts (A : List Area) (change : Patch) (B : List Area) : Type 0 where
-  pub changed : HasKinds (with_patch change (kind_at A)) B
-  pub areas : length B ≡ length A
-  pub gaps : gap_count B ≡ gap_count A
-
 -- the kind of the page before, or none before page 0
 abbrev pub kind_before : List Area → ℕ → Option Kind
 kind_before A zero = None
 kind_before A (suc page) = kind_at A page
 
--- a Protect is simple in this area: all its pages lie there, and the area is sealed or the change keeps the counts
+-- a Protect is simple in this area: all its pages lie there, and the area is sealed, or the list that the change of the
+-- pages gives, before the row limit is asked, has as many areas and as many gaps
 abbrev pub IsSimpleIn : List Area → Call → Area → Type 0
 IsSimpleIn A (Map addr len prot flags) a = ⊥
 IsSimpleIn A (Unmap addr len) a = ⊥
 IsSimpleIn A (Protect addr len prot) a =
-    LiesIn A a (page_of addr) (end_page addr len) ×
-    (IsTrue a.kind.sealed ⊎ ((B : List Area) × KeepsCounts A (patch (page_of addr) (end_page addr len) (Protects prot)) B))
+    Contains A a × (a.lo ≤ page_of addr) × (end_page addr len ≤ a.hi) × (IsTrue a.kind.sealed
+    ⊎ ((B : List Area) × HasKinds (with_patch (patch (page_of addr) (end_page addr len) (Protects prot)) (kind_at A)) B
+    × (length B ≡ length A) × (gaps_from 0 B ≡ gaps_from 0 A)))
 IsSimpleIn A (Fault addr access) a = ⊥
 IsSimpleIn A (Seal addr len flags) a = ⊥
 IsSimpleIn A (Brk base addr) a = ⊥
@@ -64,13 +59,6 @@ pub record IsWidened (a : Area) (span : Span) : Type 0 where
   pub first : span.lo ≡ a.lo - 1
   pub end : span.hi ≡ min (a.hi + 1) LIMIT
 
--- the area, widened, is held as a writer
-abbrev pub HoldsArea : Area → Under → Type 0
-HoldsArea a Nothing = ⊥
-HoldsArea a (Reader span) = ⊥
-HoldsArea a (Held span) = IsWidened a span
-HoldsArea a Whole = ⊥
-
 -- an area is held as a writer
 abbrev pub HoldsSomeArea : Under → Type 0
 HoldsSomeArea Nothing = ⊥
@@ -78,12 +66,14 @@ HoldsSomeArea (Reader span) = ⊥
 HoldsSomeArea (Held span) = Unit {0}
 HoldsSomeArea Whole = ⊥
 
--- what is held for a call that its arguments don't decide
+-- what is held for a call that its arguments don't decide: a fault's page as a reader, and otherwise everything; for a
+-- Protect that is simple in an area also this area as a writer, with a page more on each side, clipped to 0 and LIMIT
 abbrev pub FitsByState : List Area → Call → Under → Type 0
 FitsByState A (Map addr len prot flags) under = under ≡ Whole
 FitsByState A (Unmap addr len) under = under ≡ Whole
 FitsByState A (Protect addr len prot) under =
-    (under ≡ Whole) ⊎ ((a : Area) × IsSimpleIn A (Protect addr len prot) a × HoldsArea a under)
+    (under ≡ Whole) ⊎ ((a : Area) × IsSimpleIn A (Protect addr len prot) a × (span : Span) × (under ≡ Held span)
+    × (span.lo ≡ a.lo - 1) × (span.hi ≡ min (a.hi + 1) LIMIT))
 FitsByState A (Fault addr access) under = ReadsPage (page_of addr) under
 FitsByState A (Seal addr len flags) under = under ≡ Whole
 FitsByState A (Brk base addr) under = under ≡ Whole

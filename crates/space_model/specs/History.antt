@@ -48,7 +48,7 @@ HasNamedCalls = All (λ e. IsNamedCall e.call)
 
 -- the entry fits what was held and answers what its call answers, which leaves area list B
 abbrev pub FitsAndReplies : List Area → Entry → List Area → Type 0
-FitsAndReplies A e B = FitsUnder A e.call e.under × HasRightReply A e B
+FitsAndReplies A e B = FitsUnder A e.call e.under × Answers A e.call e.reply B
 
 -- from one area list the entries are numbered n, n + 1 and so on, each fits what was held and has the reply that its
 -- call has there, and they leave another

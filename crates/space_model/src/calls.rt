@@ -16,9 +16,11 @@ use crate::moving::judge_remap;
 use page_types::Call;
 
 /// What a call comes to that its arguments don't decide.
-pub fn judge<P: Pages>(pages: &P, call: &Call) -> Judged
-    requires { plain_reply call.now ≡ None }
-    ensures { IsJudged (P.kinds pages.now) call.now result }
+pub fn judge<P: Pages>(pages: &P, hand: &mut P::Hand, call: &Call) -> Judged
+    requires may { P.may_look pages.now hand.old }
+    requires undecided { plain_reply call.now ≡ None }
+    ensures judged { IsJudged (P.kinds pages.now hand.old) call.now result }
+    ensures looked { P.looked pages.now hand.old hand.new }
 {
     match *call {
         Call::Map {
@@ -28,22 +30,22 @@ pub fn judge<P: Pages>(pages: &P, call: &Call) -> Judged
             flags,
         } => {
             if flags.is_fixed() {
-                judge_fixed(pages, addr, len, prot, flags)
+                judge_fixed(pages, hand, addr, len, prot, flags)
             } else {
-                judge_hinted(pages, addr, len, prot, flags)
+                judge_hinted(pages, hand, addr, len, prot, flags)
             }
         }
-        Call::Unmap { addr, len } => judge_unmap(pages, addr, len),
-        Call::Protect { addr, len, prot } => judge_protect(pages, addr, len, prot),
-        Call::Fault { addr, access } => judge_fault(pages, addr, access),
-        Call::Seal { addr, len, flags } => judge_seal(pages, addr, len, flags),
-        Call::Brk { base, addr } => judge_brk(pages, base, addr),
+        Call::Unmap { addr, len } => judge_unmap(pages, hand, addr, len),
+        Call::Protect { addr, len, prot } => judge_protect(pages, hand, addr, len, prot),
+        Call::Fault { addr, access } => judge_fault(pages, hand, addr, access),
+        Call::Seal { addr, len, flags } => judge_seal(pages, hand, addr, len, flags),
+        Call::Brk { base, addr } => judge_brk(pages, hand, base, addr),
         Call::Remap {
             addr,
             old_len,
             new_len,
             may_move,
             hint,
-        } => judge_remap(pages, addr, old_len, new_len, may_move, hint),
+        } => judge_remap(pages, hand, addr, old_len, new_len, may_move, hint),
     }
 }

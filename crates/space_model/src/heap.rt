@@ -28,11 +28,16 @@ fn heap_kind() -> Kind
 }
 
 /// Whether the pages from `lo` up to `hi` are free and user addresses.
-pub(crate) fn has_room<P: Pages>(pages: &P, lo: u64, hi: u64) -> bool
-    requires { lo ≤ hi }
-    ensures { IsTrue result ↔ HasRoom (P.kinds pages.now) lo hi }
+pub(crate) fn has_room<P: Pages>(pages: &P, hand: &mut P::Hand, lo: u64, hi: u64) -> bool
+    requires may { P.may_look pages.now hand.old }
+    requires ordered { lo ≤ hi }
+    ensures room { IsTrue result ↔ HasRoom (P.kinds pages.now hand.old) lo hi }
+    ensures looked { P.looked pages.now hand.old hand.new }
 {
-    hi <= LIMIT && pages.end_of(Sort::Mapped, lo, hi) == hi
+    if hi > LIMIT {
+        return false;
+    }
+    pages.end_of(hand, Sort::Mapped, lo, hi) == hi
 }
 
 /// A change of the heap by one patch, whose reply is `stays` where there would be too many rows.
@@ -53,12 +58,14 @@ fn broken(lo: u64, hi: u64, paint: Paint, reply: Reply, stays: Reply) -> Judged
 }
 
 /// A Brk.
-pub(crate) fn judge_brk<P: Pages>(pages: &P, base: u64, addr: u64) -> Judged
-    requires { brk_reply base ≡ None }
-    ensures { IsJudged (P.kinds pages.now) (Brk base addr) result }
+pub(crate) fn judge_brk<P: Pages>(pages: &P, hand: &mut P::Hand, base: u64, addr: u64) -> Judged
+    requires may { P.may_look pages.now hand.old }
+    requires undecided { brk_reply base ≡ None }
+    ensures judged { IsJudged (P.kinds pages.now hand.old) (Brk base addr) result }
+    ensures looked { P.looked pages.now hand.old hand.new }
 {
     let heap = heap_kind();
-    let end = pages.end_of(Sort::Unlike(Some(heap)), base / PAGE, LIMIT);
+    let end = pages.end_of(hand, Sort::Unlike(Some(heap)), base / PAGE, LIMIT);
     let stays = Reply::At(end * PAGE);
     let want = page_count(addr);
     if addr < base {
@@ -67,7 +74,7 @@ pub(crate) fn judge_brk<P: Pages>(pages: &P, base: u64, addr: u64) -> Judged
     if want <= end {
         return broken(want, end, Paint::Gives(None), Reply::At(addr), stays);
     }
-    if has_room(pages, end, want) {
+    if has_room(pages, hand, end, want) {
         return broken(end, want, Paint::Gives(Some(heap)), Reply::At(addr), stays);
     }
     Judged::Keeps(stays)

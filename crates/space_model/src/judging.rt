@@ -25,29 +25,56 @@ use page_types::{
     Access, Kind, LIMIT, LOW, LOWEST, MapFlags, PAGE, Prot, Reply, Short, Span, Why, page_count,
 };
 
-/// Pages by their kinds, with the three searches that judging a call takes.
+/// Pages by their kinds, with the three searches that judging a call takes. A search may need a hand besides, as a
+/// caller's seat where the pages are those of a space that threads share; an address space of one thread needs none.
 pub trait Pages {
-    /// The kind of each page, or none.
-    ghost kinds: { Self → ℕ → Option Kind };
+    /// What a search needs besides the pages.
+    type Hand;
+
+    /// With this hand the pages may be looked at.
+    ghost may_look: { Self → Self.Hand → Type 0 };
+
+    /// The kind of each page, or none, as looks with this hand find it.
+    ghost kinds: { Self → Self.Hand → ℕ → Option Kind };
+
+    /// What looks leave of a hand.
+    ghost looked: { Self → Self.Hand → Self.Hand → Type 0 };
+
+    /// A hand that didn't look is as it was.
+    ghost no_look: { (pages : Self) (hand : Self.Hand) → looked pages hand hand };
+
+    /// One look after another is a look.
+    ghost looks_on: { (pages : Self) (one two three : Self.Hand) → looked pages one two → looked pages two three → looked pages one three };
+
+    /// A look leaves the kinds as they were, and the hand may look again.
+    ghost same_kinds: { (pages : Self) (one two : Self.Hand) → may_look pages one → looked pages one two
+        → may_look pages two × (kinds pages two ≡ kinds pages one) };
 
     /// The kind of a page, or None where it isn't mapped.
-    fn kind_of(&self, page: u64) -> Option<Kind>
-        requires { page < LIMIT }
-        ensures { result ≡ kinds self.now page };
+    fn kind_of(&self, hand: &mut Self::Hand, page: u64) -> Option<Kind>
+        requires may { may_look self.now hand.old }
+        requires page { page < LIMIT }
+        ensures kind { result ≡ kinds self.now hand.old page }
+        ensures looked { looked self.now hand.old hand.new };
 
     /// The lowest page of a sort of those from `lo` up to `hi`, or `hi` where there is none.
-    fn end_of(&self, sort: Sort, lo: u64, hi: u64) -> u64
+    fn end_of(&self, hand: &mut Self::Hand, sort: Sort, lo: u64, hi: u64) -> u64
+        requires may { may_look self.now hand.old }
         requires ordered { lo ≤ hi }
         requires limit { hi ≤ LIMIT }
-        ensures { IsEnd (kinds self.now) sort lo hi result };
+        ensures end { IsEnd (kinds self.now hand.old) sort lo hi result }
+        ensures looked { looked self.now hand.old hand.new };
 
     /// The highest start of so many free pages, at or above `LOWEST` and with the end at or below the page where the
     /// window ends.
-    fn highest_fit(&self, window: u64, pages: u64) -> Option<u64>
+    fn highest_fit(&self, hand: &mut Self::Hand, window: u64, pages: u64) -> Option<u64>
+        requires may { may_look self.now hand.old }
         requires window { window ≤ LIMIT }
         requires some { 0 < pages }
         requires few { pages < 2 ^ 62 }
-        ensures { MatchOption result ((start : ℕ) → ¬ FitsAt (kinds self.now) window pages start) (IsHighestFit (kinds self.now) window pages) };
+        ensures fit { MatchOption result ((start : ℕ) → ¬ FitsAt (kinds self.now hand.old) window pages start)
+            (IsHighestFit (kinds self.now hand.old) window pages) }
+        ensures looked { looked self.now hand.old hand.new };
 }
 
 /// The kind that a Map gives its pages.
@@ -71,24 +98,41 @@ fn window_of(hint: u64) -> u64
 }
 
 /// The lowest page of a sort of those from `lo` up to `hi`.
-pub(crate) fn lowest<P: Pages>(pages: &P, sort: Sort, lo: u64, hi: u64) -> Option<u64>
+pub(crate) fn lowest<P: Pages>(
+    pages: &P,
+    hand: &mut P::Hand,
+    sort: Sort,
+    lo: u64,
+    hi: u64,
+) -> Option<u64>
+    requires may { P.may_look pages.now hand.old }
     requires ordered { lo ≤ hi }
     requires limit { hi ≤ LIMIT }
-    ensures { MatchOption result (NoneOf (P.kinds pages.now) sort lo hi) (IsLowest (P.kinds pages.now) sort lo hi) }
+    ensures lowest { MatchOption result (NoneOf (P.kinds pages.now hand.old) sort lo hi) (IsLowest (P.kinds pages.now hand.old) sort lo hi) }
+    ensures looked { P.looked pages.now hand.old hand.new }
 {
-    let end = pages.end_of(sort, lo, hi);
+    let end = pages.end_of(hand, sort, lo, hi);
     if end < hi { Some(end) } else { None }
 }
 
 /// Whether so many free pages start at a page, at or above `LOWEST` and with the end at or below that of the window.
-pub(crate) fn fits_at<P: Pages>(pages: &P, window: u64, count: u64, start: u64) -> bool
+pub(crate) fn fits_at<P: Pages>(
+    pages: &P,
+    hand: &mut P::Hand,
+    window: u64,
+    count: u64,
+    start: u64,
+) -> bool
+    requires may { P.may_look pages.now hand.old }
     requires window { window ≤ LIMIT }
     requires end { start + count < 2 ^ 64 }
-    ensures { IsTrue result ↔ FitsAt (P.kinds pages.now) window count start }
+    ensures fits { IsTrue result ↔ FitsAt (P.kinds pages.now hand.old) window count start }
+    ensures looked { P.looked pages.now hand.old hand.new }
 {
-    start >= LOWEST
-        && start + count <= window
-        && pages.end_of(Sort::Mapped, start, start + count) == start + count
+    if start < LOWEST || start + count > window {
+        return false;
+    }
+    pages.end_of(hand, Sort::Mapped, start, start + count) == start + count
 }
 
 /// A change by one patch, which is refused where there would be too many rows.
@@ -129,14 +173,17 @@ fn mapped_at(start: u64, count: u64, kind: Kind) -> Judged
 /// A Map whose address binds.
 pub(crate) fn judge_fixed<P: Pages>(
     pages: &P,
+    hand: &mut P::Hand,
     addr: u64,
     len: u64,
     prot: Prot,
     flags: MapFlags,
 ) -> Judged
+    requires may { P.may_look pages.now hand.old }
     requires undecided { map_reply addr len flags ≡ None }
     requires fixed { IsTrue (is_fixed flags) }
-    ensures { IsJudged (P.kinds pages.now) (Map addr len prot flags) result }
+    ensures judged { IsJudged (P.kinds pages.now hand.old) (Map addr len prot flags) result }
+    ensures looked { P.looked pages.now hand.old hand.new }
 {
     let hint = addr / PAGE;
     let count = page_count(len);
@@ -145,7 +192,7 @@ pub(crate) fn judge_fixed<P: Pages>(
     } else {
         Sort::Sealed
     };
-    match lowest(pages, sort, hint, hint + count) {
+    match lowest(pages, hand, sort, hint, hint + count) {
         Some(page) => {
             if flags.is_no_replace() {
                 Judged::Refused(Why::Eexist(page))
@@ -160,61 +207,82 @@ pub(crate) fn judge_fixed<P: Pages>(
 /// A Map whose address is a hint.
 pub(crate) fn judge_hinted<P: Pages>(
     pages: &P,
+    hand: &mut P::Hand,
     addr: u64,
     len: u64,
     prot: Prot,
     flags: MapFlags,
 ) -> Judged
+    requires may { P.may_look pages.now hand.old }
     requires undecided { map_reply addr len flags ≡ None }
     requires hint { IsFalse (is_fixed flags) }
-    ensures { IsJudged (P.kinds pages.now) (Map addr len prot flags) result }
+    ensures judged { IsJudged (P.kinds pages.now hand.old) (Map addr len prot flags) result }
+    ensures looked { P.looked pages.now hand.old hand.new }
 {
     let hint = addr / PAGE;
     let count = page_count(len);
     let window = window_of(hint);
-    if fits_at(pages, window, count, hint) {
+    if fits_at(pages, hand, window, count, hint) {
         return mapped_at(hint, count, mapped_kind(prot, flags));
     }
-    match pages.highest_fit(window, count) {
+    match pages.highest_fit(hand, window, count) {
         Some(start) => mapped_at(start, count, mapped_kind(prot, flags)),
         None => Judged::Refused(Why::Enomem(Short::NoGap(count))),
     }
 }
 
 /// An Unmap.
-pub(crate) fn judge_unmap<P: Pages>(pages: &P, addr: u64, len: u64) -> Judged
-    requires { unmap_reply addr len ≡ None }
-    ensures { IsJudged (P.kinds pages.now) (Unmap addr len) result }
+pub(crate) fn judge_unmap<P: Pages>(pages: &P, hand: &mut P::Hand, addr: u64, len: u64) -> Judged
+    requires may { P.may_look pages.now hand.old }
+    requires undecided { unmap_reply addr len ≡ None }
+    ensures judged { IsJudged (P.kinds pages.now hand.old) (Unmap addr len) result }
+    ensures looked { P.looked pages.now hand.old hand.new }
 {
     let gone = Span::of_valid(addr, len);
-    match lowest(pages, Sort::Sealed, gone.lo, gone.hi) {
+    match lowest(pages, hand, Sort::Sealed, gone.lo, gone.hi) {
         Some(page) => Judged::Refused(Why::Eperm(page)),
         None => changed(gone.lo, gone.hi, Paint::Gives(None), Reply::Zero),
     }
 }
 
 /// A Protect.
-pub(crate) fn judge_protect<P: Pages>(pages: &P, addr: u64, len: u64, prot: Prot) -> Judged
-    requires { protect_reply addr len ≡ None }
-    ensures { IsJudged (P.kinds pages.now) (Protect addr len prot) result }
+pub(crate) fn judge_protect<P: Pages>(
+    pages: &P,
+    hand: &mut P::Hand,
+    addr: u64,
+    len: u64,
+    prot: Prot,
+) -> Judged
+    requires may { P.may_look pages.now hand.old }
+    requires undecided { protect_reply addr len ≡ None }
+    ensures judged { IsJudged (P.kinds pages.now hand.old) (Protect addr len prot) result }
+    ensures looked { P.looked pages.now hand.old hand.new }
 {
     let span = Span::of_valid(addr, len);
-    if let Some(page) = lowest(pages, Sort::Missing, span.lo, span.hi) {
+    if let Some(page) = lowest(pages, hand, Sort::Missing, span.lo, span.hi) {
         return Judged::Refused(Why::Enomem(Short::Missing(page)));
     }
-    match lowest(pages, Sort::Sealed, span.lo, span.hi) {
+    match lowest(pages, hand, Sort::Sealed, span.lo, span.hi) {
         Some(page) => Judged::Refused(Why::Eperm(page)),
         None => changed(span.lo, span.hi, Paint::Protects(prot), Reply::Zero),
     }
 }
 
 /// A Seal.
-pub(crate) fn judge_seal<P: Pages>(pages: &P, addr: u64, len: u64, flags: u64) -> Judged
-    requires { seal_reply addr len flags ≡ None }
-    ensures { IsJudged (P.kinds pages.now) (Seal addr len flags) result }
+pub(crate) fn judge_seal<P: Pages>(
+    pages: &P,
+    hand: &mut P::Hand,
+    addr: u64,
+    len: u64,
+    flags: u64,
+) -> Judged
+    requires may { P.may_look pages.now hand.old }
+    requires undecided { seal_reply addr len flags ≡ None }
+    ensures judged { IsJudged (P.kinds pages.now hand.old) (Seal addr len flags) result }
+    ensures looked { P.looked pages.now hand.old hand.new }
 {
     let span = Span::of_valid(addr, len);
-    match lowest(pages, Sort::Missing, span.lo, span.hi) {
+    match lowest(pages, hand, Sort::Missing, span.lo, span.hi) {
         Some(page) => Judged::Refused(Why::Enomem(Short::Missing(page))),
         None => changed(span.lo, span.hi, Paint::Seals, Reply::Zero),
     }
@@ -237,10 +305,17 @@ pub fn access_reply(kind: Option<Kind>, page: u64, access: Access) -> Reply
 }
 
 /// A Fault.
-pub(crate) fn judge_fault<P: Pages>(pages: &P, addr: u64, access: Access) -> Judged
-    requires { plain_reply (Fault addr access) ≡ None }
-    ensures { IsJudged (P.kinds pages.now) (Fault addr access) result }
+pub(crate) fn judge_fault<P: Pages>(
+    pages: &P,
+    hand: &mut P::Hand,
+    addr: u64,
+    access: Access,
+) -> Judged
+    requires may { P.may_look pages.now hand.old }
+    requires undecided { plain_reply (Fault addr access) ≡ None }
+    ensures judged { IsJudged (P.kinds pages.now hand.old) (Fault addr access) result }
+    ensures looked { P.looked pages.now hand.old hand.new }
 {
     let page = addr / PAGE;
-    Judged::Keeps(access_reply(pages.kind_of(page), page, access))
+    Judged::Keeps(access_reply(pages.kind_of(hand, page), page, access))
 }

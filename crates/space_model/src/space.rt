@@ -213,7 +213,7 @@ impl PlainSpace {
         ensures memory { OnErr result (self.new ≡ self.old) }
     {
         let _ = &self.areas;
-        match judge(self, call) {
+        match judge(&*self, &mut (), call) {
             Judged::Refused(why) => Ok(Reply::Refused(why)),
             Judged::Keeps(reply) => Ok(reply),
             Judged::Changes(change) => self.change(change),
@@ -241,17 +241,31 @@ impl PlainSpace {
 }
 
 impl Pages for PlainSpace {
-    ghost kinds = { kind_at };
+    ghost use Rattle.std.specs.Prelude.{refl};
 
-    fn kind_of(&self, page: u64) -> Option<Kind> {
+    type Hand = ();
+
+    ghost may_look = { λ _ _. Unit {0} };
+
+    ghost kinds = { λ areas _. kind_at areas };
+
+    ghost looked = { λ _ _ _. Unit {0} };
+
+    ghost no_look = { λ _ _. tt };
+
+    ghost looks_on = { λ _ _ _ _ _ _. tt };
+
+    ghost same_kinds = { λ _ _ _ _ _. (tt, refl) };
+
+    fn kind_of(&self, _hand: &mut (), page: u64) -> Option<Kind> {
         kind_of(self.areas.as_slice(), page)
     }
 
-    fn end_of(&self, sort: Sort, lo: u64, hi: u64) -> u64 {
+    fn end_of(&self, _hand: &mut (), sort: Sort, lo: u64, hi: u64) -> u64 {
         end_of(self.areas.as_slice(), sort, lo, hi)
     }
 
-    fn highest_fit(&self, window: u64, pages: u64) -> Option<u64> {
+    fn highest_fit(&self, _hand: &mut (), window: u64, pages: u64) -> Option<u64> {
         highest_fit(self.areas.as_slice(), window, pages)
     }
 }

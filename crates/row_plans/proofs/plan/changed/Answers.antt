@@ -1,44 +1,50 @@
 use Rattle.std.proofs.Common.{rules, ◌≡◌, ◌<◌, ◌≤◌, length, ◌∙◌, ap, refl}
 use Rattle.page_types.specs.declared.TheConstants.{ROWS}
 use Rattle.space_model.specs.Areas.{kind_at}
+use Rattle.space_model.specs.Effect.{patched}
+use Rattle.space_model.specs.Judges.{patches_of}
 use Rattle.space_model.specs.Answers.{full_reply}
-use Rattle.row_plans.specs.RowLists.{areas_from}
-use Rattle.row_plans.proofs.FirstRows.{all_stay}
-use Rattle.row_plans.proofs.PlanLeft.{made_done, made_full, made_first}
+use Rattle.row_plans.specs.RowLists.{ShowFrom, areas_from}
+use Rattle.row_plans.specs.Plans.{spliced}
+use Rattle.row_plans.proofs.Splices.{splice_length}
+use Rattle.row_plans.proofs.PlanLeft.{as_they_were, made_done, made_full}
 use Rattle.row_plans.proofs.plan.changed.Goals as goal
 
--- where the changed rows are more than ROWS, the change has its full reply
+-- where the changed rows are more than ROWS, the change has its full reply, and no row goes
 pub returns-then-rows-gt-ROWS-clause-made : goal.returns-then-rows-gt-ROWS-clause-made
-returns-then-rows-gt-ROWS-clause-made c =
+returns-then-rows-gt-ROWS-clause-made g c =
     let old = c.args.old.now in
-    let rows = c.change_rows-first.new.rows.items in
-    let count : c.len-rows.result ≡ length rows = search rules in
-    let many : ROWS < length rows = search rules in
-    made_full old rows c.args.change c.requires.old c.requires.rising
-    (c.change_rows-first.ensures.shows (kind_at (areas_from old)) c.requires.old.show) c.unchanged.new.new.items
-    c.unchanged.result.reply c.unchanged.result.rows many c.unchanged.ensures.none
-    (c.unchanged.ensures.reply ∙ (c.full_reply.ensures ∙ ap (full_reply c.args.change.full) count)) c.unchanged.ensures.rows
+    let hand = c.args.hand.now in
+    let words = g.R.Rows.words old hand in
+    let list = g.R.Rows.are_rows old hand c.requires.may in
+    let cut = c.plan_change-cut.result in
+    let more = c.plan_change-cut.new.rows.items in
+    let made = c.plan_change-cut.ensures in
+    let shown : ShowFrom 0 (spliced words cut more) (patched (patches_of c.args.change) (kind_at (areas_from words))) =
+    made.shows (kind_at (areas_from words)) list.show in
+    let all : c.count-count.result ≡ length words = c.count-count.ensures hand c.requires.may in
+    let wide = splice_length words more cut.first cut.end made.ordered made.there in
+    let none = c.unchanged.ensures in
+    let counted : c.args.change.full ≡ c.args.change.full = refl in
+    let many : ROWS < length (spliced words cut more) = search rules in
+    made_full words (spliced words cut more) c.args.change list c.requires.rising shown
+    (spliced words c.unchanged.result.cut c.unchanged.new.new.items) c.unchanged.result.reply c.unchanged.result.rows many
+    (as_they_were words c.unchanged.new.new.items c.unchanged.result.cut none.first none.end none.none)
+    (none.reply ∙ (c.full_reply.ensures ∙ ap (full_reply c.args.change.full) (search rules))) (none.rows ∙ all)
 
--- where they aren't, it is made with these rows
+-- where they aren't, it is made with the splice
 pub returns-clause-made : goal.returns-clause-made
-returns-clause-made c =
+returns-clause-made g c =
     let old = c.args.old.now in
-    let rows = c.change_rows-first.new.rows.items in
-    let count : c.len-rows.result ≡ length rows = search rules in
-    let few : length rows ≤ ROWS = search rules in
-    made_done old rows c.args.change c.requires.old c.requires.rising
-    (c.change_rows-first.ensures.shows (kind_at (areas_from old)) c.requires.old.show) c.args.change.reply c.len-rows.result
-    few c.change_rows-first.ensures.gaps refl count
-
--- where there would be too many rows all of them stay
-pub returns-then-rows-gt-ROWS-clause-first : goal.returns-then-rows-gt-ROWS-clause-first
-returns-then-rows-gt-ROWS-clause-first c =
-    all_stay c.args.old.now c.unchanged.new.new.items c.unchanged.result.first c.unchanged.ensures.none c.unchanged.ensures.first
-
--- otherwise those that start before the first page that changes do
-pub returns-clause-first : goal.returns-clause-first
-returns-clause-first c =
-    let old = c.args.old.now in
-    made_first old c.change_rows-first.new.rows.items c.args.change c.requires.old c.requires.rising
-    (c.change_rows-first.ensures.shows (kind_at (areas_from old)) c.requires.old.show) _
-    c.change_rows-first.ensures.gaps (search rules)
+    let hand = c.args.hand.now in
+    let words = g.R.Rows.words old hand in
+    let list = g.R.Rows.are_rows old hand c.requires.may in
+    let cut = c.plan_change-cut.result in
+    let more = c.plan_change-cut.new.rows.items in
+    let made = c.plan_change-cut.ensures in
+    let shown : ShowFrom 0 (spliced words cut more) (patched (patches_of c.args.change) (kind_at (areas_from words))) =
+    made.shows (kind_at (areas_from words)) list.show in
+    let all : c.count-count.result ≡ length words = c.count-count.ensures hand c.requires.may in
+    let wide = splice_length words more cut.first cut.end made.ordered made.there in
+    let few : length (spliced words cut more) ≤ ROWS = search rules in
+    made_done words (spliced words cut more) c.args.change list c.requires.rising shown c.args.change.reply _ few made.gaps refl (search rules)

@@ -1,58 +1,80 @@
-use Rattle.std.proofs.Common.{rules, ◌≡◌, ◌∙◌, sym, ap}
-use Rattle.std.specs.Prelude.{None, Some}
+use Rattle.std.proofs.Common.{rules, ◌≡◌, ◌∙◌, length, sym, ap, subst, arith}
+use Rattle.std.specs.Prelude.{None, Some, List, ℕ}
 use Rattle.page_types.specs.PlainReply.{plain_reply}
-use Rattle.row_plans.proofs.FirstRows.{all_stay}
-use Rattle.row_plans.proofs.PlanLeft.{judged_named, plan_plain, plan_refused, plan_kept, plan_made}
+use Rattle.space_model.specs.Areas.{kind_at}
+use Rattle.row_plans.specs.RowLists.{areas_from}
+use Rattle.row_plans.specs.Plans.{spliced}
+use Rattle.row_plans.specs.Planning.{IsMade}
+use Rattle.row_plans.proofs.PlanLeft.{judged_few, judged_named, as_they_were, plan_plain, plan_refused, plan_kept, plan_made}
 use Rattle.row_plans.proofs.plan.plan_rows.Goals as goal
 
 -- what the arguments decide is the plan
 pub returns-in-Some-clause-plan : goal.returns-in-Some-clause-plan
-returns-in-Some-clause-plan c =
-    let decided : plain_reply c.args.call.now ≡ Some c.unchanged.result.reply = sym c.in-Some.ensures ∙ ap (λ r. Some r) (sym c.unchanged.ensures.reply) in
-    plan_plain c.args.old.now c.unchanged.new.new.items c.args.call.now c.unchanged.result.reply c.unchanged.result.rows
-    c.requires.old c.unchanged.ensures.none c.unchanged.ensures.rows decided
+returns-in-Some-clause-plan g c =
+    let old = c.args.old.now in
+    let hand = c.args.hand.now in
+    let words = g.R.Rows.words old hand in
+    let none = c.unchanged.ensures in
+    let as_before = as_they_were words c.unchanged.new.new.items c.unchanged.result.cut none.first none.end none.none in
+    let decided : plain_reply c.args.call.now ≡ Some c.unchanged.result.reply = sym c.in-Some.ensures ∙ ap (λ r. Some r) (sym none.reply) in
+    plan_plain words (spliced words c.unchanged.result.cut c.unchanged.new.new.items) c.args.call.now c.unchanged.result.reply c.unchanged.result.rows
+    (g.R.Rows.are_rows old hand c.requires.may) as_before (none.rows ∙ c.count.ensures hand c.requires.may) decided
 
 -- what the rows refuse is the plan
 pub returns-in-Refused-clause-plan : goal.returns-in-Refused-clause-plan
-returns-in-Refused-clause-plan c =
+returns-in-Refused-clause-plan g c =
+    let old = c.args.old.now in
+    let hand = c.args.hand.now in
+    let words = g.R.Rows.words old hand in
+    let none = c.unchanged-in-Refused.ensures in
+    let as_before = as_they_were words c.unchanged-in-Refused.new.new.items c.unchanged-in-Refused.result.cut none.first none.end none.none in
     let undecided : plain_reply c.args.call.now ≡ None = search rules in
-    plan_refused c.args.old.now c.unchanged-in-Refused.new.new.items c.args.call.now c.unchanged-in-Refused.result.reply
-    c.unchanged-in-Refused.result.rows c.requires.old c.unchanged-in-Refused.ensures.none c.unchanged-in-Refused.ensures.rows
-    c.in-Refused.why undecided c.in-Refused.ensures c.unchanged-in-Refused.ensures.reply
+    plan_refused words (spliced words c.unchanged-in-Refused.result.cut c.unchanged-in-Refused.new.new.items) c.args.call.now
+    c.unchanged-in-Refused.result.reply c.unchanged-in-Refused.result.rows (g.R.Rows.are_rows old hand c.requires.may) as_before
+    (none.rows ∙ c.count-in-Refused.ensures hand c.requires.may) c.in-Refused.why undecided c.in-Refused.ensures.judged none.reply
 
 -- so is a reply alone, with the rows as they are
 pub returns-in-Keeps-clause-plan : goal.returns-in-Keeps-clause-plan
-returns-in-Keeps-clause-plan c =
+returns-in-Keeps-clause-plan g c =
+    let old = c.args.old.now in
+    let hand = c.args.hand.now in
+    let words = g.R.Rows.words old hand in
+    let none = c.unchanged-in-Keeps.ensures in
+    let as_before = as_they_were words c.unchanged-in-Keeps.new.new.items c.unchanged-in-Keeps.result.cut none.first none.end none.none in
     let undecided : plain_reply c.args.call.now ≡ None = search rules in
-    plan_kept c.args.old.now c.unchanged-in-Keeps.new.new.items c.args.call.now c.unchanged-in-Keeps.result.reply
-    c.unchanged-in-Keeps.result.rows c.requires.old c.unchanged-in-Keeps.ensures.none c.unchanged-in-Keeps.ensures.rows
-    c.in-Keeps.reply undecided c.in-Keeps.ensures c.unchanged-in-Keeps.ensures.reply
+    plan_kept words (spliced words c.unchanged-in-Keeps.result.cut c.unchanged-in-Keeps.new.new.items) c.args.call.now
+    c.unchanged-in-Keeps.result.reply c.unchanged-in-Keeps.result.rows (g.R.Rows.are_rows old hand c.requires.may) as_before
+    (none.rows ∙ c.count-in-Keeps.ensures hand c.requires.may) c.in-Keeps.reply undecided c.in-Keeps.ensures.judged none.reply
+
+-- the looks leave the rows as they were, so there is room for what comes
+pub changed-requires-clause-room : goal.changed-requires-clause-room
+changed-requires-clause-room g c =
+    let old = c.args.old.now in
+    let hand = c.args.hand.now in
+    let words = g.R.Rows.words old hand in
+    let same = (g.R.Rows.same_words old hand c.judge.new.hand c.requires.may c.in-Changes.ensures.looked).1 in
+    let wide : length (g.R.Rows.words old c.judge.new.hand) ≡ length words = ap (λ (l : List ℕ). length l) same in
+    let two = judged_few (kind_at (areas_from words)) c.args.call.now c.in-Changes.change c.in-Changes.ensures.judged in
+    let room = c.requires.room in
+    omega arith
 
 -- a change has named bits alone
 pub changed-requires-clause-named : goal.changed-requires-clause-named
-changed-requires-clause-named c =
-    judged_named c.args.old.now c.args.call.now c.in-Changes.change c.requires.named c.in-Changes.ensures
+changed-requires-clause-named g c =
+    judged_named (g.R.Rows.words c.args.old.now c.args.hand.now) c.args.call.now c.in-Changes.change c.requires.named
+    c.in-Changes.ensures.judged
 
--- and is the plan, as it is made
+-- and is the plan, as it is made after the looks
 pub returns-in-Changes-clause-plan : goal.returns-in-Changes-clause-plan
-returns-in-Changes-clause-plan c =
+returns-in-Changes-clause-plan g c =
+    let old = c.args.old.now in
+    let hand = c.args.hand.now in
+    let words = g.R.Rows.words old hand in
+    let same = (g.R.Rows.same_words old hand c.judge.new.hand c.requires.may c.in-Changes.ensures.looked).1 in
     let undecided : plain_reply c.args.call.now ≡ None = search rules in
-    plan_made c.args.old.now c.changed.new.new.items c.args.call.now c.in-Changes.change c.changed.result.reply
-    c.changed.result.rows undecided c.in-Changes.ensures c.changed.ensures.made
-
--- then all rows stay
-pub returns-in-Some-clause-first : goal.returns-in-Some-clause-first
-returns-in-Some-clause-first c =
-    all_stay c.args.old.now c.unchanged.new.new.items c.unchanged.result.first c.unchanged.ensures.none c.unchanged.ensures.first
-
--- then all rows stay
-pub returns-in-Refused-clause-first : goal.returns-in-Refused-clause-first
-returns-in-Refused-clause-first c =
-    let kept = c.unchanged-in-Refused in
-    all_stay c.args.old.now kept.new.new.items kept.result.first kept.ensures.none kept.ensures.first
-
--- then all rows stay
-pub returns-in-Keeps-clause-first : goal.returns-in-Keeps-clause-first
-returns-in-Keeps-clause-first c =
-    let kept = c.unchanged-in-Keeps in
-    all_stay c.args.old.now kept.new.new.items kept.result.first kept.ensures.none kept.ensures.first
+    let made : IsMade c.in-Changes.change c.changed.result.reply c.changed.result.rows
+    (spliced words c.changed.result.cut c.changed.new.new.items) (areas_from words) =
+    subst (λ (l : List ℕ). IsMade c.in-Changes.change c.changed.result.reply c.changed.result.rows
+    (spliced l c.changed.result.cut c.changed.new.new.items) (areas_from l)) same c.changed.ensures.made in
+    plan_made words (spliced words c.changed.result.cut c.changed.new.new.items) c.args.call.now c.in-Changes.change c.changed.result.reply
+    c.changed.result.rows undecided c.in-Changes.ensures.judged made

@@ -4,4 +4,4 @@ use Rattle.row_plans.proofs.planning.put_part.Goals as goal
 
 -- where there are no pages, the rows show what they showed
 pub returns-else-from-to-clause-shows : goal.returns-else-from-to-clause-shows
-returns-else-from-to-clause-shows c = λ kinds le all show. no_part c.args.rows.now.items c.args.from c.args.to kinds le (search rules) show
+returns-else-from-to-clause-shows c = λ first kinds le all show. no_part first c.args.rows.now.items c.args.from c.args.to kinds le (search rules) show

@@ -12,12 +12,12 @@ returns-then-not-ends_with-clause-items c =
 
 -- the rows with the new one show the kinds up to the stretch's end
 pub returns-then-not-ends_with-clause-shows : goal.returns-then-not-ends_with-clause-shows
-returns-then-not-ends_with-clause-shows c = λ end kinds some all show.
+returns-then-not-ends_with-clause-shows c = λ from end kinds some all show.
     let none : ends_with c.args.rows.now.items c.args.kind ≡ false = search rules in
-    subst (λ (l : List ℕ). ShowTo 0 l end kinds) (sym
+    subst (λ (l : List ℕ). ShowTo from l end kinds) (sym
     (c.push_reserved.ensures.items ∙ (ap (λ w. c.args.rows.now.items ++ w ∷ []) c.write_row.ensures.word
     ∙ sym (put_more c.args.rows.now.items c.args.page c.args.kind none))))
-    (put_shows c.args.page end c.args.kind kinds c.requires.named some all 0 c.args.rows.now.items show)
+    (put_shows c.args.page end c.args.kind kinds c.requires.named some all from c.args.rows.now.items show)
 
 -- where it is of that kind, the rows stay
 pub returns-else-not-ends_with-clause-items : goal.returns-else-not-ends_with-clause-items
@@ -27,7 +27,7 @@ returns-else-not-ends_with-clause-items c =
 
 -- and then they show the kinds up to the stretch's end
 pub returns-else-not-ends_with-clause-shows : goal.returns-else-not-ends_with-clause-shows
-returns-else-not-ends_with-clause-shows c = λ end kinds some all show.
+returns-else-not-ends_with-clause-shows c = λ from end kinds some all show.
     let last : ends_with c.args.rows.now.items c.args.kind ≡ true = search rules in
-    subst (λ (l : List ℕ). ShowTo 0 l end kinds) (put_kept c.args.rows.now.items c.args.page c.args.kind last)
-    (put_shows c.args.page end c.args.kind kinds c.requires.named some all 0 c.args.rows.now.items show)
+    subst (λ (l : List ℕ). ShowTo from l end kinds) (put_kept c.args.rows.now.items c.args.page c.args.kind last)
+    (put_shows c.args.page end c.args.kind kinds c.requires.named some all from c.args.rows.now.items show)

@@ -1,5 +1,5 @@
 -- The change is simple exactly where as many rows start at the ends of the span.
-use Rattle.std.proofs.Common.{◌∙◌, sym, inr, true≢false}
+use Rattle.std.proofs.Common.{◌∙◌, refl, sym, inr, true≢false}
 use Rattle.space_model.proofs.Simple.{member_in_range, simple_in, simple_borders}
 use Rattle.space_model.proofs.held.protect_under.Goals as goal
 
@@ -15,7 +15,7 @@ returns-then-is_simple_in-clause-fits c =
     simple_in c.args.areas.now c.args.addr c.args.len c.args.prot span.lo span.hi c.in-Some.area c.of_valid-span.ensures.lo
     c.of_valid-span.ensures.hi c.requires.in_order c.in-Some.ensures span.ordered span.in_range
     (c.is_simple_in.ensures.0 c.if-is_simple_in.true) in
-    inr (c.in-Some.area, simple, c.widened.ensures)
+    inr (c.in-Some.area, simple, c.widened.result, refl, c.widened.ensures.first, c.widened.ensures.end)
 
 -- where the test says so, the Protect is simple, and an area is held
 pub returns-then-is_simple_in-clause-simple : goal.returns-then-is_simple_in-clause-simple

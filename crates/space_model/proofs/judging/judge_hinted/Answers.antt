@@ -1,19 +1,42 @@
-use Rattle.std.proofs.Common.{◌∙◌, sym}
+use Rattle.std.proofs.Common.{ℕ, Option, ◌∙◌, sym, subst}
 use Rattle.std.proofs.lemmas.Bool.{true≢false}
+use Rattle.page_types.specs.declared.calls.Kind.{Kind}
+use Rattle.space_model.specs.Places.{FitsAt, IsHighestFit}
 use Rattle.space_model.proofs.Judgements.{hinted_refused, hinted_placed}
 use Rattle.space_model.proofs.judging.judge_hinted.Goals as goal
 
--- where the hint doesn't fit, the pages are put as high as they fit in its window
-pub returns-in-Some : goal.returns-in-Some
-returns-in-Some g c =
-    hinted_placed (g.P.Pages.kinds c.args.pages.now) c.args.addr c.args.len c.args.prot c.args.flags c.window_of-window.result
+-- where the hint doesn't fit, the pages are put as high as a second look finds that they fit in its window
+pub returns-in-Some-clause-judged : goal.returns-in-Some-clause-judged
+returns-in-Some-clause-judged g c =
+    let p = c.args.pages.now in
+    let same = (g.P.Pages.same_kinds p c.args.hand.now c.fits_at.new.hand c.requires.may c.fits_at.ensures.looked).1 in
+    let high : IsHighestFit (g.P.Pages.kinds p c.args.hand.now) c.window_of-window.result c.page_count-count.result c.in-Some.start =
+    subst (λ (k : ℕ → Option Kind). IsHighestFit k c.window_of-window.result c.page_count-count.result c.in-Some.start) same
+    c.in-Some.ensures.fit in
+    hinted_placed (g.P.Pages.kinds p c.args.hand.now) c.args.addr c.args.len c.args.prot c.args.flags c.window_of-window.result
     c.page_count-count.result c.in-Some.start c.mapped_kind-in-Some.result c.mapped_at-in-Some.result c.requires.hint
     c.window_of-window.ensures.window c.page_count-count.ensures c.mapped_kind-in-Some.ensures
-    (λ fit. true≢false (sym (c.fits_at.ensures.1 fit) ∙ c.if-fits_at.false)) c.in-Some.ensures c.window_of-window.ensures.limit
+    (λ fit. true≢false (sym (c.fits_at.ensures.fits.1 fit) ∙ c.if-fits_at.false)) high c.window_of-window.ensures.limit
     c.mapped_at-in-Some.ensures
 
+-- two looks are a look
+pub returns-in-Some-clause-looked : goal.returns-in-Some-clause-looked
+returns-in-Some-clause-looked g c =
+    g.P.Pages.looks_on c.args.pages.now c.args.hand.now c.fits_at.new.hand c.highest_fit.new.hand c.fits_at.ensures.looked
+    c.highest_fit.ensures.looked
+
 -- where the pages fit nowhere in the window the Map is refused
-pub returns-in-None : goal.returns-in-None
-returns-in-None g c =
-    hinted_refused (g.P.Pages.kinds c.args.pages.now) c.args.addr c.args.len c.args.prot c.args.flags c.window_of-window.result
-    c.page_count-count.result c.requires.hint c.window_of-window.ensures.window c.page_count-count.ensures c.in-None.ensures
+pub returns-in-None-clause-judged : goal.returns-in-None-clause-judged
+returns-in-None-clause-judged g c =
+    let p = c.args.pages.now in
+    let same = (g.P.Pages.same_kinds p c.args.hand.now c.fits_at.new.hand c.requires.may c.fits_at.ensures.looked).1 in
+    hinted_refused (g.P.Pages.kinds p c.args.hand.now) c.args.addr c.args.len c.args.prot c.args.flags c.window_of-window.result
+    c.page_count-count.result c.requires.hint c.window_of-window.ensures.window c.page_count-count.ensures
+    (subst (λ (k : ℕ → Option Kind). (start : ℕ) → ¬ FitsAt k c.window_of-window.result c.page_count-count.result start) same
+    c.in-None.ensures.fit)
+
+-- by two looks as well
+pub returns-in-None-clause-looked : goal.returns-in-None-clause-looked
+returns-in-None-clause-looked g c =
+    g.P.Pages.looks_on c.args.pages.now c.args.hand.now c.fits_at.new.hand c.highest_fit.new.hand c.fits_at.ensures.looked
+    c.highest_fit.ensures.looked

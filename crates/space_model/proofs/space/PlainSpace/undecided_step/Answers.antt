@@ -10,25 +10,25 @@ use Rattle.space_model.proofs.space.PlainSpace.undecided_step.Goals as goal
 
 -- a refusal is the answer
 pub returns-in-Refused-clause-answer : goal.returns-in-Refused-clause-answer
-returns-in-Refused-clause-answer c = refused c.in-Refused.why c.requires.undecided c.in-Refused.ensures refl refl
+returns-in-Refused-clause-answer c = refused c.in-Refused.why c.requires.undecided c.in-Refused.ensures.judged refl refl
 
 -- a reply alone has named bits, since the kinds of the areas have
 pub returns-in-Keeps-clause-named : goal.returns-in-Keeps-clause-named
 returns-in-Keeps-clause-named c =
     let A = c.args.self.now in
     kept-named (kind_at A) c.args.call.now c.in-Keeps.reply
-    (λ p. named_at A p (subst HasNamedKinds c.self.view_is c.self.invariant.1)) c.in-Keeps.ensures
+    (λ p. named_at A p (subst HasNamedKinds c.self.view_is c.self.invariant.1)) c.in-Keeps.ensures.judged
 
 -- so has a change
 pub change-requires-clause-named : goal.change-requires-clause-named
 change-requires-clause-named c =
     let A = c.args.self.now in
     judged-named A c.args.call.now c.in-Changes.change (subst HasNamedKinds c.self.view_is c.self.invariant.1) c.requires.named
-    c.in-Changes.ensures
+    c.in-Changes.ensures.judged
 
 -- a change is made, and that is the answer
 pub returns-in-Changes-clause-answer : goal.returns-in-Changes-clause-answer
 returns-in-Changes-clause-answer c =
     IfOk-weaker c.change.result _ _
     (λ reply made. made_answers c.args.self.now c.args.call.now c.in-Changes.change reply c.change.new.self c.requires.undecided
-    c.in-Changes.ensures made) c.change.ensures.made
+    c.in-Changes.ensures.judged made) c.change.ensures.made

@@ -4,8 +4,8 @@ use Rattle.space_model.specs.Places.{FitsAt, IsHighestFit}
 use Rattle.space_model.proofs.space.PlainSpacePages.highest_fit.Goals as goal
 
 -- the areas that were looked at are those of the space
-pub returns : goal.returns
-returns c =
+pub returns-clause-fit : goal.returns-clause-fit
+returns-clause-fit c =
     subst (λ A.
     MatchOption c.highest_fit.result ((start : ℕ) → ¬ FitsAt (kind_at A) c.args.window c.args.pages start)
     (IsHighestFit (kind_at A) c.args.window c.args.pages))

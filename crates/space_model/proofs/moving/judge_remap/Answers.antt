@@ -1,0 +1,95 @@
+-- Its looks find the same kinds, so what they find bars the Remap, or bars nothing.
+use Rattle.std.proofs.Common.{◌∙◌, sym, ap, subst, arith, ℕ, Option}
+use Rattle.page_types.specs.declared.calls.Kind.{Kind}
+use Rattle.page_types.specs.declared.calls.Call.TheVariants.{Remap}
+use Rattle.page_types.specs.Pages.{page_of}
+use Rattle.space_model.specs.Answers.{bars}
+use Rattle.space_model.specs.Sorts.{IsClear}
+use Rattle.space_model.proofs.Remapping.{fewer_judged, remap_clear, sealed_refuses}
+use Rattle.space_model.proofs.moving.judge_remap.Goals as goal
+
+-- the kind and the first bar: two looks are a look
+pub returns-in-Some-clause-looked : goal.returns-in-Some-clause-looked
+returns-in-Some-clause-looked g c =
+    g.P.Pages.looks_on c.args.pages.now c.args.hand.now c.kind_of-kind.new.hand c.lowest.new.hand c.kind_of-kind.ensures.looked
+    c.lowest.ensures.looked
+
+-- a sealed page of pages of one kind refuses the Remap
+pub returns-in-Some-lowest-clause-judged : goal.returns-in-Some-lowest-clause-judged
+returns-in-Some-lowest-clause-judged g c =
+    let p = c.args.pages.now in
+    let one = g.P.Pages.same_kinds p c.args.hand.now c.kind_of-kind.new.hand c.requires.may c.kind_of-kind.ensures.looked in
+    let two = g.P.Pages.same_kinds p c.kind_of-kind.new.hand c.lowest.new.hand one.0 c.lowest.ensures.looked in
+    sealed_refuses (g.P.Pages.kinds p c.args.hand.now) (g.P.Pages.kinds p c.kind_of-kind.new.hand) (g.P.Pages.kinds p c.lowest.new.hand)
+    c.args.addr c.args.old_len c.args.new_len c.args.may_move c.args.hint c.end_page-end.result c.in-Some-lowest.page
+    c.kind_of-kind.result one.1 (two.1 ∙ one.1) c.kind_of-kind.ensures.kind c.end_page-end.ensures c.in_default.ensures.lowest
+    c.in-Some-lowest.ensures.lowest
+
+-- after three looks
+pub returns-in-Some-lowest-clause-looked : goal.returns-in-Some-lowest-clause-looked
+returns-in-Some-lowest-clause-looked g c =
+    let p = c.args.pages.now in
+    g.P.Pages.looks_on p c.args.hand.now c.kind_of-kind.new.hand c.lowest-2.new.hand c.kind_of-kind.ensures.looked
+    (g.P.Pages.looks_on p c.kind_of-kind.new.hand c.lowest.new.hand c.lowest-2.new.hand c.lowest.ensures.looked c.lowest-2.ensures.looked)
+
+-- pages that nothing bars become fewer
+pub returns-then-count-page_count-clause-judged : goal.returns-then-count-page_count-clause-judged
+returns-then-count-page_count-clause-judged g c =
+    let p = c.args.pages.now in
+    let kinds = g.P.Pages.kinds p c.args.hand.now in
+    let one = g.P.Pages.same_kinds p c.args.hand.now c.kind_of-kind.new.hand c.requires.may c.kind_of-kind.ensures.looked in
+    let two = g.P.Pages.same_kinds p c.kind_of-kind.new.hand c.lowest.new.hand one.0 c.lowest.ensures.looked in
+    let clear =
+    remap_clear kinds (g.P.Pages.kinds p c.kind_of-kind.new.hand) (g.P.Pages.kinds p c.lowest.new.hand) c.args.addr c.args.old_len
+    c.args.new_len c.args.may_move c.args.hint c.end_page-end.result c.kind_of-kind.result one.1 (two.1 ∙ one.1)
+    c.kind_of-kind.ensures.kind c.end_page-end.ensures c.in_default.ensures.lowest c.in_default-lowest.ensures.lowest in
+    fewer_judged kinds c.args.addr c.args.old_len c.args.new_len c.args.may_move c.args.hint c.end_page-end.result
+    c.page_count-count.result c.changed.result c.requires.undecided clear
+    (omega (arith, c.if-count-page_count.true, c.page_count.ensures)) c.end_page-end.ensures c.page_count-count.ensures c.changed.ensures
+
+-- after three looks as well
+pub returns-then-count-page_count-clause-looked : goal.returns-then-count-page_count-clause-looked
+returns-then-count-page_count-clause-looked g c =
+    let p = c.args.pages.now in
+    g.P.Pages.looks_on p c.args.hand.now c.kind_of-kind.new.hand c.lowest-2.new.hand c.kind_of-kind.ensures.looked
+    (g.P.Pages.looks_on p c.kind_of-kind.new.hand c.lowest.new.hand c.lowest-2.new.hand c.lowest.ensures.looked c.lowest-2.ensures.looked)
+
+-- pages that are to be more may be looked at
+pub judge_longer-requires-clause-may : goal.judge_longer-requires-clause-may
+judge_longer-requires-clause-may g c =
+    let p = c.args.pages.now in
+    let one = g.P.Pages.same_kinds p c.args.hand.now c.kind_of-kind.new.hand c.requires.may c.kind_of-kind.ensures.looked in
+    let two = g.P.Pages.same_kinds p c.kind_of-kind.new.hand c.lowest.new.hand one.0 c.lowest.ensures.looked in
+    (g.P.Pages.same_kinds p c.lowest.new.hand c.lowest-2.new.hand two.0 c.lowest-2.ensures.looked).0
+
+-- the first of them has the kind that was found
+pub judge_longer-requires-clause-kind : goal.judge_longer-requires-clause-kind
+judge_longer-requires-clause-kind g c =
+    let p = c.args.pages.now in
+    let one = g.P.Pages.same_kinds p c.args.hand.now c.kind_of-kind.new.hand c.requires.may c.kind_of-kind.ensures.looked in
+    let two = g.P.Pages.same_kinds p c.kind_of-kind.new.hand c.lowest.new.hand one.0 c.lowest.ensures.looked in
+    let three = g.P.Pages.same_kinds p c.lowest.new.hand c.lowest-2.new.hand two.0 c.lowest-2.ensures.looked in
+    c.kind_of-kind.ensures.kind ∙ ap (λ (k : ℕ → Option Kind). k (page_of c.args.addr)) (sym (three.1 ∙ two.1 ∙ one.1))
+
+-- and nothing bars them
+pub judge_longer-requires-clause-clear : goal.judge_longer-requires-clause-clear
+judge_longer-requires-clause-clear g c =
+    let p = c.args.pages.now in
+    let kinds = g.P.Pages.kinds p c.args.hand.now in
+    let one = g.P.Pages.same_kinds p c.args.hand.now c.kind_of-kind.new.hand c.requires.may c.kind_of-kind.ensures.looked in
+    let two = g.P.Pages.same_kinds p c.kind_of-kind.new.hand c.lowest.new.hand one.0 c.lowest.ensures.looked in
+    let three = g.P.Pages.same_kinds p c.lowest.new.hand c.lowest-2.new.hand two.0 c.lowest-2.ensures.looked in
+    subst (λ (k : ℕ → Option Kind).
+    IsClear k (bars k (Remap c.args.addr c.args.old_len c.args.new_len c.args.may_move c.args.hint))) (sym (three.1 ∙ two.1 ∙ one.1))
+    (remap_clear kinds (g.P.Pages.kinds p c.kind_of-kind.new.hand) (g.P.Pages.kinds p c.lowest.new.hand) c.args.addr c.args.old_len
+    c.args.new_len c.args.may_move c.args.hint c.end_page-end.result c.kind_of-kind.result one.1 (two.1 ∙ one.1)
+    c.kind_of-kind.ensures.kind c.end_page-end.ensures c.in_default.ensures.lowest c.in_default-lowest.ensures.lowest)
+
+-- four looks are a look
+pub returns-clause-looked : goal.returns-clause-looked
+returns-clause-looked g c =
+    let p = c.args.pages.now in
+    g.P.Pages.looks_on p c.args.hand.now c.kind_of-kind.new.hand c.judge_longer.new.hand c.kind_of-kind.ensures.looked
+    (g.P.Pages.looks_on p c.kind_of-kind.new.hand c.lowest.new.hand c.judge_longer.new.hand c.lowest.ensures.looked
+    (g.P.Pages.looks_on p c.lowest.new.hand c.lowest-2.new.hand c.judge_longer.new.hand c.lowest-2.ensures.looked
+    c.judge_longer.ensures.looked))

@@ -1,0 +1,66 @@
+use Rattle.std.proofs.Common.{◌+◌, ◌&&◌, ◌==◌, not, ◌∙◌, sym, subst, refl, inl, ℕ, Option, MatchOption}
+use Rattle.std.proofs.lemmas.Bool.{true≢false}
+use Rattle.page_types.specs.declared.TheConstants.{LOW}
+use Rattle.page_types.specs.declared.calls.Kind.{Kind}
+use Rattle.page_types.specs.Pages.{page_of, is_aligned}
+use Rattle.space_model.specs.Places.{FitsAt, IsHighestFit, HasRoom}
+use Rattle.space_model.proofs.Remapping.{at_hint, past_hint, found_last}
+use Rattle.space_model.proofs.moving.remap_place.Goals as goal
+
+-- the pages go to the hint, where they may and fit there
+pub returns-then-goes_to_hint-clause-place : goal.returns-then-goes_to_hint-clause-place
+returns-then-goes_to_hint-clause-place g c =
+    let goes = c.goes_to_hint.ensures.fits.0 c.if-goes_to_hint.true in
+    at_hint (g.P.Pages.kinds c.args.pages.now c.args.hand.now) c.args.count c.args.lo c.args.end
+    (c.args.may_move && not (c.args.hint == 0) && is_aligned c.args.hint) c.args.may_move (page_of c.args.hint) goes.0 goes.1
+
+-- or stay, where those behind them are free
+pub returns-then-has_room-clause-place : goal.returns-then-has_room-clause-place
+returns-then-has_room-clause-place g c =
+    let p = c.args.pages.now in
+    let kinds = g.P.Pages.kinds p c.args.hand.now in
+    let same = (g.P.Pages.same_kinds p c.args.hand.now c.goes_to_hint.new.hand c.requires.may c.goes_to_hint.ensures.looked).1 in
+    past_hint kinds c.args.count c.args.lo c.args.end
+    (c.args.may_move && not (c.args.hint == 0) && is_aligned c.args.hint) c.args.may_move (page_of c.args.hint) c.args.lo
+    (λ may fit. true≢false (sym (c.goes_to_hint.ensures.fits.1 (may, fit)) ∙ c.if-goes_to_hint.false))
+    (inl (
+      subst (λ (k : ℕ → Option Kind). HasRoom k c.args.end (c.args.lo + c.args.count)) same
+          (c.has_room.ensures.room.0 c.if-has_room.true),
+      refl,
+    ))
+
+-- or go as high as they fit, if they may move
+pub returns-then-may_move-clause-place : goal.returns-then-may_move-clause-place
+returns-then-may_move-clause-place g c =
+    let p = c.args.pages.now in
+    let one = g.P.Pages.same_kinds p c.args.hand.now c.goes_to_hint.new.hand c.requires.may c.goes_to_hint.ensures.looked in
+    let two = g.P.Pages.same_kinds p c.goes_to_hint.new.hand c.has_room.new.hand one.0 c.has_room.ensures.looked in
+    found_last (g.P.Pages.kinds p c.args.hand.now) c.args.count c.args.lo c.args.end c.args.may_move c.args.hint c.highest_fit.result
+    c.if-may_move.true
+    (λ may fit. true≢false (sym (c.goes_to_hint.ensures.fits.1 (may, fit)) ∙ c.if-goes_to_hint.false))
+    (λ room. true≢false
+    (sym (c.has_room.ensures.room.1 (subst (λ (k : ℕ → Option Kind). HasRoom k c.args.end (c.args.lo + c.args.count)) (sym one.1) room)) ∙
+    c.if-has_room.false))
+    (subst (λ (k : ℕ → Option Kind).
+    MatchOption c.highest_fit.result ((start : ℕ) → ¬ FitsAt k LOW c.args.count start) (IsHighestFit k LOW c.args.count))
+    (two.1 ∙ one.1) c.highest_fit.ensures.fit)
+
+-- after as many looks as were made
+pub returns-then-may_move-clause-looked : goal.returns-then-may_move-clause-looked
+returns-then-may_move-clause-looked g c =
+    let p = c.args.pages.now in
+    g.P.Pages.looks_on p c.args.hand.now c.goes_to_hint.new.hand c.highest_fit.new.hand c.goes_to_hint.ensures.looked
+    (g.P.Pages.looks_on p c.goes_to_hint.new.hand c.has_room.new.hand c.highest_fit.new.hand c.has_room.ensures.looked
+    c.highest_fit.ensures.looked)
+
+-- two looks are a look, where the pages stay
+pub returns-then-has_room-clause-looked : goal.returns-then-has_room-clause-looked
+returns-then-has_room-clause-looked g c =
+    g.P.Pages.looks_on c.args.pages.now c.args.hand.now c.goes_to_hint.new.hand c.has_room.new.hand c.goes_to_hint.ensures.looked
+    c.has_room.ensures.looked
+
+-- and where there is no place
+pub returns-clause-looked : goal.returns-clause-looked
+returns-clause-looked g c =
+    g.P.Pages.looks_on c.args.pages.now c.args.hand.now c.goes_to_hint.new.hand c.has_room.new.hand c.goes_to_hint.ensures.looked
+    c.has_room.ensures.looked
