@@ -52,8 +52,7 @@ one_number before e m lone low high = omega arith
 simple_is_one_kind : (A : List Area) (addr len : ℕ) (prot : Prot) → IsAreaList A → IsSimple A (Protect addr len prot)
     → IsOneKind A (page_of addr) (end_page addr len)
 simple_is_one_kind A addr len prot w s =
-    let lies = s.1.0 in
-    (s.0.kind, λ page low high. kind_at-member A s.0 page w lies.member (let f = lies.from in omega arith) (let u = lies.within in omega arith))
+    (s.0.kind, λ page low high. kind_at-member A s.0 page w s.1.0 (let f = s.1.1 in omega arith) (let u = s.1.2 in omega arith))
 
 fits_then : (A : List Area) (call : Call) (under : Under) → plain_reply call ≡ None → FitsUnder A call under → FitsByState A call under
 fits_then A call under none fits = subst (λ (o : Option Reply). MatchOption o (FitsByState A call under) (λ (_ : Reply). under ≡ Nothing)) none fits

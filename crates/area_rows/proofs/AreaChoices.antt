@@ -28,14 +28,14 @@ use Rattle.space_model.specs.declared.sorts.Sort.TheVariants.{Missing, Sealed as
 use Rattle.space_model.specs.Sorts.{is_sort, NoneOf, IsLowest}
 use Rattle.space_model.specs.Answers.Answers.{refused, done}
 use Rattle.space_model.specs.Effect.{protected_kind, patch}
-use Rattle.space_model.specs.Held.{LiesIn, KeepsCounts, kind_before, IsSimpleIn, IsSimple, FitsByState, FitsUnder}
+use Rattle.space_model.specs.Held.{LiesIn, kind_before, IsSimpleIn, IsSimple, FitsByState, FitsUnder}
 use Rattle.space_model.specs.Laws.{IsMaximalRun, FourCases}
 use Rattle.space_model.specs.Laws.FourCases.{nothing, whole as all_change, first_part as first_change, last_part as last_change}
 use Rattle.space_model.proofs.AreaKinds.{only_one}
 use Rattle.space_model.proofs.Changing.{within-before, within-inside, within-after, kind_at-limit}
 use Rattle.space_model.proofs.FourWays.{four_ways, keeps_rows, rows_of_way}
 use Rattle.space_model.proofs.MaximalRuns.{maximal_runs}
-use Rattle.space_model.proofs.Simple.{simple_borders, keeps_counts}
+use Rattle.space_model.proofs.Simple.{KeepsCounts, simple_borders, keeps_counts}
 use Rattle.lock_core.specs.declared.range.Held.{Held}
 use Rattle.atomic_table.specs.Seated.{TableId}
 use Rattle.range_rw.specs.Contract.{SeatState}
@@ -56,7 +56,8 @@ use Rattle.area_rows.specs.AreaPlans.{IsOneKind, IsAmong, IsLike, IsChosen, plan
 use Rattle.area_rows.specs.Writes.{span_pages}
 use Rattle.row_plans.proofs.RowLists.{row_says, some_none}
 use Rattle.area_rows.proofs.Moments.{first_start, nobody_plans, shows_held}
-use Rattle.area_rows.proofs.Reading.{reading_on, shows_on, before_on, as_read_on}
+use Rattle.area_rows.specs.Loading.{reading_on}
+use Rattle.area_rows.proofs.Reading.{shows_on, before_on, as_read_on}
 use Rattle.area_rows.proofs.OneRow.{IsRowIn, shown_at, next_is}
 use Rattle.area_rows.proofs.ReplacingRows.{row_in}
 use Rattle.area_rows.proofs.Wholes.{match_none}
@@ -250,7 +251,7 @@ module _ (seat : SeatState Pass) (span : Span) (row : Row) (kind : Kind) (before
   fits_own : IsSimpleIn state (Protect addr len prot) own → FitsUnder state (Protect addr len prot) (OverArea span)
   fits_own simple = match_none (plain_reply (Protect addr len prot)) (FitsByState state (Protect addr len prot) (OverArea span))
       (λ (_ : Reply). OverArea span ≡ Nothing) undecided
-      (inr (own, simple, record { first = round.0; end = round.1 }))
+      (inr (own, simple, span, refl, round.0, round.1))
 
   -- in a sealed area the call is refused for its first page, which is right under the range that is held
   pub sealed_right : IsTrue kind.sealed
@@ -264,7 +265,7 @@ module _ (seat : SeatState Pass) (span : Span) (row : Row) (kind : Kind) (before
         none_below = λ page low high. absurd (omega arith);
       } in
       record {
-        fits = fits_own (lies, inl sealed);
+        fits = fits_own (lies.member, lies.from, lies.within, inl sealed);
         answers = refused (Eperm (page_of addr)) undecided (inl (inr (mapped, inl (page_of addr, lowest, refl)))) refl refl;
       }
 
@@ -284,7 +285,7 @@ module _ (seat : SeatState Pass) (span : Span) (row : Row) (kind : Kind) (before
     -- the call is right at this state, with the reply Zero and under the range that is held
     pub right : IsRight state (Protect addr len prot) Zero (OverArea span) done_list.0
     right = record {
-      fits = fits_own (lies, inr done_list);
+      fits = fits_own (lies.member, lies.from, lies.within, inr (done_list.0, counts.changed, counts.areas, counts.gaps));
       answers = done (patch (page_of addr) (end_page addr len) (Protects prot) ∷ []) None undecided
           ((mapped, (none_sealed, tt)), refl) counts.changed
           (let a = counts.areas in let g = counts.gaps in let l = m.running.limit in omega arith);

@@ -30,7 +30,6 @@ use Rattle.row_plans.specs.RowLists.{rows_from, areas_from, ShowFrom, IsBareGap}
 use Rattle.area_rows.specs.Rows.{room_of, rows_in, RowsShow}
 use Rattle.area_rows.specs.History.{IsPart, own_planned, planned_calls, planned_count, ShowsBefore, IsShown, IsRunningSpace}
 use Rattle.area_rows.specs.History.{IsBacked, AreBacked, HasRoom, HasHistory, own_count, entry_count, own_most, most_count, newcomer}
-use Rattle.row_plans.specs.Plans.{planned_rows}
 use Rattle.area_rows.specs.Callers.{CallerView, AreNewCallers, IsEnough, new_pass, quotas, opening_rows, opening_words}
 use Rattle.row_plans.proofs.RowLists.{length-rows, shows_from, areas_back, bare_from}
 
@@ -253,9 +252,9 @@ opens grants start calls room words is areas named few fits callers enough small
       backs_new grants (opening_words start calls room) start calls room (length calls),
     ))
 
--- a caller with this seat and these lists, and no change of one row
-abbrev pub caller_with : SeatState Pass → ℕ → List ℕ → List ℕ → CallerView
-caller_with s left read plan = record { seat = s; left = left; read = read; plan = planned_rows read plan; change = None }
+-- a caller with this seat and these rows, no rows that go, and no change of one row
+abbrev pub caller_with : SeatState Pass → ℕ → List ℕ → CallerView
+caller_with s left more = record { seat = s; left = left; count = 0; cut = record { first = 0; end = 0 }; more = more; change = None }
 
 -- before the first caller all seats wait
 pub first_seats : (table : TableId) (p : ℕ → Pass) (seats : List (SeatState Pass))
@@ -279,10 +278,9 @@ seats_on table p worker seats left rest is k x at =
     let z : worker + suc k ≡ worker + 1 + k = omega arith in
     rest (suc k) x (sym (at_removed seats k) ∙ (ap (λ l. get_elem? l k) (sym is) ∙ at)) ∙ ap (new_seat table p) z
 
--- a caller with a new seat and empty lists
-pub new_caller : (s t : SeatState Pass) (left : ℕ) (read plan : List ℕ) → s ≡ t → read ≡ [] → plan ≡ []
-    → caller_with s left read plan ≡ caller_with t left [] []
-new_caller s t left read plan e r p = λ k. caller_with (e k) left (r k) (p k)
+-- a caller with a new seat and an empty list
+pub new_caller : (s t : SeatState Pass) (left : ℕ) (more : List ℕ) → s ≡ t → more ≡ [] → caller_with s left more ≡ caller_with t left []
+new_caller s t left more e p = λ k. caller_with (e k) left (p k)
 
 -- one caller more behind those that were made, with the next number, keeps them all new
 pub one_caller : (table : TableId) (start : List Area) (calls : List ℕ) (made : List CallerView) (c : CallerView) (n : ℕ)
@@ -290,15 +288,17 @@ pub one_caller : (table : TableId) (start : List Area) (calls : List ℕ) (made 
     → c ≡ record {
       seat = new_seat table (λ k. new_pass start (room_of table) (slice_index calls k)) n;
       left = slice_index calls n;
-      read = [];
-      plan = [];
+      count = 0;
+      cut = record { first = 0; end = 0 };
+      more = [];
       change = None;
     } → AreNewCallers table start calls (made ++ c ∷ [])
 one_caller table start calls made c n e all is =
     pushed_all (λ k x. x ≡ record {
       seat = new_seat table (λ j. new_pass start (room_of table) (slice_index calls j)) k;
       left = slice_index calls k;
-      read = [];
-      plan = [];
+      count = 0;
+      cut = record { first = 0; end = 0 };
+      more = [];
       change = None;
     }) made c n e all is

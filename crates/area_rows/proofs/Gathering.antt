@@ -54,12 +54,12 @@ nobody_holds n worker h at = none_is h (at_replicate n None (Some h) worker at)
 
 idle_rest : (n : ℕ) (state : List Area) (worker : ℕ) (pending : Pending) → Backs (replicate n None) state worker pending → planned_calls pending ≡ 0
 idle_rest n state worker AtRest b = refl
-idle_rest n state worker (Planned rows) b = absurd (nobody_holds n worker everything b.0)
+idle_rest n state worker (Planned plan) b = absurd (nobody_holds n worker everything b.0)
 idle_rest n state worker (OneRow c) b = refl
 
 idle_shown : (n : ℕ) (state : List Area) (worker page : ℕ) (pending : Pending) → Backs (replicate n None) state worker pending → LagsAt pending page → ⊥
 idle_shown n state worker page AtRest b lags = lags
-idle_shown n state worker page (Planned rows) b lags = lags
+idle_shown n state worker page (Planned plan) b lags = lags
 idle_shown n state worker page (OneRow c) b lags = nobody_holds n worker (alone c.span) b.0
 
 -- and the rows show the state

@@ -2,8 +2,10 @@ pub mod Halving
 pub mod Moments
 pub mod Gathering
 pub mod Reading
+pub mod KnownRows
 pub mod Stepping
 pub mod StoringRows
+pub mod SpliceStores
 pub mod StoreCounts
 pub mod OneRow
 pub mod ReplacingRows

@@ -130,7 +130,7 @@ none_planned (x ∷ xs) all = let a = all 0 x refl in let r = none_planned xs (�
 rest_of_other : (grants : Grants) (state : List Area) (worker other : ℕ) (pending : Pending) → IsExclusive grants
     → (other ≡ worker → ⊥) → HoldsPages grants worker → Backs grants state other pending → planned_calls pending ≡ 0
 rest_of_other grants state worker other AtRest exclusive differ h b = refl
-rest_of_other grants state worker other (Planned rows) exclusive differ h b = absurd (clash grants other worker exclusive (λ e. differ (sym e)) b.0 h)
+rest_of_other grants state worker other (Planned plan) exclusive differ h b = absurd (clash grants other worker exclusive (λ e. differ (sym e)) b.0 h)
 rest_of_other grants state worker other (OneRow c) exclusive differ h b = refl
 
 module _ (grants : Grants) (words : List ℕ) (state : List Area) (passes : List Pass) (worker : ℕ) (p : Pass)
@@ -155,7 +155,7 @@ module _ (grants : Grants) (words : List ℕ) (state : List Area) (passes : List
   keeps_off : (held : Option Held) → get_elem? grants worker ≡ some held → (page : ℕ) → IsHeldPage held page
       → (other : ℕ) (pending : Pending) → (other ≡ worker → ⊥) → Backs grants state other pending → LagsAt pending page → ⊥
   keeps_off held has page here other AtRest differ b lags = lags
-  keeps_off held has page here other (Planned rows) differ b lags = lags
+  keeps_off held has page here other (Planned plan) differ b lags = lags
   keeps_off held has page here other (OneRow c) differ b lags =
       apart_pages grants other worker c.span exclusive (λ e. differ (sym e)) b.0 held has page here (in_span c page b.1 lags)
 

@@ -1,5 +1,5 @@
 -- What the rows that a caller has read show of the history's state, also while others move boundaries beside its range.
-use Rattle.std.proofs.Common.{◌≡◌, ◌≢◌, ℕ, zero, suc, ◌+◌, ◌-◌, ◌<◌, ◌≤◌, List, ◌∷◌, drop, length, get_or, sym, refl}
+use Rattle.std.proofs.Common.{◌≡◌, ◌≢◌, ℕ, zero, suc, ◌+◌, ◌-◌, ◌<◌, ◌≤◌, List, [], ◌∷◌, ◌++◌, drop, length, get_or, sym, refl}
 use Rattle.std.proofs.Common.{ap, ◌∙◌, subst, arith, ◌⊎◌, inl, inr, ⊎_elim}
 use Rattle.std.proofs.lemmas.Bool.{cases_lt}
 use Rattle.std.proofs.lemmas.List.{drop_all}
@@ -17,10 +17,12 @@ use Rattle.area_rows.specs.declared.guard.Pass.{Pass}
 use Rattle.row_plans.specs.RowWords.{row_start, row_kind}
 use Rattle.row_plans.specs.RowLists.{rows_start}
 use Rattle.area_rows.specs.Rows.{rows_in, RowsShow, IsRowOf}
-use Rattle.area_rows.specs.Reads.{IsHeldPage, HasRead, StillStands}
-use Rattle.area_rows.specs.History.{RowsStandFor, HoldsPages, IsAtRest, after_count, after_row}
+use Rattle.area_rows.specs.declared.guard.ReadRow.{ReadRow}
+use Rattle.area_rows.specs.Reads.{IsHeldPage, HasRead, StillStands, noted_from}
+use Rattle.area_rows.specs.History.{RowsStandFor, HoldsPages, IsAtRest, after_seen, after_row}
 use Rattle.area_rows.specs.declared.row.Row.{Row}
-use Rattle.area_rows.specs.Callers.{IsHeldPages, KeepsRead, IsRowEnd, IsAsRead, IsReadBefore, IsReadBehind, RowIs, Shows, IsReading, IsClientStep}
+use Rattle.area_rows.specs.Callers.{IsHeldPages, KeepsRead, IsRowEnd, IsAsRead, IsReadBefore, IsReadBehind, RowIs, Shows, IsReading, IsClientStep, IsCounted}
+pub use Rattle.area_rows.specs.Loading.{keeps_on, no_reading, reading_on}
 use Rattle.row_plans.proofs.RowLists.{row_says}
 use Rattle.area_rows.proofs.Moments.{length-rows_in, at_row, first_row, row_below, stands, nobody_plans, shows_held}
 use Rattle.area_rows.proofs.Gathering.{next_start}
@@ -190,45 +192,6 @@ shows_row seat held page count index word lo hi kind l k same pages rest counted
     (λ i. (sym l i, sym k i)) (row_is seat held page count index word hi same pages rest counted read lt here from until limit
     ends)
 
--- what was read stays read
-pub keeps_on : (a b c : Pass) → KeepsRead a b → KeepsRead b c → KeepsRead a c
-keeps_on a b c f g = record {
-  count = λ n e. g.count n (f.count n e);
-  rows = λ index word h. g.rows index word (f.rows index word h);
-  sequence = λ n e. g.sequence n (f.sequence n e);
-  pending = g.pending ∙ f.pending;
-}
-
--- steps that read words, one after another, are such steps
-pub reading_on : (a b c : SeatState Pass) → IsReading a b → IsReading b c → IsReading a c
-reading_on a b c f g = record {
-  table = g.table ∙ f.table;
-  number = g.number ∙ f.number;
-  held = g.held ∙ f.held;
-  pools = g.pools ∙ f.pools;
-  start = g.start ∙ f.start;
-  seen = g.seen ∙ f.seen;
-  mine = g.mine ∙ f.mine;
-  looks = g.looks ∙ f.looks;
-  taken = let l = f.taken in let m = g.taken in omega arith;
-  read = keeps_on a.pass b.pass c.pass f.read g.read;
-}
-
--- no step at all is a reading
-pub no_reading : (a : SeatState Pass) → IsReading a a
-no_reading a = record {
-  table = refl;
-  number = refl;
-  held = refl;
-  pools = refl;
-  start = refl;
-  seen = refl;
-  mine = refl;
-  looks = refl;
-  taken = omega arith;
-  read = record { count = λ n e. e; rows = λ index word h. h; sequence = λ n e. e; pending = refl };
-}
-
 -- one step on a client word raises the count of steps by one
 pub step_taken : (a b : SeatState Pass) (place : ℕ) (p : Pass) → IsClientStep a place p b → b.trace.taken ≡ a.trace.taken + 1
 step_taken a b place p s = ap (λ (r : Record). r.taken) s.trace
@@ -252,10 +215,19 @@ step_reads a b place p s x y z l k = record {
 same_some : (n m : ℕ) → n ≡ m → Some n ≡ Some m
 same_some n m e = ap Some e
 
+-- what was read before is still read where rows are noted
+read_behind : (front rows : List ReadRow) (index word : ℕ) → HasRead rows index word → HasRead (front ++ rows) index word
+read_behind [] rows index word has = has
+read_behind (r ∷ front) rows index word has = inr (read_behind front rows index word has)
+
 -- so is a load of the row count that finds what was found before
-pub count_reads : (a b : SeatState Pass) (n : ℕ) → IsClientStep a 2 (after_count n a.pass) b → ((m : ℕ) → a.pass.count ≡ Some m → n ≡ m) → IsReading a b
-count_reads a b n s again = step_reads a b 2 (after_count n a.pass) s refl refl refl refl
-    (record { count = λ m e. same_some n m (again m e); rows = λ index word h. h; sequence = λ m e. e; pending = refl })
+pub count_reads : (a b : SeatState Pass) (n : ℕ) → IsCounted a n b → ((m : ℕ) → a.pass.count ≡ Some m → n ≡ m) → IsReading a b
+count_reads a b n s again = step_reads a b 2 (after_seen s.rows n a.pass) s.step refl refl refl refl (record {
+  count = λ m e. same_some n m (again m e);
+  rows = λ index word h. read_behind (noted_from 0 s.rows) a.pass.rows index word h;
+  sequence = λ m e. e;
+  pending = refl;
+})
 
 -- so is a load of a row
 pub row_reads : (a b : SeatState Pass) (index word : ℕ) → IsClientStep a (3 + index) (after_row index word a.pass) b → IsReading a b

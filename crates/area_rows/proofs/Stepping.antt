@@ -7,7 +7,7 @@ use Rattle.page_types.specs.declared.TheConstants.{LIMIT, ROWS}
 use Rattle.page_types.specs.Named.{IsNamedCall}
 use Rattle.atomic_table.specs.Seated.{TableId}
 use Rattle.lock_core.specs.declared.range.Held.{Held}
-use Rattle.lock_core.specs.Grants.{Grants}
+use Rattle.lock_core.specs.Grants.{Grants, Holds}
 use Rattle.lock_core.specs.Client.{loads, adds, IsAllowed, IsMade}
 use Rattle.range_rw.specs.Contract.{SeatState, IsClientCall}
 use Rattle.space_model.specs.declared.areas.Area.{Area}
@@ -20,24 +20,28 @@ use Rattle.area_rows.specs.declared.guard.Note.{Note}
 use Rattle.area_rows.specs.declared.guard.ReadRow.{ReadRow}
 use Rattle.area_rows.specs.declared.guard.Pass.{Pass}
 use Rattle.area_rows.specs.declared.guard.Pending.{Pending}
+use Rattle.area_rows.specs.declared.guard.Splice.{Splice}
+use Rattle.row_plans.specs.declared.planning.Cut.{Cut}
+use Rattle.area_rows.specs.Rows.{room_of, rows_in}
+use Rattle.area_rows.specs.Writes.{everything_pages}
 use Rattle.area_rows.specs.declared.guard.Pending.TheVariants.{AtRest, Planned, OneRow}
 use Rattle.row_plans.specs.RowWords.{row_start}
 use Rattle.row_plans.specs.Plans.{IsRowList}
 use Rattle.area_rows.specs.Halving.{IsOnSameSide}
-use Rattle.area_rows.specs.Reads.{everything, IsHeldPage, HasRead, HasRows, StillStands}
+use Rattle.area_rows.specs.Reads.{everything, IsHeldPage, HasRead, or_zero, words_of, known_rows, KnowsRows, StillStands}
 use Rattle.area_rows.specs.History.{Runs, StartsWith, planned_calls, RowsStandFor, HasHistory, Allowed, Here, MayLoad}
-use Rattle.area_rows.specs.Rows.{room_of}
-use Rattle.area_rows.specs.History.{MayAdd, IsAtRest, IsRight, Leaves, FitsIn, HoldsFor, HoldsJust, pending_of, entry_of, after_look}
-use Rattle.area_rows.specs.History.{after_count, after_sequence, after_row, after_draw}
+use Rattle.area_rows.specs.History.{MayAdd, IsAtRest, IsRight, Leaves, FitsIn, HoldsFor, HoldsJust, HoldsPages, pending_of, entry_of}
+use Rattle.area_rows.specs.History.{after_look, after_seen, after_sequence, after_row, after_draw, rows_after}
 use Rattle.area_rows.specs.History.MayLoad.{number, glance, sequence, count, row}
 use Rattle.area_rows.specs.History.MayAdd.{draw, raise}
-use Rattle.area_rows.specs.Callers.{CallerView, HasToWrite, HasToStore, IsReadRound, IsReadBefore, IsReadBehind}
+use Rattle.area_rows.specs.Callers.{CallerView, HasSameRows, plan_of, IsKnown, HasToWrite, HasToStore, IsReadRound, IsReadBefore, IsReadBehind}
 use Rattle.area_rows.specs.Callers.{IsRowEnd, IsHeldPages, IsMoment, Shows, KeepsRead, KeepsRows, CountsWhole}
-use Rattle.area_rows.specs.Callers.{IsReading, IsLook, IsNumbered, IsDrawn}
+use Rattle.area_rows.specs.Callers.{IsReading, IsLook, IsNumbered, IsDrawn, IsClientStep}
 use Rattle.area_rows.specs.Draws.{draw_pending, draw_mine, draw_seen, draw_start, draw_drew, draw_looks, draw_room, draw_most, plan_fits}
 use Rattle.area_rows.specs.Keeping.{no_note}
 use Rattle.area_rows.specs.Parts.{none_is}
 use Rattle.area_rows.proofs.Reading.{step_reads}
+use Rattle.area_rows.proofs.Moments.{length-rows_in, at_row}
 use Rattle.area_rows.proofs.Moments.{held_some, held_pages, first_row, row_below, row_list, stands, only_own_plan, nobody_plans, rows_are, here_at, moment_of}
 
 module _ (own : Option Held → Type 0) (free held : Type 0) (words : List ℕ) (history : List Entry) (p after : Pass) where
@@ -56,7 +60,7 @@ module _ (own : Option Held → Type 0) (free held : Type 0) (words : List ℕ) 
   sequence_tells (count h e is) = absurd (omega arith)
   sequence_tells (row i h few e is) = absurd (omega arith)
 
-  count_tells : MayLoad own free held words history 2 p after → after ≡ after_count (slice_index words 2) p
+  count_tells : MayLoad own free held words history 2 p after → after ≡ after_seen (rows_in words) (slice_index words 2) p
   count_tells (number h o e is) = absurd (omega arith)
   count_tells (glance f e is) = absurd (omega arith)
   count_tells (sequence h e is) = absurd (omega arith)
@@ -72,7 +76,7 @@ module _ (own : Option Held → Type 0) (free held : Type 0) (words : List ℕ) 
 
 draw_keeps : (history : List Entry) (e : Entry) (pending : Pending) (held : Option Held) (p : Pass) → KeepsRows pending p (after_draw history e pending held p)
 draw_keeps history e AtRest held p = tt
-draw_keeps history e (Planned rows) held p = (refl, refl)
+draw_keeps history e (Planned plan) held p = (refl, refl)
 draw_keeps history e (OneRow c) held p = (refl, refl)
 
 -- a caller that holds a range remembers the sequence word
@@ -95,7 +99,7 @@ module _ (note : Note) (seat : ℕ) (held : Option Held) (pass : Pass) where
   -- a load of the row count, while pages are held
   pub may_count : IsSome held → IsHeldPages held → IsAllowed HasHistory Allowed note seat held pass (loads 2)
   may_count some_held pages grants words passes m lt small = (
-    after_count (slice_index words 2) pass,
+    after_seen (rows_in words) (slice_index words 2) pass,
     (
       here_at grants words passes seat held pass m,
       count (held_pages grants seat held m.grant some_held pages) refl refl,
@@ -109,6 +113,16 @@ module _ (note : Note) (seat : ℕ) (held : Option Held) (pass : Pass) where
     (
       here_at grants words passes seat held pass m,
       row index (held_pages grants seat held m.grant some_held pages) few refl refl,
+    ),
+  )
+
+  -- a load of a row, while everything is held
+  pub may_row_all : (index : ℕ) → index < ROWS → held ≡ Some everything → IsAllowed HasHistory Allowed note seat held pass (loads (3 + index))
+  may_row_all index few all grants words passes m lt small = (
+    after_row index (slice_index words (3 + index)) pass,
+    (
+      here_at grants words passes seat held pass m,
+      row index (everything, m.grant ∙ ap some all, everything_pages) few refl refl,
     ),
   )
 
@@ -136,20 +150,36 @@ module _ (note : Note) (seat : ℕ) (held : Option Held) (pass : Pass) where
       here.running.rows (nobody_plans grants words here.state passes seat here.pass here.exclusive here.backed here.own rest
       (held_pages grants seat held at some_held pages))
 
+  -- and where it holds everything all rows of the moment are a list of rows
+  whole_list : (grants : Grants) (words : List ℕ) (passes : List Pass) (here : Here grants words passes seat) → IsAtRest here.pass
+      → Holds grants seat everything → IsRowList (rows_in words)
+  whole_list grants words passes here rest holds =
+      let pages : HoldsPages grants seat = (everything, holds, everything_pages) in
+      let rows : RowsStandFor here.state passes words =
+      here.running.rows (nobody_plans grants words here.state passes seat here.pass here.exclusive here.backed here.own rest pages) in
+      let are = rows_are grants here.start here.history here.state words passes seat here.pass (rows_in words) here.running here.backed
+      here.exclusive here.own holds rest (sym (length-rows_in words rows.0 rows.2))
+      (λ i lt. sym (at_row words i (let w = length-rows_in words rows.0 rows.2 in omega arith))) in
+      row_list (rows_in words) here.state are.0 are.1
+
   module _ (found : ℕ) (after : Pass) where
-    -- a load of the row count is kept in the pass: at least one row, at most as many as there may be and as there is
-    -- room for, and as many as were found before
+    -- a load of the row count is kept in the pass, and with it all rows of the moment: at least one, at most as many as
+    -- there may be and as there is room for, and as many as were found before. Where everything is held they are a list
+    -- of rows
     pub counts : IsSome held → IsHeldPages held → IsAtRest pass
         → IsMade HasHistory Allowed note seat held pass (loads 2) found after
-        → (after ≡ after_count found pass) × (0 < found) × (found ≤ ROWS) × (found ≤ pass.room)
-        × ((n : ℕ) → pass.count ≡ Some n → found ≡ n)
+        → (rows : List ℕ) × (length rows ≡ found) × (after ≡ after_seen rows found pass) × (held ≡ Some everything → IsRowList rows)
+        × (0 < found) × (found ≤ ROWS) × (found ≤ pass.room) × ((n : ℕ) → pass.count ≡ Some n → found ≡ n)
     counts some_held pages rest s =
         let m = s.3 in let here = s.5.0 in
         let same : here.pass ≡ pass = some-injective here.pass pass (sym here.own ∙ m.own) in
         let rows : RowsStandFor here.state s.2 s.1 = rows_here s.0 s.1 s.2 here some_held pages m.grant (ap (λ (x : Pass). x.pending) same ∙ rest) in
         let some_rows = rows.2.some in let few = rows.2.few in let fits = rows.2.room in let e = s.4 in
         let room = (here.running.parts seat here.pass here.own).room in (
-          count_tells _ _ _ s.1 here.history here.pass after s.5.1 ∙ (λ i. after_count (e i) (same i)),
+          rows_in s.1,
+          length-rows_in s.1 rows.0 rows.2 ∙ e,
+          count_tells _ _ _ s.1 here.history here.pass after s.5.1 ∙ (λ i. after_seen (rows_in s.1) (e i) (same i)),
+          λ all. whole_list s.0 s.1 s.2 here (ap (λ (x : Pass). x.pending) same ∙ rest) (m.grant ∙ ap some all),
           omega arith,
           omega arith,
           subst (λ (x : Pass). found ≤ x.room) same (omega arith),
@@ -183,26 +213,16 @@ module _ (note : Note) (seat : ℕ) (held : Option Held) (pass : Pass) where
         let still = stands held s.1 here.pass.rows index old stood (subst (λ (x : Pass). HasRead x.rows index old) (sym same) has) in
         subst (λ w. (row_start old ≤ page) ↔ (row_start w ≤ page)) s.4 (still.side page h)
 
-    -- where everything is held and all rows are read, with this one, they are a row list
-    pub reads_all : (index : ℕ) → held ≡ Some everything → IsAtRest pass
-        → IsMade HasHistory Allowed note seat held pass (loads (3 + index)) found after → (new : Pass) → new ≡ after
-        → (rows : List ℕ) → HasRows new rows → IsRowList rows
-    reads_all index all rest s new new_is rows has =
+    -- where everything is held a row that was read before has the same word
+    pub reads_again : (index word : ℕ) → held ≡ Some everything
+        → IsMade HasHistory Allowed note seat held pass (loads (3 + index)) found after → HasRead pass.rows index word → found ≡ word
+    reads_again index word all s has =
         let m = s.3 in let here = s.5.0 in
         let same : here.pass ≡ pass = some-injective here.pass pass (sym here.own ∙ m.own) in
-        let is : new ≡ after_row index found here.pass = new_is
-        ∙ (row_tells _ _ _ s.1 here.history here.pass after index s.5.1 ∙ (λ i. after_row index (s.4 i) here.pass)) in
-        let holds : get_elem? s.0 seat ≡ some (Some everything) = m.grant ∙ ap some all in
-        let stood : All (StillStands (Some everything) s.1) here.pass.rows = (here.backed seat here.pass here.own).rows (Some everything) holds in
-        let part = here.running.parts seat here.pass here.own in
-        let counted : slice_index s.1 2 ≡ length rows = part.count (length rows) (sym (ap (λ (x : Pass). x.count) is) ∙ has.0) in
-        let word : (i : ℕ) → i < length rows → slice_index s.1 (3 + i) ≡ slice_index rows i = λ i lt. ⊎_elim
-        (λ t. ap (λ n. slice_index s.1 (3 + n)) (sym t.0) ∙ (s.4 ∙ t.1))
-        (λ t. (stands (Some everything) s.1 here.pass.rows i (slice_index rows i) stood t).word refl)
-        (subst (λ (x : Pass). HasRead x.rows i (slice_index rows i)) is (has.1 i lt)) in
-        let are = rows_are s.0 here.start here.history here.state s.1 s.2 seat here.pass rows here.running here.backed
-        here.exclusive here.own holds (ap (λ (x : Pass). x.pending) same ∙ rest) counted word in
-        row_list rows here.state are.0 are.1
+        let stood : All (StillStands (Some everything) s.1) here.pass.rows =
+        (here.backed seat here.pass here.own).rows (Some everything) (m.grant ∙ ap some all) in
+        sym s.4 ∙ (stands (Some everything) s.1 here.pass.rows index word stood
+        (subst (λ (x : Pass). HasRead x.rows index word) (sym same) has)).word refl
 
     drawn_as : (t u : SeatState Pass) → t.number ≡ seat → t.held ≡ held → t.pass ≡ pass → u.pass ≡ after → IsClientCall t 0 u
         → (s : IsMade HasHistory Allowed note seat held pass (adds 0 1) found after) → MayAdd s.0 s.1 s.2 seat note s.5.1 0 after
@@ -345,23 +365,45 @@ sequence_is s u found pages call made =
     ))
     (sequence_tells _ _ _ made.1 here.history here.pass u.pass made.5.1)
 
+-- a pass that has read the same knows the same
+knows_on : (p q : Pass) → q.count ≡ p.count → q.rows ≡ p.rows → KnowsRows p → KnowsRows q
+knows_on p q same_count same_rows knows =
+    subst (λ (z : Option ℕ × List ReadRow). (z.0 ≡ Some (length (words_of z.1 (or_zero z.0))))
+    × ((i : ℕ) → i < length (words_of z.1 (or_zero z.0)) → HasRead z.1 i (slice_index (words_of z.1 (or_zero z.0)) i)))
+    (λ i. (sym same_count i, sym same_rows i)) knows
+
 -- a caller that has drawn a number under everything has its plan to write
-pub writes_plan : (before after : CallerView) (e : Entry) (under : Under) → after.read ≡ before.read → after.plan ≡ before.plan
-    → before.seat.pass.room ≡ room_of before.seat.table
-    → IsDrawn before.seat e (pending_of under before.plan before.change) after.seat → under ≡ Whole
-    → HasRows before.seat.pass before.read → HasToWrite after
-writes_plan before after e under read plan room d whole has =
-    let is : pending_of under before.plan before.change ≡ Planned after.plan =
-    ap (λ (w : Under). pending_of w before.plan before.change) whole ∙ ap Planned (sym plan) in
-    let k : KeepsRows (Planned after.plan) before.seat.pass after.seat.pass =
+pub writes_plan : (before after : CallerView) (e : Entry) (under : Under) → HasSameRows before after
+    → before.seat.pass.room ≡ room_of before.seat.table → before.seat.held ≡ Some everything
+    → IsDrawn before.seat e (pending_of under (plan_of before) before.change) after.seat → under ≡ Whole
+    → IsKnown before → length (rows_after (plan_of before)) ≤ ROWS → HasToWrite after
+writes_plan before after e under same room held d whole known few =
+    let is : pending_of under (plan_of before) before.change ≡ Planned (plan_of before) =
+    ap (λ (w : Under). pending_of w (plan_of before) before.change) whole in
+    let k : KeepsRows (Planned (plan_of before)) before.seat.pass after.seat.pass =
     subst (λ (q : Pending). KeepsRows q before.seat.pass after.seat.pass) is d.keeps in
-    let fits : length after.plan ≤ after.seat.pass.room = subst (λ (q : Pending). FitsIn q after.seat.pass.room) is d.fits in
+    let fits : length (rows_after (plan_of before)) ≤ after.seat.pass.room =
+    subst (λ (q : Pending). FitsIn q after.seat.pass.room) is d.fits in
     let table : room_of after.seat.table ≡ room_of before.seat.table = ap room_of d.numbered.table in
     let same_room = d.room in
+    let rows : known_rows after.seat.pass ≡ known_rows before.seat.pass = λ i. words_of (k.1 i) (or_zero (k.0 i)) in
+    let plan : plan_of after ≡ plan_of before =
+    λ i. record { old = rows i; first = (same.cut i).first; end = (same.cut i).end; more = same.more i } in
+    let stood = known.fits in
+    let counted = same.count in
     record {
-      pending = d.writes ∙ is;
-      fits = omega arith;
-      read = subst (HasRows after.seat.pass) (sym read) (k.0 ∙ has.0, λ i lt. subst (λ r. HasRead r i (slice_index before.read i)) (sym k.1) (has.1 i lt));
+      held = d.numbered.held ∙ held;
+      pending = d.writes ∙ (is ∙ ap Planned (sym plan));
+      known = record {
+        rows = knows_on before.seat.pass after.seat.pass k.0 k.1 known.rows;
+        list = subst IsRowList (sym rows) known.list;
+        counted = same.count ∙ (known.counted ∙ ap length (sym rows));
+        fits = omega arith;
+        ordered = subst (λ (c : Cut). c.first ≤ c.end) (sym same.cut) known.ordered;
+        there = subst (λ (z : Cut × ℕ). z.0.end ≤ z.1) (λ i. (sym same.cut i, sym same.count i)) known.there;
+      };
+      few = subst (λ (s : Splice). length (rows_after s) ≤ ROWS) (sym plan) few;
+      fits = subst (λ (s : Splice). length (rows_after s) ≤ room_of after.seat.table) (sym plan) (omega arith);
     }
 
 -- what was read round a change is read still where the range and the rows are the same
@@ -398,13 +440,29 @@ round_on a b change same_table same_held same_count same_rows r =
 
 -- a caller that has drawn a number over its area has the row that it has chosen to store
 pub writes_row : (before after : CallerView) (e : Entry) (under : Under) (span : Span) (change : Change)
-    → after.change ≡ before.change → IsDrawn before.seat e (pending_of under before.plan before.change) after.seat
+    → after.change ≡ before.change → IsDrawn before.seat e (pending_of under (plan_of before) before.change) after.seat
     → under ≡ OverArea span → before.change ≡ Some change → IsReadRound before.seat change → HasToStore after change
 writes_row before after e under span change same d over chosen round =
-    let is : pending_of under before.plan before.change ≡ OneRow change = λ i. pending_of (over i) before.plan (chosen i) in
+    let is : pending_of under (plan_of before) before.change ≡ OneRow change = λ i. pending_of (over i) (plan_of before) (chosen i) in
     let k : KeepsRows (OneRow change) before.seat.pass after.seat.pass = subst (λ (q : Pending). KeepsRows q before.seat.pass after.seat.pass) is d.keeps in
     record {
       pending = d.writes ∙ is;
       chosen = same ∙ chosen;
       round = round_on before.seat after.seat change d.numbered.table d.numbered.held k.0 k.1 round;
+    }
+
+-- a load of a row was one step of the seat, after which its pass has that row as well
+pub row_loaded : (s u : SeatState Pass) (index found : ℕ) → IsClientCall s (3 + index) u
+    → IsMade HasHistory Allowed no_note s.number s.held s.pass (loads (3 + index)) found u.pass
+    → IsClientStep s (3 + index) (after_row index found s.pass) u
+row_loaded s u index found call made =
+    let m = made.3 in let here = made.5.0 in
+    let same : here.pass ≡ s.pass = some-injective here.pass s.pass (sym here.own ∙ m.own) in
+    record {
+      table = call.table;
+      number = call.number;
+      held = call.held;
+      pools = call.pools;
+      pass = row_tells _ _ _ made.1 here.history here.pass u.pass index made.5.1 ∙ (λ i. after_row index (made.4 i) (same i));
+      trace = call.trace;
     }

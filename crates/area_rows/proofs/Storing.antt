@@ -12,7 +12,7 @@ use Rattle.area_rows.specs.declared.guard.Pass.{Pass}
 use Rattle.area_rows.specs.declared.guard.Note.{Note}
 use Rattle.area_rows.specs.declared.guard.Pending.{Pending}
 use Rattle.area_rows.specs.declared.guard.Pending.TheVariants.{AtRest, Planned, OneRow}
-use Rattle.area_rows.specs.History.{FitsAndReplies, entries_of, entry_of, HoldsFor, IsOwed, IsRunningSpace, Backs, AreBacked, Here}
+use Rattle.area_rows.specs.History.{FitsAndReplies, entries_of, entry_of, rows_after, HoldsFor, IsOwed, IsRunningSpace, Backs, AreBacked, Here}
 use Rattle.area_rows.specs.History.{Allowed, MayLoad, MayStore, MayWrite, MayAdd}
 use Rattle.area_rows.specs.History.MayLoad.{number, glance, sequence, count, row}
 use Rattle.area_rows.specs.History.MayStore.{store_row, store_count}
@@ -112,22 +112,22 @@ count_of : (grants : Grants) (words : List ℕ) (passes : List Pass) (worker val
     (pending : Pending) (after : Pass) → here.pass.pending ≡ pending → MayWrite words pending 2 value here.pass after
     → IsCountStore grants passes worker value
 count_of grants words passes worker value here AtRest after is may = absurd may
-count_of grants words passes worker value here (Planned rows) after is (store_row index lt e v same) = absurd (omega arith)
-count_of grants words passes worker value here (Planned rows) after is (store_count e v same) =
-    let owed : IsOwed here.start here.history here.pass.mine (Planned rows) =
+count_of grants words passes worker value here (Planned plan) after is (store_row index lt e v same) = absurd (omega arith)
+count_of grants words passes worker value here (Planned plan) after is (store_count e v same) =
+    let owed : IsOwed here.start here.history here.pass.mine (Planned plan) =
     subst (IsOwed here.start here.history here.pass.mine) is (here.running.parts worker here.pass here.own).owed in
-    let backs : Backs grants here.state worker (Planned rows) = subst (Backs grants here.state worker) is (here.backed worker here.pass here.own).pending in
+    let backs : Backs grants here.state worker (Planned plan) = subst (Backs grants here.state worker) is (here.backed worker here.pass here.own).pending in
     record {
       pass = here.pass;
       there = here.own;
-      rows = rows;
+      plan = plan;
       planned = is;
       counted = v;
       holds = backs.0;
       others = owed.others;
       entry = owed.entry;
       last = owed.own;
-      under = (leaves_plan owed.found owed.left owed.entry.under rows owed.leaves).0;
+      under = (leaves_plan owed.found owed.left owed.entry.under plan owed.leaves).0;
     }
 count_of grants words passes worker value here (OneRow c) after is may = let e : 2 ≡ 3 + c.index = may.0 in absurd (omega arith)
 
@@ -139,7 +139,7 @@ hold_of : (grants : Grants) (words : List ℕ) (passes : List Pass) (worker : �
     (here : Here grants words passes worker) (after : Pass) → MayAdd grants words passes worker note here 0 after
     → (held : Option Held) × (get_elem? grants worker ≡ some held) × HoldsFor held note.under × (after.drew ≡ held)
     × (history : List Entry) × (after.seen ≡ history ++ entry_of (length history) worker note ∷ [])
-hold_of grants words passes worker note here after (raise rows e pends written is) = absurd (omega arith)
+hold_of grants words passes worker note here after (raise plan e pends written is) = absurd (omega arith)
 hold_of grants words passes worker note here after (draw e d is) =
     let f = entry_of (length here.history) worker note in (
       d.held.0,
@@ -172,14 +172,14 @@ store_keeps rows place value p after (store_count e v is) = same_draw p _ after 
 
 write_keeps : (words : List ℕ) (pending : Pending) (place value : ℕ) (p after : Pass) → MayWrite words pending place value p after → KeepsDraw p after
 write_keeps words AtRest place value p after may = absurd may
-write_keeps words (Planned rows) place value p after may = store_keeps rows place value p after may
+write_keeps words (Planned plan) place value p after may = store_keeps (rows_after plan) place value p after may
 write_keeps words (OneRow c) place value p after may = same_draw p _ after may.3 refl refl
 
 raise_keeps : (grants : Grants) (words : List ℕ) (passes : List Pass) (worker place : ℕ) (note : Note)
     (here : Here grants words passes worker) (after : Pass) → (place ≡ 0 → ⊥)
     → MayAdd grants words passes worker note here place after → KeepsDraw here.pass after
 raise_keeps grants words passes worker place note here after differ (draw e d is) = absurd (differ e)
-raise_keeps grants words passes worker place note here after differ (raise rows e pends written is) = same_draw here.pass _ after is refl refl
+raise_keeps grants words passes worker place note here after differ (raise plan e pends written is) = same_draw here.pass _ after is refl refl
 
 -- a step of a caller at a moment, from the pass that it has there
 step_keeps : (grants : Grants) (words : List ℕ) (passes : List Pass) (worker : ℕ) (step : ClientStep) (note : Note) (after : Pass)

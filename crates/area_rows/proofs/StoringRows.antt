@@ -4,8 +4,6 @@ use Rattle.std.proofs.Common.{refl, ap, ◌∙◌, subst, arith, ◌⊎◌, inl,
 use Rattle.std.proofs.lemmas.Bool.{eqb-true}
 use Rattle.std.specs.Prelude.{All, Option, Some, slice_index}
 use mathlib.Core.Option.{some-injective}
-use mathlib.Core.Logic.{dite}
-use native.Mathlib.Decide.{ℕ_discrete}
 use Rattle.lock_core.specs.declared.range.Held.{Held}
 use Rattle.lock_core.specs.Grants.{Grants}
 use Rattle.lock_core.specs.Client.{stores, adds, IsAllowed, IsMade}
@@ -16,27 +14,32 @@ use Rattle.area_rows.specs.declared.guard.ReadRow.{ReadRow}
 use Rattle.area_rows.specs.declared.guard.Note.{Note}
 use Rattle.area_rows.specs.declared.guard.Pass.{Pass}
 use Rattle.area_rows.specs.declared.guard.Pending.{Pending}
+use Rattle.area_rows.specs.declared.guard.Splice.{Splice}
 use Rattle.area_rows.specs.declared.guard.Pending.TheVariants.{Planned}
 use Rattle.row_plans.specs.RowLists.{ShowFrom, IsBareGap}
-use Rattle.row_plans.specs.Plans.{BeginsAs}
-use Rattle.area_rows.specs.Rows.{rows_in, RowsShow}
+use Rattle.area_rows.specs.Rows.{room_of, rows_in, RowsShow}
 use Rattle.area_rows.specs.Reads.{everything, HasRead, HasRows, StillStands}
-use Rattle.area_rows.specs.History.{HasHistory, Allowed, Here, MayStore, MayWrite, MayAdd, Backs, without, after_count, after_store, after_raise}
+use Rattle.area_rows.specs.History.{HasHistory, Allowed, Here, MayStore, MayWrite, MayAdd, Backs, without, rows_after}
+use Rattle.area_rows.specs.History.{after_count, after_row, after_store, after_raise}
 use Rattle.area_rows.specs.History.MayStore.{store_row, store_count}
 use Rattle.area_rows.specs.History.MayAdd.{draw, raise}
-use Rattle.area_rows.specs.Callers.{IsClientStep, IsWritten}
-use Rattle.area_rows.specs.Writing.{IsMixed, IsWriting}
+use Rattle.area_rows.specs.Callers.{CallerView, HasToWrite, IsClientStep, IsWritten, plan_of}
+use Rattle.page_types.specs.declared.TheConstants.{ROWS}
+use Rattle.atomic_table.specs.Seated.{TableId}
+use Rattle.row_plans.specs.Plans.{IsRowList}
+use Rattle.area_rows.specs.Writing.{IsWriting, WritesPlan, plan_at, splice_in}
 use Rattle.area_rows.specs.Keeping.{no_note}
 use Rattle.area_rows.specs.Parts.{rows_fit}
 use Rattle.area_rows.specs.Writes.{plan_length}
 use Rattle.area_rows.proofs.Moments.{here_at, rows_known, stands}
 
-module _ (note : Note) (seat : ℕ) (held : Option Held) (pass : Pass) (plan : List ℕ) (planned : pass.pending ≡ Planned plan) where
-  may_write : (words : List ℕ) (place value : ℕ) (after : Pass) → MayStore plan place value pass after → MayWrite words pass.pending place value pass after
+module _ (note : Note) (seat : ℕ) (held : Option Held) (pass : Pass) (plan : Splice) (planned : pass.pending ≡ Planned plan) where
+  may_write : (words : List ℕ) (place value : ℕ) (after : Pass) → MayStore (rows_after plan) place value pass after
+      → MayWrite words pass.pending place value pass after
   may_write words place value after may = subst (λ (q : Pending). MayWrite words q place value pass after) (sym planned) may
 
   -- the guard allows the store of a row of the plan
-  pub may_store_row : (index value : ℕ) → index < length plan → value ≡ slice_index plan index
+  pub may_store_row : (index value : ℕ) → index < length (rows_after plan) → value ≡ slice_index (rows_after plan) index
       → IsAllowed HasHistory Allowed note seat held pass (stores (3 + index) value)
   may_store_row index value lt is grants words passes m there small = (
     after_store index value pass,
@@ -47,7 +50,7 @@ module _ (note : Note) (seat : ℕ) (held : Option Held) (pass : Pass) (plan : L
   )
 
   -- and the store of how many rows it has
-  pub may_store_count : (value : ℕ) → value ≡ length plan → IsAllowed HasHistory Allowed note seat held pass (stores 2 value)
+  pub may_store_count : (value : ℕ) → value ≡ length (rows_after plan) → IsAllowed HasHistory Allowed note seat held pass (stores 2 value)
   may_store_count value is grants words passes m there small = (
     after_count value pass,
     (
@@ -58,7 +61,7 @@ module _ (note : Note) (seat : ℕ) (held : Option Held) (pass : Pass) (plan : L
 
   -- the rows that are written show the last state
   written_shows : (grants : Grants) (words : List ℕ) (passes : List Pass) (here : Here grants words passes seat)
-      → here.pass ≡ pass → HasRows pass plan → RowsShow words (kind_at here.state)
+      → here.pass ≡ pass → HasRows pass (rows_after plan) → RowsShow words (kind_at here.state)
   written_shows grants words passes here same has =
       let part = here.running.parts seat here.pass here.own in
       let backed = here.backed seat here.pass here.own in
@@ -66,13 +69,13 @@ module _ (note : Note) (seat : ℕ) (held : Option Held) (pass : Pass) (plan : L
       subst (Backs grants here.state seat) (ap (λ (x : Pass). x.pending) same ∙ planned) backed.pending in
       let shows = backs.1 in
       let stood : All (StillStands (Some everything) words) here.pass.rows = backed.rows (Some everything) backs.0 in
-      let count : slice_index words 2 ≡ length plan = part.count (length plan) (ap (λ (x : Pass). x.count) same ∙ has.0) in
+      let count : slice_index words 2 ≡ length (rows_after plan) = part.count (length (rows_after plan)) (ap (λ (x : Pass). x.count) same ∙ has.0) in
       let fits = rows_fit here.start here.history here.state words passes here.running in
-      let long = plan_length plan here.state here.running.in_order shows in
+      let long = plan_length (rows_after plan) here.state here.running.in_order shows in
       let few = shows.few in
-      let rows : rows_in words ≡ plan = rows_known words plan (omega arith) count
-      (λ i lt. (stands (Some everything) words here.pass.rows i (slice_index plan i) stood
-      (subst (λ (x : Pass). HasRead x.rows i (slice_index plan i)) (sym same) (has.1 i lt))).word refl) in
+      let rows : rows_in words ≡ rows_after plan = rows_known words (rows_after plan) (omega arith) count
+      (λ i lt. (stands (Some everything) words here.pass.rows i (slice_index (rows_after plan) i) stood
+      (subst (λ (x : Pass). HasRead x.rows i (slice_index (rows_after plan) i)) (sym same) (has.1 i lt))).word refl) in
       record {
         room = omega arith;
         some = let s = shows.some in omega arith;
@@ -82,7 +85,7 @@ module _ (note : Note) (seat : ℕ) (held : Option Held) (pass : Pass) (plan : L
       }
 
   -- and the raising of the sequence word, where all rows of the plan and their count are written
-  pub may_raise : HasRows pass plan → IsAllowed HasHistory Allowed note seat held pass (adds 1 1)
+  pub may_raise : HasRows pass (rows_after plan) → IsAllowed HasHistory Allowed note seat held pass (adds 1 1)
   may_raise has grants words passes m there small =
       let here = here_at grants words passes seat held pass m in
       (after_raise pass, (refl, here, raise plan refl planned (written_shows grants words passes here refl has) refl))
@@ -97,14 +100,14 @@ count_after plan value p after (store_row i lt e v is) = absurd (omega arith)
 count_after plan value p after (store_count e v is) = is
 
 -- a caller with a plan makes the stores of that plan
-of_plan : (words : List ℕ) (pending : Pending) (plan : List ℕ) (place value : ℕ) (p after : Pass) → pending ≡ Planned plan
-    → MayWrite words pending place value p after → MayStore plan place value p after
+of_plan : (words : List ℕ) (pending : Pending) (plan : Splice) (place value : ℕ) (p after : Pass) → pending ≡ Planned plan
+    → MayWrite words pending place value p after → MayStore (rows_after plan) place value p after
 of_plan words pending plan place value p after is may = subst (λ (q : Pending). MayWrite words q place value p after) is may
 
 step_of : (s u : SeatState Pass) (place : ℕ) (p : Pass) → IsClientCall s place u → u.pass ≡ p → IsClientStep s place p u
 step_of s u place p call is = record { table = call.table; number = call.number; held = call.held; pools = call.pools; pass = is; trace = call.trace }
 
-module _ (s u : SeatState Pass) (plan : List ℕ) (planned : s.pass.pending ≡ Planned plan) (value : ℕ) where
+module _ (s u : SeatState Pass) (plan : Splice) (planned : s.pass.pending ≡ Planned plan) (value : ℕ) where
   -- the store of a row was one step of the seat, after which its pass has that row
   pub row_stored : (index : ℕ) → IsClientCall s (3 + index) u
       → ((found : ℕ) × IsMade HasHistory Allowed no_note s.number s.held s.pass (stores (3 + index) value) found u.pass)
@@ -113,7 +116,7 @@ module _ (s u : SeatState Pass) (plan : List ℕ) (planned : s.pass.pending ≡ 
       let m = made.1.3 in let may = made.1.5 in let here = may.0 in
       let same : here.pass ≡ s.pass = some-injective here.pass s.pass (sym here.own ∙ m.own) in
       step_of s u (3 + index) (after_store index value s.pass) call
-      (row_after plan index value here.pass u.pass (of_plan made.1.1 here.pass.pending plan (3 + index) value here.pass u.pass
+      (row_after (rows_after plan) index value here.pass u.pass (of_plan made.1.1 here.pass.pending plan (3 + index) value here.pass u.pass
       (ap (λ (x : Pass). x.pending) same ∙ planned) may.1) ∙ ap (after_store index value) same)
 
   -- the store of the row count was one step of the seat, after which its pass has that count
@@ -124,7 +127,7 @@ module _ (s u : SeatState Pass) (plan : List ℕ) (planned : s.pass.pending ≡ 
       let m = made.1.3 in let may = made.1.5 in let here = may.0 in
       let same : here.pass ≡ s.pass = some-injective here.pass s.pass (sym here.own ∙ m.own) in
       step_of s u 2 (after_count value s.pass) call
-      (count_after plan value here.pass u.pass (of_plan made.1.1 here.pass.pending plan 2 value here.pass u.pass
+      (count_after (rows_after plan) value here.pass u.pass (of_plan made.1.1 here.pass.pending plan 2 value here.pass u.pass
       (ap (λ (x : Pass). x.pending) same ∙ planned) may.1) ∙ ap (after_count value) same)
 
 raise_after : (grants : Grants) (words : List ℕ) (passes : List Pass) (worker : ℕ) (here : Here grants words passes worker)
@@ -146,41 +149,11 @@ has_one : (index i w : ℕ) (r : ReadRow) (kept : List ReadRow) (b : Bool) → e
 has_one index i w r kept true is differ h = ⊎_elim (λ t. absurd (differ (sym t.0 ∙ eqb-true r.index index is))) (λ t. t) h
 has_one index i w r kept false is differ h = h
 
-has_others : (index i w : ℕ) (rows : List ReadRow) → (i ≡ index → ⊥) → HasRead rows i w → HasRead (without index rows) i w
+-- what was read of others stays where one is stored
+pub has_others : (index i w : ℕ) (rows : List ReadRow) → (i ≡ index → ⊥) → HasRead rows i w → HasRead (without index rows) i w
 has_others index i w [] differ h = absurd h
 has_others index i w (r ∷ rest) differ h = has_one index i w r (without index rest) (eqb r.index index) refl differ
     (⊎_elim (λ t. inl t) (λ t. inr (has_others index i w rest differ t)) h)
-
--- before the first store all rows are the old ones, of which those at the beginning that stay are the plan's as well
-pub first_mixed : (p : Pass) (old plan : List ℕ) (count : ℕ) → HasRows p old → BeginsAs old plan count → IsMixed p.rows old plan count
-first_mixed p old plan count has begins = let there = begins.there in record {
-  below = λ i lt. subst (HasRead p.rows i) (sym (begins.same i lt)) (has.1 i (omega arith));
-  above = λ i le lt. has.1 i lt;
-}
-
--- of no row it is known that it stays
-pub none_stay : (old plan : List ℕ) → BeginsAs old plan 0
-none_stay old plan = record { there = omega arith; few = omega arith; same = λ i lt. absurd (omega arith) }
-
--- one row more is the plan's
-pub mixed_stored : (rows : List ReadRow) (old plan : List ℕ) (index : ℕ) → IsMixed rows old plan index
-    → IsMixed (record { index = index; word = slice_index plan index } ∷ without index rows) old plan (index + 1)
-mixed_stored rows old plan index m = record {
-  below = λ i lt. dite (ℕ_discrete i index)
-      (λ same. inl (sym same, ap (slice_index plan) (sym same)))
-      (λ differ. inr (has_others index i (slice_index plan i) rows differ (m.below i (omega arith))));
-  above = λ i le lt. inr (has_others index i (slice_index old i) rows (λ e. omega arith) (m.above i (omega arith) lt));
-}
-
--- a row that stood there with the plan's word already is the plan's without a store
-pub mixed_same : (rows : List ReadRow) (old plan : List ℕ) (index : ℕ) → IsMixed rows old plan index → index < length old
-    → slice_index old index ≡ slice_index plan index → IsMixed rows old plan (index + 1)
-mixed_same rows old plan index m there same = record {
-  below = λ i lt. dite (ℕ_discrete i index)
-      (λ e. subst (λ (n : ℕ). HasRead rows n (slice_index plan n)) (sym e) (subst (λ (w : ℕ). HasRead rows index w) same (m.above index (omega arith) there)))
-      (λ differ. m.below i (omega arith));
-  above = λ i le lt. m.above i (omega arith) lt;
-}
 
 -- steps of writing, one after another
 pub writing_on : (a b c : SeatState Pass) → IsWriting a b → IsWriting b c → IsWriting a c
@@ -238,6 +211,58 @@ store_writes a b index value s = record {
   pending = ap (λ (x : Pass). x.pending) s.pass;
   taken = step_more a b (3 + index) (after_store index value a.pass) s;
 }
+
+-- a caller that has its plan to write has a seat that has it
+pub may_write_plan : (table : TableId) (v : CallerView) (s : CallerView) → s ≡ v → v.seat.table ≡ table → v.seat.held ≡ Some everything
+    → HasToWrite v → WritesPlan table s.seat
+may_write_plan table v s same is held has =
+    let plan : plan_at v.seat ≡ plan_of v = ap splice_in has.pending in
+    subst (λ (x : CallerView). WritesPlan table x.seat) (sym same) (record {
+      table_is = is;
+      held = held;
+      pending = has.pending ∙ ap Planned (sym plan);
+      ordered = subst (λ (p : Splice). p.first ≤ p.end) (sym plan) has.known.ordered;
+      there = subst (λ (p : Splice). p.end ≤ length p.old) (sym plan) (let c = has.known.counted in let t = has.known.there in omega arith);
+      list = subst (λ (p : Splice). IsRowList p.old) (sym plan) has.known.list;
+      stood = subst (λ (p : Splice). length p.old ≤ room_of v.seat.table) (sym plan)
+          (let c = has.known.counted in let f = has.known.fits in omega arith);
+      few = subst (λ (p : Splice). length (rows_after p) ≤ ROWS) (sym plan) has.few;
+      fits = subst (λ (p : Splice). length (rows_after p) ≤ room_of v.seat.table) (sym plan) has.fits;
+    })
+
+-- so is the load of one
+pub load_writes : (a b : SeatState Pass) (index value : ℕ) → IsClientStep a (3 + index) (after_row index value a.pass) b → IsWriting a b
+load_writes a b index value s = record {
+  table = s.table;
+  number = s.number;
+  held = s.held;
+  pools = s.pools;
+  start = ap (λ (x : Pass). x.start) s.pass;
+  room = ap (λ (x : Pass). x.room) s.pass;
+  most = ap (λ (x : Pass). x.most) s.pass;
+  seen = ap (λ (x : Pass). x.seen) s.pass;
+  mine = ap (λ (x : Pass). x.mine) s.pass;
+  drew = ap (λ (x : Pass). x.drew) s.pass;
+  looks = ap (λ (x : Pass). x.looks) s.pass;
+  pending = ap (λ (x : Pass). x.pending) s.pass;
+  taken = step_more a b (3 + index) (after_row index value a.pass) s;
+}
+
+-- a seat that has a splice to write has it still after steps of writing
+pub writes_on : (table : TableId) (a b : SeatState Pass) → WritesPlan table a → IsWriting a b → WritesPlan table b
+writes_on table a b p w =
+    let same : plan_at b ≡ plan_at a = ap splice_in w.pending in
+    record {
+      table_is = w.table ∙ p.table_is;
+      held = w.held ∙ p.held;
+      pending = w.pending ∙ (p.pending ∙ ap Planned (sym same));
+      ordered = subst (λ (x : Splice). x.first ≤ x.end) (sym same) p.ordered;
+      there = subst (λ (x : Splice). x.end ≤ length x.old) (sym same) p.there;
+      list = subst (λ (x : Splice). IsRowList x.old) (sym same) p.list;
+      stood = subst (λ (z : Splice × TableId). length z.0.old ≤ room_of z.1) (λ i. (sym same i, sym w.table i)) p.stood;
+      few = subst (λ (x : Splice). length (rows_after x) ≤ ROWS) (sym same) p.few;
+      fits = subst (λ (z : Splice × TableId). length (rows_after z.0) ≤ room_of z.1) (λ i. (sym same i, sym w.table i)) p.fits;
+    }
 
 -- so is the store of the row count
 pub count_writes : (a b : SeatState Pass) (value : ℕ) → IsClientStep a 2 (after_count value a.pass) b → IsWriting a b

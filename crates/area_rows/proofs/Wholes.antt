@@ -1,11 +1,8 @@
 -- A call in one piece: its parts make the whole, whether its arguments decide it or the rows do.
-use Rattle.std.proofs.Common.{◌≡◌, ℕ, ◌+◌, ◌-◌, ◌<◌, ◌≤◌, List, [], ◌∷◌, ◌++◌, length, get_or, sym, refl, ap, ◌∙◌, subst, arith, inl, inr, length-append}
-use Rattle.std.proofs.lemmas.Bool.{cases_lt}
-use Rattle.std.proofs.lemmas.List.{get_or_append_left, get_or-append_right}
+use Rattle.std.proofs.Common.{◌≡◌, ℕ, ◌+◌, ◌<◌, List, [], ◌∷◌, ◌++◌, length, sym, refl, ap, ◌∙◌, subst, arith, inl}
 use Rattle.std.specs.Prelude.{All, Option, Some, None, MatchOption, slice_index}
 use mathlib.Core.Option.{some}
 use lib.ListN.{get_elem?}
-use Rattle.page_types.specs.declared.TheConstants.{ROWS}
 use Rattle.page_types.specs.declared.calls.Call.{Call}
 use Rattle.page_types.specs.declared.calls.Call.TheVariants.{Map, Unmap, Protect, Fault, Seal, Brk, Remap}
 use Rattle.page_types.specs.declared.calls.Reply.{Reply}
@@ -15,21 +12,21 @@ use Rattle.space_model.specs.declared.entries.Entry.{Entry}
 use Rattle.space_model.specs.declared.entries.Under.TheVariants.{Nothing, Whole}
 use Rattle.space_model.specs.Answers.Answers.{by_arguments}
 use Rattle.space_model.specs.Held.{FitsByState}
-use Rattle.atomic_table.specs.Seated.{TableId}
 use Rattle.range_rw.specs.Contract.{SeatState, IsLockCall, IsRelease}
 use Rattle.range_rw.specs.Contract.{Record}
 use Rattle.area_rows.specs.declared.guard.Pass.{Pass}
 use Rattle.area_rows.specs.declared.guard.Pending.{Pending}
 use Rattle.row_plans.specs.RowLists.{areas_from}
-use Rattle.row_plans.specs.Plans.{IsRowList, IsPlan}
+use Rattle.space_model.specs.Areas.{kind_at}
+use Rattle.row_plans.specs.Plans.{PlanShows, spliced, IsPlan}
 use Rattle.page_types.specs.Classes.{IsFault}
-use Rattle.area_rows.specs.Rows.{room_of}
-use Rattle.area_rows.specs.Reads.{everything, HasRead, HasRows, StillStands}
-use Rattle.area_rows.specs.History.{StartsWith, Runs, IsAtRest, HoldsFor, after_row, rest_of}
-use Rattle.area_rows.specs.Callers.{CallerView, MayNumber, HasPlanned, IsReading, IsClientStep, IsNumbered, IsDrawn, IsWritten}
+use Rattle.area_rows.specs.Rows.{rows_in}
+use Rattle.area_rows.specs.Reads.{everything, known_rows, KnowsRows, StillStands}
+use Rattle.area_rows.specs.History.{StartsWith, Runs, RowsStandFor, IsAtRest, HoldsFor, rest_of}
+use Rattle.area_rows.specs.Writes.{everything_pages}
+use Rattle.area_rows.specs.Callers.{CallerView, IsMoment, MayNumber, IsKnown, HasPlanned, IsReading, IsNumbered, IsDrawn, IsWritten}
 use Rattle.area_rows.specs.Called.{IsLastStep, IsCalled}
-use Rattle.area_rows.proofs.Moments.{stands, rows_are}
-use Rattle.area_rows.proofs.Reading.{no_reading, reading_on, row_reads}
+use Rattle.area_rows.proofs.Moments.{stands, nobody_plans, rows_known, rows_are}
 
 -- what is held fits a call where its arguments don't decide it, and where they do
 pub match_none : (o : Option Reply) (P : Type 0) (Q : Reply → Type 0) → o ≡ None → P → MatchOption o P Q
@@ -59,128 +56,54 @@ fits_whole A (Seal addr len flags) no_fault = refl
 fits_whole A (Brk base addr) no_fault = refl
 fits_whole A (Remap addr old new may hint) no_fault = refl
 
+-- the row words of a moment are those that a caller knows which holds everything
+pub rows_now : (c : CallerView) → c.seat.held ≡ Some everything → IsAtRest c.seat.pass → KnowsRows c.seat.pass
+    → (start : List Area) (history : List Entry) (state : List Area) (words : List ℕ) → IsMoment c.seat start history state words
+    → (slice_index words 2 ≡ length (known_rows c.seat.pass))
+    × ((i : ℕ) → i < length (known_rows c.seat.pass) → slice_index words (3 + i) ≡ slice_index (known_rows c.seat.pass) i)
+    × (rows_in words ≡ known_rows c.seat.pass)
+rows_now c held rest knows start history state words m =
+    let rows = known_rows c.seat.pass in
+    let granted : get_elem? m.grants c.seat.number ≡ some (Some everything) = m.granted ∙ ap some held in
+    let stood : All (StillStands (Some everything) words) m.pass.rows = (m.backed c.seat.number m.pass m.own).rows (Some everything) granted in
+    let part = m.running.parts c.seat.number m.pass m.own in
+    let counted : slice_index words 2 ≡ length rows = part.count (length rows) (m.read.count (length rows) knows.0) in
+    let word : (i : ℕ) → i < length rows → slice_index words (3 + i) ≡ slice_index rows i = λ i lt.
+    (stands (Some everything) words m.pass.rows i (slice_index rows i) stood (m.read.rows i (slice_index rows i) (knows.1 i lt))).word refl in
+    let stand : RowsStandFor state m.passes words =
+    m.running.rows (nobody_plans m.grants words state m.passes c.seat.number m.pass m.exclusive m.backed m.own
+    (m.read.pending ∙ rest) (everything, granted, everything_pages)) in
+    let room = stand.2.room in
+    (counted, word, rows_known words rows (omega arith) counted word)
+
 -- and may be numbered with what its plan says
 pub planned_right : (c : CallerView) (call : Call) (reply : Reply) (count : ℕ) → HasPlanned call reply count c
-    → plain_reply call ≡ None → (IsFault call → ⊥) → MayNumber c call reply Whole
-planned_right c call reply count planned undecided no_fault start history state words m =
-    let p = planned.shows start history state words m in (
+    → c.seat.held ≡ Some everything → IsAtRest c.seat.pass → plain_reply call ≡ None → (IsFault call → ⊥) → MayNumber c call reply Whole
+planned_right c call reply count planned held rest undecided no_fault start history state words m =
+    let p = planned.shows start history state words m in
+    let rows = (rows_now c held rest planned.known.rows start history state words m).2 in (
       p.left,
       record {
         fits = match_none (plain_reply call) (FitsByState state call Whole) (λ (_ : Reply). Whole ≡ Nothing) undecided (fits_whole state call no_fault);
         answers = p.answers;
       },
-      p.shows,
+      subst (λ (l : List ℕ). PlanShows (spliced l c.cut c.more) (kind_at p.left)) rows p.shows,
     )
 
--- the plan of a call on the rows that were read is its plan at every moment until they change
+-- the plan of a call on the rows that are known is its plan at every moment until they change
 pub plan_shows : (c : CallerView) (call : Call) (reply : Reply) (count : ℕ) → c.seat.held ≡ Some everything → IsAtRest c.seat.pass
-    → HasRows c.seat.pass c.read → IsPlan call reply count c.plan (areas_from c.read) → HasPlanned call reply count c
-plan_shows c call reply count held rest has plan = record {
+    → IsKnown c → IsPlan call reply count (spliced (known_rows c.seat.pass) c.cut c.more) (areas_from (known_rows c.seat.pass))
+    → HasPlanned call reply count c
+plan_shows c call reply count held rest known plan = record {
   shows = λ start history state words m.
+      let rows = known_rows c.seat.pass in
       let granted : get_elem? m.grants c.seat.number ≡ some (Some everything) = m.granted ∙ ap some held in
-      let stood : All (StillStands (Some everything) words) m.pass.rows = (m.backed c.seat.number m.pass m.own).rows (Some everything) granted in
-      let part = m.running.parts c.seat.number m.pass m.own in
-      let counted : slice_index words 2 ≡ length c.read = part.count (length c.read) (m.read.count (length c.read) has.0) in
-      let word : (i : ℕ) → i < length c.read → slice_index words (3 + i) ≡ slice_index c.read i = λ i lt.
-      (stands (Some everything) words m.pass.rows i (slice_index c.read i) stood (m.read.rows i (slice_index c.read i) (has.1 i lt))).word refl in
-      let are = rows_are m.grants start history state words m.passes c.seat.number m.pass c.read m.running m.backed m.exclusive
-      m.own granted (m.read.pending ∙ rest) counted word in
-      subst (λ (A : List Area). IsPlan call reply count c.plan A) are.1 plan;
-  read = has;
+      let now = rows_now c held rest known.rows start history state words m in
+      let are = rows_are m.grants start history state words m.passes c.seat.number m.pass rows m.running m.backed m.exclusive
+      m.own granted (m.read.pending ∙ rest) now.0 now.1 in
+      subst (λ (z : List ℕ × List Area). IsPlan call reply count (spliced z.0 c.cut c.more) z.1) (λ i. (sym now.2 i, are.1 i)) plan;
+  known = known;
 }
-
--- so many rows are read, in the caller's own room, and once they are all there are they are a row list
-pub record IsReadSoFar (before now : CallerView) (count index : ℕ) : Type 0 where
-  -- what was done since is a reading
-  pub reading : IsReading before.seat now.seat
-  -- no number was drawn
-  pub left : now.left ≡ before.left
-  -- nothing is to be written
-  pub rest : IsAtRest now.seat.pass
-  -- the caller has read the row count
-  pub counted : now.seat.pass.count ≡ Some count
-  -- there is a row
-  pub some : 0 < count
-  -- there are no more than there may be
-  pub few : count ≤ ROWS
-  -- and no more than there is room for
-  pub fits : count ≤ room_of now.seat.table
-  -- no row behind the last was read
-  pub bound : index ≤ count
-  -- the list in the caller's room has the words that were read
-  pub wide : length now.read ≡ index
-  -- each of them was read so
-  pub rows : (i : ℕ) → i < index → HasRead now.seat.pass.rows i (slice_index now.read i)
-  -- once all rows are read they are a row list
-  pub list : index ≡ count → IsRowList now.read
-
--- at the beginning none is read
-pub none_read : (c : CallerView) (count : ℕ) → IsAtRest c.seat.pass → c.seat.pass.count ≡ Some count → 0 < count → count ≤ ROWS
-    → count ≤ room_of c.seat.table → c.read ≡ [] → IsReadSoFar c c count 0
-none_read c count rest counted positive few fits empty = record {
-  reading = no_reading c.seat;
-  left = refl;
-  rest = rest;
-  counted = counted;
-  some = positive;
-  few = few;
-  fits = fits;
-  bound = omega arith;
-  wide = ap length empty;
-  rows = λ i lt. absurd (omega arith);
-  list = λ e. absurd (omega arith);
-}
-
-one_read : (old new : SeatState Pass) (index word : ℕ) (read : List ℕ)
-    → IsClientStep old (3 + index) (after_row index word old.pass) new → length read ≡ index
-    → ((i : ℕ) → i < index → HasRead old.pass.rows i (slice_index read i)) → (i : ℕ) → i < index + 1
-    → HasRead new.pass.rows i (slice_index (read ++ word ∷ []) i)
-one_read old new index word read step wide all i lt =
-    subst (λ (p : Pass). HasRead p.rows i (slice_index (read ++ word ∷ []) i)) (sym step.pass) (elim (cases_lt i index) [
-      | inl less ↦ inr (subst (HasRead old.pass.rows i) (sym (get_or_append_left read (word ∷ []) 0 i (omega arith))) (all i less))
-      | inr ge ↦ let same : i ≡ index = omega arith in
-          inl (
-            sym same,
-            sym (get_or-append_right read (word ∷ []) index i 0 wide ge
-                ∙ ap (λ n. get_or (word ∷ []) n 0) (let z : i - index ≡ 0 = omega arith in z)),
-          )
-    ])
-
--- one row more is read
-pub one_more_read : (before old mid new : CallerView) (count index word : ℕ) → IsReadSoFar before old count index → index < count
-    → old.seat.held ≡ Some everything → IsClientStep old.seat (3 + index) (after_row index word old.seat.pass) mid.seat
-    → mid.left ≡ old.left → mid.read ≡ old.read
-    → (old.seat.held ≡ Some everything → (rows : List ℕ) → HasRows mid.seat.pass rows → IsRowList rows) → new.seat ≡ mid.seat
-    → new.left ≡ mid.left → new.read ≡ mid.read ++ word ∷ [] → IsReadSoFar before new count (index + 1)
-one_more_read before old mid new count index word s lt held step left read whole same same_left more =
-    let is : new.read ≡ old.read ++ word ∷ [] = more ∙ ap (λ l. l ++ word ∷ []) read in
-    let wide : length new.read ≡ index + 1 = ap length is ∙ (let l = length-append old.read (word ∷ []) in let w = s.wide in omega arith) in
-    let counted : mid.seat.pass.count ≡ Some count = ap (λ (p : Pass). p.count) step.pass ∙ s.counted in
-    let rows : (i : ℕ) → i < index + 1 → HasRead mid.seat.pass.rows i (slice_index new.read i) =
-    λ i below. subst (λ l. HasRead mid.seat.pass.rows i (slice_index l i)) (sym is)
-    (one_read old.seat mid.seat index word old.read step s.wide s.rows i below) in
-    record {
-      reading = subst (IsReading before.seat) (sym same) (reading_on before.seat old.seat mid.seat s.reading (row_reads old.seat mid.seat index word step));
-      left = same_left ∙ (left ∙ s.left);
-      rest = subst (λ (k : SeatState Pass). IsAtRest k.pass) (sym same) (ap (λ (p : Pass). p.pending) step.pass ∙ s.rest);
-      counted = subst (λ (k : SeatState Pass). k.pass.count ≡ Some count) (sym same) counted;
-      some = s.some;
-      few = s.few;
-      fits = subst (λ (k : SeatState Pass). count ≤ room_of k.table) (sym same) (subst (λ (t : TableId). count ≤ room_of t) (sym step.table) s.fits);
-      bound = omega arith;
-      wide = wide;
-      rows = λ i below. subst (λ (k : SeatState Pass). HasRead k.pass.rows i (slice_index new.read i)) (sym same) (rows i below);
-      list = λ all. whole held new.read (counted ∙ ap Some (sym all ∙ sym wide), λ i below. rows i (omega arith));
-    }
-
--- all rows are read
-pub all_read : (before now : CallerView) (count index : ℕ) → IsReadSoFar before now count index → ¬ (index < count)
-    → HasRows now.seat.pass now.read × IsRowList now.read
-all_read before now count index s done =
-    let bound = s.bound in
-    let all : index ≡ count = omega (arith, bound, done) in
-    let wide = s.wide in
-    ((s.counted ∙ ap Some (sym all ∙ sym wide), λ i lt. s.rows i (omega arith)), s.list all)
 
 -- what the lock does before leaves the call as it is
 pub called_from : (a b c : CallerView) (e : Entry) (line : ℕ) (call : Call) → a.seat.held ≡ None → IsLockCall a.seat b.seat

@@ -25,6 +25,7 @@ use Rattle.area_rows.specs.declared.guard.Change.{Change}
 use Rattle.area_rows.specs.declared.guard.ReadRow.{ReadRow}
 use Rattle.area_rows.specs.declared.guard.Pass.{Pass}
 use Rattle.area_rows.specs.declared.guard.Pending.{Pending}
+use Rattle.area_rows.specs.declared.guard.Splice.{Splice}
 use Rattle.area_rows.specs.declared.guard.Pending.TheVariants.{AtRest, Planned, OneRow}
 use Rattle.area_rows.specs.declared.row.Row.{Row}
 use Rattle.area_rows.specs.declared.space.SpaceFault.{SpaceFault}
@@ -32,27 +33,49 @@ use Rattle.area_rows.specs.declared.space.SpaceFault.TheVariants.{Callers, Rows,
 use Rattle.row_plans.specs.RowWords.{row_start, row_kind}
 use Rattle.row_plans.specs.RowLists.{rows_start, rows_from}
 use Rattle.area_rows.specs.Rows.{IsRowOf, room_of, rows_in}
-use Rattle.row_plans.specs.Plans.{IsPlan}
-use Rattle.area_rows.specs.Reads.{IsHeldPage, HasRead, HasRows}
+use Rattle.row_plans.specs.declared.planning.Cut.{Cut}
+use Rattle.row_plans.specs.Plans.{IsRowList, spliced, IsPlan}
+use Rattle.area_rows.specs.Reads.{everything, IsHeldPage, HasRead, known_rows, KnowsRows}
 use Rattle.area_rows.specs.Changes.{alone, IsOneStore, IsRound}
 use Rattle.area_rows.specs.History.{Runs, StartsWith, entries_of, HasNamedReplies, whole_count, planned_calls}
-use Rattle.area_rows.specs.History.{IsRunningSpace, AreBacked, HasPages, HoldsFor, IsAtRest, IsRight, Leaves, FitsIn, pending_of, after_look}
+use Rattle.area_rows.specs.History.{IsRunningSpace, AreBacked, HasPages, HoldsFor, IsAtRest, IsRight, Leaves, FitsIn, pending_of}
+use Rattle.area_rows.specs.History.{after_look, after_seen, rows_after}
 
 -- a caller: its seat in the lock's table, whose pass is what it knows of the space; how many numbers it may still draw;
--- the row words that it read for its last plan, and those that this plan leaves; and the row that its last plan over an
--- area changes, if any
+-- how many rows there were at its last plan, which of them go by it, and which come in their place; and the row that
+-- its last plan over an area changes, if any
 pub record CallerView : Type 0 where
   pub seat : SeatState Pass
   pub left : ℕ
-  pub read : List ℕ
-  pub plan : List ℕ
+  pub count : ℕ
+  pub cut : Cut
+  pub more : List ℕ
   pub change : Option Change
 
--- the rows of a caller's last plans are as they were
+-- a caller's last plans are as they were
 pub record HasSameRows (before after : CallerView) : Type 0 where
-  pub read : after.read ≡ before.read
-  pub plan : after.plan ≡ before.plan
+  pub count : after.count ≡ before.count
+  pub cut : after.cut ≡ before.cut
+  pub more : after.more ≡ before.more
   pub change : after.change ≡ before.change
+
+-- a splice of the rows that a seat knows
+abbrev pub splice_of : SeatState Pass → Cut → List ℕ → Splice
+splice_of seat cut more = record { old = known_rows seat.pass; first = cut.first; end = cut.end; more = more }
+
+-- a caller's last plan under everything
+abbrev pub plan_of : CallerView → Splice
+plan_of c = splice_of c.seat c.cut c.more
+
+-- a caller knows all rows, which are a list of rows, and how many there are, for which the table has room, and its plan
+-- is a splice of them
+pub record IsKnown (c : CallerView) : Type 0 where
+  pub rows : KnowsRows c.seat.pass
+  pub list : IsRowList (known_rows c.seat.pass)
+  pub counted : c.count ≡ length (known_rows c.seat.pass)
+  pub fits : c.count ≤ room_of c.seat.table
+  pub ordered : c.cut.first ≤ c.cut.end
+  pub there : c.cut.end ≤ c.count
 
 -- a closed space: the areas that are left and the whole history
 pub record ClosedView : Type 0 where
@@ -103,24 +126,27 @@ CountsWhole seat n = (start : List Area) (history : List Entry) (state : List Ar
     → IsMoment seat start history state words → n + planned_calls seat.pass.pending ≡ whole_count history
 
 -- a caller may number a call with this reply under this range: at every moment at which it holds its range and has read
--- what it has read the entry is right, and its plan is what the call leaves: rows under everything, one row over an
--- area
+-- what it has read the entry is right, and its plan is what the call leaves: a splice of the rows under everything, one
+-- row over an area
 abbrev pub MayNumber : CallerView → Call → Reply → Under → Type 0
 MayNumber c call reply under = Shows c.seat (λ _ state. (left : List Area)
-    × IsRight state call reply under left × Leaves state under (pending_of under c.plan c.change) left)
+    × IsRight state call reply under left × Leaves state under (pending_of under (plan_of c) c.change) left)
 
--- a caller's plan is of this call: under everything, at every moment at which it still holds it and has read those
--- rows, the call has this reply and leaves so many rows, and the plan has their words; the caller has read all rows
+-- a caller's plan is of this call: under everything, at every moment at which it still holds it, the call has this
+-- reply and leaves so many rows, and they are those of the moment with the plan's splice; the caller knows all rows,
+-- and how many there are
 pub record HasPlanned (call : Call) (reply : Reply) (count : ℕ) (c : CallerView) : Type 0 where
-  pub shows : Shows c.seat (λ _ state. IsPlan call reply count c.plan state)
-  pub read : HasRows c.seat.pass c.read
+  pub shows : Shows c.seat (λ words state. IsPlan call reply count (spliced (rows_in words) c.cut c.more) state)
+  pub known : IsKnown c
 
--- a caller has its plan to write: it has numbered the call, has read or stored the rows that stand there, and the table
--- has room for the plan's
+-- a caller has its plan to write: it holds everything, has numbered the call, knows the rows that stand there, and the
+-- table has room for those after the plan's splice
 pub record HasToWrite (c : CallerView) : Type 0 where
-  pub pending : c.seat.pass.pending ≡ Planned c.plan
-  pub fits : length c.plan ≤ room_of c.seat.table
-  pub read : HasRows c.seat.pass c.read
+  pub held : c.seat.held ≡ Some everything
+  pub pending : c.seat.pass.pending ≡ Planned (plan_of c)
+  pub known : IsKnown c
+  pub few : length (rows_after (plan_of c)) ≤ ROWS
+  pub fits : length (rows_after (plan_of c)) ≤ room_of c.seat.table
 
 -- where a row ends, by what was read: where the next one starts, or at LIMIT
 abbrev pub IsRowEnd : List ReadRow → ℕ → ℕ → ℕ → Type 0
@@ -244,8 +270,9 @@ AreNewCallers table start calls callers = (k : ℕ) (c : CallerView) → get_ele
     → c ≡ record {
       seat = new_seat table (λ n. new_pass start (room_of table) (slice_index calls n)) k;
       left = slice_index calls k;
-      read = [];
-      plan = [];
+      count = 0;
+      cut = record { first = 0; end = 0 };
+      more = [];
       change = None;
     }
 
@@ -282,6 +309,34 @@ pub record IsReading (before after : SeatState Pass) : Type 0 where
   pub taken : before.trace.taken ≤ after.trace.taken
   pub read : KeepsRead before.pass after.pass
 
+-- a seat of this table may load all rows, of which there are so many: it holds everything, has nothing to write, and
+-- knows them, and they are a list of rows
+pub record MayLoadAll (table : TableId) (count : ℕ) (seat : SeatState Pass) : Type 0 where
+  pub table_is : seat.table ≡ table
+  pub held : seat.held ≡ Some everything
+  pub rest : IsAtRest seat.pass
+  pub knows : KnowsRows seat.pass
+  pub counted : count ≡ length (known_rows seat.pass)
+  pub fits : count ≤ room_of seat.table
+  pub list : IsRowList (known_rows seat.pass)
+
+-- loads by a seat that knows all rows: they read, and it knows the same rows, and the same of the table's room and of
+-- how many entries it may have
+pub record HasLoaded (before after : SeatState Pass) : Type 0 where
+  pub reading : IsReading before after
+  pub room : after.pass.room ≡ before.pass.room
+  pub most : after.pass.most ≡ before.pass.most
+  pub same : known_rows after.pass ≡ known_rows before.pass
+  pub knows : KnowsRows before.pass → KnowsRows after.pass
+
+-- a load of the row count: one step, with which the caller notes all rows of the moment. Where it holds everything they
+-- are a list of rows
+pub record IsCounted (before : SeatState Pass) (found : ℕ) (after : SeatState Pass) : Type 0 where
+  pub rows : List ℕ
+  pub all : length rows ≡ found
+  pub step : IsClientStep before 2 (after_seen rows found before.pass) after
+  pub list : before.held ≡ Some everything → IsRowList rows
+
 -- a look at the number word: at a moment of the running space the caller sees the history so far, and it keeps what
 -- it has read; so what its range has shown is so of the state that this history leaves. Its pass keeps how many entries
 -- were there, and what it held
@@ -317,7 +372,7 @@ pub record IsNumbered (before : SeatState Pass) (e : Entry) (after : SeatState P
 -- a caller that has rows to write still has what it has read of the old ones
 abbrev pub KeepsRows : Pending → Pass → Pass → Type 0
 KeepsRows AtRest old new = Unit {0}
-KeepsRows (Planned rows) old new = (new.count ≡ old.count) × (new.rows ≡ old.rows)
+KeepsRows (Planned plan) old new = (new.count ≡ old.count) × (new.rows ≡ old.rows)
 KeepsRows (OneRow change) old new = (new.count ≡ old.count) × (new.rows ≡ old.rows)
 
 -- the same by one step on the number word, made at a moment of the running space whose history is the one before the

@@ -3,14 +3,13 @@
 use Rattle.std.specs.Prelude.{ℕ, ◌≡◌, ◌+◌, ◌≤◌, ◌<◌, ◌^◌, None, List, [], ◌∷◌, map, vec_len, vec_capacity}
 use mathlib.Core.Option.{some}
 use lib.ListN.{get_elem?}
-use Rattle.page_types.specs.declared.TheConstants.{ROWS, SPARE}
+use Rattle.page_types.specs.declared.TheConstants.{SPARE}
 use Rattle.space_model.specs.declared.entries.Entry.{Entry}
 use Rattle.range_rw.specs.Contract.{SeatState}
 use Rattle.area_rows.specs.declared.guard.Pass.{Pass}
 use Rattle.area_rows.specs.declared.close.Kept.{Kept}
 use Rattle.area_rows.specs.Rows.{room_of}
 use Rattle.area_rows.specs.History.{entry_count, IsAtRest}
-use Rattle.row_plans.specs.Plans.{planned_rows}
 use Rattle.area_rows.specs.Callers.{CallerView, IsHeldPages}
 
 -- each of these entries stands in the history at the place of its number
@@ -39,7 +38,7 @@ callers_count callers = entry_count (map caller_pass callers)
 
 -- a caller from its seat and what it has besides
 abbrev pub caller_of : SeatState Pass → Kept → CallerView
-caller_of s k = record { seat = s; left = k.left; read = k.read.items; plan = planned_rows k.read.items k.plan.items; change = k.change }
+caller_of s k = record { seat = s; left = k.left; count = k.count; cut = k.cut; more = k.plan.items; change = k.change }
 
 -- a seat and the rest of a caller belong together
 pub record IsPair (s : SeatState Pass) (k : Kept) (c : CallerView) : Type 0 where
@@ -48,9 +47,7 @@ pub record IsPair (s : SeatState Pass) (k : Kept) (c : CallerView) : Type 0 wher
   pub mine : k.mine.items ≡ s.pass.mine
   pub room : vec_len k.mine + k.left ≤ vec_capacity k.mine
   pub few : vec_len k.mine + k.left ≤ s.pass.most
-  pub read : s.pass.room ≤ vec_capacity k.read
   pub plan : s.pass.room + SPARE ≤ vec_capacity k.plan
-  pub planned : vec_len k.plan ≤ ROWS
   pub pages : IsHeldPages s.held
   pub rest : s.held ≡ None → IsAtRest s.pass
   pub rows : s.pass.room ≡ room_of s.table

@@ -29,13 +29,14 @@ use Rattle.lock_core.specs.declared.range.Held.{Held}
 use Rattle.area_rows.specs.declared.guard.Change.{Change}
 use Rattle.area_rows.specs.declared.guard.Pass.{Pass}
 use Rattle.area_rows.specs.declared.guard.Pending.{Pending}
+use Rattle.area_rows.specs.declared.guard.Splice.{Splice}
 use Rattle.area_rows.specs.declared.guard.Pending.TheVariants.{AtRest, Planned, OneRow}
 use Rattle.row_plans.specs.Plans.{PlanShows}
 use Rattle.area_rows.specs.Reads.{everything, StillStands}
 use Rattle.area_rows.specs.Changes.{alone, IsChange}
 use Rattle.area_rows.specs.History.{with_whole, IsPart, planned_calls, planned_count, IsShown}
 use Rattle.area_rows.specs.History.{RowsStandFor, IsRunningSpace, Backs, IsBacked, AreBacked, HoldsFor, Leaves, after_draw}
-use Rattle.area_rows.specs.History.{Runs, IsRight, FitsIn, IsOfLastEntry, IsOwed}
+use Rattle.area_rows.specs.History.{Runs, IsRight, FitsIn, IsOfLastEntry, IsOwed, rows_after}
 use Rattle.area_rows.specs.Replies.{all_more, reply_named, left_named, left_few}
 use Rattle.area_rows.specs.Stands.{all_stand, same_low, low_rows, shown_set}
 use Rattle.area_rows.specs.Parts.{own_more, own_same, count_set, most_set, room_kept, rows_fit, rows_fit_more, no_wrap, whole_more, planned_set, resting_of, none_is}
@@ -48,10 +49,10 @@ leaves_counts state left Nothing AtRest l = refl
 leaves_counts state left (Reader span) AtRest l = refl
 leaves_counts state left (Area span) AtRest l = refl
 leaves_counts state left Whole AtRest l = absurd l
-leaves_counts state left Nothing (Planned rows) l = absurd l
-leaves_counts state left (Reader span) (Planned rows) l = absurd l
-leaves_counts state left (Area span) (Planned rows) l = absurd l
-leaves_counts state left Whole (Planned rows) l = refl
+leaves_counts state left Nothing (Planned plan) l = absurd l
+leaves_counts state left (Reader span) (Planned plan) l = absurd l
+leaves_counts state left (Area span) (Planned plan) l = absurd l
+leaves_counts state left Whole (Planned plan) l = refl
 leaves_counts state left Nothing (OneRow c) l = absurd l
 leaves_counts state left (Reader span) (OneRow c) l = absurd l
 leaves_counts state left (Area span) (OneRow c) l = refl
@@ -65,12 +66,12 @@ leaves_same state left (Area span) l = l
 leaves_same state left Whole l = absurd l
 
 -- a plan is of a call under everything
-pub leaves_plan : (state left : List Areas) (under : Under) (rows : List ℕ) → Leaves state under (Planned rows) left
-    → (under ≡ Whole) × PlanShows rows (kind_at left)
-leaves_plan state left Nothing rows l = absurd l
-leaves_plan state left (Reader span) rows l = absurd l
-leaves_plan state left (Area span) rows l = absurd l
-leaves_plan state left Whole rows l = (refl, l)
+pub leaves_plan : (state left : List Areas) (under : Under) (plan : Splice) → Leaves state under (Planned plan) left
+    → (under ≡ Whole) × PlanShows (rows_after plan) (kind_at left)
+leaves_plan state left Nothing plan l = absurd l
+leaves_plan state left (Reader span) plan l = absurd l
+leaves_plan state left (Area span) plan l = absurd l
+leaves_plan state left Whole plan l = (refl, l)
 
 -- the change of one row is of a call over its area
 leaves_change : (state left : List Areas) (under : Under) (c : Change) → Leaves state under (OneRow c) left
@@ -88,42 +89,42 @@ held_alone grants worker h under span is at holds = let e : HoldsFor h (Area spa
 module _ (history : List Entry) (e : Entry) (held : Option Held) (p : Pass) where
   pub draw_pending : (pending : Pending) → (after_draw history e pending held p).pending ≡ pending
   draw_pending AtRest = refl
-  draw_pending (Planned rows) = refl
+  draw_pending (Planned plan) = refl
   draw_pending (OneRow c) = refl
 
   pub draw_mine : (pending : Pending) → (after_draw history e pending held p).mine ≡ p.mine ++ e ∷ []
   draw_mine AtRest = refl
-  draw_mine (Planned rows) = refl
+  draw_mine (Planned plan) = refl
   draw_mine (OneRow c) = refl
 
   pub draw_seen : (pending : Pending) → (after_draw history e pending held p).seen ≡ history ++ e ∷ []
   draw_seen AtRest = refl
-  draw_seen (Planned rows) = refl
+  draw_seen (Planned plan) = refl
   draw_seen (OneRow c) = refl
 
   pub draw_start : (pending : Pending) → (after_draw history e pending held p).start ≡ p.start
   draw_start AtRest = refl
-  draw_start (Planned rows) = refl
+  draw_start (Planned plan) = refl
   draw_start (OneRow c) = refl
 
   pub draw_room : (pending : Pending) → (after_draw history e pending held p).room ≡ p.room
   draw_room AtRest = refl
-  draw_room (Planned rows) = refl
+  draw_room (Planned plan) = refl
   draw_room (OneRow c) = refl
 
   pub draw_most : (pending : Pending) → (after_draw history e pending held p).most ≡ p.most
   draw_most AtRest = refl
-  draw_most (Planned rows) = refl
+  draw_most (Planned plan) = refl
   draw_most (OneRow c) = refl
 
   pub draw_drew : (pending : Pending) → (after_draw history e pending held p).drew ≡ held
   draw_drew AtRest = refl
-  draw_drew (Planned rows) = refl
+  draw_drew (Planned plan) = refl
   draw_drew (OneRow c) = refl
 
   pub draw_looks : (pending : Pending) → (after_draw history e pending held p).looks ≡ p.looks
   draw_looks AtRest = refl
-  draw_looks (Planned rows) = refl
+  draw_looks (Planned plan) = refl
   draw_looks (OneRow c) = refl
 
 -- what another caller has to write is of its last entry, as before
@@ -146,7 +147,7 @@ last_on start history mine pending e o = record {
 owed_on : (start : List Areas) (history mine : List Entry) (pending : Pending) (e : Entry) → IsOwed start history mine pending
     → IsOwed start (history ++ e ∷ []) mine pending
 owed_on start history mine AtRest e o = tt
-owed_on start history mine (Planned rows) e o = last_on start history mine (Planned rows) e o
+owed_on start history mine (Planned plan) e o = last_on start history mine (Planned plan) e o
 owed_on start history mine (OneRow c) e o = last_on start history mine (OneRow c) e o
 
 -- what a draw leaves to be written is of the entry that it made
@@ -196,13 +197,13 @@ own_part start history state left words value worker p e AtRest held is few runs
   count = λ n none. absurd (none_is n none);
   sequence = λ n none. absurd (none_is n none);
 }
-own_part start history state left words value worker p e (Planned rows) held is few runs right leaves own = record {
+own_part start history state left words value worker p e (Planned plan) held is few runs right leaves own = record {
   began = own.began;
   seen = ([], sym (append-nil (history ++ e ∷ [])));
   mine = own_more worker history e is ∙ ap (λ l. l ++ e ∷ []) own.mine;
   few = let l = length-append p.mine (e ∷ []) in omega arith;
   room = own.room ∙ sym (length-set words 0 value);
-  owed = last_drawn start history p.mine state left (Planned rows) e runs right leaves;
+  owed = last_drawn start history p.mine state left (Planned plan) e runs right leaves;
   count = λ n c. get_or-set_other words 0 2 value 0 (λ same. omega arith) ∙ own.count n c;
   sequence = λ n c. get_or-set_other words 0 1 value 0 (λ same. omega arith) ∙ own.sequence n c;
 }
@@ -231,7 +232,7 @@ shown_drawn grants history state left words passes worker value p e AtRest held 
           (shown_set state passes worker p q s.0 at (sym rest) s.1),
       low_rows words 0 value s.0 (omega arith) s.2,
     )
-shown_drawn grants history state left words passes worker value p e (Planned rows) held backed exclusive has holds at rest leaves none s = absurd (omega arith)
+shown_drawn grants history state left words passes worker value p e (Planned plan) held backed exclusive has holds at rest leaves none s = absurd (omega arith)
 shown_drawn grants history state left words passes worker value p e (OneRow c) held backed exclusive has holds at rest leaves none s =
     let q : Pass = after_draw history e (OneRow c) held p in
     let l = leaves_change state left e.under c leaves in (
@@ -297,9 +298,9 @@ pub plan_fits : (start : List Areas) (history : List Entry) (state left : List A
     → IsRunningSpace start history state words passes → get_elem? passes worker ≡ some p → length p.mine + 1 ≤ p.most
     → Answers state call reply left → Leaves state under pending left → FitsIn pending p.room
 plan_fits start history state left words passes worker p call reply under AtRest r at few answers leaves = tt
-plan_fits start history state left words passes worker p call reply under (Planned rows) r at few answers leaves =
-    let plan = leaves_plan state left under rows leaves in
-    let long = plan_length rows left (leaves_areas state call reply left r.in_order answers) plan.1 in
+plan_fits start history state left words passes worker p call reply under (Planned plan) r at few answers leaves =
+    let shown = leaves_plan state left under plan leaves in
+    let long = plan_length (rows_after plan) left (leaves_areas state call reply left r.in_order answers) shown.1 in
     let more = spare_rows state call reply left r.in_order answers in
     let limit = left_few state left call reply r.limit answers in
     let room = (r.parts worker p at).room in
@@ -322,7 +323,7 @@ module _ (grants : Grants) (state left : List Areas) (words : List ℕ) (value :
   others_rest : (worker other : ℕ) (pending : Pending) → IsExclusive grants → other ≢ worker → Holds grants worker everything
       → Backs grants state other pending → Backs grants left other pending
   others_rest worker other AtRest exclusive differ held b = tt
-  others_rest worker other (Planned rows) exclusive differ held b = absurd (clash grants worker other exclusive differ held (everything, b.0, everything_pages))
+  others_rest worker other (Planned plan) exclusive differ held b = absurd (clash grants worker other exclusive differ held (everything, b.0, everything_pages))
   others_rest worker other (OneRow c) exclusive differ held b = absurd (clash grants worker other exclusive differ held (alone c.span, b.0, span_pages c.span))
 
   held_whole : (worker : ℕ) (h : Option Held) (under : Under) → under ≡ Whole → get_elem? grants worker ≡ some h
@@ -345,17 +346,17 @@ module _ (grants : Grants) (state left : List Areas) (words : List ℕ) (value :
       (λ t. other_backed other x (subst (λ (A : List Areas). Backs grants A other x.pending)
       (sym (leaves_same state left under leaves)) (all other x t.1).pending) (all other x t.1))
       (at_set passes worker other (after_draw history e AtRest h p) x there)
-  drawn_backed history passes worker p e under (Planned rows) h all exclusive at has holds leaves other x there =
-      let plan = leaves_plan state left under rows leaves in
-      let own = held_whole worker h under plan.0 has holds in
+  drawn_backed history passes worker p e under (Planned plan) h all exclusive at has holds leaves other x there =
+      let shown = leaves_plan state left under plan leaves in
+      let own = held_whole worker h under shown.0 has holds in
       ⊎_elim
       (λ t. subst (λ (z : ℕ × Pass). IsBacked grants (set words 0 value) left z.0 z.1) (λ i. (sym t.0 i, t.1 i)) (record {
         reads = inr (everything, own, everything_pages);
         rows = λ held mine. all_stand held words (set words 0 value) (same_low words 0 value (omega arith)) p.rows ((all worker p at).rows held mine);
-        pending = (own, plan.1);
+        pending = (own, shown.1);
       }))
       (λ t. other_backed other x (others_rest worker other x.pending exclusive t.0 own (all other x t.1).pending) (all other x t.1))
-      (at_set passes worker other (after_draw history e (Planned rows) h p) x there)
+      (at_set passes worker other (after_draw history e (Planned plan) h p) x there)
   drawn_backed history passes worker p e under (OneRow c) h all exclusive at has holds leaves other x there =
       let l = leaves_change state left under c leaves in
       let own = held_alone grants worker h under l.0 l.1 has holds in

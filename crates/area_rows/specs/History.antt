@@ -28,11 +28,13 @@ use Rattle.area_rows.specs.declared.guard.ReadRow.{ReadRow}
 use Rattle.area_rows.specs.declared.guard.Note.{Note}
 use Rattle.area_rows.specs.declared.guard.Pass.{Pass}
 use Rattle.area_rows.specs.declared.guard.Pending.{Pending}
+use Rattle.area_rows.specs.declared.guard.Splice.{Splice}
 use Rattle.area_rows.specs.declared.guard.Pending.TheVariants.{AtRest, Planned, OneRow}
 use Rattle.row_plans.specs.RowLists.{areas_from}
 use Rattle.area_rows.specs.Rows.{rows_in, RowsShow}
 use Rattle.row_plans.specs.Plans.{PlanShows}
-use Rattle.area_rows.specs.Reads.{everything, StillStands}
+use Rattle.area_rows.specs.Reads.{everything, StillStands, noted_from}
+use Rattle.std.specs.List.{splice}
 use Rattle.area_rows.specs.Changes.{IsIn, alone, new_word, IsInside, IsChange, MayReplace}
 
 -- a history begins with these entries
@@ -94,17 +96,21 @@ pub record IsRight (state : List Areas) (call : Call) (reply : Reply) (under : U
   pub fits : FitsUnder state call under
   pub answers : Answers state call reply left
 
--- what is to be written after a draw is what the call leaves: under everything a plan that shows it, and over an area
+-- the rows after a splice
+abbrev pub rows_after : Splice → List ℕ
+rows_after plan = splice plan.old plan.first plan.end plan.more
+
+-- what is to be written after a draw is what the call leaves: under everything a splice that shows it, and over an area
 -- the change of one row. Otherwise it is nothing, and nothing has changed
 abbrev pub Leaves : List Areas → Under → Pending → List Areas → Type 0
 Leaves state Nothing AtRest left = left ≡ state
 Leaves state (Reader span) AtRest left = left ≡ state
 Leaves state (Area span) AtRest left = left ≡ state
 Leaves state Whole AtRest left = ⊥
-Leaves state Nothing (Planned rows) left = ⊥
-Leaves state (Reader span) (Planned rows) left = ⊥
-Leaves state (Area span) (Planned rows) left = ⊥
-Leaves state Whole (Planned rows) left = PlanShows rows (kind_at left)
+Leaves state Nothing (Planned plan) left = ⊥
+Leaves state (Reader span) (Planned plan) left = ⊥
+Leaves state (Area span) (Planned plan) left = ⊥
+Leaves state Whole (Planned plan) left = PlanShows (rows_after plan) (kind_at left)
 Leaves state Nothing (OneRow change) left = ⊥
 Leaves state (Reader span) (OneRow change) left = ⊥
 Leaves state (Area span) (OneRow change) left = IsChange state span change left
@@ -113,7 +119,7 @@ Leaves state Whole (OneRow change) left = ⊥
 -- there is room for the rows that are to be written
 abbrev pub FitsIn : Pending → ℕ → Type 0
 FitsIn AtRest room = Unit {0}
-FitsIn (Planned rows) room = length rows ≤ room
+FitsIn (Planned plan) room = length (rows_after plan) ≤ room
 FitsIn (OneRow change) room = Unit {0}
 
 -- what is to be written is what one entry leaves: the last one of its caller. The entries before it lead to a state at
@@ -135,7 +141,7 @@ pub record IsOfLastEntry (start : List Areas) (history : List Entry) (mine : Lis
 -- and the change of one row where it was numbered under the area that is held for it
 abbrev pub IsOwed : List Areas → List Entry → List Entry → Pending → Type 0
 IsOwed start history mine AtRest = Unit {0}
-IsOwed start history mine (Planned rows) = IsOfLastEntry start history mine (Planned rows)
+IsOwed start history mine (Planned plan) = IsOfLastEntry start history mine (Planned plan)
 IsOwed start history mine (OneRow change) = IsOfLastEntry start history mine (OneRow change)
 
 -- one caller's part: it began with the same areas, has seen a beginning of the history, stores just its own entries,
@@ -154,7 +160,7 @@ pub record IsPart (start : List Areas) (history : List Entry) (words : List ℕ)
 -- 1 where a call under everything has its number and isn't written yet
 abbrev pub planned_calls : Pending → ℕ
 planned_calls AtRest = 0
-planned_calls (Planned rows) = 1
+planned_calls (Planned plan) = 1
 planned_calls (OneRow change) = 0
 
 -- how many calls under everything a caller has to write
@@ -169,13 +175,13 @@ planned_count passes = sum_by own_planned passes
 -- There are none where a caller is at rest, and while a plan is to be written nothing is said of any row
 abbrev pub LagsAt : Pending → ℕ → Type 0
 LagsAt AtRest page = ⊥
-LagsAt (Planned rows) page = ⊥
+LagsAt (Planned plan) page = ⊥
 LagsAt (OneRow change) page = IsIn change.place page
 
 -- what the rows show of those pages: the kind that they had before the call
 abbrev pub ShowsBefore : Pending → (ℕ → Option Kind) → Type 0
 ShowsBefore AtRest kinds = Unit {0}
-ShowsBefore (Planned rows) kinds = Unit {0}
+ShowsBefore (Planned plan) kinds = Unit {0}
 ShowsBefore (OneRow change) kinds = (page : ℕ) → IsIn change.place page → kinds page ≡ Some change.old
 
 -- the kinds that the rows show: those of the state, but at pages whose row may lag
@@ -226,7 +232,7 @@ HasReadNothing pass = (pass.count ≡ None) × (pass.rows ≡ []) × (pass.seque
 -- what is to be written is right for the last state, and its caller holds what its entry names
 abbrev pub Backs : Grants → List Areas → ℕ → Pending → Type 0
 Backs grants state worker AtRest = Unit {0}
-Backs grants state worker (Planned rows) = Holds grants worker everything × PlanShows rows (kind_at state)
+Backs grants state worker (Planned plan) = Holds grants worker everything × PlanShows (rows_after plan) (kind_at state)
 Backs grants state worker (OneRow change) = Holds grants worker (alone change.span) × IsInside change
     × ((page : ℕ) → IsIn change.place page → kind_at state page ≡ Some change.new)
 
@@ -284,13 +290,13 @@ abbrev pub change_pending : Option Change → Pending
 change_pending None = AtRest
 change_pending (Some change) = OneRow change
 
--- what a call that is numbered under this has to write: under everything the rows that it planned, and over an area
+-- what a call that is numbered under this has to write: under everything the splice that it planned, and over an area
 -- the row that it planned
-abbrev pub pending_of : Under → List ℕ → Option Change → Pending
-pending_of Nothing rows change = AtRest
-pending_of (Reader span) rows change = AtRest
-pending_of (Area span) rows change = change_pending change
-pending_of Whole rows change = Planned rows
+abbrev pub pending_of : Under → Splice → Option Change → Pending
+pending_of Nothing plan change = AtRest
+pending_of (Reader span) plan change = AtRest
+pending_of (Area span) plan change = change_pending change
+pending_of Whole plan change = Planned plan
 
 -- the entry that a note becomes
 abbrev pub entry_of : ℕ → ℕ → Note → Entry
@@ -320,7 +326,11 @@ after_look history held p = record p { seen = history; looks = record { found = 
 abbrev pub after_sequence : ℕ → Pass → Pass
 after_sequence n p = record p { sequence = Some n }
 
--- the pass after a load of the row count, or a store of it
+-- the pass after a load of the row count, with which the caller notes all rows as they stand
+abbrev pub after_seen : List ℕ → ℕ → Pass → Pass
+after_seen rows n p = record p { count = Some n; rows = noted_from 0 rows ++ p.rows }
+
+-- the pass after a store of the row count
 abbrev pub after_count : ℕ → Pass → Pass
 after_count n p = record p { count = Some n }
 
@@ -352,7 +362,7 @@ after_draw history e AtRest held p = record {
   drew = held;
   looks = p.looks;
 }
-after_draw history e (Planned rows) held p = record {
+after_draw history e (Planned plan) held p = record {
   start = p.start;
   room = p.room;
   most = p.most;
@@ -361,7 +371,7 @@ after_draw history e (Planned rows) held p = record {
   count = p.count;
   rows = p.rows;
   sequence = p.sequence;
-  pending = Planned rows;
+  pending = Planned plan;
   drew = held;
   looks = p.looks;
 }
@@ -388,13 +398,14 @@ abbrev pub after_change : Pass → Pass
 after_change p = record p { count = None; rows = []; sequence = None; pending = AtRest }
 
 -- the loads that a caller may make: the number word and the sequence word at any time. What it has read of the sequence
--- word, of the row count and of a row it remembers, and it reads the last two only while it holds pages. Of a load of
--- the number word it remembers what it found and held
+-- word, of the row count and of a row it remembers, and it reads the last two only while it holds pages. With the row
+-- count it remembers all rows of the moment; those that others may change beside its range stand still as far as it can
+-- tell, and all of them where it holds everything. Of a load of the number word it remembers what it found and held
 pub data MayLoad (own : Option Held → Type 0) (free held : Type 0) (words : List ℕ) (history : List Entry) (place : ℕ) (p after : Pass) : Type 0 where
   number : (h : Option Held) → own h → place ≡ 0 → after ≡ after_look history h p → MayLoad own free held words history place p after
   glance : free → place ≡ 1 → after ≡ p → MayLoad own free held words history place p after
   sequence : held → place ≡ 1 → after ≡ after_sequence (slice_index words 1) p → MayLoad own free held words history place p after
-  count : held → place ≡ 2 → after ≡ after_count (slice_index words 2) p → MayLoad own free held words history place p after
+  count : held → place ≡ 2 → after ≡ after_seen (rows_in words) (slice_index words 2) p → MayLoad own free held words history place p after
   row : (index : ℕ) → held → index < ROWS → place ≡ 3 + index → after ≡ after_row index (slice_index words (3 + index)) p
       → MayLoad own free held words history place p after
 
@@ -427,7 +438,7 @@ pub data MayStore (rows : List ℕ) (place value : ℕ) (p after : Pass) : Type 
 -- what a caller that has something to write may store
 abbrev pub MayWrite : List ℕ → Pending → ℕ → ℕ → Pass → Pass → Type 0
 MayWrite words AtRest place value p after = ⊥
-MayWrite words (Planned rows) place value p after = MayStore rows place value p after
+MayWrite words (Planned plan) place value p after = MayStore (rows_after plan) place value p after
 MayWrite words (OneRow change) place value p after = (place ≡ 3 + change.index) × (value ≡ new_word change)
     × MayReplace words change × (after ≡ after_change p)
 
@@ -438,7 +449,7 @@ pub data MayAdd (grants : Grants) (words : List ℕ) (passes : List Pass) (worke
   draw : place ≡ 0 → (may : MayDraw grants words passes worker note here)
       → after ≡ after_draw here.history (entry_of (length here.history) worker note) note.pending may.held.0 here.pass
       → MayAdd grants words passes worker note here place after
-  raise : (rows : List ℕ) → place ≡ 1 → here.pass.pending ≡ Planned rows → RowsShow words (kind_at here.state)
+  raise : (plan : Splice) → place ≡ 1 → here.pass.pending ≡ Planned plan → RowsShow words (kind_at here.state)
       → after ≡ after_raise here.pass → MayAdd grants words passes worker note here place after
 
 -- the steps on client words that the guard allows

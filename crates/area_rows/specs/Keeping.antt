@@ -3,7 +3,7 @@
 -- them; a reader who trusts the check may pass them over.
 use Rattle.std.specs.Prelude.{All, Option, Some, None, slice_index}
 use Rattle.std.proofs.Common.{◌≡◌, ℕ, ◌+◌, ◌%◌, ◌^◌, inl, inr, List, [], ◌∷◌, ◌++◌, length, set, sym, refl, ◌∙◌, subst, ⊎_elim}
-use Rattle.std.proofs.lemmas.List.Elements.{All-nil, All-cons}
+use Rattle.std.proofs.lemmas.List.Elements.{All-nil, All-cons, All-append}
 use mathlib.Core.Option.{some, some-injective}
 use mathlib.Core.Logic.{dite}
 use native.Mathlib.Decide.{ℕ_discrete}
@@ -22,15 +22,16 @@ use Rattle.area_rows.specs.declared.guard.Note.{Note}
 use Rattle.area_rows.specs.declared.guard.ReadRow.{ReadRow}
 use Rattle.area_rows.specs.declared.guard.Pass.{Pass}
 use Rattle.area_rows.specs.declared.guard.Pending.{Pending}
+use Rattle.area_rows.specs.Rows.{rows_in}
 use Rattle.area_rows.specs.declared.guard.Pending.TheVariants.{AtRest, Planned, OneRow}
-use Rattle.area_rows.specs.Reads.{everything, StillStands}
+use Rattle.area_rows.specs.Reads.{everything, noted_from, StillStands}
 use Rattle.area_rows.specs.Changes.{alone}
 use Rattle.area_rows.specs.History.{IsRunningSpace, HoldsPages, HoldsJust, HoldsNothing, Backs, IsBacked, AreBacked, HasHistory}
-use Rattle.area_rows.specs.History.{rest_of, IsAtRest, entry_of, after_look, after_count, after_sequence, after_row}
+use Rattle.area_rows.specs.History.{rest_of, IsAtRest, entry_of, after_look, after_seen, after_sequence, after_row}
 use Rattle.area_rows.specs.History.{Here, MayLoad, MayWrite, MayAdd, Allowed}
 use Rattle.area_rows.specs.History.MayLoad.{number, glance, sequence, count, row}
 use Rattle.area_rows.specs.History.MayAdd.{draw, raise}
-use Rattle.area_rows.specs.Stands.{exact_stands}
+use Rattle.area_rows.specs.Stands.{exact_stands, noted_stand}
 use Rattle.area_rows.specs.Parts.{none_is, looked, counted, raised, read, rested, replaced}
 use Rattle.area_rows.specs.Writes.{stores_keep, raise_keeps, raise_backed}
 use Rattle.area_rows.specs.RowStores.{change_keeps, change_backed}
@@ -56,7 +57,11 @@ module _ (grants : Grants) (words : List ℕ) (history : List Entry) (state : Li
   load_backed (number h o e is) = subst (IsBacked grants words state worker) (sym is) (record { reads = b.reads; rows = b.rows; pending = b.pending })
   load_backed (glance free e is) = subst (IsBacked grants words state worker) (sym is) b
   load_backed (sequence h e is) = subst (IsBacked grants words state worker) (sym is) (record { reads = inr h; rows = b.rows; pending = b.pending })
-  load_backed (count h e is) = subst (IsBacked grants words state worker) (sym is) (record { reads = inr h; rows = b.rows; pending = b.pending })
+  load_backed (count h e is) = subst (IsBacked grants words state worker) (sym is) (record {
+    reads = inr h;
+    rows = λ held has. All-append (StillStands held words) (noted_from 0 (rows_in words)) p.rows (noted_stand held words) (b.rows held has);
+    pending = b.pending;
+  })
   load_backed (row index h few e is) = subst (IsBacked grants words state worker) (sym is) (record {
     reads = inr h;
     rows = λ held has.
@@ -82,7 +87,7 @@ module _ (mine : Option Held → Type 0) (free held : Type 0) (start : List Area
       (raised start history state words worker p (r.parts worker p at)) refl refl refl)
   loads_keep (count h e is) =
       subst (λ (q : Pass). IsRunningSpace start history state words (set passes worker q)) (sym is)
-      (replaced start history state words worker p (r.parts worker p at) passes (after_count (slice_index words 2) p) r at
+      (replaced start history state words worker p (r.parts worker p at) passes (after_seen (rows_in words) (slice_index words 2) p) r at
       (counted start history state words worker p (r.parts worker p at)) refl refl refl)
   loads_keep (row index h few e is) =
       subst (λ (q : Pass). IsRunningSpace start history state words (set passes worker q)) (sym is)
@@ -105,13 +110,13 @@ adds_keep grants words passes worker note here place after (draw zero_is d is) =
       drawn_backed grants here.state d.left words ((slice_index words 0 + 1) % 2 ^ 64) here.history passes worker here.pass e
           note.under note.pending d.held.0 here.backed here.exclusive here.own d.held.1 d.held.2 d.leaves,
     )
-adds_keep grants words passes worker note here place after (raise rows one_is pends written is) =
+adds_keep grants words passes worker note here place after (raise plan one_is pends written is) =
     subst (λ (z : ℕ × Pass). HasHistory grants (words_after words (adds z.0 1)) (set passes worker z.1)) (λ i. (sym one_is i, sym is i)) (
       here.start,
       here.history,
       here.state,
-      raise_keeps grants here.start here.history here.state words passes worker here.pass rows here.running here.backed here.exclusive here.own pends written,
-      raise_backed grants here.start here.history here.state words passes worker here.pass rows here.running here.backed here.exclusive here.own pends,
+      raise_keeps grants here.start here.history here.state words passes worker here.pass plan here.running here.backed here.exclusive here.own pends written,
+      raise_backed grants here.start here.history here.state words passes worker here.pass plan here.running here.backed here.exclusive here.own pends,
     )
 
 -- a store by a caller that has this to write
@@ -120,8 +125,8 @@ writes_keep : (grants : Grants) (words : List ℕ) (passes : List Pass) (worker 
     → MayWrite words pending place value here.pass after
     → HasHistory grants (words_after words (stores place value)) (set passes worker after)
 writes_keep grants words passes worker here AtRest place value after pends may = absurd may
-writes_keep grants words passes worker here (Planned rows) place value after pends may =
-    let k = stores_keep grants here.start here.history here.state words passes worker here.pass rows here.running here.backed
+writes_keep grants words passes worker here (Planned plan) place value after pends may =
+    let k = stores_keep grants here.start here.history here.state words passes worker here.pass plan here.running here.backed
     here.exclusive here.own pends place value after may in
     (here.start, here.history, here.state, k.0, k.1)
 writes_keep grants words passes worker here (OneRow c) place value after pends may =
@@ -163,7 +168,7 @@ module _ (grants : Grants) (words : List ℕ) (seat : ℕ) (new : Option Held) w
   backs_on : (state : List Areas) (other : ℕ) (pending : Pending) → (other ≡ seat → ⊥) → Backs grants state other pending
       → Backs (set grants seat new) state other pending
   backs_on state other AtRest differ b = tt
-  backs_on state other (Planned rows) differ b = (holds_on other everything differ b.0, b.1)
+  backs_on state other (Planned plan) differ b = (holds_on other everything differ b.0, b.1)
   backs_on state other (OneRow c) differ b = (holds_on other (alone c.span) differ b.0, b.1, b.2)
 
   backed_on : (state : List Areas) (other : ℕ) (x : Pass) → (other ≡ seat → ⊥) → IsBacked grants words state other x
@@ -181,7 +186,7 @@ holds_none grants seat g none holds = none_is g (some-injective None (Some g) (s
 idle_backs : (grants others : Grants) (state : List Areas) (seat : ℕ) (pending : Pending) → get_elem? grants seat ≡ some None
     → Backs grants state seat pending → Backs others state seat pending
 idle_backs grants others state seat AtRest none b = tt
-idle_backs grants others state seat (Planned rows) none b = absurd (holds_none grants seat everything none b.0)
+idle_backs grants others state seat (Planned plan) none b = absurd (holds_none grants seat everything none b.0)
 idle_backs grants others state seat (OneRow c) none b = absurd (holds_none grants seat (alone c.span) none b.0)
 
 idle_backed : (grants others : Grants) (words : List ℕ) (state : List Areas) (seat : ℕ) (x : Pass)

@@ -12,6 +12,7 @@ pub mod RowStores
 pub mod Draws
 pub mod Keeping
 pub mod Callers
+pub mod Loading
 pub mod AreaPlans
 pub mod Called
 pub mod Closing

@@ -21,10 +21,12 @@ use Rattle.space_model.specs.declared.entries.Under.TheVariants.{Nothing, Reader
 use Rattle.lock_core.specs.declared.range.Held.{Held}
 use Rattle.area_rows.specs.declared.guard.Pass.{Pass}
 use Rattle.area_rows.specs.declared.guard.Pending.{Pending}
+use Rattle.area_rows.specs.declared.guard.Splice.{Splice}
+use Rattle.area_rows.specs.Rows.{rows_in}
 use Rattle.area_rows.specs.declared.guard.Pending.TheVariants.{AtRest, Planned}
 use Rattle.area_rows.specs.History.{entries_of, with_whole, whole_count, own_count, entry_count, own_most, most_count, HasRoom, IsPart, planned_calls}
 use Rattle.area_rows.specs.History.{own_planned, planned_count, RowsStandFor, IsRunningSpace, HasReadNothing, rest_of}
-use Rattle.area_rows.specs.History.{after_look, after_count, after_sequence, after_row, after_store, after_raise}
+use Rattle.area_rows.specs.History.{after_look, after_seen, after_count, after_sequence, after_row, after_store, after_raise}
 use Rattle.area_rows.specs.History.{after_change}
 use Rattle.area_rows.specs.Stands.{shown_set}
 
@@ -140,8 +142,8 @@ planned_le passes worker p at =
     let s : planned_count (set passes worker rests) + planned_calls p.pending ≡ planned_count passes + 0 = planned_set passes worker p rests at in
     omega arith
 
-pub planned_of : (pending : Pending) (rows : List ℕ) → pending ≡ Planned rows → planned_calls pending ≡ 1
-planned_of pending rows e = ap planned_calls e
+pub planned_of : (pending : Pending) (plan : Splice) → pending ≡ Planned plan → planned_calls pending ≡ 1
+planned_of pending plan e = ap planned_calls e
 
 pub resting_of : (pending : Pending) → pending ≡ AtRest → planned_calls pending ≡ 0
 resting_of pending e = ap planned_calls e
@@ -194,7 +196,7 @@ module _ (start : List Areas) (history : List Entry) (state : List Areas) (words
     sequence = own.sequence;
   }
 
-  pub counted : IsPart start history words worker (after_count (slice_index words 2) p)
+  pub counted : IsPart start history words worker (after_seen (rows_in words) (slice_index words 2) p)
   counted = record {
     began = own.began;
     seen = own.seen;

@@ -64,7 +64,7 @@ apart_lags : (grants : Grants) (state : List Areas) (worker other : ℕ) (span :
     → IsExclusive grants → (other ≡ worker → ⊥) → Holds grants worker (alone span) → Backs grants state other pending
     → (page : ℕ) → LagsAt pending page → IsIn span page → ⊥
 apart_lags grants state worker other span AtRest exclusive differ holds b page lags i = lags
-apart_lags grants state worker other span (Planned rows) exclusive differ holds b page lags i = lags
+apart_lags grants state worker other span (Planned plan) exclusive differ holds b page lags i = lags
 apart_lags grants state worker other span (OneRow d) exclusive differ holds b page lags i =
     let in_d = in_span d page b.1 lags in
     apart_pages grants worker other span exclusive differ holds (Some (alone d.span)) b.0 page (alone d.span, refl, in_d.0, in_d.1) i
@@ -73,7 +73,7 @@ apart_lags grants state worker other span (OneRow d) exclusive differ holds b pa
 shown_alike : (pending : Pending) (kinds others : ℕ → Option Kind) → ((page : ℕ) → LagsAt pending page → others page ≡ kinds page)
     → ShowsBefore pending kinds → ShowsBefore pending others
 shown_alike AtRest kinds others same s = tt
-shown_alike (Planned rows) kinds others same s = tt
+shown_alike (Planned plan) kinds others same s = tt
 shown_alike (OneRow d) kinds others same s = λ page i. same page i ∙ s page i
 
 -- a caller that is at rest lags behind nowhere
@@ -117,7 +117,7 @@ module _ (grants : Grants) (state left : List Areas) (passes : List Pass) (worke
   -- what others have to write is right for the state that is left
   pub others_back : (other : ℕ) (pending : Pending) → (other ≡ worker → ⊥) → Backs grants state other pending → Backs grants left other pending
   others_back other AtRest differ b = tt
-  others_back other (Planned rows) differ b = absurd
+  others_back other (Planned plan) differ b = absurd
       (clash grants other worker exclusive (λ e. differ (sym e)) b.0 (alone c.span, own_holds, span_pages c.span))
   others_back other (OneRow d) differ b = (
     b.0,

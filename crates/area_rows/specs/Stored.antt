@@ -16,9 +16,10 @@ use Rattle.lock_core.specs.declared.range.Held.{Held}
 use Rattle.area_rows.specs.declared.guard.Note.{Note}
 use Rattle.area_rows.specs.declared.guard.Pass.{Pass}
 use Rattle.area_rows.specs.declared.guard.Pending.TheVariants.{Planned}
+use Rattle.area_rows.specs.declared.guard.Splice.{Splice}
 use Rattle.area_rows.specs.Reads.{everything}
 use Rattle.area_rows.specs.History.{Runs, StartsWith, whole_count, planned_count, RowsStandFor, Backs, HasHistory, HoldsFor, Allowed, entry_of, rest_of}
-use Rattle.area_rows.specs.History.{IsOwed}
+use Rattle.area_rows.specs.History.{IsOwed, rows_after}
 
 -- the caller of that number has the entry at that place among its own
 abbrev pub Stores : List Pass → ℕ → ℕ → Entry → Type 0
@@ -58,9 +59,9 @@ HistoryIsStored = (grants : Grants) (words : List ℕ) (passes : List Pass) → 
 pub record IsCountStore (grants : Grants) (passes : List Pass) (worker value : ℕ) : Type 0 where
   pub pass : Pass
   pub there : get_elem? passes worker ≡ some pass
-  pub rows : List ℕ
-  pub planned : pass.pending ≡ Planned rows
-  pub counted : value ≡ length rows
+  pub plan : Splice
+  pub planned : pass.pending ≡ Planned plan
+  pub counted : value ≡ length (rows_after plan)
   pub holds : Holds grants worker everything
   pub others : List Entry
   pub entry : Entry

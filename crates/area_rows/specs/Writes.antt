@@ -18,6 +18,7 @@ use Rattle.lock_core.specs.Client.{adds, words_after}
 use Rattle.lock_core.specs.declared.range.Held.{Held}
 use Rattle.area_rows.specs.declared.guard.Pass.{Pass}
 use Rattle.area_rows.specs.declared.guard.Pending.{Pending}
+use Rattle.area_rows.specs.declared.guard.Splice.{Splice}
 use Rattle.area_rows.specs.declared.guard.Pending.TheVariants.{AtRest, Planned, OneRow}
 use Rattle.area_rows.specs.Rows.{RowsShow}
 use Rattle.row_plans.specs.Plans.{PlanShows}
@@ -27,7 +28,7 @@ use Rattle.row_plans.proofs.RowLists.{areas_back}
 use Rattle.area_rows.specs.Reads.{everything, StillStands}
 use Rattle.area_rows.specs.Changes.{alone}
 use Rattle.area_rows.specs.History.{IsPart, planned_calls, planned_count, ShowsBefore, IsShown, IsRunningSpace}
-use Rattle.area_rows.specs.History.{HasPages, HoldsPages, HasReadNothing, Backs, IsBacked, AreBacked, after_count}
+use Rattle.area_rows.specs.History.{HasPages, HoldsPages, HasReadNothing, Backs, IsBacked, AreBacked, after_count, rows_after}
 use Rattle.area_rows.specs.History.{after_store, after_raise, MayStore}
 use Rattle.area_rows.specs.History.MayStore.{store_row, store_count}
 use Rattle.area_rows.specs.Stands.{all_stand, same_low, low_rows, stored_all, counted_all}
@@ -57,7 +58,7 @@ others_shown : (grants : Grants) (state : List Areas) (worker other : ℕ) (pend
     → IsExclusive grants → other ≢ worker → Holds grants worker everything → Backs grants state other pending
     → ShowsBefore pending kinds
 others_shown grants state worker other AtRest kinds exclusive differ held b = tt
-others_shown grants state worker other (Planned rows) kinds exclusive differ held b = tt
+others_shown grants state worker other (Planned plan) kinds exclusive differ held b = tt
 others_shown grants state worker other (OneRow c) kinds exclusive differ held b =
     absurd (clash grants worker other exclusive differ held (alone c.span, b.0, span_pages c.span))
 
@@ -82,10 +83,10 @@ plan_length rows state in_order shows =
 
 -- a store by the caller of an unwritten call under everything
 module _ (grants : Grants) (start : List Areas) (history : List Entry) (state : List Areas) (words : List ℕ)
-    (passes : List Pass) (worker : ℕ) (p : Pass) (rows : List ℕ)
+    (passes : List Pass) (worker : ℕ) (p : Pass) (plan : Splice)
     (r : IsRunningSpace start history state words passes) (backed : AreBacked grants words state passes)
-    (exclusive : IsExclusive grants) (at : get_elem? passes worker ≡ some p) (pends : p.pending ≡ Planned rows) where
-  plan_held : Holds grants worker everything × PlanShows rows (kind_at state)
+    (exclusive : IsExclusive grants) (at : get_elem? passes worker ≡ some p) (pends : p.pending ≡ Planned plan) where
+  plan_held : Holds grants worker everything × PlanShows (rows_after plan) (kind_at state)
   plan_held = subst (Backs grants state worker) pends (backed worker p at).pending
 
   own_rows : All (StillStands (Some everything) words) p.rows
@@ -107,7 +108,7 @@ module _ (grants : Grants) (start : List Areas) (history : List Entry) (state : 
       let pending : planned_count (set passes worker q) ≡ planned_count passes = let s = planned_set passes worker p q at in
       let t = ap planned_calls pended in omega arith in
       let some_one : 0 < planned_count (set passes worker q) = let least = planned_le passes worker p at in
-      let t = planned_of p.pending rows pends in omega arith in
+      let t = planned_of p.pending plan pends in omega arith in
       record {
         callers = let c = r.callers in omega arith;
         runs = r.runs;
@@ -143,12 +144,12 @@ module _ (grants : Grants) (start : List Areas) (history : List Entry) (state : 
       (λ t. blank_backed grants words others state other x (other_blank other x t.0 t.1) (backed other x t.1))
       (at_set passes worker other q x there)
 
-  pub stores_keep : (place value : ℕ) (after : Pass) → MayStore rows place value p after
+  pub stores_keep : (place value : ℕ) (after : Pass) → MayStore (rows_after plan) place value p after
       → IsRunningSpace start history state (set words place value) (set passes worker after)
       × AreBacked grants (set words place value) state (set passes worker after)
   stores_keep place value after (store_row index few e v is) =
       let fits = rows_fit start history state words passes r in
-      let plan = plan_length rows state r.in_order plan_held.1 in
+      let long = plan_length (rows_after plan) state r.in_order plan_held.1 in
       subst (λ (z : ℕ × Pass). IsRunningSpace start history state (set words z.0 value) (set passes worker z.1)
       × AreBacked grants (set words z.0 value) state (set passes worker z.1)) (λ i. (sym e i, sym is i)) (
         store_keeps (3 + index) value (after_store index value p) (omega arith)
@@ -182,7 +183,7 @@ module _ (grants : Grants) (start : List Areas) (history : List Entry) (state : 
       let wide : length (set passes worker q) ≡ length passes = length-set passes worker q in
       let fits = rows_fit start history state words passes r in
       let there : 1 < length words = omega arith in
-      let one = planned_of p.pending rows pends in
+      let one = planned_of p.pending plan pends in
       let pending : planned_count (set passes worker q) + 1 ≡ planned_count passes = let s = planned_set passes worker p q at in omega arith in
       record {
         callers = let c = r.callers in omega arith;

@@ -36,12 +36,24 @@ pub struct Change {
     pub new: Kind,
 }
 
+/// What a call under everything makes of the rows: a splice of those that stood when it got its number.
+pub struct Splice {
+    /// The words of the rows that stood.
+    pub old: LinkedList<u64>,
+    /// The number of the first row that goes, counted from 0.
+    pub first: u32,
+    /// The number behind that of the last row that goes.
+    pub end: u32,
+    /// The words of the rows that come in their place.
+    pub more: LinkedList<u64>,
+}
+
 /// What a call that has its number still has to write.
 pub enum Pending {
     /// Nothing.
     AtRest,
-    /// The row words that it leaves, their count, and the sequence word: a call under everything.
-    Planned(LinkedList<u64>),
+    /// The splice that it makes of the rows, their count, and the sequence word: a call under everything.
+    Planned(Splice),
     /// One row: a call over its area.
     OneRow(Change),
 }
@@ -77,7 +89,8 @@ pub struct Pass {
     pub mine: LinkedList<Entry>,
     /// The row count, where the caller has read it under the range that it holds.
     pub count: Option<u64>,
-    /// The rows that the caller has read, or stored, under the range that it holds.
+    /// The rows that the caller has read, or stored, under the range that it holds. With the row count it has noted all
+    /// rows as they stood.
     pub rows: LinkedList<ReadRow>,
     /// The sequence word, where the caller has read it under the range that it holds.
     pub sequence: Option<u64>,

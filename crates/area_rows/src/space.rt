@@ -6,6 +6,7 @@ ghost use Rattle.std.specs.Prelude.{◌≡◌, ◌≤◌, ◌<◌, ◌+◌, ◌^
 use crate::guard::{Change, RowGuard};
 use page_types::{LIMIT, ROWS};
 use range_rw::{RangeTable, Seat};
+use row_plans::Cut;
 use space_model::Entry;
 use std::marker::Model;
 use thiserror::Error;
@@ -61,10 +62,12 @@ pub struct Caller {
     pub(crate) worker: u32,
     pub(crate) mine: Vec<Entry>,
     pub(crate) left: u32,
-    /// The row words that the last plan read, with room for as many as the table has room for.
-    pub(crate) read: Vec<u64>,
-    /// The row words that the last plan put together, or none where those that it read stay; with room for `SPARE`
-    /// more.
+    /// How many rows there were at the last plan.
+    pub(crate) count: u32,
+    /// Which rows go by the last plan.
+    pub(crate) cut: Cut,
+    /// The row words that come in their place, with room for `SPARE` more than the table has room for: a call may
+    /// change as many rows as there are. The room is touched only as far as rows come.
     pub(crate) plan: Vec<u64>,
     /// The row that the last plan over an area changes, or None where it changes nothing.
     pub(crate) change: Option<Change>,
@@ -73,20 +76,18 @@ pub struct Caller {
 impl Model for Caller {
     ghost use Rattle.std.specs.Prelude.{◌≡◌, ◌+◌, ◌≤◌, ◌<◌, ◌^◌, None, vec_len, vec_capacity};
     ghost use Rattle.page_types.specs.declared.TheConstants.{ROWS, SPARE};
-    ghost use Rattle.row_plans.specs.Plans.{planned_rows};
     ghost use Rattle.area_rows.specs.Rows.{room_of};
     ghost use Rattle.area_rows.specs.History.{IsAtRest};
     ghost use Rattle.area_rows.specs.Callers.{CallerView, IsHeldPages};
 
     ghost Value = { CallerView };
 
-    ghost view = { λ c. record { seat = c.seat; left = c.left; read = c.read.items; plan = planned_rows c.read.items c.plan.items; change = c.change } };
+    ghost view = { λ c. record { seat = c.seat; left = c.left; count = c.count; cut = c.cut; more = c.plan.items; change = c.change } };
 
     ghost invariant = { λ c. (c.seat.number ≡ c.worker) × (c.mine.items ≡ c.seat.pass.mine)
         × (vec_len c.mine + c.left ≤ vec_capacity c.mine) × (vec_len c.mine + c.left ≤ c.seat.pass.most)
-        × (c.seat.pass.room ≤ vec_capacity c.read) × (c.seat.pass.room + SPARE ≤ vec_capacity c.plan) × (vec_len c.plan ≤ ROWS)
-        × IsHeldPages c.seat.held × (c.seat.held ≡ None → IsAtRest c.seat.pass) × (c.seat.pass.room ≡ room_of c.seat.table)
-        × (c.seat.pass.most < 2 ^ 32) };
+        × (c.seat.pass.room + SPARE ≤ vec_capacity c.plan) × IsHeldPages c.seat.held × (c.seat.held ≡ None → IsAtRest c.seat.pass)
+        × (c.seat.pass.room ≡ room_of c.seat.table) × (c.seat.pass.most < 2 ^ 32) };
 }
 
 impl Caller {

@@ -10,12 +10,11 @@ ghost use Rattle.space_model.specs.declared.areas.Area.{Area};
 ghost use Rattle.area_rows.specs.declared.guard.Change.{Change};
 ghost use Rattle.space_model.specs.declared.entries.Under.TheVariants.{Area as OverArea, Whole};
 ghost use Rattle.row_plans.specs.RowWords.{row_start};
-ghost use Rattle.row_plans.specs.Plans.{IsRowList, planned_rows};
 ghost use Rattle.area_rows.specs.Halving.{IsOnSameSide};
 ghost use Rattle.area_rows.specs.Rows.{room_of};
-ghost use Rattle.area_rows.specs.Reads.{everything, HasRows, IsHeldPage};
-ghost use Rattle.area_rows.specs.History.{HoldsFor, IsAtRest, IsRight, Leaves, pending_of, after_count, after_row, entry_note};
-ghost use Rattle.area_rows.specs.Callers.{HasSameRows, HasToWrite, HasToStore, IsReadRound, CountsWhole, IsReading};
+ghost use Rattle.area_rows.specs.Reads.{everything, HasRead, IsHeldPage};
+ghost use Rattle.area_rows.specs.History.{HoldsFor, IsAtRest, IsRight, Leaves, pending_of, after_row, entry_note};
+ghost use Rattle.area_rows.specs.Callers.{HasSameRows, splice_of, plan_of, IsKnown, HasToWrite, HasToStore, IsReadRound, CountsWhole, IsReading, IsCounted};
 ghost use Rattle.area_rows.specs.Callers.{IsClientStep, IsLook, IsDrawn, MayNumber, Shows};
 
 use crate::guard::{By, Change, Noted, RowGuard};
@@ -23,19 +22,21 @@ use crate::space::{Caller, Space};
 use crate::words::{FIRST_ROW, NUMBER, ROW_COUNT, SEQUENCE};
 use page_types::{Call, Reply};
 use range_rw::Seat;
+use row_plans::Cut;
 use space_model::{Entry, Under};
 use std::marker::Brand;
 use std::sync::ledger::Ledger;
 use word_rows::Steps;
 
 impl Space {
-    /// Loads the row count, from 1 to `ROWS`, and no more than there is room for. The caller is of this space, holds a
-    /// range, and has written what it has numbered.
+    /// Loads the row count, from 1 to `ROWS`, and no more than there is room for; with it the caller notes, in what it
+    /// knows alone, all rows of the moment. The caller is of this space, holds a range, and has written what it has
+    /// numbered.
     pub(crate) fn load_count(&self, caller: &mut Caller) -> u64
         requires table { caller.old.seat.table ≡ self.now.table }
         requires held { IsSome caller.old.seat.held }
         requires rest { IsAtRest caller.old.seat.pass }
-        ensures step { IsClientStep caller.old.seat 2 (after_count result caller.old.seat.pass) caller.new.seat }
+        ensures counted { IsCounted caller.old.seat result caller.new.seat }
         ensures left { caller.new.left ≡ caller.old.left }
         ensures rows { HasSameRows caller.old caller.new }
         ensures some { 0 < result }
@@ -48,8 +49,7 @@ impl Space {
     }
 
     /// Loads the word of a row, counted from 0. The caller is of this space, holds a range, and has written what it has
-    /// numbered. A row that it has read before starts on the same side of each page that it holds as it did then. Where
-    /// it holds everything, all rows that it has read, with this one, are a row list once there is no other.
+    /// numbered. A row that it has read before starts on the same side of each page that it holds as it did then.
     pub(crate) fn load_row(&self, caller: &mut Caller, index: u32) -> u64
         requires table { caller.old.seat.table ≡ self.now.table }
         requires held { IsSome caller.old.seat.held }
@@ -62,10 +62,23 @@ impl Space {
         ensures first { index ≡ 0 → row_start result ≡ 0 }
         ensures below { (n : ℕ) → caller.old.seat.pass.count ≡ Some n → index < n → row_start result < LIMIT }
         ensures side { (page : ℕ) → IsHeldPage caller.old.seat.held page → IsOnSameSide caller.old.seat.pass.rows index result page }
-        ensures whole { caller.old.seat.held ≡ Some everything → (rows : List ℕ) → HasRows caller.new.seat.pass rows → IsRowList rows }
     {
         self.table
             .load_as_uncounted::<By<Brand>>(&mut caller.seat, FIRST_ROW + index)
+    }
+
+    /// Loads the word of a row, counted from 0, by the seat of a caller that holds everything, whether it has something
+    /// to write or not. A row that it has read, stored or noted before has the same word.
+    pub(crate) fn load_known(&self, seat: &mut Seat<RowGuard>, index: u32) -> u64
+        requires table { seat.old.table ≡ self.now.table }
+        requires held { seat.old.held ≡ Some everything }
+        requires index { index < ROWS }
+        requires room { index < room_of seat.old.table }
+        ensures step { IsClientStep seat.old (3 + index) (after_row index result seat.old.pass) seat.new }
+        ensures word { (word : ℕ) → HasRead seat.old.pass.rows index word → result ≡ word }
+    {
+        self.table
+            .load_as_uncounted::<By<Brand>>(seat, FIRST_ROW + index)
     }
 
     /// Loads the number word: how many entries the history has. The caller then has seen all of them, and what its
@@ -94,18 +107,18 @@ impl Space {
             .load_as_uncounted::<By<Brand>>(&mut caller.seat, SEQUENCE)
     }
 
-    /// Draws a number for the entry that the note becomes, where a call under everything has these rows to write, and a
-    /// call over an area this one. The call, with all that the note says of it, is an argument so that the note can be
-    /// picked from it.
+    /// Draws a number for the entry that the note becomes, where a call under everything has this splice to write, of
+    /// the rows that the seat knows, and a call over an area this row. The call, with all that the note says of it, is
+    /// an argument so that the note can be picked from it.
     fn draw_as<N: Noted>(
         &self,
         seat: &mut Seat<RowGuard>,
         draft: &Entry,
-        read: &[u64],
-        plan: &[u64],
+        cut: Cut,
+        more: &[u64],
         change: Option<Change>,
     ) -> u64
-        requires note { N.noted ≡ entry_note draft.now (pending_of draft.now.under (planned_rows read.now plan.now) change) }
+        requires note { N.noted ≡ entry_note draft.now (pending_of draft.now.under (splice_of seat.old cut more.now) change) }
         requires table { seat.old.table ≡ self.now.table }
         requires worker { seat.old.number ≡ draft.now.worker }
         requires few { length seat.old.pass.mine + 1 ≤ seat.old.pass.most }
@@ -114,8 +127,8 @@ impl Space {
         requires held { HoldsFor seat.old.held draft.now.under }
         requires right { Shows seat.old (λ _ state. (left : List Area)
             × IsRight state draft.now.call draft.now.reply draft.now.under left
-            × Leaves state draft.now.under (pending_of draft.now.under (planned_rows read.now plan.now) change) left) }
-        ensures drawn { IsDrawn seat.old (record draft.now { number = result }) (pending_of draft.now.under (planned_rows read.now plan.now) change) seat.new }
+            × Leaves state draft.now.under (pending_of draft.now.under (splice_of seat.old cut more.now) change) left) }
+        ensures drawn { IsDrawn seat.old (record draft.now { number = result }) (pending_of draft.now.under (splice_of seat.old cut more.now) change) seat.new }
         ensures taken { seat.new.trace.taken ≡ seat.old.trace.taken + 1 }
     {
         self.table.add_as_uncounted::<By<N>>(seat, NUMBER, 1)
@@ -141,10 +154,10 @@ impl Space {
         ensures reply { result.reply ≡ reply }
         ensures under { result.under ≡ under }
         ensures named { IsNamedReply result.reply }
-        ensures drawn { IsDrawn caller.old.seat result (pending_of under caller.old.plan caller.old.change) caller.new.seat }
+        ensures drawn { IsDrawn caller.old.seat result (pending_of under (plan_of caller.old) caller.old.change) caller.new.seat }
         ensures left { caller.new.left + 1 ≡ caller.old.left }
         ensures rows { HasSameRows caller.old caller.new }
-        ensures write { under ≡ Whole → HasRows caller.old.seat.pass caller.old.read → HasToWrite caller.new }
+        ensures write { under ≡ Whole → IsKnown caller.old → HasToWrite caller.new }
         ensures store { (span : Span) (change : Change) → under ≡ OverArea span → caller.old.change ≡ Some change
             → IsReadRound caller.old.seat change → HasToStore caller.new change }
         ensures taken { caller.new.seat.trace.taken ≡ caller.old.seat.trace.taken + 1 }
@@ -160,7 +173,7 @@ impl Space {
         entry.number = self.draw_as::<Brand>(
             &mut caller.seat,
             &entry,
-            caller.read.as_slice(),
+            caller.cut,
             caller.plan.as_slice(),
             caller.change,
         );
@@ -197,10 +210,10 @@ impl Space {
         ensures reply { result.reply ≡ reply }
         ensures under { result.under ≡ under }
         ensures named { IsNamedReply result.reply }
-        ensures drawn { IsDrawn caller.old.seat result (pending_of under caller.old.plan caller.old.change) caller.new.seat }
+        ensures drawn { IsDrawn caller.old.seat result (pending_of under (plan_of caller.old) caller.old.change) caller.new.seat }
         ensures left { caller.new.left + 1 ≡ caller.old.left }
         ensures rows { HasSameRows caller.old caller.new }
-        ensures write { under ≡ Whole → HasRows caller.old.seat.pass caller.old.read → HasToWrite caller.new }
+        ensures write { under ≡ Whole → IsKnown caller.old → HasToWrite caller.new }
         ensures store { (span : Span) (change : Change) → under ≡ OverArea span → caller.old.change ≡ Some change
             → IsReadRound caller.old.seat change → HasToStore caller.new change }
         ensures taken { caller.new.seat.trace.taken ≡ caller.old.seat.trace.taken + 1 }

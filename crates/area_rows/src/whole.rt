@@ -2,92 +2,93 @@
 //! pages, plans the rows that it leaves, draws its number, writes them and gives the pages back: the change of an
 //! address space that mmap(2), munmap(2), brk(2) and mremap(2) make under their lock. A reader may rely on `IsCalled`
 //! (`specs/Called.antt`), the one clause of all calls that give an entry.
-ghost use Rattle.std.specs.Prelude.{◌≡◌, ◌<◌, ◌≤◌, ◌+◌, ◌++◌, [], ◌∷◌, Some, None, length};
+ghost use Rattle.std.specs.Prelude.{◌≡◌, ◌<◌, ◌+◌, Some, None};
 ghost use Rattle.page_types.specs.declared.calls.Reply.TheVariants.{Refused};
 ghost use Rattle.page_types.specs.declared.calls.Why.{Why};
 ghost use Rattle.page_types.specs.Named.{IsNamedCall};
 ghost use Rattle.page_types.specs.PlainReply.{plain_reply};
 ghost use Rattle.space_model.specs.declared.entries.Under.TheVariants.{Whole};
 ghost use Rattle.row_plans.specs.RowLists.{areas_from};
-ghost use Rattle.row_plans.specs.Plans.{IsRowList, BeginsAs, IsPlan};
-ghost use Rattle.area_rows.specs.Rows.{room_of};
-ghost use Rattle.area_rows.specs.Reads.{everything, HasRows};
+ghost use Rattle.row_plans.specs.Plans.{spliced, IsPlan};
+ghost use Rattle.area_rows.specs.Reads.{everything, known_rows};
 ghost use Rattle.page_types.specs.Classes.{IsFault};
 ghost use Rattle.area_rows.specs.History.{IsAtRest};
-ghost use Rattle.area_rows.specs.Callers.{HasPlanned, IsReading};
+ghost use Rattle.area_rows.specs.Callers.{HasPlanned, IsKnown, IsReading, MayLoadAll};
 ghost use Rattle.area_rows.specs.Called.{IsAnswered, IsCalled};
 
 use crate::answer::Answer;
+use crate::guard::RowGuard;
 use crate::space::{Caller, Space};
 use lock_core::Mode;
 use page_types::{Call, LIMIT, Reply, Span, plain};
-use row_plans::{Planned, plan_rows};
+use range_rw::Seat;
+use row_plans::{Planned, Rows, plan_rows};
 use space_model::{Entry, Under};
 use std::sync::Wait;
 
+/// The rows of a space, by the seat of a caller that holds everything and has loaded how many there are.
+#[derive(Drop)]
+struct AllRows<'a> {
+    space: &'a Space,
+    count: u32,
+}
+
+impl<'a> Rows for AllRows<'a> {
+    ghost use Rattle.area_rows.specs.Reads.{known_rows};
+    ghost use Rattle.area_rows.specs.Callers.{HasLoaded, MayLoadAll};
+    ghost use Rattle.area_rows.specs.Loading.{no_load_all, loads_on_all, same_known};
+
+    type Hand = Seat<RowGuard>;
+
+    ghost may_load = { λ rows seat. MayLoadAll rows.space.now.table rows.count seat };
+
+    ghost words = { λ rows seat. known_rows seat.pass };
+
+    ghost loaded = { λ rows one two. HasLoaded one two };
+
+    ghost no_load = { λ rows seat. no_load_all seat };
+
+    ghost loads_on = { λ rows one two three. loads_on_all one two three };
+
+    ghost same_words = { λ rows one two. same_known rows.space.now.table rows.count one two };
+
+    ghost are_rows = { λ rows seat may. may.list };
+
+    fn count(&self) -> u32 {
+        self.count
+    }
+
+    fn load(&self, hand: &mut Seat<RowGuard>, index: u32) -> u64 {
+        let space = self.space;
+        space.load_known(hand, index)
+    }
+}
+
 impl Caller {
-    /// Forgets the last plan.
-    fn clear_rows(&mut self)
-        ensures seat { self.new.seat ≡ self.old.seat }
-        ensures left { self.new.left ≡ self.old.left }
-        ensures read { self.new.read ≡ [] }
-    {
-        self.read.clear();
-        self.plan.clear();
-    }
-
-    /// Keeps one row word more of those that were read.
-    fn push_row(&mut self, word: u64)
-        requires room { length self.old.read < room_of self.old.seat.table }
-        ensures seat { self.new.seat ≡ self.old.seat }
-        ensures left { self.new.left ≡ self.old.left }
-        ensures read { self.new.read ≡ self.old.read ++ word ∷ [] }
-    {
-        self.read.push_reserved(word);
-    }
-
-    /// Plans a call on the rows that were read.
-    fn plan_call(&mut self, call: &Call) -> Planned
-        requires list { IsRowList self.old.read }
-        requires room { length self.old.read ≤ room_of self.old.seat.table }
+    /// Plans a call, on the rows as they stand.
+    fn plan_call(&mut self, space: &Space, count: u32, call: &Call) -> Planned
+        requires may { MayLoadAll space.now.table count self.old.seat }
         requires named { IsNamedCall call.now }
-        ensures seat { self.new.seat ≡ self.old.seat }
+        ensures reading { IsReading self.old.seat self.new.seat }
         ensures left { self.new.left ≡ self.old.left }
-        ensures read { self.new.read ≡ self.old.read }
-        ensures plan { IsPlan call.now result.reply result.rows self.new.plan (areas_from self.old.read) }
-        ensures first { BeginsAs self.old.read self.new.plan result.first }
+        ensures known { IsKnown self.new }
+        ensures same { known_rows self.new.seat.pass ≡ known_rows self.old.seat.pass }
+        ensures plan { IsPlan call.now result.reply result.rows (spliced (known_rows self.old.seat.pass) self.new.cut self.new.more)
+            (areas_from (known_rows self.old.seat.pass)) }
     {
-        plan_rows(self.read.as_slice(), call, &mut self.plan)
+        let rows = AllRows { space, count };
+        let planned = plan_rows(&rows, &mut self.seat, call, &mut self.plan);
+        self.count = count;
+        self.cut = planned.cut;
+        planned
     }
 }
 
 impl Space {
-    /// Reads all rows, in the caller's own room. The caller is of this space, holds everything, and has written what it
-    /// has numbered.
-    fn read_rows(&self, caller: &mut Caller)
-        requires table { caller.old.seat.table ≡ self.now.table }
-        requires held { caller.old.seat.held ≡ Some everything }
-        requires rest { IsAtRest caller.old.seat.pass }
-        ensures rows { HasRows caller.new.seat.pass caller.new.read }
-        ensures list { IsRowList caller.new.read }
-        ensures room { length caller.new.read ≤ room_of caller.new.seat.table }
-        ensures reading { IsReading caller.old.seat caller.new.seat }
-        ensures left { caller.new.left ≡ caller.old.left }
-    {
-        caller.clear_rows();
-        let count = self.load_count(caller) as u32;
-        let mut index = 0;
-        'rows: while index < count {
-            let word = self.load_row(caller, index);
-            caller.push_row(word);
-            index += 1;
-        }
-    }
-
-    /// Plans a call that is no fault, by the rows as they stand: its reply, and the rows that it leaves, which go into
-    /// the caller's own room, and how many of those at the beginning stay. The caller is of this space, holds
-    /// everything as a writer, and has written what it has numbered. The plan is right until the caller draws a number
-    /// or gives the range back. That of a refused call is the rows as they were read. It takes no memory.
+    /// Plans a call that is no fault, by the rows as they stand: its reply, and the splice that it makes of them. The
+    /// rows that come go into the caller's own room. The caller is of this space, holds everything as a writer, and has
+    /// written what it has numbered. The plan is right until the caller draws a number or gives the range back. That of
+    /// a refused call leaves the rows as they are. Rows are loaded only where the plan needs them. It takes no memory.
     pub fn plan(&self, caller: &mut Caller, call: &Call) -> Planned
         requires table { caller.old.seat.table ≡ self.now.table }
         requires held { caller.old.seat.held ≡ Some everything }
@@ -95,13 +96,13 @@ impl Space {
         requires call { ¬ IsFault call.now }
         requires named { IsNamedCall call.now }
         ensures planned { HasPlanned call.now result.reply result.rows caller.new }
-        ensures refused { (why : Why) → result.reply ≡ Refused why → caller.new.plan ≡ caller.new.read }
-        ensures first { BeginsAs caller.new.read caller.new.plan result.first }
+        ensures refused { (why : Why) → result.reply ≡ Refused why
+            → spliced (known_rows caller.new.seat.pass) caller.new.cut caller.new.more ≡ known_rows caller.new.seat.pass }
         ensures reading { IsReading caller.old.seat caller.new.seat }
         ensures left { caller.new.left ≡ caller.old.left }
     {
-        self.read_rows(caller);
-        caller.plan_call(call)
+        let count = self.load_count(caller) as u32;
+        caller.plan_call(self, count, call)
     }
 
     /// Makes a call whose arguments decide it: it draws its number, in one step, and holds nothing. The caller is of
@@ -141,7 +142,7 @@ impl Space {
         self.acquire(wait, caller, all, Mode::Writer);
         let planned = self.plan(caller, &call);
         let entry = self.draw(caller, line, call, planned.reply, Under::Whole);
-        self.write_from(caller, planned.first);
+        self.write_plan(caller);
         self.release_uncounted(caller);
         entry
     }

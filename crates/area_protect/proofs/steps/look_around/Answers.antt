@@ -4,7 +4,7 @@ use Rattle.lock_core.specs.declared.range.Held.{Held}
 use Rattle.lock_core.specs.declared.range.Mode.TheVariants.{Reader}
 use Rattle.area_rows.specs.AreaPlans.{IsOneKind}
 use Rattle.area_rows.specs.Callers.{held_span}
-use Rattle.area_rows.proofs.Reading.{reading_on}
+use Rattle.area_rows.specs.Loading.{reading_on}
 use Rattle.area_protect.proofs.Looking.{look_shows, look_counts}
 use Rattle.area_protect.proofs.Stages.{other_shown, after_back, whole_back, looked_round, first_round, counts_on}
 use Rattle.area_protect.proofs.steps.look_around.Goals as goal

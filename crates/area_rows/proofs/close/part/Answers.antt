@@ -11,7 +11,8 @@ pair : (c : goal.After-push_reserved-in-callers)
       worker = c.seat.inside.worker;
       mine = c.seat.inside.mine;
       left = c.seat.inside.left;
-      read = c.seat.inside.read;
+      count = c.seat.inside.count;
+      cut = c.seat.inside.cut;
       plan = c.seat.inside.plan;
       change = c.seat.inside.change;
     }) c.remove.result
@@ -21,13 +22,11 @@ pair c = let i = c.seat.invariant in record {
   mine = i.1;
   room = i.2;
   few = i.3;
-  read = i.4;
-  plan = i.5;
-  planned = i.6;
-  pages = i.7;
-  rest = i.8;
-  rows = i.9;
-  most = i.10;
+  plan = i.4;
+  pages = i.5;
+  rest = i.6;
+  rows = i.7;
+  most = i.8;
 }
 
 -- one caller more was taken apart, and its seat and the rest belong together

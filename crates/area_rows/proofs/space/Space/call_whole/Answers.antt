@@ -1,7 +1,6 @@
-use Rattle.std.proofs.Common.{ℕ, List, ◌∙◌, ◌+◌, ap, refl, sym, subst}
+use Rattle.std.proofs.Common.{◌∙◌, ◌+◌, ap, refl, sym, subst}
 use Rattle.space_model.specs.declared.entries.Under.{Under}
 use Rattle.area_rows.specs.declared.guard.Pass.{Pass}
-use Rattle.row_plans.specs.Plans.{BeginsAs}
 use Rattle.area_rows.specs.Called.{IsLastStep}
 use Rattle.area_rows.proofs.Wholes.{planned_right, numbered_whole, last_whole}
 use Rattle.area_rows.proofs.space.Space.call_whole.Goals as goal
@@ -9,17 +8,13 @@ use Rattle.area_rows.proofs.space.Space.call_whole.Goals as goal
 -- the call may be numbered with the reply of its plan
 pub draw-entry-requires-clause-right : goal.draw-entry-requires-clause-right
 draw-entry-requires-clause-right g c = planned_right c.plan-planned.new.caller c.args.call c.plan-planned.result.reply
-    c.plan-planned.result.rows c.plan-planned.ensures.planned c.requires.undecided c.requires.call
+    c.plan-planned.result.rows c.plan-planned.ensures.planned (c.plan-planned.ensures.reading.held ∙ c.acquire.ensures.held)
+    (c.plan-planned.ensures.reading.read.pending
+    ∙ (ap (λ (x : Pass). x.pending) c.acquire.ensures.call.pass ∙ c.holds_pages.ensures.rest c.requires.free)) c.requires.undecided c.requires.call
 
 -- after the draw the caller has that plan to write
-pub write_from-requires-clause-planned : goal.write_from-requires-clause-planned
-write_from-requires-clause-planned g c = c.draw-entry.ensures.write refl c.plan-planned.ensures.planned.read
-
--- whose first rows stay
-pub write_from-requires-clause-first : goal.write_from-requires-clause-first
-write_from-requires-clause-first g c =
-    let same = c.draw-entry.ensures.rows in
-    subst (λ (z : List ℕ × List ℕ). BeginsAs z.0 z.1 c.plan-planned.result.first) (λ i. (sym same.read i, sym same.plan i)) c.plan-planned.ensures.first
+pub write_plan-requires-clause-planned : goal.write_plan-requires-clause-planned
+write_plan-requires-clause-planned g c = c.draw-entry.ensures.write refl c.plan-planned.ensures.planned.known
 
 -- holding, planning, drawing, writing and giving back are the whole call
 pub returns-clause-called : goal.returns-clause-called
@@ -27,18 +22,18 @@ returns-clause-called g c =
     let b = c.acquire.ensures in
     let p = c.plan-planned.ensures in
     let n = c.draw-entry.ensures in
-    let w = c.write_from.ensures in
+    let w = c.write_plan.ensures in
     let d = c.release_uncounted.ensures in
     record {
       line_is = n.line;
       call_is = n.call;
       named = n.named;
       numbered = numbered_whole c.args.caller.now.seat c.acquire.new.caller.seat c.plan-planned.new.caller.seat
-          c.draw-entry.new.caller.seat c.write_from.new.caller.seat c.release_uncounted.new.caller.seat c.draw-entry.result _
+          c.draw-entry.new.caller.seat c.write_plan.new.caller.seat c.release_uncounted.new.caller.seat c.draw-entry.result _
           c.requires.free b.call p.reading n.drawn w.written d.release;
       last = subst (λ (u : Under). IsLastStep c.args.caller.now.seat u c.release_uncounted.new.caller.seat) (sym n.under)
           (last_whole c.args.caller.now.seat c.acquire.new.caller.seat c.plan-planned.new.caller.seat c.draw-entry.new.caller.seat
-          c.write_from.new.caller.seat c.release_uncounted.new.caller.seat c.draw-entry.result _ b.call p.reading n.drawn w.written
+          c.write_plan.new.caller.seat c.release_uncounted.new.caller.seat c.draw-entry.result _ b.call p.reading n.drawn w.written
           d.release);
       written = ap (λ (x : Pass). x.pending) d.release.pass ∙ w.written.rest;
       left = ap (λ k. k + 1) (d.left ∙ w.left) ∙ (n.left ∙ (p.left ∙ b.left));
@@ -48,5 +43,5 @@ returns-clause-called g c =
 pub returns-clause-looks : goal.returns-clause-looks
 returns-clause-looks g c =
     let looks = λ (x : Pass). x.looks in
-    ap looks c.release_uncounted.ensures.release.pass ∙ (c.write_from.ensures.written.looks ∙ (c.draw-entry.ensures.drawn.looks
+    ap looks c.release_uncounted.ensures.release.pass ∙ (c.write_plan.ensures.written.looks ∙ (c.draw-entry.ensures.drawn.looks
     ∙ (c.plan-planned.ensures.reading.looks ∙ ap looks c.acquire.ensures.call.pass)))

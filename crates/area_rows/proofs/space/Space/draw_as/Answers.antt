@@ -1,9 +1,8 @@
 use Rattle.std.proofs.Common.{sym, refl, subst}
 use Rattle.lock_core.specs.Client.{IsAllowed, IsMade, adds}
 use Rattle.area_rows.specs.declared.guard.Note.{Note}
-use Rattle.row_plans.specs.Plans.{planned_rows}
 use Rattle.area_rows.specs.History.{HasHistory, Allowed, pending_of, entry_note, entry_of}
-use Rattle.area_rows.specs.Callers.{IsDrawn}
+use Rattle.area_rows.specs.Callers.{IsDrawn, splice_of}
 use Rattle.area_rows.proofs.Stepping.{may_draw, draws}
 use Rattle.area_rows.proofs.space.Space.draw_as.Goals as goal
 
@@ -11,7 +10,7 @@ use Rattle.area_rows.proofs.space.Space.draw_as.Goals as goal
 pub add_as_uncounted-requires-clause-allowed : goal.add_as_uncounted-requires-clause-allowed
 add_as_uncounted-requires-clause-allowed g c =
     let s = c.args.seat.now in
-    let note = entry_note c.args.draft.now (pending_of c.args.draft.now.under (planned_rows c.args.read.now c.args.plan.now) c.args.change) in
+    let note = entry_note c.args.draft.now (pending_of c.args.draft.now.under (splice_of s c.args.cut c.args.more.now) c.args.change) in
     let r = c.requires in
     subst (λ (n : Note). IsAllowed HasHistory Allowed n s.number s.held s.pass (adds 0 1)) (sym r.note)
     (may_draw note s.number s.held s.pass s refl refl refl r.few r.named r.rest r.held r.right)
@@ -21,7 +20,7 @@ pub returns-clause-drawn : goal.returns-clause-drawn
 returns-clause-drawn g c =
     let s = c.args.seat.now in
     let u = c.add_as_uncounted.new.seat in
-    let pending = pending_of c.args.draft.now.under (planned_rows c.args.read.now c.args.plan.now) c.args.change in
+    let pending = pending_of c.args.draft.now.under (splice_of s c.args.cut c.args.more.now) c.args.change in
     let note = entry_note c.args.draft.now pending in
     let made = subst (λ (n : Note). IsMade HasHistory Allowed n s.number s.held s.pass (adds 0 1) c.add_as_uncounted.result u.pass) c.requires.note
     c.add_as_uncounted.ensures.made in

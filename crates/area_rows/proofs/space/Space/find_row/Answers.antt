@@ -7,7 +7,8 @@ use Rattle.area_rows.specs.Halving.{IsAmong}
 use Rattle.area_rows.specs.Rows.{room_of}
 use Rattle.area_rows.specs.Reads.{IsHeldPage}
 use Rattle.area_rows.proofs.Halving.{all_rows, narrowed, halved}
-use Rattle.area_rows.proofs.Reading.{no_reading, reading_on, row_reads, step_taken}
+use Rattle.area_rows.specs.Loading.{no_reading, reading_on}
+use Rattle.area_rows.proofs.Reading.{row_reads, step_taken}
 use Rattle.area_rows.proofs.space.Space.find_row.Goals as goal
 
 -- the row of the page is among all rows, which are at most 2^SEARCH

@@ -1,41 +1,55 @@
 use Rattle.std.proofs.Common.{rules, ℕ, ◌≤◌, ap, ◌∙◌, subst}
 use Rattle.area_rows.specs.Keeping.{no_note}
 use Rattle.area_rows.specs.Rows.{room_of}
-use Rattle.area_rows.specs.Callers.{CallerView}
+use Rattle.area_rows.specs.Callers.{CallerView, IsCounted}
 use Rattle.area_rows.proofs.Stepping.{may_count, counts}
 use Rattle.area_rows.proofs.space.Space.load_count.Goals as goal
 
 -- the guard allows the load of the row count
 pub load_as_uncounted-requires-clause-allowed : goal.load_as_uncounted-requires-clause-allowed
-load_as_uncounted-requires-clause-allowed c = may_count no_note _ _ _ (search rules) c.caller.invariant.7
+load_as_uncounted-requires-clause-allowed c = may_count no_note _ _ _ (search rules) c.caller.invariant.5
+
+-- it was one step, with which the caller has noted all rows of the moment
+pub returns-clause-counted : goal.returns-clause-counted
+returns-clause-counted c =
+    let s = c.caller.inside.seat in
+    let r = counts no_note s.number s.held s.pass c.load_as_uncounted.result c.load_as_uncounted.new.seat.pass
+    (search rules) c.caller.invariant.5 (search rules) c.load_as_uncounted.ensures.made in
+    let call = c.load_as_uncounted.ensures.call in
+    subst (λ (v : CallerView). IsCounted v.seat c.load_as_uncounted.result c.load_as_uncounted.new.seat) c.caller.view_is (record {
+      rows = r.0;
+      all = r.1;
+      step = record { table = call.table; number = call.number; held = call.held; pools = call.pools; pass = r.2; trace = call.trace };
+      list = r.3;
+    })
 
 -- there is a row
 pub returns-clause-some : goal.returns-clause-some
 returns-clause-some c =
     let s = c.caller.inside.seat in
     (counts no_note s.number s.held s.pass c.load_as_uncounted.result c.load_as_uncounted.new.seat.pass
-    (search rules) c.caller.invariant.7 (search rules) c.load_as_uncounted.ensures.made).1
+    (search rules) c.caller.invariant.5 (search rules) c.load_as_uncounted.ensures.made).4
 
 -- there are no more rows than there may be
 pub returns-clause-few : goal.returns-clause-few
 returns-clause-few c =
     let s = c.caller.inside.seat in
     (counts no_note s.number s.held s.pass c.load_as_uncounted.result c.load_as_uncounted.new.seat.pass
-    (search rules) c.caller.invariant.7 (search rules) c.load_as_uncounted.ensures.made).2
+    (search rules) c.caller.invariant.5 (search rules) c.load_as_uncounted.ensures.made).5
 
 -- and no more than there is room for
 pub returns-clause-fits : goal.returns-clause-fits
 returns-clause-fits c =
     let s = c.caller.inside.seat in
     let r = counts no_note s.number s.held s.pass c.load_as_uncounted.result c.load_as_uncounted.new.seat.pass
-    (search rules) c.caller.invariant.7 (search rules) c.load_as_uncounted.ensures.made in
+    (search rules) c.caller.invariant.5 (search rules) c.load_as_uncounted.ensures.made in
     subst (λ (v : CallerView). c.load_as_uncounted.result ≤ room_of v.seat.table) c.caller.view_is
-    (subst (λ (n : ℕ). c.load_as_uncounted.result ≤ n) c.caller.invariant.9 r.3)
+    (subst (λ (n : ℕ). c.load_as_uncounted.result ≤ n) c.caller.invariant.7 r.6)
 
 -- the count is what was found before, where the caller has read it
 pub returns-clause-again : goal.returns-clause-again
 returns-clause-again c = λ n counted.
     let s = c.caller.inside.seat in
-    let r = counts no_note s.number s.held s.pass c.load_as_uncounted.result c.load_as_uncounted.new.seat.pass (search rules) c.caller.invariant.7
+    let r = counts no_note s.number s.held s.pass c.load_as_uncounted.result c.load_as_uncounted.new.seat.pass (search rules) c.caller.invariant.5
     (search rules) c.load_as_uncounted.ensures.made in
-    r.4 n (ap (λ (v : CallerView). v.seat.pass.count) c.caller.view_is ∙ counted)
+    r.7 n (ap (λ (v : CallerView). v.seat.pass.count) c.caller.view_is ∙ counted)

@@ -1,16 +1,16 @@
-use Rattle.std.proofs.Common.{rules, ◌≡◌, arith, ap, ◌∙◌, refl, subst, sym}
+use Rattle.std.proofs.Common.{rules, ◌≡◌, arith, ap, ◌∙◌, subst, sym}
 use Rattle.range_rw.specs.Contract.{TableShape}
 use Rattle.area_rows.specs.Rows.{room_of}
 use Rattle.area_rows.specs.Keeping.{no_note}
 use Rattle.area_rows.specs.Halving.{IsOnSameSide}
 use Rattle.area_rows.specs.Reads.{IsHeldPage}
 use Rattle.area_rows.specs.Callers.{CallerView}
-use Rattle.area_rows.proofs.Stepping.{may_row, reads, reads_all, reads_side}
+use Rattle.area_rows.proofs.Stepping.{may_row, reads, reads_side}
 use Rattle.area_rows.proofs.space.Space.load_row.Goals as goal
 
 -- the guard allows the load of a row
 pub load_as_uncounted-requires-clause-allowed : goal.load_as_uncounted-requires-clause-allowed
-load_as_uncounted-requires-clause-allowed c = may_row no_note _ _ _ c.args.index c.requires.index (search rules) c.caller.invariant.7
+load_as_uncounted-requires-clause-allowed c = may_row no_note _ _ _ c.args.index c.requires.index (search rules) c.caller.invariant.5
 
 -- there is a client word for the row
 pub load_as_uncounted-requires-clause-place : goal.load_as_uncounted-requires-clause-place
@@ -25,23 +25,15 @@ pub returns-clause-below : goal.returns-clause-below
 returns-clause-below c = λ n counted lt.
     let s = c.caller.inside.seat in
     let r = reads no_note s.number s.held s.pass c.load_as_uncounted.result c.load_as_uncounted.new.seat.pass c.args.index (search rules)
-    c.caller.invariant.7 (search rules) c.load_as_uncounted.ensures.made in
+    c.caller.invariant.5 (search rules) c.load_as_uncounted.ensures.made in
     r.2 n (ap (λ (v : CallerView). v.seat.pass.count) c.caller.view_is ∙ counted) lt
 
 -- the first row starts at page 0
 pub returns-clause-first : goal.returns-clause-first
 returns-clause-first c =
     let s = c.caller.inside.seat in
-    (reads no_note s.number s.held s.pass c.load_as_uncounted.result c.load_as_uncounted.new.seat.pass c.args.index (search rules) c.caller.invariant.7
+    (reads no_note s.number s.held s.pass c.load_as_uncounted.result c.load_as_uncounted.new.seat.pass c.args.index (search rules) c.caller.invariant.5
     (search rules) c.load_as_uncounted.ensures.made).1
-
--- where everything is held and all rows are read, they are a row list
-pub returns-clause-whole : goal.returns-clause-whole
-returns-clause-whole c = λ all rows has.
-    let s = c.caller.inside.seat in
-    reads_all no_note s.number s.held s.pass c.load_as_uncounted.result c.load_as_uncounted.new.seat.pass c.args.index
-    (ap (λ (v : CallerView). v.seat.held) c.caller.view_is ∙ all) (search rules) c.load_as_uncounted.ensures.made c.load_as_uncounted.new.seat.pass refl
-    rows has
 
 -- the row starts on the same side of each held page as when it was read before
 pub returns-clause-side : goal.returns-clause-side

@@ -1,35 +1,59 @@
-use Rattle.std.proofs.Common.{ℕ, List, ◌∙◌, ap, sym, subst}
-use Rattle.range_rw.specs.Contract.{SeatState}
-use Rattle.area_rows.specs.declared.guard.Pass.{Pass}
+use Rattle.std.proofs.Common.{ℕ, List, ◌≡◌, ◌≤◌, ◌∙◌, length, ap, sym, subst}
+use Rattle.atomic_table.specs.Seated.{TableId}
+use Rattle.area_rows.specs.Rows.{room_of}
+use Rattle.row_plans.specs.Plans.{IsRowList, spliced, IsPlan}
 use Rattle.row_plans.specs.RowLists.{areas_from}
-use Rattle.row_plans.specs.Plans.{BeginsAs, IsPlan}
-use Rattle.area_rows.specs.Reads.{HasRows}
-use Rattle.area_rows.proofs.Wholes.{plan_shows}
+use Rattle.area_rows.specs.declared.guard.Pass.{Pass}
+use Rattle.area_rows.specs.Reads.{known_rows, KnowsRows}
+use Rattle.area_rows.specs.History.{after_seen}
+use Rattle.area_rows.proofs.KnownRows.{seen_known, seen_knows}
+use Rattle.area_rows.specs.Loading.{reading_on}
+use Rattle.area_rows.proofs.Reading.{count_reads}
 use Rattle.area_rows.proofs.StoreCounts.{refused_rows}
+use Rattle.area_rows.proofs.Wholes.{plan_shows}
 use Rattle.area_rows.proofs.space.Space.plan.Goals as goal
 
--- the plan on the rows that were read is the plan of the call while they stand
+-- with the row count the caller knows all rows
+pub plan_call-requires-clause-may : goal.plan_call-requires-clause-may
+plan_call-requires-clause-may c =
+    let n = c.load_count-count.ensures.counted in
+    let p = c.args.caller.now.seat.pass in
+    let pass : c.load_count-count.new.caller.seat.pass ≡ after_seen n.rows (length n.rows) p = n.step.pass ∙ (λ i. after_seen n.rows (sym n.all i) p) in
+    let rows : known_rows c.load_count-count.new.caller.seat.pass ≡ n.rows = ap known_rows pass ∙ seen_known n.rows p in
+    record {
+      table_is = n.step.table ∙ c.requires.table;
+      held = n.step.held ∙ c.requires.held;
+      rest = ap (λ (x : Pass). x.pending) n.step.pass ∙ c.requires.rest;
+      knows = subst KnowsRows (sym pass) (seen_knows n.rows p);
+      counted = sym n.all ∙ ap length (sym rows);
+      fits = subst (λ (t : TableId). c.load_count-count.result ≤ room_of t) (sym n.step.table) c.load_count-count.ensures.fits;
+      list = subst IsRowList (sym rows) (n.list c.requires.held);
+    }
+
+-- the plan on the rows that are known is the plan of the call while they stand
 pub returns-clause-planned : goal.returns-clause-planned
 returns-clause-planned c =
-    let r = c.read_rows.ensures in
+    let n = c.load_count-count.ensures.counted in
     let e = c.plan_call.ensures in
     let p = c.plan_call.result in
-    plan_shows c.plan_call.new.self c.args.call.now p.reply p.rows
-    (ap (λ (k : SeatState Pass). k.held) e.seat ∙ (r.reading.held ∙ c.requires.held))
-    (ap (λ (k : SeatState Pass). k.pass.pending) e.seat ∙ (r.reading.read.pending ∙ c.requires.rest))
-    (subst (λ (z : SeatState Pass × List ℕ). HasRows z.0.pass z.1) (λ i. (sym e.seat i, sym e.read i)) r.rows)
-    (subst (λ (l : List ℕ). IsPlan c.args.call.now p.reply p.rows c.plan_call.new.self.plan (areas_from l)) (sym e.read) e.plan)
+    plan_shows c.plan_call.new.self c.args.call.now p.reply p.rows (e.reading.held ∙ (n.step.held ∙ c.requires.held))
+    (e.reading.read.pending ∙ (ap (λ (x : Pass). x.pending) n.step.pass ∙ c.requires.rest)) e.known
+    (subst (λ (l : List ℕ). IsPlan c.args.call.now p.reply p.rows (spliced l c.plan_call.new.self.cut c.plan_call.new.self.more) (areas_from l))
+    (sym e.same) e.plan)
 
--- the plan of a refused call is the rows as they were read
+-- the plan of a refused call leaves the rows as they are
 pub returns-clause-refused : goal.returns-clause-refused
 returns-clause-refused c = λ why is.
-    let r = c.read_rows.ensures in
     let e = c.plan_call.ensures in
     let p = c.plan_call.result in
-    refused_rows c.read_rows.new.caller.read c.plan_call.new.self.plan c.args.call.now p.reply p.rows why r.list e.plan is ∙ sym e.read
+    let rows = known_rows c.plan_call.new.self.seat.pass in
+    refused_rows rows (spliced rows c.plan_call.new.self.cut c.plan_call.new.self.more) c.args.call.now p.reply p.rows why e.known.list
+    (subst (λ (l : List ℕ). IsPlan c.args.call.now p.reply p.rows (spliced l c.plan_call.new.self.cut c.plan_call.new.self.more) (areas_from l))
+    (sym e.same) e.plan) is
 
--- those that stay at the beginning are those that were read
-pub returns-clause-first : goal.returns-clause-first
-returns-clause-first c =
-    let e = c.plan_call.ensures in
-    subst (λ (l : List ℕ). BeginsAs l c.plan_call.new.self.plan c.plan_call.result.first) (sym e.read) e.first
+-- all that was done is a reading
+pub returns-clause-reading : goal.returns-clause-reading
+returns-clause-reading c =
+    let n = c.load_count-count.ensures in
+    reading_on c.args.caller.now.seat c.load_count-count.new.caller.seat c.plan_call.new.self.seat
+    (count_reads c.args.caller.now.seat c.load_count-count.new.caller.seat c.load_count-count.result n.counted n.again) c.plan_call.ensures.reading

@@ -3,6 +3,7 @@ use Rattle.page_types.specs.declared.TheConstants.{ROWS}
 use Rattle.page_types.specs.Pages.{page_of, end_page}
 use Rattle.area_rows.specs.Rows.{room_of}
 use Rattle.area_rows.specs.Callers.{CallerView, IsReading, IsReadBehind}
+use Rattle.area_rows.specs.Loading.{reading_on}
 use Rattle.area_rows.proofs.Reading.{count_reads}
 use Rattle.area_rows.proofs.AreaChoices.{plan_made}
 use Rattle.area_rows.proofs.space.Space.plan_area.Goals as goal
@@ -13,14 +14,14 @@ kind_before-before-requires-clause-room c =
     let r = c.requires.read in
     let n = c.load_count-count.ensures in
     let counted : c.load_count-count.result ≡ r.count = n.again r.count r.counted in
-    let table = ap room_of n.step.table in
+    let table = ap room_of n.counted.step.table in
     let fits = n.fits in let there = r.there in omega arith
 
 -- and for as many as there are
 pub kind_behind-behind-requires-clause-fits : goal.kind_behind-behind-requires-clause-fits
 kind_behind-behind-requires-clause-fits c =
     let n = c.load_count-count.ensures in
-    let table = ap room_of (c.kind_before-before.ensures.reading.table ∙ n.step.table) in
+    let table = ap room_of (c.kind_before-before.ensures.reading.table ∙ n.counted.step.table) in
     let fits = n.fits in omega arith
 
 -- the way that was chosen, by the row and the kinds beside it, is what a plan over an area promises
@@ -43,8 +44,18 @@ returns-clause-plan c =
     plan_made old c.load_count-count.new.caller.seat one _ c.args.span row c.args.kind c.kind_before-before.result
     c.kind_behind-behind.result c.args.addr c.args.len count c.args.prot
     r.held r.rest r.round r.limit r.kind r.read few fits r.undecided some_page r.from r.until r.shows counted
-    (count_reads old c.load_count-count.new.caller.seat count n.step n.again) b.reading
+    (count_reads old c.load_count-count.new.caller.seat count n.counted n.again) b.reading
     (subst (λ (v : CallerView). IsReading one v.seat) (sym c.caller.view_is) d.reading) b.read
     (subst (λ (v : CallerView). IsReadBehind v.seat.pass.rows count row.index c.kind_behind-behind.result) (sym c.caller.view_is) d.read)
     _ c.choose-plan.result (record { span_is = refl; lo_is = lo; hi_is = hi; old_is = refl; new_is = refl }) r.named_kind r.named
     c.choose-plan.ensures c.change_in-caller-inside.ensures
+
+-- all loads are a reading
+pub returns-clause-reading : goal.returns-clause-reading
+returns-clause-reading c =
+    let s = c.args.caller.now.seat in
+    let u = c.load_count-count.new.caller.seat in
+    let one = c.kind_before-before.new.caller.seat in
+    let n = c.load_count-count.ensures in
+    reading_on s u _ (count_reads s u c.load_count-count.result n.counted n.again) (reading_on u one _ c.kind_before-before.ensures.reading
+    (subst (λ (v : CallerView). IsReading one v.seat) (sym c.caller.view_is) c.kind_behind-behind.ensures.reading))

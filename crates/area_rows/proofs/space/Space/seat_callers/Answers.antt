@@ -21,11 +21,8 @@ invariant_of-push_reserved c =
       search rules ∙ sym (ap (λ (x : SeatState Pass). x.pass.mine) s),
       search rules,
       let m = ap (λ (x : SeatState Pass). x.pass.most) s in let e : vec_len c.in_ok-mine.mine ≡ 0 = search rules in omega arith,
-      let r = ap (λ (x : SeatState Pass). x.pass.room) s in let w : c.args.room ≤ vec_capacity c.in_ok-read.read = search rules in
-          let is = c.requires.room in omega arith,
       let r = ap (λ (x : SeatState Pass). x.pass.room) s in let w : c.args.room + SPARE ≤ vec_capacity c.in_ok-plan.plan = search rules in
           let is = c.requires.room in omega arith,
-      search rules,
       λ h e. absurd (none_is h (sym (ap (λ (x : SeatState Pass). x.held) s) ∙ e)),
       λ _. ap (λ (x : SeatState Pass). x.pass.pending) s,
       ap (λ (x : SeatState Pass). x.pass.room) s ∙ ap (λ (x : SeatState Pass). room_of x.table) (sym s),
@@ -56,9 +53,8 @@ seats-preserved c =
       count = search rules;
       sum = let left = length-remove c.seats.seats.items 0 some_left in let e = ap length c.remove-seat.ensures.items in let t = i.sum in omega arith;
       new =
-          let r = c.in_ok-read.ensures.items in
           let p = c.in_ok-plan.ensures.items in
           rw c.push_reserved.ensures.items (one_caller table start c.args.calls.now c.seats.made.items _ c.seats.worker i.count
-          i.new (new_caller _ _ (slice_index c.args.calls.now c.seats.worker) _ _ s r p));
+          i.new (new_caller _ _ (slice_index c.args.calls.now c.seats.worker) _ s p));
       rest = seats_on table first c.seats.worker c.seats.seats.items c.remove-seat.new.self.items i.rest c.remove-seat.ensures.items;
     }

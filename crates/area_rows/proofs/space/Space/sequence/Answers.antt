@@ -7,7 +7,7 @@ use Rattle.area_rows.proofs.space.Space.sequence.Goals as goal
 
 -- the guard allows the load of the sequence word
 pub load_as_uncounted-requires-clause-allowed : goal.load_as_uncounted-requires-clause-allowed
-load_as_uncounted-requires-clause-allowed c = may_sequence no_note _ _ _ c.caller.invariant.7
+load_as_uncounted-requires-clause-allowed c = may_sequence no_note _ _ _ c.caller.invariant.5
 
 -- the load is a reading
 pub returns-clause-reading : goal.returns-clause-reading
@@ -15,7 +15,7 @@ returns-clause-reading c =
     let s = c.caller.inside.seat in
     let u = c.load_as_uncounted.new.seat in
     subst (λ (v : CallerView). IsReading v.seat u) c.caller.view_is
-    (sequence_is s u c.load_as_uncounted.result c.caller.invariant.7 c.load_as_uncounted.ensures.call c.load_as_uncounted.ensures.made).0
+    (sequence_is s u c.load_as_uncounted.result c.caller.invariant.5 c.load_as_uncounted.ensures.call c.load_as_uncounted.ensures.made).0
 
 -- while a range is held it counts the entries under everything
 pub returns-clause-counts : goal.returns-clause-counts
@@ -23,4 +23,4 @@ returns-clause-counts c =
     let s = c.caller.inside.seat in
     let u = c.load_as_uncounted.new.seat in
     subst (λ (v : CallerView). IsSome v.seat.held → CountsWhole u c.load_as_uncounted.result) c.caller.view_is
-    (sequence_is s u c.load_as_uncounted.result c.caller.invariant.7 c.load_as_uncounted.ensures.call c.load_as_uncounted.ensures.made).1
+    (sequence_is s u c.load_as_uncounted.result c.caller.invariant.5 c.load_as_uncounted.ensures.call c.load_as_uncounted.ensures.made).1

@@ -8,7 +8,7 @@ use Rattle.area_rows.proofs.space.Space.try_acquire.Goals as goal
 -- a caller that held nothing has nothing to write, and no step of the lock changes that
 pub returns-clause-rest : goal.returns-clause-rest
 returns-clause-rest g c = ap (λ (p : Pass). p.pending) c.try_acquire.ensures.call.pass
-    ∙ c.caller.invariant.8 (ap (λ (v : CallerView). v.seat.held) c.caller.view_is ∙ c.requires.free)
+    ∙ c.caller.invariant.6 (ap (λ (v : CallerView). v.seat.held) c.caller.view_is ∙ c.requires.free)
 
 -- a try is refused as too long exactly where a walk of it was as long as one may be
 pub returns-clause-long : goal.returns-clause-long

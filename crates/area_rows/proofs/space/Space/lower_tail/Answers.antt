@@ -1,0 +1,56 @@
+use Rattle.std.proofs.Common.{ℕ, ◌≡◌, ◌+◌, ◌-◌, ◌∙◌, refl, sym, ap, subst, arith}
+use Rattle.std.specs.Prelude.{slice_index}
+use Rattle.area_rows.specs.declared.guard.Splice.{Splice}
+use Rattle.area_rows.specs.Reads.{HasRead}
+use Rattle.area_rows.specs.Writing.{HasMoved, plan_at, splice_in}
+use Rattle.area_rows.proofs.StoringRows.{no_writing, writing_on}
+use Rattle.area_rows.proofs.SpliceStores.{one_lowered}
+use Rattle.area_rows.proofs.space.Space.lower_tail.Goals as goal
+
+-- before the first row none has moved
+pub rows-init : goal.rows-init
+rows-init c = record {
+  from = omega arith;
+  bound = let there = c.requires.writes.there in omega (arith, c.requires.count, c.requires.end);
+  moved = c.requires.lowered;
+  writes = c.requires.writes;
+  count = refl;
+  writing = no_writing c.args.seat.now;
+  taken = omega arith;
+}
+
+-- with one row more those up to there have
+pub rows-preserved : goal.rows-preserved
+rows-preserved c =
+    let s = c.args.seat.now in
+    let i = c.rows.invariant in
+    let m = c.move_row.ensures in
+    let more = c.rows-test.true in
+    let from = i.from in
+    let plan : plan_at c.rows.seat ≡ plan_at s = ap splice_in i.writing.pending in
+    let end = c.requires.end in
+    let count = c.requires.count in
+    let step = subst (λ (p : Splice). HasMoved c.rows.seat.pass.rows c.rows.index (c.rows.index - c.args.end + c.args.to)
+    (slice_index p.old c.rows.index) c.move_row.new.seat.pass.rows) plan m.moved in
+    record {
+      from = omega arith;
+      bound = omega arith;
+      moved = one_lowered (plan_at s) c.requires.writes.ordered c.requires.writes.there c.rows.seat.pass.rows c.move_row.new.seat.pass.rows
+          c.rows.index (omega arith) (omega arith)
+          (subst (λ (n : ℕ). HasMoved c.rows.seat.pass.rows c.rows.index n (slice_index (plan_at s).old c.rows.index)
+          c.move_row.new.seat.pass.rows) (omega (arith, c.requires.to)) step) (omega (arith, c.requires.down, c.requires.to)) i.moved;
+      writes = m.writes;
+      count = m.count ∙ i.count;
+      writing = writing_on s c.rows.seat c.move_row.new.seat i.writing m.writing;
+      taken = omega (arith, m.taken, i.taken);
+    }
+
+-- the next row above stands as it stood
+pub move_row-requires-clause-stood : goal.move_row-requires-clause-stood
+move_row-requires-clause-stood c =
+    let i = c.rows.invariant in
+    let more = c.rows-test.true in
+    let plan : plan_at c.rows.seat ≡ plan_at c.args.seat.now = ap splice_in i.writing.pending in
+    let count = c.requires.count in
+    subst (λ (p : Splice). HasRead c.rows.seat.pass.rows c.rows.index (slice_index p.old c.rows.index)) (sym plan)
+    (i.moved.others c.rows.index (omega arith) (omega arith))

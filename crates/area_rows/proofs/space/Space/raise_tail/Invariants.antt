@@ -1,0 +1,19 @@
+use Rattle.std.proofs.Common.{◌≡◌, ◌+◌, ◌*◌, ◌-◌, ◌≤◌}
+use Rattle.area_rows.specs.Writing.{IsRaised, WritesPlan, IsWriting, plan_at}
+use Rattle.area_rows.proofs.space.Space.raise_tail.Given as goal
+
+-- the rows from one on have moved up, by two steps each
+abbrev pub invariant-rows : goal.invariant-rows
+invariant-rows l = record {
+  from : l.end ≤ l.index;
+  bound : l.index ≤ l.count;
+  moved : IsRaised l.seat.pass.rows (plan_at l.initial.seat) l.index;
+  writes : WritesPlan l.self.table l.seat;
+  count : l.seat.pass.count ≡ l.initial.seat.pass.count;
+  writing : IsWriting l.initial.seat l.seat;
+  taken : l.seat.trace.taken ≡ l.initial.seat.trace.taken + 2 * (l.count - l.index);
+}
+
+-- with each turn one row less is left below
+abbrev pub decreases-rows : goal.decreases-rows
+decreases-rows l = l.index - l.end
