@@ -14,29 +14,31 @@ Appends-none (Some x) (Some y) h = h ∙ sym (append-nil x)
 
 -- all but a rest of a text is a first part of it
 pub AppendsPrefix-of : {a b : Option (List ℕ)} {text rest : List ℕ} → AppendsAllBut a b text rest → AppendsPrefix a b text
-AppendsPrefix-of {rest = rest} h = record { rest = rest; first = h }
+AppendsPrefix-of {rest = rest} h = record { front = h.front; rest = rest; whole = h.whole; appended = h.appended }
+
+-- and a first part is all but its rest
+pub AppendsAllBut-of : {a b : Option (List ℕ)} {text : List ℕ} (h : AppendsPrefix a b text) → AppendsAllBut a b text h.rest
+AppendsAllBut-of h = record { front = h.front; whole = h.whole; appended = h.appended }
 
 -- a whole text is a first part of a longer one
 pub AppendsPrefix-whole : (a b : Option (List ℕ)) (bs more : List ℕ) → Appends a b bs → AppendsPrefix a b (bs ++ more)
-AppendsPrefix-whole a b bs more h = record { rest = more; first = record { front = bs; whole = refl; appended = h } }
+AppendsPrefix-whole a b bs more h = record { front = bs; rest = more; whole = refl; appended = h }
 
 -- so is the whole of itself
 pub AppendsPrefix-itself : (a b : Option (List ℕ)) (bs : List ℕ) → Appends a b bs → AppendsPrefix a b bs
-AppendsPrefix-itself a b bs h = record { rest = []; first = record { front = bs; whole = sym (append-nil bs); appended = h } }
+AppendsPrefix-itself a b bs h = record { front = bs; rest = []; whole = sym (append-nil bs); appended = h }
 
 -- nothing is a first part of each text
 pub AppendsPrefix-none : (a b : Option (List ℕ)) (bs : List ℕ) → Keeps a b → AppendsPrefix a b bs
-AppendsPrefix-none a b bs h = record { rest = bs; first = record { front = []; whole = refl; appended = Appends-none a b h } }
+AppendsPrefix-none a b bs h = record { front = []; rest = bs; whole = refl; appended = Appends-none a b h }
 
 -- a first part of a text is one of a longer text
 pub AppendsPrefix-more : {a b : Option (List ℕ)} {bs : List ℕ} (more : List ℕ) → AppendsPrefix a b bs → AppendsPrefix a b (bs ++ more)
 AppendsPrefix-more more h = record {
+  front = h.front;
   rest = h.rest ++ more;
-  first = record {
-    front = h.first.front;
-    whole = ap (λ l. l ++ more) h.first.whole ∙ append_assoc h.first.front h.rest more;
-    appended = h.first.appended;
-  };
+  whole = ap (λ l. l ++ more) h.whole ∙ append_assoc h.front h.rest more;
+  appended = h.appended;
 }
 
 -- a whole text and then all but a rest of another
@@ -51,7 +53,7 @@ AppendsAllBut-after a {b = b} {c = c} bs {rest = rest} h k = record {
 -- a whole text and then a first part of another
 pub AppendsPrefix-after : (a : Option (List ℕ)) {b c : Option (List ℕ)} (bs : List ℕ) {cs : List ℕ} → Appends a b bs
     → AppendsPrefix b c cs → AppendsPrefix a c (bs ++ cs)
-AppendsPrefix-after a bs h k = record { rest = k.rest; first = AppendsAllBut-after a bs h k.first }
+AppendsPrefix-after a bs h k = AppendsPrefix-of (AppendsAllBut-after a bs h (AppendsAllBut-of k))
 
 -- what holds anyway holds where a call failed
 pub on_err : {T E : Type 0} {P : Type 0} (r : Result T E) → P → OnErr r P

@@ -3,13 +3,15 @@
 use Rattle.std.specs.Prelude.{◌≡◌, ℕ, List, ◌++◌, Option}
 use Rattle.std.specs.Io.KnownBytes.{Appends}
 
--- known bytes grow by all of a text but this rest of it
+-- known bytes grow by some first part of a text, which may be empty or the whole
+pub record AppendsPrefix (old new : Option (List ℕ)) (text : List ℕ) : Type 0 where
+  pub front : List ℕ
+  pub rest : List ℕ
+  pub whole : text ≡ front ++ rest
+  pub appended : Appends old new front
+
+-- they grow by such a first part, and this is the rest
 pub record AppendsAllBut (old new : Option (List ℕ)) (text rest : List ℕ) : Type 0 where
   pub front : List ℕ
   pub whole : text ≡ front ++ rest
   pub appended : Appends old new front
-
--- known bytes grow by some first part of a text, which may be empty or the whole
-pub record AppendsPrefix (old new : Option (List ℕ)) (text : List ℕ) : Type 0 where
-  pub rest : List ℕ
-  pub first : AppendsAllBut old new text rest

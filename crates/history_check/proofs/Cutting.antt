@@ -1,6 +1,7 @@
 -- Where the lines of a text are cut: the log is told by the lines alone, and a right line of the log splits its
 -- entries.
-use Rattle.std.specs.Prelude.{All, AllPairs}
+use Rattle.std.specs.Prelude.{All, AllPairs, IfSome, slice_get}
+use Rattle.std.specs.List.{AllZip}
 use Rattle.std.proofs.Common.{◌≡◌, ℕ, suc, ◌+◌, ◌<◌, List, [], ◌∷◌, ◌++◌, length, get_or, drop, refl, sym, ap, ◌∙◌, subst, arith, append_assoc, length-append}
 use Rattle.std.proofs.lemmas.List.{append-nil, get_or_append_left}
 use Rattle.space_model.specs.declared.areas.Area.{Area}
@@ -8,9 +9,9 @@ use Rattle.space_model.specs.declared.entries.Entry.{Entry}
 use Rattle.space_model.specs.History.{FitsAndReplies, HasRightReply, IsNumberedFrom, Runs, StateAfter}
 use Rattle.space_model.proofs.Histories.{chains_split, chains_weaker, one_state, replied_state}
 use Rattle.round_trip.proofs.LogsRead.{cut_line}
-use Rattle.history_check.specs.Logs.{AreLogLines, BeginsNoLog, AreRight, WorkersRise}
+use Rattle.history_check.specs.Logs.{AreRight, WorkersRise}
 use Rattle.history_check.specs.LogLines.{BeginsLog, IsLogLine}
-use Rattle.history_check.specs.Verdicts.{IsInPlace}
+use Rattle.history_check.specs.Checking.{IsInPlace}
 
 -- ---- lists of lines
 
@@ -29,6 +30,10 @@ first_all P x xs all = all 0 x (omega arith)
 -- and the others
 pub rest_all : {X : Type 0} (P : X → Type 0) (x : X) (xs : List X) → All P (x ∷ xs) → All P xs
 rest_all P x xs all k d low = all (suc k) d (omega arith)
+
+-- there is no first line, or it begins as none of a log
+abbrev pub BeginsNoLog : List (List ℕ) → Type 0
+BeginsNoLog lines = IfSome (slice_get lines 0) (λ line. ¬ BeginsLog line)
 
 -- lines that begin as those of a log, and then a rest: there is one such cut
 pub one_cut : (log rest log' rest' : List (List ℕ)) → log ++ rest ≡ log' ++ rest' → All BeginsLog log → All BeginsLog log'
@@ -87,7 +92,7 @@ one_entry text e f a b =
     (cut_line e f [] [] a.0.words b.0.words a.0.named b.0.named (append-nil _ ∙ sym a.1 ∙ b.1 ∙ sym (append-nil _))).0
 
 -- lines are those of one list of entries
-pub one_list : (lines : List (List ℕ)) (es fs : List Entry) → AreLogLines lines es → AreLogLines lines fs → es ≡ fs
+pub one_list : (lines : List (List ℕ)) (es fs : List Entry) → AllZip IsLogLine lines es → AllZip IsLogLine lines fs → es ≡ fs
 one_list [] [] [] a b = refl
 one_list [] [] (f ∷ fs) a b = absurd b
 one_list [] (e ∷ es) fs a b = absurd a
@@ -114,11 +119,11 @@ pub record Split (front : List (List ℕ)) (text : List ℕ) (entries : List Ent
   pub entry : Entry
   pub after : List Entry
   pub whole : entries ≡ before ++ entry ∷ after
-  pub front_lines : AreLogLines front before
+  pub front_lines : AllZip IsLogLine front before
   pub line : IsLogLine text entry
 
 -- the entry of the line at a place, and those before it
-pub split_lines : (front : List (List ℕ)) (text : List ℕ) (more : List (List ℕ)) (entries : List Entry) → AreLogLines (front ++ text ∷ more) entries
+pub split_lines : (front : List (List ℕ)) (text : List ℕ) (more : List (List ℕ)) (entries : List Entry) → AllZip IsLogLine (front ++ text ∷ more) entries
     → Split front text entries
 split_lines [] text more [] a = absurd a
 split_lines [] text more (e ∷ es) a = record { before = []; entry = e; after = es; whole = refl; front_lines = tt; line = a.0 }

@@ -1,7 +1,8 @@
 -- What may be held for a call, told from what exactly has to be held: the same, or everything in place of an area.
-use Rattle.std.specs.Prelude.{MatchOption}
+use Rattle.std.specs.Prelude.{MatchOption, ◌+◌, ◌-◌, min}
 use Rattle.std.specs.List.{Contains}
 use Rattle.std.proofs.Common.{◌≡◌, ◌⊎◌, ◌↔◌, ℕ, zero, suc, ◌<◌, ◌≤◌, List, [], ◌∷◌, Option, Some, None, refl, sym, ap, ◌∙◌, subst, inl, inr, arith}
+use Rattle.page_types.specs.declared.TheConstants.{LIMIT}
 use Rattle.page_types.specs.declared.calls.Call.{Call}
 use Rattle.page_types.specs.declared.calls.Call.TheVariants.{Map, Unmap, Protect, Fault, Seal, Brk, Remap}
 use Rattle.page_types.specs.declared.calls.Reply.{Reply}
@@ -14,7 +15,7 @@ use Rattle.space_model.specs.declared.areas.Area.{Area}
 use Rattle.space_model.specs.declared.entries.Under.{Under}
 use Rattle.space_model.specs.declared.entries.Under.TheVariants.{Nothing, Reader, Area as Held, Whole}
 use Rattle.space_model.specs.Areas.{IsAreaList}
-use Rattle.space_model.specs.Held.{FitsByState, FitsUnder, HoldsArea, HoldsSomeArea, IsSimple, ReadsPage}
+use Rattle.space_model.specs.Held.{FitsByState, FitsUnder, HoldsSomeArea, IsSimple, ReadsPage}
 use Rattle.space_model.proofs.AreaKinds.{LeadsTo-above, kind_at-below}
 use Rattle.space_model.proofs.Simple.{kind_at-member}
 use Rattle.round_trip.proofs.LogsRead.{same_ends}
@@ -56,16 +57,6 @@ one_reader page (Reader s) (Held t) a b = absurd b
 one_reader page (Reader s) Whole a b = absurd b
 one_reader page (Reader s) (Reader t) a b = ap Reader (same_span s t (a.0 ∙ sym b.0) (a.1 ∙ sym b.1))
 
--- the one area held
-one_held : (a : Area) (u v : Under) → HoldsArea a u → HoldsArea a v → u ≡ v
-one_held a Nothing v h i = absurd h
-one_held a (Reader s) v h i = absurd h
-one_held a Whole v h i = absurd h
-one_held a (Held s) Nothing h i = absurd i
-one_held a (Held s) (Reader t) h i = absurd i
-one_held a (Held s) Whole h i = absurd i
-one_held a (Held s) (Held t) h i = ap Held (same_span s t (h.first ∙ sym i.first) (h.end ∙ sym i.end))
-
 -- a Protect that its arguments don't decide
 protect_tells : (A : List Area) (addr len : ℕ) (prot : Prot) (exact under : Under) → IsAreaList A → protect_reply addr len ≡ None
     → (IsSimple A (Protect addr len prot) → HoldsSomeArea exact) → FitsByState A (Protect addr len prot) exact
@@ -75,12 +66,10 @@ protect_tells A addr len prot exact under w none area (inr e) (inl f) = inr (are
 protect_tells A addr len prot exact under w none area (inl e) (inr f) = absurd (subst HoldsSomeArea e (area (f.0, f.1)))
 protect_tells A addr len prot exact under w none area (inr e) (inr f) =
     let has_page = some_page addr len none in
-    let lies = e.1.0 in
-    let others = f.1.0 in
-    let one =
-    one_area A f.0 e.0 (page_of addr) w others.member lies.member others.from (omega (arith, has_page, others.within)) lies.from
-    (omega (arith, has_page, lies.within)) in
-    inl (one_held e.0 under exact (subst (λ a. HoldsArea a under) one f.2) e.2)
+    let one : f.0 ≡ e.0 = one_area A f.0 e.0 (page_of addr) w f.1.0 e.1.0 f.1.1 (omega (arith, has_page, f.1.2)) e.1.1 (omega (arith, has_page, e.1.2)) in
+    let span : f.2 ≡ e.2 =
+    same_span f.2 e.2 (f.4 ∙ ap (λ (a : Area). a.lo - 1) one ∙ sym e.4) (f.5 ∙ ap (λ (a : Area). min (a.hi + 1) LIMIT) one ∙ sym e.5) in
+    inl (f.3 ∙ ap Held span ∙ sym e.3)
 
 -- a call that its arguments don't decide
 state_tells : (A : List Area) (c : Call) (exact under : Under) → IsAreaList A → plain_reply c ≡ None → (IsSimple A c → HoldsSomeArea exact)

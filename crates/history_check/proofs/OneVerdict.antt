@@ -9,8 +9,9 @@ use Rattle.history_check.specs.declared.verdict.WrongLog.{WrongLog}
 use Rattle.history_check.specs.declared.verdict.WrongLog.TheVariants.{Form, Number, Order, Held, Reply, Rest}
 use Rattle.history_check.specs.declared.verdict.Verdict.{Verdict}
 use Rattle.history_check.specs.declared.verdict.Verdict.TheVariants.{Legal, Wrong}
-use Rattle.history_check.specs.Logs.{IsLogAndRest, AreRight, IsGoodLog, IsWholeRest}
-use Rattle.history_check.specs.Verdicts.{FailsAs, FailsLine, FailsInLog, FailsAt, FailsInRest, IsVerdict}
+use Rattle.history_check.specs.Logs.{IsLogAndRest, AreRight, AreRestLines, IsGoodLog}
+use Rattle.history_check.specs.Verdicts.{FailsAs, FailsInLog, FailsAt, FailsInRest, IsVerdict}
+use Rattle.history_check.specs.Checking.{FailsLine}
 use Rattle.history_check.proofs.Cutting.{GoesOn, in_log, one_cut, one_entry, one_right, places, right_split}
 use Rattle.history_check.proofs.Cutting.Places.{one_place, first_earlier, first_later}
 
@@ -22,8 +23,8 @@ goes_on_well : (A : List Area) (front : List (List ℕ)) (text : List ℕ) (es :
 goes_on_well A front text es e g Form f = f
 goes_on_well A front text es e g Number f = f g.place.number
 goes_on_well A front text es e g Order f = f.1 g.place.order
-goes_on_well A front text es e g Held f = f.1 g.step.0
-goes_on_well A front text es e g Reply f = f.2 g.next g.step.1
+goes_on_well A front text es e g Held f = f.2 g.step.0
+goes_on_well A front text es e g Reply f = f.3 g.next g.step.1
 goes_on_well A front text es e g Rest f = f
 
 -- a line that fails behind right ones is no right line there
@@ -48,25 +49,25 @@ one_failure B es e Rest other f g = absurd f
 one_failure B es e Number Form f g = absurd g
 one_failure B es e Number Number f g = refl
 one_failure B es e Number Order f g = absurd (f g.0)
-one_failure B es e Number Held f g = absurd (f g.0.number)
-one_failure B es e Number Reply f g = absurd (f g.0.number)
+one_failure B es e Number Held f g = absurd (f g.0)
+one_failure B es e Number Reply f g = absurd (f g.0)
 one_failure B es e Number Rest f g = absurd g
 one_failure B es e Order Form f g = absurd g
 one_failure B es e Order Number f g = absurd (g f.0)
 one_failure B es e Order Order f g = refl
-one_failure B es e Order Held f g = absurd (f.1 g.0.order)
-one_failure B es e Order Reply f g = absurd (f.1 g.0.order)
+one_failure B es e Order Held f g = absurd (f.1 g.1)
+one_failure B es e Order Reply f g = absurd (f.1 g.1)
 one_failure B es e Order Rest f g = absurd g
 one_failure B es e Held Form f g = absurd g
-one_failure B es e Held Number f g = absurd (g f.0.number)
-one_failure B es e Held Order f g = absurd (g.1 f.0.order)
+one_failure B es e Held Number f g = absurd (g f.0)
+one_failure B es e Held Order f g = absurd (g.1 f.1)
 one_failure B es e Held Held f g = refl
-one_failure B es e Held Reply f g = absurd (f.1 g.1)
+one_failure B es e Held Reply f g = absurd (f.2 g.2)
 one_failure B es e Held Rest f g = absurd g
 one_failure B es e Reply Form f g = absurd g
-one_failure B es e Reply Number f g = absurd (g f.0.number)
-one_failure B es e Reply Order f g = absurd (g.1 f.0.order)
-one_failure B es e Reply Held f g = absurd (g.1 f.1)
+one_failure B es e Reply Number f g = absurd (g f.0)
+one_failure B es e Reply Order f g = absurd (g.1 f.1)
+one_failure B es e Reply Held f g = absurd (g.2 f.2)
 one_failure B es e Reply Reply f g = refl
 one_failure B es e Reply Rest f g = absurd g
 
@@ -126,10 +127,10 @@ one_failing B rest c d f g = elim (cases_lt c d) [
 ]
 
 -- a whole rest fails nowhere
-whole_fails_not : (B : List Area) (rest : List (List ℕ)) (c : ℕ) → IsWholeRest B rest → FailsAt B rest c → ⊥
+whole_fails_not : (B : List Area) (rest : List (List ℕ)) (c : ℕ) → AreRestLines B rest (length rest) × (length B < length rest) → FailsAt B rest c → ⊥
 whole_fails_not B rest c w f = elim f.fails [
-  | inl other ↦ other.2 (w.lines c other.0 (slice_get_within rest c other.0 other.1) other.1)
-  | inr ended ↦ let long = w.long in omega (arith, ended.0, ended.1, long)
+  | inl other ↦ other.2 (w.0 c other.0 (slice_get_within rest c other.0 other.1) other.1)
+  | inr ended ↦ let long = w.1 in omega (arith, ended.0, ended.1, long)
 ]
 
 -- the rest of a good log doesn't fail
@@ -142,7 +143,8 @@ good_rest A lines es line g f =
       | inl none ↦ f.some_rest (sym cuts.1 ∙ none)
       | inr whole ↦
           whole_fails_not f.last f.rest f.count
-          (subst (λ X. IsWholeRest X f.rest) one.1 (subst (λ ls. IsWholeRest g.last ls) cuts.1 whole)) f.fails
+          (subst (λ X. AreRestLines X f.rest (length f.rest) × (length X < length f.rest)) one.1
+          (subst (λ ls. AreRestLines g.last ls (length ls) × (length g.last < length ls)) cuts.1 whole)) f.fails
     ]
 
 -- a rest fails at one line

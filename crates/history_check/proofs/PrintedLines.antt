@@ -1,6 +1,7 @@
 -- What a run prints, line by line: each text that is printed lacks the newline but at its end, so the lines of the
 -- whole are those of its parts. No line behind the log begins as one of it.
 use Rattle.std.specs.Prelude.{All}
+use Rattle.std.specs.List.{AllZip}
 use Rattle.std.specs.Fmt.{digit_glyph, digits, digits_onto}
 use Rattle.std.proofs.Common.{◌≡◌, ◌≢◌, ◌⊎◌, ℕ, zero, suc, ◌<◌, ◌/◌, ◌%◌, List, [], ◌∷◌, ◌++◌, length, replicate}
 use Rattle.std.proofs.Common.{codes, decimal, get_or, drop, Bool, true, false, None}
@@ -20,10 +21,10 @@ use Rattle.maps_printer.specs.Words.{kind_text}
 use Rattle.round_trip.proofs.LogsRead.{call_lacks, clean, kind_lacks, lacks, lacks_both, line_apart, line_ends, onto, reply_lacks, under_lacks}
 use Rattle.round_trip.proofs.NumbersRead.{decimal_digits}
 use Rattle.history_check.specs.Laws.{IsTouchedLine, PrintedLogIsGood}
-use Rattle.history_check.specs.Checking.{IsNarrow}
+use Rattle.history_check.specs.Checking.{IsNarrow, IsWholeRest}
 use Rattle.round_trip.specs.Logs.{HasWordNumbers}
-use Rattle.history_check.specs.Logs.{AreLogLines, BeginsNoLog, IsWholeRest}
-use Rattle.history_check.specs.LogLines.{BeginsLog, IsLogEntry}
+use Rattle.history_check.specs.LogLines.{BeginsLog, IsLogEntry, IsLogLine}
+use Rattle.history_check.proofs.Cutting.{BeginsNoLog}
 use Rattle.history_check.proofs.RestLines.{both_lines, only_played, rest_on}
 
 -- ---- lines of a text in parts
@@ -133,7 +134,7 @@ entry_begins e h =
 pub record LogFirst (entries : List Entry) (text : List ℕ) : Type 0 where
   pub lines : List (List ℕ)
   pub whole : lines_of (log_text entries ++ text) ≡ lines ++ lines_of text
-  pub spelled : AreLogLines lines entries
+  pub spelled : AllZip IsLogLine lines entries
   pub begin : All BeginsLog lines
 
 -- a text that begins with a log has that log's lines first
@@ -292,6 +293,7 @@ printed_good entries words narrow A B played skipped refused differ tail named w
       named = named k d low;
     } in
     let first = log_first entries behind all in
+    let after = maps_whole B (summary_text played skipped refused differ ++ tail) (end_whole played skipped refused differ tail end) in
     record {
       log = first.lines;
       rest = lines_of behind;
@@ -302,5 +304,5 @@ printed_good entries words narrow A B played skipped refused differ tail named w
         ended = maps_begin_not B (summary_text played skipped refused differ ++ tail) (end_begins_not played skipped refused differ tail);
       };
       right = record { spelled = first.spelled; runs = runs; rise = rise };
-      whole = inr (maps_whole B (summary_text played skipped refused differ ++ tail) (end_whole played skipped refused differ tail end));
+      whole = inr (after.lines, after.long);
     }

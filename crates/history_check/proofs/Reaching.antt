@@ -1,6 +1,7 @@
 -- How far a check has come: the lines before are right, and what is remembered of their entries is so. From there each
 -- end of a check is a verdict on all lines.
 use Rattle.std.specs.Prelude.{All}
+use Rattle.std.specs.List.{AllZip}
 use Rattle.std.proofs.Common.{◌≡◌, ℕ, ◌+◌, List, [], ◌∷◌, ◌++◌, length, Some, None}
 use Rattle.std.proofs.Common.{refl, sym, ap, ◌∙◌, subst, inl, inr, arith, append_assoc, length-append, Option}
 use Rattle.std.proofs.lemmas.List.Elements.{All-append, All-cons, All-nil}
@@ -12,7 +13,7 @@ use Rattle.history_check.specs.declared.verdict.WrongLog.TheVariants.{Form, Numb
 use Rattle.history_check.specs.declared.verdict.Verdict.{Verdict}
 use Rattle.history_check.specs.declared.verdict.Verdict.TheVariants.{Legal, Wrong}
 use Rattle.history_check.specs.declared.taking.Seen.{Seen}
-use Rattle.history_check.specs.Logs.{AreLogLines, AreRight}
+use Rattle.history_check.specs.Logs.{AreRight}
 use Rattle.history_check.specs.LogLines.{BeginsLog, IsLogLine}
 use Rattle.history_check.specs.Verdicts.{FailsInLog, IsVerdict}
 use Rattle.history_check.specs.Checking.{IsSeen, IsTaken, TellsRest}
@@ -37,14 +38,14 @@ reached_none A lines seen h = record {
   seen_are = h;
 }
 
-spelled_more : (front : List (List ℕ)) (entries : List Entry) (text : List ℕ) (e : Entry) → AreLogLines front entries → IsLogLine text e
-    → AreLogLines (front ++ text ∷ []) (entries ++ e ∷ [])
+spelled_more : (front : List (List ℕ)) (entries : List Entry) (text : List ℕ) (e : Entry) → AllZip IsLogLine front entries → IsLogLine text e
+    → AllZip IsLogLine (front ++ text ∷ []) (entries ++ e ∷ [])
 spelled_more [] [] text e all line = (line, tt)
 spelled_more [] (f ∷ entries) text e all line = absurd all
 spelled_more (l ∷ front) [] text e all line = absurd all
 spelled_more (l ∷ front) (f ∷ entries) text e all line = (all.0, spelled_more front entries text e all.1 line)
 
-as_many : (front : List (List ℕ)) (entries : List Entry) → AreLogLines front entries → length front ≡ length entries
+as_many : (front : List (List ℕ)) (entries : List Entry) → AllZip IsLogLine front entries → length front ≡ length entries
 as_many [] [] all = refl
 as_many [] (f ∷ entries) all = absurd all
 as_many (l ∷ front) [] all = absurd all
@@ -132,7 +133,7 @@ rest_follows A lines text rest seen B (Legal n) h other told = (
     last = B;
     cut = record { whole = h.whole; log_lines = h.log_lines; ended = other };
     right = h.right;
-    whole = inr told.1;
+    whole = inr (told.1.lines, told.1.long);
   },
   told.0 ∙ h.seen_are.number,
 )

@@ -9,8 +9,7 @@ use Rattle.std.proofs.lemmas.List.Elements.{All-append, All-cons, All-nil, Conta
 use Rattle.space_model.specs.declared.entries.Entry.{Entry}
 use Rattle.history_check.specs.declared.taking.Seen.{Seen}
 use Rattle.history_check.specs.Logs.{WorkersRise}
-use Rattle.history_check.specs.Verdicts.{IsInPlace}
-use Rattle.history_check.specs.Checking.{IsBelow, IsSeen}
+use Rattle.history_check.specs.Checking.{IsBelow, IsInPlace, IsSeen}
 
 -- the second entry's line number is higher, where both are of one worker
 abbrev Rises : Entry → Entry → Type 0

@@ -4,9 +4,9 @@ use Rattle.std.proofs.Common.{◌≡◌, ℕ, zero, suc, ◌+◌, List, [], ◌�
 use Rattle.space_model.specs.declared.areas.Area.{Area}
 use Rattle.strace_reader.specs.Grammar.{BeginsWith}
 use Rattle.maps_printer.specs.Lines.{area_line}
-use Rattle.history_check.specs.Logs.{AreRestLines, IsWholeRest}
+use Rattle.history_check.specs.Logs.{AreRestLines}
 use Rattle.history_check.specs.Verdicts.{FailsAt}
-use Rattle.history_check.specs.Checking.{LacksArea}
+use Rattle.history_check.specs.Checking.{IsWholeRest, LacksArea}
 
 some_is : (line text : List ℕ) → Some line ≡ Some text → line ≡ text
 some_is line text e = cc

@@ -8,13 +8,13 @@ use Rattle.space_model.specs.History.{FitsAndReplies}
 use Rattle.line_parts.specs.Lines.{lines_of}
 use Rattle.maps_printer.specs.Lines.{area_line}
 use Rattle.history_check.specs.declared.verdict.WrongLog.{WrongLog}
-use Rattle.history_check.specs.declared.verdict.WrongLog.TheVariants.{Rest}
+use Rattle.history_check.specs.declared.verdict.WrongLog.TheVariants.{Form, Rest}
 use Rattle.history_check.specs.declared.verdict.Verdict.{Verdict}
 use Rattle.history_check.specs.declared.verdict.Verdict.TheVariants.{Legal, Wrong}
 use Rattle.history_check.specs.declared.taking.Seen.{Seen}
 use Rattle.history_check.specs.LogLines.{HasNarrowRows, IsLogLine}
-use Rattle.history_check.specs.Logs.{IsWholeRest, WorkersRise}
-use Rattle.history_check.specs.Verdicts.{FailsAs, FailsAt, FailsLine, IsInPlace}
+use Rattle.history_check.specs.Logs.{AreRestLines, WorkersRise}
+use Rattle.history_check.specs.Verdicts.{FailsAs, FailsAt}
 
 -- one of the entries is of this worker, and this number is its line plus 1
 abbrev pub HasLine : List Entry → ℕ → ℕ → Type 0
@@ -31,6 +31,11 @@ pub record IsSeen (before : List Entry) (seen : Seen) : Type 0 where
   pub above : All (IsBelow seen.last) before
   pub last : (worker : ℕ) → worker < 16 → (slice_index seen.last worker ≡ 0) ⊎ HasLine before worker (slice_index seen.last worker)
 
+-- the number of an entry behind these is that of its place, and its line number is above the last one of its worker
+pub record IsInPlace (before : List Entry) (e : Entry) : Type 0 where
+  pub number : e.number ≡ length before
+  pub order : WorkersRise (before ++ e ∷ [])
+
 -- whether an entry behind those is in its place, or why not
 abbrev pub TellsPlace : List Entry → Entry → Option WrongLog → Type 0
 TellsPlace before e None = IsInPlace before e
@@ -40,6 +45,10 @@ TellsPlace before e (Some why) = (A : List Area) → FailsAs A before e why
 abbrev pub TellsCall : List Area → Entry → Option WrongLog → List Area → Type 0
 TellsCall A e None B = FitsAndReplies A e B
 TellsCall A e (Some why) B = (before : List Entry) → IsInPlace before e → FailsAs A before e why
+
+-- why a line behind those entries is none of the log: it has no entry, or its entry fails
+abbrev pub FailsLine : List Area → List Entry → List ℕ → WrongLog → Type 0
+FailsLine A before text why = ((why ≡ Form) × ((e : Entry) → ¬ IsLogLine text e)) ⊎ ((e : Entry) × IsLogLine text e × FailsAs A before e why)
 
 -- the line was taken behind those entries and leaves area list B, or why not
 abbrev pub IsTaken : List Entry → List Area → List ℕ → Option WrongLog → List Area → Seen → Type 0
@@ -57,6 +66,11 @@ pub record IsBehindArea (a : Area) (text rest : List ℕ) : Type 0 where
   pub lines : lines_of text ≡ line ∷ lines_of rest
   pub line_is : line ++ 10 ∷ [] ≡ area_line a
   pub shorter : length rest < length text
+
+-- these are the whole rest of a log that leaves these areas: lines of it alone, and none is missing
+pub record IsWholeRest (B : List Area) (rest : List (List ℕ)) : Type 0 where
+  pub lines : AreRestLines B rest (length rest)
+  pub long : length B < length rest
 
 -- the verdict on what follows a log of so many entries that leave these areas
 abbrev pub TellsRest : List Area → List (List ℕ) → ℕ → Verdict → Type 0

@@ -2,8 +2,8 @@
 -- log as long as they begin as log lines do, so where the log ends is seen from the lines alone. A reader may rely on a
 -- good log to be one of a legal history, in which each call held what it has to. The form is this project's own
 -- profile.
-use Rattle.std.specs.Prelude.{◌≡◌, ◌⊎◌, ℕ, zero, suc, ◌<◌, List, [], ◌∷◌, ◌++◌, length, codes, slice_get, Some, All}
-use Rattle.std.specs.List.{AllPairs}
+use Rattle.std.specs.Prelude.{◌≡◌, ◌⊎◌, ℕ, zero, suc, ◌<◌, List, [], ◌∷◌, ◌++◌, length, codes, slice_get, Some, IfSome, All}
+use Rattle.std.specs.List.{AllPairs, AllZip}
 use Rattle.space_model.specs.declared.areas.Area.{Area}
 use Rattle.space_model.specs.declared.entries.Entry.{Entry}
 use Rattle.space_model.specs.History.{Runs}
@@ -11,25 +11,14 @@ use Rattle.strace_reader.specs.Grammar.{BeginsWith}
 use Rattle.maps_printer.specs.Lines.{area_line}
 use Rattle.history_check.specs.LogLines.{BeginsLog, IsLogLine}
 
--- there is no first line, or it begins as none of a log
-abbrev pub BeginsNoLog : List (List ℕ) → Type 0
-BeginsNoLog [] = Unit {0}
-BeginsNoLog (line ∷ lines) = ¬ BeginsLog line
-
 -- the lines of the log, up to the first that doesn't begin so, and the rest
 pub record IsLogAndRest (lines log rest : List (List ℕ)) : Type 0 where
   -- the log comes first
   pub whole : lines ≡ log ++ rest
   -- each of its lines begins as one of a log
   pub log_lines : All BeginsLog log
-  -- the rest is empty or begins otherwise
-  pub ended : BeginsNoLog rest
-
--- each line is that of its entry
-abbrev pub AreLogLines : List (List ℕ) → List Entry → Type 0
-AreLogLines [] [] = Unit {0}
-AreLogLines (l ∷ ls) (e ∷ es) = IsLogLine l e × AreLogLines ls es
-AreLogLines _ _ = ⊥
+  -- the rest is empty, or its first line begins otherwise
+  pub ended : IfSome (slice_get rest 0) (λ line. ¬ BeginsLog line)
 
 -- the line numbers of each worker rise
 abbrev pub WorkersRise : List Entry → Type 0
@@ -38,7 +27,7 @@ WorkersRise = AllPairs (λ one other. one.worker ≡ other.worker → one.line <
 -- the lines are those of these entries, which lead from one area list to another, numbered from 0; each fits what it
 -- held and has the right reply, and the line numbers of each worker rise
 pub record AreRight (A : List Area) (lines : List (List ℕ)) (entries : List Entry) (B : List Area) : Type 0 where
-  pub spelled : AreLogLines lines entries
+  pub spelled : AllZip IsLogLine lines entries
   pub runs : Runs 0 A entries B
   pub rise : WorkersRise entries
 
@@ -55,11 +44,6 @@ IsRestLine (a ∷ B) (suc i) text = IsRestLine B i text
 abbrev pub AreRestLines : List Area → List (List ℕ) → ℕ → Type 0
 AreRestLines B rest count = (i : ℕ) (text : List ℕ) → i < count → slice_get rest i ≡ Some text → IsRestLine B i text
 
--- the whole rest: all of its lines are, and none is missing up to the one that begins `played `
-pub record IsWholeRest (B : List Area) (rest : List (List ℕ)) : Type 0 where
-  pub lines : AreRestLines B rest (length rest)
-  pub long : length B < length rest
-
 -- from area list A the lines are a good log of these entries
 pub record IsGoodLog (A : List Area) (lines : List (List ℕ)) (entries : List Entry) : Type 0 where
   pub log : List (List ℕ)
@@ -68,4 +52,5 @@ pub record IsGoodLog (A : List Area) (lines : List (List ℕ)) (entries : List E
   pub last : List Area
   pub cut : IsLogAndRest lines log rest
   pub right : AreRight A log entries last
-  pub whole : (rest ≡ []) ⊎ IsWholeRest last rest
+  -- nothing follows, or lines of the rest alone, and none is missing up to the one that begins `played `
+  pub whole : (rest ≡ []) ⊎ (AreRestLines last rest (length rest) × (length last < length rest))

@@ -4,8 +4,8 @@
 use Rattle.std.specs.Prelude.{◌≡◌, ◌≢◌, ◌⊎◌, ℕ, ◌+◌, ◌≤◌, List, [], ◌∷◌, ◌++◌, length, All, slice_get, Some}
 use Rattle.space_model.specs.declared.areas.Area.{Area}
 use Rattle.space_model.specs.declared.entries.Entry.{Entry}
+use Rattle.space_model.specs.Answers.{Answers}
 use Rattle.space_model.specs.Held.{FitsUnder}
-use Rattle.space_model.specs.History.{HasRightReply}
 use Rattle.history_check.specs.declared.verdict.WrongLog.{WrongLog}
 use Rattle.history_check.specs.declared.verdict.WrongLog.TheVariants.{Form, Number, Order, Held, Reply, Rest}
 use Rattle.history_check.specs.declared.verdict.Verdict.{Verdict}
@@ -13,25 +13,18 @@ use Rattle.history_check.specs.declared.verdict.Verdict.TheVariants.{Legal, Wron
 use Rattle.history_check.specs.LogLines.{BeginsLog, IsLogLine}
 use Rattle.history_check.specs.Logs.{IsLogAndRest, AreRight, AreRestLines, IsGoodLog, IsRestLine, WorkersRise}
 
--- the line number of an entry behind these is above the last one of its worker, and its number is that of its place
-pub record IsInPlace (before : List Entry) (e : Entry) : Type 0 where
-  pub number : e.number ≡ length before
-  pub order : WorkersRise (before ++ e ∷ [])
-
--- why an entry behind these, which leave area list B, is none of such a history
+-- why an entry behind these, which leave area list B, is none of such a history: its number isn't that of its place,
+-- its line isn't above the last one of its worker, it held what doesn't fit, or its reply isn't the one that is due
 abbrev pub FailsAs : List Area → List Entry → Entry → WrongLog → Type 0
 FailsAs B before e Form = ⊥
 FailsAs B before e Number = e.number ≢ length before
 FailsAs B before e Order = (e.number ≡ length before) × ¬ WorkersRise (before ++ e ∷ [])
-FailsAs B before e Held = IsInPlace before e × ¬ FitsUnder B e.call e.under
-FailsAs B before e Reply = IsInPlace before e × FitsUnder B e.call e.under × ((C : List Area) → ¬ HasRightReply B e C)
+FailsAs B before e Held = (e.number ≡ length before) × WorkersRise (before ++ e ∷ []) × ¬ FitsUnder B e.call e.under
+FailsAs B before e Reply =
+    (e.number ≡ length before) × WorkersRise (before ++ e ∷ []) × FitsUnder B e.call e.under × ((C : List Area) → ¬ Answers B e.call e.reply C)
 FailsAs B before e Rest = ⊥
 
--- why a line behind those entries is none of such a log: it has no entry, or its entry fails
-abbrev pub FailsLine : List Area → List Entry → List ℕ → WrongLog → Type 0
-FailsLine B before text why = ((why ≡ Form) × ((e : Entry) → ¬ IsLogLine text e)) ⊎ ((e : Entry) × IsLogLine text e × FailsAs B before e why)
-
--- the first wrong line is one of the log: those before it are right, and it fails
+-- the first wrong line is one of the log: those before it are right, and it has no entry, or its entry fails
 pub record FailsInLog (A : List Area) (lines : List (List ℕ)) (line : ℕ) (why : WrongLog) : Type 0 where
   pub front : List (List ℕ)
   pub text : List ℕ
@@ -43,7 +36,7 @@ pub record FailsInLog (A : List Area) (lines : List (List ℕ)) (line : ℕ) (wh
   pub log_lines : All BeginsLog (front ++ text ∷ [])
   pub right : AreRight A front entries state
   pub place : line ≡ length front + 1
-  pub fails : FailsLine state entries text why
+  pub fails : ((why ≡ Form) × ((e : Entry) → ¬ IsLogLine text e)) ⊎ ((e : Entry) × IsLogLine text e × FailsAs state entries e why)
 
 -- the rest of a log that leaves these areas fails at this place, counted from 0: the lines before are right, and the
 -- line there is another, or there is none where one is due

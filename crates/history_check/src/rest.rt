@@ -4,9 +4,8 @@
 ghost use Rattle.std.specs.Prelude.{◌≡◌, ◌↔◌, ◌+◌, ◌≤◌, ◌<◌, ◌^◌, ◌∷◌, ◌++◌, [], length, codes, IsTrue, IfSome, MatchOption};
 ghost use Rattle.line_parts.specs.Lines.{lines_of};
 ghost use Rattle.strace_reader.specs.Grammar.{BeginsWith};
-ghost use Rattle.history_check.specs.Logs.{IsWholeRest};
 ghost use Rattle.history_check.specs.Verdicts.{FailsAt};
-ghost use Rattle.history_check.specs.Checking.{IsBehindArea, LacksArea, TellsRest};
+ghost use Rattle.history_check.specs.Checking.{IsBehindArea, IsWholeRest, LacksArea, TellsRest};
 
 use crate::verdict::{Verdict, WrongLog};
 use line_parts::next_line;

@@ -4,8 +4,7 @@
 ghost use Rattle.std.specs.Prelude.{◌≡◌, ◌+◌, ◌<◌, ◌^◌, [], ◌∷◌, ◌++◌, List, ℕ, IfOk, IsTrue, ◌↔◌};
 ghost use Rattle.page_types.specs.Named.{IsNamedCall};
 ghost use Rattle.space_model.specs.declared.entries.Entry.{Entry};
-ghost use Rattle.history_check.specs.Verdicts.{IsInPlace};
-ghost use Rattle.history_check.specs.Checking.{IsSeen, IsTaken, TellsCall, TellsPlace};
+ghost use Rattle.history_check.specs.Checking.{IsInPlace, IsSeen, IsTaken, TellsCall, TellsPlace};
 
 use crate::holding::may_be;
 use crate::line::read_log_line;

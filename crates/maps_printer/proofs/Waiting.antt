@@ -8,7 +8,7 @@ use Rattle.std.specs.List.{flat_map}
 use Rattle.std.specs.Io.KnownBytes.{Appends}
 use Rattle.std.proofs.KnownBytes.{Appends-nil, Appends-trans}
 use Rattle.byte_ports.specs.Bytes.{AppendsAllBut, AppendsPrefix}
-use Rattle.byte_ports.proofs.Pieces.{AppendsAllBut-after, AppendsPrefix-of, AppendsPrefix-after, AppendsPrefix-more}
+use Rattle.byte_ports.proofs.Pieces.{AppendsAllBut-after, AppendsAllBut-of, AppendsPrefix-of, AppendsPrefix-after, AppendsPrefix-more}
 
 -- at first nothing was written and nothing waits
 pub AppendsAllBut-nothing : (a : Option (List ℕ)) → AppendsAllBut a a [] []
@@ -24,7 +24,7 @@ AppendsAllBut-line a {c = c} {text = text} {waiting = waiting} {after = after} l
 -- the sink failed while the buffer with one more line went to it
 pub AppendsAllBut-failed : (a : Option (List ℕ)) {b c : Option (List ℕ)} {text waiting : List ℕ} (line : List ℕ)
     → AppendsAllBut a b text waiting → AppendsPrefix b c (waiting ++ line) → AppendsPrefix a c (text ++ line)
-AppendsAllBut-failed a line h k = AppendsPrefix-of (AppendsAllBut-line a line h k.first)
+AppendsAllBut-failed a line h k = AppendsPrefix-of (AppendsAllBut-line a line h (AppendsAllBut-of k))
 
 -- all that waited was written
 pub AppendsAllBut-flushed : (a b c : Option (List ℕ)) (text waiting : List ℕ) → AppendsAllBut a b text waiting → Appends b c waiting → Appends a c text

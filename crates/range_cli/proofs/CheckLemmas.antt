@@ -17,7 +17,7 @@ use Rattle.history_check.proofs.Beginnings.{ends_log, log_ends as digits_before,
 use Rattle.range_cli.specs.declared.checking.LogReading.{LogReading}
 use Rattle.range_cli.specs.Checking.{KeepsLimits, EndsBehind, EndsLog}
 use Rattle.range_cli.specs.Judging.{StandsBehind}
-use Rattle.range_cli.specs.Script.{IsShort}
+use Rattle.range_cli.specs.Endings.{IsShort}
 use Rattle.range_cli.specs.declared.status.EarlyEnd.{EarlyEnd}
 use Rattle.range_cli.specs.declared.status.EarlyEnd.TheVariants.{Above}
 use Rattle.range_cli.specs.declared.status.Which.TheVariants.{Lines as OfLines}

@@ -112,7 +112,7 @@ rest_of (x ∷ l) = l
 
 prefix_alone : (n m : ℕ) (old new text : List ℕ) → AppendsPrefix (Some (n ∷ old)) (Some (m ∷ new)) text → AppendsPrefix (Some old) (Some new) text
 prefix_alone n m old new text p =
-    record { rest = p.rest; first = record { front = p.first.front; whole = p.first.whole; appended = ap rest_of p.first.appended } }
+    record { front = p.front; rest = p.rest; whole = p.whole; appended = ap rest_of p.appended }
 
 -- what is so of a verdict is so in each weaker form
 judged_weaker : {words : List (List ℕ)} {i j : Option (List ℕ)} (P Q : ℕ → Verdict → Type 0)
@@ -147,10 +147,10 @@ wrote_alone words i j n m old new (Wrong line) h = judged_weaker _ _ (λ before 
 still_room : (n m used_old used_new : ℕ) (old new text : List ℕ) → length old ≡ used_old → length new ≡ used_new
     → AppendsPrefix (Some (n ∷ old)) (Some (m ∷ new)) text → length text < n - used_old → used_new < m
 still_room n m used_old used_new old new text long_old long_new p less =
-    let e : m ∷ new ≡ n ∷ (old ++ p.first.front) = p.first.appended in
+    let e : m ∷ new ≡ n ∷ (old ++ p.front) = p.appended in
     let same : m ≡ n = ap first_of e in
-    let grown : length new ≡ length old + length p.first.front = ap (λ l. length (rest_of l)) e ∙ length-append old p.first.front in
-    let whole : length text ≡ length p.first.front + length p.rest = ap length p.first.whole ∙ length-append p.first.front p.rest in
+    let grown : length new ≡ length old + length p.front = ap (λ l. length (rest_of l)) e ∙ length-append old p.front in
+    let whole : length text ≡ length p.front + length p.rest = ap length p.whole ∙ length-append p.front p.rest in
     omega arith
 
 -- ---- counts that are 0

@@ -10,8 +10,7 @@ use Rattle.std.proofs.lemmas.List.FromFn.{map-range_with_len_more}
 use Rattle.page_types.specs.Named.{IsNamedCall}
 use Rattle.trace_threads.specs.declared.worker.Line.{Line as Turn}
 use Rattle.range_cli.specs.declared.trace.Line.{Line}
-use Rattle.range_cli.specs.Dealt.{worker_of, dealt}
-use Rattle.range_cli.specs.Play.{played_line, worker_lines}
+use Rattle.range_cli.specs.Dealt.{worker_of, played_line, worker_lines, dealt}
 
 module _ {X : Type 0} (f g : ℕ → X) (at : ℕ) (y : X) (others : (k : ℕ) → k ≢ at → f k ≡ g k) (here : y ≡ g at) where
   -- behind a number the others are the same

@@ -19,7 +19,8 @@ use Rattle.strace_reader.specs.declared.joiner.Fed.TheVariants.{Played, Kept, Sk
 use Rattle.strace_reader.specs.Playing.{Differs}
 use Rattle.range_cli.specs.declared.trace.Line.{Line}
 use Rattle.range_cli.specs.Report.{Differing, DiffersFromLine, LinesRise, IsPlaceOf, HasNoLine}
-use Rattle.range_cli.specs.Script.{TracePosition, Reads, lines_by, index_among, taken}
+use Rattle.range_cli.specs.Script.{TracePosition, Reads, lines_by, taken}
+use Rattle.range_cli.specs.TraceReader.{index_among}
 use Rattle.range_cli.specs.Script.Reads.{nothing, line}
 
 -- ---- the count

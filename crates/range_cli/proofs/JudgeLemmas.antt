@@ -3,6 +3,7 @@
 use Rattle.std.proofs.Common.{◌≡◌, ◌⊎◌, Bool, true, false, inl, inr, ℕ, zero, suc, ◌+◌, ◌<◌, ◌≤◌, List, [], ◌∷◌, ◌++◌, length}
 use Rattle.std.proofs.Common.{Some, refl, sym, ap, subst, ◌∙◌, arith, length-append}
 use Rattle.std.specs.Prelude.{◌==◌, if◌then◌else◌}
+use Rattle.std.specs.List.{AllZip}
 use Rattle.page_types.specs.declared.TheConstants.{ROWS}
 use Rattle.space_model.specs.declared.areas.Area.{Area}
 use Rattle.space_model.specs.declared.entries.Entry.{Entry}
@@ -12,11 +13,12 @@ use Rattle.history_check.specs.declared.verdict.Verdict.{Verdict}
 use Rattle.history_check.specs.declared.verdict.Verdict.TheVariants.{Legal, Wrong as WrongVerdict}
 use Rattle.history_check.specs.declared.verdict.WrongLog.{WrongLog}
 use Rattle.history_check.specs.declared.verdict.WrongLog.TheVariants.{Form, Number, Order, Held, Reply, Rest}
-use Rattle.history_check.specs.Logs.{AreLogLines}
+use Rattle.history_check.specs.LogLines.{IsLogLine}
 use Rattle.history_check.specs.Verdicts.{IsVerdict, FailsInLog, FailsInRest}
 use Rattle.range_cli.specs.Checking.{KeepsLimits, IsInputVerdict}
 use Rattle.range_cli.specs.Judging.{HasNumbers}
-use Rattle.range_cli.specs.Script.{Opens, ReadsMaps}
+use Rattle.range_cli.specs.Script.{ReadsMaps}
+use Rattle.range_cli.specs.TraceReader.{Opens}
 use Rattle.range_cli.specs.Script.ReadsMaps.{over, empty, mapped, past_end}
 use Rattle.std.proofs.lemmas.Option.{slice_get_within}
 
@@ -66,7 +68,7 @@ lines_few [] = omega arith
 lines_few (byte ∷ text) = let few = of_byte (byte == 10) byte (lines_of text) (length text) (lines_few text) in omega (arith, few)
 
 -- there are as many entries as lines
-as_many_lines : (lines : List (List ℕ)) (entries : List Entry) → AreLogLines lines entries → length lines ≡ length entries
+as_many_lines : (lines : List (List ℕ)) (entries : List Entry) → AllZip IsLogLine lines entries → length lines ≡ length entries
 as_many_lines [] [] h = refl
 as_many_lines [] (e ∷ es) h = absurd h
 as_many_lines (l ∷ ls) [] h = absurd h

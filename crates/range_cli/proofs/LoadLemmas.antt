@@ -7,7 +7,7 @@ use Rattle.load_lines.specs.Generator.{state_after}
 use Rattle.trace_threads.specs.declared.worker.Line.{Line as Turn}
 use Rattle.range_cli.specs.declared.trace.Line.{Line}
 use Rattle.range_cli.specs.Dealt.{dealt}
-use Rattle.range_cli.specs.Play.{line_of, lines_of_load}
+use Rattle.range_cli.specs.Play.{line_of}
 
 -- a generator makes as many lines as calls are asked for
 pub made_count : (seed threads calls : ℕ) → length (drawn_lines seed threads calls) ≡ calls
@@ -18,7 +18,7 @@ made_count seed threads (suc made) =
     omega (arith, before, more)
 
 -- a load has as many lines as calls
-pub load_count : (seed threads calls : ℕ) → length (lines_of_load seed threads calls) ≡ calls
+pub load_count : (seed threads calls : ℕ) → length (map line_of (drawn_lines seed threads calls)) ≡ calls
 load_count seed threads calls = length-map (drawn_lines seed threads calls) line_of ∙ made_count seed threads calls
 
 -- with the next made line dealt out the made lines up to it are

@@ -1,6 +1,6 @@
 -- By one worker the words and the bytes of an input have one report. The bytes ask for one script, one worker's lines
 -- have one history from given areas, with what each call held, and what is counted of lines and entries is one number.
-use Rattle.std.proofs.Common.{◌≡◌, ◌⊎◌, ◌↔◌, Bool, true, false, ℕ, zero, suc, ◌+◌, ◌<◌, ◌≤◌, List, [], ◌∷◌, ◌++◌, length}
+use Rattle.std.proofs.Common.{◌≡◌, ◌⊎◌, ◌↔◌, Bool, true, false, ℕ, zero, suc, ◌+◌, ◌<◌, ◌≤◌, List, [], ◌∷◌, ◌++◌, length, map}
 use Rattle.std.proofs.Common.{Option, None, Some, inl, inr, refl, sym, ap, subst, ◌∙◌, arith}
 use Rattle.std.specs.Prelude.{if◌then◌else◌, All}
 use Rattle.std.specs.List.{AllPairs, Contains}
@@ -32,7 +32,9 @@ use Rattle.command_words.specs.declared.commands.Options.{Options}
 use Rattle.command_words.specs.Commands.{AskForOne, AskFor}
 use Rattle.range_cli.specs.declared.report.Counts.{Counts}
 use Rattle.range_cli.specs.declared.trace.Line.{Line}
-use Rattle.range_cli.specs.Play.{worker_lines, lines_of_load, IsHistoryOf}
+use Rattle.load_lines.specs.Calls.{drawn_lines}
+use Rattle.range_cli.specs.Dealt.{worker_lines}
+use Rattle.range_cli.specs.Play.{line_of, IsHistoryOf}
 use Rattle.range_cli.specs.Laws.{AreOneReport, AskForOneWorker, OneWorkerHasOneReport}
 use Rattle.range_cli.specs.Report.{CountsTouched, Differing, asked_log, asked_touched, refused_count, report_text}
 use Rattle.range_cli.specs.Run.{Heard, IsReport, Loaded, Reports}
@@ -42,7 +44,7 @@ use Rattle.range_cli.specs.Script.Reads.{nothing, line}
 use Rattle.range_cli.proofs.JudgeLemmas.{lines_few, opens_few}
 use Rattle.range_cli.proofs.OneWorker.{of_lines}
 use Rattle.range_cli.proofs.Outcomes.{asks_same, same_list, same_opens}
-use Rattle.range_cli.proofs.PlayLemmas.{HeldAsMay}
+use Rattle.range_cli.proofs.PlayLemmas.{HeldAsMay, area_alone}
 
 -- ---- numbers that rise
 
@@ -166,7 +168,7 @@ first_alone entries below k d within = let low = below k d within in omega (arit
 
 -- what is held along a chain, as `entries_one` has it
 held_along : (A : List Area) (entries : List Entry) (B : List Area) → Chains HeldAsMay A entries B → Chains HeldAndReplies A entries B
-held_along = chains_weaker HeldAsMay HeldAndReplies (λ A e B step. (record { fits = step.0.0; area = step.1 }, step.0.1))
+held_along = chains_weaker HeldAsMay HeldAndReplies (λ A e B step. (record { fits = step.0.0; area = area_alone A e.call e.under step.0.0 step.1 }, step.0.1))
 
 -- by one worker, lines from an area list have one history, which leaves one list
 played_one : (opening : List Area) (lines : List Line) (entries others : List Entry) (last end : List Area) → IsAreaList opening
@@ -229,12 +231,12 @@ report_one options bytes one other first second few a b =
     record { entries = same.0; areas = same.1; bytes = a.text ∙ text ∙ sym b.text }
 
 -- two reports of one load by one worker are one
-load_one : (seed calls : ℕ) (one other : ClosedView) (first second : List ℕ) → IsHistoryOf 1 [] (lines_of_load seed 1 calls) one.entries one.areas
-    → IsHistoryOf 1 [] (lines_of_load seed 1 calls) other.entries other.areas
+load_one : (seed calls : ℕ) (one other : ClosedView) (first second : List ℕ) → IsHistoryOf 1 [] (map line_of (drawn_lines seed 1 calls)) one.entries one.areas
+    → IsHistoryOf 1 [] (map line_of (drawn_lines seed 1 calls)) other.entries other.areas
     → first ≡ summary_text (length one.entries) 0 (refused_count one.entries) 0
     → second ≡ summary_text (length other.entries) 0 (refused_count other.entries) 0 → AreOneReport one other first second
 load_one seed calls one other first second a b text other_text =
-    let same = played_one [] (lines_of_load seed 1 calls) one.entries other.entries one.areas other.areas tt a b in
+    let same = played_one [] (map line_of (drawn_lines seed 1 calls)) one.entries other.entries one.areas other.areas tt a b in
     let summary = ap (λ (es : List Entry). summary_text (length es) 0 (refused_count es) 0) same.0 in
     record { entries = same.0; areas = same.1; bytes = text ∙ summary ∙ sym other_text }
 
@@ -252,7 +254,7 @@ module _ (words : List (List ℕ)) (asks : AskForOne words) where
 
   -- and the report of a load
   load_by_one : (closed : ClosedView) (report : List ℕ) (seed calls : ℕ) → AskFor words (Load seed 1 calls) → Loaded words closed report
-      → IsHistoryOf 1 [] (lines_of_load seed 1 calls) closed.entries closed.areas
+      → IsHistoryOf 1 [] (map line_of (drawn_lines seed 1 calls)) closed.entries closed.areas
   load_by_one closed report seed calls spells h =
       let same : Load h.seed h.threads h.calls ≡ Load seed 1 calls = asks _ _ h.accepted spells in
       let s : h.seed ≡ seed = cc in

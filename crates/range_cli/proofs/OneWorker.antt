@@ -12,7 +12,7 @@ use Rattle.area_rows.proofs.Storing.{all_legal}
 use Rattle.trace_threads.specs.declared.worker.Line.{Line as Turn}
 use Rattle.trace_threads.specs.Workers.{AreEntriesOf}
 use Rattle.range_cli.specs.declared.trace.Line.{Line}
-use Rattle.range_cli.specs.Play.{worker_lines}
+use Rattle.range_cli.specs.Dealt.{worker_lines}
 use Rattle.range_cli.specs.Laws.{OneWorkerPlaysOneHistory}
 use Rattle.range_cli.proofs.Parts.{part_whole}
 use Rattle.range_cli.proofs.PlayLemmas.{AreOwn, none_from, of_worker}

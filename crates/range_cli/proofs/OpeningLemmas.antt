@@ -11,9 +11,9 @@ use Rattle.strace_reader.specs.declared.maps.MapsItem.{MapsItem}
 use Rattle.strace_reader.specs.declared.maps.MapsItem.TheVariants.{Area as Mapped, Past}
 use Rattle.strace_reader.specs.Maps.{SpellsMaps, IsNamedMapsItem}
 use Rattle.range_cli.specs.declared.status.EarlyEnd.{EarlyEnd}
-use Rattle.range_cli.specs.Script.{IsNext, Opens, ReadsMaps, map_start}
+use Rattle.range_cli.specs.Script.{IsNext, ReadsMaps, map_start}
 use Rattle.range_cli.specs.Endings.{EndsMap, EndsMaps, map_stop}
-use Rattle.range_cli.specs.TraceReader.{areas_with, past_with}
+use Rattle.range_cli.specs.TraceReader.{Opens, areas_with, past_with}
 use Rattle.range_cli.specs.Script.ReadsMaps.{over, empty, mapped, past_end}
 use Rattle.range_cli.specs.Endings.EndsMaps.{here, later}
 

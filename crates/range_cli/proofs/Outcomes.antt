@@ -23,8 +23,9 @@ use Rattle.range_cli.specs.declared.trace.Line.{Line}
 use Rattle.command_words.specs.declared.commands.Command.TheVariants.{Play, Load, Check}
 use Rattle.command_words.specs.declared.commands.Options.{Options}
 use Rattle.line_parts.specs.Lines.{lines_of}
-use Rattle.range_cli.specs.Script.{IsNext, ReadsMaps, Opens, map_start, IsScript, IsShort, TracePosition, start_at, after, Asks, Reads, played_by, taken}
-use Rattle.range_cli.specs.Endings.{IsRefused, EndsMap, EndsMaps, EndsOpening, map_stop, EndsTrace, EndsInput, Ends, EndsAt}
+use Rattle.range_cli.specs.Script.{IsNext, ReadsMaps, map_start, IsScript, TracePosition, start_at, after, Asks, Reads, lines_by, taken}
+use Rattle.range_cli.specs.TraceReader.{Opens}
+use Rattle.range_cli.specs.Endings.{IsRefused, IsShort, EndsMap, EndsMaps, EndsOpening, map_stop, EndsTrace, EndsInput, Ends, EndsAt}
 use Rattle.range_cli.specs.Script.ReadsMaps.{over, empty as empty_map, mapped, past_end}
 use Rattle.range_cli.specs.Endings.EndsMaps.{here as here_map, later as later_map}
 use Rattle.range_cli.specs.Run.{Heard, Judged, EndsByInput, EndsByLog, Reports, Wrote, HasCause, IsOutcome, IsOnlyOutcome, IsHindered}
@@ -51,7 +52,8 @@ asks_ends stand text answer NoMemory a e = e
 asks_ends stand text answer (Above Input v) a e = e
 asks_ends stand text answer (Above OfLine v) a e = omega (arith, a.0, e.0)
 asks_ends stand text answer (Above OfLines v) a e =
-    let same : answer ≡ e.2.0 = (one_answer stand.fed text).item _ _ a.1 e.2.1 in omega (arith, a.2, e.2.2, ap (λ x. played_by (taken stand x)) same)
+    let same : answer ≡ e.2.0 = (one_answer stand.fed text).item _ _ a.1 e.2.1 in
+    omega (arith, a.2, e.2.2, ap (λ x. length (lines_by stand (taken stand x))) same)
 asks_ends stand text answer (Above Rows v) a e = e
 
 -- a line has one answer

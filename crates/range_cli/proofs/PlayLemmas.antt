@@ -1,29 +1,36 @@
 -- What the workers of a space have played is a legal history of just their lines, with as many entries as lines.
 use Rattle.std.proofs.Common.{◌≡◌, ℕ, zero, suc, ◌+◌, ◌<◌, List, [], ◌∷◌, length, map, refl}
-use Rattle.std.proofs.Common.{sym, ap, subst, ◌∙◌, inl, inr, cond, None, arith, mod-lt, add-one, Global}
-use Rattle.std.specs.Prelude.{Vec, vec_items, vec_len, sum_by, All, ◌↔◌}
+use Rattle.std.proofs.Common.{sym, ap, subst, ◌∙◌, inl, inr, cond, None, Some, arith, mod-lt, add-one, Global}
+use Rattle.std.specs.Prelude.{Vec, vec_items, vec_len, sum_by, All, MatchOption, Option, ◌↔◌, ◌≢◌}
 use Rattle.std.proofs.lemmas.Bool.Decides.{eqb_tells}
 use Rattle.std.proofs.lemmas.List.Elements.{All-cons, All-head, All-nil, All-tail}
 use Rattle.std.proofs.lemmas.List.Sums.{sum_by-cons}
 use mathlib.Core.Option.{some}
 use lib.ListN.{get_elem?}
-use Rattle.std.specs.List.{range_with_len}
+use Rattle.std.specs.List.{AllZip, range_with_len}
 use Rattle.std.proofs.lemmas.List.{length-map}
 use Rattle.std.proofs.lemmas.List.FromFn.{length-map-range_with_len, sum_by-map-range_with_len_more}
 use Rattle.space_model.specs.declared.areas.Area.{Area}
 use Rattle.space_model.specs.declared.entries.Entry.{Entry}
+use Rattle.space_model.specs.declared.entries.Under.{Under}
+use Rattle.space_model.specs.declared.entries.Under.TheVariants.{Nothing, Reader, Area as Held, Whole}
+use Rattle.page_types.specs.declared.calls.Call.{Call}
+use Rattle.page_types.specs.declared.calls.Call.TheVariants.{Map, Unmap, Protect, Fault, Seal, Brk, Remap}
+use Rattle.page_types.specs.declared.calls.Reply.{Reply}
+use Rattle.page_types.specs.Pages.{page_of}
 use Rattle.page_types.specs.PlainReply.{plain_reply}
-use Rattle.space_model.specs.Held.{HoldsSomeArea, IsSimple}
+use Rattle.space_model.specs.Held.{FitsByState, FitsUnder, HoldsSomeArea, IsSimple, IsSimpleIn, ReadsPage}
 use Rattle.space_model.specs.History.{Chains, FitsAndReplies, HasRightReply, StateAfter}
 use Rattle.space_model.proofs.Histories.{chains_weaker, one_state, replied_state}
 use Rattle.area_rows.specs.History.{entries_of}
 use Rattle.area_rows.proofs.Storing.{all_legal}
 use Rattle.trace_threads.specs.declared.worker.Line.{Line as Turn}
+use Rattle.strace_reader.specs.Playing.{as_played}
 use Rattle.trace_threads.specs.Workers.{AreEntriesOf}
 use Rattle.trace_threads.specs.Collected.{AllHeld, HeldAndReplies, IsOnlyWorker, IsPlayed as WerePlayed}
 use Rattle.range_cli.specs.declared.trace.Line.{Line}
-use Rattle.range_cli.specs.Dealt.{worker_of, own_lines, dealt}
-use Rattle.range_cli.specs.Play.{worker_lines, played_line, IsHistoryOf, turn_of}
+use Rattle.range_cli.specs.Dealt.{worker_of, own_lines, played_line, worker_lines, dealt}
+use Rattle.range_cli.specs.Play.{IsHistoryOf}
 use Rattle.range_cli.proofs.Parts.{NoneAbove, first_below, rest_none, total, total_same, parts_whole, none_above}
 
 -- the list of each number
@@ -46,9 +53,19 @@ none_from n (e ∷ es) all k above = elim (eqb_tells e.worker k) [
       ∙ none_from n es (All-tail (λ (x : Entry). x.worker < n) e es all) k above
 ]
 
+-- the entry is that of the line: it has its number, and its call as it is played
+abbrev pub IsEntryOfLine : Line → Entry → Type 0
+IsEntryOfLine line e = (e.line ≡ line.number) × (e.call ≡ as_played line.call line.recorded)
+
 -- the entries of each worker are those of its lines
 abbrev pub AreOwn : ℕ → List Line → List Entry → Type 0
-AreOwn threads lines entries = (worker : ℕ) → worker < threads → map turn_of (entries_of worker entries) ≡ worker_lines threads lines worker
+AreOwn threads lines entries = (worker : ℕ) → worker < threads → AllZip IsEntryOfLine (own_lines threads lines worker) (entries_of worker entries)
+
+zip_long : (lines : List Line) (es : List Entry) → AllZip IsEntryOfLine lines es → length es ≡ length lines
+zip_long [] [] h = refl
+zip_long [] (e ∷ es) h = absurd h
+zip_long (l ∷ ls) [] h = absurd h
+zip_long (l ∷ ls) (e ∷ es) h = let rest = zip_long ls es h.1 in omega (arith, rest)
 
 -- one entry for each line
 pub as_many : (threads : ℕ) (lines : List Line) (entries : List Entry) → 0 < threads → AreOwn threads lines entries
@@ -56,7 +73,7 @@ pub as_many : (threads : ℕ) (lines : List Line) (entries : List Entry) → 0 <
 as_many threads lines entries some_threads own below =
     sym (parts_whole (λ (e : Entry). e.worker) threads entries (none_from threads entries below))
     ∙ total_same threads (λ k. length (entries_of k entries)) (λ k. length (own_lines threads lines k))
-    (λ k low. sym (length-map (entries_of k entries) turn_of) ∙ ap length (own k low) ∙ length-map (own_lines threads lines k) played_line)
+    (λ k low. zip_long (own_lines threads lines k) (entries_of k entries) (own k low))
     ∙ parts_whole (worker_of threads) threads lines (none_above (worker_of threads) threads (λ line. mod-lt line.process some_threads) lines)
 
 lists_total : (lists : List (Vec Turn Global)) → sum_by vec_len lists ≡ sum_by length (map vec_items lists)
@@ -102,20 +119,22 @@ to_last A entries last (B, held) state =
     let replied = chains_weaker HeldAndReplies HasRightReply (λ X e Y step. step.1) A entries B held in
     subst (λ (X : List Area). Chains HeldAndReplies A entries X) (one_state A entries B last (replied_state A entries B replied) state) held
 
--- what the entries of lines have of them are the lines
-turns_are : (worker : ℕ) (turns : List Turn) (es : List Entry) → AreEntriesOf worker turns es → map turn_of es ≡ turns
-turns_are worker [] [] h = refl
-turns_are worker [] (e ∷ es) h = absurd h
-turns_are worker (t ∷ ts) [] h = absurd h
-turns_are worker (t ∷ ts) (e ∷ es) h =
-    let rest = turns_are worker ts es h.1 in λ i. (record { line = h.0.line_is i; call = h.0.call_is i }) ∷ rest i
+-- the entries of lines as they are played are those of the lines
+zip_of : (worker : ℕ) (lines : List Line) (es : List Entry) → AreEntriesOf worker (map played_line lines) es → AllZip IsEntryOfLine lines es
+zip_of worker [] [] h = tt
+zip_of worker [] (e ∷ es) h = absurd h
+zip_of worker (l ∷ ls) [] h = absurd h
+zip_of worker (l ∷ ls) (e ∷ es) h = ((h.0.line_is, h.0.call_is), zip_of worker ls es h.1)
 
--- entries of one worker are those of what they have of their lines
-are_entries : (worker : ℕ) (es : List Entry) → All (λ (e : Entry). e.worker ≡ worker) es → AreEntriesOf worker (map turn_of es) es
-are_entries worker [] all = tt
-are_entries worker (e ∷ es) all = (
-  record { worker_is = All-head (λ (x : Entry). x.worker ≡ worker) e es all; line_is = refl; call_is = refl },
-  are_entries worker es (All-tail (λ (x : Entry). x.worker ≡ worker) e es all),
+-- and back, where they are of one worker
+zip_entries : (worker : ℕ) (lines : List Line) (es : List Entry) → AllZip IsEntryOfLine lines es → All (λ (e : Entry). e.worker ≡ worker) es
+    → AreEntriesOf worker (map played_line lines) es
+zip_entries worker [] [] h all = tt
+zip_entries worker [] (e ∷ es) h all = absurd h
+zip_entries worker (l ∷ ls) [] h all = absurd h
+zip_entries worker (l ∷ ls) (e ∷ es) h all = (
+  record { worker_is = All-head (λ (x : Entry). x.worker ≡ worker) e es all; line_is = h.0.0; call_is = h.0.1 },
+  zip_entries worker ls es h.1 (All-tail (λ (x : Entry). x.worker ≡ worker) e es all),
 )
 
 own_are : (worker : ℕ) (entries : List Entry) → All (λ (e : Entry). e.worker ≡ worker) (entries_of worker entries)
@@ -133,8 +152,7 @@ own_are worker (e ∷ es) = elim (eqb_tells e.worker worker) [
 pub of_worker : (threads : ℕ) (lines : List Line) (entries : List Entry) (worker : ℕ) → AreOwn threads lines entries → worker < threads
     → AreEntriesOf worker (worker_lines threads lines worker) (entries_of worker entries)
 of_worker threads lines entries worker own low =
-    subst (λ (ts : List Turn). AreEntriesOf worker ts (entries_of worker entries)) (own worker low)
-    (are_entries worker (entries_of worker entries) (own_are worker entries))
+    zip_entries worker (own_lines threads lines worker) (entries_of worker entries) (own worker low) (own_are worker entries)
 
 -- no entry has a worker that isn't below the number of workers
 workers_below : (n : ℕ) (entries : List Entry) → NoneAbove (λ (e : Entry). e.worker) n entries → All (λ (e : Entry). e.worker < n) entries
@@ -143,21 +161,78 @@ workers_below n (e ∷ es) none =
     All-cons (λ (e : Entry). e.worker < n) e es (first_below (λ (e : Entry). e.worker) n e es none)
     (workers_below n es (rest_none (λ (e : Entry). e.worker) n e es none))
 
+-- ---- who holds an area alone
+
+-- a call that may hold its area alone doesn't hold everything
+abbrev pub HoldsItAlone : List Area → Call → Under → Type 0
+HoldsItAlone A c under = plain_reply c ≡ None → (a : Area) → IsSimpleIn A c a → under ≢ Whole
+
 -- what a call holds, beside that it fits and that its reply is right
 abbrev pub HeldAsMay : List Area → Entry → List Area → Type 0
-HeldAsMay A e B = FitsAndReplies A e B × (HoldsSomeArea e.under ↔ ((plain_reply e.call ≡ None) × IsSimple A e.call))
+HeldAsMay A e B = FitsAndReplies A e B × HoldsItAlone A e.call e.under
+
+-- the page of a fault is no area
+page_held : (page : ℕ) (under : Under) → ReadsPage page under → HoldsSomeArea under → ⊥
+page_held page Nothing reads holds = holds
+page_held page (Reader span) reads holds = holds
+page_held page (Held span) reads holds = reads
+page_held page Whole reads holds = holds
+
+-- a call that holds an area, which fits, is simple there
+simple_there : (A : List Area) (c : Call) (under : Under) → FitsByState A c under → HoldsSomeArea under → IsSimple A c
+simple_there A (Map addr len prot flags) under fits holds = absurd (subst HoldsSomeArea fits holds)
+simple_there A (Unmap addr len) under fits holds = absurd (subst HoldsSomeArea fits holds)
+simple_there A (Protect addr len prot) under (inl all) holds = absurd (subst HoldsSomeArea all holds)
+simple_there A (Protect addr len prot) under (inr h) holds = (h.0, h.1)
+simple_there A (Fault addr access) under fits holds = absurd (page_held (page_of addr) under fits holds)
+simple_there A (Seal addr len flags) under fits holds = absurd (subst HoldsSomeArea fits holds)
+simple_there A (Brk base addr) under fits holds = absurd (subst HoldsSomeArea fits holds)
+simple_there A (Remap addr old new may hint) under fits holds = absurd (subst HoldsSomeArea fits holds)
+
+-- a simple call, which fits and doesn't hold everything, holds an area
+holds_there : (A : List Area) (c : Call) (under : Under) (a : Area) → FitsByState A c under → IsSimpleIn A c a → under ≢ Whole → HoldsSomeArea under
+holds_there A (Map addr len prot flags) under a fits simple apart = absurd simple
+holds_there A (Unmap addr len) under a fits simple apart = absurd simple
+holds_there A (Protect addr len prot) under a (inl all) simple apart = absurd (apart all)
+holds_there A (Protect addr len prot) under a (inr h) simple apart = subst HoldsSomeArea (sym h.3) tt
+holds_there A (Fault addr access) under a fits simple apart = absurd simple
+holds_there A (Seal addr len flags) under a fits simple apart = absurd simple
+holds_there A (Brk base addr) under a fits simple apart = absurd simple
+holds_there A (Remap addr old new may hint) under a fits simple apart = absurd simple
+
+-- so what fits is an area exactly where the call may hold it alone
+pub area_alone : (A : List Area) (c : Call) (under : Under) → FitsUnder A c under → HoldsItAlone A c under
+    → HoldsSomeArea under ↔ ((plain_reply c ≡ None) × IsSimple A c)
+area_alone A c under fits alone = (
+  λ holds. let none = decided (plain_reply c) fits holds in (none.0, simple_there A c under none.1 holds),
+  λ simple.
+      let state = subst (λ o. MatchOption o (FitsByState A c under) (λ reply. under ≡ Nothing)) simple.0 fits in
+      holds_there A c under simple.1.0 state simple.1.1 (alone simple.0 simple.1.0 simple.1.1),
+)
+  where
+    decided : (o : Option Reply) → MatchOption o (FitsByState A c under) (λ reply. under ≡ Nothing) → HoldsSomeArea under
+        → (o ≡ None) × FitsByState A c under
+    decided None fits holds = (refl, fits)
+    decided (Some reply) fits holds = absurd (subst HoldsSomeArea fits holds)
+
+-- and where it is an area it isn't everything
+not_whole : (under : Under) → HoldsSomeArea under → under ≢ Whole
+not_whole under holds all = subst HoldsSomeArea all holds
+
+held_alone : (A : List Area) (e : Entry) (B : List Area) → HeldAndReplies A e B → HeldAsMay A e B
+held_alone A e B step = ((step.0.fits, step.1), λ none a simple. not_whole e.under (step.0.area.1 (none, (a, simple))))
 
 -- what workers have played is what `run` says of it
 pub played : (threads : ℕ) (opening : List Area) (lines : List Line) (entries : List Entry) (last : List Area)
     → WerePlayed opening (dealt threads lines) entries last → IsHistoryOf threads opening lines entries last
 played threads opening lines entries last h =
     record {
-      own = λ worker low. turns_are worker (worker_lines threads lines worker) (entries_of worker entries)
+      own = λ worker low. zip_of worker (own_lines threads lines worker) (entries_of worker entries)
           (h.collected.lines worker (worker_lines threads lines worker)
           (numbered_list (worker_lines threads lines) 0 threads worker worker low (omega arith)));
       no_other = workers_below threads entries (λ k above. let count = dealt_length threads lines in h.collected.no_other k (omega arith));
       runs = h.runs;
-      alone = λ worker all. chains_weaker HeldAndReplies HeldAsMay (λ A e B step. ((step.0.fits, step.1), step.0.area)) opening entries last
+      alone = λ worker all. chains_weaker HeldAndReplies HeldAsMay held_alone opening entries last
           (to_last opening entries last (h.alone worker (alone_of worker entries all)) (all_legal opening last entries h.runs).1);
       named = λ k d within. (h.calls k d within, h.replies k d within);
     }

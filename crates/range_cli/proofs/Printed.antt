@@ -36,8 +36,8 @@ use Rattle.range_cli.specs.declared.status.Status.TheVariants.{Done}
 use Rattle.range_cli.specs.declared.trace.Line.{Line}
 use Rattle.std.specs.Io.KnownBytes.{Appends}
 use Rattle.range_cli.specs.Checking.{HasRead}
-use Rattle.range_cli.specs.Dealt.{worker_of, own_lines}
-use Rattle.range_cli.specs.Play.{worker_lines, played_line, IsHistoryOf}
+use Rattle.range_cli.specs.Dealt.{worker_of, own_lines, worker_lines, played_line}
+use Rattle.range_cli.specs.Play.{IsHistoryOf}
 use Rattle.range_cli.specs.Laws.{LogsAreGood, HasGoodLog, LegalFrom}
 use Rattle.range_cli.specs.Report.{LinesRise, asked_log, asked_touched, refused_count, CountsTouched}
 use Rattle.range_cli.specs.Run.{IsReport, Reports, Wrote}

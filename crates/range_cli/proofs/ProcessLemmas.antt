@@ -8,8 +8,7 @@ use Rattle.std.proofs.lemmas.Bool.Decides.{eqb_tells}
 use Rattle.std.specs.BTreeMap.{get}
 use Rattle.std.specs.Ordering.{nat_cmp}
 use Rattle.range_cli.specs.declared.processes.Processes.{Processes}
-use Rattle.range_cli.specs.Script.{index_among, seen_with}
-use Rattle.range_cli.specs.TraceReader.{IsIndexed, one_on, place_among}
+use Rattle.range_cli.specs.TraceReader.{IsIndexed, index_among, one_on, place_among, seen_with}
 
 -- the place, or the next one where there is none
 abbrev place_or : Option ℕ → ℕ → ℕ

@@ -4,8 +4,9 @@ use Rattle.space_model.specs.declared.areas.Area.{Area}
 use Rattle.range_cli.specs.declared.status.EarlyEnd.{EarlyEnd}
 use Rattle.command_words.specs.declared.commands.Options.{Options}
 use Rattle.line_parts.specs.Lines.{lines_of}
-use Rattle.range_cli.specs.Script.{Opens, Begins, start_at}
+use Rattle.range_cli.specs.Script.{Begins, start_at}
 use Rattle.range_cli.specs.Endings.{EndsInput, EndsAt}
+use Rattle.range_cli.specs.TraceReader.{Opens}
 use Rattle.range_cli.specs.Status.{OrMemory}
 
 -- the beginning of an input, by the areas that were read and the texts that are left

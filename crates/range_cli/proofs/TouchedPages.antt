@@ -10,7 +10,14 @@ use Rattle.page_types.specs.declared.calls.Reply.TheVariants.{At, Zero, Granted,
 use Rattle.page_types.specs.Pages.{page_of}
 use Rattle.space_model.specs.declared.entries.Entry.{Entry}
 use Rattle.trace_threads.specs.Touching.{AreTouchedPages, granted_page, granted_pages, page_by}
-use Rattle.range_cli.specs.Report.{CountsTouched, IsGranted}
+use Rattle.page_types.specs.declared.calls.Kind.{Kind}
+use Rattle.page_types.specs.declared.sets.Access.{Access}
+use Rattle.range_cli.specs.Report.{CountsTouched}
+
+-- one of the entries is a fault on this page that was granted
+abbrev IsGranted : List Entry → ℕ → Type 0
+IsGranted entries page = (entry : Entry) × (addr : ℕ) × (access : Access) × (kind : Kind)
+    × Contains entries entry × (entry.call ≡ Fault addr access) × (entry.reply ≡ Granted kind) × (page ≡ page_of addr)
 
 only_one : (x y : ℕ) → Contains (x ∷ []) y → y ≡ x
 only_one x y (zero, low, e) = sym e
@@ -28,29 +35,12 @@ of_call entries e page (Remap addr old new may hint) r there call reply (k, low,
 of_call entries e page (Fault addr access) (At at) there call reply (k, low, is) = absurd (omega (arith, low))
 of_call entries e page (Fault addr access) Zero there call reply (k, low, is) = absurd (omega (arith, low))
 of_call entries e page (Fault addr access) (Refused why) there call reply (k, low, is) = absurd (omega (arith, low))
-of_call entries e page (Fault addr access) (Granted kind) there call reply has = record {
-  entry = e;
-  there = there;
-  addr = addr;
-  access = access;
-  fault = call;
-  kind = kind;
-  granted = reply;
-  is = only_one (page_of addr) page has;
-}
+of_call entries e page (Fault addr access) (Granted kind) there call reply has =
+    (e, addr, access, kind, there, call, reply, only_one (page_of addr) page has)
 
 -- the same of more entries
 with_first : (e : Entry) (es : List Entry) (page : ℕ) → IsGranted es page → IsGranted (e ∷ es) page
-with_first e es page h = record {
-  entry = h.entry;
-  there = Contains-append_right (e ∷ []) es h.entry h.there;
-  addr = h.addr;
-  access = h.access;
-  fault = h.fault;
-  kind = h.kind;
-  granted = h.granted;
-  is = h.is;
-}
+with_first e es page h = (h.0, h.1, h.2, h.3, Contains-append_right (e ∷ []) es h.0 h.4, h.5, h.6, h.7)
 
 to_fault : (entries : List Entry) (page : ℕ) → Contains (granted_pages entries) page → IsGranted entries page
 to_fault [] page (k, low, at) = absurd (omega (arith, low))
@@ -68,8 +58,7 @@ own_page (x ∷ xs) e page (suc k, low, at) has =
     Contains-append_right (granted_page x) (granted_pages xs) page (own_page xs e page (k, omega (arith, low), at) has)
 
 from_fault : (entries : List Entry) (page : ℕ) → IsGranted entries page → Contains (granted_pages entries) page
-from_fault entries page h =
-    own_page entries h.entry page h.there (rw (h.fault, h.granted) (zero, omega arith, sym h.is))
+from_fault entries page h = own_page entries h.0 page h.4 (rw (h.5, h.6) (zero, omega arith, sym h.7))
 
 -- the count of the pages that were touched is that of the pages of granted faults
 pub counts : (entries : List Entry) (pages : List ℕ) (count : ℕ) → AreTouchedPages entries pages → count ≡ length pages → count < 2 ^ 32

@@ -19,9 +19,9 @@ use Rattle.range_cli.specs.declared.status.EarlyEnd.{EarlyEnd}
 use Rattle.range_cli.specs.declared.trace.Line.{Line}
 use Rattle.range_cli.specs.declared.trace.TraceReader.{TraceReader}
 use Rattle.range_cli.specs.Status.{OrMemory}
-use Rattle.range_cli.specs.Script.{TracePosition, start_at, after, taken, lines_by, played_by, seen_by, IsShort, Reads}
-use Rattle.range_cli.specs.Endings.{Ends, EndsAt}
-use Rattle.range_cli.specs.TraceReader.{IsNamedAnswer, IsIndexed, IsFull, StandsAt, Takes}
+use Rattle.range_cli.specs.Script.{TracePosition, start_at, after, taken, lines_by, seen_by, Reads}
+use Rattle.range_cli.specs.Endings.{Ends, EndsAt, IsShort}
+use Rattle.range_cli.specs.TraceReader.{IsNamedAnswer, IsIndexed, IsFull, StandsAt, Takes, played_by}
 use Rattle.range_cli.specs.Script.Reads.{nothing, line}
 use Rattle.range_cli.specs.Endings.EndsAt.{here, later}
 
@@ -92,6 +92,13 @@ is_named base fed text (Kept count) h = tt
 is_named base fed text (Skipped count) h = tt
 is_named base fed text Blank h = tt
 
+-- as many lines are played as an answer counts
+played_are : (stand : TracePosition) (answer : Fed) → length (lines_by stand answer) ≡ played_by answer
+played_are stand (Played pid call recorded count) = refl
+played_are stand (Kept count) = refl
+played_are stand (Skipped count) = refl
+played_are stand Blank = refl
+
 -- the reader that was fed the text, and added its answer, took it
 pub takes_by : (stand : TracePosition) (text : List ℕ) (old new : TraceReader) (answer : Fed) → IsShort text → StandsAt old stand
     → IsAnswer stand.fed text answer → IsFed new.joiner (text ∷ stand.fed)
@@ -100,10 +107,11 @@ pub takes_by : (stand : TracePosition) (text : List ℕ) (old new : TraceReader)
     → length new.lines.items ≡ length old.lines.items + played_by (taken stand answer)
     → length new.lines.items ≤ 1048576 → new.skipped ≡ old.skipped + skipped_by (taken stand answer) → Takes stand text old new
 takes_by stand text old new answer short at is fed base lines indexed len few skipped =
-    let played = at.played in record {
+    let played = at.played in
+    let count = played_are stand (taken stand answer) in record {
       answer = answer;
-      asks = (short, is, omega (arith, played, len, few));
-      stands = record { fed = fed; indexed = indexed; played = omega (arith, played, len); base = sym base };
+      asks = (short, is, omega (arith, played, len, few, count));
+      stands = record { fed = fed; indexed = indexed; played = omega (arith, played, len, count); base = sym base };
       lines = lines;
       skipped = skipped;
     }
@@ -139,7 +147,8 @@ full_ends stand text reader answer base told end short is_base is_told at is (in
     let behind : base ≡ base_behind stand.base answer = is_base ∙ ap (λ (b : ℕ). base_behind b answer) (sym at.base) in
     let one : told ≡ taken stand answer = is_told ∙ ap (λ (b : ℕ). on_base b answer) behind in
     let more = ap played_by one in
-    inr (subst (Ends stand text) (sym h.0) (short, refl, (answer, is, omega (arith, played, h.1, more))))
+    let count = played_are stand (taken stand answer) in
+    inr (subst (Ends stand text) (sym h.0) (short, refl, (answer, is, omega (arith, played, h.1, more, count))))
 
 -- so it does where adding it didn't succeed
 pub stops_on : {X : Type 0} (r : Result X EarlyEnd) (text : List ℕ) (number : ℕ) (reader : TraceReader) (answer : Fed) (base : ℕ) (told : Fed)

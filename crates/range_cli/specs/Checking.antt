@@ -19,14 +19,15 @@ use Rattle.range_cli.specs.declared.status.Status.{Status}
 use Rattle.range_cli.specs.declared.status.Status.TheVariants.{Done, Wrong}
 use Rattle.range_cli.specs.declared.status.Which.{Which}
 use Rattle.range_cli.specs.declared.status.Which.TheVariants.{Input, Line as OfLine, Lines as OfLines, Rows}
+use Rattle.range_cli.specs.declared.trace.TheConstants.{LINE_LIMIT}
 use Rattle.range_cli.specs.ErrorLine.{numbered}
-use Rattle.range_cli.specs.Script.{IsInput, IsShort, Begins}
-use Rattle.range_cli.specs.Endings.{EndsReading, EndsOpening, IsTooLongLine}
+use Rattle.range_cli.specs.Script.{IsInput, Begins}
+use Rattle.range_cli.specs.Endings.{EndsReading, EndsOpening, IsShort, IsTooLongLine}
 
 -- each line is short enough, and no more lines belong to the log than there may be: the lines of the log are the first
 -- ones, as long as they begin as log lines do
 pub record KeepsLimits (lines : List (List ℕ)) : Type 0 where
-  pub short : All IsShort lines
+  pub short : All (λ text. length text ≤ LINE_LIMIT) lines
   pub few : (log rest : List (List ℕ)) → lines ≡ log ++ rest → All BeginsLog log → length log ≤ 1048576
 
 -- which limit a line behind these passes: it is too long, or the first line of the log that is one too many

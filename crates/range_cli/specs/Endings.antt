@@ -1,7 +1,7 @@
 -- How an input ends a run before anything is played, each line behind those before it, which are as Script.antt has
 -- them. The order of refusals is this project's own profile: the lines one after another, and last the rows of the
 -- areas that the input starts with. So an input has at most one early end.
-use Rattle.std.specs.Prelude.{◌≡◌, ℕ, ◌<◌, List, [], length, Option, IfSome, ◌≢◌, ◌⊎◌, ◌+◌, ◌*◌, Bool, true, false, ◌∷◌}
+use Rattle.std.specs.Prelude.{◌≡◌, ℕ, ◌<◌, ◌≤◌, List, [], length, Option, IfSome, ◌≢◌, ◌⊎◌, ◌+◌, ◌*◌, Bool, true, false, ◌∷◌}
 use Rattle.byte_ports.specs.Counts.{Rose}
 use Rattle.command_words.specs.declared.commands.Options.{Options}
 use Rattle.line_parts.specs.Lines.{lines_of}
@@ -15,12 +15,13 @@ use Rattle.strace_reader.specs.declared.item.BadCall.{BadCall}
 use Rattle.strace_reader.specs.declared.joiner.Fed.{Fed}
 use Rattle.strace_reader.specs.declared.maps.MapsItem.{MapsItem}
 use Rattle.strace_reader.specs.declared.maps.MapsItem.TheVariants.{Area as Mapped, Past}
-use Rattle.range_cli.specs.Script.{IsShort, IsInput, Reads, start_at, TracePosition, Asks, after, taken, played_by, map_start, IsNext, Begins}
+use Rattle.range_cli.specs.Script.{IsInput, Reads, start_at, TracePosition, Asks, after, lines_by, taken, map_start, IsNext, Begins}
 use Rattle.range_cli.specs.declared.status.EarlyEnd.{EarlyEnd}
 use Rattle.range_cli.specs.declared.status.EarlyEnd.TheVariants.{Refused, Failed, NoMemory, Above}
 use Rattle.range_cli.specs.declared.status.Which.{Which}
 use Rattle.range_cli.specs.declared.status.Which.TheVariants.{Input, Rows, Line as OfLine, Lines as OfLines}
 use Rattle.range_cli.specs.declared.trace.Line.{Line}
+use Rattle.range_cli.specs.declared.trace.TheConstants.{LINE_LIMIT}
 
 -- ---- while it is read
 
@@ -39,6 +40,10 @@ EndsReading bytes before after (Above OfLines value) = ⊥
 EndsReading bytes before after (Above Rows value) = ⊥
 
 -- ---- by a maps line
+
+-- the line is short enough to be looked at
+abbrev pub IsShort : List ℕ → Type 0
+IsShort text = length text ≤ LINE_LIMIT
 
 -- the line is too long; the value is the first length above the limit
 abbrev pub IsTooLongLine : List ℕ → ℕ → Type 0
@@ -83,7 +88,7 @@ abbrev pub Passes : TracePosition → List ℕ → Which → ℕ → Type 0
 Passes stand text Input value = ⊥
 Passes stand text OfLine value = IsTooLongLine text value
 Passes stand text OfLines value = IsShort text × (value ≡ 1048577)
-    × ((answer : Fed) × IsAnswer stand.fed text answer × (1048576 < stand.played + played_by (taken stand answer)))
+    × ((answer : Fed) × IsAnswer stand.fed text answer × (1048576 < stand.played + length (lines_by stand (taken stand answer))))
 Passes stand text Rows value = ⊥
 
 -- The next line ends the run so. Halves that are refused together have the number of the second, and a column in both.

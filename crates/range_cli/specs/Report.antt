@@ -55,22 +55,12 @@ Differing lines (entry ∷ entries) count =
 abbrev pub asked_log : Options → List Entry → List ℕ
 asked_log options entries = if options.log then log_text entries else []
 
--- one of the entries is a fault on this page that was granted
-pub record IsGranted (entries : List Entry) (page : ℕ) : Type 0 where
-  pub entry : Entry
-  pub there : Contains entries entry
-  pub addr : ℕ
-  pub access : Access
-  pub fault : entry.call ≡ Fault addr access
-  pub kind : Kind
-  pub granted : entry.reply ≡ Granted kind
-  pub is : page ≡ page_of addr
-
 -- so many pages were touched: these are the pages of the faults among the entries that were granted, each counted once
 pub record CountsTouched (entries : List Entry) (count : ℕ) : Type 0 where
   pub pages : List ℕ
   pub rising : AllPairs (λ one other. one < other) pages
-  pub all : (page : ℕ) → Contains pages page ↔ IsGranted entries page
+  pub all : (page : ℕ) → Contains pages page ↔ ((entry : Entry) × (addr : ℕ) × (access : Access) × (kind : Kind)
+      × Contains entries entry × (entry.call ≡ Fault addr access) × (entry.reply ≡ Granted kind) × (page ≡ page_of addr))
   pub counted : count ≡ length pages
   pub narrow : count < 2 ^ 32
 

@@ -1,13 +1,14 @@
 -- What a run of the program says, and why it ends: the sentence that the whole program is proved to keep. Nothing here
 -- speaks of how lines are read or areas are kept. The statuses and their order are this project's own profile; the
 -- definitions below are in two directions, what comes only with its cause and what comes wherever its cause is there.
-use Rattle.std.specs.Prelude.{◌≡◌, ◌⊎◌, ℕ, ◌<◌, ◌≤◌, Bool, true, List, [], length, Option, None, Some, ⊤}
+use Rattle.std.specs.Prelude.{◌≡◌, ◌⊎◌, ℕ, ◌<◌, ◌≤◌, Bool, true, List, [], length, map, Option, None, Some, ⊤}
 use Rattle.std.specs.Io.KnownBytes.{Appends, Keeps}
 use Rattle.byte_ports.specs.Bytes.{AppendsPrefix}
 use Rattle.byte_ports.specs.Counts.{Rose}
 use Rattle.space_model.specs.declared.areas.Area.{Area}
 use Rattle.area_rows.specs.Callers.{ClosedView}
 use Rattle.maps_printer.specs.Lines.{summary_text}
+use Rattle.load_lines.specs.Calls.{drawn_lines}
 use Rattle.command_words.specs.declared.commands.Command.TheVariants.{Play, Load, Check}
 use Rattle.command_words.specs.declared.commands.Options.{Options}
 use Rattle.range_cli.specs.declared.status.EarlyEnd.{EarlyEnd}
@@ -23,7 +24,7 @@ use Rattle.range_cli.specs.Checking.{IsInputVerdict, EndsCheck, verdict_line, ve
 use Rattle.range_cli.specs.ErrorLine.{error_line}
 use Rattle.range_cli.specs.Script.{IsInput, IsScript}
 use Rattle.range_cli.specs.Endings.{IsTooLong, EndsInput}
-use Rattle.range_cli.specs.Play.{lines_of_load, IsHistoryOf}
+use Rattle.range_cli.specs.Play.{line_of, IsHistoryOf}
 use Rattle.range_cli.specs.Report.{report_text, refused_count, CountsTouched, Differing}
 use Rattle.range_cli.specs.Status.{status_of, ending}
 
@@ -59,7 +60,7 @@ pub record Loaded (words : List (List ℕ)) (closed : ClosedView) (report : List
   pub threads : ℕ
   pub calls : ℕ
   pub accepted : AskFor words (Load seed threads calls)
-  pub played : IsHistoryOf threads [] (lines_of_load seed threads calls) closed.entries closed.areas
+  pub played : IsHistoryOf threads [] (map line_of (drawn_lines seed threads calls)) closed.entries closed.areas
   pub text : report ≡ summary_text (length closed.entries) 0 (refused_count closed.entries) 0
 
 -- this is the report of the input or of the load, by that space

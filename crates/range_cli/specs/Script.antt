@@ -3,7 +3,8 @@
 -- becomes of a Brk by the base that the trace told stands in the reader's Playing.antt. The limits, 64 MiB of input,
 -- 65,535 bytes of a line and 1,048,576 played lines, that maps lines come in order, and the index of a process are this
 -- project's own profile. How an input ends a run instead is said in Endings.antt.
-use Rattle.std.specs.Prelude.{◌≡◌, ℕ, ◌≤◌, List, [], length, Option, Some, IfSome, ◌≢◌, ◌+◌, ◌*◌, Bool, true, false, ◌∷◌, ◌++◌, ◌==◌, if◌then◌else◌}
+use Rattle.std.specs.Prelude.{◌≡◌, ℕ, ◌≤◌, List, [], length, Option, Some, IfSome, ◌≢◌, ◌+◌, ◌*◌, Bool, ◌∷◌, ◌++◌, ◌==◌, if◌then◌else◌}
+use Rattle.std.specs.Bool.{MatchBool}
 use Rattle.std.specs.List.{list_any, position_or_len}
 use Rattle.command_words.specs.declared.commands.Options.{Options}
 use Rattle.line_parts.specs.Lines.{lines_of}
@@ -19,6 +20,7 @@ use Rattle.strace_reader.specs.declared.maps.MapsItem.{MapsItem}
 use Rattle.strace_reader.specs.declared.maps.MapsItem.TheVariants.{Area as Mapped, Past}
 use Rattle.range_cli.specs.declared.script.Script.{Script}
 use Rattle.range_cli.specs.declared.trace.Line.{Line}
+use Rattle.range_cli.specs.declared.trace.TheConstants.{LINE_LIMIT}
 
 -- ---- the bytes
 
@@ -26,10 +28,6 @@ use Rattle.range_cli.specs.declared.trace.Line.{Line}
 -- left, and they are no more than it may have
 abbrev pub IsInput : Option (List ℕ) → Option (List ℕ) → List ℕ → Type 0
 IsInput old new bytes = IfSome old (λ known. (known ≡ bytes) × (new ≡ Some [])) × (length bytes ≤ 67108864)
-
--- the line is short enough to be looked at
-abbrev pub IsShort : List ℕ → Type 0
-IsShort text = length text ≤ 65535
 
 -- ---- the maps lines with which an input may begin
 
@@ -40,7 +38,7 @@ map_start (Past start stop) = start
 
 -- behind a line that ends at this address, the text is this maps line
 pub record IsNext (from : ℕ) (text : List ℕ) (item : MapsItem) : Type 0 where
-  pub short : IsShort text
+  pub short : length text ≤ LINE_LIMIT
   pub some : text ≢ []
   pub spells : SpellsMaps text item
   pub in_order : from ≤ map_start item
@@ -57,29 +55,17 @@ pub data ReadsMaps : ℕ → ℕ → List (List ℕ) → List Area → ℕ → �
       IsNext from text (Past start stop) → ReadsMaps (number + 1) stop texts areas past next left →
       ReadsMaps number from (text ∷ texts) areas (1 + past) next left
 
--- how an input begins: with maps lines where they are asked for, else with the trace
-abbrev pub Opens : Bool → List (List ℕ) → List Area → ℕ → ℕ → List (List ℕ) → Type 0
-Opens true texts areas past next left = ReadsMaps 1 0 texts areas past next left
-Opens false texts areas past next left = (areas ≡ []) × (past ≡ 0) × (next ≡ 1) × (left ≡ texts)
-
--- the input begins with these areas, of which so many more lie past the user addresses, and its trace or its log begins
--- at line `next` with the texts that are left
+-- How an input begins: with maps lines where they are asked for, else with its trace or its log. It has these areas, so
+-- many lines more lie past the user addresses, and what follows begins at line `next` with the texts that are left.
 pub record Begins (opening : Bool) (bytes : List ℕ) : Type 0 where
   pub areas : List Area
   pub past : ℕ
   pub next : ℕ
   pub left : List (List ℕ)
-  pub opens : Opens opening (lines_of bytes) areas past next left
+  pub opens : MatchBool opening (ReadsMaps 1 0 (lines_of bytes) areas past next left)
+      ((areas ≡ []) × (past ≡ 0) × (next ≡ 1) × (left ≡ lines_of bytes))
 
 -- ---- the lines of a trace
-
--- a process's index: 0, 1, 2 and so on, as processes first appear; a new one gets the next
-abbrev pub index_among : List ℕ → ℕ → ℕ
-index_among seen pid = position_or_len (λ first. first == pid) seen
-
--- those that were seen, each once, with this one
-abbrev pub seen_with : List ℕ → ℕ → List ℕ
-seen_with seen pid = if list_any (λ first. first == pid) seen then seen else seen ++ pid ∷ []
 
 -- Where the reading of a trace stands: the number of the next line, how many lines are played so far, the texts that
 -- were fed to the joiner, the last one first, the processes of the played calls, each once, the first one first, and
@@ -95,25 +81,18 @@ pub record TracePosition : Type 0 where
 abbrev pub start_at : ℕ → TracePosition
 start_at number = record { number = number; played = 0; fed = []; seen = []; base = 0 }
 
--- how many lines more are played where this becomes of a text
-abbrev pub played_by : Fed → ℕ
-played_by (Played pid call recorded skipped) = 1
-played_by (Kept skipped) = 0
-played_by (Skipped skipped) = 0
-played_by Blank = 0
-
--- the processes of the played calls, with that of an answer
+-- the processes of the played calls, each once, with that of an answer
 abbrev pub seen_by : List ℕ → Fed → List ℕ
-seen_by seen (Played pid call recorded skipped) = seen_with seen pid
+seen_by seen (Played pid call recorded skipped) = if list_any (λ first. first == pid) seen then seen else seen ++ pid ∷ []
 seen_by seen (Kept skipped) = seen
 seen_by seen (Skipped skipped) = seen
 seen_by seen Blank = seen
 
--- The line that is played where this becomes of the next text. It has that text's number, also where the text is a
--- second half.
+-- The line that is played where this becomes of the next text, or none. It has that text's number, also where the text
+-- is a second half. Its process has an index: 0, 1, 2 and so on, as processes first appear; a new one gets the next.
 abbrev pub lines_by : TracePosition → Fed → List Line
 lines_by stand (Played pid call recorded skipped) =
-    record { number = stand.number; process = index_among stand.seen pid; call = call; recorded = recorded } ∷ []
+    record { number = stand.number; process = position_or_len (λ first. first == pid) stand.seen; call = call; recorded = recorded } ∷ []
 lines_by stand (Kept skipped) = []
 lines_by stand (Skipped skipped) = []
 lines_by stand Blank = []
@@ -126,7 +105,7 @@ taken stand answer = on_base (base_behind stand.base answer) answer
 abbrev pub after : TracePosition → List ℕ → Fed → TracePosition
 after stand text answer = record {
   number = stand.number + 1;
-  played = stand.played + played_by (taken stand answer);
+  played = stand.played + length (lines_by stand (taken stand answer));
   fed = text ∷ stand.fed;
   seen = seen_by stand.seen (taken stand answer);
   base = base_behind stand.base answer;
@@ -134,7 +113,8 @@ after stand text answer = record {
 
 -- the next line answers so, and the limits are kept
 abbrev pub Asks : TracePosition → List ℕ → Fed → Type 0
-Asks stand text answer = IsShort text × IsAnswer stand.fed text answer × (stand.played + played_by (taken stand answer) ≤ 1048576)
+Asks stand text answer = (length text ≤ LINE_LIMIT) × IsAnswer stand.fed text answer
+    × (stand.played + length (lines_by stand (taken stand answer)) ≤ 1048576)
 
 -- From where the reading stands, all these lines are read: these are played and so many are skipped. First halves that
 -- are left at the end are skipped too.

@@ -2,8 +2,10 @@
 -- reader of a trace holds where the reading stands at some line: a joiner that was fed the texts before it, the index
 -- of each process that was seen, and the played lines. It ties the code to the definitions of Script.antt, which speak
 -- of texts alone.
-use Rattle.std.specs.Prelude.{◌≡◌, ℕ, ◌<◌, List, [], length, Option, Some, IfSome, ◌⊎◌, ◌+◌, ◌∷◌, ◌++◌, ◌==◌, if◌then◌else◌, None}
+use Rattle.std.specs.Prelude.{◌≡◌, ℕ, ◌<◌, List, [], length, Option, Some, IfSome, ◌⊎◌, ◌+◌, ◌∷◌, ◌++◌, ◌==◌, if◌then◌else◌, None, Bool}
+use Rattle.std.specs.Bool.{MatchBool}
 use Rattle.std.specs.BTreeMap.{get}
+use Rattle.std.specs.List.{list_any, position_or_len}
 use Rattle.std.specs.Ordering.{nat_cmp}
 use Rattle.page_types.specs.Named.{IsNamedCall}
 use Rattle.space_model.specs.declared.areas.Area.{Area}
@@ -13,7 +15,7 @@ use Rattle.strace_reader.specs.declared.joiner.Fed.TheVariants.{Played, Kept, Sk
 use Rattle.strace_reader.specs.declared.maps.MapsItem.{MapsItem}
 use Rattle.strace_reader.specs.declared.maps.MapsItem.TheVariants.{Area as Mapped, Past}
 use Rattle.strace_reader.specs.Playing.{skipped_by}
-use Rattle.range_cli.specs.Script.{TracePosition, Asks, after, lines_by, played_by, taken}
+use Rattle.range_cli.specs.Script.{ReadsMaps, TracePosition, Asks, after, lines_by, taken}
 use Rattle.range_cli.specs.declared.processes.Processes.{Processes}
 use Rattle.range_cli.specs.declared.status.EarlyEnd.{EarlyEnd}
 use Rattle.range_cli.specs.declared.status.EarlyEnd.TheVariants.{NoMemory, Above}
@@ -24,6 +26,11 @@ use Rattle.range_cli.specs.declared.trace.TraceReader.{TraceReader}
 -- the known bytes are all, and none of them is left
 abbrev pub Drains : Option (List ℕ) → Option (List ℕ) → List ℕ → Type 0
 Drains old new all = IfSome old (λ bytes. (bytes ≡ all) × (new ≡ Some []))
+
+-- an input whose lines are these texts begins so, as `Begins` has it
+abbrev pub Opens : Bool → List (List ℕ) → List Area → ℕ → ℕ → List (List ℕ) → Type 0
+Opens opening texts areas past next left =
+    MatchBool opening (ReadsMaps 1 0 texts areas past next left) ((areas ≡ []) × (past ≡ 0) × (next ≡ 1) × (left ≡ texts))
 
 -- the areas with those of one more line
 abbrev pub areas_with : List Area → MapsItem → List Area
@@ -44,6 +51,21 @@ IsNamedAnswer (Played pid call recorded skipped) = IsNamedCall call
 IsNamedAnswer (Kept skipped) = Unit {0}
 IsNamedAnswer (Skipped skipped) = Unit {0}
 IsNamedAnswer Blank = Unit {0}
+
+-- how many lines more are played where this becomes of a text
+abbrev pub played_by : Fed → ℕ
+played_by (Played pid call recorded skipped) = 1
+played_by (Kept skipped) = 0
+played_by (Skipped skipped) = 0
+played_by Blank = 0
+
+-- the index of a process where these were seen, as `lines_by` has it
+abbrev pub index_among : List ℕ → ℕ → ℕ
+index_among seen pid = position_or_len (λ first. first == pid) seen
+
+-- those that were seen with one more, as `seen_by` has them
+abbrev pub seen_with : List ℕ → ℕ → List ℕ
+seen_with seen pid = if list_any (λ first. first == pid) seen then seen else seen ++ pid ∷ []
 
 -- the place before it, counted on by one
 abbrev pub one_on : Option ℕ → Option ℕ

@@ -4,8 +4,7 @@
 ghost use Rattle.std.specs.Prelude.{◌≡◌, ◌<◌, ◌≤◌, ◌+◌, ◌^◌, ◌++◌, ◌∷◌, [], ℕ, List, length, map, vec_items, vec_len, All, IfOk, OnOk};
 ghost use Rattle.page_types.specs.Named.{IsNamedCall};
 ghost use Rattle.range_cli.specs.TraceReader.{IsNamedLine};
-ghost use Rattle.range_cli.specs.Dealt.{worker_of, dealt};
-ghost use Rattle.range_cli.specs.Play.{played_line};
+ghost use Rattle.range_cli.specs.Dealt.{worker_of, dealt, played_line};
 ghost use Rattle.range_cli.specs.declared.trace.TheConstants.{LINES_LIMIT};
 
 use crate::trace::Line;

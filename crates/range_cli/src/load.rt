@@ -3,10 +3,10 @@
 //! each worker having just the lines that were made for it.
 ghost use Rattle.std.specs.Prelude.{◌≡◌, ◌<◌, ◌≤◌, ◌^◌, [], length, map, vec_items, vec_len, All, IfOk};
 ghost use Rattle.load_lines.specs.declared.TheConstants.{SEED_LIMIT, THREADS_LIMIT, CALLS_LIMIT};
-ghost use Rattle.load_lines.specs.Calls.{IsNamedLine as IsNamedMade};
+ghost use Rattle.load_lines.specs.Calls.{IsNamedLine as IsNamedMade, drawn_lines};
 ghost use Rattle.page_types.specs.Named.{IsNamedCall};
 ghost use Rattle.range_cli.specs.Dealt.{dealt};
-ghost use Rattle.range_cli.specs.Play.{line_of, lines_of_load, IsHistoryOf};
+ghost use Rattle.range_cli.specs.Play.{line_of, IsHistoryOf};
 ghost use Rattle.range_cli.specs.TraceReader.{IsNamedLine};
 ghost use Rattle.range_cli.specs.declared.trace.TheConstants.{LINES_LIMIT};
 
@@ -34,7 +34,7 @@ pub fn play_made<R: Threads + Wait + Sync, G: Gate>(
     requires some_threads { 0 < threads }
     requires few_threads { threads ≤ THREADS_LIMIT }
     requires calls { calls ≤ CALLS_LIMIT }
-    ensures played { IfOk result (λ closed. IsHistoryOf threads [] (lines_of_load seed threads calls) closed.entries closed.areas) }
+    ensures played { IfOk result (λ closed. IsHistoryOf threads [] (map line_of (drawn_lines seed threads calls)) closed.entries closed.areas) }
     ensures few { IfOk result (λ closed. length closed.entries ≤ LINES_LIMIT) }
 {
     let lists = lists_of_load(alloc, seed, threads, calls)?;
@@ -52,7 +52,7 @@ fn lists_of_load(
     requires some_threads { 0 < threads }
     requires few_threads { threads ≤ THREADS_LIMIT }
     requires calls { calls ≤ CALLS_LIMIT }
-    ensures dealt { IfOk result (λ all. map vec_items all.items ≡ dealt threads (lines_of_load seed threads calls)) }
+    ensures dealt { IfOk result (λ all. map vec_items all.items ≡ dealt threads (map line_of (drawn_lines seed threads calls))) }
     ensures count { IfOk result (λ all. length all.items ≡ threads) }
     ensures few { IfOk result (λ all. All (λ own. vec_len own < 2 ^ 32) all.items) }
     ensures named { IfOk result (λ all. All (λ own. All (λ line. IsNamedCall line.call) own) (map vec_items all.items)) }

@@ -6,9 +6,9 @@ ghost use Rattle.std.specs.Prelude.{◌≡◌, ◌≢◌, ◌+◌, ◌^◌, ◌<
 ghost use Rattle.space_model.specs.Areas.{HasNamedKinds};
 ghost use Rattle.strace_reader.specs.Maps.{IsNamedMapsItem};
 ghost use Rattle.line_parts.specs.Lines.{lines_of};
-ghost use Rattle.range_cli.specs.Script.{IsNext, Opens, map_start};
+ghost use Rattle.range_cli.specs.Script.{IsNext, map_start};
 ghost use Rattle.range_cli.specs.Endings.{EndsMap, EndsOpening, map_stop};
-ghost use Rattle.range_cli.specs.TraceReader.{areas_with, past_with};
+ghost use Rattle.range_cli.specs.TraceReader.{Opens, areas_with, past_with};
 ghost use Rattle.range_cli.specs.Status.{OrMemory};
 ghost use Rattle.range_cli.specs.declared.input.TheConstants.{INPUT_LIMIT};
 

@@ -4,8 +4,7 @@
 ghost use Rattle.std.specs.Prelude.{◌≡◌, ◌≢◌, ◌+◌, ◌-◌, ◌^◌, ◌<◌, ◌≤◌, List, [], ℕ, Some, IfOk, OnOk, OnErr};
 ghost use Rattle.std.specs.BTreeMap.{get};
 ghost use Rattle.std.specs.Ordering.{nat_cmp};
-ghost use Rattle.range_cli.specs.Script.{index_among, seen_with};
-ghost use Rattle.range_cli.specs.TraceReader.{IsIndexed};
+ghost use Rattle.range_cli.specs.TraceReader.{IsIndexed, index_among, seen_with};
 
 use std::alloc::{AllocError, Global};
 use std::collections::BTreeMap;

@@ -5,9 +5,9 @@
 ghost use Rattle.std.specs.Prelude.{◌≡◌, ◌∷◌, ◌++◌, ◌+◌, ◌-◌, ◌*◌, ◌^◌, ◌<◌, ◌≤◌, [], List, ℕ, length, All, IfOk, IfErr, OnOk};
 ghost use Rattle.line_parts.specs.Lines.{lines_of};
 ghost use Rattle.strace_reader.specs.Playing.{skipped_by};
-ghost use Rattle.range_cli.specs.Script.{TracePosition, Reads, start_at, lines_by, played_by, seen_by};
+ghost use Rattle.range_cli.specs.Script.{TracePosition, Reads, start_at, lines_by, seen_by};
 ghost use Rattle.range_cli.specs.Endings.{Ends, EndsAt};
-ghost use Rattle.range_cli.specs.TraceReader.{IsNamedLine, IsNamedAnswer, IsBefore, IsFull, IsIndexed, StandsAt, Takes};
+ghost use Rattle.range_cli.specs.TraceReader.{IsNamedLine, IsNamedAnswer, IsBefore, IsFull, IsIndexed, StandsAt, Takes, played_by};
 ghost use Rattle.range_cli.specs.Status.{OrMemory};
 ghost use Rattle.range_cli.specs.declared.input.TheConstants.{INPUT_LIMIT};
 

@@ -8,7 +8,8 @@ use Rattle.history_check.proofs.taking.wrong_call.Goals as goal
 -- what the entry held doesn't fit
 pub returns-then-not-may_be : goal.returns-then-not-may_be
 returns-then-not-may_be c before place = (
-  place,
+  place.number,
+  place.order,
   λ fits.
       let told =
       fits_tells _ _ c.in_ok-reply.exact c.args.entry.now.under c.areas-areas.ensures.in_order c.in_ok-reply.ensures.fits c.in_ok-reply.ensures.simple in
@@ -21,7 +22,8 @@ pub returns-then-not-same_reply : goal.returns-then-not-same_reply
 returns-then-not-same_reply c before place =
     let told =
     fits_tells _ _ c.in_ok-reply.exact c.args.entry.now.under c.areas-areas.ensures.in_order c.in_ok-reply.ensures.fits c.in_ok-reply.ensures.simple in (
-      place,
+      place.number,
+      place.order,
       told.0 (c.may_be.ensures.0 c.if-not-may_be.false),
       λ C right.
           let one = one_answer _ _ _ _ _ C c.in_ok-reply.ensures.answer right in

@@ -4,7 +4,8 @@ use Rattle.std.proofs.lemmas.Result.{IfOk-weaker}
 use Rattle.range_cli.specs.declared.trace.Line.{Line}
 use Rattle.range_cli.specs.declared.trace.TheConstants.{LINES_LIMIT}
 use Rattle.range_cli.specs.Dealt.{dealt}
-use Rattle.range_cli.specs.Play.{lines_of_load, IsHistoryOf}
+use Rattle.load_lines.specs.Calls.{drawn_lines}
+use Rattle.range_cli.specs.Play.{line_of, IsHistoryOf}
 use Rattle.range_cli.proofs.LoadLemmas.{load_count}
 use Rattle.range_cli.proofs.PlayLemmas.{as_many}
 use Rattle.range_cli.proofs.load.play_made.Goals as goal
@@ -16,7 +17,7 @@ returns-clause-few g c = IfOk-weaker c.play_lists-2.result
     → IsHistoryOf c.args.threads c.new.result lines closed.entries closed.areas)
     (λ closed. length closed.entries ≤ LINES_LIMIT)
     (λ closed h.
-    let played = h (lines_of_load c.args.seed c.args.threads c.args.calls) c.in_ok-lists.ensures.dealt in
+    let played = h (map line_of (drawn_lines c.args.seed c.args.threads c.args.calls)) c.in_ok-lists.ensures.dealt in
     let many = as_many c.args.threads _ _ c.requires.some_threads played.own played.no_other in
     omega (arith, many, load_count c.args.seed c.args.threads c.args.calls, c.requires.calls))
     c.play_lists-2.ensures
