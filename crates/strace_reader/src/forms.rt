@@ -18,27 +18,29 @@ const DECIMAL: u64 = 10;
 
 const PIDS: u64 = 1 << 32;
 
-pub(crate) fn begins_with(text: &[u8], word: &[u8]) -> bool
+/// Whether the text begins with the word.
+pub fn begins_with(text: &[u8], word: &[u8]) -> bool
     ensures { Decides result (BeginsWith word.now text.now) }
 {
     text.starts_with(word)
 }
 
-pub(crate) fn ends_with(text: &[u8], word: &[u8]) -> bool
+/// Whether the text ends with the word.
+pub fn ends_with(text: &[u8], word: &[u8]) -> bool
     ensures { Decides result (EndsWith word.now text.now) }
 {
     text.ends_with(word)
 }
 
 /// What is left behind a word that the text begins with.
-fn strip_front<'a>(text: &'a [u8], word: &[u8]) -> Option<&'a [u8]>
+pub fn strip_front<'a>(text: &'a [u8], word: &[u8]) -> Option<&'a [u8]>
     ensures { MatchOption result ((rest : List ℕ) → text.now ≢ word.now ++ rest) (λ x. text.now ≡ word.now ++ x.now) }
 {
     text.strip_prefix(word)
 }
 
 /// What is left before a word that the text ends with.
-fn strip_back<'a>(text: &'a [u8], word: &[u8]) -> Option<&'a [u8]>
+pub fn strip_back<'a>(text: &'a [u8], word: &[u8]) -> Option<&'a [u8]>
     ensures { MatchOption result ((front : List ℕ) → text.now ≢ front ++ word.now) (λ x. text.now ≡ x.now ++ word.now) }
 {
     text.strip_suffix(word)
@@ -167,7 +169,7 @@ fn prefix(text: &[u8]) -> Option<(u32, &[u8])>
 }
 
 /// The process of a line, 0 where it has no prefix, and what is left behind the prefix and all its spaces.
-pub(crate) fn cut(text: &[u8]) -> (u32, &[u8])
+pub fn cut(text: &[u8]) -> (u32, &[u8])
     ensures { IsCut text.now result.0 result.1.now }
 {
     match prefix(text) {

@@ -16,6 +16,7 @@ mod maps;
 mod playing;
 mod words;
 
+pub use forms::{begins_with, cut, ends_with, strip_back, strip_front};
 pub use item::{BadCall, Errno, Item, Name, Recorded};
 pub use joiner::{Fed, FeedFault, Joiner};
 pub use laws::{

@@ -1,0 +1,185 @@
+-- The line of two halves is a line of their process: it begins with the first half's number and name.
+use Rattle.std.proofs.Common.{◌≡◌, ℕ, ◌+◌, ◌-◌, List, [], ◌∷◌, ◌++◌, length, take, drop}
+use Rattle.std.proofs.Common.{Bool, false, Option, refl, sym, ap, subst, ◌∙◌, append_assoc, inl, inr, arith}
+use Rattle.std.specs.Prelude.{◌==◌, if◌then◌else◌}
+use Rattle.std.proofs.lemmas.List.{length-append}
+use Rattle.std.proofs.Math.Seq.{take-append_seam, drop-append_seam, take-append-add}
+use Rattle.line_parts.specs.Parts.{starts}
+use Rattle.line_parts.specs.Leaves.{is, EachIs}
+use Rattle.line_parts.proofs.Leaves.{not_both, same_is}
+use Rattle.page_types.specs.declared.calls.Call.{Call}
+use Rattle.strace_reader.specs.declared.item.Item.TheVariants.{Played, Unfinished}
+use Rattle.strace_reader.specs.declared.item.Name.{Name}
+use Rattle.strace_reader.specs.declared.item.Name.TheVariants.{Mmap, Munmap, Mprotect, Fault, Mseal, Brk, Mremap}
+use Rattle.strace_reader.specs.declared.item.Recorded.{Recorded}
+use Rattle.strace_reader.specs.Words.{call_head}
+use Rattle.strace_reader.specs.Grammar.{BeginsWith, IsCut, IsHalf, IsBody, Spells, unfinished}
+use Rattle.strace_reader.proofs.FormFacts.{cut_same}
+use Rattle.raw_lines.specs.Mends.{IsMended}
+use Rattle.raw_lines.proofs.Searches.{isnt}
+use Rattle.raw_lines.proofs.MarkFacts.{each_by}
+use Rattle.raw_lines.proofs.LineFacts.{cut_parts}
+use Rattle.raw_trace.specs.Places.{AreHalves}
+use Rattle.raw_trace.specs.Laws.{ReadCall, IsCallLine}
+use Rattle.raw_trace.proofs.Prefixes.{same_prefix}
+
+-- ---- whose line it is
+
+-- the line of a call is one of its process
+pub played_process : (line : List ℕ) (pid : ℕ) (done : Call) (recorded : Option Recorded) → Spells line (Played pid done recorded)
+    → (body : List ℕ) × IsCut line pid body
+unfolding Spells
+played_process line pid done recorded h = (h.0, h.1)
+
+-- and so is a line that is mended to it
+pub mended_process : (line other : List ℕ) (pid : ℕ) (done : Call) (recorded : Option Recorded) → IsMended line other → Spells other (Played pid done recorded)
+    → (body : List ℕ) × IsCut line pid body
+mended_process line other pid done recorded m s =
+    let p = played_process other pid done recorded s in
+    let one = m.1 in
+    let e = (cut_same other one.0 pid one.2 p.0 one.4 p.1).0 in
+    (one.1, subst (λ (x : ℕ). IsCut line x one.1) e one.3)
+
+-- ---- what is kept of a first half
+
+-- the byte is no space and no beginning of an ending
+abbrev is_head_byte : ℕ → Bool
+is_head_byte b = if b == 32 then false else isnt 60 b
+
+head_bytes : (name : Name) → EachIs is_head_byte (call_head name)
+head_bytes Mmap = each_by is_head_byte (call_head Mmap) refl
+head_bytes Munmap = each_by is_head_byte (call_head Munmap) refl
+head_bytes Mprotect = each_by is_head_byte (call_head Mprotect) refl
+head_bytes Fault = each_by is_head_byte (call_head Fault) refl
+head_bytes Mseal = each_by is_head_byte (call_head Mseal) refl
+head_bytes Brk = each_by is_head_byte (call_head Brk) refl
+head_bytes Mremap = each_by is_head_byte (call_head Mremap) refl
+
+-- a word of bytes that pass a test is not cut by one that fails it
+pub head_within : (test : ℕ → Bool) (word rest half tail : List ℕ) → EachIs test word → starts test tail ≡ false → word ++ rest ≡ half ++ tail
+    → BeginsWith word half
+head_within test [] rest half tail each none e = (half, refl)
+head_within test (b ∷ word) rest [] tail each none e = absurd (not_both (sym (ap (starts test) e) ∙ each.0) none)
+head_within test (b ∷ word) rest (c ∷ half) tail each none e =
+    let k : word ++ rest ≡ half ++ tail = cc in
+    let h : c ≡ b = cc in
+    let w = head_within test word rest half tail each.1 none k in
+    (w.0, ap (λ (x : ℕ). x ∷ half) h ∙ ap (λ (x : List ℕ). b ∷ x) w.1)
+
+ending_starts : (spaces : List ℕ) → EachIs (is 32) spaces → starts is_head_byte (spaces ++ unfinished) ≡ false
+ending_starts [] h = refl
+ending_starts (s ∷ spaces) h = ap is_head_byte (same_is 32 s h.0)
+
+-- what is kept of a first half begins with its name
+half_named : (name : Name) (body half : List ℕ) → BeginsWith (call_head name) body → IsHalf body half → BeginsWith (call_head name) half
+half_named name body half named h =
+    head_within is_head_byte (call_head name) named.0 half (h.spaces ++ unfinished) (head_bytes name) (ending_starts h.spaces h.only_spaces)
+    (sym named.1 ∙ h.parts)
+
+-- the parts of a first half
+pub record FirstParts (line : List ℕ) (process : ℕ) (name : Name) (from to : ℕ) : Type 0 where
+  -- the number with its spaces
+  pub front : List ℕ
+  -- its body
+  pub body : List ℕ
+  -- what is kept of the body
+  pub half : List ℕ
+  pub cut : IsCut line process body
+  pub parts : line ≡ front ++ body
+  pub is_half : IsHalf body half
+  pub named : BeginsWith (call_head name) half
+  -- both are kept of the line
+  pub kept : take to line ≡ front ++ half
+  -- and these bytes are what is kept of the body
+  pub bytes : take (to - from) (drop from line) ≡ half
+
+kept_front : (line front body half tail : List ℕ) (from to : ℕ) → line ≡ front ++ body → body ≡ half ++ tail → from + length body ≡ length line
+    → to ≡ from + length half → take to line ≡ front ++ half
+kept_front line front body half tail from to e k l t =
+    let m = ap length e ∙ length-append front body in
+    let n : to ≡ length front + length half = omega arith in
+    ap (λ (x : ℕ). take x line) n ∙ ap (take (length front + length half)) e ∙ take-append-add front body (length half)
+    ∙ ap (λ (x : List ℕ). front ++ take (length half) x) k ∙ ap (λ (x : List ℕ). front ++ x) (take-append_seam half tail)
+
+kept_bytes : (line front body half tail : List ℕ) (from to : ℕ) → line ≡ front ++ body → body ≡ half ++ tail → from + length body ≡ length line
+    → to ≡ from + length half → take (to - from) (drop from line) ≡ half
+kept_bytes line front body half tail from to e k l t =
+    let m = ap length e ∙ length-append front body in
+    let n : from ≡ length front = omega arith in
+    let o : to - from ≡ length half = omega arith in
+    ap (λ (x : ℕ). take x (drop from line)) o ∙ ap (λ (x : ℕ). take (length half) (drop x line)) n
+    ∙ ap (λ (x : List ℕ). take (length half) (drop (length front) x)) e
+    ∙ ap (take (length half)) (drop-append_seam front body ∙ k) ∙ take-append_seam half tail
+
+-- each first half has them
+pub first_half_parts : (line : List ℕ) (process : ℕ) (name : Name) (from to : ℕ) → Spells line (Unfinished process name from to)
+    → FirstParts line process name from to
+unfolding Spells IsBody
+first_half_parts line process name from to h =
+    let c = cut_parts line process h.0 h.2 in
+    let b = h.3 in
+    let e : to ≡ from + length b.0 = h.5 ∙ ap (λ (x : ℕ). from + x) b.3 in
+    record {
+      front = c.0;
+      body = h.0;
+      half = b.0;
+      cut = h.2;
+      parts = c.1;
+      is_half = b.2;
+      named = half_named name h.0 b.0 b.1 b.2;
+      kept = kept_front line c.0 h.0 b.0 (b.2.spaces ++ unfinished) from to c.1 b.2.parts h.4 e;
+      bytes = kept_bytes line c.0 h.0 b.0 (b.2.spaces ++ unfinished) from to c.1 b.2.parts h.4 e;
+    }
+
+-- ---- the line of two halves
+
+-- the body that two halves make, behind the first one's number
+pub record JoinedParts (process : ℕ) (name : Name) (first second joined : List ℕ) (from to behind : ℕ) : Type 0 where
+  pub front : List ℕ
+  pub first_body : List ℕ
+  pub body : List ℕ
+  pub first_cut : IsCut first process first_body
+  pub first_parts : first ≡ front ++ first_body
+  pub parts : joined ≡ front ++ body
+  pub joins : take (to - from) (drop from first) ++ drop behind second ≡ body
+  pub cut : IsCut joined process body
+  pub named : BeginsWith (call_head name) body
+
+joined_of : (process : ℕ) (name : Name) (first second joined : List ℕ) (from to behind : ℕ) → (p : FirstParts first process name from to)
+    → joined ≡ take to first ++ drop behind second → JoinedParts process name first second joined from to behind
+joined_of process name first second joined from to behind p e =
+    let rest = drop behind second in
+    let named : BeginsWith (call_head name) (p.half ++ rest) =
+    (p.named.0 ++ rest, ap (λ (x : List ℕ). x ++ rest) p.named.1 ∙ append_assoc (call_head name) p.named.0 rest) in
+    let k : joined ≡ p.front ++ (p.half ++ rest) = e ∙ ap (λ (x : List ℕ). x ++ rest) p.kept ∙ append_assoc p.front p.half rest in
+    record {
+      front = p.front;
+      first_body = p.body;
+      body = p.half ++ rest;
+      first_cut = p.cut;
+      first_parts = p.parts;
+      parts = k;
+      joins = ap (λ (x : List ℕ). x ++ rest) p.bytes;
+      cut = subst (λ (x : List ℕ). IsCut x process (p.half ++ rest)) (sym k)
+          (same_prefix first p.front p.body (p.half ++ rest) process name p.cut p.parts named);
+      named = named;
+    }
+
+-- each line of two halves has it
+pub joined_parts : (process : ℕ) (name : Name) (first second joined : List ℕ) → (h : AreHalves process name first second joined)
+    → JoinedParts process name first second joined h.0 h.1 h.2
+joined_parts process name first second joined h =
+    joined_of process name first second joined h.0 h.1 h.2 (first_half_parts first process name h.0 h.1 h.3) h.5
+
+-- a call of two halves is one of their process
+pub joined_process : (process : ℕ) (name : Name) (first second joined : List ℕ) (call : ReadCall) → AreHalves process name first second joined
+    → IsCallLine joined call
+    → call.pid ≡ process
+joined_process process name first second joined call h (inl g) =
+    let j = joined_parts process name first second joined h in
+    let p = played_process joined call.pid call.call call.recorded g.0 in
+    (cut_same joined call.pid process p.0 j.body p.1 j.cut).0
+joined_process process name first second joined call h (inr g) =
+    let j = joined_parts process name first second joined h in
+    let p = mended_process joined g.1 call.pid call.call call.recorded g.4 g.5 in
+    (cut_same joined call.pid process p.0 j.body p.1 j.cut).0

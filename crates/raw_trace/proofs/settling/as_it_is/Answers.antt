@@ -1,0 +1,19 @@
+use Rattle.std.proofs.lemmas.Result.{IfOk-weaker}
+use Rattle.raw_trace.specs.Places.{becomes_itself}
+use Rattle.raw_trace.proofs.Decided.{is_so, is_not}
+use Rattle.raw_trace.proofs.GoodLines.{whole_unread, unread_as}
+use Rattle.raw_trace.proofs.settling.as_it_is.Goals as goal
+
+-- the line stays
+pub returns-then-is_still : goal.returns-then-is_still
+returns-then-is_still c =
+    becomes_itself (c.requires.whole, is_so c.is_still.result c.is_still.ensures c.if-is_still.true, c.requires.short)
+
+-- it doesn't
+pub returns : goal.returns
+returns c =
+    let w = c.requires.whole in
+    IfOk-weaker c.unread.result _ _
+    (λ s e. unread_as c.args.line.now s
+    (whole_unread c.args.line.now w.0 w.1 w.2 (is_not c.is_still.result c.is_still.ensures c.if-is_still.false)) e)
+    c.unread.ensures

@@ -1,0 +1,9 @@
+pub mod Counting
+pub mod Log
+pub mod Numbering
+pub mod Spaces
+pub mod Places
+pub mod Rewriting
+pub mod Laws
+pub mod Faults
+pub mod Stages

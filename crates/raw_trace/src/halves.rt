@@ -1,0 +1,189 @@
+//! Which texts are the halves of one call. A first half waits for the second of its process and name; any other call or
+//! half of that process, and a line of it that is refused, ends the waiting. `IsFirst` and `IsSecond` in
+//! `specs/Places.antt` say it of the texts before and behind.
+
+ghost use Rattle.std.specs.Prelude.{◌≡◌, ◌≤◌, ◌<◌, ◌^◌, ℕ, [], All, length, IfOk};
+ghost use Rattle.std.specs.Prelude.{◌≢◌, ◌⊎◌, ◌+◌, ◌++◌, ◌∷◌, List, Some, None, OnOk, slice_set};
+ghost use Rattle.std.specs.BTreeMap.{get};
+ghost use Rattle.std.specs.Ordering.{nat_cmp};
+ghost use Rattle.raw_trace.specs.Places.{stands_first};
+ghost use Rattle.raw_trace.specs.Stages.{AreRoles, texts};
+
+use crate::line::Line;
+use std::alloc::{AllocError, Global};
+use std::collections::BTreeMap;
+use strace_reader::{Item, Name, cut, read_line};
+
+/// Whether a call of this name is written where its first half stood.
+pub(crate) fn stands_first(name: Name) -> bool
+    ensures { result ≡ stands_first name }
+{
+    name == Name::Munmap
+}
+
+/// What a text is to its other half. Places count texts from 0.
+#[derive(Clone, Copy, PartialEq, Eq, Debug)]
+pub(crate) enum Role {
+    /// No half, or one whose other half isn't there.
+    Alone,
+    /// A first half.
+    First {
+        /// The place of the second half.
+        other: u32,
+        /// How many bytes of the first half are kept.
+        to: u32,
+        /// The first byte of the second half that is kept, counted from 0.
+        behind: u32,
+        /// The call's name.
+        name: Name,
+    },
+    /// A second half.
+    Second {
+        /// The place of the first half.
+        other: u32,
+        /// How many bytes of the first half are kept.
+        to: u32,
+        /// The first byte of the second half that is kept, counted from 0.
+        behind: u32,
+        /// The call's name.
+        name: Name,
+    },
+}
+
+/// A first half that waits for its second.
+#[derive(Clone, Copy)]
+struct Waiting {
+    place: u32,
+    to: u32,
+    name: Name,
+}
+
+/// What is known of the halves so far.
+#[derive(Drop)]
+struct Finder {
+    /// The first half that waits, by process.
+    waiting: BTreeMap<u32, Waiting>,
+    /// What each text so far is to its other half.
+    roles: Vec<Role>,
+}
+
+impl Finder {
+    ghost use Rattle.raw_trace.specs.declared.halves.Waiting.{Waiting as WaitingOf};
+    ghost use Rattle.raw_trace.specs.declared.halves.Role.TheVariants.{Alone, First, Second};
+    ghost use Rattle.raw_trace.specs.Stages.{Finds, FindsRole};
+
+    /// A first half waits for its second from here on.
+    fn wait(&mut self, pid: u32, waiting: Waiting) -> Result<(), AllocError>
+        ensures waits { OnOk result (get nat_cmp self.new.waiting pid ≡ Some waiting) }
+        ensures others { OnOk result ((q : ℕ) → q ≢ pid → get nat_cmp self.new.waiting q ≡ get nat_cmp self.old.waiting q) }
+        ensures roles { self.new.roles ≡ self.old.roles }
+    {
+        match self.waiting.insert(pid, waiting) {
+            Ok(_) => Ok(()),
+            Err(_) => Err(AllocError),
+        }
+    }
+
+    /// What a second half at this place is, and what its first half is then.
+    fn resume(&mut self, pid: u32, name: Name, place: u32, behind: u32) -> Role
+        requires { (first : WaitingOf) → get nat_cmp self.old.waiting pid ≡ Some first → first.place < length self.old.roles.items }
+        ensures found { (((first : WaitingOf) → get nat_cmp self.old.waiting pid ≡ Some first → first.name ≢ name)
+            × (result ≡ Alone) × (self.new.roles.items ≡ self.old.roles.items))
+            ⊎ ((first : WaitingOf) × (get nat_cmp self.old.waiting pid ≡ Some first) × (first.name ≡ name)
+            × (result ≡ Second first.place first.to behind name)
+            × (self.new.roles.items ≡ slice_set self.old.roles.items first.place (First place first.to behind name))) }
+        ensures gone { get nat_cmp self.new.waiting pid ≡ None }
+        ensures others { (q : ℕ) → q ≢ pid → get nat_cmp self.new.waiting q ≡ get nat_cmp self.old.waiting q }
+    {
+        let Some(first) = self.waiting.remove(&pid) else {
+            return Role::Alone;
+        };
+        if first.name != name {
+            return Role::Alone;
+        }
+        let Waiting {
+            place: other,
+            to,
+            ..
+        } = first;
+        self.roles[other as usize] = Role::First {
+            other: place,
+            to,
+            behind,
+            name,
+        };
+        Role::Second {
+            other,
+            to,
+            behind,
+            name,
+        }
+    }
+
+    /// No first half of the process waits from here on.
+    fn forget(&mut self, pid: u32)
+        ensures gone { get nat_cmp self.new.waiting pid ≡ None }
+        ensures others { (q : ℕ) → q ≢ pid → get nat_cmp self.new.waiting q ≡ get nat_cmp self.old.waiting q }
+        ensures roles { self.new.roles ≡ self.old.roles }
+    {
+        self.waiting.remove(&pid);
+    }
+
+    /// What the next text is, which stands at this place, and what waits behind it.
+    fn role_of(&mut self, text: &[u8], place: u32) -> Result<Role, AllocError>
+        requires short { length text.now ≤ 65535 }
+        requires place { place ≡ length self.old.roles.items }
+        requires known { (before : List (List ℕ)) × Finds self.old before }
+        ensures { IfOk result (λ role. (before : List (List ℕ)) → Finds self.old before → FindsRole self.new before text.now role) }
+    {
+        match read_line(text) {
+            Ok(Item::Other) => Ok(Role::Alone),
+            Ok(Item::Blank) => Ok(Role::Alone),
+            Ok(Item::Played { pid, .. }) => {
+                self.forget(pid);
+                Ok(Role::Alone)
+            }
+            Ok(Item::Unfinished { pid, name, to, .. }) => {
+                self.wait(pid, Waiting { place, to, name })?;
+                Ok(Role::Alone)
+            }
+            Ok(Item::Resumed { pid, name, from }) => Ok(self.resume(pid, name, place, from)),
+            Err(_) => {
+                let (pid, _) = cut(text);
+                self.forget(pid);
+                Ok(Role::Alone)
+            }
+        }
+    }
+
+    /// Takes the next text, which stands at this place.
+    fn take(&mut self, text: &[u8], place: u32) -> Result<(), AllocError>
+        requires short { length text.now ≤ 65535 }
+        requires place { place ≡ length self.old.roles.items }
+        requires known { (before : List (List ℕ)) × Finds self.old before }
+        ensures finds { OnOk result ((before : List (List ℕ)) → Finds self.old before → Finds self.new (before ++ (text.now ∷ []))) }
+        ensures one { OnOk result (length self.new.roles.items ≡ length self.old.roles.items + 1) }
+    {
+        let role = self.role_of(text, place)?;
+        self.roles.push(role)?;
+        Ok(())
+    }
+}
+
+/// What each text is to its other half.
+pub(crate) fn roles_of(alloc: Global, lines: &[Line]) -> Result<Vec<Role>, AllocError>
+    requires few { length lines.now < 2 ^ 32 }
+    requires short { All (λ line. length line.text.items ≤ 65535) lines.now }
+    ensures { IfOk result (λ roles. AreRoles [] (texts lines.now) roles.items) }
+{
+    let mut finder = Finder {
+        waiting: BTreeMap::new(alloc),
+        roles: Vec::new(alloc),
+    };
+    let mut place = 0;
+    'lines: for line in lines {
+        finder.take(line.text.as_slice(), place)?;
+        place += 1;
+    }
+    Ok(finder.roles)
+}

@@ -1,0 +1,156 @@
+//! What a line becomes that no other half belongs to: it stays as it is, it is mended, it is written as a call that
+//! never returned, or it bears the mark of an unread line. `Becomes` in `specs/Places.antt` is what it says.
+
+ghost use Rattle.std.specs.Prelude.{◌≡◌, ◌≤◌, ◌++◌, ℕ, length, IfOk};
+ghost use Rattle.std.specs.Bool.{Decides};
+ghost use Rattle.strace_reader.specs.declared.item.Item.{Item as ItemOf};
+ghost use Rattle.strace_reader.specs.declared.item.Item.TheVariants.{Unfinished};
+ghost use Rattle.raw_lines.specs.Mends.{IsWhole};
+ghost use Rattle.strace_reader.specs.declared.item.Name.{Name};
+ghost use Rattle.strace_reader.specs.Grammar.{Spells, Refuses};
+ghost use Rattle.raw_lines.specs.Marks.{unread_text};
+ghost use Rattle.raw_trace.specs.declared.settling.Ending.TheVariants.{AsUnread};
+ghost use Rattle.raw_trace.specs.Faults.{IsCause};
+ghost use Rattle.raw_trace.specs.Places.{IsGood, Becomes};
+ghost use Rattle.raw_trace.specs.Stages.{line_of};
+
+use crate::fault::Cause;
+use raw_lines::{UNREAD_MARK, is_still, mended};
+use std::alloc::{AllocError, Global};
+use strace_reader::{BadCall, Item, read_line};
+
+/// How many bytes a line may have, without its newline.
+pub(crate) const LINE_LIMIT: usize = 65_535;
+
+/// How a line ends up.
+#[derive(Clone, Copy, PartialEq, Eq, Debug)]
+pub enum Ending {
+    /// As it is.
+    AsItIs,
+    /// Mended.
+    ByMends,
+    /// As a call that never returned.
+    AsUnreturned,
+    /// With the mark of an unread line.
+    AsUnread,
+}
+
+/// What a line becomes.
+#[derive(Debug, Drop)]
+pub(crate) struct Settled {
+    /// The line, where it isn't as it was.
+    pub(crate) line: Option<Vec<u8>>,
+    /// How it ended up.
+    pub(crate) ending: Ending,
+}
+
+/// Whether the line is read as a whole, stays so, and is short enough.
+fn is_good(line: &[u8]) -> bool
+    ensures { Decides result (IsGood line.now) }
+{
+    if line.len() > LINE_LIMIT {
+        return false;
+    }
+    match read_line(line) {
+        Ok(Item::Played { .. }) => is_still(line),
+        Ok(Item::Other) => is_still(line),
+        Ok(Item::Blank) => is_still(line),
+        Ok(Item::Unfinished { .. }) => false,
+        Ok(Item::Resumed { .. }) => false,
+        Err(_) => false,
+    }
+}
+
+/// Two texts, one behind the other.
+pub(crate) fn joined(alloc: Global, front: &[u8], back: &[u8]) -> Result<Vec<u8>, AllocError>
+    ensures { IfOk result (λ text. text.items ≡ front.now ++ back.now) }
+{
+    let mut text = Vec::from_slice(alloc, front)?;
+    text.extend_from_slice(back)?;
+    Ok(text)
+}
+
+/// The line with the mark of an unread line.
+fn unread(alloc: Global, line: &[u8]) -> Result<Settled, AllocError>
+    ensures { IfOk result (λ settled. (line_of line.now settled ≡ unread_text line.now) × (settled.ending ≡ AsUnread)) }
+{
+    Ok(Settled {
+        line: Some(joined(alloc, UNREAD_MARK, line)?),
+        ending: Ending::AsUnread,
+    })
+}
+
+/// A first half as a call that never returned, where that is good.
+fn unreturned(alloc: Global, half: &[u8]) -> Result<Settled, AllocError>
+    requires { (process : ℕ) × (name : Name) × (from to : ℕ) × Spells half.now (Unfinished process name from to) }
+    ensures { IfOk result (λ settled. Becomes half.now (line_of half.now settled) settled.ending) }
+{
+    let line = joined(alloc, half, b") = ?")?;
+    if is_good(line.as_slice()) {
+        return Ok(Settled {
+            line: Some(line),
+            ending: Ending::AsUnreturned,
+        });
+    }
+    unread(alloc, half)
+}
+
+/// A refused line with its mends, where they make it good.
+fn by_mends(alloc: Global, line: &[u8], bad: BadCall) -> Result<Settled, AllocError>
+    requires short { length line.now ≤ 65535 }
+    requires refused { Refuses line.now bad }
+    ensures { IfOk result (λ settled. Becomes line.now (line_of line.now settled) settled.ending) }
+{
+    let Some(other) = mended(alloc, line, bad)? else {
+        return unread(alloc, line);
+    };
+    if is_good(other.as_slice()) {
+        return Ok(Settled {
+            line: Some(other),
+            ending: Ending::ByMends,
+        });
+    }
+    unread(alloc, line)
+}
+
+/// A whole line, where it stays as it is.
+fn as_it_is(alloc: Global, line: &[u8]) -> Result<Settled, AllocError>
+    requires short { length line.now ≤ 65535 }
+    requires whole { (item : ItemOf) × Spells line.now item × IsWhole item }
+    ensures { IfOk result (λ settled. Becomes line.now (line_of line.now settled) settled.ending) }
+{
+    if is_still(line) {
+        return Ok(Settled {
+            line: None,
+            ending: Ending::AsItIs,
+        });
+    }
+    unread(alloc, line)
+}
+
+/// What a line becomes.
+pub(crate) fn settle(alloc: Global, line: &[u8]) -> Result<Settled, AllocError>
+    requires { length line.now ≤ 65535 }
+    ensures { IfOk result (λ settled. Becomes line.now (line_of line.now settled) settled.ending) }
+{
+    match read_line(line) {
+        Ok(Item::Unfinished { .. }) => unreturned(alloc, line),
+        Ok(Item::Resumed { .. }) => unread(alloc, line),
+        Ok(Item::Played { .. }) => as_it_is(alloc, line),
+        Ok(Item::Other) => as_it_is(alloc, line),
+        Ok(Item::Blank) => as_it_is(alloc, line),
+        Err(bad) => by_mends(alloc, line, bad),
+    }
+}
+
+/// Why a line is left unread, and at which column.
+pub(crate) fn cause_of(line: &[u8]) -> (u32, Cause)
+    requires { length line.now ≤ 65535 }
+    ensures { IsCause line.now result.0 result.1 }
+{
+    match read_line(line) {
+        Err(bad) => (bad.column, Cause::Form(bad.what)),
+        Ok(Item::Resumed { .. }) => (1, Cause::Alone),
+        Ok(_) => (1, Cause::Unclear),
+    }
+}

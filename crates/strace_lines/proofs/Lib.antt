@@ -1,0 +1,3 @@
+mod Draining
+mod RunLemmas
+mod WordLemmas

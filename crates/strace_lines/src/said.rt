@@ -1,0 +1,202 @@
+//! What a run says on standard error: its counts where it wrote its lines, else why it did not. It takes no memory, so
+//! that it can say that there is none. `said` in `specs/Texts.antt` has the texts.
+
+ghost use Rattle.std.specs.Prelude.{◌≡◌, ◌≤◌, OnOk, OnErr, decimal};
+ghost use Rattle.std.specs.Io.KnownBytes.{Appends};
+ghost use Rattle.byte_ports.specs.Bytes.{AppendsPrefix};
+ghost use Rattle.byte_ports.specs.Counts.{Rose};
+ghost use Rattle.strace_lines.specs.Texts.{said, numbered, count_line, counted_text, changed_text, left_out_text, calls_text, cut_text, counts_text};
+ghost use Rattle.strace_lines.specs.Texts.{cause_text, what_text, unreadable_text};
+
+use crate::status::Status;
+use byte_ports::{Failed, Sink, write_all};
+use raw_trace::{Cause, Counts};
+use strace_reader::What;
+
+/// The line for words that are not accepted.
+const USAGE: &[u8] = b"usage: strace_lines [--strict] [--process N] < raw.log > my.trace\n";
+
+/// Writes a number in decimal.
+fn write_decimal<K: Sink>(err: &mut K, number: u32) -> Result<(), Failed>
+    ensures all { OnOk result (Appends (K.contents err.old) (K.contents err.new) (decimal number)) }
+    ensures failed_prefix { OnErr result (AppendsPrefix (K.contents err.old) (K.contents err.new) (decimal number)) }
+    ensures failed_rose { OnErr result (Rose (K.fault_count err.old) (K.fault_count err.new)) }
+    ensures never_falls { K.fault_count err.old ≤ K.fault_count err.new }
+{
+    let mut buffer = itoa::Buffer::new();
+    write_all(err, buffer.format(number).as_bytes())
+}
+
+/// Writes a number in decimal, with a text before it and one behind it.
+fn write_numbered<K: Sink>(
+    err: &mut K,
+    before: &[u8],
+    number: u32,
+    behind: &[u8],
+) -> Result<(), Failed>
+    ensures all { OnOk result (Appends (K.contents err.old) (K.contents err.new) (numbered before.now number behind.now)) }
+    ensures failed_prefix { OnErr result (AppendsPrefix (K.contents err.old) (K.contents err.new) (numbered before.now number behind.now)) }
+    ensures failed_rose { OnErr result (Rose (K.fault_count err.old) (K.fault_count err.new)) }
+    ensures never_falls { K.fault_count err.old ≤ K.fault_count err.new }
+{
+    write_all(err, before)?;
+    write_decimal(err, number)?;
+    write_all(err, behind)
+}
+
+/// Writes the line of a count.
+fn write_count_line<K: Sink>(err: &mut K, text: &[u8], count: u32) -> Result<(), Failed>
+    ensures all { OnOk result (Appends (K.contents err.old) (K.contents err.new) (count_line text.now count)) }
+    ensures failed_prefix { OnErr result (AppendsPrefix (K.contents err.old) (K.contents err.new) (count_line text.now count)) }
+    ensures failed_rose { OnErr result (Rose (K.fault_count err.old) (K.fault_count err.new)) }
+    ensures never_falls { K.fault_count err.old ≤ K.fault_count err.new }
+{
+    write_all(err, b"strace_lines: ")?;
+    write_all(err, text)?;
+    write_numbered(err, b": ", count, b"\n")
+}
+
+/// Writes the line of a count, where it isn't 0.
+fn write_count<K: Sink>(err: &mut K, text: &[u8], count: u32) -> Result<(), Failed>
+    ensures all { OnOk result (Appends (K.contents err.old) (K.contents err.new) (counted_text text.now count)) }
+    ensures failed_prefix { OnErr result (AppendsPrefix (K.contents err.old) (K.contents err.new) (counted_text text.now count)) }
+    ensures failed_rose { OnErr result (Rose (K.fault_count err.old) (K.fault_count err.new)) }
+    ensures never_falls { K.fault_count err.old ≤ K.fault_count err.new }
+{
+    if count == 0 {
+        Ok(())
+    } else {
+        write_count_line(err, text, count)
+    }
+}
+
+/// Writes how many lines were changed.
+fn write_changed<K: Sink>(err: &mut K, counts: &Counts) -> Result<(), Failed>
+    ensures all { OnOk result (Appends (K.contents err.old) (K.contents err.new) (changed_text counts.now)) }
+    ensures failed_prefix { OnErr result (AppendsPrefix (K.contents err.old) (K.contents err.new) (changed_text counts.now)) }
+    ensures failed_rose { OnErr result (Rose (K.fault_count err.old) (K.fault_count err.new)) }
+    ensures never_falls { K.fault_count err.old ≤ K.fault_count err.new }
+{
+    write_count(err, b"lines without what options add", counts.stripped)?;
+    write_count(err, b"process numbers changed", counts.numbered)
+}
+
+/// Writes how many lines were left out.
+fn write_left_out<K: Sink>(err: &mut K, counts: &Counts) -> Result<(), Failed>
+    ensures all { OnOk result (Appends (K.contents err.old) (K.contents err.new) (left_out_text counts.now)) }
+    ensures failed_prefix { OnErr result (AppendsPrefix (K.contents err.old) (K.contents err.new) (left_out_text counts.now)) }
+    ensures failed_rose { OnErr result (Rose (K.fault_count err.old) (K.fault_count err.new)) }
+    ensures never_falls { K.fault_count err.old ≤ K.fault_count err.new }
+{
+    write_count(err, b"messages of strace left out", counts.messages)?;
+    write_count(err, b"stack lines left out", counts.stack)?;
+    write_count(err, b"lines of other processes left out", counts.elsewhere)
+}
+
+/// Writes what became of calls.
+fn write_calls<K: Sink>(err: &mut K, counts: &Counts) -> Result<(), Failed>
+    ensures all { OnOk result (Appends (K.contents err.old) (K.contents err.new) (calls_text counts.now)) }
+    ensures failed_prefix { OnErr result (AppendsPrefix (K.contents err.old) (K.contents err.new) (calls_text counts.now)) }
+    ensures failed_rose { OnErr result (Rose (K.fault_count err.old) (K.fault_count err.new)) }
+    ensures never_falls { K.fault_count err.old ≤ K.fault_count err.new }
+{
+    write_count(err, b"calls joined", counts.joined)?;
+    write_count(err, b"calls mended", counts.mended)?;
+    write_count(err, b"calls that never returned", counts.unreturned)?;
+    write_count(err, b"lines left unread", counts.unread)
+}
+
+/// Writes that the log ends within a line, where it does.
+fn write_cut<K: Sink>(err: &mut K, ends_cut: bool) -> Result<(), Failed>
+    ensures all { OnOk result (Appends (K.contents err.old) (K.contents err.new) (cut_text ends_cut)) }
+    ensures failed_prefix { OnErr result (AppendsPrefix (K.contents err.old) (K.contents err.new) (cut_text ends_cut)) }
+    ensures failed_rose { OnErr result (Rose (K.fault_count err.old) (K.fault_count err.new)) }
+    ensures never_falls { K.fault_count err.old ≤ K.fault_count err.new }
+{
+    if ends_cut {
+        write_all(err, b"strace_lines: last line cut, left out\n")
+    } else {
+        Ok(())
+    }
+}
+
+/// Writes what was changed and left out.
+fn write_counts<K: Sink>(err: &mut K, counts: &Counts, ends_cut: bool) -> Result<(), Failed>
+    ensures all { OnOk result (Appends (K.contents err.old) (K.contents err.new) (counts_text counts.now ends_cut)) }
+    ensures failed_prefix { OnErr result (AppendsPrefix (K.contents err.old) (K.contents err.new) (counts_text counts.now ends_cut)) }
+    ensures failed_rose { OnErr result (Rose (K.fault_count err.old) (K.fault_count err.new)) }
+    ensures never_falls { K.fault_count err.old ≤ K.fault_count err.new }
+{
+    write_changed(err, counts)?;
+    write_left_out(err, counts)?;
+    write_calls(err, counts)?;
+    write_cut(err, ends_cut)
+}
+
+/// How the line says what was due, with the colon before it and the newline.
+fn due(what: What) -> &'static [u8]
+    ensures { result.now ≡ what_text what }
+{
+    match what {
+        What::Number => b": number expected\n",
+        What::Wide => b": number too wide\n",
+        What::Word => b": word expected\n",
+        What::Comma => b": comma expected\n",
+        What::Close => b": closing parenthesis expected\n",
+        What::Result => b": result expected\n",
+        What::Form => b": no maps line\n",
+        What::Order => b": maps out of order\n",
+    }
+}
+
+/// How the line says why a line can't be read, with the colon before it and the newline.
+fn why(cause: Cause) -> &'static [u8]
+    ensures { result.now ≡ cause_text cause }
+{
+    match cause {
+        Cause::Form(what) => due(what),
+        Cause::Alone => b": second half without its first\n",
+        Cause::Unclear => b": unclear line\n",
+    }
+}
+
+/// Writes the line of a line that can't be read.
+fn write_unreadable<K: Sink>(
+    err: &mut K,
+    line: u32,
+    column: u32,
+    cause: Cause,
+) -> Result<(), Failed>
+    ensures all { OnOk result (Appends (K.contents err.old) (K.contents err.new) (unreadable_text line column cause)) }
+    ensures failed_prefix { OnErr result (AppendsPrefix (K.contents err.old) (K.contents err.new) (unreadable_text line column cause)) }
+    ensures failed_rose { OnErr result (Rose (K.fault_count err.old) (K.fault_count err.new)) }
+{
+    write_numbered(err, b"strace_lines: line ", line, b" column ")?;
+    write_numbered(err, b"", column, why(cause))
+}
+
+/// Writes what a run says that ended so.
+///
+/// `Failed`: the sink failed in this call; some first part was appended.
+#[tactic(auto, unfolding(crate::specs::Texts::said))]
+pub fn say<K: Sink>(err: &mut K, status: &Status) -> Result<(), Failed>
+    ensures all { OnOk result (Appends (K.contents err.old) (K.contents err.new) (said status.now)) }
+    ensures failed_prefix { OnErr result (AppendsPrefix (K.contents err.old) (K.contents err.new) (said status.now)) }
+    ensures failed_rose { OnErr result (Rose (K.fault_count err.old) (K.fault_count err.new)) }
+{
+    match status {
+        Status::Done { counts, ends_cut } => write_counts(err, counts, *ends_cut),
+        Status::Helped => Ok(()),
+        Status::Usage => write_all(err, USAGE),
+        Status::Unreadable {
+            line,
+            column,
+            cause,
+        } => write_unreadable(err, *line, *column, *cause),
+        Status::ReadFault => write_all(err, b"strace_lines: read fault\n"),
+        Status::WriteFault => write_all(err, b"strace_lines: write fault\n"),
+        Status::Memory => write_all(err, b"strace_lines: out of memory\n"),
+        Status::LongInput => write_all(err, b"strace_lines: limit input: 67108865\n"),
+        Status::LongLine => write_all(err, b"strace_lines: limit line: 65536\n"),
+    }
+}
