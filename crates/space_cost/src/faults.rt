@@ -3,7 +3,7 @@
 //! map, an unmap and a protect under everything cost, beside the same change of a `BTreeMap` under a `Mutex`. And what
 //! protects over one area and faults cost that callers make on areas of their own, beside the same on a map. Each
 //! figure is the least of many rounds, so that other work on the machine counts little. Beside that of a fault is that
-//! of the first round: a space reserves memory for its entries without touching it, so the first faults pay for it.
+//! of the first round.
 use crate::alone::{least_of_lookups, times_of_faults};
 use crate::changes::{Sums, least_of_clock, least_of_map, least_of_space};
 use crate::crowd::times_of_crowd;
@@ -32,13 +32,26 @@ pub fn measure_faults<R: Threads + Wait + Sync + Clock + Print + Eprint>(
     }
     measure_crowds(rt, alloc, size)?;
     measure_own(rt, alloc, size)?;
-    for rows in [33u32, 127, 4000] {
-        measure_changes(rt, alloc, size, rows)?;
+    for (rows, at) in [(33u32, 8usize), (127, 31)] {
+        measure_changes(rt, alloc, size, rows, at, "")?;
     }
     println!(rt;
         "faults: {} rounds of {} turns each",
         size.rounds, size.calls
     )?;
+    Ok(())
+}
+
+/// Changes and plans over 4000 rows, in the middle and near the end, and a line that says how much was measured.
+pub fn measure_rows<R: Wait + Clock + Print + Eprint>(
+    rt: &R,
+    alloc: Global,
+    size: Size,
+) -> Result<()> {
+    for (at, place) in [(1000usize, ""), (1996, " near the end")] {
+        measure_changes(rt, alloc, size, 4000, at, place)?;
+    }
+    println!(rt; "rows: {} rounds of {} turns each", size.rounds, size.calls)?;
     Ok(())
 }
 
@@ -122,23 +135,30 @@ fn measure_own<R: Threads + Wait + Sync + Clock + Eprint>(
     Ok(())
 }
 
-/// Changes and plans of one caller over so many rows, and the same changes of a map.
+/// Changes and plans of one caller over so many rows, at the area of that number, and the same changes of a map.
 fn measure_changes<R: Wait + Clock + Eprint>(
     rt: &R,
     alloc: Global,
     size: Size,
     rows: u32,
+    at: usize,
+    place: &str,
 ) -> Result<()> {
-    let (list, lo) = spaced_areas(alloc, rows)?;
+    let list = spaced_areas(alloc, rows)?;
+    let Some(area) = list.get(at) else {
+        bail!("no area");
+    };
+    let lo = area.lo;
+    ensure!(lo < 1 << 40, "no area of the table");
     let start = space_of(alloc, &list)?;
     ensure!(start.rows() == rows, "not so many rows");
     let map = Mutex::new(map_of(alloc, &list)?);
     let clock = least_of_clock(rt, size)?;
     let space = least_of_space(rt, size, alloc, &start, lo)?;
     let locked = least_of_map(rt, size, &map, lo)?;
-    print_changes(rt, size, rows, clock, space, locked)?;
+    print_changes(rt, size, rows, place, clock, space, locked)?;
     let plan = least_of_plans(rt, size, alloc, &start, lo)?;
-    eprintln!(rt; "rows {rows}, a plan: {} ns", size.each(plan))?;
+    eprintln!(rt; "rows {rows}{place}, a plan: {} ns", size.each(plan))?;
     Ok(())
 }
 
@@ -147,6 +167,7 @@ fn print_changes<R: Eprint>(
     rt: &R,
     size: Size,
     rows: u32,
+    place: &str,
     clock: u64,
     space: Sums,
     locked: Sums,
@@ -163,7 +184,7 @@ fn print_changes<R: Eprint>(
         let ours = space[i].saturating_sub(clock);
         let others = locked[i].saturating_sub(clock);
         eprintln!(rt;
-            "rows {rows}, {name}: {} ns, {} percent of the same change of a BTreeMap ({} ns)",
+            "rows {rows}{place}, {name}: {} ns, {} percent of the same change of a BTreeMap ({} ns)",
             size.each(ours),
             percent(ours, others),
             size.each(others)

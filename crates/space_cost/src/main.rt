@@ -4,10 +4,10 @@
 //! call draws a number and its entry is kept. A time is that of playing alone, the least of several rounds. Times go to
 //! standard error, since they differ from run to run; standard output says how many calls were played and how many of
 //! them refused, on which all agree. The word `full` plays 1,048,576 calls of `load` and `pager` a round, the word
-//! `areas` as many on 300 to 600 areas. The word `faults` measures single faults, changes and plans, and `history` how
-//! long `legal` takes to judge as many entries. The word `tables` measures faults and unmaps over as many rows as there
-//! may be, `openings` what opening and closing a space takes, and `hold` is a run whose memory is looked at from
-//! outside. Without a word each is measured with a few thousand calls.
+//! `areas` as many on 300 to 600 areas. The word `faults` measures single faults, changes and plans, `rows` changes and
+//! plans over 4000 rows, and `history` how long `legal` takes to judge as many entries. The word `tables` measures
+//! faults and unmaps over as many rows as there may be, `openings` what opening and closing a space takes, and `hold`
+//! is a run whose memory is looked at from outside. Without a word each is measured with a few thousand calls.
 #![tactic(auto)]
 
 ghost use Rattle.std.specs.Prelude.{◌≤◌};
@@ -30,7 +30,7 @@ mod tables;
 mod watch;
 
 use anyhow::{Result, bail};
-use faults::measure_faults;
+use faults::{measure_faults, measure_rows};
 use history::measure_history;
 use openings::{hold_open, measure_openings};
 use rounds::{Times, least_of_plain, times_of};
@@ -49,15 +49,17 @@ fn main(rt: HostRuntime) -> Result<()> {
         Some(word) if word.as_str() == "full" => measure_threads(&rt, rt.alloc(), Size::FULL),
         Some(word) if word.as_str() == "areas" => measure_areas(&rt, rt.alloc(), Size::FULL),
         Some(word) if word.as_str() == "faults" => measure_faults(&rt, rt.alloc(), Size::TURNS),
+        Some(word) if word.as_str() == "rows" => measure_rows(&rt, rt.alloc(), Size::TURNS),
         Some(word) if word.as_str() == "history" => measure_history(&rt, rt.alloc(), Size::FULL),
         Some(word) if word.as_str() == "tables" => measure_tables(&rt, rt.alloc(), Size::TURNS),
         Some(word) if word.as_str() == "openings" => measure_openings(&rt, rt.alloc(), Size::TURNS),
         Some(word) if word.as_str() == "hold" => hold_open(&rt, rt.alloc()),
-        Some(_) => bail!("usage: space_cost [full|areas|faults|history|tables|openings|hold]"),
+        Some(_) => bail!("usage: space_cost [full|areas|faults|rows|history|tables|openings|hold]"),
         None => {
             measure_threads(&rt, rt.alloc(), Size::SMALL)?;
             measure_areas(&rt, rt.alloc(), Size::SMALL)?;
             measure_faults(&rt, rt.alloc(), Size::FEW_TURNS)?;
+            measure_rows(&rt, rt.alloc(), Size::FEW_TURNS)?;
             measure_history(&rt, rt.alloc(), Size::SMALL)?;
             measure_tables(&rt, rt.alloc(), Size::FEW_TURNS)?;
             measure_openings(&rt, rt.alloc(), Size::FEW_TURNS)

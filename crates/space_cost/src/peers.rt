@@ -1,9 +1,10 @@
 //! Rounds of workers that play their lines on a map of areas under a lock, each on a thread of its own. Each call's
-//! entry is kept, in room that is taken before the clock starts.
+//! entry is kept, in room that is taken and touched before the clock starts, as that of a space is.
 
 use crate::rounds::{Played, count_refused};
 use crate::watch::Watch;
 use anyhow::Result;
+use page_types::{Call, Reply};
 use space_model::{Entry, Under};
 use std::alloc::{AllocError, Global};
 use std::sync::Wait;
@@ -24,12 +25,28 @@ pub struct MapWorker {
     entries: Vec<Entry>,
 }
 
+/// Room for so many entries, which is touched here.
+fn room_for_entries(alloc: Global, count: usize) -> Result<Vec<Entry>, AllocError> {
+    let blank = Entry {
+        number: 0,
+        worker: 0,
+        line: 0,
+        call: Call::Unmap { addr: 0, len: 0 },
+        reply: Reply::Zero,
+        under: Under::Nothing,
+    };
+    let mut room = Vec::with_capacity(alloc, count)?;
+    room.resize(count, blank)?;
+    room.clear();
+    Ok(room)
+}
+
 /// The workers of these lines, each with room for its entries.
 pub fn map_workers(alloc: Global, lists: Vec<Vec<Line>>) -> Result<Vec<MapWorker>, AllocError> {
     let mut workers = Vec::with_capacity(alloc, lists.len())?;
     let mut number = 0;
     for lines in lists {
-        let entries = Vec::with_capacity(alloc, lines.len())?;
+        let entries = room_for_entries(alloc, lines.len())?;
         workers.push(MapWorker {
             number,
             lines,

@@ -1,7 +1,5 @@
 //! The areas that faults and changes are measured on: readable, with gaps between them. And the space of one thread
 //! that has given areas.
-ghost use Rattle.std.specs.Prelude.{◌<◌, ◌^◌, IfOk};
-
 use anyhow::{Result, ensure};
 use page_types::{Kind, Prot};
 use space_model::{Area, PlainSpace, have_named_kinds};
@@ -29,11 +27,9 @@ pub fn single_pages(alloc: Global, count: u32) -> result::Result<Vec<Area>, Allo
     Ok(list)
 }
 
-/// Areas of three readable pages each, with gaps of one page between them, so many that areas and gaps are `rows`; and
-/// the first page of the one in the middle. Where `rows` is even the first area begins at page 0.
-pub fn spaced_areas(alloc: Global, rows: u32) -> result::Result<(Vec<Area>, u64), AllocError>
-    ensures { IfOk result (λ r. r.1 < 2 ^ 40) }
-{
+/// Areas of three readable pages each, with gaps of one page between them, so many that areas and gaps are `rows`.
+/// Where `rows` is even the first area begins at page 0.
+pub fn spaced_areas(alloc: Global, rows: u32) -> result::Result<Vec<Area>, AllocError> {
     let first = if rows % 2 == 0 { 0 } else { FIRST };
     let mut list = Vec::new(alloc);
     for i in 0..rows / 2 {
@@ -48,7 +44,7 @@ pub fn spaced_areas(alloc: Global, rows: u32) -> result::Result<(Vec<Area>, u64)
             },
         })?;
     }
-    Ok((list, first + 4 * u64::from(rows / 4)))
+    Ok(list)
 }
 
 /// The space of one thread with these areas.

@@ -49,7 +49,7 @@ pub fn measure_tables<R: Wait + Clock + Print + Eprint>(
 
 /// The least time of a round of faults of one caller on the last area, over so many rows.
 fn least_over<R: Wait + Clock>(rt: &R, alloc: Global, size: Size, rows: u32) -> Result<u64> {
-    let (list, _) = spaced_areas(alloc, rows)?;
+    let list = spaced_areas(alloc, rows)?;
     let Some(last) = list.last() else {
         bail!("no areas");
     };
@@ -62,7 +62,7 @@ fn least_over<R: Wait + Clock>(rt: &R, alloc: Global, size: Size, rows: u32) -> 
 
 /// An unmap at three places of a table with nearly as many rows as there may be, and the same of a map.
 fn measure_places<R: Wait + Clock + Eprint>(rt: &R, alloc: Global, size: Size) -> Result<()> {
-    let (list, _) = spaced_areas(alloc, ROWS_TO_SPLIT)?;
+    let list = spaced_areas(alloc, ROWS_TO_SPLIT)?;
     let start = space_of(alloc, &list)?;
     ensure!(start.rows() == ROWS_TO_SPLIT, "not so many rows");
     let map = Mutex::new(map_of(alloc, &list)?);
