@@ -1,105 +1,256 @@
--- A step on a client word keeps the table's rule by the guard's law of steps alone: it leaves the lock's words and the
--- views of the lock as they are.
-use Rattle.std.proofs.Common.{◌≡◌, ℕ, ◌+◌, ◌-◌, ◌<◌, List, [], ◌∷◌, map, drop, get_or, set, length, sym, refl, ap, ◌∙◌, subst, arith}
+-- A step on a client word keeps the table's rule by the guard's law of steps alone: it leaves the words of all lists
+-- and the views of the lists as they are.
+use Rattle.std.proofs.Common.{◌≡◌, ◌≢◌, ℕ, ◌+◌, ◌-◌, ◌*◌, ◌<◌, ◌≤◌, List, [], ◌∷◌, map, take, drop, get_or, set, length, sym, refl, ap, ◌∙◌}
+use Rattle.std.proofs.Common.{subst, arith, ⊎_elim}
 use Rattle.std.proofs.lemmas.List.{map-set, take-set-le, drop-set-add, get_or-drop, length-drop}
 use mathlib.Core.Option.{some}
 use lib.ListN.{get_elem?}
 use Rattle.atomic_table.specs.Table.{Me, keeps, stepped, Allows}
-use Rattle.atomic_table.specs.Seated.{TableId}
-use Rattle.atomic_table.proofs.Lists.{set_again, at_map}
+use Rattle.atomic_table.proofs.Lists.{set_again, at_map, at_set}
 use Rattle.lock_core.specs.Grants.{Grants}
-use Rattle.lock_core.specs.Client.{ClientStep, place_of, words_after, Moment, IsAllowed}
+use Rattle.list_cuts.specs.Cut.{Regions, list_count}
+use Rattle.lock_core.specs.Client.{ClientStep, place_of, words_after, Moment, IsAllowed, IsMade}
+use Rattle.lock_core.specs.declared.range.Held.{Held}
 use Rattle.lock_core.specs.declared.views.View.{View}
 use Rattle.lock_core.specs.Words.{word_count}
-use Rattle.lock_core.specs.Machine.{Machine, held_at, held_by_seat}
+use Rattle.lock_core.specs.Machine.{held_at}
+use Rattle.list_cuts.proofs.Cutting.{overlaps_meet_law}
 use Rattle.lock_laws.specs.Laws.{IsLock}
-use Rattle.lock_laws.proofs.Exclusion.{exclusive}
+use Rattle.epoch_pools.specs.declared.views.SeatLists.{SeatLists}
 use Rattle.epoch_pools.specs.declared.views.SeatPart.{SeatPart}
+use Rattle.epoch_pools.specs.declared.views.Beside.{Beside}
 use Rattle.epoch_pools.specs.declared.views.ListView.{ListView}
-use Rattle.epoch_pools.specs.Running.{core_of, pass_of, view, machine, IsRunningList, client_part, client_play}
-use Rattle.epoch_pools.specs.Hands.{HandState, IsTable, part_in}
+use Rattle.epoch_pools.specs.Standings.{counted_of}
+use Rattle.epoch_pools.specs.Beside.{core_at, held_in, grant_in, inner_pass, shown, shown_grant}
+use Rattle.epoch_pools.specs.Running.{IsCutBy, takes_in, cores_of, pass_of, grants_in, view, AreLocks, IsRunningList}
+use Rattle.epoch_pools.specs.Running.{client_lists, client_part, IsClientPlay}
+use Rattle.epoch_pools.specs.Hands.{IsTable, IsSeatOf, cut_of, part_in, shown_of}
 use Rattle.epoch_pools.proofs.Placing.{part_here, placed}
+use Rattle.epoch_pools.proofs.Slices.{further}
+use Rattle.epoch_pools.proofs.Turning.{core_shown}
+use Rattle.epoch_pools.proofs.Counting.{counts_exclude}
 
-module _ {P N : Type 0} (seats clients : ℕ) (holds : Grants → List ℕ → List P → Type 0) (allows : Grants → List ℕ → List P → ℕ
+-- the lists of a cut are such that ranges in conflict take one in common
+pub cut_by : (c : Regions) → 0 < c.count → IsCutBy (list_count c) (takes_in c)
+cut_by c more g h range_g range_h conflict =
+    let m = overlaps_meet_law c g.range h.range more range_g range_h conflict.0 in (m.list, m.there, m.left, m.right)
+
+-- what a hand shows of what counts is what counts
+pub grant_shown : {P : Type 0} (lists i : ℕ) (w : SeatLists P) → shown_grant (shown lists i w) ≡ grant_in lists w
+grant_shown lists i w = ap (counted_of lists w.standing) (λ k j. held_at (core_shown lists i w j k).own)
+
+-- where a seat's views and standing stay, and the words of all lists, the lists' rule does
+pub locks_stay : {P : Type 0} (lists seats : ℕ) (takes : Held → ℕ → Type 0) (words words' : List ℕ) (parts : List (SeatLists P)) (n : ℕ) (w q : SeatLists P)
+    → AreLocks lists seats takes words parts → get_elem? parts n ≡ some w → q.cores ≡ w.cores → q.standing ≡ w.standing
+    → ((i : ℕ) → i < lists → take (word_count seats) (drop (i * word_count seats) words) ≡ take (word_count seats) (drop (i * word_count seats) words'))
+    → AreLocks lists seats takes words' (set parts n q)
+locks_stay {P} lists seats takes words words' parts n w q r here cores standing same =
+    let all : map cores_of (set parts n q) ≡ map cores_of parts = map-set cores_of parts n q
+    ∙ (ap (set (map cores_of parts) n) cores ∙ set_again (map cores_of parts) n w.cores (at_map cores_of parts n w here)) in
+    record {
+      many = λ k x there. ⊎_elim
+          (λ (t : (k ≡ n) × (q ≡ x)). ap (λ (y : SeatLists P). length y.cores) (sym t.1) ∙ (ap (λ (l : List View). length l) cores ∙ r.many n w here))
+          (λ (t : (k ≢ n) × (get_elem? parts k ≡ some x)). r.many k x t.1)
+          (at_set parts n k q x there);
+      locks = λ i less. subst IsLock (λ k. record { seats = seats; words = same i less k; views = map (core_at i) (sym all k) }) (r.locks i less);
+      narrow_one = λ k i x there is. ⊎_elim
+          (λ (t : (k ≡ n) × (q ≡ x)).
+          let one = r.narrow_one n i w here (sym standing ∙ (ap (λ (y : SeatLists P). y.standing) t.1 ∙ is)) in
+          record {
+            there = one.there;
+            range = one.range;
+            held = held_same i x t.1 ∙ one.held;
+            only = one.only;
+          })
+          (λ (t : (k ≢ n) × (get_elem? parts k ≡ some x)). r.narrow_one k i x t.1 is)
+          (at_set parts n k q x there);
+      wide_one = λ k p x there is. ⊎_elim
+          (λ (t : (k ≡ n) × (q ≡ x)).
+          let one = r.wide_one n p w here (sym standing ∙ (ap (λ (y : SeatLists P). y.standing) t.1 ∙ is)) in
+          record { first = one.first; most = one.most; range = one.range; held = held_same 0 x t.1 ∙ one.held })
+          (λ (t : (k ≢ n) × (get_elem? parts k ≡ some x)). r.wide_one k p x t.1 is)
+          (at_set parts n k q x there);
+      passed = λ a b i p x y g h differ at_a at_b narrow_a wide_b below held_a held_b.
+          let u = was a x at_a in let v = was b y at_b in
+          r.passed a b i p u.0 v.0 g h differ u.1 v.1 (u.2 ∙ narrow_a) (v.2 ∙ wide_b) below (u.3 i ∙ held_a) (v.3 0 ∙ held_b);
+    }
+  where
+    held_same : (i : ℕ) (x : SeatLists P) → q ≡ x → held_in x i ≡ held_in w i
+    held_same i x e = ap (λ (y : SeatLists P). held_in y i) (sym e) ∙ ap (λ (l : List View). held_at (core_at i l).own) cores
+
+    -- what a part was before
+    was : (k : ℕ) (x : SeatLists P) → get_elem? (set parts n q) k ≡ some x
+        → (u : SeatLists P) × (get_elem? parts k ≡ some u) × (u.standing ≡ x.standing) × ((i : ℕ) → held_in u i ≡ held_in x i)
+    was k x there = ⊎_elim
+        (λ (t : (k ≡ n) × (q ≡ x)). (
+          w,
+          ap (get_elem? parts) t.0 ∙ here,
+          sym standing ∙ ap (λ (y : SeatLists P). y.standing) t.1,
+          λ i. sym (held_same i x t.1),
+        ))
+        (λ (t : (k ≢ n) × (get_elem? parts k ≡ some x)). (x, t.1, refl, λ i. refl))
+        (at_set parts n k q x there)
+
+-- the words of a list stay where a word behind all lists changes
+words_before : (n a base place : ℕ) (words : List ℕ) (value : ℕ) → a + n ≤ base → take n (drop a words) ≡ take n (drop a (set words (base + place) value))
+words_before n a base place words value le =
+    let at : base + place ≡ a + ((base - a) + place) = omega arith in
+    sym (ap (λ k. take n (drop a (set words k value))) at
+    ∙ (ap (take n) (drop-set-add a words ((base - a) + place) value) ∙ take-set-le n (drop a words) ((base - a) + place) value (omega arith)))
+
+module _ {P N : Type 0} (begin : P) (c : Regions) (seats clients : ℕ) (holds : Grants → List ℕ → List P → Type 0) (allows : Grants → List ℕ → List P → ℕ
     → ClientStep → N → P → Type 0) (note : N)
     (law : (grants : Grants) (words : List ℕ) (passes : List P) (seat : ℕ) (step : ClientStep) (note : N) (after : P)
     → holds grants words passes → allows grants words passes seat step note after
     → holds grants (words_after words step) (set passes seat after)) where
   -- one case for all client steps; f says what the step makes of the word
-  pub client_keeps : (step : ClientStep) (f : ℕ → ℕ) (slots id : ℕ) (me : Me (Unit {0}) (ListView P)) (p : SeatPart P) (word : ℕ)
+  pub client_keeps : (lists i : ℕ) (step : ClientStep) (f : ℕ → ℕ) (slots id : ℕ) (me : Me (Unit {0}) (ListView P)) (w : SeatLists P) (word : ℕ)
       (then : ℕ → Me (Unit {0}) (ListView P) → Type 0)
-      → me.0 ≡ view (p ∷ []) → word ≡ word_count seats + place_of step → place_of step < clients
+      → me.0 ≡ view (w ∷ []) → length w.cores ≡ lists → word ≡ list_count c * word_count seats + place_of step → place_of step < clients
       → ((words : List ℕ) → words_after words step ≡ set words (place_of step) (f (get_or words (place_of step) 0)))
-      → IsAllowed holds allows note p.number (held_at p.core.own) p.pass step
-      → ((found : ℕ) (me' : Me (Unit {0}) (ListView P)) → client_play holds allows note step me found me' → then found me')
-      → Allows (IsRunningList seats clients holds) slots id me word f then
-  client_keeps step f slots id me p word then is word_is below changes allowed told s running _ at small =
+      → IsAllowed holds allows note w.number (shown_grant (shown lists i w)) w.pass step
+      → ((found : ℕ) (me' : Me (Unit {0}) (ListView P)) → IsClientPlay begin holds allows note lists i step me found me' → then found me')
+      → Allows (IsRunningList c seats clients holds) slots id me word f then
+  client_keeps lists i step f slots id me w word then is full word_is below changes allowed told s running _ at small =
       let parts = running.0 in let owner = running.1 in let r = running.2 in
-      let base = word_count seats in let i = place_of step in
+      let base : ℕ = list_count c * word_count seats in let place = place_of step in
       let words = drop base s.words in
-      let at' : get_elem? s.views id ≡ some (view (p ∷ [])) = at ∙ ap some is in
-      let here = part_here seats clients holds s parts owner r id p at' in
-      let m : Machine = machine seats s.words parts in
-      let grants : Grants = held_by_seat m in let passes = map pass_of parts in
-      let core_here = at_map core_of parts p.number p here in
-      let y : ℕ = get_or words i 0 in
-      let found : get_or s.words word 0 ≡ y = ap (λ k. get_or s.words k 0) word_is ∙ sym (get_or-drop base s.words i 0) in
-      let moment : Moment holds p.number (held_at p.core.own) p.pass grants words passes =
+      let at' : get_elem? s.views id ≡ some (view (w ∷ [])) = at ∙ ap some is in
+      let here = part_here c seats clients holds s parts owner r id w at' in
+      let same : lists ≡ list_count c = sym full ∙ r.lists_are.apart.many w.number w here in
+      let grants : Grants = grants_in (list_count c) parts in let passes = map pass_of parts in
+      let y : ℕ = get_or words place 0 in
+      let found : get_or s.words word 0 ≡ y = ap (λ k. get_or s.words k 0) word_is ∙ sym (get_or-drop base s.words place 0) in
+      let grant : shown_grant (shown lists i w) ≡ grant_in (list_count c) w = grant_shown lists i w ∙ ap (λ k. grant_in k w) same in
+      let moment : Moment holds w.number (shown_grant (shown lists i w)) w.pass grants words passes =
       record {
-        met = r.guard;
-        exclusive = exclusive m r.lock;
-        grant = at_map (λ (v : View). held_at v.own) m.views p.number p.core core_here;
-        own = at_map pass_of parts p.number p here;
+        met = r.lists_are.guard;
+        exclusive = counts_exclude (list_count c) seats (takes_in c) s.words parts r.lists_are.apart (cut_by c r.cut);
+        grant = at_map (grant_in (list_count c)) parts w.number w here ∙ ap some (sym grant);
+        own = at_map pass_of parts w.number w here;
       } in
       let wide : length words ≡ clients = let w = r.wide in length-drop base s.words ∙ omega arith in
       let small' : y < 18446744073709551616 = subst (λ (n : ℕ). n < 18446744073709551616) found small in
       let t = allowed grants words passes moment (omega arith) small' in
-      let q : SeatPart P = client_part p i t.0 in
-      let same : m ≡ machine seats (set s.words (base + i) (f y)) (set parts p.number q) =
-      λ k. record {
-        seats = seats;
-        words = sym (take-set-le base s.words (base + i) (f y) (omega arith)) k;
-        views = (sym (set_again m.views p.number p.core core_here) ∙ sym (map-set core_of parts p.number q)) k;
-      } in (
+      let q : SeatLists P = client_lists w place t.0 in
+      let stay : (j : ℕ) → j < list_count c → take (word_count seats) (drop (j * word_count seats) s.words)
+      ≡ take (word_count seats) (drop (j * word_count seats) (set s.words (base + place) (f y))) = λ j less.
+      words_before (word_count seats) (j * word_count seats) base place s.words (f y) (further j (list_count c) (word_count seats) less) in
+      let apart : AreLocks (list_count c) seats (takes_in c) (set s.words (base + place) (f y)) (set parts w.number q) =
+      locks_stay (list_count c) seats (takes_in c) s.words (set s.words (base + place) (f y)) parts w.number w q r.lists_are.apart here refl refl stay in
+      let grants_now : grants ≡ grants_in (list_count c) (set parts w.number q) =
+      sym (set_again grants w.number (grant_in (list_count c) w) (at_map (grant_in (list_count c)) parts w.number w here))
+      ∙ sym (map-set (grant_in (list_count c)) parts w.number q) in
+      let part : part_in begin me.0.parts ≡ w = ap (λ (v : ListView P). part_in begin v.parts) is in (
         view (q ∷ []),
         keeps,
         tt,
-        subst (λ (z : ℕ × ℕ). IsRunningList seats clients holds (stepped s z.0 (f z.1) id me.1 (view (q ∷ [])) keeps)) (λ k. (sym word_is k, sym found k))
-            (placed seats clients holds s parts owner r (base + i) (f y) id me.1 p q at' refl refl
-            (subst IsLock same r.lock)
-            (subst (λ (z : Machine × (List ℕ × List P)). holds (held_by_seat z.0) z.1.0 z.1.1)
-            (λ k. (
-              same k,
-              (
-                (changes words ∙ sym (drop-set-add base s.words i (f y))) k,
-                sym (map-set pass_of parts p.number q) k,
-              ),
-            ))
-            (law grants words passes p.number step note t.0 r.guard t.1))),
-        told (get_or s.words word 0) (view (q ∷ []), me.1) (p, t.0, is, refl, refl, (grants, words, passes, moment, sym found, t.1)),
+        subst (λ (z : ℕ × ℕ). IsRunningList c seats clients holds (stepped s z.0 (f z.1) id me.1 (view (q ∷ [])) keeps)) (λ k. (sym word_is k, sym found k))
+            (placed c seats clients holds s parts owner r (base + place) (f y) id me.1 w q at' refl refl
+            (record {
+              apart = apart;
+              guard = subst (λ (z : Grants × (List ℕ × List P)). holds z.0 z.1.0 z.1.1)
+                  (λ k. (grants_now k, ((changes words ∙ sym (drop-set-add base s.words place (f y))) k, sym (map-set pass_of parts w.number q) k)))
+                  (law grants words passes w.number step note t.0 r.lists_are.guard t.1);
+            })),
+        told (get_or s.words word 0) (view (q ∷ []), me.1) (record {
+          left = record { slots = refl; one = refl; full = ap (λ (x : SeatLists P). length x.cores) (sym part) };
+          pass = t.0;
+          shows = ap (λ (x : SeatLists P). shown lists i (client_lists x place t.0)) (sym part);
+          made = subst (λ (x : SeatLists P). IsMade holds allows note (shown lists i x).number (shown_grant (shown lists i x)) x.pass step
+              (get_or s.words word 0) t.0)
+              (sym part) (grants, words, passes, moment, sym found, t.1);
+        }),
       )
 
-  -- the same for a store, which doesn't say what it found
-  pub client_stores : (step : ClientStep) (value slots id : ℕ) (me : Me (Unit {0}) (ListView P)) (p : SeatPart P) (word : ℕ)
-      → me.0 ≡ view (p ∷ []) → word ≡ word_count seats + place_of step → place_of step < clients
+  -- the same for a token, with the names that the call has
+  pub token_client : (number many lists i first words play_lists play_list : ℕ) (step : ClientStep) (f : ℕ → ℕ) (slots id : ℕ) (me : Me (Unit {0}) (ListView P))
+      (p : SeatPart (Beside P)) (word : ℕ) (then : ℕ → Me (Unit {0}) (ListView P) → Type 0)
+      → me.0.parts ≡ part_in begin me.0.parts ∷ [] → IsSeatOf (part_in begin me.0.parts) number many lists i first words → shown_of begin lists i me.0.parts ≡ p
+      → play_lists ≡ p.pass.lists → play_list ≡ p.pass.list → word ≡ list_count c * word_count seats + place_of step → place_of step < clients
+      → ((words : List ℕ) → words_after words step ≡ set words (place_of step) (f (get_or words (place_of step) 0)))
+      → IsAllowed holds allows note p.number (shown_grant p) (inner_pass p) step
+      → ((found : ℕ) (me' : Me (Unit {0}) (ListView P)) → IsClientPlay begin holds allows note play_lists play_list step me found me' → then found me')
+      → Allows (IsRunningList c seats clients holds) slots id me word f then
+  token_client number many lists i first words play_lists play_list step f slots id me p word then one seat_of is lists_are list_is word_is below changes
+      allowed told =
+      let a : play_lists ≡ lists = lists_are ∙ ap (λ (x : SeatPart (Beside P)). x.pass.lists) (sym is) in
+      let b : play_list ≡ i = list_is ∙ ap (λ (x : SeatPart (Beside P)). x.pass.list) (sym is) in
+      client_keeps play_lists play_list step f slots id me (part_in begin me.0.parts) word then (ap view one) (seat_of.full ∙ sym a) word_is below changes
+      (subst (λ (x : SeatPart (Beside P)). IsAllowed holds allows note x.number (shown_grant x) (inner_pass x) step)
+      (sym ((λ k. shown_of begin (a k) (b k) me.0.parts) ∙ is)) allowed) told
+
+  -- the same for a store, which tells that there was a value and not which
+  pub token_stores : (number many lists i first words play_lists play_list : ℕ) (step : ClientStep) (value slots id : ℕ) (me : Me (Unit {0}) (ListView P))
+      (p : SeatPart (Beside P)) (word : ℕ)
+      → me.0.parts ≡ part_in begin me.0.parts ∷ [] → IsSeatOf (part_in begin me.0.parts) number many lists i first words → shown_of begin lists i me.0.parts ≡ p
+      → play_lists ≡ p.pass.lists → play_list ≡ p.pass.list → word ≡ list_count c * word_count seats + place_of step → place_of step < clients
       → ((words : List ℕ) → words_after words step ≡ set words (place_of step) value)
-      → IsAllowed holds allows note p.number (held_at p.core.own) p.pass step
-      → Allows (IsRunningList seats clients holds) slots id me word (λ _. value) (λ _ me'. (found : ℕ) × client_play holds allows note step me found me')
-  client_stores step value slots id me p word is word_is below changes allowed =
-      client_keeps step (λ _. value) slots id me p word (λ _ me'. (found : ℕ) × client_play holds allows note step me found me')
-      is word_is below changes allowed (λ found me' told. (found, told))
+      → IsAllowed holds allows note p.number (shown_grant p) (inner_pass p) step
+      → Allows (IsRunningList c seats clients holds) slots id me word (λ _. value)
+      (λ _ me'. (found : ℕ) × IsClientPlay begin holds allows note play_lists play_list step me found me')
+  token_stores number many lists i first words play_lists play_list step value slots id me p word one seat_of is lists_are list_is word_is below changes
+      allowed =
+      token_client number many lists i first words play_lists play_list step (λ _. value) slots id me p word
+      (λ _ me'. (found : ℕ) × IsClientPlay begin holds allows note play_lists play_list step me found me')
+      one seat_of is lists_are list_is word_is below changes allowed (λ found me' told. (found, told))
+
+module _ {P N : Type 0} (begin : P) (holds : Grants → List ℕ → List P → Type 0) (allows : Grants → List ℕ → List P → ℕ → ClientStep → N → P → Type 0) (note : N)
+    (play_lists play_list : ℕ) (step : ClientStep) (found : ℕ) (me me' : Me (Unit {0}) (ListView P))
+    (play : IsClientPlay begin holds allows note play_lists play_list step me found me') where
+  module _ (lists i : ℕ) (p : SeatPart (Beside P)) (is : shown_of begin lists i me.0.parts ≡ p) (lists_are : play_lists ≡ p.pass.lists)
+      (list_is : play_list ≡ p.pass.list) where
+    same_lists_are : play_lists ≡ lists
+    same_lists_are = lists_are ∙ ap (λ (x : SeatPart (Beside P)). x.pass.lists) (sym is)
+
+    same_list_is : play_list ≡ i
+    same_list_is = list_is ∙ ap (λ (x : SeatPart (Beside P)). x.pass.list) (sym is)
+
+    shown_is : shown_of begin play_lists play_list me.0.parts ≡ p
+    shown_is = (λ k. shown_of begin (same_lists_are k) (same_list_is k) me.0.parts) ∙ is
+
+    now_is : shown_of begin play_lists play_list me'.0.parts ≡ shown_of begin lists i me'.0.parts
+    now_is = λ k. shown_of begin (same_lists_are k) (same_list_is k) me'.0.parts
+
+    after_is : shown_of begin lists i me'.0.parts ≡ client_part p (place_of step) play.pass
+    after_is = sym now_is ∙ (play.shows ∙ ap (λ (x : SeatPart (Beside P)). client_part x (place_of step) play.pass) shown_is)
+
+    -- what a token shows after a step on a client word
+    pub client_shown : (place : ℕ) → place_of step ≡ place
+        → shown_of begin lists i me'.0.parts ≡ client_part p place (inner_pass (shown_of begin lists i me'.0.parts))
+    client_shown place at = after_is ∙ (λ k. client_part p (at k) (ap inner_pass (sym after_is) k))
+
+    -- and at which moment it was made
+    pub client_made : IsMade holds allows note p.number (shown_grant p) (inner_pass p) step found (inner_pass (shown_of begin lists i me'.0.parts))
+    client_made = subst (λ (z : SeatPart (Beside P) × P). IsMade holds allows note z.0.number (shown_grant z.0) (inner_pass z.0) step found z.1)
+        (λ k. (shown_is k, ap inner_pass (sym after_is) k)) play.made
+
+  -- the token is of the same seat still
+  pub client_seat : (number many lists list first words words' : ℕ) → IsSeatOf (part_in begin me.0.parts) number many lists list first words → words' ≡ words
+      → IsSeatOf (part_in begin me'.0.parts) number many lists list first words'
+  client_seat number many lists list first words words' s same = record {
+    number_is = ap (λ (x : SeatPart (Beside P)). x.number) play.shows ∙ s.number_is;
+    seats_are = ap (λ (x : SeatPart (Beside P)). x.seats) play.shows ∙ s.seats_are;
+    there = s.there;
+    few = s.few;
+    full = play.left.full ∙ s.full;
+    within = s.within;
+    most = s.most;
+    begins = s.begins;
+    low = s.low;
+    words_there = subst (λ n. lists * word_count many ≤ n) (sym same) s.words_there;
+  }
 
 -- the word of a client step in the table that the call has
-pub client_place : (key_seats key_words words slots seats client : ℕ) → IsTable key_seats key_words words slots seats client
-    → (seats' client' i word place : ℕ) → seats ≡ seats' → client ≡ client' → place ≡ i → i < client' → word ≡ word_count seats' + i
-    → (word < words) × (word ≡ word_count key_seats + place) × (place < key_words - word_count key_seats)
-client_place key_seats key_words words slots seats client t seats' client' i word place same_seats same_client is below at =
-    let a = t.same_seats in let b = t.same_words in let w = t.wide in
-    let key : word_count key_seats ≡ word_count seats = ap word_count a in
-    let now : word_count seats ≡ word_count seats' = ap word_count same_seats in
+pub client_place : (shares : List ℕ) (key_seats key_words words slots : ℕ) (cut : Regions) (seats client : ℕ)
+    → IsTable shares key_seats key_words words slots cut seats client
+    → (cut' : Regions) (seats' client' i word place : ℕ) → cut ≡ cut' → seats ≡ seats' → client ≡ client' → place ≡ i → i < client'
+    → word ≡ list_count cut' * word_count seats' + i
+    → (word < words) × (word ≡ list_count (cut_of shares) * word_count key_seats + place)
+    × (place < key_words - list_count (cut_of shares) * word_count key_seats)
+client_place shares key_seats key_words words slots cut seats client t cut' seats' client' i word place same_cut same_seats same_client is below at =
+    let b = t.same_words in let w = t.wide in
+    let key : list_count (cut_of shares) * word_count key_seats ≡ list_count cut * word_count seats =
+    λ k. list_count (t.same_cut k) * word_count (t.same_seats k) in
+    let now : list_count cut * word_count seats ≡ list_count cut' * word_count seats' = λ k. list_count (same_cut k) * word_count (same_seats k) in
     (omega arith, at ∙ (λ j. sym (key ∙ now) j + sym is j), omega (arith, ap (λ k. key_words - k) key))
-
--- what a proof sees of a token: its one part is the one that contracts see
-pub one_part : {P : Type 0} (pass : P) (parts : List (SeatPart P)) (id : TableId) (now : HandState P) → parts ≡ part_in pass parts ∷ []
-    → record { table = id; part = part_in pass parts } ≡ now → view parts ≡ view (now.part ∷ [])
-one_part pass parts id now one is = ap view (one ∙ ap (λ s. s.part ∷ []) is)

@@ -1,16 +1,18 @@
--- Every kind of lock step keeps the table's rule: the core part by the law of `lock_laws` for every step, the guard
--- part by `Granting`. One lemma serves all eighteen kinds, and names none but Mark, whose addition has no carry.
-use Rattle.std.proofs.Common.{◌≡◌, ℕ, ◌%◌, ◌<◌, ◌≤◌, true, false, Bool, List, [], ◌∷◌, map, take, drop, get_or, set, sym, refl, ap, ◌∙◌, subst, arith}
+-- Every kind of lock step in every list keeps the table's rule: the list's machine by the law of `lock_laws` for every
+-- step, the other lists since their words and views stay, and the guard by what counts before and after. One lemma
+-- serves all eighteen kinds, and names none but Mark, whose addition has no carry.
+use Rattle.std.proofs.Common.{◌≡◌, ◌≢◌, ℕ, ◌+◌, ◌*◌, ◌%◌, ◌<◌, ◌≤◌, true, false, Bool, List, [], ◌∷◌, map, get_or, set, length, sym, refl, ap}
+use Rattle.std.proofs.Common.{◌∙◌, subst, arith}
+use Rattle.std.proofs.Common.{inl, inr, ⊎_elim, length-set, eqb-true}
 use Rattle.std.specs.Prelude.{slice_get, slice_index, Some, None, if◌then◌else◌}
 use prog.Atomic.{either}
-use lib.Seq.{take-set-lt}
-use Rattle.std.proofs.lemmas.List.{map-set, drop-set-lt, get_or-take}
 use mathlib.Core.Option.{some}
 use lib.ListN.{get_elem?}
 use Rattle.atomic_table.specs.Table.{Me, keeps, Allows}
 use Rattle.atomic_table.specs.Seated.{TableId}
 use Rattle.atomic_table.proofs.Lists.{at_map}
 use Rattle.lock_core.specs.Grants.{Grants, IsFree}
+use Rattle.list_cuts.specs.Cut.{Regions, list_count}
 use Rattle.lock_core.specs.declared.range.Held.{Held}
 use Rattle.lock_core.specs.declared.views.View.{View}
 use Rattle.lock_core.specs.declared.steps.Step.{Step}
@@ -18,117 +20,252 @@ use Rattle.lock_core.specs.declared.steps.Step.TheVariants.{Mark}
 use Rattle.lock_core.specs.Words.{word_count}
 use Rattle.lock_core.specs.StepTable.{Plan, IsLine, mark}
 use Rattle.lock_core.specs.Sizes.{IsViewSound, bound_node}
-use Rattle.lock_core.specs.Machine.{Machine, plan, after, carried_out, held_by_seat}
-use Rattle.lock_core.proofs.ByPlace.{to_get}
-use Rattle.lock_core.proofs.ByView.{new_view}
+use Rattle.lock_core.specs.Machine.{Machine, plan, after}
 use Rattle.lock_core.proofs.Enabled.{is_planned}
-use Rattle.lock_core.proofs.Table.{given-is, line_of_plan}
+use Rattle.lock_core.proofs.Table.{line_of_plan}
 use Rattle.lock_laws.specs.Laws.{IsLock}
 use Rattle.lock_laws.proofs.Running.{every_step_keeps}
 use Rattle.lock_laws.proofs.Sound.{view_sound}
+use Rattle.epoch_pools.specs.declared.views.SeatLists.{SeatLists}
 use Rattle.epoch_pools.specs.declared.views.SeatPart.{SeatPart}
+use Rattle.epoch_pools.specs.declared.views.Beside.{Beside}
 use Rattle.epoch_pools.specs.declared.views.ListView.{ListView}
-use Rattle.epoch_pools.specs.Running.{core_of, pass_of, view, machine, line_for, Enables, MayRest, part_after, lock_play, IsRunningList}
+use Rattle.epoch_pools.specs.declared.views.Standing.{Standing}
+use Rattle.epoch_pools.specs.declared.views.Standing.TheVariants.{Free, Narrow, Wide}
+use Rattle.epoch_pools.specs.Standings.{is_here}
+use Rattle.epoch_pools.specs.Beside.{core_at, held_in, shown, given_back, may_give_back}
+use Rattle.epoch_pools.specs.Hands.{part_in, shown_of, IsSeatOf}
+use Rattle.epoch_pools.specs.Running.{machine_at, takes_in, cores_of, AreLocks, AreLists, view, line_in, lists_after, line_for, Enables, MayRest}
+use Rattle.epoch_pools.specs.Running.{part_after, Told}
+use Rattle.epoch_pools.specs.Running.{IsLockPlay, IsRunningList}
 use Rattle.epoch_pools.proofs.Placing.{part_here, placed}
-use Rattle.epoch_pools.proofs.Granting.{guard_after, held_kept}
+use Rattle.epoch_pools.proofs.Frames as frames
+use Rattle.epoch_pools.proofs.Slices.{further}
+use Rattle.epoch_pools.proofs.Keeping.{MayRestIn, on_or_gone, lists_kept}
+use Rattle.epoch_pools.proofs.Showing.{step_shows, rests_in}
 
 -- the own next word of a linked node has no mark
 even_mark : (m : Machine) (s : ℕ) (v : View) (p : Plan) → IsLock m → slice_get m.views s ≡ Some v → IsLine m.seats s v Mark p
     → slice_index m.words p.place % 2 ≡ 0
 even_mark m s v p l at (mark k own) = l.sized.even s v at k.node (ap bound_node own)
 
-module _ {P : Type 0} (seats clients : ℕ) (holds : Grants → List ℕ → List P → Type 0) (rested : P → P) (is_at_rest : P → Type 0)
+-- what counts in list i is held there
+pub here_held : {P : Type 0} {lists seats : ℕ} {takes : Held → ℕ → Type 0} {words : List ℕ} {parts : List (SeatLists P)}
+    → AreLocks lists seats takes words parts
+    → (n i : ℕ) (w : SeatLists P) → get_elem? parts n ≡ some w → is_here w.standing i ≡ true → held_in w i ≢ None
+here_held r n i w here = by_standing w.standing refl
+  where
+    nothing_held : (h : Held) → Some h ≡ None → ⊥
+    nothing_held h e = absurd (cc)
+
+    by_standing : (s : Standing) → w.standing ≡ s → is_here w.standing i ≡ true → held_in w i ≢ None
+    by_standing Free e is none = absurd (let x : ◌≡◌ {A = Bool} false true = ap (λ (s : Standing). is_here s i) (sym e) ∙ is in cc)
+    by_standing (Narrow j) e is none =
+        let one = r.narrow_one n j w here e in
+        let at : i ≡ j = eqb-true i j (ap (λ (s : Standing). is_here s i) (sym e) ∙ is) in
+        nothing_held one.range (sym one.held ∙ (ap (held_in w) (sym at) ∙ none))
+    by_standing (Wide p) e is none =
+        let one = r.wide_one n p w here e in
+        let at : i ≡ 0 = eqb-true i 0 (ap (λ (s : Standing). is_here s i) (sym e) ∙ is) in
+        nothing_held one.range (sym one.held ∙ (ap (held_in w) (sym at) ∙ none))
+
+module _ {P : Type 0} (begin : P) (c : Regions) (seats clients : ℕ) (holds : Grants → List ℕ → List P → Type 0) (rested : P → P) (is_at_rest : P → Type 0)
     (gains : (grants : Grants) (words : List ℕ) (passes : List P) (seat : ℕ) (h : Held) → holds grants words passes
     → get_elem? grants seat ≡ some None → IsFree grants seat h → holds (set grants seat (Some h)) words passes)
     (loses : (grants : Grants) (words : List ℕ) (passes : List P) (seat : ℕ) (pass : P) → holds grants words passes
     → get_elem? passes seat ≡ some pass → is_at_rest pass
     → holds (set grants seat None) words (set passes seat (rested pass))) where
-  -- one case for all lock steps; f says what the operation makes of the word
-  pub lock_keeps : (step : Step) (f : ℕ → ℕ) (slots id : ℕ) (me : Me (Unit {0}) (ListView P)) (p : SeatPart P) → me.0 ≡ view (p ∷ [])
-      → Enables p step → MayRest is_at_rest p step
-      → (line_for p step).place < word_count p.seats
-      → ((w : ℕ) → w < 18446744073709551616 → (step ≡ Mark → w % 2 ≡ 0) → f w ≡ (line_for p step).write w)
-      → Allows (IsRunningList seats clients holds) slots id me (line_for p step).place f (lock_play rested seats step me)
-  lock_keeps step f slots id me p is may rests low writes s running _ at small =
+  -- one case for all lock steps in all lists; f says what the operation makes of the word
+  pub lock_keeps : (lists i : ℕ) (step : Step) (f : ℕ → ℕ) (slots id : ℕ) (me : Me (Unit {0}) (ListView P)) (w : SeatLists P) → me.0 ≡ view (w ∷ [])
+      → length w.cores ≡ lists → i < lists
+      → Enables (shown lists i w) step → MayRest (may_give_back is_at_rest) (shown lists i w) step
+      → (line_for (shown lists i w) step).place < word_count w.seats
+      → ((n : ℕ) → n < 18446744073709551616 → (step ≡ Mark → n % 2 ≡ 0) → f n ≡ (line_for (shown lists i w) step).write n)
+      → Allows (IsRunningList c seats clients holds) slots id me (i * word_count seats + (line_for (shown lists i w) step).place) f
+      (IsLockPlay begin rested lists i seats step me)
+  lock_keeps lists i step f slots id me w is full less may rests low writes s running _ at small =
       let parts = running.0 in let owner = running.1 in let r = running.2 in
-      let base = word_count seats in
-      let m : Machine = machine seats s.words parts in
-      let at' : get_elem? s.views id ≡ some (view (p ∷ [])) = at ∙ ap some is in
-      let here = part_here seats clients holds s parts owner r id p at' in
-      let many : p.seats ≡ seats = r.same p.number p here in
-      let seen : slice_get m.views p.number ≡ Some p.core = to_get m.views p.number p.core (at_map core_of parts p.number p here) in
-      let line : Plan = line_for p step in
-      let enabled : plan seats p.number p.core step ≡ Some line =
-      subst (λ n. plan n p.number p.core step ≡ Some line) many (is_planned p.seats p.number p.core step may) in
-      let lt : line.place < base = subst (λ n. line.place < word_count n) many low in
-      let next : Machine = carried_out m p.number line in
-      let e : after m p.number step ≡ Some next = given-is _ _ p.core _ seen (given-is _ _ line _ enabled refl) in
-      let lock : IsLock next = every_step_keeps step m next p.number r.lock e in
-      let y : ℕ = get_or s.words line.place 0 in
-      let found : get_or m.words line.place 0 ≡ y = get_or-take base s.words line.place 0 lt in
+      let all : List (List View) = map cores_of parts in
+      let base : ℕ = word_count seats in
+      let at' : get_elem? s.views id ≡ some (view (w ∷ [])) = at ∙ ap some is in
+      let here = part_here c seats clients holds s parts owner r id w at' in
+      let many : w.seats ≡ seats = r.same w.number w here in
+      let same : lists ≡ list_count c = sym full ∙ r.lists_are.apart.many w.number w here in
+      let less' : i < list_count c = omega arith in
+      let full' : length w.cores ≡ list_count c = full ∙ same in
+      let line : Plan = line_in w i step in
+      let place : ℕ = i * base + line.place in
+      let low' : line.place < base = subst (λ n. line.place < word_count n) many low in
+      let enabled : plan seats w.number (core_at i w.cores) step ≡ Some line =
+      subst (λ n. plan n w.number (core_at i w.cores) step ≡ Some line) many (is_planned w.seats w.number (core_at i w.cores) step may) in
+      let here_all : get_elem? all w.number ≡ some w.cores = at_map cores_of parts w.number w here in
+      let locks = r.lists_are.apart.locks in
+      let m : Machine = machine_at i seats s.words all in
+      let next : Machine = frames.next (list_count c) seats s.words all w.number i w.cores step line locks here_all full' less' enabled low' in
+      let seen : slice_get m.views w.number ≡ Some (core_at i w.cores) =
+      frames.seen (list_count c) seats s.words all w.number i w.cores step line locks here_all full' less' enabled low' in
+      let e : after m w.number step ≡ Some next =
+      frames.stepped (list_count c) seats s.words all w.number i w.cores step line locks here_all full' less' enabled low' in
+      let lock : IsLock next = every_step_keeps step m next w.number (locks i less') e in
+      let y : ℕ = get_or s.words place 0 in
+      let found : get_or m.words line.place 0 ≡ y =
+      frames.found_is (list_count c) seats s.words all w.number i w.cores step line locks here_all full' less' enabled low' in
+      let now : View = line.view y in
+      let seen_now : slice_get next.views w.number ≡ Some now =
+      frames.seen_next (list_count c) seats s.words all w.number i w.cores step line locks here_all full' less' enabled low' in
       let even : step ≡ Mark → y % 2 ≡ 0 = λ q. ap (λ n. n % 2) (sym found)
-      ∙ even_mark m p.number p.core line r.lock seen
-      (subst (λ st. IsLine seats p.number p.core st line) q (line_of_plan seats p.number p.core step line enabled)) in
+      ∙ even_mark m w.number (core_at i w.cores) line (locks i less') seen
+      (subst (λ st. IsLine seats w.number (core_at i w.cores) st line) q (line_of_plan seats w.number (core_at i w.cores) step line enabled)) in
       let wrote : f y ≡ line.write y = writes y small even in
-      let q : SeatPart P = part_after rested p step y in
-      let words_now : set m.words line.place (line.write (get_or m.words line.place 0)) ≡ take base (set s.words line.place (f y)) =
-      ap (λ k. set m.words line.place (line.write k)) found ∙ (ap (set m.words line.place) (sym wrote) ∙ sym (take-set-lt base s.words line.place (f y) lt)) in
-      let views_now : set m.views p.number (line.view (get_or m.words line.place 0)) ≡ map core_of (set parts p.number q) =
-      ap (λ k. set m.views p.number (line.view k)) found ∙ sym (map-set core_of parts p.number q) in
-      let same : next ≡ machine seats (set s.words line.place (f y)) (set parts p.number q) =
-      λ i. record { seats = seats; words = words_now i; views = views_now i } in
-      let seen_now : slice_get next.views p.number ≡ Some q.core = new_view m.views p.number _ p.core seen ∙ ap (λ k. Some (line.view k)) found in
-      let client = drop base s.words in
-      let guard = guard_after holds rested is_at_rest gains loses m next p.number step p.core q.core client (map pass_of parts)
-      p.pass lock seen seen_now (at_map pass_of parts p.number p here) rests r.guard e in (
+      let q : SeatLists P = lists_after lists rested w i step y in
+      let on_held : is_here w.standing i ≡ true → held_in w i ≢ None = here_held r.lists_are.apart w.number i w here in
+      let on = on_or_gone holds rested is_at_rest gains loses (list_count c) seats
+      (takes_in c) s.words parts w.number i w step r.lists_are here refl many less' may
+      (subst (λ k. MayRestIn is_at_rest k w i step) same (rests_in is_at_rest lists i w step less on_held rests)) low' in
+      let shows : shown lists i q ≡ part_after (given_back rested) (shown lists i w) step y =
+      step_shows rested lists i w step y full less on_held (λ h held. ⊎_elim (λ a. inl a) (λ b. inr b.1) (on h held)) in
+      let kept : AreLists (list_count c) seats (takes_in c) holds (set s.words place (line.write y)) (set parts w.number (lists_after
+      (list_count c) rested w i step y)) =
+      lists_kept holds rested is_at_rest gains loses (list_count c) seats (takes_in c) s.words parts w.number i w step r.lists_are here refl many less' may
+      (subst (λ k. MayRestIn is_at_rest k w i step) same (rests_in is_at_rest lists i w step less on_held rests)) low' in
+      let part : part_in begin me.0.parts ≡ w = ap (λ (v : ListView P). part_in begin v.parts) is in (
         view (q ∷ []),
         keeps,
         tt,
-        placed seats clients holds s parts owner r line.place (f y) id me.1 p q at' refl refl
-            (subst IsLock same lock)
-            (subst (λ (z : Machine × (List ℕ × List P)). holds (held_by_seat z.0) z.1.0 z.1.1)
-            (λ i. (same i, (sym (drop-set-lt base s.words line.place (f y) lt) i, sym (map-set pass_of parts p.number q) i)))
-            guard),
-        (
-          p,
-          is,
-          refl,
-          refl,
-          record {
+        placed c seats clients holds s parts owner r place (f y) id me.1 w q at' refl refl
+            (subst (λ (z : ℕ × ℕ). AreLists (list_count c) seats (takes_in c) holds (set s.words place z.0) (set parts w.number
+            (lists_after z.1 rested w i step y)))
+            (λ k. (sym wrote k, sym same k)) kept),
+        record {
+          left = record {
+            slots = refl;
+            one = refl;
+            full = length-set w.cores i now ∙ ap (λ (x : SeatLists P). length x.cores) (sym part);
+          };
+          shows = shows ∙ ap (λ (x : SeatLists P). part_after (given_back rested) (shown lists i x) step y) (sym part);
+          told = subst (λ (x : SeatLists P). Told seats (shown lists i x) step y) (sym part) (record {
             many = many;
-            sound = subst (λ n. IsViewSound n p.number q.core) (sym many) (view_sound next lock p.number q.core seen_now);
-            whole = λ x. lock.invariant.places.once p.number x q.core seen_now;
-            kept = held_kept holds rested is_at_rest gains loses m next p.number step p.core q.core client (map pass_of parts)
-                p.pass lock seen seen_now (at_map pass_of parts p.number p here) rests r.guard e;
-            moment = λ _. record { machine = m; lock = r.lock; seats = sym many; view = seen; word = found };
-          },
-        ),
+            sound = subst (λ n. IsViewSound n w.number now) (sym many) (view_sound next lock w.number now seen_now);
+            whole = λ x. lock.invariant.places.once w.number x now seen_now;
+            kept = λ keeping h held. ⊎_elim (λ a. a) (λ b. absurd (keeping b.0)) (on h held);
+            moment = λ _. record { machine = m; lock = locks i less'; seats = sym many; view = seen; word = found };
+          });
+        },
       )
 
-  -- the same for the call that makes the step, with the names that it has for the table and the word
-  pub lock_allows : (key_seats : ℕ) → key_seats ≡ seats
-      → (step : Step) (slots id word : ℕ) (f : ℕ → ℕ) (me : Me (Unit {0}) (ListView P)) (p : SeatPart P) → me.0 ≡ view (p ∷ [])
-      → Enables p step → MayRest is_at_rest p step
-      → word ≡ (line_for p step).place → word < word_count p.seats
-      → ((w : ℕ) → w < 18446744073709551616 → (step ≡ Mark → w % 2 ≡ 0) → f w ≡ (line_for p step).write w)
-      → Allows (IsRunningList key_seats clients holds) slots id me word f (lock_play rested seats step me)
-  lock_allows key_seats same step slots id word f me p is may rests at low writes =
-      subst (λ (z : ℕ × ℕ). Allows (IsRunningList z.0 clients holds) slots id me z.1 f (lock_play rested seats step me)) (λ i. (sym same i, sym at i))
-      (lock_keeps step f slots id me p is may rests (subst (λ w. w < word_count p.seats) at low) writes)
+  -- the same at a place that is named by the seat's own count of seats
+  lock_placed : (lists i : ℕ) (step : Step) (f : ℕ → ℕ) (slots id place : ℕ) (me : Me (Unit {0}) (ListView P)) (w : SeatLists P) → me.0 ≡ view (w ∷ [])
+      → length w.cores ≡ lists → i < lists
+      → Enables (shown lists i w) step → MayRest (may_give_back is_at_rest) (shown lists i w) step
+      → (line_for (shown lists i w) step).place < word_count w.seats → place ≡ i * word_count w.seats + (line_for (shown lists i w) step).place
+      → ((n : ℕ) → n < 18446744073709551616 → (step ≡ Mark → n % 2 ≡ 0) → f n ≡ (line_for (shown lists i w) step).write n)
+      → Allows (IsRunningList c seats clients holds) slots id me place f (IsLockPlay begin rested lists i seats step me)
+  lock_placed lists i step f slots id place me w is full less may rests low there writes s running l at small =
+      let r = running.2 in
+      let at' : get_elem? s.views id ≡ some (view (w ∷ [])) = at ∙ ap some is in
+      let many : w.seats ≡ seats = r.same w.number w (part_here c seats clients holds s running.0 running.1 r id w at') in
+      let where_is : place ≡ i * word_count seats + (line_for (shown lists i w) step).place =
+      there ∙ ap (λ n. i * word_count n + (line_for (shown lists i w) step).place) many in
+      subst (λ n. Allows (IsRunningList c seats clients holds) slots id me n f (IsLockPlay begin rested lists i seats step me)) (sym where_is)
+      (lock_keeps lists i step f slots id me w is full less may rests low writes) s running l at small
+
+  -- the same for the call that makes the step, with the names that it has for the table, its token and the word
+  pub token_allows : (key_cut : Regions) (key_seats : ℕ) → key_cut ≡ c → key_seats ≡ seats
+      → (number many lists i first words play_lists play_list : ℕ) (step : Step) (slots id place word : ℕ) (f : ℕ → ℕ) (me : Me (Unit {0}) (ListView P))
+      (p : SeatPart (Beside P)) → me.0.parts ≡ part_in begin me.0.parts ∷ [] → IsSeatOf (part_in begin me.0.parts) number many lists i first words
+      → shown_of begin lists i me.0.parts ≡ p → play_lists ≡ p.pass.lists → play_list ≡ p.pass.list
+      → Enables p step → MayRest (may_give_back is_at_rest) p step → word ≡ (line_for p step).place → word < word_count p.seats
+      → place ≡ p.pass.list * word_count p.seats + word
+      → ((n : ℕ) → n < 18446744073709551616 → (step ≡ Mark → n % 2 ≡ 0) → f n ≡ (line_for p step).write n)
+      → Allows (IsRunningList key_cut key_seats clients holds) slots id me place f (IsLockPlay begin rested play_lists play_list seats step me)
+  token_allows key_cut key_seats same_cut same number many lists i first words play_lists play_list step slots id place word f me p one seat_of is lists_are
+      list_is
+      may rests at low there writes =
+      let w : SeatLists P = part_in begin me.0.parts in
+      subst (λ (z : (Regions × ℕ) × (ℕ × ℕ)). Allows (IsRunningList z.0.0 z.0.1 clients holds) slots id me place f
+      (IsLockPlay begin rested z.1.0 z.1.1 seats step me))
+      (λ k. (
+        (sym same_cut k, sym same k),
+        (
+          (ap (λ (x : SeatPart (Beside P)). x.pass.lists) is ∙ sym lists_are) k,
+          (ap (λ (x : SeatPart
+              (Beside P)). x.pass.list) is ∙ sym list_is) k,
+        ),
+      ))
+      (lock_placed lists i step f slots id place me w (ap view one) seat_of.full seat_of.within
+      (subst (λ (x : SeatPart (Beside P)). Enables x step) (sym is) may)
+      (subst (λ (x : SeatPart (Beside P)). MayRest (may_give_back is_at_rest) x step) (sym is) rests)
+      (subst (λ (x : SeatPart (Beside P)). (line_for x step).place < word_count x.seats) (sym is) (subst (λ n. n < word_count p.seats) at low))
+      (there ∙ (ap (λ n. p.pass.list * word_count p.seats + n) at
+      ∙ ap (λ (x : SeatPart (Beside P)). x.pass.list * word_count x.seats + (line_for x step).place) (sym is)))
+      (λ n small even. writes n small even ∙ ap (λ (x : SeatPart (Beside P)). (line_for x step).write n) (sym is)))
 
   -- the same for a store, which doesn't tell what it found
-  pub lock_puts : (key_seats : ℕ) → key_seats ≡ seats
-      → (step : Step) (slots id word value : ℕ) (me : Me (Unit {0}) (ListView P)) (p : SeatPart P) → me.0 ≡ view (p ∷ [])
-      → Enables p step → MayRest is_at_rest p step
-      → word ≡ (line_for p step).place → word < word_count p.seats → ((w : ℕ) → (line_for p step).write w ≡ value)
-      → Allows (IsRunningList key_seats clients holds) slots id me word (λ _. value) (λ _ me'. (found : ℕ) × lock_play rested seats step me found me')
-  lock_puts key_seats same step slots id word value me p is may rests at low writes s running l there small =
-      let r = lock_allows key_seats same step slots id word (λ _. value) me p is may rests at low (λ w _ _. sym (writes w)) s running l there small in
-      (r.0, r.1, r.2, r.3, (get_or s.words word 0, r.4))
+  pub token_puts : (key_cut : Regions) (key_seats : ℕ) → key_cut ≡ c → key_seats ≡ seats
+      → (number many lists i first words play_lists play_list : ℕ) (step : Step) (slots id place word value : ℕ) (me : Me (Unit {0}) (ListView P))
+      (p : SeatPart (Beside P)) → me.0.parts ≡ part_in begin me.0.parts ∷ [] → IsSeatOf (part_in begin me.0.parts) number many lists i first words
+      → shown_of begin lists i me.0.parts ≡ p → play_lists ≡ p.pass.lists → play_list ≡ p.pass.list
+      → Enables p step → MayRest (may_give_back is_at_rest) p step → word ≡ (line_for p step).place → word < word_count p.seats
+      → place ≡ p.pass.list * word_count p.seats + word → ((n : ℕ) → (line_for p step).write n ≡ value)
+      → Allows (IsRunningList key_cut key_seats clients holds) slots id me place (λ _. value)
+      (λ _ me'. (found : ℕ) × IsLockPlay begin rested play_lists play_list seats step me found me')
+  token_puts key_cut key_seats same_cut same number many lists i first words play_lists play_list step slots id place word value me p one seat_of is
+      lists_are list_is
+      may rests at low there writes s running l here small =
+      let r = token_allows key_cut key_seats same_cut same number many lists i first words play_lists play_list step slots id place word
+      (λ _. value) me p one seat_of is
+      lists_are list_is may rests at low there (λ n _ _. sym (writes n)) s running l here small in
+      (r.0, r.1, r.2, r.3, (get_or s.words place 0, r.4))
 
--- a word of the lock is one of the table's
-pub word_there : (id other : TableId) (word k seats : ℕ) → id ≡ other → k ≡ seats → word_count seats ≤ id.words → word < word_count k → word < other.words
-word_there id other word k seats same many wide low = subst (λ (t : TableId). word < t.words) same (let e = many in omega arith)
+module _ {P : Type 0} (begin : P) (rested : P → P) (play_lists play_list seats : ℕ) (step : Step) (found : ℕ) (me me' : Me (Unit {0}) (ListView P))
+    (play : IsLockPlay begin rested play_lists play_list seats step me found me') where
+  -- what a token shows after a step, with the names that the call has
+  pub part_played : (lists i : ℕ) (p : SeatPart (Beside P)) → shown_of begin lists i me.0.parts ≡ p → play_lists ≡ p.pass.lists → play_list ≡ p.pass.list
+      → shown_of begin lists i me'.0.parts ≡ part_after (given_back rested) p step found
+  part_played lists i p is lists_are list_is =
+      let a : play_lists ≡ lists = lists_are ∙ ap (λ (x : SeatPart (Beside P)). x.pass.lists) (sym is) in
+      let b : play_list ≡ i = list_is ∙ ap (λ (x : SeatPart (Beside P)). x.pass.list) (sym is) in
+      subst (λ (z : ℕ × ℕ). shown_of begin z.0 z.1 me'.0.parts ≡ part_after (given_back rested) (shown_of begin z.0 z.1 me.0.parts) step found)
+      (λ k. (a k, b k)) play.shows
+      ∙ ap (λ (x : SeatPart (Beside P)). part_after (given_back rested) x step found) is
+
+  -- and what the step says beside
+  pub told_played : (lists i : ℕ) (p : SeatPart (Beside P)) → shown_of begin lists i me.0.parts ≡ p → play_lists ≡ p.pass.lists → play_list ≡ p.pass.list
+      → Told seats p step found
+  told_played lists i p is lists_are list_is =
+      let a : play_lists ≡ lists = lists_are ∙ ap (λ (x : SeatPart (Beside P)). x.pass.lists) (sym is) in
+      let b : play_list ≡ i = list_is ∙ ap (λ (x : SeatPart (Beside P)). x.pass.list) (sym is) in
+      subst (λ (x : SeatPart (Beside P)). Told seats x step found) ((λ k. shown_of begin (a k) (b k) me.0.parts) ∙ is) play.told
+
+  -- the token is of the same seat still
+  pub seat_played : (number many lists list first words words' : ℕ) → IsSeatOf (part_in begin me.0.parts) number many lists list first words → words' ≡ words
+      → IsSeatOf (part_in begin me'.0.parts) number many lists list first words'
+  seat_played number many lists list first words words' s same = record {
+    number_is = ap (λ (x : SeatPart (Beside P)). x.number) play.shows ∙ s.number_is;
+    seats_are = ap (λ (x : SeatPart (Beside P)). x.seats) play.shows ∙ s.seats_are;
+    there = s.there;
+    few = s.few;
+    full = play.left.full ∙ s.full;
+    within = s.within;
+    most = s.most;
+    begins = s.begins;
+    low = s.low;
+    words_there = subst (λ n. lists * word_count many ≤ n) (sym same) s.words_there;
+  }
+
+-- a word of a list is one of the table's
+pub word_there : {P : Type 0} (begin : P) (parts : List (SeatLists P)) (id other : TableId) (number many lists i first word place : ℕ) (p : SeatPart (Beside P))
+    → id ≡ other → IsSeatOf (part_in begin parts) number many lists i first id.words → shown_of begin lists i parts ≡ p
+    → word < word_count p.seats → place ≡ p.pass.list * word_count p.seats + word → place < other.words
+word_there begin parts id other number many lists i first word place p same seat_of is low at =
+    let seats : p.seats ≡ many = ap (λ (x : SeatPart (Beside _)). x.seats) (sym is) ∙ seat_of.seats_are in
+    let list : p.pass.list ≡ i = ap (λ (x : SeatPart (Beside _)). x.pass.list) (sym is) in
+    let n : word_count p.seats ≡ word_count many = ap word_count seats in
+    let behind : i * word_count many + word_count many ≤ lists * word_count many = further i lists (word_count many) seat_of.within in
+    let there : lists * word_count many ≤ id.words = seat_of.words_there in
+    let words : id.words ≡ other.words = ap (λ (t : TableId). t.words) same in
+    let begins : p.pass.list * word_count p.seats ≡ i * word_count many = λ k. list k * n k in
+    omega arith
 
 -- what an exchange makes of a word, said in two ways
 pub either_if : (t : Bool) (new old : ℕ) → either t new old ≡ (if t then new else old)

@@ -24,6 +24,7 @@ use Rattle.lock_core.proofs.Table.{when-is, together, plan_of_line}
 use Rattle.epoch_pools.specs.declared.record.Looked.{Looked}
 use Rattle.epoch_pools.specs.declared.record.Record.{Record}
 use Rattle.epoch_pools.specs.declared.views.SeatPart.{SeatPart}
+use Rattle.epoch_pools.specs.declared.views.Beside.{Beside}
 use Rattle.epoch_pools.specs.Record.{record_after, looked_on, looked_with, is_judging, gained_by}
 use Rattle.epoch_pools.specs.Pools.{IsWhole}
 use Rattle.epoch_pools.specs.Running.{pass_kept, IsAnswer, line_for, Enables, core_after, part_after, Told, client_part}
@@ -216,7 +217,7 @@ looked_kept t (Some b) (Some d) judging gained old c e =
     )
 
 module _ {P : Type 0} (p : SeatPart P) where
-  -- what a hand may rely on after a step of the lock, and after one on a client word
+  -- what a hand may rely on after a step of the lock
   pub hand_after : (rested : P → P) (step : Step) (found seats : ℕ) → p.number < p.seats → Enables p step → IsHandView p
       → Told seats p step found → IsHandView (part_after rested p step found)
   hand_after rested step found seats below may view told = record {
@@ -225,6 +226,6 @@ module _ {P : Type 0} (p : SeatPart P) where
     looked = looked_kept p.trace p.core.cursor (core_after p step found).cursor (is_judging step) (gained_by p.core (core_after p step found)) view.looked;
   }
 
-  -- after a step on a client word a hand may rely on what it could before
-  pub client_hand : (i : ℕ) (pass : P) → IsHandView p → IsHandView (client_part p i pass)
-  client_hand i pass view = record { sound = view.sound; pooled = view.pooled; looked = view.looked }
+-- after a step on a client word a hand may rely on what it could before
+pub client_hand : {P : Type 0} (p : SeatPart (Beside P)) (i : ℕ) (pass : P) → IsHandView p → IsHandView (client_part p i pass)
+client_hand p i pass view = record { sound = view.sound; pooled = view.pooled; looked = view.looked }

@@ -7,7 +7,7 @@ use Rattle.std.specs.Prelude.{[], ◌∷◌, Option, Some, None, unwrap_or, is_s
 use Rattle.lock_core.specs.declared.views.View.{View}
 use Rattle.lock_core.specs.declared.views.Cursor.{Cursor}
 use Rattle.lock_core.specs.declared.steps.Step.{Step}
-use Rattle.lock_core.specs.declared.steps.Step.TheVariants.{ReadEpoch, ReadHome, Walk, ReadHi, Link, Unlink, QuickLink, QuickUnlink, Settle}
+use Rattle.lock_core.specs.declared.steps.Step.TheVariants.{ReadEpoch, ReadHome, Walk, ReadHi, Mark, Link, Unlink, QuickLink, QuickUnlink, Settle}
 use Rattle.lock_core.specs.Words.{mode_of}
 use Rattle.lock_core.specs.Nodes.{Listed, listed_of}
 use Rattle.lock_core.specs.Views.{is_passed}
@@ -21,7 +21,7 @@ use Rattle.epoch_pools.specs.declared.record.Record.{Record}
 
 -- before the first step
 abbrev pub no_steps : Record
-no_steps = record { taken = 0; client = None; met = None; lost = None; away = []; noted = []; looked = None; walked = 0 }
+no_steps = record { taken = 0; client = None; met = None; lost = None; away = []; noted = []; looked = None; walked = 0; list = 0 }
 
 -- ReadHi meets the cursor's node, with the lower end that was read before and the hi word that it finds
 abbrev pub met_at : Record → Option Cursor → ℕ → Option Met
@@ -59,11 +59,13 @@ abbrev pub lost_by : Record → Step → ℕ → Option ℕ → ℕ → Option L
 lost_by t step place None found = t.lost
 lost_by t step place (Some e) found =
     if found == e then t.lost
-    else Some (record { kind = step; place = place; expected = e; found = found; step = t.taken })
+    else Some (record { kind = step; list = t.list; place = place; expected = e; found = found; step = t.taken })
 
--- ReadHome adds a node that it finds away, and leaves the others; a step of another kind forgets them all
+-- ReadHome adds a node that it finds away, and leaves the others, and so does Mark; a step of another kind forgets them
+-- all
 abbrev pub away_after : Record → Step → ℕ → List Away
 away_after t (ReadHome n) found = if found == 1 then t.away else record { node = n; step = t.taken } ∷ t.away
+away_after t Mark found = t.away
 away_after t _ found = []
 
 -- ReadEpoch adds an odd epoch of a seat that isn't passed after it
@@ -109,6 +111,7 @@ record_after t v step place found now =
       noted = noted_after t now step found;
       looked = looked_with t v.cursor now.cursor (is_judging step) (gained_by v now);
       walked = walked_at t step;
+      list = t.list;
     }
 
 -- the record after a step on client word i

@@ -1,6 +1,6 @@
 -- The table at its opening: the first view holds what all seats begin with, and is cut into one view for each number.
 -- The lemmas are here, and not among the proofs, since the laws of the table's rule cite them.
-use Rattle.std.specs.Prelude.{◌≡◌, ℕ, zero, suc, ◌+◌, ◌-◌, ◌<◌, ◌≤◌, List, [], ◌∷◌, ◌++◌, drop, length, cond, refl}
+use Rattle.std.specs.Prelude.{◌≡◌, ℕ, zero, suc, ◌+◌, ◌-◌, ◌*◌, ◌<◌, ◌≤◌, List, [], ◌∷◌, ◌++◌, drop, length, cond, refl}
 use Rattle.std.proofs.Common.{set, ltb, sym, ap, ◌∙◌, subst, arith, length-set, ⊎_elim}
 use Rattle.std.proofs.lemmas.Bool.{lt-ltb, le-ltb}
 use mathlib.Core.Option.{some, some-injective, some-ne-none}
@@ -10,24 +10,25 @@ use lib.ListN.{get_elem?}
 use Rattle.atomic_table.specs.Table.{Splits}
 use Rattle.atomic_table.proofs.Lists.{at_set, set_here, set_else, at_longer, at_last}
 use Rattle.lock_core.specs.Grants.{Grants}
+use Rattle.list_cuts.specs.Cut.{Regions}
 use Rattle.lock_core.specs.Words.{word_count}
 use Rattle.lock_core.proofs.ByPlace.{below, snoc_at}
-use Rattle.epoch_pools.specs.declared.views.SeatPart.{SeatPart}
+use Rattle.epoch_pools.specs.declared.views.SeatLists.{SeatLists}
 use Rattle.epoch_pools.specs.declared.views.ListView.{ListView}
 use Rattle.epoch_pools.specs.Running.{view, IsOwned, Stands, IsRunningList}
 use Rattle.epoch_pools.specs.Hands.{fresh}
 
--- what the seat of number n begins with, over all words of the table
-abbrev pub begin : {P : Type 0} → (List ℕ → ℕ → P) → ℕ → List ℕ → ℕ → SeatPart P
-begin first seats words n = fresh (first (drop (word_count seats) words) n) seats n
+-- what the seat of number n begins with, over all words of a table of so many lists
+abbrev pub begin : {P : Type 0} → (List ℕ → ℕ → P) → ℕ → ℕ → List ℕ → ℕ → SeatLists P
+begin first lists seats words n = fresh (first (drop (lists * word_count seats) words) n) lists seats n
 
 -- the parts from number n on, so many
-abbrev pub parts_from : {P : Type 0} → (ℕ → SeatPart P) → ℕ → ℕ → List (SeatPart P)
+abbrev pub parts_from : {P : Type 0} → (ℕ → SeatLists P) → ℕ → ℕ → List (SeatLists P)
 parts_from f n zero = []
 parts_from f n (suc k) = f n ∷ parts_from f (suc n) k
 
-module _ {P : Type 0} (f : ℕ → SeatPart P) where
-  pub parts_at : (s k i : ℕ) (p : SeatPart P) → get_elem? (parts_from f s k) i ≡ some p → (i < k) × (p ≡ f (s + i))
+module _ {P : Type 0} (f : ℕ → SeatLists P) where
+  pub parts_at : (s k i : ℕ) (p : SeatLists P) → get_elem? (parts_from f s k) i ≡ some p → (i < k) × (p ≡ f (s + i))
   parts_at s zero i p e = absurd (some-ne-none p (sym e))
   parts_at s (suc k) zero p e = let z : s ≡ s + 0 = omega arith in (omega arith, sym (some-injective (f s) p e) ∙ ap f z)
   parts_at s (suc k) (suc i) p e = let r = parts_at (suc s) k i p e in let z : suc s + i ≡ s + suc i = omega arith in (omega (arith, r.0), r.1 ∙ ap f z)
@@ -44,7 +45,7 @@ module _ {P : Type 0} (f : ℕ → SeatPart P) where
   last_part : (s : ℕ) → parts_from f s ((s + 1) - s) ≡ f s ∷ []
   last_part s = let z : (s + 1) - s ≡ 1 = omega arith in ap (λ k. parts_from f s k) z
 
-  module _ (numbered : (n : ℕ) → (f n).number ≡ n) (views : List (ListView P)) (parts : List (SeatPart P)) (owner : ℕ → ℕ) (seats s id : ℕ)
+  module _ (numbered : (n : ℕ) → (f n).number ≡ n) (views : List (ListView P)) (parts : List (SeatLists P)) (owner : ℕ → ℕ) (seats s id : ℕ)
       (count : length parts ≡ seats) (o : IsOwned views parts owner) (more : s + 1 < seats)
       (at : get_elem? views id ≡ some (view (parts_from f s (seats - s)))) where
     -- every number from s on stands in the view that is cut
@@ -72,7 +73,7 @@ module _ {P : Type 0} (f : ℕ → SeatPart P) where
         let i : s + k ≡ s = let lt = q.0 in omega arith in
         let is : p ≡ f s = q.1 ∙ ap f i in
         let m = mine s (omega arith) (omega arith) in
-        let num : p.number ≡ s = ap (λ (x : SeatPart P). x.number) is ∙ numbered s in
+        let num : p.number ≡ s = ap (λ (x : SeatLists P). x.number) is ∙ numbered s in
         (ap (get_elem? parts) num ∙ (m.0 ∙ ap some (sym is)), ap owner' num ∙ (kept s (omega arith) ∙ (m.1 ∙ sym t.0))))
         (λ t. let r = o id' v t.1 k p there in
         let lt = below parts p.number p r.0 in
@@ -84,7 +85,7 @@ module _ {P : Type 0} (f : ℕ → SeatPart P) where
         subst (λ (z : ListView P). get_elem? z.parts k ≡ some p) (sym new.1) there in
         let q = parts_at (s + 1) (seats - (s + 1)) k p e in
         let n = (s + 1) + k in
-        let num : p.number ≡ n = ap (λ (x : SeatPart P). x.number) q.1 ∙ numbered n in
+        let num : p.number ≡ n = ap (λ (x : SeatLists P). x.number) q.1 ∙ numbered n in
         let lt = q.0 in
         let m = mine n (omega arith) (omega arith) in (
           ap (get_elem? parts) num ∙ (m.0 ∙ ap some (sym q.1)),
@@ -107,7 +108,7 @@ module _ {P : Type 0} (f : ℕ → SeatPart P) where
         (λ e.  -- a number of the view that was cut, at most its first
         let is : view (parts_from f s (seats - s)) ≡ st.holder = some-injective _ _ (sym at ∙ (ap (get_elem? views) (sym e) ∙ st.at)) in
         let q = parts_at s (seats - s) st.place st.part (subst (λ (z : ListView P). get_elem? z.parts st.place ≡ some st.part) (sym is) st.has) in
-        let num : s + st.place ≡ n = sym (numbered (s + st.place)) ∙ (ap (λ (x : SeatPart P). x.number) (sym q.1) ∙ st.number) in
+        let num : s + st.place ≡ n = sym (numbered (s + st.place)) ∙ (ap (λ (x : SeatLists P). x.number) (sym q.1) ∙ st.number) in
         record {
           holder = view (f s ∷ []);
           at = ap (get_elem? views') (kept n le ∙ e) ∙ here;
@@ -139,24 +140,25 @@ module _ {P : Type 0} (f : ℕ → SeatPart P) where
         })
 
 -- one seat can be cut off
-pub cuts : {P : Type 0} (first : List ℕ → ℕ → P) (holds : Grants → List ℕ → List P → Type 0) (seats clients : ℕ) (words : List ℕ) (s id : ℕ) → s + 1 < seats
-    → Splits (IsRunningList seats clients holds) id (view (parts_from (begin first seats words) s (seats - s)))
-    (view (begin first seats words s ∷ [])) (view (parts_from (begin first seats words) (s + 1) (seats - (s + 1))))
-cuts first holds seats clients words s id more st running at = let r = running.2 in (
+pub cuts : {P : Type 0} (first : List ℕ → ℕ → P) (holds : Grants → List ℕ → List P → Type 0) (c : Regions) (lists seats clients : ℕ) (words : List ℕ) (s id : ℕ)
+    → s + 1 < seats → Splits (IsRunningList c seats clients holds) id (view (parts_from (begin first lists seats words) s (seats - s)))
+    (view (begin first lists seats words s ∷ [])) (view (parts_from (begin first lists seats words) (s + 1) (seats - (s + 1))))
+cuts first holds c lists seats clients words s id more st running at = let r = running.2 in (
   running.0,
-  owner' (begin first seats words) (λ n. refl) st.views running.0 running.1 seats s id r.count r.owned more at,
+  owner' (begin first lists seats words) (λ n. refl) st.views running.0 running.1 seats s id r.count r.owned more at,
   record {
+    cut = r.cut;
     count = r.count;
     wide = r.wide;
-    owned = cut_owned (begin first seats words) (λ n. refl) st.views running.0 running.1 seats s id r.count r.owned more at;
-    stands = λ n lt. cut_stands (begin first seats words) (λ n. refl) st.views running.0 running.1 seats s id r.count r.owned more at n lt (r.stands n lt);
+    owned = cut_owned (begin first lists seats words) (λ n. refl) st.views running.0 running.1 seats s id r.count r.owned more at;
+    stands = λ n lt. cut_stands (begin first lists seats words) (λ n. refl) st.views running.0 running.1 seats s id r.count r.owned more at n lt
+        (r.stands n lt);
     same = r.same;
-    lock = r.lock;
-    guard = r.guard;
+    lists_are = r.lists_are;
   },
 )
 
 -- what is left for the last seat is its own view
-pub last_view : {P : Type 0} (first : List ℕ → ℕ → P) (words : List ℕ) (s : ℕ)
-    → view (parts_from (begin first (s + 1) words) s ((s + 1) - s)) ≡ view (begin first (s + 1) words s ∷ [])
-last_view first words s = ap view (last_part (begin first (s + 1) words) s)
+pub last_view : {P : Type 0} (first : List ℕ → ℕ → P) (lists : ℕ) (words : List ℕ) (s : ℕ)
+    → view (parts_from (begin first lists (s + 1) words) s ((s + 1) - s)) ≡ view (begin first lists (s + 1) words s ∷ [])
+last_view first lists words s = ap view (last_part (begin first lists (s + 1) words) s)

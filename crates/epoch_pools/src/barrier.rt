@@ -95,7 +95,7 @@ impl<G: Guard> Hand<G> {
         ensures counted { steps.new + self.old.part.trace.taken ≡ steps.old + self.new.part.trace.taken }
     {
         let seats = self.token.seats;
-        let Hand { token, view } = self;
+        let Hand { token, view, .. } = self;
         let came = list.read_homes(token, &view.used, &mut view.homes, steps);
         if came {
             begin_anew(view, seats);

@@ -1,15 +1,16 @@
 //! The steps on client words that the layer above makes through a hand: a load, a store, an addition and an exchange.
 //! Each is one atomic step, made at a moment of the running list at which the guard allows it; a reader may rely on
 //! the value that it returns being that of the word there, and on the pass being one that the guard gives there.
-ghost use Rattle.std.specs.Prelude.{◌≡◌, ◌≢◌, ◌<◌, ◌+◌, ℕ, MatchResult};
+ghost use Rattle.std.specs.Prelude.{◌≡◌, ◌≢◌, ◌<◌, ◌+◌, ◌*◌, ℕ, MatchResult};
 ghost use Rattle.lock_core.specs.Client.{loads, stores, adds, exchanges, IsAllowed, IsMade};
-ghost use Rattle.lock_core.specs.Machine.{held_at};
+ghost use Rattle.list_cuts.specs.Cut.{list_count};
 ghost use Rattle.lock_core.specs.Words.{word_count};
+ghost use Rattle.epoch_pools.specs.Beside.{shown_grant, inner_pass};
 ghost use Rattle.epoch_pools.specs.Running.{client_part};
 ghost use Rattle.epoch_pools.specs.ClientActs.{client_step, IsAnswering};
 
 use crate::hand::Hand;
-use crate::list::{List, lock_word_count};
+use crate::list::List;
 use crate::plays::{Acting, Acts, Overwrites};
 use crate::token::Token;
 use lock_core::{Guard, Means};
@@ -30,9 +31,10 @@ impl<G: Guard> List<G> {
     /// The place of a client word in the table.
     fn client_word(&self, i: u32) -> usize
         requires { i < self.now.client }
-        ensures { result ≡ word_count self.now.seats + i }
+        ensures { result ≡ list_count self.now.cut * word_count self.now.seats + i }
     {
-        (lock_word_count(self.seats) + i) as usize
+        let _client = self.client;
+        (self.list_words() + i) as usize
     }
 
     /// One operation on a client word, which is the step that is picked. It returns what the word was, or 0 after a
@@ -45,15 +47,16 @@ impl<G: Guard> List<G> {
         act: ClientAct,
     ) -> u64
         requires acting { C.acting ≡ client_step act i }
+        requires lists { (C.lists ≡ token.old.part.pass.lists) × (C.list ≡ token.old.part.pass.list) }
         requires table { token.old.table ≡ self.now.table }
         requires place { i < self.now.client }
-        requires allowed { IsAllowed G.holds G.allows M.note token.old.part.number (held_at token.old.part.core.own) token.old.part.pass C.acting }
+        requires allowed { IsAllowed G.holds G.allows M.note token.old.part.number (shown_grant token.old.part) (inner_pass token.old.part) C.acting }
         ensures table { token.new.table ≡ token.old.table }
-        ensures part { token.new.part ≡ client_part token.old.part i token.new.part.pass }
-        ensures made { IsAnswering act → IsMade G.holds G.allows M.note token.old.part.number (held_at token.old.part.core.own)
-            token.old.part.pass C.acting result token.new.part.pass }
-        ensures stored { (found : ℕ) × IsMade G.holds G.allows M.note token.old.part.number (held_at token.old.part.core.own)
-            token.old.part.pass C.acting found token.new.part.pass }
+        ensures part { token.new.part ≡ client_part token.old.part i (inner_pass token.new.part) }
+        ensures made { IsAnswering act → IsMade G.holds G.allows M.note token.old.part.number (shown_grant token.old.part)
+            (inner_pass token.old.part) C.acting result (inner_pass token.new.part) }
+        ensures stored { (found : ℕ) × IsMade G.holds G.allows M.note token.old.part.number (shown_grant token.old.part)
+            (inner_pass token.old.part) C.acting found (inner_pass token.new.part) }
     {
         let word = self.client_word(i);
         let shared = &self.table.shared;
@@ -75,10 +78,11 @@ impl<G: Guard> List<G> {
 pub fn client_load<G: Guard, M: Means<G>>(list: &List<G>, hand: &mut Hand<G>, i: u32) -> u64
     requires table { hand.old.table ≡ list.now.table }
     requires place { i < list.now.client }
-    requires allowed { IsAllowed G.holds G.allows M.note hand.old.part.number (held_at hand.old.part.core.own) hand.old.part.pass (loads i) }
+    requires allowed { IsAllowed G.holds G.allows M.note hand.old.part.number (shown_grant hand.old.part) (inner_pass hand.old.part) (loads i) }
     ensures table { hand.new.table ≡ hand.old.table }
-    ensures part { hand.new.part ≡ client_part hand.old.part i hand.new.part.pass }
-    ensures made { IsMade G.holds G.allows M.note hand.old.part.number (held_at hand.old.part.core.own) hand.old.part.pass (loads i) result hand.new.part.pass }
+    ensures part { hand.new.part ≡ client_part hand.old.part i (inner_pass hand.new.part) }
+    ensures made { IsMade G.holds G.allows M.note hand.old.part.number (shown_grant hand.old.part) (inner_pass hand.old.part) (loads i) result
+        (inner_pass hand.new.part) }
 {
     list.act_at_client::<M, Brand>(&mut hand.token, i, ClientAct::Load)
 }
@@ -87,11 +91,11 @@ pub fn client_load<G: Guard, M: Means<G>>(list: &List<G>, hand: &mut Hand<G>, i:
 pub fn client_store<G: Guard, M: Means<G>>(list: &List<G>, hand: &mut Hand<G>, i: u32, value: u64)
     requires table { hand.old.table ≡ list.now.table }
     requires place { i < list.now.client }
-    requires allowed { IsAllowed G.holds G.allows M.note hand.old.part.number (held_at hand.old.part.core.own) hand.old.part.pass (stores i value) }
+    requires allowed { IsAllowed G.holds G.allows M.note hand.old.part.number (shown_grant hand.old.part) (inner_pass hand.old.part) (stores i value) }
     ensures table { hand.new.table ≡ hand.old.table }
-    ensures part { hand.new.part ≡ client_part hand.old.part i hand.new.part.pass }
-    ensures made { (found : ℕ) × IsMade G.holds G.allows M.note hand.old.part.number (held_at hand.old.part.core.own)
-        hand.old.part.pass (stores i value) found hand.new.part.pass }
+    ensures part { hand.new.part ≡ client_part hand.old.part i (inner_pass hand.new.part) }
+    ensures made { (found : ℕ) × IsMade G.holds G.allows M.note hand.old.part.number (shown_grant hand.old.part)
+        (inner_pass hand.old.part) (stores i value) found (inner_pass hand.new.part) }
 {
     list.act_at_client::<M, Brand>(&mut hand.token, i, ClientAct::Store { value });
 }
@@ -100,11 +104,11 @@ pub fn client_store<G: Guard, M: Means<G>>(list: &List<G>, hand: &mut Hand<G>, i
 pub fn client_add<G: Guard, M: Means<G>>(list: &List<G>, hand: &mut Hand<G>, i: u32, by: u64) -> u64
     requires table { hand.old.table ≡ list.now.table }
     requires place { i < list.now.client }
-    requires allowed { IsAllowed G.holds G.allows M.note hand.old.part.number (held_at hand.old.part.core.own) hand.old.part.pass (adds i by) }
+    requires allowed { IsAllowed G.holds G.allows M.note hand.old.part.number (shown_grant hand.old.part) (inner_pass hand.old.part) (adds i by) }
     ensures table { hand.new.table ≡ hand.old.table }
-    ensures part { hand.new.part ≡ client_part hand.old.part i hand.new.part.pass }
-    ensures made { IsMade G.holds G.allows M.note hand.old.part.number (held_at hand.old.part.core.own) hand.old.part.pass
-        (adds i by) result hand.new.part.pass }
+    ensures part { hand.new.part ≡ client_part hand.old.part i (inner_pass hand.new.part) }
+    ensures made { IsMade G.holds G.allows M.note hand.old.part.number (shown_grant hand.old.part) (inner_pass hand.old.part)
+        (adds i by) result (inner_pass hand.new.part) }
 {
     list.act_at_client::<M, Brand>(&mut hand.token, i, ClientAct::Add { by })
 }
@@ -120,13 +124,14 @@ pub fn client_exchange<G: Guard, M: Means<G>>(
 ) -> Result<(), u64>
     requires table { hand.old.table ≡ list.now.table }
     requires place { i < list.now.client }
-    requires allowed { IsAllowed G.holds G.allows M.note hand.old.part.number (held_at hand.old.part.core.own) hand.old.part.pass (exchanges i expected new) }
+    requires allowed { IsAllowed G.holds G.allows M.note hand.old.part.number (shown_grant hand.old.part) (inner_pass hand.old.part)
+        (exchanges i expected new) }
     ensures table { hand.new.table ≡ hand.old.table }
-    ensures part { hand.new.part ≡ client_part hand.old.part i hand.new.part.pass }
-    ensures made { MatchResult result (λ _. IsMade G.holds G.allows M.note hand.old.part.number (held_at hand.old.part.core.own)
-        hand.old.part.pass (exchanges i expected new) expected hand.new.part.pass)
-        (λ found. (found ≢ expected) × IsMade G.holds G.allows M.note hand.old.part.number (held_at hand.old.part.core.own)
-        hand.old.part.pass (exchanges i expected new) found hand.new.part.pass) }
+    ensures part { hand.new.part ≡ client_part hand.old.part i (inner_pass hand.new.part) }
+    ensures made { MatchResult result (λ _. IsMade G.holds G.allows M.note hand.old.part.number (shown_grant hand.old.part)
+        (inner_pass hand.old.part) (exchanges i expected new) expected (inner_pass hand.new.part))
+        (λ found. (found ≢ expected) × IsMade G.holds G.allows M.note hand.old.part.number (shown_grant hand.old.part)
+        (inner_pass hand.old.part) (exchanges i expected new) found (inner_pass hand.new.part)) }
 {
     let found = list.act_at_client::<M, Brand>(
         &mut hand.token,

@@ -3,10 +3,11 @@
 //! on the guard's rule holding of the words that come back, with no grant.
 ghost use Rattle.std.specs.Prelude.{◌≡◌, ◌<◌, ◌≤◌, ◌+◌, ◌^◌, [], IfOk, IfErr, None, length, map, drop, replicate, vec_capacity};
 ghost use Rattle.std.specs.Mem.Slots.{IsFull, slots_len, slots_items};
-ghost use Rattle.epoch_pools.specs.Hands.{AreHandsOf, AreIdleHands, hand_with, pass_in};
+ghost use Rattle.list_cuts.specs.Cut.{list_count};
+ghost use Rattle.epoch_pools.specs.Hands.{AreHandsOf, AreIdleHands, AreOthersIdle, AreShownAt, pass_in};
 
 use crate::hand::Hand;
-use crate::list::{List, lock_word_count};
+use crate::list::List;
 use crate::plays::Gathers;
 use crate::rule::ListRule;
 use crate::token::Token;
@@ -34,7 +35,7 @@ fn join_all<G: Guard>(
     requires some { 0 < length hands.items }
     requires tables { AreHandsOf shared.now.table_id hands.items }
     ensures table { (result.table_id ≡ shared.now.table_id) × (result.me.1 ≡ []) }
-    ensures parts { map (hand_with shared.now.table_id) result.me.0.parts ≡ hands.items }
+    ensures parts { AreShownAt shared.now.table_id result.me.0.parts hands.items }
 {
     let Hand { token, .. } = hands.remove(0);
     let Token { seat: mut all, .. } = token;
@@ -70,24 +71,22 @@ pub fn room_for_words<G: Guard>(list: &List<G>, alloc: Global) -> Result<Vec<u64
 }
 
 /// Ends the list and gives its client words, which meet the guard with no grant, in a `Vec` that has room for them.
-/// The hands are all those of the opening, in order of their numbers; each is outside its epoch, and has no node in use
-/// or still to be given home.
+/// The hands are all those of the opening, in order of their numbers; in each list each is outside its epoch, and has
+/// no node in use or still to be given home.
 pub fn close_into<G: Guard>(list: List<G>, hands: Vec<Hand<G>>, mut words: Vec<u64>) -> Vec<u64>
     requires count { length hands.items ≡ list.seats }
     requires idle { AreIdleHands list.table hands.items }
+    requires others { 1 < list_count list.cut → AreOthersIdle (list_count list.cut) hands.items }
     requires empty { words.items ≡ [] }
     requires room { list.client ≤ vec_capacity words }
     ensures words { length result.items ≡ list.client }
     ensures guard { G.holds (replicate list.seats None) result.items (map pass_in hands.items) }
 {
-    let List {
-        table,
-        seats,
-        client,
-    } = list;
+    let from = list.list_words();
+    let List { table, client, .. } = list;
     let all = join_all(&table.shared, hands);
     let closed = table.close_with(all);
-    copy_words(&closed, lock_word_count(seats), client, &mut words);
+    copy_words(&closed, from, client, &mut words);
     closed.free();
     words
 }
@@ -102,6 +101,7 @@ pub fn close<G: Guard>(
 ) -> Result<Vec<u64>, ListCloseRefused<G>>
     requires count { length hands.items ≡ list.seats }
     requires idle { AreIdleHands list.table hands.items }
+    requires others { 1 < list_count list.cut → AreOthersIdle (list_count list.cut) hands.items }
     ensures words { IfOk result (λ words. length words.items ≡ list.client) }
     ensures guard { IfOk result (λ words. G.holds (replicate list.seats None) words.items (map pass_in hands.items)) }
     ensures refused { IfErr result (λ r. (r.list ≡ list) × (r.hands.items ≡ hands.items)) }

@@ -1,27 +1,33 @@
-//! A list lock's table, and how it is opened with a hand for each number. Between opening and closing, hands may go to
-//! other threads, and the list is shared by reference. A reader may rely on a new hand having its own sixteen nodes
-//! ready, and on no call but `open` and `close` taking memory: a hand's lists have their room from here on.
-ghost use Rattle.std.specs.Prelude.{◌≡◌, ◌<◌, ◌≤◌, ◌+◌, ◌^◌, ℕ, List, ◌++◌, IfOk, None, length, map, replicate};
+//! A table of list locks, and how it is opened with a hand for each number. Its lists have slices of one length of the
+//! table's words, in order, and the client words follow them. Between opening and closing, hands may go to other
+//! threads, and the table is shared by reference. A reader may rely on a new hand having its own sixteen nodes ready in
+//! each list, and on no call but `open`, `open_cut` and `close` taking memory: a hand's lists have their room from here
+//! on.
+ghost use Rattle.std.specs.Prelude.{◌≡◌, ◌+◌, ◌*◌, ◌<◌, ◌≤◌, ◌^◌, ℕ, List, ◌++◌, IfOk, None, length, map, replicate};
+ghost use Rattle.list_cuts.specs.Cut.{Regions, list_count};
 ghost use Rattle.lock_core.specs.Machine.{numbers_from, start_view};
 ghost use Rattle.lock_core.specs.Words.{word_count};
 ghost use Rattle.epoch_pools.specs.Hands.{first_passes, IsSeatCount, AreNewHands};
 
 use crate::hand::Hand;
+use crate::others::first_others;
 use crate::rule::ListRule;
 use crate::token::Token;
 use crate::views::ListView;
 use atomic_table::Table;
+use list_cuts::Cut;
 use lock_core::{Guard, Layout, View, first_view};
 use std::alloc::{AllocError, Global};
 use std::marker::Model;
 use word_rows::{Start, open_words};
 
-/// The list lock's words for up to 16 seats, and client words under the rule of a guard.
+/// The words of one list lock or several for up to 16 seats, and client words under the rule of a guard.
 #[derive(Drop)]
 pub struct List<G: Guard> {
     pub(crate) table: Table<(), ListView<G::Pass>, Start, ListRule<G>, Global>,
     pub(crate) seats: u32,
     pub(crate) client: u32,
+    pub(crate) cut: Cut,
 }
 
 impl<G: Guard> Model for List<G> {
@@ -30,13 +36,35 @@ impl<G: Guard> Model for List<G> {
 
     ghost Value = { ListShape };
 
-    ghost view = { λ t. record { table = t.table.shared.table_id; seats = t.seats; client = t.client } };
+    ghost view = { λ t. record { table = t.table.shared.table_id; seats = t.seats; client = t.client; cut = t.cut } };
 
-    ghost invariant = { λ t. IsTable t.table.shared.key.seats (length t.table.shared.key.words.items)
-        t.table.shared.table_id.words t.table.shared.table_id.slots t.seats t.client };
+    ghost invariant = { λ t. IsTable t.table.shared.key.shares.items t.table.shared.key.seats (length t.table.shared.key.words.items)
+        t.table.shared.table_id.words t.table.shared.table_id.slots t.cut t.seats t.client };
 }
 
-/// How many words the lock has. The client words follow them.
+impl<G: Guard> List<G> {
+    ghost use Rattle.std.specs.Prelude.{◌≡◌, ◌*◌};
+    ghost use Rattle.list_cuts.specs.Cut.{list_count};
+    ghost use Rattle.lock_core.specs.Words.{word_count};
+
+    /// How the numbers are cut for the table's lists.
+    #[inline(always)]
+    pub fn cut(&self) -> Cut
+        ensures { result ≡ self.now.cut }
+    {
+        self.cut
+    }
+
+    /// How many words all lists have. The client words follow them.
+    pub(crate) fn list_words(&self) -> u32
+        ensures words { result ≡ list_count self.now.cut * word_count self.now.seats }
+        ensures few { result ≤ 17697 }
+    {
+        self.cut.lists() * lock_word_count(self.seats)
+    }
+}
+
+/// How many words one list has.
 pub(crate) fn lock_word_count(seats: u32) -> u32
     requires some { 0 < seats }
     requires few { seats ≤ 16 }
@@ -45,13 +73,19 @@ pub(crate) fn lock_word_count(seats: u32) -> u32
     Layout::of(seats, 0).words()
 }
 
-/// The words of a new table: those of the lock, all 0, and then the client words.
-fn opening_words(alloc: Global, seats: u32, client: &[u64]) -> Result<Vec<u64>, AllocError>
-    requires { IsSeatCount seats }
-    ensures { IfOk result (λ words. words.items ≡ replicate (word_count seats) 0 ++ client.now) }
+/// The words of a new table: those of the lists, all 0, and then the client words.
+fn opening_words(
+    alloc: Global,
+    lists: u32,
+    seats: u32,
+    client: &[u64],
+) -> Result<Vec<u64>, AllocError>
+    requires seats { IsSeatCount seats }
+    requires few { lists ≤ 17 }
+    ensures { IfOk result (λ words. words.items ≡ replicate (lists * word_count seats) 0 ++ client.now) }
 {
     let mut words = Vec::new(alloc);
-    words.resize(lock_word_count(seats) as usize, 0)?;
+    words.resize((lists * lock_word_count(seats)) as usize, 0)?;
     words.extend_from_slice(client)?;
     Ok(words)
 }
@@ -68,9 +102,9 @@ fn first_views(alloc: Global, seats: u32) -> Result<Vec<View>, AllocError>
     Ok(views)
 }
 
-/// A list of that many seats, from 1 to 16, over these client words, and its hands in order of their numbers, from 0
-/// on. At most 2^20 client words, which meet the guard with no grant and the passes of all seats at the opening. The
-/// table has the lock's words and these.
+/// A table of one list and of that many seats, from 1 to 16, over these client words, and its hands in order of their
+/// numbers, from 0 on. At most 2^20 client words, which meet the guard with no grant and the passes of all seats at the
+/// opening. The table has the lock's words and these.
 /// The one refusal is that there is no memory.
 pub fn open<G: Guard>(
     alloc: Global,
@@ -81,24 +115,51 @@ pub fn open<G: Guard>(
     requires clients { length client.now ≤ 2 ^ 20 }
     requires rule { G.holds (replicate seats None) client.now (first_passes (G.first client.now) 0 seats) }
     ensures shape { IfOk result (λ r. (r.0.seats ≡ seats) × (r.0.client ≡ length client.now)) }
+    ensures one { IfOk result (λ r. r.0.cut ≡ record { count = 1; bits = 62 }) }
     ensures words { IfOk result (λ r. r.0.table.words ≡ word_count seats + length client.now) }
-    ensures hands { IfOk result (λ r. (length r.1.items ≡ seats) × AreNewHands r.0.table (G.first client.now) seats r.1.items) }
+    ensures hands { IfOk result (λ r. (length r.1.items ≡ seats) × AreNewHands r.0.table (G.first client.now) 1 seats r.1.items) }
 {
-    let words = opening_words(alloc, seats, client)?;
+    open_cut(alloc, seats, Cut::one(), client)
+}
+
+/// A table of the lists of that cut, and otherwise as `open`. The hands are turned to list 0. The table has the words
+/// of all its lists and the client's.
+pub fn open_cut<G: Guard>(
+    alloc: Global,
+    seats: u32,
+    cut: Cut,
+    client: &[u64],
+) -> Result<(List<G>, Vec<Hand<G>>), AllocError>
+    requires seats { IsSeatCount seats }
+    requires clients { length client.now ≤ 2 ^ 20 }
+    requires rule { G.holds (replicate seats None) client.now (first_passes (G.first client.now) 0 seats) }
+    ensures shape { IfOk result (λ r. (r.0.seats ≡ seats) × (r.0.client ≡ length client.now) × (r.0.cut ≡ cut)) }
+    ensures words { IfOk result (λ r. r.0.table.words ≡ list_count cut * word_count seats + length client.now) }
+    ensures hands { IfOk result (λ r. (length r.1.items ≡ seats) × AreNewHands r.0.table (G.first client.now) (list_count cut) seats r.1.items) }
+{
+    let lists = cut.lists();
+    let words = opening_words(alloc, lists, seats, client)?;
     let mut made = Vec::with_capacity(alloc, seats as usize)?;
     let mut views = first_views(alloc, seats)?;
-    let (table, mut opened) = open_words::<ListRule<G>>(alloc, seats, words.as_slice(), &[])?;
+    let mut behind = first_others(alloc, seats, lists - 1)?;
+    let shares = [cut.regions(), cut.bits()];
+    let (table, mut opened) = open_words::<ListRule<G>>(alloc, seats, words.as_slice(), &shares)?;
     let mut number = 0;
     'all: while !opened.is_empty() {
         let seat = opened.remove(0);
         let view = views.remove(0);
+        let others = behind.remove(0);
         made.push_reserved(Hand {
             token: Token {
                 seat,
                 number,
                 seats,
+                lists,
+                list: 0,
+                first: 0,
             },
             view,
+            others,
         });
         number += 1;
     }
@@ -107,6 +168,7 @@ pub fn open<G: Guard>(
         table,
         seats,
         client,
+        cut,
     };
     Ok((list, made))
 }

@@ -7,6 +7,7 @@ ghost use Rattle.lock_core.specs.declared.steps.Step.TheVariants.{ReadEpoch};
 ghost use Rattle.lock_core.specs.Words.{word_count};
 ghost use Rattle.lock_core.specs.Views.{home_read};
 ghost use Rattle.epoch_pools.specs.Hands.{IsHandView};
+ghost use Rattle.epoch_pools.specs.Beside.{given_back, may_give_back};
 ghost use Rattle.epoch_pools.specs.Running.{Enables, MayRest, line_for, part_after, Told};
 ghost use Rattle.epoch_pools.specs.Taking.{IsFree, IsLooking, IsHomeLook, IsHomeKnown, IsEpochLook};
 ghost use Rattle.epoch_pools.specs.Looking.{IsAwaited, begun, come_back, homes_read, IsBeside};
@@ -51,13 +52,14 @@ impl<G: Guard> List<G> {
     fn get<D: Doing>(&self, token: &mut Token<G>, step: Step, word: u32) -> u64
         requires doing { D.doing ≡ step }
         requires seats { D.seats ≡ self.now.seats }
+        requires lists { (D.lists ≡ token.old.part.pass.lists) × (D.list ≡ token.old.part.pass.list) }
         requires table { token.old.table ≡ self.now.table }
         requires enabled { Enables token.old.part step }
-        requires rest { MayRest G.is_at_rest token.old.part step }
+        requires rest { MayRest (may_give_back G.is_at_rest) token.old.part step }
         requires place { (word ≡ (line_for token.old.part step).place) × (word < word_count token.old.part.seats) }
         requires load { (w : ℕ) → (line_for token.old.part step).write w ≡ w }
         ensures table { token.new.table ≡ token.old.table }
-        ensures part { token.new.part ≡ part_after G.rested token.old.part step result }
+        ensures part { token.new.part ≡ part_after (given_back G.rested) token.old.part step result }
         ensures told { Told self.now.seats token.old.part step result }
     {
         let _ = step;
@@ -165,7 +167,7 @@ impl<G: Guard> List<G> {
         requires other { other ≢ token.old.part.number }
         ensures table { token.new.table ≡ token.old.table }
         ensures sound { IsHandView token.new.part }
-        ensures part { token.new.part ≡ part_after G.rested token.old.part (ReadEpoch other) result }
+        ensures part { token.new.part ≡ part_after (given_back G.rested) token.old.part (ReadEpoch other) result }
         ensures on { IsLooking token.old.part token.new.part }
         ensures looked { IsEpochLook token.old.part token.new.part other }
     {

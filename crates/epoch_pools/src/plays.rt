@@ -6,17 +6,26 @@ use atomic_table::{Join, Play};
 use lock_core::{Guard, Means};
 use std::marker::{Brand, PhantomData};
 
-/// Which step is made on a client word. Each call picks it.
+/// Which step is made on a client word, and of which list of how many the token shows the seat. Each call picks it.
 pub trait Acting {
+    ghost use Rattle.std.specs.Prelude.{ℕ};
     ghost use Rattle.lock_core.specs.Client.{ClientStep};
 
     ghost acting: { ClientStep };
+
+    ghost lists: { ℕ };
+
+    ghost list: { ℕ };
 }
 
 impl Acting for Brand {
     ghost use Rattle.lock_core.specs.Client.{loads};
 
     ghost acting = { loads 0 };
+
+    ghost lists = { 0 };
+
+    ghost list = { 0 };
 }
 
 /// A step on a client word that says which value it found.
@@ -25,9 +34,10 @@ pub(crate) struct Acts<G, M, C> {
 }
 
 impl<G: Guard, M: Means<G>, C: Acting> Play<(), ListView<G::Pass>> for Acts<G, M, C> {
-    ghost use Rattle.epoch_pools.specs.Running.{client_play};
+    ghost use Rattle.std.specs.Prelude.{[]};
+    ghost use Rattle.epoch_pools.specs.Running.{IsClientPlay};
 
-    ghost then = { λ _ me found me'. client_play G.holds G.allows M.note C.acting me found me' };
+    ghost then = { λ _ me found me'. IsClientPlay (G.first [] 0) G.holds G.allows M.note C.lists C.list C.acting me found me' };
 }
 
 /// A store to a client word, which says that there was a value and not which.
@@ -36,13 +46,13 @@ pub(crate) struct Overwrites<G, M, C> {
 }
 
 impl<G: Guard, M: Means<G>, C: Acting> Play<(), ListView<G::Pass>> for Overwrites<G, M, C> {
-    ghost use Rattle.std.specs.Prelude.{ℕ};
-    ghost use Rattle.epoch_pools.specs.Running.{client_play};
+    ghost use Rattle.std.specs.Prelude.{ℕ, []};
+    ghost use Rattle.epoch_pools.specs.Running.{IsClientPlay};
 
-    ghost then = { λ _ me _ me'. (found : ℕ) × client_play G.holds G.allows M.note C.acting me found me' };
+    ghost then = { λ _ me _ me'. (found : ℕ) × IsClientPlay (G.first [] 0) G.holds G.allows M.note C.lists C.list C.acting me found me' };
 }
 
-/// Which step of the lock is made, and in a table of how many seats. Each call picks it.
+/// Which step of the lock is made, in which list of how many, and in a table of how many seats. Each call picks it.
 pub trait Doing {
     ghost use Rattle.std.specs.Prelude.{ℕ};
     ghost use Rattle.lock_core.specs.declared.steps.Step.{Step};
@@ -50,6 +60,10 @@ pub trait Doing {
     ghost doing: { Step };
 
     ghost seats: { ℕ };
+
+    ghost lists: { ℕ };
+
+    ghost list: { ℕ };
 }
 
 impl Doing for Brand {
@@ -58,6 +72,10 @@ impl Doing for Brand {
     ghost doing = { Walk };
 
     ghost seats = { 0 };
+
+    ghost lists = { 0 };
+
+    ghost list = { 0 };
 }
 
 /// A step of the lock that says which value it found.
@@ -66,9 +84,10 @@ pub(crate) struct Does<G, D> {
 }
 
 impl<G: Guard, D: Doing> Play<(), ListView<G::Pass>> for Does<G, D> {
-    ghost use Rattle.epoch_pools.specs.Running.{lock_play};
+    ghost use Rattle.std.specs.Prelude.{[]};
+    ghost use Rattle.epoch_pools.specs.Running.{IsLockPlay};
 
-    ghost then = { λ _ me found me'. lock_play G.rested D.seats D.doing me found me' };
+    ghost then = { λ _ me found me'. IsLockPlay (G.first [] 0) G.rested D.lists D.list D.seats D.doing me found me' };
 }
 
 /// A store on a word of the lock, which says that there was a value and not which.
@@ -77,10 +96,56 @@ pub(crate) struct Puts<G, D> {
 }
 
 impl<G: Guard, D: Doing> Play<(), ListView<G::Pass>> for Puts<G, D> {
-    ghost use Rattle.std.specs.Prelude.{ℕ};
-    ghost use Rattle.epoch_pools.specs.Running.{lock_play};
+    ghost use Rattle.std.specs.Prelude.{ℕ, []};
+    ghost use Rattle.epoch_pools.specs.Running.{IsLockPlay};
 
-    ghost then = { λ _ me _ me'. (found : ℕ) × lock_play G.rested D.seats D.doing me found me' };
+    ghost then = { λ _ me _ me'. (found : ℕ) × IsLockPlay (G.first [] 0) G.rested D.lists D.list D.seats D.doing me found me' };
+}
+
+/// Which look is made, under which cut, from which list of how many: what the seat's standing is where the list is
+/// found empty, and whether it is that whatever the look finds, since the seat holds its range there too. Each call
+/// picks it.
+pub trait Look {
+    ghost use Rattle.std.specs.Prelude.{ℕ, Bool};
+    ghost use Rattle.list_cuts.specs.Cut.{Regions};
+    ghost use Rattle.epoch_pools.specs.declared.views.Standing.{Standing};
+
+    ghost cut: { Regions };
+
+    ghost standing: { Standing };
+
+    ghost too: { Bool };
+
+    ghost lists: { ℕ };
+
+    ghost list: { ℕ };
+}
+
+impl Look for Brand {
+    ghost use Rattle.std.specs.Prelude.{false};
+    ghost use Rattle.epoch_pools.specs.declared.views.Standing.TheVariants.{Free};
+
+    ghost cut = { record { count = 1; bits = 62 } };
+
+    ghost standing = { Free };
+
+    ghost too = { false };
+
+    ghost lists = { 0 };
+
+    ghost list = { 0 };
+}
+
+/// A load of the head of a list behind the own link.
+pub(crate) struct Looks<G, D> {
+    of: PhantomData<(G, D)>,
+}
+
+impl<G: Guard, D: Look> Play<(), ListView<G::Pass>> for Looks<G, D> {
+    ghost use Rattle.std.specs.Prelude.{[]};
+    ghost use Rattle.epoch_pools.specs.Passing.{IsLookPlay};
+
+    ghost then = { λ _ me found me'. IsLookPlay (G.first [] 0) D.cut D.lists D.list D.standing D.too me found me' };
 }
 
 /// The seat that stays takes in what belongs to the other.

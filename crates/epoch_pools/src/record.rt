@@ -26,7 +26,9 @@ pub struct Met {
 pub struct Lost {
     /// Link, Unlink, QuickLink, QuickUnlink or Settle.
     pub kind: Step,
-    /// The place of the word in the table.
+    /// The list in which it was made, counted from 0.
+    pub list: u32,
+    /// The place of the word in that list.
     pub place: u32,
     pub expected: u64,
     pub found: u64,
@@ -68,11 +70,13 @@ pub struct Record {
     pub client: Option<LastClient>,
     pub met: Option<Met>,
     pub lost: Option<Lost>,
-    /// The nodes that ReadHome found away since the last step of another kind, the latest first.
+    /// The nodes that ReadHome found away since the last step of another kind than it and Mark, the latest first.
     pub away: LinkedList<Away>,
     /// The epochs that were read without passing their seats, the latest first.
     pub noted: LinkedList<Noted>,
     pub looked: Option<Looked>,
     /// The number of the last Walk, which `met` carries on.
     pub walked: u64,
+    /// The list in which the seat makes its next steps: that to which its hand is turned.
+    pub list: u32,
 }

@@ -4,6 +4,7 @@
 ghost use Rattle.std.specs.Prelude.{◌≡◌, ◌+◌, ◌<◌, ℕ};
 ghost use Rattle.lock_core.specs.Words.{word_count};
 ghost use Rattle.lock_core.specs.Operations.{IsOp, IsStoring};
+ghost use Rattle.epoch_pools.specs.Beside.{given_back, may_give_back};
 ghost use Rattle.epoch_pools.specs.Running.{Enables, MayRest, line_for, part_after, Told};
 ghost use Rattle.epoch_pools.specs.Hands.{IsListStep};
 
@@ -20,13 +21,14 @@ impl<G: Guard> Hand<G> {
     fn make_at<D: Doing>(&mut self, list: &List<G>, step: Step, op: Op) -> u64
         requires doing { D.doing ≡ step }
         requires seats { D.seats ≡ list.now.seats }
+        requires lists { (D.lists ≡ self.old.part.pass.lists) × (D.list ≡ self.old.part.pass.list) }
         requires table { self.old.table ≡ list.now.table }
         requires enabled { Enables self.old.part step }
-        requires rest { MayRest G.is_at_rest self.old.part step }
+        requires rest { MayRest (may_give_back G.is_at_rest) self.old.part step }
         requires op { IsOp step (line_for self.old.part step) op }
         requires place { op.place < word_count self.old.part.seats }
         ensures table { self.new.table ≡ self.old.table }
-        ensures made { self.new.part ≡ part_after G.rested self.old.part step result }
+        ensures made { self.new.part ≡ part_after (given_back G.rested) self.old.part step result }
         ensures told { Told D.seats self.old.part step result }
         ensures store { IsStoring step → result ≡ 0 }
     {
@@ -48,11 +50,11 @@ impl<G: Guard> Hand<G> {
     ) -> u64
         requires table { self.old.table ≡ list.now.table }
         requires enabled { Enables self.old.part step }
-        requires rest { MayRest G.is_at_rest self.old.part step }
+        requires rest { MayRest (may_give_back G.is_at_rest) self.old.part step }
         requires op { IsOp step (line_for self.old.part step) op }
         requires place { op.place < word_count self.old.part.seats }
         ensures table { self.new.table ≡ self.old.table }
-        ensures made { self.new.part ≡ part_after G.rested self.old.part step result }
+        ensures made { self.new.part ≡ part_after (given_back G.rested) self.old.part step result }
         ensures told { Told list.now.seats self.old.part step result }
         ensures store { IsStoring step → result ≡ 0 }
         ensures counted { steps.new ≡ steps.old + 1 }
@@ -72,9 +74,9 @@ impl<G: Guard> Hand<G> {
     ) -> u64
         requires table { self.old.table ≡ list.now.table }
         requires enabled { Enables self.old.part step }
-        requires rest { MayRest G.is_at_rest self.old.part step }
+        requires rest { MayRest (may_give_back G.is_at_rest) self.old.part step }
         ensures table { self.new.table ≡ self.old.table }
-        ensures made { self.new.part ≡ part_after G.rested self.old.part step result }
+        ensures made { self.new.part ≡ part_after (given_back G.rested) self.old.part step result }
         ensures told { Told list.now.seats self.old.part step result }
         ensures store { IsStoring step → result ≡ 0 }
         ensures counted { steps.new ≡ steps.old + 1 }
@@ -98,9 +100,9 @@ pub fn step<G: Guard, L: Ledger>(
     requires table { hand.old.table ≡ list.now.table }
     requires kind { IsListStep step }
     requires enabled { Enables hand.old.part step }
-    requires rest { MayRest G.is_at_rest hand.old.part step }
+    requires rest { MayRest (may_give_back G.is_at_rest) hand.old.part step }
     ensures table { hand.new.table ≡ hand.old.table }
-    ensures made { hand.new.part ≡ part_after G.rested hand.old.part step result }
+    ensures made { hand.new.part ≡ part_after (given_back G.rested) hand.old.part step result }
     ensures told { Told list.now.seats hand.old.part step result }
     ensures store { IsStoring step → result ≡ 0 }
     ensures counted { steps.new ≡ steps.old + 1 }

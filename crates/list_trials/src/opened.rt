@@ -2,6 +2,7 @@
 //! numbers, as the closing takes them.
 ghost use Rattle.std.specs.Prelude.{◌≡◌, length, IfOk, IfSome};
 ghost use Rattle.std.specs.Bool.{OnTrue};
+ghost use Rattle.list_cuts.specs.Cut.{list_count};
 ghost use Rattle.epoch_pools.specs.Hands.{IsIdle, IsSeatCount, AreNewHands, AreIdleHands};
 ghost use Rattle.list_trials.specs.Trials.{AreInOrder, AreAllIdle};
 
@@ -17,6 +18,7 @@ pub fn open_list(
 ) -> Result<(List<FreeGuard>, Vec<Hand<FreeGuard>>), AllocError>
     requires seats { IsSeatCount seats }
     ensures shape { IfOk result (λ r. (r.0.seats ≡ seats) × (r.0.client ≡ 1) × (length r.1.items ≡ seats)) }
+    ensures one { IfOk result (λ r. list_count r.0.cut ≡ 1) }
     ensures order { IfOk result (λ r. AreInOrder r.0.table r.1.items) }
 {
     open(alloc, seats, &[word])
@@ -55,6 +57,7 @@ pub fn close_all(
     hands: Vec<Hand<FreeGuard>>,
 ) -> Option<Vec<u64>>
     requires count { length hands.items ≡ list.seats }
+    requires one { list_count list.cut ≡ 1 }
     requires order { AreInOrder list.table hands.items }
     ensures { IfSome result (λ words. length words.items ≡ list.client) }
 {

@@ -295,7 +295,13 @@ module _ {P : Type 0} (is_at_rest : P → Type 0) (p : SeatPart P) (may : MayMar
         free = λ none. m.pass ∙ pass_stays rested (held_at p.core.own) None p.pass none;
         met = m.met;
         lost = m.lost;
+        looked = λ none.
+            let gained = gained_by p.core (mark_plan.view w) in
+            m.looked ∙ (ap (λ (o : Option Cursor). looked_with p.trace p.core.cursor o (is_judging Mark) gained) none
+            ∙ gone_looked p.trace p.core.cursor (is_judging Mark) gained);
         look = same_look rested p q Mark mark_plan w m view (inr refl);
+        away = ap (λ (x : SeatPart P). x.trace.away) made;
+        noted = ap (λ (x : SeatPart P). x.trace.noted) made;
       }
 
 module _ {P : Type 0} (is_at_rest : P → Type 0) (p : SeatPart P) (may : MayQuickUnlink is_at_rest p) where

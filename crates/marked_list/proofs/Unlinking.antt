@@ -31,10 +31,10 @@ pub lost_made : {P : Type 0} (rested : P → P) (p q : SeatPart P) (step : Step)
     → (Kind : Step → Type 0) → Kind step → expected_by p.core step ≡ Some e → (w == e) ≡ false
     → (place expected found : ℕ) → place ≡ plan.place → expected ≡ e → found ≡ w → IsLost p.trace.taken q Kind place expected found
 lost_made rested p q step plan w e m Kind kind expects far place expected found placed wanted had = record {
-  lost = record { kind = step; place = plan.place; expected = e; found = w; step = p.trace.taken };
+  lost = record { kind = step; list = p.trace.list; place = plan.place; expected = e; found = w; step = p.trace.taken };
   is = m.lost ∙ (ap (λ (o : Option ℕ). lost_by p.trace step plan.place o w) expects
       ∙ ap (λ (b : Bool). if b then p.trace.lost else Some
-      (record { kind = step; place = plan.place; expected = e; found = w; step = p.trace.taken })) far);
+      (record { kind = step; list = p.trace.list; place = plan.place; expected = e; found = w; step = p.trace.taken })) far);
   kind = kind;
   from = omega arith;
   below = let t = m.taken in omega arith;

@@ -98,10 +98,13 @@ module _ {P : Type 0} where
     pub core : (k : Listed) → p.core.own ≡ listed k → q.core ≡ marked p.core k.node
     pub held : (h : HeldRange) → held_at p.core.own ≡ Some h → q.pass ≡ rested p.pass
     pub free : held_at p.core.own ≡ None → q.pass ≡ p.pass
-    -- what the record has of nodes, exchanges and walks stays
+    -- what the record has of nodes, exchanges, walks, homes and epochs stays
     pub met : q.trace.met ≡ p.trace.met
     pub lost : q.trace.lost ≡ p.trace.lost
+    pub looked : p.core.cursor ≡ None → q.trace.looked ≡ p.trace.looked
     pub look : IsSameLook p q
+    pub away : q.trace.away ≡ p.trace.away
+    pub noted : q.trace.noted ≡ p.trace.noted
 
   -- why a quick unlink gives an answer: the range was given back, and the node is to be given home; or the head was
   -- another, and the range is still held

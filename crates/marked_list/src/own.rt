@@ -4,6 +4,7 @@
 //! for the mark; Kogan, Dice and Issa 2020 for the list of ranges.
 ghost use Rattle.std.specs.Prelude.{◌≡◌, ◌+◌, Some, None};
 ghost use Rattle.lock_core.specs.declared.views.Own.TheVariants.{Filling};
+ghost use Rattle.epoch_pools.specs.Beside.{given_back, may_give_back};
 ghost use Rattle.marked_list.specs.Order.{HasEnds, MayFill, MayAim, MayLink, MayMark};
 ghost use Rattle.marked_list.specs.Leaves.{IsCall, IsSameLook};
 ghost use Rattle.marked_list.specs.Answers.{IsAimed, Links, IsMarkCall};
@@ -90,12 +91,12 @@ pub fn link<G: Guard, L: Ledger>(
 }
 
 /// Marks the hand's linked node, by one addition: its range is given back where it is held, and given up otherwise. The
-/// pass of a held range is at rest, and becomes `rested`; otherwise the pass stays.
+/// pass of a held range that counts is at rest, and becomes `rested`; otherwise the pass stays.
 pub fn mark<G: Guard, L: Ledger>(list: &List<G>, hand: &mut Hand<G>, steps: &mut Steps<L>)
     requires table { hand.old.table ≡ list.now.table }
-    requires order { MayMark G.is_at_rest hand.old.part }
+    requires order { MayMark (may_give_back G.is_at_rest) hand.old.part }
     ensures table { hand.new.table ≡ hand.old.table }
-    ensures marked { IsMarkCall G.rested hand.old.part hand.new.part }
+    ensures marked { IsMarkCall (given_back G.rested) hand.old.part hand.new.part }
     ensures counted { steps.new ≡ steps.old + 1 }
 {
     let _ = hand.view();

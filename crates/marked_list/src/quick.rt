@@ -2,6 +2,7 @@
 //! and unlinked by another, as long as nobody has settled the head meanwhile. A reader may rely on a quick link that
 //! answers Done holding its range from that step on. The fast path of Kogan, Dice and Issa 2020.
 ghost use Rattle.std.specs.Prelude.{◌≡◌, ◌+◌, Some, None};
+ghost use Rattle.epoch_pools.specs.Beside.{given_back, may_give_back};
 ghost use Rattle.marked_list.specs.Order.{MayQuickLink, MayQuickUnlink};
 ghost use Rattle.marked_list.specs.Leaves.{IsCall};
 ghost use Rattle.marked_list.specs.Answers.{QuickLinks, QuickUnlinks};
@@ -45,18 +46,18 @@ pub fn quick_link<G: Guard, L: Ledger>(
 }
 
 /// Gives the held range back by one exchange of the head, where the hand's node is still alone in the list as
-/// `quick_link` put it there. The pass is at rest, and no unlinked node is still to be given home.
-/// After `Done` the pass is `rested` of what it was, and the hand owes `give_home` for that node. After `Lost` the
-/// range is still held, and `mark` is the way on.
+/// `quick_link` put it there. The pass is at rest where the range counts, and no unlinked node is still to be given
+/// home. After `Done` the pass is `rested` of what it was, where the range counted, and the hand owes `give_home` for
+/// that node. After `Lost` the range is still held, and `mark` is the way on.
 pub fn quick_unlink<G: Guard, L: Ledger>(
     list: &List<G>,
     hand: &mut Hand<G>,
     steps: &mut Steps<L>,
 ) -> Linked
     requires table { hand.old.table ≡ list.now.table }
-    requires order { MayQuickUnlink G.is_at_rest hand.old.part }
+    requires order { MayQuickUnlink (may_give_back G.is_at_rest) hand.old.part }
     ensures table { hand.new.table ≡ hand.old.table }
-    ensures answer { QuickUnlinks G.rested hand.old.part hand.new.part result }
+    ensures answer { QuickUnlinks (given_back G.rested) hand.old.part hand.new.part result }
     ensures counted { steps.new ≡ steps.old + 1 }
 {
     let Own::Linked { node, .. } = hand.view().own else {

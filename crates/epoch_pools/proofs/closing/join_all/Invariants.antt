@@ -1,5 +1,5 @@
-use Rattle.std.proofs.Common.{◌≡◌, [], ◌++◌, map, length}
-use Rattle.epoch_pools.specs.Hands.{AreHandsOf, hand_with}
+use Rattle.std.proofs.Common.{◌≡◌, List, [], ◌++◌, length}
+use Rattle.epoch_pools.specs.Hands.{HandState, AreHandsOf, AreShownAt}
 use Rattle.epoch_pools.proofs.closing.join_all.Given as goal
 
 -- the seat has what belongs to the hands so far, in their order, and the others are of the table
@@ -7,7 +7,7 @@ abbrev pub invariant-all : goal.invariant-all
 invariant-all g l = record {
   table : l.all.table_id ≡ l.shared.table_id;
   slots : l.all.me.1 ≡ [];
-  parts : map (hand_with l.shared.table_id) l.all.me.0.parts ++ l.hands.items ≡ l.fn.hands.items;
+  parts : (front : List (HandState _)) × AreShownAt l.shared.table_id l.all.me.0.parts front × (front ++ l.hands.items ≡ l.fn.hands.items);
   rest : AreHandsOf l.shared.table_id l.hands.items;
 }
 

@@ -6,4 +6,4 @@ use Rattle.list_trials.proofs.calls.mark_now.Goals as goal
 pub mark-requires-clause-order : goal.mark-requires-clause-order
 mark-requires-clause-order g c =
     let linked : (k : Listed) × (c.args.hand.now.part.core.own ≡ listed k) = search rules in
-    record { node = linked.0; is = linked.1; rest = λ _. tt }
+    record { node = linked.0; is = linked.1; rest = λ done counted. tt }

@@ -1,6 +1,7 @@
 use Rattle.std.proofs.Common.{rules, sym, ap, ◌∙◌, subst}
 use Rattle.std.specs.Prelude.{Option}
 use Rattle.lock_core.specs.declared.views.View.{View}
+use Rattle.epoch_pools.specs.Beside.{given_back}
 use Rattle.marked_list.specs.declared.answers.Walked.{Walked}
 use Rattle.marked_list.specs.Walking.{judgement_at, Outcome}
 use Rattle.marked_list.proofs.Judging.{may_read_hi, judged_on, judged_walk, judged_taken, judged_range, judged_outcome, names_node}
@@ -13,25 +14,25 @@ step-word-requires-clause-enabled g c = let k = c.requires.knows in may_read_hi 
 -- both ends are those of a range
 pub judgement-requires-clause-range : goal.judgement-requires-clause-range
 judgement-requires-clause-range g c = let k = c.requires.knows in
-    judged_range c.args.hand.now.part k.0 c.args.lo k.1 k.2 g.G.Guard.rested c.step-word.new.hand.part c.step-word.result
+    judged_range c.args.hand.now.part k.0 c.args.lo k.1 k.2 (given_back g.G.Guard.rested) c.step-word.new.hand.part c.step-word.result
     c.step-word.ensures.made _ c.step-word.ensures.told
 
 -- what a call that walks leaves
 pub returns-clause-later : goal.returns-clause-later
 returns-clause-later g c = let k = c.requires.knows in
-    judged_on c.args.hand.now.part k.0 c.args.lo k.1 k.2 g.G.Guard.rested c.step-word.new.hand.part c.step-word.result
+    judged_on c.args.hand.now.part k.0 c.args.lo k.1 k.2 (given_back g.G.Guard.rested) c.step-word.new.hand.part c.step-word.result
     c.step-word.ensures.made
 
 -- it is the same walk
 pub returns-clause-walk : goal.returns-clause-walk
 returns-clause-walk g c = let k = c.requires.knows in
-    judged_walk c.args.hand.now.part k.0 c.args.lo k.1 k.2 g.G.Guard.rested c.step-word.new.hand.part c.step-word.result
+    judged_walk c.args.hand.now.part k.0 c.args.lo k.1 k.2 (given_back g.G.Guard.rested) c.step-word.new.hand.part c.step-word.result
     c.step-word.ensures.made
 
 -- in one step
 pub returns-clause-taken : goal.returns-clause-taken
 returns-clause-taken g c = let k = c.requires.knows in
-    judged_taken c.args.hand.now.part k.0 c.args.lo k.1 k.2 g.G.Guard.rested c.step-word.new.hand.part c.step-word.result
+    judged_taken c.args.hand.now.part k.0 c.args.lo k.1 k.2 (given_back g.G.Guard.rested) c.step-word.new.hand.part c.step-word.result
     c.step-word.ensures.made
 
 -- a cursor that stays at its node names one
@@ -44,5 +45,5 @@ returns-clause-outcome g c =
     let k = c.requires.knows in let p = c.args.hand.now.part in let q = c.step-word.new.hand.part in let w = c.step-word.result in
     subst (λ (o : Option Walked). Outcome p.trace.walked p.core q o)
     (sym (c.judgement.ensures ∙ ap (λ (v : View). judgement_at v.own v.cursor c.args.lo w) c.view.ensures.view))
-    (judged_outcome p k.0 c.args.lo k.1 k.2 g.G.Guard.rested q w c.step-word.ensures.made _ c.step-word.ensures.told
+    (judged_outcome p k.0 c.args.lo k.1 k.2 (given_back g.G.Guard.rested) q w c.step-word.ensures.made _ c.step-word.ensures.told
     c.view.ensures.sound c.requires.room c.requires.other c.requires.walked)

@@ -1,3 +1,4 @@
+use Rattle.epoch_pools.specs.Beside.{given_back}
 use Rattle.marked_list.proofs.Judging.{may_walk, next_known, next_loaded, next_others, next_walked}
 use Rattle.marked_list.proofs.look.load_next.Goals as goal
 
@@ -7,17 +8,20 @@ step-requires-clause-enabled g c = may_walk c.args.hand.now.part c.requires.stan
 
 -- the next word is known after the load
 pub returns-clause-knows : goal.returns-clause-knows
-returns-clause-knows g c = next_known c.args.hand.now.part c.requires.stands g.G.Guard.rested c.step.new.hand.part c.step.result c.step.ensures.made
+returns-clause-knows g c = next_known c.args.hand.now.part c.requires.stands
+    (given_back g.G.Guard.rested) c.step.new.hand.part c.step.result c.step.ensures.made
 
 -- the cursor stays at its node
 pub returns-clause-load : goal.returns-clause-load
-returns-clause-load g c = next_loaded c.args.hand.now.part c.requires.stands g.G.Guard.rested c.step.new.hand.part c.step.result c.step.ensures.made
+returns-clause-load g c = next_loaded c.args.hand.now.part c.requires.stands
+    (given_back g.G.Guard.rested) c.step.new.hand.part c.step.result c.step.ensures.made
 
 -- an unmarked node is another seat's, or the own linked one
 pub returns-clause-other : goal.returns-clause-other
-returns-clause-other g c = next_others c.args.hand.now.part c.requires.stands g.G.Guard.rested c.step.new.hand.part c.step.result
+returns-clause-other g c = next_others c.args.hand.now.part c.requires.stands (given_back g.G.Guard.rested) c.step.new.hand.part c.step.result
     c.step.ensures.made _ c.step.ensures.told
 
 -- this step found the node
 pub returns-clause-walked : goal.returns-clause-walked
-returns-clause-walked g c = next_walked c.args.hand.now.part c.requires.stands g.G.Guard.rested c.step.new.hand.part c.step.result c.step.ensures.made
+returns-clause-walked g c = next_walked c.args.hand.now.part c.requires.stands
+    (given_back g.G.Guard.rested) c.step.new.hand.part c.step.result c.step.ensures.made

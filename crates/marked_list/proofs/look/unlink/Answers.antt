@@ -1,6 +1,7 @@
 use Rattle.std.proofs.Common.{◌≡◌, rules, sym, ap, ◌∙◌}
 use Rattle.std.specs.Prelude.{None}
 use Rattle.lock_core.specs.declared.views.View.{View}
+use Rattle.epoch_pools.specs.Beside.{given_back}
 use Rattle.marked_list.proofs.Unlinking.{may_unlink, unlink_lost}
 use Rattle.marked_list.proofs.look.unlink.Goals as goal
 
@@ -13,6 +14,7 @@ pub returns-in_default-hand-clause-lost : goal.returns-in_default-hand-clause-lo
 returns-in_default-hand-clause-lost g c =
     let k = c.requires.knows in let p = c.args.hand.now.part in let q = c.step-found.new.hand.part in
     let none : q.core.hand ≡ None = search rules in
-    unlink_lost p k.0 k.1 k.2 g.G.Guard.rested q c.step-found.result c.step-found.ensures.made none c.view.ensures.sound c.requires.room c.in-Some.cursor
+    unlink_lost p k.0 k.1 k.2
+    (given_back g.G.Guard.rested) q c.step-found.result c.step-found.ensures.made none c.view.ensures.sound c.requires.room c.in-Some.cursor
     (ap (λ (v : View). v.cursor) (sym c.view.ensures.view) ∙ c.in-Some.is) c.seats.result (search rules) c.lost_at.result
     c.lost_at.ensures.place c.lost_at.ensures.values.0 c.lost_at.ensures.values.1

@@ -1,4 +1,5 @@
 use Rattle.std.proofs.Common.{refl, inl}
+use Rattle.epoch_pools.specs.Beside.{given_back}
 use Rattle.marked_list.specs.declared.answers.Lost.{Lost}
 use Rattle.marked_list.proofs.Owning.{may_quick_link, quick_call, quick_done, quick_lost}
 use Rattle.marked_list.proofs.quick.quick_link.Goals as goal
@@ -15,19 +16,19 @@ step-found-requires-clause-enabled g c = may_quick_link c.args.hand.now.part c.a
 -- aim and link are a call of two steps
 pub returns-clause-call : goal.returns-clause-call
 returns-clause-call g c = quick_call c.args.hand.now.part c.aim.new.hand.part c.aim.ensures.aimed c.requires.order.own
-    (c.view.ensures.sound.sound.outside c.requires.order.even) c.requires.order.even g.G.Guard.rested c.step-found.new.hand.part
+    (c.view.ensures.sound.sound.outside c.requires.order.even) c.requires.order.even (given_back g.G.Guard.rested) c.step-found.new.hand.part
     c.step-found.result c.step-found.ensures.made
 
 -- the head was empty, so the range is held
 pub returns-clause-answer : goal.returns-clause-answer
 returns-clause-answer g c = quick_done c.args.hand.now.part c.aim.new.hand.part c.aim.ensures.aimed c.requires.order.own
-    (c.view.ensures.sound.sound.outside c.requires.order.even) c.requires.order.even g.G.Guard.rested c.step-found.new.hand.part
+    (c.view.ensures.sound.sound.outside c.requires.order.even) c.requires.order.even (given_back g.G.Guard.rested) c.step-found.new.hand.part
     c.step-found.result c.step-found.ensures.made c.if-found-ne0.false
 
 -- aim and a lost link are a call of two steps
 pub returns-then-found-ne0-clause-call : goal.returns-then-found-ne0-clause-call
 returns-then-found-ne0-clause-call g c = quick_call c.args.hand.now.part c.aim.new.hand.part c.aim.ensures.aimed
-    c.requires.order.own (c.view.ensures.sound.sound.outside c.requires.order.even) c.requires.order.even g.G.Guard.rested
+    c.requires.order.own (c.view.ensures.sound.sound.outside c.requires.order.even) c.requires.order.even (given_back g.G.Guard.rested)
     c.step-found.new.hand.part c.step-found.result c.step-found.ensures.made
 
 -- the head was another, so the node is only aimed
@@ -35,6 +36,6 @@ pub returns-then-found-ne0-clause-answer : goal.returns-then-found-ne0-clause-an
 returns-then-found-ne0-clause-answer g c =
     let l : Lost = record { place = 0; expected = 0; found = c.step-found.result } in
     let t = quick_lost c.args.hand.now.part c.aim.new.hand.part c.aim.ensures.aimed c.requires.order.own
-    (c.view.ensures.sound.sound.outside c.requires.order.even) c.requires.order.even g.G.Guard.rested
+    (c.view.ensures.sound.sound.outside c.requires.order.even) c.requires.order.even (given_back g.G.Guard.rested)
     c.step-found.new.hand.part c.step-found.result c.step-found.ensures.made c.if-found-ne0.true l refl refl refl in
     (t.0, refl, refl, t.1)

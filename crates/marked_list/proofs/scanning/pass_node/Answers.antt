@@ -1,5 +1,6 @@
 use Rattle.std.proofs.Common.{sym, ap, ◌∙◌, subst}
 use Rattle.lock_core.specs.declared.views.View.{View}
+use Rattle.epoch_pools.specs.Beside.{given_back}
 use Rattle.marked_list.specs.declared.answers.Passed.{Passed}
 use Rattle.marked_list.specs.Causes.{judged_in}
 use Rattle.marked_list.specs.Scanning.{PassesFrom}
@@ -9,13 +10,13 @@ use Rattle.marked_list.proofs.scanning.pass_node.Goals as goal
 -- both ends are those of a range
 pub found-requires-clause-range : goal.found-requires-clause-range
 found-requires-clause-range g c = let k = c.requires.knows in
-    judged_range c.args.hand.now.part k.0 c.args.lo k.1 k.2 g.G.Guard.rested c.step-word.new.hand.part c.step-word.result
+    judged_range c.args.hand.now.part k.0 c.args.lo k.1 k.2 (given_back g.G.Guard.rested) c.step-word.new.hand.part c.step-word.result
     c.step-word.ensures.made _ c.step-word.ensures.told
 
 -- it is the same walk
 pub returns-clause-walk : goal.returns-clause-walk
 returns-clause-walk g c = let k = c.requires.knows in
-    judged_walk c.args.hand.now.part k.0 c.args.lo k.1 k.2 g.G.Guard.rested c.step-word.new.hand.part c.step-word.result
+    judged_walk c.args.hand.now.part k.0 c.args.lo k.1 k.2 (given_back g.G.Guard.rested) c.step-word.new.hand.part c.step-word.result
     c.step-word.ensures.made
 
 -- the scan went past the node that its cursor was at
@@ -23,6 +24,6 @@ pub returns-clause-answer : goal.returns-clause-answer
 returns-clause-answer g c =
     let k = c.requires.knows in let p = c.args.hand.now.part in let q = c.step-word.new.hand.part in
     subst (λ (a : Passed). PassesFrom p.trace.walked (judged_in p.trace.looked) q a) (sym c.found.ensures)
-    (past_passes p k.0 c.args.lo k.1 k.2 g.G.Guard.rested q c.step-word.result c.step-word.ensures.made c.requires.own
+    (past_passes p k.0 c.args.lo k.1 k.2 (given_back g.G.Guard.rested) q c.step-word.result c.step-word.ensures.made c.requires.own
     c.requires.walked c.view.ensures.sound c.view-2.ensures.sound c.requires.room
     c.in-Some.cursor (ap (λ (v : View). v.cursor) (sym c.view.ensures.view) ∙ c.in-Some.is))

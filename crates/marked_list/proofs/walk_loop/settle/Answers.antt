@@ -1,5 +1,6 @@
 use Rattle.std.proofs.Common.{rules, sym, ap, ◌∙◌}
 use Rattle.lock_core.specs.declared.views.View.{View}
+use Rattle.epoch_pools.specs.Beside.{given_back}
 use Rattle.marked_list.proofs.Beginning.{may_settle, settle_is, settle_lost}
 use Rattle.marked_list.proofs.walk_loop.settle.Goals as goal
 
@@ -9,7 +10,7 @@ step-found-requires-clause-enabled g c = may_settle c.args.hand.now.part c.requi
 
 -- the head was another, so the exchange is lost
 pub returns-then-found-cursor-clause-lost : goal.returns-then-found-cursor-clause-lost
-returns-then-found-cursor-clause-lost g c = settle_lost c.args.hand.now.part c.requires.head g.G.Guard.rested
+returns-then-found-cursor-clause-lost g c = settle_lost c.args.hand.now.part c.requires.head (given_back g.G.Guard.rested)
     c.step-found.new.hand.part c.step-found.result c.step-found.ensures.made
     c.in-Some.cursor (ap (λ (v : View). v.cursor) (sym c.view.ensures.view) ∙ c.in-Some.is) c.if-found-cursor.true
     c.view.ensures.sound c.requires.room c.seats.result (search rules) c.lost_at.result c.lost_at.ensures.place
@@ -17,6 +18,6 @@ returns-then-found-cursor-clause-lost g c = settle_lost c.args.hand.now.part c.r
 
 -- the head was the same, so the bit is gone
 pub returns-clause-settled : goal.returns-clause-settled
-returns-clause-settled g c = λ _. settle_is c.args.hand.now.part c.requires.head g.G.Guard.rested c.step-found.new.hand.part
+returns-clause-settled g c = λ _. settle_is c.args.hand.now.part c.requires.head (given_back g.G.Guard.rested) c.step-found.new.hand.part
     c.step-found.result c.step-found.ensures.made
     c.in-Some.cursor (ap (λ (v : View). v.cursor) (sym c.view.ensures.view) ∙ c.in-Some.is) c.if-found-cursor.false

@@ -1,7 +1,6 @@
-use Rattle.std.proofs.Common.{◌∙◌, ap, sym, eqb}
+use Rattle.std.proofs.Common.{[], ◌∙◌, ap, sym, eqb}
 use prog.Atomic.{either}
-use Rattle.epoch_pools.proofs.ClientSteps.{one_part}
-use Rattle.epoch_pools.proofs.LockSteps.{lock_allows, word_there, either_if}
+use Rattle.epoch_pools.proofs.LockSteps.{part_played, told_played, seat_played, token_allows, word_there, either_if}
 use Rattle.epoch_pools.proofs.list.List.exchange_at.Goals as goal
 
 -- an exchange that is this step keeps the rule, and tells what it should
@@ -9,13 +8,43 @@ pub compare_exchange-requires : goal.compare_exchange-requires
 compare_exchange-requires g c =
     let shape = c.self.view_is in
     let same = ap (λ s. s.table) c.token.view_is ∙ (c.requires.table ∙ sym (ap (λ s. s.table) shape)) in
-    let many = ap (λ s. s.part.seats) (sym c.token.view_is) ∙ c.token.invariant.3 in (
+    let part = ap (λ s. s.part) c.token.view_is in (
       same,
-      word_there _ _ c.args.word c.args.token.now.part.seats c.token.inside.seats same many c.token.invariant.6 c.requires.place.1,
-      lock_allows g.D.Doing.seats _ g.G.Guard.holds g.G.Guard.rested g.G.Guard.is_at_rest g.G.Guard.gains g.G.Guard.loses _
-          (c.self.invariant.same_seats ∙ (ap (λ s. s.seats) shape ∙ sym c.requires.seats))
-          g.D.Doing.doing _ _ c.args.word (λ n. either (eqb n c.args.expected) c.args.new n) c.token.inside.seat.me
-          c.args.token.now.part (one_part _ _ _ c.args.token.now c.token.invariant.1 c.token.view_is) c.requires.enabled
-          c.requires.rest c.requires.place.0 c.requires.place.1
+      word_there (g.G.Guard.first [] 0) c.token.inside.seat.me.0.parts _ _ c.token.inside.number c.token.inside.seats c.token.inside.lists c.token.inside.list
+          c.token.inside.first c.args.word c.place_of-place.result c.args.token.now.part same c.token.invariant.2 part c.requires.place.1
+          c.place_of-place.ensures,
+      token_allows (g.G.Guard.first [] 0) c.args.self.now.cut g.D.Doing.seats _ g.G.Guard.holds g.G.Guard.rested g.G.Guard.is_at_rest g.G.Guard.gains
+          g.G.Guard.loses _ _
+          (c.self.invariant.same_cut ∙ ap (λ s. s.cut) shape) (c.self.invariant.same_seats ∙ (ap (λ s. s.seats) shape ∙ sym c.requires.seats))
+          c.token.inside.number c.token.inside.seats c.token.inside.lists c.token.inside.list c.token.inside.first _ g.D.Doing.lists g.D.Doing.list
+          g.D.Doing.doing _ _ c.place_of-place.result c.args.word (λ n. either
+          (eqb n c.args.expected) c.args.new n) c.token.inside.seat.me c.args.token.now.part c.token.invariant.1 c.token.invariant.2 part
+          c.requires.lists.0 c.requires.lists.1 c.requires.enabled c.requires.rest c.requires.place.0 c.requires.place.1 c.place_of-place.ensures
           (λ w _ _. either_if (eqb w c.args.expected) c.args.new w ∙ sym (c.requires.exchange w)),
     )
+
+-- the token is of the same seat still
+pub invariant_of-token : goal.invariant_of-token
+invariant_of-token g c = (
+  c.compare_exchange.ensures.2.left.slots ∙ c.token.invariant.0,
+  c.compare_exchange.ensures.2.left.one,
+  seat_played (g.G.Guard.first [] 0) g.G.Guard.rested g.D.Doing.lists g.D.Doing.list g.D.Doing.seats g.D.Doing.doing c.compare_exchange.result
+      c.token.inside.seat.me
+      c.compare_exchange.new.seat.me c.compare_exchange.ensures.2
+      c.token.inside.number c.token.inside.seats c.token.inside.lists c.token.inside.list c.token.inside.first _ _ c.token.invariant.2
+      (ap (λ t. t.words) c.compare_exchange.ensures.0),
+)
+
+-- what belongs to the seat is that of the step's line
+pub returns-clause-part : goal.returns-clause-part
+returns-clause-part g c = part_played
+    (g.G.Guard.first [] 0) g.G.Guard.rested g.D.Doing.lists g.D.Doing.list g.D.Doing.seats g.D.Doing.doing c.compare_exchange.result c.token.inside.seat.me
+    c.compare_exchange.new.seat.me c.compare_exchange.ensures.2
+    c.token.inside.lists c.token.inside.list c.args.token.now.part (ap (λ s. s.part) c.token.view_is) c.requires.lists.0 c.requires.lists.1
+
+-- and what the step says
+pub returns-clause-told : goal.returns-clause-told
+returns-clause-told g c = told_played
+    (g.G.Guard.first [] 0) g.G.Guard.rested g.D.Doing.lists g.D.Doing.list g.D.Doing.seats g.D.Doing.doing c.compare_exchange.result c.token.inside.seat.me
+    c.compare_exchange.new.seat.me c.compare_exchange.ensures.2
+    c.token.inside.lists c.token.inside.list c.args.token.now.part (ap (λ s. s.part) c.token.view_is) c.requires.lists.0 c.requires.lists.1

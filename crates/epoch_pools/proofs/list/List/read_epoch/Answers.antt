@@ -1,3 +1,4 @@
+use Rattle.epoch_pools.specs.Beside.{given_back}
 use Rattle.epoch_pools.proofs.Taking.{may_read_epoch, epoch_looking, epoch_look}
 use Rattle.std.proofs.Common.{arith}
 use Rattle.epoch_pools.proofs.list.List.read_epoch.Goals as goal
@@ -9,7 +10,7 @@ returns-clause-on g c =
     let passed = c.requires.sound.sound.sized.passed in
     let notes = c.requires.sound.sound.sized.notes in
     let there = c.requires.there in
-    epoch_looking g.G.Guard.rested p c.get.new.token.part c.args.other c.get.result c.requires.free
+    epoch_looking (given_back g.G.Guard.rested) p c.get.new.token.part c.args.other c.get.result c.requires.free
     (may_read_epoch p.seats p.number p.core c.args.other c.requires.free c.requires.homes there c.requires.other) c.get.ensures.part
     (omega arith) (omega arith)
 
@@ -20,6 +21,6 @@ returns-clause-looked g c =
     let passed = c.requires.sound.sound.sized.passed in
     let notes = c.requires.sound.sound.sized.notes in
     let there = c.requires.there in
-    epoch_look g.G.Guard.rested p c.get.new.token.part c.args.other c.get.result c.requires.free
+    epoch_look (given_back g.G.Guard.rested) p c.get.new.token.part c.args.other c.get.result c.requires.free
     (may_read_epoch p.seats p.number p.core c.args.other c.requires.free c.requires.homes there c.requires.other) c.get.ensures.part
     (omega arith) (omega arith) c.requires.homes

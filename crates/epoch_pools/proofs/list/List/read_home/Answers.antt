@@ -1,5 +1,6 @@
 use Rattle.std.proofs.Common.{rules, ap, sym, ◌∙◌, arith}
 use Rattle.lock_core.specs.declared.steps.Step.TheVariants.{ReadHome}
+use Rattle.epoch_pools.specs.Beside.{given_back}
 use Rattle.epoch_pools.specs.Running.{Enables}
 use Rattle.epoch_pools.proofs.Taking.{home_look}
 use Rattle.epoch_pools.proofs.Looking.{awaited_there, awaited_room}
@@ -8,10 +9,10 @@ use Rattle.epoch_pools.proofs.list.List.read_home.Goals as goal
 -- a used node is one of the list's
 pub home-place-requires : goal.home-place-requires
 home-place-requires g c =
-    let many = ap (λ s. s.part.seats) (sym c.token.view_is) ∙ c.token.invariant.3 in
-    let number = ap (λ s. s.part.number) (sym c.token.view_is) ∙ c.token.invariant.2 in
-    let below = c.token.invariant.4 in
-    let few = c.token.invariant.5 in
+    let many = ap (λ s. s.part.seats) (sym c.token.view_is) ∙ c.token.invariant.2.seats_are in
+    let number = ap (λ s. s.part.number) (sym c.token.view_is) ∙ c.token.invariant.2.number_is in
+    let below = c.token.invariant.2.there in
+    let few = c.token.invariant.2.few in
     let there = awaited_there c.args.token.now.part c.args.node c.requires.sound (omega arith) (omega arith) c.requires.awaited in
     let seats = c.of.ensures.seats in
     omega arith
@@ -21,13 +22,13 @@ pub returns-clause-looked : goal.returns-clause-looked
 returns-clause-looked g c =
     let p = c.args.token.now.part in
     let may : Enables p (ReadHome c.args.node) = search rules in
-    home_look g.G.Guard.rested p c.get.new.token.part c.args.node c.get.result c.requires.free may c.get.ensures.part
+    home_look (given_back g.G.Guard.rested) p c.get.new.token.part c.args.node c.get.result c.requires.free may c.get.ensures.part
 
 -- the ready nodes and the homes leave room for it
 pub returns-clause-room : goal.returns-clause-room
 returns-clause-room g c =
-    let many = ap (λ s. s.part.seats) (sym c.token.view_is) ∙ c.token.invariant.3 in
-    let number = ap (λ s. s.part.number) (sym c.token.view_is) ∙ c.token.invariant.2 in
-    let below = c.token.invariant.4 in
-    let few = c.token.invariant.5 in
+    let many = ap (λ s. s.part.seats) (sym c.token.view_is) ∙ c.token.invariant.2.seats_are in
+    let number = ap (λ s. s.part.number) (sym c.token.view_is) ∙ c.token.invariant.2.number_is in
+    let below = c.token.invariant.2.there in
+    let few = c.token.invariant.2.few in
     awaited_room c.args.token.now.part c.args.node c.requires.sound (omega arith) (omega arith) c.requires.awaited

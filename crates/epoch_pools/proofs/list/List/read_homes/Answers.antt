@@ -38,10 +38,10 @@ nodes-preserved g c =
 pub returns-clause-room : goal.returns-clause-room
 returns-clause-room g c =
     let p = c.args.token.now.part in let q = c.nodes.token.part in
-    let many = ap (λ s. s.part.seats) (sym c.token.view_is) ∙ c.token.invariant.3 in
-    let number = ap (λ s. s.part.number) (sym c.token.view_is) ∙ c.token.invariant.2 in
-    let below = c.token.invariant.4 in
-    let few = c.token.invariant.5 in
+    let many = ap (λ s. s.part.seats) (sym c.token.view_is) ∙ c.token.invariant.2.seats_are in
+    let number = ap (λ s. s.part.number) (sym c.token.view_is) ∙ c.token.invariant.2.number_is in
+    let below = c.token.invariant.2.there in
+    let few = c.token.invariant.2.few in
     let was = c.nodes.invariant in
     let seats = was.on.call.seats in
     let same = was.on.call.number in
