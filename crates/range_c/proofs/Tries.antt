@@ -1,6 +1,7 @@
 -- Several tries in a row are tries, what the tries so far came to, and how many steps they made at most. Each of them
 -- began with the seat as the one before had left it.
-use Rattle.std.proofs.Common.{◌≡◌, ℕ, zero, suc, ◌+◌, ◌*◌, ◌<◌, ◌≤◌, ◌↔◌, ◌∙◌, Bool, Result, Ok, Err, IfErr, OnErr, Some, None, refl, sym, ap, subst, arith}
+use Rattle.std.proofs.Common.{◌≡◌, ℕ, zero, suc, ◌+◌, ◌*◌, ◌<◌, ◌≤◌, ◌↔◌, ◌∙◌, Bool, Result, Ok, Err, Some, None, refl, sym, ap, subst, arith}
+use Rattle.std.specs.Prelude.{IfOk, IfErr, OnOk, OnErr}
 use Rattle.std.proofs.Math.Nat.{suc-mul, zero-mul, mul-le-mul_right}
 use Rattle.std.proofs.Math.Numerals.{add-one}
 use Rattle.lock_core.specs.Range.{Interval, IsRange}
@@ -22,6 +23,12 @@ pub refused_for : {T : Type 0} (r : Result T NotHeld) (seats : ℕ) (ask : Held)
 refused_for (Ok x) seats ask entry after call free bound none cause long = tt
 refused_for (Err why) seats ask entry after call free bound none cause long =
     record { one = record { call = call; free = free; bound = bound }; free = none; cause = cause; long = long }
+
+-- and of one that holds what was asked for
+pub granted_for : {T : Type 0} (r : Result T NotHeld) (seats : ℕ) (ask : Held) (entry after : RecordingSeat) → IsLockCall entry after → entry.held ≡ None
+    → after.trace.taken ≤ entry.trace.taken + most_steps seats → OnOk r (after.held ≡ Some ask) → IfOk r (λ _. IsGranted seats ask entry after)
+granted_for (Ok x) seats ask entry after call free bound held = record { one = record { call = call; free = free; bound = bound }; held = held }
+granted_for (Err why) seats ask entry after call free bound held = tt
 
 -- calls of the lock, one after another, are calls of the lock
 pub calls_after : (a b c : RecordingSeat) → IsLockCall a b → IsLockCall b c → IsLockCall a c

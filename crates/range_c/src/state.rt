@@ -27,7 +27,7 @@ pub(crate) struct State {
 impl Model for State {
     ghost use Rattle.std.specs.Prelude.{◌≡◌, ◌≤◌, length};
     ghost use Rattle.std.specs.Arc.{arc_value};
-    ghost use Rattle.range_rw.specs.Contract.{AreNewSeats};
+    ghost use Rattle.range_rw.specs.Contract.{AreNewSeats, IsOneList};
     ghost use Rattle.range_c.specs.Recording.{begun};
     ghost use Rattle.range_c.specs.Behind.{Behind};
 
@@ -37,7 +37,7 @@ impl Model for State {
 
     ghost invariant = { λ s. (s.seat.table ≡ (arc_value s.table).table)
         × AreNewSeats (arc_value s.table).table (begun s.seat.pass.opened) s.spare.items × ((arc_value s.table).client ≡ s.words)
-        × (s.seat.number ≡ s.number) × (length s.spare.items ≤ s.number) };
+        × (s.seat.number ≡ s.number) × (length s.spare.items ≤ s.number) × IsOneList (arc_value s.table) };
 }
 
 /// The range that a call of C's asks for, and how often it is to try.

@@ -1,10 +1,15 @@
+pub mod Choosing
 pub mod Giving
 pub mod Insertion
 pub mod Later
 pub mod Lists
 pub mod Looking
+pub mod Moves
+pub mod Pieces
 pub mod Scans
 pub mod SeatLists
+pub mod Seated
+pub mod SeatedScans
 pub mod Seating
 pub mod Taking
 pub mod Waiting

@@ -11,6 +11,7 @@ use Rattle.lock_core.specs.Machine.{held_at}
 use Rattle.lock_core.proofs.SizedSteps.{plain_is}
 use Rattle.epoch_pools.specs.declared.record.Looked.{Looked}
 use Rattle.epoch_pools.specs.declared.views.SeatPart.{SeatPart}
+use Rattle.epoch_pools.specs.declared.views.Beside.{Beside}
 use Rattle.epoch_pools.specs.Hands.{IsHandView, quiet_after}
 use Rattle.marked_list.specs.declared.answers.Passed.{Passed}
 use Rattle.marked_list.specs.declared.answers.Passed.TheVariants.{Found as NodeFound, End as ListEnd, Lost as NotWon, Long as TooLong}
@@ -23,44 +24,16 @@ use Rattle.marked_list.specs.Scanning.{IsScanAtNode, IsScanAtEnd, IsScanning, Is
 use Rattle.marked_list.proofs.Arriving.{nodes_seen}
 use Rattle.marked_list.proofs.Passing.{notes_are}
 use Rattle.range_rw.specs.declared.scan.Scanned.{Scanned}
-use Rattle.range_rw.specs.Contract.{OpenScan, fresh_scan}
+use Rattle.range_rw.specs.Contract.{OpenScan, fresh_in}
 use Rattle.range_rw.specs.Seats.{IsSettled, IsBetween, begun_in, walk_of, scan_of, seat_state_in}
 use Rattle.range_rw.specs.Trying.{IsLaterInTry}
-use Rattle.range_rw.specs.Scan.{scanned_as, IsScanCall, Gives, WalksOn, KeepsWalk, IsNext, OpensEpoch, ClosesEpoch}
+use Rattle.range_rw.specs.Scan.{scanned_as, Gives, WalksOn, KeepsWalk, IsNextIn}
 
--- a hand that is outside enters its epoch, and begins at the head
-pub opens_epoch : {P : Type 0} (p e q : SeatPart P) → IsLaterInTry p e → MaySweep e.core → e.core.ready ≡ p.core.ready
-    → q ≡ quiet_after e Enter (entered e.core) → OpensEpoch p q
-opens_epoch {P} p e q a may ready made = record {
-  later = record {
-    number = ap (λ (x : SeatPart P). x.number) made ∙ a.number;
-    seats = ap (λ (x : SeatPart P). x.seats) made ∙ a.seats;
-    pass = ap (λ (x : SeatPart P). x.pass) made ∙ a.pass;
-    client = ap (λ (x : SeatPart P). x.trace.client) made ∙ a.client;
-    taken = let t = ap (λ (x : SeatPart P). x.trace.taken) made in let b = a.taken in omega arith;
-  };
-  odd = let n = ap (λ (x : SeatPart P). x.core.epoch) made in let z = may.outside.even in omega arith;
-  hand = ap (λ (x : SeatPart P). x.core.hand) made ∙ may.outside.hand;
-  own = ap (λ (x : SeatPart P). x.core.own) made ∙ may.own;
-  cursor = ap (λ (x : SeatPart P). x.core.cursor) made;
-  ready = ap (λ (x : SeatPart P). x.core.ready) made ∙ ready;
-}
-
--- a hand that has left its epoch, or was outside, has no cursor
-pub closes_epoch : {P : Type 0} (p q : SeatPart P) → IsLaterInTry p q → MaySweep q.core → q.core.ready ≡ p.core.ready → IsHandView q → ClosesEpoch p q
-closes_epoch p q a may ready view = record {
-  later = a;
-  even = may.outside.even;
-  hand = may.outside.hand;
-  own = may.own;
-  cursor = view.sound.outside may.outside.even;
-  ready = ready;
-}
-
-bare_settled : (own : Own) → own ≡ Nothing → IsSettled own
+-- no own node is settled
+pub bare_settled : (own : Own) → own ≡ Nothing → IsSettled own
 bare_settled own e = subst IsSettled (sym e) tt
 
-module _ {P : Type 0} (p : SeatPart P) where
+module _ {P : Type 0} (p : SeatPart (Beside P)) where
   -- where no scan is open, and where one is
   pub scan_none : p.core.epoch % 2 ≡ 0 → scan_of p ≡ None
   scan_none even = ap (λ (b : Bool). if b then None else Some (walk_of (16 * p.seats + 1) p.core.cursor p.trace.looked)) (eq-eqb _ _ even)
@@ -85,75 +58,45 @@ module _ {P : Type 0} (p : SeatPart P) where
       let f : ◌≡◌ {A = Option OpenScan} (Some (walk_of (16 * p.seats + 1) p.core.cursor p.trace.looked)) (Some was) = sym s ∙ e in
       cc
 
-walk_most : (m : ℕ) (o : Option Cursor) (l : Option Looked) → (walk_of m o l).most ≡ m
+-- as many nodes as its bound says
+pub walk_most : (m : ℕ) (o : Option Cursor) (l : Option Looked) → (walk_of m o l).most ≡ m
 walk_most m None l = refl
 walk_most m (Some c) l = refl
 
-walk_nodes : (m : ℕ) (o : Option Cursor) (l : Option Looked) → (walk_of m o l).nodes ≡ seen_of o
+-- a walk says nothing of the list
+walk_list : (m : ℕ) (o : Option Cursor) (l : Option Looked) → (walk_of m o l).list ≡ 0
+walk_list m None l = refl
+walk_list m (Some c) l = refl
+
+-- it has looked at what its cursor has seen
+pub walk_nodes : (m : ℕ) (o : Option Cursor) (l : Option Looked) → (walk_of m o l).nodes ≡ seen_of o
 walk_nodes m None l = refl
 walk_nodes m (Some c) l = refl
 
-walk_passed : (m : ℕ) (o : Option Cursor) (l : Option Looked) → (walk_of m o l).passed ≡ passed_at o l
+-- it went past what its cursor went past
+pub walk_passed : (m : ℕ) (o : Option Cursor) (l : Option Looked) → (walk_of m o l).passed ≡ passed_at o l
 walk_passed m None l = refl
 walk_passed m (Some c) l = refl
 
 -- the number of the walk of a cursor
-abbrev walk_at : Option Cursor → Option Looked → Option ℕ
+abbrev pub walk_at : Option Cursor → Option Looked → Option ℕ
 walk_at None l = None
 walk_at (Some c) l = begun_in l
 
-walk_begun : (m : ℕ) (o : Option Cursor) (l : Option Looked) → (walk_of m o l).walk ≡ walk_at o l
+-- it is that of its cursor
+pub walk_begun : (m : ℕ) (o : Option Cursor) (l : Option Looked) → (walk_of m o l).walk ≡ walk_at o l
 walk_begun m None l = refl
 walk_begun m (Some c) l = refl
 
-walk_ended : (m : ℕ) (o : Option Cursor) (l : Option Looked) → (walk_of m o l).ended ≡ true → IsAtEnd o
+-- at its end the cursor is at the end
+pub walk_ended : (m : ℕ) (o : Option Cursor) (l : Option Looked) → (walk_of m o l).ended ≡ true → IsAtEnd o
 walk_ended m None l e = absurd (cc)
 walk_ended m (Some c) l e = (c, refl, eqb-true _ _ e)
 
-module _ {P : Type 0} (table : TableId) (p q : SeatPart P) where
-  -- between two calls of a scan
-  pub in_between : OpensEpoch p q → IsBetween q.core
-  in_between g = record { own = bare_settled q.core.own g.own; hand = g.hand; cursor = inl g.cursor }
-
-  -- a hand that has left its epoch is one between two calls
-  pub out_between : ClosesEpoch p q → IsBetween q.core
-  out_between g = record { own = bare_settled q.core.own g.own; hand = g.hand; cursor = inl g.cursor }
-
-  -- so is one whose scan rests after a call that walks
+module _ {P : Type 0} (table : TableId) (p q : SeatPart (Beside P)) where
+  -- a hand is between two calls whose scan rests after a call that walks
   pub on_between : IsLaterInWalk p q → q.core.own ≡ Nothing → IsResting q.core → IsBetween q.core
   on_between on own rests = record { own = bare_settled q.core.own own; hand = on.hand; cursor = rests }
-
-  later_call : IsLaterInTry p q → q.core.own ≡ Nothing → q.core.ready ≡ p.core.ready → IsScanCall (seat_state_in table p) (seat_state_in table q)
-  later_call a own ready = record { table = refl; number = a.number; held = ap held_at own; ready = ready; pass = a.pass; client = a.client; taken = a.taken }
-
-  -- entering is a call of a scan
-  pub in_call : OpensEpoch p q → IsScanCall (seat_state_in table p) (seat_state_in table q)
-  in_call g = later_call g.later g.own g.ready
-
-  -- leaving is one
-  pub out_call : ClosesEpoch p q → IsScanCall (seat_state_in table p) (seat_state_in table q)
-  out_call g = later_call g.later g.own g.ready
-
-  -- a call that walks without an own node is one
-  pub on_call : IsLaterInWalk p q → q.core.own ≡ Nothing → IsScanCall (seat_state_in table p) (seat_state_in table q)
-  on_call on own = record {
-    table = refl;
-    number = on.number;
-    held = ap held_at own;
-    ready = on.pools.ready;
-    pass = on.pass;
-    client = on.client;
-    taken = on.taken;
-  }
-
-  -- after entering the open scan is a fresh one
-  pub in_begun : (seats : ℕ) → q.seats ≡ seats → OpensEpoch p q → scan_of q ≡ Some (fresh_scan (16 * seats + 1))
-  in_begun seats e g = scan_some q g.odd ∙ ((λ i. Some (walk_of (16 * q.seats + 1) (g.cursor i) q.trace.looked))
-      ∙ ap (λ (n : ℕ). Some (fresh_scan (16 * n + 1))) e)
-
-  -- after leaving there is none
-  pub out_none : ClosesEpoch p q → scan_of q ≡ None
-  out_none g = scan_none q g.even
 
   module _ (inside : IsInside p.core) (on : IsLaterInWalk p q) (view : IsHandView q) (was : OpenScan) (opened : scan_of p ≡ Some was) where
     abbrev now : OpenScan
@@ -164,6 +107,9 @@ module _ {P : Type 0} (table : TableId) (p q : SeatPart P) where
 
     was_most : 16 * p.seats + 1 ≡ was.most
     was_most = sym (walk_most (16 * p.seats + 1) p.core.cursor p.trace.looked) ∙ ap (λ (w : OpenScan). w.most) was_walk
+
+    was_list : 0 ≡ was.list
+    was_list = sym (walk_list (16 * p.seats + 1) p.core.cursor p.trace.looked) ∙ ap (λ (w : OpenScan). w.list) was_walk
 
     now_most : now.most ≡ 16 * q.seats + 1
     now_most = walk_most (16 * q.seats + 1) q.core.cursor q.trace.looked
@@ -221,7 +167,7 @@ module _ {P : Type 0} (table : TableId) (p q : SeatPart P) where
           },
           x.1 ∙ was_passed,
           (let n = x.2 in let e = on.seats in let w = was_most in omega arith),
-          ap (λ (o : Option Cursor). walk_of (16 * q.seats + 1) o q.trace.looked) x.3 ∙ ap fresh_scan (sym now_most ∙ same_most),
+          ap (λ (o : Option Cursor). walk_of (16 * q.seats + 1) o q.trace.looked) x.3 ∙ (λ i. fresh_in (was_list i) ((sym now_most ∙ same_most) i)),
         )
     gives_by (TooLong visits) x =
         let st = x.3.stands in let plain = plain_is st.cursor.cur st.node st.at in (
@@ -235,7 +181,7 @@ module _ {P : Type 0} (table : TableId) (p q : SeatPart P) where
     was_begun = sym (walk_begun (16 * p.seats + 1) p.core.cursor p.trace.looked) ∙ ap (λ (w : OpenScan). w.walk) was_walk
 
     -- the walk stays, or was begun by a step of the call
-    walks_by : IsHandView p → (o : Option Cursor) → p.core.cursor ≡ o → IsScanWalk o p q
+    pub walks_by : IsHandView p → (o : Option Cursor) → p.core.cursor ≡ o → IsScanWalk o p q
         → WalksOn (seat_state_in table p) (seat_state_in table q) (walk_at o p.trace.looked) (begun_in q.trace.looked)
     walks_by before None e new = (new.0.step, ap begun_in new.1, new.2, new.3)
     walks_by before (Some c) e same =
@@ -268,33 +214,13 @@ module _ {P : Type 0} (table : TableId) (p q : SeatPart P) where
 
     -- the answer of the list is what the scan gives, with its cause
     pub next_is : (a : Passed) (answer : Scanned) → answer ≡ scanned_as a → IsHandView p → IsScanWalk p.core.cursor p q
-        → IsResting q.core → Passes p q a → IsNext (seat_state_in table p) (seat_state_in table q) was answer
+        → IsResting q.core → Passes p q a → IsNextIn (seat_state_in table p) (seat_state_in table q) was answer
     next_is a answer e before goes rests x = record {
       now = now;
       is = now_is;
+      list = walk_list (16 * q.seats + 1) q.core.cursor q.trace.looked ∙ was_list;
       same = same_most;
       bounded = rests_few rests;
       gives = subst (Gives (seat_state_in table p) (seat_state_in table q) was now) (sym e) (gives_by a x);
       keeps = subst (KeepsWalk (seat_state_in table p) (seat_state_in table q) was now) (sym e) (keeps_by before goes a x);
     }
-
-    -- the bound on steps, in the words of the open scan
-    pub next_bound : q.trace.taken ≤ p.trace.taken + 2 + 3 * (16 * p.seats + 1) → q.trace.taken ≤ p.trace.taken + 2 + 3 * was.most
-    next_bound b = let w = was_most in omega arith
-
-    -- a walk that is at the end, or has looked at as many nodes as it may, stays
-    pub next_ended : (a : Passed) (answer : Scanned) → answer ≡ scanned_as a → was.ended ≡ true
-        → (IsAtEnd p.core.cursor → (q ≡ p) × (a ≡ ListEnd))
-        → (seat_state_in table q ≡ seat_state_in table p) × (answer ≡ scanned_as ListEnd)
-    next_ended a answer e ended stays =
-        let s = stays (walk_ended (16 * p.seats + 1) p.core.cursor p.trace.looked (ap (λ (w : OpenScan). w.ended) was_walk ∙ ended)) in
-        (ap (seat_state_in table) s.0, e ∙ ap scanned_as s.1)
-
-    -- the same of a walk that has looked at as many nodes as it may
-    pub next_spent : (a : Passed) (answer : Scanned) → answer ≡ scanned_as a → was.nodes ≡ was.most
-        → (seen_of p.core.cursor ≡ 16 * p.seats + 1 → (q ≡ p) × (a ≡ TooLong (16 * p.seats + 1)))
-        → (seat_state_in table q ≡ seat_state_in table p) × (answer ≡ scanned_as (TooLong was.most))
-    next_spent a answer e spent stays =
-        let n = walk_nodes (16 * p.seats + 1) p.core.cursor p.trace.looked in let w = ap (λ (x : OpenScan). x.nodes) was_walk in let m = was_most in
-        let s = stays (omega arith) in
-        (ap (seat_state_in table) s.0, e ∙ (ap scanned_as s.1 ∙ ap (λ (k : ℕ). scanned_as (TooLong k)) was_most))

@@ -1,13 +1,15 @@
 -- Lists of seats for the crates above: before and after what threads did to each, and the two seats of a new table.
--- Then the passes with which the seats of a new table begin.
-use Rattle.std.proofs.Common.{◌≡◌, ℕ, zero, suc, ◌+◌, ◌<◌, List, [], ◌∷◌, map, get_or, length, sym, refl, ap, ◌∙◌, subst, arith}
+-- Then the passes with which the seats of a new table begin, and the steps of a try in a table of one list.
+use Rattle.std.proofs.Common.{◌≡◌, ℕ, zero, suc, ◌+◌, ◌-◌, ◌*◌, ◌<◌, ◌≤◌, List, [], ◌∷◌, map, get_or, length, sym, refl, ap, ◌∙◌, subst, arith, mul-one}
 use Rattle.std.specs.Prelude.{remove}
 use mathlib.Core.Option.{some, some-injective, some-ne-none}
 use lib.ListN.{get_elem?}
 use Rattle.atomic_table.specs.Seated.{TableId}
 use Rattle.atomic_table.proofs.Lists.{at_index}
+use Rattle.list_cuts.specs.Cut.{list_count}
 use Rattle.lock_core.proofs.ByPlace.{below as at_below, at_or, same_or}
-use Rattle.range_rw.specs.Contract.{SeatState, AreNewSeats, AreIdleSeats, IsGivenBack, first_passes, new_seat, pass_in}
+use Rattle.range_rw.specs.Contract.{TableShape, SeatState, AreNewSeats, AreNewSeatsIn, AreIdleSeats, IsGivenBack, IsOneList, OpenScan, most_steps, scan_steps, first_passes}
+use Rattle.range_rw.specs.Contract.{new_seat, new_seat_in, pass_in}
 
 -- idle seats of which each is back are idle seats again
 pub seats_back : {P : Type 0} (table : TableId) (old new : List (SeatState P)) → length new ≡ length old → AreIdleSeats table old
@@ -23,17 +25,40 @@ seats_back table old new same idle each k s at =
     (sym (ap (λ x. x.table) now) ∙ (back.table ∙ i.0), sym (ap (λ x. x.number) now) ∙ (back.number ∙ i.1), sym (ap (λ x. x.held) now) ∙ back.held)
 
 module _ {P : Type 0} (table : TableId) where
-  -- the first seat of a new table, and the second of two
+  -- the first seat of a new table of so many lists, and the second of two
+  pub first_new_in : (lists : ℕ) (first : ℕ → P) (seats : List (SeatState P)) (s : SeatState P) → 0 < length seats
+      → AreNewSeatsIn lists table first seats → s ≡ get_or seats 0 s → s ≡ new_seat_in lists table first 0
+  first_new_in lists first seats s more new is = new 0 s (at_index seats 0 s more is)
+
+  pub second_in : (lists : ℕ) (first : ℕ → P) (seats left : List (SeatState P)) (s : SeatState P) → 1 < length seats
+      → AreNewSeatsIn lists table first seats → left ≡ remove seats 0 → s ≡ get_or left 0 s → s ≡ new_seat_in lists table first 1
+  second_in lists first [] left s two new rest is = absurd (omega arith)
+  second_in lists first (x ∷ []) left s two new rest is = absurd (omega arith)
+  second_in lists first (x ∷ y ∷ zs) left s two new rest is = new 1 s (ap some (sym (is ∙ ap (λ l. get_or l 0 s) rest)))
+
+  -- the same of just two
+  pub second_new_in : (lists : ℕ) (first : ℕ → P) (seats left : List (SeatState P)) (s : SeatState P) → length seats ≡ 2
+      → AreNewSeatsIn lists table first seats → left ≡ remove seats 0 → s ≡ get_or left 0 s → s ≡ new_seat_in lists table first 1
+  second_new_in lists first seats left s two = second_in lists first seats left s (omega arith)
+
+  -- and the third of three
+  pub third_new_in : (lists : ℕ) (first : ℕ → P) (seats rest left : List (SeatState P)) (s : SeatState P) → length seats ≡ 3
+      → AreNewSeatsIn lists table first seats → rest ≡ remove seats 0 → left ≡ remove rest 0 → s ≡ get_or left 0 s
+      → s ≡ new_seat_in lists table first 2
+  third_new_in lists first [] rest left s three new one two is = absurd (omega arith)
+  third_new_in lists first (x ∷ []) rest left s three new one two is = absurd (omega arith)
+  third_new_in lists first (x ∷ y ∷ []) rest left s three new one two is = absurd (omega arith)
+  third_new_in lists first (x ∷ y ∷ z ∷ zs) rest left s three new one two is =
+      new 2 s (ap some (sym (is ∙ ap (λ l. get_or l 0 s) (two ∙ ap (λ l. remove l 0) one))))
+
+  -- the same of a table of one list
   pub first_new : (first : ℕ → P) (seats : List (SeatState P)) (s : SeatState P) → 0 < length seats → AreNewSeats table first seats
       → s ≡ get_or seats 0 s → s ≡ new_seat table first 0
-  first_new first seats s more new is = new 0 s (at_index seats 0 s more is)
+  first_new = first_new_in 1
 
-  -- the second of two seats is the new one of number 1
   pub second_new : (first : ℕ → P) (seats left : List (SeatState P)) (s : SeatState P) → length seats ≡ 2 → AreNewSeats table first seats
       → left ≡ remove seats 0 → s ≡ get_or left 0 s → s ≡ new_seat table first 1
-  second_new first [] left s two new rest is = absurd (omega arith)
-  second_new first (x ∷ []) left s two new rest is = absurd (omega arith)
-  second_new first (x ∷ y ∷ zs) left s two new rest is = new 1 s (ap some (sym (is ∙ ap (λ l. get_or l 0 s) rest)))
+  second_new = second_new_in 1
 
 module _ {P : Type 0} where
   -- what is so of each seat before and after is so at each place of the two lists
@@ -67,3 +92,18 @@ module _ {P : Type 0} where
       → map pass_in seats ≡ first_passes first 0 (length seats)
   new_passes table first seats new = passes_from first 0 seats (λ k s at. let z : k ≡ 0 + k = omega arith in
       ap (λ (x : SeatState P). x.pass) (new k s at) ∙ ap first z)
+
+-- in a table of one list a try makes the steps of one
+pub one_list_steps : (t : TableShape) (before after : ℕ) → IsOneList t → after ≤ before + most_steps t → after ≤ before + (64 + 386 * t.seats)
+one_list_steps t before after one most =
+    let e : most_steps t ≡ 64 + 386 * t.seats = ap (λ n. (64 + 386 * t.seats) * n) one ∙ mul-one (64 + 386 * t.seats) in
+    subst (λ n. after ≤ before + n) e most
+
+-- and a call of a scan those of a walk
+pub one_scan_steps : (t : TableShape) (was : OpenScan) (before after : ℕ) → IsOneList t → after ≤ before + scan_steps t was
+    → after ≤ before + 2 + 3 * was.most
+one_scan_steps t was before after one most =
+    let none : list_count t.cut - 1 - was.list ≡ 0 = omega arith in
+    let e : scan_steps t was ≡ 2 + 3 * was.most = (λ i. 2 + 3 * was.most + (4 + 3 * was.most) * none i) ∙ omega arith in
+    let f : after ≤ before + (2 + 3 * was.most) = subst (λ n. after ≤ before + n) e most in
+    omega arith

@@ -2,10 +2,11 @@
 -- seat is its table, its number, the range that it holds, its pools of nodes, the pass of the layer above, and the
 -- record of its steps. The ranges are those of Kogan, Dice and Issa 2020; pools and record are this project's own
 -- profile. The layer above reads of a refusal its cause, and needs to know nothing of nodes.
-use Rattle.std.specs.Prelude.{◌≡◌, ◌≢◌, ◌⊎◌, ℕ, zero, suc, ◌+◌, ◌*◌, ◌/◌, ◌%◌, ◌<◌, ◌≤◌, ◌==◌, Bool, true, false, find, List, [], ◌∷◌, Option, Some, None}
+use Rattle.std.specs.Prelude.{◌≡◌, ◌≢◌, ◌⊎◌, ℕ, zero, suc, ◌+◌, ◌-◌, ◌*◌, ◌/◌, ◌%◌, ◌<◌, ◌≤◌, ◌==◌, Bool, true, false, find, List, [], ◌∷◌, Option, Some, None, length, map, replicate, get_or}
 use mathlib.Core.Option.{some}
 use lib.ListN.{get_elem?}
 use Rattle.atomic_table.specs.Seated.{TableId}
+use Rattle.list_cuts.specs.Cut.{Regions, list_count}
 use Rattle.lock_core.specs.Grants.{Conflicts}
 use Rattle.lock_core.specs.Machine.{numbers_from}
 use Rattle.lock_core.specs.declared.range.Held.{Held}
@@ -25,11 +26,12 @@ use Rattle.range_rw.specs.declared.refusals.OpenFault.TheVariants.{Seats, Memory
 pub use Rattle.epoch_pools.specs.declared.record.Record.{Record}
 pub use Rattle.epoch_pools.specs.Record.{no_steps, client_trace}
 
--- a table: which one it is, and how many seats and client words it has
+-- a table: which one it is, how many seats and client words it has, and how the numbers are cut for its lists
 pub record TableShape : Type 0 where
   pub table : TableId
   pub seats : ℕ
   pub client : ℕ
+  pub cut : Regions
 
 -- another seat that isn't passed since a used node last came home, and the odd epoch that was first noted of it
 pub record Waited : Type 0 where
@@ -43,26 +45,37 @@ pub record Pools : Type 0 where
   pub homes : List ℕ
   pub waits : List Waited
 
--- an open scan: how many nodes its walk may look at, how many it has looked at, past how many of them it went, whether
--- it is at the end of the list, and the number of the step that began the walk, where it has begun
+-- the ready nodes of such pools
+abbrev pub ready_in : Pools → List ℕ
+ready_in pools = pools.ready
+
+-- an open scan: the list in which its walk is, how many nodes that may look at, how many it has looked at, past how
+-- many of them it went, whether it is at the end of the last list, and the number of the step that began the walk,
+-- where it has begun
 pub record OpenScan : Type 0 where
+  pub list : ℕ
   pub most : ℕ
   pub nodes : ℕ
   pub passed : ℕ
   pub ended : Bool
   pub walk : Option ℕ
 
--- one whose walk begins with the next call
-abbrev pub fresh_scan : ℕ → OpenScan
-fresh_scan most = record { most = most; nodes = 0; passed = 0; ended = false; walk = None }
+-- one whose walk begins in that list with the next call
+abbrev pub fresh_in : ℕ → ℕ → OpenScan
+fresh_in list most = record { list = list; most = most; nodes = 0; passed = 0; ended = false; walk = None }
 
--- a seat: its table and number, the range that it holds, its pools, its open scan, its pass, and the record of its
--- steps. It is inside an epoch of its own exactly where it has an open scan
+-- the same in list 0, where a scan begins
+abbrev pub fresh_scan : ℕ → OpenScan
+fresh_scan most = fresh_in 0 most
+
+-- a seat: its table and number, the range that it holds, its pools in list 0 and in each further list, its open scan,
+-- its pass, and the record of its steps. It is inside an epoch of its own exactly where it has an open scan
 pub record SeatState (P : Type 0) : Type 0 where
   pub table : TableId
   pub number : ℕ
   pub held : Option Held
   pub pools : Pools
+  pub further : List Pools
   pub scan : Option OpenScan
   pub pass : P
   pub trace : Record
@@ -79,6 +92,19 @@ IsSeatCount n = (0 < n) × (n ≤ 16)
 abbrev pub IsOpenFault : ℕ → OpenFault → Type 0
 IsOpenFault seats (Seats n) = (n ≡ seats) × ¬ (IsSeatCount seats)
 IsOpenFault seats Memory = IsSeatCount seats
+
+-- one list alone, for all ranges
+abbrev pub IsOneList : TableShape → Type 0
+IsOneList t = list_count t.cut ≡ 1
+
+-- how many steps a try makes at most, whatever other seats do and whichever lists the range takes
+abbrev pub most_steps : TableShape → ℕ
+most_steps t = (64 + 386 * t.seats) * list_count t.cut
+
+-- how many steps a call of a scan makes at most: those of one list, and in each list behind it those of leaving and
+-- entering besides
+abbrev pub scan_steps : TableShape → OpenScan → ℕ
+scan_steps t was = 2 + 3 * was.most + (4 + 3 * was.most) * (list_count t.cut - 1 - was.list)
 
 -- the exchanges whose loss refuses a try: all but those of the fast path, after which a call goes on without it
 abbrev pub RefusesTry : Step → Type 0
@@ -107,13 +133,30 @@ module _ {P : Type 0} where
   abbrev pub pass_in : SeatState P → P
   pass_in s = s.pass
 
-  -- what the seat of number k is when a table is opened: new, and of that table
+  -- what the seat of number k is when a table of so many lists is opened: new, and of that table
+  abbrev pub new_seat_in : ℕ → TableId → (ℕ → P) → ℕ → SeatState P
+  new_seat_in lists table first k = record {
+    table = table;
+    number = k;
+    held = None;
+    pools = first_pools k;
+    further = replicate (lists - 1) (first_pools k);
+    scan = None;
+    pass = first k;
+    trace = no_steps;
+  }
+
+  -- the same where there is one list
   abbrev pub new_seat : TableId → (ℕ → P) → ℕ → SeatState P
-  new_seat table first k = record { table = table; number = k; held = None; pools = first_pools k; scan = None; pass = first k; trace = no_steps }
+  new_seat table first k = new_seat_in 1 table first k
 
   -- the seats are those of a new table, in order of their numbers
   abbrev pub AreNewSeats : TableId → (ℕ → P) → List (SeatState P) → Type 0
   AreNewSeats table first seats = (k : ℕ) (s : SeatState P) → get_elem? seats k ≡ some s → s ≡ new_seat table first k
+
+  -- the same where the table has so many lists
+  abbrev pub AreNewSeatsIn : ℕ → TableId → (ℕ → P) → List (SeatState P) → Type 0
+  AreNewSeatsIn lists table first seats = (k : ℕ) (s : SeatState P) → get_elem? seats k ≡ some s → s ≡ new_seat_in lists table first k
 
   -- the seats are all of one table
   abbrev pub AreSeatsOf : TableId → List (SeatState P) → Type 0
@@ -138,6 +181,7 @@ module _ {P : Type 0} where
     pub number : after.number ≡ before.number
     pub held : after.held ≡ before.held
     pub pools : after.pools ≡ before.pools
+    pub further : after.further ≡ before.further
     pub scan : after.scan ≡ before.scan
     pub trace : after.trace ≡ client_trace before.trace i
 
@@ -150,6 +194,7 @@ module _ {P : Type 0} where
     pub held : after.held ≡ None
     pub pass : after.pass ≡ rested before.pass
     pub ready : after.pools.ready ≡ before.pools.ready
+    pub further : map ready_in after.further ≡ map ready_in before.further
     pub scan : after.scan ≡ before.scan
     pub client : after.trace.client ≡ before.trace.client
     pub met : after.trace.met ≡ before.trace.met
@@ -193,10 +238,23 @@ module _ {P : Type 0} where
       × ((x : ℕ) → x / 16 ≡ after.number → IsReadAway before.trace.taken after.trace.taken after.trace.away x)
   IsStuckIn before after (Inside seat epoch) = IsHeldUp before after seat epoch
 
+  -- the seat's pools in list i, of the lists that its table has
+  abbrev pub pools_at : SeatState P → ℕ → Pools
+  pools_at s zero = s.pools
+  pools_at s (suc j) = get_or s.further j s.pools
+
+  -- the seat as that list has it
+  abbrev pub in_list : ℕ → SeatState P → SeatState P
+  in_list i s = record s { pools = pools_at s i }
+
+  -- no node was ready, and after a sweep of this call that read the end of the list there was none to take
+  abbrev pub IsWithout : SeatState P → SeatState P → Stuck → Type 0
+  IsWithout before after stuck = (before.pools.ready ≡ []) × ((w : IsWalkOf before after) × (w.walk.ended ≡ true)) × IsStuckIn before after stuck
+
   -- why a try for that range was refused: at a step of this call another seat's node was in conflict; or an exchange of
   -- this call, whose loss refuses a try, found another value than it expected; or a walk of this call was too long; or
-  -- no node was ready, and after a sweep of this call that read the end of the list there was none to take. A part of
-  -- the record with a number not below the number of steps at the call's entry was made in this call
+  -- in one of the lists the seat was without a node. A part of the record with a number not below the number of steps
+  -- at the call's entry was made in this call. The place of an exchange is counted in its list, which the record tells
   abbrev pub IsCause : SeatState P → SeatState P → Held → NotHeld → Type 0
   IsCause before after asked (Busy owner range mode) = (m : Met) × (after.trace.met ≡ Some m) × (before.trace.taken ≤ m.step) × (m.step < after.trace.taken)
       × (m.owner ≡ owner) × (m.held ≡ record { range = range; mode = mode }) × (owner ≢ before.number) × Conflicts m.held asked
@@ -204,4 +262,11 @@ module _ {P : Type 0} where
       × (before.trace.taken ≤ l.step) × (l.step < after.trace.taken)
       × RefusesTry l.kind × (l.place ≡ place) × (l.expected ≡ expected) × (l.found ≡ found) × (found ≢ expected)
   IsCause before after asked (Long visits) = (w : IsWalkOf before after) × (w.walk.nodes ≡ visits)
-  IsCause before after asked (NoNode stuck) = (before.pools.ready ≡ []) × ((w : IsWalkOf before after) × (w.walk.ended ≡ true)) × IsStuckIn before after stuck
+  IsCause before after asked (NoNode stuck) = (i : ℕ) × (i ≤ length before.further) × IsWithout (in_list i before) (in_list i after) stuck
+
+  -- the same of a try in one list, by what the seat has there
+  abbrev pub IsListCause : SeatState P → SeatState P → Held → NotHeld → Type 0
+  IsListCause before after asked (Busy owner range mode) = IsCause before after asked (Busy owner range mode)
+  IsListCause before after asked (Again place expected found) = IsCause before after asked (Again place expected found)
+  IsListCause before after asked (Long visits) = IsCause before after asked (Long visits)
+  IsListCause before after asked (NoNode stuck) = IsWithout before after stuck

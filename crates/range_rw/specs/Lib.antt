@@ -3,6 +3,7 @@ pub mod Patience
 pub mod Releasing
 pub mod Scan
 pub mod Seats
+pub mod Several
 pub mod Trying
 pub use Rattle.atomic_table.specs.Seated
 pub use Rattle.atomic_table.specs.Table

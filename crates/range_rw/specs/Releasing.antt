@@ -10,11 +10,13 @@ module _ {P : Type 0} where
   -- the range was given back, in one step or two
   pub record GivesBack (rested : P → P) (p q : SeatPart P) : Type 0 where
     pub number : q.number ≡ p.number
+    pub seats : q.seats ≡ p.seats
     pub pass : q.pass ≡ rested p.pass
     pub client : q.trace.client ≡ p.trace.client
     pub met : q.trace.met ≡ p.trace.met
     pub own : q.core.own ≡ Nothing
     pub hand : q.core.hand ≡ None
+    pub epoch : q.core.epoch ≡ p.core.epoch
     pub cursor : q.core.cursor ≡ p.core.cursor
     pub ready : q.core.ready ≡ p.core.ready
     pub scan : scan_of q ≡ scan_of p

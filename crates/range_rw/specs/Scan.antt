@@ -1,18 +1,25 @@
--- A scan of the list through a seat that holds nothing: what its calls leave of the seat, and why each answer comes.
--- The walk is that of Kogan, Dice and Issa 2020; a scan that stops after each node is this project's own profile.
-use Rattle.std.specs.Prelude.{◌≡◌, ◌≢◌, ℕ, ◌+◌, ◌%◌, ◌<◌, ◌≤◌, true, false, Option, Some, None}
+-- A scan of the lists through a seat that holds nothing: what its calls leave of the seat, and why each answer comes.
+-- It begins in list 0, and goes on in the next list where the end of one is read. A reader may rely on no list being
+-- left out: the end of each was read by a call, with a walk of its own. The walk is that of Kogan, Dice and Issa 2020;
+-- a scan that stops after each node is this project's own profile.
+use Rattle.std.specs.Prelude.{◌≡◌, ◌≢◌, ℕ, zero, suc, ◌+◌, ◌%◌, ◌<◌, ◌≤◌, true, false, Option, Some, None, length, map}
 use Rattle.lock_core.specs.declared.range.Held.{Held}
 use Rattle.lock_core.specs.declared.views.Own.TheVariants.{Nothing}
+use Rattle.epoch_pools.specs.declared.record.Looked.{Looked}
 use Rattle.epoch_pools.specs.declared.record.Lost.{Lost}
 use Rattle.epoch_pools.specs.declared.record.Met.{Met}
 use Rattle.epoch_pools.specs.declared.views.SeatPart.{SeatPart}
+use Rattle.epoch_pools.specs.declared.views.Beside.{Beside}
+use Rattle.epoch_pools.specs.declared.views.Standing.TheVariants.{Free}
+use Rattle.epoch_pools.specs.Beside.{shown_core}
 use Rattle.marked_list.specs.declared.answers.Passed.{Passed}
 use Rattle.marked_list.specs.declared.answers.Passed.TheVariants.{Found as NodeFound, End as ListEnd, Lost as NotWon, Long as TooLong}
 use Rattle.marked_list.specs.Causes.{IsWalkLoss, nodes_in, judged_in}
 use Rattle.range_rw.specs.declared.scan.Scanned.{Scanned}
 use Rattle.range_rw.specs.declared.scan.Scanned.TheVariants.{Found, End, Again, Long}
-use Rattle.range_rw.specs.Contract.{SeatState, OpenScan, fresh_scan}
-use Rattle.range_rw.specs.Trying.{IsLaterInTry}
+use Rattle.range_rw.specs.Contract.{SeatState, OpenScan, fresh_in, ready_in}
+use Rattle.range_rw.specs.Seats.{IsBetween}
+use Rattle.range_rw.specs.Several.{IsLaterInLists}
 
 -- the answer of a scan for that of its call on the list
 abbrev pub scanned_as : Passed → Scanned
@@ -22,13 +29,14 @@ scanned_as (NotWon l) = Again l.place l.expected l.found
 scanned_as (TooLong visits) = Long visits
 
 module _ {P : Type 0} where
-  -- what a call of a scan leaves: the seat holds nothing, its ready pool and its pass stay, and no step is a client
+  -- what a call of a scan leaves: the seat holds nothing, its ready pools and its pass stay, and no step is a client
   -- step
   pub record IsScanCall (before after : SeatState P) : Type 0 where
     pub table : after.table ≡ before.table
     pub number : after.number ≡ before.number
     pub held : after.held ≡ None
     pub ready : after.pools.ready ≡ before.pools.ready
+    pub further : map ready_in after.further ≡ map ready_in before.further
     pub pass : after.pass ≡ before.pass
     pub client : after.trace.client ≡ before.trace.client
     pub taken : before.trace.taken ≤ after.trace.taken
@@ -54,13 +62,13 @@ module _ {P : Type 0} where
     pub had : lost.found ≡ found
     pub differ : found ≢ expected
 
-  -- why a scan gives an answer, with what its walk had come to before the call and what it comes to after it. It gives
-  -- a node exactly where this call went past one
+  -- why a scan gives an answer in one list, with what its walk had come to before the call and what it comes to after
+  -- it. It gives a node exactly where this call went past one, and the end only of the last list
   abbrev pub Gives : SeatState P → SeatState P → OpenScan → OpenScan → Scanned → Type 0
   Gives before after was now (Found owner range mode) = IsFound before after owner (record { range = range; mode = mode }) × (now.passed ≡ was.passed + 1)
   Gives before after was now End = (now.ended ≡ true) × (now.passed ≡ was.passed) × (now.nodes < now.most)
   Gives before after was now (Again place expected found) = IsAgain before after place expected found
-      × (judged_in after.trace.looked ≡ was.passed) × (nodes_in after.trace.looked < was.most) × (now ≡ fresh_scan was.most)
+      × (judged_in after.trace.looked ≡ was.passed) × (nodes_in after.trace.looked < was.most) × (now ≡ fresh_in was.list was.most)
   Gives before after was now (Long visits) = (visits ≡ now.most) × (now.nodes ≡ now.most) × (now.passed ≡ was.passed) × (now.ended ≡ false)
 
   -- a walk that had begun is still the same one, and one that had still to begin was begun by a step of this call
@@ -68,36 +76,98 @@ module _ {P : Type 0} where
   WalksOn before after (Some begun) now = now ≡ Some begun
   WalksOn before after None now = (begun : ℕ) × (now ≡ Some begun) × (before.trace.taken ≤ begun) × (begun < after.trace.taken)
 
-  -- a scan begins anew after a lost exchange alone, and says so by its answer
+  -- a walk begins anew after a lost exchange alone, in its list, and the answer says so
   abbrev pub KeepsWalk : SeatState P → SeatState P → OpenScan → OpenScan → Scanned → Type 0
   KeepsWalk before after was now (Found owner range mode) = WalksOn before after was.walk now.walk
   KeepsWalk before after was now End = WalksOn before after was.walk now.walk
   KeepsWalk before after was now (Again place expected found) = now.walk ≡ None
   KeepsWalk before after was now (Long visits) = WalksOn before after was.walk now.walk
 
-  -- the call of a scan that had come to this before it. One walk looks at no more nodes than it may
-  pub record IsNext (before after : SeatState P) (was : OpenScan) (answer : Scanned) : Type 0 where
+  -- what a call of a scan comes to in one list, with what the scan had come to before it. One walk looks at no more
+  -- nodes than it may
+  pub record IsNextIn (before after : SeatState P) (was : OpenScan) (answer : Scanned) : Type 0 where
     pub now : OpenScan
     pub is : after.scan ≡ Some now
+    pub list : now.list ≡ was.list
     pub same : now.most ≡ was.most
     pub bounded : now.nodes ≤ now.most
     pub gives : Gives before after was now answer
     pub keeps : KeepsWalk before after was now answer
 
-  -- a hand entered its epoch, and begins at the head
-  pub record OpensEpoch (p q : SeatPart P) : Type 0 where
-    pub later : IsLaterInTry p q
+  -- the end of the list was read in the walk that had begun there, or in one that this call began, and the call went
+  -- past no node of it
+  pub record IsListEnd (before after : SeatState P) (was : OpenScan) : Type 0 where
+    pub walk : Looked
+    pub is : after.trace.looked ≡ Some walk
+    pub ended : walk.ended ≡ true
+    pub none : walk.judged ≡ was.passed
+    pub few : walk.nodes < was.most
+    pub keeps : WalksOn before after was.walk (Some walk.step)
+
+  -- the end of a list was read, past no node of it; then the seat left its epoch there and entered one of the next
+  -- list, in two steps, where the walk is still to begin
+  pub record IsPassed (before after : SeatState P) (was : OpenScan) : Type 0 where
+    pub end : SeatState P
+    pub call : IsScanCall before end
+    pub reads : IsListEnd before end was
+    pub moves : IsScanCall end after
+    pub taken : after.trace.taken ≡ end.trace.taken + 2
+    pub begun : after.scan ≡ Some (fresh_in (was.list + 1) was.most)
+
+  -- so many lists are passed, one after another, and the answer is of the list behind them
+  abbrev pub GoesOn : ℕ → SeatState P → SeatState P → OpenScan → Scanned → Type 0
+  GoesOn zero before after was answer = IsNextIn before after was answer
+  GoesOn (suc n) before after was answer =
+      (mid : SeatState P) × IsPassed before mid was × GoesOn n mid after (fresh_in (was.list + 1) was.most) answer
+
+  -- the call of a scan that had come to this before it: it goes past at most one node, in its list or, where no node is
+  -- left there, in the first one behind it that has one. With one list, no list is passed
+  pub record IsNext (before after : SeatState P) (was : OpenScan) (answer : Scanned) : Type 0 where
+    pub now : OpenScan
+    pub is : after.scan ≡ Some now
+    pub same : now.most ≡ was.most
+    pub lists : ℕ
+    pub list : now.list ≡ was.list + lists
+    pub within : was.list + lists ≤ length before.further
+    pub goes : GoesOn lists before after was answer
+
+-- an answer of a list that isn't its end
+abbrev pub IsNoEnd : Passed → Type 0
+IsNoEnd (NodeFound owner range mode) = Unit {0}
+IsNoEnd ListEnd = ⊥
+IsNoEnd (NotWon l) = Unit {0}
+IsNoEnd (TooLong visits) = Unit {0}
+
+module _ {P : Type 0} where
+  -- what is behind a seat that holds nothing, between two calls or inside a scan
+  pub record IsScanSeat (p : SeatPart (Beside P)) : Type 0 where
+    pub within : p.pass.list < p.pass.lists
+    pub between : IsBetween p.core
+    pub free : (j : ℕ) → (shown_core p j).own ≡ Nothing
+    pub standing : p.pass.standing ≡ Free
+
+  -- what a call of a scan leaves of it, in whichever lists it goes
+  pub record IsScanLater (p q : SeatPart (Beside P)) : Type 0 where
+    pub later : IsLaterInLists p q
+    pub seat : IsScanSeat q
+    pub ready : (j : ℕ) → (shown_core q j).ready ≡ (shown_core p j).ready
+
+  -- the hand is turned to that list and entered its epoch there, and begins at the head
+  pub record OpensEpoch (at : ℕ) (p q : SeatPart (Beside P)) : Type 0 where
+    pub later : IsScanLater p q
     pub odd : q.core.epoch % 2 ≡ 1
-    pub hand : q.core.hand ≡ None
-    pub own : q.core.own ≡ Nothing
     pub cursor : q.core.cursor ≡ None
-    pub ready : q.core.ready ≡ p.core.ready
+    pub list : q.pass.list ≡ at
 
   -- it has left it, or was outside
-  pub record ClosesEpoch (p q : SeatPart P) : Type 0 where
-    pub later : IsLaterInTry p q
+  pub record ClosesEpoch (p q : SeatPart (Beside P)) : Type 0 where
+    pub later : IsScanLater p q
     pub even : q.core.epoch % 2 ≡ 0
-    pub hand : q.core.hand ≡ None
-    pub own : q.core.own ≡ Nothing
     pub cursor : q.core.cursor ≡ None
-    pub ready : q.core.ready ≡ p.core.ready
+
+  -- what a call of a scan comes to in one list, by the answer of that list, with whether it is the last one
+  abbrev pub ListGives : Type 0 → SeatState P → SeatState P → OpenScan → Passed → Type 0
+  ListGives last before after was (NodeFound owner range mode) = IsNextIn before after was (Found owner range mode)
+  ListGives last before after was ListEnd = IsListEnd before after was × (last → IsNextIn before after was End)
+  ListGives last before after was (NotWon l) = IsNextIn before after was (Again l.place l.expected l.found)
+  ListGives last before after was (TooLong visits) = IsNextIn before after was (Long visits)

@@ -13,6 +13,7 @@ mod patience;
 mod refusals;
 mod release;
 mod scan;
+mod several;
 mod table;
 mod threads;
 mod trying;

@@ -210,7 +210,7 @@ fn anew_after(walked: Option<Walked>) -> Result<(), Anew>
 }
 
 /// When to begin anew where there was no node to take.
-fn anew_without(why: NotHeld) -> Anew {
+pub(crate) fn anew_without(why: NotHeld) -> Anew {
     match why {
         NotHeld::Again { .. } => Anew::AtOnce,
         _ => Anew::Later,

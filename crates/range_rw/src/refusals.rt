@@ -26,8 +26,8 @@ pub enum NotHeld {
         range: Range,
         mode: Mode,
     },
-    /// An exchange of this call on the word at `place` found `found` where it expected `expected`: another seat linked
-    /// or unlinked a node there.
+    /// An exchange of this call on the word at `place` of a list found `found` where it expected `expected`: another
+    /// seat linked or unlinked a node there. The record of the seat's steps tells which list it was.
     #[error("the word at place {place} was {found}, where {expected} was expected")]
     Again {
         place: u32,

@@ -1,14 +1,21 @@
-//! A scan of the list through a borrowed seat: it gives the nodes of the list one after another, of ranges that are
-//! held or asked for, and unlinks marked ones on its way. It keeps its seat inside an epoch until it is ended. A reader
-//! may rely on a node that is given having been unmarked at a step of the call that gives it. Kogan, Dice and Issa
-//! 2020.
-ghost use Rattle.std.specs.Prelude.{◌≡◌, ◌<◌, ◌≤◌, ◌+◌, None};
-ghost use Rattle.lock_core.specs.declared.views.Own.TheVariants.{Nothing};
-ghost use Rattle.range_rw.specs.Scan.{scanned_as, OpensEpoch, ClosesEpoch};
+//! A scan of the lists through a borrowed seat: it gives the nodes of list 0, then those of the next list, and so on,
+//! of ranges that are held or asked for, and unlinks marked ones on its way. It keeps its seat inside an epoch of the
+//! list where it is, until it is ended. A reader may rely on a node that is given having been unmarked at a step of the
+//! call that gives it, and on no list being left out. Kogan, Dice and Issa 2020.
+ghost use Rattle.std.specs.Prelude.{◌≡◌, ◌<◌, ◌≤◌, ◌+◌, ◌-◌, ◌*◌, ◌%◌, Some, None, IfSome, IfNone, true};
+ghost use Rattle.list_cuts.specs.Cut.{list_count};
+ghost use Rattle.marked_list.specs.declared.answers.Passed.TheVariants.{End as ListEnd, Long as TooLong};
+ghost use Rattle.marked_list.specs.Order.{IsInside};
+ghost use Rattle.marked_list.specs.Answers.{IsAtEnd};
+ghost use Rattle.marked_list.specs.Walking.{seen_of};
+ghost use Rattle.range_rw.specs.Contract.{OpenScan};
+ghost use Rattle.range_rw.specs.Seats.{seat_state_of};
+ghost use Rattle.range_rw.specs.Scan.{scanned_as, IsNext, IsScanSeat, IsScanLater, OpensEpoch, ClosesEpoch, ListGives, IsNoEnd, IsNextIn, IsPassed};
 
+use crate::several::lists_of;
 use crate::table::{RangeTable, Seat};
 use crate::trying::leave_epoch;
-use epoch_pools::{Hand, List, enter};
+use epoch_pools::{Hand, List, enter, leave};
 use lock_core::{Guard, Mode, Range};
 use marked_list::{Passed, pass};
 use std::marker::Brand;
@@ -27,22 +34,23 @@ pub enum Scanned {
         /// The mode of the node.
         mode: Mode,
     },
-    /// The end of the list was read, and this call went past no node.
+    /// The end of the last list was read, and this call went past no node.
     End,
-    /// An exchange of this call on the word at `place` found `found` where it expected `expected`. The next call begins
-    /// at the head with a new count, and may give a node a second time.
+    /// An exchange of this call on the word at `place` of the scan's list found `found` where it expected `expected`.
+    /// The next call begins at the head of that list with a new count, and may give a node of it a second time.
     Again {
         place: u32,
         expected: u64,
         found: u64,
     },
-    /// The walk has looked at as many nodes as one may, 16 for each seat and one more, and this call went past none.
+    /// The walk in the scan's list has looked at as many nodes as one may, 16 for each seat and one more, and this call
+    /// went past none.
     Long {
         visits: u32,
     },
 }
 
-/// A scan of a table's list, which keeps its seat inside an epoch. It must be spent by `end`.
+/// A scan of a table's lists, which keeps its seat inside an epoch. It must be spent by `end`.
 pub struct Scan<'a, G: Guard> {
     seat: &'a mut Seat<G>,
     table: &'a RangeTable<G>,
@@ -63,19 +71,21 @@ fn answer_of(passed: Passed) -> Scanned
     }
 }
 
-/// Begins a new epoch of the hand, which has no node of its own; an epoch that an earlier scan left open is left first.
+/// Turns the hand, which has no node of its own, to list 0 and begins a new epoch there; an epoch that an earlier scan
+/// left open is left first.
 fn open_epoch<G: Guard, L: Ledger>(list: &List<G>, hand: &mut Hand<G>, blank: Blank)
     requires blank { (blank.name ≡ L.name) × (blank.parts ≡ L.parts) × (0 < L.parts) }
     requires table { hand.old.table ≡ list.now.table }
-    requires free { hand.old.part.core.own ≡ Nothing }
-    requires given { hand.old.part.core.hand ≡ None }
+    requires seat { IsScanSeat hand.old.part }
     ensures table { hand.new.table ≡ hand.old.table }
-    ensures inside { OpensEpoch hand.old.part hand.new.part }
+    ensures inside { OpensEpoch 0 hand.old.part hand.new.part }
     ensures seats { hand.new.part.seats ≡ list.now.seats }
     ensures bound { hand.new.part.trace.taken ≤ hand.old.part.trace.taken + 2 }
 {
     let mut steps = Steps::<L>::new(blank);
     leave_epoch(list, hand, &mut steps);
+    let _ = hand.view();
+    hand.turn(0);
     enter(list, hand, &mut steps);
 }
 
@@ -83,8 +93,7 @@ fn open_epoch<G: Guard, L: Ledger>(list: &List<G>, hand: &mut Hand<G>, blank: Bl
 fn close_epoch<G: Guard, L: Ledger>(list: &List<G>, hand: &mut Hand<G>, blank: Blank)
     requires blank { (blank.name ≡ L.name) × (blank.parts ≡ L.parts) × (0 < L.parts) }
     requires table { hand.old.table ≡ list.now.table }
-    requires free { hand.old.part.core.own ≡ Nothing }
-    requires given { hand.old.part.core.hand ≡ None }
+    requires seat { IsScanSeat hand.old.part }
     ensures table { hand.new.table ≡ hand.old.table }
     ensures outside { ClosesEpoch hand.old.part hand.new.part }
     ensures bound { hand.new.part.trace.taken ≤ hand.old.part.trace.taken + 1 }
@@ -94,14 +103,134 @@ fn close_epoch<G: Guard, L: Ledger>(list: &List<G>, hand: &mut Hand<G>, blank: B
     let _ = hand.view();
 }
 
+/// Leaves the hand's epoch, turns it to the next list, and enters an epoch there: two steps.
+fn next_list<G: Guard, L: Ledger>(list: &List<G>, hand: &mut Hand<G>, steps: &mut Steps<L>)
+    requires table { hand.old.table ≡ list.now.table }
+    requires seat { IsScanSeat hand.old.part }
+    requires inside { IsInside hand.old.part.core }
+    requires more { hand.old.part.pass.list + 1 < hand.old.part.pass.lists }
+    ensures table { hand.new.table ≡ hand.old.table }
+    ensures inside { OpensEpoch (hand.old.part.pass.list + 1) hand.old.part hand.new.part }
+    ensures taken { hand.new.part.trace.taken ≡ hand.old.part.trace.taken + 2 }
+{
+    let _ = hand.lists();
+    let next = hand.list() + 1;
+    leave(list, hand, steps);
+    hand.turn(next);
+    enter(list, hand, steps);
+}
+
+/// Goes on past at most one node in the list to which the hand is turned.
+fn pass_here<G: Guard, L: Ledger>(
+    list: &List<G>,
+    hand: &mut Hand<G>,
+    steps: &mut Steps<L>,
+) -> Passed
+    requires table { hand.old.table ≡ list.now.table }
+    requires seat { IsScanSeat hand.old.part }
+    requires inside { IsInside hand.old.part.core }
+    ensures table { hand.new.table ≡ hand.old.table }
+    ensures later { IsScanLater hand.old.part hand.new.part }
+    ensures inside { IsInside hand.new.part.core }
+    ensures list { hand.new.part.pass.list ≡ hand.old.part.pass.list }
+    ensures gives { (was : OpenScan) → (seat_state_of hand.old).scan ≡ Some was
+        → ListGives (hand.new.part.pass.list + 1 ≡ hand.new.part.pass.lists) (seat_state_of hand.old) (seat_state_of hand.new) was result }
+    ensures ended { IsAtEnd hand.old.part.core.cursor → (hand.new.part ≡ hand.old.part) × (result ≡ ListEnd) }
+    ensures spent { seen_of hand.old.part.core.cursor ≡ 16 * hand.old.part.seats + 1
+        → (hand.new.part ≡ hand.old.part) × (result ≡ TooLong (16 * hand.old.part.seats + 1)) }
+    ensures bound { hand.new.part.trace.taken ≤ hand.old.part.trace.taken + 2 + 3 * (16 * hand.old.part.seats + 1) }
+{
+    let _ = hand.view();
+    let passed = pass(list, hand, steps);
+    let _ = hand.view();
+    passed
+}
+
+/// The answer of a list, but for its end.
+fn unless_end(passed: Passed) -> Option<Passed>
+    ensures end { IfNone result (passed ≡ ListEnd) }
+    ensures other { IfSome result (λ a. (a ≡ passed) × IsNoEnd a) }
+{
+    match passed {
+        Passed::Found { owner, range, mode } => Some(Passed::Found { owner, range, mode }),
+        Passed::End => None,
+        Passed::Lost(lost) => Some(Passed::Lost(lost)),
+        Passed::Long { visits } => Some(Passed::Long { visits }),
+    }
+}
+
+/// Goes on past at most one node in a list behind which there is another. None where the end was read and no node
+/// passed: the hand is inside its epoch in the next list then.
+fn pass_or_turn<G: Guard, L: Ledger>(
+    list: &List<G>,
+    hand: &mut Hand<G>,
+    steps: &mut Steps<L>,
+) -> Option<Passed>
+    requires table { hand.old.table ≡ list.now.table }
+    requires seat { IsScanSeat hand.old.part }
+    requires inside { IsInside hand.old.part.core }
+    requires more { hand.old.part.pass.list + 1 < hand.old.part.pass.lists }
+    ensures table { hand.new.table ≡ hand.old.table }
+    ensures later { IsScanLater hand.old.part hand.new.part }
+    ensures inside { IsInside hand.new.part.core }
+    ensures passed { IfNone result ((was : OpenScan) → (seat_state_of hand.old).scan ≡ Some was
+        → IsPassed (seat_state_of hand.old) (seat_state_of hand.new) was) }
+    ensures turned { IfNone result (hand.new.part.pass.list ≡ hand.old.part.pass.list + 1) }
+    ensures gives { IfSome result (λ a. (was : OpenScan) → (seat_state_of hand.old).scan ≡ Some was
+        → IsNextIn (seat_state_of hand.old) (seat_state_of hand.new) was (scanned_as a)) }
+    ensures spent { seen_of hand.old.part.core.cursor ≡ 16 * hand.old.part.seats + 1
+        → (hand.new.part ≡ hand.old.part) × (result ≡ Some (TooLong (16 * hand.old.part.seats + 1))) }
+    ensures bound { hand.new.part.trace.taken ≤ hand.old.part.trace.taken + 4 + 3 * (16 * hand.old.part.seats + 1) }
+    ensures few { IfSome result (λ a. hand.new.part.trace.taken ≤ hand.old.part.trace.taken + 2 + 3 * (16 * hand.old.part.seats + 1)) }
+{
+    match unless_end(pass_here(list, hand, steps)) {
+        Some(answer) => Some(answer),
+        None => {
+            next_list(list, hand, steps);
+            None
+        }
+    }
+}
+
+/// Goes on past at most one node, in the list to which the hand is turned or in the first one behind it where one is
+/// left. There are so many lists.
+fn pass_on<G: Guard, L: Ledger>(
+    list: &List<G>,
+    hand: &mut Hand<G>,
+    lists: u32,
+    steps: &mut Steps<L>,
+) -> Passed
+    requires table { hand.old.table ≡ list.now.table }
+    requires seat { IsScanSeat hand.old.part }
+    requires inside { IsInside hand.old.part.core }
+    requires lists { (lists ≡ hand.old.part.pass.lists) × (lists ≡ list_count list.now.cut) }
+    ensures table { hand.new.table ≡ hand.old.table }
+    ensures later { IsScanLater hand.old.part hand.new.part }
+    ensures next { (was : OpenScan) → (seat_state_of hand.old).scan ≡ Some was
+        → IsNext (seat_state_of hand.old) (seat_state_of hand.new) was (scanned_as result) }
+    ensures ended { (was : OpenScan) → (seat_state_of hand.old).scan ≡ Some was → was.ended ≡ true
+        → (hand.new.part ≡ hand.old.part) × (result ≡ ListEnd) }
+    ensures spent { (was : OpenScan) → (seat_state_of hand.old).scan ≡ Some was → was.nodes ≡ was.most
+        → (hand.new.part ≡ hand.old.part) × (result ≡ TooLong was.most) }
+    ensures bound { hand.new.part.trace.taken ≤ hand.old.part.trace.taken + 2 + 3 * (16 * hand.old.part.seats + 1)
+        + (4 + 3 * (16 * hand.old.part.seats + 1)) * (list_count list.now.cut - 1 - hand.old.part.pass.list) }
+{
+    'all: while hand.list() + 1 < lists {
+        if let Some(answer) = pass_or_turn(list, hand, steps) {
+            return answer;
+        }
+    }
+    pass_here(list, hand, steps)
+}
+
 impl<G: Guard> RangeTable<G> {
     ghost use Rattle.std.specs.Prelude.{◌≡◌, ◌<◌, ◌≤◌, ◌+◌, ◌*◌, Some, None, true, IsSome};
     ghost use Rattle.range_rw.specs.declared.scan.Scanned.TheVariants.{End, Long};
-    ghost use Rattle.range_rw.specs.Contract.{OpenScan, fresh_scan};
+    ghost use Rattle.range_rw.specs.Contract.{OpenScan, fresh_scan, scan_steps};
     ghost use Rattle.range_rw.specs.Scan.{IsScanCall, IsNext};
 
     /// The first call of a scan by a layer above that borrows the seat anew for each call: it enters an epoch of the
-    /// seat, which is of this table and holds nothing. `scan` makes the same steps.
+    /// seat in list 0. The seat is of this table and holds nothing. `scan` makes the same steps.
     pub fn begin_scan<L: Ledger>(&self, seat: &mut Seat<G>, blank: Blank)
         requires blank { (blank.name ≡ L.name) × (blank.parts ≡ L.parts) × (0 < L.parts) }
         requires table { seat.old.table ≡ self.now.table }
@@ -135,17 +264,15 @@ impl<G: Guard> RangeTable<G> {
         ensures next { (was : OpenScan) → seat.old.scan ≡ Some was → IsNext seat.old seat.new was result }
         ensures ended { (was : OpenScan) → seat.old.scan ≡ Some was → was.ended ≡ true → (seat.new ≡ seat.old) × (result ≡ End) }
         ensures spent { (was : OpenScan) → seat.old.scan ≡ Some was → was.nodes ≡ was.most → (seat.new ≡ seat.old) × (result ≡ Long was.most) }
-        ensures bound { (was : OpenScan) → seat.old.scan ≡ Some was → seat.new.trace.taken ≤ seat.old.trace.taken + 2 + 3 * was.most }
+        ensures bound { (was : OpenScan) → seat.old.scan ≡ Some was → seat.new.trace.taken ≤ seat.old.trace.taken + scan_steps self.now was }
     {
         let mut steps = Steps::<L>::new(blank);
-        let _ = seat.hand.view();
-        let passed = pass(&self.list, &mut seat.hand, &mut steps);
-        let _ = seat.hand.view();
-        answer_of(passed)
+        let lists = lists_of(&self.list, &mut seat.hand, &mut steps);
+        answer_of(pass_on(&self.list, &mut seat.hand, lists, &mut steps))
     }
 
-    /// Begins a scan of the list, inside an epoch of the seat. The seat is of this table and holds nothing; it is
-    /// borrowed until the scan is ended. The walk begins at the head, with the first call of `next`.
+    /// Begins a scan of the lists, inside an epoch of the seat in list 0. The seat is of this table and holds nothing;
+    /// it is borrowed until the scan is ended. The walk begins at the head of list 0, with the first call of `next`.
     /// While the scan is open no node of another seat that came home is ready again. So a thread that tries for ranges
     /// with another seat meanwhile may be without a node, `NoNode`, at every try until it ends the scan, and its
     /// `acquire` may wait for ever.
@@ -166,16 +293,20 @@ impl<G: Guard> RangeTable<G> {
 impl<'a, G: Guard> Scan<'a, G> {
     ghost use Rattle.std.specs.Prelude.{◌≡◌, ◌≤◌, ◌+◌, ◌*◌, Some, None, true, IsSome};
     ghost use Rattle.range_rw.specs.declared.scan.Scanned.TheVariants.{End, Long};
-    ghost use Rattle.range_rw.specs.Contract.{OpenScan};
+    ghost use Rattle.range_rw.specs.Contract.{OpenScan, scan_steps};
     ghost use Rattle.range_rw.specs.Scan.{IsScanCall, IsNext};
 
-    /// Goes on to the next node, past at most one that isn't marked.
+    /// Goes on to the next node, past at most one that isn't marked. Where no node is left in the scan's list, and it
+    /// isn't the last one, this call goes on in the list behind it, with a walk of its own.
     /// `Found` comes exactly where this call went past a node, which was unmarked at a step of this call. `End` comes
-    /// exactly where the end was read and this call went past no node, and `Long` where the walk has looked at 16 nodes
-    /// for each seat and one more and this call went past none. After `End` or `Long` each further call gives the same
-    /// answer and makes no step. `Again` is an exchange of this call that found another value than it expected; the
-    /// next call begins at the head with a new count, and may give a node a second time. No other call begins anew:
-    /// after `Found`, `End` and `Long` the walk is the one that had begun before the call, if one had.
+    /// exactly where the end of the last list was read and this call went past no node, and `Long` where the walk in
+    /// the scan's list has looked at 16 nodes for each seat and one more and this call went past none. After `End` or
+    /// `Long` each further call gives the same answer and makes no step. `Again` is an exchange of this call that found
+    /// another value than it expected; the next call begins at the head of that list with a new count, and may give a
+    /// node of it a second time. No other call begins anew: after `Found`, `End` and `Long` the walk is the one that
+    /// had begun in that list before the call, if one had. A range that was held before the scan began, and is held
+    /// until it ends, stands in one list and is given once, but for `Again`. One that a try of another seat is asking
+    /// for may stand in two lists for a moment, and be given in both.
     pub fn next(&mut self) -> Scanned
         requires table { self.old.seat.now.table ≡ self.old.table.now.table }
         requires free { self.old.seat.now.held ≡ None }
@@ -188,7 +319,7 @@ impl<'a, G: Guard> Scan<'a, G> {
         ensures spent { (was : OpenScan) → self.old.seat.now.scan ≡ Some was → was.nodes ≡ was.most
             → (self.new.seat.now ≡ self.old.seat.now) × (result ≡ Long was.most) }
         ensures bound { (was : OpenScan) → self.old.seat.now.scan ≡ Some was
-            → self.new.seat.now.trace.taken ≤ self.old.seat.now.trace.taken + 2 + 3 * was.most }
+            → self.new.seat.now.trace.taken ≤ self.old.seat.now.trace.taken + scan_steps self.old.table.now was }
     {
         let table = self.table;
         let seat = &mut *self.seat;

@@ -8,13 +8,14 @@ use Rattle.std.proofs.lemmas.List.{nil_from_length}
 use Rattle.std.proofs.lemmas.List.Elements.{All-cons}
 use Rattle.std.proofs.lemmas.List.Sums.{sum_by-cons}
 use Rattle.std.proofs.lemmas.Option.{none-some, slice_get_past}
+use Rattle.atomic_table.specs.Seated.{TableId}
 use Rattle.lock_core.specs.declared.range.Held.{Held}
 use Rattle.range_rw.specs.declared.refusals.NotHeld.{NotHeld}
 use Rattle.range_rw.specs.Contract.{SeatState, IsLockCall, IsRelease, pass_in}
 use Rattle.range_sets.specs.declared.taking.SetRefused.{SetRefused}
 use Rattle.range_sets.specs.declared.wants.Want.{Want}
 use Rattle.range_sets.specs.Wants.{want_held}
-use Rattle.range_sets.specs.Sets.{AllFree, AreHeld, EachIs, IsCauseAt, IsLetGo, held_in, passes_after, taken_by, taken_of}
+use Rattle.range_sets.specs.Sets.{SetView, AllFree, AreHeld, EachIs, IsCauseAt, IsLetGo, held_in, passes_after, taken_by, taken_of}
 use Rattle.range_sets.specs.Taking.{AreGranted, IsGranted, IsRefused, IsRefusedAt, IsTakenBack}
 
 -- the steps of one granted try beside those of the others
@@ -42,6 +43,25 @@ module _ {P : Type 0} where
   -- the seats behind the first of free ones are free
   free_behind : (x : SeatState P) (xs : List (SeatState P)) → AllFree (x ∷ xs) → AllFree xs
   free_behind x xs free i d lt = free (suc i) d (omega arith)
+
+  all_behind : (Q : SeatState P → Type 0) (x : SeatState P) (xs : List (SeatState P)) → All Q (x ∷ xs) → All Q xs
+  all_behind Q x xs all i d lt = all (suc i) d (omega arith)
+
+  -- what is so of each seat of a set is so of its four seats
+  pub four_seats : (Q : SeatState P → Type 0) (table : TableId) (a b c d : SeatState P) (set : SetView P)
+      → record { table = table; seats = a ∷ b ∷ c ∷ d ∷ [] } ≡ set → All Q set.seats → All Q (a ∷ b ∷ c ∷ d ∷ [])
+  four_seats Q table a b c d set is all = subst (λ (x : SetView P). All Q x.seats) (sym is) all
+
+  -- and of the last three
+  pub last_three : (Q : SeatState P → Type 0) (a b c d : SeatState P) → All Q (a ∷ b ∷ c ∷ d ∷ []) → Q b × Q c × Q d
+  last_three Q a b c d all =
+      let one = all_behind Q a (b ∷ c ∷ d ∷ []) all in
+      let two = all_behind Q b (c ∷ d ∷ []) one in
+      let three = all_behind Q c (d ∷ []) two in (one 0 b (omega arith), two 0 c (omega arith), three 0 d (omega arith))
+
+  -- it stays so where it is so of the first one's new state
+  pub first_changed : (Q : SeatState P → Type 0) (a x : SeatState P) (rest : List (SeatState P)) → All Q (a ∷ rest) → Q x → All Q (x ∷ rest)
+  first_changed Q a x rest all now = All-cons Q x rest now (all_behind Q a rest all)
 
   none_held : (xs : List (SeatState P)) → AllFree xs → (i : ℕ) → i < length xs → held_in xs i ≡ None
   none_held [] free i lt = absurd (omega arith)

@@ -7,10 +7,6 @@ use Rattle.range_rw.specs.Contract.{SeatState, IsCause, IsLockCall}
 use Rattle.range_sets.specs.declared.wants.Want.{Want}
 use Rattle.range_sets.specs.Wants.{want_held}
 
--- how many steps a try makes at most, in a table of so many seats
-abbrev pub most_steps : ℕ → ℕ
-most_steps seats = 64 + 386 * seats
-
 module _ {P : Type 0} where
   -- a want was granted to a seat, by a try of so many steps at most
   pub record IsGranted (most : ℕ) (want : Want) (before after : SeatState P) : Type 0 where

@@ -1,7 +1,7 @@
 //! Holding a range without a rule on client words: a try that another seat's range refuses, and a try whose steps are
 //! counted. Nothing here waits for another seat.
 ghost use Rattle.std.specs.Prelude.{◌≡◌, ◌<◌, ◌≤◌, ◌+◌, ◌*◌, None, IfOk};
-ghost use Rattle.range_rw.specs.Contract.{IsGivenBack};
+ghost use Rattle.range_rw.specs.Contract.{IsGivenBack, most_steps};
 
 use lock_core::{FreeGuard, Mode, Range};
 use range_rw::{NotHeld, OpenFault, RangeTable, Seat};
@@ -56,7 +56,7 @@ fn hold_counting<L: Ledger>(
     requires table { seat.old.table ≡ table.now.table }
     requires free { seat.old.held ≡ None }
     ensures back { IsGivenBack seat.old seat.new }
-    ensures bound { steps.new ≤ steps.old + (66 + 386 * table.now.seats) }
+    ensures bound { steps.new ≤ steps.old + most_steps table.now + 2 }
 {
     table.try_acquire(seat, range, Mode::Writer, steps)?;
     table.release(seat, steps);

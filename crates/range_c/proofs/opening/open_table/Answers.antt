@@ -1,7 +1,7 @@
 use Rattle.std.proofs.Common.{rules, arith, ◌≡◌, ◌≤◌, ◌+◌, ◌-◌, ◌^◌, ℕ, List, sym, ap, ◌∙◌, subst, length}
 use Rattle.std.specs.Arc.{arc_value}
 use Rattle.atomic_table.specs.Seated.{TableId}
-use Rattle.range_rw.specs.Contract.{TableShape, AreNewSeats}
+use Rattle.range_rw.specs.Contract.{TableShape, AreNewSeats, IsOneList}
 use Rattle.range_c.specs.Behind.{RecordingSeat}
 use Rattle.range_c.specs.Recording.{begun}
 use Rattle.range_c.proofs.Rows.{taken, longer, opens}
@@ -30,6 +30,7 @@ invariant_of-state c =
       ap (λ (t : TableShape). t.client) c.in-Ok-new.ensures.ok ∙ c.in-Ok.ensures.shape.1,
       number,
       least,
+      subst IsOneList (sym c.in-Ok-new.ensures.ok) c.in-Ok.ensures.one,
     )
 
 -- what is in the box is what is behind a new handle of a new table

@@ -1,9 +1,12 @@
-use Rattle.std.proofs.Common.{rules, ◌≡◌, ◌<◌, ◌+◌, map, length, sym, ap, ◌∙◌, subst, refl, arith}
+use Rattle.std.proofs.Common.{rules, ◌≡◌, ◌≢◌, ℕ, ◌<◌, ◌+◌, map, length, sym, ap, ◌∙◌, subst, refl, arith}
 use Rattle.std.proofs.lemmas.List.Edits.{length-remove}
 use Rattle.word_rows.proofs.Rowing.{snoc_all}
+use Rattle.list_cuts.specs.Cut.{list_count}
+use Rattle.epoch_pools.specs.Beside.{core_at}
 use Rattle.epoch_pools.specs.Hands.{IsIdle}
 use Rattle.range_rw.specs.Contract.{pass_in}
 use Rattle.range_rw.proofs.Lists.{one_longer}
+use Rattle.range_rw.proofs.Pieces.{else_at}
 use Rattle.range_rw.proofs.Seating.{next_idle, idle_on, passes_on, IsIdleFrom}
 use Rattle.range_rw.proofs.table.hands_of.Goals as goal
 
@@ -36,6 +39,9 @@ all-preserved g c =
           let s = i.count in let m = grown in omega arith;
       idle = rw c.push_reserved.ensures.items (snoc_all (λ k h. (h.table ≡ table) × (h.part.number ≡ k) × IsIdle h.part.core) _ _
           made refl i.idle (hand.0 ∙ idle.0, hand.1 ∙ idle.1, hand.3));
+      others = rw c.push_reserved.ensures.items (snoc_all
+          (λ k h. (j : ℕ) → j < list_count c.args.list.now.cut → j ≢ h.part.pass.list → IsIdle (core_at j h.part.pass.others)) _ _
+          made refl i.others (λ j less away. subst IsIdle (else_at c.hand_of.result.part j away) (c.hand_of.ensures.others j less)));
       rest = subst (λ k. IsIdleFrom table k c.remove-seat.new.self.items) (sym grown)
           (idle_on table made c.all.seats.items _ i.rest c.remove-seat.ensures.items);
       passes = rw c.push_reserved.ensures.items (passes_on c.all.hands.items c.hand_of.result c.all.seats.items _

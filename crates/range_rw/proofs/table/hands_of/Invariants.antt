@@ -1,5 +1,6 @@
 use Rattle.std.proofs.Common.{◌≡◌, ◌+◌, ◌++◌, map, length, vec_capacity}
-use Rattle.epoch_pools.specs.Hands.{AreIdleHands, pass_in as hand_pass}
+use Rattle.list_cuts.specs.Cut.{list_count}
+use Rattle.epoch_pools.specs.Hands.{AreIdleHands, AreOthersIdle, pass_in as hand_pass}
 use Rattle.range_rw.specs.Contract.{pass_in}
 use Rattle.range_rw.proofs.Seating.{IsIdleFrom}
 use Rattle.range_rw.proofs.table.hands_of.Given as goal
@@ -10,6 +11,7 @@ invariant-all g l = record {
   room : vec_capacity l.hands ≡ vec_capacity l.initial.hands;
   count : length l.hands.items + length l.seats.items ≡ length l.initial.seats.items;
   idle : AreIdleHands l.list.table l.hands.items;
+  others : AreOthersIdle (list_count l.list.cut) l.hands.items;
   rest : IsIdleFrom l.list.table (length l.hands.items) l.seats.items;
   passes : map hand_pass l.hands.items ++ map pass_in l.seats.items ≡ map pass_in l.initial.seats.items;
 }

@@ -2,7 +2,7 @@ use Rattle.std.proofs.Common.{rules, arith, ◌≡◌, ◌≤◌, ℕ, sym, ap, 
 use Rattle.std.specs.Arc.{arc_value}
 use mathlib.Core.Option.{some, some-ne-none}
 use lib.ListN.{get_elem?}
-use Rattle.range_rw.specs.Contract.{TableShape, AreNewSeats}
+use Rattle.range_rw.specs.Contract.{TableShape, AreNewSeats, IsOneList}
 use Rattle.range_c.specs.Behind.{Behind, RecordingSeat}
 use Rattle.range_c.specs.Recording.{begun}
 use Rattle.range_c.proofs.Rows.{Row, behind, taken, longer, fewer, put_back, shares}
@@ -21,6 +21,7 @@ invariant_of-state c =
       ap (λ (t : TableShape). t.client) c.in-Ok.ensures ∙ c.self.invariant.2,
       ap (λ (s : RecordingSeat). s.number) all.0 ∙ sym (c.len.ensures ∙ count),
       none,
+      subst IsOneList (sym c.in-Ok.ensures) c.self.invariant.5,
     )
 
 -- the seats that are left to share are new ones of the table still
@@ -34,6 +35,7 @@ invariant_of-self c =
       c.self.invariant.2,
       c.self.invariant.3,
       least,
+      c.self.invariant.5,
     )
 
 -- where there was no memory, the seat is put back and all are left to share as before
@@ -44,7 +46,7 @@ invariant_of-self-in-Err c =
     c.value.inside.seat c.in-Some.ensures.items seat c.push_reserved.ensures.items in
     let kept = subst (λ (l : Row). AreNewSeats (arc_value c.self.inside.table).table (begun c.self.inside.seat.pass.opened) l) (sym again) c.self.invariant.1 in
     let least = subst (λ (l : Row). length l ≤ c.self.inside.number) (sym again) c.self.invariant.4 in
-    (c.self.invariant.0, kept, c.self.invariant.2, c.self.invariant.3, least)
+    (c.self.invariant.0, kept, c.self.invariant.2, c.self.invariant.3, least, c.self.invariant.5)
 
 -- what is in the new box got the last of the seats that were left to share
 pub returns-in-Ok-new-clause-shared : goal.returns-in-Ok-new-clause-shared

@@ -1,0 +1,387 @@
+-- How a seat goes on from list to list in one call: a turn and a look leave every list as it was, and a piece of work
+-- leaves each other list. So a range that one list holds stays held there while its seat works in another.
+use Rattle.std.proofs.Common.{◌≡◌, ◌≢◌, ◌⊎◌, ◌↔◌, ℕ, ◌+◌, ◌*◌, ◌<◌, ◌≤◌, Bool, true, false, suc, inl, inr, ⊎_elim, refl, sym, ap, ◌∙◌, subst, arith}
+use Rattle.std.proofs.Common.{eqb-true, eq-eqb, ne_eqb}
+use Rattle.std.specs.Prelude.{List, Option, Some, None, ◌==◌, ◌&&◌, ◌||◌, if◌then◌else◌}
+use mathlib.Core.Logic.{dite}
+use native.Mathlib.Decide.{dec_le, ℕ_discrete}
+use Rattle.list_cuts.specs.Cut.{Regions, first_list, list_count, Takes, TakesOne, TakesTwo}
+use Rattle.list_cuts.proofs.Cutting.{takes_there, none_before}
+use Rattle.lock_core.specs.Range.{Interval}
+use Rattle.lock_core.specs.declared.range.Held.{Held}
+use Rattle.lock_core.specs.declared.views.View.{View}
+use Rattle.lock_core.specs.declared.views.Own.TheVariants.{Nothing}
+use Rattle.lock_core.specs.Machine.{held_at}
+use Rattle.epoch_pools.specs.declared.views.SeatPart.{SeatPart}
+use Rattle.epoch_pools.specs.declared.views.Beside.{Beside}
+use Rattle.epoch_pools.specs.declared.views.Standing.{Standing}
+use Rattle.epoch_pools.specs.declared.views.Standing.TheVariants.{Free, Narrow, Wide}
+use Rattle.epoch_pools.specs.Standings.{is_here, is_whole, is_counted, standing_back, passed_by}
+use Rattle.epoch_pools.specs.Beside.{shown_core}
+use Rattle.epoch_pools.specs.Hands.{IsResting, turned}
+use Rattle.epoch_pools.specs.Passing.{after_look, MayCount, MayPass, HoldsToo}
+use Rattle.range_rw.specs.Contract.{IsReadyLeft}
+use Rattle.marked_list.specs.Causes.{nodes_in, IsSpent}
+use Rattle.range_rw.specs.Several.{IsLaterInLists, IsPiece, IsFreeSeat, HoldsAlone, HoldsIn, HasSpent, HasPassed, TakesNone}
+use Rattle.range_rw.proofs.Pieces.{own_at}
+
+-- ---- which lists are taken
+
+-- a range that takes two lists doesn't take list 0
+pub none_first : (c : Regions) (range : Interval) → 0 < c.count → TakesTwo c range → Takes c range 0 → ⊥
+none_first c range more two t = by_first (c.count == 1) refl
+  where
+    by_first : (b : Bool) → (c.count == 1) ≡ b → ⊥
+    by_first true e =
+        let one : c.count ≡ 1 = eqb-true c.count 1 e in
+        let first : first_list c ≡ 0 = ap (λ (x : Bool). if x then 0 else 1) e in
+        let a = takes_there c range two.one more two.takes_one in
+        let b = takes_there c range two.two more two.takes_two in
+        two.differ (omega arith)
+    by_first false e =
+        let first : first_list c ≡ 1 = ap (λ (x : Bool). if x then 0 else 1) e in
+        none_before c range 0 (omega arith) t
+
+-- ---- what counts
+
+-- with several lists nothing counts of a seat that has looked at none
+pub free_beside : (lists i : ℕ) → lists ≢ 1 → is_counted lists Free i ≡ false
+free_beside lists i many = ap (λ (b : Bool). b || is_here Free i && is_whole Free lists) (ne_eqb lists 1 many)
+
+-- a narrow range counts through its own list alone
+pub narrow_beside : (lists at i : ℕ) → lists ≢ 1 → i ≢ at → is_counted lists (Narrow at) i ≡ false
+narrow_beside lists at i many differ =
+    ap (λ (b : Bool). b || is_here (Narrow at) i && is_whole (Narrow at) lists) (ne_eqb lists 1 many)
+    ∙ ap (λ (b : Bool). b && is_whole (Narrow at) lists) (ne_eqb i at differ)
+
+-- a wide one through list 0 alone
+pub wide_beside : (lists p i : ℕ) → lists ≢ 1 → i ≢ 0 → is_counted lists (Wide p) i ≡ false
+wide_beside lists p i many differ =
+    ap (λ (b : Bool). b || is_here (Wide p) i && is_whole (Wide p) lists) (ne_eqb lists 1 many)
+    ∙ ap (λ (b : Bool). b && is_whole (Wide p) lists) (ne_eqb i 0 differ)
+
+-- and only once it has passed all
+pub wide_on_its_way : (lists p : ℕ) → lists ≢ 1 → p ≢ lists → is_counted lists (Wide p) 0 ≡ false
+wide_on_its_way lists p many differ =
+    ap (λ (b : Bool). b || is_here (Wide p) 0 && is_whole (Wide p) lists) (ne_eqb lists 1 many) ∙ ne_eqb p lists differ
+
+or_true : (b : Bool) → (b || true) ≡ true
+or_true true = refl
+or_true false = refl
+
+-- what counts through the list that holds it
+pub narrow_counts : (lists at i : ℕ) → i ≡ at → is_counted lists (Narrow at) i ≡ true
+narrow_counts lists at i e =
+    ap (λ (b : Bool). lists == 1 || b && is_whole (Narrow at) lists) (eq-eqb i at e) ∙ or_true (lists == 1)
+
+pub wide_counts : (lists i : ℕ) → i ≡ 0 → is_counted lists (Wide lists) i ≡ true
+wide_counts lists i e =
+    (λ k. lists == 1 || eq-eqb i 0 e k && eq-eqb lists lists refl k) ∙ or_true (lists == 1)
+
+-- what is given back in another list leaves the standing
+pub narrow_back : (at i : ℕ) → i ≢ at → standing_back (Narrow at) i ≡ Narrow at
+narrow_back at i differ = ap (λ (b : Bool). if b then Free else Narrow at) (ne_eqb i at differ)
+
+pub wide_back : (p i : ℕ) → i ≢ 0 → standing_back (Wide p) i ≡ Wide p
+wide_back p i differ = ap (λ (b : Bool). if b then Free else Wide p) (ne_eqb i 0 differ)
+
+-- the ready nodes after a call that began with those of before
+pub ready_from : {before mid after : List ℕ} → mid ≡ before → IsReadyLeft mid after → IsReadyLeft before after
+ready_from {before} {mid} {after} same left = subst (λ l. IsReadyLeft l after) same left
+
+-- what is held is something
+pub some_held : {o : Option Held} {range : Held} → o ≡ Some range → o ≢ None
+some_held {o} {range} is none = absurd (let z : ◌≡◌ {A = Option Held} (Some range) None = sym is ∙ none in cc)
+
+module _ {P : Type 0} where
+  -- ---- calls one after another
+
+  pub lists_on : (p q r : SeatPart (Beside P)) → IsLaterInLists p q → IsLaterInLists q r → IsLaterInLists p r
+  lists_on p q r a b = record {
+    number = b.number ∙ a.number;
+    seats = b.seats ∙ a.seats;
+    lists = b.lists ∙ a.lists;
+    pass = b.pass ∙ a.pass;
+    client = b.client ∙ a.client;
+    taken = let x = a.taken in let y = b.taken in omega arith;
+  }
+
+  -- a turn makes no step
+  pub turn_on : (p t : SeatPart (Beside P)) (at : ℕ) → t ≡ turned p at → IsLaterInLists p t
+  turn_on p t at is = record {
+    number = ap (λ (x : SeatPart (Beside P)). x.number) is;
+    seats = ap (λ (x : SeatPart (Beside P)). x.seats) is;
+    lists = ap (λ (x : SeatPart (Beside P)). x.pass.lists) is;
+    pass = ap (λ (x : SeatPart (Beside P)). x.pass.pass) is;
+    client = ap (λ (x : SeatPart (Beside P)). x.trace.client) is;
+    taken = let e = ap (λ (x : SeatPart (Beside P)). x.trace.taken) is in omega arith;
+  }
+
+  -- a look makes one, and changes the standing alone
+  pub look_on : (p q : SeatPart (Beside P)) (s : Standing) → q ≡ after_look p s → IsLaterInLists p q
+  look_on p q s is = record {
+    number = ap (λ (x : SeatPart (Beside P)). x.number) is;
+    seats = ap (λ (x : SeatPart (Beside P)). x.seats) is;
+    lists = ap (λ (x : SeatPart (Beside P)). x.pass.lists) is;
+    pass = ap (λ (x : SeatPart (Beside P)). x.pass.pass) is;
+    client = ap (λ (x : SeatPart (Beside P)). x.trace.client) is;
+    taken = let e = ap (λ (x : SeatPart (Beside P)). x.trace.taken) is in omega arith;
+  }
+
+  pub look_shows : (p q : SeatPart (Beside P)) (s : Standing) → q ≡ after_look p s → (j : ℕ) → shown_core q j ≡ shown_core p j
+  look_shows p q s is j = ap (λ (x : SeatPart (Beside P)). shown_core x j) is
+
+  -- what a hand holds in one list alone, it holds there however it is turned
+  pub holds_in : (at : ℕ) (asked : Held) (p : SeatPart (Beside P)) → HoldsAlone at asked p → HoldsIn at asked p
+  holds_in at asked p h =
+      record { rests = h.rests; held = ap (λ (v : View). held_at v.own) (own_at p at h.turned) ∙ h.held; others = h.others }
+
+  -- a piece of work in another list, which leaves nothing there, leaves what this list holds
+  pub holds_on : (home other : ℕ) (asked : Held) (p q : SeatPart (Beside P)) → home ≢ other → HoldsIn home asked p → IsPiece other p q
+      → q.core.own ≡ Nothing → HoldsIn home asked q
+  holds_on home other asked p q differ h piece free = record {
+    rests = piece.rests;
+    held = ap (λ (v : View). held_at v.own) (piece.only home differ) ∙ h.held;
+    others = λ j away. dite (ℕ_discrete j other)
+        (λ e. ap (λ (v : View). v.own) (ap (shown_core q) e ∙ own_at q other piece.turned) ∙ free)
+        (λ elsewhere. ap (λ (v : View). v.own) (piece.only j elsewhere) ∙ h.others j away);
+  }
+
+  -- and turned to that list it holds it there alone
+  pub holds_turned : (home : ℕ) (asked : Held) (p t : SeatPart (Beside P)) → t ≡ turned p home → ((j : ℕ) → shown_core t j ≡ shown_core p j)
+      → IsResting t.core → HoldsIn home asked p → HoldsAlone home asked t
+  holds_turned home asked p t is stays rests h = record {
+    rests = rests;
+    turned = ap (λ (x : SeatPart (Beside P)). x.pass.list) is;
+    held = ap (λ (x : SeatPart (Beside P)). held_at x.core.own) is ∙ h.held;
+    others = λ j away. ap (λ (v : View). v.own) (stays j) ∙ h.others j away;
+  }
+
+  -- a look leaves what is held
+  pub holds_looked : (home : ℕ) (asked : Held) (t h : SeatPart (Beside P)) (s : Standing) → h ≡ after_look t s → HoldsAlone home asked t
+      → HoldsAlone home asked h
+  holds_looked home asked t h s is a = record {
+    rests = subst IsResting (sym (ap (λ (x : SeatPart (Beside P)). x.core) is)) a.rests;
+    turned = ap (λ (x : SeatPart (Beside P)). x.pass.list) is ∙ a.turned;
+    held = ap (λ (x : SeatPart (Beside P)). held_at x.core.own) is ∙ a.held;
+    others = λ j away. ap (λ (v : View). v.own) (look_shows t h s is j) ∙ a.others j away;
+  }
+
+  -- a wide range that has a list still to pass has it still to pass where what is held, the standing and the turn stay
+  pub pass_still : (c : Regions) (at up : ℕ) (asked : Held) (p t : SeatPart (Beside P)) → MayPass c p at up → t.pass.lists ≡ p.pass.lists
+      → t.pass.list ≡ 0 → t.pass.standing ≡ p.pass.standing → t.core ≡ p.core → MayPass c t at up
+  pass_still c at up asked p t may lists list standing core = record {
+    several = let a = may.several in omega arith;
+    first = list;
+    standing = subst (λ (s : Standing). (s ≡ Free) ⊎ ((passed : ℕ) × (s ≡ Wide passed))) (sym standing) may.standing;
+    range = may.range;
+    held = ap (λ (v : View). held_at v.own) core ∙ may.held;
+    from = subst (λ (s : Standing). passed_by s ≤ at) (sym standing) may.from;
+    below = may.below;
+    most = let a = may.most in omega arith;
+    others = λ other from below differ. may.others other (subst (λ (s : Standing). passed_by s ≤ other) standing from) below differ;
+  }
+
+  -- a narrow range that its list holds may be counted, where nothing counts yet
+  pub may_count : (c : Regions) (at : ℕ) (asked : Held) (t : SeatPart (Beside P)) → 1 < t.pass.lists → t.pass.standing ≡ Free → HoldsAlone at asked t
+      → TakesOne c asked.range at → MayCount c t
+  may_count c at asked t several free a takes = record {
+    several = several;
+    standing = free;
+    range = asked;
+    held = a.held;
+    takes = subst (TakesOne c asked.range) (sym a.turned) takes;
+  }
+
+  -- a piece of work after which a list holds the range, where the seat held nothing
+  pub piece_alone : (at : ℕ) (asked : Held) (p l : SeatPart (Beside P)) → IsFreeSeat p → IsPiece at p l → held_at l.core.own ≡ Some asked
+      → HoldsAlone at asked l
+  piece_alone at asked p l free piece held =
+      record { rests = piece.rests; turned = piece.turned; held = held; others = λ j away. ap (λ (v : View). v.own) (piece.only j away) ∙ free.free j }
+
+  -- one after which that list has no node of the seat, where the others hold nothing
+  pub piece_free : (at : ℕ) (p q : SeatPart (Beside P)) → IsPiece at p q → q.core.own ≡ Nothing → q.pass.standing ≡ Free
+      → ((j : ℕ) → j ≢ at → (shown_core p j).own ≡ Nothing) → IsFreeSeat q
+  piece_free at p q piece free standing others = record {
+    rests = piece.rests;
+    free = λ j. dite (ℕ_discrete j at)
+        (λ e. ap (λ (v : View). v.own) (ap (shown_core q) e ∙ own_at q at piece.turned) ∙ free)
+        (λ away. ap (λ (v : View). v.own) (piece.only j away) ∙ others j away);
+    standing = standing;
+  }
+
+  -- the ready nodes of each list, where one list's went on and the others stayed
+  pub ready_each : (at : ℕ) (p q : SeatPart (Beside P)) → IsReadyLeft (shown_core p at).ready (shown_core q at).ready
+      → ((j : ℕ) → j ≢ at → shown_core q j ≡ shown_core p j) → (j : ℕ) → IsReadyLeft (shown_core p j).ready (shown_core q j).ready
+  ready_each at p q left only j = dite (ℕ_discrete j at)
+      (λ e. subst (λ n. IsReadyLeft (shown_core p n).ready (shown_core q n).ready) (sym e) left)
+      (λ away. inr (inl (ap (λ (v : View). v.ready) (only j away))))
+
+  -- and where two lists' went on, one after the other
+  pub ready_both : (home other : ℕ) (p l q : SeatPart (Beside P)) → home ≢ other → IsReadyLeft (shown_core p home).ready (shown_core l home).ready
+      → ((j : ℕ) → j ≢ home → shown_core l j ≡ shown_core p j) → IsReadyLeft (shown_core l other).ready (shown_core q other).ready
+      → ((j : ℕ) → j ≢ other → shown_core q j ≡ shown_core l j) → (j : ℕ) → IsReadyLeft (shown_core p j).ready (shown_core q j).ready
+  ready_both home other p l q differ left only later only_later j = dite (ℕ_discrete j other)
+      (λ e. subst (λ n. IsReadyLeft (shown_core p n).ready (shown_core q n).ready) (sym e)
+      (ready_from (ap (λ (v : View). v.ready) (only other (λ same. differ (sym same)))) later))
+      (λ away. subst (λ (v : View). IsReadyLeft (shown_core p j).ready v.ready) (sym (only_later j away)) (ready_each home p l left only j))
+
+  -- where list 0 went on first, and then each other list while list 0 stayed
+  pub ready_all : (p l q : SeatPart (Beside P)) → IsReadyLeft (shown_core p 0).ready (shown_core l 0).ready
+      → ((j : ℕ) → j ≢ 0 → shown_core l j ≡ shown_core p j) → ((j : ℕ) → IsReadyLeft (shown_core l j).ready (shown_core q j).ready)
+      → shown_core q 0 ≡ shown_core l 0 → (j : ℕ) → IsReadyLeft (shown_core p j).ready (shown_core q j).ready
+  ready_all p l q left only later first j = dite (ℕ_discrete j 0)
+      (λ e. subst (λ n. IsReadyLeft (shown_core p n).ready (shown_core q n).ready) (sym e)
+      (subst (λ (v : View). IsReadyLeft (shown_core p 0).ready v.ready) (sym first) left))
+      (λ away. ready_from (ap (λ (v : View). v.ready) (only j away)) (later j))
+
+  -- a last piece that leaves the ready nodes of its list
+  pub ready_kept : (at : ℕ) (p n q : SeatPart (Beside P)) → ((j : ℕ) → IsReadyLeft (shown_core p j).ready (shown_core n j).ready)
+      → (shown_core q at).ready ≡ (shown_core n at).ready → ((j : ℕ) → j ≢ at → shown_core q j ≡ shown_core n j)
+      → (j : ℕ) → IsReadyLeft (shown_core p j).ready (shown_core q j).ready
+  ready_kept at p n q left same only j = dite (ℕ_discrete j at)
+      (λ e. subst (λ k. IsReadyLeft (shown_core p k).ready (shown_core q k).ready) (sym e)
+      (subst (IsReadyLeft (shown_core p at).ready) (sym same) (left at)))
+      (λ away. subst (λ (v : View). IsReadyLeft (shown_core p j).ready v.ready) (sym (only j away)) (left j))
+
+  -- Long still comes exactly where the last walk is spent, once the range is given back
+  pub spent_kept : {Long : Type 0} (n q : SeatPart (Beside P)) → nodes_in q.trace.looked ≡ nodes_in n.trace.looked → q.seats ≡ n.seats
+      → q.core.own ≡ Nothing → (Long ↔ HasSpent n) → (Long ↔ IsSpent q)
+  spent_kept n q look seats free long = (
+    λ l. (look ∙ (long.0 l ∙ ap (λ k. 16 * k + 1) (sym seats)), ap held_at free),
+    λ s. long.1 (sym look ∙ (s.0 ∙ ap (λ k. 16 * k + 1) seats)),
+  )
+
+  -- the next list that a wide range takes may be passed
+  pub pass_next : (c : Regions) (at up : ℕ) (asked : Held) (p : SeatPart (Beside P)) → at < p.pass.lists → 1 ≤ at → HoldsAlone 0 asked p
+      → HasPassed c asked.range at p → TakesNone c asked.range (at + 1) up → at + 1 ≤ up → up ≤ p.pass.lists → MayPass c p at up
+  pass_next c at up asked p there low a passed none next most = ⊎_elim
+      (λ (x : (p.pass.standing ≡ Free) × TakesNone c asked.range 0 at). record {
+        several = omega arith;
+        first = a.turned;
+        standing = inl x.0;
+        range = asked;
+        held = a.held;
+        from = subst (λ (s : Standing). passed_by s ≤ at) (sym x.0) (omega arith);
+        below = omega arith;
+        most = most;
+        others = λ other from below differ t. dite (dec_le (suc other) at)
+            (λ less. x.1 other (omega arith) less t)
+            (λ no. none other (omega arith) below t);
+      })
+      (λ (e : p.pass.standing ≡ Wide at). record {
+        several = omega arith;
+        first = a.turned;
+        standing = inr (at, e);
+        range = asked;
+        held = a.held;
+        from = subst (λ (s : Standing). passed_by s ≤ at) (sym e) (omega arith);
+        below = omega arith;
+        most = most;
+        others = λ other from below differ t.
+            none other (let f : at ≤ other = subst (λ (s : Standing). passed_by s ≤ other) e from in omega arith) below t;
+      })
+      passed
+
+  -- once there is no list left, a range that takes some has passed all
+  pub all_passed : (c : Regions) (at : ℕ) (range : Interval) (p : SeatPart (Beside P)) → 0 < c.count → at ≡ list_count c → TakesTwo c range
+      → HasPassed c range at p → p.pass.standing ≡ Wide at
+  all_passed c at range p some end two passed = ⊎_elim
+      (λ (x : (p.pass.standing ≡ Free) × TakesNone c range 0 at).
+      let less = takes_there c range two.one some two.takes_one in absurd (x.1 two.one (omega arith) (omega arith) two.takes_one))
+      (λ e. e)
+      passed
+
+  -- before the last list is passed the range doesn't count, and nothing stands for it once it is given back
+  pub passed_beside : (c : Regions) (at : ℕ) (range : Interval) (p : SeatPart (Beside P)) → at < p.pass.lists → 1 ≤ at → HasPassed c range at p
+      → is_counted p.pass.lists p.pass.standing 0 ≡ false
+  passed_beside c at range p there low passed = ⊎_elim
+      (λ (x : (p.pass.standing ≡ Free) × TakesNone c range 0 at).
+      ap (λ (s : Standing). is_counted p.pass.lists s 0) x.0 ∙ free_beside p.pass.lists 0 (λ e. omega arith))
+      (λ (e : p.pass.standing ≡ Wide at).
+      ap (λ (s : Standing). is_counted p.pass.lists s 0) e ∙ wide_on_its_way p.pass.lists at (λ e. omega arith) (λ e. omega arith))
+      passed
+
+  pub passed_back : (c : Regions) (at : ℕ) (range : Interval) (p : SeatPart (Beside P)) → HasPassed c range at p
+      → standing_back p.pass.standing 0 ≡ Free
+  passed_back c at range p passed = ⊎_elim
+      (λ (x : (p.pass.standing ≡ Free) × TakesNone c range 0 at). ap (λ (s : Standing). standing_back s 0) x.0)
+      (λ (e : p.pass.standing ≡ Wide at). ap (λ (s : Standing). standing_back s 0) e)
+      passed
+
+  -- ---- the range is linked in another list too, the look is made, and that node is given back
+
+  -- the link in the other list, and the turn back
+  module _ (home other : ℕ) (asked : Held) (p l t : SeatPart (Beside P)) (differ : home ≢ other) (holds : HoldsIn home asked p)
+      (link : IsPiece other p l) (link_standing : l.pass.standing ≡ p.pass.standing) (link_held : held_at l.core.own ≡ Some asked)
+      (turn : t ≡ turned l home) (stays : (j : ℕ) → shown_core t j ≡ shown_core l j) where
+    pub both_own : t.core ≡ shown_core p home
+    both_own = ap (λ (x : SeatPart (Beside P)). x.core) turn ∙ link.only home differ
+
+    pub both_held : held_at t.core.own ≡ Some asked
+    both_held = ap (λ (v : View). held_at v.own) both_own ∙ holds.held
+
+    pub both_list : t.pass.list ≡ home
+    both_list = ap (λ (x : SeatPart (Beside P)). x.pass.list) turn
+
+    pub both_lists : t.pass.lists ≡ p.pass.lists
+    both_lists = ap (λ (x : SeatPart (Beside P)). x.pass.lists) turn ∙ link.later.lists
+
+    pub both_standing : t.pass.standing ≡ p.pass.standing
+    both_standing = ap (λ (x : SeatPart (Beside P)). x.pass.standing) turn ∙ link_standing
+
+    pub both_other : held_at (shown_core t other).own ≡ Some asked
+    both_other = ap (λ (v : View). held_at v.own) (stays other ∙ own_at l other link.turned) ∙ link_held
+
+    -- the seat holds the range in the other list too
+    pub both_too : HoldsToo t other
+    both_too = record { range = asked; own = both_held; too = both_other }
+
+    -- and may count it, where it is a narrow one of which nothing counts yet
+    pub both_count : (c : Regions) → 1 < p.pass.lists → p.pass.standing ≡ Free → TakesOne c asked.range home → MayCount c t
+    both_count c several free takes = record {
+      several = let e = both_lists in omega arith;
+      standing = both_standing ∙ free;
+      range = asked;
+      held = both_held;
+      takes = subst (TakesOne c asked.range) (sym both_list) takes;
+    }
+
+    -- the look, the release of the other node, and the turn back
+    module _ (s : Standing) (h g u : SeatPart (Beside P)) (look : h ≡ after_look t s) (give : IsPiece other h g)
+        (give_standing : g.pass.standing ≡ standing_back h.pass.standing other) (give_free : g.core.own ≡ Nothing)
+        (back : standing_back s other ≡ s) (turn_back : u ≡ turned g home) (stays_back : (j : ℕ) → shown_core u j ≡ shown_core g j)
+        (rests_back : IsResting u.core) where
+      pub both_later : IsLaterInLists p u
+      both_later = lists_on p g u
+          (lists_on p h g (lists_on p t h (lists_on p l t link.later (turn_on l t home turn)) (look_on t h s look)) give.later)
+          (turn_on g u home turn_back)
+
+      -- each list but the other one is as it was
+      pub both_only : (j : ℕ) → j ≢ other → shown_core u j ≡ shown_core p j
+      both_only j away = stays_back j ∙ (give.only j away ∙ (look_shows t h s look j ∙ (stays j ∙ link.only j away)))
+
+      both_free : (shown_core u other).own ≡ Nothing
+      both_free = ap (λ (v : View). v.own) (stays_back other ∙ own_at g other give.turned) ∙ give_free
+
+      pub both_alone : HoldsAlone home asked u
+      both_alone = record {
+        rests = rests_back;
+        turned = ap (λ (x : SeatPart (Beside P)). x.pass.list) turn_back;
+        held = ap (λ (v : View). held_at v.own)
+            (sym (own_at u home (ap (λ (x : SeatPart (Beside P)). x.pass.list) turn_back)) ∙ both_only home differ) ∙ holds.held;
+        others = λ j away. dite (ℕ_discrete j other)
+            (λ e. ap (λ (v : View). v.own) (ap (shown_core u) e) ∙ both_free)
+            (λ elsewhere. ap (λ (v : View). v.own) (both_only j elsewhere) ∙ holds.others j away);
+      }
+
+      pub both_counts : u.pass.standing ≡ s
+      both_counts = ap (λ (x : SeatPart (Beside P)). x.pass.standing) turn_back
+          ∙ (give_standing ∙ (ap (λ (x : SeatPart (Beside P)). standing_back x.pass.standing other) look ∙ back))
+
+      -- the ready nodes of the other list are those that the link left there
+      pub both_ready : (shown_core g other).ready ≡ (shown_core h other).ready
+          → IsReadyLeft (shown_core p other).ready (shown_core l other).ready
+          → IsReadyLeft (shown_core p other).ready (shown_core u other).ready
+      both_ready given left = subst (IsReadyLeft (shown_core p other).ready)
+          (sym (ap (λ (v : View). v.ready) (stays_back other) ∙ (given ∙ ap (λ (v : View). v.ready) (look_shows t h s look other ∙ stays other)))) left

@@ -1,0 +1,264 @@
+-- A seat at a table of any number of lists: what it holds is what its hand holds in the list to which it is turned, and
+-- that counts. So what a call leaves of that list is what it leaves of the seat.
+use Rattle.std.proofs.Common.{◌≡◌, ◌≢◌, ℕ, zero, suc, ◌+◌, ◌-◌, ◌*◌, ◌%◌, ◌<◌, Bool, true, false, Result, Ok, Err, MatchResult, inl, ⊎_elim, refl, sym, ap, ◌∙◌, subst, arith}
+use Rattle.std.proofs.Common.{eq-eqb, ne_eqb, eqb-true}
+use Rattle.std.specs.Prelude.{Option, Some, None, IsSome, ◌==◌, ◌&&◌, ◌||◌, if◌then◌else◌, List, [], ◌∷◌, map, get_or}
+use mathlib.Core.Logic.{dite}
+use native.Mathlib.Decide.{ℕ_discrete}
+use Rattle.atomic_table.specs.Seated.{TableId}
+use Rattle.lock_core.specs.Grants.{Grants}
+use Rattle.lock_core.specs.Client.{ClientStep, IsAllowed, IsMade}
+use Rattle.lock_core.specs.declared.range.Held.{Held}
+use Rattle.lock_core.specs.declared.views.View.{View}
+use Rattle.lock_core.specs.declared.views.Own.{Own}
+use Rattle.lock_core.specs.declared.views.Own.TheVariants.{Nothing, Filling, Linked}
+use Rattle.lock_core.specs.Machine.{held_at, numbers_from}
+use Rattle.epoch_pools.specs.declared.views.SeatPart.{SeatPart}
+use Rattle.epoch_pools.specs.declared.views.Beside.{Beside}
+use Rattle.epoch_pools.specs.declared.views.Standing.{Standing}
+use Rattle.epoch_pools.specs.declared.views.Standing.TheVariants.{Free, Narrow, Wide}
+use Rattle.epoch_pools.specs.Standings.{is_here, is_whole, is_counted, standing_back, counted_of_many}
+use Rattle.epoch_pools.specs.Beside.{shown_core, shown_grant, inner_pass, given_back, may_give_back}
+use Rattle.epoch_pools.specs.Hands.{HandState, IsResting}
+use Rattle.epoch_pools.specs.Running.{client_part}
+use Rattle.epoch_pools.proofs.Counting.{counts_one, counts_many}
+use Rattle.marked_list.specs.Scanning.{IsScanning}
+use Rattle.range_rw.specs.Contract.{SeatState, IsLockCall, IsRelease, ready_in, pools_at}
+use Rattle.range_rw.specs.Seats.{IsSettled, IsSeated, pools_of, walk_of, scan_of, placed_in, seat_state_of}
+use Rattle.range_rw.specs.Trying.{IsLaterInTry}
+use Rattle.range_rw.specs.Releasing.{GivesBack}
+use Rattle.range_rw.specs.Several.{IsLaterInLists, IsFreeSeat, HoldsAlone}
+use Rattle.range_rw.proofs.Pieces.{own_at, only_stays, settled_by}
+
+-- a settled own node of a seat that holds nothing is none
+pub free_own : (own : Own) → IsSettled own → held_at own ≡ None → own ≡ Nothing
+free_own Nothing s free = refl
+free_own (Filling node lo hi mode aimed) s free = absurd s
+free_own (Linked node range mode todo) s free =
+    let held : ◌≡◌ {A = Option Held} (Some (record { range = range; mode = mode })) None = sym (ap (λ t. held_at (Linked node range mode t)) s) ∙ free in
+    absurd (cc)
+
+-- what stands at a place of a list that is made number by number
+further_at : {A : Type 0} (f : ℕ → A) (from many j : ℕ) (none : A) → j < many → get_or (map f (numbers_from from many)) j none ≡ f (from + j)
+further_at f from zero j none less = absurd (omega arith)
+further_at f from (suc many) zero none less = ap f (let e : from ≡ from + 0 = omega arith in e)
+further_at f from (suc many) (suc j) none less = further_at f (from + 1) many j none (omega arith)
+    ∙ ap f (let e : (from + 1) + j ≡ from + suc j = omega arith in e)
+
+both_true : (a b : Bool) → (a && b) ≡ true → (a ≡ true) × (b ≡ true)
+both_true true b e = (refl, e)
+both_true false b e = absurd (let z : ◌≡◌ {A = Bool} false true = e in cc)
+
+-- where a list's range counts, it is what counts
+here_counts : (s : Standing) (lists i : ℕ) (held : ℕ → Option Held) → (is_here s i && is_whole s lists) ≡ true → counted_of_many lists s held ≡ held i
+here_counts Free lists i held e = absurd (let z : ◌≡◌ {A = Bool} false true = e in cc)
+here_counts (Narrow j) lists i held e = ap held (sym (eqb-true i j (both_true (i == j) true e).0))
+here_counts (Wide p) lists i held e =
+    let t = both_true (i == 0) (p == lists) e in
+    ap (λ (b : Bool). if b then held 0 else None) t.1 ∙ ap held (sym (eqb-true i 0 t.0))
+
+module _ {P : Type 0} where
+  -- ---- what counts is what the hand holds
+
+  nothing_shown : (p : SeatPart (Beside P)) → IsSeated p → held_at p.core.own ≡ None → (j : ℕ) → held_at (shown_core p j).own ≡ None
+  nothing_shown p s none j = dite (ℕ_discrete j p.pass.list)
+      (λ e. ap (λ (v : View). held_at v.own) (own_at p j (sym e)) ∙ none)
+      (λ away. ap held_at (s.others j away))
+
+  by_held : (p : SeatPart (Beside P)) → IsSeated p → (o : Option Held) → held_at p.core.own ≡ o → shown_grant p ≡ o
+  by_held p s None none = dite (ℕ_discrete p.pass.lists 1)
+      (λ one. counts_one p.pass.lists p.pass.standing (λ i. held_at (shown_core p i).own) one ∙ nothing_shown p s none 0)
+      (λ many. counts_many p.pass.lists p.pass.standing (λ i. held_at (shown_core p i).own) many
+      ∙ ap (λ (t : Standing). counted_of_many p.pass.lists t (λ i. held_at (shown_core p i).own)) (s.free none))
+  by_held p s (Some h) some = dite (ℕ_discrete p.pass.lists 1)
+      (λ one.
+      let first : p.pass.list ≡ 0 = (let t = s.there in omega arith) in
+      counts_one p.pass.lists p.pass.standing (λ i. held_at (shown_core p i).own) one
+      ∙ (ap (λ (v : View). held_at v.own) (own_at p 0 first) ∙ some))
+      (λ many.
+      let counts : is_counted p.pass.lists p.pass.standing p.pass.list ≡ true =
+      s.counts (λ none. absurd (let z : ◌≡◌ {A = Option Held} (Some h) None = sym some ∙ none in cc)) in
+      let here : (is_here p.pass.standing p.pass.list && is_whole p.pass.standing p.pass.lists) ≡ true =
+      sym (ap (λ (b : Bool). b || is_here p.pass.standing p.pass.list && is_whole p.pass.standing p.pass.lists) (ne_eqb p.pass.lists 1 many)) ∙ counts in
+      counts_many p.pass.lists p.pass.standing (λ i. held_at (shown_core p i).own) many
+      ∙ (here_counts p.pass.standing p.pass.lists p.pass.list (λ i. held_at (shown_core p i).own) here
+      ∙ (ap (λ (v : View). held_at v.own) (own_at p p.pass.list refl) ∙ some)))
+
+  pub seated_grant : (p : SeatPart (Beside P)) → IsSeated p → shown_grant p ≡ held_at p.core.own
+  seated_grant p s = by_held p s (held_at p.core.own) refl
+
+  -- a seat that holds nothing in any list holds nothing in this one
+  pub none_here : (p : SeatPart (Beside P)) → IsFreeSeat p → held_at p.core.own ≡ None
+  none_here p f = ap (λ (v : View). held_at v.own) (sym (own_at p p.pass.list refl)) ∙ ap held_at (f.free p.pass.list)
+
+  -- a call of a try is one in several lists
+  pub try_lists : (p q : SeatPart (Beside P)) → IsLaterInTry p q → IsLaterInLists p q
+  try_lists p q l = record {
+    number = l.number;
+    seats = l.seats;
+    lists = ap (λ (b : Beside P). b.lists) l.pass;
+    pass = ap (λ (b : Beside P). b.pass) l.pass;
+    client = l.client;
+    taken = l.taken;
+  }
+
+  -- so a seat that holds something holds it in that list
+  pub held_some : (p : SeatPart (Beside P)) → IsSeated p → IsSome (shown_grant p) → held_at p.core.own ≢ None
+  held_some p s some none = absurd (let z : ◌≡◌ {A = Bool} false true = subst IsSome (seated_grant p s ∙ none) some in cc)
+
+  -- and one that holds nothing has no node of its own there
+  pub seated_none : (p : SeatPart (Beside P)) → IsSeated p → shown_grant p ≡ None → held_at p.core.own ≡ None
+  seated_none p s none = sym (seated_grant p s) ∙ none
+
+  pub seated_own : (p : SeatPart (Beside P)) → IsSeated p → shown_grant p ≡ None → p.core.own ≡ Nothing
+  seated_own p s none = free_own p.core.own s.current.own (seated_none p s none)
+
+  -- a hand that is outside its epoch has no open scan
+  pub rests_closed : (q : SeatPart (Beside P)) → IsResting q.core → placed_in q.pass.lists q.pass.list (scan_of q) ≡ None
+  rests_closed q rests = ap (placed_in q.pass.lists q.pass.list)
+      (ap (λ (b : Bool). if b then None else Some (walk_of (16 * q.seats + 1) q.core.cursor q.trace.looked)) (eq-eqb (q.core.epoch % 2) 0 rests.outside))
+
+  -- the pools of a list, as the seat shows them
+  pub pools_shown : (table : TableId) (p : SeatPart (Beside P)) (j : ℕ) → j < p.pass.lists
+      → pools_at (seat_state_of (record { table = table; part = p })) j ≡ pools_of (shown_core p j)
+  pools_shown table p zero less = refl
+  pools_shown table p (suc j) less = further_at (λ n. pools_of (shown_core p n)) 1 (p.pass.lists - 1) j (pools_of (shown_core p 0)) (omega arith)
+      ∙ ap (λ n. pools_of (shown_core p n)) (let e : 1 + j ≡ suc j = omega arith in e)
+
+  -- ---- what a seat is after a call
+
+  -- a seat that holds nothing in any list is between two calls
+  pub free_seated : (p : SeatPart (Beside P)) → p.pass.list < p.pass.lists → IsFreeSeat p → IsSeated p
+  free_seated p there f =
+      let own : p.core.own ≡ Nothing = ap (λ (v : View). v.own) (sym (own_at p p.pass.list refl)) ∙ f.free p.pass.list in
+      record {
+        there = there;
+        current = record { own = subst IsSettled (sym own) tt; hand = f.rests.hand; cursor = inl f.rests.cursor };
+        others = λ j away. f.free j;
+        counts = λ some. absurd (some (ap held_at own));
+        free = λ none. f.standing;
+        one = λ e. f.standing;
+      }
+
+  -- and so is one that holds a range which counts
+  pub alone_seated : (at : ℕ) (range : Held) (p : SeatPart (Beside P)) → p.pass.list < p.pass.lists → HoldsAlone at range p
+      → is_counted p.pass.lists p.pass.standing p.pass.list ≡ true → (p.pass.lists ≡ 1 → p.pass.standing ≡ Free) → IsSeated p
+  alone_seated at range p there a counts one =
+      let some : held_at p.core.own ≢ None = λ none. absurd (let z : ◌≡◌ {A = Option Held} (Some range) None = sym a.held ∙ none in cc) in
+      record {
+        there = there;
+        current = record { own = settled_by p.core.own some; hand = a.rests.hand; cursor = inl a.rests.cursor };
+        others = λ j away. a.others j (λ e. away (e ∙ sym a.turned));
+        counts = λ _. counts;
+        free = λ none. absurd (some none);
+        one = one;
+      }
+
+  -- a seat that holds nothing, outside its epoch, holds nothing in any list
+  pub seated_free : (p q : SeatPart (Beside P)) → IsSeated p → held_at p.core.own ≡ None → q.pass ≡ p.pass → q.core.own ≡ Nothing → IsResting q.core
+      → IsFreeSeat q
+  seated_free p q s none same own rests = record {
+    rests = rests;
+    free = λ j. dite (ℕ_discrete j p.pass.list)
+        (λ e. ap (λ (v : View). v.own) (own_at q j (ap (λ (b : Beside P). b.list) same ∙ sym e)) ∙ own)
+        (λ away. ap (λ (v : View). v.own)
+        (only_stays p q (ap (λ (b : Beside P). b.list) same) (ap (λ (b : Beside P). b.others) same) j away) ∙ s.others j away);
+    standing = ap (λ (b : Beside P). b.standing) same ∙ s.free none;
+  }
+
+  -- a step on a client word leaves all of it
+  pub client_seated : (p q : SeatPart (Beside P)) (i : ℕ) (pass : P) → q ≡ client_part p i pass → IsSeated p → IsSeated q
+  client_seated p q i pass is s = subst (λ (x : SeatPart (Beside P)). IsSeated x) (sym is)
+      (record { there = s.there; current = s.current; others = s.others; counts = s.counts; free = s.free; one = s.one })
+
+  -- what a call in several lists leaves is a call on the seat
+  pub lists_call : (was now : TableId) (p q : SeatPart (Beside P)) → now ≡ was → IsLaterInLists p q
+      → IsLockCall (seat_state_of (record { table = was; part = p })) (seat_state_of (record { table = now; part = q }))
+  lists_call was now p q same l = record { table = same; number = l.number; pass = l.pass; client = l.client; taken = l.taken }
+
+  -- ---- a release
+
+  pub seated_may_give : (is_at_rest : P → Type 0) (b : Beside P) → is_at_rest b.pass → may_give_back is_at_rest b
+  seated_may_give is_at_rest b rest = λ counted. rest
+
+  module _ (rested : P → P) (p q : SeatPart (Beside P)) (s : IsSeated p) (some : held_at p.core.own ≢ None) (g : GivesBack (given_back rested) p q) where
+    same_list : q.pass.list ≡ p.pass.list
+    same_list = ap (λ (b : Beside P). b.list) g.pass
+
+    same_lists : q.pass.lists ≡ p.pass.lists
+    same_lists = ap (λ (b : Beside P). b.lists) g.pass
+
+    given_others : (j : ℕ) → j ≢ p.pass.list → shown_core q j ≡ shown_core p j
+    given_others = only_stays p q same_list (ap (λ (b : Beside P). b.others) g.pass)
+
+    given_ready : (j : ℕ) → (shown_core q j).ready ≡ (shown_core p j).ready
+    given_ready j = dite (ℕ_discrete j p.pass.list)
+        (λ e. ap (λ (v : View). v.ready) (own_at q j (same_list ∙ sym e)) ∙ (g.ready ∙ ap (λ (v : View). v.ready) (sym (own_at p j (sym e)))))
+        (λ away. ap (λ (v : View). v.ready) (given_others j away))
+
+    ready_each : (l : List ℕ) → map ready_in (map (λ j. pools_of (shown_core q j)) l) ≡ map ready_in (map (λ j. pools_of (shown_core p j)) l)
+    ready_each [] = refl
+    ready_each (j ∷ l) = λ i. given_ready j i ∷ ready_each l i
+
+    -- nothing stands for it any more
+    back_free : q.pass.standing ≡ Free
+    back_free = ap (λ (b : Beside P). b.standing) g.pass ∙ dite (ℕ_discrete p.pass.lists 1)
+        (λ one. ap (λ (t : Standing). standing_back t p.pass.list) (s.one one))
+        (λ many.
+        let here : (is_here p.pass.standing p.pass.list && is_whole p.pass.standing p.pass.lists) ≡ true =
+        sym (ap (λ (b : Bool). b || is_here p.pass.standing p.pass.list && is_whole p.pass.standing p.pass.lists) (ne_eqb p.pass.lists 1 many))
+        ∙ s.counts some in
+        ap (λ (b : Bool). if b then Free else p.pass.standing) (both_true (is_here p.pass.standing p.pass.list) (is_whole p.pass.standing p.pass.lists) here).0)
+
+    -- so the seat is between two calls again
+    pub given_seated : IsSeated q
+    given_seated = record {
+      there = let t = s.there in let a = same_list in let b = same_lists in omega arith;
+      current = record {
+        own = subst IsSettled (sym g.own) tt;
+        hand = g.hand;
+        cursor = inl (g.cursor ∙ ⊎_elim (λ n. n) (λ (x : IsScanning p.core). absurd (some (ap held_at x.own))) s.current.cursor);
+      };
+      others = λ j away. ap (λ (v : View). v.own) (given_others j (λ e. away (e ∙ sym same_list))) ∙ s.others j (λ e. away (e ∙ sym same_list));
+      counts = λ still. absurd (still (ap held_at g.own));
+      free = λ none. back_free;
+      one = λ e. back_free;
+    }
+
+    -- what the hand gave back its seat released
+    pub seated_release : (was now : TableId) → now ≡ was
+        → IsRelease rested (seat_state_of (record { table = was; part = p })) (seat_state_of (record { table = now; part = q }))
+    seated_release was now same = record {
+      table = same;
+      number = g.number;
+      held = seated_grant q given_seated ∙ ap held_at g.own;
+      pass = ap (λ (b : Beside P). b.pass) g.pass ∙ ap (λ (b : Bool). if b then rested p.pass.pass else p.pass.pass) (s.counts some);
+      ready = given_ready 0;
+      further = (λ i. map ready_in (map (λ j. pools_of (shown_core q j)) (numbers_from 1 (same_lists i - 1)))) ∙ ready_each (numbers_from 1 (p.pass.lists - 1));
+      scan = λ i. placed_in (same_lists i) (same_list i) (g.scan i);
+      client = g.client;
+      met = g.met;
+      least = g.least;
+      most = g.most;
+    }
+
+module _ {P N : Type 0} (holds : Grants → List ℕ → List P → Type 0) (allows : Grants → List ℕ → List P → ℕ → ClientStep → N → P → Type 0) (note : N)
+    (h : HandState (Beside P)) (s : SeatState P) (is : seat_state_of h ≡ s) where
+  -- a step on a client word that the seat may take its hand may take
+  pub seat_allowed : (step : ClientStep) → IsAllowed holds allows note s.number s.held s.pass step
+      → IsAllowed holds allows note h.part.number (shown_grant h.part) (inner_pass h.part) step
+  seat_allowed step allowed = subst (λ (x : SeatState P). IsAllowed holds allows note x.number x.held x.pass step) (sym is) allowed
+
+  -- and is made of the seat at the same moment
+  pub seat_made : (step : ClientStep) (found : ℕ) (after : P) → IsMade holds allows note h.part.number (shown_grant h.part) (inner_pass h.part) step found after
+      → IsMade holds allows note s.number s.held s.pass step found after
+  seat_made step found after made = subst (λ (x : SeatState P). IsMade holds allows note x.number x.held x.pass step found after) is made
+
+  -- the same of an exchange, whichever way it ended
+  pub seat_exchanged : (step : ClientStep) (expected : ℕ) (after : P) (r : Result (Unit {0}) ℕ)
+      → MatchResult r (λ _. IsMade holds allows note h.part.number (shown_grant h.part) (inner_pass h.part) step expected after)
+      (λ found. (found ≢ expected) × IsMade holds allows note h.part.number (shown_grant h.part) (inner_pass h.part) step found after)
+      → MatchResult r (λ _. IsMade holds allows note s.number s.held s.pass step expected after)
+      (λ found. (found ≢ expected) × IsMade holds allows note s.number s.held s.pass step found after)
+  seat_exchanged step expected after (Ok u) m = seat_made step expected after m
+  seat_exchanged step expected after (Err found) m = (m.0, seat_made step found after m.1)

@@ -1,0 +1,48 @@
+use Rattle.std.proofs.Common.{◌≡◌, ◌+◌, ◌<◌, sym, ap, ◌∙◌, subst, arith}
+use Rattle.lock_core.specs.Machine.{may_leave}
+use Rattle.epoch_pools.specs.declared.views.SeatPart.{SeatPart}
+use Rattle.epoch_pools.specs.declared.views.Beside.{Beside}
+use Rattle.range_rw.proofs.SeatedScans.{own_free, leaves, left_rests, turn_later, scan_on, enters}
+use Rattle.range_rw.proofs.scan.next_list.Goals as goal
+
+-- without a node of its own the hand may leave its epoch
+pub leave-requires-clause-settled : goal.leave-requires-clause-settled
+leave-requires-clause-settled g c = ap may_leave (own_free c.args.hand.now.part c.requires.seat)
+
+-- outside it the hand rests
+pub turn-requires-clause-resting : goal.turn-requires-clause-resting
+turn-requires-clause-resting g c =
+    let p = c.args.hand.now.part in let m = c.leave.new.hand.part in
+    left_rests p m (leaves p m c.requires.seat c.requires.inside c.leave.ensures.made)
+
+-- there is a next list
+pub turn-requires-clause-there : goal.turn-requires-clause-there
+turn-requires-clause-there g c =
+    let e : c.leave.new.hand.part.pass.lists ≡ c.args.hand.now.part.pass.lists = ap (λ (x : SeatPart (Beside _)). x.pass.lists) c.leave.ensures.made in
+    let l = c.list-next.ensures.list in let m = c.requires.more in
+    omega arith
+
+-- in which the hand enters an epoch
+pub returns-clause-inside : goal.returns-clause-inside
+returns-clause-inside g c =
+    let p = c.args.hand.now.part in let m = c.leave.new.hand.part in let t = c.turn.new.self.part in
+    let at = c.list-next.result + 1 in
+    let out = leaves p m c.requires.seat c.requires.inside c.leave.ensures.made in
+    let lists : m.pass.lists ≡ p.pass.lists = ap (λ (x : SeatPart (Beside _)). x.pass.lists) c.leave.ensures.made in
+    let there : t.pass.list ≡ p.pass.list + 1 =
+    ap (λ (x : SeatPart (Beside _)). x.pass.list) c.turn.ensures.part ∙ ap (λ n. n + 1) c.list-next.ensures.list in
+    let less : at < m.pass.lists = (let l = c.list-next.ensures.list in let more = c.requires.more in omega arith) in
+    enters p t c.enter.new.hand.part (p.pass.list + 1)
+    (scan_on p m t out.later (turn_later m t at out.later.seat c.turn.ensures.part c.turn.ensures.stays c.turn.ensures.rests less))
+    there c.turn.ensures.rests.outside c.enter.ensures.made
+
+-- in two steps
+pub returns-clause-taken : goal.returns-clause-taken
+returns-clause-taken g c =
+    let a : c.leave.new.hand.part.trace.taken ≡ c.args.hand.now.part.trace.taken + 1 =
+    ap (λ (x : SeatPart (Beside _)). x.trace.taken) c.leave.ensures.made in
+    let b : c.turn.new.self.part.trace.taken ≡ c.leave.new.hand.part.trace.taken =
+    ap (λ (x : SeatPart (Beside _)). x.trace.taken) c.turn.ensures.part in
+    let n : c.enter.new.hand.part.trace.taken ≡ c.turn.new.self.part.trace.taken + 1 =
+    ap (λ (x : SeatPart (Beside _)). x.trace.taken) c.enter.ensures.made in
+    omega arith

@@ -1,0 +1,33 @@
+use Rattle.std.proofs.Common.{ap, ◌∙◌}
+use Rattle.std.specs.Prelude.{◌%◌}
+use Rattle.epoch_pools.specs.declared.views.Beside.{Beside}
+use Rattle.range_rw.proofs.SeatedScans.{own_free, walked_later, list_gives}
+use Rattle.range_rw.proofs.scan.pass_here.Goals as goal
+
+-- the hand has no node of its own
+pub pass-passed-requires-clause-own : goal.pass-passed-requires-clause-own
+pass-passed-requires-clause-own g c = own_free c.args.hand.now.part c.requires.seat
+
+-- and its cursor rests
+pub pass-passed-requires-clause-resting : goal.pass-passed-requires-clause-resting
+pass-passed-requires-clause-resting g c = c.requires.seat.between.cursor
+
+-- the seat still holds nothing
+pub returns-clause-later : goal.returns-clause-later
+returns-clause-later g c = let e = c.pass-passed.ensures in
+    walked_later c.args.hand.now.part c.pass-passed.new.hand.part c.requires.seat e.later e.own e.resting
+
+-- its hand is inside its epoch
+pub returns-clause-inside : goal.returns-clause-inside
+returns-clause-inside g c = let on = c.pass-passed.ensures.later in record { odd = ap (λ n. n % 2) on.epoch ∙ c.requires.inside.odd; hand = on.hand }
+
+-- in the same list
+pub returns-clause-list : goal.returns-clause-list
+returns-clause-list g c = ap (λ (b : Beside _). b.list) c.pass-passed.ensures.later.pass
+
+-- and the answer of the list is what the call comes to there
+pub returns-clause-gives : goal.returns-clause-gives
+returns-clause-gives g c = λ was opened.
+    let e = c.pass-passed.ensures in
+    list_gives c.args.hand.now.table c.pass-passed.new.hand.table c.args.hand.now.part c.pass-passed.new.hand.part c.requires.inside e.later
+    c.view-2.ensures.sound was opened c.pass-passed.result c.view.ensures.sound e.walk e.resting e.answer

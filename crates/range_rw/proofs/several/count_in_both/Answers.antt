@@ -1,0 +1,227 @@
+use Rattle.std.proofs.Common.{sym, ap, ◌∙◌, subst, arith}
+use Rattle.lock_core.specs.declared.views.View.{View}
+use Rattle.lock_core.specs.Machine.{held_at}
+use Rattle.epoch_pools.specs.declared.views.SeatPart.{SeatPart}
+use Rattle.epoch_pools.specs.declared.views.Standing.TheVariants.{Narrow}
+use Rattle.epoch_pools.specs.Hands.{IsResting}
+use Rattle.epoch_pools.specs.Standings.{is_counted}
+use Rattle.range_rw.proofs.Moves.{both_list, both_lists, both_other, both_too, both_count, both_later, both_only, both_alone, both_counts, both_ready}
+use Rattle.range_rw.proofs.Moves.{holds_on, narrow_beside, narrow_back, some_held, look_shows}
+use Rattle.range_rw.proofs.several.count_in_both.Goals as goal
+
+-- there is that list
+pub link_piece-requires-clause-there : goal.link_piece-requires-clause-there
+link_piece-requires-clause-there g c = let a = c.requires.several.1 in omega arith
+
+-- the hand rests
+pub link_piece-requires-clause-resting : goal.link_piece-requires-clause-resting
+link_piece-requires-clause-resting g c = c.requires.holds.rests
+
+-- and has no node of its own in that list
+pub link_piece-requires-clause-free : goal.link_piece-requires-clause-free
+link_piece-requires-clause-free g c = c.requires.holds.others 0 (λ e. let a = c.requires.several.0 in omega arith)
+
+-- the hand turns back to the list that holds the range
+pub turn-requires-clause-there : goal.turn-requires-clause-there
+turn-requires-clause-there g c =
+    let e = c.link_piece.ensures.piece.later.lists in let a = c.requires.several.1 in omega arith
+
+-- from one in which it rests
+pub turn-requires-clause-resting : goal.turn-requires-clause-resting
+turn-requires-clause-resting g c = c.link_piece.ensures.piece.rests
+
+-- a narrow range of which nothing counts yet may be counted
+pub count_held-requires-clause-may : goal.count_held-requires-clause-may
+count_held-requires-clause-may g c = both_count c.args.at 0 (record { range = c.args.range; mode = c.args.mode }) c.args.hand.now.part
+    c.link_piece.new.hand.part c.turn.new.self.part (λ e. let a = c.requires.several.0 in omega arith) c.requires.holds
+    c.link_piece.ensures.piece c.link_piece.ensures.standing c.in-Ok.ensures.held c.turn.ensures.part c.turn.ensures.stays
+    c.args.list.now.cut (let a = c.requires.several.0 in let b = c.requires.several.1 in omega arith) c.requires.free c.requires.takes
+
+-- and it is held in list 0 too
+pub count_held-requires-clause-too : goal.count_held-requires-clause-too
+count_held-requires-clause-too g c = both_too c.args.at 0 (record { range = c.args.range; mode = c.args.mode }) c.args.hand.now.part
+    c.link_piece.new.hand.part c.turn.new.self.part (λ e. let a = c.requires.several.0 in omega arith) c.requires.holds
+    c.link_piece.ensures.piece c.link_piece.ensures.standing c.in-Ok.ensures.held c.turn.ensures.part c.turn.ensures.stays
+
+-- there is the list in which the node is given back
+pub give_piece-requires-clause-there : goal.give_piece-requires-clause-there
+give_piece-requires-clause-there g c =
+    let e = ap (λ (x : SeatPart _). x.pass.lists) c.count_held.ensures.part ∙ both_lists c.args.at 0 (record { range = c.args.range; mode = c.args.mode })
+    c.args.hand.now.part c.link_piece.new.hand.part c.turn.new.self.part (λ e. let a = c.requires.several.0 in omega arith) c.requires.holds
+    c.link_piece.ensures.piece c.link_piece.ensures.standing c.in-Ok.ensures.held c.turn.ensures.part c.turn.ensures.stays in
+    let a = c.requires.several.1 in omega arith
+
+-- the hand rests where it is turned
+pub give_piece-requires-clause-resting : goal.give_piece-requires-clause-resting
+give_piece-requires-clause-resting g c = subst (λ (x : SeatPart _). IsResting x.core) (sym c.count_held.ensures.part) c.turn.ensures.rests
+
+-- the other list holds the range
+pub give_piece-requires-clause-holds : goal.give_piece-requires-clause-holds
+give_piece-requires-clause-holds g c = some_held
+    (ap (λ (v : View). held_at v.own) (look_shows c.turn.new.self.part c.count_held.new.hand.part _ c.count_held.ensures.part 0) ∙ both_other c.args.at 0
+    (record { range = c.args.range; mode = c.args.mode }) c.args.hand.now.part c.link_piece.new.hand.part c.turn.new.self.part (λ e. let a =
+    c.requires.several.0 in omega arith) c.requires.holds
+    c.link_piece.ensures.piece c.link_piece.ensures.standing c.in-Ok.ensures.held c.turn.ensures.part c.turn.ensures.stays)
+
+-- and it doesn't count through that list
+pub give_piece-requires-clause-beside : goal.give_piece-requires-clause-beside
+give_piece-requires-clause-beside g c =
+    (λ i. is_counted ((ap (λ (x : SeatPart _). x.pass.lists) c.count_held.ensures.part ∙ both_lists c.args.at 0 (record {
+      range = c.args.range;
+      mode =
+          c.args.mode;
+    }) c.args.hand.now.part c.link_piece.new.hand.part c.turn.new.self.part (λ e. let a = c.requires.several.0 in omega arith) c.requires.holds
+    c.link_piece.ensures.piece c.link_piece.ensures.standing c.in-Ok.ensures.held c.turn.ensures.part c.turn.ensures.stays) i)
+    ((ap (λ (x : SeatPart _). x.pass.standing) c.count_held.ensures.part ∙ ap Narrow (both_list c.args.at 0 (record {
+      range = c.args.range;
+      mode =
+          c.args.mode;
+    }) c.args.hand.now.part c.link_piece.new.hand.part c.turn.new.self.part (λ e. let a = c.requires.several.0 in omega arith) c.requires.holds
+    c.link_piece.ensures.piece c.link_piece.ensures.standing c.in-Ok.ensures.held c.turn.ensures.part c.turn.ensures.stays)) i) 0)
+    ∙ narrow_beside c.args.hand.now.part.pass.lists c.args.at 0 (λ e. let a = c.requires.several.0 in let b = c.requires.several.1 in omega arith)
+    (λ e. let a = c.requires.several.0 in omega arith)
+
+-- the hand turns back
+pub turn-requires-in-Ok-clause-there : goal.turn-requires-in-Ok-clause-there
+turn-requires-in-Ok-clause-there g c =
+    let e = c.give_piece.ensures.piece.later.lists ∙ (ap (λ (x : SeatPart _). x.pass.lists) c.count_held.ensures.part ∙ both_lists c.args.at 0 (record {
+      range = c.args.range;
+      mode = c.args.mode;
+    }) c.args.hand.now.part c.link_piece.new.hand.part c.turn.new.self.part (λ e. let a = c.requires.several.0 in
+    omega arith) c.requires.holds
+    c.link_piece.ensures.piece c.link_piece.ensures.standing c.in-Ok.ensures.held c.turn.ensures.part c.turn.ensures.stays) in
+    let a = c.requires.several.1 in omega arith
+
+-- from one in which it rests
+pub turn-requires-in-Ok-clause-resting : goal.turn-requires-in-Ok-clause-resting
+turn-requires-in-Ok-clause-resting g c = c.give_piece.ensures.piece.rests
+
+-- the seat is the same
+pub returns-in-Ok-clause-later : goal.returns-in-Ok-clause-later
+returns-in-Ok-clause-later g c = both_later c.args.at 0 (record { range = c.args.range; mode = c.args.mode }) c.args.hand.now.part
+    c.link_piece.new.hand.part c.turn.new.self.part (λ e. let a = c.requires.several.0 in omega arith) c.requires.holds
+    c.link_piece.ensures.piece c.link_piece.ensures.standing c.in-Ok.ensures.held c.turn.ensures.part c.turn.ensures.stays (Narrow
+    c.turn.new.self.part.pass.list)
+    c.count_held.new.hand.part c.give_piece.new.hand.part c.turn-in-Ok.new.self.part c.count_held.ensures.part c.give_piece.ensures.piece
+    c.give_piece.ensures.standing
+    c.give_piece.ensures.free (narrow_back c.turn.new.self.part.pass.list 0 (λ e. let l = both_list c.args.at 0 (record {
+      range = c.args.range;
+      mode =
+          c.args.mode;
+    }) c.args.hand.now.part c.link_piece.new.hand.part c.turn.new.self.part (λ e. let a = c.requires.several.0 in omega arith) c.requires.holds
+    c.link_piece.ensures.piece c.link_piece.ensures.standing c.in-Ok.ensures.held c.turn.ensures.part c.turn.ensures.stays in let a = c.requires.several.0
+    in omega arith))
+    c.turn-in-Ok.ensures.part c.turn-in-Ok.ensures.stays c.turn-in-Ok.ensures.rests
+
+-- it holds the range where it held it, alone
+pub returns-in-Ok-clause-held : goal.returns-in-Ok-clause-held
+returns-in-Ok-clause-held g c = both_alone c.args.at 0 (record { range = c.args.range; mode = c.args.mode }) c.args.hand.now.part
+    c.link_piece.new.hand.part c.turn.new.self.part (λ e. let a = c.requires.several.0 in omega arith) c.requires.holds
+    c.link_piece.ensures.piece c.link_piece.ensures.standing c.in-Ok.ensures.held c.turn.ensures.part c.turn.ensures.stays (Narrow
+    c.turn.new.self.part.pass.list)
+    c.count_held.new.hand.part c.give_piece.new.hand.part c.turn-in-Ok.new.self.part c.count_held.ensures.part c.give_piece.ensures.piece
+    c.give_piece.ensures.standing
+    c.give_piece.ensures.free (narrow_back c.turn.new.self.part.pass.list 0 (λ e. let l = both_list c.args.at 0 (record {
+      range = c.args.range;
+      mode =
+          c.args.mode;
+    }) c.args.hand.now.part c.link_piece.new.hand.part c.turn.new.self.part (λ e. let a = c.requires.several.0 in omega arith) c.requires.holds
+    c.link_piece.ensures.piece c.link_piece.ensures.standing c.in-Ok.ensures.held c.turn.ensures.part c.turn.ensures.stays in let a = c.requires.several.0
+    in omega arith))
+    c.turn-in-Ok.ensures.part c.turn-in-Ok.ensures.stays c.turn-in-Ok.ensures.rests
+
+-- and it counts
+pub returns-in-Ok-clause-counts : goal.returns-in-Ok-clause-counts
+returns-in-Ok-clause-counts g c = both_counts c.args.at 0 (record { range = c.args.range; mode = c.args.mode }) c.args.hand.now.part
+    c.link_piece.new.hand.part c.turn.new.self.part (λ e. let a = c.requires.several.0 in omega arith) c.requires.holds
+    c.link_piece.ensures.piece c.link_piece.ensures.standing c.in-Ok.ensures.held c.turn.ensures.part c.turn.ensures.stays (Narrow
+    c.turn.new.self.part.pass.list)
+    c.count_held.new.hand.part c.give_piece.new.hand.part c.turn-in-Ok.new.self.part c.count_held.ensures.part c.give_piece.ensures.piece
+    c.give_piece.ensures.standing
+    c.give_piece.ensures.free (narrow_back c.turn.new.self.part.pass.list 0 (λ e. let l = both_list c.args.at 0 (record {
+      range = c.args.range;
+      mode =
+          c.args.mode;
+    }) c.args.hand.now.part c.link_piece.new.hand.part c.turn.new.self.part (λ e. let a = c.requires.several.0 in omega arith) c.requires.holds
+    c.link_piece.ensures.piece c.link_piece.ensures.standing c.in-Ok.ensures.held c.turn.ensures.part c.turn.ensures.stays in let a = c.requires.several.0
+    in omega arith))
+    c.turn-in-Ok.ensures.part c.turn-in-Ok.ensures.stays c.turn-in-Ok.ensures.rests
+    ∙ ap Narrow (both_list c.args.at 0 (record { range = c.args.range; mode = c.args.mode }) c.args.hand.now.part c.link_piece.new.hand.part
+    c.turn.new.self.part (λ e. let a = c.requires.several.0 in omega arith) c.requires.holds
+    c.link_piece.ensures.piece c.link_piece.ensures.standing c.in-Ok.ensures.held c.turn.ensures.part c.turn.ensures.stays)
+
+-- the ready nodes of the other list are those that the link left
+pub returns-in-Ok-clause-ready : goal.returns-in-Ok-clause-ready
+returns-in-Ok-clause-ready g c = both_ready c.args.at 0 (record { range = c.args.range; mode = c.args.mode }) c.args.hand.now.part
+    c.link_piece.new.hand.part c.turn.new.self.part (λ e. let a = c.requires.several.0 in omega arith) c.requires.holds
+    c.link_piece.ensures.piece c.link_piece.ensures.standing c.in-Ok.ensures.held c.turn.ensures.part c.turn.ensures.stays (Narrow
+    c.turn.new.self.part.pass.list)
+    c.count_held.new.hand.part c.give_piece.new.hand.part c.turn-in-Ok.new.self.part c.count_held.ensures.part c.give_piece.ensures.piece
+    c.give_piece.ensures.standing
+    c.give_piece.ensures.free (narrow_back c.turn.new.self.part.pass.list 0 (λ e. let l = both_list c.args.at 0 (record {
+      range = c.args.range;
+      mode =
+          c.args.mode;
+    }) c.args.hand.now.part c.link_piece.new.hand.part c.turn.new.self.part (λ e. let a = c.requires.several.0 in omega arith) c.requires.holds
+    c.link_piece.ensures.piece c.link_piece.ensures.standing c.in-Ok.ensures.held c.turn.ensures.part c.turn.ensures.stays in let a = c.requires.several.0
+    in omega arith))
+    c.turn-in-Ok.ensures.part c.turn-in-Ok.ensures.stays c.turn-in-Ok.ensures.rests
+    c.give_piece.ensures.ready c.link_piece.ensures.ready
+
+-- each other list is as it was
+pub returns-in-Ok-clause-only : goal.returns-in-Ok-clause-only
+returns-in-Ok-clause-only g c = both_only c.args.at 0 (record { range = c.args.range; mode = c.args.mode }) c.args.hand.now.part c.link_piece.new.hand.part
+    c.turn.new.self.part (λ e. let a = c.requires.several.0 in omega arith) c.requires.holds
+    c.link_piece.ensures.piece c.link_piece.ensures.standing c.in-Ok.ensures.held c.turn.ensures.part c.turn.ensures.stays (Narrow
+    c.turn.new.self.part.pass.list)
+    c.count_held.new.hand.part c.give_piece.new.hand.part c.turn-in-Ok.new.self.part c.count_held.ensures.part c.give_piece.ensures.piece
+    c.give_piece.ensures.standing
+    c.give_piece.ensures.free (narrow_back c.turn.new.self.part.pass.list 0 (λ e. let l = both_list c.args.at 0 (record {
+      range = c.args.range;
+      mode =
+          c.args.mode;
+    }) c.args.hand.now.part c.link_piece.new.hand.part c.turn.new.self.part (λ e. let a = c.requires.several.0 in omega arith) c.requires.holds
+    c.link_piece.ensures.piece c.link_piece.ensures.standing c.in-Ok.ensures.held c.turn.ensures.part c.turn.ensures.stays in let a = c.requires.several.0
+    in omega arith))
+    c.turn-in-Ok.ensures.part c.turn-in-Ok.ensures.stays c.turn-in-Ok.ensures.rests
+
+-- the steps of the link, the look and the release
+pub returns-in-Ok-clause-bound : goal.returns-in-Ok-clause-bound
+returns-in-Ok-clause-bound g c =
+    let a = c.link_piece.ensures.bound in
+    let t = ap (λ (x : SeatPart _). x.trace.taken) c.turn.ensures.part in
+    let l = ap (λ (x : SeatPart _). x.trace.taken) c.count_held.ensures.part in
+    let b = c.give_piece.ensures.bound in
+    let u = ap (λ (x : SeatPart _). x.trace.taken) c.turn-in-Ok.ensures.part in omega arith
+
+-- which are counted
+pub returns-in-Ok-clause-counted : goal.returns-in-Ok-clause-counted
+returns-in-Ok-clause-counted g c =
+    let a = c.link_piece.ensures.counted in
+    let t = ap (λ (x : SeatPart _). x.trace.taken) c.turn.ensures.part in
+    let l = ap (λ (x : SeatPart _). x.trace.taken) c.count_held.ensures.part in
+    let n = c.count_held.ensures.counted in
+    let b = c.give_piece.ensures.counted in
+    let u = ap (λ (x : SeatPart _). x.trace.taken) c.turn-in-Ok.ensures.part in omega arith
+
+-- after a refusal the range is still held, and nothing more stands for it
+pub returns-in-Err-clause-holds : goal.returns-in-Err-clause-holds
+returns-in-Err-clause-holds g c = (
+  holds_on c.args.at 0 (record { range = c.args.range; mode = c.args.mode }) c.args.hand.now.part c.link_piece.new.hand.part
+      (λ e. let a = c.requires.several.0 in omega arith) c.requires.holds
+      c.link_piece.ensures.piece c.in-Err.ensures.free,
+  c.link_piece.ensures.standing ∙ c.requires.free,
+)
+
+-- the seat is the same
+pub returns-in-Err-clause-later : goal.returns-in-Err-clause-later
+returns-in-Err-clause-later g c = c.link_piece.ensures.piece.later
+
+-- each other list is as it was
+pub returns-in-Err-clause-only : goal.returns-in-Err-clause-only
+returns-in-Err-clause-only g c = c.link_piece.ensures.piece.only
+
+-- Long comes exactly where the last walk is spent
+pub returns-in-Err-clause-long : goal.returns-in-Err-clause-long
+returns-in-Err-clause-long g c =
+    (λ l. (c.in-Err.ensures.long.0 l).0, λ spent. c.in-Err.ensures.long.1 (spent, ap held_at c.in-Err.ensures.free))

@@ -1,0 +1,167 @@
+use Rattle.std.proofs.Common.{◌≡◌, ◌≢◌, ◌+◌, ◌*◌, sym, ap, ◌∙◌, subst, arith}
+use Rattle.lock_core.specs.declared.views.View.{View}
+use Rattle.range_rw.specs.Contract.{IsListCause}
+use Rattle.range_rw.specs.Several.{list_state}
+use Rattle.range_rw.proofs.Pieces.{cause_before}
+use Rattle.range_rw.proofs.Moves.{lists_on, some_held}
+use Rattle.range_rw.proofs.Moves.{piece_alone, piece_free, ready_each, ready_all, ready_kept, spent_kept}
+use Rattle.range_rw.proofs.several.hold_wide.Goals as goal
+
+-- the hand rests
+pub link_piece-requires-clause-resting : goal.link_piece-requires-clause-resting
+link_piece-requires-clause-resting g c = c.requires.free.rests
+
+-- there is list 0
+pub link_piece-requires-clause-there : goal.link_piece-requires-clause-there
+link_piece-requires-clause-there g c = let r = c.requires.regions in let x = c.requires.lists.0 in let y = c.requires.lists.1 in omega arith
+
+-- and has no node of its own in that list
+pub link_piece-requires-clause-free : goal.link_piece-requires-clause-free
+link_piece-requires-clause-free g c = c.requires.free.free 0
+
+-- a refused link leaves nothing held
+pub returns-in-Err-clause-free : goal.returns-in-Err-clause-free
+returns-in-Err-clause-free g c = piece_free 0 c.args.hand.now.part c.link_piece.new.hand.part c.link_piece.ensures.piece c.in-Err.ensures.free
+    (c.link_piece.ensures.standing ∙ c.requires.free.standing) (λ j away. c.requires.free.free j)
+
+-- the seat is the same
+pub returns-in-Err-clause-later : goal.returns-in-Err-clause-later
+returns-in-Err-clause-later g c = c.link_piece.ensures.piece.later
+
+-- no other list has changed
+pub returns-in-Err-clause-ready : goal.returns-in-Err-clause-ready
+returns-in-Err-clause-ready g c = ready_each 0 c.args.hand.now.part c.link_piece.new.hand.part c.link_piece.ensures.ready c.link_piece.ensures.piece.only
+
+-- what refused the link refuses the call
+pub returns-in-Err-clause-cause : goal.returns-in-Err-clause-cause
+returns-in-Err-clause-cause g c = (
+  0,
+  (let r = c.requires.regions in let x = c.requires.lists.0 in let y = c.requires.lists.1 in omega arith),
+  c.in-Err.ensures.cause,
+)
+
+-- the range is held in list 0
+pub pass_all-requires-clause-holds : goal.pass_all-requires-clause-holds
+pass_all-requires-clause-holds g c = (piece_alone 0 (record { range = c.args.range; mode = c.args.mode }) c.args.hand.now.part c.link_piece.new.hand.part
+    c.requires.free c.link_piece.ensures.piece c.in-Ok.ensures.held)
+
+-- there are that many lists still
+pub pass_all-requires-clause-lists : goal.pass_all-requires-clause-lists
+pass_all-requires-clause-lists g c = (c.requires.lists.0 ∙ sym c.link_piece.ensures.piece.later.lists, c.requires.lists.1)
+
+-- and nothing counts
+pub pass_all-requires-clause-free : goal.pass_all-requires-clause-free
+pass_all-requires-clause-free g c = (c.link_piece.ensures.standing ∙ c.requires.free.standing)
+
+-- the seat is the same
+pub returns-in-Ok-pass_all-clause-later : goal.returns-in-Ok-pass_all-clause-later
+returns-in-Ok-pass_all-clause-later g c = lists_on c.args.hand.now.part c.link_piece.new.hand.part c.pass_all.new.hand.part
+    (c.link_piece.ensures.piece.later) c.pass_all.ensures.later
+
+-- each list's ready nodes are as before or without the first
+pub returns-in-Ok-pass_all-clause-ready : goal.returns-in-Ok-pass_all-clause-ready
+returns-in-Ok-pass_all-clause-ready g c = ready_all c.args.hand.now.part c.link_piece.new.hand.part c.pass_all.new.hand.part c.link_piece.ensures.ready
+    c.link_piece.ensures.piece.only c.pass_all.ensures.ready c.pass_all.ensures.first
+
+-- the steps of the link and the looks
+pub returns-in-Ok-pass_all-clause-bound : goal.returns-in-Ok-pass_all-clause-bound
+returns-in-Ok-pass_all-clause-bound g c =
+    let l = c.link_piece.ensures.piece.later in
+    let same : (55 + 193 * c.link_piece.new.hand.part.seats) * c.link_piece.new.hand.part.pass.lists
+    ≡ (55 + 193 * c.args.hand.now.part.seats) * c.args.hand.now.part.pass.lists = λ i. (55 + 193 * l.seats i) * l.lists i in
+    let a = c.link_piece.ensures.bound in let b = c.pass_all.ensures.bound in omega arith
+
+-- which are counted
+pub returns-in-Ok-pass_all-clause-counted : goal.returns-in-Ok-pass_all-clause-counted
+returns-in-Ok-pass_all-clause-counted g c =
+    let a = c.link_piece.ensures.counted in let b = c.pass_all.ensures.counted in omega arith
+
+-- there is the list that holds the range
+pub give_up-requires-clause-there : goal.give_up-requires-clause-there
+give_up-requires-clause-there g c = let e = (lists_on c.args.hand.now.part c.link_piece.new.hand.part c.pass_all.new.hand.part
+    (c.link_piece.ensures.piece.later) c.pass_all.ensures.later).lists in
+    let r = c.requires.regions in let x = c.requires.lists.0 in let y = c.requires.lists.1 in omega arith
+
+-- the hand rests
+pub give_up-requires-clause-resting : goal.give_up-requires-clause-resting
+give_up-requires-clause-resting g c = c.in-Err-pass_all.ensures.holds.0.rests
+
+-- the range is held
+pub give_up-requires-clause-holds : goal.give_up-requires-clause-holds
+give_up-requires-clause-holds g c = some_held c.in-Err-pass_all.ensures.holds.0.held
+
+-- and doesn't count
+pub give_up-requires-clause-beside : goal.give_up-requires-clause-beside
+give_up-requires-clause-beside g c = c.in-Err-pass_all.ensures.holds.1
+
+-- the seat is the same after it has given up
+pub returns-in-Err-pass_all-clause-later : goal.returns-in-Err-pass_all-clause-later
+returns-in-Err-pass_all-clause-later g c = lists_on c.args.hand.now.part c.pass_all.new.hand.part c.give_up.new.hand.part (lists_on c.args.hand.now.part
+    c.link_piece.new.hand.part c.pass_all.new.hand.part (c.link_piece.ensures.piece.later) c.pass_all.ensures.later) c.give_up.ensures.piece.later
+
+-- and holds nothing
+pub returns-in-Err-pass_all-clause-free : goal.returns-in-Err-pass_all-clause-free
+returns-in-Err-pass_all-clause-free g c = piece_free 0 c.pass_all.new.hand.part c.give_up.new.hand.part c.give_up.ensures.piece c.give_up.ensures.free
+    (c.give_up.ensures.standing ∙ c.in-Err-pass_all.ensures.back) c.in-Err-pass_all.ensures.holds.0.others
+
+-- each list's ready nodes are as before or without the first
+pub returns-in-Err-pass_all-clause-ready : goal.returns-in-Err-pass_all-clause-ready
+returns-in-Err-pass_all-clause-ready g c = ready_kept 0 c.args.hand.now.part c.pass_all.new.hand.part c.give_up.new.hand.part (ready_all
+    c.args.hand.now.part c.link_piece.new.hand.part c.pass_all.new.hand.part c.link_piece.ensures.ready c.link_piece.ensures.piece.only
+    c.pass_all.ensures.ready c.pass_all.ensures.first)
+    c.give_up.ensures.ready c.give_up.ensures.piece.only
+
+-- Long comes exactly where the last walk is spent
+pub returns-in-Err-pass_all-clause-long : goal.returns-in-Err-pass_all-clause-long
+returns-in-Err-pass_all-clause-long g c = spent_kept c.pass_all.new.hand.part c.give_up.new.hand.part c.give_up.ensures.look
+    c.give_up.ensures.piece.later.seats c.give_up.ensures.free
+    c.in-Err-pass_all.ensures.long
+
+-- the steps of the link, the looks and the mark
+pub returns-in-Err-pass_all-clause-bound : goal.returns-in-Err-pass_all-clause-bound
+returns-in-Err-pass_all-clause-bound g c =
+    let l = c.link_piece.ensures.piece.later in
+    let same : (55 + 193 * c.link_piece.new.hand.part.seats) * c.link_piece.new.hand.part.pass.lists
+    ≡ (55 + 193 * c.args.hand.now.part.seats) * c.args.hand.now.part.pass.lists = λ i. (55 + 193 * l.seats i) * l.lists i in
+    let a = c.link_piece.ensures.bound in let b = c.pass_all.ensures.bound in let m = c.give_up.ensures.taken in omega arith
+
+-- which are counted
+pub returns-in-Err-pass_all-clause-counted : goal.returns-in-Err-pass_all-clause-counted
+returns-in-Err-pass_all-clause-counted g c =
+    let a = c.link_piece.ensures.counted in let b = c.pass_all.ensures.counted in
+    let m = c.give_up.ensures.taken in let n = c.give_up.ensures.counted in omega arith
+
+-- what refused it in a list refuses the call, and is still in the record
+pub returns-in-Err-pass_all-clause-cause : goal.returns-in-Err-pass_all-clause-cause
+returns-in-Err-pass_all-clause-cause g c =
+    let x = c.in-Err-pass_all.ensures.cause in
+    let later = c.link_piece.ensures.piece.later in
+    let there : c.pass_all.new.hand.table ≡ c.args.hand.now.table = c.pass_all.ensures.table ∙ c.link_piece.ensures.table in
+    let none : x.0 ≢ 0 = λ e. let a = x.1 in omega arith in
+    let ready = ap (λ (v : View). v.ready) (c.link_piece.ensures.piece.only x.0 none) in
+    let first : IsListCause (list_state c.args.hand.now.table c.args.hand.now.part x.0) (list_state c.args.hand.now.table c.pass_all.new.hand.part x.0) (record
+    { range = c.args.range; mode = c.args.mode }) c.in-Err-pass_all.why =
+    subst (λ t. IsListCause (list_state t c.args.hand.now.part x.0) (list_state t c.pass_all.new.hand.part x.0) (record {
+      range = c.args.range;
+      mode =
+          c.args.mode;
+    }) c.in-Err-pass_all.why) c.link_piece.ensures.table
+    (cause_before (list_state c.link_piece.new.hand.table c.args.hand.now.part x.0) (list_state c.link_piece.new.hand.table c.link_piece.new.hand.part x.0)
+    (list_state c.link_piece.new.hand.table c.pass_all.new.hand.part x.0) later.taken later.number (λ e. sym ready ∙ e) (record {
+      range = c.args.range;
+      mode = c.args.mode;
+    }) c.in-Err-pass_all.why x.3) in (
+      x.0,
+      (let a = x.2 in let e = later.lists in omega arith),
+      subst (λ t. IsListCause (list_state t c.args.hand.now.part x.0) (list_state t c.give_up.new.hand.part x.0) (record {
+        range = c.args.range;
+        mode =
+            c.args.mode;
+      }) c.in-Err-pass_all.why) there
+          (c.give_up.ensures.causes c.args.hand.now.part x.0 (record { range = c.args.range; mode = c.args.mode }) c.in-Err-pass_all.why none
+          (subst (λ t. IsListCause (list_state t c.args.hand.now.part x.0) (list_state t c.pass_all.new.hand.part x.0) (record {
+            range = c.args.range;
+            mode =
+                c.args.mode;
+          }) c.in-Err-pass_all.why) (sym there) first)),
+    )

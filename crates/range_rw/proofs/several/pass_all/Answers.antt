@@ -1,0 +1,145 @@
+use Rattle.std.proofs.Common.{◌≡◌, ◌≢◌, ◌≤◌, ◌+◌, ◌*◌, inl, inr, refl, sym, ap, ◌∙◌, subst, arith}
+use Rattle.std.proofs.lemmas.Nat.{mul-le}
+use mathlib.Core.Logic.{dite}
+use native.Mathlib.Decide.{ℕ_discrete}
+use Rattle.lock_core.specs.declared.views.View.{View}
+use Rattle.epoch_pools.specs.Beside.{shown_core}
+use Rattle.range_rw.specs.Contract.{IsReadyLeft, IsListCause}
+use Rattle.list_cuts.specs.Cut.{list_count, Takes}
+use Rattle.epoch_pools.specs.declared.views.Standing.TheVariants.{Wide}
+use Rattle.epoch_pools.specs.Standings.{is_counted, standing_back}
+use Rattle.range_rw.specs.Several.{list_state, TakesNone}
+use Rattle.range_rw.proofs.Pieces.{cause_before}
+use Rattle.range_rw.proofs.Moves.{lists_on, ready_from, none_first, pass_next, all_passed, passed_beside, passed_back}
+use Rattle.range_rw.proofs.several.pass_all.Goals as goal
+
+-- there is a list behind list 0
+pub next_taken-at-requires : goal.next_taken-at-requires
+next_taken-at-requires g c = record { there = let r = c.requires.regions in let e = ap list_count c.cut-cut.ensures in omega arith }
+
+-- nothing is passed yet
+pub all-init : goal.all-init
+all-init g c =
+    let cut = c.cut-cut.ensures in
+    let first = subst (λ x. TakesNone x c.args.range 1 c.next_taken-at.result) cut c.next_taken-at.ensures.first in
+    record {
+      table = refl;
+      cut = cut;
+      lists = c.requires.lists;
+      low = c.next_taken-at.ensures.from;
+      most = let e = ap list_count cut in let m = c.next_taken-at.ensures.most in let l = c.requires.lists.1 in omega arith;
+      later = record { number = refl; seats = refl; lists = refl; pass = refl; client = refl; taken = omega arith };
+      alone = c.requires.holds;
+      passed = inl (
+        c.requires.free,
+        λ list a b t. dite (ℕ_discrete list 0)
+            (λ e. none_first c.args.list.now.cut c.args.range c.requires.regions c.requires.takes (subst (Takes c.args.list.now.cut c.args.range) e t))
+            (λ behind. first list (omega arith) b t),
+      );
+      first = refl;
+      ahead = λ j le. refl;
+      ready = λ j. inr (inl refl);
+      bound = omega arith;
+      counted = refl;
+    }
+
+-- the next list may be passed
+pub pass_one-requires-clause-may : goal.pass_one-requires-clause-may
+pass_one-requires-clause-may g c =
+    let i = c.all.invariant in
+    pass_next c.args.list.now.cut c.all.at c.next_taken-up.result (record { range = c.args.range; mode = c.args.mode }) c.all.hand.part (let e = i.lists.0
+    in omega arith) i.low i.alone i.passed
+    (subst (λ x. TakesNone x c.args.range (c.all.at + 1) c.next_taken-up.result) i.cut c.next_taken-up.ensures.first) c.next_taken-up.ensures.from
+    (let e = i.lists.0 in let f = i.lists.1 in let m = ap list_count i.cut in let n = c.next_taken-up.ensures.most in omega arith)
+
+-- with one list more passed
+pub all-preserved : goal.all-preserved
+all-preserved g c =
+    let i = c.all.invariant in
+    let ok = c.in_default.ensures in
+    let up = c.next_taken-up.result in
+    let differ : 0 ≢ c.all.at = λ e. let l = i.low in omega arith in
+    record {
+      table = c.pass_one.ensures.table ∙ i.table;
+      cut = i.cut;
+      lists = (i.lists.0 ∙ sym c.pass_one.ensures.later.lists, i.lists.1);
+      low = let a = i.low in let b = c.next_taken-up.ensures.from in omega arith;
+      most = let f = i.lists.1 in let m = ap list_count i.cut in let n = c.next_taken-up.ensures.most in omega arith;
+      later = lists_on c.args.hand.now.part c.all.hand.part c.pass_one.new.hand.part i.later c.pass_one.ensures.later;
+      alone = ok.held;
+      passed = inr ok.passed;
+      first = c.pass_one.ensures.only 0 differ ∙ i.first;
+      ahead = λ j le. c.pass_one.ensures.only j (λ e. let b = c.next_taken-up.ensures.from in omega arith)
+          ∙ i.ahead j (let b = c.next_taken-up.ensures.from in omega arith);
+      ready = λ j. dite (ℕ_discrete j c.all.at)
+          (λ e. subst (λ n. IsReadyLeft (shown_core c.args.hand.now.part n).ready (shown_core c.pass_one.new.hand.part n).ready) (sym e)
+          (ready_from (ap (λ (v : View). v.ready) (i.ahead c.all.at (omega arith))) c.pass_one.ensures.ready))
+          (λ away. subst (λ (v : View). IsReadyLeft (shown_core c.args.hand.now.part j).ready v.ready) (sym (c.pass_one.ensures.only j away)) (i.ready j));
+      bound =
+          let s = i.later.seats in
+          let a = i.bound in let b = c.pass_one.ensures.bound in
+          let le : (55 + 193 * c.args.hand.now.part.seats) * (c.all.at + 1) ≤ (55 + 193 * c.args.hand.now.part.seats) * up = mul-le _ _ _ _ (omega
+          arith) c.next_taken-up.ensures.from in
+          omega arith;
+      counted = let a = i.counted in let b = c.pass_one.ensures.counted in omega arith;
+    }
+
+-- all lists are passed
+pub returns-clause-counts : goal.returns-clause-counts
+returns-clause-counts g c =
+    let i = c.all.invariant in
+    let end : c.all.at ≡ list_count c.args.list.now.cut = let a = i.most in let b = i.lists.1 in omega arith in
+    all_passed c.args.list.now.cut c.all.at c.args.range c.all.hand.part c.requires.regions end c.requires.takes i.passed
+    ∙ ap Wide (let a = i.most in let b = i.lists.0 in omega arith)
+
+-- before the list that refused, the range doesn't count
+pub returns-in-Err-clause-holds : goal.returns-in-Err-clause-holds
+returns-in-Err-clause-holds g c =
+    let i = c.all.invariant in (
+      c.in-Err.ensures.holds.0,
+      (λ k. is_counted (c.pass_one.ensures.later.lists k) (c.in-Err.ensures.holds.1 k) 0)
+          ∙ passed_beside c.args.list.now.cut c.all.at c.args.range c.all.hand.part (let e = i.lists.0 in omega arith) i.low i.passed,
+    )
+
+-- and nothing stands for it once it is given back
+pub returns-in-Err-clause-back : goal.returns-in-Err-clause-back
+returns-in-Err-clause-back g c = ap (λ s. standing_back s 0) c.in-Err.ensures.holds.1
+    ∙ passed_back c.args.list.now.cut c.all.at c.args.range c.all.hand.part c.all.invariant.passed
+
+-- the seat is the same
+pub returns-in-Err-clause-later : goal.returns-in-Err-clause-later
+returns-in-Err-clause-later g c = lists_on c.args.hand.now.part c.all.hand.part c.pass_one.new.hand.part c.all.invariant.later c.pass_one.ensures.later
+
+-- list 0 is as it was
+pub returns-in-Err-clause-first : goal.returns-in-Err-clause-first
+returns-in-Err-clause-first g c = c.pass_one.ensures.only 0 (λ e. let l = c.all.invariant.low in omega arith) ∙ c.all.invariant.first
+
+-- each list's ready nodes are as before or without the first
+pub returns-in-Err-clause-ready : goal.returns-in-Err-clause-ready
+returns-in-Err-clause-ready g c = λ j.
+    let i = c.all.invariant in
+    dite (ℕ_discrete j c.all.at)
+    (λ e. subst (λ n. IsReadyLeft (shown_core c.args.hand.now.part n).ready (shown_core c.pass_one.new.hand.part n).ready) (sym e)
+    (ready_from (ap (λ (v : View). v.ready) (i.ahead c.all.at (omega arith))) c.pass_one.ensures.ready))
+    (λ away. subst (λ (v : View). IsReadyLeft (shown_core c.args.hand.now.part j).ready v.ready) (sym (c.pass_one.ensures.only j away)) (i.ready j))
+
+-- what refused it in that list refuses the call
+pub returns-in-Err-clause-cause : goal.returns-in-Err-clause-cause
+returns-in-Err-clause-cause g c =
+    let i = c.all.invariant in (
+      c.all.at,
+      i.low,
+      (let e = i.lists.0 in let f = i.later.lists in omega arith),
+      subst (λ t. IsListCause (list_state t c.args.hand.now.part c.all.at) (list_state t c.pass_one.new.hand.part c.all.at) (record {
+        range = c.args.range;
+        mode = c.args.mode;
+      }) c.in-Err.why) i.table
+          (cause_before (list_state c.all.hand.table c.args.hand.now.part c.all.at) (list_state c.all.hand.table c.all.hand.part c.all.at) (list_state
+          c.all.hand.table c.pass_one.new.hand.part c.all.at)
+          i.later.taken i.later.number (λ e. sym (ap (λ (v : View). v.ready) (i.ahead c.all.at (omega arith))) ∙ e) (record {
+            range = c.args.range;
+            mode =
+                c.args.mode;
+          }) c.in-Err.why
+          c.in-Err.ensures.cause),
+    )

@@ -1,0 +1,28 @@
+use Rattle.std.proofs.Common.{◌≡◌, ℕ, ◌+◌, ◌-◌, ◌*◌, ◌≤◌}
+use Rattle.list_cuts.specs.Cut.{list_count}
+use Rattle.epoch_pools.specs.Beside.{shown_core}
+use Rattle.range_rw.specs.Contract.{IsReadyLeft}
+use Rattle.range_rw.specs.Several.{IsLaterInLists, HoldsAlone, HasPassed}
+use Rattle.range_rw.proofs.several.pass_all.Given as goal
+
+-- all lists before this one are passed that the range takes, and those from it on are as they were
+abbrev pub invariant-all : goal.invariant-all
+invariant-all g l = record {
+  table : l.hand.table ≡ l.initial.hand.table;
+  cut : l.cut ≡ l.list.cut;
+  lists : (l.lists ≡ l.hand.part.pass.lists) × (l.lists ≡ list_count l.list.cut);
+  low : 1 ≤ l.at;
+  most : l.at ≤ l.lists;
+  later : IsLaterInLists l.initial.hand.part l.hand.part;
+  alone : HoldsAlone 0 (record { range = l.range; mode = l.mode }) l.hand.part;
+  passed : HasPassed l.list.cut l.range l.at l.hand.part;
+  first : shown_core l.hand.part 0 ≡ shown_core l.initial.hand.part 0;
+  ahead : (j : ℕ) → l.at ≤ j → shown_core l.hand.part j ≡ shown_core l.initial.hand.part j;
+  ready : (j : ℕ) → IsReadyLeft (shown_core l.initial.hand.part j).ready (shown_core l.hand.part j).ready;
+  bound : l.hand.part.trace.taken ≤ l.initial.hand.part.trace.taken + (55 + 193 * l.initial.hand.part.seats) * l.at;
+  counted : l.steps + l.initial.hand.part.trace.taken ≡ l.initial.steps + l.hand.part.trace.taken;
+}
+
+-- how many lists are left
+abbrev pub decreases-all : goal.decreases-all
+decreases-all g l = l.lists - l.at

@@ -1,0 +1,86 @@
+-- What a call leaves of a seat whose table has several lists. A piece of work goes on in one list: the hand is turned
+-- to it, and all other lists are shown as before, so what is said of one list is said of the seat. A seat that holds
+-- nothing holds nothing in any list, and nothing counts; one that holds a range holds it in one list alone, and it
+-- counts. This project's own profile.
+use Rattle.std.specs.Prelude.{◌≡◌, ◌≢◌, ◌⊎◌, ℕ, ◌+◌, ◌*◌, ◌<◌, ◌≤◌, Some}
+use Rattle.atomic_table.specs.Seated.{TableId}
+use Rattle.list_cuts.specs.Cut.{Regions, Takes, TakesOne}
+use Rattle.lock_core.specs.Range.{Interval}
+use Rattle.lock_core.specs.declared.range.Held.{Held}
+use Rattle.lock_core.specs.declared.views.Own.TheVariants.{Nothing}
+use Rattle.lock_core.specs.Machine.{held_at}
+use Rattle.epoch_pools.specs.declared.views.SeatPart.{SeatPart}
+use Rattle.epoch_pools.specs.declared.views.Beside.{Beside}
+use Rattle.epoch_pools.specs.declared.views.Standing.TheVariants.{Free, Wide}
+use Rattle.epoch_pools.specs.Beside.{shown_core}
+use Rattle.epoch_pools.specs.Hands.{IsResting}
+use Rattle.marked_list.specs.Causes.{nodes_in}
+use Rattle.range_rw.specs.declared.refusals.NotHeld.{NotHeld}
+use Rattle.range_rw.specs.Contract.{SeatState, IsListCause}
+use Rattle.range_rw.specs.Seats.{seat_state_in}
+
+-- the range takes one list alone, whichever it is
+abbrev pub TakesAlone : Regions → Interval → Type 0
+TakesAlone c range = (list : ℕ) × TakesOne c range list
+
+-- from list `from` on and before list `to` the range takes none
+abbrev pub TakesNone : Regions → Interval → ℕ → ℕ → Type 0
+TakesNone c range from to = (list : ℕ) → from ≤ list → list < to → Takes c range list → ⊥
+
+module _ {P : Type 0} where
+  -- the seat as list i has it: its view of that list, with the pools that it has there
+  abbrev pub list_state : TableId → SeatPart (Beside P) → ℕ → SeatState P
+  list_state table p i = seat_state_in table (record { number = p.number; seats = p.seats; core = shown_core p i; pass = p.pass; trace = p.trace })
+
+  -- what every call leaves, in whichever lists it works
+  pub record IsLaterInLists (p q : SeatPart (Beside P)) : Type 0 where
+    pub number : q.number ≡ p.number
+    pub seats : q.seats ≡ p.seats
+    pub lists : q.pass.lists ≡ p.pass.lists
+    pub pass : q.pass.pass ≡ p.pass.pass
+    pub client : q.trace.client ≡ p.trace.client
+    pub taken : p.trace.taken ≤ q.trace.taken
+
+  -- a piece of work in one list, to which the hand is turned afterwards and in which it rests: each other list is shown
+  -- as before
+  pub record IsPiece (at : ℕ) (p q : SeatPart (Beside P)) : Type 0 where
+    pub later : IsLaterInLists p q
+    pub turned : q.pass.list ≡ at
+    pub only : (j : ℕ) → j ≢ at → shown_core q j ≡ shown_core p j
+    pub rests : IsResting q.core
+
+  -- the seat holds nothing in any list, and nothing counts
+  pub record IsFreeSeat (p : SeatPart (Beside P)) : Type 0 where
+    pub rests : IsResting p.core
+    pub free : (j : ℕ) → (shown_core p j).own ≡ Nothing
+    pub standing : p.pass.standing ≡ Free
+
+  -- the seat holds this range in one list, to which its hand is turned, and nothing in any other
+  pub record HoldsAlone (at : ℕ) (range : Held) (p : SeatPart (Beside P)) : Type 0 where
+    pub rests : IsResting p.core
+    pub turned : p.pass.list ≡ at
+    pub held : held_at p.core.own ≡ Some range
+    pub others : (j : ℕ) → j ≢ at → (shown_core p j).own ≡ Nothing
+
+  -- the same in the middle of a call, where the hand may be turned to another list, in which it rests
+  pub record HoldsIn (at : ℕ) (range : Held) (p : SeatPart (Beside P)) : Type 0 where
+    pub rests : IsResting p.core
+    pub held : held_at (shown_core p at).own ≡ Some range
+    pub others : (j : ℕ) → j ≢ at → (shown_core p j).own ≡ Nothing
+
+  -- why a call was refused: by the cause that a try in one of the lists has, by what the seat has there
+  abbrev pub IsCauseIn : TableId → SeatPart (Beside P) → SeatPart (Beside P) → Held → NotHeld → Type 0
+  IsCauseIn table p q asked why = (i : ℕ) × (i < p.pass.lists) × IsListCause (list_state table p i) (list_state table q i) asked why
+
+  -- what was a cause in another list than this one still is, by what the record has
+  abbrev pub KeepsCauses : TableId → ℕ → SeatPart (Beside P) → SeatPart (Beside P) → Type 0
+  KeepsCauses table at p q = (was : SeatPart (Beside P)) (i : ℕ) (asked : Held) (why : NotHeld) → i ≢ at
+      → IsListCause (list_state table was i) (list_state table p i) asked why → IsListCause (list_state table was i) (list_state table q i) asked why
+
+  -- the last walk has looked at as many nodes as it may
+  abbrev pub HasSpent : SeatPart (Beside P) → Type 0
+  HasSpent q = nodes_in q.trace.looked ≡ 16 * q.seats + 1
+
+  -- how far a wide range is: nothing is passed yet, and it takes no list before this one; or all below it are passed
+  abbrev pub HasPassed : Regions → Interval → ℕ → SeatPart (Beside P) → Type 0
+  HasPassed c range at p = ((p.pass.standing ≡ Free) × TakesNone c range 0 at) ⊎ (p.pass.standing ≡ Wide at)
