@@ -1,10 +1,12 @@
 //! The least time of many rounds in which each seat of a table has a thread. Where all of them want one range, a turn
 //! is mostly waiting for it; where each wants a range of its own, nobody has to wait, and what a turn costs more than
-//! alone is for the words that all threads change, and for the walk past the others' nodes.
+//! alone is for the words that all threads change, and for the walk past the others' nodes. In a table of several
+//! regions these ranges lie in different ones, so threads seldom change a word in common.
 ghost use Rattle.std.specs.Prelude.{◌≡◌, None};
 ghost use Rattle.range_rw.specs.Contract.{AreIdleSeats, IsGivenBack};
 
 use crate::turns::hold_turns;
+use list_cuts::Cut;
 use lock_core::{FreeGuard, Range};
 use range_rw::{RangeTable, Seat};
 use std::alloc::Global;
@@ -23,6 +25,14 @@ pub enum Wants {
     One,
     /// Each a range of its own, and no two of these have a number in common.
     Own,
+}
+
+/// Seven regions, to which the numbers are dealt out one by one.
+pub fn seven_regions() -> Cut {
+    let Ok(cut) = Cut::of(7, 0) else {
+        unreachable!()
+    };
+    cut
 }
 
 /// The range that the thread at a place wants.
@@ -70,15 +80,16 @@ fn time_of_all<R: Threads + Wait + Clock + Sync>(
     Ok(start.elapsed(rt)?.as_nanos())
 }
 
-/// The time of a round on a new table, in which so many threads hold their ranges so many times each.
+/// The time of a round on a new table of that cut, in which so many threads hold their ranges so many times each.
 fn round_of_crowd<R: Threads + Wait + Clock + Sync>(
     rt: &R,
     alloc: Global,
     seats: u32,
+    cut: Cut,
     wants: Wants,
     turns: u32,
 ) -> io::Result<u128> {
-    let Ok((table, mut all)) = RangeTable::<FreeGuard>::open(alloc, seats, &[]) else {
+    let Ok((table, mut all)) = RangeTable::<FreeGuard>::open_cut(alloc, seats, cut, &[]) else {
         return Err(io::Error::from(io::ErrorKind::OutOfMemory));
     };
     let time = time_of_all(rt, &table, all.as_mut_slice(), wants, turns);
@@ -92,12 +103,13 @@ pub fn least_of_crowd<R: Threads + Wait + Clock + Sync>(
     rt: &R,
     alloc: Global,
     seats: u32,
+    cut: Cut,
     wants: Wants,
     turns: u32,
 ) -> io::Result<u128> {
     let mut least = u128::MAX;
     for _ in 0..CROWD_ROUNDS {
-        least = least.min(round_of_crowd(rt, alloc, seats, wants, turns)?);
+        least = least.min(round_of_crowd(rt, alloc, seats, cut, wants, turns)?);
     }
     Ok(least)
 }

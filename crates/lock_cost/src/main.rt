@@ -1,11 +1,12 @@
 //! Measures what holding a range and giving it back costs. Where nobody else wants one it stands beside a `Mutex` of
 //! std, and beside the seven operations of the fast path on plain words; the steps of the running list by themselves
 //! stand beside these words too. Then what a turn costs where 2, 4 and 16 threads want one range, and where each wants
-//! its own; and what a set of 1, 2 and 4 ranges costs beside as many single tries, on one thread and on four. The times
-//! are the least of many rounds, so that other work on the machine counts little. They go to standard error, since they
-//! differ from run to run; standard output says only that all turns were made. With the word `full` more is measured:
-//! the steps by themselves and the sets in as many rounds as the rest, and longer rounds of threads. The word `touches`
-//! measures first touches of pages, on the set of `page_touch` beside sets of std, and without a word a few thousand.
+//! its own, in one list and in those of seven regions; and what a set of 1, 2 and 4 ranges costs beside as many single
+//! tries, on one thread and on four. The times are the least of many rounds, so that other work on the machine counts
+//! little. They go to standard error, since they differ from run to run; standard output says only that all turns were
+//! made. With the word `full` more is measured: the steps by themselves and the sets in as many rounds as the rest, and
+//! longer rounds of threads. The word `touches` measures first touches of pages, on the set of `page_touch` beside sets
+//! of std, and without a word a few thousand.
 #![tactic(auto)]
 
 ghost use Rattle.std.specs.Prelude.{◌<◌, ◌≤◌};
@@ -24,9 +25,10 @@ mod turns;
 mod watch;
 
 use anyhow::{Result, bail};
-use crowd::{Wants, least_of_crowd};
+use crowd::{Wants, least_of_crowd, seven_regions};
 use fours::open_fours;
 use list::{least_of_list, least_of_plain};
+use list_cuts::Cut;
 use lock_core::Range;
 use rounds::{ROUNDS, least_of_mutex, least_of_table};
 use sets::{crew_of_sets, least_of_sets};
@@ -120,7 +122,8 @@ fn measure_list<R: Clock + Eprint>(rt: &R, alloc: Global, rounds: u32) -> Result
     Ok(())
 }
 
-/// A turn of threads that all want one range, and of threads that each want their own.
+/// A turn of threads that all want one range, and of threads that each want their own, in one list and in those of
+/// seven regions.
 fn measure_crowds<R: Threads + Wait + Sync + Clock + Eprint>(
     rt: &R,
     alloc: Global,
@@ -128,15 +131,20 @@ fn measure_crowds<R: Threads + Wait + Sync + Clock + Eprint>(
 ) -> Result<()> {
     for seats in [2u32, 4, 16] {
         let made = (u128::from(turns) * u128::from(seats)).max(1);
-        let one = least_of_crowd(rt, alloc, seats, Wants::One, turns)?;
+        let one = least_of_crowd(rt, alloc, seats, Cut::one(), Wants::One, turns)?;
         eprintln!(rt;
             "{seats} threads at one range: {} ns for each turn",
             one / made
         )?;
-        let own = least_of_crowd(rt, alloc, seats, Wants::Own, turns)?;
+        let own = least_of_crowd(rt, alloc, seats, Cut::one(), Wants::Own, turns)?;
         eprintln!(rt;
             "{seats} threads at ranges apart: {} ns for each turn",
             own / made
+        )?;
+        let regions = least_of_crowd(rt, alloc, seats, seven_regions(), Wants::Own, turns)?;
+        eprintln!(rt;
+            "{seats} threads at ranges apart, in 7 regions: {} ns for each turn",
+            regions / made
         )?;
     }
     Ok(())

@@ -3,6 +3,7 @@
 //! is ready the barrier makes some. The fast path is that of Kogan, Dice and Issa 2020.
 ghost use Rattle.std.specs.Prelude.{◌≡◌, ◌<◌, ◌%◌, ℕ, IfOk};
 ghost use Rattle.std.specs.Bool.{OnTrue};
+ghost use Rattle.epoch_pools.specs.Beside.{may_give_back};
 ghost use Rattle.epoch_pools.specs.Hands.{IsIdle, IsSeatCount, new_hand};
 ghost use Rattle.epoch_pools.specs.Quick.{HoldsNode};
 
@@ -20,7 +21,7 @@ pub fn open_hand(
     seats: u32,
 ) -> Result<(List<FreeGuard>, Hand<FreeGuard>), AllocError>
     requires seats { IsSeatCount seats }
-    ensures hand { IfOk result (λ r. r.1 ≡ new_hand r.0.table (λ _. tt) seats 0) }
+    ensures hand { IfOk result (λ r. r.1 ≡ new_hand r.0.table (λ _. tt) 1 seats 0) }
 {
     let (list, mut all) = open(alloc, seats, &[])?;
     let hand = all.remove(0);
@@ -39,7 +40,7 @@ fn hold_slowly<L: Ledger>(
     requires idle { IsIdle hand.old.part.core }
     ensures table { hand.new.table ≡ hand.old.table }
     ensures outside { hand.new.part.core.epoch % 2 ≡ 0 }
-    ensures held { OnTrue result ((n : ℕ) × HoldsNode (λ _. Unit {0}) hand.new.part n) }
+    ensures held { OnTrue result ((n : ℕ) × HoldsNode (may_give_back (λ _. Unit {0})) hand.new.part n) }
 {
     match take(list, hand, steps) {
         Taken::Node(node) => {
@@ -65,7 +66,7 @@ fn hold_quickly<L: Ledger>(
     requires idle { IsIdle hand.old.part.core }
     ensures table { hand.new.table ≡ hand.old.table }
     ensures outside { hand.new.part.core.epoch % 2 ≡ 0 }
-    ensures held { OnTrue result ((n : ℕ) × HoldsNode (λ _. Unit {0}) hand.new.part n) }
+    ensures held { OnTrue result ((n : ℕ) × HoldsNode (may_give_back (λ _. Unit {0})) hand.new.part n) }
 {
     if ready(hand) == 0 {
         return hold_slowly(list, hand, range, steps);

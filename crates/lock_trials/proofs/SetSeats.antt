@@ -1,6 +1,6 @@
 -- The seats of a new table as the tests take them: in sets of four, also in the other order, and back together.
 use Rattle.std.proofs.Common.{◌≡◌, ℕ, zero, suc, ◌<◌, List, [], ◌∷◌, ◌++◌, append_assoc, get_or, inl, inr, length, refl, sym, ap, subst, ◌∙◌, arith}
-use Rattle.std.specs.Prelude.{remove}
+use Rattle.std.specs.Prelude.{remove, None}
 use mathlib.Core.Option.{some, some-injective, some-ne-none}
 use lib.ListN.{get_elem?}
 use Rattle.atomic_table.specs.Seated.{TableId}
@@ -14,6 +14,14 @@ turned_free a b c d free (suc zero) e lt = free 2 e (omega arith)
 turned_free a b c d free (suc (suc zero)) e lt = free 1 e (omega arith)
 turned_free a b c d free (suc (suc (suc zero))) e lt = free 0 e (omega arith)
 turned_free a b c d free (suc (suc (suc (suc k)))) e lt = absurd (omega arith)
+
+-- four seats hold nothing where each of them does
+pub free_four : {P : Type 0} (a b c d : SeatState P) → a.held ≡ None → b.held ≡ None → c.held ≡ None → d.held ≡ None → AllFree (a ∷ b ∷ c ∷ d ∷ [])
+free_four a b c d w x y z zero e lt = w
+free_four a b c d w x y z (suc zero) e lt = x
+free_four a b c d w x y z (suc (suc zero)) e lt = y
+free_four a b c d w x y z (suc (suc (suc zero))) e lt = z
+free_four a b c d w x y z (suc (suc (suc (suc k)))) e lt = absurd (omega arith)
 
 -- the first item and those that are left without it are all items
 pub first_removed : {X : Type 0} (xs ys : List X) (x : X) → 0 < length xs → x ≡ get_or xs 0 x → ys ≡ remove xs 0 → xs ≡ x ∷ ys

@@ -4,6 +4,7 @@
 ghost use Rattle.std.specs.Prelude.{◌≡◌, ◌+◌, ◌*◌, ◌%◌, ◌^◌, ◌<◌, false, None, IfSome};
 ghost use Rattle.range_rw.specs.Contract.{AreIdleSeats, IsGivenBack, IsSeatCount};
 ghost use Rattle.lock_trials.specs.Turns.{HasAdded, HasMade, HasVisited, HaveAdded, HaveMade, HaveVisited, IsOutside, mode_at};
+ghost use Rattle.lock_trials.specs.Turnstile.{HasDoorIn};
 
 use crate::adds::add_turns;
 use crate::opened::open_tally;
@@ -112,6 +113,19 @@ fn mode_at(place: usize) -> Mode
     }
 }
 
+/// The range under which the seat at a place visits. In blocks of eight numbers that of every third place lies in the
+/// door's block, and the others reach over four or seven blocks.
+fn range_at(place: usize) -> Range
+    ensures door { HasDoorIn result }
+{
+    let lo = place as u64 % 8;
+    let more = 24 * (place as u64 % 3);
+    let Ok(range) = Range::of(lo, DOOR + 1 + more) else {
+        unreachable!()
+    };
+    range
+}
+
 fn visit_from<R: Wait>(
     wait: &R,
     table: &RangeTable<Turnstile>,
@@ -128,10 +142,7 @@ fn visit_from<R: Wait>(
     ensures visited { HasVisited (mode_at place) turns seat.old seat.new }
     ensures outside { seat.new.pass.inside ≡ false }
 {
-    let lo = place as u64 % 8;
-    let Ok(range) = Range::of(lo, lo + 8) else {
-        unreachable!()
-    };
+    let range = range_at(place);
     let mode = mode_at(place);
     let seen = visit_turns(wait, table, seat, range, mode, turns);
     most.fetch_max(seen, Ordering::SeqCst);

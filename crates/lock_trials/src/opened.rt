@@ -1,5 +1,5 @@
-//! Tables for the trials: one whose word counts what is brought in, and one with nobody inside its turnstile. A reader
-//! may rely on the seats being in order, each holding nothing, as the closing takes them.
+//! Tables for the trials: one whose word counts what is brought in, and one with nobody inside its turnstile, of one
+//! list or of several. A reader may rely on the seats being in order, each holding nothing, as the closing takes them.
 ghost use Rattle.std.specs.Prelude.{◌≡◌, [], ◌∷◌, length, IfOk, IfErr};
 ghost use Rattle.range_rw.specs.Contract.{AreIdleSeats, AreNewSeats, IsOpenFault};
 ghost use Rattle.lock_trials.specs.Tally.{first_share};
@@ -7,6 +7,7 @@ ghost use Rattle.lock_trials.specs.Turns.{IsOutside};
 
 use crate::tally::Tally;
 use crate::turnstile::Turnstile;
+use list_cuts::Cut;
 use range_rw::{OpenFault, RangeTable, Seat};
 use std::alloc::Global;
 
@@ -24,14 +25,15 @@ pub fn open_tally(
     RangeTable::open(alloc, seats, &[word])
 }
 
-/// A table of so many seats with nobody inside.
+/// A table of so many seats with nobody inside, and with a list for each region of the cut.
 pub fn open_turnstile(
     alloc: Global,
     seats: u32,
+    cut: Cut,
 ) -> Result<(RangeTable<Turnstile>, Vec<Seat<Turnstile>>), OpenFault>
     ensures refused { IfErr result (IsOpenFault seats) }
     ensures shape { IfOk result (λ r. (r.0.seats ≡ seats) × (r.0.client ≡ 1) × (length r.1.items ≡ seats)) }
     ensures idle { IfOk result (λ r. AreIdleSeats r.0.table r.1.items × IsOutside r.1.items) }
 {
-    RangeTable::open(alloc, seats, &[0])
+    RangeTable::open_cut(alloc, seats, cut, &[0])
 }

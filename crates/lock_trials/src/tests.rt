@@ -4,11 +4,14 @@ use crate::crowd::{tally_of, visit_all};
 use crate::hold_times;
 use crate::opened::{open_tally, open_turnstile};
 use crate::pairs::{both, in_order};
+use list_cuts::Cut;
 use lock_core::{FreeGuard, Mode, Range};
 use range_rw::{NotHeld, OpenFault, RangeTable, Stuck};
 use std::alloc::Global;
 use std::process::Abort;
+use std::sync::Wait;
 use std::sync::atomic::{AtomicU64, Ordering};
+use std::thread::Threads;
 
 #[test]
 fn tries_answer_as_worked_by_hand(rt: HostRuntime) {
@@ -70,17 +73,31 @@ fn two_threads_add_four_thousand(rt: HostRuntime) {
     assert_eq!(rt; tally_of(&rt, alloc, 3, u64::MAX, 1), Some(2));
 }
 
-#[test]
-fn four_threads_never_see_a_writer_inside(rt: HostRuntime) {
-    let alloc = rt.alloc();
-    let (table, mut seats) = open_turnstile(alloc, 4).expect(&rt, "memory");
+/// So many threads visit so many times each, in a table with a list for each region of the cut: nobody sees a writer
+/// inside, and nobody is left there.
+fn visit_beside<R: Threads + Wait + Sync + Abort>(
+    rt: &R,
+    alloc: Global,
+    count: u32,
+    cut: Cut,
+    turns: u32,
+) {
+    let (table, mut seats) = open_turnstile(alloc, count, cut).expect(rt, "memory");
     let most = AtomicU64::new(0);
-    visit_all(&rt, &table, seats.as_mut_slice(), 1000, &most);
+    visit_all(rt, &table, seats.as_mut_slice(), turns, &most);
     assert_eq!(rt; most.load(Ordering::SeqCst), 0);
     let Ok(words) = table.close(alloc, seats) else {
         panic!(rt; "memory");
     };
     assert_eq!(rt; words.as_slice(), [0].as_slice());
+}
+
+#[test]
+fn threads_never_see_a_writer_inside(rt: HostRuntime) {
+    let seven = Cut::of(7, 3).expect(&rt, "a cut");
+    for (count, cut, turns) in [(4, Cut::one(), 1000), (16, seven, 200)] {
+        visit_beside(&rt, rt.alloc(), count, cut, turns);
+    }
 }
 
 /// A seat has a scan open, behind so many tries of its own, and another makes sixteen tries beside it, which take its

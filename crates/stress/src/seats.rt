@@ -1,5 +1,6 @@
 //! Rounds at the range lock: a table with a drawn number of seats, each of which takes its turns on a thread of its
-//! own. When the table is closed, every slot's count has to be 0 again.
+//! own. One round has all ranges in one list, the next one has a list for each of seven regions, and one more for the
+//! ranges in several of them. When the table is closed, every slot's count has to be 0 again.
 ghost use Rattle.std.specs.Prelude.{◌≡◌, ◌≤◌, None, IfOk, length};
 ghost use Rattle.range_rw.specs.Contract.{AreIdleSeats, IsGivenBack};
 
@@ -7,6 +8,7 @@ use crate::draws::below;
 use crate::limit::Limit;
 use crate::visits::{SLOTS, Visits, take_turns};
 use anyhow::{bail, ensure};
+use list_cuts::Cut;
 use lock_core::FreeGuard;
 use rand_pcg::Pcg32;
 use range_rw::{OpenFault, RangeTable, Seat};
@@ -58,15 +60,28 @@ fn play_seats<R: Threads + Wait + Sync>(
     thread::for_each_mut(rt, seats, 16, &turn);
 }
 
+/// The lists of a round: one, or those of seven regions in every other round. The slots are dealt out to the regions
+/// one by one, so a range of one slot, as some third of the drawn ones are, takes its region's list alone.
+fn cut_of(round: u64) -> Cut {
+    if round % 2 == 0 {
+        return Cut::one();
+    }
+    let Ok(cut) = Cut::of(7, 0) else {
+        unreachable!()
+    };
+    cut
+}
+
 /// A table of so many seats, with no owner in any slot.
 fn open_slots(
     alloc: Global,
     seats: u32,
+    cut: Cut,
 ) -> Result<(RangeTable<FreeGuard>, Vec<Seat<FreeGuard>>), OpenFault>
     ensures shape { IfOk result (λ r. (r.0.seats ≡ seats) × (SLOTS ≤ r.0.client) × (length r.1.items ≡ seats)) }
     ensures idle { IfOk result (λ r. AreIdleSeats r.0.table r.1.items) }
 {
-    RangeTable::open(alloc, seats, &[0; SLOTS as usize])
+    RangeTable::open_cut(alloc, seats, cut, &[0; SLOTS as usize])
 }
 
 /// A round of so many seats. It returns how many slots have owners at the end: none.
@@ -74,10 +89,11 @@ fn play_round<R: Threads + Wait + Sync>(
     rt: &R,
     alloc: Global,
     count: u32,
+    cut: Cut,
     seed: u64,
     total: &Mutex<Visits>,
 ) -> anyhow::Result<usize> {
-    let Ok((table, mut seats)) = open_slots(alloc, count) else {
+    let Ok((table, mut seats)) = open_slots(alloc, count, cut) else {
         bail!("no table of {count} seats");
     };
     play_seats(rt, &table, seats.as_mut_slice(), seed, total);
@@ -94,7 +110,8 @@ pub struct LockStress {
     pub visits: Visits,
 }
 
-/// Rounds with 2 to 16 seats until the limit is past, and at least one. A wrong count ends them with an error.
+/// Rounds with 2 to 16 seats until the limit is past, and at least one with each cut. A wrong count ends them with an
+/// error.
 pub fn stress_lock<R: Threads + Wait + Sync + Clock>(
     rt: &R,
     alloc: Global,
@@ -106,10 +123,11 @@ pub fn stress_lock<R: Threads + Wait + Sync + Clock>(
     let mut rounds = 0;
     for round in 0..u64::MAX {
         let seats = 2 + below(&mut draws, 15);
-        let left = play_round(rt, alloc, seats, seed.wrapping_add(round), &total)?;
+        let cut = cut_of(round);
+        let left = play_round(rt, alloc, seats, cut, seed.wrapping_add(round), &total)?;
         ensure!(left == 0, "{left} slots have owners after round {round}");
         rounds = round + 1;
-        if limit.is_past(rt)? {
+        if limit.is_past(rt)? && rounds >= 2 {
             break;
         }
     }
