@@ -1,7 +1,8 @@
 //! What no clause says of the command line: that its words are accepted and refused as the tables here say, each case
 //! by hand.
 use command_words::{Command, Options, command_of};
-use std::alloc::{AllocError, Global};
+use std::alloc::{AllocError, AllocGlobal, Global};
+use std::process::Abort;
 use std::test::Fail;
 
 /// Words that are not accepted.
@@ -54,6 +55,102 @@ const REFUSED: [&str; 46] = [
     "Check",
 ];
 
+/// Words that are accepted, their options in any order, and what they ask for.
+const ACCEPTED: [(&str, Command); 11] = [
+    (
+        "play",
+        Command::Play {
+            options: Options {
+                opening: false,
+                log: false,
+                touched: false,
+            },
+            threads: 1,
+        },
+    ),
+    (
+        "play --log",
+        Command::Play {
+            options: Options {
+                opening: false,
+                log: true,
+                touched: false,
+            },
+            threads: 1,
+        },
+    ),
+    (
+        "play --threads=4",
+        Command::Play {
+            options: Options {
+                opening: false,
+                log: false,
+                touched: false,
+            },
+            threads: 4,
+        },
+    ),
+    (
+        "play --log --threads 16 --opening",
+        Command::Play {
+            options: Options {
+                opening: true,
+                log: true,
+                touched: false,
+            },
+            threads: 16,
+        },
+    ),
+    (
+        "play --opening --threads=1 --log",
+        Command::Play {
+            options: Options {
+                opening: true,
+                log: true,
+                touched: false,
+            },
+            threads: 1,
+        },
+    ),
+    (
+        "play --touched --threads 2 --log",
+        Command::Play {
+            options: Options {
+                opening: false,
+                log: true,
+                touched: true,
+            },
+            threads: 2,
+        },
+    ),
+    (
+        "load --seed 1 --threads 4 --calls 20000",
+        Command::Load {
+            seed: 1,
+            threads: 4,
+            calls: 20_000,
+        },
+    ),
+    (
+        "load --calls=0 --threads=16 --seed=0",
+        Command::Load {
+            seed: 0,
+            threads: 16,
+            calls: 0,
+        },
+    ),
+    (
+        "load --threads 1 --calls=1048576 --seed 2147483647",
+        Command::Load {
+            seed: 2_147_483_647,
+            threads: 1,
+            calls: 1_048_576,
+        },
+    ),
+    ("check", Command::Check { opening: false }),
+    ("check --opening", Command::Check { opening: true }),
+];
+
 /// What the words of this text ask for, which spaces are between.
 fn asked(alloc: Global, text: &str) -> Result<Option<Command>, AllocError> {
     let mut words = Vec::new(alloc);
@@ -63,99 +160,25 @@ fn asked(alloc: Global, text: &str) -> Result<Option<Command>, AllocError> {
     Ok(command_of(&words))
 }
 
-/// Playing with these options.
-fn play(opening: bool, log: bool, threads: u32) -> Option<Command> {
-    Some(Command::Play {
-        options: Options {
-            opening,
-            log,
-            touched: false,
-        },
-        threads,
-    })
-}
-
-/// A load.
-fn load(seed: u32, threads: u32, calls: u32) -> Option<Command> {
-    Some(Command::Load {
-        seed,
-        threads,
-        calls,
-    })
-}
-
-#[test]
-fn options_of_play_stand_in_any_order(rt: HostRuntime) -> Result<(), Fail> {
-    let alloc = rt.alloc();
-    assert_eq!(rt; asked(alloc, "play")?, play(false, false, 1));
-    assert_eq!(rt; asked(alloc, "play --log")?, play(false, true, 1));
-    assert_eq!(rt; asked(alloc, "play --threads=4")?, play(false, false, 4));
-    assert_eq!(rt;
-        asked(alloc, "play --log --threads 16 --opening")?,
-        play(true, true, 16)
-    );
-    assert_eq!(rt;
-        asked(alloc, "play --opening --threads=1 --log")?,
-        play(true, true, 1)
-    );
+/// Fails the test unless these words ask for this.
+fn ask(rt: &(impl Abort + AllocGlobal), text: &str, wanted: Option<Command>) -> Result<(), Fail> {
+    let found = asked(rt.alloc(), text)?;
+    assert_eq!(rt; found, wanted, "{text}");
     Ok(())
 }
 
 #[test]
-fn touched_stands_among_the_options_of_play(rt: HostRuntime) -> Result<(), Fail> {
-    let alloc = rt.alloc();
-    let touched = Options {
-        opening: false,
-        log: true,
-        touched: true,
-    };
-    assert_eq!(rt;
-        asked(alloc, "play --touched --threads 2 --log")?,
-        Some(Command::Play {
-            options: touched,
-            threads: 2
-        })
-    );
-    Ok(())
-}
-
-#[test]
-fn load_takes_all_three_of_its_options(rt: HostRuntime) -> Result<(), Fail> {
-    let alloc = rt.alloc();
-    assert_eq!(rt;
-        asked(alloc, "load --seed 1 --threads 4 --calls 20000")?,
-        load(1, 4, 20_000)
-    );
-    assert_eq!(rt;
-        asked(alloc, "load --calls=0 --threads=16 --seed=0")?,
-        load(0, 16, 0)
-    );
-    assert_eq!(rt;
-        asked(alloc, "load --threads 1 --calls=1048576 --seed 2147483647")?,
-        load(2_147_483_647, 1, 1_048_576)
-    );
-    Ok(())
-}
-
-#[test]
-fn check_takes_an_opening_alone(rt: HostRuntime) -> Result<(), Fail> {
-    let alloc = rt.alloc();
-    assert_eq!(rt;
-        asked(alloc, "check")?,
-        Some(Command::Check { opening: false })
-    );
-    assert_eq!(rt;
-        asked(alloc, "check --opening")?,
-        Some(Command::Check { opening: true })
-    );
+fn words_ask_for_a_command_with_its_options_in_any_order(rt: HostRuntime) -> Result<(), Fail> {
+    for (text, command) in ACCEPTED {
+        ask(&rt, text, Some(command))?;
+    }
     Ok(())
 }
 
 #[test]
 fn other_words_are_not_accepted(rt: HostRuntime) -> Result<(), Fail> {
-    let alloc = rt.alloc();
     for text in REFUSED {
-        assert_eq!(rt; asked(alloc, text)?, None, "{text}");
+        ask(&rt, text, None)?;
     }
     Ok(())
 }
@@ -167,6 +190,5 @@ fn a_number_of_400_digits_is_not_accepted(rt: HostRuntime) -> Result<(), Fail> {
     for _ in 0..400 {
         text.push('1')?;
     }
-    assert_eq!(rt; asked(alloc, text.as_str())?, None);
-    Ok(())
+    ask(&rt, text.as_str(), None)
 }

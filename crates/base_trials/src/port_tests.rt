@@ -1,36 +1,70 @@
 //! What no clause says of the ports: that their calls succeed with concrete bytes, each once through its bound, and the
-//! message of a failure.
+//! message of a failure. Each test is a table of calls; one small loop makes them and compares.
 use byte_ports::{
     CleanSink, CleanSource, DripSink, DripSource, Failed, FillSource, MemorySink, MemorySource,
     Sink, Source, StdSink, StdSource, write_all,
 };
+use std::process::Abort;
 use std::test::Fail;
 
-/// One read through the bound.
-fn read_some<S: Source>(input: &mut S, buf: &mut [u8]) -> Result<usize, Failed> {
-    input.read(buf)
+/// A read into a buffer of three bytes `-`, or into none: what it answers, and what the buffer has then.
+fn expect_read<S: Source>(
+    rt: &impl Abort,
+    input: &mut S,
+    has_room: bool,
+    wanted: Result<usize, Failed>,
+    bytes: &[u8],
+) {
+    let mut buf = [b'-'; 3];
+    let found = if has_room {
+        input.read(&mut buf)
+    } else {
+        input.read(&mut [])
+    };
+    assert_eq!(rt; found, wanted);
+    assert_eq!(rt; buf.as_slice(), bytes);
 }
 
-/// One write through the bound.
-fn write_some<K: Sink>(out: &mut K, bytes: &[u8]) -> Result<usize, Failed> {
-    out.write(bytes)
+/// Reads one after another.
+fn expect_reads<S: Source>(
+    rt: &impl Abort,
+    input: &mut S,
+    reads: &[(bool, Result<usize, Failed>, &[u8])],
+) {
+    for (has_room, wanted, bytes) in reads {
+        expect_read(rt, input, *has_room, *wanted, bytes);
+    }
 }
+
+/// Single writes of these bytes, and what each answers.
+fn expect_writes<K: Sink>(rt: &impl Abort, out: &mut K, writes: &[(&[u8], Result<usize, Failed>)]) {
+    for (bytes, wanted) in writes {
+        assert_eq!(rt; out.write(bytes), *wanted);
+    }
+}
+
+/// Writes of all of these bytes, and what each answers.
+fn expect_all<K: Sink>(rt: &impl Abort, out: &mut K, writes: &[(&[u8], Result<(), Failed>)]) {
+    for (bytes, wanted) in writes {
+        assert_eq!(rt; write_all(out, bytes), *wanted);
+    }
+}
+
+/// Reads of five bytes from a source whose second call fails.
+const FAILING: [(bool, Result<usize, Failed>, &[u8]); 5] = [
+    (true, Ok(3), b"abc"),
+    (true, Err(Failed), b"---"),
+    (false, Ok(0), b"---"),
+    (true, Ok(2), b"de-"),
+    (true, Ok(0), b"---"),
+];
 
 #[test]
 fn a_source_fails_at_its_listed_call_and_loses_nothing(rt: HostRuntime) -> Result<(), Fail> {
     let alloc = rt.alloc();
-    let bytes = b"abcde".to_vec(alloc)?;
-    let mut source = MemorySource::new(bytes, [2].to_vec(alloc)?);
-    let mut buf = [0; 3];
-    assert_eq!(rt; read_some(&mut source, &mut buf), Ok(3));
-    assert_eq!(rt; buf.as_slice(), b"abc".as_slice());
-    assert_eq!(rt; read_some(&mut source, &mut buf), Err(Failed));
-    assert_eq!(rt; source.faults, 1);
-    assert_eq!(rt; read_some(&mut source, &mut []), Ok(0));
-    assert_eq!(rt; read_some(&mut source, &mut buf), Ok(2));
-    assert_eq!(rt; buf.as_slice(), b"dec".as_slice());
-    assert_eq!(rt; read_some(&mut source, &mut buf), Ok(0));
-    assert_eq!(rt; source.calls, 4);
+    let mut source = MemorySource::new(b"abcde".to_vec(alloc)?, [2].to_vec(alloc)?);
+    expect_reads(&rt, &mut source, &FAILING);
+    assert_eq!(rt; (source.faults, source.calls), (1, 4));
     Ok(())
 }
 
@@ -41,68 +75,94 @@ fn a_failure_has_a_message(rt: HostRuntime) -> Result<(), Fail> {
     Ok(())
 }
 
+/// Writes into four bytes of a sink.
+const WHOLE: [(&[u8], Result<(), Failed>); 3] = [
+    (b"ab", Ok(())),
+    (b"cdef", Err(Failed)),
+    (b"", Ok(())),
+];
+
 #[test]
 fn a_sink_takes_what_fits_and_then_fails(rt: HostRuntime) -> Result<(), Fail> {
     let alloc = rt.alloc();
-    let store = b"....".to_vec(alloc)?;
-    let mut sink = MemorySink::new(store, [1].to_vec(alloc)?);
-    assert_eq!(rt; write_some(&mut sink, b"ab"), Err(Failed));
-    assert_eq!(rt; write_all(&mut sink, b"ab"), Ok(()));
-    assert_eq!(rt; write_all(&mut sink, b"cdef"), Err(Failed));
+    let mut sink = MemorySink::new(b"....".to_vec(alloc)?, [1].to_vec(alloc)?);
+    expect_writes(&rt, &mut sink, &[(b"ab", Err(Failed))]);
+    expect_all(&rt, &mut sink, &WHOLE);
     assert_eq!(rt; sink.written(), b"abcd".as_slice());
     assert_eq!(rt; sink.faults, 2);
-    assert_eq!(rt; write_all(&mut sink, b""), Ok(()));
     Ok(())
 }
+
+/// Reads of five bytes from a source that never fails.
+const CLEAN: [(bool, Result<usize, Failed>, &[u8]); 4] = [
+    (true, Ok(3), b"abc"),
+    (false, Ok(0), b"---"),
+    (true, Ok(2), b"de-"),
+    (true, Ok(0), b"---"),
+];
 
 #[test]
 fn a_clean_source_gives_all_that_has_room(rt: HostRuntime) -> Result<(), Fail> {
     let mut source = CleanSource::new(b"abcde".to_vec(rt.alloc())?);
-    let mut buf = [0; 3];
-    assert_eq!(rt; read_some(&mut source, &mut buf), Ok(3));
-    assert_eq!(rt; buf.as_slice(), b"abc".as_slice());
-    assert_eq!(rt; read_some(&mut source, &mut []), Ok(0));
-    assert_eq!(rt; read_some(&mut source, &mut buf), Ok(2));
-    assert_eq!(rt; buf.as_slice(), b"dec".as_slice());
-    assert_eq!(rt; read_some(&mut source, &mut buf), Ok(0));
+    expect_reads(&rt, &mut source, &CLEAN);
     Ok(())
 }
+
+/// Writes into the last byte of a sink.
+const LAST: [(&[u8], Result<usize, Failed>); 3] = [
+    (b"de", Ok(1)),
+    (b"", Ok(0)),
+    (b"e", Err(Failed)),
+];
 
 #[test]
 fn a_clean_sink_fails_where_it_is_full(rt: HostRuntime) -> Result<(), Fail> {
     let mut sink = CleanSink::new(b"....".to_vec(rt.alloc())?);
-    assert_eq!(rt; write_all(&mut sink, b"abc"), Ok(()));
+    expect_all(&rt, &mut sink, &[(b"abc", Ok(()))]);
     assert_eq!(rt; sink.faults, 0);
-    assert_eq!(rt; write_some(&mut sink, b"de"), Ok(1));
-    assert_eq!(rt; write_some(&mut sink, b""), Ok(0));
-    assert_eq!(rt; write_some(&mut sink, b"e"), Err(Failed));
+    expect_writes(&rt, &mut sink, &LAST);
     assert_eq!(rt; sink.written(), b"abcd".as_slice());
     assert_eq!(rt; sink.faults, 1);
     Ok(())
 }
 
+/// Reads of two bytes from a source whose second call fails, one byte a call.
+const DRIPS: [(bool, Result<usize, Failed>, &[u8]); 5] = [
+    (true, Ok(1), b"a--"),
+    (true, Err(Failed), b"---"),
+    (false, Ok(0), b"---"),
+    (true, Ok(1), b"b--"),
+    (true, Ok(0), b"---"),
+];
+
 #[test]
-fn a_drip_moves_one_byte_a_call(rt: HostRuntime) -> Result<(), Fail> {
+fn a_drip_reads_one_byte_a_call(rt: HostRuntime) -> Result<(), Fail> {
     let alloc = rt.alloc();
     let mut source = DripSource {
         inner: MemorySource::new(b"ab".to_vec(alloc)?, [2].to_vec(alloc)?),
     };
-    let mut buf = [0; 3];
-    assert_eq!(rt; read_some(&mut source, &mut buf), Ok(1));
-    assert_eq!(rt; read_some(&mut source, &mut buf), Err(Failed));
-    assert_eq!(rt; read_some(&mut source, &mut []), Ok(0));
-    assert_eq!(rt; read_some(&mut source, &mut buf), Ok(1));
-    assert_eq!(rt; buf[0], b'b');
-    assert_eq!(rt; read_some(&mut source, &mut buf), Ok(0));
+    expect_reads(&rt, &mut source, &DRIPS);
+    Ok(())
+}
+
+#[test]
+fn a_drip_writes_one_byte_a_call(rt: HostRuntime) -> Result<(), Fail> {
     let mut sink = DripSink {
-        inner: CleanSink::new(b"...".to_vec(alloc)?),
+        inner: CleanSink::new(b"...".to_vec(rt.alloc())?),
     };
-    assert_eq!(rt; write_some(&mut sink, b"ab"), Ok(1));
-    assert_eq!(rt; write_some(&mut sink, b""), Ok(0));
-    assert_eq!(rt; write_all(&mut sink, b"bcd"), Err(Failed));
+    expect_writes(&rt, &mut sink, &[(b"ab", Ok(1)), (b"", Ok(0))]);
+    expect_all(&rt, &mut sink, &[(b"bcd", Err(Failed))]);
     assert_eq!(rt; sink.inner.written(), b"abc".as_slice());
     Ok(())
 }
+
+/// Reads of four times one byte.
+const FILLS: [(bool, Result<usize, Failed>, &[u8]); 4] = [
+    (true, Ok(3), b"xxx"),
+    (false, Ok(0), b"---"),
+    (true, Ok(1), b"x--"),
+    (true, Ok(0), b"---"),
+];
 
 #[test]
 fn a_fill_gives_one_byte_so_many_times(rt: HostRuntime) {
@@ -110,21 +170,15 @@ fn a_fill_gives_one_byte_so_many_times(rt: HostRuntime) {
         left: 4,
         byte: b'x',
     };
-    let mut buf = [0; 3];
-    assert_eq!(rt; read_some(&mut source, &mut buf), Ok(3));
-    assert_eq!(rt; buf.as_slice(), b"xxx".as_slice());
-    buf[1] = 0;
-    assert_eq!(rt; read_some(&mut source, &mut buf), Ok(1));
-    assert_eq!(rt; buf[1], 0);
-    assert_eq!(rt; read_some(&mut source, &mut buf), Ok(0));
+    expect_reads(&rt, &mut source, &FILLS);
 }
 
 #[test]
 fn the_standard_streams_are_ports(rt: HostRuntime) {
     let mut source = StdSource::new(rt.stdin());
+    expect_read(&rt, &mut source, false, Ok(0), b"---");
     let mut output = StdSink::output(rt.stdout());
+    expect_all(&rt, &mut output, &[(b"to the output\n", Ok(()))]);
     let mut error = StdSink::error(rt.stderr());
-    assert_eq!(rt; read_some(&mut source, &mut []), Ok(0));
-    assert_eq!(rt; write_all(&mut output, b"to the output\n"), Ok(()));
-    assert_eq!(rt; write_all(&mut error, b"to the error\n"), Ok(()));
+    expect_all(&rt, &mut error, &[(b"to the error\n", Ok(()))]);
 }

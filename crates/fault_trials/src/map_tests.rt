@@ -1,12 +1,12 @@
 //! Worked cases of maps, unmaps, heaps and moves over a running space, both sides of the limit on rows, and threads
 //! that map, unmap and fault on shared pages. What a test expects is reckoned by hand or by the one-thread model, never
-//! taken from the program.
+//! taken from the program. More worked cases stand in `.ci/rows`, which the gate plays on such a space too.
 ghost use Rattle.std.specs.Prelude.{◌≡◌};
 ghost use Rattle.crews.specs.Crews.{IsCrew};
 
 use crate::replies::short;
 use area_rows::{Answer, Caller, Closed, Space};
-use crews::{Work, call_at, call_by, not_replacing, open_crew, replacing, try_by, work_all};
+use crews::{Work, call_at, call_by, open_crew, replacing, try_by, work_all};
 use page_fault::TriedFault;
 use page_types::{Call, Field, Kind, LIMIT, LOW, MapFlags, PAGE, Prot, Reply, Short, Why};
 use space_model::{Area, PlainSpace, Under, have_named_calls, have_named_kinds, legal};
@@ -181,65 +181,6 @@ fn plays<R: Abort + Wait>(
 }
 
 #[test]
-fn an_unmap_of_the_middle_page_leaves_the_others(rt: HostRuntime) -> Result<(), Fail> {
-    let cases = [
-        map(
-            0x10000,
-            12288,
-            read_write(),
-            replacing(),
-            Reply::At(0x10000),
-        ),
-        unmap(0x11000, 4096, Reply::Zero),
-    ];
-    let left = [area(16, 17, read_write()), area(18, 19, read_write())];
-    plays(&rt, rt.alloc(), &[], &cases, &left)
-}
-
-#[test]
-fn an_unmap_of_no_page_is_done_and_one_of_no_bytes_is_refused(rt: HostRuntime) -> Result<(), Fail> {
-    let cases = [
-        unmap(0x50000, 4096, Reply::Zero),
-        unmap(0x50000, 0, Reply::Refused(Why::Einval(Field::Len))).plain(),
-        unmap(0x50001, 4096, Reply::Refused(Why::Einval(Field::Addr))).plain(),
-    ];
-    plays(&rt, rt.alloc(), &[], &cases, &[])
-}
-
-#[test]
-fn a_map_may_end_at_the_limit_and_not_past_it(rt: HostRuntime) -> Result<(), Fail> {
-    let addr = 0xffffffffffe000;
-    let cases = [
-        map(addr, 4096, Prot::READ, replacing(), Reply::At(addr)),
-        map(
-            addr,
-            8192,
-            Prot::READ,
-            replacing(),
-            short(Short::PastEnd(0x100000000000)),
-        )
-        .plain(),
-    ];
-    plays(
-        &rt,
-        rt.alloc(),
-        &[],
-        &cases,
-        &[area(LIMIT - 1, LIMIT, Prot::READ)],
-    )
-}
-
-#[test]
-fn a_map_that_replaces_nothing_is_refused_at_the_lowest_mapped_page(
-    rt: HostRuntime,
-) -> Result<(), Fail> {
-    let areas = [area(16, 18, read_write())];
-    let refused = Reply::Refused(Why::Eexist(16));
-    let cases = [map(0xf000, 16384, Prot::READ, not_replacing(), refused)];
-    plays(&rt, rt.alloc(), &areas, &cases, &areas)
-}
-
-#[test]
 fn a_sealed_page_is_not_unmapped_replaced_or_protected(rt: HostRuntime) -> Result<(), Fail> {
     let refused = Reply::Refused(Why::Eperm(17));
     let cases = [
@@ -306,42 +247,6 @@ fn a_move_leaves_no_page_where_it_was(rt: HostRuntime) -> Result<(), Fail> {
     plays(&rt, rt.alloc(), &areas, &cases, &left)
 }
 
-#[test]
-fn a_sealed_page_is_not_moved(rt: HostRuntime) -> Result<(), Fail> {
-    let areas = [sealed(area(32, 34, read_write()))];
-    let refused = Reply::Refused(Why::Eperm(32));
-    let cases = [
-        remap(0x20000, 8192, 4096, 0, refused),
-        remap(0x20000, 4096, 8192, 0x40000, refused),
-        // nor is it of the heap, though it is read and written
-        brk(0x20000, Reply::At(0x20000)),
-        brk(0x21000, Reply::At(0x20000)),
-    ];
-    plays(&rt, rt.alloc(), &areas, &cases, &areas)
-}
-
-#[test]
-fn a_map_goes_as_high_as_it_fits_and_joins_the_area_there(rt: HostRuntime) -> Result<(), Fail> {
-    let high = 0x7fffffffe000;
-    let cases = [
-        map(0, 4096, read_write(), MapFlags::PRIVATE, Reply::At(high)),
-        map(
-            high,
-            4096,
-            read_write(),
-            MapFlags::PRIVATE,
-            Reply::At(high - 4096),
-        ),
-    ];
-    plays(
-        &rt,
-        rt.alloc(),
-        &[],
-        &cases,
-        &[area(LOW - 2, LOW, read_write())],
-    )
-}
-
 /// The pages from 16 up to 131,074 of two kinds in turn, and then an area of three pages: 131,061 rows.
 fn full(alloc: Global) -> Result<Vec<Area>, Fail> {
     let mut list = Vec::new(alloc);
@@ -372,29 +277,6 @@ fn a_change_may_leave_131061_rows_and_no_more(rt: HostRuntime) -> Result<(), Fai
         protect(page + PAGE, PAGE, read_write(), two_more),
         map(end, PAGE, Prot::READ, replacing(), Reply::At(end)),
         unmap(end, PAGE, Reply::Zero),
-    ];
-    plays(&rt, rt.alloc(), &areas, &cases, &areas)
-}
-
-#[test]
-fn a_move_asks_for_four_rows_and_a_heap_for_none(rt: HostRuntime) -> Result<(), Fail> {
-    let areas = full(rt.alloc())?;
-    let page = 131_074 * PAGE;
-    let four_more = short(Short::Rows(131_065));
-    let two_more = short(Short::Rows(131_063));
-    let high = 0x30000000;
-    let far = |addr: u64, reply: Reply| Case {
-        call: Call::Brk { base: high, addr },
-        reply,
-        under: Under::Whole,
-    };
-    let cases = [
-        // the middle page of the last area would move away, or go where two of its pages become one
-        remap(page + PAGE, PAGE, 2 * PAGE, high, four_more),
-        remap(page, 2 * PAGE, PAGE, 0, two_more),
-        // the first page of a heap away from all would be two rows more
-        far(high + 1, Reply::At(high)),
-        far(high, Reply::At(high)),
     ];
     plays(&rt, rt.alloc(), &areas, &cases, &areas)
 }

@@ -1,8 +1,7 @@
 //! A run whose workers can only go on beside each other: the gate holds worker 0 back before its line until worker 1
 //! has its answer, and worker 1 until worker 0 stands there. A wait has a limit of turns, so that a run in which the
 //! workers play one after the other fails the test and ends.
-use crate::run::run;
-use crate::status::Status;
+use crate::trial::{Status, ended};
 use byte_ports::{MemorySink, MemorySource};
 use std::sync::atomic::{AtomicU64, Ordering};
 use std::test::Fail;
@@ -64,10 +63,6 @@ impl Gate for TurnGate {
 
 #[test]
 fn two_workers_play_beside_each_other(rt: HostRuntime) -> Result<(), Fail> {
-    let mut words = Vec::new(rt.alloc());
-    for word in ["play", "--threads", "2"] {
-        words.push(String::from_str(rt.alloc(), word)?)?;
-    }
     let mut source = MemorySource::new(TWO.as_bytes().to_vec(rt.alloc())?, Vec::new(rt.alloc()));
     let mut out = MemorySink::new(vec![in rt.alloc(); 0u8; 4096]?, Vec::new(rt.alloc()));
     let mut err = MemorySink::new(vec![in rt.alloc(); 0u8; 256]?, Vec::new(rt.alloc()));
@@ -78,7 +73,8 @@ fn two_workers_play_beside_each_other(rt: HostRuntime) -> Result<(), Fail> {
         before: AtomicU64::new(0),
         after: AtomicU64::new(0),
     };
-    let status = run(
+    let words = ["play", "--threads", "2"];
+    let status = ended(
         &rt,
         rt.alloc(),
         &words,
@@ -86,8 +82,8 @@ fn two_workers_play_beside_each_other(rt: HostRuntime) -> Result<(), Fail> {
         &mut out,
         &mut err,
         &gate,
-    );
-    assert!(rt; matches!(status, Status::Done(Some(_))));
+    )?;
+    assert_eq!(rt; status, Status::Done);
     let summary = "played 2 skipped 0 refused 2 differ 0\n";
     assert_eq!(rt; out.written(), summary.as_bytes());
     assert_eq!(rt; gate.late.load(Ordering::SeqCst), 0);

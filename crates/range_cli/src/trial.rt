@@ -1,18 +1,19 @@
-//! What the tests of runs share: how a run ended, without the history that it carries, so that it can be compared; and
-//! the maps lines of many areas.
+//! What the tests of runs share: a run over given ports, and how it ended, without the history that it carries, so that
+//! it can be compared.
+use crate::run::run;
 use crate::status::{self, Which};
-use byte_ports::{MemorySink, Sink};
-use maps_printer::write_maps;
-use page_types::{Kind, Prot};
-use space_model::Area;
-use std::alloc::Global;
-use std::test::Fail;
+use byte_ports::{Sink, Source};
+use std::alloc::{AllocError, Global};
+use std::sync::Wait;
+use std::thread::Threads;
 use strace_reader::What;
+use trace_threads::Gate;
 
-/// How a run ended.
+/// How a run ended. `Done` is that of a run that carries a history, `Checked` that of one that carries none.
 #[derive(Clone, Copy, Debug, PartialEq, Eq)]
 pub enum Status {
     Done,
+    Checked,
     Usage,
     BadLine { line: u32, column: u32, what: What },
     ReadFault,
@@ -22,31 +23,11 @@ pub enum Status {
     Wrong { line: u32 },
 }
 
-/// The maps lines of so many areas of one readable page each, at the odd pages from 1 on.
-pub fn odd_pages(alloc: Global, count: u64) -> Result<Vec<u8>, Fail> {
-    let kind = Kind {
-        prot: Prot::READ,
-        shared: false,
-        sealed: false,
-    };
-    let mut areas = Vec::new(alloc);
-    for area in 0..count {
-        let lo = area.saturating_mul(2).saturating_add(1);
-        areas.push(Area {
-            lo,
-            hi: lo.saturating_add(1),
-            kind,
-        })?;
-    }
-    let mut maps = MemorySink::new(vec![in alloc; 0u8; 3_000_000]?, Vec::new(alloc));
-    write_maps(&mut maps, &areas)?;
-    Ok(maps.written().to_vec(alloc)?)
-}
-
 /// A run's status without the history that it carries.
 pub fn plain(status: status::Status) -> Status {
     match status {
-        status::Status::Done(_) => Status::Done,
+        status::Status::Done(Some(_)) => Status::Done,
+        status::Status::Done(None) => Status::Checked,
         status::Status::Usage => Status::Usage,
         status::Status::BadLine { line, column, what } => Status::BadLine { line, column, what },
         status::Status::ReadFault => Status::ReadFault,
@@ -55,4 +36,21 @@ pub fn plain(status: status::Status) -> Status {
         status::Status::Limit { which, value } => Status::Limit { which, value },
         status::Status::Wrong { line } => Status::Wrong { line },
     }
+}
+
+/// How a run of these words over these ports ended.
+pub fn ended<R: Threads + Wait + Sync, S: Source, K: Sink, G: Gate>(
+    rt: &R,
+    alloc: Global,
+    words: &[&str],
+    input: &mut S,
+    out: &mut K,
+    err: &mut K,
+    gate: &G,
+) -> Result<Status, AllocError> {
+    let mut owned = Vec::new(alloc);
+    for word in words {
+        owned.push(String::from_str(alloc, word)?)?;
+    }
+    Ok(plain(run(rt, alloc, &owned, input, out, err, gate)))
 }

@@ -1,6 +1,5 @@
-//! Runs by several workers that are compared with the history that they carry, of a trace and of a load. What the
-//! threads decide is left open: a test expects what is so in every order of their calls. Runs of which the program's
-//! bytes tell enough are in .ci/cases and .ci/rows.
+//! A load by sixteen workers whose history is printed as a log and checked. A load has no log of its own, so this can't
+//! be a case of .ci/cases.
 use crate::run::run;
 use crate::status::Status;
 use byte_ports::{MemorySink, MemorySource};
@@ -11,13 +10,8 @@ use std::test::Fail;
 use std::thread::Threads;
 use trace_threads::OpenGate;
 
-/// Calls of three processes, each on pages of its own.
-const THREE: &str = "7 mmap(0x10000, 4096, PROT_READ, MAP_PRIVATE|MAP_FIXED, -1, 0) = 0x10000\n\
-    8 mmap(0x20000, 4096, PROT_READ, MAP_PRIVATE|MAP_FIXED, -1, 0) = 0x20000\n\
-    9 mmap(0x30000, 4096, PROT_READ, MAP_PRIVATE|MAP_FIXED, -1, 0) = 0x30000\n\
-    8 munmap(0x20000, 4096) = 0\n\
-    7 fault(0x10000, PROT_READ) = 0\n\
-    9 mprotect(0x30000, 4096, PROT_NONE) = -1 EINVAL\n";
+/// An input that a load leaves unread.
+const UNREAD: &str = "1 munmap(0x10000, 4096) = 0\n";
 
 /// A run of an input over ports in memory, its output, and how many reads there were.
 fn run_words<R: Threads + Wait + Sync>(
@@ -46,33 +40,9 @@ fn run_words<R: Threads + Wait + Sync>(
 }
 
 #[test]
-fn a_run_carries_the_history_that_it_printed(rt: HostRuntime) -> Result<(), Fail> {
-    let words = ["play", "--threads", "2", "--log"];
-    let (status, written, _) = run_words(&rt, rt.alloc(), &words, THREE.as_bytes())?;
-    let Status::Done(Some(closed)) = status else {
-        panic!(rt; "not done");
-    };
-    assert_eq!(rt; closed.entries().len(), 6);
-    for entry in closed.entries() {
-        // Processes 7, 8 and 9 have the indexes 0, 1 and 2.
-        let worker = if entry.line == 2 || entry.line == 4 {
-            1
-        } else {
-            0
-        };
-        assert_eq!(rt; entry.worker, worker);
-    }
-    let mut shown = MemorySink::new(vec![in rt.alloc(); 0u8; 4096]?, Vec::new(rt.alloc()));
-    assert!(rt; write_log(&mut shown, closed.entries()).is_ok());
-    assert!(rt; write_maps(&mut shown, closed.areas()).is_ok());
-    assert!(rt; written.written().starts_with(shown.written()));
-    Ok(())
-}
-
-#[test]
 fn the_log_of_a_load_by_sixteen_workers_is_legal(rt: HostRuntime) -> Result<(), Fail> {
     let words = ["load", "--seed=1", "--threads=16", "--calls=2000"];
-    let (status, summary, reads) = run_words(&rt, rt.alloc(), &words, THREE.as_bytes())?;
+    let (status, summary, reads) = run_words(&rt, rt.alloc(), &words, UNREAD.as_bytes())?;
     assert_eq!(rt; reads, 0);
     let Status::Done(Some(closed)) = status else {
         panic!(rt; "not done");

@@ -7,8 +7,6 @@ mod input;
 mod run;
 mod said;
 mod status;
-#[cfg(test)]
-mod tests;
 mod words;
 
 use crate::run::run;

@@ -1,6 +1,6 @@
 //! Trials of traces and logs, by the public calls: lines that are read, texts that are written, written lines that are
-//! read back, and logs that are judged, at cases worked by hand. They stand apart from the crates that they try, which
-//! are then proved once. There is little here but tests.
+//! read back, logs that are judged, and raw logs, at cases worked by hand. They stand apart from the crates that they
+//! try, which are then proved once. There is little here but tests.
 #![tactic(auto)]
 
 mod entries;
@@ -10,6 +10,8 @@ mod log_line_tests;
 mod log_tests;
 #[cfg(test)]
 mod printer_tests;
+#[cfg(test)]
+mod raw_tests;
 #[cfg(test)]
 mod reader_tests;
 #[cfg(test)]

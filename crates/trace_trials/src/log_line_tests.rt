@@ -91,44 +91,46 @@ fn a_line_of_a_log_is_read_as_its_entry(rt: HostRuntime) {
     );
 }
 
+/// Lines with each refusal.
+const REFUSALS: [(&[u8], Why); 8] = [
+    (
+        b"0 0 1 munmap(NULL, 4096) = -1 EINVAL flags under none",
+        Why::Einval(Field::Flags),
+    ),
+    (
+        b"0 0 1 munmap(NULL, 4096) = -1 ENOMEM missing page 0x11 under none",
+        Why::Enomem(Short::Missing(0x11)),
+    ),
+    (
+        b"0 0 1 munmap(NULL, 4096) = -1 ENOMEM no gap of 12 pages under none",
+        Why::Enomem(Short::NoGap(12)),
+    ),
+    (
+        b"0 0 1 munmap(NULL, 4096) = -1 ENOMEM rows 4294967295 under none",
+        Why::Enomem(Short::Rows(4294967295)),
+    ),
+    (
+        b"0 0 1 munmap(NULL, 4096) = -1 EEXIST page 0x10 under none",
+        Why::Eexist(0x10),
+    ),
+    (
+        b"0 0 1 munmap(NULL, 4096) = -1 EPERM page 0x10 under none",
+        Why::Eperm(0x10),
+    ),
+    (
+        b"0 0 1 munmap(NULL, 4096) = -1 EFAULT page 0x10 under none",
+        Why::Efault(0x10),
+    ),
+    (
+        b"0 0 1 munmap(NULL, 4096) = -1 SEGV_MAPERR page 0x12 under none",
+        Why::MapErr(0x12),
+    ),
+];
+
 #[test]
 fn each_refusal_is_read(rt: HostRuntime) {
     let call = Call::Unmap { addr: 0, len: 4096 };
-    let cases: [(&[u8], Why); 8] = [
-        (
-            b"0 0 1 munmap(NULL, 4096) = -1 EINVAL flags under none",
-            Why::Einval(Field::Flags),
-        ),
-        (
-            b"0 0 1 munmap(NULL, 4096) = -1 ENOMEM missing page 0x11 under none",
-            Why::Enomem(Short::Missing(0x11)),
-        ),
-        (
-            b"0 0 1 munmap(NULL, 4096) = -1 ENOMEM no gap of 12 pages under none",
-            Why::Enomem(Short::NoGap(12)),
-        ),
-        (
-            b"0 0 1 munmap(NULL, 4096) = -1 ENOMEM rows 4294967295 under none",
-            Why::Enomem(Short::Rows(4294967295)),
-        ),
-        (
-            b"0 0 1 munmap(NULL, 4096) = -1 EEXIST page 0x10 under none",
-            Why::Eexist(0x10),
-        ),
-        (
-            b"0 0 1 munmap(NULL, 4096) = -1 EPERM page 0x10 under none",
-            Why::Eperm(0x10),
-        ),
-        (
-            b"0 0 1 munmap(NULL, 4096) = -1 EFAULT page 0x10 under none",
-            Why::Efault(0x10),
-        ),
-        (
-            b"0 0 1 munmap(NULL, 4096) = -1 SEGV_MAPERR page 0x12 under none",
-            Why::MapErr(0x12),
-        ),
-    ];
-    for (text, why) in cases {
+    for (text, why) in REFUSALS {
         assert_eq!(rt;
             read_log_line(text),
             Some(entry(0, 1, call, Reply::Refused(why), Under::Nothing))
@@ -136,30 +138,32 @@ fn each_refusal_is_read(rt: HostRuntime) {
     }
 }
 
+/// Texts that are no line of a log.
+const OTHERS: [&[u8]; 19] = [
+    b"",
+    b"played 2 skipped 0 refused 0 differ 0",
+    b"0 16 1 munmap(NULL, 4096) = 0 under whole",
+    b"00 0 1 munmap(NULL, 4096) = 0 under whole",
+    b"18446744073709551616 0 1 munmap(NULL, 4096) = 0 under whole",
+    b"0 0 4294967296 munmap(NULL, 4096) = 0 under whole",
+    b"0 0 1 munmap(0x0, 4096) = 0 under whole",
+    b"0 0 1 munmap(0xF000, 4096) = 0 under whole",
+    b"0 0 1 munmap(NULL,  4096) = 0 under whole",
+    b"0 0 1 munmap(NULL, 4096) = 0 under whole\r",
+    b"0 0 1 munmap(NULL, 4096) = 0 under all",
+    b"0 0 1 munmap(NULL, 4096) = 0 under area 0x10-0x10",
+    b"0 0 1 munmap(NULL, 4096) = 0 under area 0x10-0x100000000000",
+    b"0 0 1 munmap(NULL, 4096) = -1 ENOMEM rows 4294967296 under whole",
+    b"0 0 1 mseal(NULL, 4096, 0x0) = 0 under whole",
+    b"0 0 1 brk(NULL) = 0x20000 under whole",
+    b"0 0 1 mremap(0x10000, 4096, 4096, 0, NULL) = 0x10000 under whole",
+    b"0 0 1 mremap(0x10000, 4096, 4096, 0x0) = 0x10000 under whole",
+    b"0 0 1 fault(NULL, PROT_READ) = granted r--p  sealed under reader 0x0-0x1",
+];
+
 #[test]
 fn no_other_line_is_read(rt: HostRuntime) {
-    let lines: [&[u8]; 19] = [
-        b"",
-        b"played 2 skipped 0 refused 0 differ 0",
-        b"0 16 1 munmap(NULL, 4096) = 0 under whole",
-        b"00 0 1 munmap(NULL, 4096) = 0 under whole",
-        b"18446744073709551616 0 1 munmap(NULL, 4096) = 0 under whole",
-        b"0 0 4294967296 munmap(NULL, 4096) = 0 under whole",
-        b"0 0 1 munmap(0x0, 4096) = 0 under whole",
-        b"0 0 1 munmap(0xF000, 4096) = 0 under whole",
-        b"0 0 1 munmap(NULL,  4096) = 0 under whole",
-        b"0 0 1 munmap(NULL, 4096) = 0 under whole\r",
-        b"0 0 1 munmap(NULL, 4096) = 0 under all",
-        b"0 0 1 munmap(NULL, 4096) = 0 under area 0x10-0x10",
-        b"0 0 1 munmap(NULL, 4096) = 0 under area 0x10-0x100000000000",
-        b"0 0 1 munmap(NULL, 4096) = -1 ENOMEM rows 4294967296 under whole",
-        b"0 0 1 mseal(NULL, 4096, 0x0) = 0 under whole",
-        b"0 0 1 brk(NULL) = 0x20000 under whole",
-        b"0 0 1 mremap(0x10000, 4096, 4096, 0, NULL) = 0x10000 under whole",
-        b"0 0 1 mremap(0x10000, 4096, 4096, 0x0) = 0x10000 under whole",
-        b"0 0 1 fault(NULL, PROT_READ) = granted r--p  sealed under reader 0x0-0x1",
-    ];
-    for line in lines {
+    for line in OTHERS {
         assert_eq!(rt; read_log_line(line), None);
     }
 }
