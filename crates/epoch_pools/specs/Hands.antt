@@ -2,8 +2,9 @@
 -- belongs to its number, as the list shows it to which the hand is turned: the view of that list, and beside it the
 -- views of the others, the pass of the layer above, and the record. The steps and their views are those of the step
 -- table in `lock_core`, after Kogan, Dice and Issa 2020; the rest is this project's own profile.
-use Rattle.std.specs.Prelude.{◌≡◌, ◌≢◌, ℕ, zero, suc, ◌+◌, ◌-◌, ◌*◌, ◌%◌, ◌^◌, ◌<◌, ◌≤◌, ◌==◌, if◌then◌else◌, List, [], ◌∷◌, length, replicate}
+use Rattle.std.specs.Prelude.{◌≡◌, ◌≢◌, ℕ, zero, suc, ◌+◌, ◌-◌, ◌*◌, ◌%◌, ◌^◌, ◌<◌, ◌≤◌, ◌==◌, if◌then◌else◌, List, [], ◌∷◌, length, map, replicate}
 use Rattle.std.specs.Prelude.{slice_get, slice_set, true, Some, None}
+use Rattle.std.specs.Global.{Box}
 use mathlib.Core.Option.{some}
 use lib.ListN.{get_elem?}
 use Rattle.atomic_table.specs.Seated.{TableId}
@@ -100,6 +101,10 @@ pub record IsSeatOf {P : Type 0} (p : SeatLists P) (number seats lists list firs
   pub begins : first ≡ list * word_count seats
   pub low : first ≤ 16656
   pub words_there : lists * word_count seats ≤ words
+
+-- the views that stand behind these boxes
+abbrev pub views_in : List (Box View) → List View
+views_in boxes = map (λ (b : Box View). b.value) boxes
 
 -- where a hand that is turned to a list keeps its view of list j: those of the lists behind the first one stand in
 -- order, and that of the first one stands in the place of the list to which the hand is turned

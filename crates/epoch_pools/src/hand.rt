@@ -1,7 +1,8 @@
-//! A hand of a table: a seat of it with the view that it has of each list, kept as plain data while the program runs. A
-//! hand is turned to one list, in which it makes its steps. Between calls its view of that list is the one that belongs
-//! to the seat's number in the table's rule, and so are the others, which rest meanwhile; so a hand knows which steps
-//! it may make. A reader may rely on each view being sound whatever other seats do.
+//! A hand of a table: a seat of it with the view that it has of each list, kept as plain data in a box while the
+//! program runs. A hand is turned to one list, in which it makes its steps; to turn it to another exchanges boxes and
+//! moves no view. Between calls its view of that list is the one that belongs to the seat's number in the table's rule,
+//! and so are the others, which rest meanwhile; so a hand knows which steps it may make. A reader may rely on each view
+//! being sound whatever other seats do.
 use crate::others::Others;
 use crate::token::Token;
 use lock_core::{Guard, View};
@@ -13,7 +14,7 @@ use std::marker::Model;
 pub struct Hand<G: Guard> {
     pub(crate) token: Token<G>,
     /// The view of the list to which the hand is turned.
-    pub(crate) view: View,
+    pub(crate) view: Box<View>,
     pub(crate) others: Others,
 }
 
@@ -26,7 +27,7 @@ impl<G: Guard> Model for Hand<G> {
 
     ghost view = { λ h. h.token };
 
-    ghost invariant = { λ h. (h.token.part.core ≡ h.view) × IsHandView h.token.part × AreOthers h.token.part.seats h.token.part.number
+    ghost invariant = { λ h. (h.token.part.core ≡ h.view.value) × IsHandView h.token.part × AreOthers h.token.part.seats h.token.part.number
         h.token.part.pass.lists h.token.part.pass.list h.token.part.pass.others h.others };
 }
 

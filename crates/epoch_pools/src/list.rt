@@ -7,7 +7,7 @@ ghost use Rattle.std.specs.Prelude.{◌≡◌, ◌+◌, ◌*◌, ◌<◌, ◌≤
 ghost use Rattle.list_cuts.specs.Cut.{Regions, list_count};
 ghost use Rattle.lock_core.specs.Machine.{numbers_from, start_view};
 ghost use Rattle.lock_core.specs.Words.{word_count};
-ghost use Rattle.epoch_pools.specs.Hands.{first_passes, IsSeatCount, AreNewHands};
+ghost use Rattle.epoch_pools.specs.Hands.{first_passes, views_in, IsSeatCount, AreNewHands};
 
 use crate::hand::Hand;
 use crate::others::first_others;
@@ -90,14 +90,14 @@ fn opening_words(
     Ok(words)
 }
 
-/// The first view of every seat, in order.
-fn first_views(alloc: Global, seats: u32) -> Result<Vec<View>, AllocError>
+/// The first view of every seat, each in a box, in order.
+fn first_views(alloc: Global, seats: u32) -> Result<Vec<Box<View>>, AllocError>
     requires { seats ≤ 16 }
-    ensures { IfOk result (λ views. views.items ≡ map (start_view seats) (numbers_from 0 seats)) }
+    ensures { IfOk result (λ views. views_in views.items ≡ map (start_view seats) (numbers_from 0 seats)) }
 {
     let mut views = Vec::with_capacity(alloc, seats as usize)?;
     for seat in 0..seats {
-        views.push(first_view(alloc, seats, seat)?)?;
+        views.push(Box::new(alloc, first_view(alloc, seats, seat)?)?)?;
     }
     Ok(views)
 }

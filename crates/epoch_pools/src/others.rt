@@ -1,5 +1,5 @@
-//! The views that a hand keeps of the lists to which it isn't turned, as plain data in one place for each list behind
-//! the first. Where the hand is turned to another list than the first, the view of the first one stands in the place of
+//! The views that a hand keeps of the lists to which it isn't turned, each in a box, one place for each list behind the
+//! first. Where the hand is turned to another list than the first, the view of the first one stands in the place of
 //! that list; so a hand of one list keeps none. This project's own profile.
 ghost use Rattle.std.specs.Prelude.{◌≡◌, ◌<◌, ◌≤◌, IfOk, length, map, replicate};
 ghost use Rattle.lock_core.specs.Machine.{numbers_from, start_view};
@@ -10,19 +10,20 @@ use std::alloc::{AllocError, Global};
 use std::marker::Model;
 use std::mem::swap;
 
-/// Views of lists, in their order.
+/// Views of lists, each in a box, in the order of the lists.
 #[derive(Drop)]
 pub struct Others {
-    views: Vec<View>,
+    views: Vec<Box<View>>,
 }
 
 impl Model for Others {
     ghost use Rattle.std.specs.Prelude.{List};
     ghost use Rattle.lock_core.specs.declared.views.View.{View};
+    ghost use Rattle.epoch_pools.specs.Hands.{views_in};
 
     ghost Value = { List View };
 
-    ghost view = { λ o. o.views.items };
+    ghost view = { λ o. views_in o.views.items };
 }
 
 impl Others {
@@ -34,16 +35,16 @@ impl Others {
     {
         let mut views = Vec::with_capacity(alloc, lists as usize)?;
         'lists: for _ in 0..lists {
-            views.push(first_view(alloc, seats, seat)?)?;
+            views.push(Box::new(alloc, first_view(alloc, seats, seat)?)?)?;
         }
         Ok(Others { views })
     }
 
-    /// Exchanges a view for the one in the place of a list; in place of the first list it leaves both.
-    pub(crate) fn exchange(&mut self, list: u32, view: &mut View)
+    /// Exchanges a box for the one in the place of a list; in place of the first list it leaves both.
+    pub(crate) fn exchange(&mut self, list: u32, view: &mut Box<View>)
         requires { list ≤ length self.old }
-        ensures view { view.new ≡ view_of list self.old view.old }
-        ensures kept { self.new ≡ views_of list self.old view.old }
+        ensures view { view.new.value ≡ view_of list self.old view.old.value }
+        ensures kept { self.new ≡ views_of list self.old view.old.value }
     {
         if list > 0 {
             swap(&mut self.views[list as usize - 1], view);

@@ -36,21 +36,17 @@ impl<G: Guard> List<G> {
     }
 }
 
-/// Whether list 0 was empty at this step. Nothing comes to count by it. One step.
-pub fn is_clear<G: Guard, L: Ledger>(
-    list: &List<G>,
-    hand: &mut Hand<G>,
-    steps: &mut Steps<L>,
-) -> bool
+/// Looks at list 0, and nothing comes to count by it, whatever it finds. It shows that the hand has as many lists as
+/// the table's cut. One step.
+pub fn glance<G: Guard, L: Ledger>(list: &List<G>, hand: &mut Hand<G>, steps: &mut Steps<L>)
     requires table { hand.old.table ≡ list.now.table }
     ensures table { hand.new.table ≡ hand.old.table }
     ensures part { hand.new.part ≡ after_look hand.old.part hand.old.part.pass.standing }
     ensures lists { hand.old.part.pass.lists ≡ list_count list.now.cut }
     ensures counted { steps.new ≡ steps.old + 1 }
 {
-    let head = list.look_at::<Brand>(&mut hand.token, 0, 0);
+    list.look_at::<Brand>(&mut hand.token, 0, 0);
     steps.tick();
-    head == 0
 }
 
 /// Looks at list 0 for the narrow range that the hand's list holds. Whether list 0 was empty: then the range counts

@@ -1,5 +1,5 @@
 -- Hands in order, after a trial with one of them.
-use Rattle.std.proofs.Common.{◌≡◌, ◌≢◌, ℕ, ◌+◌, ◌<◌, List, set, get_or, length, ⊎_elim, refl, sym, ap, ◌∙◌, subst, arith}
+use Rattle.std.proofs.Common.{◌≡◌, ◌≢◌, Bool, true, false, ℕ, ◌+◌, ◌<◌, List, set, get_or, length, ⊎_elim, sym, ap, ◌∙◌, subst, arith}
 use mathlib.Core.Option.{some}
 use lib.ListN.{get_elem?}
 use Rattle.atomic_table.specs.Seated.{TableId}
@@ -7,6 +7,9 @@ use Rattle.atomic_table.proofs.Lists.{at_set, at_index}
 use Rattle.lock_core.proofs.ByPlace.{below, at_or, same_or}
 use Rattle.std.proofs.lemmas.Bool.{cases_eq}
 use Rattle.epoch_pools.specs.Hands.{HandState, IsIdle, AreIdleHands}
+use Rattle.epoch_pools.specs.declared.views.SeatPart.{SeatPart}
+use Rattle.epoch_pools.specs.Quick.{GivesQuickly}
+use Rattle.lock_core.specs.Nodes.{Listed, listed}
 use Rattle.list_trials.specs.Trials.{IsSameHand, AreInOrder, AreAllIdle}
 
 module _ {P : Type 0} (table : TableId) (hands : List (HandState P)) (i : ℕ) (d : HandState P) (order : AreInOrder table hands) (less : i < length hands) where
@@ -59,3 +62,9 @@ hands_back {P} table old new same order each k h at =
           ∙ (e.3.number ∙ o.1),
       subst (λ (x : HandState P). IsIdle x.part.core) now e.4,
     )
+
+-- what is given back at once, or not, leaves the seat of its number
+pub gives_number : {P : Type 0} (rested : P → P) (p q : SeatPart P) (given : Bool) (k : Listed) → p.core.own ≡ listed k → GivesQuickly rested p q given
+    → q.number ≡ p.number
+gives_number {P} rested p q true k own gives = ap (λ (x : SeatPart P). x.number) (gives k own)
+gives_number {P} rested p q false k own gives = ap (λ (x : SeatPart P). x.number) (gives k own).2

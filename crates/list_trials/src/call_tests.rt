@@ -9,7 +9,8 @@ use crate::keeping::{Seen, count_all, leave_all_away, mark_in_turn};
 use crate::rows::{Move, play};
 use crate::words::raise_word;
 use crate::{close_all, open_list};
-use epoch_pools::{Stuck, Taken, ready};
+use epoch_pools::{Stuck, Taken, open_cut, ready};
+use list_cuts::Cut;
 use lock_core::{Mode, Step};
 use marked_list::Lost;
 use std::alloc::Global;
@@ -17,6 +18,20 @@ use std::process::Abort;
 use std::sync::Wait;
 use std::sync::atomic::{AtomicU64, Ordering};
 use std::thread::Threads;
+
+/// A node is taken, filled with a range and linked, all in one call.
+const LINKS: Call = Call::QuickTake {
+    lo: 0,
+    hi: 1,
+    mode: Mode::Writer,
+};
+
+/// The same with a range behind it.
+const LINKS_BEHIND: Call = Call::QuickTake {
+    lo: 10,
+    hi: 11,
+    mode: Mode::Writer,
+};
 
 /// A call that comes to what was asked for.
 fn made(which: Call) -> Move {
@@ -63,17 +78,17 @@ fn fills(lo: u64, hi: u64, mode: Mode) -> Move {
     made(Call::Fill { lo, hi, mode })
 }
 
-/// Plays a script on a new list of so many seats: each row comes to what it states.
-fn play_on_new(rt: &impl Abort, alloc: Global, seats: u32, script: &[(usize, Move)])
+/// Plays a script on a new table of so many seats, under that cut: each row comes to what it states.
+fn play_on_new(rt: &impl Abort, alloc: Global, seats: u32, cut: Cut, script: &[(usize, Move)])
     requires seats { IsSeatCount seats }
 {
-    let (list, mut hands) = open_list(alloc, seats, 7).expect(rt, "memory");
+    let (list, mut hands) = open_cut(alloc, seats, cut, &[7]).expect(rt, "memory");
     assert_eq!(rt; play(&list, hands.as_mut_slice(), script), None);
     drop(hands);
     drop(list);
 }
 
-/// The same with a script behind which all hands are idle: the list is closed, and its word is as it was.
+/// The same with one list and a script behind which all hands are idle: the list is closed, and its word is as it was.
 fn play_and_close(rt: &impl Abort, alloc: Global, seats: u32, script: &[(usize, Move)])
     requires seats { IsSeatCount seats }
 {
@@ -123,7 +138,7 @@ fn a_writer_meets_a_reader_that_was_linked_behind_its_walk(rt: HostRuntime) {
         (1, Move::Step(Step::Walk, 1)),
         (1, Move::Step(Step::Leave, 0)),
     ];
-    play_on_new(&rt, rt.alloc(), 3, &script);
+    play_on_new(&rt, rt.alloc(), 3, Cut::one(), &script);
 }
 
 #[test]
@@ -141,7 +156,7 @@ fn a_reader_waits_for_a_writer_that_was_linked_behind_its_place(rt: HostRuntime)
         (0, made(Call::Validate)),
         (0, made(Call::End)),
     ];
-    play_on_new(&rt, rt.alloc(), 3, &script);
+    play_on_new(&rt, rt.alloc(), 3, Cut::one(), &script);
 }
 
 #[test]
@@ -175,7 +190,7 @@ fn a_quick_link_is_settled_by_the_walk_of_another(rt: HostRuntime) {
         (0, Move::Step(Step::Walk, 35)),
         (0, Move::Step(Step::Leave, 0)),
     ];
-    play_on_new(&rt, rt.alloc(), 2, &script);
+    play_on_new(&rt, rt.alloc(), 2, Cut::one(), &script);
 }
 
 #[test]
@@ -205,7 +220,7 @@ fn a_hand_inside_holds_up_nodes_that_were_swept(rt: HostRuntime) {
         (1, made(Call::End)),
         (0, takes(0)),
     ];
-    play_on_new(&rt, rt.alloc(), 2, &script);
+    play_on_new(&rt, rt.alloc(), 2, Cut::one(), &script);
 }
 
 #[test]
@@ -284,7 +299,7 @@ fn a_walk_and_a_sweep_lose_a_node_to_a_sweep(rt: HostRuntime) {
         (2, made(Call::End)),
         (2, made(Call::Sweep)),
     ];
-    play_on_new(&rt, rt.alloc(), 3, &script);
+    play_on_new(&rt, rt.alloc(), 3, Cut::one(), &script);
 }
 
 #[test]
@@ -303,7 +318,7 @@ fn a_validation_loses_a_node_to_a_sweep(rt: HostRuntime) {
         (1, made(Call::Validate)),
         (1, made(Call::End)),
     ];
-    play_on_new(&rt, rt.alloc(), 2, &script);
+    play_on_new(&rt, rt.alloc(), 2, Cut::one(), &script);
 }
 
 #[test]
@@ -338,6 +353,93 @@ fn a_range_that_was_linked_at_once_is_unlinked_at_once(rt: HostRuntime) {
         (1, Move::Sees(0)),
     ];
     play_and_close(&rt, rt.alloc(), 2, &script);
+}
+
+#[test]
+fn lists_of_one_table_have_their_own_links_and_nodes(rt: HostRuntime) {
+    let cut = Cut::of(3, 12).expect(&rt, "a cut");
+    let either_order = [
+        (0, Move::To(1)),
+        (0, made(LINKS)),
+        (0, made(Call::QuickGive)),
+        (0, made(LINKS)),
+        (0, Move::To(2)),
+        (0, made(LINKS)),
+        (1, Move::Sees(0)),
+        (1, Move::To(1)),
+        (1, Move::Sees(5)),
+        (1, Move::To(2)),
+        (1, Move::Sees(3)),
+        (0, made(Call::QuickGive)),
+        (1, Move::Sees(0)),
+        (1, Move::To(1)),
+        (1, Move::Sees(5)),
+        (0, Move::To(1)),
+        (0, made(Call::QuickGive)),
+        (1, Move::Sees(0)),
+        (0, made(LINKS)),
+        (0, Move::To(2)),
+        (0, made(LINKS)),
+        (0, Move::To(1)),
+        (0, made(Call::QuickGive)),
+        (1, Move::Sees(0)),
+        (1, Move::To(2)),
+        (1, Move::Sees(5)),
+        (0, Move::Ready(13)),
+        (0, Move::To(2)),
+        (0, made(Call::QuickGive)),
+        (1, Move::Sees(0)),
+        (0, Move::Ready(14)),
+        (0, Move::To(3)),
+        (0, Move::Ready(16)),
+    ];
+    play_on_new(&rt, rt.alloc(), 2, cut, &either_order);
+    let settled_in_one = [
+        (0, Move::To(1)),
+        (0, made(LINKS)),
+        (0, Move::To(2)),
+        (0, made(LINKS)),
+        (1, Move::To(1)),
+        (1, lost(LINKS_BEHIND, 0, 0, 3)),
+        (1, made(Call::Begin)),
+        (1, made(Call::Walk)),
+        (1, Move::Holds),
+        (0, made(Call::QuickGive)),
+        (0, Move::To(1)),
+        (0, Move::Call(Call::QuickGive, Answer::NotAlone)),
+        (0, made(Call::Mark)),
+        (0, Move::Never(Call::QuickGive)),
+        (1, made(Call::Mark)),
+        (1, made(Call::Sweep)),
+        (1, Move::Sees(0)),
+    ];
+    play_on_new(&rt, rt.alloc(), 2, cut, &settled_in_one);
+    let held_up = stuck(Stuck::Inside { seat: 1, epoch: 1 });
+    let home_in_one = [
+        (1, Move::To(1)),
+        (1, made(Call::Begin)),
+        (0, Move::To(1)),
+        (0, Move::Turns(16)),
+        (0, made(Call::Sweep)),
+        (0, held_up),
+        (0, Move::To(2)),
+        (0, Move::Ready(16)),
+        (0, Move::Turns(16)),
+        (0, made(Call::Sweep)),
+        (0, Move::Never(LINKS)),
+        (0, Move::To(1)),
+        (0, held_up),
+        (0, Move::Never(LINKS)),
+        (0, Move::To(2)),
+        (0, takes(0)),
+        (0, Move::Ready(15)),
+        (0, Move::To(1)),
+        (0, held_up),
+        (1, made(Call::End)),
+        (0, takes(0)),
+        (0, Move::Ready(15)),
+    ];
+    play_on_new(&rt, rt.alloc(), 2, cut, &home_in_one);
 }
 
 #[test]

@@ -9,7 +9,7 @@ use crate::asking::{
     has_none, is_held, is_linked, is_outside, may_end, may_fill, may_link, may_quick_link,
     may_sweep, may_validate, may_walk,
 };
-use epoch_pools::{Hand, List, Taken, inside, take};
+use epoch_pools::{Hand, List, Taken, inside, quick_give, quick_take, take};
 use lock_core::{FreeGuard, Mode, Range};
 use marked_list::{
     Cursor, Linked, Lost, Walked, begin, end, fill, link, mark, quick_link, quick_unlink, sweep,
@@ -51,6 +51,17 @@ pub enum Call {
     QuickLink,
     /// It is unlinked at once.
     QuickUnlink,
+    /// A ready node is taken, filled with a range and linked where the list is empty, in one call.
+    QuickTake {
+        /// Where the range begins.
+        lo: u64,
+        /// The first number behind it.
+        hi: u64,
+        /// How it is wanted.
+        mode: Mode,
+    },
+    /// A node that is alone in the list is unlinked and given home, in one call.
+    QuickGive,
 }
 
 /// What a call answered.
@@ -73,6 +84,8 @@ pub enum Answer {
     },
     /// An exchange found another value.
     Lost(Lost),
+    /// The node isn't alone in the list as it was linked at once, so its range is still held.
+    NotAlone,
     /// So many nodes were looked at, and that is too many.
     Long {
         /// How many.
@@ -279,6 +292,49 @@ fn quick_unlink_now<L: Ledger>(
     Some(answer_of_link(quick_unlink(list, hand, steps)))
 }
 
+fn quick_take_now<L: Ledger>(
+    list: &List<FreeGuard>,
+    hand: &mut Hand<FreeGuard>,
+    range: Range,
+    mode: Mode,
+    steps: &mut Steps<L>,
+) -> Option<Answer>
+    requires table { hand.old.table ≡ list.now.table }
+    ensures tried { IsTried hand.old hand.new result }
+{
+    if inside(hand) || !has_none(hand.view()) || hand.view().ready.is_empty() {
+        return None;
+    }
+    let found = quick_take(list, hand, range, mode, steps);
+    if found == 0 {
+        return Some(Answer::Made);
+    }
+    Some(Answer::Lost(Lost {
+        place: 0,
+        expected: 0,
+        found,
+    }))
+}
+
+fn quick_give_now<L: Ledger>(
+    list: &List<FreeGuard>,
+    hand: &mut Hand<FreeGuard>,
+    steps: &mut Steps<L>,
+) -> Option<Answer>
+    requires table { hand.old.table ≡ list.now.table }
+    ensures tried { IsTried hand.old hand.new result }
+{
+    if !is_held(hand.view()) || hand.view().hand.is_some() {
+        return None;
+    }
+    let given = quick_give(list, hand, steps);
+    Some(if given {
+        Answer::Made
+    } else {
+        Answer::NotAlone
+    })
+}
+
 fn call_counting<L: Ledger>(
     list: &List<FreeGuard>,
     hand: &mut Hand<FreeGuard>,
@@ -305,6 +361,11 @@ fn call_counting<L: Ledger>(
         Call::Sweep => sweep_now(list, hand, &mut steps),
         Call::QuickLink => quick_link_now(list, hand, &mut steps),
         Call::QuickUnlink => quick_unlink_now(list, hand, &mut steps),
+        Call::QuickTake { lo, hi, mode } => match Range::of(lo, hi) {
+            Ok(range) => quick_take_now(list, hand, range, mode, &mut steps),
+            Err(_) => None,
+        },
+        Call::QuickGive => quick_give_now(list, hand, &mut steps),
     }
 }
 

@@ -59,6 +59,7 @@ fn ends_with(answer: Answer) -> Option<Kept>
         Answer::Taken(Taken::Out(_)) => Some(Kept::Stuck),
         Answer::Conflict { .. } => Some(Kept::Met),
         Answer::Lost(_) => None,
+        Answer::NotAlone => None,
         Answer::Long { .. } => Some(Kept::Stuck),
     }
 }

@@ -4,10 +4,11 @@
 ghost use Rattle.std.specs.Prelude.{◌≡◌, ◌<◌, length};
 ghost use Rattle.list_trials.specs.Trials.{IsSameHand, AreInOrder};
 
+use crate::asking::is_outside;
 use crate::calls::{Answer, Call, make_call};
 use crate::keeping::keep_turns;
 use crate::playing::make;
-use epoch_pools::{Hand, List, Taken};
+use epoch_pools::{Hand, List, Taken, ready};
 use lock_core::{FreeGuard, Mode, Step};
 
 /// What a hand does in a row of a script, and what comes of it.
@@ -28,6 +29,10 @@ pub enum Move {
     Sees(u64),
     /// The hand holds the range 0 to 1 as a writer so many times, each given back by a mark.
     Turns(u32),
+    /// The hand is turned to that list, counted from 0.
+    To(u32),
+    /// So many nodes are ready in the list to which the hand is turned.
+    Ready(u32),
 }
 
 /// Whether each of these calls comes to what is stated.
@@ -90,6 +95,14 @@ fn is_move(list: &List<FreeGuard>, hand: &mut Hand<FreeGuard>, next: Move) -> bo
             &[(Step::Enter, 0), (Step::Walk, head), (Step::Leave, 0)],
         ),
         Move::Turns(turns) => keep_turns(list, hand, turns),
+        Move::To(to) => {
+            let may = to < hand.lists() && is_outside(hand.view()) && hand.view().cursor.is_none();
+            if may {
+                hand.turn(to);
+            }
+            may
+        }
+        Move::Ready(count) => ready(hand) == count,
     }
 }
 

@@ -1,17 +1,20 @@
 use Rattle.std.proofs.Common.{rules, ◌≡◌, ◌*◌, ◌-◌, ◌<◌, List, [], ◌∷◌, get_or, length, replicate, sym, ap, ◌∙◌, subst, arith}
 use Rattle.std.specs.Prelude.{remove}
 use Rattle.std.specs.Vec.{vec_len}
+use Rattle.std.specs.Global.{Box}
+use Rattle.std.proofs.lemmas.List.{length-map}
 use Rattle.std.proofs.lemmas.List.Edits.{length-remove}
 use Rattle.lock_core.specs.Words.{word_count}
 use Rattle.lock_core.specs.Machine.{start_view}
 use Rattle.word_rows.proofs.Rowing.{snoc_all}
 use Rattle.lock_core.specs.declared.views.View.{View}
 use Rattle.epoch_pools.specs.declared.views.SeatPart.{SeatPart}
-use Rattle.epoch_pools.specs.Hands.{IsHandView, AreOthers, part_in, fresh, shown_of, new_hand}
+use Rattle.epoch_pools.specs.Hands.{IsHandView, AreOthers, views_in, part_in, fresh, shown_of, new_hand}
 use Rattle.epoch_pools.specs.Beside.{shown}
 use Rattle.list_cuts.specs.Cut.{list_count}
 use Rattle.epoch_pools.proofs.Opening.{opens, next_seat, wait_on, lock_there, view_first, views_on, made_first, made_on, first_core, first_seat}
 use Rattle.epoch_pools.proofs.Opening.{first_hand, first_others_are, first_waiting, more_made, new_table, words_long}
+use Rattle.epoch_pools.proofs.Boxes.{view_first_of, view_removed}
 use Rattle.epoch_pools.proofs.list.open_cut.Goals as goal
 
 -- the words and the first views meet the table's rule
@@ -39,8 +42,9 @@ all-init g c = record {
 pub remove-view-requires : goal.remove-view-requires
 remove-view-requires g c =
     let more : 0 < length c.all.opened.items = search rules in
-    let long : vec_len c.all.views ≡ length c.all.views.items = (let o = c.all.views.ok.0 in omega arith) in
-    more_made (start_view c.args.seats) c.args.seats c.all.number (length c.all.opened.items) (vec_len c.all.views) c.all.views.items more
+    let as_many = length-map c.all.views.items (λ (b : Box View). b.value) in
+    let long : vec_len c.all.views ≡ length (views_in c.all.views.items) = (let o = c.all.views.ok.0 in omega arith) in
+    more_made (start_view c.args.seats) c.args.seats c.all.number (length c.all.opened.items) (vec_len c.all.views) (views_in c.all.views.items) more
     c.all.invariant.sum c.all.invariant.views long
 
 -- the token that is made has the part of its number
@@ -68,9 +72,10 @@ invariant_of-push_reserved-in-all g c =
     let own = ap (λ m. shown_of (g.G.Guard.first [] 0) c.lists-lists.result 0 m.0.parts) t.1 in
     let less : c.all.number < c.args.seats = let s = c.all.invariant.sum in omega arith in
     let some_list = c.lists-lists.ensures.some in
-    let is : c.remove-view.result ≡ start_view c.args.seats c.all.number =
-    view_first c.args.seats c.all.number c.remove-view.result less
-    (c.remove-view.ensures.value ∙ ap (λ l. get_or l 0 c.remove-view.result) c.all.invariant.views) in
+    let is : c.remove-view.result.value ≡ start_view c.args.seats c.all.number =
+    view_first c.args.seats c.all.number c.remove-view.result.value less
+    (view_first_of c.all.views.items c.remove-view.result c.remove-view.ensures.value
+    ∙ ap (λ l. get_or l 0 c.remove-view.result.value) c.all.invariant.views) in
     let others : c.remove-others.result ≡ replicate (c.lists-lists.result - 1) (start_view c.args.seats c.all.number) =
     made_first (λ n. replicate (c.lists-lists.result - 1) (start_view c.args.seats n)) c.args.seats c.all.number c.remove-others.result less
     (c.remove-others.ensures.value ∙ ap (λ l. get_or l 0 c.remove-others.result) c.all.invariant.behind) in (
@@ -95,7 +100,8 @@ all-preserved g c =
       room = search rules;
       count = search rules;
       sum = let left = length-remove c.all.opened.items 0 more in let e = ap length c.remove-seat.ensures.items in let s = i.sum in omega arith;
-      views = views_on c.args.seats c.all.number _ c.remove-view.result less (c.remove-view.ensures.items ∙ ap (λ l. remove l 0) i.views);
+      views = views_on c.args.seats c.all.number _ c.remove-view.result.value less
+          (view_removed c.all.views.items _ c.remove-view.ensures.items ∙ ap (λ l. remove l 0) i.views);
       behind = made_on (λ n. replicate (c.lists-lists.result - 1) (start_view c.args.seats n)) c.args.seats c.all.number _ less
           (c.remove-others.ensures.items ∙ ap (λ l. remove l 0) i.behind);
       new = rw c.push_reserved.ensures.items (snoc_all

@@ -1,7 +1,7 @@
 use Rattle.std.proofs.Common.{◌≡◌, ◌+◌, ◌-◌, map, length, replicate, vec_capacity}
 use Rattle.list_cuts.specs.Cut.{list_count}
 use Rattle.lock_core.specs.Machine.{numbers_from, start_view}
-use Rattle.epoch_pools.specs.Hands.{AreNewHands}
+use Rattle.epoch_pools.specs.Hands.{views_in, AreNewHands}
 use Rattle.epoch_pools.proofs.Opening.{Waiting}
 use Rattle.epoch_pools.proofs.list.open_cut.Given as goal
 
@@ -11,7 +11,7 @@ invariant-all g l = record {
   room : vec_capacity l.made ≡ vec_capacity l.initial.made;
   count : length l.made.items ≡ l.number;
   sum : l.number + length l.opened.items ≡ l.seats;
-  views : l.views.items ≡ map (start_view l.seats) (numbers_from l.number (l.seats - l.number));
+  views : views_in l.views.items ≡ map (start_view l.seats) (numbers_from l.number (l.seats - l.number));
   behind : l.behind.items ≡ map (λ n. replicate (l.lists - 1) (start_view l.seats n)) (numbers_from l.number (l.seats - l.number));
   new : AreNewHands l.table.shared.table_id (g.G.Guard.first l.client) (list_count l.cut) l.seats l.made.items;
   rest : Waiting g.G.Guard.first l.table.shared.table_id l.lists l.seats l.client l.number l.opened.items;

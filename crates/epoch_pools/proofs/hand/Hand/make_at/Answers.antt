@@ -17,7 +17,7 @@ invariant_of-self g c =
     let q = c.self.inside.token.part in let step = c.args.step in let m = c.perform-found.ensures.made in let result = c.perform-found.result in
     let many = ap (λ h. h.part.seats) c.self.view_is ∙ sym c.seats-seats.ensures.seats in
     let number = ap (λ h. h.part.number) c.self.view_is ∙ sym c.number-number.ensures.number in
-    let line = line_again q _ _ c.self.inside.view step many number c.self.invariant.0 in
+    let line = line_again q _ _ c.deref_mut.result.now step many number (c.self.invariant.0 ∙ sym c.deref_mut.ensures.value) in
     let w = subst (λ (h : HandState _). Writes step (line_for h.part step) c.args.op.act) (sym c.self.view_is) c.requires.op.1 in
     let all = m.1 ∙ (ap (λ (d : Step). part_after (given_back g.G.Guard.rested) q d m.0) c.requires.doing
     ∙ answered (given_back g.G.Guard.rested) q step c.args.op.act m.0 result w m.3) in
@@ -32,6 +32,15 @@ invariant_of-self g c =
           (others_kept g.G.Guard.rested (held_at q.core.own) (held_at
           (core_after q step result).own) q.pass q.seats q.number c.self.inside.others c.self.invariant.2),
     )
+
+-- what belongs to the hand's number is what the step's line says
+pub returns-clause-made : goal.returns-clause-made
+returns-clause-made g c =
+    let q = c.self.inside.token.part in let step = c.args.step in let m = c.perform-found.ensures.made in let result = c.perform-found.result in
+    let w = subst (λ (h : HandState _). Writes step (line_for h.part step) c.args.op.act) (sym c.self.view_is) c.requires.op.1 in
+    m.1 ∙ (ap (λ (d : Step). part_after (given_back g.G.Guard.rested) q d m.0) c.requires.doing
+    ∙ (answered (given_back g.G.Guard.rested) q step c.args.op.act m.0 result w m.3
+    ∙ ap (λ (h : HandState _). part_after (given_back g.G.Guard.rested) h.part step result) c.self.view_is))
 
 -- what the step says beside, of what it returned
 pub returns-clause-told : goal.returns-clause-told

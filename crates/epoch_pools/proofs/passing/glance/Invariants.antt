@@ -1,5 +1,5 @@
 use Rattle.std.proofs.Common.{false}
-use Rattle.epoch_pools.proofs.passing.is_clear.Given as goal
+use Rattle.epoch_pools.proofs.passing.glance.Given as goal
 
 -- the look leaves the standing as it is
 abbrev pub ghosts-look_at : goal.ghosts-look_at
