@@ -2,7 +2,7 @@
 //! it went past an unmarked node. It has no node of its own, so it is never in conflict. A reader may rely on a node
 //! that is given having been unmarked at a step of the call that gives it. The walk is that of Kogan, Dice and Issa
 //! 2020; a scan that stops after each node is this project's own profile.
-ghost use Rattle.std.specs.Prelude.{◌≡◌, ◌+◌, ◌*◌, ◌/◌, ◌%◌, ◌<◌, ◌≤◌, ℕ, None};
+ghost use Rattle.std.specs.Prelude.{◌≡◌, ◌⊎◌, ◌+◌, ◌*◌, ◌/◌, ◌%◌, ◌<◌, ◌≤◌, ℕ, None};
 ghost use Rattle.lock_core.specs.Range.{IsRange};
 ghost use Rattle.lock_core.specs.declared.views.Own.TheVariants.{Nothing};
 ghost use Rattle.marked_list.specs.declared.answers.Passed.TheVariants.{End, Long};
@@ -116,6 +116,7 @@ fn scan_look<G: Guard, L: Ledger>(
     ensures own { hand.new.part.core.own ≡ Nothing }
     ensures walk { IsSameWalk hand.old.part hand.new.part }
     ensures sees { Sees hand.old.part.trace.taken hand.old.part hand.new.part result }
+    ensures some { hand.old.part.trace.taken < hand.new.part.trace.taken }
     ensures taken { hand.new.part.trace.taken ≤ hand.old.part.trace.taken + 3 }
     ensures counted { steps.new + hand.old.part.trace.taken ≡ steps.old + hand.new.part.trace.taken }
 {
@@ -139,6 +140,7 @@ fn scan_on<G: Guard, L: Ledger>(list: &List<G>, hand: &mut Hand<G>, steps: &mut 
     ensures own { hand.new.part.core.own ≡ Nothing }
     ensures walk { IsSameWalk hand.old.part hand.new.part }
     ensures answer { PassesFrom hand.old.part.trace.taken (judged_in hand.old.part.trace.looked) hand.new.part result }
+    ensures some { hand.old.part.trace.taken < hand.new.part.trace.taken }
     ensures taken { hand.new.part.trace.taken ≤ hand.old.part.trace.taken + 3 * (16 * hand.old.part.seats + 1) }
     ensures counted { steps.new + hand.old.part.trace.taken ≡ steps.old + hand.new.part.trace.taken }
 {
@@ -178,9 +180,9 @@ fn scan_from_head<G: Guard, L: Ledger>(
 /// Goes past one more node of the list, without a node of its own. The hand is inside its epoch, and its cursor, where
 /// it has one, is at a node or at the end.
 /// `Found` comes exactly where this call went past a node, and `End` where the end was read and it went past none.
-/// After `End` or `Long` each further call gives the same answer and makes no step. `Lost` is an exchange of this call;
-/// the next call begins at the head with a new count, and may give a node a second time. No other call begins anew: the
-/// walk stays the one that the cursor is in.
+/// After `End` or `Long` each further call gives the same answer and makes no step, and a call that makes no step
+/// changes nothing. `Lost` is an exchange of this call; the next call begins at the head with a new count, and may give
+/// a node a second time. No other call begins anew: the walk stays the one that the cursor is in.
 pub fn pass<G: Guard, L: Ledger>(list: &List<G>, hand: &mut Hand<G>, steps: &mut Steps<L>) -> Passed
     requires table { hand.old.table ≡ list.now.table }
     requires inside { IsInside hand.old.part.core }
@@ -195,6 +197,7 @@ pub fn pass<G: Guard, L: Ledger>(list: &List<G>, hand: &mut Hand<G>, steps: &mut
     ensures ended { IsAtEnd hand.old.part.core.cursor → (hand.new.part ≡ hand.old.part) × (result ≡ End) }
     ensures spent { seen_of hand.old.part.core.cursor ≡ 16 * hand.old.part.seats + 1
         → (hand.new.part ≡ hand.old.part) × (result ≡ Long (16 * hand.old.part.seats + 1)) }
+    ensures moved { (hand.new.part ≡ hand.old.part) ⊎ (hand.old.part.trace.taken < hand.new.part.trace.taken) }
     ensures bound { hand.new.part.trace.taken ≤ hand.old.part.trace.taken + 2 + 3 * (16 * hand.old.part.seats + 1) }
     ensures counted { steps.new + hand.old.part.trace.taken ≡ steps.old + hand.new.part.trace.taken }
 {

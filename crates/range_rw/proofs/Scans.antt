@@ -1,21 +1,18 @@
 -- A scan through a seat: how its hand enters its epoch and leaves it, and what a call on the list is to the seat.
-use Rattle.std.proofs.Common.{◌≡◌, ◌≢◌, ℕ, ◌+◌, ◌*◌, ◌%◌, ◌≤◌, Bool, true, false, inl, ⊎_elim, refl, sym, ap, ◌∙◌, subst, arith, eqb-true, eq-eqb, ne_eqb}
+use Rattle.std.proofs.Common.{◌≡◌, ◌≢◌, ℕ, ◌+◌, ◌*◌, ◌%◌, ◌≤◌, Bool, true, false, ⊎_elim, refl, sym, ap, ◌∙◌, subst, arith, eqb-true, eq-eqb, ne_eqb}
 use Rattle.std.specs.Prelude.{IsSome, Option, Some, None, ◌==◌, if◌then◌else◌}
 use Rattle.atomic_table.specs.Seated.{TableId}
 use Rattle.lock_core.specs.declared.views.Cursor.{Cursor}
 use Rattle.lock_core.specs.declared.views.Own.{Own}
 use Rattle.lock_core.specs.declared.views.Own.TheVariants.{Nothing}
-use Rattle.lock_core.specs.declared.steps.Step.TheVariants.{Enter}
-use Rattle.lock_core.specs.Views.{entered}
-use Rattle.lock_core.specs.Machine.{held_at}
 use Rattle.lock_core.proofs.SizedSteps.{plain_is}
 use Rattle.epoch_pools.specs.declared.record.Looked.{Looked}
 use Rattle.epoch_pools.specs.declared.views.SeatPart.{SeatPart}
 use Rattle.epoch_pools.specs.declared.views.Beside.{Beside}
-use Rattle.epoch_pools.specs.Hands.{IsHandView, quiet_after}
+use Rattle.epoch_pools.specs.Hands.{IsHandView}
 use Rattle.marked_list.specs.declared.answers.Passed.{Passed}
 use Rattle.marked_list.specs.declared.answers.Passed.TheVariants.{Found as NodeFound, End as ListEnd, Lost as NotWon, Long as TooLong}
-use Rattle.marked_list.specs.Order.{IsInside, MaySweep}
+use Rattle.marked_list.specs.Order.{IsInside}
 use Rattle.marked_list.specs.Leaves.{IsLaterInWalk}
 use Rattle.marked_list.specs.Causes.{nodes_in, judged_in}
 use Rattle.marked_list.specs.Answers.{IsAtEnd}
@@ -26,7 +23,6 @@ use Rattle.marked_list.proofs.Passing.{notes_are}
 use Rattle.range_rw.specs.declared.scan.Scanned.{Scanned}
 use Rattle.range_rw.specs.Contract.{OpenScan, fresh_in}
 use Rattle.range_rw.specs.Seats.{IsSettled, IsBetween, begun_in, walk_of, scan_of, seat_state_in}
-use Rattle.range_rw.specs.Trying.{IsLaterInTry}
 use Rattle.range_rw.specs.Scan.{scanned_as, Gives, WalksOn, KeepsWalk, IsNextIn}
 
 -- no own node is settled
@@ -189,18 +185,25 @@ module _ {P : Type 0} (table : TableId) (p q : SeatPart (Beside P)) where
         subst (λ (o : Option Looked). WalksOn (seat_state_in table p) (seat_state_in table q) (begun_in o) (begun_in q.trace.looked))
         (sym l.1) (ap begun_in m.1 ∙ ap (λ n. Some n) m.2)
 
+    walks_kept : IsHandView p → IsScanWalk p.core.cursor p q
+        → WalksOn (seat_state_in table p) (seat_state_in table q) was.walk (begun_in q.trace.looked)
+    walks_kept before goes =
+        subst (λ (o : Option ℕ). WalksOn (seat_state_in table p) (seat_state_in table q) o (begun_in q.trace.looked)) was_begun
+        (walks_by before p.core.cursor refl goes)
+
     walks_now : IsHandView p → IsScanWalk p.core.cursor p q → (c : Cursor) → q.core.cursor ≡ Some c
         → WalksOn (seat_state_in table p) (seat_state_in table q) was.walk now.walk
     walks_now before goes c is =
-        subst (λ (o : Option ℕ). WalksOn (seat_state_in table p) (seat_state_in table q) was.walk o) (sym (now_walk c is))
-        (subst (λ (o : Option ℕ). WalksOn (seat_state_in table p) (seat_state_in table q) o (begun_in q.trace.looked)) was_begun
-        (walks_by before p.core.cursor refl goes))
+        subst (λ (o : Option ℕ). WalksOn (seat_state_in table p) (seat_state_in table q) was.walk o) (sym (now_walk c is)) (walks_kept before goes)
 
     keeps_by : IsHandView p → IsScanWalk p.core.cursor p q → (a : Passed) → Passes p q a
         → KeepsWalk (seat_state_in table p) (seat_state_in table q) was now (scanned_as a)
     keeps_by before goes (NodeFound owner range mode) x = let c = cursor_of x.2 in walks_now before goes c.0 c.1
     keeps_by before goes ListEnd x = walks_now before goes x.0.end.0 x.0.end.1
-    keeps_by before goes (NotWon l) x = ap (λ (o : Option Cursor). (walk_of (16 * q.seats + 1) o q.trace.looked).walk) x.3
+    keeps_by before goes (NotWon l) x = (
+      ap (λ (o : Option Cursor). (walk_of (16 * q.seats + 1) o q.trace.looked).walk) x.3,
+      walks_kept before goes,
+    )
     keeps_by before goes (TooLong visits) x = walks_now before goes x.3.stands.cursor x.3.stands.is
 
     -- a cursor that rests has looked at no more nodes than a walk may

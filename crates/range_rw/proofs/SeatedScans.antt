@@ -1,7 +1,7 @@
 -- A scan through a seat at a table of any number of lists: it is in the list to which the hand is turned, and the seat
 -- holds nothing in any list. What it leaves of that list is what it leaves of the seat; at the end of one list the hand
 -- leaves its epoch, turns to the next list and enters an epoch there.
-use Rattle.std.proofs.Common.{◌≡◌, ◌≢◌, ℕ, zero, suc, ◌+◌, ◌-◌, ◌*◌, ◌%◌, ◌<◌, ◌≤◌, Bool, true, false, inl, refl, sym, ap, ◌∙◌, subst, arith, eqb-true, eq-eqb}
+use Rattle.std.proofs.Common.{◌≡◌, ◌≢◌, ℕ, zero, suc, ◌+◌, ◌-◌, ◌*◌, ◌%◌, ◌<◌, ◌≤◌, Bool, true, false, ◌⊎◌, inl, inr, ⊎_elim, refl, sym, ap, ◌∙◌, subst, arith, eqb-true, eq-eqb}
 use Rattle.std.specs.Prelude.{IsSome, Option, Some, None, ◌==◌, ◌&&◌, List, [], ◌∷◌, map, length}
 use Rattle.std.proofs.lemmas.List.{length-map}
 use mathlib.Core.Logic.{dite}
@@ -9,7 +9,6 @@ use native.Mathlib.Decide.{ℕ_discrete}
 use Rattle.atomic_table.specs.Seated.{TableId}
 use Rattle.list_cuts.specs.Cut.{list_count}
 use Rattle.lock_core.specs.declared.views.View.{View}
-use Rattle.lock_core.specs.declared.views.Cursor.{Cursor}
 use Rattle.lock_core.specs.declared.views.Own.{Own}
 use Rattle.lock_core.specs.declared.views.Own.TheVariants.{Nothing}
 use Rattle.lock_core.specs.declared.steps.Step.TheVariants.{Enter, Leave}
@@ -19,7 +18,7 @@ use Rattle.epoch_pools.specs.declared.record.Looked.{Looked}
 use Rattle.epoch_pools.specs.declared.views.SeatPart.{SeatPart}
 use Rattle.epoch_pools.specs.declared.views.Beside.{Beside}
 use Rattle.epoch_pools.specs.Beside.{shown_core, shown_grant}
-use Rattle.epoch_pools.specs.Hands.{HandState, IsHandView, IsResting as IsAtRest, quiet_after, turned}
+use Rattle.epoch_pools.specs.Hands.{IsHandView, IsResting as IsAtRest, quiet_after, turned}
 use Rattle.marked_list.specs.declared.answers.Passed.{Passed}
 use Rattle.marked_list.specs.declared.answers.Passed.TheVariants.{Found as NodeFound, End as ListEnd, Lost as NotWon, Long as TooLong}
 use Rattle.marked_list.specs.Order.{IsInside, MaySweep}
@@ -27,17 +26,17 @@ use Rattle.marked_list.specs.Leaves.{IsLaterInWalk}
 use Rattle.marked_list.specs.Causes.{nodes_in, judged_in}
 use Rattle.marked_list.specs.Answers.{IsAtEnd}
 use Rattle.marked_list.specs.Walking.{seen_of}
-use Rattle.marked_list.specs.Scanning.{IsResting, IsScanWalk, Passes, passed_at}
+use Rattle.marked_list.specs.Scanning.{IsResting, IsScanWalk, Passes}
 use Rattle.range_rw.specs.declared.scan.Scanned.{Scanned}
 use Rattle.range_rw.specs.declared.scan.Scanned.TheVariants.{Found, End, Again, Long}
 use Rattle.range_rw.specs.Contract.{SeatState, TableShape, OpenScan, fresh_in, scan_steps, ready_in}
 use Rattle.range_rw.specs.Seats.{IsBetween, IsSeated, begun_in, walk_of, scan_of, placed_scan, placed_in, pools_of, seat_state_in, seat_state_of}
 use Rattle.range_rw.specs.Trying.{IsLaterInTry}
-use Rattle.range_rw.specs.Scan.{scanned_as, IsScanCall, Gives, WalksOn, KeepsWalk, IsNextIn, IsListEnd, IsPassed, GoesOn, IsNext}
+use Rattle.range_rw.specs.Scan.{scanned_as, IsScanCall, Gives, WalksOn, KeepsWalk, IsNextIn, IsListEnd, IsPassed, IsNext}
 use Rattle.range_rw.specs.Scan.{IsScanSeat, IsScanLater, OpensEpoch, ClosesEpoch, ListGives, IsNoEnd}
 use Rattle.range_rw.proofs.Pieces.{own_at, only_stays}
 use Rattle.range_rw.proofs.Moves.{lists_on, turn_on}
-use Rattle.range_rw.proofs.Scans.{bare_settled, scan_none, scan_some, scan_inside, walk_most, walk_nodes, walk_passed, walk_begun, walk_ended, walk_at, walks_by, next_is, on_between}
+use Rattle.range_rw.proofs.Scans.{bare_settled, scan_none, scan_some, scan_inside, walk_most, walk_nodes, walk_passed, walk_begun, walk_ended, walk_at, walks_by, next_is}
 use Rattle.range_rw.proofs.Seated.{seated_grant, seated_none, seated_own, try_lists}
 use Rattle.range_rw.proofs.Choosing.{left_ready}
 
@@ -320,7 +319,8 @@ module _ {P : Type 0} where
     keeps_same : (was now : OpenScan) (answer : Scanned) → KeepsWalk b a was now answer → KeepsWalk b' a' was now answer
     keeps_same was now (Found owner range mode) x = walks_same was.walk now.walk x
     keeps_same was now End x = walks_same was.walk now.walk x
-    keeps_same was now (Again place expected found) x = x
+    keeps_same was now (Again place expected found) x =
+        (x.0, subst (λ (o : Option Looked). WalksOn b' a' was.walk (begun_in o)) (sym looked) (walks_same was.walk (begun_in a.trace.looked) x.1))
     keeps_same was now (Long visits) x = walks_same was.walk now.walk x
 
   -- ---- a call in one list
@@ -389,8 +389,8 @@ module _ {P : Type 0} where
         (walks_by was_table p q inside on view walk (scan_some p inside.odd) first p.core.cursor refl goes)))
 
     -- the end of the list was read, and no node of it passed
-    end_here : IsHandView p → IsScanWalk p.core.cursor p q → Passes p q ListEnd → IsListEnd before after placed
-    end_here first goes x =
+    end_here : (q ≡ p) ⊎ (p.trace.taken < q.trace.taken) → IsHandView p → IsScanWalk p.core.cursor p q → Passes p q ListEnd → IsListEnd before after placed
+    end_here moved first goes x =
         let e = x.0.end in let l = view.looked e.0 e.1 in record {
           walk = l.0;
           is = l.1;
@@ -401,24 +401,31 @@ module _ {P : Type 0} where
               let b = x.2 in let s = on.seats in
               omega arith;
           keeps = walks_here first goes l.0 l.1;
+          read = ⊎_elim (λ (same : q ≡ p). inl (ap (λ (y : SeatPart (Beside P)). y.trace.looked) same))
+              (λ (more : p.trace.taken < q.trace.taken). inr more) moved;
         }
 
-    gives_here : (a : Passed) → IsHandView p → IsScanWalk p.core.cursor p q → IsResting q.core → Passes p q a
+    gives_here : (a : Passed) → (q ≡ p) ⊎ (p.trace.taken < q.trace.taken) → IsHandView p → IsScanWalk p.core.cursor p q → IsResting q.core → Passes p q a
         → ListGives (q.pass.list + 1 ≡ q.pass.lists) before after placed a
-    gives_here (NodeFound owner range mode) first goes rests x = next_here (NodeFound owner range mode)
+    gives_here (NodeFound owner range mode) moved first goes rests x = next_here (NodeFound owner range mode)
         (λ e. absurd (let z : ◌≡◌ {A = Scanned} (Found owner range mode) End = e in cc)) first goes rests x
-    gives_here ListEnd first goes rests x = (end_here first goes x, λ last. next_here ListEnd (λ _. last) first goes rests x)
-    gives_here (NotWon l) first goes rests x = next_here (NotWon l)
+    gives_here ListEnd moved first goes rests x = (end_here moved first goes x, λ last. next_here ListEnd (λ _. last) first goes rests x)
+    gives_here (NotWon l) moved first goes rests x = next_here (NotWon l)
         (λ e. absurd (let z : ◌≡◌ {A = Scanned} (Again l.place l.expected l.found) End = e in cc)) first goes rests x
-    gives_here (TooLong visits) first goes rests x = next_here (TooLong visits)
+    gives_here (TooLong visits) moved first goes rests x = next_here (TooLong visits)
         (λ e. absurd (let z : ◌≡◌ {A = Scanned} (Long visits) End = e in cc)) first goes rests x
 
     -- what a call comes to in one list, by the answer of the list
-    pub list_gives : (was : OpenScan) → placed_in p.pass.lists p.pass.list (scan_of p) ≡ Some was → (a : Passed) → IsHandView p
-        → IsScanWalk p.core.cursor p q → IsResting q.core → Passes p q a → ListGives (q.pass.list + 1 ≡ q.pass.lists) before after was a
-    list_gives was opened a first goes rests x =
+    pub list_gives : (was : OpenScan) → placed_in p.pass.lists p.pass.list (scan_of p) ≡ Some was → (a : Passed)
+        → (q ≡ p) ⊎ (p.trace.taken < q.trace.taken) → IsHandView p → IsScanWalk p.core.cursor p q → IsResting q.core → Passes p q a
+        → ListGives (q.pass.list + 1 ≡ q.pass.lists) before after was a
+    list_gives was opened a moved first goes rests x =
         subst (λ (w : OpenScan). ListGives (q.pass.list + 1 ≡ q.pass.lists) before after w a) (opened_is p was inside opened)
-        (gives_here a first goes rests x)
+        (gives_here a moved first goes rests x)
+
+  -- at the answer that the end was read the cursor stands there
+  pub end_at : (p q : SeatPart (Beside P)) (a : Passed) → Passes p q a → a ≡ ListEnd → IsAtEnd q.core.cursor
+  end_at p q a x e = (subst (λ (y : Passed). Passes p q y) e x).0.end
 
   -- ---- and in several
 
@@ -457,9 +464,9 @@ module _ {P : Type 0} where
   pub passes_list : (first mid now : TableId) (p e q : SeatPart (Beside P)) (was : OpenScan) → mid ≡ first → now ≡ mid → IsInside p.core
       → placed_in p.pass.lists p.pass.list (scan_of p) ≡ Some was → IsScanLater p e → e.pass.list ≡ p.pass.list
       → IsListEnd (seat_state_of (record { table = first; part = p })) (seat_state_of (record { table = mid; part = e })) was
-      → OpensEpoch (e.pass.list + 1) e q → q.trace.taken ≡ e.trace.taken + 2
+      → OpensEpoch (e.pass.list + 1) e q → q.trace.taken ≡ e.trace.taken + 2 → q.trace.looked ≡ e.trace.looked
       → IsPassed (seat_state_of (record { table = first; part = p })) (seat_state_of (record { table = now; part = q })) was
-  passes_list first mid now p e q was same on inside opened l there reads g taken =
+  passes_list first mid now p e q was same on inside opened l there reads g taken last =
       let list : e.pass.list + 1 ≡ was.list + 1 = let a = opened_list p was inside opened in omega arith in
       let most : 16 * p.seats + 1 ≡ was.most = sym (opened_most p was inside opened) in
       record {
@@ -468,6 +475,7 @@ module _ {P : Type 0} where
         reads = reads;
         moves = scan_call mid now e q on g.later;
         taken = taken;
+        last = last;
         begun = opens_fresh (e.pass.list + 1) e q p.seats (g.later.later.seats ∙ l.later.seats) g ∙ (λ i. Some (fresh_in (list i) (most i)));
       }
 

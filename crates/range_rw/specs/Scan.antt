@@ -1,8 +1,9 @@
 -- A scan of the lists through a seat that holds nothing: what its calls leave of the seat, and why each answer comes.
--- It begins in list 0, and goes on in the next list where the end of one is read. A reader may rely on no list being
--- left out: the end of each was read by a call, with a walk of its own. The walk is that of Kogan, Dice and Issa 2020;
--- a scan that stops after each node is this project's own profile.
-use Rattle.std.specs.Prelude.{◌≡◌, ◌≢◌, ℕ, zero, suc, ◌+◌, ◌%◌, ◌<◌, ◌≤◌, true, false, Option, Some, None, length, map}
+-- It begins in list 0, and goes on in the next list where the end of one was read, at a step of the call or before it,
+-- by the walk that stands there. A reader may rely on no list being left out: each was walked to its end, with a walk
+-- of its own. The walk is that of Kogan, Dice and Issa 2020; a scan that stops after each node is this project's own
+-- profile.
+use Rattle.std.specs.Prelude.{◌≡◌, ◌≢◌, ◌⊎◌, ℕ, zero, suc, ◌+◌, ◌%◌, ◌<◌, ◌≤◌, true, false, Option, Some, None, length, map}
 use Rattle.lock_core.specs.declared.range.Held.{Held}
 use Rattle.lock_core.specs.declared.views.Own.TheVariants.{Nothing}
 use Rattle.epoch_pools.specs.declared.record.Looked.{Looked}
@@ -18,7 +19,7 @@ use Rattle.marked_list.specs.Causes.{IsWalkLoss, nodes_in, judged_in}
 use Rattle.range_rw.specs.declared.scan.Scanned.{Scanned}
 use Rattle.range_rw.specs.declared.scan.Scanned.TheVariants.{Found, End, Again, Long}
 use Rattle.range_rw.specs.Contract.{SeatState, OpenScan, fresh_in, ready_in}
-use Rattle.range_rw.specs.Seats.{IsBetween}
+use Rattle.range_rw.specs.Seats.{IsBetween, begun_in}
 use Rattle.range_rw.specs.Several.{IsLaterInLists}
 
 -- the answer of a scan for that of its call on the list
@@ -76,11 +77,12 @@ module _ {P : Type 0} where
   WalksOn before after (Some begun) now = now ≡ Some begun
   WalksOn before after None now = (begun : ℕ) × (now ≡ Some begun) × (before.trace.taken ≤ begun) × (begun < after.trace.taken)
 
-  -- a walk begins anew after a lost exchange alone, in its list, and the answer says so
+  -- a walk begins anew after a lost exchange alone, in its list, and the answer says so. The exchange was one of the
+  -- walk that had begun there, or of one that this call began
   abbrev pub KeepsWalk : SeatState P → SeatState P → OpenScan → OpenScan → Scanned → Type 0
   KeepsWalk before after was now (Found owner range mode) = WalksOn before after was.walk now.walk
   KeepsWalk before after was now End = WalksOn before after was.walk now.walk
-  KeepsWalk before after was now (Again place expected found) = now.walk ≡ None
+  KeepsWalk before after was now (Again place expected found) = (now.walk ≡ None) × WalksOn before after was.walk (begun_in after.trace.looked)
   KeepsWalk before after was now (Long visits) = WalksOn before after was.walk now.walk
 
   -- what a call of a scan comes to in one list, with what the scan had come to before it. One walk looks at no more
@@ -95,7 +97,8 @@ module _ {P : Type 0} where
     pub keeps : KeepsWalk before after was now answer
 
   -- the end of the list was read in the walk that had begun there, or in one that this call began, and the call went
-  -- past no node of it
+  -- past no node of it. It was read at a step of this call, or that walk had read it before: a call without a step has
+  -- looked at what was looked at before it
   pub record IsListEnd (before after : SeatState P) (was : OpenScan) : Type 0 where
     pub walk : Looked
     pub is : after.trace.looked ≡ Some walk
@@ -103,18 +106,22 @@ module _ {P : Type 0} where
     pub none : walk.judged ≡ was.passed
     pub few : walk.nodes < was.most
     pub keeps : WalksOn before after was.walk (Some walk.step)
+    pub read : (after.trace.looked ≡ before.trace.looked) ⊎ (before.trace.taken < after.trace.taken)
 
   -- the end of a list was read, past no node of it; then the seat left its epoch there and entered one of the next
-  -- list, in two steps, where the walk is still to begin
+  -- list, in two steps, where the walk is still to begin. Until then the seat's last walk is the one that read the end
   pub record IsPassed (before after : SeatState P) (was : OpenScan) : Type 0 where
     pub end : SeatState P
     pub call : IsScanCall before end
     pub reads : IsListEnd before end was
     pub moves : IsScanCall end after
     pub taken : after.trace.taken ≡ end.trace.taken + 2
+    pub last : after.trace.looked ≡ end.trace.looked
     pub begun : after.scan ≡ Some (fresh_in (was.list + 1) was.most)
 
-  -- so many lists are passed, one after another, and the answer is of the list behind them
+  -- so many lists are passed, one after another, and the answer is of the list behind them. The record keeps one walk,
+  -- so of the states between a caller knows the numbers of steps. That each is one of the seat, a private function says
+  -- of the list that it passes, by `IsPassed` of its own call
   abbrev pub GoesOn : ℕ → SeatState P → SeatState P → OpenScan → Scanned → Type 0
   GoesOn zero before after was answer = IsNextIn before after was answer
   GoesOn (suc n) before after was answer =

@@ -1,7 +1,8 @@
 //! A scan of the lists through a borrowed seat: it gives the nodes of list 0, then those of the next list, and so on,
 //! of ranges that are held or asked for, and unlinks marked ones on its way. It keeps its seat inside an epoch of the
 //! list where it is, until it is ended. A reader may rely on a node that is given having been unmarked at a step of the
-//! call that gives it, and on no list being left out. Kogan, Dice and Issa 2020.
+//! call that gives it, and on no list being left out: the hand leaves a list for the next one only where its cursor
+//! stands at the list's end. Kogan, Dice and Issa 2020.
 ghost use Rattle.std.specs.Prelude.{◌≡◌, ◌<◌, ◌≤◌, ◌+◌, ◌-◌, ◌*◌, ◌%◌, Some, None, IfSome, IfNone, true};
 ghost use Rattle.list_cuts.specs.Cut.{list_count};
 ghost use Rattle.marked_list.specs.declared.answers.Passed.TheVariants.{End as ListEnd, Long as TooLong};
@@ -103,15 +104,18 @@ fn close_epoch<G: Guard, L: Ledger>(list: &List<G>, hand: &mut Hand<G>, blank: B
     let _ = hand.view();
 }
 
-/// Leaves the hand's epoch, turns it to the next list, and enters an epoch there: two steps.
+/// Leaves the hand's epoch, turns it to the next list, and enters an epoch there: two steps. The hand's cursor stands
+/// at the end of the list that it leaves.
 fn next_list<G: Guard, L: Ledger>(list: &List<G>, hand: &mut Hand<G>, steps: &mut Steps<L>)
     requires table { hand.old.table ≡ list.now.table }
     requires seat { IsScanSeat hand.old.part }
     requires inside { IsInside hand.old.part.core }
+    requires end { IsAtEnd hand.old.part.core.cursor }
     requires more { hand.old.part.pass.list + 1 < hand.old.part.pass.lists }
     ensures table { hand.new.table ≡ hand.old.table }
     ensures inside { OpensEpoch (hand.old.part.pass.list + 1) hand.old.part hand.new.part }
     ensures taken { hand.new.part.trace.taken ≡ hand.old.part.trace.taken + 2 }
+    ensures looked { hand.new.part.trace.looked ≡ hand.old.part.trace.looked }
 {
     let _ = hand.lists();
     let next = hand.list() + 1;
@@ -135,6 +139,7 @@ fn pass_here<G: Guard, L: Ledger>(
     ensures list { hand.new.part.pass.list ≡ hand.old.part.pass.list }
     ensures gives { (was : OpenScan) → (seat_state_of hand.old).scan ≡ Some was
         → ListGives (hand.new.part.pass.list + 1 ≡ hand.new.part.pass.lists) (seat_state_of hand.old) (seat_state_of hand.new) was result }
+    ensures end { result ≡ ListEnd → IsAtEnd hand.new.part.core.cursor }
     ensures ended { IsAtEnd hand.old.part.core.cursor → (hand.new.part ≡ hand.old.part) × (result ≡ ListEnd) }
     ensures spent { seen_of hand.old.part.core.cursor ≡ 16 * hand.old.part.seats + 1
         → (hand.new.part ≡ hand.old.part) × (result ≡ TooLong (16 * hand.old.part.seats + 1)) }
@@ -297,7 +302,8 @@ impl<'a, G: Guard> Scan<'a, G> {
     ghost use Rattle.range_rw.specs.Scan.{IsScanCall, IsNext};
 
     /// Goes on to the next node, past at most one that isn't marked. Where no node is left in the scan's list, and it
-    /// isn't the last one, this call goes on in the list behind it, with a walk of its own.
+    /// isn't the last one, this call goes on in the list behind it, with a walk of its own. The end of the list that it
+    /// leaves was read then by the walk that stood there, at a step of this call or before it.
     /// `Found` comes exactly where this call went past a node, which was unmarked at a step of this call. `End` comes
     /// exactly where the end of the last list was read and this call went past no node, and `Long` where the walk in
     /// the scan's list has looked at 16 nodes for each seat and one more and this call went past none. After `End` or

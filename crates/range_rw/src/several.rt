@@ -23,7 +23,7 @@ use crate::nodes::refusal_of;
 use crate::refusals::NotHeld;
 use crate::release::unlink_or_mark;
 use crate::trying::{leave_epoch, try_once, try_range};
-use epoch_pools::{Hand, List, count_held, count_narrow, is_clear, pass_held, pass_list};
+use epoch_pools::{Hand, List, count_held, count_narrow, glance, pass_held, pass_list};
 use list_cuts::Cut;
 use lock_core::{Guard, Mode, Range};
 use marked_list::{mark, sweep};
@@ -48,7 +48,7 @@ pub(crate) fn lists_of<G: Guard, L: Ledger>(
     let _ = cut.regions();
     let lists = cut.lists();
     if lists != hand.lists() {
-        is_clear(list, hand, steps);
+        glance(list, hand, steps);
         unreachable!()
     }
     lists

@@ -6,7 +6,7 @@ use Rattle.marked_list.specs.Causes.{judged_in}
 use Rattle.marked_list.specs.Walking.{seen_of}
 use Rattle.marked_list.proofs.scanning.scan_on.Given as goal
 
--- the cursor is at a node, and each look behind it was at a marked node and made at most three steps
+-- the cursor is at a node, and each look behind it was at a marked node and made from one to three steps
 abbrev pub invariant-nodes : goal.invariant-nodes
 invariant-nodes g l = record {
   table : l.hand.table ≡ l.initial.hand.table;
@@ -17,6 +17,7 @@ invariant-nodes g l = record {
   seen : seen_of l.hand.part.core.cursor ≤ l.most;
   later : IsLaterInWalk l.initial.hand.part l.hand.part;
   walk : IsSameWalk l.initial.hand.part l.hand.part;
+  least : l.initial.hand.part.trace.taken + seen_of l.hand.part.core.cursor ≤ l.hand.part.trace.taken + seen_of l.initial.hand.part.core.cursor;
   judged : judged_in l.hand.part.trace.looked ≡ judged_in l.initial.hand.part.trace.looked;
   taken : l.hand.part.trace.taken + 3 * seen_of l.initial.hand.part.core.cursor ≤ l.initial.hand.part.trace.taken + 3 * seen_of l.hand.part.core.cursor;
   counted : l.steps + l.initial.hand.part.trace.taken ≡ l.initial.steps + l.hand.part.trace.taken;

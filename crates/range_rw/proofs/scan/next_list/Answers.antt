@@ -1,7 +1,11 @@
-use Rattle.std.proofs.Common.{◌≡◌, ◌+◌, ◌<◌, sym, ap, ◌∙◌, subst, arith}
+use Rattle.std.proofs.Common.{◌≡◌, ◌+◌, ◌<◌, ap, ◌∙◌, arith}
+use Rattle.lock_core.specs.declared.steps.Step.TheVariants.{Enter, Leave}
+use Rattle.lock_core.specs.Views.{entered, left}
 use Rattle.lock_core.specs.Machine.{may_leave}
 use Rattle.epoch_pools.specs.declared.views.SeatPart.{SeatPart}
 use Rattle.epoch_pools.specs.declared.views.Beside.{Beside}
+use Rattle.epoch_pools.specs.Record.{is_judging, gained_by}
+use Rattle.marked_list.proofs.Unlinking.{gone_looked}
 use Rattle.range_rw.proofs.SeatedScans.{own_free, leaves, left_rests, turn_later, scan_on, enters}
 use Rattle.range_rw.proofs.scan.next_list.Goals as goal
 
@@ -46,3 +50,16 @@ returns-clause-taken g c =
     let n : c.enter.new.hand.part.trace.taken ≡ c.turn.new.self.part.trace.taken + 1 =
     ap (λ (x : SeatPart (Beside _)). x.trace.taken) c.enter.ensures.made in
     omega arith
+
+-- neither of which looks at a node
+pub returns-clause-looked : goal.returns-clause-looked
+returns-clause-looked g c =
+    let p = c.args.hand.now.part in let t = c.turn.new.self.part in
+    let a : c.leave.new.hand.part.trace.looked ≡ p.trace.looked =
+    ap (λ (x : SeatPart (Beside _)). x.trace.looked) c.leave.ensures.made
+    ∙ gone_looked p.trace p.core.cursor (is_judging Leave) (gained_by p.core (left p.core)) in
+    let b : t.trace.looked ≡ c.leave.new.hand.part.trace.looked = ap (λ (x : SeatPart (Beside _)). x.trace.looked) c.turn.ensures.part in
+    let n : c.enter.new.hand.part.trace.looked ≡ t.trace.looked =
+    ap (λ (x : SeatPart (Beside _)). x.trace.looked) c.enter.ensures.made
+    ∙ gone_looked t.trace t.core.cursor (is_judging Enter) (gained_by t.core (entered t.core)) in
+    n ∙ (b ∙ a)

@@ -1,7 +1,7 @@
 use Rattle.std.proofs.Common.{ap, ◌∙◌}
 use Rattle.std.specs.Prelude.{◌%◌}
 use Rattle.epoch_pools.specs.declared.views.Beside.{Beside}
-use Rattle.range_rw.proofs.SeatedScans.{own_free, walked_later, list_gives}
+use Rattle.range_rw.proofs.SeatedScans.{own_free, walked_later, list_gives, end_at}
 use Rattle.range_rw.proofs.scan.pass_here.Goals as goal
 
 -- the hand has no node of its own
@@ -25,9 +25,13 @@ returns-clause-inside g c = let on = c.pass-passed.ensures.later in record { odd
 pub returns-clause-list : goal.returns-clause-list
 returns-clause-list g c = ap (λ (b : Beside _). b.list) c.pass-passed.ensures.later.pass
 
+-- at the answer that the end was read its cursor stands there
+pub returns-clause-end : goal.returns-clause-end
+returns-clause-end g c = λ is. end_at c.args.hand.now.part c.pass-passed.new.hand.part c.pass-passed.result c.pass-passed.ensures.answer is
+
 -- and the answer of the list is what the call comes to there
 pub returns-clause-gives : goal.returns-clause-gives
 returns-clause-gives g c = λ was opened.
     let e = c.pass-passed.ensures in
     list_gives c.args.hand.now.table c.pass-passed.new.hand.table c.args.hand.now.part c.pass-passed.new.hand.part c.requires.inside e.later
-    c.view-2.ensures.sound was opened c.pass-passed.result c.view.ensures.sound e.walk e.resting e.answer
+    c.view-2.ensures.sound was opened c.pass-passed.result e.moved c.view.ensures.sound e.walk e.resting e.answer

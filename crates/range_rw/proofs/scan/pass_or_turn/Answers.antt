@@ -12,6 +12,10 @@ pub next_list-requires-clause-more : goal.next_list-requires-clause-more
 next_list-requires-clause-more g c =
     let a = c.pass_here.ensures.list in let b = c.pass_here.ensures.later.later.lists in let m = c.requires.more in omega arith
 
+-- the cursor stands at the end of the list
+pub next_list-requires-clause-end : goal.next_list-requires-clause-end
+next_list-requires-clause-end g c = c.pass_here.ensures.end c.in-None.ensures.end
+
 -- an answer is that of the list
 pub returns-in-Some-clause-gives : goal.returns-in-Some-clause-gives
 returns-in-Some-clause-gives g c = λ was opened.
@@ -52,4 +56,4 @@ returns-in-None-clause-passed g c = λ was opened.
     c.pass_here.ensures.later c.pass_here.ensures.list
     (subst (λ x. ListGives (e.part.pass.list + 1 ≡ e.part.pass.lists) (seat_state_of p) (seat_state_of e) was x) c.in-None.ensures.end
     (c.pass_here.ensures.gives was opened)).0
-    c.next_list.ensures.inside c.next_list.ensures.taken
+    c.next_list.ensures.inside c.next_list.ensures.taken c.next_list.ensures.looked
