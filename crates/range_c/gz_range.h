@@ -33,9 +33,9 @@
      on the same word. Two readers are in no order to each other, and neither are ranges that don't overlap. This isn't
      proved of your memory: it rests on each step of the library being sequentially consistent, and on a compiler
      moving no access across a call.
-   - No call sleeps or takes a lock, and gz_range_acquire alone waits, by trying again. open and share alone take
-     memory; the others can't fail for want of it. A table takes 2 to 23 KB for 1 to 16 seats,
-     twice as much while it is opened, and 8 bytes for each client word; each further handle takes 416 bytes.
+   - No call sleeps or takes a lock, and gz_range_acquire alone waits, by trying again. open, open_cut and share alone
+     take memory; the others can't fail for want of it. A table takes 2 to 23 KB for 1 to 16 seats, once for each of its
+     lists, twice as much while it is opened, and 8 bytes for each client word; each further handle takes 416 bytes.
 
    What you owe. Nothing checks it:
    - A handle begins as GZ_RANGE_CLOSED, and nobody writes or copies it afterwards but these calls.
@@ -125,7 +125,8 @@ typedef enum gz_range_answer {
     GZ_RANGE_BAD_WORDS = 13, /* there are more than GZ_RANGE_MOST_WORDS client words */
     GZ_RANGE_NONE_LEFT = 14, /* the handle has no seat left to share */
     GZ_RANGE_NO_WORD = 15,   /* the table has no client word of that number */
-    GZ_RANGE_OTHER = 16      /* the client word had another value than the expected one */
+    GZ_RANGE_OTHER = 16,     /* the client word had another value than the expected one */
+    GZ_RANGE_BAD_CUT = 17    /* there are 0 regions, or more than 16, or a block has more than 2^62 numbers */
 } gz_range_answer;
 
 /* The archive was made for these sizes. */
@@ -153,6 +154,7 @@ static inline const char *gz_range_text(gz_range_answer answer) {
     case GZ_RANGE_NONE_LEFT: return "the handle has no seat left to share";
     case GZ_RANGE_NO_WORD: return "the table has no client word of that number";
     case GZ_RANGE_OTHER: return "the client word has another value than the expected one";
+    case GZ_RANGE_BAD_CUT: return "the numbers make no cut into regions";
     }
     return "no answer of the range lock";
 }
@@ -164,7 +166,24 @@ static inline const char *gz_range_text(gz_range_answer answer) {
 GZ_RANGE_MUST_CHECK
 gz_range_answer gz_range_open(uint32_t seats, const uint64_t *words, size_t count, gz_range *handle);
 
-/* The same of a table without client words. */
+/* The same over a cut of the numbers into regions, 1 to 16, in blocks of 2^bits numbers, with bits at most 62. The
+   first block is of the first region, the next one of the second, and so on; behind the last region it is the first
+   one's turn again. Each region has a list of its own, and where there are several, one more list is for the ranges
+   in more than one of them.
+   A cut is for many threads at ranges of different regions: they change no word of the lock in common, where with one
+   list they all change its head. So a block is best as large as most ranges fit into; with bits 16 it has 65536
+   numbers. A range in several regions takes longer: a look at the list of each, and more where somebody is there. A
+   table takes as many times the memory as it has lists. All else is as with gz_range_open, whose tables have one
+   list: which ranges are in conflict, and what each call answers. Which cut serves a load best, or whether any does,
+   only measuring tells.
+   DONE; IS_OPEN, BAD_CUT, BAD_WORDS, BAD_SEATS, NO_MEMORY, the first of these that is so. After a refusal nothing has
+   changed.
+   Any thread. It allocates. */
+GZ_RANGE_MUST_CHECK
+gz_range_answer gz_range_open_cut(uint32_t seats, uint32_t regions, uint32_t bits, const uint64_t *words, size_t count,
+                                  gz_range *handle);
+
+/* The same as gz_range_open, of a table without client words. */
 GZ_RANGE_MUST_CHECK
 static inline gz_range_answer gz_range_open_plain(uint32_t seats, gz_range *handle) {
     const uint64_t none = 0;
@@ -181,8 +200,9 @@ gz_range_answer gz_range_share(gz_range *from, gz_range *handle);
 
 /* Tries to hold the numbers from lo on and below hi, at most 2^62, as a writer or as a reader: until a try is granted,
    and at most `tries` times, with a short pause between one try and the next. A try makes at most 64 atomic steps and
-   386 for each seat of the table, whatever other threads do. With tries 1 it makes one, with no pause, and waits for
-   nobody; with 0 it only looks at what is asked.
+   386 for each seat of the table, whatever other threads do; for a range in several regions of a cut it makes at most
+   that many for each list of the table. With tries 1 it makes one, with no pause, and waits for nobody; with 0 it only
+   looks at what is asked.
    How many tries to ask for: a single try may be refused though no range is in conflict, as a weak compare-exchange may
    fail. That is AGAIN, LONG or NO_NODE, and comes of another thread being at work in the list. Four busy threads at
    ranges apart were refused some 40 of 100 single tries so, and 3 of 100 with 4 tries. Ask for 64 where you want the

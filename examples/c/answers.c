@@ -26,12 +26,13 @@ static const char *name_of(uint32_t answer) {
     case GZ_RANGE_NONE_LEFT: return "NONE_LEFT";
     case GZ_RANGE_NO_WORD: return "NO_WORD";
     case GZ_RANGE_OTHER: return "OTHER";
+    case GZ_RANGE_BAD_CUT: return "BAD_CUT";
     default: return "no answer";
     }
 }
 
 static void names(void) {
-    for (uint32_t answer = 0; answer <= GZ_RANGE_OTHER + 1; answer++)
+    for (uint32_t answer = 0; answer <= GZ_RANGE_BAD_CUT + 1; answer++)
         printf("%2u %-10s %s\n", answer, name_of(answer), gz_range_text((gz_range_answer)answer));
 }
 
@@ -77,6 +78,10 @@ static void openings(void) {
     says("open of 2^20 + 1 words", gz_range_open(2, many, GZ_RANGE_MOST_WORDS + 1, &handle));
     says("open of 2^20 words", gz_range_open(2, many, GZ_RANGE_MOST_WORDS, &handle));
     gz_range_close(&handle);
+    says("open of no region", gz_range_open_cut(2, 0, 16, words, 1, &handle));
+    says("open of 17 regions", gz_range_open_cut(2, 17, 16, words, 1, &handle));
+    says("open of blocks of 2^63", gz_range_open_cut(2, 7, 63, words, 1, &handle));
+    says("open of no seat in 7 regions", gz_range_open_cut(0, 7, 16, words, 1, &handle));
     says("open of 2 seats and no word", gz_range_open_plain(2, &handle));
     says("open of an open handle", gz_range_open(2, words, 0, &handle));
     says("share of the second seat", gz_range_share(&handle, &other));
@@ -117,6 +122,27 @@ static void ranges(gz_range *a, gz_range *b) {
     says("acquire of 3 to 4 as a writer", gz_range_acquire(b, 3, 4, true));
 }
 
+/* Seven regions in blocks of 2^16 numbers: the first block is of one region and the next one of another. */
+static void regions(void) {
+    const uint64_t words[1] = { 7 };
+    gz_range a = GZ_RANGE_CLOSED, b = GZ_RANGE_CLOSED;
+    gz_busy busy;
+    says("open of 7 regions", gz_range_open_cut(2, 7, 16, words, 1, &a));
+    says("open of an open handle over a cut", gz_range_open_cut(2, 7, 16, words, 1, &a));
+    says("share", gz_range_share(&a, &b));
+    says("try of 5 to 9 as a writer", gz_range_try(&a, 5, 9, true, 1, &busy));
+    says("another's try in the next region", gz_range_try(&b, 65536, 65540, true, 1, &busy));
+    says("release", gz_range_release(&b));
+    says("another's try of both as a reader", gz_range_try(&b, 0, 65540, false, 1, &busy));
+    shows(&busy);
+    says("release", gz_range_release(&a));
+    says("another's try of both as a reader", gz_range_try(&b, 0, 65540, false, 1, &busy));
+    says("try of 5 to 9 as a writer", gz_range_try(&a, 5, 9, true, 1, &busy));
+    shows(&busy);
+    says("close", gz_range_close(&a));
+    says("close of the other", gz_range_close(&b));
+}
+
 static void words_of(gz_range *a) {
     uint64_t value = 0;
     says("load of word 1", gz_range_load(a, 1, &value));
@@ -144,6 +170,7 @@ int main(void) {
     names();
     closed_handles();
     openings();
+    regions();
     says("open", gz_range_open(2, words, 2, &a));
     says("share", gz_range_share(&a, &b));
     ranges(&a, &b);

@@ -1,6 +1,6 @@
 /* Each allocation fails in turn, by malloc and realloc that this program puts before those of the C library (the linker
-   is told so by --wrap). open and share then answer that there is no memory, with nothing changed and nothing lost; the
-   other calls are made with every allocation failing. */
+   is told so by --wrap). open, open_cut and share then answer that there is no memory, with nothing changed and nothing
+   lost; the other calls are made with every allocation failing. */
 #include "gz_range.h"
 
 #include <stdio.h>
@@ -42,12 +42,13 @@ void __wrap_free(void *at) {
 }
 
 /* Opens a table with the first, the second .. allocation failing, until none is left to fail; how many failed. */
-static int open_failing(unsigned seats, gz_range *handle) {
+static int open_failing(unsigned seats, unsigned regions, gz_range *handle) {
     const uint64_t words[1] = { 7 };
     for (int n = 0;; n++) {
         long before = blocks;
         left = n;
-        uint32_t answer = gz_range_open(seats, words, 1, handle);
+        uint32_t answer = regions == 1 ? gz_range_open(seats, words, 1, handle)
+                                       : gz_range_open_cut(seats, regions, 1, words, 1, handle);
         int failed = left < 0;
         left = -1;
         if (!failed && answer == GZ_RANGE_DONE) return n;
@@ -87,16 +88,22 @@ static int works_without(gz_range *a, gz_range *b) {
 
 static const char *says(int it_is) { return it_is ? "yes" : "no"; }
 
+/* In blocks of two numbers, 1 to 3 is a range in two regions where there are several, and 2 to 4 is in one. */
+static void try_with(unsigned seats, unsigned regions) {
+    gz_range a = GZ_RANGE_CLOSED, b = GZ_RANGE_CLOSED;
+    long before = blocks;
+    int opening = open_failing(seats, regions, &a);
+    int sharing = share_failing(&a, &b);
+    int well = works_without(&a, &b);
+    printf("seats %2u, regions %2u: ", seats, regions);
+    printf("open failed at each of its allocations: %s, share: %s, ", says(opening > 0), says(sharing > 0));
+    printf("the others need none: %s, blocks left: %ld\n", says(well), blocks - before);
+}
+
 int main(void) {
     for (unsigned seats = 2; seats <= 16; seats += 7) {
-        gz_range a = GZ_RANGE_CLOSED, b = GZ_RANGE_CLOSED;
-        long before = blocks;
-        int opening = open_failing(seats, &a);
-        int sharing = share_failing(&a, &b);
-        int well = works_without(&a, &b);
-        printf("%2u seats: ", seats);
-        printf("open failed at each of its allocations: %s, share: %s, ", says(opening > 0), says(sharing > 0));
-        printf("the others need none: %s, blocks left: %ld\n", says(well), blocks - before);
+        try_with(seats, 1);
+        try_with(seats, 16);
     }
     return 0;
 }

@@ -1,12 +1,12 @@
 -- A refusal's code is not that of a call that did what it is for, and a share that was refused left the handle as it
 -- was.
-use Rattle.std.proofs.Common.{◌≡◌, ℕ, ◌<◌, Option, Some, None, refl, sym, ap, subst, arith}
+use Rattle.std.proofs.Common.{◌≡◌, inl, inr, ℕ, ◌<◌, Option, Some, None, refl, sym, ap, subst, arith}
 use Rattle.range_c.specs.declared.answers.Answer.{Answer}
 use Rattle.range_c.specs.declared.answers.Answer.TheVariants.{Done, Refused, NotTried, BadRange, HasOne, HasNone}
 use Rattle.range_c.specs.declared.answers.Answer.TheVariants.{Closed, Open, Memory, Seats, Words, NoneLeft, NoWord}
-use Rattle.range_c.specs.declared.answers.Answer.TheVariants.{Other}
-use Rattle.range_c.specs.Behind.{Behind, IsOpen, IsNotOpened, IsShared, IsUnshared, IsNotShared}
-use Rattle.range_c.specs.Calls.{Between, OnHandle, IsOpenRefusal, HandleShared, IsShareRefusal, IsEnd}
+use Rattle.range_c.specs.declared.answers.Answer.TheVariants.{Other, BadCut}
+use Rattle.range_c.specs.Behind.{Behind, IsOpen, IsNotOpened, IsNotCut, IsShared, IsUnshared, IsNotShared}
+use Rattle.range_c.specs.Calls.{Between, OnHandle, IsOpenRefusal, IsCutRefusal, HandleShared, IsShareRefusal, IsEnd}
 use Rattle.range_c.specs.Codes.{Says, code_of}
 
 -- the code of a cause for which no table is opened isn't 0
@@ -25,6 +25,7 @@ opening_refused seats count Words h = omega arith
 opening_refused seats count NoneLeft h = absurd h
 opening_refused seats count NoWord h = absurd h
 opening_refused seats count Other h = absurd h
+opening_refused seats count BadCut h = absurd h
 
 unshared_code : (spare : ℕ) (why : Answer) → IsUnshared spare why → 0 < code_of why
 unshared_code spare Done h = absurd h
@@ -41,6 +42,7 @@ unshared_code spare Words h = absurd h
 unshared_code spare NoneLeft h = omega arith
 unshared_code spare NoWord h = absurd h
 unshared_code spare Other h = absurd h
+unshared_code spare BadCut h = absurd h
 
 -- the code of a cause for which no seat is shared isn't 0, the handle is as it was, and the cause is one of a share
 -- to a closed handle
@@ -51,6 +53,11 @@ sharing_refused why (Some b) (Some a) h = (unshared_code b.spare why h.0, (ap So
 sharing_refused why None (Some a) h = absurd h
 sharing_refused why (Some b) None h = absurd h
 
+-- nor is that of one for which none is opened over a cut
+pub cutting_refused : (regions bits seats count : ℕ) (why : Answer) → IsNotCut regions bits seats count why → 0 < code_of why
+cutting_refused regions bits seats count why (inl h) = subst (λ w. 0 < code_of w) (sym h.0) (omega arith)
+cutting_refused regions bits seats count why (inr h) = opening_refused seats count why h.1
+
 -- an opening of a handle that is open is refused with that cause
 pub opening_of_open : (seats count code : ℕ) (h : Option Behind) → IsOpen h → code ≡ code_of Open → Says (IsOpenRefusal seats count h) code
 opening_of_open seats count code h is e = (Open, e, subst (λ x. IsOpenRefusal seats count x Open) (sym is.1) refl)
@@ -59,6 +66,18 @@ opening_of_open seats count code h is e = (Open, e, subst (λ x. IsOpenRefusal s
 pub opening_of_closed : (seats count code : ℕ) (h : Option Behind) (why : Answer) → h ≡ None → IsNotOpened seats count why
     → code ≡ code_of why → Says (IsOpenRefusal seats count h) code
 opening_of_closed seats count code h why is cause e = (why, e, subst (λ x. IsOpenRefusal seats count x why) (sym is) cause)
+
+-- the same over a cut, of a handle that is open
+pub cutting_of_open : (regions bits seats count code : ℕ) (h : Option Behind) → IsOpen h → code ≡ code_of Open
+    → Says (IsCutRefusal regions bits seats count h) code
+cutting_of_open regions bits seats count code h is e =
+    (Open, e, subst (λ x. IsCutRefusal regions bits seats count x Open) (sym is.1) refl)
+
+-- and of a closed one
+pub cutting_of_closed : (regions bits seats count code : ℕ) (h : Option Behind) (why : Answer) → h ≡ None
+    → IsNotCut regions bits seats count why → code ≡ code_of why → Says (IsCutRefusal regions bits seats count h) code
+cutting_of_closed regions bits seats count code h why is cause e =
+    (why, e, subst (λ x. IsCutRefusal regions bits seats count x why) (sym is) cause)
 
 shares_open : (from : Option Behind) (b : Behind) → IsShareRefusal from (Some b) Open
 shares_open None b = refl

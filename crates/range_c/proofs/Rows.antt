@@ -1,14 +1,18 @@
 -- What is so of each element of a list, by its place, is so of its last and of the others. A seat that is taken from
 -- the end of the row of those that are left to share is new, and the others stay so; put back, the row is as it was.
-use Rattle.std.proofs.Common.{arith, ◌≡◌, ℕ, ◌+◌, ◌≤◌, ◌^◌, ◌∙◌, List, [], ◌∷◌, ◌++◌, length, sym, refl, ap, subst}
+use Rattle.std.proofs.Common.{arith, ◌≡◌, ℕ, ◌+◌, ◌≤◌, ◌^◌, ◌∙◌, List, [], ◌∷◌, ◌++◌, ◌↔◌, Result, Ok, Err, inl, inr, length, sym, refl, ap, subst, true, false}
+use Rattle.std.specs.Prelude.{IfOk, IfErr, IsOk}
 use Rattle.std.proofs.lemmas.List.{length-append}
 use mathlib.Core.Option.{some}
 use lib.ListN.{get_elem?}
 use Rattle.atomic_table.specs.Seated.{TableId}
 use Rattle.atomic_table.proofs.Lists.{at_last, at_longer}
-use Rattle.range_rw.specs.Contract.{IsSeatCount, AreNewSeats, new_seat}
+use Rattle.list_cuts.specs.Cut.{Regions, IsCut, list_count}
+use Rattle.range_rw.specs.Contract.{IsSeatCount, AreNewSeatsIn, new_seat_in}
+use Rattle.range_c.specs.declared.answers.Answer.{Answer}
+use Rattle.range_c.specs.declared.answers.Answer.TheVariants.{BadCut}
 use Rattle.range_c.specs.Recording.{begun}
-use Rattle.range_c.specs.Behind.{Behind, RecordingSeat, IsNewBehind, IsShared}
+use Rattle.range_c.specs.Behind.{Behind, RecordingSeat, IsNewBehindIn, IsNotOpened, IsNotCut, IsShared, cut_into}
 
 -- this is so of each element of the list, by its place
 abbrev pub AllAt : {A : Type 0} → (ℕ → A → Type 0) → List A → Type 0
@@ -34,47 +38,71 @@ abbrev pub Row : Type 0
 Row = List RecordingSeat
 
 -- what is behind a handle with this seat
-abbrev pub behind : RecordingSeat → ℕ → ℕ → ℕ → Behind
-behind seat spare words seats = record { seat = seat; spare = spare; words = words; seats = seats }
+abbrev pub behind : RecordingSeat → ℕ → ℕ → ℕ → Regions → Behind
+behind seat spare words seats cut = record { seat = seat; spare = spare; words = words; seats = seats; cut = cut }
 
 -- the seat that is taken from the end
-pub taken : (t : TableId) (w : List ℕ) (old new : Row) (s : RecordingSeat) → old ≡ new ++ s ∷ [] → AreNewSeats t (begun w) old
-    → (s ≡ new_seat t (begun w) (length new)) × AreNewSeats t (begun w) new
-taken t w old new s e all = popped (λ k (x : RecordingSeat). x ≡ new_seat t (begun w) k) old new s e all
+pub taken : (lists : ℕ) (t : TableId) (w : List ℕ) (old new : Row) (s : RecordingSeat) → old ≡ new ++ s ∷ []
+    → AreNewSeatsIn lists t (begun w) old → (s ≡ new_seat_in lists t (begun w) (length new)) × AreNewSeatsIn lists t (begun w) new
+taken lists t w old new s e all = popped (λ k (x : RecordingSeat). x ≡ new_seat_in lists t (begun w) k) old new s e all
 
 -- a seat put back at the end
 pub put_back : (old new again : Row) (s x : RecordingSeat) → old ≡ new ++ s ∷ [] → x ≡ s → again ≡ new ++ x ∷ [] → again ≡ old
 put_back old new again s x e is f = f ∙ (ap (λ y. new ++ y ∷ []) is ∙ sym e)
 
-own_table : (t : TableId) (w : List ℕ) (k : ℕ) (s : RecordingSeat) → s ≡ new_seat t (begun w) k → s ≡ new_seat s.table (begun w) k
-own_table t w k s e = subst (λ x. s ≡ new_seat x (begun w) k) (sym (ap (λ (x : RecordingSeat). x.table) e)) e
+own_table : (lists : ℕ) (t : TableId) (w : List ℕ) (k : ℕ) (s : RecordingSeat) → s ≡ new_seat_in lists t (begun w) k
+    → s ≡ new_seat_in lists s.table (begun w) k
+own_table lists t w k s e = subst (λ x. s ≡ new_seat_in lists x (begun w) k) (sym (ap (λ (x : RecordingSeat). x.table) e)) e
 
--- what is behind the first handle of a new table
-pub opens : (t : TableId) (seats n : ℕ) (client : List ℕ) (old new : Row) (s : RecordingSeat) (b : Behind) → IsSeatCount seats
+-- what is behind the first handle of a new table over a cut
+pub opens : (t : TableId) (cut c : Regions) (seats n : ℕ) (client : List ℕ) (old new : Row) (s : RecordingSeat) (b : Behind) → IsSeatCount seats
     → length client ≤ 2 ^ 20 → length old ≡ seats → old ≡ new ++ s ∷ []
-    → AreNewSeats t (begun client) old → n ≡ seats → b ≡ behind s (length new) (length client) n → IsNewBehind seats client b
-opens t seats n client old new s b counted most len e all same is = subst (λ x. IsNewBehind seats client x) (sym is) (record {
+    → AreNewSeatsIn (list_count cut) t (begun client) old → n ≡ seats → c ≡ cut → b ≡ behind s (length new) (length client) n c
+    → IsNewBehindIn cut seats client b
+opens t cut c seats n client old new s b counted most len e all same kept is = subst (λ x. IsNewBehindIn cut seats client x) (sym is) (record {
   seat_count = counted;
   word_count = most;
   spare = longer old new s e ∙ len;
-  seat = own_table t client (length new) s (taken t client old new s e all).0;
+  seat = own_table (list_count cut) t client (length new) s (taken (list_count cut) t client old new s e all).0;
   words = refl;
   table_seats = same;
+  table_cut = kept;
 })
 
 -- what is behind a handle that shares, and behind the new one
-pub shares : (t : TableId) (old new rest : Row) (mine s : RecordingSeat) (words seats : ℕ) (before b : Behind)
-    → behind mine (length old) words seats ≡ before → mine.table ≡ t
-    → old ≡ new ++ s ∷ [] → AreNewSeats t (begun mine.pass.opened) old → length rest ≡ 0 → b ≡ behind s (length rest) words seats
-    → IsShared before (behind mine (length new) words seats) b
-shares t old new rest mine s words seats before b was table e all none is =
-    let now = behind mine (length new) words seats in
+pub shares : (t : TableId) (old new rest : Row) (mine s : RecordingSeat) (words seats : ℕ) (cut : Regions) (before b : Behind)
+    → behind mine (length old) words seats cut ≡ before → mine.table ≡ t
+    → old ≡ new ++ s ∷ [] → AreNewSeatsIn (list_count cut) t (begun mine.pass.opened) old → length rest ≡ 0
+    → b ≡ behind s (length rest) words seats cut → IsShared before (behind mine (length new) words seats cut) b
+shares t old new rest mine s words seats cut before b was table e all none is =
+    let now = behind mine (length new) words seats cut in
     let w = mine.pass.opened in
-    subst (λ x. IsShared x now b) was (subst (λ x. IsShared (behind mine (length old) words seats) now x) (sym is) (record {
+    subst (λ x. IsShared x now b) was (subst (λ x. IsShared (behind mine (length old) words seats cut) now x) (sym is) (record {
       kept = refl;
       spare = longer old new s e;
-      seat = subst (λ x. s ≡ new_seat x (begun w) (length new)) (sym table) (taken t w old new s e all).0;
+      seat = subst (λ x. s ≡ new_seat_in (list_count cut) x (begun w) (length new)) (sym table) (taken (list_count cut) t w old new s e all).0;
       none = none;
       words = refl;
       seats = refl;
+      cut = refl;
     }))
+
+-- what a table over a cut begins with, by the two numbers of the cut
+pub opens_cut : {A E : Type 0} (r : Result A E) (of : A → Behind) (regions bits seats : ℕ) (client : List ℕ) (cut : Regions)
+    → cut.count ≡ regions → cut.bits ≡ bits → IsCut regions bits → IfOk r (λ b. IsNewBehindIn cut seats client (of b))
+    → IfOk r (λ b. IsCut regions bits × IsNewBehindIn (cut_into regions bits) seats client (of b))
+opens_cut (Ok b) of regions bits seats client cut count size is new =
+    (is, subst (λ (k : Regions). IsNewBehindIn k seats client (of b)) (λ i. record { count = count i; bits = size i }) new)
+opens_cut (Err e) of regions bits seats client cut count size is new = tt
+
+-- where the numbers make a cut, why no table was opened is as without one
+pub opens_no_cut : {A : Type 0} (r : Result A Answer) (regions bits seats count : ℕ) → IsCut regions bits
+    → IfErr r (IsNotOpened seats count) → IfErr r (IsNotCut regions bits seats count)
+opens_no_cut (Ok b) regions bits seats count is why = tt
+opens_no_cut (Err e) regions bits seats count is why = inr (is, why)
+
+-- where they make none, that is the cause
+pub no_cut : {A E : Type 0} (r : Result A E) (e : E) (regions bits seats count : ℕ) → r ≡ Err e → (IsOk r ↔ IsCut regions bits)
+    → IsNotCut regions bits seats count BadCut
+no_cut (Ok a) e regions bits seats count is exactly = absurd cc
+no_cut (Err x) e regions bits seats count is exactly = inl (refl, λ cut. absurd (let never : false ≡ true = exactly.1 cut in cc))

@@ -9,7 +9,7 @@ use prog.Atomic.{either}
 use Rattle.atomic_table.specs.Seated.{TableId}
 use Rattle.lock_core.specs.Client.{ClientStep, loads, stores, adds, exchanges, place_of, words_after, IsAllowed, IsMade}
 use Rattle.lock_core.specs.declared.range.Held.{Held}
-use Rattle.range_rw.specs.Contract.{IsLockCall, IsRelease, AreNewSeats, first_passes}
+use Rattle.range_rw.specs.Contract.{IsLockCall, IsRelease, AreNewSeatsIn, first_passes}
 use Rattle.range_rw.proofs.SeatLists.{at_firsts}
 use Rattle.range_c.specs.declared.recording.Made.{Made}
 use Rattle.range_c.specs.declared.recording.Recorded.{Recorded}
@@ -103,18 +103,18 @@ begins words seats untouched seat p at =
     let m = at_firsts (begun words) 0 seats seat p at in sym (ap (λ (q : Recorded). q.opened) m.1)
 
 -- the seats that are left to share know of the same words at the opening as a seat that was in a call of the lock
-pub after_call : (t : TableId) (a b : RecordingSeat) (l : List RecordingSeat) → IsLockCall a b → AreNewSeats t (begun a.pass.opened) l
-    → AreNewSeats t (begun b.pass.opened) l
-after_call t a b l call new = subst (λ w. AreNewSeats t (begun w) l) (sym (ap (λ (p : Recorded). p.opened) call.pass)) new
+pub after_call : (lists : ℕ) (t : TableId) (a b : RecordingSeat) (l : List RecordingSeat) → IsLockCall a b → AreNewSeatsIn lists t (begun a.pass.opened) l
+    → AreNewSeatsIn lists t (begun b.pass.opened) l
+after_call lists t a b l call new = subst (λ w. AreNewSeatsIn lists t (begun w) l) (sym (ap (λ (p : Recorded). p.opened) call.pass)) new
 
 -- so do they after a release of its range
-pub after_release : (t : TableId) (a b : RecordingSeat) (l : List RecordingSeat) → IsRelease (λ p. p) a b
-    → AreNewSeats t (begun a.pass.opened) l → AreNewSeats t (begun b.pass.opened) l
-after_release t a b l release new = subst (λ w. AreNewSeats t (begun w) l) (sym (ap (λ (p : Recorded). p.opened) release.pass)) new
+pub after_release : (lists : ℕ) (t : TableId) (a b : RecordingSeat) (l : List RecordingSeat) → IsRelease (λ p. p) a b
+    → AreNewSeatsIn lists t (begun a.pass.opened) l → AreNewSeatsIn lists t (begun b.pass.opened) l
+after_release lists t a b l release new = subst (λ w. AreNewSeatsIn lists t (begun w) l) (sym (ap (λ (p : Recorded). p.opened) release.pass)) new
 
 -- and after a step on a client word
-pub after_step : (t : TableId) (a b : RecordingSeat) (l : List RecordingSeat) (step : ClientStep) (found : ℕ)
+pub after_step : (lists : ℕ) (t : TableId) (a b : RecordingSeat) (l : List RecordingSeat) (step : ClientStep) (found : ℕ)
     → IsMade IsBegun IsRecorded tt a.number a.held a.pass step found b.pass
-    → AreNewSeats t (begun a.pass.opened) l → AreNewSeats t (begun b.pass.opened) l
-after_step t a b l step found made new = subst (λ w. AreNewSeats t (begun w) l)
+    → AreNewSeatsIn lists t (begun a.pass.opened) l → AreNewSeatsIn lists t (begun b.pass.opened) l
+after_step lists t a b l step found made new = subst (λ w. AreNewSeatsIn lists t (begun w) l)
     (sym (ap (λ (p : Recorded). p.opened) (last_is a.number a.held a.pass step found b.pass made))) new

@@ -4,31 +4,38 @@ use Rattle.std.proofs.Common.{◌≡◌, ℕ, zero, suc, ◌+◌, ◌*◌, ◌<�
 use Rattle.std.specs.Prelude.{IfOk, IfErr, OnOk, OnErr}
 use Rattle.std.proofs.Math.Nat.{suc-mul, zero-mul, mul-le-mul_right}
 use Rattle.std.proofs.Math.Numerals.{add-one}
+use Rattle.list_cuts.specs.Cut.{Regions, list_count}
 use Rattle.lock_core.specs.Range.{Interval, IsRange}
 use Rattle.lock_core.specs.declared.range.Held.{Held}
 use Rattle.lock_core.specs.declared.range.Mode.{Mode}
 use Rattle.range_rw.specs.declared.refusals.NotHeld.{NotHeld}
 use Rattle.range_rw.specs.Contract.{IsLockCall, IsCause, IsLongRefusal, IsSpentIn}
+use Rattle.range_rw.specs.Several.{TakesAlone}
 use Rattle.range_c.specs.declared.answers.Answer.{Answer}
 use Rattle.range_c.specs.declared.answers.Answer.TheVariants.{Done, Refused, NotTried, BadRange, HasOne, HasNone}
 use Rattle.range_c.specs.declared.answers.Answer.TheVariants.{Closed, Open, Memory, Seats, Words, NoneLeft, NoWord}
-use Rattle.range_c.specs.declared.answers.Answer.TheVariants.{Other}
+use Rattle.range_c.specs.declared.answers.Answer.TheVariants.{Other, BadCut}
 use Rattle.range_c.specs.Behind.{Behind, RecordingSeat, IsTrial, IsOneTry, IsGranted, IsRefused, AreRefused, IsTrialAnswer, IsTriedFor, IsTried, most_steps}
 use Rattle.range_c.specs.Behind.{mode_for, asked}
 
 -- what `range_rw` says of a try that was refused, put together
-pub refused_for : {T : Type 0} (r : Result T NotHeld) (seats : ℕ) (ask : Held) (entry after : RecordingSeat) → IsLockCall entry after → entry.held ≡ None
-    → after.trace.taken ≤ entry.trace.taken + most_steps seats → OnErr r (after.held ≡ None) → IfErr r (IsCause entry after ask)
-    → IfErr r (λ why. IsLongRefusal why ↔ IsSpentIn seats entry after) → IfErr r (IsRefused seats ask entry after)
-refused_for (Ok x) seats ask entry after call free bound none cause long = tt
-refused_for (Err why) seats ask entry after call free bound none cause long =
-    record { one = record { call = call; free = free; bound = bound }; free = none; cause = cause; long = long }
+pub refused_for : {T : Type 0} (r : Result T NotHeld) (seats : ℕ) (cut : Regions) (ask : Held) (entry after : RecordingSeat) → IsLockCall entry after
+    → entry.held ≡ None → after.trace.taken ≤ entry.trace.taken + most_steps seats (list_count cut)
+    → (TakesAlone cut ask.range → after.trace.taken ≤ entry.trace.taken + (64 + 386 * seats)) → OnErr r (after.held ≡ None)
+    → IfErr r (IsCause entry after ask)
+    → IfErr r (λ why. IsLongRefusal why ↔ IsSpentIn seats entry after) → IfErr r (IsRefused seats cut ask entry after)
+refused_for (Ok x) seats cut ask entry after call free bound alone none cause long = tt
+refused_for (Err why) seats cut ask entry after call free bound alone none cause long =
+    record { one = record { call = call; free = free; bound = bound; alone = λ h. let b = alone h in omega arith }; free = none; cause = cause; long = long }
 
 -- and of one that holds what was asked for
-pub granted_for : {T : Type 0} (r : Result T NotHeld) (seats : ℕ) (ask : Held) (entry after : RecordingSeat) → IsLockCall entry after → entry.held ≡ None
-    → after.trace.taken ≤ entry.trace.taken + most_steps seats → OnOk r (after.held ≡ Some ask) → IfOk r (λ _. IsGranted seats ask entry after)
-granted_for (Ok x) seats ask entry after call free bound held = record { one = record { call = call; free = free; bound = bound }; held = held }
-granted_for (Err why) seats ask entry after call free bound held = tt
+pub granted_for : {T : Type 0} (r : Result T NotHeld) (seats : ℕ) (cut : Regions) (ask : Held) (entry after : RecordingSeat) → IsLockCall entry after
+    → entry.held ≡ None → after.trace.taken ≤ entry.trace.taken + most_steps seats (list_count cut)
+    → (TakesAlone cut ask.range → after.trace.taken ≤ entry.trace.taken + (64 + 386 * seats)) → OnOk r (after.held ≡ Some ask)
+    → IfOk r (λ _. IsGranted seats cut ask entry after)
+granted_for (Ok x) seats cut ask entry after call free bound alone held =
+    record { one = record { call = call; free = free; bound = bound; alone = λ h. let b = alone h in omega arith }; held = held }
+granted_for (Err why) seats cut ask entry after call free bound alone held = tt
 
 -- calls of the lock, one after another, are calls of the lock
 pub calls_after : (a b c : RecordingSeat) → IsLockCall a b → IsLockCall b c → IsLockCall a c
@@ -47,6 +54,7 @@ trials_after a b c f g = record {
   spare = g.spare ∙ f.spare;
   words = g.words ∙ f.words;
   seats = g.seats ∙ f.seats;
+  cut = g.cut ∙ f.cut;
 }
 
 -- what the tries so far came to, with so many left of those that were asked for
@@ -55,13 +63,13 @@ IsSoFar asked tries left before now answer = (made : ℕ) × (made + left ≡ tr
 
 -- tries after which nothing is held were all refused
 all_refused : (ask : Held) (made : ℕ) (before now : Behind) (answer : Answer) → now.seat.held ≡ None → IsTrialAnswer ask made before now answer
-    → AreRefused before.seats ask made before.seat now.seat
+    → AreRefused before.seats before.cut ask made before.seat now.seat
 all_refused ask made before now Done free s =
     let never : Some ask ≡ None = sym s.4.held ∙ free in absurd cc
 all_refused ask made before now (Refused why) free s =
-    subst (λ n. AreRefused before.seats ask n before.seat now.seat) (sym (add-one s.0) ∙ s.1) (s.2, why, s.3, s.4)
+    subst (λ n. AreRefused before.seats before.cut ask n before.seat now.seat) (sym (add-one s.0) ∙ s.1) (s.2, why, s.3, s.4)
 all_refused ask made before now NotTried free s =
-    subst (λ n. AreRefused before.seats ask n before.seat now.seat) (sym s.0) (ap (λ (b : Behind). b.seat) s.1)
+    subst (λ n. AreRefused before.seats before.cut ask n before.seat now.seat) (sym s.0) (ap (λ (b : Behind). b.seat) s.1)
 all_refused ask made before now BadRange free s = absurd s
 all_refused ask made before now HasOne free s = absurd s
 all_refused ask made before now HasNone free s = absurd s
@@ -73,6 +81,7 @@ all_refused ask made before now Words free s = absurd s
 all_refused ask made before now NoneLeft free s = absurd s
 all_refused ask made before now NoWord free s = absurd s
 all_refused ask made before now Other free s = absurd s
+all_refused ask made before now BadCut free s = absurd s
 
 -- tries give none of the answers that come before them
 pub tried : (lo hi : ℕ) (writer : Bool) (tries : ℕ) (answer : Answer) (before after : Behind)
@@ -91,23 +100,26 @@ tried lo hi writer tries Words before after t = t
 tried lo hi writer tries NoneLeft before after t = t
 tried lo hi writer tries NoWord before after t = t
 tried lo hi writer tries Other before after t = t
+tried lo hi writer tries BadCut before after t = t
 
 -- one more try was refused for that cause
 pub one_more : (ask : Held) (tries left next : ℕ) (before mid now : Behind) (answer : Answer) (why : NotHeld) → next + 1 ≡ left
-    → IsTrial before mid → mid.seat.held ≡ None → IsSoFar ask tries left before mid answer → IsRefused mid.seats ask mid.seat now.seat why
+    → IsTrial before mid → mid.seat.held ≡ None → IsSoFar ask tries left before mid answer → IsRefused mid.seats mid.cut ask mid.seat now.seat why
     → IsSoFar ask tries next before now (Refused why)
 one_more ask tries left next before mid now answer why e kept free far refused =
     let now_made : far.0 + 1 + next ≡ tries = let f = far.1 in omega arith in
-    let one = subst (λ (n : ℕ). IsRefused n ask mid.seat now.seat why) kept.seats refused in
+    let one = subst (λ (k : Regions). IsRefused before.seats k ask mid.seat now.seat why) kept.cut
+    (subst (λ (n : ℕ). IsRefused n mid.cut ask mid.seat now.seat why) kept.seats refused) in
     (far.0 + 1, now_made, (far.0, refl, mid.seat, all_refused ask far.0 before mid answer free far.2, one))
 
 -- one more try holds what was asked for
 pub at_last : (ask : Held) (tries left : ℕ) (before mid now : Behind) (answer : Answer) → 0 < left → IsTrial before mid
-    → mid.seat.held ≡ None → IsSoFar ask tries left before mid answer → IsGranted mid.seats ask mid.seat now.seat
+    → mid.seat.held ≡ None → IsSoFar ask tries left before mid answer → IsGranted mid.seats mid.cut ask mid.seat now.seat
     → IsTrialAnswer ask tries before now Done
 at_last ask tries left before mid now answer more kept free far granted =
     let below : far.0 < tries = let f = far.1 in omega arith in
-    let one = subst (λ (n : ℕ). IsGranted n ask mid.seat now.seat) kept.seats granted in
+    let one = subst (λ (k : Regions). IsGranted before.seats k ask mid.seat now.seat) kept.cut
+    (subst (λ (n : ℕ). IsGranted n mid.cut ask mid.seat now.seat) kept.seats granted) in
     (far.0, below, mid.seat, all_refused ask far.0 before mid answer free far.2, one)
 
 -- none is left
@@ -120,41 +132,48 @@ all_made ask tries left before now answer none far =
 more_steps : (a b c n m : ℕ) → b ≤ a + n * m → c ≤ b + m → c ≤ a + suc n * m
 more_steps a b c n m first next = let e = suc-mul n m in omega arith
 
--- tries that were refused made at most the steps of so many
-refused_steps : (seats : ℕ) (ask : Held) (n : ℕ) (a b : RecordingSeat) → AreRefused seats ask n a b
-    → b.trace.taken ≤ a.trace.taken + n * most_steps seats
-refused_steps seats ask zero a b s =
-    let same = ap (λ (x : RecordingSeat). x.trace.taken) s in let z = zero-mul (most_steps seats) in omega arith
-refused_steps seats ask (suc n) a b s = more_steps a.trace.taken s.0.trace.taken b.trace.taken n (most_steps seats)
-    (refused_steps seats ask n a s.0 s.2) s.3.one.bound
+-- each try for this range makes at most so many steps
+abbrev pub IsMostOf : ℕ → Regions → Held → ℕ → Type 0
+IsMostOf seats cut ask m = (entry after : RecordingSeat) → IsOneTry seats cut ask.range entry after → after.trace.taken ≤ entry.trace.taken + m
 
-last_steps : (seats n tries : ℕ) (ask : Held) (a entry b : RecordingSeat) → n < tries → AreRefused seats ask n a entry
-    → IsOneTry seats entry b → b.trace.taken ≤ a.trace.taken + tries * most_steps seats
-last_steps seats n tries ask a entry b below refused one =
-    let all = more_steps a.trace.taken entry.trace.taken b.trace.taken n (most_steps seats) (refused_steps seats ask n a entry refused) one.bound in
-    let most : suc n ≤ tries = omega arith in
-    let times = mul-le-mul_right (most_steps seats) most in
+-- tries that were refused made at most the steps of so many
+refused_steps : (seats : ℕ) (cut : Regions) (ask : Held) (m : ℕ) → IsMostOf seats cut ask m → (n : ℕ) (a b : RecordingSeat)
+    → AreRefused seats cut ask n a b → b.trace.taken ≤ a.trace.taken + n * m
+refused_steps seats cut ask m most zero a b s =
+    let same = ap (λ (x : RecordingSeat). x.trace.taken) s in let z = zero-mul m in omega arith
+refused_steps seats cut ask m most (suc n) a b s = more_steps a.trace.taken s.0.trace.taken b.trace.taken n m
+    (refused_steps seats cut ask m most n a s.0 s.2) (most s.0 b s.3.one)
+
+last_steps : (seats : ℕ) (cut : Regions) (ask : Held) (m : ℕ) → IsMostOf seats cut ask m → (n tries : ℕ) (a entry b : RecordingSeat) → n < tries
+    → AreRefused seats cut ask n a entry → IsOneTry seats cut ask.range entry b → b.trace.taken ≤ a.trace.taken + tries * m
+last_steps seats cut ask m most n tries a entry b below refused one =
+    let all = more_steps a.trace.taken entry.trace.taken b.trace.taken n m (refused_steps seats cut ask m most n a entry refused) (most entry b one) in
+    let fewer : suc n ≤ tries = omega arith in
+    let times = mul-le-mul_right m fewer in
     omega arith
 
 -- tries make at most the steps of as many as were asked for
-pub trial_steps : (ask : Held) (tries : ℕ) (before after : Behind) (answer : Answer) → IsTrialAnswer ask tries before after answer
-    → after.seat.trace.taken ≤ before.seat.trace.taken + tries * most_steps before.seats
-trial_steps ask tries before after Done s = last_steps before.seats s.0 tries ask before.seat s.2 after.seat s.1 s.3 s.4.one
-trial_steps ask tries before after (Refused why) s =
-    let below : s.0 < tries = let e = s.1 in omega arith in last_steps before.seats s.0 tries ask before.seat s.2 after.seat below s.3 s.4.one
-trial_steps ask tries before after NotTried s =
+pub trial_steps : (ask : Held) (tries m : ℕ) (before after : Behind) (answer : Answer) → IsMostOf before.seats before.cut ask m
+    → IsTrialAnswer ask tries before after answer → after.seat.trace.taken ≤ before.seat.trace.taken + tries * m
+trial_steps ask tries m before after Done most s =
+    last_steps before.seats before.cut ask m most s.0 tries before.seat s.2 after.seat s.1 s.3 s.4.one
+trial_steps ask tries m before after (Refused why) most s =
+    let below : s.0 < tries = let e = s.1 in omega arith in
+    last_steps before.seats before.cut ask m most s.0 tries before.seat s.2 after.seat below s.3 s.4.one
+trial_steps ask tries m before after NotTried most s =
     let same = ap (λ (b : Behind). b.seat.trace.taken) s.1 in omega arith
-trial_steps ask tries before after BadRange s = absurd s
-trial_steps ask tries before after HasOne s = absurd s
-trial_steps ask tries before after HasNone s = absurd s
-trial_steps ask tries before after Closed s = absurd s
-trial_steps ask tries before after Open s = absurd s
-trial_steps ask tries before after Memory s = absurd s
-trial_steps ask tries before after Seats s = absurd s
-trial_steps ask tries before after Words s = absurd s
-trial_steps ask tries before after NoneLeft s = absurd s
-trial_steps ask tries before after NoWord s = absurd s
-trial_steps ask tries before after Other s = absurd s
+trial_steps ask tries m before after BadRange most s = absurd s
+trial_steps ask tries m before after HasOne most s = absurd s
+trial_steps ask tries m before after HasNone most s = absurd s
+trial_steps ask tries m before after Closed most s = absurd s
+trial_steps ask tries m before after Open most s = absurd s
+trial_steps ask tries m before after Memory most s = absurd s
+trial_steps ask tries m before after Seats most s = absurd s
+trial_steps ask tries m before after Words most s = absurd s
+trial_steps ask tries m before after NoneLeft most s = absurd s
+trial_steps ask tries m before after NoWord most s = absurd s
+trial_steps ask tries m before after Other most s = absurd s
+trial_steps ask tries m before after BadCut most s = absurd s
 
 -- the tries for a range with these ends, in the mode that the flag means, are those that the call asks for
 pub tried_for : (lo hi : ℕ) (range : Interval) (writer : Bool) (mode : Mode) (tries : ℕ) (answer : Answer) (before after : Behind)
@@ -176,5 +195,6 @@ tried_for lo hi range writer mode tries answer before after l h m is free kept a
       free = free;
       kept = kept;
       answered = all;
-      bound = trial_steps (asked lo hi writer) tries before after answer all;
+      bound = trial_steps (asked lo hi writer) tries (most_steps before.seats (list_count before.cut)) before after answer (λ e x one. one.bound) all;
+      alone = λ h. trial_steps (asked lo hi writer) tries (most_steps before.seats 1) before after answer (λ e x one. one.alone h) all;
     })

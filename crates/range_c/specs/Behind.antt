@@ -1,16 +1,19 @@
--- What contracts see of what is behind a handle: its seat, how many seats are left to share, and how many client words
--- and seats the table has; and what each call answers and leaves of it. The causes of a refused try are those of
--- `range_rw`; the answers are this project's own.
-use Rattle.std.specs.Prelude.{◌≡◌, ◌≢◌, ℕ, zero, suc, ◌+◌, ◌*◌, ◌%◌, ◌<◌, ◌≤◌, ◌^◌, ◌↔◌, Bool, true, false, List, length, Option, Some, None}
+-- What contracts see of what is behind a handle: its seat, how many seats are left to share, how many client words and
+-- seats the table has, and how the numbers are cut for its lists; and what each call answers and leaves of it. The
+-- causes of a refused try are those of `range_rw`; the answers are this project's own.
+use Rattle.std.specs.Prelude.{◌≡◌, ◌≢◌, ◌⊎◌, ℕ, zero, suc, ◌+◌, ◌*◌, ◌%◌, ◌<◌, ◌≤◌, ◌^◌, ◌↔◌, Bool, true, false, List, length, Option, Some, None}
+use Rattle.list_cuts.specs.Cut.{Regions, IsCut, list_count}
 use Rattle.lock_core.specs.Client.{IsMade}
-use Rattle.lock_core.specs.Range.{IsRange}
+use Rattle.lock_core.specs.Range.{Interval, IsRange}
 use Rattle.lock_core.specs.declared.range.Held.{Held}
 use Rattle.lock_core.specs.declared.range.Mode.{Mode}
 use Rattle.lock_core.specs.declared.range.Mode.TheVariants.{Reader, Writer}
 use Rattle.range_rw.specs.declared.refusals.NotHeld.{NotHeld}
-use Rattle.range_rw.specs.Contract.{SeatState, IsSeatCount, IsLockCall, IsClientCall, IsRelease, IsCause, IsLongRefusal, IsSpentIn, new_seat}
+use Rattle.range_rw.specs.Contract.{SeatState, IsSeatCount, IsLockCall, IsClientCall, IsRelease, IsCause, IsLongRefusal, IsSpentIn, new_seat_in}
+use Rattle.range_rw.specs.Several.{TakesAlone}
 use Rattle.range_c.specs.declared.answers.Answer.{Answer}
 use Rattle.range_c.specs.declared.answers.Answer.TheVariants.{Done, Refused, NotTried, BadRange, HasOne, HasNone, Memory, Seats, Words, NoneLeft, NoWord, Other}
+use Rattle.range_c.specs.declared.answers.Answer.TheVariants.{BadCut}
 use Rattle.range_c.specs.declared.answers.GzBusy.{GzBusy}
 use Rattle.range_c.specs.declared.recording.Recorded.{Recorded}
 use Rattle.range_c.specs.declared.recording.WordStep.{WordStep}
@@ -27,6 +30,7 @@ pub record Behind : Type 0 where
   pub spare : ℕ
   pub words : ℕ
   pub seats : ℕ
+  pub cut : Regions
 
 -- a handle is open
 abbrev pub IsOpen : Option Behind → Type 0
@@ -42,15 +46,24 @@ abbrev pub mode_for : Bool → Mode
 mode_for false = Reader
 mode_for true = Writer
 
--- what is behind a new handle of a new table: the seat of the highest number, which holds nothing and knows that the
--- client words were these at the opening, and the others
-pub record IsNewBehind (seats : ℕ) (client : List ℕ) (b : Behind) : Type 0 where
+-- what is behind a new handle of a new table over a cut: the seat of the highest number, which holds nothing and knows
+-- that the client words were these at the opening, and the others
+pub record IsNewBehindIn (cut : Regions) (seats : ℕ) (client : List ℕ) (b : Behind) : Type 0 where
   pub seat_count : IsSeatCount seats
   pub word_count : length client ≤ 2 ^ 20
   pub spare : b.spare + 1 ≡ seats
-  pub seat : b.seat ≡ new_seat b.seat.table (begun client) b.spare
+  pub seat : b.seat ≡ new_seat_in (list_count cut) b.seat.table (begun client) b.spare
   pub words : b.words ≡ length client
   pub table_seats : b.seats ≡ seats
+  pub table_cut : b.cut ≡ cut
+
+-- the cut into so many regions, in blocks of 2^bits numbers
+abbrev pub cut_into : ℕ → ℕ → Regions
+cut_into regions bits = record { count = regions; bits = bits }
+
+-- the same of a table of one region, which has one list
+abbrev pub IsNewBehind : ℕ → List ℕ → Behind → Type 0
+IsNewBehind = IsNewBehindIn (cut_into 1 62)
 
 -- why no table was opened
 abbrev pub IsNotOpened : ℕ → ℕ → Answer → Type 0
@@ -59,15 +72,20 @@ IsNotOpened seats count Seats = (count ≤ 2 ^ 20) × ¬ (IsSeatCount seats)
 IsNotOpened seats count Memory = (count ≤ 2 ^ 20) × IsSeatCount seats
 IsNotOpened seats count _ = ⊥
 
+-- why no table was opened over a cut: the two numbers make none, or they do and it is another cause
+abbrev pub IsNotCut : ℕ → ℕ → ℕ → ℕ → Answer → Type 0
+IsNotCut regions bits seats count why = ((why ≡ BadCut) × ¬ (IsCut regions bits)) ⊎ (IsCut regions bits × IsNotOpened seats count why)
+
 -- a seat was taken out for a handle of its own: the last of those that were left, which is of the same table, holds
 -- nothing, and knows of the same words at the opening
 pub record IsShared (before after new : Behind) : Type 0 where
   pub kept : after ≡ record before { spare = after.spare }
   pub spare : after.spare + 1 ≡ before.spare
-  pub seat : new.seat ≡ new_seat before.seat.table (begun before.seat.pass.opened) after.spare
+  pub seat : new.seat ≡ new_seat_in (list_count before.cut) before.seat.table (begun before.seat.pass.opened) after.spare
   pub none : new.spare ≡ 0
   pub words : new.words ≡ before.words
   pub seats : new.seats ≡ before.seats
+  pub cut : new.cut ≡ before.cut
 
 -- why no seat was taken out of so many that were left
 abbrev pub IsUnshared : ℕ → Answer → Type 0
@@ -85,43 +103,46 @@ pub record IsTrial (before after : Behind) : Type 0 where
   pub spare : after.spare ≡ before.spare
   pub words : after.words ≡ before.words
   pub seats : after.seats ≡ before.seats
+  pub cut : after.cut ≡ before.cut
 
--- the most steps on words of the lock that one try makes in a table of so many seats
-abbrev pub most_steps : ℕ → ℕ
-most_steps seats = 64 + 386 * seats
+-- the most steps on words of the lock that one try makes in a table of so many seats and lists
+abbrev pub most_steps : ℕ → ℕ → ℕ
+most_steps seats lists = (64 + 386 * seats) * lists
 
--- one try of a seat that holds nothing, in a table of so many seats, from one state of the seat to another
-pub record IsOneTry (seats : ℕ) (entry after : RecordingSeat) : Type 0 where
+-- one try of a seat that holds nothing, in a table of so many seats over a cut, from one state of the seat to another:
+-- where the range takes one list alone, its steps are those in a table of one list
+pub record IsOneTry (seats : ℕ) (cut : Regions) (range : Interval) (entry after : RecordingSeat) : Type 0 where
   pub call : IsLockCall entry after
   pub free : entry.held ≡ None
-  pub bound : after.trace.taken ≤ entry.trace.taken + most_steps seats
+  pub bound : after.trace.taken ≤ entry.trace.taken + most_steps seats (list_count cut)
+  pub alone : TakesAlone cut range → after.trace.taken ≤ entry.trace.taken + most_steps seats 1
 
 -- one try that holds what was asked for
-pub record IsGranted (seats : ℕ) (asked : Held) (entry after : RecordingSeat) : Type 0 where
-  pub one : IsOneTry seats entry after
+pub record IsGranted (seats : ℕ) (cut : Regions) (asked : Held) (entry after : RecordingSeat) : Type 0 where
+  pub one : IsOneTry seats cut asked.range entry after
   pub held : after.held ≡ Some asked
 
 -- one try that was refused for that cause, as `range_rw` says; that it was too long exactly where a walk of it looked
 -- at as many nodes as one may
-pub record IsRefused (seats : ℕ) (asked : Held) (entry after : RecordingSeat) (why : NotHeld) : Type 0 where
-  pub one : IsOneTry seats entry after
+pub record IsRefused (seats : ℕ) (cut : Regions) (asked : Held) (entry after : RecordingSeat) (why : NotHeld) : Type 0 where
+  pub one : IsOneTry seats cut asked.range entry after
   pub free : after.held ≡ None
   pub cause : IsCause entry after asked why
   pub long : IsLongRefusal why ↔ IsSpentIn seats entry after
 
 -- so many tries, one behind the other, each of which was refused
-abbrev pub AreRefused : ℕ → Held → ℕ → RecordingSeat → RecordingSeat → Type 0
-AreRefused seats asked zero before after = after ≡ before
-AreRefused seats asked (suc n) before after = (entry : RecordingSeat) × (why : NotHeld)
-    × AreRefused seats asked n before entry × IsRefused seats asked entry after why
+abbrev pub AreRefused : ℕ → Regions → Held → ℕ → RecordingSeat → RecordingSeat → Type 0
+AreRefused seats cut asked zero before after = after ≡ before
+AreRefused seats cut asked (suc n) before after = (entry : RecordingSeat) × (why : NotHeld)
+    × AreRefused seats cut asked n before entry × IsRefused seats cut asked entry after why
 
 -- what at most so many tries came to: some were refused, and then one was granted; or as many as were asked for were
 -- refused, the last one for that cause
 abbrev pub IsTrialAnswer : Held → ℕ → Behind → Behind → Answer → Type 0
 IsTrialAnswer asked tries before after Done = (n : ℕ) × (n < tries) × (entry : RecordingSeat)
-    × AreRefused before.seats asked n before.seat entry × IsGranted before.seats asked entry after.seat
+    × AreRefused before.seats before.cut asked n before.seat entry × IsGranted before.seats before.cut asked entry after.seat
 IsTrialAnswer asked tries before after (Refused why) = (n : ℕ) × (n + 1 ≡ tries) × (entry : RecordingSeat)
-    × AreRefused before.seats asked n before.seat entry × IsRefused before.seats asked entry after.seat why
+    × AreRefused before.seats before.cut asked n before.seat entry × IsRefused before.seats before.cut asked entry after.seat why
 IsTrialAnswer asked tries before after NotTried = (tries ≡ 0) × (after ≡ before)
 IsTrialAnswer asked tries before after _ = ⊥
 
@@ -130,13 +151,14 @@ abbrev pub asked : ℕ → ℕ → Bool → Held
 asked lo hi writer = record { range = record { lo = lo; hi = hi }; mode = mode_for writer }
 
 -- a call that came to tries: the ends bound a range and the seat held nothing, and these are the tries' answer; each
--- try has its most steps, and the call has them so many times
+-- try has its most steps, and the call has them so many times, or those in one list where the range takes one alone
 pub record IsTriedFor (lo hi : ℕ) (writer : Bool) (tries : ℕ) (answer : Answer) (before after : Behind) : Type 0 where
   pub range : IsRange lo hi
   pub free : before.seat.held ≡ None
   pub kept : IsTrial before after
   pub answered : IsTrialAnswer (asked lo hi writer) tries before after answer
-  pub bound : after.seat.trace.taken ≤ before.seat.trace.taken + tries * most_steps before.seats
+  pub bound : after.seat.trace.taken ≤ before.seat.trace.taken + tries * most_steps before.seats (list_count before.cut)
+  pub alone : TakesAlone before.cut (record { lo = lo; hi = hi }) → after.seat.trace.taken ≤ before.seat.trace.taken + tries * most_steps before.seats 1
 
 -- what a call for a range answers and leaves
 abbrev pub IsTried : ℕ → ℕ → Bool → ℕ → Answer → Behind → Behind → Type 0
@@ -147,7 +169,7 @@ IsTried lo hi writer tries answer before after = IsTriedFor lo hi writer tries a
 -- what a release answers and leaves
 abbrev pub IsReleased : Answer → Behind → Behind → Type 0
 IsReleased Done before after = (before.seat.held ≢ None) × IsRelease (λ p. p) before.seat after.seat
-    × (after.spare ≡ before.spare) × (after.words ≡ before.words) × (after.seats ≡ before.seats)
+    × (after.spare ≡ before.spare) × (after.words ≡ before.words) × (after.seats ≡ before.seats) × (after.cut ≡ before.cut)
 IsReleased HasNone before after = (before.seat.held ≡ None) × (after ≡ before)
 IsReleased _ before after = ⊥
 
@@ -167,6 +189,7 @@ pub record IsWordStep (i : ℕ) (step : WordStep) (found left : ℕ) (before aft
   pub spare : after.spare ≡ before.spare
   pub words : after.words ≡ before.words
   pub seats : after.seats ≡ before.seats
+  pub cut : after.cut ≡ before.cut
 
 -- what a step on client word i answers and leaves, with the value that it says: what it found, or else the one that the
 -- call brought

@@ -1,11 +1,12 @@
 -- What a call answers and leaves of a handle, open or closed. Each relation lifts one of `Behind` to handles; that a
 -- closed handle is told and stays closed is said here once.
 use Rattle.std.specs.Prelude.{◌≡◌, ℕ, List, Option, Some, None}
+use Rattle.list_cuts.specs.Cut.{IsCut}
 use Rattle.range_c.specs.declared.answers.Answer.{Answer}
 use Rattle.range_c.specs.declared.answers.Answer.TheVariants.{Done, Closed, Open}
 use Rattle.range_c.specs.declared.answers.GzBusy.{GzBusy}
 use Rattle.range_c.specs.declared.recording.WordStep.{WordStep}
-use Rattle.range_c.specs.Behind.{Behind, IsNewBehind, IsNotOpened, IsShared, IsUnshared, IsLooked, IsStepped}
+use Rattle.range_c.specs.Behind.{Behind, IsNewBehind, IsNewBehindIn, IsNotOpened, IsNotCut, cut_into, IsShared, IsUnshared, IsLooked, IsStepped}
 use Rattle.range_c.specs.Codes.{nothing_shown}
 
 -- the handle is open before and after, and this is so of what is behind it
@@ -36,10 +37,21 @@ abbrev pub IsFresh : ℕ → List ℕ → Option Behind → Type 0
 IsFresh seats client (Some b) = IsNewBehind seats client b
 IsFresh seats client None = ⊥
 
+-- a handle is over a new table, with a list for each of so many regions in blocks of 2^bits numbers, and one for wide
+-- ranges where there are several
+abbrev pub IsFreshCut : ℕ → ℕ → ℕ → List ℕ → Option Behind → Type 0
+IsFreshCut regions bits seats client (Some b) = IsCut regions bits × IsNewBehindIn (cut_into regions bits) seats client b
+IsFreshCut regions bits seats client None = ⊥
+
 -- why no table was opened behind a handle
 abbrev pub IsOpenRefusal : ℕ → ℕ → Option Behind → Answer → Type 0
 IsOpenRefusal seats count (Some b) why = why ≡ Open
 IsOpenRefusal seats count None why = IsNotOpened seats count why
+
+-- why none was opened over a cut
+abbrev pub IsCutRefusal : ℕ → ℕ → ℕ → ℕ → Option Behind → Answer → Type 0
+IsCutRefusal regions bits seats count (Some b) why = why ≡ Open
+IsCutRefusal regions bits seats count None why = IsNotCut regions bits seats count why
 
 -- a handle was given a seat of another one's table
 abbrev pub HandleShared : Option Behind → Option Behind → Option Behind → Type 0

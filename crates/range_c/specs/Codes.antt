@@ -9,7 +9,7 @@ use Rattle.range_rw.specs.declared.refusals.NotHeld.{NotHeld}
 use Rattle.range_rw.specs.declared.refusals.NotHeld.TheVariants.{Busy, Again, Long, NoNode}
 use Rattle.range_c.specs.declared.answers.Answer.{Answer}
 use Rattle.range_c.specs.declared.answers.Answer.TheVariants.{Done, Refused, NotTried, BadRange, HasOne, HasNone}
-use Rattle.range_c.specs.declared.answers.Answer.TheVariants.{Closed, Open, Memory, Seats, Words, NoneLeft, NoWord, Other}
+use Rattle.range_c.specs.declared.answers.Answer.TheVariants.{Closed, Open, Memory, Seats, Words, NoneLeft, NoWord, Other, BadCut}
 use Rattle.range_c.specs.declared.answers.GzBusy.{GzBusy}
 
 -- the code of a refusal by the lock
@@ -35,6 +35,7 @@ code_of Words = 13
 code_of NoneLeft = 14
 code_of NoWord = 15
 code_of Other = 16
+code_of BadCut = 17
 
 -- a code is that of an answer of which this holds
 abbrev pub Says : (Answer → Type 0) → ℕ → Type 0

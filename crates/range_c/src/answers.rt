@@ -38,6 +38,8 @@ pub enum Answer {
     NoWord,
     /// The client word had another value than the expected one.
     Other,
+    /// The two numbers make no cut: there is no region or more than 16, or a block has more than 2^62 numbers.
+    BadCut,
 }
 
 /// A range of a seat, as C reads it: that of another seat which refused a try, all 0 where no try was refused so; or
@@ -110,6 +112,7 @@ impl Answer {
             Answer::NoneLeft => 14,
             Answer::NoWord => 15,
             Answer::Other => 16,
+            Answer::BadCut => 17,
         }
     }
 

@@ -4,12 +4,12 @@ ghost use Rattle.std.specs.Prelude.{◌≡◌, ◌<◌, ℕ, Some, None, length}
 ghost use Rattle.range_c.specs.declared.recording.WordStep.TheVariants.{Load, Store, Add, Exchange};
 ghost use Rattle.range_c.specs.Behind.{IsTried, IsReleased};
 ghost use Rattle.range_c.specs.Codes.{Says, shown_of};
-ghost use Rattle.range_c.specs.Calls.{OnHandle, OnLook, OnWord, IsFresh, IsOpenRefusal, HandleShared, IsShareRefusal, IsEnd};
+ghost use Rattle.range_c.specs.Calls.{OnHandle, OnLook, OnWord, IsFresh, IsFreshCut, IsOpenRefusal, IsCutRefusal, HandleShared, IsShareRefusal, IsEnd};
 
 use crate::answers::{Answer, GzBusy};
 use crate::calls::{WordCall, look_by, release_by, share_by, step_by, try_by};
 use crate::handle::GzRange;
-use crate::opening::open_table;
+use crate::opening::{open_regions, open_table};
 use crate::recording::WordStep;
 use crate::state::{Asked, State};
 use core::mem::replace;
@@ -41,6 +41,33 @@ pub extern "C" fn gz_range_open(
         return Answer::Open.code();
     }
     match open_table(alloc, seats, words) {
+        Ok(b) => {
+            open_over(handle, b);
+            0
+        }
+        Err(why) => why.code(),
+    }
+}
+
+/// The same over a cut of the numbers into so many regions, from 1 to 16, in blocks of 2^bits numbers, with `bits` at
+/// most 62: each region has a list of its own, and where there are several, so have ranges in more than one.
+#[unsafe(no_mangle)]
+pub extern "C" fn gz_range_open_cut(
+    alloc: Global,
+    seats: u32,
+    regions: u32,
+    bits: u32,
+    words: &[u64],
+    handle: &mut GzRange,
+) -> u32
+    ensures opened { result ≡ 0 → (handle.old.pointer.behind ≡ None) × IsFreshCut regions bits seats words.now handle.new.pointer.behind }
+    ensures refused { 0 < result → handle.new.pointer.behind ≡ handle.old.pointer.behind }
+    ensures cause { 0 < result → Says (IsCutRefusal regions bits seats (length words.now) handle.old.pointer.behind) result }
+{
+    if handle.is_open() {
+        return Answer::Open.code();
+    }
+    match open_regions(alloc, seats, regions, bits, words) {
         Ok(b) => {
             open_over(handle, b);
             0

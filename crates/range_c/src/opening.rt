@@ -1,10 +1,12 @@
 //! Opening a table behind its first handle, and taking seats out of it for more handles. These are the only calls that
 //! take memory. A reader may rely on each refusal naming its cause, and on nothing having changed after it.
 ghost use Rattle.std.specs.Prelude.{◌≡◌, ◌+◌, ◌<◌, ◌≤◌, ◌^◌, IfOk, IfErr, length};
-ghost use Rattle.range_c.specs.Behind.{IsNewBehind, IsNotOpened, IsShared, IsNotShared};
+ghost use Rattle.list_cuts.specs.Cut.{IsCut};
+ghost use Rattle.range_c.specs.Behind.{IsNewBehind, IsNewBehindIn, IsNotOpened, IsNotCut, IsShared, IsNotShared, cut_into};
 
 use crate::answers::Answer;
 use crate::state::State;
+use list_cuts::Cut;
 use range_rw::{OpenFault, RangeTable};
 use std::alloc::{AllocFailed, Global};
 use std::sync::Arc;
@@ -12,19 +14,21 @@ use std::sync::Arc;
 /// The most client words that a table has, 2^20.
 const MOST_WORDS: usize = 1048576;
 
-/// A new table of so many seats over these client words, with the seat of the highest number, and the others to share.
-pub(crate) fn open_table(
+/// A new table of so many seats over these client words, with the lists of a cut, the seat of the highest number, and
+/// the others to share.
+fn open_lists(
     alloc: Global,
     seats: u32,
+    cut: Cut,
     client: &[u64],
 ) -> Result<Box<State, Global>, Answer>
-    ensures opened { IfOk result (λ b. IsNewBehind seats client.now b.value) }
+    ensures opened { IfOk result (λ b. IsNewBehindIn cut seats client.now b.value) }
     ensures refused { IfErr result (IsNotOpened seats (length client.now)) }
 {
     if client.len() > MOST_WORDS {
         return Err(Answer::Words);
     }
-    let (table, mut spare) = match RangeTable::open(alloc, seats, client) {
+    let (table, mut spare) = match RangeTable::open_cut(alloc, seats, cut, client) {
         Ok(opened) => opened,
         Err(OpenFault::Seats(_)) => return Err(Answer::Seats),
         Err(OpenFault::Memory) => return Err(Answer::Memory),
@@ -46,6 +50,35 @@ pub(crate) fn open_table(
     match Box::new(alloc, state) {
         Ok(b) => Ok(b),
         Err(_) => Err(Answer::Memory),
+    }
+}
+
+/// The same with one list.
+pub(crate) fn open_table(
+    alloc: Global,
+    seats: u32,
+    client: &[u64],
+) -> Result<Box<State, Global>, Answer>
+    ensures opened { IfOk result (λ b. IsNewBehind seats client.now b.value) }
+    ensures refused { IfErr result (IsNotOpened seats (length client.now)) }
+{
+    open_lists(alloc, seats, Cut::one(), client)
+}
+
+/// The same with the lists of a cut into so many regions, in blocks of 2^bits numbers.
+pub(crate) fn open_regions(
+    alloc: Global,
+    seats: u32,
+    regions: u32,
+    bits: u32,
+    client: &[u64],
+) -> Result<Box<State, Global>, Answer>
+    ensures opened { IfOk result (λ b. IsCut regions bits × IsNewBehindIn (cut_into regions bits) seats client.now b.value) }
+    ensures refused { IfErr result (IsNotCut regions bits seats (length client.now)) }
+{
+    match Cut::of(regions, bits) {
+        Ok(cut) => open_lists(alloc, seats, cut, client),
+        Err(_) => Err(Answer::BadCut),
     }
 }
 

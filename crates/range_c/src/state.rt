@@ -27,17 +27,24 @@ pub(crate) struct State {
 impl Model for State {
     ghost use Rattle.std.specs.Prelude.{◌≡◌, ◌≤◌, length};
     ghost use Rattle.std.specs.Arc.{arc_value};
-    ghost use Rattle.range_rw.specs.Contract.{AreNewSeats, IsOneList};
+    ghost use Rattle.list_cuts.specs.Cut.{list_count};
+    ghost use Rattle.range_rw.specs.Contract.{AreNewSeatsIn};
     ghost use Rattle.range_c.specs.Recording.{begun};
     ghost use Rattle.range_c.specs.Behind.{Behind};
 
     ghost Value = { Behind };
 
-    ghost view = { λ s. record { seat = s.seat; spare = length s.spare.items; words = s.words; seats = (arc_value s.table).seats } };
+    ghost view = { λ s. record {
+      seat = s.seat;
+      spare = length s.spare.items;
+      words = s.words;
+      seats = (arc_value s.table).seats;
+      cut = (arc_value s.table).cut;
+    } };
 
     ghost invariant = { λ s. (s.seat.table ≡ (arc_value s.table).table)
-        × AreNewSeats (arc_value s.table).table (begun s.seat.pass.opened) s.spare.items × ((arc_value s.table).client ≡ s.words)
-        × (s.seat.number ≡ s.number) × (length s.spare.items ≤ s.number) × IsOneList (arc_value s.table) };
+        × AreNewSeatsIn (list_count (arc_value s.table).cut) (arc_value s.table).table (begun s.seat.pass.opened) s.spare.items
+        × ((arc_value s.table).client ≡ s.words) × (s.seat.number ≡ s.number) × (length s.spare.items ≤ s.number) };
 }
 
 /// The range that a call of C's asks for, and how often it is to try.
@@ -68,8 +75,8 @@ impl State {
     fn try_once(&mut self, range: Range, mode: Mode) -> Result<(), NotHeld>
         requires free { self.old.seat.held ≡ None }
         ensures kept { IsTrial self.old self.new }
-        ensures held { IfOk result (λ _. IsGranted self.old.seats (record { range = range; mode = mode }) self.old.seat self.new.seat) }
-        ensures refused { IfErr result (IsRefused self.old.seats (record { range = range; mode = mode }) self.old.seat self.new.seat) }
+        ensures held { IfOk result (λ _. IsGranted self.old.seats self.old.cut (record { range = range; mode = mode }) self.old.seat self.new.seat) }
+        ensures refused { IfErr result (IsRefused self.old.seats self.old.cut (record { range = range; mode = mode }) self.old.seat self.new.seat) }
     {
         self.table
             .try_acquire_uncounted(&mut self.seat, range, mode)

@@ -1,43 +1,9 @@
-use Rattle.std.proofs.Common.{rules, arith, ◌≡◌, ◌≤◌, ◌+◌, ◌-◌, ◌^◌, ℕ, List, sym, ap, ◌∙◌, subst, length}
-use Rattle.std.specs.Arc.{arc_value}
-use Rattle.atomic_table.specs.Seated.{TableId}
-use Rattle.range_rw.specs.Contract.{TableShape, AreNewSeats, IsOneList}
-use Rattle.range_c.specs.Behind.{RecordingSeat}
-use Rattle.range_c.specs.Recording.{begun}
-use Rattle.range_c.proofs.Rows.{taken, longer, opens}
-use Rattle.range_c.proofs.Steps.{begins}
+use Rattle.std.proofs.Common.{IfOk, subst}
+use Rattle.list_cuts.specs.Cut.{Regions}
+use Rattle.range_c.specs.Behind.{IsNewBehindIn}
 use Rattle.range_c.proofs.opening.open_table.Goals as goal
 
--- before the first step the words are those of the opening
-pub open-requires-clause-rule : goal.open-requires-clause-rule
-open-requires-clause-rule c = λ counted. begins c.args.client.now c.args.seats
-
--- the seat of the highest number and the others are of the new table, which has these words
-pub invariant_of-state : goal.invariant_of-state
-invariant_of-state c =
-    let all = taken c.in-Ok.opened.0.table c.args.client.now c.in-Ok.opened.1.items c.pop.new.self.items c.in-Some.seat
-    c.in-Some.ensures.items c.in-Ok.ensures.seats.1 in
-    let table = sym (ap (λ (t : TableShape). t.table) c.in-Ok-new.ensures.ok) in
-    let opened = sym (ap (λ (s : RecordingSeat). s.pass.opened) all.0) in
-    let one : length c.pop.new.self.items + 1 ≡ c.args.seats =
-    longer c.in-Ok.opened.1.items c.pop.new.self.items c.in-Some.seat c.in-Some.ensures.items ∙ c.in-Ok.ensures.seats.0 in
-    let own : c.in-Some.seat.number ≡ length c.pop.new.self.items = ap (λ (s : RecordingSeat). s.number) all.0 in
-    let number : c.in-Some.seat.number ≡ c.args.seats - 1 = omega arith in
-    let least : length c.pop.new.self.items ≤ c.args.seats - 1 = omega arith in
-    let here = subst (λ (t : TableId). AreNewSeats t (begun c.args.client.now) c.pop.new.self.items) table all.1 in (
-      ap (λ (s : RecordingSeat). s.table) all.0 ∙ table,
-      subst (λ (w : List ℕ). AreNewSeats (arc_value c.in-Ok-new.table).table (begun w) c.pop.new.self.items) opened here,
-      ap (λ (t : TableShape). t.client) c.in-Ok-new.ensures.ok ∙ c.in-Ok.ensures.shape.1,
-      number,
-      least,
-      subst IsOneList (sym c.in-Ok-new.ensures.ok) c.in-Ok.ensures.one,
-    )
-
--- what is in the box is what is behind a new handle of a new table
-pub returns-in-Ok-new-2-clause-opened : goal.returns-in-Ok-new-2-clause-opened
-returns-in-Ok-new-2-clause-opened c =
-    let most : length c.args.client.now ≤ 2 ^ 20 = search rules in
-    let seats = ap (λ (t : TableShape). t.seats) c.in-Ok-new.ensures.ok ∙ c.in-Ok.ensures.shape.0 in
-    opens c.in-Ok.opened.0.table c.args.seats (arc_value c.in-Ok-new.table).seats c.args.client.now
-    c.in-Ok.opened.1.items c.pop.new.self.items c.in-Some.seat c.in-Ok-new-2.b.value c.in-Ok.ensures.count
-    most c.in-Ok.ensures.seats.0 c.in-Some.ensures.items c.in-Ok.ensures.seats.1 seats c.in-Ok-new-2.ensures.ok
+-- the cut into one region has one list
+pub returns-clause-opened : goal.returns-clause-opened
+returns-clause-opened c = subst (λ (k : Regions). IfOk c.open_lists.result (λ b. IsNewBehindIn k c.args.seats c.args.client.now b.value))
+    c.one.ensures c.open_lists.ensures.opened
