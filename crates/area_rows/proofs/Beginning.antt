@@ -1,11 +1,12 @@
 -- A space at its opening: its words and its callers meet the guard, and the callers come in order.
 use Rattle.std.proofs.Common.{◌≡◌, ℕ, zero, suc, ◌+◌, ◌-◌, ◌<◌, ◌≤◌, List, [], ◌∷◌, ◌++◌, take, length, get_or}
-use Rattle.std.proofs.Common.{◌*◌, ◌/◌, ◌^◌, replicate, sym, refl, ap, ◌∙◌, subst, arith, inl, inr, length-append, append_assoc}
+use Rattle.std.proofs.Common.{◌*◌, ◌/◌, ◌^◌, replicate, sym, refl, ap, ◌∙◌, subst, arith, inl, inr, length-append, append_assoc, mul-le-mul_right, ne_eqb, Bool}
+use Rattle.std.proofs.Math.Nat.{le_trans, one-mul}
 use Rattle.std.proofs.lemmas.Bool.{cases_lt}
 use Rattle.std.proofs.lemmas.List.{length-replicate, take_all, get_or_append_left, get_or-append_right}
 use Rattle.std.proofs.lemmas.List.Elements.{All-nil}
 use Rattle.std.proofs.lemmas.List.Sums.{sum_by-cons}
-use Rattle.std.specs.Prelude.{All, None, remove, slice_index, sum}
+use Rattle.std.specs.Prelude.{All, None, remove, slice_index, sum, ◌==◌, if◌then◌else◌}
 use mathlib.Core.Option.{some}
 use lib.ListN.{get_elem?}
 use lib.Seq.{take-append_seam}
@@ -17,8 +18,10 @@ use Rattle.space_model.specs.declared.areas.Area.{Area}
 use Rattle.space_model.specs.declared.entries.Entry.{Entry}
 use Rattle.space_model.specs.Areas.{IsAreaList, HasNamedKinds, kind_at, row_count}
 use Rattle.space_model.proofs.AreaKinds.{above_zero}
+use Rattle.list_cuts.specs.Cut.{Regions, first_list, list_count}
 use Rattle.lock_core.specs.Grants.{Grants}
-use Rattle.range_rw.specs.Contract.{SeatState, new_seat, first_passes}
+use Rattle.lock_core.specs.Words.{word_count}
+use Rattle.range_rw.specs.Contract.{SeatState, new_seat_in, first_passes}
 use Rattle.range_rw.proofs.Lists.{at_removed}
 use Rattle.range_rw.proofs.SeatLists.{at_firsts}
 use Rattle.word_rows.proofs.Rowing.{snoc_all as pushed_all}
@@ -30,7 +33,7 @@ use Rattle.row_plans.specs.RowLists.{rows_from, areas_from, ShowFrom, IsBareGap}
 use Rattle.area_rows.specs.Rows.{room_of, rows_in, RowsShow}
 use Rattle.area_rows.specs.History.{IsPart, own_planned, planned_calls, planned_count, ShowsBefore, IsShown, IsRunningSpace}
 use Rattle.area_rows.specs.History.{IsBacked, AreBacked, HasRoom, HasHistory, own_count, entry_count, own_most, most_count, newcomer}
-use Rattle.area_rows.specs.Callers.{CallerView, AreNewCallers, IsEnough, new_pass, quotas, opening_rows, opening_words}
+use Rattle.area_rows.specs.Callers.{CallerView, AreNewCallersIn, IsEnough, new_pass, quotas, opening_rows, opening_words}
 use Rattle.row_plans.proofs.RowLists.{length-rows, shows_from, areas_back, bare_from}
 
 -- the first words are three counts and the room for rows
@@ -51,11 +54,51 @@ length-opening start calls room fits few =
     let a = length-append (opening_rows start room) (quotas calls) in
     omega arith
 
--- the words of a table tell its room
-pub room_is : (table : TableId) (seats room : ℕ) → 0 < seats → seats ≤ 16 → table.words ≡ 1 + 65 * seats + (19 + room)
-    → room / 1024 * 1024 ≡ room → room ≡ room_of table
+-- the words of a table of one list tell its room
+room_is : (table : TableId) (seats room : ℕ) → 0 < seats → seats ≤ 16 → table.words ≡ 1 + 65 * seats + (19 + room)
+    → room / 1024 * 1024 ≡ room → room ≤ 131072 → room ≡ room_of table
 unfolding room_of
-room_is table seats room some_seat few wide step = omega arith
+room_is table seats room some_seat few wide step most = omega arith
+
+-- a table of so many words has the most room
+most_room : (table : TableId) (room : ℕ) → 131072 + 85 ≤ table.words → room ≡ 131072 → room ≡ room_of table
+unfolding room_of
+most_room table room wide is = omega arith
+
+-- one region has one list
+one_list : (count : ℕ) → count ≤ 1 → (if count == 1 then 0 else 1) + count ≡ 1
+one_list zero le = refl
+one_list (suc zero) le = refl
+one_list (suc (suc n)) le = absurd (omega arith)
+
+-- and several have one more
+several_lists : (cut : Regions) → 1 < cut.count → 3 ≤ list_count cut
+several_lists cut more =
+    let first : first_list cut ≡ 1 = ap (λ (b : Bool). if b then 0 else 1) (ne_eqb cut.count 1 (λ e. absurd (omega arith))) in omega arith
+
+-- with so many words in all
+many_words : (words lists room : ℕ) → 198 ≤ lists → words ≡ lists + (19 + room) → room ≡ 131072 → 131072 + 85 ≤ words
+many_words words lists room wide is most = omega arith
+
+-- so many lists, from three on, have more words than one
+lists_wide : (lists word : ℕ) → 3 ≤ lists → 66 ≤ word → 198 ≤ lists * word
+lists_wide lists word more wide = le_trans (let z : 198 ≤ 3 * word = omega arith in z) (mul-le-mul_right word more)
+
+-- a table has the room that was asked for it: where there is one list its words tell it, and otherwise it is the most
+pub room_in : (table : TableId) (cut : Regions) (seats room : ℕ) → 0 < seats → seats ≤ 16
+    → table.words ≡ list_count cut * word_count seats + (19 + room) → room / 1024 * 1024 ≡ room → room ≤ 131072
+    → (1 < cut.count → room ≡ 131072) → room ≡ room_of table
+room_in table cut seats room some_seat few wide step most several = elim (cases_lt 1 cut.count) [
+  | inl more ↦
+      let lists : 3 ≤ list_count cut = several_lists cut more in
+      let one : 66 ≤ word_count seats = omega arith in
+      let words : 198 ≤ list_count cut * word_count seats = lists_wide (list_count cut) (word_count seats) lists one in
+      most_room table room (many_words table.words (list_count cut * word_count seats) room words wide (several more)) (several more)
+  | inr le ↦
+      let one : list_count cut ≡ 1 = one_list cut.count le in
+      let e : list_count cut * word_count seats ≡ word_count seats = ap (λ n. n * word_count seats) one ∙ one-mul (word_count seats) in
+      room_is table seats room some_seat few (wide ∙ ap (λ n. n + (19 + room)) e) step most
+]
 
 -- the words so far, with zeros up to the end of the room for rows
 pub rows_padded : (start : List Area) (room : ℕ) (words : List ℕ) (all wide : ℕ) → all ≡ 3 + room
@@ -257,45 +300,45 @@ abbrev pub caller_with : SeatState Pass → ℕ → List ℕ → CallerView
 caller_with s left more = record { seat = s; left = left; count = 0; cut = record { first = 0; end = 0 }; more = more; change = None }
 
 -- before the first caller all seats wait
-pub first_seats : (table : TableId) (p : ℕ → Pass) (seats : List (SeatState Pass))
-    → ((k : ℕ) (x : SeatState Pass) → get_elem? seats k ≡ some x → x ≡ new_seat table p k) → (k : ℕ) (x : SeatState Pass)
-    → get_elem? seats k ≡ some x → x ≡ new_seat table p (0 + k)
-first_seats table p seats all k x at = let z : k ≡ 0 + k = omega arith in all k x at ∙ ap (new_seat table p) z
+pub first_seats : (lists : ℕ) (table : TableId) (p : ℕ → Pass) (seats : List (SeatState Pass))
+    → ((k : ℕ) (x : SeatState Pass) → get_elem? seats k ≡ some x → x ≡ new_seat_in lists table p k) → (k : ℕ) (x : SeatState Pass)
+    → get_elem? seats k ≡ some x → x ≡ new_seat_in lists table p (0 + k)
+first_seats lists table p seats all k x at = let z : k ≡ 0 + k = omega arith in all k x at ∙ ap (new_seat_in lists table p) z
 
 -- the seat that is next
-pub next_seat : (table : TableId) (p : ℕ → Pass) (worker : ℕ) (seats : List (SeatState Pass)) (s : SeatState Pass)
-    → ((k : ℕ) (x : SeatState Pass) → get_elem? seats k ≡ some x → x ≡ new_seat table p (worker + k)) → 0 < length seats
-    → s ≡ get_or seats 0 s → s ≡ new_seat table p worker
-next_seat table p worker seats s rest more is = let z : worker + 0 ≡ worker = omega arith in
-    rest 0 s (at_index seats 0 s more is) ∙ ap (new_seat table p) z
+pub next_seat : (lists : ℕ) (table : TableId) (p : ℕ → Pass) (worker : ℕ) (seats : List (SeatState Pass)) (s : SeatState Pass)
+    → ((k : ℕ) (x : SeatState Pass) → get_elem? seats k ≡ some x → x ≡ new_seat_in lists table p (worker + k)) → 0 < length seats
+    → s ≡ get_or seats 0 s → s ≡ new_seat_in lists table p worker
+next_seat lists table p worker seats s rest more is = let z : worker + 0 ≡ worker = omega arith in
+    rest 0 s (at_index seats 0 s more is) ∙ ap (new_seat_in lists table p) z
 
 -- the seats that are left, after the first one was taken, go on with the next number
-pub seats_on : (table : TableId) (p : ℕ → Pass) (worker : ℕ) (seats left : List (SeatState Pass))
-    → ((k : ℕ) (x : SeatState Pass) → get_elem? seats k ≡ some x → x ≡ new_seat table p (worker + k))
+pub seats_on : (lists : ℕ) (table : TableId) (p : ℕ → Pass) (worker : ℕ) (seats left : List (SeatState Pass))
+    → ((k : ℕ) (x : SeatState Pass) → get_elem? seats k ≡ some x → x ≡ new_seat_in lists table p (worker + k))
     → left ≡ remove seats 0 → (k : ℕ) (x : SeatState Pass) → get_elem? left k ≡ some x
-    → x ≡ new_seat table p (worker + 1 + k)
-seats_on table p worker seats left rest is k x at =
+    → x ≡ new_seat_in lists table p (worker + 1 + k)
+seats_on lists table p worker seats left rest is k x at =
     let z : worker + suc k ≡ worker + 1 + k = omega arith in
-    rest (suc k) x (sym (at_removed seats k) ∙ (ap (λ l. get_elem? l k) (sym is) ∙ at)) ∙ ap (new_seat table p) z
+    rest (suc k) x (sym (at_removed seats k) ∙ (ap (λ l. get_elem? l k) (sym is) ∙ at)) ∙ ap (new_seat_in lists table p) z
 
 -- a caller with a new seat and an empty list
 pub new_caller : (s t : SeatState Pass) (left : ℕ) (more : List ℕ) → s ≡ t → more ≡ [] → caller_with s left more ≡ caller_with t left []
 new_caller s t left more e p = λ k. caller_with (e k) left (p k)
 
 -- one caller more behind those that were made, with the next number, keeps them all new
-pub one_caller : (table : TableId) (start : List Area) (calls : List ℕ) (made : List CallerView) (c : CallerView) (n : ℕ)
-    → length made ≡ n → AreNewCallers table start calls made
+pub one_caller : (lists : ℕ) (table : TableId) (start : List Area) (calls : List ℕ) (made : List CallerView) (c : CallerView) (n : ℕ)
+    → length made ≡ n → AreNewCallersIn lists table start calls made
     → c ≡ record {
-      seat = new_seat table (λ k. new_pass start (room_of table) (slice_index calls k)) n;
+      seat = new_seat_in lists table (λ k. new_pass start (room_of table) (slice_index calls k)) n;
       left = slice_index calls n;
       count = 0;
       cut = record { first = 0; end = 0 };
       more = [];
       change = None;
-    } → AreNewCallers table start calls (made ++ c ∷ [])
-one_caller table start calls made c n e all is =
+    } → AreNewCallersIn lists table start calls (made ++ c ∷ [])
+one_caller lists table start calls made c n e all is =
     pushed_all (λ k x. x ≡ record {
-      seat = new_seat table (λ j. new_pass start (room_of table) (slice_index calls j)) k;
+      seat = new_seat_in lists table (λ j. new_pass start (room_of table) (slice_index calls j)) k;
       left = slice_index calls k;
       count = 0;
       cut = record { first = 0; end = 0 };

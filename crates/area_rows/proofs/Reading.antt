@@ -204,6 +204,7 @@ step_reads a b place p s x y z l k = record {
   number = s.number;
   held = s.held;
   pools = s.pools;
+  further = s.further;
   start = ap (λ (q : Pass). q.start) s.pass ∙ x;
   seen = ap (λ (q : Pass). q.seen) s.pass ∙ y;
   mine = ap (λ (q : Pass). q.mine) s.pass ∙ z;

@@ -403,6 +403,7 @@ change_stored s u c index word pends call made =
       number = call.number;
       held = call.held;
       pools = call.pools;
+      further = call.further;
       pass = row_changed made.1.1 here.pass.pending c (3 + index) word here.pass u.pass
           (ap (λ (x : Pass). x.pending) same ∙ pends) may.1 ∙ ap after_change same;
       trace = call.trace;
@@ -421,6 +422,7 @@ row_written s u index step = record {
   number = step.number;
   held = step.held;
   pools = step.pools;
+  further = step.further;
   trace = step.trace;
 }
 

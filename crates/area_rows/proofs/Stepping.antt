@@ -266,6 +266,7 @@ module _ (note : Note) (seat : ℕ) (held : Option Held) (pass : Pass) where
           drew = drew ∙ held_then;
           looks = ap (λ (x : Pass). x.looks) new ∙ draw_looks here.history f d.held.0 t.pass note.pending;
           pools = call.pools;
+          further = call.further;
           room = room_is;
           most = ap (λ (x : Pass). x.most) new ∙ draw_most here.history f d.held.0 t.pass note.pending;
           fits = subst (FitsIn note.pending) (ap (λ (x : Pass). x.room) old ∙ sym room_is)
@@ -301,6 +302,7 @@ look_is s u found call made =
         number = call.number;
         held = call.held;
         pools = call.pools;
+        further = call.further;
         pass = is ∙ ap (λ h. after_look h s.held s.pass) (sym seen);
         trace = call.trace;
       };
@@ -345,6 +347,7 @@ sequence_is s u found pages call made =
         number = call.number;
         held = call.held;
         pools = call.pools;
+        further = call.further;
         pass = is;
         trace = call.trace;
       }) refl refl refl refl (keeps_all s.pass),
@@ -358,6 +361,7 @@ sequence_is s u found pages call made =
             number = call.number;
             held = call.held;
             pools = call.pools;
+            further = call.further;
             pass = is;
             trace = call.trace;
           }) refl refl refl refl (remembers s.pass found again),
@@ -463,6 +467,7 @@ row_loaded s u index found call made =
       number = call.number;
       held = call.held;
       pools = call.pools;
+      further = call.further;
       pass = row_tells _ _ _ made.1 here.history here.pass u.pass index made.5.1 ∙ (λ i. after_row index (made.4 i) (same i));
       trace = call.trace;
     }

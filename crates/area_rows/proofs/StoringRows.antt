@@ -105,7 +105,15 @@ of_plan : (words : List ℕ) (pending : Pending) (plan : Splice) (place value : 
 of_plan words pending plan place value p after is may = subst (λ (q : Pending). MayWrite words q place value p after) is may
 
 step_of : (s u : SeatState Pass) (place : ℕ) (p : Pass) → IsClientCall s place u → u.pass ≡ p → IsClientStep s place p u
-step_of s u place p call is = record { table = call.table; number = call.number; held = call.held; pools = call.pools; pass = is; trace = call.trace }
+step_of s u place p call is = record {
+  table = call.table;
+  number = call.number;
+  held = call.held;
+  pools = call.pools;
+  further = call.further;
+  pass = is;
+  trace = call.trace;
+}
 
 module _ (s u : SeatState Pass) (plan : Splice) (planned : s.pass.pending ≡ Planned plan) (value : ℕ) where
   -- the store of a row was one step of the seat, after which its pass has that row
@@ -162,6 +170,7 @@ writing_on a b c f g = record {
   number = g.number ∙ f.number;
   held = g.held ∙ f.held;
   pools = g.pools ∙ f.pools;
+  further = g.further ∙ f.further;
   start = g.start ∙ f.start;
   room = g.room ∙ f.room;
   most = g.most ∙ f.most;
@@ -180,6 +189,7 @@ no_writing a = record {
   number = refl;
   held = refl;
   pools = refl;
+  further = refl;
   start = refl;
   room = refl;
   most = refl;
@@ -201,6 +211,7 @@ store_writes a b index value s = record {
   number = s.number;
   held = s.held;
   pools = s.pools;
+  further = s.further;
   start = ap (λ (x : Pass). x.start) s.pass;
   room = ap (λ (x : Pass). x.room) s.pass;
   most = ap (λ (x : Pass). x.most) s.pass;
@@ -237,6 +248,7 @@ load_writes a b index value s = record {
   number = s.number;
   held = s.held;
   pools = s.pools;
+  further = s.further;
   start = ap (λ (x : Pass). x.start) s.pass;
   room = ap (λ (x : Pass). x.room) s.pass;
   most = ap (λ (x : Pass). x.most) s.pass;
@@ -271,6 +283,7 @@ count_writes a b value s = record {
   number = s.number;
   held = s.held;
   pools = s.pools;
+  further = s.further;
   start = ap (λ (x : Pass). x.start) s.pass;
   room = ap (λ (x : Pass). x.room) s.pass;
   most = ap (λ (x : Pass). x.most) s.pass;
@@ -299,4 +312,5 @@ all_written a b c w s = record {
   number = s.number ∙ w.number;
   held = s.held ∙ w.held;
   pools = s.pools ∙ w.pools;
+  further = s.further ∙ w.further;
 }

@@ -20,7 +20,7 @@ use Rattle.page_types.specs.declared.calls.Reply.{Reply}
 use Rattle.page_types.specs.declared.pages.Span.{Span}
 use Rattle.page_types.specs.declared.calls.Kind.{Kind}
 use Rattle.page_types.specs.Named.{IsNamedKind}
-use Rattle.range_rw.specs.Contract.{SeatState, IsSeatCount, new_seat, client_trace}
+use Rattle.range_rw.specs.Contract.{SeatState, IsSeatCount, new_seat_in, client_trace}
 use Rattle.area_rows.specs.declared.guard.Change.{Change}
 use Rattle.area_rows.specs.declared.guard.ReadRow.{ReadRow}
 use Rattle.area_rows.specs.declared.guard.Pass.{Pass}
@@ -227,6 +227,7 @@ pub record IsStoredRow (before : SeatState Pass) (index : ℕ) (after : SeatStat
   pub number : after.number ≡ before.number
   pub held : after.held ≡ before.held
   pub pools : after.pools ≡ before.pools
+  pub further : after.further ≡ before.further
   pub trace : after.trace ≡ client_trace before.trace (3 + index)
 
 -- a new pass over these areas, in a table with so much room for rows, of a caller that may have so many entries
@@ -264,17 +265,22 @@ opening_words start calls room = opening_rows start room ++ quotas calls
 abbrev pub IsEnough : ℕ → ℕ → ℕ → Type 0
 IsEnough room rows calls = room < ROWS → rows + SPARE * calls ≤ room
 
--- the callers of a new space, in order of their numbers, each with as many numbers to draw as was asked
-abbrev pub AreNewCallers : TableId → List Area → List ℕ → List CallerView → Type 0
-AreNewCallers table start calls callers = (k : ℕ) (c : CallerView) → get_elem? callers k ≡ some c
+-- the callers of a new space with so many lists, in order of their numbers, each with as many numbers to draw as was
+-- asked
+abbrev pub AreNewCallersIn : ℕ → TableId → List Area → List ℕ → List CallerView → Type 0
+AreNewCallersIn lists table start calls callers = (k : ℕ) (c : CallerView) → get_elem? callers k ≡ some c
     → c ≡ record {
-      seat = new_seat table (λ n. new_pass start (room_of table) (slice_index calls n)) k;
+      seat = new_seat_in lists table (λ n. new_pass start (room_of table) (slice_index calls n)) k;
       left = slice_index calls k;
       count = 0;
       cut = record { first = 0; end = 0 };
       more = [];
       change = None;
     }
+
+-- the same where there is one list
+abbrev pub AreNewCallers : TableId → List Area → List ℕ → List CallerView → Type 0
+AreNewCallers table start calls callers = AreNewCallersIn 1 table start calls callers
 
 -- why no space is opened for so many callers over so many rows
 abbrev pub IsSpaceFault : ℕ → ℕ → SpaceFault → Type 0
@@ -292,6 +298,7 @@ pub record IsClientStep (before : SeatState Pass) (place : ℕ) (left_pass : Pas
   pub number : after.number ≡ before.number
   pub held : after.held ≡ before.held
   pub pools : after.pools ≡ before.pools
+  pub further : after.further ≡ before.further
   pub pass : after.pass ≡ left_pass
   pub trace : after.trace ≡ client_trace before.trace place
 
@@ -302,6 +309,7 @@ pub record IsReading (before after : SeatState Pass) : Type 0 where
   pub number : after.number ≡ before.number
   pub held : after.held ≡ before.held
   pub pools : after.pools ≡ before.pools
+  pub further : after.further ≡ before.further
   pub start : after.pass.start ≡ before.pass.start
   pub seen : after.pass.seen ≡ before.pass.seen
   pub mine : after.pass.mine ≡ before.pass.mine
@@ -385,6 +393,7 @@ pub record IsDrawn (before : SeatState Pass) (e : Entry) (pending : Pending) (af
   pub drew : after.pass.drew ≡ before.held
   pub looks : after.pass.looks ≡ before.pass.looks
   pub pools : after.pools ≡ before.pools
+  pub further : after.further ≡ before.further
   pub room : after.pass.room ≡ before.pass.room
   pub most : after.pass.most ≡ before.pass.most
   pub fits : FitsIn pending after.pass.room
@@ -409,6 +418,7 @@ pub record IsWritten (before after : SeatState Pass) : Type 0 where
   pub number : after.number ≡ before.number
   pub held : after.held ≡ before.held
   pub pools : after.pools ≡ before.pools
+  pub further : after.further ≡ before.further
 
 -- the whole history of callers that have stopped: it runs from what each began with to the areas that are left, which
 -- are an area list; calls, replies and areas have named bits alone; each caller's entries stand in it in order, no

@@ -1,7 +1,7 @@
 -- The row words among the client words, and what they show: the kind of each page. `RowsShow` takes the kinds as a
 -- function from pages, so that rows which lag behind the history at some pages are said by another function and not by
 -- another definition.
-use Rattle.std.specs.Prelude.{ℕ, ◌<◌, ◌≤◌, ◌+◌, ◌-◌, ◌*◌, ◌/◌, All, Option, List, length, take, drop, slice_index}
+use Rattle.std.specs.Prelude.{ℕ, ◌<◌, ◌≤◌, ◌+◌, ◌-◌, ◌*◌, ◌/◌, All, Option, List, length, min, take, drop, slice_index}
 use Rattle.atomic_table.specs.Seated.{TableId}
 use Rattle.page_types.specs.declared.TheConstants.{ROWS}
 use Rattle.page_types.specs.declared.calls.Kind.{Kind}
@@ -12,11 +12,12 @@ use Rattle.row_plans.specs.RowLists.{ShowFrom, IsBareGap}
 abbrev pub rows_in : List ℕ → List ℕ
 rows_in words = take (slice_index words 2) (drop 3 words)
 
--- how many rows a table has room for. Its words are 1 + 65 for each seat of the lock's, the three counts, the rows, and
--- behind them one for each of sixteen callers. There are 1 to 16 seats and the room comes in steps of 1024, so how many
--- words there are tells it
+-- how many rows a table has room for. Its words are 1 + 65 for each seat of the lock's, once for each list, the three
+-- counts, the rows, and behind them one for each of sixteen callers. There are 1 to 16 seats and the room comes in
+-- steps of 1024, so where there is one list how many words there are tells it. A space of several lists has room for
+-- 131072 rows, the most that there is, and has more words than one of one list with as much room
 unfoldable pub room_of : TableId → ℕ
-room_of table = (table.words - 85) / 1024 * 1024
+room_of table = min ((table.words - 85) / 1024 * 1024) 131072
 
 -- the row words show these kinds of the pages below LIMIT; there is room for them before the last sixteen words
 pub record RowsShow (words : List ℕ) (kinds : ℕ → Option Kind) : Type 0 where

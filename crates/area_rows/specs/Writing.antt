@@ -78,6 +78,7 @@ pub record IsWriting (before after : SeatState Pass) : Type 0 where
   pub number : after.number ≡ before.number
   pub held : after.held ≡ before.held
   pub pools : after.pools ≡ before.pools
+  pub further : after.further ≡ before.further
   pub start : after.pass.start ≡ before.pass.start
   pub room : after.pass.room ≡ before.pass.room
   pub most : after.pass.most ≡ before.pass.most

@@ -1,7 +1,9 @@
 //! A caller takes a range of pages and gives it back, by the calls of the range lock. A reader may rely on the caller
 //! holding the range where `acquire` returns, and on a release keeping what the caller has seen and numbered.
-ghost use Rattle.std.specs.Prelude.{◌≡◌, ◌≤◌, ◌+◌, ◌*◌, ◌↔◌, Some, None, IsSome, IfErr, OnOk, OnErr};
-ghost use Rattle.range_rw.specs.Contract.{IsLockCall, IsRelease, IsCause, IsLongRefusal, IsReadyLeft, IsSpentIn};
+ghost use Rattle.std.specs.Prelude.{◌≡◌, ◌≤◌, ◌+◌, ◌*◌, ◌↔◌, ℕ, Some, None, IsSome, IfErr, OnOk, OnErr};
+ghost use Rattle.list_cuts.specs.Cut.{list_count};
+ghost use Rattle.range_rw.specs.Contract.{IsLockCall, IsRelease, IsCause, IsLongRefusal, IsReadyLeft, IsSpentIn, pools_at};
+ghost use Rattle.range_rw.specs.Several.{TakesAlone};
 ghost use Rattle.area_rows.specs.History.{rest_of, IsAtRest};
 ghost use Rattle.area_rows.specs.Callers.{held_span};
 
@@ -44,8 +46,10 @@ impl Space {
     /// names an exchange of this call that found another value than it expected: another caller changed the lock's
     /// list there. `Long` comes exactly where a walk of this call looked at 16 nodes for each caller and one more and
     /// made nothing held. `NoNode` comes where no node of the caller was ready, and none could be made so after a sweep
-    /// of the list. After a refusal the caller knows and holds what it did before; its ready nodes, if it had any, are
-    /// as they were or without the first one.
+    /// of the list. After a refusal the caller knows and holds what it did before; its ready nodes in a list, if it had
+    /// any there, are as they were or without the first one.
+    /// At most 64 steps and 386 for each caller, whatever other callers do, where the span takes one list, as every
+    /// span does in a space of one; a wide span takes at most that for each list of the space.
     pub fn try_acquire<L: Ledger>(
         &self,
         caller: &mut Caller,
@@ -62,8 +66,11 @@ impl Space {
         ensures cause { IfErr result (IsCause caller.old.seat caller.new.seat (held_span span mode)) }
         ensures long { IfErr result (λ why. IsLongRefusal why ↔ IsSpentIn self.now.seats caller.old.seat caller.new.seat) }
         ensures ready { IsReadyLeft caller.old.seat.pools.ready caller.new.seat.pools.ready }
+        ensures further { (j : ℕ) → IsReadyLeft (pools_at caller.old.seat j).ready (pools_at caller.new.seat j).ready }
         ensures left { caller.new.left ≡ caller.old.left }
-        ensures bound { caller.new.seat.trace.taken ≤ caller.old.seat.trace.taken + (64 + 386 * self.now.seats) }
+        ensures bound { TakesAlone self.now.cut (held_span span mode).range
+            → caller.new.seat.trace.taken ≤ caller.old.seat.trace.taken + (64 + 386 * self.now.seats) }
+        ensures wide { caller.new.seat.trace.taken ≤ caller.old.seat.trace.taken + (64 + 386 * self.now.seats) * list_count self.now.cut }
         ensures counted { steps.new + caller.old.seat.trace.taken ≡ steps.old + caller.new.seat.trace.taken }
     {
         self.table

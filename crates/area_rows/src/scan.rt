@@ -43,9 +43,9 @@ impl Space {
 }
 
 impl<'a> SpaceScan<'a> {
-    ghost use Rattle.std.specs.Prelude.{◌≡◌, ◌≤◌, ◌+◌, ◌*◌, Some, None, true, IsSome};
+    ghost use Rattle.std.specs.Prelude.{◌≡◌, ◌≤◌, ◌+◌, Some, None, true, IsSome};
     ghost use Rattle.range_rw.specs.declared.scan.Scanned.TheVariants.{End, Long};
-    ghost use Rattle.range_rw.specs.Contract.{OpenScan};
+    ghost use Rattle.range_rw.specs.Contract.{OpenScan, scan_steps};
     ghost use Rattle.range_rw.specs.Scan.{IsScanCall, IsNext};
     ghost use Rattle.area_rows.specs.Callers.{HasSameRows};
 
@@ -66,7 +66,7 @@ impl<'a> SpaceScan<'a> {
         ensures left { self.new.caller.now.left ≡ self.old.caller.now.left }
         ensures rows { HasSameRows self.old.caller.now self.new.caller.now }
         ensures bound { (was : OpenScan) → self.old.caller.now.seat.scan ≡ Some was
-            → self.new.caller.now.seat.trace.taken ≤ self.old.caller.now.seat.trace.taken + 2 + 3 * was.most }
+            → self.new.caller.now.seat.trace.taken ≤ self.old.caller.now.seat.trace.taken + scan_steps self.old.space.now was }
     {
         let space = self.space;
         let caller = &mut *self.caller;

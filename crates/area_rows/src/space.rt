@@ -45,14 +45,14 @@ pub struct Space {
 
 impl Model for Space {
     ghost use Rattle.std.specs.Prelude.{◌≡◌, ◌+◌};
-    ghost use Rattle.range_rw.specs.Contract.{TableShape, IsOneList};
+    ghost use Rattle.range_rw.specs.Contract.{TableShape};
     ghost use Rattle.area_rows.specs.Rows.{room_of};
 
     ghost Value = { TableShape };
 
     ghost view = { λ s. s.table };
 
-    ghost invariant = { λ s. (s.table.client ≡ 19 + s.room) × (s.room ≡ room_of s.table.table) × IsOneList s.table };
+    ghost invariant = { λ s. (s.table.client ≡ 19 + s.room) × (s.room ≡ room_of s.table.table) };
 }
 
 /// One caller of a space. It holds one range at a time, and each of its calls has one entry in the history.

@@ -117,6 +117,7 @@ impl Space {
         ensures called { IsCalled caller.old line call result caller.new }
         ensures taken { caller.new.seat.trace.taken ≡ caller.old.seat.trace.taken + 1 }
         ensures pools { caller.new.seat.pools ≡ caller.old.seat.pools }
+        ensures further { caller.new.seat.further ≡ caller.old.seat.further }
     {
         caller.holds_pages();
         self.draw(caller, line, call, reply, Under::Nothing)

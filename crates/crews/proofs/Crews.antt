@@ -15,7 +15,7 @@ use Rattle.page_types.specs.declared.calls.Call.{Call}
 use Rattle.space_model.specs.declared.areas.Area.{Area}
 use Rattle.area_rows.specs.declared.answer.Answer.{Answer}
 use Rattle.area_rows.specs.declared.answer.Answer.TheVariants.{Given, Spent}
-use Rattle.area_rows.specs.Callers.{CallerView, AreIdle, AreNewCallers}
+use Rattle.area_rows.specs.Callers.{CallerView, AreIdle, AreNewCallersIn}
 use Rattle.area_rows.specs.Called.{IsAnswered}
 use Rattle.page_fault.specs.Faults.{IsTried}
 use Rattle.page_fault.specs.declared.faults.TriedFault.{TriedFault}
@@ -28,9 +28,9 @@ pub back_idle : (table : TableId) (k : ℕ) (a b : CallerView) → IsIdleAgain a
 back_idle table k a b back i = (back.table ∙ i.0, back.number ∙ i.1, back.held)
 
 -- new callers are a crew
-pub new_crew : (table : TableId) (seats : ℕ) (start : List Area) (calls : List ℕ) (callers : List CallerView)
-    → length callers ≡ seats → 0 < seats → AreNewCallers table start calls callers → IsCrew table seats callers
-new_crew table seats start calls callers count more new = record {
+pub new_crew : (lists : ℕ) (table : TableId) (seats : ℕ) (start : List Area) (calls : List ℕ) (callers : List CallerView)
+    → length callers ≡ seats → 0 < seats → AreNewCallersIn lists table start calls callers → IsCrew table seats callers
+new_crew lists table seats start calls callers count more new = record {
   count = count;
   some = more;
   idle = λ k c at. let e = new k c at in (

@@ -13,6 +13,7 @@ ghost use Rattle.crews.specs.Crews.{HasCalled, HaveCalled, IsIdleAgain, IsCrew, 
 use crate::calls::make_call;
 use crate::work::{Work, work_turns};
 use area_rows::{Answer, Caller, Space, SpaceFault};
+use list_cuts::Cut;
 use lock_core::Mode;
 use page_fault::{TriedFault, try_fault};
 use page_types::{Access, Call, Span};
@@ -36,7 +37,22 @@ pub fn open_crew(
     ensures count { IfOk result (λ r. r.0.seats ≡ length calls.now) }
     ensures crew { IfOk result (λ r. IsCrew r.0.table r.0.seats r.1.items) }
 {
-    Space::open(alloc, calls, start)
+    open_cut_crew(alloc, calls, Cut::one(), start)
+}
+
+/// The same over a lock with a list for each region of a cut of the pages.
+pub fn open_cut_crew(
+    alloc: Global,
+    calls: &[u32],
+    cut: Cut,
+    start: &PlainSpace,
+) -> Result<(Space, Vec<Caller>), SpaceFault>
+    requires { length calls.now < 2 ^ 32 }
+    ensures refused { IfErr result (IsSpaceFault (length calls.now) (row_count start.now)) }
+    ensures count { IfOk result (λ r. r.0.seats ≡ length calls.now) }
+    ensures crew { IfOk result (λ r. IsCrew r.0.table r.0.seats r.1.items) }
+{
+    Space::open_cut(alloc, calls, cut, start)
 }
 
 /// The first caller of the crew makes a call, whose sets have named bits alone, and the others are as they were.

@@ -1,7 +1,11 @@
 -- A fault's reply is right where its arguments decide it, and where the row of its page shows the kind; and the parts
--- of a call make the whole.
-use Rattle.std.proofs.Common.{◌≡◌, ℕ, ◌+◌, ◌<◌, ◌≤◌, List, [], ◌∷◌, ◌++◌, sym, refl, ap, ◌∙◌, subst, arith, inl, inr}
+-- of a call make the whole. The range of one page takes one list alone, and what is said of the ready nodes of list 0
+-- is so in each list.
+use Rattle.std.proofs.Common.{◌≡◌, ℕ, zero, suc, map, get_or, ◌+◌, ◌<◌, ◌≤◌, List, [], ◌∷◌, ◌++◌, sym, refl, ap, ◌∙◌, subst, arith, inl, inr}
 use Rattle.std.specs.Prelude.{Option, None}
+use lib.ListN.{get_or-map}
+use Rattle.list_cuts.specs.Cut.{Regions, list_of}
+use Rattle.lock_core.specs.Range.{Interval}
 use Rattle.page_types.specs.declared.pages.Span.{Span}
 use Rattle.page_types.specs.declared.sets.Access.{Access}
 use Rattle.page_types.specs.declared.calls.Kind.{Kind}
@@ -19,7 +23,8 @@ use Rattle.space_model.specs.Held.{FitsByState}
 use Rattle.space_model.specs.Answers.{AnswersFault}
 use Rattle.space_model.proofs.Judgements.{fault_answers}
 use Rattle.lock_core.specs.declared.range.Held.{Held}
-use Rattle.range_rw.specs.Contract.{IsRelease, IsReadyLeft, Pools, Record}
+use Rattle.range_rw.specs.Contract.{SeatState, IsRelease, IsReadyLeft, Pools, Record, ready_in, pools_at}
+use Rattle.range_rw.specs.Several.{TakesAlone}
 use Rattle.area_rows.specs.declared.guard.Pass.{Pass}
 use Rattle.area_rows.specs.declared.guard.Pending.TheVariants.{AtRest}
 use Rattle.area_rows.specs.declared.row.Row.{Row}
@@ -107,3 +112,29 @@ called_held b r n d e line call span reading same line_is call_is under named dr
 -- pools that stay are ready nodes as they were
 pub pools_left : (a b : Pools) → b ≡ a → IsReadyLeft a.ready b.ready
 pools_left a b same = inr (inl (ap (λ (p : Pools). p.ready) same))
+
+-- the same in each list
+pub lists_left : (a b : SeatState Pass) → b.pools ≡ a.pools → b.further ≡ a.further → (j : ℕ)
+    → IsReadyLeft (pools_at a j).ready (pools_at b j).ready
+lists_left a b same more zero = pools_left a.pools b.pools same
+lists_left a b same more (suc j) = inr (inl (λ i. (get_or (more i) j (same i)).ready))
+
+-- ready nodes that stay in list 0 and in each further list stay in each list
+pub lists_ready : (a b : SeatState Pass) → b.pools.ready ≡ a.pools.ready → map ready_in b.further ≡ map ready_in a.further → (j : ℕ)
+    → (pools_at b j).ready ≡ (pools_at a j).ready
+lists_ready a b same more zero = same
+lists_ready a b same more (suc j) = sym (get_or-map ready_in b.further j b.pools)
+    ∙ ((λ i. get_or (more i) j (same i)) ∙ get_or-map ready_in a.further j a.pools)
+
+-- the range of one page takes the list of that page alone, however the pages are cut
+pub one_page : (c : Regions) (range : Interval) → range.hi ≡ range.lo + 1 → TakesAlone c range
+one_page c range one = (
+  list_of c range.lo,
+  record {
+    takes = record { number = range.lo; low = omega arith; high = omega arith; is = refl };
+    alone = λ other takes.
+        let low = takes.low in let high = takes.high in
+        let here : takes.number ≡ range.lo = omega arith in
+        sym takes.is ∙ ap (list_of c) here;
+  },
+)

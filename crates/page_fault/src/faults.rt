@@ -2,11 +2,11 @@
 //! has the call in one piece hands it to `make_fault`, over which `fault` stands. A fault that its arguments decide
 //! holds nothing. What a reader may rely on is said by `IsAnswer` and `IsTried` (`specs/Faults.antt`); the replies are
 //! those of sigaction(2).
-ghost use Rattle.std.specs.Prelude.{◌≡◌, ◌<◌, ◌≤◌, ◌+◌, ◌*◌, Some, None};
+ghost use Rattle.std.specs.Prelude.{◌≡◌, ◌<◌, ◌≤◌, ◌+◌, ◌*◌, ℕ, Some, None};
 ghost use Rattle.page_types.specs.Named.{IsNamedCall};
 ghost use Rattle.page_types.specs.PlainReply.{plain_reply};
 ghost use Rattle.lock_core.specs.declared.range.Mode.TheVariants.{Reader};
-ghost use Rattle.range_rw.specs.Contract.{IsReadyLeft};
+ghost use Rattle.range_rw.specs.Contract.{IsReadyLeft, pools_at};
 ghost use Rattle.page_types.specs.Classes.{IsFault};
 ghost use Rattle.page_types.specs.declared.TheConstants.{SEARCH};
 ghost use Rattle.area_rows.specs.History.{IsAtRest};
@@ -63,6 +63,7 @@ fn number_plain<L: Ledger>(
     requires decided { plain_reply call ≡ Some reply }
     ensures called { IsCalled caller.old line call result caller.new }
     ensures pools { caller.new.seat.pools ≡ caller.old.seat.pools }
+    ensures further { caller.new.seat.further ≡ caller.old.seat.further }
     ensures bound { caller.new.seat.trace.taken ≤ caller.old.seat.trace.taken + 1 }
     ensures counted { steps.new + caller.old.seat.trace.taken ≡ steps.old + caller.new.seat.trace.taken }
 {
@@ -89,6 +90,7 @@ fn number_held<L: Ledger>(
     requires rest { IsAtRest caller.old.seat.pass }
     ensures called { IsCalled (record caller.old { seat = record caller.old.seat { held = None } }) line call result caller.new }
     ensures ready { caller.new.seat.pools.ready ≡ caller.old.seat.pools.ready }
+    ensures further { (j : ℕ) → (pools_at caller.new.seat j).ready ≡ (pools_at caller.old.seat j).ready }
     ensures bound { caller.new.seat.trace.taken ≤ caller.old.seat.trace.taken + (SEARCH + 6) }
     ensures counted { steps.new + caller.old.seat.trace.taken ≡ steps.old + caller.new.seat.trace.taken }
 {
@@ -166,9 +168,10 @@ pub fn fault<R: Wait>(
 
 /// The same with one try to hold the page, so that it waits for nobody.
 /// `NotHeld` comes only for a fault below `LIMIT`, and then exactly as for a try of the one page as a reader, by the
-/// same causes; the caller has seen and numbered what it had. Its ready nodes, if it had any, are afterwards as they
-/// were or without the first one. It takes at most `SEARCH + 6` steps more than the lock's try: at most `SEARCH + 3`
-/// find the row, one draws the number, and one or two give the page back.
+/// same causes; the caller has seen and numbered what it had. Its ready nodes in each list, if it had any there, are
+/// afterwards as they were or without the first one. It takes at most `SEARCH + 6` steps more than the lock's try,
+/// which is that of one list however the pages are cut: at most `SEARCH + 3` find the row, one draws the number, and
+/// one or two give the page back.
 pub fn try_fault<L: Ledger>(
     space: &Space,
     caller: &mut Caller,
@@ -181,6 +184,7 @@ pub fn try_fault<L: Ledger>(
     requires free { caller.old.seat.held ≡ None }
     ensures answer { IsTried space.now.seats caller.old line addr access result caller.new }
     ensures ready { IsReadyLeft caller.old.seat.pools.ready caller.new.seat.pools.ready }
+    ensures further { (j : ℕ) → IsReadyLeft (pools_at caller.old.seat j).ready (pools_at caller.new.seat j).ready }
     ensures bound { caller.new.seat.trace.taken ≤ caller.old.seat.trace.taken + (64 + 386 * space.now.seats) + (SEARCH + 6) }
     ensures counted { steps.new + caller.old.seat.trace.taken ≡ steps.old + caller.new.seat.trace.taken }
 {

@@ -3,7 +3,8 @@
 use crate::claims::closed_right;
 use crate::protect_by;
 use area_protect::{Cause, Path, Protected};
-use crews::{call_by, open_crew, replacing};
+use crews::{call_by, open_cut_crew, replacing};
+use list_cuts::Cut;
 use page_types::{Call, Field, Kind, PAGE, Prot, Reply, Short, Span, Why};
 use space_model::{Area, PlainSpace, Under, have_named_kinds};
 use std::alloc::Global;
@@ -47,11 +48,12 @@ fn over(lo: u64, hi: u64) -> Under {
     }
 }
 
-/// Maps the last areas on a space that starts with the first ones, and then makes the changes, one after another; these
-/// areas are left.
-fn plays_after<R: Abort + Wait>(
+/// Maps the last areas on a space that starts with the first ones and whose pages are cut so, and then makes the
+/// changes, one after another; these areas are left.
+fn plays_cut<R: Abort + Wait>(
     rt: &R,
     alloc: Global,
+    cut: Cut,
     before: &[Area],
     maps: &[Area],
     cases: &[Case],
@@ -59,7 +61,7 @@ fn plays_after<R: Abort + Wait>(
 ) -> Result<(), Fail> {
     assert!(rt; have_named_kinds(before) && before.len() < 1 << 30);
     let start = PlainSpace::of_areas(alloc, before)?;
-    let Ok((space, mut callers)) = open_crew(alloc, &[8], &start) else {
+    let Ok((space, mut callers)) = open_cut_crew(alloc, &[8], cut, &start) else {
         panic!(rt; "no space");
     };
     for area in maps {
@@ -96,6 +98,18 @@ fn plays_after<R: Abort + Wait>(
     assert_eq!(rt; closed.entries().len(), count);
     assert_eq!(rt; closed.areas(), after);
     Ok(())
+}
+
+/// The same on a space of one list.
+fn plays_after<R: Abort + Wait>(
+    rt: &R,
+    alloc: Global,
+    before: &[Area],
+    maps: &[Area],
+    cases: &[Case],
+    after: &[Area],
+) -> Result<(), Fail> {
+    plays_cut(rt, alloc, Cut::one(), before, maps, cases, after)
 }
 
 /// The same on a space that starts with the areas.
@@ -305,4 +319,44 @@ fn a_sealed_area_refuses_under_itself(rt: HostRuntime) -> Result<(), Fail> {
         ..split
     };
     plays(&rt, rt.alloc(), &areas, &[split, nothing, both], &areas)
+}
+
+#[test]
+fn changes_over_two_regions_are_as_in_one_list(rt: HostRuntime) -> Result<(), Fail> {
+    // blocks of two regions meet at page 65,536, so what is held takes the lists of both
+    let Ok(seven) = Cut::of(7, 16) else {
+        panic!(rt; "no cut");
+    };
+    let there = Case {
+        addr: 0x1000_0000,
+        len: 4096,
+        prot: Prot::READ,
+        reply: Reply::Zero,
+        under: over(65_533, 65_538),
+        path: Path::Area { seq: 0 },
+    };
+    let back = Case {
+        prot: read_write(),
+        under: over(65_535, 65_541),
+        ..there
+    };
+    let split = Case {
+        addr: 0x1000_2000,
+        under: Under::Whole,
+        path: Path::Whole(Cause::NotSimple { at: 2 }),
+        ..back
+    };
+    let before = [
+        area(65_534, 65_537, read_write()),
+        area(65_537, 65_540, Prot::READ),
+    ];
+    let after = [
+        area(65_534, 65_537, read_write()),
+        area(65_537, 65_538, Prot::READ),
+        area(65_538, 65_539, read_write()),
+        area(65_539, 65_540, Prot::READ),
+    ];
+    let cases = [there, back, split];
+    plays(&rt, rt.alloc(), &before, &cases, &after)?;
+    plays_cut(&rt, rt.alloc(), seven, &before, &[], &cases, &after)
 }

@@ -7,6 +7,7 @@
 mod callers;
 mod calls;
 mod counts;
+mod cuts;
 mod draws;
 mod limit;
 mod rounds;

@@ -8,10 +8,12 @@ ghost use Rattle.crews.specs.Crews.{IsCrew};
 
 use crate::callers::call_all;
 use crate::counts::{Entries, Tries};
+use crate::cuts::cut_of;
 use crate::limit::Limit;
 use anyhow::{Result, bail, ensure};
 use area_rows::{Caller, Closed, Space};
-use crews::open_crew;
+use crews::open_cut_crew;
+use list_cuts::Cut;
 use space_model::{Entry, PlainSpace, have_named_calls, legal};
 use std::alloc::Global;
 use std::sync::{Mutex, Wait};
@@ -89,11 +91,12 @@ fn closed_round<R: Threads + Wait + Sync>(
     rt: &R,
     alloc: Global,
     start: &PlainSpace,
+    cut: Cut,
     seed: u64,
     calls: u32,
     total: &Mutex<Tries>,
 ) -> Result<Closed> {
-    let Ok((space, mut callers)) = open_crew(alloc, &[calls; CALLERS], start) else {
+    let Ok((space, mut callers)) = open_cut_crew(alloc, &[calls; CALLERS], cut, start) else {
         bail!("no memory for a space");
     };
     call_all(rt, &space, callers.as_mut_slice(), seed, calls, total);
@@ -104,13 +107,14 @@ fn closed_round<R: Threads + Wait + Sync>(
 fn play_round<R: Threads + Wait + Sync>(
     rt: &R,
     alloc: Global,
+    cut: Cut,
     seed: u64,
     calls: u32,
     entries: &mut Entries,
     total: &Mutex<Tries>,
 ) -> Result<()> {
     let start = PlainSpace::new(alloc);
-    let closed = closed_round(rt, alloc, &start, seed, calls, total)?;
+    let closed = closed_round(rt, alloc, &start, cut, seed, calls, total)?;
     let judged = judge(alloc, &start, &closed, calls);
     for entry in closed.entries() {
         entries.count(entry);
@@ -131,8 +135,8 @@ pub struct SpaceStress {
     pub tries: Tries,
 }
 
-/// Rounds of 16 callers with so many calls each until the limit is past, and at least one. A history that isn't legal
-/// ends them with an error.
+/// Rounds of 16 callers with so many calls each until the limit is past, and at least one with each cut. A history that
+/// isn't legal ends them with an error.
 pub fn stress_space<R: Threads + Wait + Sync + Clock>(
     rt: &R,
     alloc: Global,
@@ -145,9 +149,10 @@ pub fn stress_space<R: Threads + Wait + Sync + Clock>(
     let mut rounds = 0;
     for round in 0..u64::MAX {
         let seed = seed.wrapping_add(round);
-        play_round(rt, alloc, seed, calls, &mut entries, &total)?;
+        let cut = cut_of(round);
+        play_round(rt, alloc, cut, seed, calls, &mut entries, &total)?;
         rounds = round + 1;
-        if limit.is_past(rt)? {
+        if limit.is_past(rt)? && rounds >= 2 {
             break;
         }
     }

@@ -4,6 +4,7 @@
 ghost use Rattle.std.specs.Prelude.{◌≡◌, ◌≤◌, None, IfOk, length};
 ghost use Rattle.range_rw.specs.Contract.{AreIdleSeats, IsGivenBack};
 
+use crate::cuts::cut_of;
 use crate::draws::below;
 use crate::limit::Limit;
 use crate::visits::{SLOTS, Visits, take_turns};
@@ -58,18 +59,6 @@ fn play_seats<R: Threads + Wait + Sync>(
         ensures { IsGivenBack seat.entry.now seat.exit.now }
     { play_seat(rt, table, seat, seed, place, total) };
     thread::for_each_mut(rt, seats, 16, &turn);
-}
-
-/// The lists of a round: one, or those of seven regions in every other round. The slots are dealt out to the regions
-/// one by one, so a range of one slot, as some third of the drawn ones are, takes its region's list alone.
-fn cut_of(round: u64) -> Cut {
-    if round % 2 == 0 {
-        return Cut::one();
-    }
-    let Ok(cut) = Cut::of(7, 0) else {
-        unreachable!()
-    };
-    cut
 }
 
 /// A table of so many seats, with no owner in any slot.

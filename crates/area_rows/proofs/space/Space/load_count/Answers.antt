@@ -19,7 +19,7 @@ returns-clause-counted c =
     subst (λ (v : CallerView). IsCounted v.seat c.load_as_uncounted.result c.load_as_uncounted.new.seat) c.caller.view_is (record {
       rows = r.0;
       all = r.1;
-      step = record { table = call.table; number = call.number; held = call.held; pools = call.pools; pass = r.2; trace = call.trace };
+      step = record { table = call.table; number = call.number; held = call.held; pools = call.pools; further = call.further; pass = r.2; trace = call.trace };
       list = r.3;
     })
 

@@ -1,5 +1,6 @@
 use Rattle.std.proofs.Common.{rules, ◌≡◌, ◌+◌, ◌<◌, ◌≤◌, ◌^◌, length, vec_len, vec_capacity, ap, ◌∙◌, sym, arith}
 use Rattle.std.specs.Prelude.{slice_index}
+use Rattle.list_cuts.specs.Cut.{list_count}
 use Rattle.range_rw.specs.Contract.{SeatState}
 use Rattle.std.proofs.lemmas.List.Edits.{length-remove}
 use Rattle.area_rows.specs.declared.guard.Pass.{Pass}
@@ -14,8 +15,9 @@ pub invariant_of-push_reserved : goal.invariant_of-push_reserved
 invariant_of-push_reserved c =
     let some_left : 0 < length c.seats.seats.items = search rules in
     let table = c.args.table.now.table in
+    let lists = list_count c.args.table.now.cut in
     let first = first_of c.args.start.now c.args.calls.now (room_of table) in
-    let s = next_seat table first c.seats.worker c.seats.seats.items c.remove-seat.result
+    let s = next_seat lists table first c.seats.worker c.seats.seats.items c.remove-seat.result
     c.seats.invariant.rest some_left c.remove-seat.ensures.value in (
       ap (λ (x : SeatState Pass). x.number) s,
       search rules ∙ sym (ap (λ (x : SeatState Pass). x.pass.mine) s),
@@ -36,7 +38,8 @@ seats-init c = record {
   count = search rules;
   sum = search rules;
   new = search rules;
-  rest = first_seats c.args.table.now.table (first_of c.args.start.now c.args.calls.now (room_of c.args.table.now.table)) c.args.seats.items c.requires.seats;
+  rest = first_seats (list_count c.args.table.now.cut) c.args.table.now.table
+      (first_of c.args.start.now c.args.calls.now (room_of c.args.table.now.table)) c.args.seats.items c.requires.seats;
 }
 
 -- one new caller more is made, and the seats that wait go on with the next number
@@ -45,16 +48,17 @@ seats-preserved c =
     let i = c.seats.invariant in
     let some_left : 0 < length c.seats.seats.items = search rules in
     let table = c.args.table.now.table in
+    let lists = list_count c.args.table.now.cut in
     let first = first_of c.args.start.now c.args.calls.now (room_of table) in
     let start = c.args.start.now in
-    let s = next_seat table first c.seats.worker c.seats.seats.items c.remove-seat.result i.rest some_left c.remove-seat.ensures.value in
+    let s = next_seat lists table first c.seats.worker c.seats.seats.items c.remove-seat.result i.rest some_left c.remove-seat.ensures.value in
     record {
       room = search rules;
       count = search rules;
       sum = let left = length-remove c.seats.seats.items 0 some_left in let e = ap length c.remove-seat.ensures.items in let t = i.sum in omega arith;
       new =
           let p = c.in_ok-plan.ensures.items in
-          rw c.push_reserved.ensures.items (one_caller table start c.args.calls.now c.seats.made.items _ c.seats.worker i.count
+          rw c.push_reserved.ensures.items (one_caller lists table start c.args.calls.now c.seats.made.items _ c.seats.worker i.count
           i.new (new_caller _ _ (slice_index c.args.calls.now c.seats.worker) _ s p));
-      rest = seats_on table first c.seats.worker c.seats.seats.items c.remove-seat.new.self.items i.rest c.remove-seat.ensures.items;
+      rest = seats_on lists table first c.seats.worker c.seats.seats.items c.remove-seat.new.self.items i.rest c.remove-seat.ensures.items;
     }

@@ -1,7 +1,9 @@
-use Rattle.std.proofs.Common.{◌∙◌, ap, subst, ℕ, arith}
+use Rattle.std.proofs.Common.{◌≡◌, ◌+◌, ◌*◌, ◌∙◌, ap, subst, sym, ℕ, arith}
 use Rattle.std.specs.Prelude.{IfErr, ◌↔◌}
-use Rattle.range_rw.specs.Contract.{SeatState, TableShape, IsLongRefusal, IsSpentIn}
-use Rattle.range_rw.proofs.SeatLists.{one_list_steps}
+use Rattle.range_rw.specs.Contract.{SeatState, TableShape, IsReadyLeft, IsLongRefusal, IsSpentIn, most_steps, pools_at}
+use Rattle.range_rw.specs.Several.{TakesAlone}
+use Rattle.list_cuts.specs.Cut.{Regions, list_count}
+use Rattle.lock_core.specs.Range.{Interval}
 use Rattle.area_rows.specs.declared.guard.Pass.{Pass}
 use Rattle.area_rows.specs.Callers.{CallerView}
 use Rattle.area_rows.proofs.space.Space.try_acquire.Goals as goal
@@ -17,9 +19,26 @@ returns-clause-long g c =
     subst (λ (z : ℕ × SeatState Pass). IfErr c.try_acquire.result (λ why. IsLongRefusal why ↔ IsSpentIn z.0 z.1 c.try_acquire.new.seat))
     (λ i. (ap (λ (t : TableShape). t.seats) c.self.view_is i, ap (λ (v : CallerView). v.seat) c.caller.view_is i)) c.try_acquire.ensures.long
 
--- the table has one list, so a try makes the steps of one
+-- the ready nodes of each list
+pub returns-clause-further : goal.returns-clause-further
+returns-clause-further g c = λ j.
+    subst (λ (v : CallerView). IsReadyLeft (pools_at v.seat j).ready (pools_at c.try_acquire.new.seat j).ready) c.caller.view_is
+    (c.try_acquire.ensures.further j)
+
+-- the steps of a span that takes one list
 pub returns-clause-bound : goal.returns-clause-bound
-returns-clause-bound g c =
-    let b = one_list_steps c.self.inside.table _ _ c.self.invariant.2 c.try_acquire.ensures.wide in
+returns-clause-bound g c = λ alone.
+    let t = ap (λ (t : TableShape). t.cut) c.self.view_is in
+    let r = c.range_of.ensures in
+    let b = c.try_acquire.ensures.bound
+    (subst (λ (z : Regions × Interval). TakesAlone z.0 z.1) (λ i. (sym t i, record { lo = sym r.lo i; hi = sym r.hi i })) alone) in
     let n = ap (λ (t : TableShape). t.seats) c.self.view_is in
+    let w = ap (λ (v : CallerView). v.seat.trace.taken) c.caller.view_is in omega arith
+
+-- and of any
+pub returns-clause-wide : goal.returns-clause-wide
+returns-clause-wide g c =
+    let b = c.try_acquire.ensures.wide in
+    let all : (64 + 386 * c.self.inside.table.seats) * list_count c.self.inside.table.cut
+    ≡ (64 + 386 * c.args.self.now.seats) * list_count c.args.self.now.cut = ap most_steps c.self.view_is in
     let w = ap (λ (v : CallerView). v.seat.trace.taken) c.caller.view_is in omega arith

@@ -1,5 +1,5 @@
 use Rattle.crews.specs.Crews.{IsCrew}
-use Rattle.protect_trials.proofs.tests.plays_after.Given as goal
+use Rattle.protect_trials.proofs.tests.plays_cut.Given as goal
 
 -- after each area that is mapped the callers are a crew
 abbrev pub invariant-loop-area : goal.invariant-loop-area

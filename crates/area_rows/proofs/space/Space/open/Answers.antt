@@ -1,0 +1,15 @@
+use Rattle.std.proofs.Common.{ap, ◌∙◌, subst}
+use Rattle.std.proofs.lemmas.Result.{IfOk-weaker}
+use Rattle.list_cuts.specs.Cut.{Regions, list_count}
+use Rattle.area_rows.specs.Callers.{AreNewCallersIn}
+use Rattle.area_rows.proofs.space.Space.open.Goals as goal
+
+-- a cut into one region gives one list
+pub returns-clause-one : goal.returns-clause-one
+returns-clause-one c = IfOk-weaker c.open_cut.result _ _ (λ r h. ap list_count (h ∙ c.one.ensures)) c.open_cut.ensures.cut
+
+-- and the callers are new ones of one list
+pub returns-clause-callers : goal.returns-clause-callers
+returns-clause-callers c = IfOk-weaker c.open_cut.result _ _
+    (λ r h. subst (λ (x : Regions). AreNewCallersIn (list_count x) r.0.table c.args.start.now c.args.calls.now r.1.items) c.one.ensures h)
+    c.open_cut.ensures.callers
