@@ -14,6 +14,7 @@ ghost use Rattle.range_cli.specs.declared.trace.TheConstants.{LINES_LIMIT};
 use crate::dealing::deal_lines;
 use crate::trace::Line;
 use area_rows::Closed;
+use list_cuts::Cut;
 use space_model::PlainSpace;
 use std::alloc::{AllocError, Global};
 use std::sync::Wait;
@@ -59,7 +60,8 @@ pub fn play_lists<R: Threads + Wait + Sync, G: Gate>(
     ensures { IfOk result (λ closed. (lines : List Line) → map vec_items lists.items ≡ dealt threads lines
         → IsHistoryOf threads opening.now lines closed.entries closed.areas) }
 {
-    match play_trace(wait, alloc, opening, lists, gate) {
+    // The lock keeps one list: docs/DECISIONS.md says why.
+    match play_trace(wait, alloc, Cut::one(), opening, lists, gate) {
         Ok(closed) => Ok(closed),
         Err(_) => Err(AllocError),
     }
@@ -84,7 +86,8 @@ pub fn play_touched<R: Threads + Wait + Sync, G: Gate>(
     ensures touched { IfOk result (λ r. CountsTouched r.0.entries r.1) }
 {
     let lists = deal_lines(alloc, threads, lines)?;
-    match play_touched_trace(wait, alloc, opening, lists, gate) {
+    // The lock keeps one list here too.
+    match play_touched_trace(wait, alloc, Cut::one(), opening, lists, gate) {
         Ok((closed, pages)) => Ok((closed, pages.len() as u32)),
         Err(_) => Err(AllocError),
     }

@@ -1,13 +1,14 @@
 //! Measures what a call costs on the address space that threads share, beside the same calls on a `BTreeMap` of the
 //! areas under an `RwLock` and under a `Mutex` of std, in one run: the workloads `load` and `pager` on 1, 2 and 4
-//! threads, and one worker on 300 to 600 areas, also beside the address space of one thread. All keep the history: each
-//! call draws a number and its entry is kept. A time is that of playing alone, the least of several rounds. Times go to
-//! standard error, since they differ from run to run; standard output says how many calls were played and how many of
-//! them refused, on which all agree. The word `full` plays 1,048,576 calls of `load` and `pager` a round, the word
-//! `areas` as many on 300 to 600 areas. The word `faults` measures single faults, changes and plans, `rows` changes and
-//! plans over 4000 rows, and `history` how long `legal` takes to judge as many entries. The word `tables` measures
-//! faults and unmaps over as many rows as there may be, `openings` what opening and closing a space takes, and `hold`
-//! is a run whose memory is looked at from outside. Without a word each is measured with a few thousand calls.
+//! threads, also in seven regions with a list each, and one worker on 300 to 600 areas, also beside the address space
+//! of one thread. All keep the history: each call draws a number and its entry is kept. A time is that of playing
+//! alone, the least of several rounds. Times go to standard error, since they differ from run to run; standard output
+//! says how many calls were played and how many of them refused, on which all agree. The word `full` plays 1,048,576
+//! calls of `load` and `pager` a round, the word `areas` as many on 300 to 600 areas. The word `faults` measures single
+//! faults, changes and plans, `rows` changes and plans over 4000 rows, and `history` how long `legal` takes to judge as
+//! many entries. The word `tables` measures faults and unmaps over as many rows as there may be, `openings` what
+//! opening and closing a space takes, and `hold` is a run whose memory is looked at from outside. Without a word each
+//! is measured with a few thousand calls.
 #![tactic(auto)]
 
 ghost use Rattle.std.specs.Prelude.{◌≤◌};
@@ -32,8 +33,9 @@ mod watch;
 use anyhow::{Result, bail};
 use faults::{measure_faults, measure_rows};
 use history::measure_history;
+use list_cuts::Cut;
 use openings::{hold_open, measure_openings};
-use rounds::{Times, least_of_plain, times_of};
+use rounds::{Times, least_in_regions, least_of_plain, times_of};
 use size::{Size, percent};
 use std::alloc::Global;
 use std::env;
@@ -67,7 +69,7 @@ fn main(rt: HostRuntime) -> Result<()> {
     }
 }
 
-/// `load` and `pager` on 1, 2 and 4 threads.
+/// `load` and `pager` on 1, 2 and 4 threads, and each once more on the space with a list for each of seven regions.
 fn measure_threads<R: Threads + Wait + Sync + Clock + Print + Eprint>(
     rt: &R,
     alloc: Global,
@@ -75,10 +77,15 @@ fn measure_threads<R: Threads + Wait + Sync + Clock + Print + Eprint>(
 ) -> Result<()>
     requires { size.calls ≤ 1048576 }
 {
+    let Ok(cut) = Cut::of(7, 16) else {
+        bail!("no cut");
+    };
     for workload in [Workload::Load, Workload::Pager] {
         for threads in [1u32, 2, 4] {
             let times = times_of(rt, alloc, size, workload, threads)?;
             print_times(rt, size, workload, threads, times)?;
+            let least = least_in_regions(rt, alloc, size, cut, workload, threads, times)?;
+            print_in_regions(rt, size, workload, threads, times, least)?;
         }
     }
     Ok(())
@@ -123,6 +130,29 @@ fn print_times<R: Print + Eprint>(
         size.each(times.rw_lock),
         percent(times.space, times.mutex),
         size.each(times.mutex)
+    )?;
+    Ok(())
+}
+
+/// The summary of a workload on the space in seven regions, on which all have agreed, and its least time.
+fn print_in_regions<R: Print + Eprint>(
+    rt: &R,
+    size: Size,
+    workload: Workload,
+    threads: u32,
+    times: Times,
+    least: u64,
+) -> Result<()> {
+    let name = workload.name();
+    println!(rt;
+        "{name}, in 7 regions, threads {threads}: played {} skipped 0 refused {} differ 0",
+        times.calls, times.refused
+    )?;
+    eprintln!(rt;
+        "{name}, in 7 regions, threads {threads}: a call takes {} ns, {} percent of that with one list ({} ns)",
+        size.each(least),
+        percent(least, times.space),
+        size.each(times.space)
     )?;
     Ok(())
 }

@@ -8,6 +8,7 @@ use crate::plain::round_of_plain;
 use crate::size::Size;
 use crate::watch::Watch;
 use anyhow::{Result, bail, ensure};
+use list_cuts::Cut;
 use page_types::Reply;
 use space_model::Entry;
 use std::alloc::Global;
@@ -31,7 +32,7 @@ pub struct Played {
 /// The least times of rounds of one workload, in nanoseconds, and how many calls of a round were refused.
 #[derive(Clone, Copy)]
 pub struct Times {
-    /// On the space that threads share.
+    /// On the space that threads share, with one list.
     pub space: u64,
     /// On a `BTreeMap` under an `RwLock`.
     pub rw_lock: u64,
@@ -51,10 +52,11 @@ pub fn count_refused(entries: &[Entry]) -> usize {
         .count()
 }
 
-/// A round on the space that threads share.
+/// A round on the space that threads share, with a list for each region of the cut.
 fn round_of_space<R: Threads + Wait + Sync + Clock>(
     rt: &R,
     alloc: Global,
+    cut: Cut,
     workload: Workload,
     threads: u32,
     calls: u32,
@@ -65,7 +67,7 @@ fn round_of_space<R: Threads + Wait + Sync + Clock>(
     let start = start_of(workload, alloc)?;
     let lines = all_lines(workload, alloc, threads, calls)?;
     let watch = Watch::new(rt, threads, calls)?;
-    let Ok(closed) = play_trace(rt, alloc, &start, lines, &watch) else {
+    let Ok(closed) = play_trace(rt, alloc, cut, &start, lines, &watch) else {
         bail!("no memory for a space");
     };
     let entries = closed.entries();
@@ -130,7 +132,7 @@ pub fn times_of<R: Threads + Wait + Sync + Clock>(
         refused: 0,
     };
     for _ in 0..size.rounds {
-        let space = round_of_space(rt, alloc, workload, threads, size.calls)?;
+        let space = round_of_space(rt, alloc, Cut::one(), workload, threads, size.calls)?;
         let rw_lock = round_of_rw_lock(rt, alloc, workload, threads, size.calls)?;
         let mutex = round_of_mutex(rt, alloc, workload, threads, size.calls)?;
         for other in [&rw_lock, &mutex] {
@@ -150,6 +152,34 @@ pub fn times_of<R: Threads + Wait + Sync + Clock>(
         times.refused = space.refused;
     }
     Ok(times)
+}
+
+/// The least time of rounds on the space that threads share, with a list for each region of the cut. It fails where
+/// other calls are made or refused than `times` has.
+pub fn least_in_regions<R: Threads + Wait + Sync + Clock>(
+    rt: &R,
+    alloc: Global,
+    size: Size,
+    cut: Cut,
+    workload: Workload,
+    threads: u32,
+    times: Times,
+) -> Result<u64>
+    requires few { threads ≤ 16 }
+    requires calls { size.calls ≤ 1048576 }
+{
+    let mut least = u64::MAX;
+    for _ in 0..size.rounds {
+        let space = round_of_space(rt, alloc, cut, workload, threads, size.calls)?;
+        ensure!(
+            space.calls == times.calls && space.refused == times.refused,
+            "{} calls were refused in regions, and {} with one list",
+            space.refused,
+            times.refused
+        );
+        least = least.min(space.time);
+    }
+    Ok(least)
 }
 
 /// The least time of rounds of one worker on the address space of one thread. It fails where other calls are made or

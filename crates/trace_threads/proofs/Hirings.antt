@@ -16,7 +16,7 @@ use Rattle.space_model.specs.History.{Chains}
 use Rattle.area_rows.specs.History.{Runs}
 use Rattle.area_rows.specs.declared.space.SpaceFault.{SpaceFault}
 use Rattle.area_rows.specs.declared.space.SpaceFault.TheVariants.{Callers, Rows, Memory}
-use Rattle.area_rows.specs.Callers.{CallerView, IsSpaceFault, AreIdle, AreNewCallers, IsWhole}
+use Rattle.area_rows.specs.Callers.{CallerView, IsSpaceFault, AreIdle, AreNewCallersIn, IsWhole}
 use Rattle.trace_threads.specs.declared.worker.Line.{Line}
 use Rattle.trace_threads.specs.Workers.{WorkerView, AreOfTable, Plays, HavePlayed}
 use Rattle.trace_threads.specs.Collected.{IsPlayed, IsTraceFault, HeldAndReplies, IsOnlyWorker, AllHeld, AreFresh, caller_of}
@@ -61,11 +61,12 @@ ready_by_place (c ∷ cs) (ls ∷ lists) same each =
 all_at : {A : Type 0} (P : A → Type 0) (l : List A) (k : ℕ) (a : A) → All P l → get_elem? l k ≡ some a → P a
 all_at P l k a all at = subst P (at_or l k a a at) (all k a (below l k a at))
 
--- new callers that were opened for as many calls as their lists have lines may be given them
-pub new_ready : (table : TableId) (start : List Area) (calls : List ℕ) (lists : List (List Line)) (cs : List CallerView)
-    → calls ≡ map length lists → length cs ≡ length lists → AreNewCallers table start calls cs
+-- new callers that were opened for as many calls as their lists have lines may be given them, however many lists the
+-- lock has
+pub new_ready : (several : ℕ) (table : TableId) (start : List Area) (calls : List ℕ) (lists : List (List Line)) (cs : List CallerView)
+    → calls ≡ map length lists → length cs ≡ length lists → AreNewCallersIn several table start calls cs
     → All (λ ls. All (λ l. IsNamedCall l.call) ls) lists → AreReady cs lists
-new_ready table start calls lists cs is same new named = ready_by_place cs lists same (λ k c ls at_c at_ls.
+new_ready several table start calls lists cs is same new named = ready_by_place cs lists same (λ k c ls at_c at_ls.
     let e = new k c at_c in
     let left : c.left ≡ length ls = ap (λ (x : CallerView). x.left) e
     ∙ (ap (λ l. slice_index l k) is ∙ at_or (map length lists) k (length ls) 0 (at_map length lists k ls at_ls)) in
@@ -92,11 +93,11 @@ length_hired [] (ls ∷ lists) same = absurd (omega arith)
 length_hired (c ∷ cs) [] same = absurd (omega arith)
 length_hired (c ∷ cs) (ls ∷ lists) same = ap suc (length_hired cs lists (omega arith))
 
--- workers made of a new space's callers are new workers with these lists
-pub new_workers : (table : TableId) (start : List Area) (calls : List ℕ) (lists : List (List Line)) (cs : List CallerView)
+-- workers made of a new space's callers are new workers with these lists of lines
+pub new_workers : (several : ℕ) (table : TableId) (start : List Area) (calls : List ℕ) (lists : List (List Line)) (cs : List CallerView)
     (workers : List WorkerView) → workers ≡ hired cs lists → length cs ≡ length lists → 0 < length cs
-    → AreNewCallers table start calls cs → AreNewWorkers table start lists workers
-new_workers table start calls lists cs workers is same some_there new =
+    → AreNewCallersIn several table start calls cs → AreNewWorkers table start lists workers
+new_workers several table start calls lists cs workers is same some_there new =
     let count : length workers ≡ length lists = ap length is ∙ length_hired cs lists same in
     record {
       count = count;

@@ -17,6 +17,7 @@ use crate::touching::{TouchWorker, play_touching};
 use crate::trace::open_workers;
 use crate::worker::{Line, Worker};
 use area_rows::{Caller, Closed, Space, SpaceFault};
+use list_cuts::Cut;
 use page_touch::{TouchSeat, Touches};
 use page_types::Call;
 use space_model::PlainSpace;
@@ -141,13 +142,14 @@ fn close_both(
 }
 
 /// Plays lists of lines as `play_trace`, and gives with the closing the pages of the granted faults, each once, in
-/// rising order. The lists have at most 2^20 lines together.
+/// rising order. The lists have at most 2^20 lines together. The cut is of the space's lock, as there.
 ///
 /// The set of touched pages is opened before the first line is played, and closed behind the space. The refusals are
 /// those of `play_trace`.
 pub fn play_touched_trace<R: Threads + Wait + Sync, G: Gate>(
     wait: &R,
     alloc: Global,
+    cut: Cut,
     start: &PlainSpace,
     lines: Vec<Vec<Line>>,
     gate: &G,
@@ -164,7 +166,7 @@ pub fn play_touched_trace<R: Threads + Wait + Sync, G: Gate>(
     let Ok(quotas) = quotas_of(alloc, lines.as_slice()) else {
         return Err(SpaceFault::Memory);
     };
-    match open_workers(alloc, start, lines) {
+    match open_workers(alloc, cut, start, lines) {
         Ok((space, workers, callers)) => {
             let Some((touches, touchers, seats)) = open_touchers(alloc, quotas.as_slice(), workers)
             else {

@@ -13,6 +13,7 @@ use crate::gate::Gate;
 use crate::playing::play_all;
 use crate::worker::{Line, Worker};
 use area_rows::{Caller, Closed, Space, SpaceFault};
+use list_cuts::Cut;
 use space_model::PlainSpace;
 use std::alloc::{AllocError, Global};
 use std::sync::Wait;
@@ -63,9 +64,11 @@ fn dismiss(mut workers: Vec<Worker>, mut callers: Vec<Caller>) -> Vec<Caller>
     callers
 }
 
-/// A new space with one worker for each list of lines, and a list with room for the workers' callers.
+/// A new space whose lock has a list for each region of the cut, with one worker for each list of lines, and a list
+/// with room for the workers' callers.
 pub(crate) fn open_workers(
     alloc: Global,
+    cut: Cut,
     start: &PlainSpace,
     lines: Vec<Vec<Line>>,
 ) -> Result<(Space, Vec<Worker>, Vec<Caller>), SpaceFault>
@@ -81,7 +84,7 @@ pub(crate) fn open_workers(
     let Ok(calls) = counts(alloc, lines.as_slice()) else {
         return Err(SpaceFault::Memory);
     };
-    match Space::open(alloc, calls.as_slice(), start) {
+    match Space::open_cut(alloc, calls.as_slice(), cut, start) {
         Ok((space, callers)) => {
             let Ok(workers) = Vec::with_capacity(alloc, callers.len()) else {
                 return Err(SpaceFault::Memory);
@@ -94,13 +97,15 @@ pub(crate) fn open_workers(
 }
 
 /// Plays lists of lines on a space that starts as this one: worker 0 the first list, worker 1 the second, and so on.
-/// The calls have named bits alone.
+/// The calls have named bits alone. The cut says how the pages are dealt out to the lists of the space's lock. What is
+/// played and what is answered does not depend on it.
 ///
 /// `Callers` comes exactly where there is no list or there are more than 16, and otherwise `Rows` exactly where the
 /// start has more than `ROWS` rows.
 pub fn play_trace<R: Threads + Wait + Sync, G: Gate>(
     wait: &R,
     alloc: Global,
+    cut: Cut,
     start: &PlainSpace,
     lines: Vec<Vec<Line>>,
     gate: &G,
@@ -112,7 +117,7 @@ pub fn play_trace<R: Threads + Wait + Sync, G: Gate>(
     ensures played { IfOk result (λ closed. IsPlayed start.now (map vec_items lines.items) closed.entries closed.areas) }
     ensures refused { IfErr result (IsTraceFault (length lines.items) (row_count start.now)) }
 {
-    match open_workers(alloc, start, lines) {
+    match open_workers(alloc, cut, start, lines) {
         Ok((space, workers, callers)) => {
             let mut workers = workers;
             play_all(&space, wait, workers.as_mut_slice(), gate);

@@ -22,7 +22,7 @@ pub two_workers : (table : TableId) (start : List Area) (calls : List ℕ) (a b 
     → AreNewCallers table start calls (a ∷ b ∷ h ∷ [])
     → AreNewWorkers table start (f ∷ s ∷ []) (record { caller = a; lines = f } ∷ record { caller = b; lines = s } ∷ [])
 two_workers table start calls a b h f s new =
-    new_workers table start calls (f ∷ s ∷ []) (a ∷ b ∷ [])
+    new_workers 1 table start calls (f ∷ s ∷ []) (a ∷ b ∷ [])
     (record { caller = a; lines = f } ∷ record { caller = b; lines = s } ∷ []) refl refl (omega arith)
     (λ k c at. new k c (at_longer (a ∷ b ∷ []) (h ∷ []) k c at))
 

@@ -5,6 +5,7 @@ ghost use Rattle.worker_trials.specs.Trials.{HasPlayedCounts};
 
 use crate::lines::read_lists;
 use area_rows::{Closed, SpaceFault};
+use list_cuts::Cut;
 use space_model::PlainSpace;
 use std::alloc::Global;
 use std::sync::Wait;
@@ -12,10 +13,11 @@ use std::thread::Threads;
 use trace_threads::{Gate, play_trace};
 
 /// Plays so many lines of each worker: they are dealt out in turn from line 1 on, and each worker's read the pages from
-/// 16 on in turn.
+/// 16 on in turn. The space's lock has a list for each region of the cut.
 pub fn play_reads<R: Threads + Wait + Sync, G: Gate>(
     rt: &R,
     alloc: Global,
+    cut: Cut,
     start: &PlainSpace,
     counts: &[u32],
     pages: u32,
@@ -29,5 +31,5 @@ pub fn play_reads<R: Threads + Wait + Sync, G: Gate>(
     let Ok(lists) = read_lists(alloc, counts, pages) else {
         return Err(SpaceFault::Memory);
     };
-    play_trace(rt, alloc, start, lists, gate)
+    play_trace(rt, alloc, cut, start, lists, gate)
 }

@@ -9,6 +9,7 @@ use crate::signs::{Hold, Moment, SignGate};
 use crate::{one_line, page_lines, read_line};
 use area_rows::{Closed, SpaceFault};
 use bitflags::Flags;
+use list_cuts::Cut;
 use page_types::{Call, Kind, MapFlags, PAGE, Prot, Span};
 use space_model::{Area, Entry, PlainSpace, Under, have_named_calls, have_named_kinds, legal};
 use std::alloc::Global;
@@ -53,8 +54,9 @@ fn are_dealt(entries: &[Entry], counts: &[u32]) -> bool
 fn four_workers_read_two_hundred_times_each(rt: HostRuntime) {
     let alloc = rt.alloc();
     let start = PlainSpace::of_areas(alloc, &[READABLE]).expect(&rt, "an area list");
+    let one = Cut::one();
     let counts = [200; 4];
-    let closed = play_reads(&rt, alloc, &start, &counts, 5, &OpenGate).expect(&rt, "memory");
+    let closed = play_reads(&rt, alloc, one, &start, &counts, 5, &OpenGate).expect(&rt, "memory");
     let entries = closed.entries();
     assert_eq!(rt; entries.len(), 800);
     assert!(rt; are_dealt(entries, &counts));
@@ -65,16 +67,30 @@ fn four_workers_read_two_hundred_times_each(rt: HostRuntime) {
 }
 
 #[test]
+fn four_workers_read_in_seven_regions(rt: HostRuntime) {
+    let alloc = rt.alloc();
+    let start = PlainSpace::of_areas(alloc, &[READABLE]).expect(&rt, "an area list");
+    let counts = [200; 4];
+    let cut = Cut::of(7, 0).expect(&rt, "a cut");
+    let closed = play_reads(&rt, alloc, cut, &start, &counts, 5, &OpenGate).expect(&rt, "memory");
+    assert!(rt; are_dealt(closed.entries(), &counts));
+    assert_eq!(rt; closed.areas(), [READABLE].as_slice());
+}
+
+#[test]
 fn sixteen_workers_play_a_line_each_and_some_play_none(rt: HostRuntime) {
     let alloc = rt.alloc();
     let start = PlainSpace::of_areas(alloc, &[READABLE]).expect(&rt, "an area list");
-    let closed = play_reads(&rt, alloc, &start, &[1; 16], 4, &OpenGate).expect(&rt, "memory");
+    let one = Cut::one();
+    let closed = play_reads(&rt, alloc, one, &start, &[1; 16], 4, &OpenGate).expect(&rt, "memory");
     assert_eq!(rt; closed.entries().len(), 16);
     assert!(rt; are_dealt(closed.entries(), &[1; 16]));
-    let closed = play_reads(&rt, alloc, &start, &[3, 0, 2], 4, &OpenGate).expect(&rt, "memory");
+    let closed = play_reads(&rt, alloc, one, &start, &[3, 0, 2], 4, &OpenGate).expect(
+        &rt, "memory",
+    );
     assert_eq!(rt; closed.entries().len(), 5);
     assert!(rt; are_dealt(closed.entries(), &[3, 0, 2]));
-    let closed = play_reads(&rt, alloc, &start, &[0], 4, &OpenGate).expect(&rt, "memory");
+    let closed = play_reads(&rt, alloc, one, &start, &[0], 4, &OpenGate).expect(&rt, "memory");
     assert!(rt; closed.entries().is_empty());
 }
 
@@ -82,8 +98,17 @@ fn sixteen_workers_play_a_line_each_and_some_play_none(rt: HostRuntime) {
 fn a_trace_has_from_one_to_sixteen_workers(rt: HostRuntime) {
     let alloc = rt.alloc();
     let start = PlainSpace::new(alloc);
+    let one = Cut::one();
     for count in [0, 17] {
-        match play_reads(&rt, alloc, &start, &[1; 17][..count as usize], 1, &OpenGate) {
+        match play_reads(
+            &rt,
+            alloc,
+            one,
+            &start,
+            &[1; 17][..count as usize],
+            1,
+            &OpenGate,
+        ) {
             Ok(_) => panic!(rt; "{count} workers"),
             Err(refusal) => assert_eq!(rt; refusal, SpaceFault::Callers(count)),
         }
@@ -211,7 +236,7 @@ fn touched_by_three<R: Threads + Wait + Sync>(
     lists.push_reserved(first);
     lists.push_reserved(second);
     lists.push_reserved(third);
-    match play_touched_trace(rt, alloc, start, lists, &OpenGate) {
+    match play_touched_trace(rt, alloc, Cut::one(), start, lists, &OpenGate) {
         Ok((_, pages)) => Some(pages),
         Err(_) => None,
     }
