@@ -20,36 +20,40 @@ fn lists_of(cut: &Cut, range: Range) -> (u32, u32) {
     (count, sum)
 }
 
+/// Numbers, and the list of each.
+const NUMBERS: [(u64, u32); 5] = [
+    (0, 1),
+    (BLOCK - 1, 1),
+    (BLOCK, 2),
+    (6 * BLOCK, 7),
+    (7 * BLOCK, 1),
+];
+
 #[test]
 fn blocks_are_dealt_out_in_turn(rt: HostRuntime) -> Result<(), Fail> {
     let cut = Cut::of(7, 16)?;
     assert_eq!(rt; cut.lists(), 8);
-    let rows = [
-        (0, 1),
-        (BLOCK - 1, 1),
-        (BLOCK, 2),
-        (6 * BLOCK, 7),
-        (7 * BLOCK, 1),
-    ];
-    for (number, list) in rows.iter() {
+    for (number, list) in NUMBERS.iter() {
         assert_eq!(rt; cut.list_of(*number), *list, "list of {number}");
     }
     Ok(())
 }
 
+/// Ranges, how many lists each takes and the sum of their numbers, and the list that it takes alone.
+const RANGES: [((u64, u64), (u32, u32), Option<u32>); 6] = [
+    // one block; two; round the end; all but one; all, whose list 0 has no number
+    ((0, BLOCK), (1, 1), Some(1)),
+    ((BLOCK - 1, BLOCK + 1), (2, 3), None),
+    ((6 * BLOCK, 7 * BLOCK + 1), (2, 8), None),
+    ((BLOCK, 7 * BLOCK), (6, 27), None),
+    ((1, 7 * BLOCK + 1), (7, 28), None),
+    ((0, 4_611_686_018_427_387_904), (7, 28), None),
+];
+
 #[test]
 fn a_range_takes_the_lists_of_its_numbers(rt: HostRuntime) -> Result<(), Fail> {
     let cut = Cut::of(7, 16)?;
-    let rows = [
-        // one block; two; round the end; all but one; all, whose list 0 has no number
-        ((0, BLOCK), (1, 1), Some(1)),
-        ((BLOCK - 1, BLOCK + 1), (2, 3), None),
-        ((6 * BLOCK, 7 * BLOCK + 1), (2, 8), None),
-        ((BLOCK, 7 * BLOCK), (6, 27), None),
-        ((1, 7 * BLOCK + 1), (7, 28), None),
-        ((0, 4_611_686_018_427_387_904), (7, 28), None),
-    ];
-    for ((lo, hi), lists, only) in rows.iter() {
+    for ((lo, hi), lists, only) in RANGES.iter() {
         let range = Range::of(*lo, *hi)?;
         assert_eq!(rt; lists_of(&cut, range), *lists, "lists of {lo} to {hi}");
         assert_eq!(rt; cut.only(range), *only, "the one list of {lo} to {hi}");
@@ -67,10 +71,12 @@ fn one_region_has_one_list(rt: HostRuntime) -> Result<(), Fail> {
     Ok(())
 }
 
+/// Cuts that are none: how many regions, and how many bits a block has.
+const BAD: [(u32, u32); 4] = [(0, 16), (17, 16), (1, 63), (16, 64)];
+
 #[test]
 fn cuts_have_bounds(rt: HostRuntime) -> Result<(), Fail> {
-    let rows = [(0, 16), (17, 16), (1, 63), (16, 64)];
-    for (regions, bits) in rows.iter() {
+    for (regions, bits) in BAD.iter() {
         let refused = BadCut {
             regions: *regions,
             bits: *bits,

@@ -11,6 +11,8 @@ mod crowd;
 #[cfg(test)]
 mod cut_rows;
 #[cfg(test)]
+mod holds;
+#[cfg(test)]
 mod opened;
 #[cfg(test)]
 mod pairs;

@@ -44,70 +44,72 @@ impl Guard for Untouched {
 }
 
 /// The seat of the lowest number of these, which are of one table and hold nothing.
-fn next_seat<G: Guard>(table: &RangeTable<G>, seats: &mut Vec<Seat<G>>) -> Option<Seat<G>>
+fn next_seat<G: Guard>(rt: &impl Abort, table: &RangeTable<G>, seats: &mut Vec<Seat<G>>) -> Seat<G>
     requires idle { All (λ s. (s.table ≡ table.now.table) × (s.held ≡ None)) seats.old.items }
     ensures idle { All (λ s. (s.table ≡ table.now.table) × (s.held ≡ None)) seats.new.items }
-    ensures seat { IfSome result (λ s. (s.table ≡ table.now.table) × (s.held ≡ None)) }
-    ensures first { IfSome result (λ s. seats.old.items ≡ s ∷ seats.new.items) }
+    ensures seat { (result.table ≡ table.now.table) × (result.held ≡ None) }
+    ensures first { seats.old.items ≡ result ∷ seats.new.items }
 {
-    if seats.is_empty() {
-        return None;
-    }
-    Some(seats.remove(0))
+    assert!(rt; !seats.is_empty());
+    seats.remove(0)
 }
 
 /// The four seats of the lowest numbers, as a set.
-fn next_set<G: Guard>(table: &RangeTable<G>, seats: &mut Vec<Seat<G>>) -> Option<SetSeat<G>>
+fn next_set<G: Guard>(
+    rt: &impl Abort,
+    table: &RangeTable<G>,
+    seats: &mut Vec<Seat<G>>,
+) -> SetSeat<G>
     requires idle { All (λ s. (s.table ≡ table.now.table) × (s.held ≡ None)) seats.old.items }
     ensures idle { All (λ s. (s.table ≡ table.now.table) × (s.held ≡ None)) seats.new.items }
-    ensures table { IfSome result (λ set. set.table ≡ table.now.table) }
-    ensures free { IfSome result (λ set. AllFree set.seats) }
-    ensures first { IfSome result (λ set. seats.old.items ≡ set.seats ++ seats.new.items) }
+    ensures table { result.table ≡ table.now.table }
+    ensures free { AllFree result.seats }
+    ensures first { seats.old.items ≡ result.seats ++ seats.new.items }
 {
-    let a = next_seat(table, seats)?;
-    let b = next_seat(table, seats)?;
-    let c = next_seat(table, seats)?;
-    let d = next_seat(table, seats)?;
-    Some(SetSeat::new(a, b, c, d))
+    let a = next_seat(rt, table, seats);
+    let b = next_seat(rt, table, seats);
+    let c = next_seat(rt, table, seats);
+    let d = next_seat(rt, table, seats);
+    SetSeat::new(a, b, c, d)
 }
 
 /// A table of eight seats, the set of its seats 0 to 3 and the set of its seats 4 to 7.
 fn open_two(
+    rt: &impl Abort,
     alloc: Global,
-) -> Option<
-    (
-        RangeTable<FreeGuard>,
-        SetSeat<FreeGuard>,
-        SetSeat<FreeGuard>,
-    ),
->
-    ensures tables { IfSome result (λ r. (r.1.table ≡ r.0.table) × (r.2.table ≡ r.0.table)) }
-    ensures free { IfSome result (λ r. AllFree r.1.seats × AllFree r.2.seats) }
-    ensures all { IfSome result (λ r. (r.0.seats ≡ 8) × AreIdleSeats r.0.table (r.1.seats ++ r.2.seats)) }
+) -> (
+    RangeTable<FreeGuard>,
+    SetSeat<FreeGuard>,
+    SetSeat<FreeGuard>,
+)
+    ensures tables { (result.1.table ≡ result.0.table) × (result.2.table ≡ result.0.table) }
+    ensures free { AllFree result.1.seats × AllFree result.2.seats }
+    ensures all { (result.0.seats ≡ 8) × AreIdleSeats result.0.table (result.1.seats ++ result.2.seats) }
 {
     let Ok((table, mut seats)) = RangeTable::<FreeGuard>::open(alloc, 8, &[]) else {
-        return None;
+        panic!(rt; "memory");
     };
-    let p = next_set(&table, &mut seats)?;
-    let q = next_set(&table, &mut seats)?;
-    Some((table, p, q))
+    let p = next_set(rt, &table, &mut seats);
+    let q = next_set(rt, &table, &mut seats);
+    (table, p, q)
 }
 
 /// A table of five seats under the guard that tells which have given a range back, its seat 0, and the set of the
 /// others.
 fn open_untouched(
+    rt: &impl Abort,
     alloc: Global,
-) -> Option<(RangeTable<Untouched>, Seat<Untouched>, SetSeat<Untouched>)>
-    ensures seat { IfSome result (λ r. (r.1.table ≡ r.0.table) × (r.1.held ≡ None)) }
-    ensures table { IfSome result (λ r. r.2.table ≡ r.0.table) }
-    ensures free { IfSome result (λ r. AllFree r.2.seats) }
+) -> (RangeTable<Untouched>, Seat<Untouched>, SetSeat<Untouched>)
+    ensures seat { (result.1.table ≡ result.0.table) × (result.1.held ≡ None) }
+    ensures table { result.2.table ≡ result.0.table }
+    ensures free { AllFree result.2.seats }
 {
     let Ok((table, mut seats)) = RangeTable::<Untouched>::open(alloc, 5, &[]) else {
-        return None;
+        panic!(rt; "memory");
     };
-    let seat = next_seat(&table, &mut seats)?;
-    let set = next_set(&table, &mut seats)?;
-    Some((table, seat, set))
+    let seat = next_seat(rt, &table, &mut seats);
+    let set = next_set(rt, &table, &mut seats);
+    (table, seat, set)
 }
 
 /// Tries to hold all of these wants, with a counter made of that blank.
@@ -573,9 +575,7 @@ fn play(
 /// Plays a case on the two sets of a new table. The first has its seats in the other order, so that a seat's number
 /// isn't its place in the set.
 fn play_on_two(rt: &impl Abort, alloc: Global, case: Case) {
-    let Some((table, p, mut q)) = open_two(alloc) else {
-        panic!(rt; "memory")
-    };
+    let (table, p, mut q) = open_two(rt, alloc);
     let mut p = turned(p);
     play(rt, &table, &mut p, &mut q, case);
     drop(p);
@@ -605,35 +605,73 @@ fn a_page_is_moved_while_both_are_held(rt: HostRuntime) {
 
 #[test]
 fn a_table_closes_with_the_seats_of_both_sets(rt: HostRuntime) {
-    let Some((table, mut p, mut q)) = open_two(rt.alloc()) else {
-        panic!(rt; "memory")
-    };
+    let (table, mut p, mut q) = open_two(&rt, rt.alloc());
     refuse_meanwhile(&rt, &table, &mut p, &mut q);
     assert_eq!(rt; close_both(rt.alloc(), table, p, q), Some(0));
 }
 
 #[test]
 fn passes_before_a_refusal_are_rested(rt: HostRuntime) {
-    let Some((table, mut seat, mut set)) = open_untouched(rt.alloc()) else {
-        panic!(rt; "memory")
-    };
+    let (table, mut seat, mut set) = open_untouched(&rt, rt.alloc());
     refuse_under_the_guard(&rt, &table, &mut seat, &mut set);
     drop(seat);
     drop(set);
     drop(table);
 }
 
+/// A range from its lower end up to its upper one, and how it is wanted.
+type Wanted = (u64, u64, Mode);
+
+const READS: Mode = Mode::Reader;
+
+const WRITES: Mode = Mode::Writer;
+
+/// What stands behind the wants of a row.
+const NO: Wanted = (0, 1, READS);
+
+/// How many wants, the wants, and the first two that clash.
+const CLASHES: [(usize, [Wanted; 4], Option<(u32, u32)>); 6] = [
+    (0, [NO, NO, NO, NO], None),
+    (2, [(0, 2, WRITES), (1, 4, READS), NO, NO], Some((0, 1))),
+    (2, [(0, 2, WRITES), (2, 4, WRITES), NO, NO], None),
+    (
+        3,
+        [(0, 4, READS), (1, 2, READS), (3, 5, WRITES), NO],
+        Some((0, 2)),
+    ),
+    (
+        3,
+        [(5, 6, WRITES), (0, 3, READS), (2, 4, WRITES), NO],
+        Some((1, 2)),
+    ),
+    (
+        4,
+        [
+            (0, 10, WRITES),
+            (20, 21, READS),
+            (5, 6, READS),
+            (7, 8, READS),
+        ],
+        Some((0, 2)),
+    ),
+];
+
+/// The first wants of a row clash as it says.
+fn clash_so(rt: &impl Abort, row: (usize, [Wanted; 4], Option<(u32, u32)>)) {
+    let (count, [a, b, c, d], expected) = row;
+    let wants = [
+        want(rt, a.0, a.1, a.2),
+        want(rt, b.0, b.1, b.2),
+        want(rt, c.0, c.1, c.2),
+        want(rt, d.0, d.1, d.2),
+    ];
+    assert!(rt; count <= 4);
+    assert_eq!(rt; clash(&wants[..count]), expected);
+}
+
 #[test]
 fn the_first_clash_is_told(rt: HostRuntime) {
-    let w = |lo, hi| want(&rt, lo, hi, Mode::Writer);
-    let r = |lo, hi| want(&rt, lo, hi, Mode::Reader);
-    assert_eq!(rt; clash(&[]), None);
-    assert_eq!(rt; clash(&[w(0, 2), r(1, 4)]), Some((0, 1)));
-    assert_eq!(rt; clash(&[w(0, 2), w(2, 4)]), None);
-    assert_eq!(rt; clash(&[r(0, 4), r(1, 2), w(3, 5)]), Some((0, 2)));
-    assert_eq!(rt; clash(&[w(5, 6), r(0, 3), w(2, 4)]), Some((1, 2)));
-    assert_eq!(rt;
-        clash(&[w(0, 10), r(20, 21), r(5, 6), r(7, 8)]),
-        Some((0, 2))
-    );
+    for row in CLASHES {
+        clash_so(&rt, row);
+    }
 }

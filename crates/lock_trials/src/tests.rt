@@ -1,53 +1,58 @@
 //! Worked tries, and threads that meet at one table. Each test ends by a stated number of turns; what it expects is
 //! reckoned by hand, never taken from the program.
+ghost use Rattle.std.specs.Prelude.{◌≡◌, None};
+
 use crate::crowd::{tally_of, visit_all};
 use crate::hold_times;
+use crate::holds::{give, hold, refuse};
 use crate::opened::{open_tally, open_turnstile};
 use crate::pairs::{both, in_order};
 use list_cuts::Cut;
 use lock_core::{FreeGuard, Mode, Range};
-use range_rw::{NotHeld, OpenFault, RangeTable, Stuck};
+use range_rw::{NotHeld, OpenFault, RangeTable, Seat, Stuck};
 use std::alloc::Global;
 use std::process::Abort;
 use std::sync::Wait;
 use std::sync::atomic::{AtomicU64, Ordering};
 use std::thread::Threads;
 
-#[test]
-fn tries_answer_as_worked_by_hand(rt: HostRuntime) {
-    let alloc = rt.alloc();
-    let (table, seats) = RangeTable::<FreeGuard>::open(alloc, 2, &[7]).expect(&rt, "memory");
-    let (mut a, mut b) = both(&table, seats);
-    let first = Range::of(0, 10).expect(&rt, "a range");
-    let far = Range::of(20, 21).expect(&rt, "a range");
-    let inner = Range::of(5, 6).expect(&rt, "a range");
-    assert!(rt;
-        table
-            .try_acquire_uncounted(&mut a, first, Mode::Reader)
-            .is_ok()
-    );
-    assert!(rt;
-        table
-            .try_acquire_uncounted(&mut b, far, Mode::Writer)
-            .is_ok()
-    );
-    assert_eq!(rt; table.held(&b), Some((far, Mode::Writer)));
-    table.release_uncounted(&mut b);
+/// Two seats that hold nothing try beside each other, and give back what they got.
+fn try_by_turns(
+    rt: &impl Abort,
+    table: &RangeTable<FreeGuard>,
+    a: &mut Seat<FreeGuard>,
+    b: &mut Seat<FreeGuard>,
+)
+    requires a { (a.old.table ≡ table.now.table) × (a.old.number ≡ 0) × (a.old.held ≡ None) }
+    requires b { (b.old.table ≡ table.now.table) × (b.old.number ≡ 1) × (b.old.held ≡ None) }
+    ensures a { (a.new.table ≡ table.now.table) × (a.new.number ≡ 0) × (a.new.held ≡ None) }
+    ensures b { (b.new.table ≡ table.now.table) × (b.new.number ≡ 1) × (b.new.held ≡ None) }
+{
+    let first = Range::of(0, 10).expect(rt, "a range");
+    let far = Range::of(20, 21).expect(rt, "a range");
+    let inner = Range::of(5, 6).expect(rt, "a range");
+    hold(rt, table, a, first, Mode::Reader);
+    hold(rt, table, b, far, Mode::Writer);
+    assert_eq!(rt; table.held(b), Some((far, Mode::Writer)));
+    give(table, b);
     let busy = NotHeld::Busy {
         owner: 0,
         range: first,
         mode: Mode::Reader,
     };
-    let refused = table.try_acquire_uncounted(&mut b, inner, Mode::Writer);
-    assert_eq!(rt; refused, Err(busy));
-    assert_eq!(rt; table.held(&b), None);
-    table.release_uncounted(&mut a);
-    assert!(rt;
-        table
-            .try_acquire_uncounted(&mut b, inner, Mode::Writer)
-            .is_ok()
-    );
-    table.release_uncounted(&mut b);
+    refuse(rt, table, b, inner, Mode::Writer, busy);
+    assert_eq!(rt; table.held(b), None);
+    give(table, a);
+    hold(rt, table, b, inner, Mode::Writer);
+    give(table, b);
+}
+
+#[test]
+fn tries_answer_as_worked_by_hand(rt: HostRuntime) {
+    let alloc = rt.alloc();
+    let (table, seats) = RangeTable::<FreeGuard>::open(alloc, 2, &[7]).expect(&rt, "memory");
+    let (mut a, mut b) = both(&table, seats);
+    try_by_turns(&rt, &table, &mut a, &mut b);
     let seats = in_order(alloc, &table, a, b).expect(&rt, "memory");
     let Ok(words) = table.close(alloc, seats) else {
         panic!(rt; "memory");
@@ -104,18 +109,32 @@ fn threads_never_see_a_writer_inside(rt: HostRuntime) {
 /// sixteen nodes. The next has no node until the scan is ended. The scan is the first operation of its seat that enters
 /// an epoch, as that refusal tells: so each try at the empty list took a node, filled it and linked it at once, in five
 /// steps, and each release unlinked it and gave it home, in two.
+fn try_behind(
+    rt: &impl Abort,
+    table: &RangeTable<FreeGuard>,
+    a: &mut Seat<FreeGuard>,
+    b: &mut Seat<FreeGuard>,
+    before: u32,
+    mode: Mode,
+)
+    requires a { (a.old.table ≡ table.now.table) × (a.old.held ≡ None) }
+    requires b { (b.old.table ≡ table.now.table) × (b.old.held ≡ None) }
+{
+    let range = Range::of(0, 1).expect(rt, "a range");
+    assert_eq!(rt; hold_times(table, b, range, mode, before), before);
+    let scan = table.scan(b);
+    assert_eq!(rt; hold_times(table, a, range, mode, 16), 16);
+    let inside = NotHeld::NoNode(Stuck::Inside { seat: 1, epoch: 1 });
+    refuse(rt, table, a, range, mode, inside);
+    scan.end();
+    assert_eq!(rt; hold_times(table, a, range, mode, 1), 1);
+}
+
+/// The same on a new table.
 fn try_beside_a_scan(rt: &impl Abort, alloc: Global, before: u32, mode: Mode) {
     let (table, seats) = RangeTable::<FreeGuard>::open(alloc, 2, &[]).expect(rt, "memory");
     let (mut a, mut b) = both(&table, seats);
-    let range = Range::of(0, 1).expect(rt, "a range");
-    assert_eq!(rt; hold_times(&table, &mut b, range, mode, before), before);
-    let scan = table.scan(&mut b);
-    assert_eq!(rt; hold_times(&table, &mut a, range, mode, 16), 16);
-    let inside = NotHeld::NoNode(Stuck::Inside { seat: 1, epoch: 1 });
-    let refused = table.try_acquire_uncounted(&mut a, range, mode);
-    assert_eq!(rt; refused, Err(inside));
-    scan.end();
-    assert_eq!(rt; hold_times(&table, &mut a, range, mode, 1), 1);
+    try_behind(rt, &table, &mut a, &mut b, before, mode);
 }
 
 #[test]

@@ -3,10 +3,10 @@ use Rattle.lock_trials.proofs.SetSeats.{both_idle}
 use Rattle.lock_trials.proofs.set_tests.open_two.Goals as goal
 
 -- the seats of the new table are all of it, and hold nothing
-pub next_set-requires : goal.next_set-requires
-next_set-requires c = record { idle = new_are_idle _ _ _ c.in-Ok.ensures.seats.1 }
+pub next_set-p-requires : goal.next_set-p-requires
+next_set-p-requires g c = record { idle = new_are_idle _ _ _ c.in-Ok.ensures.seats.1 }
 
 -- the seats of both sets are those of the new table, in order
 pub returns-clause-all : goal.returns-clause-all
-returns-clause-all c =
-    (c.in-Ok.ensures.shape.0, both_idle _ _ _ _ _ _ _ c.in-Ok.ensures.seats.1 c.in_ok-p.ensures.first c.in_ok-q.ensures.first)
+returns-clause-all g c =
+    (c.in-Ok.ensures.shape.0, both_idle _ _ _ _ _ _ _ c.in-Ok.ensures.seats.1 c.next_set-p.ensures.first c.next_set-q.ensures.first)
