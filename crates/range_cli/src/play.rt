@@ -21,6 +21,19 @@ use std::sync::Wait;
 use std::thread::Threads;
 use trace_threads::{Gate, play_touched_trace, play_trace};
 
+/// How the pages are cut for the lists of the lock where so many workers play: into seven regions in blocks of 65,536
+/// pages for four workers or more, and otherwise not. Which is quicker was measured, and `docs/DECISIONS.md` has it;
+/// what is answered doesn't depend on it.
+fn cut_for(workers: u32) -> Cut {
+    if workers < 4 {
+        return Cut::one();
+    }
+    let Ok(cut) = Cut::of(7, 16) else {
+        unreachable!()
+    };
+    cut
+}
+
 /// Plays the lines from these areas on by so many workers, each its own in their order, and gives the whole history and
 /// the areas that are left. All memory is taken before the first call is played and in the closing of the space.
 pub fn play<R: Threads + Wait + Sync, G: Gate>(
@@ -60,8 +73,7 @@ pub fn play_lists<R: Threads + Wait + Sync, G: Gate>(
     ensures { IfOk result (λ closed. (lines : List Line) → map vec_items lists.items ≡ dealt threads lines
         → IsHistoryOf threads opening.now lines closed.entries closed.areas) }
 {
-    // The lock keeps one list: docs/DECISIONS.md says why.
-    match play_trace(wait, alloc, Cut::one(), opening, lists, gate) {
+    match play_trace(wait, alloc, cut_for(threads), opening, lists, gate) {
         Ok(closed) => Ok(closed),
         Err(_) => Err(AllocError),
     }
@@ -86,8 +98,8 @@ pub fn play_touched<R: Threads + Wait + Sync, G: Gate>(
     ensures touched { IfOk result (λ r. CountsTouched r.0.entries r.1) }
 {
     let lists = deal_lines(alloc, threads, lines)?;
-    // The lock keeps one list here too.
-    match play_touched_trace(wait, alloc, Cut::one(), opening, lists, gate) {
+    let cut = cut_for(threads);
+    match play_touched_trace(wait, alloc, cut, opening, lists, gate) {
         Ok((closed, pages)) => Ok((closed, pages.len() as u32)),
         Err(_) => Err(AllocError),
     }
