@@ -35,7 +35,7 @@
      moving no access across a call.
    - No call sleeps or takes a lock, and gz_range_acquire alone waits, by trying again. open, open_cut and share alone
      take memory; the others can't fail for want of it. A table takes 2 to 23 KB for 1 to 16 seats, once for each of its
-     lists, twice as much while it is opened, and 8 bytes for each client word; each further handle takes 416 bytes.
+     lists, twice as much while it is opened, and 8 bytes for each client word; each further handle takes 128 bytes.
 
    What you owe. Nothing checks it:
    - A handle begins as GZ_RANGE_CLOSED, and nobody writes or copies it afterwards but these calls.
