@@ -215,31 +215,10 @@ module _ {P N : Type 0} (begin : P) (holds : Grants → List ℕ → List P → 
     after_is : shown_of begin lists i me'.0.parts ≡ client_part p (place_of step) play.pass
     after_is = sym now_is ∙ (play.shows ∙ ap (λ (x : SeatPart (Beside P)). client_part x (place_of step) play.pass) shown_is)
 
-    -- what a token shows after a step on a client word
-    pub client_shown : (place : ℕ) → place_of step ≡ place
-        → shown_of begin lists i me'.0.parts ≡ client_part p place (inner_pass (shown_of begin lists i me'.0.parts))
-    client_shown place at = after_is ∙ (λ k. client_part p (at k) (ap inner_pass (sym after_is) k))
-
     -- and at which moment it was made
     pub client_made : IsMade holds allows note p.number (shown_grant p) (inner_pass p) step found (inner_pass (shown_of begin lists i me'.0.parts))
     client_made = subst (λ (z : SeatPart (Beside P) × P). IsMade holds allows note z.0.number (shown_grant z.0) (inner_pass z.0) step found z.1)
         (λ k. (shown_is k, ap inner_pass (sym after_is) k)) play.made
-
-  -- the token is of the same seat still
-  pub client_seat : (number many lists list first words words' : ℕ) → IsSeatOf (part_in begin me.0.parts) number many lists list first words → words' ≡ words
-      → IsSeatOf (part_in begin me'.0.parts) number many lists list first words'
-  client_seat number many lists list first words words' s same = record {
-    number_is = ap (λ (x : SeatPart (Beside P)). x.number) play.shows ∙ s.number_is;
-    seats_are = ap (λ (x : SeatPart (Beside P)). x.seats) play.shows ∙ s.seats_are;
-    there = s.there;
-    few = s.few;
-    full = play.left.full ∙ s.full;
-    within = s.within;
-    most = s.most;
-    begins = s.begins;
-    low = s.low;
-    words_there = subst (λ n. lists * word_count many ≤ n) (sym same) s.words_there;
-  }
 
 -- the word of a client step in the table that the call has
 pub client_place : (shares : List ℕ) (key_seats key_words words slots : ℕ) (cut : Regions) (seats client : ℕ)

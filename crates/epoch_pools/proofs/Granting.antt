@@ -83,13 +83,6 @@ module _ {P : Type 0} (holds : Grants → List ℕ → List P → Type 0) (reste
             ))
             (loses (held_by_seat m) client passes s pass g own (rests giving h e))
 
-    -- a seat that holds something holds it still, but for a step of a giving kind
-    pub held_kept : after m s step ≡ Some next → (IsGiving step → ⊥) → (h : Held) → held_at v.own ≡ Some h → held_at now.own ≡ Some h
-    held_kept e keeping h is = ⊎_elim
-        (λ (q : HoldsOn m next). let a = sym behind ∙ (ap (λ l. get_elem? l s) q ∙ before) in cc)
-        (λ t. ⊎_elim (λ (t : Gains m next s). absurd (let a = sym (held_there m.views s v at) ∙ t.nothing in cc)) (λ k. absurd (keeping k.0)) t)
-        (change step m next s e)
-
     -- it does after each step that the machine makes
     pub guard_after : after m s step ≡ Some next → Good
     guard_after e = ⊎_elim held_on (λ t. ⊎_elim gained (λ k. given_back k.0 k.1) t) (change step m next s e)

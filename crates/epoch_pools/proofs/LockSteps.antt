@@ -38,7 +38,7 @@ use Rattle.epoch_pools.specs.Hands.{part_in, shown_of, IsSeatOf}
 use Rattle.epoch_pools.specs.Running.{machine_at, takes_in, cores_of, AreLocks, AreLists, view, line_in, lists_after, line_for, Enables, MayRest}
 use Rattle.epoch_pools.specs.Running.{part_after, Told}
 use Rattle.epoch_pools.specs.Running.{IsLockPlay, IsRunningList}
-use Rattle.epoch_pools.proofs.Placing.{part_here, placed}
+use Rattle.epoch_pools.proofs.Placing.{part_here, placed, same_seat}
 use Rattle.epoch_pools.proofs.Frames as frames
 use Rattle.epoch_pools.proofs.Slices.{further}
 use Rattle.epoch_pools.proofs.Keeping.{MayRestIn, on_or_gone, lists_kept}
@@ -170,15 +170,15 @@ module _ {P : Type 0} (begin : P) (c : Regions) (seats clients : ℕ) (holds : G
       (lock_keeps lists i step f slots id me w is full less may rests low writes) s running l at small
 
   -- the same for the call that makes the step, with the names that it has for the table, its token and the word
-  pub token_allows : (key_cut : Regions) (key_seats : ℕ) → key_cut ≡ c → key_seats ≡ seats
-      → (number many lists i first words play_lists play_list : ℕ) (step : Step) (slots id place word : ℕ) (f : ℕ → ℕ) (me : Me (Unit {0}) (ListView P))
+  pub token_allows : {key_cut : Regions} {key_seats : ℕ} → key_cut ≡ c → key_seats ≡ seats
+      → {number many lists i first words play_lists play_list : ℕ} (step : Step) (slots id place word : ℕ) (f : ℕ → ℕ) (me : Me (Unit {0}) (ListView P))
       (p : SeatPart (Beside P)) → me.0.parts ≡ part_in begin me.0.parts ∷ [] → IsSeatOf (part_in begin me.0.parts) number many lists i first words
       → shown_of begin lists i me.0.parts ≡ p → play_lists ≡ p.pass.lists → play_list ≡ p.pass.list
       → Enables p step → MayRest (may_give_back is_at_rest) p step → word ≡ (line_for p step).place → word < word_count p.seats
       → place ≡ p.pass.list * word_count p.seats + word
       → ((n : ℕ) → n < 18446744073709551616 → (step ≡ Mark → n % 2 ≡ 0) → f n ≡ (line_for p step).write n)
       → Allows (IsRunningList key_cut key_seats clients holds) slots id me place f (IsLockPlay begin rested play_lists play_list seats step me)
-  token_allows key_cut key_seats same_cut same number many lists i first words play_lists play_list step slots id place word f me p one seat_of is lists_are
+  token_allows {key_cut} {key_seats} same_cut same {number} {many} {lists} {i} {first} {words} {play_lists} {play_list} step slots id place word f me p one seat_of is lists_are
       list_is
       may rests at low there writes =
       let w : SeatLists P = part_in begin me.0.parts in
@@ -201,28 +201,28 @@ module _ {P : Type 0} (begin : P) (c : Regions) (seats clients : ℕ) (holds : G
       (λ n small even. writes n small even ∙ ap (λ (x : SeatPart (Beside P)). (line_for x step).write n) (sym is)))
 
   -- the same for a store, which doesn't tell what it found
-  pub token_puts : (key_cut : Regions) (key_seats : ℕ) → key_cut ≡ c → key_seats ≡ seats
-      → (number many lists i first words play_lists play_list : ℕ) (step : Step) (slots id place word value : ℕ) (me : Me (Unit {0}) (ListView P))
+  pub token_puts : {key_cut : Regions} {key_seats : ℕ} → key_cut ≡ c → key_seats ≡ seats
+      → {number many lists i first words play_lists play_list : ℕ} (step : Step) (slots id place word value : ℕ) (me : Me (Unit {0}) (ListView P))
       (p : SeatPart (Beside P)) → me.0.parts ≡ part_in begin me.0.parts ∷ [] → IsSeatOf (part_in begin me.0.parts) number many lists i first words
       → shown_of begin lists i me.0.parts ≡ p → play_lists ≡ p.pass.lists → play_list ≡ p.pass.list
       → Enables p step → MayRest (may_give_back is_at_rest) p step → word ≡ (line_for p step).place → word < word_count p.seats
       → place ≡ p.pass.list * word_count p.seats + word → ((n : ℕ) → (line_for p step).write n ≡ value)
       → Allows (IsRunningList key_cut key_seats clients holds) slots id me place (λ _. value)
       (λ _ me'. (found : ℕ) × IsLockPlay begin rested play_lists play_list seats step me found me')
-  token_puts key_cut key_seats same_cut same number many lists i first words play_lists play_list step slots id place word value me p one seat_of is
+  token_puts same_cut same step slots id place word value me p one seat_of is
       lists_are list_is
       may rests at low there writes s running l here small =
-      let r = token_allows key_cut key_seats same_cut same number many lists i first words play_lists play_list step slots id place word
+      let r = token_allows same_cut same step slots id place word
       (λ _. value) me p one seat_of is
       lists_are list_is may rests at low there (λ n _ _. sym (writes n)) s running l here small in
       (r.0, r.1, r.2, r.3, (get_or s.words place 0, r.4))
 
-module _ {P : Type 0} (begin : P) (rested : P → P) (play_lists play_list seats : ℕ) (step : Step) (found : ℕ) (me me' : Me (Unit {0}) (ListView P))
+module _ {P : Type 0} {begin : P} {rested : P → P} {play_lists play_list seats : ℕ} {step : Step} {found : ℕ} {me me' : Me (Unit {0}) (ListView P)}
     (play : IsLockPlay begin rested play_lists play_list seats step me found me') where
   -- what a token shows after a step, with the names that the call has
-  pub part_played : (lists i : ℕ) (p : SeatPart (Beside P)) → shown_of begin lists i me.0.parts ≡ p → play_lists ≡ p.pass.lists → play_list ≡ p.pass.list
+  pub part_played : {lists i : ℕ} {p : SeatPart (Beside P)} → shown_of begin lists i me.0.parts ≡ p → play_lists ≡ p.pass.lists → play_list ≡ p.pass.list
       → shown_of begin lists i me'.0.parts ≡ part_after (given_back rested) p step found
-  part_played lists i p is lists_are list_is =
+  part_played {lists} {i} {p} is lists_are list_is =
       let a : play_lists ≡ lists = lists_are ∙ ap (λ (x : SeatPart (Beside P)). x.pass.lists) (sym is) in
       let b : play_list ≡ i = list_is ∙ ap (λ (x : SeatPart (Beside P)). x.pass.list) (sym is) in
       subst (λ (z : ℕ × ℕ). shown_of begin z.0 z.1 me'.0.parts ≡ part_after (given_back rested) (shown_of begin z.0 z.1 me.0.parts) step found)
@@ -230,34 +230,24 @@ module _ {P : Type 0} (begin : P) (rested : P → P) (play_lists play_list seats
       ∙ ap (λ (x : SeatPart (Beside P)). part_after (given_back rested) x step found) is
 
   -- and what the step says beside
-  pub told_played : (lists i : ℕ) (p : SeatPart (Beside P)) → shown_of begin lists i me.0.parts ≡ p → play_lists ≡ p.pass.lists → play_list ≡ p.pass.list
+  pub told_played : {lists i : ℕ} {p : SeatPart (Beside P)} → shown_of begin lists i me.0.parts ≡ p → play_lists ≡ p.pass.lists → play_list ≡ p.pass.list
       → Told seats p step found
-  told_played lists i p is lists_are list_is =
+  told_played {lists} {i} {p} is lists_are list_is =
       let a : play_lists ≡ lists = lists_are ∙ ap (λ (x : SeatPart (Beside P)). x.pass.lists) (sym is) in
       let b : play_list ≡ i = list_is ∙ ap (λ (x : SeatPart (Beside P)). x.pass.list) (sym is) in
       subst (λ (x : SeatPart (Beside P)). Told seats x step found) ((λ k. shown_of begin (a k) (b k) me.0.parts) ∙ is) play.told
 
   -- the token is of the same seat still
-  pub seat_played : (number many lists list first words words' : ℕ) → IsSeatOf (part_in begin me.0.parts) number many lists list first words → words' ≡ words
+  pub seat_played : {number many lists list first words words' : ℕ} → IsSeatOf (part_in begin me.0.parts) number many lists list first words → words' ≡ words
       → IsSeatOf (part_in begin me'.0.parts) number many lists list first words'
-  seat_played number many lists list first words words' s same = record {
-    number_is = ap (λ (x : SeatPart (Beside P)). x.number) play.shows ∙ s.number_is;
-    seats_are = ap (λ (x : SeatPart (Beside P)). x.seats) play.shows ∙ s.seats_are;
-    there = s.there;
-    few = s.few;
-    full = play.left.full ∙ s.full;
-    within = s.within;
-    most = s.most;
-    begins = s.begins;
-    low = s.low;
-    words_there = subst (λ n. lists * word_count many ≤ n) (sym same) s.words_there;
-  }
+  seat_played s same = same_seat play.left (ap (λ (x : SeatPart (Beside P)). x.number) play.shows) (ap (λ (x : SeatPart (Beside P)). x.seats) play.shows)
+      s same
 
 -- a word of a list is one of the table's
-pub word_there : {P : Type 0} (begin : P) (parts : List (SeatLists P)) (id other : TableId) (number many lists i first word place : ℕ) (p : SeatPart (Beside P))
+pub word_there : {P : Type 0} (begin : P) (parts : List (SeatLists P)) {id other : TableId} {number many lists i first word place : ℕ} {p : SeatPart (Beside P)}
     → id ≡ other → IsSeatOf (part_in begin parts) number many lists i first id.words → shown_of begin lists i parts ≡ p
     → word < word_count p.seats → place ≡ p.pass.list * word_count p.seats + word → place < other.words
-word_there begin parts id other number many lists i first word place p same seat_of is low at =
+word_there {P} begin parts {id} {other} {number} {many} {lists} {i} {first} {word} {place} {p} same seat_of is low at =
     let seats : p.seats ≡ many = ap (λ (x : SeatPart (Beside _)). x.seats) (sym is) ∙ seat_of.seats_are in
     let list : p.pass.list ≡ i = ap (λ (x : SeatPart (Beside _)). x.pass.list) (sym is) in
     let n : word_count p.seats ≡ word_count many = ap word_count seats in

@@ -27,7 +27,7 @@ use Rattle.epoch_pools.specs.Hands.{IsHandView, AreOthers, part_in, shown_of, Is
 use Rattle.epoch_pools.specs.Passing.{look_trace, MayCount, MayPass, HoldsToo, after_look, standing_by, IsLookPlay, IsLook, narrow, wide, glance}
 use Rattle.epoch_pools.specs.Running.{pass_kept, takes_in, pass_of, grants_in, AreLists, view, lists_with, IsRunningList}
 use Rattle.epoch_pools.proofs.Slices.{further}
-use Rattle.epoch_pools.proofs.Placing.{part_here, placed}
+use Rattle.epoch_pools.proofs.Placing.{part_here, placed, same_seat}
 use Rattle.epoch_pools.proofs.ClientSteps.{cut_by, locks_stay}
 use Rattle.epoch_pools.proofs.Counting.{counts_many}
 use Rattle.epoch_pools.proofs.Turning.{core_shown}
@@ -292,12 +292,12 @@ head_there begin parts id other number many lists i first at place p same seat_o
     let words : id.words ≡ other.words = ap (λ (t : TableId). t.words) same in
     omega arith
 
-module _ {P : Type 0} (begin : P) (play_cut : Regions) (play_lists play_list : ℕ) (standing : Standing) (too : Bool) (found : ℕ)
-    (me me' : Me (Unit {0}) (ListView P)) (play : IsLookPlay begin play_cut play_lists play_list standing too me found me') where
+module _ {P : Type 0} {begin : P} {play_cut : Regions} {play_lists play_list : ℕ} {standing : Standing} {too : Bool} {found : ℕ}
+    {me me' : Me (Unit {0}) (ListView P)} (play : IsLookPlay begin play_cut play_lists play_list standing too me found me') where
   -- what a token shows after a look, with the names that the call has
-  pub part_looked : (lists i : ℕ) (p : SeatPart (Beside P)) → shown_of begin lists i me.0.parts ≡ p → play_lists ≡ p.pass.lists → play_list ≡ p.pass.list
+  pub part_looked : {lists i : ℕ} {p : SeatPart (Beside P)} → shown_of begin lists i me.0.parts ≡ p → play_lists ≡ p.pass.lists → play_list ≡ p.pass.list
       → shown_of begin lists i me'.0.parts ≡ after_look p (standing_by (too || found == 0) standing p)
-  part_looked lists i p is lists_are list_is =
+  part_looked {lists} {i} {p} is lists_are list_is =
       let a : play_lists ≡ lists = lists_are ∙ ap (λ (x : SeatPart (Beside P)). x.pass.lists) (sym is) in
       let b : play_list ≡ i = list_is ∙ ap (λ (x : SeatPart (Beside P)). x.pass.list) (sym is) in
       subst (λ (z : ℕ × ℕ). shown_of begin z.0 z.1 me'.0.parts
@@ -306,20 +306,10 @@ module _ {P : Type 0} (begin : P) (play_cut : Regions) (play_lists play_list : �
       ∙ ap (λ (x : SeatPart (Beside P)). after_look x (standing_by (too || found == 0) standing x)) is
 
   -- the token is of the same seat still
-  pub seat_looked : (number many lists list first words words' : ℕ) → IsSeatOf (part_in begin me.0.parts) number many lists list first words → words' ≡ words
+  pub seat_looked : {number many lists list first words words' : ℕ} → IsSeatOf (part_in begin me.0.parts) number many lists list first words → words' ≡ words
       → IsSeatOf (part_in begin me'.0.parts) number many lists list first words'
-  seat_looked number many lists list first words words' s same = record {
-    number_is = ap (λ (x : SeatPart (Beside P)). x.number) play.shows ∙ s.number_is;
-    seats_are = ap (λ (x : SeatPart (Beside P)). x.seats) play.shows ∙ s.seats_are;
-    there = s.there;
-    few = s.few;
-    full = play.left.full ∙ s.full;
-    within = s.within;
-    most = s.most;
-    begins = s.begins;
-    low = s.low;
-    words_there = subst (λ n. lists * word_count many ≤ n) (sym same) s.words_there;
-  }
+  seat_looked s same = same_seat play.left (ap (λ (x : SeatPart (Beside P)). x.number) play.shows) (ap (λ (x : SeatPart (Beside P)). x.seats) play.shows)
+      s same
 
 -- a look by which nothing comes to count leaves the standing, whatever it finds
 pub glance_part : {P : Type 0} (b : Bool) (p : SeatPart (Beside P)) → after_look p (standing_by b p.pass.standing p) ≡ after_look p p.pass.standing

@@ -85,20 +85,6 @@ beside_read seats v u used homes true same none is =
     }
     by false = record { may = λ x a. a; only = λ x a. a; room = omega arith }
 
--- where the home word of node n isn't read, it is known of it what there is to know
-pub not_awaited : {P : Type 0} (p : SeatPart P) (n : ℕ) (used homes : List ℕ) → IsBeside p.core used homes
-    → (IsAwaited used homes n → ⊥) → IsHomeLook p p n
-not_awaited p n used homes beside off = record {
-  used = λ x. omega arith;
-  homes = λ x h u. h;
-  away = λ x d. refl;
-  this = λ u.
-      ⊎_elim
-      (λ (z : times n p.core.homes ≡ 0). absurd (off (beside.only n (u, z))))
-      (λ (d : times n p.core.homes ≢ 0). inl (omega arith))
-      (cases_eq (times n p.core.homes) 0);
-}
-
 -- a node whose home word may be read is one of the list's, and there is room for it among the homes
 module _ {P : Type 0} (p : SeatPart P) (n : ℕ) (view : IsHandView p) (below : p.number < p.seats) (few : p.seats ≤ 16)
     (awaited : IsAwaited p.core.used p.core.homes n) where

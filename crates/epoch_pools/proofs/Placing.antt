@@ -1,22 +1,42 @@
 -- A step puts one new part at its seat's number and changes one word: what is to be shown for the table's rule to
 -- hold after it.
-use Rattle.std.proofs.Common.{◌≡◌, ℕ, zero, suc, List, [], ◌∷◌, set, sym, refl, ap, ◌∙◌, subst, length-set, ⊎_elim}
+use Rattle.std.proofs.Common.{◌≡◌, ◌≤◌, ◌*◌, ℕ, zero, suc, List, [], ◌∷◌, set, sym, refl, ap, ◌∙◌, subst, length-set, ⊎_elim}
 use mathlib.Core.Option.{some, some-injective, some-ne-none}
 use mathlib.Core.Logic.{dite}
 use native.Mathlib.Decide.{ℕ_discrete}
 use lib.ListN.{get_elem?}
-use Rattle.atomic_table.specs.Table.{State, keeps, stepped}
+use Rattle.atomic_table.specs.Table.{State, Me, keeps, stepped}
 use Rattle.atomic_table.proofs.Lists.{at_set, set_here, set_else}
 use Rattle.lock_core.specs.Grants.{Grants}
 use Rattle.list_cuts.specs.Cut.{Regions, list_count}
 use Rattle.epoch_pools.specs.declared.views.SeatLists.{SeatLists}
 use Rattle.epoch_pools.specs.declared.views.ListView.{ListView}
-use Rattle.epoch_pools.specs.Running.{view, takes_in, AreLists, IsOwned, Stands, Ruled, IsRunningList}
+use Rattle.lock_core.specs.Words.{word_count}
+use Rattle.epoch_pools.specs.Hands.{part_in, IsSeatOf}
+use Rattle.epoch_pools.specs.Running.{view, takes_in, AreLists, IsOneLeft, IsOwned, Stands, Ruled, IsRunningList}
 use Rattle.lock_core.proofs.ByPlace.{below as at_below}
 
 only : {A : Type 0} (q x : A) (k : ℕ) → get_elem? (q ∷ []) k ≡ some x → q ≡ x
 only q x zero e = some-injective q x e
 only q x (suc k) e = absurd (some-ne-none x (sym e))
+
+-- a token of which a step leaves the number and how many seats and lists there are is of the same seat
+pub same_seat : {P : Type 0} {begin : P} {me me' : Me (Unit {0}) (ListView P)} → IsOneLeft begin me me'
+    → (part_in begin me'.0.parts).number ≡ (part_in begin me.0.parts).number → (part_in begin me'.0.parts).seats ≡ (part_in begin me.0.parts).seats
+    → {number many lists list first words words' : ℕ} → IsSeatOf (part_in begin me.0.parts) number many lists list first words → words' ≡ words
+    → IsSeatOf (part_in begin me'.0.parts) number many lists list first words'
+same_seat left same_number same_seats {number} {many} {lists} s same = record {
+  number_is = same_number ∙ s.number_is;
+  seats_are = same_seats ∙ s.seats_are;
+  there = s.there;
+  few = s.few;
+  full = left.full ∙ s.full;
+  within = s.within;
+  most = s.most;
+  begins = s.begins;
+  low = s.low;
+  words_there = subst (λ n. lists * word_count many ≤ n) (sym same) s.words_there;
+}
 
 module _ {P : Type 0} where
   owned_after : (views : List (ListView P)) (parts : List (SeatLists P)) (owner : ℕ → ℕ) (id : ℕ) (p q : SeatLists P)

@@ -19,7 +19,7 @@ use Rattle.lock_core.specs.StepTable.{Plan, IsLine, counts_on, enter, leave, giv
 use Rattle.lock_core.specs.Machine.{held_at, may_leave}
 use Rattle.lock_core.specs.Sizes.{IsViewSound}
 use Rattle.lock_core.specs.Operations.{planned, IsEnabled, IsStoring, Writes}
-use Rattle.lock_core.proofs.Enabled.{line_of, give_home_on}
+use Rattle.lock_core.proofs.Enabled.{line_of}
 use Rattle.lock_core.proofs.Table.{when-is, together, plan_of_line}
 use Rattle.epoch_pools.specs.declared.record.Looked.{Looked}
 use Rattle.epoch_pools.specs.declared.record.Record.{Record}
@@ -158,40 +158,6 @@ module _ (seats s : ℕ) (v : View) where
   pub may_enter : v.epoch % 2 ≡ 0 → v.hand ≡ None → IsEnabled seats s v Enter
   may_enter even hand = ap is_some (plan_of_line seats s v Enter _ (enter even hand))
 
-  -- inside an operation, with nothing in the hand and no validation to do, Leave is enabled
-  pub may_leave_now : v.epoch % 2 ≡ 1 → v.hand ≡ None → may_leave v.own ≡ true → IsEnabled seats s v Leave
-  may_leave_now odd hand settled = ap is_some (when-is _ (counts_on (epoch_place s) (left v))
-      (together _ _ (together _ _ (eq-eqb _ _ odd) (ap is_none hand)) settled))
-
-  -- with a node in the hand GiveHome is enabled
-  pub may_give : (n : ℕ) → v.hand ≡ Some n → IsEnabled seats s v GiveHome
-  may_give n hand = ap is_some (plan_of_line seats s v GiveHome _ (give_home n hand))
-
-  enter_on : (w : ℕ) → IsEnabled seats s v Enter → (planned seats s v Enter).view w ≡ entered v
-  enter_on w may = by_line _ (line_of seats s v Enter may)
-    where
-      by_line : (p : Plan) → IsLine seats s v Enter p → p.view w ≡ entered v
-      by_line p (enter even hand) = refl
-
-  leave_on : (w : ℕ) → IsEnabled seats s v Leave → (planned seats s v Leave).view w ≡ left v
-  leave_on w may = by_line _ (line_of seats s v Leave may)
-    where
-      by_line : (p : Plan) → IsLine seats s v Leave p → p.view w ≡ left v
-      by_line p (leave odd hand own) = refl
-
-module _ {P : Type 0} (rested : P → P) (p : SeatPart P) (found : ℕ) where
-  -- what belongs to a seat after Enter
-  pub enter_after : Enables p Enter → part_after rested p Enter found ≡ quiet_after p Enter (entered p.core)
-  enter_after may = quiet rested p Enter found (entered p.core) (enter_on p.seats p.number p.core found may) refl (λ _. refl)
-
-  -- what belongs to a seat after Leave
-  pub leave_after : Enables p Leave → part_after rested p Leave found ≡ quiet_after p Leave (left p.core)
-  leave_after may = quiet rested p Leave found (left p.core) (leave_on p.seats p.number p.core found may) (held_left p.core.own) (λ _. refl)
-
-  -- what belongs to a seat after GiveHome
-  pub give_home_after : Enables p GiveHome → part_after rested p GiveHome found ≡ quiet_after p GiveHome (gave_home p.core)
-  give_home_after may = quiet rested p GiveHome found (gave_home p.core) (give_home_on p.seats p.number p.core found may) refl (λ _. refl)
-
 or_last : (a b : Bool) → b ≡ true → (a || b) ≡ true
 or_last true b e = refl
 or_last false b e = e
@@ -225,7 +191,3 @@ module _ {P : Type 0} (p : SeatPart P) where
     pooled = pooled_after p.seats p.number p.core step found below may view.pooled told.whole;
     looked = looked_kept p.trace p.core.cursor (core_after p step found).cursor (is_judging step) (gained_by p.core (core_after p step found)) view.looked;
   }
-
--- after a step on a client word a hand may rely on what it could before
-pub client_hand : {P : Type 0} (p : SeatPart (Beside P)) (i : ℕ) (pass : P) → IsHandView p → IsHandView (client_part p i pass)
-client_hand p i pass view = record { sound = view.sound; pooled = view.pooled; looked = view.looked }

@@ -23,7 +23,7 @@ use Rattle.lock_core.specs.Machine.{held_at}
 use Rattle.lock_core.specs.Sizes.{IsViewSized}
 use Rattle.lock_core.specs.Operations.{planned, IsEnabled}
 use Rattle.lock_core.proofs.Counts.{times_joined, times_itself, without_none, without_some}
-use Rattle.lock_core.proofs.Enabled.{line_of, clear_home_on}
+use Rattle.lock_core.proofs.Enabled.{line_of}
 use Rattle.lock_core.proofs.Table.{plan_of_line, both, together}
 use Rattle.epoch_pools.specs.declared.record.Away.{Away}
 use Rattle.epoch_pools.specs.declared.record.Noted.{Noted}
@@ -125,26 +125,6 @@ some_first : (l : List ℕ) → l ≢ [] → (n : ℕ) → slice_get l 0 ≡ Som
 some_first [] d n e = absurd (d refl)
 some_first (x ∷ xs) d n e = let same : x ≡ n = cc in (xs, ap (λ y. y ∷ xs) same)
 
--- a free hand may take its first ready node
-pub may_clear : (seats s : ℕ) (v : View) (n : ℕ) → IsFree v → v.ready ≢ [] → slice_get v.ready 0 ≡ Some n → IsEnabled seats s v (ClearHome n)
-may_clear seats s v n free some first =
-    let r = some_first v.ready some n first in
-    ap is_some (plan_of_line seats s v (ClearHome n) _ (clear_home n r.0 free.own free.outside r.1))
-
--- ClearHome takes the first ready node
-pub takes_first : {P : Type 0} (rested : P → P) (p q : SeatPart P) (n w : ℕ) → Enables p (ClearHome n)
-    → q ≡ part_after rested p (ClearHome n) w → TakesFirst p q n
-takes_first {P} rested p q n w may made =
-    let t = clear_home_on p.seats p.number p.core n w may in
-    record { rest = t.0; ready = t.1; core = ap (λ (x : SeatPart P). x.core) made ∙ t.2 }
-
--- and is a step of a pool call
-pub takes_call : {P : Type 0} (rested : P → P) (p q : SeatPart P) (n w : ℕ) → IsFree p.core → Enables p (ClearHome n)
-    → q ≡ part_after rested p (ClearHome n) w → IsPoolCall p q
-takes_call rested p q n w free may made =
-    let t = takes_first rested p q n w may made in
-    pool_call rested p q (ClearHome n) w (taken p.core n t.rest) made free.own t.core refl refl refl
-
 -- ---- a look at a home word
 
 read_home_on : (seats s : ℕ) (v : View) (n w : ℕ) → IsEnabled seats s v (ReadHome n) → (planned seats s v (ReadHome n)).view w ≡ home_read seats v n w
@@ -169,15 +149,6 @@ module _ {P : Type 0} (rested : P → P) (p q : SeatPart P) (n w : ℕ) (free : 
 
   later : q.trace.taken ≡ p.trace.taken + 1
   later = ap (λ (x : SeatPart P). x.trace.taken) made
-
-  -- a ReadHome is a look
-  pub home_looking : IsLooking p q
-  home_looking = split (w == 1) (p.seats == 1) core
-    where
-      split : (b c : Bool) → q.core ≡ (if b then (if c then released came else came) else p.core) → IsLooking p q
-      split true true e = record { call = pool_call rested p q (ReadHome n) w (released came) made free.own e refl refl refl; own = ap (λ (v : View). v.own) e }
-      split true false e = record { call = pool_call rested p q (ReadHome n) w came made free.own e refl refl refl; own = ap (λ (v : View). v.own) e }
-      split false c e = record { call = pool_call rested p q (ReadHome n) w p.core made free.own e refl refl refl; own = ap (λ (v : View). v.own) e }
 
   joined : (x : ℕ) → times x (p.core.homes ++ n ∷ []) ≡ times x p.core.homes + times x (n ∷ [])
   joined x = times_joined x p.core.homes (n ∷ [])
@@ -241,22 +212,6 @@ home_known p q r n x from on look known used =
     (record { entry = a.entry; last = look.away x d ∙ a.last; from = a.from; before = let b = a.before in omega arith }))
     (known d (let u = look.used x in omega arith)))
     (cases_eq x n)
-
--- a used node is one of the seat's sixteen
-pub used_range : (i : ℕ) (v : View) (x : ℕ) → IsWhole i v → 1 ≤ times x v.used → (16 * i ≤ x) × (x < 16 * i + 16)
-used_range i v x whole used = split (x / 16 == i) refl
-  where
-    split : (b : Bool) → (x / 16 == i) ≡ b → (16 * i ≤ x) × (x < 16 * i + 16)
-    split true e = let s = eqb-true _ _ e in (omega arith, omega arith)
-    split false e = absurd (let s = whole x ∙ ap (λ (b : Bool). if b then 1 else 0) e in omega arith)
-
--- a hand that has no own node and no ready one has its lowest node among the used
-pub lowest_used : (i : ℕ) (v : View) → IsWhole i v → v.own ≡ Nothing → v.ready ≡ [] → 1 ≤ times (16 * i) v.used
-lowest_used i v whole own ready =
-    let o = ap (own_times (16 * i)) own in let r = ap (times (16 * i)) ready in
-    let at : (16 * i) / 16 ≡ i = omega arith in
-    let one : ◌≡◌ {A = ℕ} (if (16 * i) / 16 == i then 1 else 0) 1 = ap (λ (b : Bool). if b then 1 else 0) (eq-eqb _ _ at) in
-    let s = whole (16 * i) in omega arith
 
 -- ---- a look at an epoch
 
@@ -444,41 +399,6 @@ module _ {P : Type 0} (rested : P → P) (p q : SeatPart P) (j w : ℕ) (free : 
         noted = noted_else;
         this = seat_this e;
       })
-
--- what is known of the seats that were looked at stays known, and this seat is known
-pub seat_known : {P : Type 0} (p q r : SeatPart P) (j k : ℕ) → p.trace.taken ≤ q.trace.taken → q.trace.taken ≤ r.trace.taken
-    → IsSeatLook q r j → (k ≢ j → IsSeatKnown p q k) → IsSeatKnown p r k
-seat_known p q r j k from on look known =
-    ⊎_elim
-    (λ (e : k ≡ j).
-    subst (IsSeatKnown p r) (sym e)
-    (⊎_elim
-    (λ (t : is_passed r.core j ≡ true). inl t)
-    (λ (a : IsReadInside q.trace.taken r.trace.taken r.trace.noted r.core j). inr
-    (record {
-      entry = a.entry;
-      last = a.last;
-      from = let f = a.from in omega arith;
-      before = a.before;
-      odd = a.odd;
-      only = a.only;
-      inside = a.inside;
-    }))
-    look.this))
-    (λ (d : k ≢ j).
-    ⊎_elim
-    (λ (t : is_passed q.core k ≡ true). inl (look.passed k d ∙ t))
-    (λ (a : IsReadInside p.trace.taken q.trace.taken q.trace.noted q.core k). inr (record {
-      entry = a.entry;
-      last = look.noted k d ∙ a.last;
-      from = a.from;
-      before = let b = a.before in omega arith;
-      odd = a.odd;
-      only = look.notes k d ∙ a.only;
-      inside = look.passed k d ∙ a.inside;
-    }))
-    (known d))
-    (cases_eq k j)
 
 -- what this call knows of a seat is known since an earlier moment of it
 pub seat_known_since : {P : Type 0} (p q r : SeatPart P) (k : ℕ) → p.trace.taken ≤ q.trace.taken → IsSeatKnown q r k → IsSeatKnown p r k

@@ -68,9 +68,6 @@ module _ (seats number lists c d : ℕ) (others views : List View) (core : View)
   abbrev last : List View
   last = views_of d rest one
 
-  slot_first : slot_of c 0 ≡ c - 1
-  slot_first = refl
-
   slot_else : (list j : ℕ) → j ≢ 0 → slot_of list j ≡ j - 1
   slot_else list j e = ap (λ n. n - 1) (chosen_else j 0 list j e)
 
@@ -192,25 +189,6 @@ module _ {P : Type 0} where
   others_kept rested None behind b seats number views a = a
   others_kept rested (Some h) None b seats number views a = a
   others_kept rested (Some h) (Some g) b seats number views a = a
-
--- a token that is turned to another list says so of the same seat
-pub seat_turned : {P : Type 0} (p : SeatLists P) (number seats lists list first words d first' : ℕ) → IsSeatOf p number seats lists list first words → d < lists
-    → first' ≡ d * word_count seats → IsSeatOf p number seats lists d first' words
-seat_turned p number seats lists list first words d first' s less is =
-    let most = s.most in let few = s.few in
-    let bound : d * word_count seats ≤ 16 * 1041 = mul-le d (word_count seats) 16 1041 (omega arith) (omega arith) in
-    record {
-      number_is = s.number_is;
-      seats_are = s.seats_are;
-      there = s.there;
-      few = s.few;
-      full = s.full;
-      within = less;
-      most = s.most;
-      begins = is;
-      low = omega arith;
-      words_there = s.words_there;
-    }
 
 module _ {P : Type 0} (p : SeatPart (Beside P)) (d : ℕ) (core : View) (views : List View)
     (own : p.core ≡ core) (sound : IsHandView p) (a : AreOthers p.seats p.number p.pass.lists p.pass.list p.pass.others views) where

@@ -40,10 +40,6 @@ after_none m s step old at e =
     ap (λ (o : Option View). given o (λ v. given (plan m.seats s v step) (λ p. Some (carried_out m s p)))) at
     ∙ ap (λ (o : Option Plan). given o (λ p. Some (carried_out m s p))) e
 
--- a seat that isn't there makes no step
-pub after_absent : (m : Machine) (s : ℕ) (step : Step) → slice_get m.views s ≡ None → after m s step ≡ None
-after_absent m s step at = ap (λ (o : Option View). given o (λ v. given (plan m.seats s v step) (λ p. Some (carried_out m s p)))) at
-
 -- a state that gets the words and the view that it has is as it was
 pub unchanged : (m : Machine) (words : List ℕ) (s : ℕ) (old new : View) → slice_get m.views s ≡ Some old → words ≡ m.words
     → new ≡ old → record { seats = m.seats; words = words; views = slice_set m.views s new } ≡ m

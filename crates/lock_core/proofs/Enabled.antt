@@ -26,21 +26,6 @@ module _ (seats s : ℕ) (v : View) where
   pub line_of : (step : Step) → IsEnabled seats s v step → IsLine seats s v step (planned seats s v step)
   line_of step may = line_of_plan seats s v step (planned seats s v step) (is_planned step may)
 
-  -- what an enabled GiveHome leaves: the hand is empty
-  pub give_home_on : (w : ℕ) → IsEnabled seats s v GiveHome → (planned seats s v GiveHome).view w ≡ gave_home v
-  give_home_on w may = by_line _ (line_of GiveHome may)
-    where
-      by_line : (p : Plan) → IsLine seats s v GiveHome p → p.view w ≡ gave_home v
-      by_line p (give_home n hand) = refl
-
-  -- an enabled ClearHome names the first ready node, and takes it
-  pub clear_home_on : (n w : ℕ) → IsEnabled seats s v (ClearHome n)
-      → (rest : List ℕ) × (v.ready ≡ n ∷ rest) × ((planned seats s v (ClearHome n)).view w ≡ taken v n rest)
-  clear_home_on n w may = by_line _ (line_of (ClearHome n) may)
-    where
-      by_line : (p : Plan) → IsLine seats s v (ClearHome n) p → (rest : List ℕ) × (v.ready ≡ n ∷ rest) × (p.view w ≡ taken v n rest)
-      by_line p (clear_home m rest own even ready) = (rest, ready, refl)
-
   -- what an enabled Walk leaves, by the cursor of the view
   pub walk_on : (w : ℕ) → IsEnabled seats s v Walk → (planned seats s v Walk).view w ≡ walked v v.cursor w
   walk_on w may = by_line _ (line_of Walk may)
@@ -51,44 +36,3 @@ module _ (seats s : ℕ) (v : View) where
   module _ (c : Cursor) (is : v.cursor ≡ Some c) where
     same : (d : Cursor) → v.cursor ≡ Some d → d ≡ c
     same d e = let both : ◌≡◌ {A = Option Cursor} (Some d) (Some c) = sym e ∙ is in cc
-
-    -- what an enabled ReadLo leaves, by the cursor that is known
-    pub read_lo_on : (w : ℕ) → IsEnabled seats s v ReadLo → (planned seats s v ReadLo).view w ≡ lo_read v c w
-    read_lo_on w may = by_line _ (line_of ReadLo may)
-      where
-        by_line : (p : Plan) → IsLine seats s v ReadLo p → p.view w ≡ lo_read v c w
-        by_line p (read_lo d y n cursor node next plain) = ap (λ (x : Cursor). lo_read v x w) (same d cursor)
-
-    -- what an enabled Settle leaves: the cursor's word without the low bit, or no cursor
-    pub settle_on : (w : ℕ) → IsEnabled seats s v Settle → (planned seats s v Settle).view w ≡ (if w == c.cur then settled v c else dropped v)
-    settle_on w may = by_line _ (line_of Settle may)
-      where
-        by_line : (p : Plan) → IsLine seats s v Settle p → p.view w ≡ (if w == c.cur then settled v c else dropped v)
-        by_line p (settle d cursor prev odd) = ap (λ (x : Cursor). if w == x.cur then settled v x else dropped v) (same d cursor)
-
-    module _ (y n : ℕ) (node : plain_node_of c.cur ≡ Some y) (next : c.next ≡ Some n) where
-      same_at : (d : Cursor) (a b : ℕ) → v.cursor ≡ Some d → plain_node_of d.cur ≡ Some a → d.next ≡ Some b → (a ≡ y) × (b ≡ n)
-      same_at d a b cursor node' next' =
-          let e = same d cursor in
-          let p : ◌≡◌ {A = Option ℕ} (Some a) (Some y) = sym node' ∙ ap (λ (x : Cursor). plain_node_of x.cur) e ∙ node in
-          let q : ◌≡◌ {A = Option ℕ} (Some b) (Some n) = sym next' ∙ ap (λ (x : Cursor). x.next) e ∙ next in (cc, cc)
-
-      -- what an enabled ReadHi leaves: the cursor's node is judged by its ends
-      pub read_hi_on : (lo w : ℕ) → c.lo ≡ Some lo → IsEnabled seats s v ReadHi → (planned seats s v ReadHi).view w ≡ hi_read v c y n lo w
-      read_hi_on lo w low may = by_line _ (line_of ReadHi may)
-        where
-          by_line : (p : Plan) → IsLine seats s v ReadHi p → p.view w ≡ hi_read v c y n lo w
-          by_line p (read_hi d a b l cursor node' next' plain low' own) =
-              let e = same d cursor in let t = same_at d a b cursor node' next' in
-              let m : ◌≡◌ {A = Option ℕ} (Some l) (Some lo) = sym low' ∙ ap (λ (x : Cursor). x.lo) e ∙ low in
-              let k : l ≡ lo = cc in
-              λ i. hi_read v (e i) (t.0 i) (t.1 i) (k i) w
-
-      -- what an enabled Unlink leaves: the cursor's node is in the hand, or there is no cursor
-      pub unlink_on : (w : ℕ) → IsEnabled seats s v Unlink → (planned seats s v Unlink).view w ≡ (if w == c.cur then unlinked v c y (n - 1) else dropped v)
-      unlink_on w may = by_line _ (line_of Unlink may)
-        where
-          by_line : (p : Plan) → IsLine seats s v Unlink p → p.view w ≡ (if w == c.cur then unlinked v c y (n - 1) else dropped v)
-          by_line p (unlink d a b cursor node' next' odd hand) =
-              let e = same d cursor in let t = same_at d a b cursor node' next' in
-              λ i. if w == (e i).cur then unlinked v (e i) (t.0 i) (t.1 i - 1) else dropped v

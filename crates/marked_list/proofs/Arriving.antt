@@ -43,10 +43,6 @@ may_walk_ends (Linked node range mode todo) g f is = absurd (cc)
 pub filled_may_walk : (own : Own) → HasEnds own → OwnMayWalk own
 filled_may_walk own e = subst OwnMayWalk (sym e.is) (record { node = e.node; is = refl; lo = e.lo; hi = e.hi; low = e.low; high = e.high })
 
--- a node that has still to be validated may be compared
-pub validating_may_walk : (own : Own) → HasToValidate own → OwnMayWalk own
-validating_may_walk own e = subst OwnMayWalk (sym e.is) e.todo
-
 or_true : (b : Bool) → (b || false) ≡ true → b ≡ true
 or_true true e = refl
 or_true false e = e

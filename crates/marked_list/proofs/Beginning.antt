@@ -27,7 +27,6 @@ use Rattle.marked_list.proofs.Lines.{enables, line_is, Made, made_by, same_walk,
 use Rattle.marked_list.proofs.Arriving.{may_walk_free, done_not, came_outcome}
 use Rattle.marked_list.proofs.Moments.{seat_count, found_even}
 use Rattle.marked_list.proofs.Unlinking.{failed}
-use Rattle.marked_list.proofs.Following.{answers_on}
 
 module _ {P : Type 0} (p : SeatPart P) (may : MayBeginWalk p.core) where
   abbrev out_plan : Plan
@@ -244,11 +243,3 @@ module _ {P : Type 0} (p q : SeatPart P) (w : ℕ) (may : MayBeginWalk p.core) (
           own = s.own ∙ (own_out ∙ sym (own_at_any p.core.own (w - 1) (out.unlinked odd)));
         })
         may.own (record { odd = ap (λ n. n % 2) s.later.epoch ∙ inside_out.odd; hand = s.later.hand }) view (s.later.seats ∙ out.later.seats) room_out
-
-    -- a settling that lost its exchange is the answer of the walk
-    pub failed_outcome : (l : Lost) → IsFailed q r l → Outcome p.trace.taken p.core r (Some (Gone l))
-    failed_outcome l f = (
-      answers_on p.trace.taken q.trace.taken p.core.own q.core.own r (Gone l) (let t = out.taken in
-          omega arith) own_out f.outcome.0,
-      f.outcome.1,
-    )

@@ -454,10 +454,6 @@ module _ {P : Type 0} (p : SeatPart P) (n lo : ℕ) (k : KnowsLo p.core n lo) (e
       scan_judged = more_judged rested p q ReadHi hi_plan w hi_made refl (ap is_some st.is)
           (ap (λ (o : Own). is_some (hi_judged p.core st.cursor st.node n (verdict_of o lo w)).cursor) bare)
 
-      -- and the scan has no own node after it
-      pub past_own : q.core.own ≡ Nothing
-      past_own = ap (λ (v : View). v.own) core_past ∙ ap (λ (o : Own). own_at o n) bare
-
       module _ (before : IsHandView p) (view : IsHandView q) (room : HasRoom p) where
         past_inside : IsInside q.core
         past_inside = record { odd = ap (λ (v : View). v.epoch % 2) core_past ∙ st.inside.odd; hand = judged_on.hand }

@@ -142,28 +142,6 @@ module _ {P : Type 0} (rested : P → P) (p q : SeatPart P) (step : Step) (plan 
     taken = let t = m.taken in omega arith;
   }
 
--- one call after another
-pub on_on : {P : Type 0} (p q r : SeatPart P) → IsLaterInWalk p q → IsLaterInWalk q r → IsLaterInWalk p r
-on_on p q r a b = record {
-  number = b.number ∙ a.number;
-  seats = b.seats ∙ a.seats;
-  pass = b.pass ∙ a.pass;
-  client = b.client ∙ a.client;
-  epoch = b.epoch ∙ a.epoch;
-  pools = pools_on p.core q.core r.core a.pools b.pools;
-  hand = b.hand;
-  taken = let x = a.taken in let y = b.taken in omega arith;
-}
-  where
-    pools_on : (u v w : View) → IsSamePools u v → IsSamePools v w → IsSamePools u w
-    pools_on u v w a b = record {
-      ready = b.ready ∙ a.ready;
-      used = b.used ∙ a.used;
-      homes = b.homes ∙ a.homes;
-      notes = b.notes ∙ a.notes;
-      passed = b.passed ∙ a.passed;
-    }
-
 -- two calls of one walk after each other are of one walk
 pub walk_on_walk : {P : Type 0} (p q r : SeatPart P) → IsSameWalk p q → IsSameWalk q r → IsSameWalk p r
 walk_on_walk p q r a b l is = let s = a l is in let t = b s.0 s.1 in (t.0, t.1, t.2 ∙ s.2)

@@ -100,24 +100,9 @@ module _ {P : Type 0} (p : SeatPart P) (n lo : ℕ) (may : MayFill p.core n) whe
     hi_line : IsLine q.seats q.number q.core (FillHi hi mode) hi_plan
     hi_line = fill_hi half lo hi mode (ap (λ (v : View). v.own) core_lo) refl less most may.aimed (ap (λ (v : View). v.cursor) core_lo ∙ may.cursor)
 
-    -- and then its higher end, with the mode
-    pub may_fill_hi : Enables q (FillHi hi mode)
-    may_fill_hi = enables q (FillHi hi mode) hi_plan hi_line
-
     module _ (r : SeatPart P) (u : ℕ) (last : r ≡ part_after rested q (FillHi hi mode) u) where
       hi_made : Made rested q r (FillHi hi mode) hi_plan u
       hi_made = made_by rested q r (FillHi hi mode) hi_plan u hi_line last
-
-      -- after both the own node has the range and the mode, and all else of the view stays
-      pub filled_core : r.core ≡ record p.core { own = Filling n (Some lo) (Some hi) mode None }
-      filled_core =
-          hi_made.core ∙ (ap (λ (v : View). record v { own = Filling half.node (Some lo) (Some hi) mode half.aimed }) core_lo
-          ∙ (λ i. record p.core { own = Filling (may.node i) (Some lo) (Some hi) mode (may.aimed i) }))
-
-      -- the two are a call of two steps
-      pub filled_call : IsCall 2 p r
-      filled_call = call_on p q r (call_made rested p q (FillLo lo) lo_plan w lo_made (ap held_at may.is))
-          (call_made rested q r (FillHi hi mode) hi_plan u hi_made (ap (λ (v : View). held_at v.own) core_lo))
 
 aims : (o : Option Cursor) → (o ≡ None) ⊎ StandsAtPlace o → Aims o (cursor_word o)
 aims o place = ⊎_elim (λ e. subst (λ (x : Option Cursor). Aims x (cursor_word x)) (sym e) refl)
@@ -325,20 +310,7 @@ module _ {P : Type 0} (is_at_rest : P → Type 0) (p : SeatPart P) (may : MayQui
     back_call : IsQuickCall p q
     back_call = record { number = back_made.number; seats = back_made.seats; client = back_made.client; met = back_made.met; taken = back_made.taken }
 
-    held_own : held_at p.core.own ≡ Some (record { range = may.node.range; mode = may.node.mode })
-    held_own = ap held_at may.is ∙ ap (λ t. held_at (Linked may.node.node may.node.range may.node.mode t)) may.held
-
     module _ (n : ℕ) (is_node : n ≡ may.node.node) where
-      -- where the head was that of the node alone, the range is given back and the pass is rested
-      pub back_done : w ≡ 2 * suc n + 1 → IsQuickCall p q
-          × ((k : Listed) → p.core.own ≡ listed k → q.core ≡ quick_unlinked p.core k.node) × (q.pass ≡ rested p.pass)
-      back_done e =
-          let won : back_plan.view w ≡ quick_unlinked p.core may.node.node = ap back_by (eq-eqb _ _ (e ∙ ap (λ a. 2 * suc a + 1) is_node)) in (
-            back_call,
-            (λ k is. let same : listed may.node ≡ listed k = sym may.is ∙ is in let node : may.node.node ≡ k.node = cc in
-                back_made.core ∙ (won ∙ ap (quick_unlinked p.core) node)),
-            back_made.pass ∙ (λ i. pass_kept rested (held_own i) (held_at (won i).own) p.pass),
-          )
 
       -- where the head was another, that is in the record, and the range is still held
       pub back_lost : w ≢ 2 * suc n + 1 → (l : Lost) → l.place ≡ 0 → l.expected ≡ 2 * suc n + 1 → l.found ≡ w

@@ -19,14 +19,6 @@ use Rattle.marked_list.specs.Answers.{Answers, IsLong, Sweeps}
 use Rattle.marked_list.specs.Walking.{MayBeginWalk}
 use Rattle.marked_list.proofs.Unlinking.{gone_looked}
 
--- an epoch counts from even to odd and on to even
-pub counts_odd : (e : ℕ) → e % 2 ≡ 0 → next_epoch e % 2 ≡ 1
-counts_odd e even = omega arith
-
--- an odd epoch is followed by an even one
-pub counts_even : (e : ℕ) → e % 2 ≡ 1 → next_epoch e % 2 ≡ 0
-counts_even e odd = omega arith
-
 module _ {P : Type 0} (p e : SeatPart P) (may : MaySweep p.core) (entering : e ≡ quiet_after p Enter (entered p.core)) where
   own_in : e.core.own ≡ Nothing
   own_in = ap (λ (x : SeatPart P). x.core.own) entering ∙ may.own

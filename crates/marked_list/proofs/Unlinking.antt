@@ -143,15 +143,6 @@ module _ {P : Type 0} (p : SeatPart P) (n : ℕ) (k : KnowsNext p.core n) (odd :
           judged = same_judged rested p q Unlink unlink_plan w m refl (ap is_some st.is);
         }
 
-    -- where a node is in the hand after it, that is the cursor's node, and it is unlinked
-    pub unlink_some : (x : ℕ) → q.core.hand ≡ Some x → IsUnlinked p q x
-    unlink_some x hand = by_value (w == st.cursor.cur) refl
-      where
-        by_value : (b : Bool) → (w == st.cursor.cur) ≡ b → IsUnlinked p q x
-        by_value true e = let u = won e in let same : st.node ≡ x = let h = sym u.hand ∙ hand in cc in subst (IsUnlinked p q) same u
-        by_value false e = absurd (let h : ◌≡◌ {A = Option ℕ} None (Some x) = sym st.inside.hand
-            ∙ (sym (ap (λ (v : View). v.hand) (m.core ∙ ap view_by e)) ∙ hand) in cc)
-
     -- where none is, the exchange was lost
     pub unlink_none : q.core.hand ≡ None → IsHandView p → HasRoom p → (l : Lost)
         → l.place ≡ cell_place p.seats (cell_of st.cursor.prev) → l.expected ≡ st.cursor.cur → l.found ≡ w → IsFailed p q l
@@ -194,10 +185,6 @@ module _ {P : Type 0} (p q r : SeatPart P) (x : ℕ) (u : IsUnlinked p q x) (mad
     hand = ap (λ (v : View). v.hand) core_home;
     taken = let a = ap (λ (z : SeatPart P). z.trace.taken) made in let b = u.call.taken in omega arith;
   }
-
-  -- they are two steps
-  pub home_taken : r.trace.taken ≡ p.trace.taken + 2
-  home_taken = let a = ap (λ (z : SeatPart P). z.trace.taken) made in let b = u.call.taken in omega arith
 
   -- of the same walk
   pub home_walk : IsSameWalk p r

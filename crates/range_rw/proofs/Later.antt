@@ -20,10 +20,6 @@ use Rattle.range_rw.specs.Trying.{has_come, IsLaterInTry, IsLaterInEpoch, Refuse
 
 -- ---- calls
 
--- where no step was made, number, seats, pass and record are the same
-pub later_same : {P : Type 0} (p : SeatPart P) → IsLaterInTry p p
-later_same p = record { number = refl; seats = refl; pass = refl; client = refl; taken = omega arith }
-
 -- two calls of a try after each other are one
 pub later_on : {P : Type 0} (p q r : SeatPart P) → IsLaterInTry p q → IsLaterInTry q r → IsLaterInTry p r
 later_on p q r a b = record {

@@ -93,6 +93,27 @@ ready_from {before} {mid} {after} same left = subst (λ l. IsReadyLeft l after) 
 pub some_held : {o : Option Held} {range : Held} → o ≡ Some range → o ≢ None
 some_held {o} {range} is none = absurd (let z : ◌≡◌ {A = Option Held} (Some range) None = sym is ∙ none in cc)
 
+-- a range that its list holds is linked in another list too, and the hand turns back
+pub record Crossing {P : Type 0} (home other : ℕ) (asked : Held) (p l t : SeatPart (Beside P)) : Type 0 where
+  pub differ : home ≢ other
+  pub holds : HoldsIn home asked p
+  pub link : IsPiece other p l
+  pub standing : l.pass.standing ≡ p.pass.standing
+  pub held : held_at l.core.own ≡ Some asked
+  pub turn : t ≡ turned l home
+  pub stays : (j : ℕ) → shown_core t j ≡ shown_core l j
+
+-- then the look is made, the other node is given back, and the hand turns back once more
+pub record Return {P : Type 0} (home other : ℕ) (t : SeatPart (Beside P)) (s : Standing) (h g u : SeatPart (Beside P)) : Type 0 where
+  pub look : h ≡ after_look t s
+  pub give : IsPiece other h g
+  pub standing : g.pass.standing ≡ standing_back h.pass.standing other
+  pub free : g.core.own ≡ Nothing
+  pub back : standing_back s other ≡ s
+  pub turn : u ≡ turned g home
+  pub stays : (j : ℕ) → shown_core u j ≡ shown_core g j
+  pub rests : IsResting u.core
+
 module _ {P : Type 0} where
   -- ---- calls one after another
 
@@ -311,27 +332,25 @@ module _ {P : Type 0} where
 
   -- ---- the range is linked in another list too, the look is made, and that node is given back
 
-  -- the link in the other list, and the turn back
-  module _ (home other : ℕ) (asked : Held) (p l t : SeatPart (Beside P)) (differ : home ≢ other) (holds : HoldsIn home asked p)
-      (link : IsPiece other p l) (link_standing : l.pass.standing ≡ p.pass.standing) (link_held : held_at l.core.own ≡ Some asked)
-      (turn : t ≡ turned l home) (stays : (j : ℕ) → shown_core t j ≡ shown_core l j) where
+  -- what the link in the other list and the turn back leave
+  module _ {home other : ℕ} {asked : Held} {p l t : SeatPart (Beside P)} (over : Crossing home other asked p l t) where
     pub both_own : t.core ≡ shown_core p home
-    both_own = ap (λ (x : SeatPart (Beside P)). x.core) turn ∙ link.only home differ
+    both_own = ap (λ (x : SeatPart (Beside P)). x.core) over.turn ∙ over.link.only home over.differ
 
     pub both_held : held_at t.core.own ≡ Some asked
-    both_held = ap (λ (v : View). held_at v.own) both_own ∙ holds.held
+    both_held = ap (λ (v : View). held_at v.own) both_own ∙ over.holds.held
 
     pub both_list : t.pass.list ≡ home
-    both_list = ap (λ (x : SeatPart (Beside P)). x.pass.list) turn
+    both_list = ap (λ (x : SeatPart (Beside P)). x.pass.list) over.turn
 
     pub both_lists : t.pass.lists ≡ p.pass.lists
-    both_lists = ap (λ (x : SeatPart (Beside P)). x.pass.lists) turn ∙ link.later.lists
+    both_lists = ap (λ (x : SeatPart (Beside P)). x.pass.lists) over.turn ∙ over.link.later.lists
 
     pub both_standing : t.pass.standing ≡ p.pass.standing
-    both_standing = ap (λ (x : SeatPart (Beside P)). x.pass.standing) turn ∙ link_standing
+    both_standing = ap (λ (x : SeatPart (Beside P)). x.pass.standing) over.turn ∙ over.standing
 
     pub both_other : held_at (shown_core t other).own ≡ Some asked
-    both_other = ap (λ (v : View). held_at v.own) (stays other ∙ own_at l other link.turned) ∙ link_held
+    both_other = ap (λ (v : View). held_at v.own) (over.stays other ∙ own_at l other over.link.turned) ∙ over.held
 
     -- the seat holds the range in the other list too
     pub both_too : HoldsToo t other
@@ -347,41 +366,38 @@ module _ {P : Type 0} where
       takes = subst (TakesOne c asked.range) (sym both_list) takes;
     }
 
-    -- the look, the release of the other node, and the turn back
-    module _ (s : Standing) (h g u : SeatPart (Beside P)) (look : h ≡ after_look t s) (give : IsPiece other h g)
-        (give_standing : g.pass.standing ≡ standing_back h.pass.standing other) (give_free : g.core.own ≡ Nothing)
-        (back : standing_back s other ≡ s) (turn_back : u ≡ turned g home) (stays_back : (j : ℕ) → shown_core u j ≡ shown_core g j)
-        (rests_back : IsResting u.core) where
+    -- and what is so once the look is made and that node is given back
+    module _ {s : Standing} {h g u : SeatPart (Beside P)} (after : Return home other t s h g u) where
       pub both_later : IsLaterInLists p u
       both_later = lists_on p g u
-          (lists_on p h g (lists_on p t h (lists_on p l t link.later (turn_on l t home turn)) (look_on t h s look)) give.later)
-          (turn_on g u home turn_back)
+          (lists_on p h g (lists_on p t h (lists_on p l t over.link.later (turn_on l t home over.turn)) (look_on t h s after.look)) after.give.later)
+          (turn_on g u home after.turn)
 
       -- each list but the other one is as it was
       pub both_only : (j : ℕ) → j ≢ other → shown_core u j ≡ shown_core p j
-      both_only j away = stays_back j ∙ (give.only j away ∙ (look_shows t h s look j ∙ (stays j ∙ link.only j away)))
+      both_only j away = after.stays j ∙ (after.give.only j away ∙ (look_shows t h s after.look j ∙ (over.stays j ∙ over.link.only j away)))
 
       both_free : (shown_core u other).own ≡ Nothing
-      both_free = ap (λ (v : View). v.own) (stays_back other ∙ own_at g other give.turned) ∙ give_free
+      both_free = ap (λ (v : View). v.own) (after.stays other ∙ own_at g other after.give.turned) ∙ after.free
 
       pub both_alone : HoldsAlone home asked u
       both_alone = record {
-        rests = rests_back;
-        turned = ap (λ (x : SeatPart (Beside P)). x.pass.list) turn_back;
+        rests = after.rests;
+        turned = ap (λ (x : SeatPart (Beside P)). x.pass.list) after.turn;
         held = ap (λ (v : View). held_at v.own)
-            (sym (own_at u home (ap (λ (x : SeatPart (Beside P)). x.pass.list) turn_back)) ∙ both_only home differ) ∙ holds.held;
+            (sym (own_at u home (ap (λ (x : SeatPart (Beside P)). x.pass.list) after.turn)) ∙ both_only home over.differ) ∙ over.holds.held;
         others = λ j away. dite (ℕ_discrete j other)
             (λ e. ap (λ (v : View). v.own) (ap (shown_core u) e) ∙ both_free)
-            (λ elsewhere. ap (λ (v : View). v.own) (both_only j elsewhere) ∙ holds.others j away);
+            (λ elsewhere. ap (λ (v : View). v.own) (both_only j elsewhere) ∙ over.holds.others j away);
       }
 
       pub both_counts : u.pass.standing ≡ s
-      both_counts = ap (λ (x : SeatPart (Beside P)). x.pass.standing) turn_back
-          ∙ (give_standing ∙ (ap (λ (x : SeatPart (Beside P)). standing_back x.pass.standing other) look ∙ back))
+      both_counts = ap (λ (x : SeatPart (Beside P)). x.pass.standing) after.turn
+          ∙ (after.standing ∙ (ap (λ (x : SeatPart (Beside P)). standing_back x.pass.standing other) after.look ∙ after.back))
 
       -- the ready nodes of the other list are those that the link left there
       pub both_ready : (shown_core g other).ready ≡ (shown_core h other).ready
           → IsReadyLeft (shown_core p other).ready (shown_core l other).ready
           → IsReadyLeft (shown_core p other).ready (shown_core u other).ready
       both_ready given left = subst (IsReadyLeft (shown_core p other).ready)
-          (sym (ap (λ (v : View). v.ready) (stays_back other) ∙ (given ∙ ap (λ (v : View). v.ready) (look_shows t h s look other ∙ stays other)))) left
+          (sym (ap (λ (v : View). v.ready) (after.stays other) ∙ (given ∙ ap (λ (v : View). v.ready) (look_shows t h s after.look other ∙ over.stays other)))) left

@@ -146,8 +146,6 @@ module _ {P : Type 0} where
 
     -- a range that is given back in that list
     module _ (rested : P → P) where
-      even_of : (n : ℕ) → n % 2 ≡ 0 → (n % 2 == 0) ≡ true
-      even_of n e = eq-eqb (n % 2) 0 e
 
       pub given_piece : IsResting t.core → is_counted t.pass.lists t.pass.standing t.pass.list ≡ false → GivesBack (given_back rested) t q → IsPiece at p q
       given_piece rests beside g = piece_by g.number g.seats (ap (λ (b : Beside P). b.lists) g.pass) (ap (λ (b : Beside P). b.list) g.pass)

@@ -90,9 +90,6 @@ walk_ended m None l e = absurd (cc)
 walk_ended m (Some c) l e = (c, refl, eqb-true _ _ e)
 
 module _ {P : Type 0} (table : TableId) (p q : SeatPart (Beside P)) where
-  -- a hand is between two calls whose scan rests after a call that walks
-  pub on_between : IsLaterInWalk p q → q.core.own ≡ Nothing → IsResting q.core → IsBetween q.core
-  on_between on own rests = record { own = bare_settled q.core.own own; hand = on.hand; cursor = rests }
 
   module _ (inside : IsInside p.core) (on : IsLaterInWalk p q) (view : IsHandView q) (was : OpenScan) (opened : scan_of p ≡ Some was) where
     abbrev now : OpenScan

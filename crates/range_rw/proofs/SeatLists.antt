@@ -92,18 +92,3 @@ module _ {P : Type 0} where
       → map pass_in seats ≡ first_passes first 0 (length seats)
   new_passes table first seats new = passes_from first 0 seats (λ k s at. let z : k ≡ 0 + k = omega arith in
       ap (λ (x : SeatState P). x.pass) (new k s at) ∙ ap first z)
-
--- in a table of one list a try makes the steps of one
-pub one_list_steps : (t : TableShape) (before after : ℕ) → IsOneList t → after ≤ before + most_steps t → after ≤ before + (64 + 386 * t.seats)
-one_list_steps t before after one most =
-    let e : most_steps t ≡ 64 + 386 * t.seats = ap (λ n. (64 + 386 * t.seats) * n) one ∙ mul-one (64 + 386 * t.seats) in
-    subst (λ n. after ≤ before + n) e most
-
--- and a call of a scan those of a walk
-pub one_scan_steps : (t : TableShape) (was : OpenScan) (before after : ℕ) → IsOneList t → after ≤ before + scan_steps t was
-    → after ≤ before + 2 + 3 * was.most
-one_scan_steps t was before after one most =
-    let none : list_count t.cut - 1 - was.list ≡ 0 = omega arith in
-    let e : scan_steps t was ≡ 2 + 3 * was.most = (λ i. 2 + 3 * was.most + (4 + 3 * was.most) * none i) ∙ omega arith in
-    let f : after ≤ before + (2 + 3 * was.most) = subst (λ n. after ≤ before + n) e most in
-    omega arith

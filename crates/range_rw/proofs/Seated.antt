@@ -178,9 +178,6 @@ module _ {P : Type 0} where
 
   -- ---- a release
 
-  pub seated_may_give : (is_at_rest : P → Type 0) (b : Beside P) → is_at_rest b.pass → may_give_back is_at_rest b
-  seated_may_give is_at_rest b rest = λ counted. rest
-
   module _ (rested : P → P) (p q : SeatPart (Beside P)) (s : IsSeated p) (some : held_at p.core.own ≢ None) (g : GivesBack (given_back rested) p q) where
     same_list : q.pass.list ≡ p.pass.list
     same_list = ap (λ (b : Beside P). b.list) g.pass

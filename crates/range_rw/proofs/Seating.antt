@@ -32,10 +32,6 @@ module _ {P : Type 0} (table : TableId) (first : ℕ → P) (lists seats : ℕ) 
   abbrev pub IsNewFrom : ℕ → List (HandState (Beside P)) → Type 0
   IsNewFrom n hands = (k : ℕ) (h : HandState (Beside P)) → get_elem? hands k ≡ some h → h ≡ new_hand table first lists seats (n + k)
 
-  -- all hands of a new list are those from number 0 on
-  pub all_new : (hands : List (HandState (Beside P))) → AreNewHands table first lists seats hands → IsNewFrom 0 hands
-  all_new hands new k h at = let z : k ≡ 0 + k = omega arith in new k h at ∙ ap (new_hand table first lists seats) z
-
   abbrev new_part : ℕ → SeatPart (Beside P)
   new_part n = shown lists 0 (fresh (first n) lists seats n)
 
@@ -102,10 +98,6 @@ module _ {P : Type 0} (table : TableId) where
   -- the seats from number n on, which hold nothing
   abbrev pub IsIdleFrom : ℕ → List (SeatState P) → Type 0
   IsIdleFrom n seats = (k : ℕ) (s : SeatState P) → get_elem? seats k ≡ some s → (s.table ≡ table) × (s.number ≡ n + k) × (s.held ≡ None)
-
-  -- idle seats are those from number 0 on
-  pub all_idle : (seats : List (SeatState P)) → AreIdleSeats table seats → IsIdleFrom 0 seats
-  all_idle seats idle k s at = let i = idle k s at in let z : k ≡ 0 + k = omega arith in (i.0, i.1 ∙ z, i.2)
 
   -- the seat that comes next is of the table, has the next number and holds nothing
   pub next_idle : (n : ℕ) (seats : List (SeatState P)) (s : SeatState P) → IsIdleFrom n seats → 0 < length seats → s ≡ get_or seats 0 s

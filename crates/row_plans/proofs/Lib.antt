@@ -7,3 +7,4 @@ pub mod Splices
 pub mod RowChanges
 pub mod RowPatches
 pub mod PlanLeft
+pub mod Loading

@@ -201,12 +201,3 @@ planned_list old plan c reply count is p =
     let areas = leaves_areas (areas_from old) c reply p.left (areas_in_order old is) p.answers in
     let back : areas_from plan ≡ p.left = areas_back plan p.left p.shows.show areas in
     subst (λ A. PlanShows plan (kind_at A)) (sym back) p.shows
-
--- so is the one gap of a space without areas
-pub no_area_list : (rows : List ℕ) → rows ≡ row_word 0 None ∷ [] → IsRowList rows
-no_area_list rows e = subst IsRowList (sym e) (record {
-  some = omega arith;
-  few = omega arith;
-  show = (omega arith, omega arith, tt, λ p low high. refl, refl);
-  gaps = All-cons IsBareGap (row_word 0 None) [] (λ _. omega arith) (All-nil IsBareGap);
-})

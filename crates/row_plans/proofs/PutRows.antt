@@ -132,11 +132,6 @@ pub last_ends : (rows : List ℕ) (kind : Option Kind) (last : ℕ) → 0 < leng
 last_ends rows kind last more is = let e : length rows ≡ suc (length rows - 1) = omega arith in
     last_at rows kind (length rows - 1) e ∙ ap (λ w. same_option (row_kind w) kind) (sym is)
 
--- where there is no row, they end with none
-pub none_ends : (rows : List ℕ) (kind : Option Kind) → length rows ≡ 0 → ends_with rows kind ≡ false
-none_ends [] kind e = refl
-none_ends (word ∷ rest) kind e = absurd (omega arith)
-
 -- a stretch of no page, or of some
 pub no_part : (first : ℕ) (rows : List ℕ) (from to : ℕ) (kinds : ℕ → Option Kind) → from ≤ to → ¬ (from < to) → ShowTo first rows from kinds
     → ShowTo first rows to kinds

@@ -223,25 +223,6 @@ starts_rise page (w ∷ rest) kinds show zero (suc j) d l h =
 starts_rise page (w ∷ rest) kinds show (suc i) zero d l h = absurd (omega arith)
 starts_rise page (w ∷ rest) kinds show (suc i) (suc j) d l h = starts_rise (rows_start rest) rest kinds show.4 i j d (omega arith) (omega arith)
 
--- the point up to which rows start before a page is how many do
-pub start_before : (rows : List ℕ) (kinds : ℕ → Option Kind) (page i : ℕ) → ShowFrom 0 rows kinds → page ≤ LIMIT → i ≤ length rows
-    → IsPartitionPoint (λ w. ltb (row_start w) page ≡ true) (λ w. ltb (row_start w) page ≡ false) rows i → StartBefore rows page i
-start_before rows kinds page i show limit there point = record {
-  there = there;
-  ahead = elim (cases_lt i (length rows)) [
-    | inl lt ↦
-        let r = row_pages_at 0 rows kinds i show lt in
-        let b = r.begins in
-        let l = ltb-false (row_start (get_or rows i 0)) page (point.1 i 0 (omega arith) lt) in omega arith
-    | inr ge ↦ let e = ends_all rows i ge in omega arith
-  ];
-  behind = λ some.
-      let lt : i - 1 < length rows = omega arith in
-      let r = row_pages_at 0 rows kinds (i - 1) show lt in
-      let b = r.begins in
-      let l = ltb-true (row_start (get_or rows (i - 1) 0)) page (point.0 (i - 1) 0 (omega arith) (omega arith)) in omega arith;
-}
-
 starts_up : (rows : List ℕ) (kinds : ℕ → Option Kind) (i n : ℕ) → ShowFrom 0 rows kinds
     → rows_start (drop i rows) ≤ rows_start (drop (i + n) rows)
 starts_up rows kinds i zero show =
@@ -283,11 +264,6 @@ more_before rows kinds from to next stop show ordered low high = elim (cases_lt 
 -- before page 0 no row starts
 pub none_before : (rows : List ℕ) → StartBefore rows 0 0
 none_before rows = record { there = omega arith; ahead = omega arith; behind = λ l. absurd (omega arith) }
-
--- a row starts before each page behind page 0
-pub some_before : (rows : List ℕ) (kinds : ℕ → Option Kind) (page i : ℕ) → ShowFrom 0 rows kinds → StartBefore rows page i → 0 < page → 0 < i
-some_before rows kinds page zero show before more = let f = (first_row rows kinds show).1 in let a = before.ahead in absurd (omega arith)
-some_before rows kinds page (suc i) show before more = omega arith
 
 -- where no row starts before a page, no page lies before the first row
 pub none_from : (rows : List ℕ) (kinds : ℕ → Option Kind) (i p : ℕ) → ShowFrom 0 rows kinds → i ≡ 0 → p < rows_start (drop i rows) → ⊥

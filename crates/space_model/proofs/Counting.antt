@@ -33,10 +33,6 @@ sum_split_to (suc m) s n (suc k) f e =
     ap (λ x. f s + x) b ∙ sym (add_assoc (f s) (sum_from (suc s) m f) (sum_from (suc s + m) n f)) ∙
     ap (λ x. (f s + sum_from (suc s) m f) + sum_from x n f) a
 
--- a sum over m + n pages is one over the first m and one over the n behind them
-pub sum_split : (s m n : ℕ) (f : ℕ → ℕ) → sum_from s (m + n) f ≡ sum_from s m f + sum_from (s + m) n f
-sum_split s m n f = sum_split_to m s n (m + n) f refl
-
 -- a sum of zeros is 0
 pub sum_zeros : (n s : ℕ) (f : ℕ → ℕ) → ((p : ℕ) → s ≤ p → p < s + n → f p ≡ 0) → sum_from s n f ≡ 0
 unfolding sum_from

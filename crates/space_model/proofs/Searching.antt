@@ -42,10 +42,6 @@ pub mapped_inside : (A : List Area) (a : Area) (left : List Area) (from p : ℕ)
     Remains A (a ∷ left) from → from ≤ p → a.lo ≤ p → p < a.hi → kind_at A p ≡ Some a.kind
 mapped_inside A a left from p r l low high = sym (r.kinds p l) ∙ kind_at-here a left p low high
 
--- where no area is left, no page from there on is mapped
-pub free_last : (A : List Area) (from p : ℕ) → Remains A [] from → from ≤ p → kind_at A p ≡ None
-free_last A from p r l = sym (r.kinds p l)
-
 -- the first of the areas that are left ends above a page
 abbrev pub EndsAbove : ℕ → List Area → Type 0
 EndsAbove page [] = Unit {0}
@@ -125,39 +121,6 @@ end_none A left sort lo hi at o so l =
       such = λ below. absurd (omega arith);
       none_below = λ p low high. so.none p low (omega arith);
     }
-
--- where no area is left, the pages from there on are free
-pub end_free : (A : List Area) (sort : Sort) (lo hi at : ℕ) → lo ≤ hi → NoneSoFar A [] sort lo at → is_sort sort None ≡ true →
-    IsEnd (kind_at A) sort lo hi (min at hi)
-end_free A sort lo hi at o so is =
-    record {
-      from = omega (arith, so.above);
-      within = omega arith;
-      such = λ l.
-          let here : min at hi ≡ at = omega arith in
-          ap (λ p. is_sort sort (kind_at A p)) here ∙ ap (is_sort sort) (free_last A at at so.remains (omega arith)) ∙ is;
-      none_below = λ p low high. so.none p low (omega arith);
-    }
-
--- and where free pages aren't of the sort, the search ends at `hi`
-pub end_last : (A : List Area) (sort : Sort) (lo hi at : ℕ) → lo ≤ hi → NoneSoFar A [] sort lo at → is_sort sort None ≡ false →
-    IsEnd (kind_at A) sort lo hi hi
-end_last A sort lo hi at o so not =
-    record {
-      from = o;
-      within = omega arith;
-      such = λ below. absurd (omega arith);
-      none_below = λ p low high.
-          elim (cases_lt p at) [
-            | inl lt ↦ so.none p low lt
-            | inr ge ↦ ap (is_sort sort) (free_last A at p so.remains ge) ∙ not
-          ];
-    }
-
--- the same, at an index of the areas that are left
-pub remains_left : (A left : List Area) (i from : ℕ) → i < length left → Remains A (drop i left) from →
-    Remains A (get_or left i no_area ∷ drop (i + 1) left) from
-remains_left A left i from l r = subst (λ more. Remains A more from) (drop_at left i l) r
 
 -- the same, where no page so far is of a sort
 pub none_left : (A left : List Area) (sort : Sort) (i from at : ℕ) → i < length left → NoneSoFar A (drop i left) sort from at →

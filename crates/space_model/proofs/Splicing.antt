@@ -252,13 +252,6 @@ end_of-last (a ∷ rest) o e =
     subst (λ x. MatchOption x (end_of 0 (a ∷ rest) ≡ 0) (λ b. end_of 0 (a ∷ rest) ≡ b.hi)) (sym (e ∙ at))
     (end_of-at 0 (a ∷ rest) i (omega arith))
 
--- and it starts where its first area starts
-pub start_of-first : (A : List Area) (o : Option Area) → o ≡ slice_get A 0 →
-    MatchOption o (start_of A ≡ LIMIT) (λ a. start_of A ≡ a.lo)
-start_of-first [] o e = subst (λ x. MatchOption x (start_of [] ≡ LIMIT) (λ a. start_of [] ≡ a.lo)) (sym e) refl
-start_of-first (a ∷ rest) o e =
-    subst (λ x. MatchOption x (start_of (a ∷ rest) ≡ LIMIT) (λ b. start_of (a ∷ rest) ≡ b.lo)) (sym e) refl
-
 -- the list with the middle built anew is a splice of the old one
 splice_is : (A front touched back N : List Area) (first end : ℕ) → A ≡ front ++ (touched ++ back) → first ≡ length front →
     end ≡ length front + length touched → splice A first end N ≡ front ++ (N ++ back)

@@ -341,10 +341,24 @@ module _ (before after : List ToucherView) (entries : List Entry) (areas : List 
 
 -- ---- a whole trace
 
-module _ (space : TableId) (start : List Area) (lists : List (List Line)) (workers : List WorkerView)
-    (new : AreNewWorkers space start lists workers) (touches : TableId) (quotas : List ℕ)
-    (are : quotas ≡ map worker_faults workers) (before : List ToucherView)
-    (is : before ≡ seated workers (map (new_seat touches) quotas)) where
+-- each of the new workers has a new seat for its faults
+pub record Staged (space : TableId) (start : List Area) (lists : List (List Line)) (workers : List WorkerView) (touches : TableId) (quotas : List ℕ)
+    (before : List ToucherView) : Type 0 where
+  pub new : AreNewWorkers space start lists workers
+  pub are : quotas ≡ map worker_faults workers
+  pub is : before ≡ seated workers (map (new_seat touches) quotas)
+
+module _ {space : TableId} {start : List Area} {lists : List (List Line)} {workers : List WorkerView} {touches : TableId} {quotas : List ℕ}
+    {before : List ToucherView} (staged : Staged space start lists workers touches quotas before) where
+  new : AreNewWorkers space start lists workers
+  new = staged.new
+
+  are : quotas ≡ map worker_faults workers
+  are = staged.are
+
+  is : before ≡ seated workers (map (new_seat touches) quotas)
+  is = staged.is
+
   seats_count : length (map (new_seat touches) quotas) ≡ length workers
   seats_count = length-map quotas (new_seat touches) ∙ (ap length are ∙ length-map workers worker_faults)
 

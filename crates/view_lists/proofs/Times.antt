@@ -20,31 +20,12 @@ any_times node (y ∷ ys) = split (y == node) (any_times node ys)
     split true e = grind (arith, nat_tests)
     split false e = e ∙ ap (λ n. not (n == 0)) (sym (zero-add (times node ys)))
 
--- two lists joined, without a third, are each without it, joined
-pub without-append : (hs ls bs : List ℕ) → without hs (ls ++ bs) ≡ without hs ls ++ without hs bs
-without-append hs [] bs = refl
-without-append hs (y ∷ ys) bs = split (times y hs == 0) (without-append hs ys bs)
-  where
-    split : (b : Bool) → without hs (ys ++ bs) ≡ without hs ys ++ without hs bs
-        → (if b then y ∷ without hs (ys ++ bs) else without hs (ys ++ bs)) ≡ (if b then y ∷ without hs ys else without hs ys)
-        ++ without hs bs
-    split true e = ap (λ l. y ∷ l) e
-    split false e = e
-
 -- a node that stands at a place is counted
 pub place_counts : (l : List ℕ) (i node : ℕ) → slice_get l i ≡ Some node → 1 ≤ times node l
 place_counts [] i node e = absurd (cc)
 place_counts (y ∷ ys) zero node e =
     let one : ◌≡◌ {A = ℕ} (if y == node then 1 else 0) 1 = ap (λ (b : Bool). if b then 1 else 0) (eq-eqb y node cc) in omega arith
 place_counts (y ∷ ys) (suc i) node e = let more = place_counts ys i node e in omega arith
-
--- the test of a list for a node that is counted
-pub counted_there : (n : ℕ) → 1 ≤ n → true ≡ not (n == 0)
-counted_there n e = by (n == 0) refl
-  where
-    by : (b : Bool) → (n == 0) ≡ b → true ≡ not b
-    by true z = let none = eqb-true n 0 z in absurd (omega arith)
-    by false z = refl
 
 counted_in : (front l : List ℕ) (node : ℕ) → 1 ≤ times node (front ++ node ∷ l)
 counted_in [] l node =

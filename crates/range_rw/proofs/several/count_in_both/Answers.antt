@@ -5,9 +5,39 @@ use Rattle.epoch_pools.specs.declared.views.SeatPart.{SeatPart}
 use Rattle.epoch_pools.specs.declared.views.Standing.TheVariants.{Narrow}
 use Rattle.epoch_pools.specs.Hands.{IsResting}
 use Rattle.epoch_pools.specs.Standings.{is_counted}
-use Rattle.range_rw.proofs.Moves.{both_list, both_lists, both_other, both_too, both_count, both_later, both_only, both_alone, both_counts, both_ready}
+use Rattle.range_rw.proofs.Moves.{Crossing, Return, both_list, both_lists, both_other, both_too, both_count, both_later, both_only, both_alone, both_counts, both_ready}
 use Rattle.range_rw.proofs.Moves.{holds_on, narrow_beside, narrow_back, some_held, look_shows}
+use Rattle.range_rw.proofs.several.count_in_both.Given.{Over}
+use Rattle.range_rw.proofs.several.count_in_both.Goals.{After-turn, After-turn-in-Ok}
 use Rattle.range_rw.proofs.several.count_in_both.Goals as goal
+
+-- the range is linked in list 0 too, and the hand is turned back
+over : (g : Over) (c : After-turn g) → Crossing c.args.at 0 (record { range = c.args.range; mode = c.args.mode }) c.args.hand.now.part
+    c.link_piece.new.hand.part c.turn.new.self.part
+over g c = record {
+  differ = λ e. let a = c.requires.several.0 in omega arith;
+  holds = c.requires.holds;
+  link = c.link_piece.ensures.piece;
+  standing = c.link_piece.ensures.standing;
+  held = c.in-Ok.ensures.held;
+  turn = c.turn.ensures.part;
+  stays = c.turn.ensures.stays;
+}
+
+-- it counts, that node is given back, and the hand is turned back once more
+after : (g : Over) (c : After-turn-in-Ok g) → Return c.args.at 0 c.turn.new.self.part (Narrow c.turn.new.self.part.pass.list)
+    c.count_held.new.hand.part c.give_piece.new.hand.part c.turn-in-Ok.new.self.part
+after g c = record {
+  look = c.count_held.ensures.part;
+  give = c.give_piece.ensures.piece;
+  standing = c.give_piece.ensures.standing;
+  free = c.give_piece.ensures.free;
+  back = narrow_back c.turn.new.self.part.pass.list 0
+      (λ e. let l = ap (λ (x : SeatPart _). x.pass.list) c.turn.ensures.part in let a = c.requires.several.0 in omega arith);
+  turn = c.turn-in-Ok.ensures.part;
+  stays = c.turn-in-Ok.ensures.stays;
+  rests = c.turn-in-Ok.ensures.rests;
+}
 
 -- there is that list
 pub link_piece-requires-clause-there : goal.link_piece-requires-clause-there
@@ -32,23 +62,17 @@ turn-requires-clause-resting g c = c.link_piece.ensures.piece.rests
 
 -- a narrow range of which nothing counts yet may be counted
 pub count_held-requires-clause-may : goal.count_held-requires-clause-may
-count_held-requires-clause-may g c = both_count c.args.at 0 (record { range = c.args.range; mode = c.args.mode }) c.args.hand.now.part
-    c.link_piece.new.hand.part c.turn.new.self.part (λ e. let a = c.requires.several.0 in omega arith) c.requires.holds
-    c.link_piece.ensures.piece c.link_piece.ensures.standing c.in-Ok.ensures.held c.turn.ensures.part c.turn.ensures.stays
-    c.args.list.now.cut (let a = c.requires.several.0 in let b = c.requires.several.1 in omega arith) c.requires.free c.requires.takes
+count_held-requires-clause-may g c = both_count (over g (goal.at.count_held-requires-clause-may g c).After-turn) c.args.list.now.cut (let a = c.requires.several.0 in let b = c.requires.several.1 in omega arith)
+    c.requires.free c.requires.takes
 
 -- and it is held in list 0 too
 pub count_held-requires-clause-too : goal.count_held-requires-clause-too
-count_held-requires-clause-too g c = both_too c.args.at 0 (record { range = c.args.range; mode = c.args.mode }) c.args.hand.now.part
-    c.link_piece.new.hand.part c.turn.new.self.part (λ e. let a = c.requires.several.0 in omega arith) c.requires.holds
-    c.link_piece.ensures.piece c.link_piece.ensures.standing c.in-Ok.ensures.held c.turn.ensures.part c.turn.ensures.stays
+count_held-requires-clause-too g c = both_too (over g (goal.at.count_held-requires-clause-too g c).After-turn)
 
 -- there is the list in which the node is given back
 pub give_piece-requires-clause-there : goal.give_piece-requires-clause-there
 give_piece-requires-clause-there g c =
-    let e = ap (λ (x : SeatPart _). x.pass.lists) c.count_held.ensures.part ∙ both_lists c.args.at 0 (record { range = c.args.range; mode = c.args.mode })
-    c.args.hand.now.part c.link_piece.new.hand.part c.turn.new.self.part (λ e. let a = c.requires.several.0 in omega arith) c.requires.holds
-    c.link_piece.ensures.piece c.link_piece.ensures.standing c.in-Ok.ensures.held c.turn.ensures.part c.turn.ensures.stays in
+    let e = ap (λ (x : SeatPart _). x.pass.lists) c.count_held.ensures.part ∙ both_lists (over g (goal.at.give_piece-requires-clause-there g c).After-turn) in
     let a = c.requires.several.1 in omega arith
 
 -- the hand rests where it is turned
@@ -58,38 +82,23 @@ give_piece-requires-clause-resting g c = subst (λ (x : SeatPart _). IsResting x
 -- the other list holds the range
 pub give_piece-requires-clause-holds : goal.give_piece-requires-clause-holds
 give_piece-requires-clause-holds g c = some_held
-    (ap (λ (v : View). held_at v.own) (look_shows c.turn.new.self.part c.count_held.new.hand.part _ c.count_held.ensures.part 0) ∙ both_other c.args.at 0
-    (record { range = c.args.range; mode = c.args.mode }) c.args.hand.now.part c.link_piece.new.hand.part c.turn.new.self.part (λ e. let a =
-    c.requires.several.0 in omega arith) c.requires.holds
-    c.link_piece.ensures.piece c.link_piece.ensures.standing c.in-Ok.ensures.held c.turn.ensures.part c.turn.ensures.stays)
+    (ap (λ (v : View). held_at v.own) (look_shows c.turn.new.self.part c.count_held.new.hand.part _ c.count_held.ensures.part 0)
+    ∙ both_other (over g (goal.at.give_piece-requires-clause-holds g c).After-turn))
 
 -- and it doesn't count through that list
 pub give_piece-requires-clause-beside : goal.give_piece-requires-clause-beside
 give_piece-requires-clause-beside g c =
-    (λ i. is_counted ((ap (λ (x : SeatPart _). x.pass.lists) c.count_held.ensures.part ∙ both_lists c.args.at 0 (record {
-      range = c.args.range;
-      mode =
-          c.args.mode;
-    }) c.args.hand.now.part c.link_piece.new.hand.part c.turn.new.self.part (λ e. let a = c.requires.several.0 in omega arith) c.requires.holds
-    c.link_piece.ensures.piece c.link_piece.ensures.standing c.in-Ok.ensures.held c.turn.ensures.part c.turn.ensures.stays) i)
-    ((ap (λ (x : SeatPart _). x.pass.standing) c.count_held.ensures.part ∙ ap Narrow (both_list c.args.at 0 (record {
-      range = c.args.range;
-      mode =
-          c.args.mode;
-    }) c.args.hand.now.part c.link_piece.new.hand.part c.turn.new.self.part (λ e. let a = c.requires.several.0 in omega arith) c.requires.holds
-    c.link_piece.ensures.piece c.link_piece.ensures.standing c.in-Ok.ensures.held c.turn.ensures.part c.turn.ensures.stays)) i) 0)
+    let way = over g (goal.at.give_piece-requires-clause-beside g c).After-turn in
+    (λ i. is_counted ((ap (λ (x : SeatPart _). x.pass.lists) c.count_held.ensures.part ∙ both_lists way) i)
+    ((ap (λ (x : SeatPart _). x.pass.standing) c.count_held.ensures.part ∙ ap Narrow (both_list way)) i) 0)
     ∙ narrow_beside c.args.hand.now.part.pass.lists c.args.at 0 (λ e. let a = c.requires.several.0 in let b = c.requires.several.1 in omega arith)
     (λ e. let a = c.requires.several.0 in omega arith)
 
 -- the hand turns back
 pub turn-requires-in-Ok-clause-there : goal.turn-requires-in-Ok-clause-there
 turn-requires-in-Ok-clause-there g c =
-    let e = c.give_piece.ensures.piece.later.lists ∙ (ap (λ (x : SeatPart _). x.pass.lists) c.count_held.ensures.part ∙ both_lists c.args.at 0 (record {
-      range = c.args.range;
-      mode = c.args.mode;
-    }) c.args.hand.now.part c.link_piece.new.hand.part c.turn.new.self.part (λ e. let a = c.requires.several.0 in
-    omega arith) c.requires.holds
-    c.link_piece.ensures.piece c.link_piece.ensures.standing c.in-Ok.ensures.held c.turn.ensures.part c.turn.ensures.stays) in
+    let e = c.give_piece.ensures.piece.later.lists ∙ (ap (λ (x : SeatPart _). x.pass.lists) c.count_held.ensures.part
+    ∙ both_lists (over g (goal.at.turn-requires-in-Ok-clause-there g c).After-turn)) in
     let a = c.requires.several.1 in omega arith
 
 -- from one in which it rests
@@ -98,92 +107,25 @@ turn-requires-in-Ok-clause-resting g c = c.give_piece.ensures.piece.rests
 
 -- the seat is the same
 pub returns-in-Ok-clause-later : goal.returns-in-Ok-clause-later
-returns-in-Ok-clause-later g c = both_later c.args.at 0 (record { range = c.args.range; mode = c.args.mode }) c.args.hand.now.part
-    c.link_piece.new.hand.part c.turn.new.self.part (λ e. let a = c.requires.several.0 in omega arith) c.requires.holds
-    c.link_piece.ensures.piece c.link_piece.ensures.standing c.in-Ok.ensures.held c.turn.ensures.part c.turn.ensures.stays (Narrow
-    c.turn.new.self.part.pass.list)
-    c.count_held.new.hand.part c.give_piece.new.hand.part c.turn-in-Ok.new.self.part c.count_held.ensures.part c.give_piece.ensures.piece
-    c.give_piece.ensures.standing
-    c.give_piece.ensures.free (narrow_back c.turn.new.self.part.pass.list 0 (λ e. let l = both_list c.args.at 0 (record {
-      range = c.args.range;
-      mode =
-          c.args.mode;
-    }) c.args.hand.now.part c.link_piece.new.hand.part c.turn.new.self.part (λ e. let a = c.requires.several.0 in omega arith) c.requires.holds
-    c.link_piece.ensures.piece c.link_piece.ensures.standing c.in-Ok.ensures.held c.turn.ensures.part c.turn.ensures.stays in let a = c.requires.several.0
-    in omega arith))
-    c.turn-in-Ok.ensures.part c.turn-in-Ok.ensures.stays c.turn-in-Ok.ensures.rests
+returns-in-Ok-clause-later g c = both_later (over g (goal.at.returns-in-Ok-clause-later g c).After-turn) (after g c)
 
 -- it holds the range where it held it, alone
 pub returns-in-Ok-clause-held : goal.returns-in-Ok-clause-held
-returns-in-Ok-clause-held g c = both_alone c.args.at 0 (record { range = c.args.range; mode = c.args.mode }) c.args.hand.now.part
-    c.link_piece.new.hand.part c.turn.new.self.part (λ e. let a = c.requires.several.0 in omega arith) c.requires.holds
-    c.link_piece.ensures.piece c.link_piece.ensures.standing c.in-Ok.ensures.held c.turn.ensures.part c.turn.ensures.stays (Narrow
-    c.turn.new.self.part.pass.list)
-    c.count_held.new.hand.part c.give_piece.new.hand.part c.turn-in-Ok.new.self.part c.count_held.ensures.part c.give_piece.ensures.piece
-    c.give_piece.ensures.standing
-    c.give_piece.ensures.free (narrow_back c.turn.new.self.part.pass.list 0 (λ e. let l = both_list c.args.at 0 (record {
-      range = c.args.range;
-      mode =
-          c.args.mode;
-    }) c.args.hand.now.part c.link_piece.new.hand.part c.turn.new.self.part (λ e. let a = c.requires.several.0 in omega arith) c.requires.holds
-    c.link_piece.ensures.piece c.link_piece.ensures.standing c.in-Ok.ensures.held c.turn.ensures.part c.turn.ensures.stays in let a = c.requires.several.0
-    in omega arith))
-    c.turn-in-Ok.ensures.part c.turn-in-Ok.ensures.stays c.turn-in-Ok.ensures.rests
+returns-in-Ok-clause-held g c = both_alone (over g (goal.at.returns-in-Ok-clause-held g c).After-turn) (after g c)
 
 -- and it counts
 pub returns-in-Ok-clause-counts : goal.returns-in-Ok-clause-counts
-returns-in-Ok-clause-counts g c = both_counts c.args.at 0 (record { range = c.args.range; mode = c.args.mode }) c.args.hand.now.part
-    c.link_piece.new.hand.part c.turn.new.self.part (λ e. let a = c.requires.several.0 in omega arith) c.requires.holds
-    c.link_piece.ensures.piece c.link_piece.ensures.standing c.in-Ok.ensures.held c.turn.ensures.part c.turn.ensures.stays (Narrow
-    c.turn.new.self.part.pass.list)
-    c.count_held.new.hand.part c.give_piece.new.hand.part c.turn-in-Ok.new.self.part c.count_held.ensures.part c.give_piece.ensures.piece
-    c.give_piece.ensures.standing
-    c.give_piece.ensures.free (narrow_back c.turn.new.self.part.pass.list 0 (λ e. let l = both_list c.args.at 0 (record {
-      range = c.args.range;
-      mode =
-          c.args.mode;
-    }) c.args.hand.now.part c.link_piece.new.hand.part c.turn.new.self.part (λ e. let a = c.requires.several.0 in omega arith) c.requires.holds
-    c.link_piece.ensures.piece c.link_piece.ensures.standing c.in-Ok.ensures.held c.turn.ensures.part c.turn.ensures.stays in let a = c.requires.several.0
-    in omega arith))
-    c.turn-in-Ok.ensures.part c.turn-in-Ok.ensures.stays c.turn-in-Ok.ensures.rests
-    ∙ ap Narrow (both_list c.args.at 0 (record { range = c.args.range; mode = c.args.mode }) c.args.hand.now.part c.link_piece.new.hand.part
-    c.turn.new.self.part (λ e. let a = c.requires.several.0 in omega arith) c.requires.holds
-    c.link_piece.ensures.piece c.link_piece.ensures.standing c.in-Ok.ensures.held c.turn.ensures.part c.turn.ensures.stays)
+returns-in-Ok-clause-counts g c =
+    let way = over g (goal.at.returns-in-Ok-clause-counts g c).After-turn in both_counts way (after g c) ∙ ap Narrow (both_list way)
 
 -- the ready nodes of the other list are those that the link left
 pub returns-in-Ok-clause-ready : goal.returns-in-Ok-clause-ready
-returns-in-Ok-clause-ready g c = both_ready c.args.at 0 (record { range = c.args.range; mode = c.args.mode }) c.args.hand.now.part
-    c.link_piece.new.hand.part c.turn.new.self.part (λ e. let a = c.requires.several.0 in omega arith) c.requires.holds
-    c.link_piece.ensures.piece c.link_piece.ensures.standing c.in-Ok.ensures.held c.turn.ensures.part c.turn.ensures.stays (Narrow
-    c.turn.new.self.part.pass.list)
-    c.count_held.new.hand.part c.give_piece.new.hand.part c.turn-in-Ok.new.self.part c.count_held.ensures.part c.give_piece.ensures.piece
-    c.give_piece.ensures.standing
-    c.give_piece.ensures.free (narrow_back c.turn.new.self.part.pass.list 0 (λ e. let l = both_list c.args.at 0 (record {
-      range = c.args.range;
-      mode =
-          c.args.mode;
-    }) c.args.hand.now.part c.link_piece.new.hand.part c.turn.new.self.part (λ e. let a = c.requires.several.0 in omega arith) c.requires.holds
-    c.link_piece.ensures.piece c.link_piece.ensures.standing c.in-Ok.ensures.held c.turn.ensures.part c.turn.ensures.stays in let a = c.requires.several.0
-    in omega arith))
-    c.turn-in-Ok.ensures.part c.turn-in-Ok.ensures.stays c.turn-in-Ok.ensures.rests
+returns-in-Ok-clause-ready g c = both_ready (over g (goal.at.returns-in-Ok-clause-ready g c).After-turn) (after g c)
     c.give_piece.ensures.ready c.link_piece.ensures.ready
 
 -- each other list is as it was
 pub returns-in-Ok-clause-only : goal.returns-in-Ok-clause-only
-returns-in-Ok-clause-only g c = both_only c.args.at 0 (record { range = c.args.range; mode = c.args.mode }) c.args.hand.now.part c.link_piece.new.hand.part
-    c.turn.new.self.part (λ e. let a = c.requires.several.0 in omega arith) c.requires.holds
-    c.link_piece.ensures.piece c.link_piece.ensures.standing c.in-Ok.ensures.held c.turn.ensures.part c.turn.ensures.stays (Narrow
-    c.turn.new.self.part.pass.list)
-    c.count_held.new.hand.part c.give_piece.new.hand.part c.turn-in-Ok.new.self.part c.count_held.ensures.part c.give_piece.ensures.piece
-    c.give_piece.ensures.standing
-    c.give_piece.ensures.free (narrow_back c.turn.new.self.part.pass.list 0 (λ e. let l = both_list c.args.at 0 (record {
-      range = c.args.range;
-      mode =
-          c.args.mode;
-    }) c.args.hand.now.part c.link_piece.new.hand.part c.turn.new.self.part (λ e. let a = c.requires.several.0 in omega arith) c.requires.holds
-    c.link_piece.ensures.piece c.link_piece.ensures.standing c.in-Ok.ensures.held c.turn.ensures.part c.turn.ensures.stays in let a = c.requires.several.0
-    in omega arith))
-    c.turn-in-Ok.ensures.part c.turn-in-Ok.ensures.stays c.turn-in-Ok.ensures.rests
+returns-in-Ok-clause-only g c = both_only (over g (goal.at.returns-in-Ok-clause-only g c).After-turn) (after g c)
 
 -- the steps of the link, the look and the release
 pub returns-in-Ok-clause-bound : goal.returns-in-Ok-clause-bound

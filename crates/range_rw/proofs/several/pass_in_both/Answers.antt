@@ -6,9 +6,38 @@ use Rattle.epoch_pools.specs.declared.views.Standing.TheVariants.{Wide}
 use Rattle.epoch_pools.specs.Hands.{IsResting}
 use Rattle.epoch_pools.specs.Standings.{is_counted}
 use Rattle.range_rw.proofs.Pieces.{own_at}
-use Rattle.range_rw.proofs.Moves.{both_own, both_list, both_lists, both_standing, both_other, both_too, both_later, both_only, both_alone, both_counts, both_ready}
+use Rattle.range_rw.proofs.Moves.{Crossing, Return, both_own, both_list, both_lists, both_standing, both_other, both_too, both_later, both_only, both_alone, both_counts, both_ready}
 use Rattle.range_rw.proofs.Moves.{holds_in, holds_on, wide_beside, wide_back, some_held, look_shows, pass_still}
+use Rattle.range_rw.proofs.several.pass_in_both.Given.{Over}
+use Rattle.range_rw.proofs.several.pass_in_both.Goals.{After-turn, After-turn-in-Ok}
 use Rattle.range_rw.proofs.several.pass_in_both.Goals as goal
+
+-- the range is linked in the other list too, and the hand is turned back
+over : (g : Over) (c : After-turn g) → Crossing 0 c.args.at (record { range = c.args.range; mode = c.args.mode }) c.args.hand.now.part
+    c.link_piece.new.hand.part c.turn.new.self.part
+over g c = record {
+  differ = λ e. let a = c.requires.list in omega arith;
+  holds = holds_in 0 (record { range = c.args.range; mode = c.args.mode }) c.args.hand.now.part c.requires.holds;
+  link = c.link_piece.ensures.piece;
+  standing = c.link_piece.ensures.standing;
+  held = c.in-Ok.ensures.held;
+  turn = c.turn.ensures.part;
+  stays = c.turn.ensures.stays;
+}
+
+-- it passes the list, that node is given back, and the hand is turned back once more
+after : (g : Over) (c : After-turn-in-Ok g) → Return 0 c.args.at c.turn.new.self.part (Wide c.args.up)
+    c.pass_held.new.hand.part c.give_piece.new.hand.part c.turn-in-Ok.new.self.part
+after g c = record {
+  look = c.pass_held.ensures.part;
+  give = c.give_piece.ensures.piece;
+  standing = c.give_piece.ensures.standing;
+  free = c.give_piece.ensures.free;
+  back = wide_back c.args.up c.args.at (λ e. let a = c.requires.list in omega arith);
+  turn = c.turn-in-Ok.ensures.part;
+  stays = c.turn-in-Ok.ensures.stays;
+  rests = c.turn-in-Ok.ensures.rests;
+}
 
 -- there is that list
 pub link_piece-requires-clause-there : goal.link_piece-requires-clause-there
@@ -33,43 +62,19 @@ turn-requires-clause-resting g c = c.link_piece.ensures.piece.rests
 
 -- the range may pass that list still
 pub pass_held-requires-clause-may : goal.pass_held-requires-clause-may
-pass_held-requires-clause-may g c = pass_still c.args.list.now.cut c.args.at c.args.up (record { range = c.args.range; mode = c.args.mode })
-    c.args.hand.now.part c.turn.new.self.part
-    c.requires.may (both_lists 0 c.args.at (record { range = c.args.range; mode = c.args.mode }) c.args.hand.now.part c.link_piece.new.hand.part
-    c.turn.new.self.part (λ e. let a = c.requires.list in omega arith) (holds_in 0 (record { range = c.args.range; mode = c.args.mode })
-    c.args.hand.now.part c.requires.holds)
-    c.link_piece.ensures.piece c.link_piece.ensures.standing c.in-Ok.ensures.held c.turn.ensures.part c.turn.ensures.stays) (both_list 0 c.args.at (record
-    { range = c.args.range; mode = c.args.mode }) c.args.hand.now.part c.link_piece.new.hand.part c.turn.new.self.part (λ e. let a = c.requires.list in
-    omega arith) (holds_in 0 (record { range = c.args.range; mode = c.args.mode }) c.args.hand.now.part c.requires.holds)
-    c.link_piece.ensures.piece c.link_piece.ensures.standing c.in-Ok.ensures.held c.turn.ensures.part c.turn.ensures.stays) (both_standing 0 c.args.at
-    (record { range = c.args.range; mode = c.args.mode }) c.args.hand.now.part c.link_piece.new.hand.part c.turn.new.self.part (λ e. let a =
-    c.requires.list in omega arith) (holds_in 0 (record { range = c.args.range; mode = c.args.mode }) c.args.hand.now.part c.requires.holds)
-    c.link_piece.ensures.piece c.link_piece.ensures.standing c.in-Ok.ensures.held c.turn.ensures.part c.turn.ensures.stays)
-    (both_own 0 c.args.at (record { range = c.args.range; mode = c.args.mode }) c.args.hand.now.part c.link_piece.new.hand.part c.turn.new.self.part (λ e.
-    let a = c.requires.list in omega arith) (holds_in 0 (record { range = c.args.range; mode = c.args.mode }) c.args.hand.now.part c.requires.holds)
-    c.link_piece.ensures.piece c.link_piece.ensures.standing c.in-Ok.ensures.held c.turn.ensures.part c.turn.ensures.stays ∙ own_at c.args.hand.now.part 0
-    c.requires.holds.turned)
+pass_held-requires-clause-may g c =
+    let way = over g (goal.at.pass_held-requires-clause-may g c).After-turn in
+    pass_still c.args.list.now.cut c.args.at c.args.up (record { range = c.args.range; mode = c.args.mode }) c.args.hand.now.part c.turn.new.self.part
+    c.requires.may (both_lists way) (both_list way) (both_standing way) (both_own way ∙ own_at c.args.hand.now.part 0 c.requires.holds.turned)
 
 -- and it is held there too
 pub pass_held-requires-clause-too : goal.pass_held-requires-clause-too
-pass_held-requires-clause-too g c = both_too 0 c.args.at (record { range = c.args.range; mode = c.args.mode }) c.args.hand.now.part
-    c.link_piece.new.hand.part c.turn.new.self.part (λ e. let a = c.requires.list in omega arith) (holds_in 0 (record {
-      range = c.args.range;
-      mode =
-          c.args.mode;
-    }) c.args.hand.now.part c.requires.holds)
-    c.link_piece.ensures.piece c.link_piece.ensures.standing c.in-Ok.ensures.held c.turn.ensures.part c.turn.ensures.stays
+pass_held-requires-clause-too g c = both_too (over g (goal.at.pass_held-requires-clause-too g c).After-turn)
 
 -- there is the list in which the node is given back
 pub give_piece-requires-clause-there : goal.give_piece-requires-clause-there
 give_piece-requires-clause-there g c =
-    let e = ap (λ (x : SeatPart _). x.pass.lists) c.pass_held.ensures.part ∙ both_lists 0 c.args.at (record { range = c.args.range; mode = c.args.mode })
-    c.args.hand.now.part c.link_piece.new.hand.part c.turn.new.self.part (λ e. let a = c.requires.list in omega arith) (holds_in 0 (record {
-      range =
-          c.args.range;
-      mode = c.args.mode;
-    }) c.args.hand.now.part c.requires.holds)
-    c.link_piece.ensures.piece c.link_piece.ensures.standing c.in-Ok.ensures.held c.turn.ensures.part c.turn.ensures.stays in
+    let e = ap (λ (x : SeatPart _). x.pass.lists) c.pass_held.ensures.part ∙ both_lists (over g (goal.at.give_piece-requires-clause-there g c).After-turn) in
     let a = c.requires.may.below in let b = c.requires.may.most in omega arith
 
 -- the hand rests where it is turned
@@ -79,23 +84,13 @@ give_piece-requires-clause-resting g c = subst (λ (x : SeatPart _). IsResting x
 -- the other list holds the range
 pub give_piece-requires-clause-holds : goal.give_piece-requires-clause-holds
 give_piece-requires-clause-holds g c = some_held
-    (ap (λ (v : View). held_at v.own) (look_shows c.turn.new.self.part c.pass_held.new.hand.part _ c.pass_held.ensures.part c.args.at) ∙ both_other 0
-    c.args.at (record { range = c.args.range; mode = c.args.mode }) c.args.hand.now.part c.link_piece.new.hand.part c.turn.new.self.part (λ e. let a =
-    c.requires.list in omega arith) (holds_in 0 (record { range = c.args.range; mode = c.args.mode }) c.args.hand.now.part c.requires.holds)
-    c.link_piece.ensures.piece c.link_piece.ensures.standing c.in-Ok.ensures.held c.turn.ensures.part c.turn.ensures.stays)
+    (ap (λ (v : View). held_at v.own) (look_shows c.turn.new.self.part c.pass_held.new.hand.part _ c.pass_held.ensures.part c.args.at)
+    ∙ both_other (over g (goal.at.give_piece-requires-clause-holds g c).After-turn))
 
 -- and it doesn't count through that list
 pub give_piece-requires-clause-beside : goal.give_piece-requires-clause-beside
 give_piece-requires-clause-beside g c =
-    (λ i. is_counted ((ap (λ (x : SeatPart _). x.pass.lists) c.pass_held.ensures.part ∙ both_lists 0 c.args.at (record {
-      range = c.args.range;
-      mode =
-          c.args.mode;
-    }) c.args.hand.now.part c.link_piece.new.hand.part c.turn.new.self.part (λ e. let a = c.requires.list in omega arith) (holds_in 0 (record {
-      range = c.args.range;
-      mode = c.args.mode;
-    }) c.args.hand.now.part c.requires.holds)
-    c.link_piece.ensures.piece c.link_piece.ensures.standing c.in-Ok.ensures.held c.turn.ensures.part c.turn.ensures.stays) i)
+    (λ i. is_counted ((ap (λ (x : SeatPart _). x.pass.lists) c.pass_held.ensures.part ∙ both_lists (over g (goal.at.give_piece-requires-clause-beside g c).After-turn)) i)
     ((ap (λ (x : SeatPart _). x.pass.standing) c.pass_held.ensures.part) i) c.args.at)
     ∙ wide_beside c.args.hand.now.part.pass.lists c.args.up c.args.at (λ e. let a = c.requires.may.several in omega arith)
     (λ e. let a = c.requires.list in omega arith)
@@ -103,12 +98,8 @@ give_piece-requires-clause-beside g c =
 -- the hand turns back
 pub turn-requires-in-Ok-clause-there : goal.turn-requires-in-Ok-clause-there
 turn-requires-in-Ok-clause-there g c =
-    let e = c.give_piece.ensures.piece.later.lists ∙ (ap (λ (x : SeatPart _). x.pass.lists) c.pass_held.ensures.part ∙ both_lists 0 c.args.at (record {
-      range = c.args.range;
-      mode = c.args.mode;
-    }) c.args.hand.now.part c.link_piece.new.hand.part c.turn.new.self.part (λ e. let a = c.requires.list in omega
-    arith) (holds_in 0 (record { range = c.args.range; mode = c.args.mode }) c.args.hand.now.part c.requires.holds)
-    c.link_piece.ensures.piece c.link_piece.ensures.standing c.in-Ok.ensures.held c.turn.ensures.part c.turn.ensures.stays) in
+    let e = c.give_piece.ensures.piece.later.lists ∙ (ap (λ (x : SeatPart _). x.pass.lists) c.pass_held.ensures.part
+    ∙ both_lists (over g (goal.at.turn-requires-in-Ok-clause-there g c).After-turn)) in
     let a = c.requires.may.several in omega arith
 
 -- from one in which it rests
@@ -117,71 +108,24 @@ turn-requires-in-Ok-clause-resting g c = c.give_piece.ensures.piece.rests
 
 -- the seat is the same
 pub returns-in-Ok-clause-later : goal.returns-in-Ok-clause-later
-returns-in-Ok-clause-later g c = both_later 0 c.args.at (record { range = c.args.range; mode = c.args.mode }) c.args.hand.now.part
-    c.link_piece.new.hand.part c.turn.new.self.part (λ e. let a = c.requires.list in omega arith) (holds_in 0 (record {
-      range = c.args.range;
-      mode =
-          c.args.mode;
-    }) c.args.hand.now.part c.requires.holds)
-    c.link_piece.ensures.piece c.link_piece.ensures.standing c.in-Ok.ensures.held c.turn.ensures.part c.turn.ensures.stays (Wide c.args.up)
-    c.pass_held.new.hand.part c.give_piece.new.hand.part c.turn-in-Ok.new.self.part c.pass_held.ensures.part c.give_piece.ensures.piece
-    c.give_piece.ensures.standing
-    c.give_piece.ensures.free (wide_back c.args.up c.args.at (λ e. let a = c.requires.list in omega arith))
-    c.turn-in-Ok.ensures.part c.turn-in-Ok.ensures.stays c.turn-in-Ok.ensures.rests
+returns-in-Ok-clause-later g c = both_later (over g (goal.at.returns-in-Ok-clause-later g c).After-turn) (after g c)
 
 -- it holds the range where it held it, alone
 pub returns-in-Ok-clause-held : goal.returns-in-Ok-clause-held
-returns-in-Ok-clause-held g c = both_alone 0 c.args.at (record { range = c.args.range; mode = c.args.mode }) c.args.hand.now.part
-    c.link_piece.new.hand.part c.turn.new.self.part (λ e. let a = c.requires.list in omega arith) (holds_in 0 (record {
-      range = c.args.range;
-      mode =
-          c.args.mode;
-    }) c.args.hand.now.part c.requires.holds)
-    c.link_piece.ensures.piece c.link_piece.ensures.standing c.in-Ok.ensures.held c.turn.ensures.part c.turn.ensures.stays (Wide c.args.up)
-    c.pass_held.new.hand.part c.give_piece.new.hand.part c.turn-in-Ok.new.self.part c.pass_held.ensures.part c.give_piece.ensures.piece
-    c.give_piece.ensures.standing
-    c.give_piece.ensures.free (wide_back c.args.up c.args.at (λ e. let a = c.requires.list in omega arith))
-    c.turn-in-Ok.ensures.part c.turn-in-Ok.ensures.stays c.turn-in-Ok.ensures.rests
+returns-in-Ok-clause-held g c = both_alone (over g (goal.at.returns-in-Ok-clause-held g c).After-turn) (after g c)
 
 -- and it has passed that list
 pub returns-in-Ok-clause-passed : goal.returns-in-Ok-clause-passed
-returns-in-Ok-clause-passed g c = both_counts 0 c.args.at (record { range = c.args.range; mode = c.args.mode }) c.args.hand.now.part
-    c.link_piece.new.hand.part c.turn.new.self.part (λ e. let a = c.requires.list in omega arith) (holds_in 0 (record {
-      range = c.args.range;
-      mode =
-          c.args.mode;
-    }) c.args.hand.now.part c.requires.holds)
-    c.link_piece.ensures.piece c.link_piece.ensures.standing c.in-Ok.ensures.held c.turn.ensures.part c.turn.ensures.stays (Wide c.args.up)
-    c.pass_held.new.hand.part c.give_piece.new.hand.part c.turn-in-Ok.new.self.part c.pass_held.ensures.part c.give_piece.ensures.piece
-    c.give_piece.ensures.standing
-    c.give_piece.ensures.free (wide_back c.args.up c.args.at (λ e. let a = c.requires.list in omega arith))
-    c.turn-in-Ok.ensures.part c.turn-in-Ok.ensures.stays c.turn-in-Ok.ensures.rests
+returns-in-Ok-clause-passed g c = both_counts (over g (goal.at.returns-in-Ok-clause-passed g c).After-turn) (after g c)
 
 -- the ready nodes of the other list are those that the link left
 pub returns-in-Ok-clause-ready : goal.returns-in-Ok-clause-ready
-returns-in-Ok-clause-ready g c = both_ready 0 c.args.at (record { range = c.args.range; mode = c.args.mode }) c.args.hand.now.part
-    c.link_piece.new.hand.part c.turn.new.self.part (λ e. let a = c.requires.list in omega arith) (holds_in 0 (record {
-      range = c.args.range;
-      mode =
-          c.args.mode;
-    }) c.args.hand.now.part c.requires.holds)
-    c.link_piece.ensures.piece c.link_piece.ensures.standing c.in-Ok.ensures.held c.turn.ensures.part c.turn.ensures.stays (Wide c.args.up)
-    c.pass_held.new.hand.part c.give_piece.new.hand.part c.turn-in-Ok.new.self.part c.pass_held.ensures.part c.give_piece.ensures.piece
-    c.give_piece.ensures.standing
-    c.give_piece.ensures.free (wide_back c.args.up c.args.at (λ e. let a = c.requires.list in omega arith))
-    c.turn-in-Ok.ensures.part c.turn-in-Ok.ensures.stays c.turn-in-Ok.ensures.rests
+returns-in-Ok-clause-ready g c = both_ready (over g (goal.at.returns-in-Ok-clause-ready g c).After-turn) (after g c)
     c.give_piece.ensures.ready c.link_piece.ensures.ready
 
 -- each other list is as it was
 pub returns-in-Ok-clause-only : goal.returns-in-Ok-clause-only
-returns-in-Ok-clause-only g c = both_only 0 c.args.at (record { range = c.args.range; mode = c.args.mode }) c.args.hand.now.part c.link_piece.new.hand.part
-    c.turn.new.self.part (λ e. let a = c.requires.list in omega arith) (holds_in 0 (record { range = c.args.range; mode = c.args.mode })
-    c.args.hand.now.part c.requires.holds)
-    c.link_piece.ensures.piece c.link_piece.ensures.standing c.in-Ok.ensures.held c.turn.ensures.part c.turn.ensures.stays (Wide c.args.up)
-    c.pass_held.new.hand.part c.give_piece.new.hand.part c.turn-in-Ok.new.self.part c.pass_held.ensures.part c.give_piece.ensures.piece
-    c.give_piece.ensures.standing
-    c.give_piece.ensures.free (wide_back c.args.up c.args.at (λ e. let a = c.requires.list in omega arith))
-    c.turn-in-Ok.ensures.part c.turn-in-Ok.ensures.stays c.turn-in-Ok.ensures.rests
+returns-in-Ok-clause-only g c = both_only (over g (goal.at.returns-in-Ok-clause-only g c).After-turn) (after g c)
 
 -- the steps of the link, the look and the release
 pub returns-in-Ok-clause-bound : goal.returns-in-Ok-clause-bound

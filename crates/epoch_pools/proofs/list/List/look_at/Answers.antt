@@ -39,17 +39,12 @@ pub invariant_of-token : goal.invariant_of-token
 invariant_of-token g c = (
   c.load.ensures.2.left.slots ∙ c.token.invariant.0,
   c.load.ensures.2.left.one,
-  seat_looked (g.G.Guard.first [] 0) g.D.Look.cut g.D.Look.lists g.D.Look.list g.D.Look.standing g.D.Look.too c.load.result c.token.inside.seat.me
-      c.load.new.seat.me
-      c.load.ensures.2 c.token.inside.number c.token.inside.seats c.token.inside.lists c.token.inside.list c.token.inside.first _ _ c.token.invariant.2
-      (ap (λ t. t.words) c.load.ensures.0),
+  seat_looked c.load.ensures.2 c.token.invariant.2 (ap (λ t. t.words) c.load.ensures.0),
 )
 
 -- what belongs to the seat has the standing of the look
 pub returns-clause-part : goal.returns-clause-part
-returns-clause-part g c = part_looked (g.G.Guard.first [] 0) g.D.Look.cut g.D.Look.lists g.D.Look.list g.D.Look.standing g.D.Look.too c.load.result
-    c.token.inside.seat.me c.load.new.seat.me c.load.ensures.2 c.token.inside.lists c.token.inside.list c.args.token.now.part
-    (ap (λ s. s.part) c.token.view_is) c.requires.lists.0 c.requires.lists.1
+returns-clause-part g c = part_looked c.load.ensures.2 (ap (λ s. s.part) c.token.view_is) c.requires.lists.0 c.requires.lists.1
 
 -- the table has as many lists as its cut
 pub returns-clause-lists : goal.returns-clause-lists

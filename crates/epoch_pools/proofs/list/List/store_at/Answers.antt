@@ -9,13 +9,9 @@ store-requires g c =
     let same = ap (λ s. s.table) c.token.view_is ∙ (c.requires.table ∙ sym (ap (λ s. s.table) shape)) in
     let part = ap (λ s. s.part) c.token.view_is in (
       same,
-      word_there (g.G.Guard.first [] 0) c.token.inside.seat.me.0.parts _ _ c.token.inside.number c.token.inside.seats c.token.inside.lists c.token.inside.list
-          c.token.inside.first c.args.word c.place_of-place.result c.args.token.now.part same c.token.invariant.2 part c.requires.place.1
-          c.place_of-place.ensures,
+      word_there (g.G.Guard.first [] 0) c.token.inside.seat.me.0.parts same c.token.invariant.2 part c.requires.place.1 c.place_of-place.ensures,
       token_puts (g.G.Guard.first [] 0) c.args.self.now.cut g.D.Doing.seats _ g.G.Guard.holds g.G.Guard.rested g.G.Guard.is_at_rest g.G.Guard.gains
-          g.G.Guard.loses _ _
-          (c.self.invariant.same_cut ∙ ap (λ s. s.cut) shape) (c.self.invariant.same_seats ∙ (ap (λ s. s.seats) shape ∙ sym c.requires.seats))
-          c.token.inside.number c.token.inside.seats c.token.inside.lists c.token.inside.list c.token.inside.first _ g.D.Doing.lists g.D.Doing.list
+          g.G.Guard.loses (c.self.invariant.same_cut ∙ ap (λ s. s.cut) shape) (c.self.invariant.same_seats ∙ (ap (λ s. s.seats) shape ∙ sym c.requires.seats))
           g.D.Doing.doing _ _ c.place_of-place.result c.args.word c.args.value c.token.inside.seat.me c.args.token.now.part c.token.invariant.1
           c.token.invariant.2 part
           c.requires.lists.0 c.requires.lists.1 c.requires.enabled c.requires.rest c.requires.place.0 c.requires.place.1 c.place_of-place.ensures
@@ -27,20 +23,13 @@ pub invariant_of-token : goal.invariant_of-token
 invariant_of-token g c = (
   c.store.ensures.2.1.left.slots ∙ c.token.invariant.0,
   c.store.ensures.2.1.left.one,
-  seat_played (g.G.Guard.first [] 0) g.G.Guard.rested g.D.Doing.lists g.D.Doing.list g.D.Doing.seats g.D.Doing.doing c.store.ensures.2.0 c.token.inside.seat.me
-      c.store.new.seat.me c.store.ensures.2.1
-      c.token.inside.number c.token.inside.seats c.token.inside.lists c.token.inside.list c.token.inside.first _ _ c.token.invariant.2
-      (ap (λ t. t.words) c.store.ensures.0),
+  seat_played c.store.ensures.2.1 c.token.invariant.2 (ap (λ t. t.words) c.store.ensures.0),
 )
 
 -- what belongs to the seat is that of the step's line, and what the step says
 pub returns-clause-made : goal.returns-clause-made
 returns-clause-made g c = (
   c.store.ensures.2.0,
-  part_played (g.G.Guard.first [] 0) g.G.Guard.rested g.D.Doing.lists g.D.Doing.list g.D.Doing.seats g.D.Doing.doing c.store.ensures.2.0 c.token.inside.seat.me
-      c.store.new.seat.me c.store.ensures.2.1
-      c.token.inside.lists c.token.inside.list c.args.token.now.part (ap (λ s. s.part) c.token.view_is) c.requires.lists.0 c.requires.lists.1,
-  told_played (g.G.Guard.first [] 0) g.G.Guard.rested g.D.Doing.lists g.D.Doing.list g.D.Doing.seats g.D.Doing.doing c.store.ensures.2.0 c.token.inside.seat.me
-      c.store.new.seat.me c.store.ensures.2.1
-      c.token.inside.lists c.token.inside.list c.args.token.now.part (ap (λ s. s.part) c.token.view_is) c.requires.lists.0 c.requires.lists.1,
+  part_played c.store.ensures.2.1 (ap (λ s. s.part) c.token.view_is) c.requires.lists.0 c.requires.lists.1,
+  told_played c.store.ensures.2.1 (ap (λ s. s.part) c.token.view_is) c.requires.lists.0 c.requires.lists.1,
 )
