@@ -20,10 +20,6 @@ AppendsPrefix-of {rest = rest} h = record { front = h.front; rest = rest; whole 
 pub AppendsAllBut-of : {a b : Option (List ℕ)} {text : List ℕ} (h : AppendsPrefix a b text) → AppendsAllBut a b text h.rest
 AppendsAllBut-of h = record { front = h.front; whole = h.whole; appended = h.appended }
 
--- a whole text is a first part of a longer one
-pub AppendsPrefix-whole : (a b : Option (List ℕ)) (bs more : List ℕ) → Appends a b bs → AppendsPrefix a b (bs ++ more)
-AppendsPrefix-whole a b bs more h = record { front = bs; rest = more; whole = refl; appended = h }
-
 -- so is the whole of itself
 pub AppendsPrefix-itself : (a b : Option (List ℕ)) (bs : List ℕ) → Appends a b bs → AppendsPrefix a b bs
 AppendsPrefix-itself a b bs h = record { front = bs; rest = []; whole = sym (append-nil bs); appended = h }
@@ -59,7 +55,3 @@ AppendsPrefix-after a bs h k = AppendsPrefix-of (AppendsAllBut-after a bs h (App
 pub on_err : {T E : Type 0} {P : Type 0} (r : Result T E) → P → OnErr r P
 on_err (Ok x) h = tt
 on_err (Err e) h = h
-
--- a count that rose within a run of calls rose in the whole run
-pub Rose-within : (first before after last : ℕ) → first ≤ before → Rose before after → after ≤ last → Rose first last
-Rose-within first before after last low rose high = λ below. omega arith

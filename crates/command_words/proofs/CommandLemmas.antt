@@ -131,10 +131,6 @@ range_fits (Threads m) n in_range e = let same : m ≡ n = cc in omega (arith, i
 range_fits (Seed m) n in_range e = let same : m ≡ n = cc in omega (arith, in_range)
 range_fits (Calls m) n in_range e = let same : m ≡ n = cc in omega (arith, in_range)
 
--- a text that is no number is no option's
-pub not_numbered : (name value : List ℕ) → ((n : ℕ) → n < 2 ^ 32 → value ≡ decimal n → ⊥) → (given : Given) → IsNumbered name value given → ⊥
-not_numbered name value none given h = none h.number (range_fits given h.number h.in_range h.named.1) h.text
-
 -- the text of an option's number is the text of one number alone
 number_once : (name value : List ℕ) (n : ℕ) → n < 2 ^ 32 → value ≡ decimal n → (given : Given) → IsNumbered name value given → IsNamed name n given
 number_once name value n fits text given h =
@@ -193,15 +189,6 @@ cut_at_equals word within =
     let is : get_or word at 0 ≡ 61 = eqb-true _ _ (passes_at_first is_equals word 0 within) in
     let rest : drop at word ≡ 61 ∷ drop (at + 1) word = drop-cons word at 0 within ∙ rw (is, add-one) refl in
     sym (take-append-drop at word) ∙ ap (λ (ws : List ℕ). take at word ++ ws) rest ∙ sym (append_assoc (take at word) (codes "=") (drop (at + 1) word))
-
--- a flag begins the words
-pub flag_begins : (word : List ℕ) (rest words : List (List ℕ)) (given : Given) → words ≡ word ∷ rest → IsFlag word given → BeginsWithOption given rest words
-flag_begins word rest words Opening e h = (tt, e ∙ ap (λ (w : List ℕ). w ∷ rest) h.0)
-flag_begins word rest words Log e h = (tt, e ∙ ap (λ (w : List ℕ). w ∷ rest) h.0)
-flag_begins word rest words Touched e h = (tt, e ∙ ap (λ (w : List ℕ). w ∷ rest) h.0)
-flag_begins word rest words (Threads n) e h = absurd (cc h.1)
-flag_begins word rest words (Seed n) e h = absurd (cc h.1)
-flag_begins word rest words (Calls n) e h = absurd (cc h.1)
 
 -- an option that takes a number is written, either way
 written : (given : Given) (n : ℕ) (rest words : List (List ℕ)) → number_of given ≡ Some n → HasNumberInRange given
@@ -496,11 +483,6 @@ spells first behind words asked command e options is = record {
   options = options;
   is = is;
 }
-
--- no words, or words behind which nothing is asked for, spell none
-pub spells_nothing : (words : List (List ℕ)) → length words ≡ 0 → (command : Command) → AskFor words command → ⊥
-spells_nothing words none command h =
-    let size : length words ≡ length (h.name ∷ h.rest) = ap length h.whole in omega arith
 
 -- where nothing is asked for by the words behind the first, there is no command
 pub spells_none : (first : List ℕ) (behind words : List (List ℕ)) → words ≡ first ∷ behind

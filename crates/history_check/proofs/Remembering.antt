@@ -32,15 +32,6 @@ pairs_more R xs y pairs all i j d below within =
           subst (λ b. R (get_or (xs ++ y ∷ []) i d) b) (sym second) (subst (λ a. R a y) (sym first) (all i d (omega (arith, below, at))))
     ]
 
--- of no entry nothing is remembered
-pub seen_none : (seen : Seen) → seen.next ≡ 0 → ((worker : ℕ) → worker < 16 → slice_index seen.last worker ≡ 0) → IsSeen [] seen
-seen_none seen next last = record {
-  number = next;
-  rise = λ i j d below within. absurd (omega arith);
-  above = All-nil (IsBelow seen.last);
-  last = λ worker small. inl (last worker small);
-}
-
 -- an entry whose line number is below what is kept of its worker isn't in order
 pub out_of_order : (before : List Entry) (seen : Seen) (e : Entry) → IsSeen before seen → e.worker < 16 → e.line < slice_index seen.last e.worker
     → ¬ WorkersRise (before ++ e ∷ [])

@@ -40,11 +40,6 @@ rest_on a B line rest (Some count) is f =
 abbrev pub Leads : List Area → List (List ℕ) → ℕ → List Area → List (List ℕ) → Type 0
 Leads B rest count A lines = (place : Option ℕ) → Tells B rest place → Tells A lines (further count place)
 
--- at first all are left
-pub leads_first : (A : List Area) (lines : List (List ℕ)) → Leads A lines 0 A lines
-leads_first A lines None t = t
-leads_first A lines (Some place) t = subst (FailsAt A lines) (let e : place ≡ 0 + place = omega arith in e) t
-
 further_once : (count : ℕ) (place : Option ℕ) → further count (further 1 place) ≡ further (count + 1) place
 further_once count None = refl
 further_once count (Some place) = ap Some (let e : count + (1 + place) ≡ (count + 1) + place = omega arith in e)

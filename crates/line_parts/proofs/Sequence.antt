@@ -246,9 +246,3 @@ Heads {A} test part = (b q : List ℕ) (w : A) → part.takes b q w → starts t
 -- what all that the first part takes begins with, all that both take begins with
 pub heads_then : {A B : Type 0} (test : ℕ → Bool) (first : Part A) (next : A → Part B) → Heads test first → Heads test (chain first next)
 heads_then test first next heads b q w h = ap (starts test) (split_back b h.0 h.1 q h.3) ∙ heads h.0 (h.1 ++ q) h.2 h.4
-
--- where all that the next parts take passes a test, and all that passes it may follow, the next parts may follow
-pub follows_heads : {A B : Type 0} (follow : A → List ℕ → Type 0) (next : A → Part B) (last : B → List ℕ → Type 0) (test : ℕ
-    → Bool) → ((v : A) → Heads test (next v)) → ((v : A) (q : List ℕ) → starts test q ≡ true → follow v q)
-    → Follows follow next last
-follows_heads follow next last test heads may v b q w h hq = may v (b ++ q) (heads v b q w h)

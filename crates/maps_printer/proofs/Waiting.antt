@@ -10,10 +10,6 @@ use Rattle.std.proofs.KnownBytes.{Appends-nil, Appends-trans}
 use Rattle.byte_ports.specs.Bytes.{AppendsAllBut, AppendsPrefix}
 use Rattle.byte_ports.proofs.Pieces.{AppendsAllBut-after, AppendsAllBut-of, AppendsPrefix-of, AppendsPrefix-after, AppendsPrefix-more}
 
--- at first nothing was written and nothing waits
-pub AppendsAllBut-nothing : (a : Option (List ℕ)) → AppendsAllBut a a [] []
-AppendsAllBut-nothing a = record { front = []; whole = refl; appended = Appends-nil a }
-
 -- a line joins the text, and the buffer then may go on to the sink
 pub AppendsAllBut-line : (a : Option (List ℕ)) {b c : Option (List ℕ)} {text waiting after : List ℕ} (line : List ℕ)
     → AppendsAllBut a b text waiting → AppendsAllBut b c (waiting ++ line) after → AppendsAllBut a c (text ++ line) after
@@ -25,10 +21,6 @@ AppendsAllBut-line a {c = c} {text = text} {waiting = waiting} {after = after} l
 pub AppendsAllBut-failed : (a : Option (List ℕ)) {b c : Option (List ℕ)} {text waiting : List ℕ} (line : List ℕ)
     → AppendsAllBut a b text waiting → AppendsPrefix b c (waiting ++ line) → AppendsPrefix a c (text ++ line)
 AppendsAllBut-failed a line h k = AppendsPrefix-of (AppendsAllBut-line a line h (AppendsAllBut-of k))
-
--- all that waited was written
-pub AppendsAllBut-flushed : (a b c : Option (List ℕ)) (text waiting : List ℕ) → AppendsAllBut a b text waiting → Appends b c waiting → Appends a c text
-AppendsAllBut-flushed a b c text waiting h k = subst (Appends a c) (sym h.whole) (Appends-trans a b c h.front waiting h.appended k)
 
 -- the sink failed while all that waited went to it
 pub AppendsAllBut-flush_failed : (a : Option (List ℕ)) {b c : Option (List ℕ)} {text waiting : List ℕ}

@@ -313,20 +313,6 @@ pub long_no : (text before rest : List ℕ) (bad : BadCall) (f : Refusal) → te
 long_no text before rest bad f e l read mended h =
     run_none is_digit is_digit rest h.1 h.2 (digits_refused Comma rest f read) h.5 (long_parts text before rest bad mended e l h).1
 
--- a number in parentheses at the place of the refusal, behind -1, is mended
-pub error_yes : (text before front rest back : List ℕ) (bad : BadCall) → bad.what ≡ AtResult → text ≡ before ++ rest → length before ≡ bad.column - 1
-    → 1 ≤ bad.column → before ≡ front ++ codes "-1 " → rest ≡ codes "(errno " ++ back
-    → MendsError text bad (front ++ (codes "-1 UNKNOWN (errno " ++ back))
-error_yes text before front rest back bad n e l c s r =
-    let k : length before ≡ length front + 3 = ap length s ∙ length-append front (codes "-1 ") in (
-      front,
-      back,
-      n,
-      omega arith,
-      e ∙ ap (λ (x : List ℕ). x ++ rest) s ∙ append_assoc front (codes "-1 ") rest ∙ ap (λ (x : List ℕ). front ++ (codes "-1 " ++ x)) r,
-      refl,
-    )
-
 error_parts : (text before rest : List ℕ) (bad : BadCall) (mended : List ℕ) → text ≡ before ++ rest → length before ≡ bad.column - 1
     → (h : MendsError text bad mended) → (before ≡ h.0 ++ codes "-1 ") × (rest ≡ codes "(errno " ++ h.1)
 error_parts text before rest bad mended e l h =

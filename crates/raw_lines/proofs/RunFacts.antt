@@ -248,11 +248,6 @@ field_none text c s b front rest (inl h) e = c front rest h.0 e h.1
 field_none text c s b front rest (inr (inl h)) e = s front rest h e
 field_none text c s b front rest (inr (inr h)) e = b front rest h e
 
--- where no field stands, none stands before a space
-pub field_no_bytes : (text : List ℕ) → ((front rest : List ℕ) → IsFieldTo front rest → text ≡ front ++ rest → ⊥)
-    → (front rest : List ℕ) → IsField front → text ≡ front ++ (32 ∷ rest) → ⊥
-field_no_bytes text none front rest h e = none front (32 ∷ rest) (field_to_space front rest h) e
-
 -- where no space stands behind it, neither
 pub field_no_space_behind : (text f left : List ℕ) → IsFieldTo f left → text ≡ f ++ left → ((x : List ℕ) → left ≢ codes " " ++ x)
     → (front rest : List ℕ) → IsField front → text ≡ front ++ (32 ∷ rest) → ⊥

@@ -172,14 +172,6 @@ pub last_other : (left front : List ℕ) (last : ℕ) → left ≡ front ++ (las
     → (more : List ℕ) (byte : ℕ) → left ≡ more ++ (byte ∷ []) → 10 ≤ worth byte
 last_other left front last e w more byte k = subst (λ (b : ℕ). 10 ≤ worth b) (last_same front more last byte (sym e ∙ k)) w
 
-all_digits_parts : (a b : List ℕ) → AllDigits 10 (a ++ b) → AllDigits 10 a
-all_digits_parts [] b h = tt
-all_digits_parts (x ∷ a) b h = (h.0, all_digits_parts a b h.1)
-
--- digits with one before them
-pub digit_before : (b : ℕ) (digits : List ℕ) → worth b < 10 → AllDigits 10 digits → AllDigits 10 (b ∷ digits)
-digit_before b digits h g = (h, g)
-
 last_digit : (c : ℕ) (g e : List ℕ) → AllDigits 10 ((c ∷ g) ++ e) → ((front : List ℕ) (b : ℕ) → c ∷ g ≡ front ++ (b ∷ []) → 10 ≤ worth b) → ⊥
 last_digit c [] e h n = let k = n [] c refl in let d = h.0 in omega arith
 last_digit c (x ∷ g) e h n = last_digit x g e h.1 (λ front b eq. n (c ∷ front) b (ap (λ (z : List ℕ). c ∷ z) eq))

@@ -49,19 +49,6 @@ refused_no_half line bad h half = (one_outcome line).never_both (Unfinished half
 
 -- ---- whether a line is good
 
--- a line that is too long isn't
-pub long_not_good : (line : List ℕ) → 65535 < length line → IsGood line → ⊥
-long_not_good line long good = let short = good.2 in absurd (omega arith)
-
--- a whole line is where it stays as it is
-pub good_by_still : (line : List ℕ) (item : Item) (b : Bool) → length line ≤ 65535 → Spells line item → IsWhole item → Decides b (IsStill line)
-    → Decides b (IsGood line)
-good_by_still line item b short s w d = (λ e. ((item, s, w), d.0 e, short), λ good. d.1 good.1)
-
--- half of a call isn't
-pub half_of_call_not_good : (line : List ℕ) (item : Item) → Spells line item → (IsWhole item → ⊥) → IsGood line → ⊥
-half_of_call_not_good line item s half good = half (subst IsWhole ((one_outcome line).item good.0.0 item good.0.1 s) good.0.2)
-
 -- ---- lines that are left unread
 
 -- a first half that isn't good as a call that never returned

@@ -253,16 +253,6 @@ no_cause process strict bytes chosen before short are never fault (inr h) =
     let same = texts_one process bytes chosen h.1 before h.2 are h.3 in
     never fault (subst (λ (x : List Numbered). Stops strict [] x fault) (sym same.0) h.4)
 
--- a fault of the reading
-pub read_fault : (process : Option ℕ) (strict : Bool) (bytes : List ℕ) (fault : Fault) → (fault ≡ Memory) ⊎ ((fault ≡ LongLine) × HasLongText bytes)
-    → IsFault process strict bytes fault
-read_fault process strict bytes fault (inl e) = subst (IsFault process strict bytes) (sym e) tt
-read_fault process strict bytes fault (inr h) = subst (IsFault process strict bytes) (sym h.0) (inl (h.1, refl))
-
--- want of memory is one
-pub memory_fault : (process : Option ℕ) (strict : Bool) (bytes : List ℕ) (fault : Fault) → fault ≡ Memory → IsFault process strict bytes fault
-memory_fault process strict bytes fault e = subst (IsFault process strict bytes) (sym e) tt
-
 -- a fault of the writing
 pub written_fault : (process : Option ℕ) (strict : Bool) (bytes : List ℕ) (chosen : List Numbered) (before : Counts) (fault : Fault) → ¬ HasLongText bytes
     → AreTexts process bytes chosen before → IsWrittenFault strict chosen fault → IsFault process strict bytes fault

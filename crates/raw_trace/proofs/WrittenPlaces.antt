@@ -96,22 +96,6 @@ first_there lines place other to behind name text at =
     let m = length-map lines (λ (x : Line). x.text.items) in
     omega arith
 
--- the item at a place
-pub got_text : (lines : List Line) (place : ℕ) (line : Line) (text : List ℕ) → line ≡ get_or lines place line → slice_get (texts lines) place ≡ Some text
-    → line.text.items ≡ text
-got_text [] place line text e f = absurd cc
-got_text (x ∷ lines) zero line text e f = ap (λ (z : Line). z.text.items) e ∙ cc
-got_text (x ∷ lines) (suc place) line text e f = got_text lines place line text e f
-
--- its number
-pub got_number : (lines : List Line) (place : ℕ) (line : Line) (text : Numbered) → line ≡ get_or lines place line
-    → slice_get (numbered_all lines) place ≡ Some text → line.number ≡ text.number
-got_number [] place line text e f = absurd cc
-got_number (x ∷ lines) zero line text e f =
-    let same : numbered x ≡ text = cc in
-    ap (λ (z : Line). z.number) e ∙ ap (λ (z : Numbered). z.number) same
-got_number (x ∷ lines) (suc place) line text e f = got_number lines place line text e f
-
 -- ---- what was written
 
 unread_stays : (ending : Ending) (c : Counts) → ending ≢ AsUnread → (counted ending c).unread ≡ c.unread

@@ -19,38 +19,7 @@ use Rattle.strace_lines.specs.Texts.{help_text}
 use Rattle.strace_lines.specs.Run.{Drains, IsStopped, Wrote, HasCause, status_of, IsOutcome, IsOnlyOutcome, IsHindered}
 use Rattle.strace_lines.specs.Run.IsOutcome.{usage, helped, input_too_long, not_rewritten, done}
 
--- what is left alone keeps its bytes
-keeps_itself : (known : Option (List ℕ)) → Keeps known known
-keeps_itself None = tt
-keeps_itself (Some bytes) = refl
-
 -- ---- the input isn't read to its end
-
--- nothing was written then
-pub stopped_wrote : (words : List (List ℕ)) (input_old input_new out : Option (List ℕ)) (before after : ℕ) (status : Status)
-    → IsStopped input_old before after status → Wrote words input_old input_new out out status
-stopped_wrote words input_old input_new out before after status (inl e) =
-    subst (Wrote words input_old input_new out out) (sym e) (keeps_itself out)
-stopped_wrote words input_old input_new out before after status (inr (inl h)) =
-    subst (Wrote words input_old input_new out out) (sym h.0) (keeps_itself out)
-stopped_wrote words input_old input_new out before after status (inr (inr h)) =
-    subst (Wrote words input_old input_new out out) (sym h.0) (keeps_itself out)
-
--- it has its cause
-pub stopped_cause : (words : List (List ℕ)) (input_old input_new : Option (List ℕ)) (before after : ℕ) (writes : ℕ × ℕ) (status : Status)
-    → IsStopped input_old before after status → HasCause words input_old input_new (before, after) writes status
-stopped_cause words input_old input_new before after writes status (inl e) =
-    subst (HasCause words input_old input_new (before, after) writes) (sym e) tt
-stopped_cause words input_old input_new before after writes status (inr (inl h)) =
-    subst (HasCause words input_old input_new (before, after) writes) (sym h.0) h.1
-stopped_cause words input_old input_new before after writes status (inr (inr h)) =
-    subst (HasCause words input_old input_new (before, after) writes) (sym h.0) h.1
-
--- which isn't that the words aren't accepted
-pub stopped_usage : (input_old : Option (List ℕ)) (before after : ℕ) (status : Status) → IsStopped input_old before after status → status ≡ Usage → ⊥
-stopped_usage input_old before after status (inl e) is = let no : Memory ≡ Usage = sym e ∙ is in absurd cc
-stopped_usage input_old before after status (inr (inl h)) is = let no : ReadFault ≡ Usage = sym h.0 ∙ is in absurd cc
-stopped_usage input_old before after status (inr (inr h)) is = let no : LongInput ≡ Usage = sym h.0 ∙ is in absurd cc
 
 -- ---- the one status
 
@@ -115,13 +84,6 @@ same_bytes input_old input_new bytes all known drains =
 
 -- ---- the log isn't rewritten
 
--- nothing was written then
-pub fault_wrote : (words : List (List ℕ)) (input_old input_new out : Option (List ℕ)) (fault : Fault)
-    → Wrote words input_old input_new out out (status_of fault)
-fault_wrote words input_old input_new out (CantRead line column cause) = keeps_itself out
-fault_wrote words input_old input_new out TooLong = keeps_itself out
-fault_wrote words input_old input_new out NoMemory = keeps_itself out
-
 -- the status has its cause
 pub fault_cause : (words : List (List ℕ)) (input_old input_new : Option (List ℕ)) (reads writes : ℕ × ℕ) (process : Option ℕ) (strict : Bool)
     (bytes : List ℕ) (fault : Fault) → Drains input_old input_new bytes → length bytes ≤ 67108864 → IsFault process strict bytes fault
@@ -145,12 +107,6 @@ fault_cause words input_old input_new reads writes process strict bytes TooLong 
   holds = is;
 }
 fault_cause words input_old input_new reads writes process strict bytes NoMemory drained within is asked = tt
-
--- which isn't that the words aren't accepted
-pub fault_usage : (fault : Fault) → status_of fault ≡ Usage → ⊥
-fault_usage (CantRead line column cause) is = absurd cc
-fault_usage TooLong is = absurd cc
-fault_usage NoMemory is = absurd cc
 
 -- a fault is the one that came, unless that is want of memory
 only_fault : {T : Type 0} (fault other : Fault) → (◌≡◌ {A = Result T Fault} (Err fault) (Err other)) ⊎ (◌≡◌ {A = Result T Fault} (Err fault) (Err NoMemory))
@@ -191,44 +147,6 @@ fault_complete words input_old input_new reads writes process strict known bytes
 
 -- ---- the log is rewritten
 
--- the lines were written
-pub done_wrote : (words : List (List ℕ)) (input_old input_new out_old out_new : Option (List ℕ)) (process : Option ℕ) (strict : Bool)
-    (bytes out : List ℕ) (counts : Counts) (ends : Bool) → Drains input_old input_new bytes → length bytes ≤ 67108864
-    → IsRewriting process bytes out counts → EndsCut bytes ends → Appends out_old out_new out → AskFor words (Rewrite process strict)
-    → Wrote words input_old input_new out_old out_new (Done counts ends)
-done_wrote words input_old input_new out_old out_new process strict bytes out counts ends drained within is cut appends asked = (
-  out,
-  appends,
-  record {
-    process = process;
-    strict = strict;
-    accepted = asked;
-    bytes = bytes;
-    drained = drained;
-    within = within;
-    holds = (is, cut);
-  },
-)
-
--- or a first part of them
-pub cut_wrote : (words : List (List ℕ)) (input_old input_new out_old out_new : Option (List ℕ)) (process : Option ℕ) (strict : Bool)
-    (bytes out : List ℕ) (counts : Counts) → Drains input_old input_new bytes → length bytes ≤ 67108864
-    → IsRewriting process bytes out counts → AppendsPrefix out_old out_new out → AskFor words (Rewrite process strict)
-    → Wrote words input_old input_new out_old out_new WriteFault
-cut_wrote words input_old input_new out_old out_new process strict bytes out counts drained within is prefix asked = (
-  out,
-  prefix,
-  inl (record {
-    process = process;
-    strict = strict;
-    accepted = asked;
-    bytes = bytes;
-    drained = drained;
-    within = within;
-    holds = (counts, is);
-  }),
-)
-
 -- where a rewriting was found, no fault is called for
 no_fault : {T : Type 0} (found : T) (fault : Fault)
     → (◌≡◌ {A = Result T Fault} (Ok found) (Err fault)) ⊎ (◌≡◌ {A = Result T Fault} (Ok found) (Err NoMemory)) → ⊥
@@ -256,11 +174,6 @@ done_complete words input_old input_new process strict known bytes found drained
     })
 
 -- ---- help, and words that aren't accepted
-
--- a first part of the help was written
-pub help_cut : (words : List (List ℕ)) (input_old input_new out_old out_new : Option (List ℕ)) → AskFor words Help
-    → AppendsPrefix out_old out_new help_text → Wrote words input_old input_new out_old out_new WriteFault
-help_cut words input_old input_new out_old out_new asked prefix = (help_text, prefix, inr (asked, refl))
 
 -- where help is asked for, that is the only status
 pub help_only : (words : List (List ℕ)) (bytes : List ℕ) → AskForOne words → AskFor words Help → IsOnlyOutcome words bytes Helped

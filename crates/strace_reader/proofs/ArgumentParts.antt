@@ -57,9 +57,6 @@ pub comma_closes : (q : List ℕ) → starts (is 44) q ≡ true → starts is_cl
 comma_closes [] h = cc
 comma_closes (c ∷ q) h = rw h refl
 
-comma_joins : (q : List ℕ) → starts (is 44) q ≡ true → starts is_join q ≡ true
-comma_joins q h = close_joins q (comma_closes q h)
-
 either_close : (a b : Bool) → b ≡ true → (if a then true else b) ≡ true
 either_close true b h = refl
 either_close false b h = h
@@ -114,9 +111,6 @@ comma_heads = heads_then (is 44) (byte 44 Comma) (λ u. spaces) (byte_heads 44 C
 
 null_full : Full {A = ℕ} (chain (letters (codes "NULL") Number) (λ u. done 0))
 null_full = chain_full (letters (codes "NULL") Number) (λ u. done 0) (letters_full 78 (codes "ULL") Number)
-
-comma_no_numeral : (q : List ℕ) → starts (is 44) q ≡ true → NoNumeral q
-comma_no_numeral q h = join_no_numeral q (comma_joins q h)
 
 -- a comma or a closing parenthesis follows
 abbrev pub CloseEnds : {A : Type 0} → A → List ℕ → Type 0

@@ -62,9 +62,6 @@ rest_place text p n from h = let place = h.4 in omega arith
 
 -- ---- what is kept
 
-no_unfinished : (p : ℕ) (i : Item) (q : ℕ) (n : Name) (from to : ℕ) → (IsOf q i → ⊥) → i ≡ Unfinished q n from to → ⊥
-no_unfinished p i q n from to other e = other (subst (IsOf q) (sym e) refl)
-
 not_of : (text : List ℕ) (i : Item) (q : ℕ) → Spells text i → (IsOf q i → ⊥) → (item : Item) → Spells text item → IsOf q item → ⊥
 not_of text i q s other item h of = other (subst (IsOf q) (one_item text item i h s) of)
 
