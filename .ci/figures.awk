@@ -10,6 +10,7 @@
     rest = substr($2, RSTART + RLENGTH)
     sub(/^[^,;]*[,;] */, "", rest)
     if (rest !~ /percent|first round|ratio/) rest = ""
+    if (match(rest, /^[0-9]+ percent/) && rest + 0 >= 1000) rest = sprintf("%.0f times", rest / 100) substr(rest, RLENGTH + 1)
     if (!(key in least)) { order[++keys] = key; least[key] = most[key] = figure; compared[key] = rest }
     if (figure < least[key]) { least[key] = figure; compared[key] = rest }
     if (figure > most[key]) most[key] = figure
@@ -27,6 +28,7 @@ END {
         if (match(what, /[0-9]+ threads /)) { threads = substr(what, RSTART) + 0; sub(/[0-9]+ threads /, "", what) }
         else if (match(what, /, threads [0-9]+/)) { threads = substr(what, RSTART + 10, RLENGTH - 10) + 0; sub(/, threads [0-9]+/, "", what) }
         else if (match(what, /^4 callers /)) threads = 4
+        else if (match(what, /^callers [0-9]+ beside/)) threads = substr(what, 9) + 0
         key = order[i]
         printf "| %s | %s | %s | %s | %s | %s to %s |\n", part[1], what, threads, least[key], compared[key], least[key], most[key]
     }

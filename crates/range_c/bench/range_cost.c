@@ -1,6 +1,6 @@
 /* What a pair of a try and a release costs from C beside a pair of pthread_mutex, on one thread: for each number of
-   seats the least of 40 rounds of 20,000 pairs, the rounds of both taken in turns. The command is in the crate's
-   README. */
+   seats the least of 40 rounds of 20,000 pairs, the rounds of both taken in turns; first while the process has no
+   other thread, then beside one that sleeps. The command is in the crate's README. */
 #include "gz_range.h"
 
 #include <pthread.h>
@@ -34,7 +34,14 @@ static double of_range(gz_range *handle) {
     return (now() - start) / PAIRS;
 }
 
-int main(void) {
+/* A thread that does nothing, for its presence alone. */
+static void *sleeps(void *end) {
+    pthread_mutex_lock(end);
+    pthread_mutex_unlock(end);
+    return NULL;
+}
+
+static int measure(const char *beside) {
     static const uint32_t seats[] = { 1, 2, 4, 16 };
     pthread_mutex_t mutex = PTHREAD_MUTEX_INITIALIZER;
     for (size_t k = 0; k < sizeof seats / sizeof *seats; k++) {
@@ -47,8 +54,21 @@ int main(void) {
             if (b < range_least) range_least = b;
         }
         double ratio = range_least / mutex_least;
-        printf("%2u seats: range %.1f ns, mutex %.1f ns, ratio %.2f\n", seats[k], range_least, mutex_least, ratio);
+        printf("%2u seats%s: range %.1f ns, mutex %.1f ns, ratio %.2f\n", seats[k], beside, range_least, mutex_least, ratio);
         gz_range_close(&handle);
     }
     return 0;
+}
+
+int main(void) {
+    if (measure("")) return 1;
+    /* While a process has one thread the C library's mutex makes no locked instruction. */
+    pthread_t thread;
+    pthread_mutex_t end = PTHREAD_MUTEX_INITIALIZER;
+    pthread_mutex_lock(&end);
+    if (pthread_create(&thread, NULL, sleeps, &end)) return 1;
+    int failed = measure(", a second thread asleep");
+    pthread_mutex_unlock(&end);
+    pthread_join(thread, NULL);
+    return failed;
 }
