@@ -19,3 +19,17 @@ pub spent_call : (before : CallerView) (line : ℕ) (call : Call) (after : Calle
     → after ≡ before → IsAnswerTo before line call Spent after
 spent_call before line (Protect addr len prot) after is none same = (none, same)
 spent_call before line call after is none same = absurd is
+
+-- a call that its arguments decide has its entry, and is free
+pub free_call : (before : CallerView) (line : ℕ) (call : Call) (e : Entry) (after : CallerView) → IsProtect call
+    → 0 < before.left → IsSome (plain_reply call) → IsCalled before line call e after
+    → IsAnswerTo before line call (Given e Free) after
+free_call before line (Protect addr len prot) e after is left decided called = (left, record { called = called; way = decided; looks = tt })
+free_call before line call e after is left decided called = absurd is
+
+-- a call with these arguments is answered as they are
+pub given_call : (before : CallerView) (line : ℕ) (call : Call) (addr len : ℕ) (prot : Prot) (e : Entry) (path : Path)
+    (after : CallerView) → call ≡ Protect addr len prot → 0 < before.left
+    → IsProtected before line addr len prot e path after → IsAnswerTo before line call (Given e path) after
+given_call before line call addr len prot e path after is left protected =
+    subst (λ (x : Call). IsAnswerTo before line x (Given e path) after) (sym is) (left, protected)

@@ -336,3 +336,7 @@ attempt_since a b c r (Whole cause) look held t = (looked_on a b c look t.0, rea
 -- an attempt's outcome may be told of equal callers and equal outcomes
 pub same_attempt : (a b c : CallerView) (r : Request) (x y : Attempt) → c ≡ b → y ≡ x → IsAttempt a r b x → IsAttempt a r c y
 same_attempt a b c r x y e f t = subst (λ (z : CallerView × Attempt). IsAttempt a r z.0 z.1) (λ i. (sym e i, sym f i)) t
+
+-- who has looked and holds nothing may call still
+pub may_call_on : (table : TableId) (a b : CallerView) → MayCall table a → HasLooked a b → b.seat.held ≡ None → MayCall table b
+may_call_on table a b may look free = record { table_is = look.table ∙ may.table_is; free = free; left = subst (λ n. 0 < n) (sym look.left) may.left }

@@ -244,6 +244,21 @@ held_and_back a b c e lock same_b rest reading same_c release same_e = record {
   left = same_e ∙ (same_c ∙ same_b);
 }
 
+-- and holding and reading alone, where the range is kept
+pub held_and_read : (a b c : CallerView) → IsLockCall a.seat b.seat → b.left ≡ a.left → IsAtRest b.seat.pass
+    → IsReading b.seat c.seat → c.left ≡ b.left → HasLooked a c
+held_and_read a b c lock same_b rest reading same_c = record {
+  table = reading.table ∙ lock.table;
+  number = reading.number ∙ lock.number;
+  start = reading.start ∙ ap (λ (p : Pass). p.start) lock.pass;
+  mine = reading.mine ∙ ap (λ (p : Pass). p.mine) lock.pass;
+  more = ([], reading.seen ∙ (ap (λ (p : Pass). p.seen) lock.pass ∙ sym (append-nil a.seat.pass.seen)));
+  looks = ([], reading.looks ∙ ap (λ (p : Pass). p.looks) lock.pass);
+  rest = reading.read.pending ∙ rest;
+  taken = let l = lock.taken in let r = reading.taken in omega arith;
+  left = same_c ∙ same_b;
+}
+
 -- so many entries are under everything as were at the look before, while the caller holds its area
 pub counts_on : (b c : SeatState Pass) (n : ℕ) → IsReading b c → CountsWhole b n → CountsWhole c n
 counts_on b c n reading counts start history state words m =

@@ -86,6 +86,13 @@ module _ (words : List ℕ) (kinds : ℕ → Option Kind) (s : RowsShow words ki
       ∙ (e ∙ ap row_kind (sym next))))
       (zero_or_more index)
 
+  -- the pages of the row are of its kind
+  in_row : (hi p : ℕ) → (index + 1 < count → hi ≡ row_start (slice_index words (3 + (index + 1)))) → row_start word ≤ p → p < hi
+      → p < LIMIT → kinds p ≡ row_kind word
+  in_row hi p ends from below low =
+      subst (λ w. kinds p ≡ row_kind w) is ((word_says words kinds index s (omega arith)).within p
+      (subst (λ w. row_start w ≤ p) (sym is) from) low (λ l. let e = ends (omega arith) in omega arith))
+
   -- the page after the row isn't of its kind
   after_row_page : (hi : ℕ) → index + 1 < count → hi ≡ row_start (slice_index words (3 + (index + 1))) → kinds hi ≢ row_kind word
   after_row_page hi more e same =
@@ -283,6 +290,32 @@ found_read old new count index word next lo hi kind step l k h counted read lt =
       kind = k;
       hi = inl (lt, next, subst (λ r. HasRead r (index + 1) next) rows (inl (refl, refl)), h);
     }
+
+-- the last row is as it was read, and it ends at the limit
+pub last_read : (seat : SeatState Pass) (count index word lo : ℕ) (kind : Option Kind) → lo ≡ row_start word → kind ≡ row_kind word
+    → seat.pass.count ≡ Some count → HasRead seat.pass.rows index word → index < count → ¬ (index + 1 < count)
+    → IsAsRead seat.pass (record { index = index; lo = lo; hi = LIMIT; kind = kind })
+last_read seat count index word lo kind l k counted read lt not_more =
+    record {
+      count = count;
+      counted = counted;
+      there = lt;
+      word = word;
+      read = read;
+      lo = l;
+      kind = k;
+      hi = inr (omega arith, refl);
+    }
+
+-- the kinds of the rows beside a row, as they are read now
+pub before_read : (a b : SeatState Pass) (index word : ℕ) (kind : Option Kind) → 0 < index → kind ≡ row_kind word
+    → IsClientStep a (3 + (index - 1)) (after_row (index - 1) word a.pass) b → IsReadBefore b.pass.rows index kind
+before_read a b index word kind more is s = inr (more, word, subst (λ (p : Pass). HasRead p.rows (index - 1) word) (sym s.pass) (inl (refl, refl)), is)
+
+-- the kind of the row behind, from the load of its word
+pub behind_read : (a b : SeatState Pass) (count index word : ℕ) (kind : Option Kind) → index + 1 < count → kind ≡ row_kind word
+    → IsClientStep a (3 + (index + 1)) (after_row (index + 1) word a.pass) b → IsReadBehind b.pass.rows count index kind
+behind_read a b count index word kind more is s = inr (more, word, subst (λ (p : Pass). HasRead p.rows (index + 1) word) (sym s.pass) (inl (refl, refl)), is)
 
 -- what was read of a row and of the one before it is read still
 pub before_on : (a b : Pass) (index : ℕ) (kind : Option Kind) → KeepsRead a b → IsReadBefore a.rows index kind → IsReadBefore b.rows index kind

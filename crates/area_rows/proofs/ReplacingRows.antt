@@ -352,6 +352,16 @@ low_start s c r (last_part index at new lo hi is_behind) = let o = c.place.order
 pub start_low : (s : SeatState Pass) (c : Change) → IsReadRound s c → c.start < LIMIT
 start_low s c r = low_start s c r r.store
 
+low_index : (s : SeatState Pass) (c : Change) (r : IsReadRound s c) → IsOneStore r.row r.before r.behind c → c.index < ROWS
+low_index s c r (whole index at new lo hi not_before not_behind) = let t = r.read.there in let f = r.few in omega arith
+low_index s c r (first_part index at same_kind lo hi is_before) = let t = r.read.there in let f = r.few in omega arith
+low_index s c r (last_part index at new lo hi is_behind) = let f = r.few in
+    ⊎_elim (λ t. absurd (some_none c.new r.behind t.1 is_behind)) (λ t. let n = t.0 in omega arith) r.read_behind
+
+-- its number is below the most rows that there may be
+pub index_low : (s : SeatState Pass) (c : Change) → IsReadRound s c → c.index < ROWS
+index_low s c r = low_index s c r r.store
+
 -- the guard allows the store of a change
 pub may_store_change : (note : Note) (s : SeatState Pass) (c : Change) → s.pass.pending ≡ OneRow c → IsReadRound s c
     → (index word : ℕ) → c.index ≡ index → word ≡ new_word c
@@ -398,6 +408,23 @@ change_stored s u c index word pends call made =
           (ap (λ (x : Pass). x.pending) same ∙ pends) may.1 ∙ ap after_change same;
       trace = call.trace;
     }
+
+-- and all is written then
+pub row_written : (s u : SeatState Pass) (index : ℕ) → IsClientStep s (3 + index) (after_change s.pass) u → IsStoredRow s index u
+row_written s u index step = record {
+  rest = ap (λ (x : Pass). x.pending) step.pass;
+  start = ap (λ (x : Pass). x.start) step.pass;
+  seen = ap (λ (x : Pass). x.seen) step.pass;
+  mine = ap (λ (x : Pass). x.mine) step.pass;
+  drew = ap (λ (x : Pass). x.drew) step.pass;
+  looks = ap (λ (x : Pass). x.looks) step.pass;
+  table = step.table;
+  number = step.number;
+  held = step.held;
+  pools = step.pools;
+  further = step.further;
+  trace = step.trace;
+}
 
 -- so is the store of a caller that has its row to store, where the word is that of the change which it has chosen
 pub chosen_store : (u v : CallerView) (c d : Change) (index word : ℕ) → u ≡ v → HasToStore v c → c.index ≡ index

@@ -27,6 +27,19 @@ pub back_idle : (table : TableId) (k : ℕ) (a b : CallerView) → IsIdleAgain a
     → (b.seat.table ≡ table) × (b.seat.number ≡ k) × (b.seat.held ≡ None)
 back_idle table k a b back i = (back.table ∙ i.0, back.number ∙ i.1, back.held)
 
+-- new callers are a crew
+pub new_crew : (lists : ℕ) (table : TableId) (seats : ℕ) (start : List Area) (calls : List ℕ) (callers : List CallerView)
+    → length callers ≡ seats → 0 < seats → AreNewCallersIn lists table start calls callers → IsCrew table seats callers
+new_crew lists table seats start calls callers count more new = record {
+  count = count;
+  some = more;
+  idle = λ k c at. let e = new k c at in (
+    ap (λ (x : CallerView). x.seat.table) e,
+    ap (λ (x : CallerView). x.seat.number) e,
+    ap (λ (x : CallerView). x.seat.held) e,
+  );
+}
+
 -- a crew whose callers are each back is a crew
 pub crew_back : (table : TableId) (seats : ℕ) (old new : List CallerView) → length new ≡ length old → IsCrew table seats old
     → ((k : ℕ) (d : CallerView) → k < length old → (a : CallerView) × (b : CallerView) × (a ≡ get_or old k d) × IsIdleAgain a b

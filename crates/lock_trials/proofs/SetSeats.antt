@@ -23,7 +23,18 @@ free_four a b c d w x y z (suc (suc zero)) e lt = y
 free_four a b c d w x y z (suc (suc (suc zero))) e lt = z
 free_four a b c d w x y z (suc (suc (suc (suc k)))) e lt = absurd (omega arith)
 
+-- the first item and those that are left without it are all items
+pub first_removed : {X : Type 0} (xs ys : List X) (x : X) → 0 < length xs → x ≡ get_or xs 0 x → ys ≡ remove xs 0 → xs ≡ x ∷ ys
+first_removed [] ys x more is rest = absurd (omega arith)
+first_removed (z ∷ zs) ys x more is rest = λ i. sym is i ∷ sym rest i
+
 module _ {P : Type 0} where
+  -- the four seats of a set, taken one by one, and those that are left are all seats
+  pub first_four : (all one two three left : List (SeatState P)) (a b c d : SeatState P) (table : TableId) (set : SetView P)
+      → set ≡ record { table = table; seats = a ∷ b ∷ c ∷ d ∷ [] } → all ≡ a ∷ one → one ≡ b ∷ two → two ≡ c ∷ three → three ≡ d ∷ left
+      → all ≡ set.seats ++ left
+  first_four all one two three left a b c d table set is e f g h =
+      e ∙ (ap (λ l. a ∷ l) (f ∙ ap (λ l. b ∷ l) (g ∙ ap (λ l. c ∷ l) h)) ∙ sym (ap (λ (s : SetView P). s.seats ++ left) is))
 
   at_append : (xs ys : List (SeatState P)) (k : ℕ) (s : SeatState P) → get_elem? xs k ≡ some s → get_elem? (xs ++ ys) k ≡ some s
   at_append [] ys k s at = absurd (some-ne-none s (sym at))

@@ -109,6 +109,16 @@ called_held b r n d e line call span reading same line_is call_is under named dr
       left = ap (λ k. k + 1) same_left ∙ (left ∙ same);
     }
 
+-- pools that stay are ready nodes as they were
+pub pools_left : (a b : Pools) → b ≡ a → IsReadyLeft a.ready b.ready
+pools_left a b same = inr (inl (ap (λ (p : Pools). p.ready) same))
+
+-- the same in each list
+pub lists_left : (a b : SeatState Pass) → b.pools ≡ a.pools → b.further ≡ a.further → (j : ℕ)
+    → IsReadyLeft (pools_at a j).ready (pools_at b j).ready
+lists_left a b same more zero = pools_left a.pools b.pools same
+lists_left a b same more (suc j) = inr (inl (λ i. (get_or (more i) j (same i)).ready))
+
 -- ready nodes that stay in list 0 and in each further list stay in each list
 pub lists_ready : (a b : SeatState Pass) → b.pools.ready ≡ a.pools.ready → map ready_in b.further ≡ map ready_in a.further → (j : ℕ)
     → (pools_at b j).ready ≡ (pools_at a j).ready

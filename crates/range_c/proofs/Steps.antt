@@ -18,6 +18,12 @@ use Rattle.range_c.specs.declared.recording.WordStep.TheVariants.{Load, Store, A
 use Rattle.range_c.specs.Recording.{step_on, kind_of, left_by, made_on, begun, with_last, IsBegun, IsRecorded}
 use Rattle.range_c.specs.Behind.{RecordingSeat}
 
+not_equal : (a b : ℕ) → a ≢ b → eqb a b ≡ false
+not_equal a b other = go (eqb a b) refl where
+  go : (t : Bool) → eqb a b ≡ t → eqb a b ≡ false
+  go true e = absurd (other (eqb-true a b e))
+  go false e = e
+
 -- what a step leaves in its word
 left_is : (words : List ℕ) (step : ClientStep) → place_of step < length words
     → get_or (words_after words step) (place_of step) 0 ≡ left_by (kind_of step) (get_or words (place_of step) 0)
@@ -84,6 +90,13 @@ module _ (seat : ℕ) (held : Option Held) (pass : Recorded) where
   exchanged i expected new after made = last_is (exchanges i expected new) expected after made
       ∙ ap (λ (b : Bool). with_last pass (as_made i (Exchange expected new) expected (either b new expected))) (eq-eqb expected expected refl)
 
+  -- one that found another value leaves that
+  pub unexchanged : (i expected new found : ℕ) (after : Recorded) → found ≢ expected
+      → IsMade IsBegun IsRecorded tt seat held pass (step_on i (Exchange expected new)) found after
+      → after ≡ with_last pass (as_made i (Exchange expected new) found found)
+  unexchanged i expected new found after other made = last_is (exchanges i expected new) found after made
+      ∙ ap (λ (b : Bool). with_last pass (as_made i (Exchange expected new) found (either b new found))) (not_equal found expected other)
+
 -- at the opening the words are those of the opening
 pub begins : (words : List ℕ) (seats : ℕ) → IsBegun (replicate seats None) words (first_passes (begun words) 0 seats)
 begins words seats untouched seat p at =
@@ -93,3 +106,15 @@ begins words seats untouched seat p at =
 pub after_call : (lists : ℕ) (t : TableId) (a b : RecordingSeat) (l : List RecordingSeat) → IsLockCall a b → AreNewSeatsIn lists t (begun a.pass.opened) l
     → AreNewSeatsIn lists t (begun b.pass.opened) l
 after_call lists t a b l call new = subst (λ w. AreNewSeatsIn lists t (begun w) l) (sym (ap (λ (p : Recorded). p.opened) call.pass)) new
+
+-- so do they after a release of its range
+pub after_release : (lists : ℕ) (t : TableId) (a b : RecordingSeat) (l : List RecordingSeat) → IsRelease (λ p. p) a b
+    → AreNewSeatsIn lists t (begun a.pass.opened) l → AreNewSeatsIn lists t (begun b.pass.opened) l
+after_release lists t a b l release new = subst (λ w. AreNewSeatsIn lists t (begun w) l) (sym (ap (λ (p : Recorded). p.opened) release.pass)) new
+
+-- and after a step on a client word
+pub after_step : (lists : ℕ) (t : TableId) (a b : RecordingSeat) (l : List RecordingSeat) (step : ClientStep) (found : ℕ)
+    → IsMade IsBegun IsRecorded tt a.number a.held a.pass step found b.pass
+    → AreNewSeatsIn lists t (begun a.pass.opened) l → AreNewSeatsIn lists t (begun b.pass.opened) l
+after_step lists t a b l step found made new = subst (λ w. AreNewSeatsIn lists t (begun w) l)
+    (sym (ap (λ (p : Recorded). p.opened) (last_is a.number a.held a.pass step found b.pass made))) new

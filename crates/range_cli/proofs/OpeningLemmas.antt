@@ -30,6 +30,13 @@ pub record MapsSoFar (all : List (List ℕ)) (number from : ℕ) (left : List (L
       → ReadsMaps 1 0 all (areas ++ more) (past + p) next rest
   pub ends : (end : EarlyEnd) → EndsMaps number from left end → EndsMaps 1 0 all end
 
+-- before the first maps line nothing was read
+pub maps_start : (all : List (List ℕ)) → MapsSoFar all 1 0 all [] 0
+maps_start all = record {
+  reads = λ more p next rest h. subst (λ n. ReadsMaps 1 0 all more n next rest) (omega arith) h;
+  ends = λ end h. h;
+}
+
 -- behind a maps line what was read has its area too, or one line more past the user addresses
 pub maps_next : (all : List (List ℕ)) (number from : ℕ) (text : List ℕ) (texts : List (List ℕ)) (areas new_areas : List Area) (past new_past : ℕ)
     (item : MapsItem) → MapsSoFar all number from (text ∷ texts) areas past → IsNext from text item → new_areas ≡ areas_with areas item

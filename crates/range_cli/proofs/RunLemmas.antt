@@ -140,3 +140,44 @@ has_check_cause words opening a b m n failures end accepted (inr (inr h)) =
     (inr (inr (record { opening = opening; accepted = accepted; bytes = h.0; input = h.1; ends = h.2 }), of_check opening h.0 end h.2))
 
 -- ---- what a check wrote
+
+-- the verdict on what was read, for words that ask for it
+pub judged_as : (words : List (List ℕ)) (opening : Bool) (a b : Option (List ℕ)) (before : ℕ) (verdict : Verdict) (P : ℕ → Verdict → Type 0)
+    → AskFor words (Check opening) → HasRead a b (λ bytes. IsInputVerdict opening bytes before verdict) → P before verdict → Judged words a b P
+judged_as words opening a b before verdict P accepted read holds = record {
+  opening = opening;
+  accepted = accepted;
+  bytes = read.0;
+  input = read.1;
+  before = before;
+  verdict = verdict;
+  is = read.2;
+  holds = holds;
+}
+
+-- where its whole line was written, the run's status is that of the verdict
+pub wrote_verdict : (words : List (List ℕ)) (opening : Bool) (a b out_old out_new : Option (List ℕ)) (before : ℕ) (verdict : Verdict)
+    → AskFor words (Check opening) → HasRead a b (λ bytes. IsInputVerdict opening bytes before verdict)
+    → Appends out_old out_new (verdict_line before verdict) → Wrote words a b out_old out_new (verdict_status before verdict)
+wrote_verdict words opening a b out_old out_new before (Legal entries) accepted read appends =
+    judged_as words opening a b before (Legal entries) _ accepted read (refl, appends)
+wrote_verdict words opening a b out_old out_new before (WrongVerdict line why) accepted read appends =
+    judged_as words opening a b before (WrongVerdict line why) _ accepted read (refl, appends)
+
+-- and this is its cause
+pub verdict_cause : (words : List (List ℕ)) (opening : Bool) (a b : Option (List ℕ)) (input out : ℕ × ℕ) (before : ℕ) (verdict : Verdict)
+    → AskFor words (Check opening) → HasRead a b (λ bytes. IsInputVerdict opening bytes before verdict)
+    → HasCause words a b input out (verdict_status before verdict)
+verdict_cause words opening a b input out before (Legal entries) accepted read = tt
+verdict_cause words opening a b input out before (WrongVerdict line why) accepted read =
+    judged_as words opening a b before (WrongVerdict line why) _ accepted read refl
+
+-- the status of a verdict is never that of words that are not accepted, nor one that leaves the output alone
+pub verdict_never : (before : ℕ) (verdict : Verdict) → verdict_status before verdict ≡ Usage → ⊥
+verdict_never before (Legal entries) is = cc
+verdict_never before (WrongVerdict line why) is = cc
+
+-- it leaves no output alone
+pub verdict_written : (before : ℕ) (verdict : Verdict) → IsUnwritten (verdict_status before verdict) → ⊥
+verdict_written before (Legal entries) h = h
+verdict_written before (WrongVerdict line why) h = h

@@ -48,6 +48,21 @@ ends_same : (own now : Own) → now ≡ own → HasEnds own → HasEnds now
 ends_same own now same e = subst HasEnds (sym same) e
 
 module _ {P : Type 0} (p q : SeatPart P) (a : Walked) (may : MayWalk p.core) (on : IsLaterInWalk p q) (answer : Answers p.trace.taken p.core.own q a) where
+  -- a walk that came to the place of a filled node leaves it so that it may be linked
+  pub may_link_on : has_come a ≡ true → MayLink q.core
+  may_link_on came =
+      let c = came_by p.trace.taken p q a came may.own answer in
+      record { inside = inside_still p q may.inside (walk_still p q on); own = ends_same p.core.own q.core.own c.0 may.own; place = c.1 }
+
+  -- any other answer of the walk refuses the try, with the node still being filled
+  pub walk_ends : has_come a ≡ false → IsNewWalk p.trace.taken q → LinkEnds p q a
+  walk_ends isnt new = by_answer a isnt (walk_refuses p.trace.taken p.core.own q a isnt answer new)
+    where
+      by_answer : (b : Walked) → has_come b ≡ false → (q.core.own ≡ p.core.own) × Refuses p.trace.taken (asked_of p.core.own) q b → LinkEnds p q b
+      by_answer Place isnt' x = absurd (let e : ◌≡◌ {A = Bool} true false = isnt' in cc)
+      by_answer (Conflict owner range mode) isnt' x = ((λ node f. (f.0, x.0 ∙ f.1, f.2)), x.1)
+      by_answer (Lost l) isnt' x = ((λ node f. (f.0, x.0 ∙ f.1, f.2)), x.1)
+      by_answer (Long visits) isnt' x = ((λ node f. (f.0, x.0 ∙ f.1, f.2)), x.1)
 
   module _ (came : has_come a ≡ true) (r : SeatPart P) (call : IsCall 2 q r) (look : IsSameLook q r) (long : IsLong a ↔ IsSpent q) where
     same : q.core.own ≡ p.core.own
@@ -55,6 +70,35 @@ module _ {P : Type 0} (p q : SeatPart P) (a : Walked) (may : MayWalk p.core) (on
 
     free : held_at q.core.own ≡ None
     free = ap held_at same ∙ fill_free p.core.own may.own
+
+    not_spent : IsSpent r → ⊥
+    not_spent s = by_answer a came (long.1 (spent_look q r look call.seats free s))
+      where
+        by_answer : (b : Walked) → has_come b ≡ true → IsLong b → ⊥
+        by_answer Place y l = l
+        by_answer (Conflict owner range mode) y l = l
+        by_answer (Lost m) y l = l
+        by_answer (Long visits) y l = let z : ◌≡◌ {A = Bool} false true = y in absurd (cc)
+
+    call_later : IsLaterInTry q r
+    call_later = record { number = call.number; seats = call.seats; pass = call.pass; client = call.client; taken = let t = call.taken in omega arith }
+
+    core_still : (u : View) → r.core ≡ u → u.epoch ≡ q.core.epoch → u.hand ≡ q.core.hand → u.ready ≡ q.core.ready → IsLaterInEpoch p r
+    core_still u core epoch hand ready = still_on p q r (walk_still p q on) (record {
+      later = call_later;
+      epoch = ap (λ (v : View). v.epoch) core ∙ epoch;
+      hand = ap (λ (v : View). v.hand) core ∙ (hand ∙ on.hand);
+      ready = ap (λ (v : View). v.ready) core ∙ ready;
+    })
+
+    -- walk and link stay in one epoch
+    pub link_still : (b : LinkAnswer) → Links q r b → IsLaterInEpoch p r
+    link_still IsLinked x = core_still _ x refl refl refl
+    link_still (NotLinked l) x = core_still _ x.1 refl refl refl
+
+    -- a link that is made leaves the node to be validated
+    pub linked_ends : Links q r IsLinked → LinkEnds p r Place
+    linked_ends x = (ap (λ (v : View). v.own) x ∙ ap (linked_own todo_of) same, ap (λ (v : View). v.cursor) x)
 
     aimed_filling : (w node : ℕ) → IsFilling node p.core.own → IsFilling node (aimed_own w q.core.own)
     aimed_filling w node f = (record f.0 { aimed = Some w }, ap (aimed_own w) (same ∙ f.1), f.2)
@@ -76,6 +120,10 @@ module _ {P : Type 0} (p q : SeatPart P) (a : Walked) (may : MayWalk p.core) (on
       },
     )
 
+    -- after a walk that came to its place no walk is spent
+    pub link_long : (b : Walked) → ¬ (IsLong b) → IsLong b ↔ IsSpent r
+    link_long b never = (λ l. absurd (never l), λ s. absurd (not_spent s))
+
 -- ---- the validation
 
 -- an own node that has to be validated is not held
@@ -91,8 +139,23 @@ unheld own h = ap held_at h.is ∙ (ap (λ (t : Todo). held_at (Linked h.node.no
     by_mode Reader = refl
     by_mode Writer = refl
 
+-- a node that was just linked may be validated
+pub may_validate_on : {P : Type 0} (p : SeatPart P) → IsInside p.core → HasToValidate p.core.own → p.core.cursor ≡ None → MayValidate p.seats p.core
+may_validate_on p in_epoch own none = record { inside = in_epoch; own = own; begins = inl none }
+
 module _ {P : Type 0} (p q : SeatPart P) (a : Walked) (own : HasToValidate p.core.own) (on : IsLaterInWalk p q)
     (answer : Answers p.trace.taken p.core.own q a) (new : IsNewWalk p.trace.taken q) where
+  -- a validation that comes to its end holds what was asked for
+  pub valid_ends : has_come a ≡ true → ValidateEnds p q a
+  valid_ends came = by_answer a came answer
+    where
+      by_answer : (b : Walked) → has_come b ≡ true → Answers p.trace.taken p.core.own q b → ValidateEnds p q b
+      by_answer Place y x =
+          let z : q.core.own ≡ Linked own.node.node own.node.range own.node.mode Done = subst (λ (o : Own). Arrives o q.core) own.is x in
+          (ap held_at z ∙ ap asked_of (sym own.is), ap may_leave z)
+      by_answer (Conflict owner range mode) y x = absurd (let z : ◌≡◌ {A = Bool} false true = y in cc)
+      by_answer (Lost l) y x = absurd (let z : ◌≡◌ {A = Bool} false true = y in cc)
+      by_answer (Long visits) y x = absurd (let z : ◌≡◌ {A = Bool} false true = y in cc)
 
   module _ (isnt : has_come a ≡ false) where
     refused : (q.core.own ≡ p.core.own) × Refuses p.trace.taken (asked_of p.core.own) q a
@@ -100,6 +163,10 @@ module _ {P : Type 0} (p q : SeatPart P) (a : Walked) (own : HasToValidate p.cor
 
     unheld_now : held_at q.core.own ≡ None
     unheld_now = ap held_at refused.0 ∙ unheld p.core.own own
+
+    -- after any other answer the node may be marked, since nothing is held
+    pub may_mark_on : (is_at_rest : P → Type 0) → MayMark is_at_rest q
+    may_mark_on is_at_rest = record { node = own.node; is = refused.0 ∙ own.is; rest = λ done. absurd (to_do own.node.mode (sym own.todo ∙ done)) }
 
     module _ (rested : P → P) (r : SeatPart P) (mark : IsMarkCall rested q r) where
       core_marked : r.core ≡ marked q.core own.node.node
@@ -178,6 +245,27 @@ module _ {P : Type 0} (p q : SeatPart P) (a : Walked) (may : MayWalk p.core) (st
   pub insert_validates : has_come a ≡ true → HasToValidate q.core.own
   insert_validates came = validates_linked p.core.own q.core.own may.own (placed came).0
 
+  -- and the cursor is gone
+  pub insert_begins : has_come a ≡ true → q.core.cursor ≡ None
+  insert_begins came = (placed came).1
+
+  -- where walk or link refused, the node is still being filled
+  pub insert_refused : has_come a ≡ false → InsertEnds p q a
+  insert_refused isnt = by_answer a isnt ends
+    where
+      by_answer : (b : Walked) → has_come b ≡ false → LinkEnds p q b → InsertEnds p q b
+      by_answer Place n x = absurd (let e : ◌≡◌ {A = Bool} true false = n in cc)
+      by_answer (Conflict owner range mode) n x = (inr x.0, x.1)
+      by_answer (Lost l) n x = (inr x.0, x.1)
+      by_answer (Long visits) n x = (inr x.0, x.1)
+
+  -- otherwise what the validation came to is what the whole comes to
+  pub insert_valid : has_come a ≡ true → (r : SeatPart P) (b : Walked) → ValidateEnds q r b → InsertEnds p r b
+  insert_valid came r b x = by_answer b x
+    where
+      asks : asked_of q.core.own ≡ asked_of p.core.own
+      asks = asks_linked p.core.own q.core.own may.own (placed came).0
+
       from : (c : Walked) → Refuses q.trace.taken (asked_of q.core.own) r c → Refuses p.trace.taken (asked_of p.core.own) r c
       from c = refuses_from p.trace.taken q.trace.taken (asked_of p.core.own) (asked_of q.core.own) r c still.later.taken asks
 
@@ -224,6 +312,10 @@ module _ {P : Type 0} (p e : SeatPart P) (own : HasEnds p.core.own) (entering : 
     client = ap (λ (x : SeatPart P). x.trace.client) entering;
     taken = let t = ap (λ (x : SeatPart P). x.trace.taken) entering in omega arith;
   }
+
+  -- a hand that entered its epoch with a filled node may walk
+  pub may_walk_in : IsInside e.core → MayWalk e.core
+  may_walk_in i = record { inside = i; own = ends_same p.core.own e.core.own own_in own; cursor = ap (λ (x : SeatPart P). x.core.cursor) entering }
 
   module _ (f : SeatPart P) (still : IsLaterInEpoch e f) where
     abbrev IsBack : Type 0
@@ -287,6 +379,16 @@ module _ {P : Type 0} (p e : SeatPart P) (own : HasEnds p.core.own) (entering : 
         lost = ap (λ (x : SeatPart P). x.trace.lost) leaving;
         look = same_looked f q looked_out;
       }
+
+      -- the whole, from entering to leaving, is a call of the try
+      pub insert_later : IsLaterInTry p q
+      insert_later = later_on p e q later_in (later_on e f q still.later (record {
+        number = ap (λ (x : SeatPart P). x.number) leaving;
+        seats = seats_out;
+        pass = ap (λ (x : SeatPart P). x.pass) leaving;
+        client = ap (λ (x : SeatPart P). x.trace.client) leaving;
+        taken = let t = ap (λ (x : SeatPart P). x.trace.taken) leaving in omega arith;
+      }))
 
       back_ready : IsBack → (node : ℕ) → IsFilling node p.core.own → (q.core.ready ≡ p.core.ready) ⊎ (q.core.ready ≡ node ∷ p.core.ready)
       back_ready x node at = ⊎_elim

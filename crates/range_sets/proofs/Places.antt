@@ -84,6 +84,22 @@ module _ {P : Type 0} where
   )
 
   module _ (most : ℕ) where
+    -- without a want nothing was tried
+    pub granted_none : (wants : List Want) (xs : List (SeatState P)) → length wants ≡ 0 → AreGranted most wants xs xs
+    granted_none [] xs none = refl
+    granted_none (w ∷ ws) xs none = absurd (omega arith)
+
+    -- the first want was granted, and those behind it
+    pub granted_more : (wants rest : List Want) (w : Want) (x y : SeatState P) (xs ys : List (SeatState P)) → wants ≡ w ∷ rest
+        → IsGranted most w x y → AreGranted most rest xs ys → AreGranted most wants (x ∷ xs) (y ∷ ys)
+    granted_more wants rest w x y xs ys e one more = subst (λ l. AreGranted most l (x ∷ xs) (y ∷ ys)) (sym e) (one, more)
+
+    -- the one want was granted to the last seat
+    pub granted_last : (wants rest : List Want) (w : Want) (x y : SeatState P) → wants ≡ w ∷ rest → length wants ≤ 1
+        → IsGranted most w x y → AreGranted most wants (x ∷ []) (y ∷ [])
+    granted_last wants rest w x y e few one =
+        let long : length wants ≡ length (w ∷ rest) = ap length e in
+        granted_more wants rest w x y [] [] e one (granted_none rest [] (omega arith))
 
     -- granted wants are held, each by the seat at its place, and the other seats hold nothing
     pub held_at : (wants : List Want) (xs ys : List (SeatState P)) → AllFree xs → AreGranted most wants xs ys
@@ -124,6 +140,33 @@ module _ {P : Type 0} where
     all_held wants xs ys four free granted i lt = held_at wants xs ys free granted i (omega arith)
 
     module _ (rested : P → P) where
+      -- a range that was got in one try and given back
+      pub taken_back : (x z y : SeatState P) → IsLockCall x z → z.trace.taken ≤ x.trace.taken + most → IsRelease rested z y → IsTakenBack most rested x y
+      taken_back x z y call bound back = record {
+        table = back.table ∙ call.table;
+        number = back.number ∙ call.number;
+        free = back.held;
+        pass = back.pass ∙ ap rested call.pass;
+        client = back.client ∙ call.client;
+        bound = let two = back.most in omega arith;
+      }
+
+      -- the first want was refused
+      pub refused_first : (wants rest : List Want) (w : Want) (x y : SeatState P) (xs : List (SeatState P)) (i : ℕ) (why : NotHeld)
+          → wants ≡ w ∷ rest → i ≡ 0 → IsRefused most w why x y → IsRefusedAt most rested wants (x ∷ xs) (y ∷ xs) i why
+      refused_first wants rest w x y xs i why e first one =
+          subst (λ l. IsRefusedAt most rested l (x ∷ xs) (y ∷ xs) i why) (sym e)
+          (subst (λ k. IsRefusedAt most rested (w ∷ rest) (x ∷ xs) (y ∷ xs) k why) (sym first) (one, refl))
+
+      -- a want behind the first was refused, and the first seat's range given back
+      pub refused_behind : (wants rest : List Want) (w : Want) (x y : SeatState P) (xs ys : List (SeatState P)) (i n : ℕ) (why told : NotHeld)
+          → wants ≡ w ∷ rest → n ≡ i + 1 → told ≡ why → IsTakenBack most rested x y → IsRefusedAt most rested rest xs ys i why
+          → IsRefusedAt most rested wants (x ∷ xs) (y ∷ ys) n told
+      refused_behind wants rest w x y xs ys i n why told e next same one behind =
+          let is : n ≡ suc i = omega arith in
+          subst (λ l. IsRefusedAt most rested l (x ∷ xs) (y ∷ ys) n told) (sym e)
+          (subst (λ k. IsRefusedAt most rested (w ∷ rest) (x ∷ xs) (y ∷ ys) k told) (sym is)
+          (subst (λ v. IsRefusedAt most rested (w ∷ rest) (x ∷ xs) (y ∷ ys) (suc i) v) (sym same) (one, behind)))
 
       -- what a refusal leaves of the seats from a place on
       pub record Refusal (wants : List Want) (xs ys : List (SeatState P)) (i : ℕ) (why : NotHeld) : Type 0 where

@@ -67,6 +67,23 @@ area_of_other A (Fault addr access) under other fits = (
   λ h. absurd h.1.1,
 )
 
+-- the answer of such a call
+pub other_answer : (before : CallerView) (l : Line) (answer : Answer) (after : CallerView) → (IsProtect l.call → ⊥)
+    → IsAnswered before l.line l.call answer after → IsLineAnswer before l answer after
+other_answer before l (Given e) after other is =
+    let num = is.1.numbered in (
+      is.0,
+      record {
+        called = is.1;
+        alone = λ _. record {
+          fits = num.right.fits;
+          area = area_of_other num.state e.call e.under (subst (λ (c : Call). IsProtect c → ⊥) (sym is.1.call_is) other)
+              num.right.fits;
+        };
+      },
+    )
+other_answer before l Spent after other is = is
+
 area_of_protect : (A : List Area) (addr len : ℕ) (prot : Prot) (call : Call) (under : Under) → call ≡ Protect addr len prot
     → FitsUnder A call under → (plain_reply (Protect addr len prot) ≡ None
     → HoldsSomeArea under ↔ IsSimple A (Protect addr len prot))
@@ -108,3 +125,8 @@ spent_call : (before : CallerView) (line : ℕ) (call : Call) (after : CallerVie
     → (before.left ≡ 0) × (after ≡ before)
 spent_call before line (Protect addr len prot) after answer = answer
 spent_call before line call after answer = absurd answer
+
+-- the answer of such a line where the caller has no number left
+pub protect_spent : (before : CallerView) (l : Line) (after : CallerView) → IsAnswerTo before l.line l.call NoneLeft after
+    → IsLineAnswer before l Spent after
+protect_spent before l after answer = spent_call before l.line l.call after answer

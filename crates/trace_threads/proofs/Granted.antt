@@ -45,6 +45,22 @@ below_limit A B addr access kind is = ⊎_elim
     (λ t. t.1)
     (leb_tells LIMIT (page_of addr))
 
+-- of no page and of one
+all_none : (P : ℕ → Type 0) → All P []
+all_none P i d lt = absurd (omega arith)
+
 all_one : (P : ℕ → Type 0) (x : ℕ) → P x → All P (x ∷ [])
 all_one P x p zero d lt = p
 all_one P x p (suc i) d lt = absurd (omega arith)
+
+-- the page of a call with a right reply is below the limit, if it has one
+by_call : (A B : List Area) (c : Call) (r : Reply) → Answers A c r B → All (λ page. page < LIMIT) (page_by c r)
+by_call A B (Fault addr access) (At at) is = all_none (λ page. page < LIMIT)
+by_call A B (Fault addr access) Zero is = all_none (λ page. page < LIMIT)
+by_call A B (Fault addr access) (Granted kind) is = all_one (λ page. page < LIMIT) (page_of addr) (below_limit A B addr access kind is)
+by_call A B (Fault addr access) (Refused why) is = all_none (λ page. page < LIMIT)
+by_call A B c r is = all_none (λ page. page < LIMIT)
+
+-- so is that of an entry with a right reply
+pub entry_below : (A B : List Area) (e : Entry) → Answers A e.call e.reply B → All (λ page. page < LIMIT) (granted_page e)
+entry_below A B e is = by_call A B e.call e.reply is

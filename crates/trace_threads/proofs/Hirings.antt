@@ -26,6 +26,20 @@ use Rattle.trace_threads.proofs.Collecting.{made, collected}
 
 -- ---- one worker after another
 
+-- the first caller gets the first list, and the rest is as ready
+pub first_hired : (cs : List CallerView) (lists : List (Vec Line Global)) (c : CallerView) (list : Vec Line Global)
+    → AreReady cs (map vec_items lists) → 0 < length cs → c ≡ get_or cs 0 c → list ≡ get_or lists 0 list
+    → MayPlay c (vec_items list) × AreReady (remove cs 0) (map vec_items (remove lists 0))
+    × (hired cs (map vec_items lists) ≡ record { caller = c; lines = vec_items list } ∷ hired (remove cs 0)
+    (map vec_items (remove lists 0)))
+first_hired [] lists c list ready more is_c is_list = absurd (omega arith)
+first_hired (d ∷ cs) [] c list ready more is_c is_list = absurd ready
+first_hired (d ∷ cs) (other ∷ lists) c list ready more is_c is_list = (
+  subst (λ (z : CallerView × Vec Line Global). MayPlay z.0 (vec_items z.1)) (λ i. (sym is_c i, sym is_list i)) ready.0,
+  ready.1,
+  λ i. record { caller = sym is_c i; lines = vec_items (sym is_list i) } ∷ hired cs (map vec_items lists),
+)
+
 -- there is a list for each caller
 pub as_many : (cs : List CallerView) (lists : List (List Line)) → AreReady cs lists → length lists ≡ length cs
 as_many [] [] ready = refl
@@ -196,3 +210,9 @@ all_played table start lists before after entries areas new played whole =
     }
 
 -- ---- refusals
+
+-- why a space wasn't opened is why its trace wasn't played
+pub trace_fault : (lists rows : ℕ) (fault : SpaceFault) → IsSpaceFault lists rows fault → IsTraceFault lists rows fault
+trace_fault lists rows (Callers n) is = is
+trace_fault lists rows (Rows n) is = is
+trace_fault lists rows Memory is = tt

@@ -29,6 +29,10 @@ played_none_by c = (
   refl,
 )
 
+-- the same without its entries
+pub played_none : (c : CallerView) → HasPlayed [] c c
+played_none c = (played_none_by c).0
+
 -- who has seen more than more has seen more
 starts_on : (a b c : List Entry) → StartsWith b a → StartsWith c b → StartsWith c a
 starts_on a b c p q = (p.0 ++ q.0, q.1 ∙ (ap (λ l. l ++ q.0) p.1 ∙ append_assoc a p.0 q.0))
@@ -64,6 +68,10 @@ played_more_by l ls a b c e p h =
       },
       refl,
     )
+
+-- the same without its entries
+pub played_more : (l : Line) (ls : List Line) (a b c : CallerView) (e : Entry) → IsPlayedAs a l e b → HasPlayed ls b c → HasPlayed (l ∷ ls) a c
+played_more l ls a b c e p h = (played_more_by l ls a b c e p h).0
 
 -- what calls did to the elements of a list, each by its place
 pub by_place : {A : Type 0} (R : A → A → Type 0) (old new : List A)

@@ -144,6 +144,19 @@ have_touched old new same each = record { count = same; each = by_place HasTouch
 
 -- ---- workers and seats
 
+-- the first worker gets the first seat, and the rest may sit as well
+pub first_seated : (ws : List WorkerView) (ss : List TouchView) (w : WorkerView) (s : TouchView) → MaySit ws ss → 0 < length ws
+    → w ≡ get_or ws 0 w → s ≡ get_or ss 0 s
+    → (fault_count w.lines + length s.touched ≤ s.quota) × MaySit (remove ws 0) (remove ss 0)
+    × (seated ws ss ≡ record { worker = w; seat = s } ∷ seated (remove ws 0) (remove ss 0))
+first_seated [] ss w s may more is_w is_s = absurd (omega arith)
+first_seated (v ∷ ws) [] w s may more is_w is_s = absurd may
+first_seated (v ∷ ws) (t ∷ ss) w s may more is_w is_s = (
+  subst (λ (z : WorkerView × TouchView). fault_count z.0.lines + length z.1.touched ≤ z.1.quota) (λ i. (sym is_w i, sym is_s i)) may.0,
+  may.1,
+  λ i. record { worker = sym is_w i; seat = sym is_s i } ∷ seated ws ss,
+)
+
 -- there is a seat for each worker
 pub as_many_seats : (ws : List WorkerView) (ss : List TouchView) → MaySit ws ss → length ss ≡ length ws
 as_many_seats [] [] may = refl
@@ -219,6 +232,13 @@ new_faults table start lists workers new = same_lists (map fault_count lists) (m
     let count = new.count in
     let ls = there lists k (omega arith) in
     at_map fault_count lists k ls.0 ls.1 ∙ ap some (ap fault_count (sym (new.each k ls.0 w.0 ls.1 w.1).lines) ∙ w.2))
+
+-- each list is at most as long as all together
+pub one_below : (xs : List (Vec Line Global)) (total : ℕ) → sum_by vec_len xs ≤ total → All (λ list. vec_len list ≤ total) xs
+one_below [] total le i d lt = absurd (omega arith)
+one_below (x ∷ xs) total le zero d lt = let c = sum_by-cons vec_len x xs in omega arith
+one_below (x ∷ xs) total le (suc i) d lt =
+    one_below xs total (let c = sum_by-cons vec_len x xs in omega arith) i d (omega arith)
 
 -- the faults of all lists are at most as many as their lines
 pub all_faults : (xs : List (Vec Line Global)) → sum (map fault_count (map vec_items xs)) ≤ sum_by vec_len xs

@@ -17,6 +17,10 @@ use Rattle.range_c.specs.contracts.state.State as State
 use Rattle.range_c.proofs.state.State.TheSendSync.{the_send as state}
 use Rattle.range_c.specs.contracts.handle.Pointer.{the_row, the_type}
 
+owned_keyless : (alloc : Global) (p : Ptr) (b : Option Behind) → Keyless (handle_owns alloc p b)
+owned_keyless alloc p None = tt
+owned_keyless alloc p (Some s) = (lies State.the_row state p s, heap.frees.frees alloc (raw (lone State.the_row.mir)) p)
+
 -- the pointer of a handle may go to another thread
 pub send : IsSend the_row
 send =
