@@ -48,5 +48,4 @@ module _ {P : Type 0} (c : Regions) (seats clients : ℕ) (holds : Grants → Li
             ∙ ap (λ m. Some m) (frames.this (list_count c) seats s.words all p.number i p.cores step line locks here_all full less enabled low
             ∙ ap (λ (l : List (List View)). machine_at i seats (set s.words (place_in seats p i step) (line.write y)) l) (sym
             (map-set cores_of parts p.number q)));
-        counted = refl;
       }

@@ -178,7 +178,8 @@ module _ {P : Type 0} (begin : P) (c : Regions) (seats clients : ℕ) (holds : G
       → place ≡ p.pass.list * word_count p.seats + word
       → ((n : ℕ) → n < 18446744073709551616 → (step ≡ Mark → n % 2 ≡ 0) → f n ≡ (line_for p step).write n)
       → Allows (IsRunningList key_cut key_seats clients holds) slots id me place f (IsLockPlay begin rested play_lists play_list seats step me)
-  token_allows {key_cut} {key_seats} same_cut same {number} {many} {lists} {i} {first} {words} {play_lists} {play_list} step slots id place word f me p one seat_of is lists_are
+  token_allows {key_cut} {key_seats} same_cut same {number} {many} {lists} {i} {first} {words} {play_lists} {play_list} step slots
+      id place word f me p one seat_of is lists_are
       list_is
       may rests at low there writes =
       let w : SeatLists P = part_in begin me.0.parts in

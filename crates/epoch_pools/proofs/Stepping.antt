@@ -164,15 +164,18 @@ or_last false b e = e
 
 -- what a cursor has looked at is in the record after a step, if it was before
 looked_kept : (t : Record) (before now : Option Cursor) (judging gained : Bool)
-    → ((c : Cursor) → before ≡ Some c → (l : Looked) × (t.looked ≡ Some l) × (l.nodes ≡ c.seen) × (c.cur ≡ 0 → l.ended ≡ true))
+    → ((c : Cursor) → before ≡ Some c → (l : Looked) × (t.looked ≡ Some l) × (l.nodes ≡ c.seen) × (c.cur ≡ 0 → l.ended ≡ true)
+    × (l.list ≡ t.list))
     → (c : Cursor) → now ≡ Some c → (l : Looked) × (looked_with t before now judging gained ≡ Some l) × (l.nodes ≡ c.seen) × (c.cur ≡ 0 → l.ended ≡ true)
+    × (l.list ≡ t.list)
 looked_kept t before None judging gained old c e = absurd (cc)
 looked_kept t None (Some d) judging gained old c e =
     let same : d ≡ c = cc in (
-      record { nodes = d.seen; judged = 0; ended = d.cur == 0; held = gained; step = t.taken },
+      record { nodes = d.seen; judged = 0; ended = d.cur == 0; held = gained; list = t.list; step = t.taken },
       refl,
       ap (λ (x : Cursor). x.seen) same,
       (λ at. eq-eqb d.cur 0 (ap (λ (x : Cursor). x.cur) same ∙ at)),
+      refl,
     )
 looked_kept t (Some b) (Some d) judging gained old c e =
     let same : d ≡ c = cc in let l = old b refl in (
@@ -180,6 +183,7 @@ looked_kept t (Some b) (Some d) judging gained old c e =
       ap (λ (o : Option Looked). looked_on o d judging gained) l.1,
       ap (λ (x : Cursor). x.seen) same,
       (λ at. or_last l.0.ended (d.cur == 0) (eq-eqb d.cur 0 (ap (λ (x : Cursor). x.cur) same ∙ at))),
+      l.4,
     )
 
 module _ {P : Type 0} (p : SeatPart P) where

@@ -69,6 +69,7 @@ pool_call {P} rested p q step w u made own core epoch cursor hand = record {
   seats = ap (λ (x : SeatPart P). x.seats) made;
   pass = ap (λ (x : SeatPart P). x.pass) made ∙ pass_none rested p.core.own (held_at (core_after p step w).own) p.pass own;
   client = ap (λ (x : SeatPart P). x.trace.client) made;
+  list = ap (λ (x : SeatPart P). x.trace.list) made;
   epoch = ap (λ (v : View). v.epoch) core ∙ epoch;
   cursor = ap (λ (v : View). v.cursor) core ∙ cursor;
   hand = ap (λ (v : View). v.hand) core ∙ hand;
@@ -86,6 +87,7 @@ no_call p = record {
   seats = refl;
   pass = refl;
   client = refl;
+  list = refl;
   epoch = refl;
   cursor = refl;
   hand = refl;
@@ -100,6 +102,7 @@ both_calls p q r a b = record {
   seats = b.seats ∙ a.seats;
   pass = b.pass ∙ a.pass;
   client = b.client ∙ a.client;
+  list = b.list ∙ a.list;
   epoch = b.epoch ∙ a.epoch;
   cursor = b.cursor ∙ a.cursor;
   hand = b.hand ∙ a.hand;
@@ -136,7 +139,7 @@ read_home_on seats s v n w may = by_line _ (line_of seats s v (ReadHome n) may)
 module _ {P : Type 0} (rested : P → P) (p q : SeatPart P) (n w : ℕ) (free : IsFree p.core) (may : Enables p (ReadHome n))
     (made : q ≡ part_after rested p (ReadHome n) w) where
   abbrev entry : Away
-  entry = record { node = n; step = p.trace.taken }
+  entry = record { node = n; list = p.trace.list; step = p.trace.taken }
 
   abbrev came : View
   came = came_home p.seats p.core n
@@ -188,28 +191,29 @@ module _ {P : Type 0} (rested : P → P) (p q : SeatPart P) (n w : ℕ) (free : 
         this = λ u. inr (record {
           entry = entry;
           last = ap (λ (l : List Away). find (λ a. a.node == n) l) e' ∙ find_here (λ (a : Away). a.node) entry p.trace.away;
+          listed = refl;
           from = omega arith;
           before = let t = later in omega arith;
         });
       }
 
 -- what is known of the nodes that were looked at stays known, and this node is known
-pub home_known : {P : Type 0} (p q r : SeatPart P) (n x : ℕ) → p.trace.taken ≤ q.trace.taken → q.trace.taken ≤ r.trace.taken
-    → IsHomeLook q r n → (x ≢ n → IsHomeKnown p q x) → IsHomeKnown p r x
-home_known p q r n x from on look known used =
+pub home_known : {P : Type 0} (p q r : SeatPart P) (n x : ℕ) → q.trace.list ≡ p.trace.list → p.trace.taken ≤ q.trace.taken
+    → q.trace.taken ≤ r.trace.taken → IsHomeLook q r n → (x ≢ n → IsHomeKnown p q x) → IsHomeKnown p r x
+home_known p q r n x same from on look known used =
     ⊎_elim
     (λ (e : x ≡ n).
-    subst (λ y. (1 ≤ times y r.core.homes) ⊎ IsReadAway p.trace.taken r.trace.taken r.trace.away y) (sym e)
+    subst (λ y. (1 ≤ times y r.core.homes) ⊎ IsReadAway p.trace.list p.trace.taken r.trace.taken r.trace.away y) (sym e)
     (⊎_elim
     (λ (h : 1 ≤ times n r.core.homes). inl h)
-    (λ (a : IsReadAway q.trace.taken r.trace.taken r.trace.away n). inr
-    (record { entry = a.entry; last = a.last; from = let f = a.from in omega arith; before = a.before }))
+    (λ (a : IsReadAway q.trace.list q.trace.taken r.trace.taken r.trace.away n). inr
+    (record { entry = a.entry; last = a.last; listed = a.listed ∙ same; from = let f = a.from in omega arith; before = a.before }))
     (look.this (subst (λ y. 1 ≤ times y r.core.used) e used))))
     (λ (d : x ≢ n).
     ⊎_elim
     (λ (h : 1 ≤ times x q.core.homes). inl (look.homes x h used))
-    (λ (a : IsReadAway p.trace.taken q.trace.taken q.trace.away x). inr
-    (record { entry = a.entry; last = look.away x d ∙ a.last; from = a.from; before = let b = a.before in omega arith }))
+    (λ (a : IsReadAway p.trace.list p.trace.taken q.trace.taken q.trace.away x). inr
+    (record { entry = a.entry; last = look.away x d ∙ a.last; listed = a.listed; from = a.from; before = let b = a.before in omega arith }))
     (known d (let u = look.used x in omega arith)))
     (cases_eq x n)
 
@@ -333,7 +337,7 @@ module _ {P : Type 0} (rested : P → P) (p q : SeatPart P) (j w : ℕ) (free : 
   epoch_core = ap (λ (x : SeatPart P). x.core) made ∙ read_epoch_on p.seats p.number p.core j w may
 
   abbrev heard : Noted
-  heard = record { seat = j; epoch = w; step = p.trace.taken }
+  heard = record { seat = j; epoch = w; list = p.trace.list; step = p.trace.taken }
 
   noted_now : q.trace.noted ≡ (if w % 2 == 0 || is_passed q.core j then p.trace.noted else heard ∷ p.trace.noted)
   noted_now = ap (λ (x : SeatPart P). x.trace.noted) made
@@ -373,6 +377,7 @@ module _ {P : Type 0} (rested : P → P) (p q : SeatPart P) (j w : ℕ) (free : 
       inr (record {
         entry = heard;
         last = ap (λ (ns : List Noted). find (λ n. n.seat == j) ns) is ∙ find_here (λ (n : Noted). n.seat) heard p.trace.noted;
+        listed = refl;
         from = omega arith;
         before = let n = epoch_later in omega arith;
         odd = t.0;
@@ -401,14 +406,16 @@ module _ {P : Type 0} (rested : P → P) (p q : SeatPart P) (j w : ℕ) (free : 
       })
 
 -- what this call knows of a seat is known since an earlier moment of it
-pub seat_known_since : {P : Type 0} (p q r : SeatPart P) (k : ℕ) → p.trace.taken ≤ q.trace.taken → IsSeatKnown q r k → IsSeatKnown p r k
-seat_known_since p q r k from known =
+pub seat_known_since : {P : Type 0} (p q r : SeatPart P) (k : ℕ) → q.trace.list ≡ p.trace.list → p.trace.taken ≤ q.trace.taken → IsSeatKnown q r k
+    → IsSeatKnown p r k
+seat_known_since p q r k same from known =
     ⊎_elim
     (λ (t : is_passed r.core k ≡ true). inl t)
-    (λ (a : IsReadInside q.trace.taken r.trace.taken r.trace.noted r.core k). inr
+    (λ (a : IsReadInside q.trace.list q.trace.taken r.trace.taken r.trace.noted r.core k). inr
     (record {
       entry = a.entry;
       last = a.last;
+      listed = a.listed ∙ same;
       from = let f = a.from in omega arith;
       before = a.before;
       odd = a.odd;
@@ -419,11 +426,11 @@ seat_known_since p q r k from known =
 
 -- a seat that is known and isn't passed has a note
 pub known_note : {P : Type 0} (p q : SeatPart P) (k : ℕ) → IsSeatKnown p q k → is_passed q.core k ≡ false
-    → IsReadInside p.trace.taken q.trace.taken q.trace.noted q.core k
+    → IsReadInside p.trace.list p.trace.taken q.trace.taken q.trace.noted q.core k
 known_note p q k known unpassed =
     ⊎_elim
     (λ (t : is_passed q.core k ≡ true). absurd (let e = sym unpassed ∙ t in cc))
-    (λ (a : IsReadInside p.trace.taken q.trace.taken q.trace.noted q.core k). a)
+    (λ (a : IsReadInside p.trace.list p.trace.taken q.trace.taken q.trace.noted q.core k). a)
     known
 
 -- ---- where each other seat is passed all others are
@@ -461,11 +468,12 @@ some_home [] d = absurd (d refl)
 some_home (x ∷ xs) d = (x, let one : ◌≡◌ {A = ℕ} (if x == x then 1 else 0) 1 = ap (λ (b : Bool). if b then 1 else 0) (eq-eqb x x refl) in omega arith)
 
 -- the first seat that isn't passed holds the nodes up that wait
-pub held_up_by : {P : Type 0} (p q r : SeatPart P) (seat epoch : ℕ) → p.trace.taken ≤ q.trace.taken → IsBarred q r → q.core.homes ≢ []
+pub held_up_by : {P : Type 0} (p q r : SeatPart P) (seat epoch : ℕ)
+    → q.trace.list ≡ p.trace.list → p.trace.taken ≤ q.trace.taken → IsBarred q r → q.core.homes ≢ []
     → IsViewSized r.seats r.number r.core → IsFirstInside r.core r.seats r.number seat epoch → IsHeldUp p r seat epoch
-held_up_by p q r seat epoch from barred some sized first =
+held_up_by p q r seat epoch same from barred some sized first =
     let h = some_home r.core.homes (λ none. some (sym barred.waiting.homes ∙ none)) in
-    let read = known_note p r seat (seat_known_since p q r seat from (barred.known seat first.there first.other)) first.inside in
+    let read = known_note p r seat (seat_known_since p q r seat same from (barred.known seat first.there first.other)) first.inside in
     record {
       node = h.0;
       home = h.1;
@@ -478,10 +486,10 @@ held_up_by p q r seat epoch from barred some sized first =
     }
 
 -- the seat that the hand finds in its own view is a cause why the call gives no node
-pub stuck_on : {P : Type 0} (p q r : SeatPart P) (s : Stuck) → p.trace.taken ≤ q.trace.taken → IsBarred q r → q.core.homes ≢ []
+pub stuck_on : {P : Type 0} (p q r : SeatPart P) (s : Stuck) → q.trace.list ≡ p.trace.list → p.trace.taken ≤ q.trace.taken → IsBarred q r → q.core.homes ≢ []
     → IsViewSized r.seats r.number r.core → IsInside r s → IsStuck p r s
-stuck_on p q r (Inside seat epoch) from barred some sized first = held_up_by p q r seat epoch from barred some sized first
-stuck_on p q r (IsAway node) from barred some sized first = absurd first
+stuck_on p q r (Inside seat epoch) same from barred some sized first = held_up_by p q r seat epoch same from barred some sized first
+stuck_on p q r (IsAway node) same from barred some sized first = absurd first
 
 -- a node that is taken after looks was made ready by them
 pub takes_filled : {P : Type 0} (p q r : SeatPart P) (n : ℕ) → IsLooking p q → p.core.ready ≡ [] → p.core.own ≡ Nothing

@@ -180,9 +180,10 @@ module _ {P : Type 0} where
   AreOthersIdle lists hands = (k : ℕ) (h : HandState (Beside P)) → get_elem? hands k ≡ some h → (j : ℕ) → j < lists → j ≢ h.part.pass.list
       → IsIdle (core_at j h.part.pass.others)
 
-  -- what a cursor has looked at is in the record, by its count of nodes, and that it is at the end
+  -- what a cursor has looked at is in the record, by its count of nodes, that it is at the end, and its list
   abbrev pub IsLookedOn : SeatPart P → Type 0
   IsLookedOn p = (c : Cursor) → p.core.cursor ≡ Some c → (l : Looked) × (p.trace.looked ≡ Some l) × (l.nodes ≡ c.seen) × (c.cur ≡ 0 → l.ended ≡ true)
+      × (l.list ≡ p.trace.list)
 
   -- what a hand may rely on of its own view and record, whatever other seats do
   pub record IsHandView (p : SeatPart P) : Type 0 where

@@ -1,7 +1,7 @@
 -- What one step of a running list is. At any moment that meets the rule, a step that the seat's view of a list enables
--- is one of the pure machine on that list's words, by its line of the step table of `lock_core`, and the seat's record
--- counts it. So it is of each of the eighteen kinds, after Kogan, Dice and Issa 2020; pools, barrier and several lists
--- are this project's own profile.
+-- is one of the pure machine on that list's words, by its line of the step table of `lock_core`. So it is of each of
+-- the eighteen kinds, after Kogan, Dice and Issa 2020; pools, barrier and several lists are this project's own profile.
+-- A look at a head is a step of the record and none of these: `Passing` says what it is.
 use Rattle.std.specs.Prelude.{◌≡◌, ℕ, ◌+◌, ◌*◌, ◌<◌, List, map, slice_index, slice_set, Some}
 use Rattle.atomic_table.specs.Table.{State}
 use Rattle.lock_core.specs.Grants.{Grants}
@@ -25,15 +25,14 @@ module _ {P : Type 0} where
   abbrev pub found_at : ℕ → List ℕ → SeatLists P → ℕ → Step → ℕ
   found_at seats words p i step = slice_index words (place_in seats p i step)
 
-  -- a step of a seat in list i, at a moment with these words and parts by number: its plan is a line of the step table;
-  -- the list's state after the operation is the machine's after that step; and the seat's record has one step more
+  -- a step of a seat in list i, at a moment with these words and parts by number: its plan is a line of the step table,
+  -- and the list's state after the operation is the machine's after that step
   pub record IsOneLine (lists : ℕ) (rested : P → P) (seats : ℕ) (words : List ℕ) (parts : List (SeatLists P)) (p : SeatLists P) (i : ℕ)
       (step : Step) : Type 0 where
     pub line : IsLine seats p.number (core_at i p.cores) step (line_in p i step)
     pub steps : after (machine_at i seats words (map cores_of parts)) p.number step
         ≡ Some (machine_at i seats (slice_set words (place_in seats p i step) ((line_in p i step).write (found_at seats words p i step)))
         (map cores_of (slice_set parts p.number (lists_after lists rested p i step (found_at seats words p i step)))))
-    pub counted : (lists_after lists rested p i step (found_at seats words p i step)).trace.taken ≡ p.trace.taken + 1
 
   -- so it is of each step that a seat's view of a list enables, on a word of that list
   abbrev pub StepsAreLines : (Grants → List ℕ → List P → Type 0) → (P → P) → Type 0

@@ -1,7 +1,7 @@
 -- What each step leaves in the record of its seat. The record stands in no part of the table's rule and changes at the
 -- stepping seat alone; a contract reads in it at which step of a call a node was met, an exchange was lost, or a home
 -- word or an epoch was read. An entry's number is how many steps the seat had made before its step, so an entry of a
--- call has a number from the count at the call's entry on. This project's own profile.
+-- call has a number from the count at the call's entry on, and it tells the list. This project's own profile.
 use Rattle.std.specs.Prelude.{ℕ, suc, ◌+◌, ◌-◌, ◌*◌, ◌/◌, ◌%◌, ◌==◌, ◌||◌, ◌&&◌, Bool, true, false, if◌then◌else◌, List}
 use Rattle.std.specs.Prelude.{[], ◌∷◌, Option, Some, None, unwrap_or, is_some, is_none}
 use Rattle.lock_core.specs.declared.views.View.{View}
@@ -30,6 +30,7 @@ met_at t (Some c) found =
     Some (record {
       owner = (c.cur / 2 - 1) / 16;
       held = record { range = record { lo = unwrap_or c.lo 0; hi = found / 2 }; mode = mode_of found };
+      list = t.list;
       step = t.walked;
     })
 
@@ -64,14 +65,14 @@ lost_by t step place (Some e) found =
 -- ReadHome adds a node that it finds away, and leaves the others, and so does Mark; a step of another kind forgets them
 -- all
 abbrev pub away_after : Record → Step → ℕ → List Away
-away_after t (ReadHome n) found = if found == 1 then t.away else record { node = n; step = t.taken } ∷ t.away
+away_after t (ReadHome n) found = if found == 1 then t.away else record { node = n; list = t.list; step = t.taken } ∷ t.away
 away_after t Mark found = t.away
 away_after t _ found = []
 
 -- ReadEpoch adds an odd epoch of a seat that isn't passed after it
 abbrev pub noted_after : Record → View → Step → ℕ → List Noted
 noted_after t now (ReadEpoch j) found =
-    if found % 2 == 0 || is_passed now j then t.noted else record { seat = j; epoch = found; step = t.taken } ∷ t.noted
+    if found % 2 == 0 || is_passed now j then t.noted else record { seat = j; epoch = found; list = t.list; step = t.taken } ∷ t.noted
 noted_after t now _ found = t.noted
 
 abbrev pub is_judging : Step → Bool
@@ -91,7 +92,7 @@ looked_on (Some l) c judging gained =
 
 abbrev pub looked_with : Record → Option Cursor → Option Cursor → Bool → Bool → Option Looked
 looked_with t before None judging gained = t.looked
-looked_with t None (Some c) judging gained = Some (record { nodes = c.seen; judged = 0; ended = c.cur == 0; held = gained; step = t.taken })
+looked_with t None (Some c) judging gained = Some (record { nodes = c.seen; judged = 0; ended = c.cur == 0; held = gained; list = t.list; step = t.taken })
 looked_with t (Some b) (Some c) judging gained = looked_on t.looked c judging gained
 
 -- the number of the last Walk

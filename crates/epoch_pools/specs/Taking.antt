@@ -27,6 +27,7 @@ pub record IsPoolCall {P : Type 0} (p q : SeatPart P) : Type 0 where
   pub seats : q.seats ≡ p.seats
   pub pass : q.pass ≡ p.pass
   pub client : q.trace.client ≡ p.trace.client
+  pub list : q.trace.list ≡ p.trace.list
   pub epoch : q.core.epoch ≡ p.core.epoch
   pub cursor : q.core.cursor ≡ p.core.cursor
   pub hand : q.core.hand ≡ p.core.hand
@@ -34,17 +35,19 @@ pub record IsPoolCall {P : Type 0} (p q : SeatPart P) : Type 0 where
   pub looked : p.core.cursor ≡ None → q.trace.looked ≡ p.trace.looked
   pub taken : p.trace.taken ≤ q.trace.taken
 
--- node x was read as away, for the last time by a step from number `since` on and below `taken`
-pub record IsReadAway (since taken : ℕ) (away : List Away) (x : ℕ) : Type 0 where
+-- node x was read as away in that list, for the last time by a step from number `since` on and below `taken`
+pub record IsReadAway (list since taken : ℕ) (away : List Away) (x : ℕ) : Type 0 where
   pub entry : Away
   pub last : find (λ a. a.node == x) away ≡ Some entry
+  pub listed : entry.list ≡ list
   pub from : since ≤ entry.step
   pub before : entry.step < taken
 
--- seat k isn't passed, since an odd epoch was read of it by such a step; that epoch is noted of it, and no other
-pub record IsReadInside (since taken : ℕ) (noted : List Noted) (v : View) (k : ℕ) : Type 0 where
+-- seat k isn't passed, since an odd epoch was read of it there by such a step; that epoch is noted of it, and no other
+pub record IsReadInside (list since taken : ℕ) (noted : List Noted) (v : View) (k : ℕ) : Type 0 where
   pub entry : Noted
   pub last : find (λ n. n.seat == k) noted ≡ Some entry
+  pub listed : entry.list ≡ list
   pub from : since ≤ entry.step
   pub before : entry.step < taken
   pub odd : entry.epoch % 2 ≡ 1
@@ -55,7 +58,7 @@ pub record IsReadInside (since taken : ℕ) (noted : List Noted) (v : View) (k :
 pub record IsAllAway {P : Type 0} (p q : SeatPart P) (node : ℕ) : Type 0 where
   pub used : 1 ≤ times node q.core.used
   pub lowest : (x : ℕ) → 1 ≤ times x q.core.used → node ≤ x
-  pub away : (x : ℕ) → 1 ≤ times x q.core.used → IsReadAway p.trace.taken q.trace.taken q.trace.away x
+  pub away : (x : ℕ) → 1 ≤ times x q.core.used → IsReadAway p.trace.list p.trace.taken q.trace.taken q.trace.away x
 
 -- a used node was read as 1 at its home, and of that seat, the first that isn't passed, this call read that odd epoch
 pub record IsHeldUp {P : Type 0} (p q : SeatPart P) (seat epoch : ℕ) : Type 0 where
@@ -64,7 +67,7 @@ pub record IsHeldUp {P : Type 0} (p q : SeatPart P) (seat epoch : ℕ) : Type 0 
   pub used : 1 ≤ times node q.core.used
   pub there : seat < q.seats
   pub other : seat ≢ q.number
-  pub read : IsReadInside p.trace.taken q.trace.taken q.trace.noted q.core seat
+  pub read : IsReadInside p.trace.list p.trace.taken q.trace.taken q.trace.noted q.core seat
   pub epoch_is : read.entry.epoch ≡ epoch
   pub lowest : (k : ℕ) → k < seat → k ≢ q.number → is_passed q.core k ≡ true
 
@@ -100,15 +103,15 @@ pub record IsHomeLook {P : Type 0} (p q : SeatPart P) (n : ℕ) : Type 0 where
   pub used : (x : ℕ) → times x q.core.used ≤ times x p.core.used
   pub homes : (x : ℕ) → 1 ≤ times x p.core.homes → 1 ≤ times x q.core.used → 1 ≤ times x q.core.homes
   pub away : (x : ℕ) → x ≢ n → find (λ a. a.node == x) q.trace.away ≡ find (λ a. a.node == x) p.trace.away
-  pub this : 1 ≤ times n q.core.used → (1 ≤ times n q.core.homes) ⊎ IsReadAway p.trace.taken q.trace.taken q.trace.away n
+  pub this : 1 ≤ times n q.core.used → (1 ≤ times n q.core.homes) ⊎ IsReadAway p.trace.list p.trace.taken q.trace.taken q.trace.away n
 
 -- a used node of the hand is a candidate, or was read as away at a step since p
 abbrev pub IsHomeKnown : {P : Type 0} → SeatPart P → SeatPart P → ℕ → Type 0
-IsHomeKnown p q x = 1 ≤ times x q.core.used → (1 ≤ times x q.core.homes) ⊎ IsReadAway p.trace.taken q.trace.taken q.trace.away x
+IsHomeKnown p q x = 1 ≤ times x q.core.used → (1 ≤ times x q.core.homes) ⊎ IsReadAway p.trace.list p.trace.taken q.trace.taken q.trace.away x
 
 -- seat k is passed, or this call read that it is inside
 abbrev pub IsSeatKnown : {P : Type 0} → SeatPart P → SeatPart P → ℕ → Type 0
-IsSeatKnown p q k = (is_passed q.core k ≡ true) ⊎ IsReadInside p.trace.taken q.trace.taken q.trace.noted q.core k
+IsSeatKnown p q k = (is_passed q.core k ≡ true) ⊎ IsReadInside p.trace.list p.trace.taken q.trace.taken q.trace.noted q.core k
 
 -- the candidates wait on, since not all others are passed
 pub record IsWaiting {P : Type 0} (p q : SeatPart P) : Type 0 where

@@ -79,8 +79,9 @@ impl<G: Guard> Hand<G> {
     pub fn list(&self) -> u32
         ensures list { result ≡ self.now.part.pass.list }
         ensures there { result < self.now.part.pass.lists }
+        ensures noted { self.now.part.trace.list ≡ self.now.part.pass.list }
     {
-        self.token.list
+        self.token.at()
     }
 
     /// Turns the hand to a list, counted from 0. It makes no step, and what the hand knows of each list stays. The hand

@@ -26,8 +26,7 @@ pub fn keeps_no_reuse<G: Guard>()
 {}
 
 /// At any moment, a step of any kind that a seat's view of a list enables is a line of the step table of `lock_core`:
-/// the list's words and views after it are those of the machine after that step. The seat's record counts it as one
-/// step.
+/// the list's words and views after it are those of the machine after that step.
 pub fn steps_are_lines<G: Guard>()
     ensures { StepsAreLines G.holds G.rested }
 {}

@@ -18,6 +18,8 @@ pub struct Met {
     pub owner: u32,
     /// The range and the mode in the words of the node.
     pub held: Held,
+    /// The list in which it stands, counted from 0.
+    pub list: u32,
     /// The number of the Walk that found this node unmarked.
     pub step: u64,
 }
@@ -38,6 +40,8 @@ pub struct Lost {
 /// A used node whose home word a ReadHome found to be other than 1.
 pub struct Away {
     pub node: u32,
+    /// The list whose home word it was, counted from 0.
+    pub list: u32,
     pub step: u64,
 }
 
@@ -46,6 +50,8 @@ pub struct Noted {
     /// The number of the other seat.
     pub seat: u32,
     pub epoch: u64,
+    /// The list whose epoch word it was, counted from 0.
+    pub list: u32,
     pub step: u64,
 }
 
@@ -59,6 +65,8 @@ pub struct Looked {
     pub ended: bool,
     /// Whether one of its steps made the range held.
     pub held: bool,
+    /// The list in which it is, counted from 0.
+    pub list: u32,
     /// The number of the Walk that made the cursor.
     pub step: u64,
 }

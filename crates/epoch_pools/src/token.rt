@@ -48,6 +48,16 @@ impl<G: Guard> Token<G> {
         (self.first + word) as usize
     }
 
+    /// The list to which the token is turned, counted from 0. In it are the steps that its record notes next.
+    #[inline(always)]
+    pub(crate) fn at(&self) -> u32
+        ensures list { result ≡ self.now.part.pass.list }
+        ensures there { result < self.now.part.pass.lists }
+        ensures noted { self.now.part.trace.list ≡ self.now.part.pass.list }
+    {
+        self.list
+    }
+
     /// Turns the token to another list. No step is made.
     pub(crate) fn turn(&mut self, list: u32)
         requires { list < self.old.part.pass.lists }

@@ -1,7 +1,8 @@
-//! A cut of the numbers into regions, so that a table can keep a list for each: seats at ranges of different regions
-//! then change no word in common. A region isn't an interval: blocks of numbers are dealt out to the regions in turn,
-//! so that what lies close together is spread over them. A reader may rely on a range taking the list of each of its
-//! numbers, and on two ranges that overlap taking a list in common (`specs/Cut.antt`). This project's own profile.
+//! A cut of the numbers into regions, so that a table can keep a list for each: a range of one region then works in the
+//! list of that region, and in the one for ranges of several where somebody is there. A region isn't an interval:
+//! blocks of numbers are dealt out to the regions in turn, so that what lies close together is spread over them. A
+//! reader may rely on a range taking the list of each of its numbers, and on two ranges that overlap taking a list in
+//! common (`specs/Cut.antt`). This project's own profile.
 ghost use Rattle.std.specs.Prelude.{◌≡◌, ◌↔◌, ◌-◌, ◌/◌, ◌^◌, ◌<◌, ◌≤◌, IsTrue, IsOk, IfOk, IfErr, IfSome, None};
 ghost use Rattle.list_cuts.specs.Cut.{IsCut, first_list, list_count, list_of, Takes, TakesOne, TakesTwo};
 ghost use Rattle.list_cuts.specs.Blocks.{IsNextBlock};

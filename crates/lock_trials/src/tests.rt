@@ -124,7 +124,10 @@ fn try_behind(
     assert_eq!(rt; hold_times(table, b, range, mode, before), before);
     let scan = table.scan(b);
     assert_eq!(rt; hold_times(table, a, range, mode, 16), 16);
-    let inside = NotHeld::NoNode(Stuck::Inside { seat: 1, epoch: 1 });
+    let inside = NotHeld::NoNode {
+        list: 0,
+        stuck: Stuck::Inside { seat: 1, epoch: 1 },
+    };
     refuse(rt, table, a, range, mode, inside);
     scan.end();
     assert_eq!(rt; hold_times(table, a, range, mode, 1), 1);

@@ -90,6 +90,7 @@ module _ {P : Type 0} (p : SeatPart P) (may : MayBeginWalk p.core) where
             (ap (λ (v : View). v.cursor) view_is)),
         omega arith,
         (let t = m.taken in omega arith),
+        sym m.list,
       );
       judged = ap judged_in
           (m.looked ∙ (ap (λ (b : Option Cursor). looked_with p.trace b (out_plan.view w).cursor (is_judging Walk)

@@ -1,5 +1,5 @@
 -- One step or call after another: what an answer says of the second is so of both.
-use Rattle.std.proofs.Common.{◌≡◌, ◌≢◌, ◌↔◌, ℕ, ◌+◌, ◌*◌, ◌≤◌, ⊎_elim, ap, ◌∙◌, subst, arith}
+use Rattle.std.proofs.Common.{◌≡◌, ◌≢◌, ◌↔◌, ℕ, ◌+◌, ◌*◌, ◌≤◌, ⊎_elim, sym, ap, ◌∙◌, subst, arith}
 use Rattle.std.specs.Prelude.{Option, Some, None}
 use Rattle.lock_core.specs.declared.range.Held.{Held}
 use Rattle.lock_core.specs.declared.views.View.{View}
@@ -23,6 +23,7 @@ met_from first later q owner held le m = record {
   is = m.is;
   from = let f = m.from in omega arith;
   below = m.below;
+  listed = m.listed;
   owned = m.owned;
   holds = m.holds;
   other = m.other;
@@ -41,6 +42,7 @@ lost_from first later q Kind place expected found le l =
       kind = l.kind;
       from = let f = l.from in omega arith;
       below = l.below;
+      listed = l.listed;
       placed = l.placed;
       wanted = l.wanted;
       had = l.had;
@@ -48,5 +50,7 @@ lost_from first later q Kind place expected found le l =
     }
 
 -- a walk that was begun in the call is still one that was, after more steps of the same walk
-pub new_on : {P : Type 0} (first : ℕ) (q r : SeatPart P) → IsNewWalk first q → IsSameWalk q r → q.trace.taken ≤ r.trace.taken → IsNewWalk first r
-new_on first q r new same le = let s = same new.0 new.1 in let f = new.2 in let b = new.3 in let e = s.2 in (s.0, s.1, omega arith, omega arith)
+pub new_on : {P : Type 0} (first : ℕ) (q r : SeatPart P) → IsNewWalk first q → IsSameWalk q r → r.trace.list ≡ q.trace.list
+    → q.trace.taken ≤ r.trace.taken → IsNewWalk first r
+new_on first q r new same list le = let s = same new.0 new.1 in let f = new.2 in let b = new.3 in let e = s.2 in
+    (s.0, s.1, omega arith, omega arith, s.3 ∙ (new.4 ∙ sym list))

@@ -380,6 +380,7 @@ module _ {P : Type 0} (p : SeatPart P) (n lo : ℕ) (k : KnowsLo p.core n lo) (e
         met_from low = Some (record {
           owner = (st.cursor.cur / 2 - 1) / 16;
           held = record { range = record { lo = low; hi = w / 2 }; mode = mode_of w };
+          list = p.trace.list;
           step = p.trace.walked;
         })
 
@@ -391,11 +392,13 @@ module _ {P : Type 0} (p : SeatPart P) (n lo : ℕ) (k : KnowsLo p.core n lo) (e
               met = record {
                 owner = (st.cursor.cur / 2 - 1) / 16;
                 held = record { range = record { lo = lo; hi = w / 2 }; mode = mode_of w };
+                list = p.trace.list;
                 step = p.trace.walked;
               };
               is = hi_made.met ∙ (ap (λ (o : Option Cursor). met_at p.trace o w) st.is ∙ ap (λ (l : Option ℕ). met_from (unwrap_or l 0)) k.lo);
               from = omega arith;
               below = let t = hi_made.taken in omega arith;
+              listed = sym hi_made.list;
               owned = refl;
               holds = refl;
               other = λ z. elsewhere e (let plain = plain_is st.cursor.cur st.node st.at in let num = hi_made.number in omega arith);
@@ -441,11 +444,17 @@ module _ {P : Type 0} (p : SeatPart P) (n lo : ℕ) (k : KnowsLo p.core n lo) (e
       -- the node that a scan goes past is in the record, with its owner, its range and its mode
       pub scan_seen : IsSeen p.trace.walked q ((st.cursor.cur / 2 - 1) / 16) (seen_held lo)
       scan_seen = record {
-        met = record { owner = (st.cursor.cur / 2 - 1) / 16; held = seen_held lo; step = p.trace.walked };
+        met = record { owner = (st.cursor.cur / 2 - 1) / 16; held = seen_held lo; list = p.trace.list; step = p.trace.walked };
         is = hi_made.met ∙ (ap (λ (o : Option Cursor). met_at p.trace o w) st.is
-            ∙ ap (λ (l : Option ℕ). Some (record { owner = (st.cursor.cur / 2 - 1) / 16; held = seen_held (unwrap_or l 0); step = p.trace.walked })) k.lo);
+            ∙ ap (λ (l : Option ℕ). Some (record {
+              owner = (st.cursor.cur / 2 - 1) / 16;
+              held = seen_held (unwrap_or l 0);
+              list = p.trace.list;
+              step = p.trace.walked;
+            })) k.lo);
         from = omega arith;
         below = let t = hi_made.taken in omega arith;
+        listed = sym hi_made.list;
         owned = refl;
         holds = refl;
       }

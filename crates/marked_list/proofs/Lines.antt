@@ -35,6 +35,8 @@ pub record Made {P : Type 0} (rested : P → P) (p q : SeatPart P) (step : Step)
   pub pass : q.pass ≡ pass_kept rested (held_at p.core.own) (held_at (plan.view found).own) p.pass
   -- the last client step stays
   pub client : q.trace.client ≡ p.trace.client
+  -- the hand is turned to the same list
+  pub list : q.trace.list ≡ p.trace.list
   -- one step more was made
   pub taken : q.trace.taken ≡ p.trace.taken + 1
   -- a Walk is noted by its number
@@ -52,7 +54,19 @@ pub made_by : {P : Type 0} (rested : P → P) (p q : SeatPart P) (step : Step) (
 made_by {P} rested p q step plan found line made =
     subst (λ (x : Plan). Made rested p q step x found) (line_is p step plan line)
     (subst (λ (x : SeatPart P). Made rested p x step (line_for p step) found) (sym made)
-    (record { number = refl; seats = refl; core = refl; pass = refl; client = refl; taken = refl; walked = refl; met = refl; lost = refl; looked = refl }))
+    (record {
+      number = refl;
+      seats = refl;
+      core = refl;
+      pass = refl;
+      client = refl;
+      list = refl;
+      taken = refl;
+      walked = refl;
+      met = refl;
+      lost = refl;
+      looked = refl;
+    }))
 
 -- where nothing was held the pass stays
 pub pass_stays : {P : Type 0} (rested : P → P) (before now : Option Held) (pass : P) → before ≡ None → pass_kept rested before now pass ≡ pass
@@ -60,14 +74,14 @@ pass_stays rested before now pass e = ap (λ (o : Option Held). pass_kept rested
 
 -- what a cursor has looked at stays with it
 pub same_looked : (t : Record) (b now : Option Cursor) (j g : Bool) → is_some b ≡ true → (l : Looked) → t.looked ≡ Some l
-    → (m : Looked) × (looked_with t b now j g ≡ Some m) × (m.step ≡ l.step)
+    → (m : Looked) × (looked_with t b now j g ≡ Some m) × (m.step ≡ l.step) × (m.list ≡ l.list)
 same_looked t None now j g e l is = absurd (cc)
-same_looked t (Some b) None j g e l is = (l, is, refl)
+same_looked t (Some b) None j g e l is = (l, is, refl, refl)
 same_looked t (Some b) (Some c) j g e l is = by_looked t.looked is
   where
-    by_looked : (o : Option Looked) → o ≡ Some l → (m : Looked) × (looked_on o c j g ≡ Some m) × (m.step ≡ l.step)
+    by_looked : (o : Option Looked) → o ≡ Some l → (m : Looked) × (looked_on o c j g ≡ Some m) × (m.step ≡ l.step) × (m.list ≡ l.list)
     by_looked None e' = absurd (cc)
-    by_looked (Some k) e' = let same : k ≡ l = cc in (_, refl, ap (λ (x : Looked). x.step) same)
+    by_looked (Some k) e' = let same : k ≡ l = cc in (_, refl, ap (λ (x : Looked). x.step) same, ap (λ (x : Looked). x.list) same)
 
 -- a step with a cursor judges one node or none
 judged_on : (t : Record) (b now : Option Cursor) (j g : Bool) → is_some b ≡ true → (l : Looked) → t.looked ≡ Some l
@@ -116,7 +130,7 @@ module _ {P : Type 0} (rested : P → P) (p q : SeatPart P) (step : Step) (plan 
   -- a step with a cursor is a step of the walk that made the cursor
   pub same_walk : is_some p.core.cursor ≡ true → IsSameWalk p q
   same_walk there l is = let r = same_looked p.trace p.core.cursor (plan.view found).cursor (is_judging step)
-      (gained_by p.core (plan.view found)) there l is in (r.0, m.looked ∙ r.1, r.2)
+      (gained_by p.core (plan.view found)) there l is in (r.0, m.looked ∙ r.1, r.2, r.3)
 
   -- a step of a seat that holds nothing, whose plan keeps epoch and pools, leaves what a call that walks leaves
   pub on_made : held_at p.core.own ≡ None → (plan.view found).epoch ≡ p.core.epoch → IsSamePools p.core (plan.view found)
@@ -126,6 +140,7 @@ module _ {P : Type 0} (rested : P → P) (p q : SeatPart P) (step : Step) (plan 
     seats = m.seats;
     pass = m.pass ∙ pass_stays rested (held_at p.core.own) (held_at (plan.view found).own) p.pass free;
     client = m.client;
+    list = m.list;
     epoch = ap (λ (v : View). v.epoch) m.core ∙ epoch;
     pools = subst (IsSamePools p.core) (sym m.core) pools;
     hand = ap (λ (v : View). v.hand) m.core ∙ hand;
@@ -139,9 +154,10 @@ module _ {P : Type 0} (rested : P → P) (p q : SeatPart P) (step : Step) (plan 
     seats = m.seats;
     pass = m.pass ∙ pass_stays rested (held_at p.core.own) (held_at (plan.view found).own) p.pass free;
     client = m.client;
+    list = m.list;
     taken = let t = m.taken in omega arith;
   }
 
 -- two calls of one walk after each other are of one walk
 pub walk_on_walk : {P : Type 0} (p q r : SeatPart P) → IsSameWalk p q → IsSameWalk q r → IsSameWalk p r
-walk_on_walk p q r a b l is = let s = a l is in let t = b s.0 s.1 in (t.0, t.1, t.2 ∙ s.2)
+walk_on_walk p q r a b l is = let s = a l is in let t = b s.0 s.1 in (t.0, t.1, t.2 ∙ s.2, t.3 ∙ s.3)

@@ -40,6 +40,7 @@ call_on p q r a b = record {
   seats = b.seats ∙ a.seats;
   pass = b.pass ∙ a.pass;
   client = b.client ∙ a.client;
+  list = b.list ∙ a.list;
   taken = let x = a.taken in let y = b.taken in omega arith;
 }
 
@@ -51,8 +52,8 @@ look_on_look p q r a b = (b.0 ∙ a.0, walk_on_walk p q r a.1 b.1)
 look_stays : (t : Record) (b now : Option Cursor) (j g : Bool)
     → ((c : Cursor) → b ≡ Some c → (l : Looked) × (t.looked ≡ Some l) × (l.nodes ≡ c.seen)) → (now ≡ None) ⊎ (now ≡ b)
     → (nodes_in (looked_with t b now j g) ≡ nodes_in t.looked)
-    × ((l : Looked) → t.looked ≡ Some l → (m : Looked) × (looked_with t b now j g ≡ Some m) × (m.step ≡ l.step))
-look_stays t b None j g on way = (ap nodes_in (gone_looked t b j g), λ l is. (l, gone_looked t b j g ∙ is, refl))
+    × ((l : Looked) → t.looked ≡ Some l → (m : Looked) × (looked_with t b now j g ≡ Some m) × (m.step ≡ l.step) × (m.list ≡ l.list))
+look_stays t b None j g on way = (ap nodes_in (gone_looked t b j g), λ l is. (l, gone_looked t b j g ∙ is, refl, refl))
 look_stays t None (Some d) j g on way = absurd (⊎_elim (λ e. some_none d e) (λ e. some_none d e) way)
   where
     some_none : (x : Cursor) → ◌≡◌ {A = Option Cursor} (Some x) None → ⊥
@@ -71,7 +72,7 @@ module _ {P : Type 0} (rested : P → P) (p q : SeatPart P) (step : Step) (plan 
   same_look way =
       let r = look_stays p.trace p.core.cursor (plan.view found).cursor (is_judging step) (gained_by p.core (plan.view found))
       (λ c is. let l = view.looked c is in (l.0, l.1, l.2)) way in
-      (ap nodes_in m.looked ∙ r.0, λ l is. let s = r.1 l is in (s.0, m.looked ∙ s.1, s.2))
+      (ap nodes_in m.looked ∙ r.0, λ l is. let s = r.1 l is in (s.0, m.looked ∙ s.1, s.2, s.3))
 
 module _ {P : Type 0} (p : SeatPart P) (n lo : ℕ) (may : MayFill p.core n) where
   abbrev lo_plan : Plan
@@ -274,6 +275,7 @@ module _ {P : Type 0} (is_at_rest : P → Type 0) (p : SeatPart P) (may : MayMar
         number = m.number;
         seats = m.seats;
         client = m.client;
+        list = m.list;
         taken = m.taken;
         core = λ k is. let same : listed may.node ≡ listed k = sym may.is ∙ is in let node : may.node.node ≡ k.node = cc in m.core ∙ ap (marked p.core) node;
         held = λ h is. m.pass ∙ ap (λ (o : Option Held). pass_kept rested o None p.pass) is;
@@ -308,10 +310,16 @@ module _ {P : Type 0} (is_at_rest : P → Type 0) (p : SeatPart P) (may : MayQui
     back_by b = if b then quick_unlinked p.core may.node.node else p.core
 
     back_call : IsQuickCall p q
-    back_call = record { number = back_made.number; seats = back_made.seats; client = back_made.client; met = back_made.met; taken = back_made.taken }
+    back_call = record {
+      number = back_made.number;
+      seats = back_made.seats;
+      client = back_made.client;
+      list = back_made.list;
+      met = back_made.met;
+      taken = back_made.taken;
+    }
 
     module _ (n : ℕ) (is_node : n ≡ may.node.node) where
-
       -- where the head was another, that is in the record, and the range is still held
       pub back_lost : w ≢ 2 * suc n + 1 → (l : Lost) → l.place ≡ 0 → l.expected ≡ 2 * suc n + 1 → l.found ≡ w
           → IsQuickCall p q × IsLost p.trace.taken q (λ kind. kind ≡ QuickUnlink) l.place l.expected l.found × (q.core ≡ p.core) × (q.pass ≡ p.pass)

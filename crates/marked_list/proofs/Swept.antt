@@ -50,6 +50,9 @@ module _ {P : Type 0} (p e : SeatPart P) (may : MaySweep p.core) (entering : e �
     taken_out : q.trace.taken ≤ r.trace.taken
     taken_out = let t = ap (λ (x : SeatPart P). x.trace.taken) leaving in omega arith
 
+    list_out : r.trace.list ≡ q.trace.list
+    list_out = ap (λ (x : SeatPart P). x.trace.list) leaving
+
     seats_out : r.seats ≡ q.seats
     seats_out = ap (λ (x : SeatPart P). x.seats) leaving
 
@@ -72,7 +75,8 @@ module _ {P : Type 0} (p e : SeatPart P) (may : MaySweep p.core) (entering : e �
 
     -- the walk was begun in the call
     pub swept_walk : IsNewWalk e.trace.taken q → IsNewWalk p.trace.taken r
-    swept_walk new = let f = new.2 in let b = new.3 in let i = taken_in in let o = taken_out in (new.0, looked_out ∙ new.1, omega arith, omega arith)
+    swept_walk new = let f = new.2 in let b = new.3 in let i = taken_in in let o = taken_out in
+        (new.0, looked_out ∙ new.1, omega arith, omega arith, new.4 ∙ sym list_out)
 
     -- the answer of the walk is that of the sweep
     pub swept_answer : IsHandView q → Sweeps p.trace.taken r a
@@ -88,6 +92,7 @@ module _ {P : Type 0} (p e : SeatPart P) (may : MaySweep p.core) (entering : e �
           kind = x.0.kind;
           from = let f = x.0.from in let i = taken_in in omega arith;
           below = let b = x.0.below in let o = taken_out in omega arith;
+          listed = x.0.listed ∙ sym list_out;
           placed = x.0.placed;
           wanted = x.0.wanted;
           had = x.0.had;
@@ -102,6 +107,7 @@ module _ {P : Type 0} (p e : SeatPart P) (may : MaySweep p.core) (entering : e �
       seats = seats_out ∙ (on.seats ∙ ap (λ (x : SeatPart P). x.seats) entering);
       pass = ap (λ (x : SeatPart P). x.pass) leaving ∙ (on.pass ∙ ap (λ (x : SeatPart P). x.pass) entering);
       client = ap (λ (x : SeatPart P). x.trace.client) leaving ∙ (on.client ∙ ap (λ (x : SeatPart P). x.trace.client) entering);
+      list = list_out ∙ (on.list ∙ ap (λ (x : SeatPart P). x.trace.list) entering);
       pools = record {
         ready = ap (λ (x : SeatPart P). x.core.ready) leaving
             ∙ (ap (λ (o : Own). ready_left o q.core.ready) own_out

@@ -38,6 +38,7 @@ lost_made rested p q step plan w e m Kind kind expects far place expected found 
   kind = kind;
   from = omega arith;
   below = let t = m.taken in omega arith;
+  listed = sym m.list;
   placed = sym placed;
   wanted = sym wanted;
   had = sym had;
@@ -173,6 +174,7 @@ module _ {P : Type 0} (p q r : SeatPart P) (x : ℕ) (u : IsUnlinked p q x) (mad
     seats = ap (λ (z : SeatPart P). z.seats) made ∙ u.call.seats;
     pass = ap (λ (z : SeatPart P). z.pass) made ∙ u.call.pass;
     client = ap (λ (z : SeatPart P). z.trace.client) made ∙ u.call.client;
+    list = ap (λ (z : SeatPart P). z.trace.list) made ∙ u.call.list;
     epoch = ap (λ (v : View). v.epoch) core_home ∙ u.epoch;
     pools = subst (IsSamePools p.core) (sym core_home)
         (record {
@@ -192,7 +194,7 @@ module _ {P : Type 0} (p q r : SeatPart P) (x : ℕ) (u : IsUnlinked p q x) (mad
       let s = u.walk l is in
       let t = same_looked q.trace q.core.cursor (gave_home q.core).cursor (is_judging GiveHome)
       (gained_by q.core (gave_home q.core)) (ap is_some u.came.is) s.0 s.1 in
-      (t.0, ap (λ (z : SeatPart P). z.trace.looked) made ∙ t.1, t.2 ∙ s.2)
+      (t.0, ap (λ (z : SeatPart P). z.trace.looked) made ∙ t.1, t.2 ∙ s.2, t.3 ∙ s.3)
 
   -- which judge no node
   pub home_judged : HasJudged 0 p r

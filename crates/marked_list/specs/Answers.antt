@@ -94,6 +94,7 @@ module _ {P : Type 0} where
     pub number : q.number ≡ p.number
     pub seats : q.seats ≡ p.seats
     pub client : q.trace.client ≡ p.trace.client
+    pub list : q.trace.list ≡ p.trace.list
     pub taken : q.trace.taken ≡ p.trace.taken + 1
     pub core : (k : Listed) → p.core.own ≡ listed k → q.core ≡ marked p.core k.node
     pub held : (h : HeldRange) → held_at p.core.own ≡ Some h → q.pass ≡ rested p.pass
@@ -112,6 +113,7 @@ module _ {P : Type 0} where
     pub number : q.number ≡ p.number
     pub seats : q.seats ≡ p.seats
     pub client : q.trace.client ≡ p.trace.client
+    pub list : q.trace.list ≡ p.trace.list
     pub met : q.trace.met ≡ p.trace.met
     pub taken : q.trace.taken ≡ p.trace.taken + 1
 

@@ -1,6 +1,6 @@
 -- What an answer tells of the steps of the call that gives it, by the record of the hand's steps. A step of the record
--- belongs to a call where its number isn't below the count at the call's entry. Conflicts are those of the compare rule
--- and the two validations of Kogan, Dice and Issa 2020.
+-- belongs to a call where its number isn't below the count at the call's entry, and it is of the hand's own list.
+-- Conflicts are those of the compare rule and the two validations of Kogan, Dice and Issa 2020.
 use Rattle.std.specs.Prelude.{◌≡◌, ◌≢◌, ℕ, ◌+◌, ◌*◌, ◌<◌, ◌≤◌, Option, Some, None}
 use Rattle.lock_core.specs.declared.range.Held.{Held}
 use Rattle.lock_core.specs.declared.views.Own.{Own}
@@ -27,6 +27,7 @@ pub record IsMet {P : Type 0} (first : ℕ) (q : SeatPart P) (owner : ℕ) (held
   pub is : q.trace.met ≡ Some met
   pub from : first ≤ met.step
   pub below : met.step < q.trace.taken
+  pub listed : met.list ≡ q.trace.list
   pub owned : met.owner ≡ owner
   pub holds : met.held ≡ held
   pub other : owner ≢ q.number
@@ -41,6 +42,7 @@ pub record IsLost {P : Type 0} (first : ℕ) (q : SeatPart P) (IsKind : Step →
   pub kind : IsKind lost.kind
   pub from : first ≤ lost.step
   pub below : lost.step < q.trace.taken
+  pub listed : lost.list ≡ q.trace.list
   pub placed : lost.place ≡ place
   pub wanted : lost.expected ≡ expected
   pub had : lost.found ≡ found

@@ -23,6 +23,7 @@ pub record IsLaterInWalk {P : Type 0} (p q : SeatPart P) : Type 0 where
   pub seats : q.seats ≡ p.seats
   pub pass : q.pass ≡ p.pass
   pub client : q.trace.client ≡ p.trace.client
+  pub list : q.trace.list ≡ p.trace.list
   pub epoch : q.core.epoch ≡ p.core.epoch
   pub pools : IsSamePools p.core q.core
   pub hand : q.core.hand ≡ None
@@ -34,11 +35,12 @@ pub record IsCall {P : Type 0} (count : ℕ) (p q : SeatPart P) : Type 0 where
   pub seats : q.seats ≡ p.seats
   pub pass : q.pass ≡ p.pass
   pub client : q.trace.client ≡ p.trace.client
+  pub list : q.trace.list ≡ p.trace.list
   pub taken : q.trace.taken ≡ count + p.trace.taken
 
--- the cursor that was looked with last is the same one: it was made by the same step
+-- the cursor that was looked with last is the same one: it was made by the same step, in the same list
 abbrev pub IsSameWalk : {P : Type 0} → SeatPart P → SeatPart P → Type 0
-IsSameWalk p q = (l : Looked) → p.trace.looked ≡ Some l → (m : Looked) × (q.trace.looked ≡ Some m) × (m.step ≡ l.step)
+IsSameWalk p q = (l : Looked) → p.trace.looked ≡ Some l → (m : Looked) × (q.trace.looked ≡ Some m) × (m.step ≡ l.step) × (m.list ≡ l.list)
 
 -- and since then it has judged so many nodes
 abbrev pub HasJudged : {P : Type 0} → ℕ → SeatPart P → SeatPart P → Type 0
@@ -48,9 +50,9 @@ HasJudged count p q = (l : Looked) → p.trace.looked ≡ Some l → (m : Looked
 abbrev pub IsSameLook : {P : Type 0} → SeatPart P → SeatPart P → Type 0
 IsSameLook p q = (nodes_in q.trace.looked ≡ nodes_in p.trace.looked) × IsSameWalk p q
 
--- it was made by the step of that number or a later one
+-- it was made by the step of that number or a later one, in the hand's list
 abbrev pub IsNewWalk : {P : Type 0} → ℕ → SeatPart P → Type 0
-IsNewWalk first q = (l : Looked) × (q.trace.looked ≡ Some l) × (first ≤ l.step) × (l.step < q.trace.taken)
+IsNewWalk first q = (l : Looked) × (q.trace.looked ≡ Some l) × (first ≤ l.step) × (l.step < q.trace.taken) × (l.list ≡ q.trace.list)
 
 -- what a sweep leaves: the hand is outside its epoch again, without an own node
 pub record IsSwept {P : Type 0} (p q : SeatPart P) : Type 0 where
@@ -58,6 +60,7 @@ pub record IsSwept {P : Type 0} (p q : SeatPart P) : Type 0 where
   pub seats : q.seats ≡ p.seats
   pub pass : q.pass ≡ p.pass
   pub client : q.trace.client ≡ p.trace.client
+  pub list : q.trace.list ≡ p.trace.list
   pub pools : IsSamePools p.core q.core
   pub outside : IsOutside q.core
   pub own : q.core.own ≡ Nothing

@@ -73,6 +73,7 @@ module _ {P : Type 0} where
     pub is : q.trace.met ≡ Some met
     pub from : first ≤ met.step
     pub below : met.step < q.trace.taken
+    pub listed : met.list ≡ q.trace.list
     pub owned : met.owner ≡ owner
     pub holds : met.held ≡ held
 

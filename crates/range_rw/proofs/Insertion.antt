@@ -28,7 +28,8 @@ use Rattle.marked_list.specs.Causes.{asked_of, nodes_in, IsSpent}
 use Rattle.marked_list.specs.Answers.{Answers, Arrives, Links, IsLong, IsMarkCall, linked_own, aimed_own}
 use Rattle.range_rw.specs.Contract.{RefusesTry}
 use Rattle.range_rw.specs.Patience.{InsideEnds, HoldsOrNone}
-use Rattle.range_rw.specs.Trying.{has_come, IsFilling, IsLaterInTry, IsLaterInEpoch, Refuses, LinkEnds, ValidateEnds, InsertEnds, StaysFilled, LeavesNode, EpochEnds}
+use Rattle.range_rw.specs.Trying.{has_come, IsFilling, IsLaterInTry, IsLaterInEpoch, Refuses, LinkEnds, ValidateEnds}
+use Rattle.range_rw.specs.Trying.{InsertEnds, StaysFilled, LeavesNode, EpochEnds}
 use Rattle.range_rw.proofs.Later.{later_on, still_on, walk_still, inside_still, Keeps, refuses_after, refuses_from, walk_refuses, spent_look, long_after}
 
 -- ---- the walk and the link
@@ -113,6 +114,7 @@ module _ {P : Type 0} (p q : SeatPart P) (a : Walked) (may : MayWalk p.core) (on
         kind = subst RefusesTry (sym x.0.kind) tt;
         from = let f = x.0.from in let t = on.taken in omega arith;
         below = x.0.below;
+        listed = x.0.listed;
         placed = x.0.placed;
         wanted = x.0.wanted;
         had = x.0.had;
@@ -173,7 +175,15 @@ module _ {P : Type 0} (p q : SeatPart P) (a : Walked) (own : HasToValidate p.cor
       core_marked = mark.core own.node (refused.0 ∙ own.is)
 
       keeps : Keeps q r
-      keeps = record { number = mark.number; seats = mark.seats; taken = let t = mark.taken in omega arith; met = mark.met; lost = mark.lost; look = mark.look }
+      keeps = record {
+        number = mark.number;
+        seats = mark.seats;
+        taken = let t = mark.taken in omega arith;
+        list = mark.list;
+        met = mark.met;
+        lost = mark.lost;
+        look = mark.look;
+      }
 
       -- then the hand has no own node, and the answer refuses the try
       pub marked_ends : ValidateEnds p r a
@@ -298,7 +308,7 @@ asks_ends own e = (
 )
 
 same_looked : {P : Type 0} (p q : SeatPart P) → q.trace.looked ≡ p.trace.looked → IsSameLook p q
-same_looked p q e = (ap nodes_in e, λ l is. (l, e ∙ is, refl))
+same_looked p q e = (ap nodes_in e, λ l is. (l, e ∙ is, refl, refl))
 
 module _ {P : Type 0} (p e : SeatPart P) (own : HasEnds p.core.own) (entering : e ≡ quiet_after p Enter (entered p.core)) where
   own_in : e.core.own ≡ p.core.own
@@ -375,6 +385,7 @@ module _ {P : Type 0} (p e : SeatPart P) (own : HasEnds p.core.own) (entering : 
         number = ap (λ (x : SeatPart P). x.number) leaving;
         seats = seats_out;
         taken = let t = ap (λ (x : SeatPart P). x.trace.taken) leaving in omega arith;
+        list = ap (λ (x : SeatPart P). x.trace.list) leaving;
         met = ap (λ (x : SeatPart P). x.trace.met) leaving;
         lost = ap (λ (x : SeatPart P). x.trace.lost) leaving;
         look = same_looked f q looked_out;

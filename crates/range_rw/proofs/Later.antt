@@ -57,6 +57,8 @@ pub record Keeps {P : Type 0} (p q : SeatPart P) : Type 0 where
   pub seats : q.seats ≡ p.seats
   -- steps may have been made
   pub taken : p.trace.taken ≤ q.trace.taken
+  -- the hand is turned to the same list
+  pub list : q.trace.list ≡ p.trace.list
   -- the node that was met last stays
   pub met : q.trace.met ≡ p.trace.met
   -- the exchange that was lost last stays
@@ -64,22 +66,24 @@ pub record Keeps {P : Type 0} (p q : SeatPart P) : Type 0 where
   -- the walk has looked at no more nodes
   pub look : IsSameLook p q
 
-new_after : {P : Type 0} (first : ℕ) (p q : SeatPart P) → IsSameLook p q → p.trace.taken ≤ q.trace.taken → IsNewWalk first p → IsNewWalk first q
-new_after first p q look le new =
+new_after : {P : Type 0} (first : ℕ) (p q : SeatPart P) → IsSameLook p q → q.trace.list ≡ p.trace.list → p.trace.taken ≤ q.trace.taken
+    → IsNewWalk first p → IsNewWalk first q
+new_after first p q look list le new =
     let m = look.1 new.0 new.1 in
     let s = m.2 in let f = new.2 in let b = new.3 in
-    (m.0, m.1, omega arith, omega arith)
+    (m.0, m.1, omega arith, omega arith, m.3 ∙ (new.4 ∙ sym list))
 
 lost_after : {P : Type 0} (first : ℕ) (p q : SeatPart P) (Kind : Step → Type 0) (place expected found : ℕ)
-    → q.trace.lost ≡ p.trace.lost → p.trace.taken ≤ q.trace.taken → IsLost first p Kind place expected found
+    → q.trace.lost ≡ p.trace.lost → q.trace.list ≡ p.trace.list → p.trace.taken ≤ q.trace.taken → IsLost first p Kind place expected found
     → IsLost first q Kind place expected found
-lost_after first p q Kind place expected found same le l =
+lost_after first p q Kind place expected found same list le l =
     record {
       lost = l.lost;
       is = same ∙ l.is;
       kind = l.kind;
       from = l.from;
       below = let b = l.below in omega arith;
+      listed = l.listed ∙ sym list;
       placed = l.placed;
       wanted = l.wanted;
       had = l.had;
@@ -95,6 +99,7 @@ refuses_after first asked p q (Conflict owner range mode) k x = record {
   is = k.met ∙ x.is;
   from = x.from;
   below = let b = x.below in let t = k.taken in omega arith;
+  listed = x.listed ∙ sym k.list;
   owned = x.owned;
   holds = x.holds;
   other = λ e. x.other (e ∙ k.number);
@@ -102,8 +107,8 @@ refuses_after first asked p q (Conflict owner range mode) k x = record {
   asks = x.asks;
   conflicts = x.conflicts;
 }
-refuses_after first asked p q (Lost l) k x = lost_after first p q RefusesTry l.place l.expected l.found k.lost k.taken x
-refuses_after first asked p q (Long visits) k x = (x.0 ∙ ap (λ n. 16 * n + 1) (sym k.seats), new_after first p q k.look k.taken x.1)
+refuses_after first asked p q (Lost l) k x = lost_after first p q RefusesTry l.place l.expected l.found k.lost k.list k.taken x
+refuses_after first asked p q (Long visits) k x = (x.0 ∙ ap (λ n. 16 * n + 1) (sym k.seats), new_after first p q k.look k.list k.taken x.1)
 
 -- an answer whose cause is in a later call of the try refuses the try
 pub refuses_from : {P : Type 0} (first later : ℕ) (asked now : Option Held) (q : SeatPart P) (a : Walked) → first ≤ later
@@ -114,6 +119,7 @@ refuses_from first later asked now q (Conflict owner range mode) le same x = rec
   is = x.is;
   from = let f = x.from in omega arith;
   below = x.below;
+  listed = x.listed;
   owned = x.owned;
   holds = x.holds;
   other = x.other;
@@ -128,12 +134,13 @@ refuses_from first later asked now q (Lost l) le same x =
       kind = x.kind;
       from = let f = x.from in omega arith;
       below = x.below;
+      listed = x.listed;
       placed = x.placed;
       wanted = x.wanted;
       had = x.had;
       differ = x.differ;
     }
-refuses_from first later asked now q (Long visits) le same x = let new = x.1 in let f = new.2 in (x.0, (new.0, new.1, omega arith, new.3))
+refuses_from first later asked now q (Long visits) le same x = let new = x.1 in let f = new.2 in (x.0, (new.0, new.1, omega arith, new.3, new.4))
 
 -- an exchange of a walk is one whose loss refuses a try
 pub walk_loss : (s : Step) → IsWalkLoss s → RefusesTry s
@@ -167,6 +174,7 @@ walk_refuses first own q (Conflict owner range mode) isnt x new = (
     is = x.0.is;
     from = x.0.from;
     below = x.0.below;
+    listed = x.0.listed;
     owned = x.0.owned;
     holds = x.0.holds;
     other = x.0.other;
@@ -183,6 +191,7 @@ walk_refuses first own q (Lost l) isnt x new = (
     kind = walk_loss x.0.lost.kind x.0.kind;
     from = x.0.from;
     below = x.0.below;
+    listed = x.0.listed;
     placed = x.0.placed;
     wanted = x.0.wanted;
     had = x.0.had;

@@ -11,5 +11,6 @@ pub mod SeatLists
 pub mod Seated
 pub mod SeatedScans
 pub mod Seating
+pub mod TakenLists
 pub mod Taking
 pub mod Waiting

@@ -400,4 +400,5 @@ module _ {P : Type 0} where
           → IsReadyLeft (shown_core p other).ready (shown_core l other).ready
           → IsReadyLeft (shown_core p other).ready (shown_core u other).ready
       both_ready given left = subst (IsReadyLeft (shown_core p other).ready)
-          (sym (ap (λ (v : View). v.ready) (after.stays other) ∙ (given ∙ ap (λ (v : View). v.ready) (look_shows t h s after.look other ∙ over.stays other)))) left
+          (sym (ap (λ (v : View). v.ready) (after.stays other)
+          ∙ (given ∙ ap (λ (v : View). v.ready) (look_shows t h s after.look other ∙ over.stays other)))) left

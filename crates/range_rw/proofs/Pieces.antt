@@ -33,7 +33,7 @@ use Rattle.range_rw.specs.Contract.{SeatState, Pools, IsLongRefusal, IsReadyLeft
 use Rattle.range_rw.specs.Seats.{IsSettled, IsBetween, pools_of, seat_state_in}
 use Rattle.range_rw.specs.Trying.{refusal_at, IsLaterInTry}
 use Rattle.range_rw.specs.Releasing.{GivesBack}
-use Rattle.range_rw.specs.Several.{list_state, IsPiece, KeepsCauses}
+use Rattle.range_rw.specs.Several.{list_state, IsCauseAt, IsPiece, KeepsCauses}
 use Rattle.range_rw.proofs.Later.{walk_loss}
 use Rattle.range_rw.proofs.Taking.{lost_cause, long_cause}
 
@@ -138,15 +138,14 @@ module _ {P : Type 0} where
 
     -- and the cause of its refusal, by what the seat has in that list
     pub cause_piece : (table other : TableId) → other ≡ table → q.pass.list ≡ at → (asked : Held) (why : NotHeld)
-        → IsListCause (seat_state_in other t) (seat_state_in other q) asked why → IsListCause (list_state table p at) (list_state table q at) asked why
+        → IsListCause t.pass.list (seat_state_in other t) (seat_state_in other q) asked why → IsCauseAt table at p q asked why
     cause_piece table other same there asked why cause =
-        subst (λ (s : SeatState P). IsListCause (list_state table p at) s asked why) (sym (here_state table q at there))
-        (subst (λ (x : SeatPart (Beside P)). IsListCause (seat_state_in table x) (seat_state_in table q) asked why) is
-        (subst (λ (n : TableId). IsListCause (seat_state_in n t) (seat_state_in n q) asked why) same cause))
+        subst (λ (s : SeatState P). IsListCause at (list_state table p at) s asked why) (sym (here_state table q at there))
+        (subst (λ (x : SeatPart (Beside P)). IsListCause at (seat_state_in table x) (seat_state_in table q) asked why) is
+        (subst (λ (z : TableId × ℕ). IsListCause z.1 (seat_state_in z.0 t) (seat_state_in z.0 q) asked why) (λ i. (same i, turned_list i)) cause))
 
     -- a range that is given back in that list
     module _ (rested : P → P) where
-
       pub given_piece : IsResting t.core → is_counted t.pass.lists t.pass.standing t.pass.list ≡ false → GivesBack (given_back rested) t q → IsPiece at p q
       given_piece rests beside g = piece_by g.number g.seats (ap (λ (b : Beside P). b.lists) g.pass) (ap (λ (b : Beside P). b.list) g.pass)
           (ap (λ (b : Beside P). b.others) g.pass)
@@ -176,20 +175,22 @@ module _ {P : Type 0} where
   may_give_beside is_at_rest b beside = λ counts. absurd (let z : ◌≡◌ {A = Bool} true false = sym counts ∙ beside in cc)
 
   -- why a sweep is refused that didn't read the end
-  module _ (table : TableId) (p s : SeatPart (Beside P)) (new : IsNewWalk p.trace.taken s) where
-    pub swept_refuses : (a : Walked) (why : NotHeld) → refusal_at a ≡ Some why → Sweeps p.trace.taken s a → (IsLong a ↔ IsSpent s)
-        → (asked : Held) → IsListCause (seat_state_in table p) (seat_state_in table s) asked why × (IsLongRefusal why ↔ IsSpent s)
+  module _ (told : ℕ) (table : TableId) (p s : SeatPart (Beside P)) (new : IsNewWalk p.trace.taken s) (here : s.trace.list ≡ p.pass.list)
+      (there : told ≡ p.pass.list) where
+    pub swept_refuses : (a : Walked) (why : NotHeld) → refusal_at told a ≡ Some why → Sweeps p.trace.taken s a → (IsLong a ↔ IsSpent s)
+        → (asked : Held) → IsListCause p.pass.list (seat_state_in table p) (seat_state_in table s) asked why × (IsLongRefusal why ↔ IsSpent s)
     swept_refuses Place why e x long asked = absurd (let z : ◌≡◌ {A = Option NotHeld} None (Some why) = e in cc)
     swept_refuses (Conflict owner range mode) why e x long asked = absurd x
     swept_refuses (Lost l) why e x long asked =
-        let same : Again l.place l.expected l.found ≡ why = cc in
-        subst (λ z. IsListCause (seat_state_in table p) (seat_state_in table s) asked z × (IsLongRefusal z ↔ IsSpent s)) same (
-          lost_cause table p s asked l.place l.expected l.found (record {
+        let same : Again told l.place l.expected l.found ≡ why = cc in
+        subst (λ z. IsListCause p.pass.list (seat_state_in table p) (seat_state_in table s) asked z × (IsLongRefusal z ↔ IsSpent s)) same (
+          lost_cause p.pass.list told table p s asked l.place l.expected l.found here there (record {
             lost = x.lost;
             is = x.is;
             kind = walk_loss x.lost.kind x.kind;
             from = x.from;
             below = x.below;
+            listed = x.listed;
             placed = x.placed;
             wanted = x.wanted;
             had = x.had;
@@ -199,8 +200,8 @@ module _ {P : Type 0} where
         )
     swept_refuses (Long visits) why e x long asked =
         let same : TooLong visits ≡ why = cc in
-        subst (λ z. IsListCause (seat_state_in table p) (seat_state_in table s) asked z × (IsLongRefusal z ↔ IsSpent s)) same (
-          long_cause table p s asked visits x.0 new x.1,
+        subst (λ z. IsListCause p.pass.list (seat_state_in table p) (seat_state_in table s) asked z × (IsLongRefusal z ↔ IsSpent s)) same (
+          long_cause p.pass.list table p s asked visits here x.0 new x.1,
           (λ l. long.0 l, λ spent. long.1 spent),
         )
 
@@ -211,23 +212,25 @@ module _ {P : Type 0} where
     walk_kept : IsWalkOf b s → IsWalkOf b u
     walk_kept w = record { walk = w.walk; is = looked ∙ w.is; from = w.from; below = let n = w.below in omega arith }
 
-    stuck_kept : (stuck : Stuck) → IsStuckIn b s stuck → IsStuckIn b u stuck
-    stuck_kept (Away node) x = (
+    stuck_kept : (list : ℕ) (stuck : Stuck) → IsStuckIn list b s stuck → IsStuckIn list b u stuck
+    stuck_kept list (Away node) x = (
       x.0 ∙ ap (λ n. 16 * n) (sym number),
       λ y e.
           let r = x.1 y (e ∙ number) in
           record {
             entry = r.entry;
             last = ap (λ (l : List AwayNode). find (λ n. n.node == y) l) away ∙ r.last;
+            listed = r.listed;
             from = r.from;
             before = let n = r.before in omega arith;
           },
     )
-    stuck_kept (Inside seat epoch) x = record {
+    stuck_kept list (Inside seat epoch) x = record {
       home = λ e. x.home (sym (ap (λ (l : Pools). l.homes) pools) ∙ e);
       other = λ e. x.other (e ∙ number);
       entry = x.entry;
       last = ap (λ (l : List Noted). find (λ n. n.seat == seat) l) noted ∙ x.last;
+      listed = x.listed;
       from = x.from;
       below = let n = x.below in omega arith;
       odd = x.odd;
@@ -235,28 +238,30 @@ module _ {P : Type 0} where
       first = ap (λ (l : Pools). find (λ w. w.seat == seat) l.waits) pools ∙ x.first;
     }
 
-    pub cause_kept : (asked : Held) (why : NotHeld) → IsListCause b s asked why → IsListCause b u asked why
+    pub cause_kept : (list : ℕ) (asked : Held) (why : NotHeld) → IsListCause list b s asked why → IsListCause list b u asked why
     unfolding walk_kept
-    cause_kept asked (Busy owner range mode) x = (x.0, met ∙ x.1, x.2, (let n = x.3 in omega arith), x.4, x.5, x.6, x.7)
-    cause_kept asked (Again place expected found) x = (x.0, lost ∙ x.1, x.2, (let n = x.3 in omega arith), x.4, x.5, x.6, x.7, x.8)
-    cause_kept asked (TooLong visits) x = (walk_kept x.0, x.1)
-    cause_kept asked (NoNode stuck) x = (x.0, (walk_kept x.1.0, x.1.1), stuck_kept stuck x.2)
+    cause_kept list asked (Busy owner range mode) x = (x.0, met ∙ x.1, x.2, (let n = x.3 in omega arith), x.4, x.5, x.6, x.7, x.8)
+    cause_kept list asked (Again told place expected found) x = (x.0, lost ∙ x.1, x.2, (let n = x.3 in omega arith), x.4, x.5, x.6, x.7, x.8, x.9, x.10)
+    cause_kept list asked (TooLong visits) x = (walk_kept x.0, x.1, x.2)
+    cause_kept list asked (NoNode told stuck) x = (x.0, (walk_kept x.1.0, x.1.1, x.1.2), stuck_kept list stuck x.2, x.3)
 
 module _ {P : Type 0} (b m s : SeatState P) (le : b.trace.taken ≤ m.trace.taken) (number : m.number ≡ b.number)
     (ready : m.pools.ready ≡ [] → b.pools.ready ≡ []) where
   walk_before : IsWalkOf m s → IsWalkOf b s
   walk_before w = record { walk = w.walk; is = w.is; from = let n = w.from in omega arith; below = w.below }
 
-  stuck_before : (stuck : Stuck) → IsStuckIn m s stuck → IsStuckIn b s stuck
-  stuck_before (Away node) x = (
+  stuck_before : (list : ℕ) (stuck : Stuck) → IsStuckIn list m s stuck → IsStuckIn list b s stuck
+  stuck_before list (Away node) x = (
     x.0,
-    λ y e. let r = x.1 y e in record { entry = r.entry; last = r.last; from = let n = r.from in omega arith; before = r.before },
+    λ y e. let r = x.1 y e in
+        record { entry = r.entry; last = r.last; listed = r.listed; from = let n = r.from in omega arith; before = r.before },
   )
-  stuck_before (Inside seat epoch) x = record {
+  stuck_before list (Inside seat epoch) x = record {
     home = x.home;
     other = x.other;
     entry = x.entry;
     last = x.last;
+    listed = x.listed;
     from = let n = x.from in omega arith;
     below = x.below;
     odd = x.odd;
@@ -265,12 +270,12 @@ module _ {P : Type 0} (b m s : SeatState P) (le : b.trace.taken ≤ m.trace.take
   }
 
   -- what is a cause of a later part of a call is one of the call, where no ready node went meanwhile
-  pub cause_before : (asked : Held) (why : NotHeld) → IsListCause m s asked why → IsListCause b s asked why
+  pub cause_before : (list : ℕ) (asked : Held) (why : NotHeld) → IsListCause list m s asked why → IsListCause list b s asked why
   unfolding walk_before
-  cause_before asked (Busy owner range mode) x = (x.0, x.1, (let n = x.2 in omega arith), x.3, x.4, x.5, (λ e. x.6 (e ∙ sym number)), x.7)
-  cause_before asked (Again place expected found) x = (x.0, x.1, (let n = x.2 in omega arith), x.3, x.4, x.5, x.6, x.7, x.8)
-  cause_before asked (TooLong visits) x = (walk_before x.0, x.1)
-  cause_before asked (NoNode stuck) x = (ready x.0, (walk_before x.1.0, x.1.1), stuck_before stuck x.2)
+  cause_before list asked (Busy owner range mode) x = (x.0, x.1, (let n = x.2 in omega arith), x.3, x.4, x.5, (λ e. x.6 (e ∙ sym number)), x.7, x.8)
+  cause_before list asked (Again told place expected found) x = (x.0, x.1, (let n = x.2 in omega arith), x.3, x.4, x.5, x.6, x.7, x.8, x.9, x.10)
+  cause_before list asked (TooLong visits) x = (walk_before x.0, x.1, x.2)
+  cause_before list asked (NoNode told stuck) x = (ready x.0, (walk_before x.1.0, x.1.1, x.1.2), stuck_before list stuck x.2, x.3)
 
 module _ {P : Type 0} (table : TableId) (at : ℕ) (p t q : SeatPart (Beside P)) (is : t ≡ turned p at)
     (piece : IsPiece at p q) (rests : IsResting t.core) (rested : Beside P → Beside P) (m : IsMarkCall rested t q) where
@@ -281,4 +286,4 @@ module _ {P : Type 0} (table : TableId) (at : ℕ) (p t q : SeatPart (Beside P))
       cause_kept (list_state table was i) (list_state table p i) (list_state table q i) piece.later.number (ap pools_of shown)
       (m.met ∙ ap (λ (x : SeatPart (Beside P)). x.trace.met) is) (m.lost ∙ ap (λ (x : SeatPart (Beside P)). x.trace.lost) is)
       (m.looked rests.cursor ∙ ap (λ (x : SeatPart (Beside P)). x.trace.looked) is) (m.away ∙ ap (λ (x : SeatPart (Beside P)). x.trace.away) is)
-      (m.noted ∙ ap (λ (x : SeatPart (Beside P)). x.trace.noted) is) piece.later.taken asked why cause
+      (m.noted ∙ ap (λ (x : SeatPart (Beside P)). x.trace.noted) is) piece.later.taken i asked why cause

@@ -90,7 +90,6 @@ walk_ended m None l e = absurd (cc)
 walk_ended m (Some c) l e = (c, refl, eqb-true _ _ e)
 
 module _ {P : Type 0} (table : TableId) (p q : SeatPart (Beside P)) where
-
   module _ (inside : IsInside p.core) (on : IsLaterInWalk p q) (view : IsHandView q) (was : OpenScan) (opened : scan_of p ≡ Some was) where
     abbrev now : OpenScan
     now = walk_of (16 * q.seats + 1) q.core.cursor q.trace.looked

@@ -8,7 +8,8 @@ use Rattle.atomic_table.specs.Seated.{TableId}
 use Rattle.atomic_table.proofs.Lists.{at_index}
 use Rattle.list_cuts.specs.Cut.{list_count}
 use Rattle.lock_core.proofs.ByPlace.{below as at_below, at_or, same_or}
-use Rattle.range_rw.specs.Contract.{TableShape, SeatState, AreNewSeats, AreNewSeatsIn, AreIdleSeats, IsGivenBack, IsOneList, OpenScan, most_steps, scan_steps, first_passes}
+use Rattle.range_rw.specs.Contract.{TableShape, SeatState, AreNewSeats, AreNewSeatsIn, AreIdleSeats, IsGivenBack}
+use Rattle.range_rw.specs.Contract.{IsOneList, OpenScan, most_steps, scan_steps, first_passes}
 use Rattle.range_rw.specs.Contract.{new_seat, new_seat_in, pass_in}
 
 -- idle seats of which each is back are idle seats again

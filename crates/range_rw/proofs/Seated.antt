@@ -1,8 +1,9 @@
 -- A seat at a table of any number of lists: what it holds is what its hand holds in the list to which it is turned, and
 -- that counts. So what a call leaves of that list is what it leaves of the seat.
-use Rattle.std.proofs.Common.{◌≡◌, ◌≢◌, ℕ, zero, suc, ◌+◌, ◌-◌, ◌*◌, ◌%◌, ◌<◌, Bool, true, false, Result, Ok, Err, MatchResult, inl, ⊎_elim, refl, sym, ap, ◌∙◌, subst, arith}
+use Rattle.std.proofs.Common.{◌≡◌, ◌≢◌, ℕ, zero, suc, ◌+◌, ◌-◌, ◌*◌, ◌%◌, ◌<◌, ◌≤◌, Bool, true, false, Result, Ok, Err}
+use Rattle.std.proofs.Common.{MatchResult, inl, ⊎_elim, refl, sym, ap, ◌∙◌, subst, arith}
 use Rattle.std.proofs.Common.{eq-eqb, ne_eqb, eqb-true}
-use Rattle.std.specs.Prelude.{Option, Some, None, IsSome, ◌==◌, ◌&&◌, ◌||◌, if◌then◌else◌, List, [], ◌∷◌, map, get_or}
+use Rattle.std.specs.Prelude.{Option, Some, None, IsSome, ◌==◌, ◌&&◌, ◌||◌, if◌then◌else◌, List, [], ◌∷◌, length, map, get_or}
 use mathlib.Core.Logic.{dite}
 use native.Mathlib.Decide.{ℕ_discrete}
 use Rattle.atomic_table.specs.Seated.{TableId}
@@ -24,7 +25,7 @@ use Rattle.epoch_pools.specs.Running.{client_part}
 use Rattle.epoch_pools.proofs.Counting.{counts_one, counts_many}
 use Rattle.marked_list.specs.Scanning.{IsScanning}
 use Rattle.range_rw.specs.Contract.{SeatState, IsLockCall, IsRelease, ready_in, pools_at}
-use Rattle.range_rw.specs.Seats.{IsSettled, IsSeated, pools_of, walk_of, scan_of, placed_in, seat_state_of}
+use Rattle.range_rw.specs.Seats.{IsSettled, IsSeated, counted_in, pools_of, walk_of, scan_of, placed_in, seat_state_of}
 use Rattle.range_rw.specs.Trying.{IsLaterInTry}
 use Rattle.range_rw.specs.Releasing.{GivesBack}
 use Rattle.range_rw.specs.Several.{IsLaterInLists, IsFreeSeat, HoldsAlone}
@@ -45,9 +46,20 @@ further_at f from (suc many) zero none less = ap f (let e : from ≡ from + 0 = 
 further_at f from (suc many) (suc j) none less = further_at f (from + 1) many j none (omega arith)
     ∙ ap f (let e : (from + 1) + j ≡ from + suc j = omega arith in e)
 
+-- how many numbers there are
+pub count_numbers : {A : Type 0} (f : ℕ → A) (from many : ℕ) → length (map f (numbers_from from many)) ≡ many
+count_numbers f from zero = refl
+count_numbers f from (suc many) = ap suc (count_numbers f (from + 1) many)
+
 both_true : (a b : Bool) → (a && b) ≡ true → (a ≡ true) × (b ≡ true)
 both_true true b e = (refl, e)
 both_true false b e = absurd (let z : ◌≡◌ {A = Bool} false true = e in cc)
+
+-- the list whose range stands there is the one that it says
+here_in : (s : Standing) (i : ℕ) → is_here s i ≡ true → counted_in s ≡ i
+here_in Free i e = absurd (let z : ◌≡◌ {A = Bool} false true = e in cc)
+here_in (Narrow j) i e = sym (eqb-true i j e)
+here_in (Wide p) i e = sym (eqb-true i 0 e)
 
 -- where a list's range counts, it is what counts
 here_counts : (s : Standing) (lists i : ℕ) (held : ℕ → Option Held) → (is_here s i && is_whole s lists) ≡ true → counted_of_many lists s held ≡ held i
@@ -207,6 +219,26 @@ module _ {P : Type 0} where
         ∙ s.counts some in
         ap (λ (b : Bool). if b then Free else p.pass.standing) (both_true (is_here p.pass.standing p.pass.list) (is_whole p.pass.standing p.pass.lists) here).0)
 
+    -- it stood in the list to which the hand is turned
+    stood_here : counted_in p.pass.standing ≡ p.pass.list
+    stood_here = dite (ℕ_discrete p.pass.lists 1)
+        (λ one. let first : 0 ≡ p.pass.list = (let t = s.there in omega arith) in ap counted_in (s.one one) ∙ first)
+        (λ many.
+        let here : (is_here p.pass.standing p.pass.list && is_whole p.pass.standing p.pass.lists) ≡ true =
+        sym (ap (λ (b : Bool). b || is_here p.pass.standing p.pass.list && is_whole p.pass.standing p.pass.lists) (ne_eqb p.pass.lists 1 many))
+        ∙ s.counts some in
+        here_in p.pass.standing p.pass.list (both_true (is_here p.pass.standing p.pass.list) (is_whole p.pass.standing p.pass.lists) here).0)
+
+    -- and every other list of the seat is as it was
+    given_only : (was now : TableId) (j : ℕ) → j ≤ length (seat_state_of (record { table = was; part = p })).further → j ≢ counted_in p.pass.standing
+        → pools_at (seat_state_of (record { table = now; part = q })) j ≡ pools_at (seat_state_of (record { table = was; part = p })) j
+    given_only was now j le away =
+        let n = count_numbers (λ i. pools_of (shown_core p i)) 1 (p.pass.lists - 1) in
+        let there = s.there in
+        let less : j < p.pass.lists = omega arith in
+        pools_shown now q j (let e = same_lists in omega arith)
+        ∙ (ap pools_of (given_others j (λ e. away (e ∙ sym stood_here))) ∙ sym (pools_shown was p j less))
+
     -- so the seat is between two calls again
     pub given_seated : IsSeated q
     given_seated = record {
@@ -229,9 +261,11 @@ module _ {P : Type 0} where
       table = same;
       number = g.number;
       held = seated_grant q given_seated ∙ ap held_at g.own;
+      list = ap counted_in back_free;
       pass = ap (λ (b : Beside P). b.pass) g.pass ∙ ap (λ (b : Bool). if b then rested p.pass.pass else p.pass.pass) (s.counts some);
       ready = given_ready 0;
       further = (λ i. map ready_in (map (λ j. pools_of (shown_core q j)) (numbers_from 1 (same_lists i - 1)))) ∙ ready_each (numbers_from 1 (p.pass.lists - 1));
+      only = given_only was now;
       scan = λ i. placed_in (same_lists i) (same_list i) (g.scan i);
       client = g.client;
       met = g.met;

@@ -1,7 +1,8 @@
 -- A scan through a seat at a table of any number of lists: it is in the list to which the hand is turned, and the seat
 -- holds nothing in any list. What it leaves of that list is what it leaves of the seat; at the end of one list the hand
 -- leaves its epoch, turns to the next list and enters an epoch there.
-use Rattle.std.proofs.Common.{◌≡◌, ◌≢◌, ℕ, zero, suc, ◌+◌, ◌-◌, ◌*◌, ◌%◌, ◌<◌, ◌≤◌, Bool, true, false, ◌⊎◌, inl, inr, ⊎_elim, refl, sym, ap, ◌∙◌, subst, arith, eqb-true, eq-eqb}
+use Rattle.std.proofs.Common.{◌≡◌, ◌≢◌, ℕ, zero, suc, ◌+◌, ◌-◌, ◌*◌, ◌%◌, ◌<◌, ◌≤◌, Bool, true, false, ◌⊎◌, inl, inr}
+use Rattle.std.proofs.Common.{⊎_elim, refl, sym, ap, ◌∙◌, subst, arith, eqb-true, eq-eqb}
 use Rattle.std.specs.Prelude.{IsSome, Option, Some, None, ◌==◌, ◌&&◌, List, [], ◌∷◌, map, length}
 use Rattle.std.proofs.lemmas.List.{length-map}
 use mathlib.Core.Logic.{dite}
@@ -14,6 +15,7 @@ use Rattle.lock_core.specs.declared.views.Own.TheVariants.{Nothing}
 use Rattle.lock_core.specs.declared.steps.Step.TheVariants.{Enter, Leave}
 use Rattle.lock_core.specs.Views.{entered, left, kept_own, ready_left}
 use Rattle.lock_core.specs.Machine.{held_at, numbers_from}
+use Rattle.lock_core.specs.declared.views.Cursor.{Cursor}
 use Rattle.epoch_pools.specs.declared.record.Looked.{Looked}
 use Rattle.epoch_pools.specs.declared.views.SeatPart.{SeatPart}
 use Rattle.epoch_pools.specs.declared.views.Beside.{Beside}
@@ -36,17 +38,14 @@ use Rattle.range_rw.specs.Scan.{scanned_as, IsScanCall, Gives, WalksOn, KeepsWal
 use Rattle.range_rw.specs.Scan.{IsScanSeat, IsScanLater, OpensEpoch, ClosesEpoch, ListGives, IsNoEnd}
 use Rattle.range_rw.proofs.Pieces.{own_at, only_stays}
 use Rattle.range_rw.proofs.Moves.{lists_on, turn_on}
-use Rattle.range_rw.proofs.Scans.{bare_settled, scan_none, scan_some, scan_inside, walk_most, walk_nodes, walk_passed, walk_begun, walk_ended, walk_at, walks_by, next_is}
-use Rattle.range_rw.proofs.Seated.{seated_grant, seated_none, seated_own, try_lists}
+use Rattle.range_rw.proofs.Scans.{bare_settled, scan_none, scan_some, scan_inside, walk_most, walk_nodes, walk_passed}
+use Rattle.range_rw.proofs.Scans.{walk_begun, walk_ended, walk_at, walks_by, next_is}
+use Rattle.range_rw.proofs.Seated.{count_numbers, seated_grant, seated_none, seated_own, try_lists}
 use Rattle.range_rw.proofs.Choosing.{left_ready}
 
 and_true : (a b : Bool) → (a && b) ≡ true → (a ≡ true) × (b ≡ true)
 and_true true b e = (refl, e)
 and_true false b e = absurd (let z : ◌≡◌ {A = Bool} false true = e in cc)
-
-count_numbers : {A : Type 0} (f : ℕ → A) (from many : ℕ) → length (map f (numbers_from from many)) ≡ many
-count_numbers f from zero = refl
-count_numbers f from (suc many) = ap suc (count_numbers f (from + 1) many)
 
 bare_between : (v : View) → v.own ≡ Nothing → v.hand ≡ None → IsResting v → IsBetween v
 bare_between v own hand rests = record { own = bare_settled v.own own; hand = hand; cursor = rests }
@@ -325,7 +324,8 @@ module _ {P : Type 0} where
 
   -- ---- a call in one list
 
-  module _ (was_table now_table : TableId) (p q : SeatPart (Beside P)) (inside : IsInside p.core) (on : IsLaterInWalk p q) (view : IsHandView q) where
+  module _ (was_table now_table : TableId) (p q : SeatPart (Beside P)) (inside : IsInside p.core) (on : IsLaterInWalk p q) (view : IsHandView q)
+      (noted : p.trace.list ≡ p.pass.list) where
     abbrev before : SeatState P
     before = seat_state_of (record { table = was_table; part = p })
 
@@ -388,12 +388,24 @@ module _ {P : Type 0} where
         (ap begun_in is)
         (walks_by was_table p q inside on view walk (scan_some p inside.odd) first p.core.cursor refl goes)))
 
+    -- the last walk is one of this list
+    looked_here : IsHandView p → IsScanWalk p.core.cursor p q → (l : Looked) → q.trace.looked ≡ Some l → l.list ≡ p.pass.list
+    looked_here first goes l last = by p.core.cursor refl goes
+      where
+        same : (m : Looked) → q.trace.looked ≡ Some m → m.list ≡ l.list
+        same m at = let e : ◌≡◌ {A = Option Looked} (Some m) (Some l) = sym at ∙ last in let z : m ≡ l = cc in ap (λ (x : Looked). x.list) z
+
+        by : (o : Option Cursor) → p.core.cursor ≡ o → IsScanWalk o p q → l.list ≡ p.pass.list
+        by None e new = sym (same new.0 new.1) ∙ (new.4 ∙ (on.list ∙ noted))
+        by (Some c) e walk = let k = first.looked c e in let m = walk k.0 k.1 in sym (same m.0 m.1) ∙ (m.3 ∙ (k.4 ∙ noted))
+
     -- the end of the list was read, and no node of it passed
     end_here : (q ≡ p) ⊎ (p.trace.taken < q.trace.taken) → IsHandView p → IsScanWalk p.core.cursor p q → Passes p q ListEnd → IsListEnd before after placed
     end_here moved first goes x =
         let e = x.0.end in let l = view.looked e.0 e.1 in record {
           walk = l.0;
           is = l.1;
+          listed = looked_here first goes l.0 l.1;
           ended = l.3 e.2;
           none = sym (ap judged_in l.1) ∙ (x.1 ∙ sym (walk_passed (16 * p.seats + 1) p.core.cursor p.trace.looked));
           few =

@@ -6,7 +6,8 @@ use Rattle.std.specs.Prelude.{◌≡◌, ◌≢◌, ◌⊎◌, ℕ, zero, suc, �
 use mathlib.Core.Option.{some}
 use lib.ListN.{get_elem?}
 use Rattle.atomic_table.specs.Seated.{TableId}
-use Rattle.list_cuts.specs.Cut.{Regions, list_count}
+use Rattle.list_cuts.specs.Cut.{Regions, list_count, Takes, TakesOne, TakesTwo}
+use Rattle.lock_core.specs.Range.{Interval}
 use Rattle.lock_core.specs.Grants.{Conflicts}
 use Rattle.lock_core.specs.Machine.{numbers_from}
 use Rattle.lock_core.specs.declared.range.Held.{Held}
@@ -38,12 +39,15 @@ pub record Waited : Type 0 where
   pub seat : ℕ
   pub epoch : ℕ
 
--- the nodes that a seat has ready to be taken, in order; those of its used ones that came home and wait for the other
--- seats; and the seats that they wait for, of which an epoch is noted
+-- the nodes that a seat has ready to be taken in a list, in order; those of its used ones that came home and wait for
+-- the other seats; the seats that they wait for, of which an epoch is noted; and its own epoch there, which only rises.
+-- A seat that changes a word of a list takes a ready node of it or enters an epoch there, so where all of this is as it
+-- was the seat has changed no word of that list
 pub record Pools : Type 0 where
   pub ready : List ℕ
   pub homes : List ℕ
   pub waits : List Waited
+  pub epoch : ℕ
 
 -- the ready nodes of such pools
 abbrev pub ready_in : Pools → List ℕ
@@ -68,12 +72,14 @@ fresh_in list most = record { list = list; most = most; nodes = 0; passed = 0; e
 abbrev pub fresh_scan : ℕ → OpenScan
 fresh_scan most = fresh_in 0 most
 
--- a seat: its table and number, the range that it holds, its pools in list 0 and in each further list, its open scan,
--- its pass, and the record of its steps. It is inside an epoch of its own exactly where it has an open scan
+-- a seat: its table and number, the range that it holds, the list that holds it (0 where it holds nothing), its pools
+-- in list 0 and in each further list, its open scan, its pass, and the record of its steps. It is inside an epoch of
+-- its own exactly where it has an open scan
 pub record SeatState (P : Type 0) : Type 0 where
   pub table : TableId
   pub number : ℕ
   pub held : Option Held
+  pub list : ℕ
   pub pools : Pools
   pub further : List Pools
   pub scan : Option OpenScan
@@ -82,7 +88,7 @@ pub record SeatState (P : Type 0) : Type 0 where
 
 -- the pools of the seat of number k before the first step: its own sixteen nodes are ready
 abbrev pub first_pools : ℕ → Pools
-first_pools k = record { ready = numbers_from (16 * k) 16; homes = []; waits = [] }
+first_pools k = record { ready = numbers_from (16 * k) 16; homes = []; waits = []; epoch = 0 }
 
 -- a table has from 1 to 16 seats (this project's own profile)
 abbrev pub IsSeatCount : ℕ → Type 0
@@ -97,9 +103,39 @@ IsOpenFault seats Memory = IsSeatCount seats
 abbrev pub IsOneList : TableShape → Type 0
 IsOneList t = list_count t.cut ≡ 1
 
--- how many steps a try makes at most, whatever other seats do and whichever lists the range takes
+-- how many of the first n lists a range takes, and of all
+abbrev pub TakesBelow : Regions → Interval → ℕ → ℕ → Type 0
+TakesBelow c range zero k = k ≡ 0
+TakesBelow c range (suc n) k =
+    (Takes c range n × ((m : ℕ) × (k ≡ suc m) × TakesBelow c range n m)) ⊎ ((Takes c range n → ⊥) × TakesBelow c range n k)
+
+abbrev pub TakesMany : Regions → Interval → ℕ → Type 0
+TakesMany c range k = TakesBelow c range (list_count c) k
+
+-- how many steps a try makes at most, whatever other seats do, where its range takes so many lists: those of one list,
+-- and fewer for each further one
+abbrev pub try_steps : ℕ → ℕ → ℕ
+try_steps seats k = 64 + 386 * seats + (55 + 193 * seats) * (k - 1)
+
+-- how many it makes at most, whichever lists its range takes
 abbrev pub most_steps : TableShape → ℕ
 most_steps t = (64 + 386 * t.seats) * list_count t.cut
+
+-- the lists in which a try for that range works: those that it takes, and list 0, which with one list is the one that
+-- each range takes
+abbrev pub WorksIn : Regions → Interval → ℕ → Type 0
+WorksIn c range list = (list ≡ 0) ⊎ Takes c range list
+
+-- the list that holds a range: the one that it takes alone, and list 0 where it takes more
+abbrev pub StandsIn : Regions → Interval → ℕ → Type 0
+StandsIn c range list = TakesOne c range list ⊎ (TakesTwo c range × (list ≡ 0))
+
+-- a refusal that tells a list tells one in which the try works
+abbrev pub TellsList : Regions → Interval → NotHeld → Type 0
+TellsList c range (Busy owner held mode) = Unit {0}
+TellsList c range (Again list place expected found) = WorksIn c range list
+TellsList c range (Long visits) = Unit {0}
+TellsList c range (NoNode list stuck) = WorksIn c range list
 
 -- how many steps a call of a scan makes at most: those of one list, and in each list behind it those of leaving and
 -- entering besides
@@ -116,9 +152,9 @@ RefusesTry _ = ⊥
 -- the answer that a walk was too long
 abbrev pub IsLongRefusal : NotHeld → Type 0
 IsLongRefusal (Busy owner range mode) = ⊥
-IsLongRefusal (Again place expected found) = ⊥
+IsLongRefusal (Again list place expected found) = ⊥
 IsLongRefusal (Long visits) = Unit {0}
-IsLongRefusal (NoNode stuck) = ⊥
+IsLongRefusal (NoNode list stuck) = ⊥
 
 -- the ready pool after a try, where it wasn't empty before: as it was, or without its first node
 abbrev pub IsReadyLeft : List ℕ → List ℕ → Type 0
@@ -139,6 +175,7 @@ module _ {P : Type 0} where
     table = table;
     number = k;
     held = None;
+    list = 0;
     pools = first_pools k;
     further = replicate (lists - 1) (first_pools k);
     scan = None;
@@ -174,27 +211,40 @@ module _ {P : Type 0} where
     pub client : after.trace.client ≡ before.trace.client
     pub taken : before.trace.taken ≤ after.trace.taken
 
-  -- one step on client word i: the seat holds what it held, its pools and an open scan stay, and its record has this
-  -- step
+  -- one step on client word i: the seat holds what it held, where it held it, its pools and an open scan stay, and its
+  -- record has this step
   pub record IsClientCall (before : SeatState P) (i : ℕ) (after : SeatState P) : Type 0 where
     pub table : after.table ≡ before.table
     pub number : after.number ≡ before.number
     pub held : after.held ≡ before.held
+    pub list : after.list ≡ before.list
     pub pools : after.pools ≡ before.pools
     pub further : after.further ≡ before.further
     pub scan : after.scan ≡ before.scan
     pub trace : after.trace ≡ client_trace before.trace i
 
+  -- the seat's pools in list i, of the lists that its table has
+  abbrev pub pools_at : SeatState P → ℕ → Pools
+  pools_at s zero = s.pools
+  pools_at s (suc j) = get_or s.further j s.pools
+
+  -- the seat as that list has it
+  abbrev pub in_list : ℕ → SeatState P → SeatState P
+  in_list i s = record s { pools = pools_at s i }
+
   -- a range was given back, in one step or two, of which none is a client step and none meets a node: the pass is
-  -- rested, and an open scan stays, so a seat that was outside its epoch is outside after it. The fast path may lose an
-  -- exchange here, so the record's `lost` is left open
+  -- rested, and an open scan stays, so a seat that was outside its epoch is outside after it. What the seat has in each
+  -- list but the one that held the range is as it was. The fast path may lose an exchange here, so the record's `lost`
+  -- is left open
   pub record IsRelease (rested : P → P) (before after : SeatState P) : Type 0 where
     pub table : after.table ≡ before.table
     pub number : after.number ≡ before.number
     pub held : after.held ≡ None
+    pub list : after.list ≡ 0
     pub pass : after.pass ≡ rested before.pass
     pub ready : after.pools.ready ≡ before.pools.ready
     pub further : map ready_in after.further ≡ map ready_in before.further
+    pub only : (j : ℕ) → j ≤ length before.further → j ≢ before.list → pools_at after j ≡ pools_at before j
     pub scan : after.scan ≡ before.scan
     pub client : after.trace.client ≡ before.trace.client
     pub met : after.trace.met ≡ before.trace.met
@@ -218,55 +268,48 @@ module _ {P : Type 0} where
   abbrev pub IsSpentIn : ℕ → SeatState P → SeatState P → Type 0
   IsSpentIn seats before after = (w : IsWalkOf before after) × (w.walk.nodes ≡ 16 * seats + 1) × (after.held ≡ None)
 
-  -- a used node came home, and this call read that odd epoch of another seat, last of all that it read there; that seat
-  -- isn't passed, and no other epoch was noted of it before
-  pub record IsHeldUp (before after : SeatState P) (seat epoch : ℕ) : Type 0 where
+  -- what the seat has in each list in which a try for that range doesn't work is as it was
+  abbrev pub KeepsOthers : Regions → Interval → SeatState P → SeatState P → Type 0
+  KeepsOthers c range before after = (j : ℕ) → j < list_count c → (WorksIn c range j → ⊥) → pools_at after j ≡ pools_at before j
+
+  -- a used node came home, and this call read that odd epoch of another seat, last of all that it read there, in that
+  -- list; that seat isn't passed, and no other epoch was noted of it before
+  pub record IsHeldUp (list : ℕ) (before after : SeatState P) (seat epoch : ℕ) : Type 0 where
     pub home : after.pools.homes ≢ []
     pub other : seat ≢ after.number
     pub entry : Noted
     pub last : find (λ n. n.seat == seat) after.trace.noted ≡ Some entry
+    pub listed : entry.list ≡ list
     pub from : before.trace.taken ≤ entry.step
     pub below : entry.step < after.trace.taken
     pub odd : epoch % 2 ≡ 1
     pub read : entry.epoch ≡ epoch
     pub first : find (λ w. w.seat == seat) after.pools.waits ≡ Some (record { seat = seat; epoch = epoch })
 
-  -- why there is no node to take: this call read each of the seat's sixteen nodes as away, of which the lowest is
-  -- named; or another seat is named that hinders one that came home
-  abbrev pub IsStuckIn : SeatState P → SeatState P → Stuck → Type 0
-  IsStuckIn before after (Away node) = (node ≡ 16 * after.number)
-      × ((x : ℕ) → x / 16 ≡ after.number → IsReadAway before.trace.taken after.trace.taken after.trace.away x)
-  IsStuckIn before after (Inside seat epoch) = IsHeldUp before after seat epoch
+  -- why there is no node to take in a list: this call read each of the seat's sixteen nodes there as away, of which the
+  -- lowest is named; or another seat is named that hinders one that came home
+  abbrev pub IsStuckIn : ℕ → SeatState P → SeatState P → Stuck → Type 0
+  IsStuckIn list before after (Away node) = (node ≡ 16 * after.number)
+      × ((x : ℕ) → x / 16 ≡ after.number → IsReadAway list before.trace.taken after.trace.taken after.trace.away x)
+  IsStuckIn list before after (Inside seat epoch) = IsHeldUp list before after seat epoch
 
-  -- the seat's pools in list i, of the lists that its table has
-  abbrev pub pools_at : SeatState P → ℕ → Pools
-  pools_at s zero = s.pools
-  pools_at s (suc j) = get_or s.further j s.pools
-
-  -- the seat as that list has it
-  abbrev pub in_list : ℕ → SeatState P → SeatState P
-  in_list i s = record s { pools = pools_at s i }
-
-  -- no node was ready, and after a sweep of this call that read the end of the list there was none to take
-  abbrev pub IsWithout : SeatState P → SeatState P → Stuck → Type 0
-  IsWithout before after stuck = (before.pools.ready ≡ []) × ((w : IsWalkOf before after) × (w.walk.ended ≡ true)) × IsStuckIn before after stuck
-
-  -- why a try for that range was refused: at a step of this call another seat's node was in conflict; or an exchange of
-  -- this call, whose loss refuses a try, found another value than it expected; or a walk of this call was too long; or
-  -- in one of the lists the seat was without a node. A part of the record with a number not below the number of steps
-  -- at the call's entry was made in this call. The place of an exchange is counted in its list, which the record tells
-  abbrev pub IsCause : SeatState P → SeatState P → Held → NotHeld → Type 0
-  IsCause before after asked (Busy owner range mode) = (m : Met) × (after.trace.met ≡ Some m) × (before.trace.taken ≤ m.step) × (m.step < after.trace.taken)
-      × (m.owner ≡ owner) × (m.held ≡ record { range = range; mode = mode }) × (owner ≢ before.number) × Conflicts m.held asked
-  IsCause before after asked (Again place expected found) = (l : Lost) × (after.trace.lost ≡ Some l)
+  -- why a try for that range was refused in a list, by what the seat has there: at a step of this call another seat's
+  -- node of that list was in conflict; or an exchange of this call there, whose loss refuses a try, found another value
+  -- than it expected; or a walk of this call there was too long; or no node was ready there, and after a sweep of this
+  -- call that read the end of the list there was none to take. A part of the record with a number not below the number
+  -- of steps at the call's entry was made in this call
+  abbrev pub IsListCause : ℕ → SeatState P → SeatState P → Held → NotHeld → Type 0
+  IsListCause list before after asked (Busy owner range mode) = (m : Met) × (after.trace.met ≡ Some m) × (before.trace.taken ≤ m.step)
+      × (m.step < after.trace.taken) × (m.owner ≡ owner) × (m.held ≡ record { range = range; mode = mode }) × (owner ≢ before.number)
+      × Conflicts m.held asked × (m.list ≡ list)
+  IsListCause list before after asked (Again told place expected found) = (l : Lost) × (after.trace.lost ≡ Some l)
       × (before.trace.taken ≤ l.step) × (l.step < after.trace.taken)
-      × RefusesTry l.kind × (l.place ≡ place) × (l.expected ≡ expected) × (l.found ≡ found) × (found ≢ expected)
-  IsCause before after asked (Long visits) = (w : IsWalkOf before after) × (w.walk.nodes ≡ visits)
-  IsCause before after asked (NoNode stuck) = (i : ℕ) × (i ≤ length before.further) × IsWithout (in_list i before) (in_list i after) stuck
+      × RefusesTry l.kind × (l.place ≡ place) × (l.expected ≡ expected) × (l.found ≡ found) × (found ≢ expected) × (l.list ≡ list) × (told ≡ list)
+  IsListCause list before after asked (Long visits) = (w : IsWalkOf before after) × (w.walk.nodes ≡ visits) × (w.walk.list ≡ list)
+  IsListCause list before after asked (NoNode told stuck) = (before.pools.ready ≡ [])
+      × ((w : IsWalkOf before after) × (w.walk.ended ≡ true) × (w.walk.list ≡ list)) × IsStuckIn list before after stuck × (told ≡ list)
 
-  -- the same of a try in one list, by what the seat has there
-  abbrev pub IsListCause : SeatState P → SeatState P → Held → NotHeld → Type 0
-  IsListCause before after asked (Busy owner range mode) = IsCause before after asked (Busy owner range mode)
-  IsListCause before after asked (Again place expected found) = IsCause before after asked (Again place expected found)
-  IsListCause before after asked (Long visits) = IsCause before after asked (Long visits)
-  IsListCause before after asked (NoNode stuck) = IsWithout before after stuck
+  -- why a try was refused: by a cause in one of the lists, which the refusal tells where it speaks of a word or of
+  -- nodes
+  abbrev pub IsCause : SeatState P → SeatState P → Held → NotHeld → Type 0
+  IsCause before after asked why = (list : ℕ) × (list ≤ length before.further) × IsListCause list (in_list list before) (in_list list after) asked why

@@ -97,11 +97,12 @@ module _ {P : Type 0} where
     pub keeps : KeepsWalk before after was now answer
 
   -- the end of the list was read in the walk that had begun there, or in one that this call began, and the call went
-  -- past no node of it. It was read at a step of this call, or that walk had read it before: a call without a step has
-  -- looked at what was looked at before it
+  -- past no node of it: the record's last walk is of that list. It was read at a step of this call, or that walk had
+  -- read it before: a call without a step has looked at what was looked at before it
   pub record IsListEnd (before after : SeatState P) (was : OpenScan) : Type 0 where
     pub walk : Looked
     pub is : after.trace.looked ≡ Some walk
+    pub listed : walk.list ≡ was.list
     pub ended : walk.ended ≡ true
     pub none : walk.judged ≡ was.passed
     pub few : walk.nodes < was.most

@@ -13,7 +13,8 @@ use Rattle.lock_core.specs.Machine.{held_at, numbers_from}
 use Rattle.epoch_pools.specs.declared.record.Looked.{Looked}
 use Rattle.epoch_pools.specs.declared.views.SeatPart.{SeatPart}
 use Rattle.epoch_pools.specs.declared.views.Beside.{Beside}
-use Rattle.epoch_pools.specs.declared.views.Standing.TheVariants.{Free}
+use Rattle.epoch_pools.specs.declared.views.Standing.{Standing}
+use Rattle.epoch_pools.specs.declared.views.Standing.TheVariants.{Free, Narrow, Wide}
 use Rattle.epoch_pools.specs.Standings.{is_counted}
 use Rattle.epoch_pools.specs.Beside.{shown_core, shown_grant}
 use Rattle.epoch_pools.specs.Hands.{HandState}
@@ -32,7 +33,7 @@ waits_from k [] passed = []
 waits_from k (noted ∷ notes) passed = waits_at k noted (unwrap_or (slice_get passed k) false) (waits_from (suc k) notes passed)
 
 abbrev pub pools_of : View → Pools
-pools_of v = record { ready = v.ready; homes = v.homes; waits = waits_from 0 v.notes v.passed }
+pools_of v = record { ready = v.ready; homes = v.homes; waits = waits_from 0 v.notes v.passed; epoch = v.epoch }
 
 -- the open scan of a hand, which is inside its epoch, as its list has it: its cursor, where its walk has begun, and
 -- what that has judged. The walk's number is that of the step that made its cursor
@@ -81,12 +82,19 @@ pub record IsSeated {P : Type 0} (p : SeatPart (Beside P)) : Type 0 where
 abbrev pub further_of : {P : Type 0} → SeatPart (Beside P) → List Pools
 further_of p = map (λ j. pools_of (shown_core p j)) (numbers_from 1 (p.pass.lists - 1))
 
+-- the list whose range counts, by how it counts
+abbrev pub counted_in : Standing → ℕ
+counted_in Free = 0
+counted_in (Narrow i) = i
+counted_in (Wide p) = 0
+
 -- what contracts see of a seat, from its hand
 abbrev pub seat_state_of : {P : Type 0} → HandState (Beside P) → SeatState P
 seat_state_of s = record {
   table = s.table;
   number = s.part.number;
   held = shown_grant s.part;
+  list = counted_in s.part.pass.standing;
   pools = pools_of (shown_core s.part 0);
   further = further_of s.part;
   scan = placed_in s.part.pass.lists s.part.pass.list (scan_of s.part);
@@ -100,6 +108,7 @@ seat_state_in table p = record {
   table = table;
   number = p.number;
   held = held_at p.core.own;
+  list = 0;
   pools = pools_of p.core;
   further = [];
   scan = scan_of p;

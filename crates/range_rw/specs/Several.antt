@@ -16,7 +16,7 @@ use Rattle.epoch_pools.specs.Beside.{shown_core}
 use Rattle.epoch_pools.specs.Hands.{IsResting}
 use Rattle.marked_list.specs.Causes.{nodes_in}
 use Rattle.range_rw.specs.declared.refusals.NotHeld.{NotHeld}
-use Rattle.range_rw.specs.Contract.{SeatState, IsListCause}
+use Rattle.range_rw.specs.Contract.{SeatState, IsListCause, WorksIn}
 use Rattle.range_rw.specs.Seats.{seat_state_in}
 
 -- the range takes one list alone, whichever it is
@@ -68,14 +68,22 @@ module _ {P : Type 0} where
     pub held : held_at (shown_core p at).own ≡ Some range
     pub others : (j : ℕ) → j ≢ at → (shown_core p j).own ≡ Nothing
 
-  -- why a call was refused: by the cause that a try in one of the lists has, by what the seat has there
-  abbrev pub IsCauseIn : TableId → SeatPart (Beside P) → SeatPart (Beside P) → Held → NotHeld → Type 0
-  IsCauseIn table p q asked why = (i : ℕ) × (i < p.pass.lists) × IsListCause (list_state table p i) (list_state table q i) asked why
+  -- why a try in list i was refused, by what the seat has there
+  abbrev pub IsCauseAt : TableId → ℕ → SeatPart (Beside P) → SeatPart (Beside P) → Held → NotHeld → Type 0
+  IsCauseAt table i p q asked why = IsListCause i (list_state table p i) (list_state table q i) asked why
+
+  -- why a call was refused: by the cause that a try has in one of the lists in which it works
+  abbrev pub IsCauseIn : TableId → Regions → SeatPart (Beside P) → SeatPart (Beside P) → Held → NotHeld → Type 0
+  IsCauseIn table c p q asked why = (i : ℕ) × (i < p.pass.lists) × WorksIn c asked.range i × IsCauseAt table i p q asked why
+
+  -- each list in which a try for that range doesn't work is shown as before
+  abbrev pub ShowsOthers : Regions → Interval → SeatPart (Beside P) → SeatPart (Beside P) → Type 0
+  ShowsOthers c range p q = (j : ℕ) → (WorksIn c range j → ⊥) → shown_core q j ≡ shown_core p j
 
   -- what was a cause in another list than this one still is, by what the record has
   abbrev pub KeepsCauses : TableId → ℕ → SeatPart (Beside P) → SeatPart (Beside P) → Type 0
   KeepsCauses table at p q = (was : SeatPart (Beside P)) (i : ℕ) (asked : Held) (why : NotHeld) → i ≢ at
-      → IsListCause (list_state table was i) (list_state table p i) asked why → IsListCause (list_state table was i) (list_state table q i) asked why
+      → IsCauseAt table i was p asked why → IsCauseAt table i was q asked why
 
   -- the last walk has looked at as many nodes as it may
   abbrev pub HasSpent : SeatPart (Beside P) → Type 0

@@ -1,15 +1,16 @@
 //! How `acquire` inserts its filled node: as a try does, but for a reader that meets another seat's writer in its
 //! validation. It stays inside its epoch and looks at that node again, with growing pauses, until the node is marked or
 //! `MOST_LOOKS` looks were made; only then it marks its own node. A writer that meets its node marks at once, so the
-//! two don't both give way. A reader may rely on the hand having no own node where its range isn't held afterwards.
-//! Kogan, Dice and Issa 2020, where the reader waits without end.
+//! two don't both give way. A reader that waits here is inside its epoch and keeps the nodes of all seats from being
+//! ready again, so the looks aren't more than serves. A reader may rely on the hand having no own node where its range
+//! isn't held afterwards. Kogan, Dice and Issa 2020, where the reader waits without end.
 ghost use Rattle.std.specs.Prelude.{◌≡◌, ◌+◌, ◌≤◌, ◌<◌, true, false, Some, None, OnOk, OnErr};
 ghost use Rattle.lock_core.specs.declared.views.Own.TheVariants.{Nothing};
 ghost use Rattle.lock_core.specs.Machine.{held_at};
 ghost use Rattle.marked_list.specs.Order.{IsOutside, IsInside, HasEnds, HasToValidate, MayWalk, MaySweep, StandsInConflict};
 ghost use Rattle.range_rw.specs.Trying.{has_come, IsLaterInTry, IsLaterInEpoch};
 ghost use Rattle.range_rw.specs.Patience.{has_met, holds_at, reads_on, looks_of, most_steps, LookEnds, PatientEnds, InsideEnds, HoldsOrNone};
-ghost use Rattle.range_rw.specs.declared.patience.TheConstants.{MOST_LOOKS};
+ghost use Rattle.word_rows.specs.declared.backoff.TheConstants.{MOST_LOOKS};
 
 use crate::inserting::{is_place, walk_and_link};
 use crate::refusals::NotHeld;
@@ -18,12 +19,7 @@ use epoch_pools::{Hand, List};
 use lock_core::{Guard, Mode, Own, Range, Todo};
 use marked_list::{Cursor, Walked, begin, end, mark, validate};
 use std::sync::ledger::Ledger;
-use word_rows::{Backoff, Steps};
-
-/// How many further looks a reader makes at most before it marks its node: one for each length of a wait, from
-/// `SHORTEST_WAIT` to `LONGEST_WAIT`. A reader that waits here is inside its epoch and keeps the nodes of all seats
-/// from being ready again, so they aren't more than serves. `docs/DECISIONS.md` has what was measured.
-pub(crate) const MOST_LOOKS: u32 = 4;
+use word_rows::{Backoff, MOST_LOOKS, Steps};
 
 /// When `acquire` begins anew, where its range isn't held.
 #[derive(Clone, Copy, Debug, PartialEq, Eq)]

@@ -26,10 +26,11 @@ pub enum NotHeld {
         range: Range,
         mode: Mode,
     },
-    /// An exchange of this call on the word at `place` of a list found `found` where it expected `expected`: another
-    /// seat linked or unlinked a node there. The record of the seat's steps tells which list it was.
-    #[error("the word at place {place} was {found}, where {expected} was expected")]
+    /// An exchange of this call on the word at `place` of a list, counted from 0 as the lists are, found `found` where
+    /// it expected `expected`: another seat linked or unlinked a node there.
+    #[error("the word at place {place} of list {list} was {found}, where {expected} was expected")]
     Again {
+        list: u32,
         place: u32,
         expected: u64,
         found: u64,
@@ -39,9 +40,12 @@ pub enum NotHeld {
     Long {
         visits: u32,
     },
-    /// The seat has no node to take.
-    #[error("no node to take: {0:?}")]
-    NoNode(Stuck),
+    /// The seat has no node to take in that list, counted from 0.
+    #[error("no node to take in list {list}: {stuck:?}")]
+    NoNode {
+        list: u32,
+        stuck: Stuck,
+    },
 }
 
 fn name_of(mode: Mode) -> &'static str {

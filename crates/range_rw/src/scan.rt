@@ -146,6 +146,7 @@ fn pass_here<G: Guard, L: Ledger>(
     ensures bound { hand.new.part.trace.taken ≤ hand.old.part.trace.taken + 2 + 3 * (16 * hand.old.part.seats + 1) }
 {
     let _ = hand.view();
+    let _ = hand.list();
     let passed = pass(list, hand, steps);
     let _ = hand.view();
     passed
@@ -310,9 +311,9 @@ impl<'a, G: Guard> Scan<'a, G> {
     /// `Long` each further call gives the same answer and makes no step. `Again` is an exchange of this call that found
     /// another value than it expected; the next call begins at the head of that list with a new count, and may give a
     /// node of it a second time. No other call begins anew: after `Found`, `End` and `Long` the walk is the one that
-    /// had begun in that list before the call, if one had. A range that was held before the scan began, and is held
-    /// until it ends, stands in one list and is given once, but for `Again`. One that a try of another seat is asking
-    /// for may stand in two lists for a moment, and be given in both.
+    /// had begun in that list before the call, if one had. A range may stand in two lists, from the second link of
+    /// its try until that node is given back, and may be held already then; so it may be given in both. No clause says
+    /// that a scan gives each range that is held, or gives it once.
     pub fn next(&mut self) -> Scanned
         requires table { self.old.seat.now.table ≡ self.old.table.now.table }
         requires free { self.old.seat.now.held ≡ None }

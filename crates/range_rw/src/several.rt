@@ -4,7 +4,7 @@
 //! range there too, looks, and gives that node back. Each function works in one list, to which it turns the hand; a
 //! reader may rely on a refusal leaving nothing held, and on its cause being that of a try in one list. This project's
 //! own profile.
-ghost use Rattle.std.specs.Prelude.{◌≡◌, ◌≢◌, ◌<◌, ◌≤◌, ◌+◌, ◌*◌, ◌↔◌, ℕ, true, false, Some, None, IfErr, OnOk, OnErr};
+ghost use Rattle.std.specs.Prelude.{◌≡◌, ◌≢◌, ◌<◌, ◌≤◌, ◌+◌, ◌*◌, ◌%◌, ◌↔◌, ℕ, true, false, Some, None, IfErr, OnOk, OnErr};
 ghost use Rattle.lock_core.specs.declared.range.Held.{Held};
 ghost use Rattle.lock_core.specs.declared.views.Own.TheVariants.{Nothing};
 ghost use Rattle.lock_core.specs.Machine.{held_at};
@@ -15,9 +15,10 @@ ghost use Rattle.epoch_pools.specs.Beside.{shown_core};
 ghost use Rattle.epoch_pools.specs.Hands.{IsResting};
 ghost use Rattle.epoch_pools.specs.Passing.{MayPass};
 ghost use Rattle.marked_list.specs.Causes.{nodes_in, IsSpent};
-ghost use Rattle.range_rw.specs.Contract.{IsListCause, IsLongRefusal, IsReadyLeft};
+ghost use Rattle.range_rw.specs.Contract.{IsLongRefusal, IsReadyLeft, StandsIn, TakesMany, try_steps};
+ghost use Rattle.range_rw.specs.Seats.{counted_in};
 ghost use Rattle.range_rw.specs.Trying.{IsLaterInTry};
-ghost use Rattle.range_rw.specs.Several.{list_state, IsLaterInLists, IsPiece, IsFreeSeat, HoldsAlone, HoldsIn, IsCauseIn, KeepsCauses, HasSpent, TakesNone, TakesAlone};
+ghost use Rattle.range_rw.specs.Several.{IsCauseAt, ShowsOthers, IsLaterInLists, IsPiece, IsFreeSeat, HoldsAlone, HoldsIn, IsCauseIn, KeepsCauses, HasSpent, TakesNone, TakesAlone};
 
 use crate::nodes::refusal_of;
 use crate::refusals::NotHeld;
@@ -69,6 +70,7 @@ pub(crate) fn leave_and_count<G: Guard, L: Ledger>(
     ensures free { hand.new.part.core.own ≡ Nothing }
     ensures rests { IsResting hand.new.part.core }
     ensures ready { hand.new.part.core.ready ≡ hand.old.part.core.ready }
+    ensures same { hand.old.part.core.epoch % 2 ≡ 0 → hand.new.part ≡ hand.old.part }
     ensures there { hand.new.part.pass.list < hand.new.part.pass.lists }
     ensures lists { (result ≡ hand.new.part.pass.lists) × (result ≡ list_count list.now.cut) }
     ensures regions { 0 < list.now.cut.count }
@@ -101,8 +103,7 @@ fn link_piece<G: Guard, L: Ledger>(
     ensures held { OnOk result (held_at hand.new.part.core.own ≡ Some (record { range = range; mode = mode })) }
     ensures free { OnErr result (hand.new.part.core.own ≡ Nothing) }
     ensures ready { IsReadyLeft (shown_core hand.old.part at).ready (shown_core hand.new.part at).ready }
-    ensures cause { IfErr result (IsListCause (list_state hand.old.table hand.old.part at) (list_state hand.old.table hand.new.part at)
-        (record { range = range; mode = mode })) }
+    ensures cause { IfErr result (IsCauseAt hand.old.table at hand.old.part hand.new.part (record { range = range; mode = mode })) }
     ensures long { IfErr result (λ why. IsLongRefusal why ↔ IsSpent hand.new.part) }
     ensures seats { hand.old.part.seats ≡ list.now.seats }
     ensures bound { hand.new.part.trace.taken ≤ hand.old.part.trace.taken + 43 + 145 * hand.old.part.seats }
@@ -141,15 +142,15 @@ fn sweep_piece<G: Guard, L: Ledger>(
     ensures standing { hand.new.part.pass.standing ≡ hand.old.part.pass.standing }
     ensures free { hand.new.part.core.own ≡ Nothing }
     ensures ready { (shown_core hand.new.part at).ready ≡ (shown_core hand.old.part at).ready }
-    ensures cause { IfErr result (λ why. (asked : Held) → IsListCause (list_state hand.old.table hand.old.part at)
-        (list_state hand.old.table hand.new.part at) asked why) }
+    ensures cause { IfErr result (λ why. (asked : Held) → IsCauseAt hand.old.table at hand.old.part hand.new.part asked why) }
     ensures long { IfErr result (λ why. IsLongRefusal why ↔ IsSpent hand.new.part) }
     ensures bound { hand.new.part.trace.taken ≤ hand.old.part.trace.taken + 7 + 48 * hand.old.part.seats }
     ensures counted { steps.new + hand.old.part.trace.taken ≡ steps.old + hand.new.part.trace.taken }
 {
     hand.turn(at);
     let walked = sweep(list, hand, steps);
-    outcome_of(refusal_of(walked))
+    let here = hand.list();
+    outcome_of(refusal_of(here, walked))
 }
 
 /// Turns the hand to a list that holds a range which counts only through another list, and gives it back there: in one
@@ -223,8 +224,7 @@ fn count_in_both<G: Guard, L: Ledger>(
     ensures holds { OnErr result (HoldsIn at (record { range = range; mode = mode }) hand.new.part × (hand.new.part.pass.standing ≡ Free)) }
     ensures ready { IsReadyLeft (shown_core hand.old.part 0).ready (shown_core hand.new.part 0).ready }
     ensures only { (j : ℕ) → j ≢ 0 → shown_core hand.new.part j ≡ shown_core hand.old.part j }
-    ensures cause { IfErr result (IsListCause (list_state hand.old.table hand.old.part 0) (list_state hand.old.table hand.new.part 0)
-        (record { range = range; mode = mode })) }
+    ensures cause { IfErr result (IsCauseAt hand.old.table 0 hand.old.part hand.new.part (record { range = range; mode = mode })) }
     ensures long { IfErr result (λ why. IsLongRefusal why ↔ HasSpent hand.new.part) }
     ensures bound { hand.new.part.trace.taken ≤ hand.old.part.trace.taken + 46 + 145 * hand.old.part.seats }
     ensures counted { steps.new + hand.old.part.trace.taken ≡ steps.old + hand.new.part.trace.taken }
@@ -264,8 +264,7 @@ fn count_swept<G: Guard, L: Ledger>(
     ensures holds { OnErr result (HoldsIn at (record { range = range; mode = mode }) hand.new.part × (hand.new.part.pass.standing ≡ Free)) }
     ensures ready { IsReadyLeft (shown_core hand.old.part 0).ready (shown_core hand.new.part 0).ready }
     ensures only { (j : ℕ) → j ≢ 0 → shown_core hand.new.part j ≡ shown_core hand.old.part j }
-    ensures cause { IfErr result (IsListCause (list_state hand.old.table hand.old.part 0) (list_state hand.old.table hand.new.part 0)
-        (record { range = range; mode = mode })) }
+    ensures cause { IfErr result (IsCauseAt hand.old.table 0 hand.old.part hand.new.part (record { range = range; mode = mode })) }
     ensures long { IfErr result (λ why. IsLongRefusal why ↔ HasSpent hand.new.part) }
     ensures bound { hand.new.part.trace.taken ≤ hand.old.part.trace.taken + 54 + 193 * hand.old.part.seats }
     ensures counted { steps.new + hand.old.part.trace.taken ≡ steps.old + hand.new.part.trace.taken }
@@ -300,7 +299,8 @@ pub(crate) fn hold_narrow<G: Guard, L: Ledger>(
     ensures counts { OnOk result (hand.new.part.pass.standing ≡ Narrow at) }
     ensures free { OnErr result (IsFreeSeat hand.new.part) }
     ensures ready { (j : ℕ) → IsReadyLeft (shown_core hand.old.part j).ready (shown_core hand.new.part j).ready }
-    ensures cause { IfErr result (IsCauseIn hand.old.table hand.old.part hand.new.part (record { range = range; mode = mode })) }
+    ensures only { ShowsOthers list.now.cut range hand.old.part hand.new.part }
+    ensures cause { IfErr result (IsCauseIn hand.old.table list.now.cut hand.old.part hand.new.part (record { range = range; mode = mode })) }
     ensures long { IfErr result (λ why. IsLongRefusal why ↔ IsSpent hand.new.part) }
     ensures seats { hand.old.part.seats ≡ list.now.seats }
     ensures bound { hand.new.part.trace.taken ≤ hand.old.part.trace.taken + 99 + 338 * hand.old.part.seats }
@@ -365,8 +365,7 @@ fn pass_in_both<G: Guard, L: Ledger>(
         × (hand.new.part.pass.standing ≡ hand.old.part.pass.standing)) }
     ensures ready { IsReadyLeft (shown_core hand.old.part at).ready (shown_core hand.new.part at).ready }
     ensures only { (j : ℕ) → j ≢ at → shown_core hand.new.part j ≡ shown_core hand.old.part j }
-    ensures cause { IfErr result (IsListCause (list_state hand.old.table hand.old.part at) (list_state hand.old.table hand.new.part at)
-        (record { range = range; mode = mode })) }
+    ensures cause { IfErr result (IsCauseAt hand.old.table at hand.old.part hand.new.part (record { range = range; mode = mode })) }
     ensures long { IfErr result (λ why. IsLongRefusal why ↔ HasSpent hand.new.part) }
     ensures bound { hand.new.part.trace.taken ≤ hand.old.part.trace.taken + 46 + 145 * hand.old.part.seats }
     ensures counted { steps.new + hand.old.part.trace.taken ≡ steps.old + hand.new.part.trace.taken }
@@ -407,8 +406,7 @@ fn pass_one<G: Guard, L: Ledger>(
         × (hand.new.part.pass.standing ≡ hand.old.part.pass.standing)) }
     ensures ready { IsReadyLeft (shown_core hand.old.part at).ready (shown_core hand.new.part at).ready }
     ensures only { (j : ℕ) → j ≢ at → shown_core hand.new.part j ≡ shown_core hand.old.part j }
-    ensures cause { IfErr result (IsListCause (list_state hand.old.table hand.old.part at) (list_state hand.old.table hand.new.part at)
-        (record { range = range; mode = mode })) }
+    ensures cause { IfErr result (IsCauseAt hand.old.table at hand.old.part hand.new.part (record { range = range; mode = mode })) }
     ensures long { IfErr result (λ why. IsLongRefusal why ↔ HasSpent hand.new.part) }
     ensures bound { hand.new.part.trace.taken ≤ hand.old.part.trace.taken + 55 + 193 * hand.old.part.seats }
     ensures counted { steps.new + hand.old.part.trace.taken ≡ steps.old + hand.new.part.trace.taken }
@@ -451,10 +449,12 @@ fn pass_all<G: Guard, L: Ledger>(
     ensures back { OnErr result (standing_back hand.new.part.pass.standing 0 ≡ Free) }
     ensures first { shown_core hand.new.part 0 ≡ shown_core hand.old.part 0 }
     ensures ready { (j : ℕ) → IsReadyLeft (shown_core hand.old.part j).ready (shown_core hand.new.part j).ready }
-    ensures cause { IfErr result (λ why. (i : ℕ) × (0 < i) × (i < hand.old.part.pass.lists) × IsListCause (list_state hand.old.table hand.old.part i)
-        (list_state hand.old.table hand.new.part i) (record { range = range; mode = mode }) why) }
+    ensures only { ShowsOthers list.now.cut range hand.old.part hand.new.part }
+    ensures cause { IfErr result (λ why. (i : ℕ) × (0 < i) × (i < hand.old.part.pass.lists) × Takes list.now.cut range i
+        × IsCauseAt hand.old.table i hand.old.part hand.new.part (record { range = range; mode = mode }) why) }
     ensures long { IfErr result (λ why. IsLongRefusal why ↔ HasSpent hand.new.part) }
     ensures bound { hand.new.part.trace.taken ≤ hand.old.part.trace.taken + (55 + 193 * hand.old.part.seats) * hand.old.part.pass.lists }
+    ensures each { (k : ℕ) → TakesMany list.now.cut range k → hand.new.part.trace.taken ≤ hand.old.part.trace.taken + (55 + 193 * hand.old.part.seats) * k }
     ensures counted { steps.new + hand.old.part.trace.taken ≡ steps.old + hand.new.part.trace.taken }
 {
     let cut = list.cut();
@@ -491,11 +491,14 @@ pub(crate) fn hold_wide<G: Guard, L: Ledger>(
     ensures counts { OnOk result (hand.new.part.pass.standing ≡ Wide hand.new.part.pass.lists) }
     ensures free { OnErr result (IsFreeSeat hand.new.part) }
     ensures ready { (j : ℕ) → IsReadyLeft (shown_core hand.old.part j).ready (shown_core hand.new.part j).ready }
-    ensures cause { IfErr result (IsCauseIn hand.old.table hand.old.part hand.new.part (record { range = range; mode = mode })) }
+    ensures only { ShowsOthers list.now.cut range hand.old.part hand.new.part }
+    ensures cause { IfErr result (IsCauseIn hand.old.table list.now.cut hand.old.part hand.new.part (record { range = range; mode = mode })) }
     ensures long { IfErr result (λ why. IsLongRefusal why ↔ IsSpent hand.new.part) }
     ensures seats { hand.old.part.seats ≡ list.now.seats }
     ensures bound { hand.new.part.trace.taken ≤ hand.old.part.trace.taken + 44 + 145 * hand.old.part.seats
         + (55 + 193 * hand.old.part.seats) * hand.old.part.pass.lists }
+    ensures each { (k : ℕ) → TakesMany list.now.cut range k
+        → hand.new.part.trace.taken ≤ hand.old.part.trace.taken + 44 + 145 * hand.old.part.seats + (55 + 193 * hand.old.part.seats) * k }
     ensures counted { steps.new + hand.old.part.trace.taken ≡ steps.old + hand.new.part.trace.taken }
 {
     let quick = match link_piece(list, hand, 0, range, mode, steps) {
@@ -532,17 +535,21 @@ pub(crate) fn try_hold<G: Guard, L: Ledger>(
     ensures held { OnOk result (HoldsAlone hand.new.part.pass.list (record { range = range; mode = mode }) hand.new.part) }
     ensures counts { OnOk result (is_counted hand.new.part.pass.lists hand.new.part.pass.standing hand.new.part.pass.list ≡ true) }
     ensures one { OnOk result (hand.new.part.pass.lists ≡ 1 → hand.new.part.pass.standing ≡ Free) }
+    ensures stands { OnOk result (StandsIn list.now.cut range (counted_in hand.new.part.pass.standing)) }
     ensures free { OnErr result (IsFreeSeat hand.new.part) }
     ensures ready { (j : ℕ) → IsReadyLeft (shown_core hand.old.part j).ready (shown_core hand.new.part j).ready }
-    ensures cause { IfErr result (IsCauseIn hand.old.table hand.old.part hand.new.part (record { range = range; mode = mode })) }
+    ensures only { ShowsOthers list.now.cut range hand.old.part hand.new.part }
+    ensures cause { IfErr result (IsCauseIn hand.old.table list.now.cut hand.old.part hand.new.part (record { range = range; mode = mode })) }
     ensures long { IfErr result (λ why. IsLongRefusal why ↔ IsSpent hand.new.part) }
     ensures seats { hand.old.part.seats ≡ list.now.seats }
     ensures narrow { TakesAlone list.now.cut range → hand.new.part.trace.taken ≤ hand.old.part.trace.taken + 63 + 386 * hand.old.part.seats }
     ensures bound { hand.new.part.trace.taken + 1 ≤ hand.old.part.trace.taken + (64 + 386 * hand.old.part.seats) * list_count list.now.cut }
+    ensures each { (k : ℕ) → TakesMany list.now.cut range k → hand.new.part.trace.taken + 1 ≤ hand.old.part.trace.taken + try_steps hand.old.part.seats k }
     ensures counted { steps.new + hand.old.part.trace.taken ≡ steps.old + hand.new.part.trace.taken }
 {
     let _ = hand.list();
     let _ = hand.seats();
+    let _ = range.lo();
     if lists == 1 {
         return try_range(list, hand, range, mode, steps);
     }

@@ -6,7 +6,7 @@ use Rattle.page_types.specs.declared.calls.Call.{Call}
 use Rattle.page_types.specs.declared.calls.Call.TheVariants.{Fault}
 use Rattle.range_rw.specs.declared.refusals.NotHeld.{NotHeld as Why}
 use Rattle.area_rows.specs.declared.answer.Answer.{Answer}
-use Rattle.area_rows.specs.declared.guard.Pass.{Pass}
+use Rattle.area_guard.specs.declared.guard.Pass.{Pass}
 use Rattle.area_rows.specs.Callers.{CallerView}
 use Rattle.area_rows.specs.Called.{IsAnswered}
 use Rattle.space_model.specs.declared.entries.Entry.{Entry}

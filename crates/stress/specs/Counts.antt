@@ -20,9 +20,9 @@ after_held t = record t { held = one_more t.held }
 -- after a try that was refused, by its cause
 abbrev pub after_refusal : NotHeld → Tries → Tries
 after_refusal (Busy owner range mode) t = record t { busy = one_more t.busy }
-after_refusal (Again place expected found) t = record t { again = one_more t.again }
+after_refusal (Again list place expected found) t = record t { again = one_more t.again }
 after_refusal (Long visits) t = record t { long = one_more t.long }
-after_refusal (NoNode stuck) t = record t { no_node = one_more t.no_node }
+after_refusal (NoNode list stuck) t = record t { no_node = one_more t.no_node }
 
 -- one try was counted, by its answer
 abbrev pub CountsOneTry : Tries → Tries → Type 0

@@ -72,7 +72,7 @@ impl Tries {
             NotHeld::Busy { .. } => count_one(&mut self.busy),
             NotHeld::Again { .. } => count_one(&mut self.again),
             NotHeld::Long { .. } => count_one(&mut self.long),
-            NotHeld::NoNode(_) => count_one(&mut self.no_node),
+            NotHeld::NoNode { .. } => count_one(&mut self.no_node),
         }
     }
 }

@@ -1,8 +1,9 @@
 //! Waiting between two looks at a word that another thread has to change. Each look takes the word's cache line from
 //! the thread that is about to write it, so a caller that looks again at once slows down the one that it waits for.
-//! The name is that of crossbeam's `Backoff`, which waits far less. How long to wait was measured, by what threads at
-//! one range get done together.
-ghost use Rattle.std.specs.Prelude.{◌≡◌, ◌*◌, ◌≤◌, ℕ, min};
+//! All that waits for a range waits by these numbers, `acquire`, its readers and the calls from C; `docs/LOCK.md` says
+//! where and for how long. They were measured, by what threads at one range get done together. The name is that of
+//! crossbeam's `Backoff`, which waits far less.
+ghost use Rattle.std.specs.Prelude.{◌≡◌, ◌*◌, ◌≤◌, ◌==◌, ℕ, min, max};
 ghost use Rattle.word_rows.specs.declared.backoff.TheConstants.{SHORTEST_WAIT, LONGEST_WAIT};
 
 use std::marker::Model;
@@ -13,6 +14,10 @@ pub const SHORTEST_WAIT: u32 = 1024;
 
 /// How many turns a wait takes at most. One that takes as many also yields the processor.
 pub const LONGEST_WAIT: u32 = 8192;
+
+/// How many waits there are from the shortest to the longest: of 1024, 2048, 4096 and 8192 turns. Who keeps others from
+/// going on while it waits looks again as many times at most.
+pub const MOST_LOOKS: u32 = 4;
 
 /// How long a caller waits before it looks again: twice as long each time, up to `LONGEST_WAIT`. Contracts see it as
 /// the number of turns of its next wait.
@@ -41,17 +46,42 @@ impl Backoff {
         }
     }
 
-    /// Waits, and takes twice as long the next time, up to the longest. It comes back by itself: it waits for no
-    /// other thread.
-    pub fn wait(&mut self)
-        ensures longer { self.new ≡ min (2 * self.old) LONGEST_WAIT }
+    /// A caller that waits so many turns next, or as near to it as the shortest and the longest wait allow.
+    pub fn of(turns: u32) -> Backoff
+        ensures { result ≡ min (max turns SHORTEST_WAIT) LONGEST_WAIT }
     {
+        Backoff {
+            turns: turns.max(SHORTEST_WAIT).min(LONGEST_WAIT),
+        }
+    }
+
+    /// How many turns the next wait takes.
+    pub fn turns(&self) -> u32
+        ensures { result ≡ self.now }
+    {
+        self.turns
+    }
+
+    /// Waits without yielding the processor, and takes twice as long the next time, up to the longest. Says whether
+    /// this wait was one of the longest. It comes back by itself: it waits for no other thread.
+    pub fn pause(&mut self) -> bool
+        ensures longer { self.new ≡ min (2 * self.old) LONGEST_WAIT }
+        ensures longest { result ≡ (self.old == LONGEST_WAIT) }
+    {
+        let longest = self.turns == LONGEST_WAIT;
         for _ in 0..self.turns {
             hint::spin_loop();
         }
-        if self.turns == LONGEST_WAIT {
+        self.turns = (2 * self.turns).min(LONGEST_WAIT);
+        longest
+    }
+
+    /// The same, and yields the processor where the wait was one of the longest.
+    pub fn wait(&mut self)
+        ensures longer { self.new ≡ min (2 * self.old) LONGEST_WAIT }
+    {
+        if self.pause() {
             thread::yield_now();
         }
-        self.turns = (2 * self.turns).min(LONGEST_WAIT);
     }
 }

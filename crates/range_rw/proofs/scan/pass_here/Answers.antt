@@ -34,4 +34,4 @@ pub returns-clause-gives : goal.returns-clause-gives
 returns-clause-gives g c = λ was opened.
     let e = c.pass-passed.ensures in
     list_gives c.args.hand.now.table c.pass-passed.new.hand.table c.args.hand.now.part c.pass-passed.new.hand.part c.requires.inside e.later
-    c.view-2.ensures.sound was opened c.pass-passed.result e.moved c.view.ensures.sound e.walk e.resting e.answer
+    c.view-2.ensures.sound c.list.ensures.noted was opened c.pass-passed.result e.moved c.view.ensures.sound e.walk e.resting e.answer

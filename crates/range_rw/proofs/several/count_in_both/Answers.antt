@@ -5,7 +5,8 @@ use Rattle.epoch_pools.specs.declared.views.SeatPart.{SeatPart}
 use Rattle.epoch_pools.specs.declared.views.Standing.TheVariants.{Narrow}
 use Rattle.epoch_pools.specs.Hands.{IsResting}
 use Rattle.epoch_pools.specs.Standings.{is_counted}
-use Rattle.range_rw.proofs.Moves.{Crossing, Return, both_list, both_lists, both_other, both_too, both_count, both_later, both_only, both_alone, both_counts, both_ready}
+use Rattle.range_rw.proofs.Moves.{Crossing, Return, both_list, both_lists, both_other, both_too, both_count, both_later}
+use Rattle.range_rw.proofs.Moves.{both_only, both_alone, both_counts, both_ready}
 use Rattle.range_rw.proofs.Moves.{holds_on, narrow_beside, narrow_back, some_held, look_shows}
 use Rattle.range_rw.proofs.several.count_in_both.Given.{Over}
 use Rattle.range_rw.proofs.several.count_in_both.Goals.{After-turn, After-turn-in-Ok}
@@ -62,7 +63,8 @@ turn-requires-clause-resting g c = c.link_piece.ensures.piece.rests
 
 -- a narrow range of which nothing counts yet may be counted
 pub count_held-requires-clause-may : goal.count_held-requires-clause-may
-count_held-requires-clause-may g c = both_count (over g (goal.at.count_held-requires-clause-may g c).After-turn) c.args.list.now.cut (let a = c.requires.several.0 in let b = c.requires.several.1 in omega arith)
+count_held-requires-clause-may g c = both_count (over g (goal.at.count_held-requires-clause-may g c).After-turn)
+    c.args.list.now.cut (let a = c.requires.several.0 in let b = c.requires.several.1 in omega arith)
     c.requires.free c.requires.takes
 
 -- and it is held in list 0 too

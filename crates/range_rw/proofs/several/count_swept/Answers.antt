@@ -143,14 +143,14 @@ returns-clause-cause g c =
     (look_on c.turn.new.self.part c.count_narrow.new.hand.part _ c.count_narrow.ensures.part) in
     let same : c.count_narrow.new.hand.table ≡ c.args.hand.now.table = c.count_narrow.ensures.table ∙ (c.turn.ensures.table ∙ c.sweep_piece.ensures.table) in
     err_on _ _ c.count_in_both.result
-    (λ why cause. subst (λ n. IsListCause (list_state n c.args.hand.now.part 0) (list_state n c.count_in_both.new.hand.part 0) (record {
+    (λ why cause. subst (λ n. IsListCause 0 (list_state n c.args.hand.now.part 0) (list_state n c.count_in_both.new.hand.part 0) (record {
       range = c.args.range;
       mode = c.args.mode;
     }) why) same
     (cause_before (list_state c.count_narrow.new.hand.table c.args.hand.now.part 0) (list_state c.count_narrow.new.hand.table c.count_narrow.new.hand.part
     0) (list_state c.count_narrow.new.hand.table c.count_in_both.new.hand.part 0)
     later.taken later.number (λ none. sym (ap (λ (v : View). v.ready) (look_shows c.turn.new.self.part c.count_narrow.new.hand.part _
-    c.count_narrow.ensures.part 0 ∙ c.turn.ensures.stays 0) ∙ c.sweep_piece.ensures.ready) ∙ none) (record { range = c.args.range; mode = c.args.mode })
+    c.count_narrow.ensures.part 0 ∙ c.turn.ensures.stays 0) ∙ c.sweep_piece.ensures.ready) ∙ none) 0 (record { range = c.args.range; mode = c.args.mode })
     why cause))
     c.count_in_both.ensures.cause
 

@@ -1,5 +1,6 @@
-use Rattle.std.proofs.Common.{◌≡◌, ◌≢◌, Bool, sym, ap, ◌∙◌, subst, arith}
+use Rattle.std.proofs.Common.{◌≡◌, ◌≢◌, Bool, inl, inr, refl, sym, ap, ◌∙◌, subst, arith}
 use Rattle.lock_core.specs.declared.views.View.{View}
+use Rattle.list_cuts.specs.Cut.{Takes}
 use Rattle.epoch_pools.specs.declared.views.SeatPart.{SeatPart}
 use Rattle.epoch_pools.specs.declared.views.Standing.TheVariants.{Narrow}
 use Rattle.epoch_pools.specs.Standings.{is_counted, standing_back}
@@ -36,7 +37,30 @@ returns-in-Err-clause-ready g c = ready_each c.args.at c.args.hand.now.part c.li
 
 -- what refused the link refuses the call
 pub returns-in-Err-clause-cause : goal.returns-in-Err-clause-cause
-returns-in-Err-clause-cause g c = (c.args.at, c.requires.several.1, c.in-Err.ensures.cause)
+returns-in-Err-clause-cause g c = (c.args.at, c.requires.several.1, inr c.requires.takes.takes, c.in-Err.ensures.cause)
+
+-- no other list has changed
+pub returns-in-Err-clause-only : goal.returns-in-Err-clause-only
+returns-in-Err-clause-only g c = λ j none. c.link_piece.ensures.piece.only j (λ e. none (inr (subst (Takes c.args.list.now.cut c.args.range) (sym e)
+    c.requires.takes.takes)))
+
+-- after a look that found list 0 empty
+pub returns-then-count_narrow-clause-only : goal.returns-then-count_narrow-clause-only
+returns-then-count_narrow-clause-only g c = λ j none. look_shows c.link_piece.new.hand.part c.count_narrow.new.hand.part _ c.count_narrow.ensures.part j
+    ∙ c.link_piece.ensures.piece.only j (λ e. none (inr (subst (Takes c.args.list.now.cut c.args.range) (sym e) c.requires.takes.takes)))
+
+-- and where it didn't, list 0 besides
+pub returns-in-Ok-count_swept-clause-only : goal.returns-in-Ok-count_swept-clause-only
+returns-in-Ok-count_swept-clause-only g c = λ j none. c.count_swept.ensures.only j (λ e. none (inl e))
+    ∙ (look_shows c.link_piece.new.hand.part c.count_narrow.new.hand.part _ c.count_narrow.ensures.part j
+    ∙ c.link_piece.ensures.piece.only j (λ e. none (inr (subst (Takes c.args.list.now.cut c.args.range) (sym e) c.requires.takes.takes))))
+
+pub returns-in-Err-count_swept-clause-only : goal.returns-in-Err-count_swept-clause-only
+returns-in-Err-count_swept-clause-only g c = λ j none.
+    let away : j ≢ c.args.at = λ e. none (inr (subst (Takes c.args.list.now.cut c.args.range) (sym e) c.requires.takes.takes)) in
+    c.give_up.ensures.piece.only j away ∙ (c.count_swept.ensures.only j (λ e. none (inl e))
+    ∙ (look_shows c.link_piece.new.hand.part c.count_narrow.new.hand.part _ c.count_narrow.ensures.part j
+    ∙ c.link_piece.ensures.piece.only j away))
 
 -- a narrow range of which nothing counts yet may be counted
 pub count_narrow-requires-clause-may : goal.count_narrow-requires-clause-may
@@ -208,27 +232,28 @@ returns-in-Err-count_swept-clause-cause g c =
     let none : 0 ≢ c.args.at = λ e. let a = c.requires.several.0 in omega arith in
     let ready = ap (λ (v : View). v.ready) (look_shows c.link_piece.new.hand.part c.count_narrow.new.hand.part _ c.count_narrow.ensures.part 0 ∙
     c.link_piece.ensures.piece.only 0 none) in
-    let first : IsListCause (list_state c.args.hand.now.table c.args.hand.now.part 0) (list_state c.args.hand.now.table c.count_swept.new.hand.part 0) (record
+    let first : IsListCause 0 (list_state c.args.hand.now.table c.args.hand.now.part 0) (list_state c.args.hand.now.table c.count_swept.new.hand.part 0) (record
     { range = c.args.range; mode = c.args.mode }) c.in-Err-count_swept.why =
-    subst (λ t. IsListCause (list_state t c.args.hand.now.part 0) (list_state t c.count_swept.new.hand.part 0) (record {
+    subst (λ t. IsListCause 0 (list_state t c.args.hand.now.part 0) (list_state t c.count_swept.new.hand.part 0) (record {
       range = c.args.range;
       mode =
           c.args.mode;
     }) c.in-Err-count_swept.why) same
     (cause_before (list_state c.count_narrow.new.hand.table c.args.hand.now.part 0) (list_state c.count_narrow.new.hand.table c.count_narrow.new.hand.part 0)
-    (list_state c.count_narrow.new.hand.table c.count_swept.new.hand.part 0) later.taken later.number (λ e. sym ready ∙ e) (record {
+    (list_state c.count_narrow.new.hand.table c.count_swept.new.hand.part 0) later.taken later.number (λ e. sym ready ∙ e) 0 (record {
       range = c.args.range;
       mode = c.args.mode;
     }) c.in-Err-count_swept.why
     c.in-Err-count_swept.ensures.cause) in (
       0,
       (let a = c.requires.several.0 in let b = c.requires.several.1 in omega arith),
-      subst (λ t. IsListCause (list_state t c.args.hand.now.part 0) (list_state t c.give_up.new.hand.part 0) (record {
+      inl refl,
+      subst (λ t. IsListCause 0 (list_state t c.args.hand.now.part 0) (list_state t c.give_up.new.hand.part 0) (record {
         range = c.args.range;
         mode = c.args.mode;
       }) c.in-Err-count_swept.why) there
           (c.give_up.ensures.causes c.args.hand.now.part 0 (record { range = c.args.range; mode = c.args.mode }) c.in-Err-count_swept.why none
-          (subst (λ t. IsListCause (list_state t c.args.hand.now.part 0) (list_state t c.count_swept.new.hand.part 0) (record {
+          (subst (λ t. IsListCause 0 (list_state t c.args.hand.now.part 0) (list_state t c.count_swept.new.hand.part 0) (record {
             range = c.args.range;
             mode =
                 c.args.mode;

@@ -1,4 +1,4 @@
-use Rattle.std.proofs.Common.{◌≡◌, ◌≢◌, ◌+◌, ◌*◌, sym, ap, ◌∙◌, subst, arith}
+use Rattle.std.proofs.Common.{◌≡◌, ◌≢◌, ◌+◌, ◌*◌, inl, inr, refl, sym, ap, ◌∙◌, subst, arith}
 use Rattle.lock_core.specs.declared.views.View.{View}
 use Rattle.range_rw.specs.Contract.{IsListCause}
 use Rattle.range_rw.specs.Several.{list_state}
@@ -37,8 +37,24 @@ pub returns-in-Err-clause-cause : goal.returns-in-Err-clause-cause
 returns-in-Err-clause-cause g c = (
   0,
   (let r = c.requires.regions in let x = c.requires.lists.0 in let y = c.requires.lists.1 in omega arith),
+  inl refl,
   c.in-Err.ensures.cause,
 )
+
+-- no other list has changed
+pub returns-in-Err-clause-only : goal.returns-in-Err-clause-only
+returns-in-Err-clause-only g c = λ j none. c.link_piece.ensures.piece.only j (λ e. none (inl e))
+
+pub returns-in-Ok-pass_all-clause-only : goal.returns-in-Ok-pass_all-clause-only
+returns-in-Ok-pass_all-clause-only g c = λ j none. c.pass_all.ensures.only j none ∙ c.link_piece.ensures.piece.only j (λ e. none (inl e))
+
+pub returns-in-Err-pass_all-clause-only : goal.returns-in-Err-pass_all-clause-only
+returns-in-Err-pass_all-clause-only g c = λ j none. c.give_up.ensures.piece.only j (λ e. none (inl e))
+    ∙ (c.pass_all.ensures.only j none ∙ c.link_piece.ensures.piece.only j (λ e. none (inl e)))
+
+-- the steps of a refused link
+pub returns-in-Err-clause-each : goal.returns-in-Err-clause-each
+returns-in-Err-clause-each g c = λ k _. let a = c.link_piece.ensures.bound in omega arith
 
 -- the range is held in list 0
 pub pass_all-requires-clause-holds : goal.pass_all-requires-clause-holds
@@ -64,12 +80,10 @@ returns-in-Ok-pass_all-clause-ready g c = ready_all c.args.hand.now.part c.link_
     c.link_piece.ensures.piece.only c.pass_all.ensures.ready c.pass_all.ensures.first
 
 -- the steps of the link and the looks
-pub returns-in-Ok-pass_all-clause-bound : goal.returns-in-Ok-pass_all-clause-bound
-returns-in-Ok-pass_all-clause-bound g c =
-    let l = c.link_piece.ensures.piece.later in
-    let same : (55 + 193 * c.link_piece.new.hand.part.seats) * c.link_piece.new.hand.part.pass.lists
-    ≡ (55 + 193 * c.args.hand.now.part.seats) * c.args.hand.now.part.pass.lists = λ i. (55 + 193 * l.seats i) * l.lists i in
-    let a = c.link_piece.ensures.bound in let b = c.pass_all.ensures.bound in omega arith
+pub returns-in-Ok-pass_all-clause-each : goal.returns-in-Ok-pass_all-clause-each
+returns-in-Ok-pass_all-clause-each g c = λ k many.
+    let same = ap (λ n. (55 + 193 * n) * k) c.link_piece.ensures.piece.later.seats in
+    let a = c.link_piece.ensures.bound in let b = c.pass_all.ensures.each k many in omega arith
 
 -- which are counted
 pub returns-in-Ok-pass_all-clause-counted : goal.returns-in-Ok-pass_all-clause-counted
@@ -118,12 +132,10 @@ returns-in-Err-pass_all-clause-long g c = spent_kept c.pass_all.new.hand.part c.
     c.in-Err-pass_all.ensures.long
 
 -- the steps of the link, the looks and the mark
-pub returns-in-Err-pass_all-clause-bound : goal.returns-in-Err-pass_all-clause-bound
-returns-in-Err-pass_all-clause-bound g c =
-    let l = c.link_piece.ensures.piece.later in
-    let same : (55 + 193 * c.link_piece.new.hand.part.seats) * c.link_piece.new.hand.part.pass.lists
-    ≡ (55 + 193 * c.args.hand.now.part.seats) * c.args.hand.now.part.pass.lists = λ i. (55 + 193 * l.seats i) * l.lists i in
-    let a = c.link_piece.ensures.bound in let b = c.pass_all.ensures.bound in let m = c.give_up.ensures.taken in omega arith
+pub returns-in-Err-pass_all-clause-each : goal.returns-in-Err-pass_all-clause-each
+returns-in-Err-pass_all-clause-each g c = λ k many.
+    let same = ap (λ n. (55 + 193 * n) * k) c.link_piece.ensures.piece.later.seats in
+    let a = c.link_piece.ensures.bound in let b = c.pass_all.ensures.each k many in let m = c.give_up.ensures.taken in omega arith
 
 -- which are counted
 pub returns-in-Err-pass_all-clause-counted : goal.returns-in-Err-pass_all-clause-counted
@@ -139,29 +151,47 @@ returns-in-Err-pass_all-clause-cause g c =
     let there : c.pass_all.new.hand.table ≡ c.args.hand.now.table = c.pass_all.ensures.table ∙ c.link_piece.ensures.table in
     let none : x.0 ≢ 0 = λ e. let a = x.1 in omega arith in
     let ready = ap (λ (v : View). v.ready) (c.link_piece.ensures.piece.only x.0 none) in
-    let first : IsListCause (list_state c.args.hand.now.table c.args.hand.now.part x.0) (list_state c.args.hand.now.table c.pass_all.new.hand.part x.0) (record
+    let first : IsListCause x.0 (list_state c.args.hand.now.table c.args.hand.now.part x.0)
+    (list_state c.args.hand.now.table c.pass_all.new.hand.part x.0) (record
     { range = c.args.range; mode = c.args.mode }) c.in-Err-pass_all.why =
-    subst (λ t. IsListCause (list_state t c.args.hand.now.part x.0) (list_state t c.pass_all.new.hand.part x.0) (record {
+    subst (λ t. IsListCause x.0 (list_state t c.args.hand.now.part x.0) (list_state t c.pass_all.new.hand.part x.0) (record {
       range = c.args.range;
       mode =
           c.args.mode;
     }) c.in-Err-pass_all.why) c.link_piece.ensures.table
     (cause_before (list_state c.link_piece.new.hand.table c.args.hand.now.part x.0) (list_state c.link_piece.new.hand.table c.link_piece.new.hand.part x.0)
-    (list_state c.link_piece.new.hand.table c.pass_all.new.hand.part x.0) later.taken later.number (λ e. sym ready ∙ e) (record {
+    (list_state c.link_piece.new.hand.table c.pass_all.new.hand.part x.0) later.taken later.number (λ e. sym ready ∙ e) x.0 (record {
       range = c.args.range;
       mode = c.args.mode;
-    }) c.in-Err-pass_all.why x.3) in (
+    }) c.in-Err-pass_all.why x.4) in (
       x.0,
       (let a = x.2 in let e = later.lists in omega arith),
-      subst (λ t. IsListCause (list_state t c.args.hand.now.part x.0) (list_state t c.give_up.new.hand.part x.0) (record {
+      inr x.3,
+      subst (λ t. IsListCause x.0 (list_state t c.args.hand.now.part x.0) (list_state t c.give_up.new.hand.part x.0) (record {
         range = c.args.range;
         mode =
             c.args.mode;
       }) c.in-Err-pass_all.why) there
           (c.give_up.ensures.causes c.args.hand.now.part x.0 (record { range = c.args.range; mode = c.args.mode }) c.in-Err-pass_all.why none
-          (subst (λ t. IsListCause (list_state t c.args.hand.now.part x.0) (list_state t c.pass_all.new.hand.part x.0) (record {
+          (subst (λ t. IsListCause x.0 (list_state t c.args.hand.now.part x.0) (list_state t c.pass_all.new.hand.part x.0) (record {
             range = c.args.range;
             mode =
                 c.args.mode;
           }) c.in-Err-pass_all.why) (sym there) first)),
     )
+
+-- the steps of the link and the looks
+pub returns-in-Ok-pass_all-clause-bound : goal.returns-in-Ok-pass_all-clause-bound
+returns-in-Ok-pass_all-clause-bound g c =
+    let l = c.link_piece.ensures.piece.later in
+    let same : (55 + 193 * c.link_piece.new.hand.part.seats) * c.link_piece.new.hand.part.pass.lists
+    ≡ (55 + 193 * c.args.hand.now.part.seats) * c.args.hand.now.part.pass.lists = λ i. (55 + 193 * l.seats i) * l.lists i in
+    let a = c.link_piece.ensures.bound in let b = c.pass_all.ensures.bound in omega arith
+
+-- the steps of the link, the looks and the mark
+pub returns-in-Err-pass_all-clause-bound : goal.returns-in-Err-pass_all-clause-bound
+returns-in-Err-pass_all-clause-bound g c =
+    let l = c.link_piece.ensures.piece.later in
+    let same : (55 + 193 * c.link_piece.new.hand.part.seats) * c.link_piece.new.hand.part.pass.lists
+    ≡ (55 + 193 * c.args.hand.now.part.seats) * c.args.hand.now.part.pass.lists = λ i. (55 + 193 * l.seats i) * l.lists i in
+    let a = c.link_piece.ensures.bound in let b = c.pass_all.ensures.bound in let m = c.give_up.ensures.taken in omega arith

@@ -25,6 +25,10 @@ returns-clause-rests g c = subst (λ (h : HandState _). IsResting h.part.core) (
 pub returns-clause-ready : goal.returns-clause-ready
 returns-clause-ready g c = ap (λ (h : HandState _). h.part.core.ready) c.lists_of.ensures.hand ∙ c.leave_epoch.ensures.ready
 
+-- and a hand that was outside is as it was
+pub returns-clause-same : goal.returns-clause-same
+returns-clause-same g c even = ap (λ (h : HandState _). h.part) c.lists_of.ensures.hand ∙ c.leave_epoch.ensures.same even
+
 -- it is turned to one of the lists
 pub returns-clause-there : goal.returns-clause-there
 returns-clause-there g c = subst (λ (h : HandState _). h.part.pass.list < h.part.pass.lists) (sym c.lists_of.ensures.hand)

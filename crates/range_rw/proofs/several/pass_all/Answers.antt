@@ -1,5 +1,6 @@
-use Rattle.std.proofs.Common.{◌≡◌, ◌≢◌, ◌≤◌, ◌+◌, ◌*◌, inl, inr, refl, sym, ap, ◌∙◌, subst, arith}
+use Rattle.std.proofs.Common.{◌≡◌, ◌≢◌, ◌≤◌, suc, ◌+◌, ◌*◌, inl, inr, refl, sym, ap, ◌∙◌, subst, arith}
 use Rattle.std.proofs.lemmas.Nat.{mul-le}
+use Rattle.std.proofs.Math.Nat.{mul-suc}
 use mathlib.Core.Logic.{dite}
 use native.Mathlib.Decide.{ℕ_discrete}
 use Rattle.lock_core.specs.declared.views.View.{View}
@@ -11,6 +12,7 @@ use Rattle.epoch_pools.specs.Standings.{is_counted, standing_back}
 use Rattle.range_rw.specs.Several.{list_state, TakesNone}
 use Rattle.range_rw.proofs.Pieces.{cause_before}
 use Rattle.range_rw.proofs.Moves.{lists_on, ready_from, none_first, pass_next, all_passed, passed_beside, passed_back}
+use Rattle.range_rw.proofs.TakenLists.{below_none, below_one, fewer_below}
 use Rattle.range_rw.proofs.several.pass_all.Goals as goal
 
 -- there is a list behind list 0
@@ -39,7 +41,16 @@ all-init g c =
       first = refl;
       ahead = λ j le. refl;
       ready = λ j. inr (inl refl);
+      only = λ j none. refl;
+      takes = λ less. subst (λ x. Takes x c.args.range c.next_taken-at.result) cut
+          (c.next_taken-at.ensures.taken (let e = ap list_count cut in let l = c.requires.lists.1 in omega arith));
       bound = omega arith;
+      each = (
+        0,
+        below_none c.args.list.now.cut c.args.range 1 c.next_taken-at.result 0 c.next_taken-at.ensures.from first
+            (inr (none_first c.args.list.now.cut c.args.range c.requires.regions c.requires.takes, refl)),
+        omega arith,
+      );
       counted = refl;
     }
 
@@ -59,6 +70,9 @@ all-preserved g c =
     let ok = c.in_default.ensures in
     let up = c.next_taken-up.result in
     let differ : 0 ≢ c.all.at = λ e. let l = i.low in omega arith in
+    let here : Takes c.args.list.now.cut c.args.range c.all.at = i.takes (omega arith) in
+    let gap : TakesNone c.args.list.now.cut c.args.range (c.all.at + 1) up =
+    subst (λ x. TakesNone x c.args.range (c.all.at + 1) up) i.cut c.next_taken-up.ensures.first in
     record {
       table = c.pass_one.ensures.table ∙ i.table;
       cut = i.cut;
@@ -75,12 +89,27 @@ all-preserved g c =
           (λ e. subst (λ n. IsReadyLeft (shown_core c.args.hand.now.part n).ready (shown_core c.pass_one.new.hand.part n).ready) (sym e)
           (ready_from (ap (λ (v : View). v.ready) (i.ahead c.all.at (omega arith))) c.pass_one.ensures.ready))
           (λ away. subst (λ (v : View). IsReadyLeft (shown_core c.args.hand.now.part j).ready v.ready) (sym (c.pass_one.ensures.only j away)) (i.ready j));
+      only = λ j none. c.pass_one.ensures.only j (λ e. none (inr (subst (Takes c.args.list.now.cut c.args.range) (sym e) here))) ∙ i.only j none;
+      takes = λ less. subst (λ x. Takes x c.args.range up) i.cut
+          (c.next_taken-up.ensures.taken (let e = ap list_count i.cut in let l = i.lists.1 in omega arith));
       bound =
           let s = i.later.seats in
           let a = i.bound in let b = c.pass_one.ensures.bound in
           let le : (55 + 193 * c.args.hand.now.part.seats) * (c.all.at + 1) ≤ (55 + 193 * c.args.hand.now.part.seats) * up = mul-le _ _ _ _ (omega
           arith) c.next_taken-up.ensures.from in
           omega arith;
+      each =
+          let s = i.later.seats in
+          let a = i.each.2 in let b = c.pass_one.ensures.bound in
+          let more : (55 + 193 * c.args.hand.now.part.seats) * suc i.each.0
+          ≡ (55 + 193 * c.args.hand.now.part.seats) * i.each.0 + (55 + 193 * c.args.hand.now.part.seats) =
+          mul-suc (55 + 193 * c.args.hand.now.part.seats) i.each.0 in (
+            suc i.each.0,
+            below_none c.args.list.now.cut c.args.range (suc c.all.at) up (suc i.each.0)
+                (let b = c.next_taken-up.ensures.from in omega arith) (λ list from. gap list (omega arith))
+                (below_one c.args.list.now.cut c.args.range c.all.at i.each.0 here i.each.1),
+            omega arith,
+          );
       counted = let a = i.counted in let b = c.pass_one.ensures.counted in omega arith;
     }
 
@@ -130,16 +159,44 @@ returns-in-Err-clause-cause g c =
       c.all.at,
       i.low,
       (let e = i.lists.0 in let f = i.later.lists in omega arith),
-      subst (λ t. IsListCause (list_state t c.args.hand.now.part c.all.at) (list_state t c.pass_one.new.hand.part c.all.at) (record {
+      i.takes (omega arith),
+      subst (λ t. IsListCause c.all.at (list_state t c.args.hand.now.part c.all.at) (list_state t c.pass_one.new.hand.part c.all.at) (record {
         range = c.args.range;
         mode = c.args.mode;
       }) c.in-Err.why) i.table
           (cause_before (list_state c.all.hand.table c.args.hand.now.part c.all.at) (list_state c.all.hand.table c.all.hand.part c.all.at) (list_state
           c.all.hand.table c.pass_one.new.hand.part c.all.at)
-          i.later.taken i.later.number (λ e. sym (ap (λ (v : View). v.ready) (i.ahead c.all.at (omega arith))) ∙ e) (record {
+          i.later.taken i.later.number (λ e. sym (ap (λ (v : View). v.ready) (i.ahead c.all.at (omega arith))) ∙ e) c.all.at (record {
             range = c.args.range;
             mode =
                 c.args.mode;
           }) c.in-Err.why
           c.in-Err.ensures.cause),
     )
+
+-- each list that the range doesn't take is as it was
+pub returns-in-Err-clause-only : goal.returns-in-Err-clause-only
+returns-in-Err-clause-only g c = λ j none.
+    let i = c.all.invariant in
+    c.pass_one.ensures.only j (λ e. none (inr (subst (Takes c.args.list.now.cut c.args.range) (sym e) (i.takes (omega arith))))) ∙ i.only j none
+
+-- the lists that were passed are no more than it takes
+pub returns-clause-each : goal.returns-clause-each
+returns-clause-each g c = λ k many.
+    let i = c.all.invariant in
+    let few : i.each.0 ≤ k = fewer_below c.args.list.now.cut c.args.range c.all.at (list_count c.args.list.now.cut) i.each.0 k
+    (let a = i.most in let b = i.lists.1 in omega arith) i.each.1 many in
+    let le : (55 + 193 * c.args.hand.now.part.seats) * i.each.0 ≤ (55 + 193 * c.args.hand.now.part.seats) * k = mul-le _ _ _ _ (omega arith) few in
+    let a = i.each.2 in omega arith
+
+-- and neither are they with the one that refused
+pub returns-in-Err-clause-each : goal.returns-in-Err-clause-each
+returns-in-Err-clause-each g c = λ k many.
+    let i = c.all.invariant in
+    let few : suc i.each.0 ≤ k = fewer_below c.args.list.now.cut c.args.range (suc c.all.at) (list_count c.args.list.now.cut) (suc i.each.0) k
+    (let b = i.lists.1 in omega arith) (below_one c.args.list.now.cut c.args.range c.all.at i.each.0 (i.takes (omega arith)) i.each.1) many in
+    let le : (55 + 193 * c.args.hand.now.part.seats) * suc i.each.0 ≤ (55 + 193 * c.args.hand.now.part.seats) * k = mul-le _ _ _ _ (omega arith) few in
+    let more : (55 + 193 * c.args.hand.now.part.seats) * suc i.each.0
+    ≡ (55 + 193 * c.args.hand.now.part.seats) * i.each.0 + (55 + 193 * c.args.hand.now.part.seats) =
+    mul-suc (55 + 193 * c.args.hand.now.part.seats) i.each.0 in
+    let s = i.later.seats in let a = i.each.2 in let b = c.pass_one.ensures.bound in omega arith

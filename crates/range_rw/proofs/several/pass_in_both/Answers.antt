@@ -6,7 +6,8 @@ use Rattle.epoch_pools.specs.declared.views.Standing.TheVariants.{Wide}
 use Rattle.epoch_pools.specs.Hands.{IsResting}
 use Rattle.epoch_pools.specs.Standings.{is_counted}
 use Rattle.range_rw.proofs.Pieces.{own_at}
-use Rattle.range_rw.proofs.Moves.{Crossing, Return, both_own, both_list, both_lists, both_standing, both_other, both_too, both_later, both_only, both_alone, both_counts, both_ready}
+use Rattle.range_rw.proofs.Moves.{Crossing, Return, both_own, both_list, both_lists, both_standing, both_other}
+use Rattle.range_rw.proofs.Moves.{both_too, both_later, both_only, both_alone, both_counts, both_ready}
 use Rattle.range_rw.proofs.Moves.{holds_in, holds_on, wide_beside, wide_back, some_held, look_shows, pass_still}
 use Rattle.range_rw.proofs.several.pass_in_both.Given.{Over}
 use Rattle.range_rw.proofs.several.pass_in_both.Goals.{After-turn, After-turn-in-Ok}
@@ -90,7 +91,8 @@ give_piece-requires-clause-holds g c = some_held
 -- and it doesn't count through that list
 pub give_piece-requires-clause-beside : goal.give_piece-requires-clause-beside
 give_piece-requires-clause-beside g c =
-    (λ i. is_counted ((ap (λ (x : SeatPart _). x.pass.lists) c.pass_held.ensures.part ∙ both_lists (over g (goal.at.give_piece-requires-clause-beside g c).After-turn)) i)
+    (λ i. is_counted ((ap (λ (x : SeatPart _). x.pass.lists) c.pass_held.ensures.part
+    ∙ both_lists (over g (goal.at.give_piece-requires-clause-beside g c).After-turn)) i)
     ((ap (λ (x : SeatPart _). x.pass.standing) c.pass_held.ensures.part) i) c.args.at)
     ∙ wide_beside c.args.hand.now.part.pass.lists c.args.up c.args.at (λ e. let a = c.requires.may.several in omega arith)
     (λ e. let a = c.requires.list in omega arith)

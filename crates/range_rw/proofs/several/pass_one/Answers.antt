@@ -203,17 +203,14 @@ returns-clause-cause g c =
     let same : c.pass_list-2.new.hand.table ≡ c.args.hand.now.table = c.pass_list-2.ensures.table ∙ (c.turn.ensures.table ∙ (c.sweep_piece.ensures.table ∙
     c.pass_list.ensures.table)) in
     err_on _ _ c.pass_in_both.result
-    (λ why cause. subst (λ n. IsListCause (list_state n c.args.hand.now.part c.args.at) (list_state n c.pass_in_both.new.hand.part c.args.at) (record {
-      range =
-          c.args.range;
-      mode = c.args.mode;
-    }) why) same
+    (λ why cause. subst (λ n. IsListCause c.args.at (list_state n c.args.hand.now.part c.args.at) (list_state n c.pass_in_both.new.hand.part c.args.at)
+    (record { range = c.args.range; mode = c.args.mode }) why) same
     (cause_before (list_state c.pass_list-2.new.hand.table c.args.hand.now.part c.args.at) (list_state c.pass_list-2.new.hand.table
     c.pass_list-2.new.hand.part c.args.at) (list_state c.pass_list-2.new.hand.table c.pass_in_both.new.hand.part c.args.at)
     later.taken later.number (λ none. sym (ap (λ (v : View). v.ready) (look_shows c.turn.new.self.part c.pass_list-2.new.hand.part _
     c.pass_list-2.ensures.part c.args.at ∙ c.turn.ensures.stays c.args.at) ∙ (c.sweep_piece.ensures.ready ∙ ap (λ (v : View). v.ready) (look_shows
-    c.args.hand.now.part c.pass_list.new.hand.part _ c.pass_list.ensures.part c.args.at))) ∙ none) (record { range = c.args.range; mode = c.args.mode })
-    why cause))
+    c.args.hand.now.part c.pass_list.new.hand.part _ c.pass_list.ensures.part c.args.at))) ∙ none) c.args.at
+    (record { range = c.args.range; mode = c.args.mode }) why cause))
     c.pass_in_both.ensures.cause
 
 -- the steps of all of these
@@ -279,7 +276,7 @@ returns-in-Err-clause-long g c = (λ l. (c.in-Err.ensures.long.0 l).0, λ spent.
 pub returns-in-Err-clause-cause : goal.returns-in-Err-clause-cause
 returns-in-Err-clause-cause g c =
     let later = look_on c.args.hand.now.part c.pass_list.new.hand.part _ c.pass_list.ensures.part in
-    subst (λ n. IsListCause (list_state n c.args.hand.now.part c.args.at) (list_state n c.sweep_piece.new.hand.part c.args.at) (record {
+    subst (λ n. IsListCause c.args.at (list_state n c.args.hand.now.part c.args.at) (list_state n c.sweep_piece.new.hand.part c.args.at) (record {
       range = c.args.range;
       mode = c.args.mode;
     }) c.in-Err.why) c.pass_list.ensures.table
@@ -287,5 +284,5 @@ returns-in-Err-clause-cause g c =
     c.args.at)
     (list_state c.pass_list.new.hand.table c.sweep_piece.new.hand.part c.args.at) later.taken later.number
     (λ none. sym (ap (λ (v : View). v.ready) (look_shows c.args.hand.now.part c.pass_list.new.hand.part _ c.pass_list.ensures.part c.args.at)) ∙ none)
-    (record { range = c.args.range; mode = c.args.mode }) c.in-Err.why
+    c.args.at (record { range = c.args.range; mode = c.args.mode }) c.in-Err.why
     (c.in-Err.ensures.cause (record { range = c.args.range; mode = c.args.mode })))

@@ -1,6 +1,7 @@
 use Rattle.std.proofs.Common.{sym, ap, ◌∙◌, arith}
 use Rattle.lock_core.specs.declared.range.Mode.TheVariants.{Reader}
 use Rattle.lock_core.specs.declared.views.View.{View}
+use Rattle.epoch_pools.specs.declared.views.Beside.{Beside}
 use Rattle.epoch_pools.specs.declared.views.SeatPart.{SeatPart}
 use Rattle.range_rw.proofs.Taking.{sweep_later}
 use Rattle.range_rw.proofs.Pieces.{err_on, own_at, rests_free, try_piece, try_standing, cause_piece, swept_refuses}
@@ -45,10 +46,12 @@ returns-clause-cause g c =
     let p = c.args.hand.now.part in let t = c.turn.new.self.part in let s = c.sweep-walked.new.hand.part in
     let piece = try_piece c.args.at p t s c.turn.ensures.part c.turn.ensures.stays
     (sweep_later t s c.sweep-walked.ensures.swept c.sweep-walked.ensures.walk) c.sweep-walked.ensures.swept.outside c.sweep-walked.ensures.swept.cursor in
+    let same = ap (λ (b : Beside _). b.list) c.sweep-walked.ensures.swept.pass in
     err_on _ _ c.outcome_of.result
     (λ why e asked. cause_piece c.args.at p t s c.turn.ensures.part c.turn.ensures.stays c.args.hand.now.table c.turn.new.self.table
     c.turn.ensures.table piece.turned asked why
-    (swept_refuses c.turn.new.self.table t s c.sweep-walked.ensures.walk c.sweep-walked.result why (sym c.refusal_of.ensures ∙ e)
+    (swept_refuses c.list-here.result c.turn.new.self.table t s c.sweep-walked.ensures.walk (c.list-here.ensures.noted ∙ same)
+    (c.list-here.ensures.list ∙ same) c.sweep-walked.result why (sym c.refusal_of.ensures ∙ e)
     c.sweep-walked.ensures.answer c.sweep-walked.ensures.long asked).0)
     c.outcome_of.ensures.refused
 
@@ -56,8 +59,10 @@ returns-clause-cause g c =
 pub returns-clause-long : goal.returns-clause-long
 returns-clause-long g c =
     let t = c.turn.new.self.part in let s = c.sweep-walked.new.hand.part in
+    let same = ap (λ (b : Beside _). b.list) c.sweep-walked.ensures.swept.pass in
     err_on _ _ c.outcome_of.result
-    (λ why e. (swept_refuses c.turn.new.self.table t s c.sweep-walked.ensures.walk c.sweep-walked.result why (sym c.refusal_of.ensures ∙ e)
+    (λ why e. (swept_refuses c.list-here.result c.turn.new.self.table t s c.sweep-walked.ensures.walk (c.list-here.ensures.noted ∙ same)
+    (c.list-here.ensures.list ∙ same) c.sweep-walked.result why (sym c.refusal_of.ensures ∙ e)
     c.sweep-walked.ensures.answer c.sweep-walked.ensures.long (record { range = record { lo = 0; hi = 1 }; mode = Reader })).1)
     c.outcome_of.ensures.refused
 

@@ -1,13 +1,17 @@
-use Rattle.std.proofs.Common.{◌≡◌, ◌≢◌, ◌+◌, ◌*◌, ◌<◌, ◌≤◌, sym, ap, ◌∙◌, subst, arith, add-mul}
+use Rattle.std.proofs.Common.{◌≡◌, ◌≢◌, suc, ◌+◌, ◌-◌, ◌*◌, ◌<◌, ◌≤◌, inl, inr, refl, sym, ap, ◌∙◌, subst, arith, add-mul}
+use Rattle.std.proofs.lemmas.Nat.{mul-le}
 use Rattle.list_cuts.proofs.Cutting.{takes_there, takes_behind}
 use Rattle.list_cuts.specs.Cut.{Regions, list_count, TakesOne, TakesTwo}
-use Rattle.std.proofs.lemmas.Nat.{mul-le}
+use Rattle.std.proofs.Math.Nat.{mul-suc}
 use Rattle.epoch_pools.specs.declared.views.Beside.{Beside}
 use Rattle.epoch_pools.specs.Standings.{is_counted}
+use Rattle.range_rw.specs.Contract.{StandsIn}
+use Rattle.range_rw.specs.Seats.{counted_in}
 use Rattle.range_rw.specs.Several.{HoldsAlone}
 use Rattle.range_rw.proofs.Moves.{narrow_counts, wide_counts}
 use Rattle.range_rw.proofs.Pieces.{is_there, err_on, ok_on, ok_both, err_free}
-use Rattle.range_rw.proofs.Choosing.{free_sweeps, one_counts, here_later, here_ready, here_cause, here_alone, here_free}
+use Rattle.range_rw.proofs.Choosing.{free_sweeps, one_counts, here_later, here_ready, here_cause, here_others, here_alone, here_free}
+use Rattle.range_rw.proofs.TakenLists.{some_below, takes_first}
 use Rattle.range_rw.proofs.several.try_hold.Goals as goal
 
 -- the hand may try in its list
@@ -56,8 +60,9 @@ returns-then-lists-eq1-clause-ready g c = here_ready c.args.hand.now.part c.try_
 pub returns-then-lists-eq1-clause-cause : goal.returns-then-lists-eq1-clause-cause
 returns-then-lists-eq1-clause-cause g c = err_on _ _ c.try_range.result
     (here_cause c.args.hand.now.part c.try_range.new.hand.part c.requires.free c.try_range.ensures.later c.try_range.ensures.outside c.args.hand.now.table
-    c.args.hand.now.table (λ i. c.args.hand.now.table) (is_there c.list.ensures.list c.list.ensures.there)
-    (record { range = c.args.range; mode = c.args.mode }))
+    c.args.hand.now.table c.args.list.now.cut (λ i. c.args.hand.now.table) (is_there c.list.ensures.list c.list.ensures.there)
+    (record { range = c.args.range; mode = c.args.mode })
+    (inl (let a = c.list.ensures.list in let b = c.list.ensures.there in let e = c.requires.lists.0 in let o = c.if-lists-eq1.true in omega arith)))
     c.try_range.ensures.cause
 
 -- its steps are few
@@ -65,11 +70,22 @@ pub returns-then-lists-eq1-clause-narrow : goal.returns-then-lists-eq1-clause-na
 returns-then-lists-eq1-clause-narrow g c = λ _. let b = c.try_range.ensures.bound in omega arith
 
 -- the steps of one list
-pub returns-then-lists-eq1-clause-bound : goal.returns-then-lists-eq1-clause-bound
-returns-then-lists-eq1-clause-bound g c =
-    let one : list_count c.args.list.now.cut ≡ 1 = sym c.requires.lists.1 ∙ c.if-lists-eq1.true in
-    let e = ap (λ n. (64 + 386 * c.args.hand.now.part.seats) * n) one in
-    let b = c.try_range.ensures.bound in omega arith
+pub returns-then-lists-eq1-clause-each : goal.returns-then-lists-eq1-clause-each
+returns-then-lists-eq1-clause-each g c = λ k _. let b = c.try_range.ensures.bound in omega arith
+
+-- it is held in that list, which each range takes alone
+pub returns-then-lists-eq1-clause-stands : goal.returns-then-lists-eq1-clause-stands
+returns-then-lists-eq1-clause-stands g c = ok_on c.try_range.result
+    (λ _. subst (λ s. StandsIn c.args.list.now.cut c.args.range (counted_in s))
+    (sym (ap (λ (b : Beside _). b.standing) c.try_range.ensures.later.pass ∙ c.requires.free.standing))
+    (inl (takes_first c.args.list.now.cut c.args.range c.requires.regions (sym c.requires.lists.1 ∙ c.if-lists-eq1.true) c.lo.ensures.bounds.0)))
+    c.try_range.ensures.held
+
+-- and there is no other
+pub returns-then-lists-eq1-clause-only : goal.returns-then-lists-eq1-clause-only
+returns-then-lists-eq1-clause-only g c = here_others c.args.hand.now.part c.try_range.new.hand.part c.requires.free c.try_range.ensures.later
+    c.try_range.ensures.outside c.args.list.now.cut c.args.range
+    (let a = c.list.ensures.list in let b = c.list.ensures.there in let e = c.requires.lists.0 in let o = c.if-lists-eq1.true in omega arith)
 
 -- the list that a narrow range takes is one behind list 0, and there
 pub hold_narrow-requires-clause-several : goal.hold_narrow-requires-clause-several
@@ -107,16 +123,16 @@ pub returns-in-Some-clause-narrow : goal.returns-in-Some-clause-narrow
 returns-in-Some-clause-narrow g c = λ _.
     let b = c.hold_narrow.ensures.bound in let s = c.seats.ensures.some in let e = c.seats.ensures.seats in omega arith
 
--- which are fewer than those for two lists
-pub returns-in-Some-clause-bound : goal.returns-in-Some-clause-bound
-returns-in-Some-clause-bound g c =
-    let b = c.hold_narrow.ensures.bound in
-    let many : list_count c.args.list.now.cut ≢ 1 = λ e. c.if-lists-eq1.false (c.requires.lists.1 ∙ e) in
-    let more : 2 ≤ list_count c.args.list.now.cut = let m = c.list.ensures.there in let x = c.requires.lists.0 in
-    let y = c.requires.lists.1 in omega arith in
-    let le : (64 + 386 * c.args.hand.now.part.seats) * 2 ≤ (64 + 386 * c.args.hand.now.part.seats) * list_count c.args.list.now.cut = mul-le _ _ _ _ (omega
-    arith) more in
-    omega arith
+-- which are no more than those of one list
+pub returns-in-Some-clause-each : goal.returns-in-Some-clause-each
+returns-in-Some-clause-each g c = λ k _.
+    let b = c.hold_narrow.ensures.bound in let s = c.seats.ensures.some in let e = c.seats.ensures.seats in omega arith
+
+-- it is held in the list that it takes alone
+pub returns-in-Some-clause-stands : goal.returns-in-Some-clause-stands
+returns-in-Some-clause-stands g c =
+    let one = subst (λ (x : Regions). TakesOne x c.args.range c.in-Some.at) c.cut.ensures c.in-Some.ensures.narrow in
+    ok_on c.hold_narrow.result (λ s. subst (λ t. StandsIn c.args.list.now.cut c.args.range (counted_in t)) (sym s) (inl one)) c.hold_narrow.ensures.counts
 
 -- a wide range takes two
 pub hold_wide-requires-clause-takes : goal.hold_wide-requires-clause-takes
@@ -145,6 +161,42 @@ pub returns-in-None-clause-narrow : goal.returns-in-None-clause-narrow
 returns-in-None-clause-narrow g c = λ t.
     let two = subst (λ (x : Regions). TakesTwo x c.args.range) c.cut.ensures (c.only.ensures.wide c.in-None.is) in
     absurd (two.differ (t.1.alone two.one two.takes_one ∙ sym (t.1.alone two.two two.takes_two)))
+
+-- it is held in list 0
+pub returns-in-None-clause-stands : goal.returns-in-None-clause-stands
+returns-in-None-clause-stands g c =
+    let two = subst (λ (x : Regions). TakesTwo x c.args.range) c.cut.ensures (c.only.ensures.wide c.in-None.is) in
+    ok_on c.hold_wide.result (λ s. subst (λ t. StandsIn c.args.list.now.cut c.args.range (counted_in t)) (sym s) (inr (two, refl))) c.hold_wide.ensures.counts
+
+-- the steps of a wide try
+pub returns-in-None-clause-each : goal.returns-in-None-clause-each
+returns-in-None-clause-each g c = λ k many.
+    let n = c.args.hand.now.part.seats in
+    let two = subst (λ (x : Regions). TakesTwo x c.args.range) c.cut.ensures (c.only.ensures.wide c.in-None.is) in
+    let more : 1 ≤ k = some_below c.args.list.now.cut c.args.range (list_count c.args.list.now.cut) k two.one
+    (takes_there c.args.list.now.cut c.args.range two.one c.requires.regions two.takes_one) two.takes_one many in
+    let whole : k ≡ suc (k - 1) = omega arith in
+    let e : (55 + 193 * n) * k ≡ (55 + 193 * n) * (k - 1) + (55 + 193 * n) = ap (λ m. (55 + 193 * n) * m) whole ∙ mul-suc (55 + 193 * n) (k - 1) in
+    let s = c.seats.ensures.some in let y = c.seats.ensures.seats in
+    let b = c.hold_wide.ensures.each k many in omega arith
+
+-- the steps of one list
+pub returns-then-lists-eq1-clause-bound : goal.returns-then-lists-eq1-clause-bound
+returns-then-lists-eq1-clause-bound g c =
+    let one : list_count c.args.list.now.cut ≡ 1 = sym c.requires.lists.1 ∙ c.if-lists-eq1.true in
+    let e = ap (λ n. (64 + 386 * c.args.hand.now.part.seats) * n) one in
+    let b = c.try_range.ensures.bound in omega arith
+
+-- which are fewer than those for two lists
+pub returns-in-Some-clause-bound : goal.returns-in-Some-clause-bound
+returns-in-Some-clause-bound g c =
+    let b = c.hold_narrow.ensures.bound in
+    let many : list_count c.args.list.now.cut ≢ 1 = λ e. c.if-lists-eq1.false (c.requires.lists.1 ∙ e) in
+    let more : 2 ≤ list_count c.args.list.now.cut = let m = c.list.ensures.there in let x = c.requires.lists.0 in
+    let y = c.requires.lists.1 in omega arith in
+    let le : (64 + 386 * c.args.hand.now.part.seats) * 2 ≤ (64 + 386 * c.args.hand.now.part.seats) * list_count c.args.list.now.cut = mul-le _ _ _ _ (omega
+    arith) more in
+    omega arith
 
 -- the steps of a wide try
 pub returns-in-None-clause-bound : goal.returns-in-None-clause-bound

@@ -25,6 +25,6 @@ returns-in-Some-refusal_of-clause-cause g c =
     let p = c.args.hand.now.part in let f = c.link_ready_node-held.new.hand.part in
     let t = c.link_ready_node-held.ensures.tried in
     (insert_cause f c.insert_in_epoch.new.hand.part t.node c.args.range c.args.mode
-    (tried_own p f c.args.range c.args.mode c.link_ready_node-held.result t c.if-held.false) c.args.hand.now.table p
-    c.link_ready_node-held.ensures.later c.insert_in_epoch.ensures.later c.in-Some.walked c.in-Some-refusal_of.refusal
+    (tried_own p f c.args.range c.args.mode c.link_ready_node-held.result t c.if-held.false) c.list.result c.args.hand.now.table p
+    c.list.ensures.noted c.list.ensures.list c.link_ready_node-held.ensures.later c.insert_in_epoch.ensures.later c.in-Some.walked c.in-Some-refusal_of.refusal
     (sym c.refusal_of.ensures ∙ c.in-Some-refusal_of.is) c.in-Some.ensures.ends c.in-Some.ensures.long).0

@@ -1,6 +1,7 @@
 use Rattle.std.proofs.Common.{sym, ◌∙◌}
 use Rattle.std.specs.Prelude.{Some}
-use Rattle.range_rw.proofs.Taking.{has_ends, tried_own, tried_held, tried_ready, back_ready, insert_held, insert_ready, insert_cause, some_again, ready_again, cause_again}
+use Rattle.range_rw.proofs.Taking.{has_ends, tried_own, tried_held, tried_ready, back_ready, insert_held, insert_ready}
+use Rattle.range_rw.proofs.Taking.{insert_cause, some_again, ready_again, cause_again}
 use Rattle.range_rw.proofs.Later.{later_on}
 use Rattle.range_rw.proofs.trying.try_range.Goals as goal
 
@@ -36,8 +37,8 @@ pub returns-in-Some-refusal_of-clause-cause : goal.returns-in-Some-refusal_of-cl
 returns-in-Some-refusal_of-clause-cause g c =
     let p = c.args.hand.now.part in let f = c.link_if_empty.new.hand.part in let t = c.in-Ok.ensures.tried in
     (insert_cause f c.insert_in_epoch.new.hand.part t.node c.args.range c.args.mode
-    (tried_own p f c.args.range c.args.mode c.in-Ok.held t c.if-held.false) c.args.hand.now.table p
-    c.link_if_empty.ensures.later c.insert_in_epoch.ensures.later c.in-Some.walked c.in-Some-refusal_of.why
+    (tried_own p f c.args.range c.args.mode c.in-Ok.held t c.if-held.false) c.list.result c.args.hand.now.table p
+    c.list.ensures.noted c.list.ensures.list c.link_if_empty.ensures.later c.insert_in_epoch.ensures.later c.in-Some.walked c.in-Some-refusal_of.why
     (sym c.refusal_of.ensures ∙ c.in-Some-refusal_of.is) c.in-Some.ensures.ends c.in-Some.ensures.long).0
 
 -- the validation holds the range
@@ -45,7 +46,7 @@ pub returns-in-None-clause-held : goal.returns-in-None-clause-held
 returns-in-None-clause-held g c =
     let p = c.args.hand.now.part in let f = c.link_if_empty.new.hand.part in let t = c.in-Ok.ensures.tried in
     insert_held f c.insert_in_epoch.new.hand.part t.node c.args.range c.args.mode
-    (tried_own p f c.args.range c.args.mode c.in-Ok.held t c.if-held.false) c.in-Some.walked
+    (tried_own p f c.args.range c.args.mode c.in-Ok.held t c.if-held.false) c.list.result c.in-Some.walked
     (sym c.refusal_of.ensures ∙ c.in-None.is) c.in-Some.ensures.ends
 
 -- where the list was found empty there is a ready node

@@ -20,6 +20,6 @@ returns-clause-filled g c =
     let empty : r.core.ready ≡ [] = search rules in
     let homes : q.core.homes ≢ [] = search rules in (
       empty,
-      stuck_on c.args.self.now.part q r c.held_up.result c.look_homes.ensures.on.call.taken
+      stuck_on c.args.self.now.part q r c.held_up.result c.look_homes.ensures.on.call.list c.look_homes.ensures.on.call.taken
           (c.look_epochs.ensures.barred empty) homes c.has_ready-2.ensures.sound.sound.sized c.held_up.ensures,
     )

@@ -28,7 +28,7 @@ nodes-preserved g c =
       none = λ off. none_more p q r c.nodes.homes c.look_home.new.homes c.nodes.came c.nodes.node b c.if-look_home.came by none
           look.homes off ∙ sym c.requires.homes;
       on = both_looks p q r was.on look.on;
-      known = λ x low high. home_known p q r c.nodes.node x was.on.call.taken look.on.call.taken look.looked
+      known = λ x low high. home_known p q r c.nodes.node x was.on.call.list was.on.call.taken look.on.call.taken look.looked
           (λ other. was.known x low (omega arith));
       taken = let a = was.taken in let b = look.taken in omega arith;
       counted = let a = was.counted in let b = look.counted in omega arith;

@@ -1,9 +1,11 @@
-use Rattle.std.proofs.Common.{ap, ◌∙◌, subst, arith}
-use Rattle.range_rw.specs.Contract.{SeatState, IsLockCall}
-use Rattle.range_rw.specs.Seats.{seat_state_of}
+use Rattle.std.proofs.Common.{ap, ◌∙◌, subst, sym, arith}
+use Rattle.range_rw.specs.Contract.{TableShape, SeatState, IsLockCall, KeepsOthers, StandsIn}
+use Rattle.range_rw.specs.Seats.{counted_in, seat_state_of}
 use Rattle.range_rw.proofs.Moves.{lists_on}
 use Rattle.range_rw.proofs.Pieces.{is_there}
-use Rattle.range_rw.proofs.Seated.{seated_none, seated_own, seated_free, free_seated, alone_seated, seated_grant, rests_closed, lists_call, try_lists, none_here}
+use Rattle.range_rw.proofs.Choosing.{others_kept, closed_even}
+use Rattle.range_rw.proofs.Seated.{seated_none, seated_own, seated_free, free_seated, alone_seated, seated_grant}
+use Rattle.range_rw.proofs.Seated.{rests_closed, lists_call, try_lists, none_here}
 use Rattle.range_rw.proofs.table.RangeTable.hold_or_wait.Goals as goal
 
 -- the hand has no node of its own
@@ -70,3 +72,34 @@ returns-clause-free g c =
 -- and is between two calls
 pub invariant_of-seat-in-Err : goal.invariant_of-seat-in-Err
 invariant_of-seat-in-Err g c = free_seated c.hold_or_try-held.new.hand.part (is_there c.list.ensures.list c.list.ensures.there) c.in-Err.ensures.free
+
+-- each list in which it doesn't work is as it was, where no scan was open
+pub returns-in-Ok-clause-only : goal.returns-in-Ok-clause-only
+returns-in-Ok-clause-only g c = λ closed.
+    let p = c.seat.inside.hand.part in let m = c.leave_and_count-lists.new.hand.part in let q = c.hold_or_try-held.new.hand.part in
+    let l = try_lists p m c.leave_and_count-lists.ensures.later in
+    subst (λ (z : SeatState _ × TableShape). KeepsOthers z.1.cut c.args.range z.0 (seat_state_of c.hold_or_try-held.new.hand))
+    (λ i. (c.seat.view_is i, c.self.view_is i))
+    (others_kept c.seat.inside.hand.table c.hold_or_try-held.new.hand.table p m q c.self.inside.list.cut c.args.range
+    (sym l.lists ∙ (sym c.leave_and_count-lists.ensures.lists.0 ∙ c.leave_and_count-lists.ensures.lists.1))
+    (c.hold_or_try-held.ensures.later.lists ∙ l.lists)
+    (c.leave_and_count-lists.ensures.same (closed_even p (ap (λ (s : SeatState _). s.scan) c.seat.view_is ∙ closed)))
+    c.hold_or_try-held.ensures.only)
+
+-- each list in which it doesn't work is as it was, where no scan was open
+pub returns-clause-only : goal.returns-clause-only
+returns-clause-only g c = λ closed.
+    let p = c.seat.inside.hand.part in let m = c.leave_and_count-lists.new.hand.part in let q = c.hold_or_try-held.new.hand.part in
+    let l = try_lists p m c.leave_and_count-lists.ensures.later in
+    subst (λ (z : SeatState _ × TableShape). KeepsOthers z.1.cut c.args.range z.0 (seat_state_of c.hold_or_try-held.new.hand))
+    (λ i. (c.seat.view_is i, c.self.view_is i))
+    (others_kept c.seat.inside.hand.table c.hold_or_try-held.new.hand.table p m q c.self.inside.list.cut c.args.range
+    (sym l.lists ∙ (sym c.leave_and_count-lists.ensures.lists.0 ∙ c.leave_and_count-lists.ensures.lists.1))
+    (c.hold_or_try-held.ensures.later.lists ∙ l.lists)
+    (c.leave_and_count-lists.ensures.same (closed_even p (ap (λ (s : SeatState _). s.scan) c.seat.view_is ∙ closed)))
+    c.hold_or_try-held.ensures.only)
+
+-- it is held in the list that it takes alone, or in list 0
+pub returns-in-Ok-clause-stands : goal.returns-in-Ok-clause-stands
+returns-in-Ok-clause-stands g c =
+    subst (λ (t : TableShape). StandsIn t.cut c.args.range (counted_in c.hold_or_try-held.new.hand.part.pass.standing)) c.self.view_is c.in-Ok.ensures.stands

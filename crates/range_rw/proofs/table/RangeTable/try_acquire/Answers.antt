@@ -1,10 +1,24 @@
 use Rattle.std.proofs.Common.{◌≡◌, ◌↔◌, ◌+◌, ◌*◌, ap, ◌∙◌, subst, sym, arith}
 use Rattle.list_cuts.specs.Cut.{list_count}
-use Rattle.range_rw.specs.Contract.{TableShape, SeatState, IsLockCall, IsReadyLeft, IsSpentIn, IsLongRefusal, IsCause, pools_at}
+use Rattle.range_rw.specs.Contract.{
+  TableShape,
+  SeatState,
+  IsLockCall,
+  IsReadyLeft,
+  IsSpentIn,
+  IsLongRefusal,
+  IsCause,
+  TakesMany,
+  KeepsOthers,
+  StandsIn,
+  TellsList,
+  try_steps,
+  pools_at,
+}
 use Rattle.range_rw.specs.Several.{TakesAlone}
-use Rattle.range_rw.specs.Seats.{seat_state_of}
+use Rattle.range_rw.specs.Seats.{counted_in, seat_state_of}
 use Rattle.range_rw.proofs.Moves.{lists_on, ready_from}
-use Rattle.range_rw.proofs.Choosing.{seat_cause_in, seat_long_in, left_ready, ready_at}
+use Rattle.range_rw.proofs.Choosing.{seat_cause_in, seat_told_in, seat_long_in, left_ready, ready_at, others_kept, closed_even}
 use Rattle.range_rw.proofs.Pieces.{is_there}
 use Rattle.range_rw.proofs.Seated.{seated_none, seated_own, seated_free, free_seated, alone_seated, seated_grant, rests_closed, lists_call, try_lists, none_here}
 use Rattle.range_rw.proofs.table.RangeTable.try_acquire.Goals as goal
@@ -77,13 +91,11 @@ returns-in-Ok-clause-bound g c = λ alone.
     let w = ap (λ (s : SeatState _). s.trace.taken) c.seat.view_is in omega arith
 
 -- and of any
-pub returns-in-Ok-clause-wide : goal.returns-in-Ok-clause-wide
-returns-in-Ok-clause-wide g c =
-    let b = c.try_hold-tried.ensures.bound in
+pub returns-in-Ok-clause-each : goal.returns-in-Ok-clause-each
+returns-in-Ok-clause-each g c = λ k takes.
+    let b = c.try_hold-tried.ensures.each k (subst (λ (t : TableShape). TakesMany t.cut c.args.range k) (sym c.self.view_is) takes) in
     let many = c.try_hold-tried.ensures.seats ∙ ap (λ (t : TableShape). t.seats) c.self.view_is in
-    let all : (64 + 386 * c.leave_and_count-lists.new.hand.part.seats) * list_count c.self.inside.list.cut
-    ≡ (64 + 386 * c.args.self.now.seats) * list_count c.args.self.now.cut =
-    λ i. (64 + 386 * many i) * list_count (ap (λ (t : TableShape). t.cut) c.self.view_is i) in
+    let all = ap (λ n. try_steps n k) many in
     let l = c.leave_and_count-lists.ensures.bound in
     let w = ap (λ (s : SeatState _). s.trace.taken) c.seat.view_is in omega arith
 
@@ -142,13 +154,11 @@ returns-in-Err-clause-bound g c = λ alone.
     let w = ap (λ (s : SeatState _). s.trace.taken) c.seat.view_is in omega arith
 
 -- and of any
-pub returns-in-Err-clause-wide : goal.returns-in-Err-clause-wide
-returns-in-Err-clause-wide g c =
-    let b = c.try_hold-tried.ensures.bound in
+pub returns-in-Err-clause-each : goal.returns-in-Err-clause-each
+returns-in-Err-clause-each g c = λ k takes.
+    let b = c.try_hold-tried.ensures.each k (subst (λ (t : TableShape). TakesMany t.cut c.args.range k) (sym c.self.view_is) takes) in
     let many = c.try_hold-tried.ensures.seats ∙ ap (λ (t : TableShape). t.seats) c.self.view_is in
-    let all : (64 + 386 * c.leave_and_count-lists.new.hand.part.seats) * list_count c.self.inside.list.cut
-    ≡ (64 + 386 * c.args.self.now.seats) * list_count c.args.self.now.cut =
-    λ i. (64 + 386 * many i) * list_count (ap (λ (t : TableShape). t.cut) c.self.view_is i) in
+    let all = ap (λ n. try_steps n k) many in
     let l = c.leave_and_count-lists.ensures.bound in
     let w = ap (λ (s : SeatState _). s.trace.taken) c.seat.view_is in omega arith
 
@@ -167,7 +177,7 @@ returns-in-Err-clause-cause g c =
     (seat_cause_in c.seat.inside.hand.table c.leave_and_count-lists.new.hand.table c.try_hold-tried.new.hand.table p m c.try_hold-tried.new.hand.part
     c.leave_and_count-lists.ensures.later (left_ready p m c.leave_and_count-lists.ensures.later c.leave_and_count-lists.ensures.ready)
     c.try_hold-tried.ensures.later.lists
-    (record { range = c.args.range; mode = c.args.mode }) c.in-Err.why c.in-Err.ensures.cause)
+    c.self.inside.list.cut (record { range = c.args.range; mode = c.args.mode }) c.in-Err.why c.in-Err.ensures.cause)
 
 -- Long comes exactly where a walk of the call is spent
 pub returns-in-Err-clause-long : goal.returns-in-Err-clause-long
@@ -178,6 +188,69 @@ returns-in-Err-clause-long g c =
     (seat_long_in c.seat.inside.hand.table c.leave_and_count-lists.new.hand.table c.try_hold-tried.new.hand.table p m q
     c.leave_and_count-lists.ensures.later (left_ready p m c.leave_and_count-lists.ensures.later c.leave_and_count-lists.ensures.ready)
     c.try_hold-tried.ensures.later.lists
-    c.args.self.now.seats (c.try_hold-tried.ensures.later.seats ∙ (c.try_hold-tried.ensures.seats ∙ ap (λ (t : TableShape). t.seats) c.self.view_is))
+    c.self.inside.list.cut c.args.self.now.seats
+    (c.try_hold-tried.ensures.later.seats ∙ (c.try_hold-tried.ensures.seats ∙ ap (λ (t : TableShape). t.seats) c.self.view_is))
     (record { range = c.args.range; mode = c.args.mode }) c.in-Err.why c.in-Err.ensures.cause
     (seated_grant q (free_seated q (is_there c.list.ensures.list c.list.ensures.there) c.in-Err.ensures.free) ∙ none) none c.in-Err.ensures.long)
+
+-- each list in which it doesn't work is as it was, where no scan was open
+pub returns-in-Ok-clause-only : goal.returns-in-Ok-clause-only
+returns-in-Ok-clause-only g c = λ closed.
+    let p = c.seat.inside.hand.part in let m = c.leave_and_count-lists.new.hand.part in let q = c.try_hold-tried.new.hand.part in
+    let l = try_lists p m c.leave_and_count-lists.ensures.later in
+    subst (λ (z : SeatState _ × TableShape). KeepsOthers z.1.cut c.args.range z.0 (seat_state_of c.try_hold-tried.new.hand))
+    (λ i. (c.seat.view_is i, c.self.view_is i))
+    (others_kept c.seat.inside.hand.table c.try_hold-tried.new.hand.table p m q c.self.inside.list.cut c.args.range
+    (sym l.lists ∙ (sym c.leave_and_count-lists.ensures.lists.0 ∙ c.leave_and_count-lists.ensures.lists.1))
+    (c.try_hold-tried.ensures.later.lists ∙ l.lists)
+    (c.leave_and_count-lists.ensures.same (closed_even p (ap (λ (s : SeatState _). s.scan) c.seat.view_is ∙ closed)))
+    c.try_hold-tried.ensures.only)
+
+-- each list in which it doesn't work is as it was, where no scan was open
+pub returns-in-Err-clause-only : goal.returns-in-Err-clause-only
+returns-in-Err-clause-only g c = λ closed.
+    let p = c.seat.inside.hand.part in let m = c.leave_and_count-lists.new.hand.part in let q = c.try_hold-tried.new.hand.part in
+    let l = try_lists p m c.leave_and_count-lists.ensures.later in
+    subst (λ (z : SeatState _ × TableShape). KeepsOthers z.1.cut c.args.range z.0 (seat_state_of c.try_hold-tried.new.hand))
+    (λ i. (c.seat.view_is i, c.self.view_is i))
+    (others_kept c.seat.inside.hand.table c.try_hold-tried.new.hand.table p m q c.self.inside.list.cut c.args.range
+    (sym l.lists ∙ (sym c.leave_and_count-lists.ensures.lists.0 ∙ c.leave_and_count-lists.ensures.lists.1))
+    (c.try_hold-tried.ensures.later.lists ∙ l.lists)
+    (c.leave_and_count-lists.ensures.same (closed_even p (ap (λ (s : SeatState _). s.scan) c.seat.view_is ∙ closed)))
+    c.try_hold-tried.ensures.only)
+
+-- it is held in the list that it takes alone, or in list 0
+pub returns-in-Ok-clause-stands : goal.returns-in-Ok-clause-stands
+returns-in-Ok-clause-stands g c =
+    subst (λ (t : TableShape). StandsIn t.cut c.args.range (counted_in c.try_hold-tried.new.hand.part.pass.standing)) c.self.view_is c.in-Ok.ensures.stands
+
+-- the list that the refusal tells is one in which the call works
+pub returns-in-Err-clause-told : goal.returns-in-Err-clause-told
+returns-in-Err-clause-told g c =
+    let p = c.seat.inside.hand.part in let m = c.leave_and_count-lists.new.hand.part in
+    subst (λ (t : TableShape). TellsList t.cut c.args.range c.in-Err.why) c.self.view_is
+    (seat_told_in c.seat.inside.hand.table c.leave_and_count-lists.new.hand.table c.try_hold-tried.new.hand.table p m c.try_hold-tried.new.hand.part
+    c.leave_and_count-lists.ensures.later (left_ready p m c.leave_and_count-lists.ensures.later c.leave_and_count-lists.ensures.ready)
+    c.try_hold-tried.ensures.later.lists c.self.inside.list.cut (record { range = c.args.range; mode = c.args.mode }) c.in-Err.why c.in-Err.ensures.cause)
+
+-- and of any
+pub returns-in-Ok-clause-wide : goal.returns-in-Ok-clause-wide
+returns-in-Ok-clause-wide g c =
+    let b = c.try_hold-tried.ensures.bound in
+    let many = c.try_hold-tried.ensures.seats ∙ ap (λ (t : TableShape). t.seats) c.self.view_is in
+    let all : (64 + 386 * c.leave_and_count-lists.new.hand.part.seats) * list_count c.self.inside.list.cut
+    ≡ (64 + 386 * c.args.self.now.seats) * list_count c.args.self.now.cut =
+    λ i. (64 + 386 * many i) * list_count (ap (λ (t : TableShape). t.cut) c.self.view_is i) in
+    let l = c.leave_and_count-lists.ensures.bound in
+    let w = ap (λ (s : SeatState _). s.trace.taken) c.seat.view_is in omega arith
+
+-- and of any
+pub returns-in-Err-clause-wide : goal.returns-in-Err-clause-wide
+returns-in-Err-clause-wide g c =
+    let b = c.try_hold-tried.ensures.bound in
+    let many = c.try_hold-tried.ensures.seats ∙ ap (λ (t : TableShape). t.seats) c.self.view_is in
+    let all : (64 + 386 * c.leave_and_count-lists.new.hand.part.seats) * list_count c.self.inside.list.cut
+    ≡ (64 + 386 * c.args.self.now.seats) * list_count c.args.self.now.cut =
+    λ i. (64 + 386 * many i) * list_count (ap (λ (t : TableShape). t.cut) c.self.view_is i) in
+    let l = c.leave_and_count-lists.ensures.bound in
+    let w = ap (λ (s : SeatState _). s.trace.taken) c.seat.view_is in omega arith
