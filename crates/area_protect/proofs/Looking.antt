@@ -14,8 +14,8 @@ use Rattle.space_model.specs.declared.entries.Entry.{Entry}
 use Rattle.space_model.specs.History.{StateAfter}
 use Rattle.range_rw.specs.Contract.{SeatState}
 use Rattle.area_rows.specs.Seated.{TableId}
-use Rattle.area_rows.specs.declared.guard.Look.{Look}
-use Rattle.area_rows.specs.declared.guard.Pass.{Pass}
+use Rattle.area_guard.specs.declared.guard.Look.{Look}
+use Rattle.area_guard.specs.declared.guard.Pass.{Pass}
 use Rattle.area_rows.specs.AreaPlans.{IsOneKind}
 use Rattle.area_rows.specs.History.{Runs, StartsWith, whole_count, planned_calls, IsAtRest}
 use Rattle.area_rows.specs.Callers.{CallerView, CountsWhole, IsLook, Shows}

@@ -18,9 +18,9 @@ use Rattle.space_model.specs.Held.{HoldsSomeArea}
 use Rattle.lock_core.specs.declared.range.Held.{Held}
 use Rattle.range_rw.specs.Contract.{SeatState, IsLockCall, IsRelease, Record, client_trace}
 use Rattle.lock_core.specs.declared.range.Mode.TheVariants.{Reader}
-use Rattle.area_rows.specs.declared.guard.Look.{Look}
-use Rattle.area_rows.specs.declared.guard.Pass.{Pass}
-use Rattle.area_rows.specs.declared.guard.Pending.{Pending}
+use Rattle.area_guard.specs.declared.guard.Look.{Look}
+use Rattle.area_guard.specs.declared.guard.Pass.{Pass}
+use Rattle.area_guard.specs.declared.guard.Pending.{Pending}
 use Rattle.area_rows.specs.declared.row.Row.{Row}
 use Rattle.area_rows.specs.AreaPlans.{IsOneKind}
 use Rattle.area_rows.specs.History.{StartsWith, Runs, whole_count, planned_calls, IsAtRest, HoldsFor, rest_of}

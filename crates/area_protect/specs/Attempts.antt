@@ -12,10 +12,11 @@ use Rattle.space_model.specs.Areas.{IsInRange}
 use Rattle.space_model.specs.Held.{HoldsSomeArea, IsSimple}
 use Rattle.range_rw.specs.Contract.{SeatState}
 use Rattle.area_rows.specs.Seated.{TableId}
-use Rattle.area_rows.specs.declared.guard.Pass.{Pass}
+use Rattle.area_guard.specs.declared.guard.Pass.{Pass}
 use Rattle.area_rows.specs.declared.row.Row.{Row}
 use Rattle.area_rows.specs.AreaPlans.{IsOneKind}
-use Rattle.area_rows.specs.Changes.{alone, IsRound}
+use Rattle.area_rows.specs.Changes.{alone}
+use Rattle.area_rows.specs.OneStore.{IsRound}
 use Rattle.area_rows.specs.Callers.{CallerView, CountsWhole, IsAsRead, RowIs, Shows}
 use Rattle.area_rows.specs.Called.{IsCalled}
 use Rattle.area_protect.specs.declared.path.Cause.{Cause}

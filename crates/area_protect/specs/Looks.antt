@@ -6,8 +6,8 @@ use Rattle.space_model.specs.declared.areas.Area.{Area}
 use Rattle.space_model.specs.History.{StateAfter}
 use Rattle.range_rw.specs.Contract.{SeatState}
 use Rattle.lock_core.specs.declared.range.Mode.TheVariants.{Reader}
-use Rattle.area_rows.specs.declared.guard.Look.{Look}
-use Rattle.area_rows.specs.declared.guard.Pass.{Pass}
+use Rattle.area_guard.specs.declared.guard.Look.{Look}
+use Rattle.area_guard.specs.declared.guard.Pass.{Pass}
 use Rattle.area_rows.specs.History.{StartsWith, whole_count, IsAtRest}
 use Rattle.area_rows.specs.Callers.{CallerView}
 

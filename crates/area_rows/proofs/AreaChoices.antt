@@ -39,21 +39,22 @@ use Rattle.space_model.proofs.Simple.{KeepsCounts, simple_borders, keeps_counts}
 use Rattle.lock_core.specs.declared.range.Held.{Held}
 use Rattle.atomic_table.specs.Seated.{TableId}
 use Rattle.range_rw.specs.Contract.{SeatState}
-use Rattle.area_rows.specs.declared.guard.Change.{Change}
-use Rattle.area_rows.specs.declared.guard.Pass.{Pass}
+use Rattle.area_guard.specs.declared.guard.Change.{Change}
+use Rattle.area_guard.specs.declared.guard.Pass.{Pass}
 use Rattle.area_rows.specs.declared.row.Row.{Row}
 use Rattle.row_plans.specs.RowWords.{row_start}
 use Rattle.row_plans.specs.RowLists.{rows_start, ShowFrom}
-use Rattle.area_rows.specs.Rows.{rows_in, room_of}
-use Rattle.area_rows.specs.Reads.{IsHeldPage, StillStands}
-use Rattle.area_rows.specs.Changes.{alone, IsChange, IsOneStore, IsRound}
-use Rattle.area_rows.specs.Changes.IsOneStore.{whole, first_part, last_part}
-use Rattle.area_rows.specs.History.{RowsStandFor, IsAtRest, IsRight, Leaves, change_pending}
+use Rattle.area_guard.specs.Rows.{rows_in, room_of}
+use Rattle.area_guard.specs.Reads.{IsHeldPage, StillStands}
+use Rattle.area_guard.specs.Changes.{alone, IsChange}
+use Rattle.area_rows.specs.OneStore.{IsOneStore, IsRound}
+use Rattle.area_rows.specs.OneStore.IsOneStore.{whole, first_part, last_part}
+use Rattle.area_guard.specs.History.{RowsStandFor, IsAtRest, IsRight, Leaves, change_pending}
 use Rattle.area_rows.specs.Callers.{CallerView, MayNumber, IsReading, Shows, IsMoment, IsAsRead, IsReadBefore, IsReadBehind, RowIs}
 use Rattle.area_rows.specs.declared.area.AreaPlan.{AreaPlan}
 use Rattle.area_rows.specs.declared.area.AreaPlan.TheVariants.{NotSimple, Sealed, Same, SetKind, MoveStart}
 use Rattle.area_rows.specs.AreaPlans.{IsOneKind, IsAmong, IsLike, IsChosen, planned_change, MayChange, IsAreaPlan}
-use Rattle.area_rows.specs.Writes.{span_pages}
+use Rattle.area_guard.specs.Writes.{span_pages}
 use Rattle.row_plans.proofs.RowLists.{row_says, some_none}
 use Rattle.area_rows.proofs.Moments.{first_start, nobody_plans, shows_held}
 use Rattle.area_rows.specs.Loading.{reading_on}

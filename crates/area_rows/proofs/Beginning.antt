@@ -25,14 +25,14 @@ use Rattle.range_rw.specs.Contract.{SeatState, new_seat_in, first_passes}
 use Rattle.range_rw.proofs.Lists.{at_removed}
 use Rattle.range_rw.proofs.SeatLists.{at_firsts}
 use Rattle.word_rows.proofs.Rowing.{snoc_all as pushed_all}
-use Rattle.area_rows.specs.declared.guard.Pass.{Pass}
-use Rattle.area_rows.specs.declared.guard.Pending.TheVariants.{AtRest}
-use Rattle.area_rows.specs.Parts.{none_is}
-use Rattle.area_rows.specs.Reads.{StillStands}
+use Rattle.area_guard.specs.declared.guard.Pass.{Pass}
+use Rattle.area_guard.specs.declared.guard.Pending.TheVariants.{AtRest}
+use Rattle.area_guard.specs.Parts.{none_is}
+use Rattle.area_guard.specs.Reads.{StillStands}
 use Rattle.row_plans.specs.RowLists.{rows_from, areas_from, ShowFrom, IsBareGap}
-use Rattle.area_rows.specs.Rows.{room_of, rows_in, RowsShow}
-use Rattle.area_rows.specs.History.{IsPart, own_planned, planned_calls, planned_count, ShowsBefore, IsShown, IsRunningSpace}
-use Rattle.area_rows.specs.History.{IsBacked, AreBacked, HasRoom, HasHistory, own_count, entry_count, own_most, most_count, newcomer}
+use Rattle.area_guard.specs.Rows.{room_of, rows_in, RowsShow}
+use Rattle.area_guard.specs.History.{IsPart, own_planned, planned_calls, planned_count, ShowsBefore, IsShown, IsRunningSpace}
+use Rattle.area_guard.specs.History.{IsBacked, AreBacked, HasRoom, HasHistory, own_count, entry_count, own_most, most_count, newcomer}
 use Rattle.area_rows.specs.Callers.{CallerView, AreNewCallersIn, IsEnough, new_pass, quotas, opening_rows, opening_words}
 use Rattle.row_plans.proofs.RowLists.{length-rows, shows_from, areas_back, bare_from}
 

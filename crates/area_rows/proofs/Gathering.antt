@@ -1,8 +1,8 @@
 -- The history is what the callers stored, each entry at the place of its number.
-use Rattle.std.proofs.Common.{◌≡◌, ℕ, zero, suc, ◌+◌, ◌<◌, ◌≤◌, Bool, true, false, cond, eqb, List, [], ◌∷◌, ◌++◌, drop}
-use Rattle.std.proofs.Common.{length, map, get_or, set, sym, refl, ap, ◌∙◌, subst, arith, eq-eqb, add-one, drop-cons}
+use Rattle.std.proofs.Common.{◌≡◌, ℕ, zero, suc, ◌+◌, ◌<◌, ◌≤◌, List, [], ◌∷◌, ◌++◌, drop}
+use Rattle.std.proofs.Common.{length, map, get_or, set, sym, refl, ap, ◌∙◌, subst, arith, add-one, drop-cons}
 use Rattle.std.proofs.Common.{append_assoc, inl, inr}
-use Rattle.std.proofs.lemmas.Bool.{cases_lt, eqb-true}
+use Rattle.std.proofs.lemmas.Bool.{cases_lt}
 use Rattle.std.specs.Prelude.{Option, Some, None, replicate, slice_index}
 use mathlib.Core.Logic.{dite}
 use mathlib.Core.Option.{some, some-injective, some-ne-none}
@@ -14,17 +14,17 @@ use Rattle.space_model.specs.declared.entries.Entry.{Entry}
 use Rattle.lock_core.proofs.ByPlace.{below, there, same_lists, at_replicate}
 use Rattle.lock_core.specs.declared.range.Held.{Held}
 use Rattle.space_model.specs.Areas.{kind_at}
-use Rattle.area_rows.specs.declared.guard.Pass.{Pass}
-use Rattle.area_rows.specs.declared.guard.Pending.{Pending}
-use Rattle.area_rows.specs.declared.guard.Pending.TheVariants.{AtRest, Planned, OneRow}
+use Rattle.area_guard.specs.declared.guard.Pass.{Pass}
+use Rattle.area_guard.specs.declared.guard.Pending.{Pending}
+use Rattle.area_guard.specs.declared.guard.Pending.TheVariants.{AtRest, Planned, OneRow}
 use Rattle.area_rows.specs.declared.close.Kept.{Kept}
 use Rattle.row_plans.specs.RowLists.{areas_from, rows_start, with_row}
-use Rattle.area_rows.specs.Rows.{rows_in, RowsShow}
-use Rattle.area_rows.specs.Reads.{everything}
-use Rattle.area_rows.specs.Changes.{alone}
-use Rattle.space_model.proofs.Histories.{numbered_at}
-use Rattle.area_rows.specs.History.{Runs, entries_of, planned_calls, LagsAt, RowsStandFor, IsRunningSpace, Backs, AreBacked, HasHistory}
-use Rattle.area_rows.specs.Parts.{none_is}
+use Rattle.area_guard.specs.Rows.{rows_in, RowsShow}
+use Rattle.area_guard.specs.Reads.{everything}
+use Rattle.area_guard.specs.Changes.{alone}
+use Rattle.area_guard.specs.History.{Runs, planned_calls, LagsAt, RowsStandFor, IsRunningSpace, Backs, AreBacked, HasHistory}
+use Rattle.area_guard.specs.Parts.{none_is}
+use Rattle.area_guard.proofs.Entries.{runs_number, own_at, at_own}
 use Rattle.area_rows.specs.Callers.{CallerView, IsWhole}
 use Rattle.area_rows.specs.Closing.{AllStand, AgreesAt, ArePlaced, AreBelow, AreKept, callers_count, caller_pass}
 use Rattle.page_types.specs.declared.calls.Kind.{Kind}
@@ -71,38 +71,6 @@ idle_rows n start history state words passes r backed =
     let s : RowsStandFor state passes words = r.rows none in
     rows_agree words s.0 (kind_at state) (λ page low. sym
     (s.1.elsewhere page (λ other x at lags. idle_shown n state other page x.pending (backed other x at).pending lags))) s.2
-
--- in a run from number n the entry at place i has the number n + i
-pub runs_number : (history : List Entry) (n : ℕ) (A B : List Area) (i : ℕ) (e : Entry) → Runs n A history B → get_elem? history i ≡ some e → e.number ≡ n + i
-runs_number history n A B i e r at = numbered_at n history i e r.0 at
-
-own_here : (worker : ℕ) (x : Entry) (xs mine : List Entry) (b : Bool) → eqb x.worker worker ≡ b
-    → ((j : ℕ) (e : Entry) → get_elem? mine j ≡ some e → (i : ℕ) × (get_elem? xs i ≡ some e) × (e.worker ≡ worker))
-    → (j : ℕ) (e : Entry) → get_elem? (cond b (x ∷ mine) mine) j ≡ some e → (i : ℕ) × (get_elem? (x ∷ xs) i ≡ some e) × (e.worker ≡ worker)
-own_here worker x xs mine true is rest zero e at = (0, at, ap (λ (y : Entry). y.worker) (sym (some-injective x e at)) ∙ eqb-true x.worker worker is)
-own_here worker x xs mine true is rest (suc j) e at = let r = rest j e at in (suc r.0, r.1, r.2)
-own_here worker x xs mine false is rest j e at = let r = rest j e at in (suc r.0, r.1, r.2)
-
--- an entry of a caller stands in the history
-pub own_at : (worker : ℕ) (history : List Entry) (j : ℕ) (e : Entry) → get_elem? (entries_of worker history) j ≡ some e
-    → (i : ℕ) × (get_elem? history i ≡ some e) × (e.worker ≡ worker)
-own_at worker [] j e at = absurd (some-ne-none e (sym at))
-own_at worker (x ∷ xs) j e at = own_here worker x xs (entries_of worker xs) (eqb x.worker worker) refl (own_at worker xs) j e at
-
--- an entry of the history stands among those of its caller
-pub at_own : (worker : ℕ) (history : List Entry) (i : ℕ) (e : Entry) → get_elem? history i ≡ some e → e.worker ≡ worker
-    → (j : ℕ) × (get_elem? (entries_of worker history) j ≡ some e)
-at_own worker [] i e at is = absurd (some-ne-none e (sym at))
-at_own worker (x ∷ xs) zero e at is = (
-  0,
-  ap (λ b. get_elem? (cond b (x ∷ entries_of worker xs) (entries_of worker xs)) 0)
-      (eq-eqb x.worker worker (ap (λ (y : Entry). y.worker) (some-injective x e at) ∙ is)) ∙ at,
-)
-at_own worker (x ∷ xs) (suc i) e at is =
-    let r = at_own worker xs i e at is in
-    elim (eqb x.worker worker)
-    as (λ b. (j : ℕ) × (get_elem? (cond b (x ∷ entries_of worker xs) (entries_of worker xs)) j ≡ some e))
-    [ true ↦ (suc r.0, r.1) | false ↦ r ]
 
 module _ (start : List Area) (history : List Entry) (state : List Area) (words : List ℕ) (callers : List CallerView)
     (r : IsRunningSpace start history state words (map caller_pass callers)) where

@@ -3,7 +3,7 @@
 use Rattle.std.proofs.Common.{◌≡◌, ℕ, zero, suc, ◌+◌, ◌-◌, ◌*◌, ◌/◌, ◌^◌, ◌<◌, ◌≤◌, List, ◌∷◌, sym, refl, subst, arith, inl, inr, ⊎_elim}
 use Rattle.std.proofs.Math.Nat.{pow-suc}
 use Rattle.std.proofs.lemmas.Bool.{cases_lt}
-use Rattle.area_rows.specs.declared.guard.ReadRow.{ReadRow}
+use Rattle.area_guard.specs.declared.guard.ReadRow.{ReadRow}
 use Rattle.row_plans.specs.RowWords.{row_start}
 use Rattle.area_rows.specs.Halving.{IsOnSameSide, StartsBehind, IsAmong}
 

@@ -8,10 +8,10 @@ use Rattle.std.specs.Prelude.{Some, slice_index}
 use mathlib.Core.Logic.{dite}
 use native.Mathlib.Decide.{ℕ_discrete}
 use Rattle.range_rw.specs.Contract.{SeatState}
-use Rattle.area_rows.specs.declared.guard.ReadRow.{ReadRow}
-use Rattle.area_rows.specs.declared.guard.Pass.{Pass}
-use Rattle.area_rows.specs.Reads.{HasRead, HasRows, noted_from, word_of, words_of, or_zero, known_rows, KnowsRows}
-use Rattle.area_rows.specs.History.{after_row, after_seen}
+use Rattle.area_guard.specs.declared.guard.ReadRow.{ReadRow}
+use Rattle.area_guard.specs.declared.guard.Pass.{Pass}
+use Rattle.area_guard.specs.Reads.{HasRead, HasRows, noted_from, word_of, words_of, or_zero, known_rows, KnowsRows}
+use Rattle.area_guard.specs.History.{after_row, after_seen}
 use Rattle.area_rows.specs.Callers.{IsReading, HasLoaded}
 use Rattle.area_rows.proofs.Moments.{same_by}
 

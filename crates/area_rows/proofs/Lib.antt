@@ -13,4 +13,4 @@ pub mod AreaChoices
 pub mod Wholes
 pub mod Beginning
 pub mod Pairing
-pub mod Storing
+pub use Rattle.area_guard.proofs.Storing

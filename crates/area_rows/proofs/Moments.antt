@@ -20,22 +20,22 @@ use Rattle.range_rw.specs.Contract.{SeatState}
 use Rattle.space_model.specs.declared.areas.Area.{Area}
 use Rattle.space_model.specs.declared.entries.Entry.{Entry}
 use Rattle.space_model.specs.Areas.{kind_at}
-use Rattle.area_rows.specs.declared.guard.ReadRow.{ReadRow}
-use Rattle.area_rows.specs.declared.guard.Pass.{Pass}
-use Rattle.area_rows.specs.declared.guard.Pending.{Pending}
-use Rattle.area_rows.specs.declared.guard.Pending.TheVariants.{AtRest, Planned, OneRow}
+use Rattle.area_guard.specs.declared.guard.ReadRow.{ReadRow}
+use Rattle.area_guard.specs.declared.guard.Pass.{Pass}
+use Rattle.area_guard.specs.declared.guard.Pending.{Pending}
+use Rattle.area_guard.specs.declared.guard.Pending.TheVariants.{AtRest, Planned, OneRow}
 use Rattle.row_plans.specs.RowWords.{row_start}
 use Rattle.row_plans.specs.RowLists.{rows_start, ShowFrom, IsBareGap, areas_from}
-use Rattle.area_rows.specs.Rows.{rows_in, RowsShow}
+use Rattle.area_guard.specs.Rows.{rows_in, RowsShow}
 use Rattle.row_plans.specs.Plans.{PlanShows, IsRowList}
-use Rattle.area_rows.specs.Reads.{everything, IsHeldPage, HasRead, StillStands}
-use Rattle.area_rows.specs.History.{planned_calls, own_planned, planned_count, LagsAt, IsShown, RowsStandFor}
-use Rattle.area_rows.specs.History.{IsRunningSpace, HasHistory, HoldsPages, Backs, AreBacked, IsAtRest, Here}
+use Rattle.area_guard.specs.Reads.{everything, IsHeldPage, HasRead, StillStands}
+use Rattle.area_guard.specs.History.{planned_calls, own_planned, planned_count, LagsAt, IsShown, RowsStandFor}
+use Rattle.area_guard.specs.History.{IsRunningSpace, HasHistory, HoldsPages, Backs, AreBacked, IsAtRest, Here}
 use Rattle.area_rows.specs.Callers.{IsHeldPages, IsMoment}
-use Rattle.area_rows.specs.Parts.{planned_set}
-use Rattle.area_rows.specs.Writes.{everything_pages, clash}
-use Rattle.area_rows.specs.Beside.{apart_pages}
-use Rattle.area_rows.specs.RowStores.{in_span}
+use Rattle.area_guard.specs.Parts.{planned_set}
+use Rattle.area_guard.specs.Writes.{everything_pages, clash}
+use Rattle.area_guard.specs.Beside.{apart_pages}
+use Rattle.area_guard.specs.RowStores.{in_span}
 use Rattle.row_plans.proofs.RowLists.{row_says, starts_low, areas_back}
 
 -- what is held is a range

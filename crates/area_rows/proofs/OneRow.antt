@@ -5,13 +5,14 @@ use Rattle.std.proofs.Common.{sym, refl, ap, ◌∙◌, subst, arith, inl, inr, 
 use Rattle.std.proofs.lemmas.Bool.{cases_lt}
 use Rattle.std.specs.Prelude.{Option, Some, None}
 use Rattle.page_types.specs.declared.calls.Kind.{Kind}
-use Rattle.area_rows.specs.declared.guard.Change.{Change}
+use Rattle.area_guard.specs.declared.guard.Change.{Change}
 use Rattle.area_rows.specs.declared.row.Row.{Row}
 use Rattle.row_plans.specs.RowWords.{row_start, row_kind}
 use Rattle.row_plans.specs.RowLists.{rows_start, DiffersFrom, ShowFrom}
-use Rattle.area_rows.specs.Changes.{with_change, IsOneStore}
-use Rattle.area_rows.specs.Changes.IsOneStore.{whole, first_part, last_part}
-use Rattle.area_rows.specs.RowStores.{in_change, out_of_change}
+use Rattle.area_guard.specs.Changes.{with_change}
+use Rattle.area_rows.specs.OneStore.{IsOneStore}
+use Rattle.area_rows.specs.OneStore.IsOneStore.{whole, first_part, last_part}
+use Rattle.area_guard.specs.RowStores.{in_change, out_of_change}
 use Rattle.row_plans.proofs.RowLists.{some_none}
 use Rattle.area_rows.proofs.Moments.{first_start}
 

@@ -13,19 +13,33 @@ use Rattle.space_model.specs.Areas.{kind_at}
 use Rattle.lock_core.specs.declared.range.Held.{Held}
 use Rattle.range_rw.specs.Contract.{SeatState}
 use Rattle.range_rw.specs.Contract.{Record}
-use Rattle.area_rows.specs.declared.guard.Pass.{Pass}
+use Rattle.area_guard.specs.declared.guard.Pass.{Pass}
 use Rattle.row_plans.specs.RowWords.{row_start, row_kind}
 use Rattle.row_plans.specs.RowLists.{rows_start}
-use Rattle.area_rows.specs.Rows.{rows_in, RowsShow, IsRowOf}
-use Rattle.area_rows.specs.declared.guard.ReadRow.{ReadRow}
-use Rattle.area_rows.specs.Reads.{IsHeldPage, HasRead, StillStands, noted_from}
-use Rattle.area_rows.specs.History.{RowsStandFor, HoldsPages, IsAtRest, after_seen, after_row}
+use Rattle.area_guard.specs.Rows.{rows_in, RowsShow, IsRowOf}
+use Rattle.area_guard.proofs.Slots.{slot_of, next_is, next_of}
+use Rattle.area_guard.specs.declared.guard.ReadRow.{ReadRow}
+use Rattle.area_guard.specs.Reads.{IsHeldPage, HasRead, StillStands, noted_from}
+use Rattle.area_guard.specs.History.{RowsStandFor, HoldsPages, IsAtRest, after_seen, after_row}
 use Rattle.area_rows.specs.declared.row.Row.{Row}
 use Rattle.area_rows.specs.Callers.{IsHeldPages, KeepsRead, IsRowEnd, IsAsRead, IsReadBefore, IsReadBehind, RowIs, Shows, IsReading, IsClientStep, IsCounted}
 pub use Rattle.area_rows.specs.Loading.{keeps_on, no_reading, reading_on}
 use Rattle.row_plans.proofs.RowLists.{row_says}
 use Rattle.area_rows.proofs.Moments.{length-rows_in, at_row, first_row, row_below, stands, nobody_plans, shows_held}
 use Rattle.area_rows.proofs.Gathering.{next_start}
+
+-- the row of a page by its number: the last one that starts at or before it
+pub row_of_number : (words : List ℕ) (page slot : ℕ) → slot < slice_index words 2 → row_start (slice_index words (3 + slot)) ≤ page
+    → (slot + 1 < slice_index words 2 → page < row_start (slice_index words (3 + (slot + 1)))) → IsRowOf words page slot
+row_of_number words page slot lt from last = record {
+  there = slot_of words slot lt;
+  from = from;
+  last = λ next after.
+      let is = next_is words slot next after in
+      let e = is.0 in
+      let few = is.1 in
+      subst (λ (n : ℕ). page < row_start (slice_index words (3 + n))) (sym is.0) (last (omega arith));
+}
 
 -- what the word of a row says, of those that show kinds
 pub record WordSays (words : List ℕ) (kinds : ℕ → Option Kind) (i : ℕ) : Type 0 where
@@ -122,16 +136,12 @@ module _ (held : Option Held) (words : List ℕ) (kinds : ℕ → Option Kind) (
     × StillStands held words (record { index = index + 1; word = next })) ⊎ ((index + 1 ≡ count) × (hi ≡ LIMIT))) where
   -- a held page between the ends as they were read is in this row still
   row_of_page : (p : ℕ) → IsHeldPage held p → row_start word ≤ p → p < hi → IsRowOf words p index
-  row_of_page p h low high = record {
-    there = omega arith;
-    from = (still.side p h).0 low;
-    last = λ more. ⊎_elim
-        (λ t. elim (cases_lt p (row_start (slice_index words (3 + (index + 1))))) [
-          | inl less ↦ less
-          | inr ge ↦ let back : row_start t.1 ≤ p = (t.3.side p h).1 ge in let e = t.2 in absurd (omega arith)
-        ])
-        (λ t. absurd (let e = t.0 in omega arith)) ends;
-  }
+  row_of_page p h low high = row_of_number words p index (omega arith) ((still.side p h).0 low) (λ more. ⊎_elim
+      (λ t. elim (cases_lt p (row_start (slice_index words (3 + (index + 1))))) [
+        | inl less ↦ less
+        | inr ge ↦ let back : row_start t.1 ≤ p = (t.3.side p h).1 ge in let e = t.2 in absurd (omega arith)
+      ])
+      (λ t. absurd (let e = t.0 in omega arith)) ends)
 
   kind_now : row_kind (slice_index words (3 + index)) ≡ row_kind word
   kind_now = still.kind page here (row_of_page page here from until)
@@ -142,8 +152,8 @@ module _ (held : Option Held) (words : List ℕ) (kinds : ℕ → Option Kind) (
   row_is_still state same = record {
     index = row_of_page page here from until;
     kind = λ p h low high. let r = row_of_page p h low high in
-        sym (same p h) ∙ ((word_says words kinds index s (omega arith)).within p r.from (below_end held p pages h) r.last
-        ∙ kind_now);
+        sym (same p h) ∙ ((word_says words kinds index s (omega arith)).within p r.from (below_end held p pages h)
+        (λ more. r.last (index + 1) (next_of words index more)) ∙ kind_now);
     next = λ h e. ⊎_elim
         (λ t. let at : row_start (slice_index words (3 + (index + 1))) ≡ row_start t.1 = t.3.start hi h (inl t.2) in
         after_row_page words kinds s page count index (slice_index words (3 + index)) counts refl lt hi t.0 (t.2 ∙ sym at) (same hi h ∙ (e ∙ sym kind_now)))

@@ -14,29 +14,31 @@ use Rattle.page_types.specs.declared.pages.Span.{Span}
 use Rattle.lock_core.specs.declared.range.Held.{Held}
 use Rattle.lock_core.specs.Client.{stores, IsAllowed, IsMade}
 use Rattle.range_rw.specs.Contract.{SeatState, IsClientCall}
-use Rattle.area_rows.specs.declared.guard.Change.{Change}
-use Rattle.area_rows.specs.declared.guard.Note.{Note}
-use Rattle.area_rows.specs.declared.guard.Pass.{Pass}
-use Rattle.area_rows.specs.declared.guard.Pending.{Pending}
-use Rattle.area_rows.specs.declared.guard.Pending.TheVariants.{OneRow}
-use Rattle.area_rows.specs.declared.guard.ReadRow.{ReadRow}
+use Rattle.area_guard.specs.declared.guard.Change.{Change}
+use Rattle.area_guard.specs.declared.guard.Note.{Note}
+use Rattle.area_guard.specs.declared.guard.Pass.{Pass}
+use Rattle.area_guard.specs.declared.guard.Pending.{Pending}
+use Rattle.area_guard.specs.declared.guard.Pending.TheVariants.{OneRow}
+use Rattle.area_guard.specs.declared.guard.ReadRow.{ReadRow}
 use Rattle.area_rows.specs.declared.row.Row.{Row}
 use Rattle.row_plans.specs.RowWords.{row_start, row_kind}
 use Rattle.row_plans.specs.RowLists.{rows_start, ShowFrom, IsBareGap, areas_from}
-use Rattle.area_rows.specs.Rows.{rows_in, room_of, RowsShow, IsRowOf}
-use Rattle.area_rows.specs.Reads.{IsHeldPage, HasRead, StillStands}
-use Rattle.area_rows.specs.Changes.{IsIn, alone, new_word, IsInside, with_change, MayReplace, IsOneStore, IsRound}
-use Rattle.area_rows.specs.Changes.IsOneStore.{whole, first_part, last_part}
-use Rattle.area_rows.specs.History.{planned_calls, RowsStandFor, HasHistory, Allowed, Backs, MayWrite, after_change}
+use Rattle.area_guard.specs.Rows.{rows_in, room_of, RowsShow, IsRowOf}
+use Rattle.area_guard.proofs.Slots.{slot_of, next_of}
+use Rattle.area_guard.specs.Reads.{IsHeldPage, HasRead, StillStands}
+use Rattle.area_guard.specs.Changes.{IsIn, alone, new_word, IsInside, with_change, MayReplace}
+use Rattle.area_rows.specs.OneStore.{IsOneStore, IsRound}
+use Rattle.area_rows.specs.OneStore.IsOneStore.{whole, first_part, last_part}
+use Rattle.area_guard.specs.History.{planned_calls, RowsStandFor, HasHistory, Allowed, Backs, MayWrite, after_change}
 use Rattle.area_rows.specs.Callers.{CallerView, HasToStore, IsHeldPages, IsRowEnd, RowIs, IsReadBefore, IsReadBehind, IsReadRound, IsClientStep, IsStoredRow}
-use Rattle.area_rows.specs.Parts.{some_is}
-use Rattle.area_rows.specs.Writes.{span_pages}
-use Rattle.area_rows.specs.Keeping.{no_note}
+use Rattle.area_guard.specs.Parts.{some_is}
+use Rattle.area_guard.specs.Writes.{span_pages}
+use Rattle.area_guard.specs.Keeping.{no_note}
 use Rattle.row_plans.proofs.ReadBack.{start_back, kind_back}
 use Rattle.row_plans.proofs.RowLists.{are_next, some_none}
 use Rattle.area_rows.proofs.Moments.{length-rows_in, at_row, row_below, same_by, stands, only_own_plan, here_at}
 use Rattle.area_rows.proofs.Gathering.{length-rows}
-use Rattle.area_rows.proofs.Reading.{row_is_still}
+use Rattle.area_rows.proofs.Reading.{row_of_number, row_is_still}
 use Rattle.area_rows.proofs.OneRow.{IsRowIn, ShownAt, shown_at, next_is, replaced_shows}
 
 -- the rows among the client words, after a row word was stored
@@ -142,11 +144,9 @@ module _ (span : Span) (words : List ℕ) (kinds : ℕ → Option Kind) (s : Row
         (ap (λ n. rows_start (drop n (rows_in words))) (let e : suc i ≡ row.index = omega arith in e)
             ∙ (starts row.index lt ∙ own_start)) k,
       )) grows in
-      (stands (Some (alone span)) words read i w stood h).kind (row.lo - 1) (is_held (row.lo - 1) (omega arith) (omega arith) (omega arith)) (record {
-        there = omega arith;
-        from = omega arith;
-        last = λ more. subst (λ n. row.lo - 1 < row_start (slice_index words (3 + n))) (sym next) (let o = own_start in omega arith);
-      })
+      (stands (Some (alone span)) words read i w stood h).kind (row.lo - 1) (is_held (row.lo - 1) (omega arith) (omega arith) (omega arith))
+      (row_of_number words (row.lo - 1) i (omega arith) (omega arith)
+      (λ more. subst (λ n. row.lo - 1 < row_start (slice_index words (3 + n))) (sym next) (let o = own_start in omega arith)))
 
   -- and of the row behind
   behind_now : row.index + 1 < count → (w : ℕ) → HasRead read (row.index + 1) w → row_kind (slice_index words (3 + (row.index + 1))) ≡ row_kind w
@@ -158,12 +158,10 @@ module _ (span : Span) (words : List ℕ) (kinds : ℕ → Option Kind) (s : Row
       let at_i = listed i more in
       let up : row_start (slice_index words (3 + i)) < rows_start (drop (suc i) (rows_in words)) =
       subst (λ w. row_start w < rows_start (drop (suc i) (rows_in words))) at_i grows in
-      (stands (Some (alone span)) words read i w stood h).kind row.hi (is_held row.hi (omega arith) (omega arith) (omega arith)) (record {
-        there = omega arith;
-        from = omega arith;
-        last = λ next. let e = starts (i + 1) (omega arith) in let z : suc i ≡ i + 1 = omega arith in
-            let same = ap (λ n. rows_start (drop n (rows_in words))) z in omega arith;
-      })
+      (stands (Some (alone span)) words read i w stood h).kind row.hi (is_held row.hi (omega arith) (omega arith) (omega arith))
+      (row_of_number words row.hi i (omega arith) (omega arith)
+      (λ next. let e = starts (i + 1) (omega arith) in let z : suc i ≡ i + 1 = omega arith in
+      let same = ap (λ n. rows_start (drop n (rows_in words))) z in omega arith))
 
   -- the row stands in the list of the row words, between neighbours of these kinds
   pub row_in : IsRowIn (rows_in words) row before behind
@@ -277,7 +275,7 @@ module _ (words : List ℕ) (kinds : ℕ → Option Kind) (s : RowsShow words ki
       (λ t.
       let more : i + 1 < slice_index words 2 = let n = t.0 in omega arith in
       let e : row_start (slice_index words (3 + (i + 1))) ≡ r.row.hi = ap (λ n. row_start (slice_index words (3 + (n + 1)))) is ∙ start_next t.0 in
-      let l = row.last more in omega arith)
+      let l = row.last (i + 1) (next_of words i more) in omega arith)
       (λ t. let e = t.1 in omega arith)
       r.read.hi
 
@@ -295,6 +293,7 @@ module _ (words : List ℕ) (kinds : ℕ → Option Kind) (s : RowsShow words ki
       let w = named_word in
       record {
         there = omega arith;
+        used = slot_of words c.index lt;
         up = λ page low high. absurd (omega arith);
         down = λ page low high. absurd (omega arith);
         stood = λ moves. absurd (moves (at_index ∙ (sym at ∙ sym named_word)));
@@ -308,6 +307,7 @@ module _ (words : List ℕ) (kinds : ℕ → Option Kind) (s : RowsShow words ki
       let w = named_word in
       record {
         there = omega arith;
+        used = slot_of words c.index lt;
         up = λ page low high. in_round page (omega arith) (omega arith);
         down = λ page low high. absurd (let p = c.place.ordered in omega arith);
         stood = λ moves page beside. in_round page (⊎_elim (λ e. omega arith) (λ e. omega arith) beside) (let p = r.pages in
@@ -325,6 +325,7 @@ module _ (words : List ℕ) (kinds : ℕ → Option Kind) (s : RowsShow words ki
       let w = named_word in
       record {
         there = omega arith;
+        used = slot_of words c.index lt;
         up = λ page low high. absurd (let p = c.place.ordered in omega arith);
         down = λ page low high. in_round page (omega arith) (omega arith);
         stood = λ moves page beside. (

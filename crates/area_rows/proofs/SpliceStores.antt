@@ -7,11 +7,11 @@ use Rattle.std.specs.Prelude.{Some, slice_index}
 use mathlib.Core.Logic.{dite}
 use native.Mathlib.Decide.{ℕ_discrete}
 use Rattle.row_plans.proofs.Splices.{splice_length}
-use Rattle.area_rows.specs.declared.guard.Pass.{Pass}
-use Rattle.area_rows.specs.declared.guard.ReadRow.{ReadRow}
-use Rattle.area_rows.specs.declared.guard.Splice.{Splice}
-use Rattle.area_rows.specs.Reads.{HasRead, HasRows}
-use Rattle.area_rows.specs.History.{rows_after, without}
+use Rattle.area_guard.specs.declared.guard.Pass.{Pass}
+use Rattle.area_guard.specs.declared.guard.ReadRow.{ReadRow}
+use Rattle.area_guard.specs.declared.guard.Splice.{Splice}
+use Rattle.area_guard.specs.Reads.{HasRead, HasRows}
+use Rattle.area_guard.specs.History.{rows_after, without}
 use Rattle.area_rows.specs.Writing.{IsRaised, IsLowered, IsLaid, HasMoved, moved_to}
 use Rattle.area_rows.proofs.StoringRows.{has_others}
 
@@ -60,7 +60,7 @@ module _ (plan : Splice) (ordered : plan.first ≤ plan.end) (there : plan.end �
 
   -- before the first store all rows stand as they stood
   pub none_raised : (p : Pass) → HasRows p plan.old → IsRaised p.rows plan (length plan.old)
-  none_raised p has = record { moved = λ i le lt. absurd (omega arith); others = λ i lt. has.1 i lt; before = λ i lt old. has.1 i old }
+  none_raised p has = record { moved = λ i le lt. absurd (omega arith); others = λ i lt old. has.1 i old }
 
   pub none_lowered : (p : Pass) → moved_to plan < plan.end → HasRows p plan.old → IsLowered p.rows plan plan.end
   none_lowered p down has = record {
@@ -77,8 +77,7 @@ module _ (plan : Splice) (ordered : plan.first ≤ plan.end) (there : plan.end �
       moved = λ i le lt. dite (ℕ_discrete i index)
           (λ same. subst (λ (n : ℕ). HasRead after (n - plan.end + moved_to plan) (slice_index plan.old n)) (sym same) step.there)
           (λ differ. step.others (i - plan.end + moved_to plan) (slice_index plan.old i) (λ e. differ (omega arith)) (r.moved i (omega (arith, differ)) lt));
-      others = λ i lt. step.others i (slice_index plan.old i) (λ e. omega arith) (r.others i (omega arith));
-      before = λ i lt old. step.others i (slice_index plan.old i) (λ e. omega arith) (r.before i lt old);
+      others = λ i lt old. step.others i (slice_index plan.old i) (λ e. omega arith) (r.others i (omega arith) old);
     }
 
     -- or down
@@ -104,8 +103,8 @@ module _ (plan : Splice) (ordered : plan.first ≤ plan.end) (there : plan.end �
   -- once all rows have moved up, those that come are to be laid
   pub raised_laid : (rows : List ReadRow) → IsRaised rows plan plan.end → IsLaid rows plan plan.first
   raised_laid rows r = record {
-    before = λ i lt. subst (HasRead rows i) (sym (after_before i lt)) (r.others i (omega arith));
-    others = λ i le lt old. r.before i lt old;
+    before = λ i lt. subst (HasRead rows i) (sym (after_before i lt)) (r.others i (omega arith) (omega arith));
+    others = λ i le lt old. r.others i (omega arith) old;
     behind = behind_of rows (λ i le lt. r.moved i le lt);
   }
 

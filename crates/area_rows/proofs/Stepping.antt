@@ -15,31 +15,31 @@ use Rattle.space_model.specs.declared.entries.Entry.{Entry}
 use Rattle.space_model.specs.declared.entries.Under.{Under}
 use Rattle.space_model.specs.declared.entries.Under.TheVariants.{Area as OverArea, Whole}
 use Rattle.page_types.specs.declared.pages.Span.{Span}
-use Rattle.area_rows.specs.declared.guard.Change.{Change}
-use Rattle.area_rows.specs.declared.guard.Note.{Note}
-use Rattle.area_rows.specs.declared.guard.ReadRow.{ReadRow}
-use Rattle.area_rows.specs.declared.guard.Pass.{Pass}
-use Rattle.area_rows.specs.declared.guard.Pending.{Pending}
-use Rattle.area_rows.specs.declared.guard.Splice.{Splice}
+use Rattle.area_guard.specs.declared.guard.Change.{Change}
+use Rattle.area_guard.specs.declared.guard.Note.{Note}
+use Rattle.area_guard.specs.declared.guard.ReadRow.{ReadRow}
+use Rattle.area_guard.specs.declared.guard.Pass.{Pass}
+use Rattle.area_guard.specs.declared.guard.Pending.{Pending}
+use Rattle.area_guard.specs.declared.guard.Splice.{Splice}
 use Rattle.row_plans.specs.declared.planning.Cut.{Cut}
-use Rattle.area_rows.specs.Rows.{room_of, rows_in}
-use Rattle.area_rows.specs.Writes.{everything_pages}
-use Rattle.area_rows.specs.declared.guard.Pending.TheVariants.{AtRest, Planned, OneRow}
+use Rattle.area_guard.specs.Rows.{room_of, rows_in}
+use Rattle.area_guard.specs.Writes.{everything_pages}
+use Rattle.area_guard.specs.declared.guard.Pending.TheVariants.{AtRest, Planned, OneRow}
 use Rattle.row_plans.specs.RowWords.{row_start}
 use Rattle.row_plans.specs.Plans.{IsRowList}
 use Rattle.area_rows.specs.Halving.{IsOnSameSide}
-use Rattle.area_rows.specs.Reads.{everything, IsHeldPage, HasRead, or_zero, words_of, known_rows, KnowsRows, StillStands}
-use Rattle.area_rows.specs.History.{Runs, StartsWith, planned_calls, RowsStandFor, HasHistory, Allowed, Here, MayLoad}
-use Rattle.area_rows.specs.History.{MayAdd, IsAtRest, IsRight, Leaves, FitsIn, HoldsFor, HoldsJust, HoldsPages, pending_of, entry_of}
-use Rattle.area_rows.specs.History.{after_look, after_seen, after_sequence, after_row, after_draw, rows_after}
-use Rattle.area_rows.specs.History.MayLoad.{number, glance, sequence, count, row}
-use Rattle.area_rows.specs.History.MayAdd.{draw, raise}
+use Rattle.area_guard.specs.Reads.{everything, IsHeldPage, HasRead, or_zero, words_of, known_rows, KnowsRows, StillStands}
+use Rattle.area_guard.specs.History.{Runs, StartsWith, planned_calls, RowsStandFor, HasHistory, Allowed, Here, MayLoad}
+use Rattle.area_guard.specs.History.{MayAdd, IsAtRest, IsRight, Leaves, FitsIn, HoldsFor, HoldsJust, HoldsPages, pending_of, entry_of}
+use Rattle.area_guard.specs.History.{after_look, after_seen, after_sequence, after_row, after_draw, rows_after}
+use Rattle.area_guard.specs.History.MayLoad.{number, glance, sequence, count, row}
+use Rattle.area_guard.specs.History.MayAdd.{draw, raise}
 use Rattle.area_rows.specs.Callers.{CallerView, HasSameRows, plan_of, IsKnown, HasToWrite, HasToStore, IsReadRound, IsReadBefore, IsReadBehind}
 use Rattle.area_rows.specs.Callers.{IsRowEnd, IsHeldPages, IsMoment, Shows, KeepsRead, KeepsRows, CountsWhole}
 use Rattle.area_rows.specs.Callers.{IsReading, IsLook, IsNumbered, IsDrawn, IsClientStep}
-use Rattle.area_rows.specs.Draws.{draw_pending, draw_mine, draw_seen, draw_start, draw_drew, draw_looks, draw_room, draw_most, plan_fits}
-use Rattle.area_rows.specs.Keeping.{no_note}
-use Rattle.area_rows.specs.Parts.{none_is}
+use Rattle.area_guard.specs.Draws.{draw_pending, draw_mine, draw_seen, draw_start, draw_drew, draw_looks, draw_room, draw_most, plan_fits}
+use Rattle.area_guard.specs.Keeping.{no_note}
+use Rattle.area_guard.specs.Parts.{none_is}
 use Rattle.area_rows.proofs.Reading.{step_reads}
 use Rattle.area_rows.proofs.Moments.{length-rows_in, at_row}
 use Rattle.area_rows.proofs.Moments.{held_some, held_pages, first_row, row_below, row_list, stands, only_own_plan, nobody_plans, rows_are, here_at, moment_of}

@@ -2,7 +2,7 @@
 use Rattle.std.proofs.Common.{◌≡◌, ℕ, zero, suc, ◌+◌, ◌-◌, ◌*◌, ◌<◌, ◌≤◌, cond, eqb, ◌&&◌, List, length}
 use Rattle.std.proofs.Common.{◌≢◌, sym, refl, ap, ◌∙◌, subst, arith, inl, inr, eq-eqb, ne_eqb, add-one}
 use Rattle.std.proofs.lemmas.Bool.{cases_lt, lt-ltb, le-ltb}
-use Rattle.std.specs.Prelude.{Option, slice_index}
+use Rattle.std.specs.Prelude.{Option, Some, slice_index}
 use Rattle.page_types.specs.declared.calls.Call.{Call}
 use Rattle.page_types.specs.declared.calls.Kind.{Kind}
 use Rattle.page_types.specs.declared.calls.Reply.{Reply}
@@ -24,11 +24,12 @@ use Rattle.row_plans.proofs.OneList.{one_list}
 use Rattle.row_plans.proofs.RowPages.{rows_apart}
 use mathlib.Core.Logic.{dite}
 use native.Mathlib.Decide.{ℕ_discrete}
-use Rattle.area_rows.specs.declared.guard.Pass.{Pass}
-use Rattle.area_rows.specs.declared.guard.Splice.{Splice}
-use Rattle.area_rows.specs.History.{rows_after}
+use Rattle.area_guard.specs.declared.guard.Pass.{Pass}
+use Rattle.area_guard.specs.declared.guard.Splice.{Splice}
+use Rattle.area_guard.specs.History.{rows_after}
+use Rattle.area_guard.specs.Reads.{HasRead}
 use Rattle.area_rows.specs.Callers.{IsClientStep}
-use Rattle.area_rows.specs.Writing.{moved_to, moves_of, look_at, looks_of, steps_of, new_row, new_rows, new_count}
+use Rattle.area_rows.specs.Writing.{IsNewRow, moved_to, moves_of, look_at, looks_of, steps_of, new_row, new_rows, new_count}
 use Rattle.area_rows.proofs.SpliceStores.{after_before, after_behind, after_length}
 
 module _ (old plan : List ℕ) (index : ℕ) where
@@ -108,6 +109,12 @@ moved_new old plan i j differ one lt is = elim (cases_lt i (length old)) [
   | inl less ↦ row_other old plan i less (λ same. differ (one i j less lt (same ∙ is)))
   | inr ge ↦ row_behind old plan i ge
 ]
+
+-- and a row that moves is new at its place, where what stood there still stands
+pub moves_new : (pass : Pass) (old : List ℕ) (index place : ℕ) → IsRowList old → pass.count ≡ Some (length old) → index < length old
+    → (place ≡ index → ⊥) → (place < length old → HasRead pass.rows place (slice_index old place)) → IsNewRow pass place (slice_index old index)
+moves_new pass old index place list counted there differ stood =
+    (length old, counted, λ lt. (slice_index old place, stood lt, λ same. differ (one_place old list place index lt there same)))
 
 -- a step on a client word is one step
 pub one_step : (s u : SeatState Pass) (place : ℕ) (p : Pass) → IsClientStep s place p u → u.trace.taken ≡ s.trace.taken + 1

@@ -1,5 +1,5 @@
 -- The guard allows the stores of a call that has a plan, and lets it raise the sequence word where the plan is written.
-use Rattle.std.proofs.Common.{◌≡◌, ℕ, ◌+◌, ◌<◌, ◌≤◌, Bool, true, false, not, cond, eqb, List, [], ◌∷◌, length, sym}
+use Rattle.std.proofs.Common.{◌≡◌, ◌≢◌, ℕ, ◌+◌, ◌<◌, ◌≤◌, Bool, true, false, not, cond, eqb, List, [], ◌∷◌, length, sym}
 use Rattle.std.proofs.Common.{refl, ap, ◌∙◌, subst, arith, ◌⊎◌, inl, inr, ⊎_elim}
 use Rattle.std.proofs.lemmas.Bool.{eqb-true}
 use Rattle.std.specs.Prelude.{All, Option, Some, slice_index}
@@ -10,72 +10,97 @@ use Rattle.lock_core.specs.Client.{stores, adds, IsAllowed, IsMade}
 use Rattle.range_rw.specs.Contract.{SeatState, IsClientCall}
 use Rattle.range_rw.specs.Contract.{Record}
 use Rattle.space_model.specs.Areas.{kind_at}
-use Rattle.area_rows.specs.declared.guard.ReadRow.{ReadRow}
-use Rattle.area_rows.specs.declared.guard.Note.{Note}
-use Rattle.area_rows.specs.declared.guard.Pass.{Pass}
-use Rattle.area_rows.specs.declared.guard.Pending.{Pending}
-use Rattle.area_rows.specs.declared.guard.Splice.{Splice}
-use Rattle.area_rows.specs.declared.guard.Pending.TheVariants.{Planned}
+use Rattle.area_guard.specs.declared.guard.ReadRow.{ReadRow}
+use Rattle.area_guard.specs.declared.guard.Note.{Note}
+use Rattle.area_guard.specs.declared.guard.Pass.{Pass}
+use Rattle.area_guard.specs.declared.guard.Pending.{Pending}
+use Rattle.area_guard.specs.declared.guard.Splice.{Splice}
+use Rattle.area_guard.specs.declared.guard.Pending.TheVariants.{Planned}
 use Rattle.row_plans.specs.RowLists.{ShowFrom, IsBareGap}
-use Rattle.area_rows.specs.Rows.{room_of, rows_in, RowsShow}
-use Rattle.area_rows.specs.Reads.{everything, HasRead, HasRows, StillStands}
-use Rattle.area_rows.specs.History.{HasHistory, Allowed, Here, MayStore, MayWrite, MayAdd, Backs, without, rows_after}
-use Rattle.area_rows.specs.History.{after_count, after_row, after_store, after_raise}
-use Rattle.area_rows.specs.History.MayStore.{store_row, store_count}
-use Rattle.area_rows.specs.History.MayAdd.{draw, raise}
+use Rattle.area_guard.specs.Rows.{room_of, rows_in, RowsShow}
+use Rattle.area_guard.specs.Reads.{everything, HasRead, HasRows}
+use Rattle.area_guard.specs.History.{HasHistory, Allowed, Here, IsNew, MayStore, MayWrite, MayAdd, Backs, without, rows_after}
+use Rattle.area_guard.specs.History.{after_count, after_row, after_store, after_raise}
+use Rattle.area_guard.specs.History.MayStore.{store_row, store_count}
+use Rattle.area_guard.specs.History.MayAdd.{draw, raise}
 use Rattle.area_rows.specs.Callers.{CallerView, HasToWrite, IsClientStep, IsWritten, plan_of}
 use Rattle.page_types.specs.declared.TheConstants.{ROWS}
 use Rattle.atomic_table.specs.Seated.{TableId}
 use Rattle.row_plans.specs.Plans.{IsRowList}
-use Rattle.area_rows.specs.Writing.{IsWriting, WritesPlan, plan_at, splice_in}
-use Rattle.area_rows.specs.Keeping.{no_note}
-use Rattle.area_rows.specs.Parts.{rows_fit}
-use Rattle.area_rows.specs.Writes.{plan_length}
+use Rattle.area_rows.specs.Writing.{IsNewRow, IsWriting, WritesPlan, plan_at, splice_in}
+use Rattle.area_guard.specs.Keeping.{no_note}
+use Rattle.area_guard.proofs.Slots.{slot_few}
+use Rattle.area_guard.specs.Parts.{rows_fit}
+use Rattle.area_guard.specs.Writes.{plan_length}
 use Rattle.area_rows.proofs.Moments.{here_at, rows_known, stands}
 
 module _ (note : Note) (seat : ℕ) (held : Option Held) (pass : Pass) (plan : Splice) (planned : pass.pending ≡ Planned plan) where
-  may_write : (words : List ℕ) (place value : ℕ) (after : Pass) → MayStore (rows_after plan) place value pass after
+  -- at a moment of its caller the row count and the rows that it knows stand so
+  module _ (grants : Grants) (words : List ℕ) (passes : List Pass) (here : Here grants words passes seat) (same : here.pass ≡ pass) where
+    count_stands : (n : ℕ) → pass.count ≡ Some n → slice_index words 2 ≡ n
+    count_stands n is = (here.running.parts seat here.pass here.own).count n (ap (λ (x : Pass). x.count) same ∙ is)
+
+    row_stands : (i w : ℕ) → HasRead pass.rows i w → slice_index words (3 + i) ≡ w
+    row_stands i w has =
+        let backed = here.backed seat here.pass here.own in
+        let backs : Backs grants here.state seat (Planned plan) =
+        subst (Backs grants here.state seat) (ap (λ (x : Pass). x.pending) same ∙ planned) backed.pending in
+        (stands (Some everything) words here.pass.rows i w (backed.rows (Some everything) backs.0)
+        (subst (λ (x : Pass). HasRead x.rows i w) (sym same) has)).word refl
+
+    -- so a row that is new, as it knows, is new
+    new_row : (index value : ℕ) → IsNewRow pass index value → IsNew words (3 + index) value
+    new_row index value new used same_word = ⊎_elim
+        (λ two. omega arith)
+        (λ t.
+        let slot = slot_few words t.0 t.2 in let at = t.1 in let count = count_stands new.0 new.1 in
+        let row = new.2 (omega arith) in row.2 (sym (row_stands index row.0 row.1) ∙ same_word))
+        used
+
+  may_write : (words : List ℕ) (place value : ℕ) (after : Pass) → MayStore (rows_after plan) place value pass after → IsNew words place value
       → MayWrite words pass.pending place value pass after
-  may_write words place value after may = subst (λ (q : Pending). MayWrite words q place value pass after) (sym planned) may
+  may_write words place value after may new = subst (λ (q : Pending). MayWrite words q place value pass after) (sym planned) (may, new)
 
-  -- the guard allows the store of a row of the plan
+  -- the guard allows the store of a row of the plan, where another one stands
   pub may_store_row : (index value : ℕ) → index < length (rows_after plan) → value ≡ slice_index (rows_after plan) index
-      → IsAllowed HasHistory Allowed note seat held pass (stores (3 + index) value)
-  may_store_row index value lt is grants words passes m there small = (
-    after_store index value pass,
-    (
-      here_at grants words passes seat held pass m,
-      may_write words (3 + index) value (after_store index value pass) (store_row index lt refl is refl),
-    ),
-  )
+      → IsNewRow pass index value → IsAllowed HasHistory Allowed note seat held pass (stores (3 + index) value)
+  may_store_row index value lt is new grants words passes m there small =
+      let here = here_at grants words passes seat held pass m in (
+        after_store index value pass,
+        (
+          here,
+          may_write words (3 + index) value (after_store index value pass) (store_row index lt refl is refl)
+              (new_row grants words passes here refl index value new),
+        ),
+      )
 
-  -- and the store of how many rows it has
-  pub may_store_count : (value : ℕ) → value ≡ length (rows_after plan) → IsAllowed HasHistory Allowed note seat held pass (stores 2 value)
-  may_store_count value is grants words passes m there small = (
-    after_count value pass,
-    (
-      here_at grants words passes seat held pass m,
-      may_write words 2 value (after_count value pass) (store_count refl is refl),
-    ),
-  )
+  -- and the store of how many rows it has, where there are more or fewer
+  pub may_store_count : (value : ℕ) → value ≡ length (rows_after plan) → ((stood : ℕ) × (pass.count ≡ Some stood) × (stood ≢ value))
+      → IsAllowed HasHistory Allowed note seat held pass (stores 2 value)
+  may_store_count value is new grants words passes m there small =
+      let here = here_at grants words passes seat held pass m in (
+        after_count value pass,
+        (
+          here,
+          may_write words 2 value (after_count value pass) (store_count refl is refl)
+              (λ used same. new.2 (sym (count_stands grants words passes here refl new.0 new.1) ∙ same)),
+        ),
+      )
 
   -- the rows that are written show the last state
   written_shows : (grants : Grants) (words : List ℕ) (passes : List Pass) (here : Here grants words passes seat)
       → here.pass ≡ pass → HasRows pass (rows_after plan) → RowsShow words (kind_at here.state)
   written_shows grants words passes here same has =
-      let part = here.running.parts seat here.pass here.own in
       let backed = here.backed seat here.pass here.own in
       let backs : Backs grants here.state seat (Planned plan) =
       subst (Backs grants here.state seat) (ap (λ (x : Pass). x.pending) same ∙ planned) backed.pending in
       let shows = backs.1 in
-      let stood : All (StillStands (Some everything) words) here.pass.rows = backed.rows (Some everything) backs.0 in
-      let count : slice_index words 2 ≡ length (rows_after plan) = part.count (length (rows_after plan)) (ap (λ (x : Pass). x.count) same ∙ has.0) in
+      let count : slice_index words 2 ≡ length (rows_after plan) = count_stands grants words passes here same (length (rows_after plan)) has.0 in
       let fits = rows_fit here.start here.history here.state words passes here.running in
       let long = plan_length (rows_after plan) here.state here.running.in_order shows in
       let few = shows.few in
       let rows : rows_in words ≡ rows_after plan = rows_known words (rows_after plan) (omega arith) count
-      (λ i lt. (stands (Some everything) words here.pass.rows i (slice_index (rows_after plan) i) stood
-      (subst (λ (x : Pass). HasRead x.rows i (slice_index (rows_after plan) i)) (sym same) (has.1 i lt))).word refl) in
+      (λ i lt. row_stands grants words passes here same i (slice_index (rows_after plan) i) (has.1 i lt)) in
       record {
         room = omega arith;
         some = let s = shows.some in omega arith;
@@ -90,6 +115,10 @@ module _ (note : Note) (seat : ℕ) (held : Option Held) (pass : Pass) (plan : S
       let here = here_at grants words passes seat held pass m in
       (after_raise pass, (refl, here, raise plan refl planned (written_shows grants words passes here refl has) refl))
 
+-- a row that is new stays so when one is read
+pub still_new : (pass : Pass) (index word place value : ℕ) → IsNewRow pass place value → IsNewRow (after_row index word pass) place value
+still_new pass index word place value new = (new.0, new.1, λ lt. let row = new.2 lt in (row.0, inr row.1, row.2))
+
 -- what a store tells of the pass
 row_after : (plan : List ℕ) (index value : ℕ) (p after : Pass) → MayStore plan (3 + index) value p after → after ≡ after_store index value p
 row_after plan index value p after (store_row i lt e v is) = let same : i ≡ index = omega arith in is ∙ (λ k. after_store (same k) value p)
@@ -102,7 +131,7 @@ count_after plan value p after (store_count e v is) = is
 -- a caller with a plan makes the stores of that plan
 of_plan : (words : List ℕ) (pending : Pending) (plan : Splice) (place value : ℕ) (p after : Pass) → pending ≡ Planned plan
     → MayWrite words pending place value p after → MayStore (rows_after plan) place value p after
-of_plan words pending plan place value p after is may = subst (λ (q : Pending). MayWrite words q place value p after) is may
+of_plan words pending plan place value p after is may = (subst (λ (q : Pending). MayWrite words q place value p after) is may).0
 
 step_of : (s u : SeatState Pass) (place : ℕ) (p : Pass) → IsClientCall s place u → u.pass ≡ p → IsClientStep s place p u
 step_of s u place p call is = record {
@@ -201,12 +230,14 @@ no_writing a = record {
   taken = omega arith;
 }
 
-step_more : (a b : SeatState Pass) (place : ℕ) (p : Pass) → IsClientStep a place p b → a.trace.taken ≤ b.trace.taken
-step_more a b place p s = let l : b.trace.taken ≡ a.trace.taken + 1 = ap (λ (r : Record). r.taken) s.trace in omega arith
+-- a pass that knows another row count and other rows
+abbrev knows : Option ℕ → List ReadRow → Pass → Pass
+knows count rows p = record p { count = count; rows = rows }
 
--- the store of a row is a writing
-pub store_writes : (a b : SeatState Pass) (index value : ℕ) → IsClientStep a (3 + index) (after_store index value a.pass) b → IsWriting a b
-store_writes a b index value s = record {
+-- a step after which the caller knows these is a writing
+step_writes : (a b : SeatState Pass) (place : ℕ) (count : Option ℕ) (rows : List ReadRow) → IsClientStep a place (knows count rows a.pass) b
+    → IsWriting a b
+step_writes a b place count rows s = record {
   table = s.table;
   number = s.number;
   held = s.held;
@@ -220,8 +251,20 @@ store_writes a b index value s = record {
   drew = ap (λ (x : Pass). x.drew) s.pass;
   looks = ap (λ (x : Pass). x.looks) s.pass;
   pending = ap (λ (x : Pass). x.pending) s.pass;
-  taken = step_more a b (3 + index) (after_store index value a.pass) s;
+  taken = let l : b.trace.taken ≡ a.trace.taken + 1 = ap (λ (r : Record). r.taken) s.trace in omega arith;
 }
+
+-- so is the store of a row
+pub store_writes : (a b : SeatState Pass) (index value : ℕ) → IsClientStep a (3 + index) (after_store index value a.pass) b → IsWriting a b
+store_writes a b index value s = step_writes a b (3 + index) a.pass.count _ s
+
+-- the load of one
+pub load_writes : (a b : SeatState Pass) (index value : ℕ) → IsClientStep a (3 + index) (after_row index value a.pass) b → IsWriting a b
+load_writes a b index value s = step_writes a b (3 + index) a.pass.count _ s
+
+-- and the store of the row count
+pub count_writes : (a b : SeatState Pass) (value : ℕ) → IsClientStep a 2 (after_count value a.pass) b → IsWriting a b
+count_writes a b value s = step_writes a b 2 _ a.pass.rows s
 
 -- a caller that has its plan to write has a seat that has it
 pub may_write_plan : (table : TableId) (v : CallerView) (s : CallerView) → s ≡ v → v.seat.table ≡ table → v.seat.held ≡ Some everything
@@ -241,25 +284,6 @@ may_write_plan table v s same is held has =
       fits = subst (λ (p : Splice). length (rows_after p) ≤ room_of v.seat.table) (sym plan) has.fits;
     })
 
--- so is the load of one
-pub load_writes : (a b : SeatState Pass) (index value : ℕ) → IsClientStep a (3 + index) (after_row index value a.pass) b → IsWriting a b
-load_writes a b index value s = record {
-  table = s.table;
-  number = s.number;
-  held = s.held;
-  pools = s.pools;
-  further = s.further;
-  start = ap (λ (x : Pass). x.start) s.pass;
-  room = ap (λ (x : Pass). x.room) s.pass;
-  most = ap (λ (x : Pass). x.most) s.pass;
-  seen = ap (λ (x : Pass). x.seen) s.pass;
-  mine = ap (λ (x : Pass). x.mine) s.pass;
-  drew = ap (λ (x : Pass). x.drew) s.pass;
-  looks = ap (λ (x : Pass). x.looks) s.pass;
-  pending = ap (λ (x : Pass). x.pending) s.pass;
-  taken = step_more a b (3 + index) (after_row index value a.pass) s;
-}
-
 -- a seat that has a splice to write has it still after steps of writing
 pub writes_on : (table : TableId) (a b : SeatState Pass) → WritesPlan table a → IsWriting a b → WritesPlan table b
 writes_on table a b p w =
@@ -275,25 +299,6 @@ writes_on table a b p w =
       few = subst (λ (x : Splice). length (rows_after x) ≤ ROWS) (sym same) p.few;
       fits = subst (λ (z : Splice × TableId). length (rows_after z.0) ≤ room_of z.1) (λ i. (sym same i, sym w.table i)) p.fits;
     }
-
--- so is the store of the row count
-pub count_writes : (a b : SeatState Pass) (value : ℕ) → IsClientStep a 2 (after_count value a.pass) b → IsWriting a b
-count_writes a b value s = record {
-  table = s.table;
-  number = s.number;
-  held = s.held;
-  pools = s.pools;
-  further = s.further;
-  start = ap (λ (x : Pass). x.start) s.pass;
-  room = ap (λ (x : Pass). x.room) s.pass;
-  most = ap (λ (x : Pass). x.most) s.pass;
-  seen = ap (λ (x : Pass). x.seen) s.pass;
-  mine = ap (λ (x : Pass). x.mine) s.pass;
-  drew = ap (λ (x : Pass). x.drew) s.pass;
-  looks = ap (λ (x : Pass). x.looks) s.pass;
-  pending = ap (λ (x : Pass). x.pending) s.pass;
-  taken = step_more a b 2 (after_count value a.pass) s;
-}
 
 -- all is written where the sequence word is raised behind the rows
 pub all_written : (a b c : SeatState Pass) → IsWriting a b → IsClientStep b 1 (after_raise b.pass) c → IsWritten a c

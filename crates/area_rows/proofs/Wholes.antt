@@ -14,16 +14,16 @@ use Rattle.space_model.specs.Answers.Answers.{by_arguments}
 use Rattle.space_model.specs.Held.{FitsByState}
 use Rattle.range_rw.specs.Contract.{SeatState, IsLockCall, IsRelease}
 use Rattle.range_rw.specs.Contract.{Record}
-use Rattle.area_rows.specs.declared.guard.Pass.{Pass}
-use Rattle.area_rows.specs.declared.guard.Pending.{Pending}
+use Rattle.area_guard.specs.declared.guard.Pass.{Pass}
+use Rattle.area_guard.specs.declared.guard.Pending.{Pending}
 use Rattle.row_plans.specs.RowLists.{areas_from}
 use Rattle.space_model.specs.Areas.{kind_at}
 use Rattle.row_plans.specs.Plans.{PlanShows, spliced, IsPlan}
 use Rattle.page_types.specs.Classes.{IsFault}
-use Rattle.area_rows.specs.Rows.{rows_in}
-use Rattle.area_rows.specs.Reads.{everything, known_rows, KnowsRows, StillStands}
-use Rattle.area_rows.specs.History.{StartsWith, Runs, RowsStandFor, IsAtRest, HoldsFor, rest_of}
-use Rattle.area_rows.specs.Writes.{everything_pages}
+use Rattle.area_guard.specs.Rows.{rows_in}
+use Rattle.area_guard.specs.Reads.{everything, known_rows, KnowsRows, StillStands}
+use Rattle.area_guard.specs.History.{StartsWith, Runs, RowsStandFor, IsAtRest, HoldsFor, rest_of}
+use Rattle.area_guard.specs.Writes.{everything_pages}
 use Rattle.area_rows.specs.Callers.{CallerView, IsMoment, MayNumber, IsKnown, HasPlanned, IsReading, IsNumbered, IsDrawn, IsWritten}
 use Rattle.area_rows.specs.Called.{IsLastStep, IsCalled}
 use Rattle.area_rows.proofs.Moments.{stands, nobody_plans, rows_known, rows_are}

@@ -15,9 +15,9 @@ use Rattle.space_model.specs.Held.{kind_before, IsSimple}
 use Rattle.space_model.specs.Laws.{FourCases}
 use Rattle.area_rows.specs.declared.area.AreaPlan.{AreaPlan}
 use Rattle.area_rows.specs.declared.area.AreaPlan.TheVariants.{NotSimple, Sealed, Same, SetKind, MoveStart}
-use Rattle.area_rows.specs.declared.guard.Change.{Change}
+use Rattle.area_guard.specs.declared.guard.Change.{Change}
 use Rattle.area_rows.specs.declared.row.Row.{Row}
-use Rattle.area_rows.specs.Changes.{IsOneStore}
+use Rattle.area_rows.specs.OneStore.{IsOneStore}
 use Rattle.area_rows.specs.Callers.{CallerView, MayNumber, IsReadRound, Shows}
 
 -- all these pages are mapped with one kind

@@ -8,10 +8,10 @@ use Rattle.space_model.specs.declared.entries.Entry.{Entry}
 use Rattle.space_model.specs.declared.entries.Under.{Under}
 use Rattle.space_model.specs.declared.entries.Under.TheVariants.{Nothing, Reader, Area, Whole}
 use Rattle.range_rw.specs.Contract.{SeatState}
-use Rattle.area_rows.specs.declared.guard.Pass.{Pass}
+use Rattle.area_guard.specs.declared.guard.Pass.{Pass}
 use Rattle.area_rows.specs.declared.answer.Answer.{Answer}
 use Rattle.area_rows.specs.declared.answer.Answer.TheVariants.{Given, Spent}
-use Rattle.area_rows.specs.History.{IsAtRest}
+use Rattle.area_guard.specs.History.{IsAtRest}
 use Rattle.area_rows.specs.Callers.{CallerView, IsNumbered}
 
 -- the client word of a call's last step: the number word; over an area this, or a row word where a row changes; under

@@ -21,25 +21,26 @@ use Rattle.page_types.specs.declared.pages.Span.{Span}
 use Rattle.page_types.specs.declared.calls.Kind.{Kind}
 use Rattle.page_types.specs.Named.{IsNamedKind}
 use Rattle.range_rw.specs.Contract.{SeatState, IsSeatCount, new_seat_in, client_trace}
-use Rattle.area_rows.specs.declared.guard.Change.{Change}
-use Rattle.area_rows.specs.declared.guard.ReadRow.{ReadRow}
-use Rattle.area_rows.specs.declared.guard.Pass.{Pass}
-use Rattle.area_rows.specs.declared.guard.Pending.{Pending}
-use Rattle.area_rows.specs.declared.guard.Splice.{Splice}
-use Rattle.area_rows.specs.declared.guard.Pending.TheVariants.{AtRest, Planned, OneRow}
+use Rattle.area_guard.specs.declared.guard.Change.{Change}
+use Rattle.area_guard.specs.declared.guard.ReadRow.{ReadRow}
+use Rattle.area_guard.specs.declared.guard.Pass.{Pass}
+use Rattle.area_guard.specs.declared.guard.Pending.{Pending}
+use Rattle.area_guard.specs.declared.guard.Splice.{Splice}
+use Rattle.area_guard.specs.declared.guard.Pending.TheVariants.{AtRest, Planned, OneRow}
 use Rattle.area_rows.specs.declared.row.Row.{Row}
 use Rattle.area_rows.specs.declared.space.SpaceFault.{SpaceFault}
 use Rattle.area_rows.specs.declared.space.SpaceFault.TheVariants.{Callers, Rows, Memory}
 use Rattle.row_plans.specs.RowWords.{row_start, row_kind}
 use Rattle.row_plans.specs.RowLists.{rows_start, rows_from}
-use Rattle.area_rows.specs.Rows.{IsRowOf, room_of, rows_in}
+use Rattle.area_guard.specs.Rows.{IsRowOf, room_of, rows_in}
 use Rattle.row_plans.specs.declared.planning.Cut.{Cut}
 use Rattle.row_plans.specs.Plans.{IsRowList, spliced, IsPlan}
-use Rattle.area_rows.specs.Reads.{everything, IsHeldPage, HasRead, known_rows, KnowsRows}
-use Rattle.area_rows.specs.Changes.{alone, IsOneStore, IsRound}
-use Rattle.area_rows.specs.History.{Runs, StartsWith, entries_of, HasNamedReplies, whole_count, planned_calls}
-use Rattle.area_rows.specs.History.{IsRunningSpace, AreBacked, HasPages, HoldsFor, IsAtRest, IsRight, Leaves, FitsIn, pending_of}
-use Rattle.area_rows.specs.History.{after_look, after_seen, rows_after}
+use Rattle.area_guard.specs.Reads.{everything, IsHeldPage, HasRead, known_rows, KnowsRows}
+use Rattle.area_guard.specs.Changes.{alone}
+use Rattle.area_rows.specs.OneStore.{IsOneStore, IsRound}
+use Rattle.area_guard.specs.History.{Runs, StartsWith, entries_of, HasNamedReplies, whole_count, planned_calls}
+use Rattle.area_guard.specs.History.{IsRunningSpace, AreBacked, HasPages, HoldsFor, IsAtRest, IsRight, Leaves, FitsIn, pending_of}
+use Rattle.area_guard.specs.History.{after_look, after_seen, rows_after}
 
 -- a caller: its seat in the lock's table, whose pass is what it knows of the space; how many numbers it may still draw;
 -- how many rows there were at its last plan, which of them go by it, and which come in their place; and the row that

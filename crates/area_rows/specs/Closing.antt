@@ -6,10 +6,10 @@ use lib.ListN.{get_elem?}
 use Rattle.page_types.specs.declared.TheConstants.{SPARE}
 use Rattle.space_model.specs.declared.entries.Entry.{Entry}
 use Rattle.range_rw.specs.Contract.{SeatState}
-use Rattle.area_rows.specs.declared.guard.Pass.{Pass}
+use Rattle.area_guard.specs.declared.guard.Pass.{Pass}
 use Rattle.area_rows.specs.declared.close.Kept.{Kept}
-use Rattle.area_rows.specs.Rows.{room_of}
-use Rattle.area_rows.specs.History.{entry_count, IsAtRest}
+use Rattle.area_guard.specs.Rows.{room_of}
+use Rattle.area_guard.specs.History.{entry_count, IsAtRest}
 use Rattle.area_rows.specs.Callers.{CallerView, IsHeldPages}
 
 -- each of these entries stands in the history at the place of its number

@@ -3,9 +3,9 @@
 -- `StillStands`). So the search rests on two rows that were read, one on each side, and no two rows need have been read
 -- at one moment. The definitions are this project's own; nobody but the search of `row_of` speaks of them.
 use Rattle.std.specs.Prelude.{ℕ, ◌≡◌, ◌<◌, ◌≤◌, ◌+◌, ◌⊎◌, ◌↔◌, List}
-use Rattle.area_rows.specs.declared.guard.ReadRow.{ReadRow}
+use Rattle.area_guard.specs.declared.guard.ReadRow.{ReadRow}
 use Rattle.row_plans.specs.RowWords.{row_start}
-use Rattle.area_rows.specs.Reads.{HasRead}
+use Rattle.area_guard.specs.Reads.{HasRead}
 
 -- the word of a row starts on the same side of the page as each word that was read of that row before
 abbrev pub IsOnSameSide : List ReadRow → ℕ → ℕ → ℕ → Type 0

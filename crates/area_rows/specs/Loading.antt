@@ -5,9 +5,9 @@ use Rattle.std.proofs.Common.{◌≡◌, ℕ, ◌≤◌, length, sym, refl, ap, 
 use Rattle.atomic_table.specs.Seated.{TableId}
 use Rattle.range_rw.specs.Contract.{SeatState}
 use Rattle.row_plans.specs.Plans.{IsRowList}
-use Rattle.area_rows.specs.declared.guard.Pass.{Pass}
-use Rattle.area_rows.specs.Rows.{room_of}
-use Rattle.area_rows.specs.Reads.{known_rows}
+use Rattle.area_guard.specs.declared.guard.Pass.{Pass}
+use Rattle.area_guard.specs.Rows.{room_of}
+use Rattle.area_guard.specs.Reads.{known_rows}
 use Rattle.area_rows.specs.Callers.{KeepsRead, IsReading, HasLoaded, MayLoadAll}
 
 -- what was read stays read

@@ -4,17 +4,17 @@
 -- is left to be written (`IsWritten` of `Callers`), and the number of steps.
 use Rattle.std.specs.Prelude.{ℕ, zero, suc, Some, ◌≡◌, ◌≢◌, ◌<◌, ◌≤◌, ◌+◌, ◌-◌, ◌==◌, ◌&&◌, min, nat_lt, if◌then◌else◌, List, [], length, slice_index}
 use Rattle.range_rw.specs.Contract.{SeatState}
-use Rattle.area_rows.specs.declared.guard.ReadRow.{ReadRow}
-use Rattle.area_rows.specs.declared.guard.Pass.{Pass}
-use Rattle.area_rows.specs.declared.guard.Splice.{Splice}
+use Rattle.area_guard.specs.declared.guard.ReadRow.{ReadRow}
+use Rattle.area_guard.specs.declared.guard.Pass.{Pass}
+use Rattle.area_guard.specs.declared.guard.Splice.{Splice}
 use Rattle.row_plans.specs.Plans.{IsRowList}
-use Rattle.area_rows.specs.History.{rows_after}
-use Rattle.area_rows.specs.Reads.{everything, HasRead}
-use Rattle.area_rows.specs.Rows.{room_of}
+use Rattle.area_guard.specs.History.{rows_after}
+use Rattle.area_guard.specs.Reads.{everything, HasRead}
+use Rattle.area_guard.specs.Rows.{room_of}
 use Rattle.page_types.specs.declared.TheConstants.{ROWS}
 use Rattle.atomic_table.specs.Seated.{TableId}
-use Rattle.area_rows.specs.declared.guard.Pending.{Pending}
-use Rattle.area_rows.specs.declared.guard.Pending.TheVariants.{AtRest, Planned, OneRow}
+use Rattle.area_guard.specs.declared.guard.Pending.{Pending}
+use Rattle.area_guard.specs.declared.guard.Pending.TheVariants.{AtRest, Planned, OneRow}
 
 -- where the rows that stay behind a splice begin then
 abbrev pub moved_to : Splice → ℕ
@@ -47,17 +47,20 @@ pub record WritesPlan (table : TableId) (seat : SeatState Pass) : Type 0 where
   pub few : length (rows_after (plan_at seat)) ≤ ROWS
   pub fits : length (rows_after (plan_at seat)) ≤ room_of seat.table
 
--- rows move up: those from a number on stand at their new places, and the others as they stood
+-- a row word is new at its place, as its caller knows: where there are so many rows, another word was read there
+abbrev pub IsNewRow : Pass → ℕ → ℕ → Type 0
+IsNewRow pass index value = (count : ℕ) × (pass.count ≡ Some count) × (index < count → (word : ℕ) × HasRead pass.rows index word × (word ≢ value))
+
+-- rows move up: those from a number on stand at their new places, and at each place below these what stood there
 pub record IsRaised (rows : List ReadRow) (plan : Splice) (index : ℕ) : Type 0 where
   pub moved : (i : ℕ) → index ≤ i → i < length plan.old → HasRead rows (i - plan.end + moved_to plan) (slice_index plan.old i)
-  pub others : (i : ℕ) → i < index → HasRead rows i (slice_index plan.old i)
-  pub before : (i : ℕ) → i < moved_to plan → i < length plan.old → HasRead rows i (slice_index plan.old i)
+  pub others : (i : ℕ) → i < index - plan.end + moved_to plan → i < length plan.old → HasRead rows i (slice_index plan.old i)
 
--- rows move down: those from the end of the splice up to a number stand at their new places, and the others as they
--- stood
+-- rows move down: those from the end of the splice up to a number stand at their new places, and at each place behind
+-- and before these what stood there
 pub record IsLowered (rows : List ReadRow) (plan : Splice) (index : ℕ) : Type 0 where
   pub moved : (i : ℕ) → plan.end ≤ i → i < index → HasRead rows (i - plan.end + moved_to plan) (slice_index plan.old i)
-  pub others : (i : ℕ) → index ≤ i → i < length plan.old → HasRead rows i (slice_index plan.old i)
+  pub others : (i : ℕ) → index - plan.end + moved_to plan ≤ i → i < length plan.old → HasRead rows i (slice_index plan.old i)
   pub before : (i : ℕ) → i < moved_to plan → HasRead rows i (slice_index plan.old i)
 
 -- a row was loaded and stored at another place: it stands there, and every other row as it stood

@@ -9,15 +9,16 @@ ghost use Rattle.page_types.specs.declared.calls.Call.TheVariants.{Protect};
 ghost use Rattle.page_types.specs.Named.{IsNamedCall, IsNamedKind};
 ghost use Rattle.page_types.specs.Pages.{page_of, end_page};
 ghost use Rattle.page_types.specs.PlainReply.{plain_reply};
-ghost use Rattle.area_rows.specs.Rows.{room_of};
-ghost use Rattle.area_rows.specs.Changes.{alone, IsRound};
-ghost use Rattle.area_rows.specs.History.{IsAtRest};
+ghost use Rattle.area_guard.specs.Rows.{room_of};
+ghost use Rattle.area_guard.specs.Changes.{alone};
+ghost use Rattle.area_rows.specs.OneStore.{IsRound};
+ghost use Rattle.area_guard.specs.History.{IsAtRest};
 ghost use Rattle.area_rows.specs.Callers.{IsAsRead, IsReadBefore, IsReadBehind, IsReading, RowIs, Shows};
 ghost use Rattle.area_rows.specs.AreaPlans.{IsChosen, IsAreaPlan, planned_change};
 
-use crate::guard::Change;
 use crate::row::Row;
 use crate::space::{Caller, Space};
+use area_guard::Change;
 use page_types::{Kind, Prot, Reply, Span, Why};
 use row_plans::read_row;
 

@@ -2,15 +2,16 @@
 //! history at the pages of the call, which no other caller holds; so readers beside them notice nothing. A reader may
 //! rely on the rows showing the state again afterwards.
 ghost use Rattle.std.specs.Prelude.{◌≡◌, ◌+◌, Some};
-ghost use Rattle.area_rows.specs.declared.guard.Change.{Change};
-ghost use Rattle.area_rows.specs.declared.guard.Pending.TheVariants.{OneRow};
-ghost use Rattle.area_rows.specs.Changes.{new_word};
-ghost use Rattle.area_rows.specs.History.{after_change};
+ghost use Rattle.area_guard.specs.declared.guard.Change.{Change};
+ghost use Rattle.area_guard.specs.declared.guard.Pending.TheVariants.{OneRow};
+ghost use Rattle.area_guard.specs.Changes.{new_word};
+ghost use Rattle.area_guard.specs.History.{after_change};
 ghost use Rattle.area_rows.specs.Callers.{HasSameRows, HasToStore, IsClientStep, IsReadRound, IsStoredRow};
 
-use crate::guard::{By, RowGuard};
+use crate::noted::By;
 use crate::space::{Caller, Space};
 use crate::words::FIRST_ROW;
+use area_guard::RowGuard;
 use page_types::Kind;
 use range_rw::Seat;
 use row_plans::write_row;

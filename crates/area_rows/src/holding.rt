@@ -4,7 +4,7 @@ ghost use Rattle.std.specs.Prelude.{◌≡◌, ◌≤◌, ◌+◌, ◌*◌, ◌�
 ghost use Rattle.list_cuts.specs.Cut.{list_count};
 ghost use Rattle.range_rw.specs.Contract.{IsLockCall, IsRelease, IsCause, IsLongRefusal, IsReadyLeft, IsSpentIn, pools_at};
 ghost use Rattle.range_rw.specs.Several.{TakesAlone};
-ghost use Rattle.area_rows.specs.History.{rest_of, IsAtRest};
+ghost use Rattle.area_guard.specs.History.{rest_of, IsAtRest};
 ghost use Rattle.area_rows.specs.Callers.{held_span};
 
 use crate::space::{Caller, Space};

@@ -1,8 +1,7 @@
 //! The rows of a running address space in atomic words, under the guard of the range lock, and its one history.
 //! Callers on many threads read rows, draw numbers and change rows, each under the range that it holds; taken by
 //! number, their calls are a legal history of the one-thread address space of `space_model`. A reader may rely on the
-//! definitions of `specs/History.antt`, which hold between any two steps, and on what `close` gives: that history,
-//! whole.
+//! rule of `area_guard`, which holds between any two steps, and on what `close` gives: that history, whole.
 #![tactic(auto)]
 
 mod answer;
@@ -10,9 +9,8 @@ mod area;
 mod change;
 mod close;
 mod collect;
-mod guard;
 mod holding;
-mod laws;
+mod noted;
 mod opening;
 mod row;
 mod rows;
@@ -25,9 +23,11 @@ mod writing;
 
 pub use answer::Answer;
 pub use area::AreaPlan;
+pub use area_guard::{
+    Change, Look, Note, Pass, Pending, ReadRow, RowGuard, Splice, count_is_of_everything,
+    draws_hold, history_is_stored, runs_are_legal, stores_are_new,
+};
 pub use close::{Closed, SpaceCloseRefused};
-pub use guard::{Change, Look, Note, Pass, Pending, ReadRow, RowGuard, Splice};
-pub use laws::{count_is_of_everything, draws_hold, history_is_stored, runs_are_legal};
 pub use row::Row;
 pub use row_plans::{Cut, Planned};
 pub use scan::SpaceScan;

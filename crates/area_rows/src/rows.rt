@@ -4,10 +4,10 @@
 ghost use Rattle.std.specs.Prelude.{◌≡◌, ◌<◌, ◌≤◌, ◌+◌, ◌^◌, Some};
 ghost use Rattle.page_types.specs.declared.TheConstants.{LIMIT, ROWS, SEARCH};
 ghost use Rattle.page_types.specs.Named.{IsNamedOption};
-ghost use Rattle.area_rows.specs.History.{IsAtRest};
+ghost use Rattle.area_guard.specs.History.{IsAtRest};
 ghost use Rattle.area_rows.specs.Halving.{IsAmong};
-ghost use Rattle.area_rows.specs.Rows.{room_of};
-ghost use Rattle.area_rows.specs.Reads.{IsHeldPage};
+ghost use Rattle.area_guard.specs.Rows.{room_of};
+ghost use Rattle.area_guard.specs.Reads.{IsHeldPage};
 ghost use Rattle.area_rows.specs.Callers.{HasSameRows, IsHeldPages, IsReading, IsAsRead, RowIs, Shows};
 
 use crate::row::Row;

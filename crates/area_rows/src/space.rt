@@ -3,7 +3,7 @@
 //! one thread to another; all memory is taken when the space is opened and when it is closed.
 ghost use Rattle.std.specs.Prelude.{◌≡◌, ◌≤◌, ◌<◌, ◌+◌, ◌^◌, vec_len, vec_capacity};
 
-use crate::guard::{Change, RowGuard};
+use area_guard::{Change, RowGuard};
 use page_types::{LIMIT, ROWS};
 use range_rw::{RangeTable, Seat};
 use row_plans::Cut;
@@ -46,7 +46,7 @@ pub struct Space {
 impl Model for Space {
     ghost use Rattle.std.specs.Prelude.{◌≡◌, ◌+◌};
     ghost use Rattle.range_rw.specs.Contract.{TableShape};
-    ghost use Rattle.area_rows.specs.Rows.{room_of};
+    ghost use Rattle.area_guard.specs.Rows.{room_of};
 
     ghost Value = { TableShape };
 
@@ -76,8 +76,8 @@ pub struct Caller {
 impl Model for Caller {
     ghost use Rattle.std.specs.Prelude.{◌≡◌, ◌+◌, ◌≤◌, ◌<◌, ◌^◌, None, vec_len, vec_capacity};
     ghost use Rattle.page_types.specs.declared.TheConstants.{ROWS, SPARE};
-    ghost use Rattle.area_rows.specs.Rows.{room_of};
-    ghost use Rattle.area_rows.specs.History.{IsAtRest};
+    ghost use Rattle.area_guard.specs.Rows.{room_of};
+    ghost use Rattle.area_guard.specs.History.{IsAtRest};
     ghost use Rattle.area_rows.specs.Callers.{CallerView, IsHeldPages};
 
     ghost Value = { CallerView };
@@ -93,7 +93,7 @@ impl Model for Caller {
 impl Caller {
     ghost use Rattle.std.specs.Prelude.{◌≡◌, None};
     ghost use Rattle.page_types.specs.declared.TheConstants.{LIMIT};
-    ghost use Rattle.area_rows.specs.History.{IsAtRest};
+    ghost use Rattle.area_guard.specs.History.{IsAtRest};
     ghost use Rattle.area_rows.specs.Callers.{IsHeldBelow, IsHeldPages};
 
     /// That a range which the caller holds has a page, and pages alone, and that a caller which holds nothing has

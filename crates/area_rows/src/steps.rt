@@ -1,25 +1,26 @@
 //! The steps by which a caller reads client words and draws a number: it loads the number word, the sequence word, the
 //! row count or a row, or adds 1 to the number word. Each is one atomic step, made at a moment of the running space,
 //! and a reader may rely on what it says being so at that moment. Which steps may be made is this project's own:
-//! `Allowed` of `specs/History.antt`.
+//! `Allowed` of `area_guard`.
 ghost use Rattle.std.specs.Prelude.{ℕ, List, ◌≡◌, ◌<◌, ◌≤◌, ◌+◌, ◌^◌, IsSome, Some, length};
 ghost use Rattle.page_types.specs.declared.TheConstants.{LIMIT, ROWS};
 ghost use Rattle.page_types.specs.Named.{IsNamedCall, IsNamedReply};
 ghost use Rattle.page_types.specs.declared.pages.Span.{Span};
 ghost use Rattle.space_model.specs.declared.areas.Area.{Area};
-ghost use Rattle.area_rows.specs.declared.guard.Change.{Change};
+ghost use Rattle.area_guard.specs.declared.guard.Change.{Change};
 ghost use Rattle.space_model.specs.declared.entries.Under.TheVariants.{Area as OverArea, Whole};
 ghost use Rattle.row_plans.specs.RowWords.{row_start};
 ghost use Rattle.area_rows.specs.Halving.{IsOnSameSide};
-ghost use Rattle.area_rows.specs.Rows.{room_of};
-ghost use Rattle.area_rows.specs.Reads.{everything, HasRead, IsHeldPage};
-ghost use Rattle.area_rows.specs.History.{HoldsFor, IsAtRest, IsRight, Leaves, pending_of, after_row, entry_note};
+ghost use Rattle.area_guard.specs.Rows.{room_of};
+ghost use Rattle.area_guard.specs.Reads.{everything, HasRead, IsHeldPage};
+ghost use Rattle.area_guard.specs.History.{HoldsFor, IsAtRest, IsRight, Leaves, pending_of, after_row, entry_note};
 ghost use Rattle.area_rows.specs.Callers.{HasSameRows, splice_of, plan_of, IsKnown, HasToWrite, HasToStore, IsReadRound, CountsWhole, IsReading, IsCounted};
 ghost use Rattle.area_rows.specs.Callers.{IsClientStep, IsLook, IsDrawn, MayNumber, Shows};
 
-use crate::guard::{By, Change, Noted, RowGuard};
+use crate::noted::{By, Noted};
 use crate::space::{Caller, Space};
 use crate::words::{FIRST_ROW, NUMBER, ROW_COUNT, SEQUENCE};
+use area_guard::{Change, RowGuard};
 use page_types::{Call, Reply};
 use range_rw::Seat;
 use row_plans::Cut;

@@ -10,15 +10,15 @@ ghost use Rattle.page_types.specs.PlainReply.{plain_reply};
 ghost use Rattle.space_model.specs.declared.entries.Under.TheVariants.{Whole};
 ghost use Rattle.row_plans.specs.RowLists.{areas_from};
 ghost use Rattle.row_plans.specs.Plans.{spliced, IsPlan};
-ghost use Rattle.area_rows.specs.Reads.{everything, known_rows};
+ghost use Rattle.area_guard.specs.Reads.{everything, known_rows};
 ghost use Rattle.page_types.specs.Classes.{IsFault};
-ghost use Rattle.area_rows.specs.History.{IsAtRest};
+ghost use Rattle.area_guard.specs.History.{IsAtRest};
 ghost use Rattle.area_rows.specs.Callers.{HasPlanned, IsKnown, IsReading, MayLoadAll};
 ghost use Rattle.area_rows.specs.Called.{IsAnswered, IsCalled};
 
 use crate::answer::Answer;
-use crate::guard::RowGuard;
 use crate::space::{Caller, Space};
+use area_guard::RowGuard;
 use lock_core::Mode;
 use page_types::{Call, LIMIT, Reply, Span, plain};
 use range_rw::Seat;
@@ -34,7 +34,7 @@ struct AllRows<'a> {
 }
 
 impl<'a> Rows for AllRows<'a> {
-    ghost use Rattle.area_rows.specs.Reads.{known_rows};
+    ghost use Rattle.area_guard.specs.Reads.{known_rows};
     ghost use Rattle.area_rows.specs.Callers.{HasLoaded, MayLoadAll};
     ghost use Rattle.area_rows.specs.Loading.{no_load_all, loads_on_all, same_known};
 

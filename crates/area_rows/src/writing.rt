@@ -4,36 +4,39 @@
 //! is raised. Rows before the splice aren't looked at, and nothing is copied beside. Only the caller that has the plan
 //! stores rows, and nobody else reads them meanwhile; a reader may rely on the rows showing the last state again when
 //! the sequence word is raised.
-ghost use Rattle.std.specs.Prelude.{◌≡◌, ◌≤◌, ◌<◌, ◌+◌, ◌*◌, ◌-◌, Some, length, slice_index};
-ghost use Rattle.area_rows.specs.Reads.{HasRead, HasRows};
-ghost use Rattle.area_rows.specs.History.{rows_after, after_count, after_store, after_raise};
+ghost use Rattle.std.specs.Prelude.{ℕ, ◌≡◌, ◌≢◌, ◌≤◌, ◌<◌, ◌+◌, ◌*◌, ◌-◌, Some, length, slice_index};
+ghost use Rattle.area_guard.specs.Reads.{HasRead, HasRows};
+ghost use Rattle.area_guard.specs.History.{rows_after, after_count, after_store, after_raise};
 ghost use Rattle.area_rows.specs.Callers.{HasSameRows, HasToWrite, IsClientStep, IsWritten, plan_of, splice_of};
-ghost use Rattle.area_rows.specs.Writing.{IsRaised, IsLowered, IsLaid, HasMoved, IsWriting, WritesPlan, plan_at};
+ghost use Rattle.area_rows.specs.Writing.{IsNewRow, IsRaised, IsLowered, IsLaid, HasMoved, IsWriting, WritesPlan, plan_at};
 ghost use Rattle.area_rows.specs.Writing.{moved_to, moves_of, look_at, looks_of, steps_of, new_row, new_count, new_rows};
 
-use crate::guard::{By, RowGuard};
+use crate::noted::By;
 use crate::space::{Caller, Space};
 use crate::words::{FIRST_ROW, ROW_COUNT, SEQUENCE};
+use area_guard::RowGuard;
 use range_rw::Seat;
 use row_plans::Cut;
 use std::marker::Brand;
 
 impl Space {
-    /// Stores a row of the plan.
+    /// Stores a row of the plan, where another one stands or none.
     fn store_row(&self, seat: &mut Seat<RowGuard>, index: u32, word: u64)
         requires writes { WritesPlan self.now.table seat.old }
         requires index { index < length (rows_after (plan_at seat.old)) }
         requires word { word ≡ slice_index (rows_after (plan_at seat.old)) index }
+        requires differs { IsNewRow seat.old.pass index word }
         ensures step { IsClientStep seat.old (3 + index) (after_store index word seat.old.pass) seat.new }
     {
         self.table
             .store_as_uncounted::<By<Brand>>(seat, FIRST_ROW + index, word);
     }
 
-    /// Stores the row count of the plan.
+    /// Stores the row count of the plan, where there are more rows or fewer.
     fn store_count(&self, seat: &mut Seat<RowGuard>, count: u32)
         requires writes { WritesPlan self.now.table seat.old }
         requires count { count ≡ length (rows_after (plan_at seat.old)) }
+        requires differs { (stood : ℕ) × (seat.old.pass.count ≡ Some stood) × (stood ≢ count) }
         ensures step { IsClientStep seat.old 2 (after_count count seat.old.pass) seat.new }
     {
         self.table
@@ -56,6 +59,7 @@ impl Space {
         requires there { index < length (plan_at seat.old).old }
         requires place { place ≡ index - (plan_at seat.old).end + moved_to (plan_at seat.old) }
         requires stood { HasRead seat.old.pass.rows index (slice_index (plan_at seat.old).old index) }
+        requires differs { IsNewRow seat.old.pass place (slice_index (plan_at seat.old).old index) }
         ensures moved { HasMoved seat.old.pass.rows index place (slice_index (plan_at seat.old).old index) seat.new.pass.rows }
         ensures writes { WritesPlan self.now.table seat.new }
         ensures count { seat.new.pass.count ≡ seat.old.pass.count }
@@ -71,6 +75,7 @@ impl Space {
     fn raise_tail(&self, seat: &mut Seat<RowGuard>, count: u32, end: u32, to: u32)
         requires writes { WritesPlan self.now.table seat.old }
         requires count { count ≡ length (plan_at seat.old).old }
+        requires counted { seat.old.pass.count ≡ Some count }
         requires end { end ≡ (plan_at seat.old).end }
         requires to { to ≡ moved_to (plan_at seat.old) }
         requires up { end < to }
@@ -92,6 +97,7 @@ impl Space {
     fn lower_tail(&self, seat: &mut Seat<RowGuard>, count: u32, end: u32, to: u32)
         requires writes { WritesPlan self.now.table seat.old }
         requires count { count ≡ length (plan_at seat.old).old }
+        requires counted { seat.old.pass.count ≡ Some count }
         requires end { end ≡ (plan_at seat.old).end }
         requires to { to ≡ moved_to (plan_at seat.old) }
         requires down { to < end }
@@ -113,6 +119,7 @@ impl Space {
     fn lay_row(&self, seat: &mut Seat<RowGuard>, count: u32, index: u32, word: u64)
         requires writes { WritesPlan self.now.table seat.old }
         requires count { count ≡ length (plan_at seat.old).old }
+        requires counted { seat.old.pass.count ≡ Some count }
         requires from { (plan_at seat.old).first ≤ index }
         requires until { index < moved_to (plan_at seat.old) }
         requires word { word ≡ slice_index (rows_after (plan_at seat.old)) index }
@@ -139,6 +146,7 @@ impl Space {
     fn lay_rows(&self, seat: &mut Seat<RowGuard>, count: u32, first: u32, more: &[u64])
         requires writes { WritesPlan self.now.table seat.old }
         requires count { count ≡ length (plan_at seat.old).old }
+        requires counted { seat.old.pass.count ≡ Some count }
         requires first { first ≡ (plan_at seat.old).first }
         requires more { more.now ≡ (plan_at seat.old).more }
         requires laid { IsLaid seat.old.pass.rows (plan_at seat.old) first }

@@ -25,8 +25,8 @@ use Rattle.space_model.proofs.Judgements.{fault_answers}
 use Rattle.lock_core.specs.declared.range.Held.{Held}
 use Rattle.range_rw.specs.Contract.{SeatState, IsRelease, IsReadyLeft, Pools, Record, ready_in, pools_at}
 use Rattle.range_rw.specs.Several.{TakesAlone}
-use Rattle.area_rows.specs.declared.guard.Pass.{Pass}
-use Rattle.area_rows.specs.declared.guard.Pending.TheVariants.{AtRest}
+use Rattle.area_guard.specs.declared.guard.Pass.{Pass}
+use Rattle.area_guard.specs.declared.guard.Pending.TheVariants.{AtRest}
 use Rattle.area_rows.specs.declared.row.Row.{Row}
 use Rattle.area_rows.specs.History.{StartsWith, Runs, IsRight, HoldsFor, rest_of}
 use Rattle.area_rows.specs.Reads.{IsHeldPage}

@@ -7,9 +7,8 @@ use Rattle.std.specs.Prelude.{Bool, true, false, cond}
 use Rattle.space_model.specs.declared.areas.Area.{Area}
 use Rattle.space_model.specs.declared.entries.Entry.{Entry}
 use Rattle.space_model.specs.History.{Chains, StateAfter, IsNumberedFrom}
-use Rattle.space_model.proofs.Histories.{one_state}
+use Rattle.space_model.proofs.Histories.{one_state, runs_more}
 use Rattle.area_rows.specs.History.{Runs, FitsAndReplies, StartsWith, entries_of}
-use Rattle.area_rows.specs.Draws.{runs_more}
 use Rattle.area_rows.specs.Callers.{CallerView}
 use Rattle.area_rows.proofs.Storing.{all_legal}
 use Rattle.trace_threads.specs.declared.worker.Line.{Line}

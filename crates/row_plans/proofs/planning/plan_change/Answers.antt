@@ -236,9 +236,11 @@ returns-in-Some-clause-ordered g c =
     subst (λ (l : List ℕ). StartBefore l second.lo c.put_to-again.result) (next g h.After-put_to-next).same c.put_to-again.ensures.come in
     let came_last : StartBefore words second.hi c.put_to-last.result =
     subst (λ (l : List ℕ). StartBefore l second.hi c.put_to-last.result) (again g h.After-put_to-again).same c.put_to-last.ensures.come in
-    let a = more_before words (kind_at (areas_from words)) first.lo first.hi start c.put_to-next.result list.show rising.1 c.rows_before-start.ensures.before came in
+    let a = more_before words (kind_at (areas_from words)) first.lo first.hi start c.put_to-next.result list.show rising.1
+    c.rows_before-start.ensures.before came in
     let b = more_before words (kind_at (areas_from words)) first.hi second.lo c.put_to-next.result c.put_to-again.result list.show rising.2.0 came came_again in
-    let d = more_before words (kind_at (areas_from words)) second.lo second.hi c.put_to-again.result c.put_to-last.result list.show rising.2.1 came_again came_last in
+    let d = more_before words (kind_at (areas_from words)) second.lo second.hi c.put_to-again.result c.put_to-last.result
+    list.show rising.2.1 came_again came_last in
     omega (arith, before, c.join_on-in-Some.ensures.next)
 
 -- all gaps are bare

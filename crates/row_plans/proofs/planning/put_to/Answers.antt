@@ -74,7 +74,8 @@ rows-preserved g c =
     let kind = c.read_row-kind.result.1 in
     let to = c.min-at.result in
     let word : c.load.result ≡ slice_index words i = c.load.ensures.word ∙ ap (λ l. slice_index l i) now.same in
-    let next : c.start_of-in-rows.result ≡ rows_start (drop (i + 1) words) = c.start_of-in-rows.ensures.start ∙ ap (λ l. rows_start (drop (i + 1) l)) then.same in
+    let next : c.start_of-in-rows.result ≡ rows_start (drop (i + 1) words) = c.start_of-in-rows.ensures.start
+    ∙ ap (λ l. rows_start (drop (i + 1) l)) then.same in
     let ends : to ≡ min (rows_start (drop (i + 1) words)) hi = c.min-at.ensures ∙ ap (λ x. min x hi) next in
     let above : c.args.pages.from ≤ at = inv.above in
     let pages : (kinds : ℕ → Option Kind) → ShowFrom 0 words kinds →

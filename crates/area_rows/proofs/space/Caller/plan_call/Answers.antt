@@ -1,8 +1,8 @@
 use Rattle.std.proofs.Common.{◌∙◌, ap, sym, subst, arith}
 use Rattle.row_plans.specs.RowLists.{areas_from}
 use Rattle.row_plans.specs.Plans.{spliced, IsPlan}
-use Rattle.area_rows.specs.Rows.{room_of}
-use Rattle.area_rows.specs.Reads.{known_rows}
+use Rattle.area_guard.specs.Rows.{room_of}
+use Rattle.area_guard.specs.Reads.{known_rows}
 use Rattle.area_rows.specs.Callers.{CallerView, IsReading, MayLoadAll}
 use Rattle.area_rows.specs.Loading.{same_known}
 use Rattle.area_rows.proofs.space.Caller.plan_call.Goals as goal

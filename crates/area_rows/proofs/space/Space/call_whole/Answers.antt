@@ -1,6 +1,6 @@
 use Rattle.std.proofs.Common.{◌∙◌, ◌+◌, ap, refl, sym, subst}
 use Rattle.space_model.specs.declared.entries.Under.{Under}
-use Rattle.area_rows.specs.declared.guard.Pass.{Pass}
+use Rattle.area_guard.specs.declared.guard.Pass.{Pass}
 use Rattle.area_rows.specs.Called.{IsLastStep}
 use Rattle.area_rows.proofs.Wholes.{planned_right, numbered_whole, last_whole}
 use Rattle.area_rows.proofs.space.Space.call_whole.Goals as goal

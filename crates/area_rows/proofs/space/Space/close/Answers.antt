@@ -1,9 +1,9 @@
 use Rattle.std.specs.Prelude.{None, slice_index}
 use Rattle.std.proofs.Common.{replicate, ◌≤◌, ◌+◌, ℕ, List, map, length, sym, ap, ◌∙◌, subst, arith}
 use Rattle.range_rw.specs.Contract.{pass_in}
-use Rattle.area_rows.specs.declared.guard.Pass.{Pass}
+use Rattle.area_guard.specs.declared.guard.Pass.{Pass}
 use Rattle.area_rows.specs.declared.close.Kept.{Kept}
-use Rattle.area_rows.specs.History.{HasHistory}
+use Rattle.area_guard.specs.History.{HasHistory}
 use Rattle.area_rows.specs.Callers.{AreIdle}
 use Rattle.area_rows.specs.Closing.{AreKept, callers_count, caller_pass}
 use Rattle.area_rows.proofs.Gathering.{closes_below, idle_rows}

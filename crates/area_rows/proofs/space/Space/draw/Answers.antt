@@ -4,11 +4,11 @@ use Rattle.range_rw.specs.Contract.{SeatState}
 use Rattle.row_plans.specs.declared.planning.Cut.{Cut}
 use Rattle.space_model.specs.declared.areas.Area.{Area}
 use Rattle.space_model.specs.declared.entries.Entry.{Entry}
-use Rattle.area_rows.specs.declared.guard.Change.{Change}
-use Rattle.area_rows.specs.Rows.{room_of}
-use Rattle.area_rows.specs.declared.guard.Pass.{Pass}
-use Rattle.area_rows.specs.History.{HoldsFor, IsRight, Leaves, pending_of}
-use Rattle.area_rows.specs.Replies.{reply_named}
+use Rattle.area_guard.specs.declared.guard.Change.{Change}
+use Rattle.area_guard.specs.Rows.{room_of}
+use Rattle.area_guard.specs.declared.guard.Pass.{Pass}
+use Rattle.area_guard.specs.History.{HoldsFor, IsRight, Leaves, pending_of}
+use Rattle.area_guard.specs.Replies.{reply_named}
 use Rattle.area_rows.specs.Callers.{CallerView, Shows, IsDrawn, splice_of, plan_of}
 use Rattle.area_rows.proofs.Stepping.{writes_plan, writes_row}
 use Rattle.area_rows.proofs.space.Space.draw.Goals as goal

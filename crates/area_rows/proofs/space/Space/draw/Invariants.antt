@@ -1,4 +1,4 @@
-use Rattle.area_rows.specs.History.{pending_of, entry_note}
+use Rattle.area_guard.specs.History.{pending_of, entry_note}
 use Rattle.area_rows.specs.Callers.{splice_of}
 use Rattle.area_rows.proofs.space.Space.draw.Given as goal
 

@@ -1,7 +1,7 @@
 use Rattle.std.proofs.Common.{sym, refl, subst}
 use Rattle.lock_core.specs.Client.{IsAllowed, IsMade, adds}
-use Rattle.area_rows.specs.declared.guard.Note.{Note}
-use Rattle.area_rows.specs.History.{HasHistory, Allowed, pending_of, entry_note, entry_of}
+use Rattle.area_guard.specs.declared.guard.Note.{Note}
+use Rattle.area_guard.specs.History.{HasHistory, Allowed, pending_of, entry_note, entry_of}
 use Rattle.area_rows.specs.Callers.{IsDrawn, splice_of}
 use Rattle.area_rows.proofs.Stepping.{may_draw, draws}
 use Rattle.area_rows.proofs.space.Space.draw_as.Goals as goal

@@ -2,10 +2,10 @@ use Rattle.std.proofs.Common.{rules, arith, ◌+◌, ◌-◌, ◌/◌, ap, ◌�
 use Rattle.std.specs.Prelude.{Option}
 use Rattle.page_types.specs.declared.TheConstants.{SEARCH}
 use Rattle.lock_core.specs.declared.range.Held.{Held}
-use Rattle.area_rows.specs.declared.guard.Pass.{Pass}
+use Rattle.area_guard.specs.declared.guard.Pass.{Pass}
 use Rattle.area_rows.specs.Halving.{IsAmong}
-use Rattle.area_rows.specs.Rows.{room_of}
-use Rattle.area_rows.specs.Reads.{IsHeldPage}
+use Rattle.area_guard.specs.Rows.{room_of}
+use Rattle.area_guard.specs.Reads.{IsHeldPage}
 use Rattle.area_rows.proofs.Halving.{all_rows, narrowed, halved}
 use Rattle.area_rows.specs.Loading.{no_reading, reading_on}
 use Rattle.area_rows.proofs.Reading.{row_reads, step_taken}

@@ -2,7 +2,7 @@ use Rattle.std.proofs.Common.{ℕ, ◌≡◌, ◌+◌, ◌^◌, ◌≤◌}
 use Rattle.std.specs.Prelude.{Some}
 use Rattle.page_types.specs.declared.TheConstants.{SEARCH}
 use Rattle.area_rows.specs.Halving.{IsAmong}
-use Rattle.area_rows.specs.History.{IsAtRest}
+use Rattle.area_guard.specs.History.{IsAtRest}
 use Rattle.area_rows.specs.Callers.{HasSameRows, IsReading}
 use Rattle.area_rows.proofs.space.Space.find_row.Given as goal
 

@@ -1,10 +1,11 @@
-use Rattle.std.proofs.Common.{rules, ◌≡◌, ◌<◌, ◌≤◌, ◌+◌, ◌∙◌, ◌∷◌, List, length, sym, ap, subst, arith}
+use Rattle.std.proofs.Common.{rules, ◌≡◌, ◌<◌, ◌≤◌, ◌+◌, ◌∙◌, ◌∷◌, List, length, sym, ap, subst, arith, refl, inl}
 use Rattle.std.specs.Prelude.{slice_index}
 use Rattle.range_rw.specs.Contract.{Record}
-use Rattle.area_rows.specs.declared.guard.Pass.{Pass}
-use Rattle.area_rows.specs.declared.guard.ReadRow.{ReadRow}
-use Rattle.area_rows.specs.declared.guard.Splice.{Splice}
-use Rattle.area_rows.specs.History.{rows_after, without}
+use Rattle.area_guard.specs.declared.guard.Pass.{Pass}
+use Rattle.area_guard.specs.declared.guard.ReadRow.{ReadRow}
+use Rattle.area_guard.specs.declared.guard.Splice.{Splice}
+use Rattle.area_guard.specs.History.{rows_after, without}
+use Rattle.area_guard.specs.Reads.{HasRead}
 use Rattle.area_rows.specs.Writing.{IsLaid, plan_at, splice_in}
 use Rattle.area_rows.proofs.StoringRows.{load_writes, store_writes, writing_on, writes_on}
 use Rattle.area_rows.proofs.SpliceStores.{after_length, laid_more, one_laid, stays_laid}
@@ -20,6 +21,12 @@ store_row-requires-clause-index c =
     let wide = after_length p ordered there in
     let until = c.requires.until in
     omega arith
+
+-- no row stands there
+pub store_row-requires-clause-differs : goal.store_row-requires-clause-differs
+store_row-requires-clause-differs c =
+    let past : c.args.count ≤ c.args.index = search rules in
+    (c.args.count, c.requires.counted, λ lt. absurd (omega (arith, lt, past)))
 
 -- behind the rows that stood the row is laid
 pub returns-then-index-count-clause-laid : goal.returns-then-index-count-clause-laid
@@ -140,6 +147,19 @@ store_row-requires-2-clause-word c =
     let p = plan_at c.args.seat.now in
     let same : plan_at c.load_known-stands.new.seat ≡ p = ap (λ (x : Pass). splice_in x.pending) c.load_known-stands.ensures.step.pass in
     subst (λ (x : Splice). c.args.word ≡ slice_index (rows_after x) c.args.index) (sym same) c.requires.word
+
+-- and what stands there was just read
+pub store_row-requires-2-clause-differs : goal.store_row-requires-2-clause-differs
+store_row-requires-2-clause-differs c =
+    let step = c.load_known-stands.ensures.step in (
+      c.args.count,
+      ap (λ (x : Pass). x.count) step.pass ∙ c.requires.counted,
+      λ lt. (
+        c.load_known-stands.result,
+        subst (λ (x : Pass). HasRead x.rows c.args.index c.load_known-stands.result) (sym step.pass) (inl (refl, refl)),
+        c.if-stands-word.false,
+      ),
+    )
 
 -- the row is laid
 pub returns-clause-laid : goal.returns-clause-laid

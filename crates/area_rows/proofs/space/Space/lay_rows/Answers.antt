@@ -2,8 +2,8 @@ use Rattle.std.proofs.Common.{rules, ℕ, List, ◌≡◌, ◌<◌, ◌≤◌, �
 use Rattle.std.proofs.Common.{inl, inr}
 use Rattle.std.proofs.lemmas.Bool.{cases_lt}
 use Rattle.std.specs.Prelude.{slice_index}
-use Rattle.area_rows.specs.declared.guard.Splice.{Splice}
-use Rattle.area_rows.specs.History.{rows_after}
+use Rattle.area_guard.specs.declared.guard.Splice.{Splice}
+use Rattle.area_guard.specs.History.{rows_after}
 use Rattle.area_rows.specs.Writing.{IsLaid, plan_at, splice_in, moved_to, look_at, new_row, new_rows}
 use Rattle.area_rows.proofs.StoringRows.{no_writing, writing_on}
 use Rattle.area_rows.proofs.SpliceStores.{after_more}
@@ -34,6 +34,10 @@ pub lay_row-requires-clause-count : goal.lay_row-requires-clause-count
 lay_row-requires-clause-count c =
     let plan : plan_at c.rows.seat ≡ plan_at c.args.seat.now = ap splice_in c.rows.invariant.writing.pending in
     c.requires.count ∙ ap (λ (p : Splice). length p.old) (sym plan)
+
+-- and their count is known
+pub lay_row-requires-clause-counted : goal.lay_row-requires-clause-counted
+lay_row-requires-clause-counted c = c.rows.invariant.count ∙ c.requires.counted
 
 -- the next place is not before the splice
 pub lay_row-requires-clause-from : goal.lay_row-requires-clause-from

@@ -1,5 +1,5 @@
 use Rattle.std.proofs.Common.{◌≡◌, ◌+◌, ◌-◌, ◌≤◌, length, min}
-use Rattle.area_rows.specs.History.{rows_after}
+use Rattle.area_guard.specs.History.{rows_after}
 use Rattle.area_rows.specs.Writing.{IsLaid, WritesPlan, IsWriting, plan_at, new_rows}
 use Rattle.area_rows.proofs.space.Space.lay_rows.Given as goal
 

@@ -1,6 +1,6 @@
 use Rattle.std.proofs.Common.{rules, ℕ, ◌≤◌, ap, ◌∙◌, subst}
-use Rattle.area_rows.specs.Keeping.{no_note}
-use Rattle.area_rows.specs.Rows.{room_of}
+use Rattle.area_guard.specs.Keeping.{no_note}
+use Rattle.area_guard.specs.Rows.{room_of}
 use Rattle.area_rows.specs.Callers.{CallerView, IsCounted}
 use Rattle.area_rows.proofs.Stepping.{may_count, counts}
 use Rattle.area_rows.proofs.space.Space.load_count.Goals as goal

@@ -1,7 +1,7 @@
 use Rattle.std.proofs.Common.{◌≡◌, ◌∙◌, ap, sym, arith}
 use Rattle.range_rw.specs.Contract.{TableShape}
-use Rattle.area_rows.specs.Rows.{room_of}
-use Rattle.area_rows.specs.Keeping.{no_note}
+use Rattle.area_guard.specs.Rows.{room_of}
+use Rattle.area_guard.specs.Keeping.{no_note}
 use Rattle.area_rows.proofs.Stepping.{may_row_all, row_loaded, reads_again}
 use Rattle.area_rows.proofs.space.Space.load_known.Goals as goal
 

@@ -1,9 +1,9 @@
 use Rattle.std.proofs.Common.{rules, ◌≡◌, arith, ap, ◌∙◌, subst, sym}
 use Rattle.range_rw.specs.Contract.{TableShape}
-use Rattle.area_rows.specs.Rows.{room_of}
-use Rattle.area_rows.specs.Keeping.{no_note}
+use Rattle.area_guard.specs.Rows.{room_of}
+use Rattle.area_guard.specs.Keeping.{no_note}
 use Rattle.area_rows.specs.Halving.{IsOnSameSide}
-use Rattle.area_rows.specs.Reads.{IsHeldPage}
+use Rattle.area_guard.specs.Reads.{IsHeldPage}
 use Rattle.area_rows.specs.Callers.{CallerView}
 use Rattle.area_rows.proofs.Stepping.{may_row, reads, reads_side}
 use Rattle.area_rows.proofs.space.Space.load_row.Goals as goal

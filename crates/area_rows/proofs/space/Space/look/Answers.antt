@@ -1,5 +1,5 @@
 use Rattle.std.proofs.Common.{subst}
-use Rattle.area_rows.specs.Keeping.{no_note}
+use Rattle.area_guard.specs.Keeping.{no_note}
 use Rattle.area_rows.specs.Callers.{CallerView, IsLook}
 use Rattle.area_rows.proofs.Stepping.{may_look, look_is}
 use Rattle.area_rows.proofs.space.Space.look.Goals as goal

@@ -1,10 +1,11 @@
 use Rattle.std.proofs.Common.{ℕ, ◌≡◌, ◌+◌, ◌-◌, ◌∙◌, refl, sym, ap, subst, arith}
-use Rattle.std.specs.Prelude.{slice_index}
-use Rattle.area_rows.specs.declared.guard.Splice.{Splice}
-use Rattle.area_rows.specs.Reads.{HasRead}
-use Rattle.area_rows.specs.Writing.{HasMoved, plan_at, splice_in}
+use Rattle.std.specs.Prelude.{Some, slice_index}
+use Rattle.area_guard.specs.declared.guard.Splice.{Splice}
+use Rattle.area_guard.specs.Reads.{HasRead}
+use Rattle.area_rows.specs.Writing.{HasMoved, IsNewRow, plan_at, splice_in}
 use Rattle.area_rows.proofs.StoringRows.{no_writing, writing_on}
 use Rattle.area_rows.proofs.SpliceStores.{one_lowered}
+use Rattle.area_rows.proofs.StoreCounts.{moves_new}
 use Rattle.area_rows.proofs.space.Space.lower_tail.Goals as goal
 
 -- before the first row none has moved
@@ -52,5 +53,27 @@ move_row-requires-clause-stood c =
     let more = c.rows-test.true in
     let plan : plan_at c.rows.seat ≡ plan_at c.args.seat.now = ap splice_in i.writing.pending in
     let count = c.requires.count in
+    let from = i.from in
+    let end = c.requires.end in
+    let down = c.requires.down in
+    let to = c.requires.to in
     subst (λ (p : Splice). HasRead c.rows.seat.pass.rows c.rows.index (slice_index p.old c.rows.index)) (sym plan)
     (i.moved.others c.rows.index (omega arith) (omega arith))
+
+-- and where it goes another row stands
+pub move_row-requires-clause-differs : goal.move_row-requires-clause-differs
+move_row-requires-clause-differs c =
+    let i = c.rows.invariant in
+    let p = plan_at c.args.seat.now in
+    let more = c.rows-test.true in
+    let plan : plan_at c.rows.seat ≡ p = ap splice_in i.writing.pending in
+    let count = c.requires.count in
+    let from = i.from in
+    let end = c.requires.end in
+    let down = c.requires.down in
+    let to = c.requires.to in
+    let place : ℕ = c.rows.index - c.args.end + c.args.to in
+    subst (λ (x : Splice). IsNewRow c.rows.seat.pass place (slice_index x.old c.rows.index)) (sym plan)
+    (moves_new c.rows.seat.pass p.old c.rows.index place c.requires.writes.list
+    (i.count ∙ (c.requires.counted ∙ ap Some c.requires.count)) (omega arith) (λ same. omega arith)
+    (λ lt. i.moved.others place (omega arith) lt))

@@ -1,12 +1,12 @@
 use Rattle.std.proofs.Common.{ℕ, ◌≡◌, ◌<◌, ◌∙◌, List, ◌∷◌, length, sym, ap, subst, arith}
 use Rattle.std.specs.Prelude.{slice_index}
 use Rattle.range_rw.specs.Contract.{Record}
-use Rattle.area_rows.specs.declared.guard.Pass.{Pass}
-use Rattle.area_rows.specs.declared.guard.ReadRow.{ReadRow}
-use Rattle.area_rows.specs.declared.guard.Splice.{Splice}
-use Rattle.area_rows.specs.History.{rows_after, without}
-use Rattle.area_rows.specs.Writing.{HasMoved, plan_at, splice_in}
-use Rattle.area_rows.proofs.StoringRows.{load_writes, store_writes, writing_on, writes_on}
+use Rattle.area_guard.specs.declared.guard.Pass.{Pass}
+use Rattle.area_guard.specs.declared.guard.ReadRow.{ReadRow}
+use Rattle.area_guard.specs.declared.guard.Splice.{Splice}
+use Rattle.area_guard.specs.History.{rows_after, without}
+use Rattle.area_rows.specs.Writing.{HasMoved, IsNewRow, plan_at, splice_in}
+use Rattle.area_rows.proofs.StoringRows.{load_writes, still_new, store_writes, writing_on, writes_on}
 use Rattle.area_rows.proofs.SpliceStores.{row_moved, after_behind, after_length}
 use Rattle.area_rows.proofs.space.Space.move_row.Goals as goal
 
@@ -37,6 +37,14 @@ store_row-requires-clause-word c =
     subst (λ (x : Splice). c.load_known-word.result ≡ slice_index (rows_after x) c.args.place) (sym same)
     (c.load_known-word.ensures.word _ c.requires.stood
     ∙ (sym (after_behind p w.ordered w.there c.args.index c.requires.behind) ∙ ap (slice_index (rows_after p)) (sym c.requires.place)))
+
+-- which differs from what stands there, also once the row was read
+pub store_row-requires-clause-differs : goal.store_row-requires-clause-differs
+store_row-requires-clause-differs c =
+    let s = c.args.seat.now in
+    let word = c.load_known-word.ensures.word _ c.requires.stood in
+    let new = still_new s.pass c.args.index c.load_known-word.result c.args.place (slice_index (plan_at s).old c.args.index) c.requires.differs in
+    subst (λ (z : Pass × ℕ). IsNewRow z.0 c.args.place z.1) (λ i. (sym c.load_known-word.ensures.step.pass i, sym word i)) new
 
 -- it stands at its new place
 pub returns-clause-moved : goal.returns-clause-moved

@@ -1,9 +1,17 @@
-use Rattle.std.proofs.Common.{rules, ◌≡◌, ◌<◌, sym, subst, arith}
+use Rattle.std.proofs.Common.{rules, ◌≡◌, ◌<◌, ◌∙◌, sym, ap, subst, arith}
+use Rattle.std.specs.Prelude.{Some}
 use Rattle.area_rows.specs.Writing.{IsRaised, IsLowered, plan_at}
 use Rattle.area_rows.proofs.StoringRows.{no_writing}
 use Rattle.area_rows.proofs.SpliceStores.{none_raised, none_lowered, raised_laid, lowered_laid, same_laid}
 use Rattle.area_rows.proofs.StoreCounts.{moves_none, moves_some}
 use Rattle.area_rows.proofs.space.Space.move_tail.Goals as goal
+
+-- all rows that stand are counted
+pub raise_tail-requires-clause-counted : goal.raise_tail-requires-clause-counted
+raise_tail-requires-clause-counted c = c.requires.stand.0 ∙ ap Some (sym c.requires.count)
+
+pub lower_tail-requires-clause-counted : goal.lower_tail-requires-clause-counted
+lower_tail-requires-clause-counted c = c.requires.stand.0 ∙ ap Some (sym c.requires.count)
 
 -- before the first row moves up all stand as they stood
 pub raise_tail-requires-clause-raised : goal.raise_tail-requires-clause-raised

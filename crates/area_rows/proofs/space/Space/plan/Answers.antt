@@ -1,11 +1,11 @@
 use Rattle.std.proofs.Common.{ℕ, List, ◌≡◌, ◌≤◌, ◌∙◌, length, ap, sym, subst}
 use Rattle.atomic_table.specs.Seated.{TableId}
-use Rattle.area_rows.specs.Rows.{room_of}
+use Rattle.area_guard.specs.Rows.{room_of}
 use Rattle.row_plans.specs.Plans.{IsRowList, spliced, IsPlan}
 use Rattle.row_plans.specs.RowLists.{areas_from}
-use Rattle.area_rows.specs.declared.guard.Pass.{Pass}
-use Rattle.area_rows.specs.Reads.{known_rows, KnowsRows}
-use Rattle.area_rows.specs.History.{after_seen}
+use Rattle.area_guard.specs.declared.guard.Pass.{Pass}
+use Rattle.area_guard.specs.Reads.{known_rows, KnowsRows}
+use Rattle.area_guard.specs.History.{after_seen}
 use Rattle.area_rows.proofs.KnownRows.{seen_known, seen_knows}
 use Rattle.area_rows.specs.Loading.{reading_on}
 use Rattle.area_rows.proofs.Reading.{count_reads}

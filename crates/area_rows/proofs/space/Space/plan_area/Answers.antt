@@ -1,7 +1,7 @@
 use Rattle.std.proofs.Common.{◌≡◌, ◌<◌, ◌≤◌, ◌∙◌, ap, sym, refl, subst, arith}
 use Rattle.page_types.specs.declared.TheConstants.{ROWS}
 use Rattle.page_types.specs.Pages.{page_of, end_page}
-use Rattle.area_rows.specs.Rows.{room_of}
+use Rattle.area_guard.specs.Rows.{room_of}
 use Rattle.area_rows.specs.Callers.{CallerView, IsReading, IsReadBehind}
 use Rattle.area_rows.specs.Loading.{reading_on}
 use Rattle.area_rows.proofs.Reading.{count_reads}

@@ -1,4 +1,4 @@
-use Rattle.area_rows.specs.Keeping.{no_note}
+use Rattle.area_guard.specs.Keeping.{no_note}
 use Rattle.area_rows.specs.Writing.{plan_at}
 use Rattle.area_rows.proofs.StoringRows.{may_raise, sequence_raised}
 use Rattle.area_rows.proofs.space.Space.raise_sequence.Goals as goal

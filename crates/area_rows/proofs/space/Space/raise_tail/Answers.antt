@@ -1,10 +1,11 @@
 use Rattle.std.proofs.Common.{ℕ, ◌≡◌, ◌+◌, ◌-◌, ◌∙◌, refl, sym, ap, subst, arith}
-use Rattle.std.specs.Prelude.{slice_index}
-use Rattle.area_rows.specs.declared.guard.Splice.{Splice}
-use Rattle.area_rows.specs.Reads.{HasRead}
-use Rattle.area_rows.specs.Writing.{IsRaised, HasMoved, plan_at, splice_in}
+use Rattle.std.specs.Prelude.{Some, slice_index}
+use Rattle.area_guard.specs.declared.guard.Splice.{Splice}
+use Rattle.area_guard.specs.Reads.{HasRead}
+use Rattle.area_rows.specs.Writing.{IsNewRow, IsRaised, HasMoved, plan_at, splice_in}
 use Rattle.area_rows.proofs.StoringRows.{no_writing, writing_on}
 use Rattle.area_rows.proofs.SpliceStores.{one_raised}
+use Rattle.area_rows.proofs.StoreCounts.{moves_new}
 use Rattle.area_rows.proofs.space.Space.raise_tail.Goals as goal
 
 -- before the first row none has moved
@@ -54,5 +55,30 @@ move_row-requires-clause-stood c =
     let i = c.rows.invariant in
     let more = c.rows-test.true in
     let plan : plan_at c.rows.seat ≡ plan_at c.args.seat.now = ap splice_in i.writing.pending in
+    let from = i.from in
+    let bound = i.bound in
+    let count = c.requires.count in
+    let end = c.requires.end in
+    let up = c.requires.up in
+    let to = c.requires.to in
     subst (λ (p : Splice). HasRead c.rows.seat.pass.rows (c.rows.index - 1) (slice_index p.old (c.rows.index - 1))) (sym plan)
-    (i.moved.others (c.rows.index - 1) (omega arith))
+    (i.moved.others (c.rows.index - 1) (omega arith) (omega arith))
+
+-- where another row stands
+pub move_row-requires-clause-differs : goal.move_row-requires-clause-differs
+move_row-requires-clause-differs c =
+    let i = c.rows.invariant in
+    let p = plan_at c.args.seat.now in
+    let more = c.rows-test.true in
+    let plan : plan_at c.rows.seat ≡ p = ap splice_in i.writing.pending in
+    let from = i.from in
+    let bound = i.bound in
+    let count = c.requires.count in
+    let end = c.requires.end in
+    let up = c.requires.up in
+    let to = c.requires.to in
+    let place : ℕ = c.rows.index - 1 - c.args.end + c.args.to in
+    subst (λ (x : Splice). IsNewRow c.rows.seat.pass place (slice_index x.old (c.rows.index - 1))) (sym plan)
+    (moves_new c.rows.seat.pass p.old (c.rows.index - 1) place c.requires.writes.list
+    (i.count ∙ (c.requires.counted ∙ ap Some c.requires.count)) (omega arith) (λ same. omega arith)
+    (λ lt. i.moved.others place (omega arith) lt))

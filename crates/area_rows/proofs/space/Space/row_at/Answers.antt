@@ -1,10 +1,10 @@
 use Rattle.std.proofs.Common.{arith, ◌+◌, ap, ◌∙◌, refl, inl, subst, sym}
 use Rattle.std.specs.Prelude.{Option}
 use Rattle.lock_core.specs.declared.range.Held.{Held}
-use Rattle.area_rows.specs.declared.guard.Pass.{Pass}
+use Rattle.area_guard.specs.declared.guard.Pass.{Pass}
 use Rattle.area_rows.specs.Halving.{IsOnSameSide}
-use Rattle.area_rows.specs.Rows.{room_of}
-use Rattle.area_rows.specs.Reads.{IsHeldPage, HasRead}
+use Rattle.area_guard.specs.Rows.{room_of}
+use Rattle.area_guard.specs.Reads.{IsHeldPage, HasRead}
 use Rattle.area_rows.proofs.Halving.{starts_up_to, starts_behind}
 use Rattle.area_rows.proofs.Reading.{found_row, last_row, found_read}
 use Rattle.area_rows.proofs.space.Space.row_at.Goals as goal

@@ -3,11 +3,11 @@ use Rattle.std.specs.Prelude.{slice_index}
 use Rattle.list_cuts.specs.Cut.{list_count}
 use Rattle.range_rw.specs.Contract.{SeatState}
 use Rattle.std.proofs.lemmas.List.Edits.{length-remove}
-use Rattle.area_rows.specs.declared.guard.Pass.{Pass}
+use Rattle.area_guard.specs.declared.guard.Pass.{Pass}
 use Rattle.page_types.specs.declared.TheConstants.{SPARE}
-use Rattle.area_rows.specs.Rows.{room_of}
+use Rattle.area_guard.specs.Rows.{room_of}
 use Rattle.area_rows.proofs.Beginning.{first_of, first_seats, next_seat, seats_on, one_caller, new_caller}
-use Rattle.area_rows.specs.Parts.{none_is}
+use Rattle.area_guard.specs.Parts.{none_is}
 use Rattle.area_rows.proofs.space.Space.seat_callers.Goals as goal
 
 -- a new seat and empty lists make a caller

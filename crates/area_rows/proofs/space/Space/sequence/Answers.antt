@@ -1,6 +1,6 @@
 use Rattle.std.proofs.Common.{subst}
 use Rattle.std.specs.Prelude.{IsSome}
-use Rattle.area_rows.specs.Keeping.{no_note}
+use Rattle.area_guard.specs.Keeping.{no_note}
 use Rattle.area_rows.specs.Callers.{CallerView, IsReading, CountsWhole}
 use Rattle.area_rows.proofs.Stepping.{may_sequence, sequence_is}
 use Rattle.area_rows.proofs.space.Space.sequence.Goals as goal

@@ -1,7 +1,7 @@
 use Rattle.std.proofs.Common.{◌≡◌, arith, ap, ◌∙◌, sym}
 use Rattle.range_rw.specs.Contract.{TableShape}
-use Rattle.area_rows.specs.Rows.{room_of}
-use Rattle.area_rows.specs.Keeping.{no_note}
+use Rattle.area_guard.specs.Rows.{room_of}
+use Rattle.area_guard.specs.Keeping.{no_note}
 use Rattle.area_rows.proofs.ReplacingRows.{may_store_change, change_stored, index_fits}
 use Rattle.area_rows.proofs.space.Space.store_change.Goals as goal
 

@@ -1,7 +1,7 @@
 use Rattle.std.proofs.Common.{◌≡◌, arith, ap, ◌∙◌, sym}
 use Rattle.range_rw.specs.Contract.{TableShape}
-use Rattle.area_rows.specs.Rows.{room_of}
-use Rattle.area_rows.specs.Keeping.{no_note}
+use Rattle.area_guard.specs.Rows.{room_of}
+use Rattle.area_guard.specs.Keeping.{no_note}
 use Rattle.area_rows.specs.Writing.{plan_at}
 use Rattle.area_rows.proofs.StoringRows.{may_store_row, row_stored}
 use Rattle.area_rows.proofs.space.Space.store_row.Goals as goal
@@ -9,7 +9,8 @@ use Rattle.area_rows.proofs.space.Space.store_row.Goals as goal
 -- the guard allows the store of a row of the plan
 pub store_as_uncounted-requires-clause-allowed : goal.store_as_uncounted-requires-clause-allowed
 store_as_uncounted-requires-clause-allowed c = let s = c.args.seat.now in
-    may_store_row no_note s.number s.held s.pass (plan_at s) c.requires.writes.pending c.args.index c.args.word c.requires.index c.requires.word
+    may_store_row no_note s.number s.held s.pass (plan_at s) c.requires.writes.pending c.args.index c.args.word c.requires.index
+    c.requires.word c.requires.differs
 
 -- there is a client word for the row
 pub store_as_uncounted-requires-clause-place : goal.store_as_uncounted-requires-clause-place

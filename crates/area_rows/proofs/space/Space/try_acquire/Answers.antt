@@ -4,7 +4,7 @@ use Rattle.range_rw.specs.Contract.{SeatState, TableShape, IsReadyLeft, IsLongRe
 use Rattle.range_rw.specs.Several.{TakesAlone}
 use Rattle.list_cuts.specs.Cut.{Regions, list_count}
 use Rattle.lock_core.specs.Range.{Interval}
-use Rattle.area_rows.specs.declared.guard.Pass.{Pass}
+use Rattle.area_guard.specs.declared.guard.Pass.{Pass}
 use Rattle.area_rows.specs.Callers.{CallerView}
 use Rattle.area_rows.proofs.space.Space.try_acquire.Goals as goal
 

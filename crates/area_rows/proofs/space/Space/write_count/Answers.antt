@@ -1,8 +1,8 @@
 use Rattle.std.proofs.Common.{◌∙◌, sym, ap, subst}
 use Rattle.std.specs.Prelude.{Some}
-use Rattle.area_rows.specs.declared.guard.Pass.{Pass}
-use Rattle.area_rows.specs.Reads.{HasRows}
-use Rattle.area_rows.specs.History.{rows_after, after_count}
+use Rattle.area_guard.specs.declared.guard.Pass.{Pass}
+use Rattle.area_guard.specs.Reads.{HasRows}
+use Rattle.area_guard.specs.History.{rows_after, after_count}
 use Rattle.area_rows.specs.Writing.{plan_at}
 use Rattle.area_rows.proofs.StoringRows.{count_writes, no_writing, writes_on}
 use Rattle.area_rows.proofs.SpliceStores.{all_laid}
@@ -26,6 +26,10 @@ returns-then-left-count-clause-taken c =
     let s = c.args.seat.now in
     let p = plan_at s in
     count_not_stored s s p.old (rows_after p) (sym c.requires.count ∙ (sym c.if-left-count.true ∙ c.requires.left))
+
+-- another count is new
+pub store_count-requires-clause-differs : goal.store_count-requires-clause-differs
+store_count-requires-clause-differs c = (c.args.count, c.requires.counted, λ same. c.if-left-count.false (sym same))
 
 -- more rows or fewer are all there are once their count is stored
 pub returns-clause-rows : goal.returns-clause-rows

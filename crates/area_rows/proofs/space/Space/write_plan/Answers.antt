@@ -1,9 +1,9 @@
 use Rattle.std.proofs.Common.{ℕ, List, ◌≡◌, ◌+◌, ◌∙◌, length, ap, sym, subst}
 use Rattle.range_rw.specs.Contract.{SeatState, Record}
-use Rattle.area_rows.specs.declared.guard.Pass.{Pass}
-use Rattle.area_rows.specs.declared.guard.Splice.{Splice}
-use Rattle.area_rows.specs.Reads.{HasRows}
-use Rattle.area_rows.specs.History.{rows_after}
+use Rattle.area_guard.specs.declared.guard.Pass.{Pass}
+use Rattle.area_guard.specs.declared.guard.Splice.{Splice}
+use Rattle.area_guard.specs.Reads.{HasRows}
+use Rattle.area_guard.specs.History.{rows_after}
 use Rattle.area_rows.specs.Callers.{CallerView, IsWritten, plan_of, splice_of}
 use Rattle.area_rows.specs.Writing.{plan_at, splice_in, steps_of}
 use Rattle.area_rows.proofs.StoringRows.{may_write_plan, all_written}

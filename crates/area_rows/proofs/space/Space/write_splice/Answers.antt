@@ -1,8 +1,8 @@
 use Rattle.std.proofs.Common.{ℕ, ◌≡◌, ◌+◌, ◌∙◌, length, sym, ap, subst, arith}
 use Rattle.std.specs.Prelude.{Some}
-use Rattle.area_rows.specs.declared.guard.Splice.{Splice}
-use Rattle.area_rows.specs.Reads.{HasRows}
-use Rattle.area_rows.specs.History.{rows_after}
+use Rattle.area_guard.specs.declared.guard.Splice.{Splice}
+use Rattle.area_guard.specs.Reads.{HasRows}
+use Rattle.area_guard.specs.History.{rows_after}
 use Rattle.area_rows.specs.Writing.{IsLaid, plan_at, splice_in, moved_to, looks_of, new_rows, new_count}
 use Rattle.area_rows.proofs.StoringRows.{writing_on}
 use Rattle.area_rows.proofs.SpliceStores.{after_length}
@@ -24,6 +24,10 @@ pub lay_rows-requires-clause-count : goal.lay_rows-requires-clause-count
 lay_rows-requires-clause-count c =
     let plan : plan_at c.move_tail.new.seat ≡ plan_at c.args.seat.now = ap splice_in c.move_tail.ensures.writing.pending in
     c.requires.count ∙ ap (λ (p : Splice). length p.old) (sym plan)
+
+-- of rows that are counted
+pub lay_rows-requires-clause-counted : goal.lay_rows-requires-clause-counted
+lay_rows-requires-clause-counted c = c.move_tail.ensures.count ∙ (c.requires.stand.0 ∙ ap Some (sym c.requires.count))
 
 -- from its first row on
 pub lay_rows-requires-clause-first : goal.lay_rows-requires-clause-first

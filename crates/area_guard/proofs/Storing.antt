@@ -1,0 +1,206 @@
+-- A run is legal, and the history of the rule is stored once.
+use Rattle.std.proofs.Common.{◌≡◌, ℕ, zero, suc, ◌+◌, ◌<◌, Bool, true, false, cond, eqb, List, [], ◌∷◌, ◌++◌, length}
+use Rattle.std.proofs.Common.{sym, refl, ap, ◌∙◌, subst, arith, inl, inr}
+use Rattle.std.proofs.lemmas.Bool.{cases_lt}
+use mathlib.Core.Option.{some, some-injective, some-ne-none}
+use lib.ListN.{get_elem?}
+use Rattle.space_model.specs.declared.areas.Area.{Area}
+use Rattle.space_model.specs.declared.entries.Entry.{Entry}
+use Rattle.space_model.specs.History.{HasRightReply, IsNumberedFrom}
+use Rattle.space_model.proofs.Histories.{chains_weaker, numbered_at, replied_state}
+use Rattle.area_guard.specs.declared.guard.Pass.{Pass}
+use Rattle.area_guard.specs.declared.guard.Note.{Note}
+use Rattle.area_guard.specs.declared.guard.Pending.{Pending}
+use Rattle.area_guard.specs.declared.guard.Pending.TheVariants.{AtRest, Planned, OneRow}
+use Rattle.area_guard.specs.History.{FitsAndReplies, entries_of, entry_of, rows_after, HoldsFor, IsOwed, IsRunningSpace, Backs, AreBacked, Here}
+use Rattle.area_guard.specs.History.{Allowed, IsNew, MayLoad, MayStore, MayWrite, MayAdd}
+use Rattle.area_guard.specs.History.MayLoad.{number, glance, sequence, count, row}
+use Rattle.area_guard.specs.History.MayStore.{store_row, store_count}
+use Rattle.area_guard.specs.History.MayAdd.{draw, raise}
+use Rattle.area_guard.specs.Draws.{draw_seen, draw_drew, leaves_plan}
+use Rattle.lock_core.specs.Grants.{Grants}
+use Rattle.lock_core.specs.Client.{ClientStep, loads, stores, adds, exchanges}
+use Rattle.lock_core.specs.declared.range.Held.{Held}
+use Rattle.std.specs.Prelude.{Option}
+use Rattle.area_guard.specs.Stored.{Stores, IsStoredOnce, IsStored, HistoryIsStored, IsCountStore, CountIsOfWhole}
+use Rattle.area_guard.specs.Stored.{StoresAreNew, RunsAreLegal, DrawsHold, KeepsDraw, IsNoDraw, LastDrawIsKept}
+use Rattle.lock_core.proofs.ByPlace.{there}
+use Rattle.area_guard.proofs.Entries.{runs_number, own_at, at_own}
+
+-- each run is legal in the one-thread model
+pub all_legal : RunsAreLegal
+all_legal A B entries r =
+    let replied = chains_weaker FitsAndReplies HasRightReply (λ C e D h. h.1) A entries B r.1 in
+    ((r.0, (B, replied)), replied_state A entries B replied)
+
+-- an entry is not the one before all of these
+not_later : (worker : ℕ) (x e : Entry) (xs : List Entry) (n j : ℕ) → IsNumberedFrom (n + 1) xs → x.number ≡ n → x ≡ e
+    → get_elem? (entries_of worker xs) j ≡ some e → ⊥
+not_later worker x e xs n j r num same at =
+    let f = own_at worker xs j e at in
+    let later : e.number ≡ n + 1 + f.0 = numbered_at (n + 1) xs f.0 e r f.1 in
+    let now : e.number ≡ n = ap (λ (y : Entry). y.number) (sym same) ∙ num in
+    omega arith
+
+one_here : (worker : ℕ) (x e : Entry) (xs : List Entry) (n : ℕ) (b : Bool) → IsNumberedFrom (n + 1) xs → x.number ≡ n
+    → ((i j : ℕ) → get_elem? (entries_of worker xs) i ≡ some e → get_elem? (entries_of worker xs) j ≡ some e → i ≡ j)
+    → (i j : ℕ) → get_elem? (cond b (x ∷ entries_of worker xs) (entries_of worker xs)) i ≡ some e
+    → get_elem? (cond b (x ∷ entries_of worker xs) (entries_of worker xs)) j ≡ some e → i ≡ j
+one_here worker x e xs n true r num rest zero zero p q = refl
+one_here worker x e xs n true r num rest zero (suc j) p q = absurd (not_later worker x e xs n j r num (some-injective x e p) q)
+one_here worker x e xs n true r num rest (suc i) zero p q = absurd (not_later worker x e xs n i r num (some-injective x e q) p)
+one_here worker x e xs n true r num rest (suc i) (suc j) p q = ap suc (rest i j p q)
+one_here worker x e xs n false r num rest i j p q = rest i j p q
+
+-- an entry stands at one place among those of its caller
+one_place : (worker : ℕ) (e : Entry) (history : List Entry) (n : ℕ) → IsNumberedFrom n history → (i j : ℕ)
+    → get_elem? (entries_of worker history) i ≡ some e → get_elem? (entries_of worker history) j ≡ some e → i ≡ j
+one_place worker e [] n r i j p q = absurd (some-ne-none e (sym p))
+one_place worker e (x ∷ xs) n r i j p q = one_here worker x e xs n (eqb x.worker worker) r.1 r.0 (one_place worker e xs (n + 1) r.1) i j p q
+
+module _ (grants : Grants) (start : List Area) (history : List Entry) (state : List Area) (words : List ℕ) (passes : List Pass)
+    (r : IsRunningSpace start history state words passes) (backed : AreBacked grants words state passes) where
+  number_at : (n : ℕ) (e : Entry) → get_elem? history n ≡ some e → e.number ≡ n
+  number_at n e at = runs_number history 0 start state n e r.runs at ∙ omega arith
+
+  -- what a caller stores stands in the history, and is the caller's
+  stands_in : (worker place : ℕ) (e : Entry) → Stores passes worker place e → (get_elem? history e.number ≡ some e) × (e.worker ≡ worker)
+  stands_in worker place e s =
+      let f = own_at worker history place e (ap (λ l. get_elem? l place) (r.parts worker s.0 s.1).mine ∙ s.2) in
+      (ap (get_elem? history) (number_at f.0 e f.1) ∙ f.1, f.2)
+
+  stored : (n : ℕ) (e : Entry) → get_elem? history n ≡ some e → IsStoredOnce passes e
+  stored n e at =
+      let few : e.worker < length passes = elim (cases_lt e.worker (length passes)) [
+        | inl lt ↦ lt
+        | inr ge ↦ let o = at_own e.worker history n e at refl in absurd (some-ne-none e (sym (ap (λ l. get_elem? l o.0) (sym (r.no_other e.worker ge)) ∙ o.1)))
+      ] in
+      let p = there passes e.worker few in
+      let o = at_own e.worker history n e at refl in
+      record {
+        place = o.0;
+        there = (p.0, p.1, ap (λ l. get_elem? l o.0) (sym (r.parts e.worker p.0 p.1).mine) ∙ o.1);
+        once = λ worker other f s same.
+            let in_it = stands_in worker other f s in
+            let is : f ≡ e = some-injective f e (sym in_it.0 ∙ (ap (get_elem? history) (same ∙ number_at n e at) ∙ at)) in
+            let who : worker ≡ e.worker = sym in_it.1 ∙ ap (λ (y : Entry). y.worker) is in
+            let mine : get_elem? (entries_of e.worker history) other ≡ some e =
+            ap (λ w. get_elem? (entries_of w history) other) (sym who) ∙ (ap (λ l. get_elem? l other) (r.parts worker s.0 s.1).mine ∙ (s.2 ∙ ap some is)) in
+            (who, one_place e.worker e history 0 r.runs.0 other o.0 mine o.1, is);
+      }
+
+  is_stored : IsStored grants words passes history start state
+  is_stored = record {
+    runs = r.runs;
+    began = λ worker pass at. (r.parts worker pass at).began;
+    rows = r.rows;
+    pending = λ worker pass at. (backed worker pass at).pending;
+    owed = λ worker pass at. (r.parts worker pass at).owed;
+    sequence = r.sequence;
+    count = sym r.number;
+    numbered = number_at;
+    once = stored;
+    no_other = λ worker place e s. (stands_in worker place e s).0;
+    seen = λ worker pass at. (r.parts worker pass at).seen;
+  }
+
+-- the history of the rule is stored in the callers' lists
+pub all_stored : HistoryIsStored
+all_stored grants words passes h = (h.1, h.0, h.2, is_stored grants h.0 h.1 h.2 words passes h.3 h.4)
+
+-- what a caller that stores the row count has to write
+count_of : (grants : Grants) (words : List ℕ) (passes : List Pass) (worker value : ℕ) (here : Here grants words passes worker)
+    (pending : Pending) (after : Pass) → here.pass.pending ≡ pending → MayWrite words pending 2 value here.pass after
+    → IsCountStore grants passes worker value
+count_of grants words passes worker value here AtRest after is may = absurd may
+count_of grants words passes worker value here (Planned plan) after is (store_row index lt e v same, new) = absurd (omega arith)
+count_of grants words passes worker value here (Planned plan) after is (store_count e v same, new) =
+    let owed : IsOwed here.start here.history here.pass.mine (Planned plan) =
+    subst (IsOwed here.start here.history here.pass.mine) is (here.running.parts worker here.pass here.own).owed in
+    let backs : Backs grants here.state worker (Planned plan) = subst (Backs grants here.state worker) is (here.backed worker here.pass here.own).pending in
+    record {
+      pass = here.pass;
+      there = here.own;
+      plan = plan;
+      planned = is;
+      counted = v;
+      holds = backs.0;
+      others = owed.others;
+      entry = owed.entry;
+      last = owed.own;
+      under = (leaves_plan owed.found owed.left owed.entry.under plan owed.leaves).0;
+    }
+count_of grants words passes worker value here (OneRow c) after is may = let e : 2 ≡ 3 + c.index = may.0 in absurd (omega arith)
+
+-- what a caller stores that has a plan to write
+pub all_new : StoresAreNew
+all_new grants words passes worker place value note pass after plan own is may =
+    let same : may.0.pass ≡ pass = some-injective may.0.pass pass (sym may.0.own ∙ own) in
+    subst (λ (x : Pass). MayStore (rows_after plan) place value x after × IsNew words place value) same
+    (subst (λ (q : Pending). MayWrite words q place value may.0.pass after) (ap (λ (x : Pass). x.pending) same ∙ is) may.1)
+
+-- the row count is stored by calls under everything alone
+pub count_stores : CountIsOfWhole
+count_stores grants words passes worker value note after may = count_of grants words passes worker value may.0 may.0.pass.pending after refl may.1
+
+hold_of : (grants : Grants) (words : List ℕ) (passes : List Pass) (worker : ℕ) (note : Note)
+    (here : Here grants words passes worker) (after : Pass) → MayAdd grants words passes worker note here 0 after
+    → (held : Option Held) × (get_elem? grants worker ≡ some held) × HoldsFor held note.under × (after.drew ≡ held)
+    × (history : List Entry) × (after.seen ≡ history ++ entry_of (length history) worker note ∷ [])
+hold_of grants words passes worker note here after (raise plan e pends written is) = absurd (omega arith)
+hold_of grants words passes worker note here after (draw e d is) =
+    let f = entry_of (length here.history) worker note in (
+      d.held.0,
+      d.held.1,
+      d.held.2,
+      ap (λ (p : Pass). p.drew) is ∙ draw_drew here.history f d.held.0 here.pass note.pending,
+      here.history,
+      ap (λ (p : Pass). p.seen) is ∙ draw_seen here.history f d.held.0 here.pass note.pending,
+    )
+
+-- each draw is made by a caller that holds what its entry names
+pub all_hold : DrawsHold
+all_hold grants words passes worker by note after may = hold_of grants words passes worker note may.1 after may.2
+
+-- a pass that has become another one with the same entries and the same last draw
+same_draw : (p q after : Pass) → after ≡ q → q.mine ≡ p.mine → q.drew ≡ p.drew → KeepsDraw p after
+same_draw p q after is m d = record { mine = ap (λ (x : Pass). x.mine) is ∙ m; drew = ap (λ (x : Pass). x.drew) is ∙ d }
+
+load_keeps : (own : Option Held → Type 0) (free held : Type 0) (words : List ℕ) (history : List Entry) (place : ℕ) (p after : Pass)
+    → MayLoad own free held words history place p after → KeepsDraw p after
+load_keeps own free held words history place p after (number h o e is) = same_draw p _ after is refl refl
+load_keeps own free held words history place p after (glance f e is) = same_draw p _ after is refl refl
+load_keeps own free held words history place p after (sequence h e is) = same_draw p _ after is refl refl
+load_keeps own free held words history place p after (count h e is) = same_draw p _ after is refl refl
+load_keeps own free held words history place p after (row i h few e is) = same_draw p _ after is refl refl
+
+store_keeps : (rows : List ℕ) (place value : ℕ) (p after : Pass) → MayStore rows place value p after → KeepsDraw p after
+store_keeps rows place value p after (store_row i lt e v is) = same_draw p _ after is refl refl
+store_keeps rows place value p after (store_count e v is) = same_draw p _ after is refl refl
+
+write_keeps : (words : List ℕ) (pending : Pending) (place value : ℕ) (p after : Pass) → MayWrite words pending place value p after → KeepsDraw p after
+write_keeps words AtRest place value p after may = absurd may
+write_keeps words (Planned plan) place value p after may = store_keeps (rows_after plan) place value p after may.0
+write_keeps words (OneRow c) place value p after may = same_draw p _ after may.3 refl refl
+
+raise_keeps : (grants : Grants) (words : List ℕ) (passes : List Pass) (worker place : ℕ) (note : Note)
+    (here : Here grants words passes worker) (after : Pass) → (place ≡ 0 → ⊥)
+    → MayAdd grants words passes worker note here place after → KeepsDraw here.pass after
+raise_keeps grants words passes worker place note here after differ (draw e d is) = absurd (differ e)
+raise_keeps grants words passes worker place note here after differ (raise plan e pends written is) = same_draw here.pass _ after is refl refl
+
+-- a step of a caller at a moment, from the pass that it has there
+step_keeps : (grants : Grants) (words : List ℕ) (passes : List Pass) (worker : ℕ) (step : ClientStep) (note : Note) (after : Pass)
+    → IsNoDraw step → Allowed grants words passes worker step note after
+    → (here : Here grants words passes worker) × KeepsDraw here.pass after
+step_keeps grants words passes worker (loads i) note after other may = (may.0, load_keeps _ _ _ words may.0.history i may.0.pass after may.1)
+step_keeps grants words passes worker (stores i value) note after other may = (may.0, write_keeps words may.0.pass.pending i value may.0.pass after may.1)
+step_keeps grants words passes worker (adds i by) note after other may = (may.1, raise_keeps grants words passes worker i note may.1 after other may.2)
+step_keeps grants words passes worker (exchanges i expected new) note after other may = absurd may
+
+-- a step that draws no number keeps each caller's entries and what was held at its last draw
+pub draw_kept : LastDrawIsKept
+draw_kept grants words passes worker step note pass after own other may =
+    let k = step_keeps grants words passes worker step note after other may in
+    let same : k.0.pass ≡ pass = some-injective k.0.pass pass (sym k.0.own ∙ own) in
+    (subst (λ (x : Pass). KeepsDraw x after) same k.1, record { mine = refl; drew = refl })

@@ -1,0 +1,67 @@
+-- What a caller has read of rows under its range, and what is so of it while others change rows beside that range. A
+-- row's boundary may move there, but never over a held page: so a row that was read stays on its side of each page that
+-- is held, and is as it was read where such a page touches it. The definitions are this project's own; the range lock
+-- is that of Kogan, Dice and Issa, EuroSys 2020.
+use Rattle.std.specs.Prelude.{ℕ, zero, suc, ◌≡◌, ◌<◌, ◌≤◌, ◌+◌, ◌==◌, ◌⊎◌, ◌↔◌, if◌then◌else◌, Option, Some, None, List, [], ◌∷◌, ◌++◌, length, slice_index}
+use Rattle.page_types.specs.declared.TheConstants.{LIMIT}
+use Rattle.lock_core.specs.declared.range.Mode.TheVariants.{Writer}
+use Rattle.lock_core.specs.declared.range.Held.{Held}
+use Rattle.area_guard.specs.declared.guard.ReadRow.{ReadRow}
+use Rattle.area_guard.specs.declared.guard.Pass.{Pass}
+use Rattle.row_plans.specs.RowWords.{row_start, row_kind}
+use Rattle.area_guard.specs.Rows.{IsRowOf}
+
+-- all pages, held as a writer
+abbrev pub everything : Held
+everything = record { range = record { lo = 0; hi = LIMIT }; mode = Writer }
+
+-- a page lies in a held range
+abbrev pub IsHeldPage : Option Held → ℕ → Type 0
+IsHeldPage held page = (h : Held) × (held ≡ Some h) × (h.range.lo ≤ page) × (page < h.range.hi)
+
+-- a number, or 0 where there is none
+abbrev pub or_zero : Option ℕ → ℕ
+or_zero None = 0
+or_zero (Some n) = n
+
+-- a row was read like that, among others
+abbrev pub HasRead : List ReadRow → ℕ → ℕ → Type 0
+HasRead [] index word = ⊥
+HasRead (r ∷ rest) index word = ((r.index ≡ index) × (r.word ≡ word)) ⊎ HasRead rest index word
+
+-- rows as a caller notes them, with their numbers from one on
+abbrev pub noted_from : ℕ → List ℕ → List ReadRow
+noted_from index [] = []
+noted_from index (word ∷ rest) = record { index = index; word = word } ∷ noted_from (index + 1) rest
+
+-- the word that was read last of a row, or 0
+abbrev pub word_of : List ReadRow → ℕ → ℕ
+word_of [] index = 0
+word_of (r ∷ rest) index = if r.index == index then r.word else word_of rest index
+
+-- the words that were read last of so many rows
+unfoldable pub words_of : List ReadRow → ℕ → List ℕ
+words_of rows zero = []
+words_of rows (suc count) = words_of rows count ++ word_of rows count ∷ []
+
+-- the row words that a caller knows, as many as it has counted
+abbrev pub known_rows : Pass → List ℕ
+known_rows pass = words_of pass.rows (or_zero pass.count)
+
+-- the caller has read, or stored, these row words and their count: they are all there are
+abbrev pub HasRows : Pass → List ℕ → Type 0
+HasRows pass rows = (pass.count ≡ Some (length rows)) × ((i : ℕ) → i < length rows → HasRead pass.rows i (slice_index rows i))
+
+-- it knows all rows that there are
+abbrev pub KnowsRows : Pass → Type 0
+KnowsRows pass = HasRows pass (known_rows pass)
+
+-- a row that was read stands still, as far as held pages tell: it starts on the same side of each of them; where it
+-- starts at one or right behind one, it starts there; where one lies in it, it has its kind; and where everything is
+-- held, its word is the same
+pub record StillStands (held : Option Held) (words : List ℕ) (r : ReadRow) : Type 0 where
+  pub side : (page : ℕ) → IsHeldPage held page → (row_start r.word ≤ page) ↔ (row_start (slice_index words (3 + r.index)) ≤ page)
+  pub start : (page : ℕ) → IsHeldPage held page → (page ≡ row_start r.word) ⊎ (page + 1 ≡ row_start r.word)
+      → row_start (slice_index words (3 + r.index)) ≡ row_start r.word
+  pub kind : (page : ℕ) → IsHeldPage held page → IsRowOf words page r.index → row_kind (slice_index words (3 + r.index)) ≡ row_kind r.word
+  pub word : held ≡ Some everything → slice_index words (3 + r.index) ≡ r.word

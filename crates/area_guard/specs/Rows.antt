@@ -1,0 +1,62 @@
+-- The row words among the client words, and what they show: the kind of each page. `RowsShow` takes the kinds as a
+-- function from pages, so that rows which lag behind the history at some pages are said by another function and not by
+-- another definition.
+use Rattle.std.specs.Prelude.{ℕ, zero, suc, ◌≡◌, ◌<◌, ◌≤◌, ◌+◌, ◌-◌, ◌*◌, ◌/◌, All, Option, List, [], ◌∷◌, length, min, take, drop, slice_index}
+use mathlib.Core.Option.{some}
+use lib.ListN.{get_elem?}
+use Rattle.atomic_table.specs.Seated.{TableId}
+use Rattle.page_types.specs.declared.TheConstants.{ROWS}
+use Rattle.page_types.specs.declared.calls.Kind.{Kind}
+use Rattle.row_plans.specs.RowWords.{row_start}
+use Rattle.row_plans.specs.RowLists.{ShowFrom, IsBareGap}
+
+-- the row words among the client words: word 2 counts them, and they stand from word 3 on
+abbrev pub rows_in : List ℕ → List ℕ
+rows_in words = take (slice_index words 2) (drop 3 words)
+
+-- how many rows a table has room for. Its words are 1 + 65 for each seat of the lock's, once for each list, the three
+-- counts, the rows, and behind them one for each of sixteen callers. There are 1 to 16 seats and the room comes in
+-- steps of 1024, so where there is one list how many words there are tells it. A space of several lists has room for
+-- 131072 rows, the most that there is, and has more words than one of one list with as much room
+unfoldable pub room_of : TableId → ℕ
+room_of table = min ((table.words - 85) / 1024 * 1024) 131072
+
+-- the row words show these kinds of the pages below LIMIT; there is room for them before the last sixteen words
+pub record RowsShow (words : List ℕ) (kinds : ℕ → Option Kind) : Type 0 where
+  pub room : 19 + slice_index words 2 ≤ length words
+  pub some : 0 < slice_index words 2
+  pub few : slice_index words 2 ≤ ROWS
+  pub show : ShowFrom 0 (rows_in words) kinds
+  pub gaps : All IsBareGap (rows_in words)
+
+-- so many numbers from one on
+abbrev pub slots_from : ℕ → ℕ → List ℕ
+slots_from first zero = []
+slots_from first (suc n) = first ∷ slots_from (first + 1) n
+
+-- the slots in which rows stand, in order of pages: the row of slot s is client word 3 + s. They are the first ones, as
+-- many as word 2 counts
+abbrev pub slots_in : List ℕ → List ℕ
+slots_in words = slots_from 0 (slice_index words 2)
+
+-- one of these slots
+abbrev pub IsOneOf : List ℕ → ℕ → Type 0
+IsOneOf slots slot = (k : ℕ) × (get_elem? slots k ≡ some slot)
+
+-- one of them and the one behind it
+abbrev pub AreNeighbours : List ℕ → ℕ → ℕ → Type 0
+AreNeighbours slots slot next = (k : ℕ) × (get_elem? slots k ≡ some slot) × (get_elem? slots (k + 1) ≡ some next)
+
+-- a row stands in that slot
+abbrev pub IsSlot : List ℕ → ℕ → Type 0
+IsSlot words slot = IsOneOf (slots_in words) slot
+
+-- the row in the slot is followed by the one in the next
+abbrev pub IsNext : List ℕ → ℕ → ℕ → Type 0
+IsNext words slot next = AreNeighbours (slots_in words) slot next
+
+-- the row of a page, told by its slot, is the last one that starts at or before it
+pub record IsRowOf (words : List ℕ) (page slot : ℕ) : Type 0 where
+  pub there : IsSlot words slot
+  pub from : row_start (slice_index words (3 + slot)) ≤ page
+  pub last : (next : ℕ) → IsNext words slot next → page < row_start (slice_index words (3 + next))

@@ -1,0 +1,112 @@
+-- That the history of a running address space is the callers' entries, by number, that the rows show its last state,
+-- that it is legal as the one-thread model has it, and that each number is drawn under the range that its entry
+-- names. While a call under everything isn't written yet, its caller holds everything and has a plan that shows the
+-- last state. What a caller has to write is always what the last of its entries leaves. Between two steps a reader may
+-- take the entry of a number from the one caller who stores it.
+use Rattle.std.specs.Prelude.{ℕ, ◌≡◌, ◌≢◌, ◌+◌, Option, List, [], ◌∷◌, ◌++◌, length, slice_index}
+use mathlib.Core.Option.{some}
+use lib.ListN.{get_elem?}
+use Rattle.space_model.specs.declared.areas.Area.{Area}
+use Rattle.space_model.specs.declared.entries.Entry.{Entry}
+use Rattle.space_model.specs.declared.entries.Under.TheVariants.{Whole}
+use Rattle.space_model.specs.History.{IsLegal, StateAfter}
+use Rattle.lock_core.specs.Grants.{Grants, Holds}
+use Rattle.lock_core.specs.Client.{ClientStep, loads, stores, adds, exchanges}
+use Rattle.lock_core.specs.declared.range.Held.{Held}
+use Rattle.area_guard.specs.declared.guard.Note.{Note}
+use Rattle.area_guard.specs.declared.guard.Pass.{Pass}
+use Rattle.area_guard.specs.declared.guard.Pending.TheVariants.{Planned}
+use Rattle.area_guard.specs.declared.guard.Splice.{Splice}
+use Rattle.area_guard.specs.Reads.{everything}
+use Rattle.area_guard.specs.History.{Runs, StartsWith, whole_count, planned_count, RowsStandFor, Backs, HasHistory, HoldsFor, Allowed, entry_of, rest_of}
+use Rattle.area_guard.specs.History.{IsOwed, IsInUse, MayStore, rows_after}
+
+-- the caller of that number has the entry at that place among its own
+abbrev pub Stores : List Pass → ℕ → ℕ → Entry → Type 0
+Stores passes worker place e = (pass : Pass) × (get_elem? passes worker ≡ some pass) × (get_elem? pass.mine place ≡ some e)
+
+-- one caller stores the entry at one place, and no other entry of any caller has its number
+pub record IsStoredOnce (passes : List Pass) (e : Entry) : Type 0 where
+  pub place : ℕ
+  pub there : Stores passes e.worker place e
+  pub once : (worker other : ℕ) (f : Entry) → Stores passes worker other f → f.number ≡ e.number
+      → (worker ≡ e.worker) × (other ≡ place) × (f ≡ e)
+
+-- the history has as many entries as the number word says, and runs from the start with which each caller began to
+-- the state that the rows show, unless a call under everything isn't written yet; what is to be written is right for
+-- that state and is what its caller's last entry leaves, and the caller holds the range. The entry of each number is
+-- stored once, every stored entry is one of them, and each caller has seen a beginning
+pub record IsStored (grants : Grants) (words : List ℕ) (passes : List Pass) (history : List Entry) (start state : List Area) : Type 0 where
+  pub runs : Runs 0 start history state
+  pub began : (worker : ℕ) (pass : Pass) → get_elem? passes worker ≡ some pass → pass.start ≡ start
+  pub rows : planned_count passes ≡ 0 → RowsStandFor state passes words
+  pub pending : (worker : ℕ) (pass : Pass) → get_elem? passes worker ≡ some pass → Backs grants state worker pass.pending
+  pub owed : (worker : ℕ) (pass : Pass) → get_elem? passes worker ≡ some pass → IsOwed start history pass.mine pass.pending
+  pub sequence : slice_index words 1 + planned_count passes ≡ whole_count history
+  pub count : length history ≡ slice_index words 0
+  pub numbered : (n : ℕ) (e : Entry) → get_elem? history n ≡ some e → e.number ≡ n
+  pub once : (n : ℕ) (e : Entry) → get_elem? history n ≡ some e → IsStoredOnce passes e
+  pub no_other : (worker place : ℕ) (e : Entry) → Stores passes worker place e → get_elem? history e.number ≡ some e
+  pub seen : (worker : ℕ) (pass : Pass) → get_elem? passes worker ≡ some pass → StartsWith history pass.seen
+
+-- the rule of the guard stores one history, and its rows show the last state
+abbrev pub HistoryIsStored : Type 0
+HistoryIsStored = (grants : Grants) (words : List ℕ) (passes : List Pass) → HasHistory grants words passes
+    → (history : List Entry) × (start : List Area) × (state : List Area) × IsStored grants words passes history start state
+
+-- a store of the row count: its caller has rows to write, of which there are so many, and holds everything; its last
+-- entry was numbered under everything, and leaves these rows
+pub record IsCountStore (grants : Grants) (passes : List Pass) (worker value : ℕ) : Type 0 where
+  pub pass : Pass
+  pub there : get_elem? passes worker ≡ some pass
+  pub plan : Splice
+  pub planned : pass.pending ≡ Planned plan
+  pub counted : value ≡ length (rows_after plan)
+  pub holds : Holds grants worker everything
+  pub others : List Entry
+  pub entry : Entry
+  pub last : pass.mine ≡ others ++ entry ∷ []
+  pub under : entry.under ≡ Whole
+
+-- the row count is stored by calls under everything alone
+abbrev pub CountIsOfWhole : Type 0
+CountIsOfWhole = (grants : Grants) (words : List ℕ) (passes : List Pass) (worker value : ℕ) (note : Note) (after : Pass)
+    → Allowed grants words passes worker (stores 2 value) note after → IsCountStore grants passes worker value
+
+-- while a call under everything is to be written, its caller stores the rows that it leaves, each at its place, and
+-- their count, and none of these where it stands already
+abbrev pub StoresAreNew : Type 0
+StoresAreNew = (grants : Grants) (words : List ℕ) (passes : List Pass) (worker place value : ℕ) (note : Note) (pass after : Pass)
+    (plan : Splice) → get_elem? passes worker ≡ some pass → pass.pending ≡ Planned plan
+    → Allowed grants words passes worker (stores place value) note after
+    → MayStore (rows_after plan) place value pass after × (IsInUse words place → slice_index words place ≢ value)
+
+-- a run is legal, and leaves its last state
+abbrev pub RunsAreLegal : Type 0
+RunsAreLegal = (A B : List Area) (entries : List Entry) → Runs 0 A entries B → IsLegal A entries × StateAfter A entries B
+
+-- a caller's own entries are as before, and what was held at the last draw
+pub record KeepsDraw (before after : Pass) : Type 0 where
+  pub mine : after.mine ≡ before.mine
+  pub drew : after.drew ≡ before.drew
+
+-- a step that draws a number is made while its caller holds what the entry names. The pass keeps what was held then,
+-- and the caller sees the entry behind the history
+abbrev pub DrawsHold : Type 0
+DrawsHold = (grants : Grants) (words : List ℕ) (passes : List Pass) (worker by : ℕ) (note : Note) (after : Pass)
+    → Allowed grants words passes worker (adds 0 by) note after
+    → (held : Option Held) × (get_elem? grants worker ≡ some held) × HoldsFor held note.under × (after.drew ≡ held)
+    × (history : List Entry) × (after.seen ≡ history ++ entry_of (length history) worker note ∷ [])
+
+-- the step isn't an addition to the number word, which draws a number
+abbrev pub IsNoDraw : ClientStep → Type 0
+IsNoDraw (loads place) = Unit {0}
+IsNoDraw (stores place value) = Unit {0}
+IsNoDraw (adds place by) = place ≢ 0
+IsNoDraw (exchanges place expected new) = Unit {0}
+
+-- every other step of a caller, and giving its range back, keep what was held at its last draw, and its own entries
+abbrev pub LastDrawIsKept : Type 0
+LastDrawIsKept = (grants : Grants) (words : List ℕ) (passes : List Pass) (worker : ℕ) (step : ClientStep) (note : Note)
+    (pass after : Pass) → get_elem? passes worker ≡ some pass → IsNoDraw step
+    → Allowed grants words passes worker step note after → KeepsDraw pass after × KeepsDraw pass (rest_of pass)

@@ -1,6 +1,0 @@
-use Rattle.area_rows.proofs.Storing.{count_stores}
-use Rattle.area_rows.proofs.laws.count_is_of_everything.Goals as goal
-
--- the row count is stored by calls under everything alone
-pub returns : goal.returns
-returns c = count_stores
