@@ -1,3 +1,4 @@
+pub mod NumberEnds
 pub mod Searches
 pub mod FieldFacts
 pub mod RunFacts

@@ -1,17 +1,21 @@
--- The number at the end of a body, and words within it.
-use Rattle.std.proofs.Common.{◌≡◌, ◌≢◌, ℕ, ◌+◌, ◌^◌, ◌<◌, ◌≤◌, List, [], ◌∷◌, ◌++◌, length, take, drop, codes, Option, Some, None, refl, sym, ap, ◌∙◌, append_assoc, arith}
+-- Words within a body, and that a body tells one thing.
+use Rattle.std.proofs.Common.{◌≡◌, ◌⊎◌, ℕ, ◌+◌, ◌%◌, ◌/◌, ◌<◌, ◌≤◌, List, ◌∷◌, ◌++◌, length, take, drop, codes, Bool, Option, Some, None, refl, sym, ap}
+use Rattle.std.proofs.Common.{subst, ◌∙◌, append_assoc, inl, inr, arith}
 use Rattle.std.proofs.Common.{is_some}
+use Rattle.std.specs.Prelude.{IfSome, IsNone}
 use Rattle.std.specs.Bool.{Decides}
-use Rattle.std.proofs.lemmas.List.{append-nil, length-append}
-use Rattle.std.proofs.Math.Seq.{drop-append_seam}
-use Rattle.line_parts.specs.Leaves.{AllDigits, worth, value}
-use Rattle.line_parts.specs.Reading.{digits_of}
-use Rattle.line_parts.proofs.Numerals.{run_takes, same_digits}
+use Rattle.std.proofs.lemmas.List.{append_cancel_left, append_cancel_right, length-append}
+use Rattle.line_parts.specs.Leaves.{AllDigits, worth}
 use Rattle.strace_reader.specs.Grammar.{EndsWith}
-use Rattle.strace_reader.proofs.FormFacts.{last_same}
 use Rattle.memchr.specs.Find.{OccursAt, FindsNeedle}
-use Rattle.raw_lines.specs.Makers.{Holds, EndsWithNumber}
-use Rattle.raw_lines.proofs.Searches.{at_word, word_at, digits_end_same}
+use Rattle.raw_lines.specs.declared.makers.MadeAs.{MadeAs}
+use Rattle.raw_lines.specs.declared.makers.MadeAs.TheVariants.{Thread, Process, Untold}
+use Rattle.raw_lines.specs.declared.makers.Making.{Making}
+use Rattle.raw_lines.specs.declared.makers.Making.TheVariants.{Makes, Begins, Ends, Execs, Nothing}
+use Rattle.raw_lines.specs.Numbers.{EndsInNumber}
+use Rattle.raw_lines.specs.Makers.{Holds, IsWithout, IsToResult, outer_words, HasResult, EndsWithNumber, IsMadeAs, IsChild, IsMaking}
+use Rattle.raw_lines.proofs.Searches.{at_word, word_at, last_place_same}
+use Rattle.raw_lines.proofs.NumberEnds.{number_one, digits_without}
 
 -- a word that is found is held
 pub holds_found : (text word : List ℕ) (k : ℕ) → OccursAt text word k → Holds word text
@@ -28,81 +32,120 @@ pub holds_is : (text word : List ℕ) (r : Option ℕ) → FindsNeedle text word
 holds_is text word None h = (λ e. absurd cc, λ g. absurd (holds_nowhere text word h g))
 holds_is text word (Some k) h = (λ e. holds_found text word k h.1, λ g. refl)
 
--- what digits alone are read as
-pub digits_whole : (digits : List ℕ) → AllDigits 10 digits → (digits_of 10 0 digits).0 ≡ value 10 0 digits
-digits_whole digits all =
-    let r = run_takes 10 0 digits in
-    let s : r.0 ≡ digits = same_digits 10 [] r.0 digits r.1 [] r.2.all all r.2.ended tt (sym r.2.parts ∙ sym (append-nil digits)) tt in
-    ap (λ (x : ℕ × List ℕ). x.0) r.2.is_read ∙ ap (value 10 0) s
+-- ---- one result
 
--- the word before a number
-abbrev pub before_result : List ℕ
-before_result = codes "= "
+without_one : (word text a b : List ℕ) → IsWithout word text a → IsWithout word text b → a ≡ b
+without_one word text a b (inl h) (inl g) = append_cancel_right a b word (sym h ∙ g)
+without_one word text a b (inl h) (inr g) = absurd (g.1 (a, h))
+without_one word text a b (inr h) (inl g) = absurd (h.1 (b, g))
+without_one word text a b (inr h) (inr g) = h.0 ∙ sym g.0
 
-number_behind : (f front : List ℕ) (b : ℕ) → f ++ before_result ≡ front ++ (b ∷ []) → 10 ≤ worth b
+-- a body has one text up to its result
+pub result_text_one : (body a b : List ℕ) → IsToResult body a → IsToResult body b → a ≡ b
+result_text_one body a b h g =
+    let m : h.0 ≡ g.0 = without_one (codes " (DELAYED)") body h.0 g.0 h.1 g.1 in
+    without_one (codes " (INJECTED)") g.0 a b (subst (λ (x : List ℕ). IsWithout (codes " (INJECTED)") x a) m h.2) g.2
+
+-- a space is no digit
+pub space_no_digit : 16 ≤ worth 32
 unfolding worth
-number_behind f front b e =
-    let k : (f ++ codes "=") ++ (32 ∷ []) ≡ front ++ (b ∷ []) = append_assoc f (codes "=") (32 ∷ []) ∙ e in
-    let l : 32 ≡ b = last_same (f ++ codes "=") front 32 b k in
-    let w = ap worth l in
+space_no_digit = omega arith
+
+-- nor is the x of 0x
+pub x_no_digit : 16 ≤ worth 120
+unfolding worth
+x_no_digit = omega arith
+
+-- decimal digits behind a space aren't hexadecimal ones behind 0x
+bases_apart : (text : List ℕ) (n m : ℕ) → EndsInNumber 10 (codes "=") 32 text n → EndsInNumber 16 (codes "= 0") 120 text m → ⊥
+bases_apart text n m h g =
+    let left : text ≡ (h.0 ++ codes "=") ++ (32 ∷ h.1) = h.4 ∙ sym (append_assoc h.0 (codes "=") (32 ∷ h.1)) in
+    let right : text ≡ (g.0 ++ codes "= 0") ++ (120 ∷ g.1) = g.4 ∙ sym (append_assoc g.0 (codes "= 0") (120 ∷ g.1)) in
+    let right_space : text ≡ (g.0 ++ codes "=") ++ (32 ∷ 48 ∷ 120 ∷ g.1) = g.4 ∙ sym (append_assoc g.0 (codes "=") (32 ∷ 48 ∷ 120 ∷ g.1)) in
+    let s = last_place_same 32 (h.0 ++ codes "=") (g.0 ++ codes "=") h.1 (48 ∷ 120 ∷ g.1)
+    (digits_without 10 32 (let k = space_no_digit in omega arith) h.1 h.2.1)
+    (refl, (refl, digits_without 16 32 space_no_digit g.1 g.2.1)) (sym left ∙ right_space) in
+    let all = subst (AllDigits 10) s.1 h.2.1 in
+    let k = all.1.0 in
+    let w = x_no_digit in
     omega arith
 
--- where a body ends with a number, these are its parts
-pub record IsNumberEnd (front digits : List ℕ) (n : ℕ) : Type 0 where
-  pub some : 0 < length digits
-  pub is : n ≡ value 10 0 digits
-  pub narrow_pid : n < 2 ^ 32
-  pub before : EndsWith before_result front
+plain_one : (text : List ℕ) (n m : ℕ) → (EndsInNumber 10 (codes "=") 32 text n ⊎ EndsInNumber 16 (codes "= 0") 120 text n)
+    → (EndsInNumber 10 (codes "=") 32 text m ⊎ EndsInNumber 16 (codes "= 0") 120 text m) → n ≡ m
+plain_one text n m (inl h) (inl g) = number_one 10 (codes "=") 32 text n m (let k = space_no_digit in omega arith) h g
+plain_one text n m (inl h) (inr g) = absurd (bases_apart text n m h g)
+plain_one text n m (inr h) (inl g) = absurd (bases_apart text m n g h)
+plain_one text n m (inr h) (inr g) = number_one 16 (codes "= 0") 120 text n m x_no_digit h g
 
--- they are found from the end
-pub number_end : (body front digits : List ℕ) (n : ℕ) → body ≡ front ++ digits → AllDigits 10 digits
-    → ((before : List ℕ) (b : ℕ) → front ≡ before ++ (b ∷ []) → 10 ≤ worth b) → EndsWithNumber body n → IsNumberEnd front digits n
-number_end body front digits n parts all ended h =
-    let e : front ++ digits ≡ (h.0 ++ before_result) ++ h.1 = sym parts ∙ h.4 ∙ sym (append_assoc h.0 before_result h.1) in
-    let s = digits_end_same front (h.0 ++ before_result) digits h.1 all h.2.1 ended (number_behind h.0) e in
-    let l = ap length s.1 in
-    let some = h.2.0 in
-    record { some = omega arith; is = h.2.2 ∙ sym (ap (value 10 0) s.1); narrow_pid = h.3; before = (h.0, s.0) }
+has_one : (text : List ℕ) (n m : ℕ) → HasResult text n → HasResult text m → n ≡ m
+has_one text n m (inl h) (inl g) =
+    let f : h.0 ≡ g.0 = append_cancel_right h.0 g.0 outer_words (sym h.1 ∙ g.1) in
+    number_one 10 (codes "/*") 32 g.0 n m (let k = space_no_digit in omega arith) (subst (λ (x : List ℕ). EndsInNumber 10 (codes "/*") 32 x n) f h.2) g.2
+has_one text n m (inl h) (inr g) = absurd (g.0 (h.0, h.1))
+has_one text n m (inr h) (inl g) = absurd (h.0 (g.0, g.1))
+has_one text n m (inr h) (inr g) = plain_one text n m h.1 g.1
 
--- digits behind the word are the number that the body ends with
-pub number_found : (body front digits : List ℕ) (n : ℕ) → body ≡ front ++ digits → AllDigits 10 digits → 0 < length digits
-    → n ≡ value 10 0 digits → n < 2 ^ 32 → EndsWith before_result front → EndsWithNumber body n
-number_found body front digits n parts all some is lt w = (
-  w.0,
-  digits,
-  (some, all, is),
-  lt,
-  parts ∙ ap (λ (x : List ℕ). x ++ digits) w.1 ∙ append_assoc w.0 before_result digits,
-)
+-- a body ends with one result
+pub result_one : (body : List ℕ) (n m : ℕ) → EndsWithNumber body n → EndsWithNumber body m → n ≡ m
+result_one body n m h g =
+    let t : h.0 ≡ g.0 = result_text_one body h.0 g.0 h.1 g.1 in
+    has_one g.0 n m (subst (λ (x : List ℕ). HasResult x n) t h.2) g.2
 
--- what is cut off behind the front of a text is what stands behind it
-pub cut_front : (text front back cut : List ℕ) → text ≡ front ++ back → cut ≡ drop (length front) text → cut ≡ back
-cut_front text front back cut e c = c ∙ ap (drop (length front)) e ∙ drop-append_seam front back
+-- what is said of an option's value is said of it in other words
+pub if_some : {A : Type 0} (r : Option A) (P Q : A → Type 0) → ((x : A) → P x → Q x) → IfSome r P → IfSome r Q
+if_some None P Q f h = tt
+if_some (Some x) P Q f h = f x h
 
--- what the digits at the end of a body are read as
-pub number_value : (body front digits cut : List ℕ) → body ≡ front ++ digits → AllDigits 10 digits → cut ≡ drop (length front) body
-    → (digits_of 10 0 cut).0 ≡ value 10 0 digits
-number_value body front digits cut e all c = ap (λ (x : List ℕ). (digits_of 10 0 x).0) (cut_front body front digits cut e c) ∙ digits_whole digits all
+-- the result that is found is what a body makes
+pub child_is : (body text : List ℕ) (r : Option ℕ) → IsToResult body text → IfSome r (HasResult text)
+    → (IsNone r → (n : ℕ) → ¬ HasResult text n) → IsChild body r
+child_is body text None to some none = λ n h. none refl n (subst (λ (x : List ℕ). HasResult x n) (result_text_one body h.0 text h.1 to) h.2)
+child_is body text (Some n) to some none = (text, to, some)
 
--- a body without a digit at its end has no number there
-pub number_no_digit : (body front digits : List ℕ) → body ≡ front ++ digits → AllDigits 10 digits
-    → ((before : List ℕ) (b : ℕ) → front ≡ before ++ (b ∷ []) → 10 ≤ worth b) → length front ≡ length body
-    → (n : ℕ) → EndsWithNumber body n → ⊥
-number_no_digit body front digits parts all ended l n h =
-    let s = (number_end body front digits n parts all ended h).some in
-    let k = ap length parts ∙ length-append front digits in
-    omega arith
+-- ---- one thing told
 
--- where the front is shorter than the body there are digits
-pub number_some : (body front digits : List ℕ) → body ≡ front ++ digits → length front ≢ length body → 0 < length digits
-number_some body front digits parts long = let k = ap length parts ∙ length-append front digits in omega arith
+made_one : (body : List ℕ) (a b : MadeAs) → IsMadeAs body a → IsMadeAs body b → a ≡ b
+made_one body Thread Thread h g = refl
+made_one body Thread Process h g = absurd (g.0 h)
+made_one body Thread Untold h g = absurd (g.0 h)
+made_one body Process Thread h g = absurd (h.0 g)
+made_one body Process Process h g = refl
+made_one body Process Untold h g = absurd (h.1 g.1)
+made_one body Untold Thread h g = absurd (h.0 g)
+made_one body Untold Process h g = absurd (g.1 h.1)
+made_one body Untold Untold h g = refl
 
--- nor has one whose digits are read as a wider number
-pub number_wide : (body front digits : List ℕ) (v : ℕ) → body ≡ front ++ digits → AllDigits 10 digits
-    → ((before : List ℕ) (b : ℕ) → front ≡ before ++ (b ∷ []) → 10 ≤ worth b) → v ≡ value 10 0 digits → 2 ^ 32 ≤ v
-    → (n : ℕ) → EndsWithNumber body n → ⊥
-number_wide body front digits v parts all ended e w n h =
-    let k = number_end body front digits n parts all ended h in
-    let i = k.is in
-    let j = k.narrow_pid in
-    omega arith
+child_one : (body : List ℕ) (a b : Option ℕ) → IsChild body a → IsChild body b → a ≡ b
+child_one body None None h g = refl
+child_one body None (Some n) h g = absurd (h n g)
+child_one body (Some n) None h g = absurd (g n h)
+child_one body (Some n) (Some m) h g = ap (λ (x : ℕ). Some x) (result_one body n m h g)
+
+-- a body tells one thing
+pub making_one : (body : List ℕ) (a b : Making) → IsMaking body a → IsMaking body b → a ≡ b
+making_one body (Makes k c) (Makes l d) h g =
+    ap (λ (x : MadeAs). Makes x c) (made_one body k l h.2 g.2) ∙ ap (λ (x : Option ℕ). Makes l x) (child_one body c d h.3 g.3)
+making_one body (Makes k c) (Begins l) h g = absurd (h.1 g.1)
+making_one body (Makes k c) (Ends d) h g = absurd (g.0 h.0)
+making_one body (Makes k c) Execs h g = absurd (g.0 h.0)
+making_one body (Makes k c) Nothing h g = absurd (g.0 h.0)
+making_one body (Begins k) (Makes l d) h g = absurd (g.1 h.1)
+making_one body (Begins k) (Begins l) h g = ap (λ (x : MadeAs). Begins x) (made_one body k l h.2 g.2)
+making_one body (Begins k) (Ends d) h g = absurd (g.0 h.0)
+making_one body (Begins k) Execs h g = absurd (g.0 h.0)
+making_one body (Begins k) Nothing h g = absurd (g.0 h.0)
+making_one body (Ends c) (Makes l d) h g = absurd (h.0 g.0)
+making_one body (Ends c) (Begins l) h g = absurd (h.0 g.0)
+making_one body (Ends c) (Ends d) h g = ap (λ (x : Option ℕ). Ends x) (child_one body c d h.2 g.2)
+making_one body (Ends c) Execs h g = absurd (g.1 h.1)
+making_one body (Ends c) Nothing h g = absurd (g.1 h.1)
+making_one body Execs (Makes l d) h g = absurd (h.0 g.0)
+making_one body Execs (Begins l) h g = absurd (h.0 g.0)
+making_one body Execs (Ends d) h g = absurd (h.1 g.1)
+making_one body Execs Execs h g = refl
+making_one body Execs Nothing h g = absurd (g.2 h.2 h.3)
+making_one body Nothing (Makes l d) h g = absurd (h.0 g.0)
+making_one body Nothing (Begins l) h g = absurd (h.0 g.0)
+making_one body Nothing (Ends d) h g = absurd (h.1 g.1)
+making_one body Nothing Execs h g = absurd (h.2 g.2 g.3)
+making_one body Nothing Nothing h g = refl

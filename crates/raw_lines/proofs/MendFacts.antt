@@ -1,5 +1,6 @@
 -- A refused line is mended in one way: the forms of the mends exclude each other, and each gives one line.
-use Rattle.std.proofs.Common.{◌≡◌, ◌≢◌, ◌⊎◌, ℕ, suc, ◌+◌, ◌-◌, ◌<◌, ◌≤◌, List, [], ◌∷◌, ◌++◌, length, take, drop, codes, Bool, true, false, Ok, Err, refl, sym, ap, subst, ◌∙◌, append_assoc, inl, inr, arith}
+use Rattle.std.proofs.Common.{◌≡◌, ◌≢◌, ◌⊎◌, ℕ, suc, ◌+◌, ◌-◌, ◌<◌, ◌≤◌, List, [], ◌∷◌, ◌++◌, length, take, drop, codes, Bool, true, false, Ok, Err, refl}
+use Rattle.std.proofs.Common.{sym, ap, subst, ◌∙◌, append_assoc, inl, inr, arith}
 use Rattle.std.proofs.Common.{length-take-le}
 use Rattle.std.proofs.lemmas.Bool.{cases_lt}
 use Rattle.std.proofs.lemmas.Bool.Decides.{nat_tests}
@@ -20,7 +21,8 @@ use Rattle.strace_reader.specs.declared.item.Item.{Item}
 use Rattle.strace_reader.specs.Grammar.{EndsWith, IsCut, Spells, Refuses, RefusesBody}
 use Rattle.strace_reader.proofs.OneOutcome.{one_outcome}
 use Rattle.strace_reader.proofs.FormFacts.{cut_same, cut_length}
-use Rattle.raw_lines.specs.Mends.{Mends, MendsDetached, MendsDeleted, MendsWord, MendsNegative, MendsLong, MendsError, AreMends, is_read, one_mend, AreOfOne, IsWhole}
+use Rattle.raw_lines.specs.Mends.{Mends, MendsDetached, MendsDeleted, MendsWord, MendsNegative, MendsLong, MendsError, AreMends, is_read, one_mend, AreOfOne}
+use Rattle.raw_lines.specs.Mends.{IsWhole}
 use Rattle.raw_lines.specs.Mends.{detached, deleted, never_returned}
 
 -- two texts of one whole whose fronts are as long are the same in both parts

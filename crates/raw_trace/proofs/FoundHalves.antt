@@ -23,7 +23,8 @@ use Rattle.raw_trace.specs.declared.halves.Role.TheVariants.{Alone, First, Secon
 use Rattle.raw_trace.specs.declared.halves.Waiting.{Waiting}
 use Rattle.raw_trace.specs.Places.{IsQuiet, IsFirst, IsSecond, IsPaired}
 use Rattle.raw_trace.specs.Stages.{IsRole, AreRoles, all_roles, IsWaiting, Finds, FindsRole}
-use Rattle.raw_trace.proofs.RoleLists.{roles_from, roles_at, roles_length, SplitsMore, split_more, splits_before, splits_there}
+use Rattle.raw_trace.proofs.RoleLists.{roles_from, roles_at, roles_length}
+use Rattle.raw_logs.proofs.Splits.{SplitsMore, split_more, splits_before, splits_there}
 
 -- ---- quiet texts
 

@@ -1,6 +1,7 @@
 -- Good lines stand by themselves: a line that is read as a whole is half of no call, and becomes itself. What a line
 -- becomes is one line, with one ending.
-use Rattle.std.proofs.Common.{◌≡◌, ℕ, ◌<◌, ◌≤◌, Bool, List, length, sym, subst, ◌∙◌, inl, inr, arith}
+use Rattle.std.proofs.Common.{◌≡◌, ℕ, ◌<◌, ◌≤◌, Bool, List, length, codes, sym, subst, ◌∙◌, inl, inr, arith}
+use Rattle.std.proofs.lemmas.List.{length-append}
 use Rattle.std.specs.Bool.{Decides}
 use Rattle.strace_reader.specs.declared.item.BadCall.{BadCall}
 use Rattle.strace_reader.specs.declared.item.Item.{Item}
@@ -13,10 +14,9 @@ use Rattle.raw_lines.specs.Marks.{unread_text}
 use Rattle.raw_lines.specs.Mends.{IsWhole, IsMended, unreturned_text}
 use Rattle.raw_lines.specs.Plain.{IsStill}
 use Rattle.raw_trace.specs.declared.settling.Ending.{Ending}
-use Rattle.raw_trace.specs.declared.settling.Ending.TheVariants.{AsUnread, AsUnreturned, ByMends}
+use Rattle.raw_trace.specs.declared.settling.Ending.TheVariants.{AsItIs, AsUnread, AsUnreturned, ByMends}
 use Rattle.raw_trace.specs.declared.settling.Settled.{Settled}
-use Rattle.raw_trace.specs.Stages.{line_of}
-use Rattle.raw_trace.specs.Places.{IsPaired, IsGood, IsHalfAlone, Becomes, becomes_unread, becomes_unreturned, becomes_mended}
+use Rattle.raw_trace.specs.Places.{IsPaired, IsGood, IsHalfAlone, Becomes, becomes_itself, becomes_unread, becomes_unreturned, becomes_mended}
 
 -- a line that is read as a whole is no first half
 pub whole_no_first : (line : List ℕ) (item : Item) (p : ℕ) (n : Name) (from to : ℕ) → Spells line item → IsWhole item
@@ -78,8 +78,8 @@ refused_unread line bad h none =
     becomes_unread (refused_not_good line bad h) (refused_no_half line bad h) (λ worse other r short m. none other m)
 
 -- what is written unread ends so
-pub unread_as : (line : List ℕ) (s : Settled) → Becomes line (unread_text line) AsUnread → (line_of line s ≡ unread_text line) × (s.ending ≡ AsUnread)
-    → Becomes line (line_of line s) s.ending
+pub unread_as : (line : List ℕ) (s : Settled) → Becomes line (unread_text line) AsUnread → (s.line.items ≡ unread_text line) × (s.ending ≡ AsUnread)
+    → Becomes line s.line.items s.ending
 unread_as line s h e =
     subst (λ (x : List ℕ). Becomes line x s.ending) (sym e.0) (subst (λ (x : Ending). Becomes line (unread_text line) x) (sym e.1) h)
 
@@ -101,3 +101,15 @@ pub mend_unread : (line : List ℕ) (bad : BadCall) (shown other : List ℕ) →
 mend_unread line bad shown other r m e bad_one =
     refused_unread line bad r (λ more n good.
     bad_one (subst IsGood (sym (e ∙ all_mends_same 3 line other more m.0 n.0)) good))
+
+-- a line that is too long is left unread
+pub long_unread : (line : List ℕ) → 65535 < length line → Becomes line (unread_text line) AsUnread
+long_unread line l =
+    becomes_unread (λ good. omega (arith, l, good.2))
+    (λ half. let k = length-append line (codes ") = ?") in let m = half.5.2 in omega (arith, l, k, m))
+    (λ bad other r short m. absurd (omega (arith, l, short)))
+
+-- what is written as it is ends so
+pub kept_as : (line : List ℕ) (s : Settled) → IsGood line → (s.line.items ≡ line) × (s.ending ≡ AsItIs) → Becomes line s.line.items s.ending
+kept_as line s good e =
+    subst (λ (x : List ℕ). Becomes line x s.ending) (sym e.0) (subst (λ (x : Ending). Becomes line line x) (sym e.1) (becomes_itself good))

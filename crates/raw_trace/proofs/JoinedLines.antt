@@ -7,38 +7,16 @@ use Rattle.std.proofs.Math.Seq.{take-append_seam, drop-append_seam, take-append-
 use Rattle.line_parts.specs.Parts.{starts}
 use Rattle.line_parts.specs.Leaves.{is, EachIs}
 use Rattle.line_parts.proofs.Leaves.{not_both, same_is}
-use Rattle.page_types.specs.declared.calls.Call.{Call}
-use Rattle.strace_reader.specs.declared.item.Item.TheVariants.{Played, Unfinished}
+use Rattle.strace_reader.specs.declared.item.Item.TheVariants.{Unfinished}
 use Rattle.strace_reader.specs.declared.item.Name.{Name}
 use Rattle.strace_reader.specs.declared.item.Name.TheVariants.{Mmap, Munmap, Mprotect, Fault, Mseal, Brk, Mremap}
-use Rattle.strace_reader.specs.declared.item.Recorded.{Recorded}
 use Rattle.strace_reader.specs.Words.{call_head}
 use Rattle.strace_reader.specs.Grammar.{BeginsWith, IsCut, IsHalf, IsBody, Spells, unfinished}
-use Rattle.strace_reader.proofs.FormFacts.{cut_same}
-use Rattle.raw_lines.specs.Mends.{IsMended}
 use Rattle.raw_lines.proofs.Searches.{isnt}
 use Rattle.raw_lines.proofs.MarkFacts.{each_by}
 use Rattle.raw_lines.proofs.LineFacts.{cut_parts}
 use Rattle.raw_trace.specs.Places.{AreHalves}
-use Rattle.raw_trace.specs.Laws.{ReadCall, IsCallLine}
 use Rattle.raw_trace.proofs.Prefixes.{same_prefix}
-
--- ---- whose line it is
-
--- the line of a call is one of its process
-pub played_process : (line : List ℕ) (pid : ℕ) (done : Call) (recorded : Option Recorded) → Spells line (Played pid done recorded)
-    → (body : List ℕ) × IsCut line pid body
-unfolding Spells
-played_process line pid done recorded h = (h.0, h.1)
-
--- and so is a line that is mended to it
-pub mended_process : (line other : List ℕ) (pid : ℕ) (done : Call) (recorded : Option Recorded) → IsMended line other → Spells other (Played pid done recorded)
-    → (body : List ℕ) × IsCut line pid body
-mended_process line other pid done recorded m s =
-    let p = played_process other pid done recorded s in
-    let one = m.1 in
-    let e = (cut_same other one.0 pid one.2 p.0 one.4 p.1).0 in
-    (one.1, subst (λ (x : ℕ). IsCut line x one.1) e one.3)
 
 -- ---- what is kept of a first half
 
@@ -170,16 +148,3 @@ pub joined_parts : (process : ℕ) (name : Name) (first second joined : List ℕ
     → JoinedParts process name first second joined h.0 h.1 h.2
 joined_parts process name first second joined h =
     joined_of process name first second joined h.0 h.1 h.2 (first_half_parts first process name h.0 h.1 h.3) h.5
-
--- a call of two halves is one of their process
-pub joined_process : (process : ℕ) (name : Name) (first second joined : List ℕ) (call : ReadCall) → AreHalves process name first second joined
-    → IsCallLine joined call
-    → call.pid ≡ process
-joined_process process name first second joined call h (inl g) =
-    let j = joined_parts process name first second joined h in
-    let p = played_process joined call.pid call.call call.recorded g.0 in
-    (cut_same joined call.pid process p.0 j.body p.1 j.cut).0
-joined_process process name first second joined call h (inr g) =
-    let j = joined_parts process name first second joined h in
-    let p = mended_process joined g.1 call.pid call.call call.recorded g.4 g.5 in
-    (cut_same joined call.pid process p.0 j.body p.1 j.cut).0

@@ -1,104 +1,195 @@
--- A log has one fault at most: the first place at which the writing ends is one, and ends it in one way.
-use Rattle.std.proofs.Common.{◌≡◌, ℕ, List, [], ◌∷◌, Bool, Option, refl, sym, ap, subst, ◌∙◌, inl, inr, arith}
-use Rattle.line_parts.specs.declared.refusal.What.{What}
-use Rattle.strace_reader.specs.declared.item.BadCall.{BadCall}
-use Rattle.strace_reader.specs.declared.item.Item.TheVariants.{Resumed}
-use Rattle.strace_reader.specs.Grammar.{Refuses}
-use Rattle.strace_reader.proofs.OneOutcome.{one_outcome}
-use Rattle.raw_lines.specs.Marks.{unread_text}
+-- A log has one fault at most: the first line in the order that may not be written is one, for one cause.
+use Rattle.std.proofs.Common.{◌≡◌, ◌≢◌, ◌⊎◌, ℕ, ◌<◌, ◌≤◌, List, [], ◌∷◌, ◌++◌, length, Bool, true, Option, Some, None, refl, sym, ap, subst, ◌∙◌, append_assoc, inl, inr, arith}
+use Rattle.std.proofs.lemmas.List.{append-nil}
+use Rattle.raw_logs.specs.declared.counts.Counts.{Counts}
+use Rattle.raw_logs.specs.declared.fault.LogFault.{LogFault}
+use Rattle.raw_logs.specs.Log.{Numbered, texts_of}
+use Rattle.raw_logs.specs.Reading.{IsFirstUnknown, IsLogFault}
+use Rattle.raw_logs.proofs.OneLog.{read_one, texts_one, unknown_one, log_fault_one, texts_no_fault}
 use Rattle.raw_trace.specs.declared.fault.Cause.{Cause}
-use Rattle.raw_trace.specs.declared.fault.Cause.TheVariants.{Form, Alone, Unclear}
+use Rattle.raw_trace.specs.declared.fault.Cause.TheVariants.{Unknown}
+use Rattle.raw_trace.specs.declared.fault.Trouble.{Trouble}
 use Rattle.raw_trace.specs.declared.fault.Fault.{Fault}
-use Rattle.raw_trace.specs.declared.fault.Fault.TheVariants.{Unreadable}
-use Rattle.raw_trace.specs.declared.settling.Ending.TheVariants.{AsUnread}
-use Rattle.raw_trace.specs.Log.{Numbered}
-use Rattle.raw_trace.specs.Places.{texts_of}
-use Rattle.raw_trace.specs.Faults.{
-  IsCause,
-  IsLineAt,
-  StopsLine,
-  line_too_long,
-  line_unreadable,
-  written_too_long,
-  StopsAt,
-  Stops,
-  stops_here,
-  stops_later,
-  IsCausedFault,
-}
-use Rattle.raw_trace.proofs.Pairs.{first_one, second_one, no_first_second}
-use Rattle.raw_trace.proofs.OneWay.{becomes_one, texts_one}
+use Rattle.raw_trace.specs.declared.fault.Fault.TheVariants.{Unreadable, LongLine, NoProcess, Memory}
+use Rattle.raw_trace.specs.Order.{Entry, Step, frees_for, does, order}
+use Rattle.raw_trace.specs.Places.{IsStep, AreSteps}
+use Rattle.raw_trace.specs.Faults.{of_log, IsEntryFault, IsFirstFault, Stops, IsCausedFault}
+use Rattle.raw_trace.specs.Laws.{HasOneFault}
+use Rattle.raw_trace.specs.Stages.{MayBeWritten, EachEntry}
+use Rattle.raw_trace.proofs.EachEntries.{each_front}
+use Rattle.raw_trace.proofs.OneWay.{steps_one}
 
--- a column and a cause are the same
-abbrev SameCause : ℕ → ℕ → Cause → Cause → Type 0
-SameCause c d w v = (c ≡ d) × (w ≡ v)
+-- ---- the fault of a line
 
-form_same : (line : List ℕ) (c d : ℕ) (w v : What) → Refuses line (record { column = c; what = w }) → Refuses line (record { column = d; what = v })
-    → SameCause c d (Form w) (Form v)
-form_same line c d w v h g =
-    let e = (one_outcome line).refusal (record { column = c; what = w }) (record { column = d; what = v }) h g in
-    (ap (λ (b : BadCall). b.column) e, ap (λ (b : BadCall). Form b.what) e)
+abbrev trouble_column : Option Trouble → ℕ
+trouble_column None = 0
+trouble_column (Some t) = t.column
 
--- a line can't be read for one cause
-cause_one : (line : List ℕ) (c d : ℕ) (w v : Cause) → IsCause line c w → IsCause line d v → SameCause c d w v
-cause_one line c d (Form w) (Form v) h g = form_same line c d w v h g
-cause_one line c d (Form w) Alone h g = absurd ((one_outcome line).never_both (Resumed g.1 g.2 g.3) (record { column = c; what = w }) g.4 h)
-cause_one line c d (Form w) Unclear h g = absurd (g.1 (record { column = c; what = w }) h)
-cause_one line c d Alone (Form v) h g = absurd ((one_outcome line).never_both (Resumed h.1 h.2 h.3) (record { column = d; what = v }) h.4 g)
-cause_one line c d Alone Alone h g = (h.0 ∙ sym g.0, refl)
-cause_one line c d Alone Unclear h g = absurd (g.2 h.1 h.2 h.3 h.4)
-cause_one line c d Unclear (Form v) h g = absurd (h.1 (record { column = d; what = v }) g)
-cause_one line c d Unclear Alone h g = absurd (h.2 g.1 g.2 g.3 g.4)
-cause_one line c d Unclear Unclear h g = (h.0 ∙ sym g.0, refl)
+abbrev trouble_cause : Cause → Option Trouble → Cause
+trouble_cause w None = w
+trouble_cause w (Some t) = t.cause
 
--- one line stands at a place
-line_at_one : (fed : List (List ℕ)) (text : List ℕ) (later : List (List ℕ)) (a b : List ℕ) → IsLineAt fed text later a → IsLineAt fed text later b → a ≡ b
-line_at_one fed text later a b (inl h) (inl g) = h.1 ∙ sym g.1
-line_at_one fed text later a b (inl h) (inr (inl g)) = absurd (h.0 (g.0, b, inl g.1))
-line_at_one fed text later a b (inl h) (inr (inr g)) = absurd (h.0 (g.0, b, inr g.1))
-line_at_one fed text later a b (inr (inl h)) (inl g) = absurd (g.0 (h.0, a, inl h.1))
-line_at_one fed text later a b (inr (inl h)) (inr (inl g)) = (first_one text later h.0 g.0 a b h.1 g.1).1
-line_at_one fed text later a b (inr (inl h)) (inr (inr g)) = absurd (no_first_second fed text later h.0 g.0 a b h.1 g.1)
-line_at_one fed text later a b (inr (inr h)) (inl g) = absurd (g.0 (h.0, a, inr h.1))
-line_at_one fed text later a b (inr (inr h)) (inr (inl g)) = absurd (no_first_second fed text later g.0 h.0 b a g.1 h.1)
-line_at_one fed text later a b (inr (inr h)) (inr (inr g)) = (second_one fed text h.0 g.0 a b h.1 g.1).1
+-- a line has one fault
+entry_fault_one : (strict : Bool) (e : Entry) (a b : Fault) → IsEntryFault strict e a → IsEntryFault strict e b → a ≡ b
+entry_fault_one strict e (LongLine n) (LongLine m) h g = ap (λ (x : ℕ). LongLine x) (h.1 ∙ sym g.1)
+entry_fault_one strict e (LongLine n) (Unreadable m d v) h g = absurd (omega (arith, h.0, g.1))
+entry_fault_one strict e (LongLine n) NoProcess h g = absurd g
+entry_fault_one strict e (LongLine n) Memory h g = absurd g
+entry_fault_one strict e (Unreadable n c w) (LongLine m) h g = absurd (omega (arith, h.1, g.0))
+entry_fault_one strict e (Unreadable n c w) (Unreadable m d v) h g =
+    let k : ◌≡◌ {A = Option Trouble} (Some (record { column = c; cause = w })) (Some (record { column = d; cause = v })) = sym h.3 ∙ g.3 in
+    let l : n ≡ m = h.2 ∙ sym g.2 in
+    let p : c ≡ d = ap trouble_column k in
+    let q : w ≡ v = ap (trouble_cause w) k in
+    λ i. Unreadable (l i) (p i) (q i)
+entry_fault_one strict e (Unreadable n c w) NoProcess h g = absurd g
+entry_fault_one strict e (Unreadable n c w) Memory h g = absurd g
+entry_fault_one strict e NoProcess b h g = absurd h
+entry_fault_one strict e Memory b h g = absurd h
 
--- a line ends the writing in one way
-stops_line_one : (strict : Bool) (line : List ℕ) (number : ℕ) (a b : Fault) → StopsLine strict line number a → StopsLine strict line number b → a ≡ b
-stops_line_one strict line number a b (line_too_long h) (line_too_long g) = refl
-stops_line_one strict line number a b (line_too_long h) (line_unreadable s short bec cause) = absurd (omega arith)
-stops_line_one strict line number a b (line_too_long h) (written_too_long short bec r long) = refl
-stops_line_one strict line number a b (line_unreadable s short bec cause) (line_too_long h) = absurd (omega arith)
-stops_line_one strict line number a b (line_unreadable {column =
-    c} {cause = w} s short bec cause) (line_unreadable {column = d} {cause = v} t small bed other) =
-    let k = cause_one line c d w v cause other in
-    ap (λ (x : ℕ). Unreadable number x w) k.0 ∙ ap (Unreadable number d) k.1
-stops_line_one strict line number a b (line_unreadable s short bec cause) (written_too_long {written = w} {ending = e} small bed r long) =
-    absurd (r s (sym (becomes_one line (unread_text line) w AsUnread e bec bed).1))
-stops_line_one strict line number a b (written_too_long short bec r long) (line_too_long h) = refl
-stops_line_one strict line number a b (written_too_long {written = w} {ending = e} small bed r long) (line_unreadable s short bec cause) =
-    absurd (r s (sym (becomes_one line (unread_text line) w AsUnread e bec bed).1))
-stops_line_one strict line number a b (written_too_long short bec r long) (written_too_long small bed q more) = refl
+-- ---- the first fault of lines
 
-stops_at_one : (strict : Bool) (fed : List (List ℕ)) (text : Numbered) (later : List (List ℕ)) (a b : Fault) → StopsAt strict fed text later a
-    → StopsAt strict fed text later b → a ≡ b
-stops_at_one strict fed text later a b h g =
-    let k = line_at_one fed text.text later h.0 g.0 h.1 g.1 in
-    stops_line_one strict g.0 text.number a b (subst (λ (x : List ℕ). StopsLine strict x text.number a) k h.2) g.2
+first_one : (strict : Bool) (entries : List Entry) (a b : Fault) → IsFirstFault strict entries a → IsFirstFault strict entries b → a ≡ b
+first_one strict [] a b h g = absurd h
+first_one strict (e ∷ entries) a b (inl h) (inl g) = entry_fault_one strict e a b h g
+first_one strict (e ∷ entries) a b (inl h) (inr g) = absurd (g.0 a h)
+first_one strict (e ∷ entries) a b (inr h) (inl g) = absurd (h.0 b g)
+first_one strict (e ∷ entries) a b (inr h) (inr g) = first_one strict entries a b h.1 g.1
 
--- the first place that ends the writing is one
-pub stops_one : (strict : Bool) (fed : List (List ℕ)) (lines : List Numbered) (a b : Fault) → Stops strict fed lines a → Stops strict fed lines b → a ≡ b
-stops_one strict fed lines a b (stops_here {text = t} {later = l} h) (stops_here g) = stops_at_one strict fed t (texts_of l) a b h g
-stops_one strict fed lines a b (stops_here h) (stops_later none more) = absurd (none a h)
-stops_one strict fed lines a b (stops_later none more) (stops_here h) = absurd (none b h)
-stops_one strict fed lines a b (stops_later {text = t} {later = l} none more) (stops_later some other) = stops_one strict (t.text ∷ fed) l a b more other
+pub first_more : (strict : Bool) (a b : List Entry) (fault : Fault) → IsFirstFault strict a fault → IsFirstFault strict (a ++ b) fault
+first_more strict [] b fault h = absurd h
+first_more strict (e ∷ a) b fault (inl h) = inl h
+first_more strict (e ∷ a) b fault (inr h) = inr (h.0, first_more strict a b fault h.1)
+
+-- behind lines that may be written
+pub first_behind : (strict : Bool) (a b : List Entry) (fault : Fault) → EachEntry (MayBeWritten strict) a → IsFirstFault strict b fault
+    → IsFirstFault strict (a ++ b) fault
+first_behind strict [] b fault may h = h
+first_behind strict (e ∷ a) b fault may h = inr (may.0, first_behind strict a b fault may.1 h)
+
+none_first : (strict : Bool) (entries : List Entry) (fault : Fault) → EachEntry (MayBeWritten strict) entries → IsFirstFault strict entries fault → ⊥
+none_first strict [] fault may h = h
+none_first strict (e ∷ entries) fault may (inl h) = may.0 fault h
+none_first strict (e ∷ entries) fault may (inr h) = none_first strict entries fault may.1 h.1
+
+-- ---- the first of the texts
+
+pub texts_both : (a b : List Numbered) → texts_of (a ++ b) ≡ texts_of a ++ texts_of b
+texts_both [] b = refl
+texts_both (x ∷ a) b = ap (λ (z : List (List ℕ)). x.text ∷ z) (texts_both a b)
+
+-- the steps of texts begin with those of the first
+record Begun (fed : List (List ℕ)) (a : List Numbered) (later : List (List ℕ)) (steps : List Step) : Type 0 where
+  -- those of the first
+  pub front : List Step
+  -- the others
+  pub back : List Step
+  -- these are all
+  pub parts : steps ≡ front ++ back
+  -- they are
+  pub are : AreSteps fed a later front
+
+steps_front : (fed : List (List ℕ)) (a b : List Numbered) (later : List (List ℕ)) (steps : List Step) → AreSteps fed (a ++ b) later steps
+    → Begun fed a (texts_of b ++ later) steps
+steps_front fed [] b later steps h = record { front = []; back = steps; parts = refl; are = tt }
+steps_front fed (x ∷ a) b later [] h = absurd h
+steps_front fed (x ∷ a) b later (s ∷ steps) h =
+    let r = steps_front (x.text ∷ fed) a b later steps h.1 in
+    record {
+      front = s ∷ r.front;
+      back = r.back;
+      parts = ap (λ (z : List Step). s ∷ z) r.parts;
+      are = (IsStep_texts fed x a b later s h.0, r.are);
+    }
+  where
+    IsStep_texts : (fed : List (List ℕ)) (x : Numbered) (a b : List Numbered) (later : List (List ℕ)) (s : Step) → IsStep fed x (texts_of (a ++ b) ++ later) s
+        → IsStep fed x (texts_of a ++ (texts_of b ++ later)) s
+    IsStep_texts fed x a b later s h =
+        subst (λ (z : List (List ℕ)). IsStep fed x z s)
+        (ap (λ (z : List (List ℕ)). z ++ later) (texts_both a b) ∙ append_assoc (texts_of a) (texts_of b) later) h
+
+-- the order of the first steps begins that of all
+order_front : (f : Entry → Entry → Bool) (ws : List Entry) (a b : List Step) → (more : List Entry) × (order f ws (a ++ b) ≡ order f ws a ++ more)
+order_front f ws [] b = (order f ws b, refl)
+order_front f ws (s ∷ a) b =
+    let found = does f s ws in
+    let r = order_front f found.waiting a b in
+    (r.0, ap (λ (z : List Entry). found.lines ++ z) r.1 ∙ sym (append_assoc found.lines (order f found.waiting a) r.0))
+
+-- of two beginnings of one list one is longer
+data Beginnings (a b c d : List Numbered) : Type 0 where
+  second_longer : (m : List Numbered) → c ≡ a ++ m → b ≡ m ++ d → Beginnings a b c d
+  first_longer : (m : List Numbered) → a ≡ c ++ m → d ≡ m ++ b → Beginnings a b c d
+
+beginnings : (a b c d : List Numbered) → a ++ b ≡ c ++ d → Beginnings a b c d
+beginnings [] b c d e = second_longer c refl e
+beginnings (x ∷ a) b [] d e = first_longer (x ∷ a) refl (sym e)
+beginnings (x ∷ a) b (y ∷ c) d e =
+    let k : x ≡ y = cc in
+    let l : a ++ b ≡ c ++ d = cc in
+    more k (beginnings a b c d l)
+  where
+    more : x ≡ y → Beginnings a b c d → Beginnings (x ∷ a) b (y ∷ c) d
+    more k (second_longer m p q) = second_longer m (λ i. sym k i ∷ p i) q
+    more k (first_longer m p q) = first_longer m (λ i. k i ∷ p i) q
+
+-- what stops the writing of the first texts stops that of more
+stops_longer : (strict : Bool) (a m : List Numbered) (later : List (List ℕ)) (front steps : List Step) (fault : Fault)
+    → AreSteps [] a (texts_of m ++ later) front → AreSteps [] (a ++ m) later steps
+    → IsFirstFault strict (order frees_for [] front) fault → IsFirstFault strict (order frees_for [] steps) fault
+stops_longer strict a m later front steps fault hf hs first =
+    let r = steps_front [] a m later steps hs in
+    let same = steps_one [] a (texts_of m ++ later) front r.front hf r.are in
+    let o = order_front frees_for [] r.front r.back in
+    subst (λ (x : List Entry). IsFirstFault strict x fault) (sym (ap (λ (x : List Step). order frees_for [] x) r.parts ∙ o.1))
+    (first_more strict (order frees_for [] r.front) o.0 fault
+    (subst (λ (x : List Step). IsFirstFault strict (order frees_for [] x) fault) same first))
+
+stops_one : (strict : Bool) (texts : List Numbered) (a b : Fault) → Stops strict texts a → Stops strict texts b → a ≡ b
+stops_one strict texts a b h g = by (beginnings h.fed h.later g.fed g.later (sym h.parts ∙ g.parts))
+  where
+    by : Beginnings h.fed h.later g.fed g.later → a ≡ b
+    by (second_longer m p q) =
+        let hf : AreSteps [] h.fed (texts_of m ++ texts_of g.later) h.steps =
+        subst (λ (x : List (List ℕ)). AreSteps [] h.fed x h.steps) (ap texts_of q ∙ texts_both m g.later) h.are in
+        let gs : AreSteps [] (h.fed ++ m) (texts_of g.later) g.steps = subst (λ (x : List Numbered). AreSteps [] x (texts_of g.later) g.steps) p g.are in
+        first_one strict (order frees_for [] g.steps) a b (stops_longer strict h.fed m (texts_of g.later) h.steps g.steps a hf gs h.first) g.first
+    by (first_longer m p q) =
+        let gf : AreSteps [] g.fed (texts_of m ++ texts_of h.later) g.steps =
+        subst (λ (x : List (List ℕ)). AreSteps [] g.fed x g.steps) (ap texts_of q ∙ texts_both m h.later) g.are in
+        let hs : AreSteps [] (g.fed ++ m) (texts_of h.later) h.steps = subst (λ (x : List Numbered). AreSteps [] x (texts_of h.later) h.steps) p h.are in
+        first_one strict (order frees_for [] h.steps) a b h.first (stops_longer strict g.fed m (texts_of h.later) g.steps h.steps b gf hs g.first)
+
+-- where each line of a log may be written, the writing stops nowhere
+pub never_stops : (strict : Bool) (texts : List Numbered) (steps : List Step) → AreSteps [] texts [] steps
+    → EachEntry (MayBeWritten strict) (order frees_for [] steps) → (fault : Fault) → Stops strict texts fault → ⊥
+never_stops strict texts steps are may fault h =
+    let whole : AreSteps [] (h.fed ++ h.later) [] steps = subst (λ (x : List Numbered). AreSteps [] x [] steps) h.parts are in
+    let front : AreSteps [] h.fed (texts_of h.later ++ []) h.steps =
+    subst (λ (x : List (List ℕ)). AreSteps [] h.fed x h.steps) (sym (append-nil (texts_of h.later))) h.are in
+    none_first strict (order frees_for [] steps) fault may (stops_longer strict h.fed h.later [] h.steps steps fault front whole h.first)
+
+-- ---- the whole
+
+-- a log that is read has no fault of its reading
+pub no_unknown : (process : Option ℕ) (bytes : List ℕ) (f : LogFault) (u : Option ℕ) → IsFirstUnknown process bytes u → IsLogFault process bytes f → ⊥
+no_unknown process bytes f u x h = let s = (read_one process bytes x.0 h.0 None (Some f) x.1 h.1).1 in absurd cc
 
 -- a log has one fault
-pub fault_one : (process : Option ℕ) (strict : Bool) (bytes : List ℕ) (a b : Fault) → IsCausedFault process strict bytes a
-    → IsCausedFault process strict bytes b → a ≡ b
-fault_one process strict bytes a b (inl h) (inl g) = h.1 ∙ sym g.1
-fault_one process strict bytes a b (inl h) (inr g) = absurd (g.0 h.0)
-fault_one process strict bytes a b (inr h) (inl g) = absurd (h.0 g.0)
-fault_one process strict bytes a b (inr h) (inr g) =
+pub fault_one : HasOneFault
+fault_one process strict bytes a b (inl h) (inl g) = h.2 ∙ ap of_log (log_fault_one process bytes h.0 g.0 h.1 g.1) ∙ sym g.2
+fault_one process strict bytes a b (inl h) (inr (inl g)) = absurd (no_unknown process bytes h.0 (Some g.1) g.2 h.1)
+fault_one process strict bytes a b (inl h) (inr (inr g)) = absurd (texts_no_fault process bytes g.1 g.2 h.0 g.3 h.1)
+fault_one process strict bytes a b (inr (inl h)) (inl g) = absurd (no_unknown process bytes g.0 (Some h.1) h.2 g.1)
+fault_one process strict bytes a b (inr (inl h)) (inr (inl g)) =
+    let k : ◌≡◌ {A = Option ℕ} (Some h.1) (Some g.1) = unknown_one process bytes (Some h.1) (Some g.1) h.2 g.2 in
+    let n : h.1 ≡ g.1 = cc in
+    h.3 ∙ ap (λ (x : ℕ). Unreadable x 1 Unknown) n ∙ sym g.3
+fault_one process strict bytes a b (inr (inl h)) (inr (inr g)) =
+    let k : ◌≡◌ {A = Option ℕ} (Some h.1) None = unknown_one process bytes (Some h.1) None h.2 (g.0 h.0) in absurd cc
+fault_one process strict bytes a b (inr (inr h)) (inl g) = absurd (texts_no_fault process bytes h.1 h.2 g.0 h.3 g.1)
+fault_one process strict bytes a b (inr (inr h)) (inr (inl g)) =
+    let k : ◌≡◌ {A = Option ℕ} (Some g.1) None = unknown_one process bytes (Some g.1) None g.2 (h.0 g.0) in absurd cc
+fault_one process strict bytes a b (inr (inr h)) (inr (inr g)) =
     let s = texts_one process bytes h.1 g.1 h.2 g.2 h.3 g.3 in
-    stops_one strict [] g.1 a b (subst (λ (x : List Numbered). Stops strict [] x a) s.0 h.4) g.4
+    stops_one strict g.1 a b (subst (λ (x : List Numbered). Stops strict x a) s.0 h.4) g.4

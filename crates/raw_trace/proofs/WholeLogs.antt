@@ -1,194 +1,54 @@
--- A whole log: it is rewritten in the stages that the code has, it has a text that is too long where the code finds
--- one, and no other fault than the one that is found.
-use Rattle.std.proofs.Common.{◌≡◌, ◌⊎◌, ℕ, suc, ◌≤◌, Bool, true, false, List, [], ◌∷◌, ◌++◌, length, Option, None, refl, sym, ap, subst, ◌∙◌, inl, inr, eqb, arith}
+-- A whole log: what was written of it is its rewriting, its lines are short, and no other fault is called for than the
+-- one that was found.
+use Rattle.std.proofs.Common.{◌≡◌, ◌≢◌, ◌⊎◌, ℕ, suc, ◌≤◌, ◌<◌, Bool, true, false, List, [], ◌∷◌, ◌++◌, length, Option, Some, None, refl, sym, ap, subst, ◌∙◌, inl, inr, eqb, arith}
 use Rattle.std.specs.Prelude.{All, IfOk, IfErr, OnOk, Result, Ok, Err, if◌then◌else◌}
-use Rattle.std.proofs.lemmas.List.Elements.{All-contains, All-map, All-cons}
+use Rattle.std.proofs.lemmas.List.Elements.{All-cons, All-nil}
 use Rattle.line_parts.specs.Lines.{put_first, lines_of}
-use Rattle.raw_trace.specs.declared.counts.Counts.{Counts}
+use Rattle.line_parts.proofs.Leaves.{bool_cases}
+use Rattle.raw_logs.specs.declared.counts.Counts.{Counts}
+use Rattle.raw_logs.specs.declared.fault.LogFault.{LogFault}
+use Rattle.raw_logs.specs.declared.fault.LogFault.TheVariants.{Memory as LogMemory}
+use Rattle.raw_logs.specs.declared.line.Line.{Line}
+use Rattle.raw_logs.specs.Counting.{one_more_of}
+use Rattle.raw_logs.specs.declared.counts.Sort.TheVariants.{Joined, Forms}
+use Rattle.raw_logs.specs.Log.{Numbered}
+use Rattle.raw_logs.specs.Stages.{numbered_all}
+use Rattle.raw_logs.specs.Reading.{AreTexts, IsFirstUnknown, IsLogFault}
+use Rattle.raw_logs.proofs.OneLog.{texts_one, unknown_one, texts_no_fault}
+use Rattle.raw_logs.proofs.UnreadLogs.{texts_unread}
 use Rattle.raw_trace.specs.declared.fault.Fault.{Fault}
-use Rattle.raw_trace.specs.declared.fault.Fault.TheVariants.{Unreadable, LongLine, Memory}
-use Rattle.raw_trace.specs.declared.line.Line.{Line}
-use Rattle.raw_trace.specs.declared.numbering.Numbering.{Numbering}
+use Rattle.raw_trace.specs.declared.fault.Fault.TheVariants.{Unreadable, LongLine, NoProcess, Memory}
+use Rattle.raw_trace.specs.declared.fault.Cause.TheVariants.{Unknown}
+use Rattle.raw_trace.specs.declared.fault.Trouble.{Trouble}
 use Rattle.raw_trace.specs.declared.rewriting.Rewriting.{Rewriting}
-use Rattle.raw_trace.specs.Counting.{both}
-use Rattle.raw_trace.specs.Log.{Numbered, IsLog, Heals, ArePlain}
-use Rattle.raw_trace.specs.Numbering.{IsNumbering, AreNumbered}
-use Rattle.raw_trace.specs.Spaces.{AreChosen}
-use Rattle.raw_trace.specs.Places.{texts_of, stands_first, Writes}
-use Rattle.raw_trace.specs.Rewriting.{text_of, IsNumberedLog, AreTexts, IsRewriting, EndsCut}
-use Rattle.raw_trace.specs.Faults.{Stops, HasLong, HasLongText, IsCausedFault, IsFault}
+use Rattle.raw_trace.specs.declared.settling.Ending.{Ending}
+use Rattle.raw_trace.specs.declared.settling.Ending.TheVariants.{AsItIs, ByMends, AsUnreturned, AsUnread}
+use Rattle.raw_trace.specs.declared.writing.Written.{Written}
+use Rattle.raw_trace.specs.Order.{Entry, Step, Begins, Ends, Comes, frees_for, order}
+use Rattle.raw_trace.specs.Places.{Becomes, becomes_itself, becomes_mended, becomes_unreturned, becomes_unread, IsTrouble, IsEntry, IsStep, AreSteps}
+use Rattle.raw_trace.specs.Rewriting.{text_of, lines_as, is_form, counted, counted_entry, counted_all, IsRewriting}
+use Rattle.raw_trace.specs.Faults.{of_log, Stops, IsCausedFault, IsFault}
 use Rattle.raw_trace.specs.Laws.{HasShortLines, HasOneRewriting, HasOneFault}
-use Rattle.raw_trace.specs.Stages.{numbered_all, texts, IsWrittenFault}
-use Rattle.raw_trace.proofs.OneWay.{log_one, heals_one, plains_one, numbering_one, numbered_one, texts_one}
-use Rattle.raw_trace.proofs.PlacesWritten.{same_texts}
-
--- ---- texts that are too long
-
--- lines that are all short have no long text
-pub none_long : (lines : List Line) → All (λ line. length line.text.items ≤ 65535) lines → HasLong (texts lines) → ⊥
-none_long lines short h =
-    let k = All-contains (λ (x : List ℕ). length x ≤ 65535) (texts lines) h.0
-    (All-map (λ (x : List ℕ). length x ≤ 65535) (λ (x : Line). x.text.items) lines short) h.1 in
-    let l = h.2 in
-    absurd (omega arith)
-
--- where none of the texts that were read is too long the log has none
-pub no_long_text : (bytes : List ℕ) (whole : List Numbered) (counts : Counts) (n : IsNumberedLog bytes whole counts) → ¬ HasLong (texts_of n.plains)
-    → ¬ HasLong (texts_of whole) → ¬ HasLongText bytes
-no_long_text bytes whole counts n a b h = by h.long
-  where
-    lines : n.lines ≡ h.lines
-    lines = (log_one bytes n.lines h.lines n.cut h.cut n.log h.log).0
-
-    texts_same : n.texts ≡ h.texts
-    texts_same = (heals_one 1 None h.lines n.texts h.texts n.left h.left n.healed h.healed
-        (subst (λ (x : List (List ℕ)). Heals 1 None x n.texts n.left n.healed) lines n.heals) h.heals).0
-
-    plains : n.plains ≡ h.plains
-    plains = (plains_one h.texts n.plains h.plains n.stripped h.stripped
-        (subst (λ (x : List Numbered). ArePlain x n.plains n.stripped) texts_same n.plain) h.plain).0
-
-    by : HasLong (texts_of h.plains) ⊎ ((numbering : Numbering) × (whole : List Numbered) × (counts : Counts)
-        × IsNumbering h.lines (texts_of h.plains) numbering × AreNumbered numbering h.plains whole counts × HasLong (texts_of whole)) → ⊥
-    by (inl x) = a (subst (λ (z : List Numbered). HasLong (texts_of z)) (sym plains) x)
-    by (inr x) =
-        let same : n.numbering ≡ x.0 = numbering_one h.lines (texts_of h.plains) n.numbering x.0
-        (subst (λ (z : List (List ℕ)). IsNumbering z (texts_of h.plains) n.numbering) lines
-        (subst (λ (z : List Numbered). IsNumbering n.lines (texts_of z) n.numbering) plains n.numbered)) x.3 in
-        let all = numbered_one x.0 h.plains whole x.1 n.renumbered x.2
-        (subst (λ (z : Numbering). AreNumbered z h.plains whole n.renumbered) same
-        (subst (λ (z : List Numbered). AreNumbered n.numbering z whole n.renumbered) plains n.numbers)) x.4 in
-        b (subst (λ (z : List Numbered). HasLong (texts_of z)) (sym all.0) x.5)
-
--- ---- the stages of the reading
-
--- what the stages make of a log
-abbrev pub numbered_log : (bytes whole cut : List ℕ) (healed_texts : List Numbered) (left : Option Numbered) (healed stripped renumbered counts : Counts)
-    (numbering : Numbering) (plains shown lines : List Line) → IsLog bytes (lines_of whole) cut → Heals 1 None (lines_of whole) healed_texts left healed
-    → ArePlain healed_texts (numbered_all plains) stripped → shown ≡ plains → IsNumbering (lines_of whole) (texts shown) numbering
-    → AreNumbered numbering (numbered_all plains) (numbered_all lines) renumbered → counts ≡ both healed (both stripped renumbered)
-    → IsNumberedLog bytes (numbered_all lines) counts
-numbered_log bytes whole cut healed_texts left healed stripped renumbered counts numbering plains shown lines log heals plain e numbered numbers sum =
-    record {
-      lines = lines_of whole;
-      cut = cut;
-      log = log;
-      texts = healed_texts;
-      left = left;
-      healed = healed;
-      heals = heals;
-      plains = numbered_all plains;
-      stripped = stripped;
-      plain = plain;
-      numbering = numbering;
-      numbered = subst (λ (x : List (List ℕ)). IsNumbering (lines_of whole) x numbering) (ap (λ (x : List Line). texts x) e ∙ sym (same_texts plains)) numbered;
-      renumbered = renumbered;
-      numbers = numbers;
-      sum = sum;
-    }
-
--- where neither the plain texts nor those with their numbers are too long, none is
-pub none_too_long : (bytes : List ℕ) (lines plains : List Line) (counts : Counts) (n : IsNumberedLog bytes (numbered_all lines) counts)
-    → n.plains ≡ numbered_all plains → All (λ line. length line.text.items ≤ 65535) plains → All (λ line. length line.text.items ≤ 65535) lines
-    → ¬ HasLongText bytes
-none_too_long bytes lines plains counts n e a b =
-    no_long_text bytes (numbered_all lines) counts n
-    (λ h. none_long plains a (subst HasLong (same_texts plains) (subst (λ (x : List Numbered). HasLong (texts_of x)) e h)))
-    (λ h. none_long lines b (subst HasLong (same_texts lines) h))
-
--- a plain text is too long
-pub long_plain : (bytes whole cut : List ℕ) (healed_texts : List Numbered) (left : Option Numbered) (healed stripped : Counts) (plains shown : List Line)
-    → IsLog bytes (lines_of whole) cut → Heals 1 None (lines_of whole) healed_texts left healed
-    → ArePlain healed_texts (numbered_all plains) stripped → shown ≡ plains → HasLong (texts shown) → HasLongText bytes
-long_plain bytes whole cut healed_texts left healed stripped plains shown log heals plain e long =
-    record {
-      lines = lines_of whole;
-      cut = cut;
-      log = log;
-      texts = healed_texts;
-      left = left;
-      healed = healed;
-      heals = heals;
-      plains = numbered_all plains;
-      stripped = stripped;
-      plain = plain;
-      long = inl (subst HasLong (ap (λ (x : List Line). texts x) e ∙ sym (same_texts plains)) long);
-    }
-
--- one with its number is
-pub long_numbered : (bytes whole cut : List ℕ) (healed_texts : List Numbered) (left : Option Numbered) (healed stripped renumbered : Counts)
-    (numbering : Numbering) (plains shown lines seen : List Line) → IsLog bytes (lines_of whole) cut → Heals 1 None (lines_of whole) healed_texts left healed
-    → ArePlain healed_texts (numbered_all plains) stripped → shown ≡ plains → IsNumbering (lines_of whole) (texts shown) numbering
-    → AreNumbered numbering (numbered_all plains) (numbered_all lines) renumbered → seen ≡ lines → HasLong (texts seen) → HasLongText bytes
-long_numbered bytes whole cut healed_texts left healed stripped renumbered numbering plains shown lines seen log heals plain e numbered numbers f long =
-    record {
-      lines = lines_of whole;
-      cut = cut;
-      log = log;
-      texts = healed_texts;
-      left = left;
-      healed = healed;
-      heals = heals;
-      plains = numbered_all plains;
-      stripped = stripped;
-      plain = plain;
-      long = inr (
-        numbering,
-        numbered_all lines,
-        renumbered,
-        subst (λ (x : List (List ℕ)). IsNumbering (lines_of whole) x numbering) (ap (λ (x : List Line). texts x) e ∙ sym (same_texts plains)) numbered,
-        numbers,
-        subst HasLong (ap (λ (x : List Line). texts x) f ∙ sym (same_texts lines)) long,
-      );
-    }
-
--- what a log ends with
-pub ends_cut : (bytes whole cut : List ℕ) (healed_texts : List Numbered) (left : Option Numbered) (healed : Counts) (ends : Bool)
-    → IsLog bytes (lines_of whole) cut → Heals 1 None (lines_of whole) healed_texts left healed → (ends ≡ false → (cut ≡ []) × (left ≡ None))
-    → ((cut ≡ []) → left ≡ None → ends ≡ false) → EndsCut bytes ends
-ends_cut bytes whole cut healed_texts left healed ends log heals none some_left =
-    record {
-      lines = lines_of whole;
-      cut = cut;
-      log = log;
-      texts = healed_texts;
-      left = left;
-      counts = healed;
-      heals = heals;
-      none_left = none;
-      some_left = some_left;
-    }
+use Rattle.raw_trace.specs.Stages.{EachEntry, MayBeWritten, WroteAll, EndsAll}
+use Rattle.raw_trace.proofs.EachEntries.{EachStep, order_each}
+use Rattle.raw_trace.proofs.OneFault.{never_stops, no_unknown}
 
 -- ---- the whole
 
--- the texts of a log that are written
-pub texts_are : (process : Option ℕ) (bytes : List ℕ) (lines chosen : List Line) (read elsewhere : Counts) → IsNumberedLog bytes (numbered_all lines) read
-    → AreChosen process (texts lines) (numbered_all lines) (numbered_all chosen) elsewhere
-    → AreTexts process bytes (numbered_all chosen) (both read elsewhere)
-texts_are process bytes lines chosen read elsewhere n c =
-    record {
-      whole = numbered_all lines;
-      before = read;
-      numbered = n;
-      elsewhere = elsewhere;
-      choice = subst (λ (x : List (List ℕ)). AreChosen process x (numbered_all lines) (numbered_all chosen) elsewhere) (sym (same_texts lines)) c;
-      sum = refl;
-    }
-
--- what is written of them is the rewriting
-pub rewriting_is : (process : Option ℕ) (bytes out : List ℕ) (chosen shown : List Line) (before at_places : Counts) (written : List (List ℕ))
-    → AreTexts process bytes (numbered_all chosen) before → shown ≡ chosen → Writes stands_first [] (texts shown) written at_places → out ≡ text_of written
-    → IsRewriting process bytes out (both before at_places)
-rewriting_is process bytes out chosen shown before at_places written are e w o =
+-- what is written of its texts is the rewriting
+pub rewriting_is : (process : Option ℕ) (strict : Bool) (bytes : List ℕ) (chosen shown : List Line) (before : Counts) (found : Written)
+    → AreTexts process bytes (numbered_all chosen) before → shown ≡ chosen → WroteAll strict (numbered_all shown) before found
+    → IsRewriting process bytes found.out.items found.counts found.calls
+rewriting_is process strict bytes chosen shown before found are e w =
     record {
       chosen = numbered_all chosen;
       before = before;
       texts = are;
-      written = written;
-      at_places = at_places;
-      places = subst (λ (x : List (List ℕ)). Writes stands_first [] x written at_places) (ap (λ (x : List Line). texts x) e ∙ sym (same_texts chosen)) w;
-      bytes_of = o;
-      sum = refl;
+      steps = w.steps;
+      are = subst (λ (x : List Line). AreSteps [] (numbered_all x) [] w.steps) e w.are;
+      bytes_of = w.out;
+      sum = w.sum;
+      number = w.calls;
     }
 
 -- ---- the lines of what is written
@@ -232,42 +92,154 @@ starts_short : (most : ℕ) (line rest : List ℕ) → length line ≤ most → 
 starts_short most [] rest l h = record { line = []; more = lines_of rest; are = refl; small = omega arith; others = h }
 starts_short most (x ∷ line) rest l h = put_short most x line rest (starts_short most line rest (omega (arith, l)) h) l (eqb x 10) refl
 
--- lines that are written are short where they were
-pub written_short : (written : List (List ℕ)) → All (λ line. length line ≤ 65535) written → HasShortLines (text_of written)
-written_short [] h = h
-written_short (line ∷ written) h =
+-- lines that are written are short
+short_text : (written : List (List ℕ)) → All (λ line. length line ≤ 65535) written → HasShortLines (text_of written)
+short_text [] h = h
+short_text (line ∷ written) h =
     let short : length line ≤ 65535 = h 0 line (omega arith) in
-    let s = starts_short 65535 line (text_of written) short
-    (written_short written (λ k d l. h (suc k) d (omega (arith, l)))) in
+    let s = starts_short 65535 line (text_of written) short (short_text written (λ k d l. h (suc k) d (omega (arith, l)))) in
     subst (λ (z : List (List ℕ)). All (λ y. length y ≤ 65535) z) (sym s.are)
     (All-cons (λ (y : List ℕ). length y ≤ 65535) s.line s.more (let k = s.small in omega (arith, short)) s.others)
 
+-- an entry that may be written is short
+may_short : (strict : Bool) (e : Entry) → MayBeWritten strict e → length e.line ≤ 65535
+may_short strict e may = let never : 65535 < length e.line → ⊥ = λ l. may (LongLine e.number) (l, refl) in omega (arith, never)
+
+entries_short : (strict : Bool) (entries : List Entry) → EachEntry (MayBeWritten strict) entries → All (λ line. length line ≤ 65535) (lines_as entries)
+entries_short strict [] h = All-nil (λ (y : List ℕ). length y ≤ 65535)
+entries_short strict (e ∷ entries) h =
+    All-cons (λ (y : List ℕ). length y ≤ 65535) e.line (lines_as entries) (may_short strict e h.0) (entries_short strict entries h.1)
+
+pub written_short : (strict : Bool) (texts : List Numbered) (before : Counts) (found : Written) → WroteAll strict texts before found
+    → HasShortLines found.out.items
+written_short strict texts before found w =
+    subst HasShortLines (sym w.out) (short_text (lines_as (order frees_for [] w.steps)) (entries_short strict (order frees_for [] w.steps) w.may))
+
+-- ---- lines that are left unread
+
+-- a line that is left unread has a cause, or is too long
+abbrev IsTold : Entry → Type 0
+IsTold e = e.ending ≡ AsUnread → e.trouble ≡ None → 65535 < length e.line
+
+unread_long : (line written : List ℕ) (ending : Ending) → Becomes line written ending → ending ≡ AsUnread → 65535 < length line → 65535 < length written
+unread_long line written ending (becomes_itself g) e l = absurd cc
+unread_long line written ending (becomes_mended bad r short m g) e l = absurd cc
+unread_long line written ending (becomes_unreturned h) e l = absurd cc
+unread_long line written ending (becomes_unread never half none) e l = omega (arith, l)
+
+entry_told : (number : ℕ) (joined : Bool) (line : List ℕ) (e : Entry) → IsEntry number joined line e → IsTold e
+entry_told number joined line e is u n =
+    let t : IsTrouble line e.line e.ending None = subst (IsTrouble line e.line e.ending) n is.troubled in
+    unread_long line e.line e.ending is.becomes u (t.0 u)
+
+steps_told : (fed : List (List ℕ)) (texts : List Numbered) (later : List (List ℕ)) (steps : List Step) → AreSteps fed texts later steps
+    → EachStep IsTold steps
+steps_told fed [] later [] are = tt
+steps_told fed [] later (step ∷ steps) are = absurd are
+steps_told fed (text ∷ texts) later [] are = absurd are
+steps_told fed (text ∷ texts) later (Comes e ∷ steps) are =
+    (entry_told text.number false text.text e are.0.1, steps_told (text.text ∷ fed) texts later steps are.1)
+steps_told fed (text ∷ texts) later (Begins e ∷ steps) are =
+    (entry_told text.number true are.0.1 e are.0.3, steps_told (text.text ∷ fed) texts later steps are.1)
+steps_told fed (text ∷ texts) later (Ends q ∷ steps) are = (tt, steps_told (text.text ∷ fed) texts later steps are.1)
+
+-- where every line has to be read, one that may be written isn't left unread
+may_not_unread : (e : Entry) → MayBeWritten true e → IsTold e → e.ending ≢ AsUnread
+may_not_unread e may told u = by e.trouble refl
+  where
+    by : (t : Option Trouble) → e.trouble ≡ t → ⊥
+    by None n = may (LongLine e.number) (told u n, refl)
+    by (Some t) n = may (Unreadable e.number t.column t.cause) (refl, may_short true e may, refl, n)
+
+forms_unread : (t : Option Trouble) (c : Counts) → (if is_form t then one_more_of Forms c else c).unread ≡ c.unread
+forms_unread t c = elim (bool_cases (is_form t)) [ inl h ↦ rw h refl | inr h ↦ rw h refl ]
+
+joined_unread : (b : Bool) (c : Counts) → (if b then one_more_of Joined c else c).unread ≡ c.unread
+joined_unread true c = refl
+joined_unread false c = refl
+
+counted_unread : (e : Ending) (c : Counts) → e ≢ AsUnread → (counted e c).unread ≡ c.unread
+counted_unread AsItIs c n = refl
+counted_unread ByMends c n = refl
+counted_unread AsUnreturned c n = refl
+counted_unread AsUnread c n = absurd (n refl)
+
+all_unread : (entries : List Entry) (c : Counts) → EachEntry (MayBeWritten true) entries → EachEntry IsTold entries
+    → (counted_all c entries).unread ≡ c.unread
+all_unread [] c may told = refl
+all_unread (e ∷ entries) c may told =
+    let j = if e.joined then one_more_of Joined c else c in
+    all_unread entries (counted_entry e c) may.1 told.1
+    ∙ counted_unread e.ending (if is_form e.trouble then one_more_of Forms j else j) (may_not_unread e may.0 told.0)
+    ∙ forms_unread e.trouble j ∙ joined_unread e.joined c
+
+-- no line is left unread
+pub none_unread : (process : Option ℕ) (strict : Bool) (bytes : List ℕ) (texts : List Numbered) (before : Counts) (found : Written)
+    → AreTexts process bytes texts before → WroteAll strict texts before found → strict ≡ true → found.counts.unread ≡ 0
+none_unread process strict bytes texts before found are w s =
+    let may : EachEntry (MayBeWritten true) (order frees_for [] w.steps) =
+    subst (λ (b : Bool). EachEntry (MayBeWritten b) (order frees_for [] w.steps)) s w.may in
+    ap (λ (c : Counts). c.unread) w.sum
+    ∙ all_unread (order frees_for [] w.steps) before may (order_each IsTold frees_for [] w.steps tt (steps_told [] texts [] w.steps w.are))
+    ∙ texts_unread process bytes texts before are
+
 -- ---- faults
 
--- where neither a text is too long nor the writing ends, nothing is a fault
-pub no_cause : (process : Option ℕ) (strict : Bool) (bytes : List ℕ) (chosen : List Numbered) (before : Counts) → ¬ HasLongText bytes
-    → AreTexts process bytes chosen before → ((fault : Fault) → ¬ Stops strict [] chosen fault) → (fault : Fault)
-    → ¬ IsCausedFault process strict bytes fault
-no_cause process strict bytes chosen before short are never fault (inl h) = short h.0
-no_cause process strict bytes chosen before short are never fault (inr h) =
-    let same = texts_one process bytes chosen h.1 before h.2 are h.3 in
-    never fault (subst (λ (x : List Numbered). Stops strict [] x fault) (sym same.0) h.4)
+-- where each line may be written and every beginning is known, nothing is a fault
+pub no_cause : (process : Option ℕ) (strict : Bool) (bytes : List ℕ) (texts : List Numbered) (before : Counts) (unknown : Option ℕ) (found : Written)
+    → AreTexts process bytes texts before → IsFirstUnknown process bytes unknown → (strict ≡ true → unknown ≡ None) → WroteAll strict texts before found
+    → (fault : Fault) → ¬ IsCausedFault process strict bytes fault
+no_cause process strict bytes texts before unknown found are u k w fault (inl h) = texts_no_fault process bytes texts before h.0 are h.1
+no_cause process strict bytes texts before unknown found are u k w fault (inr (inl h)) =
+    let e = unknown_one process bytes unknown (Some h.1) u h.2 in
+    let n : ◌≡◌ {A = Option ℕ} None (Some h.1) = sym (k h.0) ∙ e in cc
+no_cause process strict bytes texts before unknown found are u k w fault (inr (inr h)) =
+    let same = texts_one process bytes texts h.1 before h.2 are h.3 in
+    never_stops strict texts w.steps w.are w.may fault (subst (λ (x : List Numbered). Stops strict x fault) (sym same.0) h.4)
+
+-- a fault of the reading
+pub log_fault : (process : Option ℕ) (strict : Bool) (bytes : List ℕ) (why : LogFault) (fault : Fault) → IsLogFault process bytes why → fault ≡ of_log why
+    → IsFault process strict bytes fault
+log_fault process strict bytes why (Unreadable number column cause) h e = inl (why, h, e)
+log_fault process strict bytes why (LongLine number) h e = inl (why, h, e)
+log_fault process strict bytes why NoProcess h e = inl (why, h, e)
+log_fault process strict bytes why Memory h e = tt
+
+-- what the reading ends with
+pub read_fault : (process : Option ℕ) (strict : Bool) (bytes : List ℕ) (why : LogFault) (fault : Fault) → fault ≡ of_log why
+    → (why ≡ LogMemory) ⊎ IsLogFault process bytes why → IsFault process strict bytes fault
+read_fault process strict bytes why fault e (inl m) = subst (IsFault process strict bytes) (sym (e ∙ ap of_log m)) tt
+read_fault process strict bytes why fault e (inr h) = log_fault process strict bytes why fault h e
+
+-- a line whose beginning isn't known
+pub unknown_fault : (process : Option ℕ) (strict : Bool) (bytes : List ℕ) (unknown : Option ℕ) (fault : Fault) → IsFirstUnknown process bytes unknown
+    → (strict ≡ true) × (number : ℕ) × (unknown ≡ Some number) × (fault ≡ Unreadable number 1 Unknown) → IsFault process strict bytes fault
+unknown_fault process strict bytes unknown fault u h =
+    subst (IsFault process strict bytes) (sym h.3) (inr (inl (h.0, h.1, subst (IsFirstUnknown process bytes) h.2 u, refl)))
 
 -- a fault of the writing
-pub written_fault : (process : Option ℕ) (strict : Bool) (bytes : List ℕ) (chosen : List Numbered) (before : Counts) (fault : Fault) → ¬ HasLongText bytes
-    → AreTexts process bytes chosen before → IsWrittenFault strict chosen fault → IsFault process strict bytes fault
-written_fault process strict bytes chosen before (Unreadable number column cause) short are h = inr (short, chosen, before, are, h)
-written_fault process strict bytes chosen before LongLine short are h = inr (short, chosen, before, are, h)
-written_fault process strict bytes chosen before Memory short are h = tt
+pub written_fault : (process : Option ℕ) (strict : Bool) (bytes : List ℕ) (texts : List Numbered) (before : Counts) (unknown : Option ℕ) (fault : Fault)
+    → AreTexts process bytes texts before → IsFirstUnknown process bytes unknown → (strict ≡ true → unknown ≡ None) → EndsAll strict texts fault
+    → IsFault process strict bytes fault
+written_fault process strict bytes texts before unknown fault are u k (inl m) = subst (IsFault process strict bytes) (sym m) tt
+written_fault process strict bytes texts before unknown fault are u k (inr stops) =
+    by fault (inr (inr ((λ s. subst (IsFirstUnknown process bytes) (k s) u), texts, before, are, stops)))
+  where
+    by : (fault : Fault) → IsCausedFault process strict bytes fault → IsFault process strict bytes fault
+    by (Unreadable number column cause) h = h
+    by (LongLine number) h = h
+    by NoProcess h = h
+    by Memory h = tt
 
 -- ---- what a run comes to
 
 -- what was found is what any rewriting is
 pub only_rewriting : (process : Option ℕ) (bytes : List ℕ) (r : Result Rewriting Fault) → HasOneRewriting
-    → IfOk r (λ found. IsRewriting process bytes found.out.items found.counts)
-    → (out : List ℕ) (counts : Counts) → IsRewriting process bytes out counts → IfOk r (λ found. (found.out.items ≡ out) × (found.counts ≡ counts))
-only_rewriting process bytes (Ok found) one h out counts g = one process bytes found.out.items out found.counts counts h g
-only_rewriting process bytes (Err fault) one h out counts g = tt
+    → IfOk r (λ found. IsRewriting process bytes found.out.items found.counts found.calls)
+    → (out : List ℕ) (counts : Counts) (calls : ℕ) → IsRewriting process bytes out counts calls
+    → IfOk r (λ found. (found.out.items ≡ out) × (found.counts ≡ counts) × (found.calls ≡ calls))
+only_rewriting process bytes (Ok found) one h out counts calls g = one process bytes found.out.items out found.counts counts found.calls calls h g
+only_rewriting process bytes (Err fault) one h out counts calls g = tt
 
 -- a fault that is called for comes
 pub fault_comes : (process : Option ℕ) (strict : Bool) (bytes : List ℕ) (r : Result Rewriting Fault) → HasOneFault
@@ -276,5 +248,29 @@ pub fault_comes : (process : Option ℕ) (strict : Bool) (bytes : List ℕ) (r :
 fault_comes process strict bytes (Ok found) one h never fault g = absurd (never fault g)
 fault_comes process strict bytes (Err (Unreadable number column cause)) one h never fault g =
     inl (ap (λ (x : Fault). Err x) (one process strict bytes (Unreadable number column cause) fault h g))
-fault_comes process strict bytes (Err LongLine) one h never fault g = inl (ap (λ (x : Fault). Err x) (one process strict bytes LongLine fault h g))
+fault_comes process strict bytes (Err (LongLine number)) one h never fault g =
+    inl (ap (λ (x : Fault). Err x) (one process strict bytes (LongLine number) fault h g))
+fault_comes process strict bytes (Err NoProcess) one h never fault g = inl (ap (λ (x : Fault). Err x) (one process strict bytes NoProcess fault h g))
 fault_comes process strict bytes (Err Memory) one h never fault g = inr refl
+
+-- ---- the same of lines that are shown otherwise
+
+pub shown_unread : (process : Option ℕ) (strict : Bool) (bytes : List ℕ) (chosen shown : List Line) (before : Counts) (found : Written)
+    → AreTexts process bytes (numbered_all chosen) before → shown ≡ chosen → WroteAll strict (numbered_all shown) before found
+    → strict ≡ true → found.counts.unread ≡ 0
+shown_unread process strict bytes chosen shown before found are e w =
+    none_unread process strict bytes (numbered_all chosen) before found are (subst (λ (x : List Line). WroteAll strict (numbered_all x) before found) e w)
+
+pub shown_no_cause : (process : Option ℕ) (strict : Bool) (bytes : List ℕ) (chosen shown : List Line) (before : Counts) (unknown : Option ℕ)
+    (found : Written) → AreTexts process bytes (numbered_all chosen) before → IsFirstUnknown process bytes unknown → (strict ≡ true → unknown ≡ None)
+    → shown ≡ chosen → WroteAll strict (numbered_all shown) before found → (fault : Fault) → ¬ IsCausedFault process strict bytes fault
+shown_no_cause process strict bytes chosen shown before unknown found are u k e w =
+    no_cause process strict bytes (numbered_all chosen) before unknown found are u k
+    (subst (λ (x : List Line). WroteAll strict (numbered_all x) before found) e w)
+
+pub shown_fault : (process : Option ℕ) (strict : Bool) (bytes : List ℕ) (chosen shown : List Line) (before : Counts) (unknown : Option ℕ) (fault : Fault)
+    → AreTexts process bytes (numbered_all chosen) before → IsFirstUnknown process bytes unknown → (strict ≡ true → unknown ≡ None)
+    → shown ≡ chosen → EndsAll strict (numbered_all shown) fault → IsFault process strict bytes fault
+shown_fault process strict bytes chosen shown before unknown fault are u k e w =
+    written_fault process strict bytes (numbered_all chosen) before unknown fault are u k
+    (subst (λ (x : List Line). EndsAll strict (numbered_all x) fault) e w)

@@ -1,86 +1,65 @@
--- Why a log isn't rewritten. A text or a line that would be written may be too long; and where every line is to be
--- read, the first that can't be read ends the run, in the order of places. Its column counts in the text that stands
+-- Why a log isn't rewritten: its texts can't be had; or, of the lines in their order, the first that may not be
+-- written: it is too long, or it can't be read where every line has to be. Its column counts in the text that stands
 -- there: a plain text, or what two halves make.
-use Rattle.std.specs.Prelude.{◌≡◌, ◌≢◌, ◌⊎◌, ℕ, ◌<◌, ◌≤◌, List, [], ◌∷◌, length, Bool, true, false, Option, None, Contains}
+use Rattle.std.specs.Prelude.{◌≡◌, ◌≢◌, ◌⊎◌, ℕ, ◌<◌, ◌≤◌, List, [], ◌∷◌, ◌++◌, length, Bool, true, Option, Some, None}
 use Rattle.strace_reader.specs.declared.item.BadCall.{BadCall}
 use Rattle.strace_reader.specs.declared.item.Item.TheVariants.{Resumed}
 use Rattle.strace_reader.specs.declared.item.Name.{Name}
 use Rattle.strace_reader.specs.Grammar.{Spells, Refuses}
 use Rattle.raw_lines.specs.Marks.{unread_text}
-use Rattle.raw_trace.specs.declared.counts.Counts.{Counts}
+use Rattle.raw_logs.specs.declared.counts.Counts.{Counts}
+use Rattle.raw_logs.specs.Log.{Numbered, texts_of}
+use Rattle.raw_logs.specs.Reading.{AreTexts, IsFirstUnknown, IsLogFault}
+use Rattle.raw_logs.specs.declared.fault.LogFault.{LogFault}
+use Rattle.raw_logs.specs.declared.fault.LogFault.TheVariants.{LongLine as LogLong, NoProcess as LogSilent, Memory as LogMemory}
 use Rattle.raw_trace.specs.declared.fault.Cause.{Cause}
-use Rattle.raw_trace.specs.declared.fault.Cause.TheVariants.{Form, Alone, Unclear}
+use Rattle.raw_trace.specs.declared.fault.Cause.TheVariants.{Form, Alone, Unclear, OtherForm, Unknown}
 use Rattle.raw_trace.specs.declared.fault.Fault.{Fault}
-use Rattle.raw_trace.specs.declared.fault.Fault.TheVariants.{Unreadable, LongLine, Memory}
-use Rattle.raw_trace.specs.declared.settling.Ending.{Ending}
+use Rattle.raw_trace.specs.declared.fault.Fault.TheVariants.{Unreadable, LongLine, NoProcess, Memory}
 use Rattle.raw_trace.specs.declared.settling.Ending.TheVariants.{AsUnread}
-use Rattle.raw_trace.specs.Log.{Numbered, IsLog, Heals, ArePlain}
-use Rattle.raw_trace.specs.Numbering.{IsNumbering, AreNumbered}
-use Rattle.raw_trace.specs.Places.{texts_of, stands_first, IsFirst, IsSecond, IsPaired, Becomes}
-use Rattle.raw_trace.specs.Rewriting.{AreTexts}
-use Rattle.raw_trace.specs.declared.numbering.Numbering.{Numbering}
+use Rattle.raw_trace.specs.Order.{Entry, Step, frees_for, order}
+use Rattle.raw_trace.specs.Places.{AreSteps}
 
--- why a line can't be read, and where
-abbrev pub IsCause : List ℕ → ℕ → Cause → Type 0
-IsCause line column (Form what) = Refuses line (record { column = column; what = what })
-IsCause line column Alone = (column ≡ 1) × (process : ℕ) × (name : Name) × (from : ℕ) × Spells line (Resumed process name from)
-IsCause line column Unclear = (column ≡ 1) × ((bad : BadCall) → ¬ Refuses line bad)
-    × ((process : ℕ) (name : Name) (from : ℕ) → ¬ Spells line (Resumed process name from))
+-- why an entry may not be written
+abbrev pub IsEntryFault : Bool → Entry → Fault → Type 0
+IsEntryFault strict entry (LongLine number) = (65535 < length entry.line) × (number ≡ entry.number)
+IsEntryFault strict entry (Unreadable number column cause) = (strict ≡ true) × (length entry.line ≤ 65535) × (number ≡ entry.number)
+    × (entry.trouble ≡ Some (record { column = column; cause = cause }))
+IsEntryFault strict entry NoProcess = ⊥
+IsEntryFault strict entry Memory = ⊥
 
--- the line that stands at the place of a text, whatever becomes of it
-abbrev pub IsLineAt : List (List ℕ) → List ℕ → List (List ℕ) → List ℕ → Type 0
-IsLineAt fed text later line =
-    ((¬ IsPaired fed text later) × (line ≡ text))
-    ⊎ (((name : Name) × IsFirst text later name line × (stands_first name ≡ true))
-    ⊎ ((name : Name) × IsSecond fed text name line × (stands_first name ≡ false)))
+-- the first of the entries that may not be written is the cause
+abbrev pub IsFirstFault : Bool → List Entry → Fault → Type 0
+IsFirstFault strict [] fault = ⊥
+IsFirstFault strict (entry ∷ entries) fault = IsEntryFault strict entry fault
+    ⊎ (((other : Fault) → ¬ IsEntryFault strict entry other) × IsFirstFault strict entries fault)
 
--- The writing ends so at a line that stands at the place of a text with this number: the line is too long, or it can't
--- be read where every line has to be, or it would be too long as it is written.
-pub data StopsLine (strict : Bool) (line : List ℕ) (number : ℕ) : Fault → Type 0 where
-  line_too_long : 65535 < length line → StopsLine strict line number LongLine
-  line_unreadable : {column : ℕ} {cause : Cause} → strict ≡ true → length line ≤ 65535 → Becomes line (unread_text line) AsUnread →
-      IsCause line column cause → StopsLine strict line number (Unreadable number column cause)
-  written_too_long : {written : List ℕ} {ending : Ending} → length line ≤ 65535 → Becomes line written ending →
-      (strict ≡ true → ending ≢ AsUnread) → 65535 < length written → StopsLine strict line number LongLine
+-- the writing of texts ends so: of what the first of them give, an entry may not be written
+pub record Stops (strict : Bool) (texts : List Numbered) (fault : Fault) : Type 0 where
+  pub fed : List Numbered
+  pub later : List Numbered
+  pub parts : texts ≡ fed ++ later
+  pub steps : List Step
+  pub are : AreSteps [] fed (texts_of later) steps
+  pub first : IsFirstFault strict (order frees_for [] steps) fault
 
--- the writing ends so at the place of a text
-abbrev pub StopsAt : Bool → List (List ℕ) → Numbered → List (List ℕ) → Fault → Type 0
-StopsAt strict fed text later fault = (line : List ℕ) × IsLineAt fed text.text later line × StopsLine strict line text.number fault
+-- why the texts of a log can't be had
+abbrev pub of_log : LogFault → Fault
+of_log (LogLong line) = LongLine line
+of_log LogSilent = NoProcess
+of_log LogMemory = Memory
 
--- behind the texts that were fed, the first place at which the writing ends ends it so
-pub data Stops (strict : Bool) : List (List ℕ) → List Numbered → Fault → Type 0 where
-  stops_here : {fed : List (List ℕ)} {text : Numbered} {later : List Numbered} {fault : Fault}
-      → StopsAt strict fed text (texts_of later) fault → Stops strict fed (text ∷ later) fault
-  stops_later : {fed : List (List ℕ)} {text : Numbered} {later : List Numbered} {fault : Fault}
-      → ((other : Fault) → ¬ StopsAt strict fed text (texts_of later) other) → Stops strict (text.text ∷ fed) later fault
-      → Stops strict fed (text ∷ later) fault
-
--- one of the texts is too long
-abbrev pub HasLong : List (List ℕ) → Type 0
-HasLong texts = (text : List ℕ) × Contains texts text × (65535 < length text)
-
--- the log has a text that is too long, as a plain text or with its number
-pub record HasLongText (bytes : List ℕ) : Type 0 where
-  pub lines : List (List ℕ)
-  pub cut : List ℕ
-  pub log : IsLog bytes lines cut
-  pub texts : List Numbered
-  pub left : Option Numbered
-  pub healed : Counts
-  pub heals : Heals 1 None lines texts left healed
-  pub plains : List Numbered
-  pub stripped : Counts
-  pub plain : ArePlain texts plains stripped
-  pub long : HasLong (texts_of plains) ⊎ ((numbering : Numbering) × (whole : List Numbered) × (counts : Counts)
-      × IsNumbering lines (texts_of plains) numbering × AreNumbered numbering plains whole counts × HasLong (texts_of whole))
-
--- why a log isn't rewritten, but for want of memory: a text is too long, or the writing ends at a place
+-- Why a log isn't rewritten, but for want of memory: its texts can't be had; or every line has to be read and the
+-- beginning of one isn't known; or the writing of the texts ends.
 abbrev pub IsCausedFault : Option ℕ → Bool → List ℕ → Fault → Type 0
-IsCausedFault process strict bytes fault = (HasLongText bytes × (fault ≡ LongLine))
-    ⊎ ((¬ HasLongText bytes) × (chosen : List Numbered) × (before : Counts) × AreTexts process bytes chosen before × Stops strict [] chosen fault)
+IsCausedFault process strict bytes fault = ((why : LogFault) × IsLogFault process bytes why × (fault ≡ of_log why))
+    ⊎ (((strict ≡ true) × (number : ℕ) × IsFirstUnknown process bytes (Some number) × (fault ≡ Unreadable number 1 Unknown))
+    ⊎ ((strict ≡ true → IsFirstUnknown process bytes None) × (texts : List Numbered) × (before : Counts) × AreTexts process bytes texts before
+    × Stops strict texts fault))
 
 -- why a log isn't rewritten; out of memory has no cause
 abbrev pub IsFault : Option ℕ → Bool → List ℕ → Fault → Type 0
 IsFault process strict bytes (Unreadable line column cause) = IsCausedFault process strict bytes (Unreadable line column cause)
-IsFault process strict bytes LongLine = IsCausedFault process strict bytes LongLine
+IsFault process strict bytes (LongLine line) = IsCausedFault process strict bytes (LongLine line)
+IsFault process strict bytes NoProcess = IsCausedFault process strict bytes NoProcess
 IsFault process strict bytes Memory = Unit {0}

@@ -1,7 +1,4 @@
-pub mod Counting
-pub mod Log
-pub mod Numbering
-pub mod Spaces
+pub mod Order
 pub mod Places
 pub mod Rewriting
 pub mod Laws

@@ -1,33 +1,27 @@
--- What is written at the place of each text. A call that another thread's line cut in two is one line again: an munmap
--- stands where its first half stood, since the kernel has freed its pages long before its second half is printed, and
--- every other call where its second half stood. The definitions speak of a text, of those before it, the last one
--- first, and of those behind it; the halves of a call are the nearest of its process, as `strace_reader` joins them.
-use Rattle.std.specs.Prelude.{◌≡◌, ◌⊎◌, ℕ, ◌≤◌, List, [], ◌∷◌, ◌++◌, length, map, take, drop, Bool, true, false, Option, Some, None, option_to_list}
+-- What each text of a log does: a whole line comes, or a call that another thread's line cut in two begins or ends. And
+-- what a line becomes as it is written. The definitions speak of a text, of those before it, the last one first, and of
+-- those behind it; the halves of a call are the nearest of its process, as `strace_reader` joins them.
+use Rattle.std.specs.Prelude.{◌≡◌, ◌≢◌, ◌⊎◌, ℕ, ◌<◌, ◌≤◌, List, [], ◌∷◌, ◌++◌, length, map, take, drop, Bool, true, false, Option, Some, None, codes}
 use Rattle.strace_reader.specs.declared.item.BadCall.{BadCall}
 use Rattle.strace_reader.specs.declared.item.Item.{Item}
-use Rattle.strace_reader.specs.declared.item.Item.TheVariants.{Unfinished, Resumed}
+use Rattle.strace_reader.specs.declared.item.Item.TheVariants.{Played, Unfinished, Resumed, Other}
 use Rattle.strace_reader.specs.declared.item.Name.{Name}
-use Rattle.strace_reader.specs.declared.item.Name.TheVariants.{Munmap}
-use Rattle.strace_reader.specs.Grammar.{IsCut, Spells, Refuses}
+use Rattle.strace_reader.specs.declared.item.Recorded.{Recorded}
+use Rattle.page_types.specs.declared.calls.Call.{Call}
+use Rattle.strace_reader.specs.Grammar.{EndsWith, IsCut, Spells, Refuses}
 use Rattle.strace_reader.specs.Joining.{IsSilent}
+use Rattle.raw_lines.specs.Beginnings.{ChangesSpace}
 use Rattle.raw_lines.specs.Marks.{unread_text}
 use Rattle.raw_lines.specs.Mends.{IsWhole, IsMended, unreturned_text}
 use Rattle.raw_lines.specs.Plain.{IsStill}
-use Rattle.raw_trace.specs.declared.counts.Counts.{Counts}
-use Rattle.raw_trace.specs.declared.counts.Sort.TheVariants.{Joined, Mended, Unreturned, Unread}
+use Rattle.raw_trace.specs.declared.calls.ReadCall.{ReadCall}
+use Rattle.raw_trace.specs.Order.{Entry, Step, Begins, Ends, Comes}
+use Rattle.raw_trace.specs.declared.fault.Cause.{Cause}
+use Rattle.raw_trace.specs.declared.fault.Cause.TheVariants.{Form, Alone, Unclear, OtherForm, Unknown}
+use Rattle.raw_trace.specs.declared.fault.Trouble.{Trouble}
 use Rattle.raw_trace.specs.declared.settling.Ending.{Ending}
 use Rattle.raw_trace.specs.declared.settling.Ending.TheVariants.{AsItIs, ByMends, AsUnreturned, AsUnread}
-use Rattle.raw_trace.specs.Counting.{no_counts, one_more_of}
-use Rattle.raw_trace.specs.Log.{Numbered}
-
--- the texts, without their numbers
-abbrev pub texts_of : List Numbered → List (List ℕ)
-texts_of lines = map (λ line. line.text) lines
-
--- a call of this name is written where its first half stood
-abbrev pub stands_first : Name → Bool
-stands_first Munmap = true
-stands_first _ = false
+use Rattle.raw_logs.specs.Log.{Numbered, texts_of}
 
 -- ---- the halves of a call
 
@@ -86,33 +80,65 @@ pub data Becomes (line : List ℕ) : List ℕ → Ending → Type 0 where
       → ((bad : BadCall) (other : List ℕ) → Refuses line bad → length line ≤ 65535 → IsMended line other → ¬ IsGood other)
       → Becomes line (unread_text line) AsUnread
 
--- it is counted so
-abbrev pub counted : Ending → Counts → Counts
-counted AsItIs = λ counts. counts
-counted ByMends = one_more_of Mended
-counted AsUnreturned = one_more_of Unreturned
-counted AsUnread = one_more_of Unread
+-- the call that a line is read as
+abbrev pub IsReadAs : List ℕ → Option ReadCall → Type 0
+IsReadAs line (Some call) = Spells line (Played call.pid call.call call.recorded)
+IsReadAs line None = (pid : ℕ) (call : Call) (recorded : Option Recorded) → ¬ Spells line (Played pid call recorded)
 
--- ---- where it stands
+-- the line names a call that changes an address space, and isn't one of a call that never returned
+abbrev pub Changes : List ℕ → Type 0
+Changes line = (¬ EndsWith (codes "= ?") line) × (pid : ℕ) × (body : List ℕ) × IsCut line pid body × ChangesSpace body
 
--- What stands at the place of a text, behind those that were fed and before later ones: the line that it becomes, or
--- the one that it makes with its other half, or nothing, where that line stands at the other half's place. `first` says
--- which calls stand at their first half.
-pub data StandsAt (first : Name → Bool) (fed : List (List ℕ)) (text : List ℕ) (later : List (List ℕ)) : Option (List ℕ) → (Counts → Counts) → Type 0 where
-  stands_alone : {line : List ℕ} {ending : Ending} → (¬ IsPaired fed text later) → Becomes text line ending →
-      StandsAt first fed text later (Some line) (counted ending)
-  stands_at_first : {name : Name} {joined line : List ℕ} {ending : Ending} → IsFirst text later name joined → first name ≡ true →
-      Becomes joined line ending → StandsAt first fed text later (Some line) (λ counts. counted ending (one_more_of Joined counts))
-  stands_later : {name : Name} {joined : List ℕ} → IsFirst text later name joined → first name ≡ false →
-      StandsAt first fed text later None (λ counts. counts)
-  stands_before : {name : Name} {joined : List ℕ} → IsSecond fed text name joined → first name ≡ true →
-      StandsAt first fed text later None (λ counts. counts)
-  stands_at_second : {name : Name} {joined line : List ℕ} {ending : Ending} → IsSecond fed text name joined → first name ≡ false →
-      Becomes joined line ending → StandsAt first fed text later (Some line) (λ counts. counted ending (one_more_of Joined counts))
+-- the line is passed over, though it changes an address space: its form isn't one of the profile
+abbrev pub IsOtherForm : List ℕ → Type 0
+IsOtherForm line = Spells line Other × Changes line
 
--- behind the texts that were fed, these lines are written for the others, place by place
-pub data Writes (first : Name → Bool) : List (List ℕ) → List (List ℕ) → List (List ℕ) → Counts → Type 0 where
-  all_written : {fed : List (List ℕ)} → Writes first fed [] [] no_counts
-  at_place : {fed : List (List ℕ)} {text : List ℕ} {later written : List (List ℕ)} {line : Option (List ℕ)} {adds : Counts → Counts} {counts : Counts}
-      → StandsAt first fed text later line adds → Writes first (text ∷ fed) later written counts
-      → Writes first fed (text ∷ later) (option_to_list line ++ written) (adds counts)
+-- why a line can't be read, at this column
+abbrev pub IsCauseAt : List ℕ → ℕ → Cause → Type 0
+IsCauseAt line column (Form what) = Refuses line (record { column = column; what = what })
+IsCauseAt line column Alone = (column ≡ 1) × (process : ℕ) × (name : Name) × (from : ℕ) × Spells line (Resumed process name from)
+IsCauseAt line column Unclear = (column ≡ 1) × ((bad : BadCall) → ¬ Refuses line bad)
+    × ((process : ℕ) (name : Name) (from : ℕ) → ¬ Spells line (Resumed process name from))
+IsCauseAt line column OtherForm = ⊥
+IsCauseAt line column Unknown = ⊥
+
+-- why a line can't be read, and where
+abbrev pub IsCause : List ℕ → Trouble → Type 0
+IsCause line t = IsCauseAt line t.column t.cause
+
+-- a form that the profile hasn't, at the beginning of a line
+abbrev pub other_form : Trouble
+other_form = record { column = 1; cause = OtherForm }
+
+-- Why a line that became so is left unread, or isn't played though it changes an address space. One that is too long
+-- has no cause.
+abbrev pub IsTrouble : List ℕ → List ℕ → Ending → Option Trouble → Type 0
+IsTrouble line written ending (Some t) = ((ending ≡ AsUnread) × (length line ≤ 65535) × IsCause line t)
+    ⊎ ((ending ≢ AsUnread) × IsOtherForm written × (t ≡ other_form))
+IsTrouble line written ending None = (ending ≡ AsUnread → 65535 < length line) × (ending ≢ AsUnread → ¬ IsOtherForm written)
+
+-- the entry of a line, which has this number
+pub record IsEntry (number : ℕ) (joined : Bool) (line : List ℕ) (entry : Entry) : Type 0 where
+  pub number_is : entry.number ≡ number
+  pub joined_is : entry.joined ≡ joined
+  pub body : List ℕ
+  pub process_is : IsCut line entry.process body
+  pub becomes : Becomes line entry.line entry.ending
+  pub troubled : IsTrouble line entry.line entry.ending entry.trouble
+  pub read : IsReadAs entry.line entry.call
+
+-- ---- what a text does
+
+-- What a text does behind those that were fed and before later ones: half of a call whose other half is there begins it
+-- or ends it, and any other line comes. The line of two halves has the number of the first.
+abbrev pub IsStep : List (List ℕ) → Numbered → List (List ℕ) → Step → Type 0
+IsStep fed text later (Comes entry) = (¬ IsPaired fed text.text later) × IsEntry text.number false text.text entry
+IsStep fed text later (Begins entry) = (name : Name) × (joined : List ℕ) × IsFirst text.text later name joined × IsEntry text.number true joined entry
+IsStep fed text later (Ends process) = (name : Name) × (joined : List ℕ) × (second : IsSecond fed text.text name joined) × (second.process ≡ process)
+
+-- what these texts do, behind those that were fed and before later ones
+abbrev pub AreSteps : List (List ℕ) → List Numbered → List (List ℕ) → List Step → Type 0
+AreSteps fed [] later [] = Unit {0}
+AreSteps fed [] later (step ∷ steps) = ⊥
+AreSteps fed (text ∷ texts) later [] = ⊥
+AreSteps fed (text ∷ texts) later (step ∷ steps) = IsStep fed text (texts_of texts ++ later) step × AreSteps (text.text ∷ fed) texts later steps

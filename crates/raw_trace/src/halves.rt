@@ -6,20 +6,13 @@ ghost use Rattle.std.specs.Prelude.{◌≡◌, ◌≤◌, ◌<◌, ◌^◌, ℕ,
 ghost use Rattle.std.specs.Prelude.{◌≢◌, ◌⊎◌, ◌+◌, ◌++◌, ◌∷◌, List, Some, None, OnOk, slice_set};
 ghost use Rattle.std.specs.BTreeMap.{get};
 ghost use Rattle.std.specs.Ordering.{nat_cmp};
-ghost use Rattle.raw_trace.specs.Places.{stands_first};
-ghost use Rattle.raw_trace.specs.Stages.{AreRoles, texts};
+ghost use Rattle.raw_trace.specs.Stages.{AreRoles};
+ghost use Rattle.raw_logs.specs.Stages.{texts};
 
-use crate::line::Line;
+use raw_logs::Line;
 use std::alloc::{AllocError, Global};
 use std::collections::BTreeMap;
 use strace_reader::{Item, Name, cut, read_line};
-
-/// Whether a call of this name is written where its first half stood.
-pub(crate) fn stands_first(name: Name) -> bool
-    ensures { result ≡ stands_first name }
-{
-    name == Name::Munmap
-}
 
 /// What a text is to its other half. Places count texts from 0.
 #[derive(Clone, Copy, PartialEq, Eq, Debug)]

@@ -3,25 +3,20 @@
 //! `specs/Laws.antt` says what it comes to. `rewrite` is exactly it.
 #![tactic(auto)]
 
-mod choosing;
-mod counts;
+mod calls;
 mod fault;
 mod halves;
-mod healing;
 mod laws;
-mod line;
-mod numbering;
+mod order;
 mod rewriting;
 mod settling;
-mod spaces;
 mod writing;
 
-pub use counts::{Counts, Sort};
-pub use fault::{Cause, Fault};
+pub use calls::{Pages, ReadCall};
+pub use fault::{Cause, Fault, Trouble};
 pub use laws::{
-    agrees_with_reader, good_lines_stay, good_logs_stay, has_one_fault, has_one_rewriting,
-    rewriting_is_fixed, rewriting_keeps_calls, rewriting_keeps_orders,
+    good_lines_stay, good_texts_stay, has_one_fault, has_one_rewriting, rewriting_keeps_calls,
+    rewriting_keeps_orders,
 };
-pub use numbering::Numbering;
 pub use rewriting::{Rewriting, rewrite};
 pub use settling::Ending;

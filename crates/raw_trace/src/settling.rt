@@ -9,18 +9,15 @@ ghost use Rattle.raw_lines.specs.Mends.{IsWhole};
 ghost use Rattle.strace_reader.specs.declared.item.Name.{Name};
 ghost use Rattle.strace_reader.specs.Grammar.{Spells, Refuses};
 ghost use Rattle.raw_lines.specs.Marks.{unread_text};
-ghost use Rattle.raw_trace.specs.declared.settling.Ending.TheVariants.{AsUnread};
-ghost use Rattle.raw_trace.specs.Faults.{IsCause};
+ghost use Rattle.raw_trace.specs.declared.settling.Ending.TheVariants.{AsItIs, AsUnread};
+ghost use Rattle.raw_trace.specs.Places.{IsCause};
 ghost use Rattle.raw_trace.specs.Places.{IsGood, Becomes};
-ghost use Rattle.raw_trace.specs.Stages.{line_of};
 
-use crate::fault::Cause;
+use crate::fault::{Cause, Trouble};
 use raw_lines::{UNREAD_MARK, is_still, mended};
+use raw_logs::LINE_LIMIT;
 use std::alloc::{AllocError, Global};
 use strace_reader::{BadCall, Item, read_line};
-
-/// How many bytes a line may have, without its newline.
-pub(crate) const LINE_LIMIT: usize = 65_535;
 
 /// How a line ends up.
 #[derive(Clone, Copy, PartialEq, Eq, Debug)]
@@ -38,8 +35,8 @@ pub enum Ending {
 /// What a line becomes.
 #[derive(Debug, Drop)]
 pub(crate) struct Settled {
-    /// The line, where it isn't as it was.
-    pub(crate) line: Option<Vec<u8>>,
+    /// The line as it is written.
+    pub(crate) line: Vec<u8>,
     /// How it ended up.
     pub(crate) ending: Ending,
 }
@@ -72,10 +69,10 @@ pub(crate) fn joined(alloc: Global, front: &[u8], back: &[u8]) -> Result<Vec<u8>
 
 /// The line with the mark of an unread line.
 fn unread(alloc: Global, line: &[u8]) -> Result<Settled, AllocError>
-    ensures { IfOk result (λ settled. (line_of line.now settled ≡ unread_text line.now) × (settled.ending ≡ AsUnread)) }
+    ensures { IfOk result (λ settled. (settled.line.items ≡ unread_text line.now) × (settled.ending ≡ AsUnread)) }
 {
     Ok(Settled {
-        line: Some(joined(alloc, UNREAD_MARK, line)?),
+        line: joined(alloc, UNREAD_MARK, line)?,
         ending: Ending::AsUnread,
     })
 }
@@ -83,12 +80,12 @@ fn unread(alloc: Global, line: &[u8]) -> Result<Settled, AllocError>
 /// A first half as a call that never returned, where that is good.
 fn unreturned(alloc: Global, half: &[u8]) -> Result<Settled, AllocError>
     requires { (process : ℕ) × (name : Name) × (from to : ℕ) × Spells half.now (Unfinished process name from to) }
-    ensures { IfOk result (λ settled. Becomes half.now (line_of half.now settled) settled.ending) }
+    ensures { IfOk result (λ settled. Becomes half.now settled.line.items settled.ending) }
 {
     let line = joined(alloc, half, b") = ?")?;
     if is_good(line.as_slice()) {
         return Ok(Settled {
-            line: Some(line),
+            line,
             ending: Ending::AsUnreturned,
         });
     }
@@ -99,40 +96,49 @@ fn unreturned(alloc: Global, half: &[u8]) -> Result<Settled, AllocError>
 fn by_mends(alloc: Global, line: &[u8], bad: BadCall) -> Result<Settled, AllocError>
     requires short { length line.now ≤ 65535 }
     requires refused { Refuses line.now bad }
-    ensures { IfOk result (λ settled. Becomes line.now (line_of line.now settled) settled.ending) }
+    ensures { IfOk result (λ settled. Becomes line.now settled.line.items settled.ending) }
 {
     let Some(other) = mended(alloc, line, bad)? else {
         return unread(alloc, line);
     };
     if is_good(other.as_slice()) {
         return Ok(Settled {
-            line: Some(other),
+            line: other,
             ending: Ending::ByMends,
         });
     }
     unread(alloc, line)
 }
 
+/// The line as it is.
+fn kept(alloc: Global, line: &[u8]) -> Result<Settled, AllocError>
+    ensures { IfOk result (λ settled. (settled.line.items ≡ line.now) × (settled.ending ≡ AsItIs)) }
+{
+    Ok(Settled {
+        line: Vec::from_slice(alloc, line)?,
+        ending: Ending::AsItIs,
+    })
+}
+
 /// A whole line, where it stays as it is.
 fn as_it_is(alloc: Global, line: &[u8]) -> Result<Settled, AllocError>
     requires short { length line.now ≤ 65535 }
     requires whole { (item : ItemOf) × Spells line.now item × IsWhole item }
-    ensures { IfOk result (λ settled. Becomes line.now (line_of line.now settled) settled.ending) }
+    ensures { IfOk result (λ settled. Becomes line.now settled.line.items settled.ending) }
 {
     if is_still(line) {
-        return Ok(Settled {
-            line: None,
-            ending: Ending::AsItIs,
-        });
+        return kept(alloc, line);
     }
     unread(alloc, line)
 }
 
-/// What a line becomes.
+/// What a line becomes. One that is too long is left unread.
 pub(crate) fn settle(alloc: Global, line: &[u8]) -> Result<Settled, AllocError>
-    requires { length line.now ≤ 65535 }
-    ensures { IfOk result (λ settled. Becomes line.now (line_of line.now settled) settled.ending) }
+    ensures { IfOk result (λ settled. Becomes line.now settled.line.items settled.ending) }
 {
+    if line.len() > LINE_LIMIT {
+        return unread(alloc, line);
+    }
     match read_line(line) {
         Ok(Item::Unfinished { .. }) => unreturned(alloc, line),
         Ok(Item::Resumed { .. }) => unread(alloc, line),
@@ -144,13 +150,22 @@ pub(crate) fn settle(alloc: Global, line: &[u8]) -> Result<Settled, AllocError>
 }
 
 /// Why a line is left unread, and at which column.
-pub(crate) fn cause_of(line: &[u8]) -> (u32, Cause)
+pub(crate) fn cause_of(line: &[u8]) -> Trouble
     requires { length line.now ≤ 65535 }
-    ensures { IsCause line.now result.0 result.1 }
+    ensures { IsCause line.now result }
 {
     match read_line(line) {
-        Err(bad) => (bad.column, Cause::Form(bad.what)),
-        Ok(Item::Resumed { .. }) => (1, Cause::Alone),
-        Ok(_) => (1, Cause::Unclear),
+        Err(bad) => Trouble {
+            column: bad.column,
+            cause: Cause::Form(bad.what),
+        },
+        Ok(Item::Resumed { .. }) => Trouble {
+            column: 1,
+            cause: Cause::Alone,
+        },
+        Ok(_) => Trouble {
+            column: 1,
+            cause: Cause::Unclear,
+        },
     }
 }

@@ -1,22 +1,27 @@
-//! What is written, place by place: a line that no other half belongs to where it stands, and the line of two halves at
-//! the place of the one or the other. `Writes` in `specs/Places.antt` says it, from the texts before and behind.
+//! What is written, place by place: whole lines as they come, and the line of two halves where the order has it.
+//! `IsStep` in `specs/Places.antt` says what a text does, from the texts before and behind.
 
-ghost use Rattle.std.specs.Prelude.{◌≡◌, ◌≢◌, ◌≤◌, ◌<◌, ◌-◌, ◌^◌, ℕ, List, [], ◌∷◌, ◌++◌, length, take, drop, Some, slice_get, All, true, false, IfOk, IfErr, OnOk};
-ghost use Rattle.raw_trace.specs.Log.{Numbered as NumberedOf};
-ghost use Rattle.raw_trace.specs.declared.fault.Fault.{Fault as FaultOf};
-ghost use Rattle.raw_trace.specs.declared.fault.Fault.TheVariants.{LongLine};
-ghost use Rattle.raw_trace.specs.declared.settling.Ending.TheVariants.{AsUnread};
-ghost use Rattle.raw_trace.specs.Faults.{Stops};
-ghost use Rattle.raw_trace.specs.Places.{stands_first, Writes};
-ghost use Rattle.raw_trace.specs.Rewriting.{text_of};
-ghost use Rattle.raw_trace.specs.Stages.{AreRoles, numbered_all, texts, IsWrittenFault};
+ghost use Rattle.std.specs.Prelude.{◌≡◌, ◌≢◌, ◌⊎◌, ◌≤◌, ◌<◌, ◌+◌, ◌-◌, ◌^◌, ℕ, List, [], ◌∷◌, ◌++◌, length, take, drop, reverse, true, false, Some, slice_get, All};
+ghost use Rattle.std.specs.Prelude.{IfOk, IfErr, OnOk, IfSome, IsNone, if◌then◌else◌};
+ghost use Rattle.raw_logs.specs.Counting.{one_more_of};
+ghost use Rattle.raw_logs.specs.Log.{Numbered as NumberedOf};
+ghost use Rattle.raw_logs.specs.Stages.{numbered_all, texts};
+ghost use Rattle.raw_trace.specs.declared.fault.Fault.TheVariants.{Memory};
+ghost use Rattle.raw_trace.specs.Faults.{IsEntryFault};
+ghost use Rattle.std.specs.Bool.{Decides};
+ghost use Rattle.raw_trace.specs.Places.{Becomes, IsReadAs, Changes, IsOtherForm, IsCause, IsTrouble, other_form, IsEntry};
+ghost use Rattle.raw_trace.specs.Rewriting.{text_of, is_form, counted, counted_entry, counted_call};
+ghost use Rattle.raw_trace.specs.Stages.{entry, AreRoles, IsRoleAt, MayBeWritten, WroteLines, TookText, EndsText, WroteAll, EndsAll};
 
-use crate::counts::{Counts, Sort};
-use crate::fault::Fault;
-use crate::halves::{Role, stands_first};
-use crate::line::Line;
-use crate::settling::{Ending, LINE_LIMIT, Settled, cause_of, joined, settle};
+use crate::calls::{ReadCall, call_of};
+use crate::fault::{Cause, Fault, Trouble};
+use crate::halves::Role;
+use crate::order::{Ordering, Piece};
+use crate::settling::{Ending, cause_of, joined, settle};
+use raw_lines::changes_space;
+use raw_logs::{Counts, LINE_LIMIT, Line, Sort};
 use std::alloc::{AllocError, Global};
+use strace_reader::{Item, cut, ends_with, read_line};
 
 /// The lines that are written, and what was changed in them.
 #[derive(Drop)]
@@ -25,17 +30,117 @@ pub(crate) struct Written {
     pub(crate) out: Vec<u8>,
     /// What was joined, mended, or left unread.
     pub(crate) counts: Counts,
+    /// How many of them are calls.
+    pub(crate) calls: u32,
 }
 
-/// Whether a line may be written that ends up so: where every line is to be read, one that is left unread may not.
-fn may_stay(strict: bool, ending: Ending) -> bool
-    ensures stays { result ≡ true → strict ≡ true → ending ≢ AsUnread }
-    ensures ends { result ≡ false → (strict ≡ true) × (ending ≡ AsUnread) }
-{
-    if !strict {
-        return true;
+impl Written {
+    /// Counts a line by how it became so.
+    fn count_ending(&mut self, ending: Ending)
+        ensures counts { self.new.counts ≡ counted ending self.old.counts }
+        ensures calls { self.new.calls ≡ self.old.calls }
+        ensures out { self.new.out ≡ self.old.out }
+    {
+        match ending {
+            Ending::AsItIs => {}
+            Ending::ByMends => self.counts.add(Sort::Mended),
+            Ending::AsUnreturned => self.counts.add(Sort::Unreturned),
+            Ending::AsUnread => self.counts.add(Sort::Unread),
+        }
     }
-    ending != Ending::AsUnread
+
+    /// Counts a line of a sort, where it is one.
+    fn count_if(&mut self, is: bool, sort: Sort)
+        ensures counts { self.new.counts ≡ if is then one_more_of sort self.old.counts else self.old.counts }
+        ensures calls { self.new.calls ≡ self.old.calls }
+        ensures out { self.new.out ≡ self.old.out }
+    {
+        if is {
+            self.counts.add(sort);
+        }
+    }
+
+    /// Counts a line.
+    fn count(&mut self, piece: &Piece)
+        ensures counts { self.new.counts ≡ counted_entry (entry piece.now) self.old.counts }
+        ensures calls { self.new.calls ≡ counted_call piece.now.call self.old.calls }
+        ensures out { self.new.out ≡ self.old.out }
+    {
+        self.count_if(piece.joined, Sort::Joined);
+        self.count_if(is_form(piece.trouble), Sort::Forms);
+        self.count_ending(piece.ending);
+        self.calls = with_call(piece.call, self.calls);
+    }
+
+    /// Writes a line that may be written, with its newline.
+    fn push(&mut self, line: &[u8]) -> Result<(), AllocError>
+        ensures out { OnOk result (self.new.out.items ≡ self.old.out.items ++ text_of (line.now ∷ [])) }
+        ensures counts { self.new.counts ≡ self.old.counts }
+        ensures calls { self.new.calls ≡ self.old.calls }
+    {
+        self.out.extend_from_slice(line)?;
+        if self.out.push(b'\n').is_err() {
+            return Err(AllocError);
+        }
+        Ok(())
+    }
+
+    /// Writes a line and counts it, unless it is too long, or isn't read where every line has to be.
+    pub(crate) fn write(&mut self, piece: &Piece, strict: bool) -> Result<(), Fault>
+        ensures wrote { OnOk result (WroteLines strict self.old (entry piece.now ∷ []) self.new) }
+        ensures fault { IfErr result (λ fault. (fault ≡ Memory) ⊎ IsEntryFault strict (entry piece.now) fault) }
+    {
+        if let Some(fault) = fault_of(piece, strict) {
+            return Err(fault);
+        }
+        self.count(piece);
+        self.push(piece.line.as_slice())?;
+        Ok(())
+    }
+}
+
+/// So many calls and this one, where it is one; the count stays at 2^32 - 1.
+fn with_call(call: Option<ReadCall>, calls: u32) -> u32
+    ensures { result ≡ counted_call call calls }
+{
+    match call {
+        None => calls,
+        Some(_) => calls.saturating_add(1),
+    }
+}
+
+/// Why a line may not be written.
+fn fault_of(piece: &Piece, strict: bool) -> Option<Fault>
+    ensures some { IfSome result (IsEntryFault strict (entry piece.now)) }
+    ensures none { IsNone result → MayBeWritten strict (entry piece.now) }
+{
+    if piece.line.len() > LINE_LIMIT {
+        return Some(Fault::LongLine { line: piece.number });
+    }
+    if !strict {
+        return None;
+    }
+    let trouble = piece.trouble?;
+    Some(Fault::Unreadable {
+        line: piece.number,
+        column: trouble.column,
+        cause: trouble.cause,
+    })
+}
+
+/// Whether a call isn't played for its form.
+fn is_form(trouble: Option<Trouble>) -> bool
+    ensures { result ≡ is_form trouble }
+{
+    match trouble {
+        Some(
+            Trouble {
+                cause: Cause::OtherForm,
+                ..
+            },
+        ) => true,
+        _ => false,
+    }
 }
 
 /// The text at a place.
@@ -71,170 +176,163 @@ fn line_of_halves(
     joined(alloc, front, back)
 }
 
-impl Written {
-    ghost use Rattle.std.specs.Prelude.{◌⊎◌, reverse};
-    ghost use Rattle.raw_trace.specs.declared.fault.Fault.TheVariants.{Memory};
-    ghost use Rattle.raw_trace.specs.Faults.{StopsAt, StopsLine};
-    ghost use Rattle.raw_trace.specs.Places.{counted};
-    ghost use Rattle.raw_trace.specs.Stages.{line_of, IsRoleAt, IsWrittenLine, IsWrittenJoined, IsWrittenPlace};
-
-    /// Writes a line that may be written, with its newline.
-    fn push(&mut self, line: &[u8]) -> Result<(), Fault>
-        ensures written { OnOk result (self.new.out.items ≡ self.old.out.items ++ text_of (line.now ∷ [])) }
-        ensures counts { self.new.counts ≡ self.old.counts }
-        ensures short { OnOk result (length line.now ≤ 65535) }
-        ensures fault { IfErr result (λ fault. (fault ≡ Memory) ⊎ ((fault ≡ LongLine) × (65535 < length line.now))) }
-    {
-        if line.len() > LINE_LIMIT {
-            return Err(Fault::LongLine);
-        }
-        self.out.extend_from_slice(line)?;
-        if self.out.push(b'\n').is_err() {
-            return Err(Fault::Memory);
-        }
-        Ok(())
+/// The call of a line that became so.
+fn call_as(line: &[u8], ending: Ending) -> Option<ReadCall>
+    requires { (from : List ℕ) × Becomes from line.now ending }
+    ensures { IsReadAs line.now result }
+{
+    match ending {
+        Ending::AsUnread => None,
+        _ => call_of(line),
     }
+}
 
-    /// Counts a line by how it ended up.
-    fn count(&mut self, ending: Ending)
-        ensures counts { self.new.counts ≡ counted ending self.old.counts }
-        ensures out { self.new.out ≡ self.old.out }
-    {
-        match ending {
-            Ending::AsItIs => {}
-            Ending::ByMends => self.counts.add(Sort::Mended),
-            Ending::AsUnreturned => self.counts.add(Sort::Unreturned),
-            Ending::AsUnread => self.counts.add(Sort::Unread),
-        }
+/// Whether a line changes an address space, by the call that it names; one that never returned doesn't.
+fn changes(line: &[u8]) -> bool
+    ensures { Decides result (Changes line.now) }
+{
+    if ends_with(line, b"= ?") {
+        return false;
     }
+    let (_, body) = cut(line);
+    changes_space(body)
+}
 
-    /// Writes what a line became.
-    fn push_settled(&mut self, line: &[u8], settled: &Settled) -> Result<(), Fault>
-        ensures written { OnOk result (self.new.out.items ≡ self.old.out.items ++ text_of (line_of line.now settled.now ∷ [])) }
-        ensures counts { self.new.counts ≡ self.old.counts }
-        ensures short { OnOk result (length (line_of line.now settled.now) ≤ 65535) }
-        ensures fault { IfErr result (λ fault. (fault ≡ Memory) ⊎ ((fault ≡ LongLine) × (65535 < length (line_of line.now settled.now)))) }
-    {
-        match &settled.line {
-            Some(other) => self.push(other.as_slice()),
-            None => self.push(line),
-        }
+/// Whether a line is a call that changes an address space, in a form that the profile hasn't.
+fn is_other_form(line: &[u8]) -> bool
+    requires { length line.now ≤ 65535 }
+    ensures { Decides result (IsOtherForm line.now) }
+{
+    match read_line(line) {
+        Ok(Item::Other) => changes(line),
+        _ => false,
     }
+}
 
-    /// Writes what a line becomes, which stands at the place of the line of this number. Where every line is to be
-    /// read, one that can't be is a fault.
-    fn write(&mut self, alloc: Global, line: &[u8], number: u32, strict: bool) -> Result<(), Fault>
-        ensures written { OnOk result (IsWrittenLine strict line.now self.old self.new) }
-        ensures fault { IfErr result (λ fault. (fault ≡ Memory) ⊎ StopsLine strict line.now number fault) }
-    {
-        if line.len() > LINE_LIMIT {
-            return Err(Fault::LongLine);
-        }
-        let settled = settle(alloc, line)?;
-        if !may_stay(strict, settled.ending) {
-            let (column, cause) = cause_of(line);
-            return Err(Fault::Unreadable {
-                line: number,
-                column,
-                cause,
-            });
-        }
-        self.count(settled.ending);
-        self.push_settled(line, &settled)
+/// Why a line that was read isn't played.
+fn trouble_of_form(line: &[u8]) -> Option<Trouble>
+    requires { length line.now ≤ 65535 }
+    ensures some { IfSome result (λ trouble. IsOtherForm line.now × (trouble ≡ other_form)) }
+    ensures none { IsNone result → ¬ IsOtherForm line.now }
+{
+    if is_other_form(line) {
+        return Some(Trouble {
+            column: 1,
+            cause: Cause::OtherForm,
+        });
     }
+    None
+}
 
-    /// Writes the line of two halves at the place of the line of this number, and counts it.
-    fn write_joined(
-        &mut self,
-        alloc: Global,
-        line: &[u8],
-        number: u32,
-        strict: bool,
-    ) -> Result<(), Fault>
-        ensures written { OnOk result (IsWrittenJoined strict line.now self.old self.new) }
-        ensures fault { IfErr result (λ fault. (fault ≡ Memory) ⊎ StopsLine strict line.now number fault) }
-    {
-        self.counts.add(Sort::Joined);
-        self.write(alloc, line, number, strict)
+/// Why a line is left unread. One that is too long has no cause.
+fn trouble_of_unread(line: &[u8]) -> Option<Trouble>
+    ensures some { IfSome result (λ trouble. (length line.now ≤ 65535) × IsCause line.now trouble) }
+    ensures none { IsNone result → 65535 < length line.now }
+{
+    if line.len() > LINE_LIMIT {
+        return None;
     }
+    Some(cause_of(line))
+}
 
-    /// Writes what stands at one place.
-    fn write_place(
-        &mut self,
-        alloc: Global,
-        lines: &[Line],
-        place: usize,
-        role: Role,
-        strict: bool,
-    ) -> Result<(), Fault>
-        requires place { place < length lines.now }
-        requires role { (text : List ℕ) × IsRoleAt (texts lines.now) place text role }
-        ensures written { OnOk result ((text : List ℕ) (at : IsRoleAt (texts lines.now) place text role)
-            → IsWrittenPlace strict (reverse at.before) text at.after self.old self.new) }
-        ensures fault { IfErr result (λ fault. (text : NumberedOf) (at : IsRoleAt (texts lines.now) place text.text role)
-            → slice_get (numbered_all lines.now) place ≡ Some text
-            → (fault ≡ Memory) ⊎ StopsAt strict (reverse at.before) text at.after fault) }
-    {
-        let text = text_at(lines, place);
-        let number = number_at(lines, place);
-        match role {
-            Role::Alone => self.write(alloc, text, number, strict),
-            Role::First {
-                other,
-                to,
-                behind,
-                name,
-            } => {
-                if !stands_first(name) {
-                    return Ok(());
-                }
-                let second = text_at(lines, other as usize);
-                let line = line_of_halves(alloc, text, second, to, behind)?;
-                self.write_joined(alloc, line.as_slice(), number, strict)
-            }
-            Role::Second {
-                other,
-                to,
-                behind,
-                name,
-            } => {
-                if stands_first(name) {
-                    return Ok(());
-                }
-                let first = text_at(lines, other as usize);
-                let line = line_of_halves(alloc, first, text, to, behind)?;
-                self.write_joined(alloc, line.as_slice(), number, strict)
-            }
+/// Why a line that became so is left unread, or isn't played.
+fn trouble_of(line: &[u8], written: &[u8], ending: Ending) -> Option<Trouble>
+    requires { Becomes line.now written.now ending }
+    ensures { IsTrouble line.now written.now ending result }
+{
+    match ending {
+        Ending::AsUnread => trouble_of_unread(line),
+        _ => trouble_of_form(written),
+    }
+}
+
+/// A line as it is written.
+fn piece_of(alloc: Global, line: &[u8], number: u32, joined: bool) -> Result<Piece, AllocError>
+    ensures { IfOk result (λ piece. IsEntry number joined line.now (entry piece)) }
+{
+    let settled = settle(alloc, line)?;
+    let (process, _) = cut(line);
+    let call = call_as(settled.line.as_slice(), settled.ending);
+    let trouble = trouble_of(line, settled.line.as_slice(), settled.ending);
+    Ok(Piece {
+        number,
+        process,
+        line: settled.line,
+        ending: settled.ending,
+        joined,
+        trouble,
+        call,
+    })
+}
+
+/// Does what the text at a place does.
+fn take_text(
+    ordering: &mut Ordering,
+    alloc: Global,
+    lines: &[Line],
+    place: usize,
+    role: Role,
+    strict: bool,
+) -> Result<(), Fault>
+    requires place { place < length lines.now }
+    requires role { (text : List ℕ) × IsRoleAt (texts lines.now) place text role }
+    ensures took { OnOk result ((text : NumberedOf) (at : IsRoleAt (texts lines.now) place text.text role)
+        → slice_get (numbered_all lines.now) place ≡ Some text
+        → TookText strict (reverse at.before) text at.after ordering.old ordering.new) }
+    ensures fault { IfErr result (λ fault. (text : NumberedOf) (at : IsRoleAt (texts lines.now) place text.text role)
+        → slice_get (numbered_all lines.now) place ≡ Some text
+        → EndsText strict (reverse at.before) text at.after ordering.old fault) }
+{
+    let text = text_at(lines, place);
+    let number = number_at(lines, place);
+    match role {
+        Role::Alone => {
+            let piece = piece_of(alloc, text, number, false)?;
+            ordering.write(alloc, piece, strict)
+        }
+        Role::First {
+            other,
+            to,
+            behind,
+            ..
+        } => {
+            let second = text_at(lines, other as usize);
+            let line = line_of_halves(alloc, text, second, to, behind)?;
+            let piece = piece_of(alloc, line.as_slice(), number, true)?;
+            ordering.begin(piece)
+        }
+        Role::Second { .. } => {
+            let (process, _) = cut(text);
+            ordering.end(alloc, process, strict)
         }
     }
 }
 
-/// Writes what stands at each place.
-pub(crate) fn write_places(
+/// Writes the lines in their order, counting on from these counts.
+pub(crate) fn write_lines(
     alloc: Global,
     lines: &[Line],
     roles: &[Role],
+    counts: Counts,
     strict: bool,
 ) -> Result<Written, Fault>
     requires few { length lines.now < 2 ^ 32 - 1 }
-    requires short { All (λ line. length line.text.items ≤ 65535) lines.now }
     requires roles { AreRoles [] (texts lines.now) roles.now }
-    ensures written { IfOk result (λ found. (written : List (List ℕ)) × Writes stands_first [] (texts lines.now) written found.counts
-        × (found.out.items ≡ text_of written) × All (λ line. length line ≤ 65535) written) }
-    ensures read_all { IfOk result (λ found. strict ≡ true → found.counts.unread ≡ 0) }
-    ensures fault { IfErr result (IsWrittenFault strict (numbered_all lines.now)) }
-    ensures never { OnOk result ((fault : FaultOf) → ¬ Stops strict [] (numbered_all lines.now) fault) }
+    ensures wrote { IfOk result (WroteAll strict (numbered_all lines.now) counts) }
+    ensures fault { IfErr result (EndsAll strict (numbered_all lines.now)) }
 {
-    let mut written = Written {
-        out: Vec::new(alloc),
-        counts: Counts::new(),
+    let mut ordering = Ordering {
+        waiting: Vec::new(alloc),
+        written: Written {
+            out: Vec::new(alloc),
+            counts,
+            calls: 0,
+        },
     };
     let mut place = 0;
     'places: for role in roles {
-        match written.write_place(alloc, lines, place, *role, strict) {
-            Ok(()) => place += 1,
-            Err(fault) => return Err(fault),
-        }
+        take_text(&mut ordering, alloc, lines, place, *role, strict)?;
+        place += 1;
     }
-    Ok(written)
+    Ok(ordering.written)
 }

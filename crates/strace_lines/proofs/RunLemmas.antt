@@ -4,15 +4,16 @@ use Rattle.std.proofs.Common.{◌≡◌, ◌⊎◌, ℕ, ◌<◌, ◌≤◌, Lis
 use Rattle.std.proofs.Common.{inl, inr, refl, sym, subst, ap, ◌∙◌, arith}
 use Rattle.std.specs.Io.KnownBytes.{Appends, Keeps}
 use Rattle.byte_ports.specs.Bytes.{AppendsPrefix}
-use Rattle.raw_trace.specs.declared.counts.Counts.{Counts}
+use Rattle.raw_logs.specs.declared.counts.Counts.{Counts}
 use Rattle.raw_trace.specs.declared.fault.Fault.{Fault}
-use Rattle.raw_trace.specs.declared.fault.Fault.TheVariants.{Unreadable as CantRead, LongLine as TooLong, Memory as NoMemory}
+use Rattle.raw_trace.specs.declared.fault.Fault.TheVariants.{Unreadable as CantRead, LongLine as TooLong, NoProcess as Silent, Memory as NoMemory}
 use Rattle.raw_trace.specs.declared.rewriting.Rewriting.{Rewriting}
 use Rattle.raw_trace.specs.Faults.{IsFault, IsCausedFault}
-use Rattle.raw_trace.specs.Rewriting.{IsRewriting, EndsCut}
-use Rattle.raw_trace.proofs.OneEnd.{one_end}
+use Rattle.raw_trace.specs.Rewriting.{IsRewriting}
+use Rattle.raw_logs.specs.Reading.{EndsCut}
+use Rattle.raw_logs.proofs.OneEnd.{one_end}
 use Rattle.strace_lines.specs.declared.status.Status.{Status}
-use Rattle.strace_lines.specs.declared.status.Status.TheVariants.{Done, Helped, Usage, Unreadable, ReadFault, WriteFault, Memory, LongInput, LongLine}
+use Rattle.strace_lines.specs.declared.status.Status.TheVariants.{Done, Helped, Usage, Unreadable, NoProcess, ReadFault, WriteFault, Memory, LongInput, LongLine}
 use Rattle.strace_lines.specs.declared.words.Asked.TheVariants.{Help, Rewrite}
 use Rattle.strace_lines.specs.Words.{AskFor, AskForOne, RefusesWords}
 use Rattle.strace_lines.specs.Texts.{help_text}
@@ -34,8 +35,8 @@ only_outcome : (words : List (List ℕ)) (bytes : List ℕ) (process : Option �
     → AskFor words (Rewrite process strict)
     → (67108864 < length bytes → LongInput ≡ status)
     → (length bytes ≤ 67108864 → (cause : Fault) → IsCausedFault process strict bytes cause → status_of cause ≡ status)
-    → (length bytes ≤ 67108864 → ((cause : Fault) → IsCausedFault process strict bytes cause → ⊥) → (out : List ℕ) (counts : Counts) (ends : Bool)
-    → IsRewriting process bytes out counts → EndsCut bytes ends → Done counts ends ≡ status)
+    → (length bytes ≤ 67108864 → ((cause : Fault) → IsCausedFault process strict bytes cause → ⊥) → (out : List ℕ) (counts : Counts) (calls : ℕ)
+    (ends : Bool) → IsRewriting process bytes out counts calls → EndsCut bytes ends → Done calls counts ends ≡ status)
     → (other : Status) → IsOutcome words bytes other → other ≡ status
 only_outcome words bytes process strict status one asked long fault whole other (usage refused) = absurd (refused (Rewrite process strict) asked)
 only_outcome words bytes process strict status one asked long fault whole other (helped help) =
@@ -47,12 +48,12 @@ only_outcome words bytes process strict status one asked long fault whole other 
     subst (λ f. IsCausedFault process f bytes cause) same.1 (subst (λ (q : Option ℕ). IsCausedFault q s bytes cause) same.0 caused) in
     is ∙ fault within cause here
 only_outcome words bytes process strict status one asked long fault whole other
-    (done {process = p} {strict = s} {out = out} {counts = counts} {ends_cut = ends} words_ask within none is cut) =
+    (done {process = p} {strict = s} {out = out} {counts = counts} {calls = calls} {ends_cut = ends} words_ask within none is cut) =
     let same = same_asked words p process s strict one words_ask asked in
     whole within
     (λ cause caused. none cause (subst (λ f. IsCausedFault p f bytes cause) (sym same.1)
     (subst (λ (q : Option ℕ). IsCausedFault q strict bytes cause) (sym same.0) caused)))
-    out counts ends (subst (λ (q : Option ℕ). IsRewriting q bytes out counts) same.0 is) cut
+    out counts calls ends (subst (λ (q : Option ℕ). IsRewriting q bytes out counts calls) same.0 is) cut
 
 -- an input that is too long has that status alone
 pub long_only : (words : List (List ℕ)) (bytes : List ℕ) (process : Option ℕ) (strict : Bool) → AskForOne words
@@ -61,7 +62,7 @@ long_only words bytes process strict one asked above = record {
   called_for = input_too_long asked above;
   only = only_outcome words bytes process strict LongInput one asked (λ _. refl)
       (λ within cause caused. absurd (omega (arith, within, above)))
-      (λ within none out counts ends is cut. absurd (omega (arith, within, above)));
+      (λ within none out counts calls ends is cut. absurd (omega (arith, within, above)));
 }
 
 -- where the input isn't read to its end, it is too long, or the run was hindered
@@ -97,7 +98,16 @@ fault_cause words input_old input_new reads writes process strict bytes (CantRea
   within = within;
   holds = is;
 }
-fault_cause words input_old input_new reads writes process strict bytes TooLong drained within is asked = record {
+fault_cause words input_old input_new reads writes process strict bytes (TooLong line) drained within is asked = record {
+  process = process;
+  strict = strict;
+  accepted = asked;
+  bytes = bytes;
+  drained = drained;
+  within = within;
+  holds = is;
+}
+fault_cause words input_old input_new reads writes process strict bytes Silent drained within is asked = record {
   process = process;
   strict = strict;
   accepted = asked;
@@ -124,7 +134,7 @@ caused_only {T = T} words bytes process strict fault one asked within some cause
   called_for = not_rewritten asked within fault caused refl;
   only = only_outcome words bytes process strict (status_of fault) one asked (λ above. absurd (omega (arith, within, above)))
       (λ _ other h. ap status_of (only_fault {T = T} fault other (complete other h) some))
-      (λ _ none out counts ends is cut. absurd (none fault caused));
+      (λ _ none out counts calls ends is cut. absurd (none fault caused));
 }
 
 -- where the log isn't rewritten, the status is the only one, unless there was no memory
@@ -139,10 +149,14 @@ fault_complete {T = T} words input_old input_new reads writes process strict kno
     let same = same_bytes input_old input_new known bytes e drained in
     inl (subst (λ (b : List ℕ). IsOnlyOutcome words b (Unreadable line column cause)) (sym same)
     (caused_only {T = T} words bytes process strict (CantRead line column cause) one asked within (λ no. absurd cc) is complete))
-fault_complete {T = T} words input_old input_new reads writes process strict known bytes TooLong drained within is complete asked one e =
+fault_complete {T = T} words input_old input_new reads writes process strict known bytes (TooLong line) drained within is complete asked one e =
     let same = same_bytes input_old input_new known bytes e drained in
-    inl (subst (λ (b : List ℕ). IsOnlyOutcome words b LongLine) (sym same)
-    (caused_only {T = T} words bytes process strict TooLong one asked within (λ no. absurd cc) is complete))
+    inl (subst (λ (b : List ℕ). IsOnlyOutcome words b (LongLine line)) (sym same)
+    (caused_only {T = T} words bytes process strict (TooLong line) one asked within (λ no. absurd cc) is complete))
+fault_complete {T = T} words input_old input_new reads writes process strict known bytes Silent drained within is complete asked one e =
+    let same = same_bytes input_old input_new known bytes e drained in
+    inl (subst (λ (b : List ℕ). IsOnlyOutcome words b NoProcess) (sym same)
+    (caused_only {T = T} words bytes process strict Silent one asked within (λ no. absurd cc) is complete))
 fault_complete words input_old input_new reads writes process strict known bytes NoMemory drained within is complete asked one e = inr tt
 
 -- ---- the log is rewritten
@@ -156,21 +170,23 @@ no_fault found fault (inr e) = absurd cc
 -- a log that is rewritten has that status alone
 pub done_complete : (words : List (List ℕ)) (input_old input_new : Option (List ℕ)) (process : Option ℕ) (strict : Bool) (known bytes : List ℕ)
     (found : Rewriting) → Drains input_old input_new bytes → length bytes ≤ 67108864
-    → IsRewriting process bytes found.out.items found.counts
-    → ((out : List ℕ) (counts : Counts) → IsRewriting process bytes out counts → (found.out.items ≡ out) × (found.counts ≡ counts))
+    → IsRewriting process bytes found.out.items found.counts found.calls
+    → ((out : List ℕ) (counts : Counts) (calls : ℕ) → IsRewriting process bytes out counts calls
+    → (found.out.items ≡ out) × (found.counts ≡ counts) × (found.calls ≡ calls))
     → EndsCut bytes found.ends_cut
     → ((fault : Fault) → IsCausedFault process strict bytes fault
     → (◌≡◌ {A = Result Rewriting Fault} (Ok found) (Err fault)) ⊎ (◌≡◌ {A = Result Rewriting Fault} (Ok found) (Err NoMemory)))
     → AskFor words (Rewrite process strict) → AskForOne words → input_old ≡ Some known
-    → IsOnlyOutcome words known (Done found.counts found.ends_cut)
+    → IsOnlyOutcome words known (Done found.calls found.counts found.ends_cut)
 done_complete words input_old input_new process strict known bytes found drained within is only cut complete asked one e =
     let same = same_bytes input_old input_new known bytes e drained in
     let none : (fault : Fault) → IsCausedFault process strict bytes fault → ⊥ = λ fault caused. no_fault found fault (complete fault caused) in
-    subst (λ (b : List ℕ). IsOnlyOutcome words b (Done found.counts found.ends_cut)) (sym same) (record {
+    subst (λ (b : List ℕ). IsOnlyOutcome words b (Done found.calls found.counts found.ends_cut)) (sym same) (record {
       called_for = done asked within none is cut;
-      only = only_outcome words bytes process strict (Done found.counts found.ends_cut) one asked (λ above. absurd (omega (arith, within, above)))
+      only = only_outcome words bytes process strict (Done found.calls found.counts found.ends_cut) one asked (λ above. absurd (omega (arith, within, above)))
           (λ _ other h. absurd (none other h))
-          (λ _ _ out counts ends other_is other_cut. λ i. Done (sym (only out counts other_is).1 i) (one_end bytes ends found.ends_cut other_cut cut i));
+          (λ _ _ out counts calls ends other_is other_cut. let o = only out counts calls other_is in
+          λ i. Done (sym o.2 i) (sym o.1 i) (one_end bytes ends found.ends_cut other_cut cut i));
     })
 
 -- ---- help, and words that aren't accepted

@@ -4,7 +4,7 @@
 
 ghost use Rattle.std.specs.Prelude.{◌≡◌, ◌≢◌, ◌⊎◌, ℕ, List, Some, map};
 ghost use Rattle.std.specs.String.{string_bytes};
-ghost use Rattle.raw_trace.specs.Laws.{KeepsCalls, KeepsOrders, AgreesWithReader, KeepsGoodLines, KeepsGoodLogs, IsFixed};
+ghost use Rattle.raw_trace.specs.Laws.{KeepsCalls, KeepsOrders, KeepsGoodLines, KeepsGoodTexts};
 ghost use Rattle.strace_lines.specs.declared.words.Asked.TheVariants.{Rewrite};
 ghost use Rattle.strace_lines.specs.Words.{AskFor, AskForOne, RefusesWords};
 ghost use Rattle.strace_lines.specs.Run.{Wrote, HasCause, IsOnlyOutcome, IsHindered, IsUnwritten, Says, status_of};
@@ -15,8 +15,7 @@ use crate::status::Status;
 use crate::words::{Asked, asked_of};
 use byte_ports::{Sink, Source, write_all};
 use raw_trace::{
-    Fault, agrees_with_reader, good_lines_stay, good_logs_stay, rewrite, rewriting_is_fixed,
-    rewriting_keeps_calls, rewriting_keeps_orders,
+    Fault, good_lines_stay, good_texts_stay, rewrite, rewriting_keeps_calls, rewriting_keeps_orders,
 };
 use std::alloc::Global;
 
@@ -51,25 +50,20 @@ pub fn run<S: Source, K: Sink>(
     ensures nothing_read { result ≡ Status.Usage → input.new ≡ input.old }
     ensures nothing_written { IsUnwritten result → out.new ≡ out.old }
     ensures says { Says (K.contents err.old) (K.contents err.new) (K.fault_count err.old) (K.fault_count err.new) result }
-    // What is written is read by the reader of lines as just the calls of the log, and no line of it is refused.
+    // What is written is read by the reader of lines as just the calls of the log, in the order of the rule, and no
+    // line of it is refused.
     ensures calls { KeepsCalls }
     // Each process' calls keep their order.
     ensures orders { KeepsOrders }
-    // They are the calls that the reader finds in the log itself, where it takes the log as it is.
-    ensures same_calls { AgreesWithReader }
     // A line that is read as it is stays byte for byte.
     ensures good_lines { KeepsGoodLines }
-    // A log of good lines stays byte for byte, where its numbers stay and every line is of the process.
-    ensures good_logs { KeepsGoodLogs }
-    // A run over what a run wrote changes nothing.
-    ensures fixed { IsFixed }
+    // Texts that are all good lines stay byte for byte.
+    ensures good_texts { KeepsGoodTexts }
 {
     rewriting_keeps_calls();
     rewriting_keeps_orders();
-    agrees_with_reader();
     good_lines_stay();
-    good_logs_stay();
-    rewriting_is_fixed();
+    good_texts_stay();
     let status = answer(alloc, words, input, out);
     let _ = say(err, &status);
     status
@@ -126,6 +120,7 @@ fn rewrite_input<S: Source, K: Sink>(
     };
     match write_all(out, found.out.as_slice()) {
         Ok(()) => Status::Done {
+            calls: found.calls,
             counts: found.counts,
             ends_cut: found.ends_cut,
         },
@@ -147,7 +142,8 @@ fn status_of(fault: Fault) -> Status
             column,
             cause,
         },
-        Fault::LongLine => Status::LongLine,
+        Fault::LongLine { line } => Status::LongLine { line },
+        Fault::NoProcess => Status::NoProcess,
         Fault::Memory => Status::Memory,
     }
 }

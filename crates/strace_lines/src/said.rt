@@ -5,12 +5,13 @@ ghost use Rattle.std.specs.Prelude.{◌≡◌, ◌≤◌, OnOk, OnErr, decimal};
 ghost use Rattle.std.specs.Io.KnownBytes.{Appends};
 ghost use Rattle.byte_ports.specs.Bytes.{AppendsPrefix};
 ghost use Rattle.byte_ports.specs.Counts.{Rose};
-ghost use Rattle.strace_lines.specs.Texts.{said, numbered, count_line, counted_text, changed_text, left_out_text, calls_text, cut_text, counts_text};
+ghost use Rattle.strace_lines.specs.Texts.{said, numbered, count_line, counted_text, changed_text, left_out_text, others_text, calls_text, cut_text, counts_text, done_text};
 ghost use Rattle.strace_lines.specs.Texts.{cause_text, what_text, unreadable_text};
 
 use crate::status::Status;
 use byte_ports::{Failed, Sink, write_all};
-use raw_trace::{Cause, Counts};
+use raw_logs::Counts;
+use raw_trace::Cause;
 use strace_reader::What;
 
 /// The line for words that are not accepted.
@@ -81,7 +82,7 @@ fn write_changed<K: Sink>(err: &mut K, counts: &Counts) -> Result<(), Failed>
     write_count(err, b"process numbers changed", counts.numbered)
 }
 
-/// Writes how many lines were left out.
+/// Writes how many lines were left out that are of the program.
 fn write_left_out<K: Sink>(err: &mut K, counts: &Counts) -> Result<(), Failed>
     ensures all { OnOk result (Appends (K.contents err.old) (K.contents err.new) (left_out_text counts.now)) }
     ensures failed_prefix { OnErr result (AppendsPrefix (K.contents err.old) (K.contents err.new) (left_out_text counts.now)) }
@@ -90,7 +91,25 @@ fn write_left_out<K: Sink>(err: &mut K, counts: &Counts) -> Result<(), Failed>
 {
     write_count(err, b"messages of strace left out", counts.messages)?;
     write_count(err, b"stack lines left out", counts.stack)?;
-    write_count(err, b"lines of other processes left out", counts.elsewhere)
+    write_count(err, b"lines of unknown beginning left out", counts.unknown)?;
+    write_count(err, b"long lines left out", counts.long)
+}
+
+/// Writes how many lines were left out that are of other spaces, and how many don't tell of which they are.
+fn write_others<K: Sink>(err: &mut K, counts: &Counts) -> Result<(), Failed>
+    ensures all { OnOk result (Appends (K.contents err.old) (K.contents err.new) (others_text counts.now)) }
+    ensures failed_prefix { OnErr result (AppendsPrefix (K.contents err.old) (K.contents err.new) (others_text counts.now)) }
+    ensures failed_rose { OnErr result (Rose (K.fault_count err.old) (K.fault_count err.new)) }
+    ensures never_falls { K.fault_count err.old ≤ K.fault_count err.new }
+{
+    write_count(err, b"lines of other processes left out", counts.elsewhere)?;
+    write_count(err, b"lines before an execve left out", counts.earlier)?;
+    write_count(err, b"lines that don't tell what was made", counts.untold)?;
+    write_count(
+        err,
+        b"numbers that were made and have no line",
+        counts.silent,
+    )
 }
 
 /// Writes what became of calls.
@@ -103,7 +122,8 @@ fn write_calls<K: Sink>(err: &mut K, counts: &Counts) -> Result<(), Failed>
     write_count(err, b"calls joined", counts.joined)?;
     write_count(err, b"calls mended", counts.mended)?;
     write_count(err, b"calls that never returned", counts.unreturned)?;
-    write_count(err, b"lines left unread", counts.unread)
+    write_count(err, b"lines left unread", counts.unread)?;
+    write_count(err, b"calls of other forms, not played", counts.forms)
 }
 
 /// Writes that the log ends within a line, where it does.
@@ -129,8 +149,25 @@ fn write_counts<K: Sink>(err: &mut K, counts: &Counts, ends_cut: bool) -> Result
 {
     write_changed(err, counts)?;
     write_left_out(err, counts)?;
+    write_others(err, counts)?;
     write_calls(err, counts)?;
     write_cut(err, ends_cut)
+}
+
+/// Writes how many calls were written, and what was changed and left out.
+fn write_done<K: Sink>(
+    err: &mut K,
+    calls: u32,
+    counts: &Counts,
+    ends_cut: bool,
+) -> Result<(), Failed>
+    ensures all { OnOk result (Appends (K.contents err.old) (K.contents err.new) (done_text calls counts.now ends_cut)) }
+    ensures failed_prefix { OnErr result (AppendsPrefix (K.contents err.old) (K.contents err.new) (done_text calls counts.now ends_cut)) }
+    ensures failed_rose { OnErr result (Rose (K.fault_count err.old) (K.fault_count err.new)) }
+    ensures never_falls { K.fault_count err.old ≤ K.fault_count err.new }
+{
+    write_count_line(err, b"calls written", calls)?;
+    write_counts(err, counts, ends_cut)
 }
 
 /// How the line says what was due, with the colon before it and the newline.
@@ -157,6 +194,8 @@ fn why(cause: Cause) -> &'static [u8]
         Cause::Form(what) => due(what),
         Cause::Alone => b": second half without its first\n",
         Cause::Unclear => b": unclear line\n",
+        Cause::OtherForm => b": form that isn't played\n",
+        Cause::Unknown => b": unknown beginning\n",
     }
 }
 
@@ -185,7 +224,11 @@ pub fn say<K: Sink>(err: &mut K, status: &Status) -> Result<(), Failed>
     ensures failed_rose { OnErr result (Rose (K.fault_count err.old) (K.fault_count err.new)) }
 {
     match status {
-        Status::Done { counts, ends_cut } => write_counts(err, counts, *ends_cut),
+        Status::Done {
+            calls,
+            counts,
+            ends_cut,
+        } => write_done(err, *calls, counts, *ends_cut),
         Status::Helped => Ok(()),
         Status::Usage => write_all(err, USAGE),
         Status::Unreadable {
@@ -193,10 +236,16 @@ pub fn say<K: Sink>(err: &mut K, status: &Status) -> Result<(), Failed>
             column,
             cause,
         } => write_unreadable(err, *line, *column, *cause),
+        Status::NoProcess => write_all(err, b"strace_lines: no line of that process\n"),
         Status::ReadFault => write_all(err, b"strace_lines: read fault\n"),
         Status::WriteFault => write_all(err, b"strace_lines: write fault\n"),
         Status::Memory => write_all(err, b"strace_lines: out of memory\n"),
         Status::LongInput => write_all(err, b"strace_lines: limit input: 67108865\n"),
-        Status::LongLine => write_all(err, b"strace_lines: limit line: 65536\n"),
+        Status::LongLine { line } => write_numbered(
+            err,
+            b"strace_lines: line ",
+            *line,
+            b": limit line: 65536\n",
+        ),
     }
 }

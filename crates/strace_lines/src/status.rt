@@ -3,13 +3,16 @@
 
 ghost use Rattle.std.specs.Prelude.{◌≡◌};
 
-use raw_trace::{Cause, Counts};
+use raw_logs::Counts;
+use raw_trace::Cause;
 
 /// How a run ends.
 #[derive(Clone, Copy, Debug, PartialEq, Eq)]
 pub enum Status {
     /// The lines were written: how many were changed or left out, and whether the log ends within a line.
     Done {
+        /// How many of the lines are calls.
+        calls: u32,
         /// How many lines of each sort.
         counts: Counts,
         /// The log ends within a line, which is left out.
@@ -28,6 +31,8 @@ pub enum Status {
         /// Why.
         cause: Cause,
     },
+    /// The process that is asked for has no line. Nothing was written.
+    NoProcess,
     /// The input failed. Nothing was written.
     ReadFault,
     /// The output failed; it has a first part of the lines or of the help.
@@ -36,8 +41,12 @@ pub enum Status {
     Memory,
     /// The input has more than 67,108,864 bytes. Nothing was written.
     LongInput,
-    /// A line is longer than 65,535 bytes, or would be as it is written. Nothing was written.
-    LongLine,
+    /// A line is longer than 65,535 bytes, or would be as it is written: its number, counted from 1. Nothing was
+    /// written.
+    LongLine {
+        /// The number.
+        line: u32,
+    },
 }
 
 impl Status {
@@ -50,11 +59,11 @@ impl Status {
         match self {
             Status::Done { .. } | Status::Helped => 0,
             Status::Usage => 2,
-            Status::Unreadable { .. } => 3,
+            Status::Unreadable { .. } | Status::NoProcess => 3,
             Status::ReadFault => 4,
             Status::WriteFault => 5,
             Status::Memory => 6,
-            Status::LongInput | Status::LongLine => 7,
+            Status::LongInput | Status::LongLine { .. } => 7,
         }
     }
 }

@@ -16,5 +16,7 @@ mod raw_tests;
 mod reader_tests;
 #[cfg(test)]
 mod round_tests;
+#[cfg(test)]
+mod shell_tests;
 
 pub use entries::entry;

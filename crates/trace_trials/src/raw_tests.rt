@@ -14,12 +14,12 @@ fn a_line_gives_its_plain_text_in_two_slices(rt: HostRuntime) -> Result<(), Fail
 
 /// Two threads of which one maps what the other is unmapping.
 const CUT: &[u8] = b"7 munmap(0x10000, 4096 <unfinished ...>\n\
-    8 mmap(0x10000, 4096, PROT_READ, MAP_PRIVATE|MAP_FIXED, -1, 0) = 0x10000\n\
+    8 mmap(NULL, 4096, PROT_READ, MAP_PRIVATE, -1, 0) = 0x10000\n\
     7 <... munmap resumed>) = 0\n";
 
 /// What is written of them.
 const WHOLE: &[u8] = b"7 munmap(0x10000, 4096) = 0\n\
-    8 mmap(0x10000, 4096, PROT_READ, MAP_PRIVATE|MAP_FIXED, -1, 0) = 0x10000\n";
+    8 mmap(NULL, 4096, PROT_READ, MAP_PRIVATE, -1, 0) = 0x10000\n";
 
 #[test]
 fn a_log_is_rewritten(rt: HostRuntime) -> Result<(), Fail> {

@@ -3,7 +3,7 @@ use Rattle.std.specs.BTreeMap.{is_at}
 use Rattle.std.specs.Map.{lookup}
 use Rattle.std.specs.Ordering.{nat_cmp}
 use Rattle.raw_trace.specs.declared.halves.Waiting.{Waiting}
-use Rattle.raw_trace.proofs.TextLists.{texts_more}
+use Rattle.raw_logs.proofs.TextLists.{texts_more}
 use Rattle.raw_trace.proofs.FoundHalves.{finds_none, finds_turn}
 use Rattle.raw_trace.proofs.halves.roles_of.Goals as goal
 

@@ -1,5 +1,6 @@
 use Rattle.std.proofs.Common.{◌≡◌, length, take}
-use Rattle.raw_trace.specs.Stages.{Finds, texts}
+use Rattle.raw_trace.specs.Stages.{Finds}
+use Rattle.raw_logs.specs.Stages.{texts}
 use Rattle.raw_trace.proofs.halves.roles_of.Given as goal
 
 -- the texts so far were looked at

@@ -1,13 +1,13 @@
 use Rattle.std.proofs.lemmas.Result.{IfOk-weaker}
-use Rattle.raw_trace.specs.Places.{becomes_itself}
-use Rattle.raw_trace.proofs.Decided.{is_so, is_not}
-use Rattle.raw_trace.proofs.GoodLines.{whole_unread, unread_as}
+use Rattle.raw_logs.proofs.Decided.{is_so, is_not}
+use Rattle.raw_trace.proofs.GoodLines.{whole_unread, unread_as, kept_as}
 use Rattle.raw_trace.proofs.settling.as_it_is.Goals as goal
 
 -- the line stays
 pub returns-then-is_still : goal.returns-then-is_still
 returns-then-is_still c =
-    becomes_itself (c.requires.whole, is_so c.is_still.result c.is_still.ensures c.if-is_still.true, c.requires.short)
+    IfOk-weaker c.kept.result _ _
+    (λ s e. kept_as c.args.line.now s (c.requires.whole, is_so c.is_still.result c.is_still.ensures c.if-is_still.true, c.requires.short) e) c.kept.ensures
 
 -- it doesn't
 pub returns : goal.returns

@@ -1,7 +1,7 @@
 use Rattle.std.proofs.Common.{rules}
 use Rattle.std.proofs.lemmas.Result.{IfOk-weaker}
 use Rattle.raw_lines.specs.Mends.{IsMended}
-use Rattle.raw_trace.proofs.Decided.{is_so, is_not}
+use Rattle.raw_logs.proofs.Decided.{is_so, is_not}
 use Rattle.raw_trace.proofs.GoodLines.{mend_good, mend_unread, refused_unread, unread_as}
 use Rattle.raw_trace.proofs.settling.by_mends.Goals as goal
 

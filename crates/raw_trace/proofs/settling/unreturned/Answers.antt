@@ -1,7 +1,7 @@
 use Rattle.std.proofs.Common.{List, ℕ, subst, ◌∙◌}
 use Rattle.std.proofs.lemmas.Result.{IfOk-weaker}
 use Rattle.raw_trace.specs.Places.{IsGood}
-use Rattle.raw_trace.proofs.Decided.{is_so, is_not}
+use Rattle.raw_logs.proofs.Decided.{is_so, is_not}
 use Rattle.raw_trace.proofs.GoodLines.{half_returns, half_unread, unread_as}
 use Rattle.raw_trace.proofs.settling.unreturned.Goals as goal
 

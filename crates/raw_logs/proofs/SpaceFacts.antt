@@ -1,0 +1,200 @@
+-- Who made whom and of which space they are, one line or link more at a time.
+use Rattle.std.proofs.Common.{◌≡◌, ◌≢◌, ℕ, ◌+◌, List, [], ◌∷◌, ◌++◌, length, Bool, true, false, Option, Some, None, refl, sym, ap, subst, ◌∙◌, append_assoc}
+use Rattle.std.proofs.Common.{cond, eqb, arith}
+use Rattle.std.specs.Prelude.{◌==◌, if◌then◌else◌, map}
+use Rattle.std.specs.BTreeMap.{BTreeMap, get}
+use Rattle.std.specs.BTreeSet.{BTreeSet, contains, Updates}
+use Rattle.raw_logs.proofs.Following.{key_is}
+use Rattle.raw_logs.specs.Counting.{within_32_bits}
+use Rattle.std.specs.Ordering.{nat_cmp}
+use Rattle.std.proofs.lemmas.Bool.{eqb-true, eq-eqb}
+use Rattle.std.proofs.lemmas.List.{append-nil}
+use Rattle.raw_lines.specs.declared.makers.MadeAs.{MadeAs}
+use Rattle.raw_lines.specs.declared.makers.MadeAs.TheVariants.{Thread, Process, Untold}
+use Rattle.raw_lines.specs.declared.makers.Making.{Making}
+use Rattle.raw_lines.specs.declared.makers.Making.TheVariants.{Makes, Begins, Ends, Execs, Nothing}
+use Rattle.raw_logs.specs.declared.line.Line.{Line}
+use Rattle.raw_logs.specs.declared.spaces.Made.{Made}
+use Rattle.raw_logs.specs.declared.spaces.Makers.{Makers}
+use Rattle.raw_logs.specs.declared.spaces.Space.{Space}
+use Rattle.raw_logs.specs.declared.told.Told.{Told}
+use Rattle.raw_logs.specs.Log.{Numbered}
+use Rattle.raw_logs.specs.Spaces.{ends, ended_by, link_of, made_from, led, space_of, before_by, before_in, speaks, silent}
+use Rattle.raw_logs.specs.Stages.{numbered, numbered_all, HasMade, space_or, space_in, HasSpaces, IsPast, or_else, HasSpeakers}
+use Rattle.raw_logs.specs.Told.{Tells, AreTold, all_told, line_told}
+use Rattle.raw_logs.proofs.ToldFacts.{tells_one}
+
+not_same : (p q : ℕ) → eqb p q ≡ false → q ≢ p
+not_same p q e same = let k = eq-eqb p q (sym same) in cc
+
+-- ---- who made whom
+
+-- a line more, by what it does to the links and to the calls that wait for their beginning
+pub made_step : (old new : Makers) (place : ℕ) (told : Told) (tolds : List Told) → HasMade old (place + 1) tolds
+    → new.made.items ≡ old.made.items ++ link_of place told.pid told.making (ended_by told.pid tolds)
+    → get nat_cmp new.ended told.pid ≡ ends told.making (ended_by told.pid tolds)
+    → ((q : ℕ) → q ≢ told.pid → get nat_cmp new.ended q ≡ get nat_cmp old.ended q) → HasMade new place (told ∷ tolds)
+made_step old new place told tolds h made own others =
+    record {
+      made = made ∙ ap (λ (x : List Made). x ++ link_of place told.pid told.making (ended_by told.pid tolds)) h.made;
+      ended = λ q. by q (eqb told.pid q) refl;
+    }
+  where
+    by : (q : ℕ) (b : Bool) → eqb told.pid q ≡ b → get nat_cmp new.ended q ≡ ended_by q (told ∷ tolds)
+    by q true e =
+        let same : told.pid ≡ q = eqb-true told.pid q e in
+        rw e (subst (λ (x : ℕ). get nat_cmp new.ended x ≡ ends told.making (ended_by x tolds)) same own)
+    by q false e = rw e (others q (not_same told.pid q e) ∙ h.ended q)
+
+-- a line that makes nothing
+pub made_nothing : (old : Makers) (place : ℕ) (told : Told) (tolds : List Told) → HasMade old (place + 1) tolds
+    → ((later : Option ℕ) → link_of place told.pid told.making later ≡ []) → ((later : Option ℕ) → ends told.making later ≡ later)
+    → HasMade old place (told ∷ tolds)
+made_nothing old place told tolds h none same =
+    made_step old old place told tolds h
+    (sym (append-nil old.made.items) ∙ ap (λ (x : List Made). old.made.items ++ x) (sym (none (ended_by told.pid tolds))))
+    (h.ended told.pid ∙ sym (same (ended_by told.pid tolds))) (λ q other. refl)
+
+-- all of some lines and one behind them
+pub numbered_last : (front : List Line) (line : Line) (done : List Line) → (front ++ (line ∷ [])) ++ done ≡ front ++ (line ∷ done)
+numbered_last front line done = append_assoc front (line ∷ []) done
+
+-- ---- spaces
+
+-- a link more
+pub spaces_step : (old new : BTreeMap ℕ Space) (link : Made) (space : Space) (made : List Made) → HasSpaces old made
+    → space ≡ led link.kind link.child (space_in old link.parent) → get nat_cmp new link.child ≡ Some space
+    → ((q : ℕ) → q ≢ link.child → get nat_cmp new q ≡ get nat_cmp old q) → HasSpaces new (link ∷ made)
+spaces_step old new link space made h is own others q = by (eqb link.child q) refl
+  where
+    by : (b : Bool) → eqb link.child q ≡ b → space_in new q ≡ space_of (link ∷ made) q
+    by true e =
+        let same : link.child ≡ q = eqb-true link.child q e in
+        rw e (ap (space_or q) (subst (λ (x : ℕ). get nat_cmp new x ≡ Some space) same own) ∙ is
+        ∙ ap (λ (x : ℕ). led link.kind x (space_in old link.parent)) same
+        ∙ ap (led link.kind q) (h link.parent))
+    by false e = rw e (ap (space_or q) (others q (not_same link.child q e)) ∙ h q)
+
+-- ---- the past of a process
+
+-- a limit more
+pub past_put : (old new : BTreeMap ℕ ℕ) (first limit : ℕ) → get nat_cmp old first ≡ None → get nat_cmp new first ≡ Some limit
+    → ((q : ℕ) → q ≢ first → get nat_cmp new q ≡ get nat_cmp old q) → (q : ℕ)
+    → get nat_cmp new q ≡ or_else (get nat_cmp old q) (if first == q then Some limit else None)
+past_put old new first limit none own others q = by (eqb first q) refl
+  where
+    or_none : (x : Option ℕ) → or_else x None ≡ x
+    or_none None = refl
+    or_none (Some n) = refl
+
+    by : (b : Bool) → eqb first q ≡ b → get nat_cmp new q ≡ or_else (get nat_cmp old q) (if first == q then Some limit else None)
+    by true e =
+        let same : first ≡ q = eqb-true first q e in
+        rw e (subst (λ (x : ℕ). get nat_cmp new x ≡ or_else (get nat_cmp old x) (Some limit)) same
+        (own ∙ sym (ap (λ (x : Option ℕ). or_else x (Some limit)) none)))
+    by false e = rw e (others q (not_same first q e) ∙ sym (or_none (get nat_cmp old q)))
+
+-- a limit that stands is kept
+pub past_kept : (old : BTreeMap ℕ ℕ) (first limit n : ℕ) → get nat_cmp old first ≡ Some n → (q : ℕ)
+    → get nat_cmp old q ≡ or_else (get nat_cmp old q) (if first == q then Some limit else None)
+past_kept old first limit n some q = by (eqb first q) refl
+  where
+    or_none : (x : Option ℕ) → or_else x None ≡ x
+    or_none None = refl
+    or_none (Some m) = refl
+
+    by : (b : Bool) → eqb first q ≡ b → get nat_cmp old q ≡ or_else (get nat_cmp old q) (if first == q then Some limit else None)
+    by true e =
+        let same : first ≡ q = eqb-true first q e in
+        let is : get nat_cmp old q ≡ Some n = subst (λ (x : ℕ). get nat_cmp old x ≡ Some n) same some in
+        rw e (is ∙ sym (ap (λ (x : Option ℕ). or_else x (Some limit)) is))
+    by false e = rw e (sym (or_none (get nat_cmp old q)))
+
+-- what a link says of the past, by whether it made the number
+abbrev by_link : Made → List Made → ℕ → ℕ → ℕ → Bool → Option ℕ
+by_link link rest pid limit first here =
+    if here then before_by link.kind pid limit first (before_in rest link.parent link.place first) (before_in rest link.parent limit first)
+    else before_in rest pid limit first
+
+-- links so far: what is of the past is there, or follows from the others
+abbrev pub LeadsTo : List Made → ℕ → ℕ → BTreeMap ℕ ℕ → List Made → ℕ → ℕ → Type 0
+LeadsTo made asked count past rest pid limit =
+    (first : ℕ) → before_in made asked count first ≡ or_else (get nat_cmp past first) (before_in rest pid limit first)
+
+-- a link of another number
+pub leads_other : (made : List Made) (asked count : ℕ) (past : BTreeMap ℕ ℕ) (link : Made) (rest : List Made) (pid limit : ℕ)
+    → LeadsTo made asked count past (link ∷ rest) pid limit → eqb link.child pid ≡ false → LeadsTo made asked count past rest pid limit
+leads_other made asked count past link rest pid limit h e first =
+    subst (λ (b : Bool). before_in made asked count first ≡ or_else (get nat_cmp past first) (by_link link rest pid limit first b)) e (h first)
+
+-- a link of a thread
+pub leads_thread : (made : List Made) (asked count : ℕ) (past : BTreeMap ℕ ℕ) (link : Made) (rest : List Made) (pid limit : ℕ)
+    → LeadsTo made asked count past (link ∷ rest) pid limit → eqb link.child pid ≡ true → link.kind ≢ Process
+    → LeadsTo made asked count past rest link.parent limit
+leads_thread made asked count past link rest pid limit h e never first =
+    subst (λ (b : Bool). before_in made asked count first ≡ or_else (get nat_cmp past first) (by_link link rest pid limit first b)) e (h first)
+    ∙ ap (or_else (get nat_cmp past first)) (shared link.kind never (before_in rest link.parent link.place first) (before_in rest link.parent limit first))
+  where
+    shared : (kind : MadeAs) → kind ≢ Process → (a b : Option ℕ) → before_by kind pid limit first a b ≡ b
+    shared Process n a b = absurd (n refl)
+    shared Thread n a b = refl
+    shared Untold n a b = refl
+
+-- a link of a process
+pub leads_process : (made : List Made) (asked count : ℕ) (old new : BTreeMap ℕ ℕ) (link : Made) (rest : List Made) (pid limit : ℕ)
+    → LeadsTo made asked count old (link ∷ rest) pid limit → eqb link.child pid ≡ true → link.kind ≡ Process
+    → ((q : ℕ) → get nat_cmp new q ≡ or_else (get nat_cmp old q) (if pid == q then Some limit else None))
+    → LeadsTo made asked count new rest link.parent link.place
+leads_process made asked count old new link rest pid limit h e is put first =
+    subst (λ (b : Bool). before_in made asked count first ≡ or_else (get nat_cmp old first) (by_link link rest pid limit first b)) e (h first)
+    ∙ ap (λ (k : MadeAs). or_else (get nat_cmp old first)
+    (before_by k pid limit first (before_in rest link.parent link.place first) (before_in rest link.parent limit first))) is
+    ∙ grouped (get nat_cmp old first) (pid == first) (before_in rest link.parent link.place first)
+    ∙ ap (λ (x : Option ℕ). or_else x (before_in rest link.parent link.place first)) (sym (put first))
+  where
+    grouped : (a : Option ℕ) (b : Bool) (x : Option ℕ) → or_else a (if b then Some limit else x) ≡ or_else (or_else a (if b then Some limit else None)) x
+    grouped None true x = refl
+    grouped None false x = refl
+    grouped (Some n) true x = refl
+    grouped (Some n) false x = refl
+
+-- no link is left
+pub leads_end : (made : List Made) (asked count : ℕ) (old new : BTreeMap ℕ ℕ) (rest : List Made) (pid limit : ℕ)
+    → LeadsTo made asked count old rest pid limit → rest ≡ []
+    → ((q : ℕ) → get nat_cmp new q ≡ or_else (get nat_cmp old q) (if pid == q then Some limit else None)) → IsPast new made asked count
+leads_end made asked count old new rest pid limit h e put first =
+    put first ∙ sym (subst (λ (x : List Made). before_in made asked count first ≡ or_else (get nat_cmp old first) (before_in x pid limit first)) e (h first))
+
+-- ---- numbers that speak
+
+-- a number more in a set
+pub put_more : (old new : BTreeSet ℕ) (pid : ℕ) → Updates nat_cmp old new pid true → (q : ℕ)
+    → contains nat_cmp new q ≡ (if pid == q then true else contains nat_cmp old q)
+put_more old new pid u q = u.0 q ∙ ap (λ (x : Bool). cond x true (contains nat_cmp old q)) (key_is pid q) ∙ by (eqb pid q)
+  where
+    by : (b : Bool) → cond b true (contains nat_cmp old q) ≡ (if b then true else contains nat_cmp old q)
+    by true = refl
+    by false = refl
+
+-- a line more
+pub speakers_more : (old new : BTreeSet ℕ) (line : Line) (done : List Line) (told : Told) → Tells line.text.items told → HasSpeakers old done
+    → ((q : ℕ) → contains nat_cmp new q ≡ (if told.pid == q then true else contains nat_cmp old q)) → HasSpeakers new (line ∷ done)
+speakers_more old new line done told tells h put ts (line_told {told = t} {tolds = us} tell more) q =
+    put q ∙ ap (λ (b : Bool). if told.pid == q then true else b) (h us more q)
+    ∙ ap (λ (x : Told). if x.pid == q then true else speaks q us) (tells_one line.text.items told t tells tell)
+
+-- a link more, whose number has a line
+pub silent_same : (link : Made) (done : List Made) (tolds : List Told) (count : ℕ) → count ≡ within_32_bits (silent done tolds)
+    → speaks link.child tolds ≡ true → count ≡ within_32_bits (silent (link ∷ done) tolds)
+silent_same link done tolds count h e =
+    h ∙ sym (ap (λ (b : Bool). within_32_bits (if b then silent done tolds else silent done tolds + 1)) e)
+
+-- one whose number has none
+pub silent_more : (link : Made) (done : List Made) (tolds : List Told) (count new : ℕ) → count ≡ within_32_bits (silent done tolds)
+    → new ≡ within_32_bits (count + 1) → speaks link.child tolds ≡ false → new ≡ within_32_bits (silent (link ∷ done) tolds)
+silent_more link done tolds count new h n e =
+    n ∙ ap (λ (x : ℕ). within_32_bits (x + 1)) h ∙ still (silent done tolds)
+    ∙ sym (ap (λ (b : Bool). within_32_bits (if b then silent done tolds else silent done tolds + 1)) e)
+  where
+    still : (a : ℕ) → within_32_bits (within_32_bits a + 1) ≡ within_32_bits (a + 1)
+    still a = omega arith

@@ -1,0 +1,43 @@
+use Rattle.std.proofs.Common.{rules, ◌⊎◌, ℕ, List, refl, inl, inr}
+use Rattle.raw_lines.specs.Marks.{IsMessage, IsStackLine, IsUnread, IsBroken}
+use Rattle.raw_logs.proofs.Decided.{is_so, is_not}
+use Rattle.raw_logs.proofs.HealedLines.{takes_message, takes_stack, takes_broken, takes_line}
+use Rattle.raw_logs.proofs.healing.Healer.take.Goals as goal
+
+-- a message
+pub returns-then-is_message-clause-takes : goal.returns-then-is_message-clause-takes
+returns-then-is_message-clause-takes c = λ before t n.
+    takes_message c.args.self.now _ before _ t (is_so c.is_message.result c.is_message.ensures c.if-is_message.true) refl refl c.add.ensures
+
+-- a line of a stack
+pub returns-then-is_stack_line-clause-takes : goal.returns-then-is_stack_line-clause-takes
+returns-then-is_stack_line-clause-takes c = λ before t n.
+    takes_stack c.args.self.now _ before _ t (is_not c.is_message.result c.is_message.ensures c.if-is_message.false)
+    (is_so c.is_stack_line.result c.is_stack_line.ensures c.if-is_stack_line.true) refl refl c.add-then-is_stack_line.ensures
+
+-- a line with the mark
+pub returns-then-is_unread-clause-takes : goal.returns-then-is_unread-clause-takes
+returns-then-is_unread-clause-takes c = λ before t n.
+    let a : ¬ IsMessage c.args.text.now = is_not c.is_message.result c.is_message.ensures c.if-is_message.false in
+    let b : ¬ IsStackLine c.args.text.now = is_not c.is_stack_line.result c.is_stack_line.ensures c.if-is_stack_line.false in
+    let d : IsUnread c.args.text.now ⊎ ((front : List ℕ) → ¬ IsBroken c.args.text.now front) =
+    inl (is_so c.is_unread.result c.is_unread.ensures c.if-is_unread.true) in
+    search (rules, takes_line)
+
+-- a line that a message broke
+pub returns-in-Some-clause-takes : goal.returns-in-Some-clause-takes
+returns-in-Some-clause-takes c = λ before t n.
+    let a : ¬ IsMessage c.args.text.now = is_not c.is_message.result c.is_message.ensures c.if-is_message.false in
+    let b : ¬ IsStackLine c.args.text.now = is_not c.is_stack_line.result c.is_stack_line.ensures c.if-is_stack_line.false in
+    let d : ¬ IsUnread c.args.text.now = is_not c.is_unread.result c.is_unread.ensures c.if-is_unread.false in
+    takes_broken c.args.self.now _ before _ _ c.in-Some.front.now t n a b d c.in-Some.ensures c.in_ok-wait.ensures.part c.in_ok-wait.ensures.lines
+    c.in_ok-wait.ensures.counts
+
+-- every other line
+pub returns-clause-takes : goal.returns-clause-takes
+returns-clause-takes c = λ before t n.
+    let a : ¬ IsMessage c.args.text.now = is_not c.is_message.result c.is_message.ensures c.if-is_message.false in
+    let b : ¬ IsStackLine c.args.text.now = is_not c.is_stack_line.result c.is_stack_line.ensures c.if-is_stack_line.false in
+    let none : (front : List ℕ) → ¬ IsBroken c.args.text.now front = search rules in
+    let d : IsUnread c.args.text.now ⊎ ((front : List ℕ) → ¬ IsBroken c.args.text.now front) = inr none in
+    search (rules, takes_line)

@@ -1,0 +1,17 @@
+use Rattle.line_parts.specs.Lines.{lines_of}
+use Rattle.raw_logs.proofs.GivenNumbers.{later_none, later_more, later_all}
+use Rattle.raw_logs.proofs.numbering.all_later.Goals as goal
+
+-- no line was looked at
+pub lines-init : goal.lines-init
+lines-init c = later_none _ _ c.in_ok-found.ensures
+
+-- a line more
+pub lines-preserved : goal.lines-preserved
+lines-preserved c =
+    later_more (lines_of c.args.whole.now) c.args.lines.now c.lines.line-index c.line-item.result _ _ _ c.lines-test.true c.line-item.is
+    c.as_slice.ensures.value c.lines.invariant c.in_ok-add_given.ensures
+
+-- all lines
+pub returns : goal.returns
+returns c = later_all _ c.args.lines.now c.lines.line-index _ c.lines-test.false c.lines.invariant

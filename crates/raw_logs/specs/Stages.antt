@@ -1,0 +1,145 @@
+-- What the private functions of this crate say of what they hold: lines as numbered texts, what was read of a log so
+-- far, and what was found of spaces. It ties the code to the other definitions, which speak of texts.
+use Rattle.std.specs.Prelude.{All, ◌≤◌, ◌≡◌, ◌≢◌, ◌⊎◌, ℕ, ◌+◌, List, [], ◌++◌, length, map, reverse, Option, Some, None, option_map, true, false}
+use Rattle.std.specs.BTreeMap.{BTreeMap, get}
+use Rattle.std.specs.BTreeSet.{BTreeSet, contains}
+use Rattle.std.specs.Ordering.{nat_cmp}
+use Rattle.strace_reader.specs.Grammar.{IsBracketed}
+use Rattle.raw_lines.specs.Plain.{IsPlain}
+use Rattle.raw_logs.specs.declared.choosing.Picker.{Picker}
+use Rattle.raw_logs.specs.declared.counts.Counts.{Counts}
+use Rattle.raw_logs.specs.declared.counts.Sort.{Sort}
+use Rattle.raw_logs.specs.declared.healing.Healer.{Healer}
+use Rattle.raw_logs.specs.declared.line.Line.{Line}
+use Rattle.raw_logs.specs.declared.numbering.Numbering.{Numbering}
+use Rattle.raw_logs.specs.declared.spaces.Chooser.{Chooser}
+use Rattle.raw_logs.specs.declared.spaces.Made.{Made}
+use Rattle.raw_logs.specs.declared.spaces.Makers.{Makers}
+use Rattle.raw_logs.specs.declared.spaces.Space.{Space}
+use Rattle.raw_logs.specs.declared.told.Told.{Told}
+use Rattle.raw_logs.specs.Choosing.{Picked}
+use Rattle.raw_logs.specs.Counting.{no_counts, one_more_of, both}
+use Rattle.raw_logs.specs.Log.{Numbered, Heals}
+use Rattle.raw_logs.specs.Numbering.{ChangesNumber}
+use Rattle.raw_logs.specs.Spaces.{made_from, ended_by, space_of, before_in, speaks}
+use Rattle.raw_logs.specs.Told.{AreTold}
+
+-- a line as its number and its text
+abbrev pub numbered : Line → Numbered
+numbered line = record { number = line.number; text = line.text.items }
+
+abbrev pub numbered_all : List Line → List Numbered
+numbered_all lines = map numbered lines
+
+-- the texts of lines
+abbrev pub texts : List Line → List (List ℕ)
+texts lines = map (λ line. line.text.items) lines
+
+-- no line is longer than a line may be
+abbrev pub AreShort : List Line → Type 0
+AreShort lines = All (λ line. length line.text.items ≤ 65535) lines
+
+-- the part that waits for its rest
+abbrev pub part_of : Healer → Option Numbered
+part_of healer = option_map numbered healer.part
+
+-- These lines were read, and make the texts so far; what comes behind them is read on from there, and its counts are
+-- added.
+pub record Takes (healer : Healer) (before : List (List ℕ)) : Type 0 where
+  pub within : both healer.counts no_counts ≡ healer.counts
+  pub completes : (later : List (List ℕ)) (more : List Numbered) (left : Option Numbered) (counts : Counts)
+      → Heals (length before + 1) (part_of healer) later more left counts
+      → Heals 1 None (before ++ later) (numbered_all healer.lines.items ++ more) left (both healer.counts counts)
+
+-- ---- lines that are made one by one
+
+-- These of all lines are made so far, and so many changed: what the rest makes, behind them, is made of all.
+pub record MakesSome (Makes : List Numbered → List Numbered → Counts → Type 0) (all rest done : List Numbered) (counts : Counts) : Type 0 where
+  pub completes : (more : List Numbered) (others : Counts) → Makes rest more others → Makes all (done ++ more) (both counts others)
+  pub within : both counts no_counts ≡ counts
+
+-- the text that another becomes, where it changes
+abbrev pub changed_text : List ℕ → Option (List ℕ) → List ℕ
+changed_text text None = text
+changed_text text (Some other) = other
+
+-- it is counted where it changes
+abbrev pub counted_if : Sort → Option (List ℕ) → Counts → Counts
+counted_if sort None counts = counts
+counted_if sort (Some other) counts = one_more_of sort counts
+
+-- the plain text of a text, where it isn't the text itself
+abbrev pub BecomesPlain : List ℕ → Option (List ℕ) → Type 0
+BecomesPlain text None = IsPlain text text
+BecomesPlain text (Some other) = IsPlain text other × (other ≢ text)
+
+-- the text with its number, where that changes
+abbrev pub BecomesNumbered : Numbering → List ℕ → Option (List ℕ) → Type 0
+BecomesNumbered numbering text None = (line : List ℕ) → ¬ ChangesNumber numbering text line
+BecomesNumbered numbering text (Some line) = ChangesNumber numbering text line
+
+-- ---- numbers
+
+-- the number is in the set
+abbrev pub Has : BTreeSet ℕ → ℕ → Type 0
+Has set pid = contains nat_cmp set pid ≡ true
+
+-- each number in brackets that the text begins with came later
+abbrev pub EachLater : (ℕ → Type 0) → List ℕ → Type 0
+EachLater later text = (n : ℕ) (rest : List ℕ) → IsBracketed text n rest → later n
+
+-- ---- spaces
+
+-- the lines behind this place were taken: who made whom by them, and what calls made that they end
+pub record HasMade (makers : Makers) (place : ℕ) (tolds : List Told) : Type 0 where
+  pub made : makers.made.items ≡ made_from place tolds
+  pub ended : (pid : ℕ) → get nat_cmp makers.ended pid ≡ ended_by pid tolds
+
+-- the space that a map has for a number, or its own
+abbrev pub space_or : ℕ → Option Space → Space
+space_or pid None = record { first = pid; made = false }
+space_or pid (Some space) = space
+
+abbrev pub space_in : BTreeMap ℕ Space → ℕ → Space
+space_in spaces pid = space_or pid (get nat_cmp spaces pid)
+
+-- the map has the space of each number, by who made whom
+abbrev pub HasSpaces : BTreeMap ℕ Space → List Made → Type 0
+HasSpaces spaces made = (pid : ℕ) → space_in spaces pid ≡ space_of made pid
+
+-- the first, where there is one, or the other
+abbrev pub or_else : Option ℕ → Option ℕ → Option ℕ
+or_else None other = other
+or_else (Some n) other = Some n
+
+-- the map has the places before which lines of a space are of the past of a process
+abbrev pub IsPast : BTreeMap ℕ ℕ → List Made → ℕ → ℕ → Type 0
+IsPast past made asked count = (first : ℕ) → get nat_cmp past first ≡ before_in made asked count first
+
+-- the past is that of the process that was asked for, where one was
+abbrev pub IsPastOf : Option ℕ → List Made → ℕ → Option (BTreeMap ℕ ℕ) → Type 0
+IsPastOf None made count None = Unit {0}
+IsPastOf None made count (Some past) = ⊥
+IsPastOf (Some asked) made count None = ⊥
+IsPastOf (Some asked) made count (Some past) = IsPast past made asked count
+
+-- it chooses lines by who made whom, and by the process that was asked for
+pub record IsChooser (process : Option ℕ) (made : List Made) (count : ℕ) (chooser : Chooser) : Type 0 where
+  pub spaces : HasSpaces chooser.spaces made
+  pub past : IsPastOf process made count chooser.past
+
+-- the set has the numbers that have a line
+abbrev pub HasSpeakers : BTreeSet ℕ → List Line → Type 0
+HasSpeakers found lines = (tolds : List Told) → AreTold (numbered_all lines) tolds → (q : ℕ) → contains nat_cmp found q ≡ speaks q tolds
+
+-- ---- lines that are picked
+
+-- what was picked, in the order of the log
+abbrev pub seen : Picker → Picked
+seen picker = record {
+  lines = reverse (numbered_all picker.lines.items);
+  counts = picker.counts;
+  ended = picker.ended;
+  unknown = picker.unknown;
+  too_long = picker.too_long;
+}

@@ -1,0 +1,338 @@
+//! Which numbers are of one address space, and which lines are of its past. Lines of clone(2) and its like tell who
+//! made whom, and whether as a thread; `specs/Spaces.antt` says what follows. A log is read from its end, so that the
+//! second half of a call is known where it began.
+
+ghost use Rattle.std.specs.Prelude.{◌≡◌, ◌+◌, ◌++◌, ◌∷◌, ℕ, List, Option, length, IfOk, OnOk};
+ghost use Rattle.std.specs.BTreeMap.{get};
+ghost use Rattle.std.specs.BTreeSet.{contains};
+ghost use Rattle.std.specs.Ordering.{nat_cmp};
+ghost use Rattle.std.specs.Prelude.{◌≢◌, ◌<◌, ◌^◌, ◌==◌, Some, None, true, if◌then◌else◌};
+ghost use Rattle.raw_logs.specs.declared.spaces.Made.{Made as MadeOf};
+ghost use Rattle.raw_logs.specs.declared.told.Told.{Told as ToldOf};
+ghost use Rattle.raw_logs.specs.Spaces.{links, made_from, led, has_line, speaks, silent};
+ghost use Rattle.raw_logs.specs.Counting.{within_32_bits};
+ghost use Rattle.raw_logs.specs.Told.{AreTold};
+ghost use Rattle.raw_logs.specs.Stages.{numbered_all, HasMade, space_in, HasSpaces, IsPast, IsChooser, or_else, HasSpeakers};
+
+use crate::line::Line;
+use crate::told::{Told, told_of};
+use raw_lines::{MadeAs, Making};
+use std::alloc::{AllocError, Global};
+use std::collections::{BTreeMap, BTreeSet};
+
+/// A number that another made.
+#[derive(Clone, Copy, PartialEq, Eq, Debug)]
+pub(crate) struct Made {
+    /// The place of the line that made it, or that began to; places count from 0.
+    pub(crate) place: u32,
+    /// Whose call it was.
+    pub(crate) parent: u32,
+    /// The number that was made.
+    pub(crate) child: u32,
+    /// As what.
+    pub(crate) kind: MadeAs,
+}
+
+/// Who made whom, by the lines behind a place.
+#[derive(Drop)]
+struct Makers {
+    /// Of each process, the number that the call made which it began before these lines.
+    ended: BTreeMap<u32, u32>,
+    /// Who made whom, the latest first.
+    made: Vec<Made>,
+}
+
+impl Makers {
+    /// Adds what a call made, where it made one.
+    fn add(
+        &mut self,
+        place: u32,
+        parent: u32,
+        kind: MadeAs,
+        child: Option<u32>,
+    ) -> Result<(), AllocError>
+        ensures made { OnOk result (self.new.made.items ≡ self.old.made.items ++ links place parent kind child) }
+        ensures ended { self.new.ended ≡ self.old.ended }
+    {
+        let Some(child) = child else {
+            return Ok(());
+        };
+        self.made.push(Made {
+            place,
+            parent,
+            child,
+            kind,
+        })?;
+        Ok(())
+    }
+
+    /// A call of the process ends here, and made this number.
+    fn end(&mut self, pid: u32, child: Option<u32>) -> Result<(), AllocError>
+        ensures ended { OnOk result (get nat_cmp self.new.ended pid ≡ child) }
+        ensures others { OnOk result ((q : ℕ) → q ≢ pid → get nat_cmp self.new.ended q ≡ get nat_cmp self.old.ended q) }
+        ensures made { self.new.made ≡ self.old.made }
+    {
+        let Some(child) = child else {
+            self.ended.remove(&pid);
+            return Ok(());
+        };
+        match self.ended.insert(pid, child) {
+            Ok(_) => Ok(()),
+            Err(_) => Err(AllocError),
+        }
+    }
+
+    /// A call of the process begins here: the number that it made, where it made one.
+    fn begin(&mut self, pid: u32) -> Option<u32>
+        ensures was { result ≡ get nat_cmp self.old.ended pid }
+        ensures gone { get nat_cmp self.new.ended pid ≡ None }
+        ensures others { (q : ℕ) → q ≢ pid → get nat_cmp self.new.ended q ≡ get nat_cmp self.old.ended q }
+        ensures made { self.new.made ≡ self.old.made }
+    {
+        self.ended.remove(&pid)
+    }
+
+    /// Takes the line before those that were taken, which tells this.
+    fn take(&mut self, place: u32, told: Told) -> Result<(), AllocError>
+        ensures { OnOk result ((tolds : List ToldOf) → HasMade self.old (place + 1) tolds → HasMade self.new place (told ∷ tolds)) }
+    {
+        match told.making {
+            Making::Nothing | Making::Execs => Ok(()),
+            Making::Makes { kind, child } => {
+                self.begin(told.pid);
+                self.add(place, told.pid, kind, child)?;
+                Ok(())
+            }
+            Making::Begins(kind) => {
+                let child = self.begin(told.pid);
+                self.add(place, told.pid, kind, child)?;
+                Ok(())
+            }
+            Making::Ends(child) => {
+                self.end(told.pid, child)?;
+                Ok(())
+            }
+        }
+    }
+}
+
+/// Who made whom, by the lines of a log, the latest first.
+pub(crate) fn all_made(alloc: Global, lines: &[Line]) -> Result<Vec<Made>, AllocError>
+    requires { length lines.now < 2 ^ 32 }
+    ensures { IfOk result (λ made. (tolds : List ToldOf) × AreTold (numbered_all lines.now) tolds × (made.items ≡ made_from 0 tolds)) }
+{
+    let mut makers = Makers {
+        ended: BTreeMap::new(alloc),
+        made: Vec::new(alloc),
+    };
+    let mut left = lines;
+    'lines: while let Some((line, front)) = left.split_last() {
+        let told = told_of(line.text.as_slice());
+        makers.take(front.len() as u32, told)?;
+        left = front;
+    }
+    Ok(makers.made)
+}
+
+/// An address space.
+#[derive(Clone, Copy, PartialEq, Eq, Debug)]
+pub(crate) struct Space {
+    /// The number of its first thread.
+    pub(crate) first: u32,
+    /// A line of the log made it: it isn't the program's.
+    pub(crate) made: bool,
+}
+
+/// The space of a number: its own, where nothing says another.
+fn space_in(spaces: &BTreeMap<u32, Space>, pid: u32) -> Space
+    ensures { result ≡ space_in spaces.now pid }
+{
+    match spaces.get(&pid) {
+        Some(space) => *space,
+        None => Space {
+            first: pid,
+            made: false,
+        },
+    }
+}
+
+/// Gives a number a space.
+fn put_space(spaces: &mut BTreeMap<u32, Space>, pid: u32, space: Space) -> Result<(), AllocError>
+    ensures is { OnOk result (get nat_cmp spaces.new pid ≡ Some space) }
+    ensures others { OnOk result ((q : ℕ) → q ≢ pid → get nat_cmp spaces.new q ≡ get nat_cmp spaces.old q) }
+{
+    match spaces.insert(pid, space) {
+        Ok(_) => Ok(()),
+        Err(_) => Err(AllocError),
+    }
+}
+
+/// The space of a number that a link made, where its maker is of this one.
+fn led(link: Made, maker: Space) -> Space
+    ensures { result ≡ led link.kind link.child maker }
+{
+    match link.kind {
+        MadeAs::Process => Space {
+            first: link.child,
+            made: true,
+        },
+        MadeAs::Thread => maker,
+        MadeAs::Untold => maker,
+    }
+}
+
+/// Adds what a link says of the space of the number that it made.
+fn add_space(spaces: &mut BTreeMap<u32, Space>, link: Made) -> Result<(), AllocError>
+    ensures { OnOk result ((made : List MadeOf) → HasSpaces spaces.old made → HasSpaces spaces.new (link ∷ made)) }
+{
+    let maker = space_in(spaces, link.parent);
+    put_space(spaces, link.child, led(link, maker))
+}
+
+/// The spaces of all numbers that were made.
+fn all_spaces(alloc: Global, made: &[Made]) -> Result<BTreeMap<u32, Space>, AllocError>
+    ensures { IfOk result (λ spaces. HasSpaces spaces made.now) }
+{
+    let mut spaces = BTreeMap::new(alloc);
+    let mut left = made;
+    'links: while let Some((link, later)) = left.split_last() {
+        add_space(&mut spaces, *link)?;
+        left = later;
+    }
+    Ok(spaces)
+}
+
+/// Puts in up to which place lines of a space are of the past.
+fn put_limit(past: &mut BTreeMap<u32, u32>, first: u32, limit: u32) -> Result<(), AllocError>
+    ensures is { OnOk result (get nat_cmp past.new first ≡ Some limit) }
+    ensures others { OnOk result ((q : ℕ) → q ≢ first → get nat_cmp past.new q ≡ get nat_cmp past.old q) }
+{
+    match past.insert(first, limit) {
+        Ok(_) => Ok(()),
+        Err(_) => Err(AllocError),
+    }
+}
+
+/// Puts in up to which place lines of a space are of the past, where it isn't there yet.
+fn add_past(past: &mut BTreeMap<u32, u32>, first: u32, limit: u32) -> Result<(), AllocError>
+    ensures { OnOk result ((q : ℕ) → get nat_cmp past.new q ≡ or_else (get nat_cmp past.old q) (if first == q then Some limit else None)) }
+{
+    match past.get(&first) {
+        Some(_) => Ok(()),
+        None => put_limit(past, first, limit),
+    }
+}
+
+/// Of each space of which lines are of the past of a process, the place before which they are.
+fn past_of(
+    alloc: Global,
+    made: &[Made],
+    asked: u32,
+    count: u32,
+) -> Result<BTreeMap<u32, u32>, AllocError>
+    ensures { IfOk result (λ past. IsPast past made.now asked count) }
+{
+    let mut past = BTreeMap::new(alloc);
+    let mut pid = asked;
+    let mut limit = count;
+    let mut rest = made;
+    'links: while let [link, earlier @ ..] = rest {
+        rest = earlier;
+        if link.child != pid {
+            continue;
+        }
+        if link.kind == MadeAs::Process {
+            add_past(&mut past, pid, limit)?;
+            limit = link.place;
+        }
+        pid = link.parent;
+    }
+    add_past(&mut past, pid, limit)?;
+    Ok(past)
+}
+
+/// Which lines are written.
+#[derive(Drop)]
+pub(crate) struct Chooser {
+    /// The spaces of the numbers that were made.
+    spaces: BTreeMap<u32, Space>,
+    /// The past of the process that is asked for; the program's lines are written where none is.
+    past: Option<BTreeMap<u32, u32>>,
+}
+
+impl Chooser {
+    /// Whether a line that tells this is written, or would be if a later one didn't leave it out.
+    pub(crate) fn has(&self, place: u32, told: Told) -> bool
+        ensures { (process : Option ℕ) (made : List MadeOf) (count : ℕ) → IsChooser process made count self.now
+            → result ≡ has_line process made count place told }
+    {
+        if told.marked {
+            return true;
+        }
+        let space = space_in(&self.spaces, told.pid);
+        let Some(past) = &self.past else {
+            return !space.made;
+        };
+        match past.get(&space.first) {
+            Some(limit) => place < *limit,
+            None => false,
+        }
+    }
+}
+
+/// Which lines are written: of the process that is asked for, or of the program.
+pub(crate) fn chooser_of(
+    alloc: Global,
+    made: &[Made],
+    process: Option<u32>,
+    count: u32,
+) -> Result<Chooser, AllocError>
+    ensures { IfOk result (IsChooser process made.now count) }
+{
+    let spaces = all_spaces(alloc, made)?;
+    let past = match process {
+        Some(asked) => Some(past_of(alloc, made, asked, count)?),
+        None => None,
+    };
+    Ok(Chooser { spaces, past })
+}
+
+/// Puts a number in.
+fn put_number(found: &mut BTreeSet<u32>, pid: u32) -> Result<(), AllocError>
+    ensures { OnOk result ((q : ℕ) → contains nat_cmp found.new q ≡ (if pid == q then true else contains nat_cmp found.old q)) }
+{
+    match found.insert(pid) {
+        Ok(_) => Ok(()),
+        Err(_) => Err(AllocError),
+    }
+}
+
+/// The numbers that have a line.
+pub(crate) fn speakers(alloc: Global, lines: &[Line]) -> Result<BTreeSet<u32>, AllocError>
+    ensures { IfOk result (λ found. HasSpeakers found lines.now) }
+{
+    let mut found = BTreeSet::new(alloc);
+    let mut left = lines;
+    'lines: while let Some((line, front)) = left.split_last() {
+        let told = told_of(line.text.as_slice());
+        put_number(&mut found, told.pid)?;
+        left = front;
+    }
+    Ok(found)
+}
+
+/// How many links made numbers that aren't in a set; the count stays at 2^32 - 1.
+pub(crate) fn silent(made: &[Made], speakers: &BTreeSet<u32>) -> u32
+    ensures { (tolds : List ToldOf) → ((q : ℕ) → contains nat_cmp speakers.now q ≡ speaks q tolds)
+        → result ≡ within_32_bits (silent made.now tolds) }
+{
+    let mut count: u32 = 0;
+    let mut left = made;
+    'links: while let Some((link, later)) = left.split_last() {
+        if !speakers.contains(&link.child) {
+            count = count.saturating_add(1);
+        }
+        left = later;
+    }
+    count
+}

@@ -1,0 +1,353 @@
+-- Which waiting entry is picked, and what a turn of an entry that is due comes to.
+use Rattle.std.proofs.Common.{◌≡◌, ◌⊎◌, ℕ, zero, suc, ◌+◌, ◌*◌, ◌<◌, ◌≤◌, Bool, true, false, List, [], ◌∷◌, ◌++◌, length, map, take, get_or, Option, Some, None, refl, sym, ap, subst, ◌∙◌, append_assoc, inl, inr, arith}
+use Rattle.std.proofs.lemmas.Bool.Decides.{eqb_tells}
+use Rattle.std.specs.Prelude.{◌==◌, drop, reverse, option_map, remove, option_to_list}
+use Rattle.std.proofs.lemmas.List.{append-nil, take_more, take_all, length-append, length-map, length-reverse, reverse-append}
+use Rattle.raw_logs.specs.declared.counts.Counts.{Counts}
+use Rattle.raw_logs.proofs.TextLists.{item_of}
+use Rattle.raw_trace.specs.declared.calls.ReadCall.{ReadCall}
+use Rattle.raw_trace.specs.declared.fault.Fault.{Fault}
+use Rattle.raw_trace.specs.declared.fault.Fault.TheVariants.{Memory}
+use Rattle.raw_trace.specs.declared.order.Ordering.{Ordering}
+use Rattle.raw_trace.specs.declared.order.Piece.{Piece}
+use Rattle.raw_trace.specs.declared.writing.Written.{Written}
+use Rattle.raw_trace.specs.Order.{Entry, Picked, Step, Ends, Written as WrittenOf, frees_for, pick, turns, write_due, write_entry, does}
+use Rattle.raw_trace.specs.Faults.{IsEntryFault, IsFirstFault}
+use Rattle.raw_trace.specs.Rewriting.{text_of, lines_as, counted_entry, counted_call, counted_all, calls_after}
+use Rattle.raw_trace.specs.Stages.{entry, entries, due_of, IsPicked, MayBeWritten, EachEntry, WroteLines, WroteDue, EndsDue, TookTurn, wrote_one, made_due, EndsTurn, DueSome}
+use Rattle.raw_trace.proofs.EachEntries.{each_both}
+use Rattle.raw_trace.proofs.OneFault.{first_more, first_behind}
+use Rattle.raw_trace.proofs.OwnCalls.{Picks, picks_one, picks_none, picks}
+
+-- ---- what is picked
+
+-- the test holds for none of the entries
+abbrev pub NoneIn : (Entry → Bool) → List Entry → Type 0
+NoneIn test [] = Unit {0}
+NoneIn test (x ∷ xs) = (test x ≡ false) × NoneIn test xs
+
+none_both : (test : Entry → Bool) (a b : List Entry) → NoneIn test a → NoneIn test b → NoneIn test (a ++ b)
+none_both test [] b h g = g
+none_both test (x ∷ a) b h g = (h.0, none_both test a b h.1 g)
+
+pub none_picked : (test : Entry → Bool) (a : List Entry) → NoneIn test a → pick test a ≡ None
+none_picked test [] h = refl
+none_picked test (x ∷ a) h =
+    rw h.0 (ap (option_map (λ (p : Picked). record { first = p.first; others = x ∷ p.others })) (none_picked test a h.1))
+
+one_picked : (test : Entry → Bool) (a : List Entry) (x : Entry) (b : List Entry) → NoneIn test a → test x ≡ true
+    → pick test (a ++ (x ∷ b)) ≡ Some (record { first = x; others = a ++ b })
+one_picked test [] x b h t = rw t refl
+one_picked test (y ∷ a) x b h t =
+    rw h.0 (ap (option_map (λ (p : Picked). record { first = p.first; others = y ∷ p.others })) (one_picked test a x b h.1 t))
+
+-- a piece more was looked at
+pub none_turn : (test : Entry → Bool) (pieces : List Piece) (i : ℕ) (piece : Piece) → i < length pieces → piece ≡ get_or pieces i piece
+    → NoneIn test (take i (entries pieces)) → test (entry piece) ≡ false → NoneIn test (take (i + 1) (entries pieces))
+none_turn test pieces i piece l e h t =
+    let n = length-map pieces entry in
+    let same : take (i + 1) (entries pieces) ≡ take i (entries pieces) ++ (entry piece ∷ []) =
+    take_more (entries pieces) i (entry piece) (omega arith)
+    ∙ ap (λ (x : Entry). take i (entries pieces) ++ (x ∷ [])) (item_of entry pieces i piece ∙ ap entry (sym e)) in
+    subst (NoneIn test) (sym same) (none_both test (take i (entries pieces)) (entry piece ∷ []) h (t, tt))
+
+-- all were looked at
+pub none_at_all : (test : Entry → Bool) (pieces : List Piece) (i : ℕ) → length pieces ≤ i → NoneIn test (take i (entries pieces))
+    → pick test (entries pieces) ≡ None
+none_at_all test pieces i l h =
+    let n = length-map pieces entry in
+    none_picked test (entries pieces) (subst (NoneIn test) (take_all i (entries pieces) (omega arith)) h)
+
+-- the parts of a list at an item
+pub record Parts (items : List Entry) (i : ℕ) (x : Entry) : Type 0 where
+  -- those before it
+  pub before : List Entry
+  -- those behind it
+  pub after : List Entry
+  -- these are all
+  pub parts : items ≡ before ++ (x ∷ after)
+  -- how many are before it
+  pub count : length before ≡ i
+  -- they are the first
+  pub taken : take i items ≡ before
+  -- without it these are left
+  pub removed : remove items i ≡ before ++ after
+
+pub parts_at : (items : List Entry) (i : ℕ) (x : Entry) → i < length items → get_or items i x ≡ x → Parts items i x
+parts_at [] i x l e = absurd (omega (arith, l))
+parts_at (y ∷ items) zero x l e =
+    let k : y ≡ x = e in
+    record { before = []; after = items; parts = ap (λ (z : Entry). z ∷ items) k; count = refl; taken = refl; removed = refl }
+parts_at (y ∷ items) (suc i) x l e =
+    let r = parts_at items i x (omega (arith, l)) e in
+    record {
+      before = y ∷ r.before;
+      after = r.after;
+      parts = ap (λ (z : List Entry). y ∷ z) r.parts;
+      count = ap suc r.count;
+      taken = ap (λ (z : List Entry). y ∷ z) r.taken;
+      removed = ap (λ (z : List Entry). y ∷ z) r.removed;
+    }
+
+-- a piece passes the test, and none before it
+pub is_picked : (test : Entry → Bool) (pieces : List Piece) (i : ℕ) (piece : Piece) → i < length pieces → piece ≡ get_or pieces i piece
+    → NoneIn test (take i (entries pieces)) → test (entry piece) ≡ true → IsPicked test (entries pieces) i
+is_picked test pieces i piece l e h t =
+    let n = length-map pieces entry in
+    let r = parts_at (entries pieces) i (entry piece) (omega arith) (item_of entry pieces i piece ∙ ap entry (sym e)) in
+    record {
+      before = r.before;
+      one = entry piece;
+      after = r.after;
+      parts = r.parts;
+      count = r.count;
+      is = ap (pick test) r.parts ∙ one_picked test r.before (entry piece) r.after (subst (NoneIn test) r.taken h) t;
+    }
+
+-- the place of one that is picked is there
+pub picked_within : (test : Entry → Bool) (pieces : List Piece) (i : ℕ) → IsPicked test (entries pieces) i → i < length pieces
+picked_within test pieces i p =
+    let n = length-map pieces entry in
+    let k = ap length p.parts in
+    let m = length-append p.before (p.one ∷ p.after) in
+    let c = p.count in
+    omega arith
+
+entries_removed : (pieces : List Piece) (i : ℕ) → entries (remove pieces i) ≡ remove (entries pieces) i
+entries_removed [] zero = refl
+entries_removed [] (suc i) = refl
+entries_removed (x ∷ pieces) zero = refl
+entries_removed (x ∷ pieces) (suc i) = ap (λ (z : List Entry). entry x ∷ z) (entries_removed pieces i)
+
+removed_at : (a : List Entry) (x : Entry) (b : List Entry) (i : ℕ) → length a ≡ i → remove (a ++ (x ∷ b)) i ≡ a ++ b
+removed_at [] x b i e = subst (λ (k : ℕ). remove (x ∷ b) k ≡ b) e refl
+removed_at (y ∷ a) x b zero e = absurd (omega (arith, e))
+removed_at (y ∷ a) x b (suc i) e = ap (λ (z : List Entry). y ∷ z) (removed_at a x b i (omega (arith, e)))
+
+got_at : (a : List Entry) (x : Entry) (b : List Entry) (i : ℕ) (d : Entry) → length a ≡ i → get_or (a ++ (x ∷ b)) i d ≡ x
+got_at [] x b i d e = subst (λ (k : ℕ). get_or (x ∷ b) k d ≡ x) e refl
+got_at (y ∷ a) x b zero d e = absurd (omega (arith, e))
+got_at (y ∷ a) x b (suc i) d e = got_at a x b i d (omega (arith, e))
+
+-- the piece that is taken out is the one that is picked, and the others are left
+pub taken_out : (test : Entry → Bool) (pieces left : List Piece) (i : ℕ) (piece : Piece) → IsPicked test (entries pieces) i → piece ≡ get_or pieces i piece
+    → left ≡ remove pieces i → pick test (entries pieces) ≡ Some (record { first = entry piece; others = entries left })
+taken_out test pieces left i piece p e r =
+    let one : entry piece ≡ p.one =
+    ap entry e ∙ sym (item_of entry pieces i piece) ∙ ap (λ (x : List Entry). get_or x i (entry piece)) p.parts
+    ∙ got_at p.before p.one p.after i (entry piece) p.count in
+    let others : entries left ≡ p.before ++ p.after =
+    ap entries r ∙ entries_removed pieces i ∙ ap (λ (x : List Entry). remove x i) p.parts ∙ removed_at p.before p.one p.after i p.count in
+    p.is ∙ (λ k. Some (record { first = sym one k; others = sym others k }))
+
+-- ---- what is due
+
+due_more : (a : List Piece) (x : Piece) → due_of (a ++ (x ∷ [])) ≡ entry x ∷ due_of a
+due_more a x = ap reverse (entries_both a (x ∷ [])) ∙ reverse-append (entries a) (entry x ∷ [])
+  where
+    entries_both : (a b : List Piece) → entries (a ++ b) ≡ entries a ++ entries b
+    entries_both [] b = refl
+    entries_both (x ∷ a) b = ap (λ (z : List Entry). entry x ∷ z) (entries_both a b)
+
+pub entries_more : (a : List Piece) (x : Piece) → entries (a ++ (x ∷ [])) ≡ entries a ++ (entry x ∷ [])
+entries_more [] x = refl
+entries_more (y ∷ a) x = ap (λ (z : List Entry). entry y ∷ z) (entries_more a x)
+
+-- two more are due
+pub due_two : (old one two : List Piece) (piece other : Piece) → one ≡ old ++ (piece ∷ []) → two ≡ one ++ (other ∷ [])
+    → due_of two ≡ entry other ∷ (entry piece ∷ due_of old)
+due_two old one two piece other e f =
+    ap due_of f ∙ due_more one other ∙ ap (λ (z : List Entry). entry other ∷ z) (ap due_of e ∙ due_more old piece)
+
+-- one that is due was taken
+pub due_less : (old new : List Piece) (piece : Piece) → old ≡ new ++ (piece ∷ []) → due_of old ≡ entry piece ∷ due_of new
+due_less old new piece e = ap due_of e ∙ due_more new piece
+
+-- ---- what was written
+
+pub wrote_none : (strict : Bool) (w : Written) → WroteLines strict w [] w
+wrote_none strict w = record { out = sym (append-nil w.out.items); counts = refl; calls = refl; may = tt }
+
+pub text_both : (a b : List Entry) → text_of (lines_as (a ++ b)) ≡ text_of (lines_as a) ++ text_of (lines_as b)
+text_both [] b = refl
+text_both (x ∷ a) b =
+    ap (λ (y : List ℕ). x.line ++ (10 ∷ y)) (text_both a b) ∙ sym (append_assoc x.line (10 ∷ text_of (lines_as a)) (text_of (lines_as b)))
+
+pub counted_both : (c : Counts) (a b : List Entry) → counted_all c (a ++ b) ≡ counted_all (counted_all c a) b
+counted_both c [] b = refl
+counted_both c (x ∷ a) b = counted_both (counted_entry x c) a b
+
+pub calls_both : (n : ℕ) (a b : List Entry) → calls_after n (a ++ b) ≡ calls_after (calls_after n a) b
+calls_both n [] b = refl
+calls_both n (x ∷ a) b = calls_both (counted_call x.call n) a b
+
+pub wrote_both : (strict : Bool) (x y z : Written) (a b : List Entry) → WroteLines strict x a y → WroteLines strict y b z → WroteLines strict x (a ++ b) z
+wrote_both strict x y z a b h g =
+    record {
+      out = g.out ∙ ap (λ (w : List ℕ). w ++ text_of (lines_as b)) h.out ∙ append_assoc x.out.items (text_of (lines_as a)) (text_of (lines_as b))
+          ∙ ap (λ (w : List ℕ). x.out.items ++ w) (sym (text_both a b));
+      counts = g.counts ∙ ap (λ (w : Counts). counted_all w b) h.counts ∙ sym (counted_both x.counts a b);
+      calls = g.calls ∙ ap (λ (w : ℕ). calls_after w b) h.calls ∙ sym (calls_both x.calls a b);
+      may = each_both (MayBeWritten strict) a b h.may g.may;
+    }
+
+-- ---- the loop
+
+-- at first the entry is due alone
+pub due_first : (strict : Bool) (old : Ordering) (piece : Piece) (due : List Piece) → due ≡ piece ∷ []
+    → DueSome strict old (write_entry frees_for (entry piece) (entries old.waiting.items)) due old
+due_first strict old piece due e =
+    record {
+      lines = [];
+      wrote = wrote_none strict old.written;
+      left = write_entry frees_for (entry piece) (entries old.waiting.items);
+      turned = ap (λ (d : List Piece). write_due (turns (due_of d) (entries old.waiting.items)) frees_for (due_of d) (entries old.waiting.items)) (sym e);
+      more = refl;
+      waits = refl;
+    }
+
+-- one entry more is due
+turns_more : (one : Entry) (due ws : List Entry) → turns (one ∷ due) ws ≡ suc (turns due ws)
+turns_more one due ws = omega arith
+
+write_one : (n : ℕ) (one : Entry) (due ws : List Entry) → pick (λ other. frees_for other one) ws ≡ None
+    → write_due (suc n) frees_for (one ∷ due) ws
+    ≡ record { lines = one ∷ (write_due n frees_for due ws).lines; waiting = (write_due n frees_for due ws).waiting }
+write_one n one due ws is = rw is refl
+
+make_due : (n : ℕ) (one : Entry) (due ws : List Entry) (p : Picked) → pick (λ other. frees_for other one) ws ≡ Some p
+    → write_due (suc n) frees_for (one ∷ due) ws ≡ write_due n frees_for (p.first ∷ (one ∷ due)) p.others
+make_due n one due ws p is = rw is refl
+
+-- a turn of an entry leaves the rest
+turn_written : (one : Entry) (due ws : List Entry) → pick (λ other. frees_for other one) ws ≡ None
+    → write_due (turns (one ∷ due) ws) frees_for (one ∷ due) ws
+    ≡ record { lines = one ∷ (write_due (turns due ws) frees_for due ws).lines; waiting = (write_due (turns due ws) frees_for due ws).waiting }
+turn_written one due ws is =
+    ap (λ (n : ℕ). write_due n frees_for (one ∷ due) ws) (turns_more one due ws) ∙ write_one (turns due ws) one due ws is
+
+turn_due : (one : Entry) (due ws : List Entry) (p : Picked) (n : ℕ) → pick (λ other. frees_for other one) ws ≡ Some p
+    → turns (one ∷ due) ws ≡ suc n → write_due (turns (one ∷ due) ws) frees_for (one ∷ due) ws ≡ write_due n frees_for (p.first ∷ (one ∷ due)) p.others
+turn_due one due ws p n is e = ap (λ (k : ℕ). write_due k frees_for (one ∷ due) ws) e ∙ make_due n one due ws p is
+
+-- a picked entry is one fewer that waits
+turns_picked : (test : Entry → Bool) (one : Entry) (due ws : List Entry) (p : Picked) → pick test ws ≡ Some p
+    → turns (one ∷ due) ws ≡ suc (turns (p.first ∷ (one ∷ due)) p.others)
+turns_picked test one due ws p is = by (picks test ws)
+  where
+    by : Picks test ws → turns (one ∷ due) ws ≡ suc (turns (p.first ∷ (one ∷ due)) p.others)
+    by (picks_none none) = let k : ◌≡◌ {A = Option Picked} None (Some p) = sym none ∙ is in absurd cc
+    by (picks_one a x b e t some) =
+        let k : ◌≡◌ {A = Option Picked} (Some (record { first = x; others = a ++ b })) (Some p) = sym some ∙ is in
+        let same : record { first = x; others = a ++ b } ≡ p = cc in
+        let l = ap length e in
+        let m = length-append a (x ∷ b) in
+        let n = length-append a b in
+        let o = ap (λ (z : Picked). length z.others) same in
+        omega arith
+
+-- a turn leaves the rest to what is due then
+pub due_turn : (strict : Bool) (old before after : Ordering) (found : WrittenOf) (piece : Piece) (due0 due1 due2 : List Piece)
+    → DueSome strict old found due0 before → due0 ≡ due1 ++ (piece ∷ []) → TookTurn strict (entry piece) before due1 after due2
+    → DueSome strict old found due2 after
+due_turn strict old before after found piece due0 due1 due2 d e (wrote_one is w same ws) =
+    let turned = ap (λ (x : List Entry). write_due (turns x (entries before.waiting.items)) frees_for x
+    (entries before.waiting.items)) (due_less due0 due1 piece e) in
+    let left = write_due (turns (due_of due1) (entries before.waiting.items)) frees_for (due_of due1) (entries before.waiting.items) in
+    let step : d.left ≡ record { lines = entry piece ∷ left.lines; waiting = left.waiting } =
+    d.turned ∙ turned ∙ turn_written (entry piece) (due_of due1) (entries before.waiting.items) is in
+    record {
+      lines = d.lines ++ (entry piece ∷ []);
+      wrote = wrote_both strict old.written before.written after.written d.lines (entry piece ∷ []) d.wrote w;
+      left = left;
+      turned = λ i. write_due (turns (due_of (sym same i)) (sym ws i)) frees_for (due_of (sym same i)) (sym ws i);
+      more = d.more ∙ ap (λ (x : WrittenOf). d.lines ++ x.lines) step ∙ sym (append_assoc d.lines (entry piece ∷ []) left.lines);
+      waits = d.waits ∙ ap (λ (x : WrittenOf). x.waiting) step;
+    }
+due_turn strict old before after found piece due0 due1 due2 d e (made_due p is same due ws) =
+    let old_ws = entries before.waiting.items in
+    let turned = ap (λ (x : List Entry). write_due (turns x old_ws) frees_for x old_ws) (due_less due0 due1 piece e) in
+    let count : turns (entry piece ∷ due_of due1) old_ws ≡ suc (turns (p.first ∷ (entry piece ∷ due_of due1)) p.others) =
+    turns_picked (λ other. frees_for other (entry piece)) (entry piece) (due_of due1) old_ws p is in
+    record {
+      lines = d.lines;
+      wrote = subst (λ (x : Written). WroteLines strict old.written d.lines x) (sym same) d.wrote;
+      left = d.left;
+      turned = d.turned ∙ turned ∙ turn_due (entry piece) (due_of due1) old_ws p (turns (p.first ∷ (entry piece ∷ due_of due1)) p.others) is count
+          ∙ (λ i. write_due (turns (sym due i) (sym ws i)) frees_for (sym due i) (sym ws i));
+      more = d.more;
+      waits = d.waits;
+    }
+
+-- nothing is due any more
+pub due_done : (strict : Bool) (old now : Ordering) (found : WrittenOf) (due : List Piece) → DueSome strict old found due now → due ≡ []
+    → WroteDue strict old found now
+due_done strict old now found due d e =
+    let left : d.left ≡ record { lines = []; waiting = entries now.waiting.items } =
+    d.turned ∙ ap (λ (x : List Piece). write_due (turns (due_of x) (entries now.waiting.items)) frees_for (due_of x) (entries now.waiting.items)) e
+    ∙ nothing_due (entries now.waiting.items) (turns [] (entries now.waiting.items)) in
+    record {
+      wrote = subst (λ (x : List Entry). WroteLines strict old.written x now.written)
+          (sym (d.more ∙ ap (λ (x : WrittenOf). d.lines ++ x.lines) left ∙ append-nil d.lines)) d.wrote;
+      waits = sym (d.waits ∙ ap (λ (x : WrittenOf). x.waiting) left);
+    }
+  where
+    nothing_due : (ws : List Entry) (n : ℕ) → write_due n frees_for [] ws ≡ record { lines = []; waiting = ws }
+    nothing_due ws zero = refl
+    nothing_due ws (suc n) = refl
+
+-- a turn that ends so ends the whole
+pub due_ends : (strict : Bool) (old before : Ordering) (found : WrittenOf) (piece : Piece) (due0 due1 : List Piece) (fault : Fault)
+    → DueSome strict old found due0 before → due0 ≡ due1 ++ (piece ∷ []) → EndsTurn strict (entry piece) (entries before.waiting.items) fault
+    → EndsDue strict found.lines fault
+due_ends strict old before found piece due0 due1 fault d e (inl m) = inl m
+due_ends strict old before found piece due0 due1 fault d e (inr h) =
+    let ws = entries before.waiting.items in
+    let turned = ap (λ (x : List Entry). write_due (turns x ws) frees_for x ws) (due_less due0 due1 piece e) in
+    let left = write_due (turns (due_of due1) ws) frees_for (due_of due1) ws in
+    let step : d.left ≡ record { lines = entry piece ∷ left.lines; waiting = left.waiting } =
+    d.turned ∙ turned ∙ turn_written (entry piece) (due_of due1) ws h.0 in
+    inr (subst (λ (x : List Entry). IsFirstFault strict x fault) (sym (d.more ∙ ap (λ (x : WrittenOf). d.lines ++ x.lines) step))
+    (first_behind strict d.lines (entry piece ∷ left.lines) fault d.wrote.may (inl h.1)))
+
+-- fewer turns are left
+pub turn_smaller : (strict : Bool) (one : Entry) (old new : Ordering) (due more : List Piece) → TookTurn strict one old due new more
+    → length more + 2 * length new.waiting.items < length due + 1 + 2 * length old.waiting.items
+turn_smaller strict one old new due more (wrote_one is w same ws) =
+    let a = ap length same in
+    let b = ap length ws in
+    let m = length-map new.waiting.items entry in
+    let n = length-map old.waiting.items entry in
+    omega arith
+turn_smaller strict one old new due more (made_due p is same d ws) =
+    let c = turns_picked (λ other. frees_for other one) one [] (entries old.waiting.items) p is in
+    let a = ap length d in
+    let b = ap length ws in
+    let m = length-map new.waiting.items entry in
+    let n = length-map old.waiting.items entry in
+    let r = length-reverse (entries more) in
+    let s = length-reverse (entries due) in
+    let t = length-map more entry in
+    let u = length-map due entry in
+    omega arith
+
+-- so each turn leaves fewer
+pub due_smaller : (strict : Bool) (one : Piece) (old new : Ordering) (due0 due1 due2 : List Piece) → due0 ≡ due1 ++ (one ∷ [])
+    → TookTurn strict (entry one) old due1 new due2
+    → length due2 + 2 * length new.waiting.items < length due0 + 2 * length old.waiting.items
+due_smaller strict one old new due0 due1 due2 e t =
+    let k = turn_smaller strict (entry one) old new due1 due2 t in
+    let l = ap length e in
+    let m = length-append due1 (one ∷ []) in
+    omega (arith, k)
+
+pub none_left : (due : List Piece) → length due ≡ 0 → due ≡ []
+none_left [] e = refl
+none_left (x ∷ due) e = absurd (omega (arith, e))
+
+-- two numbers are the same, or aren't
+pub is_equal : (a b : ℕ) → a ≡ b → (a == b) ≡ true
+is_equal a b e = elim (eqb_tells a b) [ inl h ↦ h.0 | inr h ↦ absurd (h.1 e) ]
+
+pub is_other : (a b : ℕ) → (a ≡ b → ⊥) → (a == b) ≡ false
+is_other a b n = elim (eqb_tells a b) [ inl h ↦ absurd (n h.1) | inr h ↦ h.0 ]

@@ -1,9 +1,0 @@
-use Rattle.std.proofs.Common.{rules}
-use Rattle.raw_trace.proofs.HealedLines.{takes_all}
-use Rattle.raw_trace.proofs.healing.heal.Goals as goal
-
--- all lines were read
-pub returns-clause-heals : goal.returns-clause-heals
-returns-clause-heals c =
-    let i = c.lines.invariant in
-    takes_all c.lines.healer c.args.whole.now c.lines.rest.now i.0 i.5 i.1 (search rules)
