@@ -1,4 +1,4 @@
-/* A range lock for up to 16 threads, proved, for programs in C and C++.
+/* The range lock of Gazmrobik, for which gz_ is short, and not for gzip: proved, for up to 16 threads in C and C++.
 
    A range is the whole numbers from lo on and below hi; what they number (bytes, pages, rows) is yours to say. A handle
    holds one range at a time, as a reader or as a writer. Two handles of one table never hold ranges that overlap at
@@ -6,7 +6,8 @@
 
    A table has a fixed number of seats, and each open handle has one. Open the first handle with gz_range_open, get one
    more for each thread with gz_range_share, and close each with gz_range_close; the last one frees the table. The seat
-   of a closed handle isn't given out again: at most as many handles as seats are ever opened over one table.
+   of a closed handle isn't given out again: at most as many handles as seats are ever opened over one table. Where
+   threads come and go, one that ends hands its handle on to one that begins, as in the example handing.c.
 
        #include <gz_range.h>
        #include <stdio.h>
@@ -15,26 +16,30 @@
            gz_range first = GZ_RANGE_CLOSED, second = GZ_RANGE_CLOSED;
            gz_busy busy;
            if (gz_range_open_plain(2, &first) || gz_range_share(&first, &second)) return 1;
-           if (gz_range_acquire(&first, 10, 20, true)) return 1;
-           if (gz_range_try(&second, 15, 16, false, 64, &busy) == GZ_RANGE_BUSY)
-               printf("seat %u holds %u to %u\n", busy.owner, (unsigned)busy.lo, (unsigned)busy.hi);
+           if (gz_range_acquire(&first, 10, 20, GZ_RANGE_WRITER)) return 1;
+           if (gz_range_try(&second, 15, 16, GZ_RANGE_READER, 4, &busy) == GZ_RANGE_BUSY)
+               printf("seat %u has or wants %u to %u\n", busy.owner, (unsigned)busy.lo, (unsigned)busy.hi);
            gz_range_release(&first);
            gz_range_close(&first);
            gz_range_close(&second);
            return 0;
        }
 
-   It prints: seat 1 holds 10 to 20.
+   It prints: seat 1 has or wants 10 to 20.
 
    What you may rely on:
-   - What each call answers and leaves is proved, over what the list below says that you owe.
+   - What each call of the archive answers, and what it leaves of its handles, is proved, over what the list below says
+     that you owe; but of gz_range_end only its answer and that the handle is closed, and not that the range is given
+     back and the last one frees the table, which is tested. The calls that are written in this header, acquire and
+     close among them, are C over those of the archive, and tested.
    - What a thread wrote before it gave a range back is seen by each thread that later holds a range in conflict with
      it: a release happens before that grant, in the words of C11. So does a step on a client word before a later step
      on the same word. Two readers are in no order to each other, and neither are ranges that don't overlap. This isn't
      proved of your memory: it rests on each step of the library being sequentially consistent, and on a compiler
      moving no access across a call.
-   - No call sleeps or takes a lock, and gz_range_acquire alone waits, by trying again. open, open_cut and share alone
-     take memory; the others can't fail for want of it. A table takes 2 to 23 KB for 1 to 16 seats, once for each of its
+   - No call sleeps or takes a lock. gz_range_acquire alone waits without a bound, by trying again; gz_range_try and
+     gz_range_pause wait a bounded number of turns. open, open_cut and share alone take memory; the others can't fail
+     for want of it. A table takes 2 to 23 KB for 1 to 16 seats, once for each of its
      lists, twice as much while it is opened, and 8 bytes for each client word; each further handle takes 128 bytes.
 
    What you owe. Nothing checks it:
@@ -63,9 +68,13 @@
 #error "gz_range.h: the range lock's archive is for x86-64"
 #endif
 
-/* The version of this header and its archive: 100 for each step of the first number, 1 for each of the second. */
-#define GZ_RANGE_VERSION 100
-#define GZ_RANGE_VERSION_TEXT "1.0"
+/* The version of this header and its archive: 100 for each step of the first number, 1 for each of the second. The
+   second rises where calls, names or causes of a refusal came; the first, which the shared object's name has too, where
+   a program for the version before may not compile any more, or means something else.
+   1.1 has gz_range_open_cut, BAD_CUT, gz_range_held, gz_range_pause and the names of the modes; gz_range_end refuses an
+   open `next`; what gz_range_try waits between two tries grows. */
+#define GZ_RANGE_VERSION 101
+#define GZ_RANGE_VERSION_TEXT "1.1"
 
 #ifdef __GNUC__
 #define GZ_RANGE_NONNULL __attribute__((nonnull))
@@ -96,8 +105,14 @@ typedef struct gz_range {
 #define GZ_RANGE_MOST_WORDS 1048576
 #define GZ_RANGE_HIGHEST 4611686018427387904
 
+/* What the calls' `writer` means: a writer's range is in conflict with each that overlaps it, a reader's with writers'
+   alone. */
+#define GZ_RANGE_READER false
+#define GZ_RANGE_WRITER true
+
 /* A range of a handle, the numbers from lo on and below hi, with the number of that handle's seat, counted from 0, and
-   whether it is a writer's. A try that is refused shows the one that was in its way, and gz_range_held a handle's own.
+   whether it is a writer's. A try that is refused shows the one that was in its way, held or only asked for, and
+   gz_range_held a handle's own.
    The first handle of a table of n seats has seat n - 1, and each call of share on it gives the next one below. */
 typedef struct gz_busy {
     uint64_t lo, hi;
@@ -119,7 +134,7 @@ typedef enum gz_range_answer {
     GZ_RANGE_HAS_ONE = 7,    /* this handle holds a range already */
     GZ_RANGE_HAS_NONE = 8,   /* this handle holds no range */
     GZ_RANGE_IS_CLOSED = 9,  /* the handle that is to be worked with is closed */
-    GZ_RANGE_IS_OPEN = 10,   /* the handle that is to be opened is open */
+    GZ_RANGE_IS_OPEN = 10,   /* a handle that has to be closed, as one that is to be opened, is open */
     GZ_RANGE_NO_MEMORY = 11, /* there was no memory */
     GZ_RANGE_BAD_SEATS = 12, /* the number of seats is 0 or above GZ_RANGE_MOST_SEATS */
     GZ_RANGE_BAD_WORDS = 13, /* there are more than GZ_RANGE_MOST_WORDS client words */
@@ -147,7 +162,7 @@ static inline const char *gz_range_text(gz_range_answer answer) {
     case GZ_RANGE_HAS_ONE: return "the handle holds a range already";
     case GZ_RANGE_HAS_NONE: return "the handle holds no range";
     case GZ_RANGE_IS_CLOSED: return "the handle is closed";
-    case GZ_RANGE_IS_OPEN: return "the handle that is to be opened is open";
+    case GZ_RANGE_IS_OPEN: return "a handle that has to be closed is open";
     case GZ_RANGE_NO_MEMORY: return "out of memory";
     case GZ_RANGE_BAD_SEATS: return "the number of seats isn't from 1 to 16";
     case GZ_RANGE_BAD_WORDS: return "more than 1048576 client words";
@@ -170,8 +185,8 @@ gz_range_answer gz_range_open(uint32_t seats, const uint64_t *words, size_t coun
    first block is of the first region, the next one of the second, and so on; behind the last region it is the first
    one's turn again. Each region has a list of its own, and where there are several, one more list is for the ranges
    in more than one of them.
-   A cut is for many threads at ranges of different regions: they change no word of the lock in common, where with one
-   list they all change its head. So a block is best as large as most ranges fit into; with bits 16 it has 65536
+   A cut is for many threads at ranges of different regions: while nobody asks for or holds a range in several of them,
+   they change no word of a list in common, where with one list they all change its head. So a block is best as large as most ranges fit into; with bits 16 it has 65536
    numbers. A range in several regions takes longer: a look at the list of each, and more where somebody is there. A
    table takes as many times the memory as it has lists. All else is as with gz_range_open, whose tables have one
    list: which ranges are in conflict, and what each call answers. Which cut serves a load best, or whether any does,
@@ -199,14 +214,15 @@ GZ_RANGE_MUST_CHECK
 gz_range_answer gz_range_share(gz_range *from, gz_range *handle);
 
 /* Tries to hold the numbers from lo on and below hi, at most 2^62, as a writer or as a reader: until a try is granted,
-   and at most `tries` times, with a short pause between one try and the next. A try makes at most 64 atomic steps and
-   386 for each seat of the table, whatever other threads do; for a range in several regions of a cut it makes at most
-   that many for each list of the table. With tries 1 it makes one, with no pause, and waits for nobody; with 0 it only
-   looks at what is asked.
+   and at most `tries` times. A try makes at most 64 atomic steps and 386 for each seat of the table, whatever other
+   threads do; for a range in several regions of a cut it makes at most that many for each list of the table. After
+   BUSY, LONG or NO_NODE it waits before the next try, as gz_range_pause does, and after AGAIN not at all. With tries 1
+   it makes one, with no wait, and waits for nobody; with 0 it only looks at what is asked.
    How many tries to ask for: a single try may be refused though no range is in conflict, as a weak compare-exchange may
    fail. That is AGAIN, LONG or NO_NODE, and comes of another thread being at work in the list. Four busy threads at
-   ranges apart were refused some 40 of 100 single tries so, and 3 of 100 with 4 tries. Ask for 64 where you want the
-   range, and for 1 only where you have something else to do.
+   ranges apart were refused 28 of 100 single tries so, 2 of 100 with 4 tries, and 1 of 1,000 with 16. Ask for 1 where
+   you have something else to do, and for 4 to 16 where you want the range soon: 4 wait at most 7,168 turns, some 90
+   microseconds, and each one above 4 at most another 100 microseconds.
    DONE, and the range is held from a step of this call on; IS_CLOSED, HAS_ONE, BAD_RANGE, NOT_TRIED, the first of
    these that is so, with the handle as it was; BUSY, AGAIN, LONG or NO_NODE, where all tries were refused: why the last
    one was, with nothing held. busy is filled after BUSY, and all 0 after each other answer.
@@ -214,17 +230,26 @@ gz_range_answer gz_range_share(gz_range *from, gz_range *handle);
 GZ_RANGE_MUST_CHECK
 gz_range_answer gz_range_try(gz_range *handle, uint64_t lo, uint64_t hi, bool writer, uint32_t tries, gz_busy *busy);
 
+/* Waits between two tries of a program that waits by itself, as gz_range_acquire does: *turns turns of the processor's
+   pause, and at least 1,024 and at most 8,192. *turns is 0 at first, and becomes twice what was waited, at most 8,192.
+   A turn is some 12 ns at 2.5 GHz. It doesn't yield the processor.
+   true where this wait was one of 8,192 turns: then let other threads run, by sched_yield or a sleep.
+   Any thread. */
+GZ_RANGE_NONNULL
+bool gz_range_pause(uint32_t *turns);
+
 /* Gives the held range back, in one atomic step or two.
    DONE, and nothing is held; IS_CLOSED or HAS_NONE, with the handle as it was.
    The thread that has the handle. */
 GZ_RANGE_NONNULL
 gz_range_answer gz_range_release(gz_range *handle);
 
-/* Tells what the handle holds, and the number of its seat, in `held`. Nothing changes.
+/* Tells what the handle holds, and the number of its seat, in `held`. Nothing changes, but the handle is in a call as
+   in any other: two threads may not look at one at once.
    DONE, where it holds a range; HAS_NONE, with the number of the seat and all else 0; IS_CLOSED, with all 0.
    The thread that has the handle. */
 GZ_RANGE_NONNULL
-gz_range_answer gz_range_held(gz_range *handle, gz_busy *held);
+gz_range_answer gz_range_held(const gz_range *handle, gz_busy *held);
 
 /* Each of the next four is one sequentially consistent atomic step on client word i, counted from 0. No range need be
    held for it. What the handle holds stays.
@@ -248,8 +273,9 @@ gz_range_answer gz_range_add(gz_range *handle, uint32_t i, uint64_t by, uint64_t
 GZ_RANGE_MUST_CHECK
 gz_range_answer gz_range_exchange(gz_range *handle, uint32_t i, uint64_t *expected, uint64_t value);
 
-/* What gz_range_close calls: it puts `next`, which is GZ_RANGE_CLOSED, in the place of the handle, and ends what that
-   was. */
+/* What gz_range_close calls: it puts `next`, which is to be closed, in the place of the handle, and ends what that was.
+   IS_OPEN where next is open, with nothing changed; else DONE, or IS_CLOSED where the handle was closed already, and
+   the handle is closed. */
 GZ_RANGE_NONNULL
 gz_range_answer gz_range_end(gz_range *handle, gz_range next);
 
@@ -367,18 +393,26 @@ static inline bool gz_range_may_retry(gz_range_answer answer) {
     return answer >= GZ_RANGE_BUSY && answer <= GZ_RANGE_NO_NODE;
 }
 
-/* Holds a range, however long that takes: it tries 64 times, lets other threads run, and tries again. Nothing is
-   claimed of when it returns, or of any order among those that wait. It uses its processor as long as it waits, and
-   under SCHED_FIFO, where sched_yield gives nothing to threads of lower priority, it may try for ever. The example
-   waiting.c has two ways to wait by sleeping: until a deadline, and until another thread gives a range back.
+/* Holds a range, however long that takes, as pthread_mutex_lock does: it tries once; after BUSY, LONG or NO_NODE it
+   waits and tries again, 1,024 turns at first, then twice as long each time, up to 8,192 turns, some 100 microseconds,
+   behind each of which it lets other threads run; after AGAIN it tries again at once. So a range that is given back may
+   be free for as long before a thread that waits takes it.
+   Nothing is claimed of when it returns, or of any order among those that wait. Measured with four threads that want
+   one range again and again, 60 in 100 as readers: 1.6 microseconds in the mean, one call of a thousand above 66, and
+   the longest of 10 seconds 17 ms, on four processors that others took part of; over a table of four regions 3.0, 131
+   and 12 ms of 2 seconds; for a pthread_mutex 1.3, 33 and 15 ms of 3 seconds.
+   It uses its processor as long as it waits, and under SCHED_FIFO, where sched_yield gives nothing to threads of lower
+   priority, it may try for ever. The example waiting.c has two ways to wait by sleeping: until a deadline, and until
+   another thread gives a range back.
    DONE; IS_CLOSED, HAS_ONE or BAD_RANGE at once, with the handle as it was.
    The thread that has the handle. */
 GZ_RANGE_MUST_CHECK
 static inline gz_range_answer gz_range_acquire(gz_range *handle, uint64_t lo, uint64_t hi, bool writer) {
+    uint32_t turns = 0;
     for (;;) {
-        gz_range_answer answer = gz_range_try_plain(handle, lo, hi, writer, 64);
+        gz_range_answer answer = gz_range_try_plain(handle, lo, hi, writer, 1);
         if (!gz_range_may_retry(answer)) return answer;
-        sched_yield();
+        if (answer != GZ_RANGE_AGAIN && gz_range_pause(&turns)) sched_yield();
     }
 }
 

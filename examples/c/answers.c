@@ -55,8 +55,8 @@ static void closed_handles(void) {
     gz_busy busy;
     uint64_t value = 5;
     says("share of a closed handle", gz_range_share(&handle, &other));
-    says("try by a closed handle", gz_range_try(&handle, 0, 1, true, 1, &busy));
-    says("acquire by a closed handle", gz_range_acquire(&handle, 0, 1, true));
+    says("try by a closed handle", gz_range_try(&handle, 0, 1, GZ_RANGE_WRITER, 1, &busy));
+    says("acquire by a closed handle", gz_range_acquire(&handle, 0, 1, GZ_RANGE_WRITER));
     says("release by a closed handle", gz_range_release(&handle));
     looks("what a closed handle holds", &handle);
     says("load by a closed handle", gz_range_load(&handle, 0, &value));
@@ -65,7 +65,7 @@ static void closed_handles(void) {
     says("exchange by a closed handle", gz_range_exchange(&handle, 0, &value, 1));
     printf("    the value is %" PRIu64 " still\n", value);
     says("close of a closed handle", gz_range_close(&handle));
-    says("try by it when it was closed once more", gz_range_try(&handle, 0, 1, true, 1, &busy));
+    says("try by it when it was closed once more", gz_range_try(&handle, 0, 1, GZ_RANGE_WRITER, 1, &busy));
 }
 
 static void openings(void) {
@@ -97,29 +97,29 @@ static void openings(void) {
 
 static void ranges(gz_range *a, gz_range *b) {
     gz_busy busy;
-    says("try of no number", gz_range_try(a, 5, 5, true, 1, &busy));
-    says("try above 2^62", gz_range_try(a, 5, (uint64_t)GZ_RANGE_HIGHEST + 1, true, 1, &busy));
-    says("no try", gz_range_try(a, 5, 9, true, 0, &busy));
+    says("try of no number", gz_range_try(a, 5, 5, GZ_RANGE_WRITER, 1, &busy));
+    says("try above 2^62", gz_range_try(a, 5, (uint64_t)GZ_RANGE_HIGHEST + 1, GZ_RANGE_WRITER, 1, &busy));
+    says("no try", gz_range_try(a, 5, 9, GZ_RANGE_WRITER, 0, &busy));
     says("release of nothing", gz_range_release(a));
     looks("what it holds", a);
-    says("try of 5 to 9 as a writer", gz_range_try(a, 5, 9, true, 1, &busy));
+    says("try of 5 to 9 as a writer", gz_range_try(a, 5, 9, GZ_RANGE_WRITER, 1, &busy));
     looks("what it holds", a);
-    says("try while one is held", gz_range_try(a, 20, 30, true, 1, &busy));
-    says("acquire while one is held", gz_range_acquire(a, 20, 30, true));
-    says("another's try of 8 to 10 as a reader", gz_range_try(b, 8, 10, false, 3, &busy));
+    says("try while one is held", gz_range_try(a, 20, 30, GZ_RANGE_WRITER, 1, &busy));
+    says("acquire while one is held", gz_range_acquire(a, 20, 30, GZ_RANGE_WRITER));
+    says("another's try of 8 to 10 as a reader", gz_range_try(b, 8, 10, GZ_RANGE_READER, 3, &busy));
     shows(&busy);
-    says("another's try of 9 to 10 as a writer", gz_range_try(b, 9, 10, true, 1, &busy));
+    says("another's try of 9 to 10 as a writer", gz_range_try(b, 9, 10, GZ_RANGE_WRITER, 1, &busy));
     shows(&busy);
     says("release", gz_range_release(b));
     says("release", gz_range_release(a));
-    says("try of 0 to 2^62 as a reader", gz_range_try(a, 0, GZ_RANGE_HIGHEST, false, 1, &busy));
-    says("another's try of 3 to 4 as a reader", gz_range_try_plain(b, 3, 4, false, 1));
+    says("try of 0 to 2^62 as a reader", gz_range_try(a, 0, GZ_RANGE_HIGHEST, GZ_RANGE_READER, 1, &busy));
+    says("another's try of 3 to 4 as a reader", gz_range_try_plain(b, 3, 4, GZ_RANGE_READER, 1));
     looks("what the other one holds", b);
     says("release", gz_range_release(b));
-    says("another's try of 3 to 4 as a writer", gz_range_try(b, 3, 4, true, 1, &busy));
+    says("another's try of 3 to 4 as a writer", gz_range_try(b, 3, 4, GZ_RANGE_WRITER, 1, &busy));
     shows(&busy);
     says("release", gz_range_release(a));
-    says("acquire of 3 to 4 as a writer", gz_range_acquire(b, 3, 4, true));
+    says("acquire of 3 to 4 as a writer", gz_range_acquire(b, 3, 4, GZ_RANGE_WRITER));
 }
 
 /* Seven regions in blocks of 2^16 numbers: the first block is of one region and the next one of another. */
@@ -130,14 +130,14 @@ static void regions(void) {
     says("open of 7 regions", gz_range_open_cut(2, 7, 16, words, 1, &a));
     says("open of an open handle over a cut", gz_range_open_cut(2, 7, 16, words, 1, &a));
     says("share", gz_range_share(&a, &b));
-    says("try of 5 to 9 as a writer", gz_range_try(&a, 5, 9, true, 1, &busy));
-    says("another's try in the next region", gz_range_try(&b, 65536, 65540, true, 1, &busy));
+    says("try of 5 to 9 as a writer", gz_range_try(&a, 5, 9, GZ_RANGE_WRITER, 1, &busy));
+    says("another's try in the next region", gz_range_try(&b, 65536, 65540, GZ_RANGE_WRITER, 1, &busy));
     says("release", gz_range_release(&b));
-    says("another's try of both as a reader", gz_range_try(&b, 0, 65540, false, 1, &busy));
+    says("another's try of both as a reader", gz_range_try(&b, 0, 65540, GZ_RANGE_READER, 1, &busy));
     shows(&busy);
     says("release", gz_range_release(&a));
-    says("another's try of both as a reader", gz_range_try(&b, 0, 65540, false, 1, &busy));
-    says("try of 5 to 9 as a writer", gz_range_try(&a, 5, 9, true, 1, &busy));
+    says("another's try of both as a reader", gz_range_try(&b, 0, 65540, GZ_RANGE_READER, 1, &busy));
+    says("try of 5 to 9 as a writer", gz_range_try(&a, 5, 9, GZ_RANGE_WRITER, 1, &busy));
     shows(&busy);
     says("close", gz_range_close(&a));
     says("close of the other", gz_range_close(&b));
@@ -163,6 +163,25 @@ static void words_of(gz_range *a) {
     printf("    found %" PRIu64 "\n", value);
 }
 
+/* A handle isn't put in the place of another one, or of itself, while it is open. */
+static void endings(gz_range *a, gz_range *b) {
+    gz_busy busy;
+    says("end with an open handle to put there", gz_range_end(b, *a));
+    looks("what it holds", b);
+    says("end with itself to put there", gz_range_end(a, *a));
+    says("try of what another holds", gz_range_try(a, 3, 4, GZ_RANGE_WRITER, 1, &busy));
+    shows(&busy);
+}
+
+/* What a caller waits that looks six times. */
+static void pauses(void) {
+    uint32_t turns = 0;
+    for (int i = 0; i < 6; i++) {
+        bool longest = gz_range_pause(&turns);
+        printf("    a pause, one of the longest: %s; the next is of %u turns\n", longest ? "yes" : "no", turns);
+    }
+}
+
 int main(void) {
     const uint64_t words[2] = { 7, 8 };
     gz_range a = GZ_RANGE_CLOSED, b = GZ_RANGE_CLOSED;
@@ -175,10 +194,10 @@ int main(void) {
     says("share", gz_range_share(&a, &b));
     ranges(&a, &b);
     words_of(&a);
-    says("try of what another holds", gz_range_try(&a, 3, 4, true, 1, &busy));
-    shows(&busy);
+    endings(&a, &b);
+    pauses();
     says("close of the other", gz_range_close(&b));
-    says("try of it when the other is closed", gz_range_try(&a, 3, 4, true, 1, &busy));
+    says("try of it when the other is closed", gz_range_try(&a, 3, 4, GZ_RANGE_WRITER, 1, &busy));
     says("close", gz_range_close(&a));
     says("close once more", gz_range_close(&a));
     return 0;

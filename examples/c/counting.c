@@ -29,11 +29,11 @@ static void *work(void *argument) {
     worker *me = argument;
     for (unsigned turn = 0; turn < TURNS; turn++) {
         if (turn % 4 == 3) {
-            if (gz_range_acquire(&me->handle, 0, CELLS, false)) me->failed++;
+            if (gz_range_acquire(&me->handle, 0, CELLS, GZ_RANGE_READER)) me->failed++;
             if (sum() != sum()) me->halves++;
         } else {
             uint64_t cell = (turn + me->number) % (CELLS - 1);
-            if (gz_range_acquire(&me->handle, cell, cell + 2, true)) me->failed++;
+            if (gz_range_acquire(&me->handle, cell, cell + 2, GZ_RANGE_WRITER)) me->failed++;
             cells[cell] = cells[cell] + 1;
             cells[cell + 1] = cells[cell + 1] + 1;
         }

@@ -75,9 +75,11 @@ static int works_without(gz_range *a, gz_range *b) {
     uint64_t value = 7;
     left = 0;
     always = 1;
-    int well = gz_range_try(b, 1, 3, true, 1, &busy) == GZ_RANGE_DONE;
-    well = well && gz_range_try(a, 2, 4, true, 5, &busy) == GZ_RANGE_BUSY && gz_range_release(b) == GZ_RANGE_DONE;
-    well = well && gz_range_acquire(a, 2, 4, true) == GZ_RANGE_DONE && gz_range_load(a, 0, &value) == GZ_RANGE_DONE;
+    int well = gz_range_try(b, 1, 3, GZ_RANGE_WRITER, 1, &busy) == GZ_RANGE_DONE;
+    well = well && gz_range_try(a, 2, 4, GZ_RANGE_WRITER, 5, &busy) == GZ_RANGE_BUSY;
+    well = well && gz_range_release(b) == GZ_RANGE_DONE;
+    well = well && gz_range_acquire(a, 2, 4, GZ_RANGE_WRITER) == GZ_RANGE_DONE;
+    well = well && gz_range_load(a, 0, &value) == GZ_RANGE_DONE;
     well = well && gz_range_exchange(a, 0, &value, 8) == GZ_RANGE_DONE && gz_range_store(b, 0, 9) == GZ_RANGE_DONE;
     well = well && gz_range_add(b, 0, 1, &value) == GZ_RANGE_DONE && value == 9;
     well = well && gz_range_close(a) == GZ_RANGE_DONE && gz_range_close(b) == GZ_RANGE_DONE;

@@ -82,7 +82,7 @@ static void answered(gz_range_answer answer) {
 
 /* Holds pages in `content`, from first on and below end. */
 static void hold(worker *me, uint64_t first, uint64_t end) {
-    if (LOCKED) answered(gz_range_acquire(&me->content, first, end, true));
+    if (LOCKED) answered(gz_range_acquire(&me->content, first, end, GZ_RANGE_WRITER));
 }
 
 static void give_back(worker *me) {
@@ -178,7 +178,7 @@ static void *resize(void *argument) {
     worker *me = argument;
     for (uint64_t end = PAGES; end > PAGES - PARTS * PART; end -= PART) {
         nanosleep(&(struct timespec){ 0, 20000000 }, NULL);
-        answered(gz_range_acquire(&me->layout, end - PART, end, true));
+        answered(gz_range_acquire(&me->layout, end - PART, end, GZ_RANGE_WRITER));
         hold(me, end - PART, end);
         take_out(end - PART, end);
         must(munmap(words_of(end - PART), PART * PAGE) == 0, "unmap");
@@ -195,7 +195,7 @@ static void *count(void *argument) {
     worker *me = argument;
     while (me->additions < TURNS || !resized || !protected) {
         uint64_t drawn = next_random(me), page = drawn % PAGES;
-        answered(gz_range_acquire(&me->layout, page, page + 1, false));
+        answered(gz_range_acquire(&me->layout, page, page + 1, GZ_RANGE_READER));
         if (!unmapped[page]) {
             _Atomic uint64_t *words = (_Atomic uint64_t *)words_of(page);
             atomic_fetch_add_explicit(&words[(drawn >> 32) % WORDS], 1, memory_order_relaxed);

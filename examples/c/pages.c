@@ -26,7 +26,7 @@ typedef struct worker {
    behind the last one that is not. */
 static unsigned take_at(worker *me, unsigned first, unsigned count) {
     unsigned next = first;
-    if (gz_range_acquire(&me->handle, first, first + count, true)) me->failed++;
+    if (gz_range_acquire(&me->handle, first, first + count, GZ_RANGE_WRITER)) me->failed++;
     for (unsigned page = first; page < first + count; page++)
         if (taken[page]) next = page + 1;
     if (next == first) memset(taken + first, 1, count);
@@ -47,7 +47,7 @@ static int take_pages(worker *me, unsigned count) {
 
 /* Gives a run of pages back. */
 static void give_pages(worker *me, unsigned first, unsigned count) {
-    if (gz_range_acquire(&me->handle, first, first + count, true)) me->failed++;
+    if (gz_range_acquire(&me->handle, first, first + count, GZ_RANGE_WRITER)) me->failed++;
     memset(taken + first, 0, count);
     if (gz_range_release(&me->handle)) me->failed++;
 }

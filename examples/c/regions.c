@@ -20,7 +20,7 @@ typedef struct worker {
 
 static void hold_beside_the_other(worker *me, uint64_t lo) {
     uint64_t holding;
-    if (gz_range_acquire(&me->handle, lo, lo + 10, true)) me->failed++;
+    if (gz_range_acquire(&me->handle, lo, lo + 10, GZ_RANGE_WRITER)) me->failed++;
     if (gz_range_add(&me->handle, 0, 1, &holding)) me->failed++;
     do {
         sched_yield();
@@ -35,7 +35,8 @@ static void *work(void *argument) {
     hold_beside_the_other(me, lo);
     for (unsigned turn = 0; turn < TURNS; turn++) {
         bool both = turn % 4 == 3;
-        if (gz_range_acquire(&me->handle, both ? 0 : lo, both ? THREADS * BLOCK : lo + 10, true)) me->failed++;
+        uint64_t first = both ? 0 : lo, end = both ? THREADS * BLOCK : lo + 10;
+        if (gz_range_acquire(&me->handle, first, end, GZ_RANGE_WRITER)) me->failed++;
         for (unsigned cell = 0; cell < THREADS; cell++)
             if (both || cell == me->number) cells[cell] = cells[cell] + 1;
         if (gz_range_release(&me->handle)) me->failed++;

@@ -1,6 +1,6 @@
-/* Two ways to wait for a range without using a processor meanwhile. gz_range_acquire tries again and again; that is
-   quickest where ranges are held shortly, and wrong where a thread may wait long, or runs under SCHED_FIFO, where
-   sched_yield gives nothing to threads of lower priority.
+/* Two ways to wait for a range without using a processor meanwhile. gz_range_acquire tries again and again, at most
+   some 100 microseconds apart; that is quickest where ranges are held shortly, and wrong where a thread may wait long,
+   or runs under SCHED_FIFO, where sched_yield gives nothing to threads of lower priority.
 
    - acquire_until sleeps between its tries, longer each time, and gives up at a deadline.
    - A `door` is a mutex with a condition variable, beside the table. enter sleeps until another thread gives a range
@@ -30,12 +30,15 @@ static struct timespec time_of(long long nanoseconds) {
     return (struct timespec){ nanoseconds / 1000000000, nanoseconds % 1000000000 };
 }
 
+/* How many tries to make before a sleep. They wait some 40 microseconds in all, less than a sleep costs. */
+enum { TRIES = 3 };
+
 /* Tries until the range is held or the deadline, in nanoseconds of CLOCK_MONOTONIC, is over, and at least once. It
-   sleeps between 64 tries and the next, first for a microsecond, then twice as long each time, at most a millisecond.
+   sleeps between the tries and the next, first for a microsecond, then twice as long each time, at most a millisecond.
    DONE; IS_CLOSED, HAS_ONE or BAD_RANGE at once; BUSY, AGAIN, LONG or NO_NODE, as the last try was refused. */
 static gz_range_answer acquire_until(gz_range *handle, uint64_t lo, uint64_t hi, bool writer, long long deadline) {
     for (long long pause = 1000;; pause = pause < MILLI / 2 ? 2 * pause : MILLI) {
-        gz_range_answer answer = gz_range_try_plain(handle, lo, hi, writer, 64);
+        gz_range_answer answer = gz_range_try_plain(handle, lo, hi, writer, TRIES);
         long long left = deadline - now(CLOCK_MONOTONIC);
         if (!gz_range_may_retry(answer) || left <= 0) return answer;
         struct timespec sleep = time_of(left < pause ? left : pause);
@@ -71,12 +74,12 @@ static void sleep_at(door *door, bool told) {
    - After AGAIN, LONG and NO_NODE nobody tells the door, so the sleep is short.
    DONE; IS_CLOSED, HAS_ONE or BAD_RANGE at once. */
 static gz_range_answer enter(door *door, gz_range *handle, uint64_t lo, uint64_t hi, bool writer) {
-    gz_range_answer answer = gz_range_try_plain(handle, lo, hi, writer, 64);
+    gz_range_answer answer = gz_range_try_plain(handle, lo, hi, writer, TRIES);
     if (!gz_range_may_retry(answer)) return answer;
     pthread_mutex_lock(&door->mutex);
     if (atomic_fetch_add(&door->waiting, 1) > 0) pthread_cond_broadcast(&door->opened);
     for (;;) {
-        answer = gz_range_try_plain(handle, lo, hi, writer, 64);
+        answer = gz_range_try_plain(handle, lo, hi, writer, TRIES);
         if (!gz_range_may_retry(answer)) break;
         sleep_at(door, answer == GZ_RANGE_BUSY);
     }
@@ -109,12 +112,12 @@ static uint64_t cells[CELLS];
 /* Waits at the door for what main holds, and then counts in cells, two at a time. */
 static void *work(void *argument) {
     worker *me = argument;
-    if (enter(&entrance, &me->handle, 0, CELLS, false)) me->failed++;
+    if (enter(&entrance, &me->handle, 0, CELLS, GZ_RANGE_READER)) me->failed++;
     me->used = now(CLOCK_THREAD_CPUTIME_ID);
     if (leave(&entrance, &me->handle)) me->failed++;
     for (unsigned turn = 0; turn < TURNS; turn++) {
         uint64_t cell = (turn + me->number) % (CELLS - 1);
-        if (enter(&entrance, &me->handle, cell, cell + 2, true)) me->failed++;
+        if (enter(&entrance, &me->handle, cell, cell + 2, GZ_RANGE_WRITER)) me->failed++;
         cells[cell]++, cells[cell + 1]++;
         if (leave(&entrance, &me->handle)) me->failed++;
     }
@@ -125,13 +128,13 @@ static const char *says(bool it_is) { return it_is ? "yes" : "no"; }
 
 static void show_deadline(gz_range *holder, gz_range *other) {
     long long begun = now(CLOCK_MONOTONIC), used = now(CLOCK_THREAD_CPUTIME_ID);
-    gz_range_answer answer = acquire_until(other, 5, 6, true, begun + 200 * MILLI);
+    gz_range_answer answer = acquire_until(other, 5, 6, GZ_RANGE_WRITER, begun + 200 * MILLI);
     long long took = now(CLOCK_MONOTONIC) - begun;
     used = now(CLOCK_THREAD_CPUTIME_ID) - used;
     printf("at its deadline: %s\n", gz_range_text(answer));
     printf("it waited until the deadline: %s, asleep: %s\n", says(took >= 200 * MILLI), says(used < 50 * MILLI));
     gz_range_release(holder);
-    answer = acquire_until(other, 5, 6, true, begun);
+    answer = acquire_until(other, 5, 6, GZ_RANGE_WRITER, begun);
     printf("when the other one has given it back: %s\n", gz_range_text(answer));
     gz_range_release(other);
 }
@@ -147,10 +150,10 @@ int main(void) {
         workers[i].number = i;
         if (gz_range_share(&mine, &workers[i].handle)) return 1;
     }
-    if (gz_range_acquire(&mine, 0, CELLS, true)) return 1;
+    if (gz_range_acquire(&mine, 0, CELLS, GZ_RANGE_WRITER)) return 1;
     show_deadline(&mine, &workers[0].handle);
 
-    if (gz_range_acquire(&mine, 0, CELLS, true)) return 1;
+    if (gz_range_acquire(&mine, 0, CELLS, GZ_RANGE_WRITER)) return 1;
     for (unsigned i = 0; i < WAITING; i++)
         if (pthread_create(&workers[i].thread, NULL, work, &workers[i])) return 1;
     struct timespec while_they_wait = time_of(300 * MILLI);

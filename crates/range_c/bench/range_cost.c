@@ -28,7 +28,7 @@ static double of_range(gz_range *handle) {
     gz_busy busy;
     double start = now();
     for (int i = 0; i < PAIRS; i++) {
-        if (gz_range_try(handle, 0, 1, true, 1, &busy)) return -1;
+        if (gz_range_try(handle, 0, 1, GZ_RANGE_WRITER, 1, &busy)) return -1;
         gz_range_release(handle);
     }
     return (now() - start) / PAIRS;

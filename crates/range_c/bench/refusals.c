@@ -30,7 +30,7 @@ static void *work(void *argument) {
     while (ready < threads) sched_yield();
     for (int call = 0; call < CALLS; call++) {
         uint64_t lo = 10 * me->number;
-        gz_range_answer answer = gz_range_try_plain(&me->handle, lo, lo + 10, true, tries);
+        gz_range_answer answer = gz_range_try_plain(&me->handle, lo, lo + 10, GZ_RANGE_WRITER, tries);
         me->answers[answer]++;
         if (answer == GZ_RANGE_DONE) gz_range_release(&me->handle);
     }

@@ -1,6 +1,6 @@
 -- A refusal's code is not that of a call that did what it is for, and a share that was refused left the handle as it
 -- was.
-use Rattle.std.proofs.Common.{◌≡◌, inl, inr, ℕ, ◌<◌, Option, Some, None, refl, sym, ap, subst, arith}
+use Rattle.std.proofs.Common.{◌≡◌, ◌∙◌, inl, inr, ℕ, ◌<◌, Option, Some, None, refl, sym, ap, subst, arith}
 use Rattle.range_c.specs.declared.answers.Answer.{Answer}
 use Rattle.range_c.specs.declared.answers.Answer.TheVariants.{Done, Refused, NotTried, BadRange, HasOne, HasNone}
 use Rattle.range_c.specs.declared.answers.Answer.TheVariants.{Closed, Open, Memory, Seats, Words, NoneLeft, NoWord}
@@ -99,10 +99,19 @@ shared_over (Some f) None h b s e = absurd s
 shared_over None (Some l) h b s e = absurd s
 shared_over None None h b s e = absurd s
 
--- the ending of an open handle answers that it is done
-pub ends_open : (code : ℕ) (h : Option Behind) → IsOpen h → code ≡ code_of Done → Says (IsEnd h) code
-ends_open code h is e = (Done, e, subst (λ x. IsEnd x Done) (sym is.1) refl)
+-- the ending of a closed handle answers that it is closed, and leaves it so
+pub ends_closed : (code : ℕ) (next before after : Option Behind) → next ≡ None → before ≡ None → after ≡ next → code ≡ code_of Closed
+    → Says (IsEnd next before after) code
+ends_closed code next before after none was put e =
+    (Closed, e, subst (λ x. IsEnd x before after Closed) (sym none) (subst (λ x. IsEnd None x after Closed) (sym was) (refl, put ∙ none)))
 
--- the ending of a closed handle answers that it is closed
-pub ends_closed : (code : ℕ) (h : Option Behind) → h ≡ None → code ≡ code_of Closed → Says (IsEnd h) code
-ends_closed code h is e = (Closed, e, subst (λ x. IsEnd x Closed) (sym is) refl)
+-- the ending of an open one answers that it was done, and leaves it closed
+pub ends_open : (code : ℕ) (next before after : Option Behind) → next ≡ None → IsOpen before → after ≡ next → code ≡ code_of Done
+    → Says (IsEnd next before after) code
+ends_open code next before after none was put e =
+    (Done, e, subst (λ x. IsEnd x before after Done) (sym none) (subst (λ x. IsEnd None x after Done) (sym was.1) (refl, put ∙ none)))
+
+-- where the handle that is to be put there is open, that is answered, and the other one stays
+pub ends_by_open : (code : ℕ) (next before after : Option Behind) → IsOpen next → after ≡ before → code ≡ code_of Open
+    → Says (IsEnd next before after) code
+ends_by_open code next before after is same e = (Open, e, subst (λ x. IsEnd x before after Open) (sym is.1) (refl, same))

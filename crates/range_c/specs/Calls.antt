@@ -1,7 +1,8 @@
 -- What a call answers and leaves of a handle, open or closed. Each relation lifts one of `Behind` to handles; that a
 -- closed handle is told and stays closed is said here once.
-use Rattle.std.specs.Prelude.{◌≡◌, ℕ, List, Option, Some, None}
+use Rattle.std.specs.Prelude.{◌≡◌, ℕ, List, Option, Some, None, min, max}
 use Rattle.list_cuts.specs.Cut.{IsCut}
+use Rattle.word_rows.specs.declared.backoff.TheConstants.{SHORTEST_WAIT, LONGEST_WAIT}
 use Rattle.range_c.specs.declared.answers.Answer.{Answer}
 use Rattle.range_c.specs.declared.answers.Answer.TheVariants.{Done, Closed, Open}
 use Rattle.range_c.specs.declared.answers.GzBusy.{GzBusy}
@@ -65,7 +66,13 @@ IsShareRefusal from (Some b) why = why ≡ Open
 IsShareRefusal None None why = why ≡ Closed
 IsShareRefusal (Some b) None why = IsUnshared b.spare why
 
--- what an ending answers: whether there was anything to end
-abbrev pub IsEnd : Option Behind → Answer → Type 0
-IsEnd None answer = answer ≡ Closed
-IsEnd (Some b) answer = answer ≡ Done
+-- what an ending answers, with the handle that is to be put in the place of another: where that one is open nothing is
+-- done, and otherwise the handle is closed, and the answer says whether there was anything to end
+abbrev pub IsEnd : Option Behind → Option Behind → Option Behind → Answer → Type 0
+IsEnd (Some next) before after answer = (answer ≡ Open) × (after ≡ before)
+IsEnd None None after answer = (answer ≡ Closed) × (after ≡ None)
+IsEnd None (Some before) after answer = (answer ≡ Done) × (after ≡ None)
+
+-- how many turns a wait takes that is to take so many: as near to it as the shortest and the longest wait allow
+abbrev pub wait_of : ℕ → ℕ
+wait_of turns = min (max turns SHORTEST_WAIT) LONGEST_WAIT

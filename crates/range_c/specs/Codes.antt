@@ -15,9 +15,9 @@ use Rattle.range_c.specs.declared.answers.GzBusy.{GzBusy}
 -- the code of a refusal by the lock
 abbrev pub refusal_code : NotHeld → ℕ
 refusal_code (Busy owner range mode) = 1
-refusal_code (Again place expected found) = 2
+refusal_code (Again list place expected found) = 2
 refusal_code (Long visits) = 3
-refusal_code (NoNode stuck) = 4
+refusal_code (NoNode list stuck) = 4
 
 -- the code of an answer
 abbrev pub code_of : Answer → ℕ

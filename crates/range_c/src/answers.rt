@@ -65,7 +65,7 @@ fn refusal(why: &NotHeld) -> u32
         NotHeld::Busy { .. } => 1,
         NotHeld::Again { .. } => 2,
         NotHeld::Long { .. } => 3,
-        NotHeld::NoNode(_) => 4,
+        NotHeld::NoNode { .. } => 4,
     }
 }
 

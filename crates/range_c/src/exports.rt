@@ -1,10 +1,11 @@
 //! What C calls. Each export answers a code of `specs/Codes.antt`, and its contract says the cause of each. A reader
 //! may rely on a handle staying as it was, and on nothing else being written, where the answer is a refusal.
-ghost use Rattle.std.specs.Prelude.{◌≡◌, ◌<◌, ℕ, Some, None, length};
+ghost use Rattle.std.specs.Prelude.{◌≡◌, ◌<◌, ◌*◌, ◌==◌, ℕ, Some, None, length, min};
+ghost use Rattle.word_rows.specs.declared.backoff.TheConstants.{LONGEST_WAIT};
 ghost use Rattle.range_c.specs.declared.recording.WordStep.TheVariants.{Load, Store, Add, Exchange};
 ghost use Rattle.range_c.specs.Behind.{IsTried, IsReleased};
 ghost use Rattle.range_c.specs.Codes.{Says, shown_of};
-ghost use Rattle.range_c.specs.Calls.{OnHandle, OnLook, OnWord, IsFresh, IsFreshCut, IsOpenRefusal, IsCutRefusal, HandleShared, IsShareRefusal, IsEnd};
+ghost use Rattle.range_c.specs.Calls.{OnHandle, OnLook, OnWord, IsFresh, IsFreshCut, IsOpenRefusal, IsCutRefusal, HandleShared, IsShareRefusal, IsEnd, wait_of};
 
 use crate::answers::{Answer, GzBusy};
 use crate::calls::{WordCall, look_by, release_by, share_by, step_by, try_by};
@@ -12,8 +13,9 @@ use crate::handle::GzRange;
 use crate::opening::{open_regions, open_table};
 use crate::recording::WordStep;
 use crate::state::{Asked, State};
-use core::mem::replace;
+use core::mem::{forget, replace};
 use std::alloc::Global;
+use word_rows::Backoff;
 
 /// Puts an open handle over a box in the place of a closed one.
 fn open_over(handle: &mut GzRange, b: Box<State, Global>)
@@ -207,14 +209,32 @@ pub extern "C" fn gz_range_exchange(
     answer.code()
 }
 
-/// Puts another handle, as a closed one, in the place of a handle, and ends what that was: gives back what it held, and
-/// lets its seat and its share of the table go. The last handle of a table frees it. A closed handle has nothing to
-/// end.
+/// Waits between two tries of a caller that waits by itself, as `acquire` of `range_rw` waits, but without yielding the
+/// processor: as many turns as `turns` says, or as near to that as the shortest and the longest wait allow. `turns` is
+/// 0 at first, and becomes the number of the next wait. Says whether this one was one of the longest, behind which the
+/// processor is to be yielded.
+#[unsafe(no_mangle)]
+pub extern "C" fn gz_range_pause(turns: &mut u32) -> bool
+    ensures longer { turns.new ≡ min (2 * wait_of turns.old) LONGEST_WAIT }
+    ensures longest { result ≡ (wait_of turns.old == LONGEST_WAIT) }
+{
+    let mut backoff = Backoff::of(*turns);
+    let longest = backoff.pause();
+    *turns = backoff.turns();
+    longest
+}
+
+/// Puts a closed handle in the place of a handle, and ends what that was: gives back what it held, and lets its seat
+/// and its share of the table go. The last handle of a table frees it. A closed handle has nothing to end. Where the
+/// handle that is to be put there is open, nothing is done.
 #[unsafe(no_mangle)]
 pub extern "C" fn gz_range_end(handle: &mut GzRange, next: GzRange) -> u32
-    ensures put { handle.new.pointer.behind ≡ next.pointer.behind }
-    ensures ended { Says (IsEnd handle.old.pointer.behind) result }
+    ensures ended { Says (IsEnd next.pointer.behind handle.old.pointer.behind handle.new.pointer.behind) result }
 {
+    if next.is_open() {
+        forget(next.into_box());
+        return Answer::Open.code();
+    }
     let was = replace(handle, next);
     if !was.is_open() {
         was.forget();

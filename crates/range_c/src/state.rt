@@ -9,9 +9,9 @@ use crate::recording::{Recording, WordStep};
 use lock_core::{Mode, Range};
 use range_rw::{NotHeld, RangeTable, Seat};
 use std::alloc::Global;
-use std::hint::spin_loop;
 use std::marker::Model;
 use std::sync::Arc;
+use word_rows::Backoff;
 
 /// An owner of the table, a seat, and the seats that are left to share.
 #[derive(Drop)]
@@ -63,10 +63,17 @@ fn mode_of(writer: bool) -> Mode
     if writer { Mode::Writer } else { Mode::Reader }
 }
 
-/// A short pause, where more tries are to come.
-fn pause_before(tries: u32) {
-    if tries > 0 {
-        spin_loop();
+/// Waits before the next try, where one is to come and another seat has to move first. After a lost exchange none has
+/// to.
+fn pause_after(why: &NotHeld, left: u32, backoff: &mut Backoff) {
+    if left == 0 {
+        return;
+    }
+    match why {
+        NotHeld::Again { .. } => {}
+        _ => {
+            backoff.pause();
+        }
     }
 }
 
@@ -82,7 +89,8 @@ impl State {
             .try_acquire_uncounted(&mut self.seat, range, mode)
     }
 
-    /// Tries at most so many times for the range, with a pause between one try and the next. The seat holds nothing.
+    /// Tries at most so many times for the range. Between one try and the next it waits as `acquire` of `range_rw`
+    /// does, but without yielding the processor, which a static library can't. The seat holds nothing.
     fn try_up_to(&mut self, range: Range, mode: Mode, tries: u32) -> Answer
         requires free { self.old.seat.held ≡ None }
         ensures kept { IsTrial self.old self.new }
@@ -90,13 +98,16 @@ impl State {
     {
         let mut answer = Answer::NotTried;
         let mut left = tries;
+        let mut backoff = Backoff::new();
         'tries: while left > 0 {
             match self.try_once(range, mode) {
                 Ok(()) => return Answer::Done,
-                Err(why) => answer = Answer::Refused(why),
+                Err(why) => {
+                    left -= 1;
+                    pause_after(&why, left, &mut backoff);
+                    answer = Answer::Refused(why);
+                }
             }
-            left -= 1;
-            pause_before(left);
         }
         answer
     }

@@ -1,9 +1,21 @@
-use Rattle.std.proofs.Common.{rules, ◌≡◌, None}
-use Rattle.range_c.proofs.Refusals.{ends_closed}
+use Rattle.std.proofs.Common.{rules, ◌≡◌, None, refl}
+use Rattle.range_c.proofs.Refusals.{ends_closed, ends_by_open}
 use Rattle.range_c.proofs.exports.gz_range_end.Goals as goal
 
--- a closed handle is told that it is closed
-pub returns-then-not-is_open-clause-ended : goal.returns-then-not-is_open-clause-ended
-returns-then-not-is_open-clause-ended c =
+-- where the handle that is to be put there is open, that is told, and nothing has changed
+pub returns-then-is_open : goal.returns-then-is_open
+returns-then-is_open c = record {
+  ended = ends_by_open c.code.result c.args.next.pointer.behind c.args.handle.now.pointer.behind c.args.handle.now.pointer.behind
+      (c.is_open.ensures.open c.if-is_open.true) refl c.code.ensures;
+}
+
+-- a closed handle is told that it is closed, and stays so
+pub returns-then-not-is_open : goal.returns-then-not-is_open
+returns-then-not-is_open c =
+    let none : c.args.next.pointer.behind ≡ None = search rules in
     let was : c.args.handle.now.pointer.behind ≡ None = search rules in
-    ends_closed c.code.result c.args.handle.now.pointer.behind was c.code.ensures
+    let put : c.replace-was.new.dest.pointer.behind ≡ c.args.next.pointer.behind = search rules in
+    record {
+      ended = ends_closed c.code-then-not-is_open.result c.args.next.pointer.behind c.args.handle.now.pointer.behind c.replace-was.new.dest.pointer.behind
+          none was put c.code-then-not-is_open.ensures;
+    }
