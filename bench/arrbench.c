@@ -1,0 +1,50 @@
+/* The benchmark of the paper on range locks (Kogan, Dice and Issa, "Scalable range locks for scalable address spaces and
+   beyond", EuroSys 2020), with our own peers: threads hold ranges of 256 slots, which lie on lines of memory of their
+   own. A reader looks at each slot of its range and a writer adds 1 to each. Ranges are full, disjoint (each thread has
+   its part) or random; of 100 turns 100, 60 or 0 are readers'; between two turns a thread makes 0 to 2,047 empty turns.
+
+       arrbench MILLISECONDS [anyway]       how long a round is
+
+   It writes a line for each peer and load, separated by tabs: the kind of range, readers in 100, threads, the peer's
+   name, million turns in a second (the middle one of three rounds), the least share of a thread in hundredths of an even
+   one (of three rounds), the longest single wait in microseconds (of three rounds). It ends with status 1 where a peer
+   didn't exclude. Where other work disturbs the machine it ends with status 75, at once or behind all lines if it is to
+   go on anyway; rounds of 1 ms, to try the peers, are measured whatever disturbs them. */
+#include "rounds.h"
+
+#include <string.h>
+
+static const peer *const peers[] = { &range_list,  &range_regions,  &one_mutex,    &one_rwlock, &striped, &rwlocks_16,
+                                     &rwlocks_256, &tree_shared, &tree_exclusive, &record_locks, &no_lock };
+enum { PEERS = sizeof peers / sizeof *peers, SLOTS = 256, BETWEEN = 2048, DISTURBED = 75 };
+
+static const char *const kinds[] = { [FULL] = "full", [DISJOINT] = "disjoint", [RANDOM] = "random" };
+static const unsigned counts[] = { 1, 2, 4, 16 }, readers[] = { 100, 60, 0 };
+
+static void measure_one(draw draw, unsigned in_100, unsigned threads, long long nanoseconds) {
+    load load = { .threads = threads, .slots = SLOTS, .draw = draw, .readers = in_100, .between = BETWEEN,
+                  .regions = threads, .waits = true };
+    outcome outcomes[PEERS];
+    measure(peers, PEERS, &load, nanoseconds, outcomes);
+    for (int p = 0; p < PEERS; p++)
+        printf("%s\t%u\t%u\t%s\t%.3f\t%.0f\t%.0f\n", kinds[draw], in_100, threads, peers[p]->name,
+               outcomes[p].rate / 1e6, outcomes[p].least_share, outcomes[p].longest_wait / 1e3);
+}
+
+int main(int count, char **words) {
+    long long nanoseconds = count >= 2 ? atoll(words[1]) * 1000000 : 0;
+    bool anyway = count == 3 && strcmp(words[2], "anyway") == 0, disturbed = false;
+    if (nanoseconds <= 0 || count > 2 + anyway) {
+        fprintf(stderr, "usage: arrbench MILLISECONDS [anyway]\n");
+        return 2;
+    }
+    bool looks = nanoseconds > 1000000;
+    for (unsigned c = 0; c < sizeof counts / sizeof *counts; c++) {
+        if (looks && is_disturbed()) disturbed = true;
+        if (disturbed && !anyway) return DISTURBED;
+        for (draw draw = FULL; draw <= RANDOM; draw++)
+            for (unsigned r = 0; r < sizeof readers / sizeof *readers; r++)
+                measure_one(draw, readers[r], counts[c], nanoseconds);
+    }
+    return disturbed || (looks && is_disturbed()) ? DISTURBED : 0;
+}

@@ -1,0 +1,94 @@
+# Makes Markdown of what arrbench or when_it_pays wrote, whose lines are separated by tabs.
+#
+#     awk -F '\t' -v of=arrbench -f tables.awk FILE        a table for each kind of range, and one of shares and waits
+#     awk -F '\t' -v of=when_it_pays -f tables.awk FILE    from which work on the range lock is ahead of whom
+
+function seen(list, name,    i) {
+    for (i = 1; i <= count[list]; i++) if (item[list, i] == name) return
+    item[list, ++count[list]] = name
+}
+
+# A row of a table: its first cell, with the others behind it.
+function row(first, others) { print "| " first " |" others }
+
+function number(x) { return x < 10 ? sprintf("%.2f", x) : sprintf("%.1f", x) }
+
+function time_of(ns) { return ns < 1000 ? ns " ns" : ns / 1000 " µs" }
+
+function wait_of(us) { return us < 1000 ? sprintf("%.2f", us / 1000) : us < 10000 ? sprintf("%.1f", us / 1000) : sprintf("%.0f", us / 1000) }
+
+of == "arrbench" {
+    seen("kinds", $1); seen("readers", $2); seen("threads", $3); seen("peers", $4)
+    rate[$1, $2, $3, $4] = $5; share[$1, $2, $3, $4] = $6; wait[$1, $2, $3, $4] = $7
+}
+
+of == "when_it_pays" {
+    seen("modes", $1); seen("threads", $2); seen("works", $3); seen("peers", $4)
+    rate[$1, $2, $3, $4] = $5
+}
+
+# The rates of a load with each share of readers.
+function rates(kind, threads, peer,    r, cell) {
+    for (r = 1; r <= count["readers"]; r++) cell = cell (r > 1 ? " / " : " ") number(rate[kind, item["readers", r], threads, peer])
+    return cell " |"
+}
+
+# The least share and the longest wait of a load with writers.
+function shares(kind, threads, peer,    r, cell, waits) {
+    for (r = 2; r <= count["readers"]; r++) {
+        cell = cell (r > 2 ? " / " : " ") share[kind, item["readers", r], threads, peer]
+        waits = waits (r > 2 ? " / " : "") wait_of(wait[kind, item["readers", r], threads, peer])
+    }
+    return cell " | " waits " |"
+}
+
+function print_arrbench(    k, t, p, head, line, cells) {
+    for (k = 1; k <= count["kinds"]; k++) {
+        head = line = ""
+        for (t = 1; t <= count["threads"]; t++) {
+            head = head " " item["threads", t] (item["threads", t] == 1 ? " thread |" : " threads |")
+            line = line "---|"
+        }
+        print "Million turns a second, " item["kinds", k] " ranges; 100 / 60 / 0 readers in 100:\n"
+        row("", head)
+        print "|---|" line
+        for (p = 1; p <= count["peers"]; p++) {
+            cells = ""
+            for (t = 1; t <= count["threads"]; t++) cells = cells rates(item["kinds", k], item["threads", t], item["peers", p])
+            row(item["peers", p], cells)
+        }
+        print ""
+    }
+    print "The turns of the thread that made fewest, in hundredths of an even share, and the longest single wait in"
+    print "milliseconds, each the worst of three rounds; 60 / 0 readers in 100:\n"
+    print "| | 4 threads, full: share | wait | random: share | wait | 16 threads, full: share | wait | random: share | wait |"
+    print "|---|---|---|---|---|---|---|---|---|"
+    for (p = 1; p <= count["peers"]; p++)
+        row(item["peers", p], shares("full", 4, item["peers", p]) shares("random", 4, item["peers", p]) \
+            shares("full", 16, item["peers", p]) shares("random", 16, item["peers", p]))
+}
+
+# The least work from which on one peer is ahead of another by 2 in 100 or more, at that and each longer work.
+function ahead(mode, threads, mine, other,    w) {
+    w = count["works"]
+    while (w > 0 && rate[mode, threads, item["works", w], mine] > 1.02 * rate[mode, threads, item["works", w], other]) w--
+    return w == count["works"] ? "-" : time_of(item["works", w + 1])
+}
+
+function print_when_it_pays(    m, t, p, line) {
+    print "| threads | who | ahead of the mutex from | of the rwlock from | of 64 mutexes from | of the interval tree from |"
+    print "|---|---|---|---|---|---|"
+    for (t = 1; t <= count["threads"]; t++)
+        for (m = 1; m <= count["modes"]; m++) {
+            line = " " item["modes", m] " |"
+            for (p = 3; p <= count["peers"]; p++)
+                line = line " " ahead(item["modes", m], item["threads", t], item["peers", 1], item["peers", p]) " / " \
+                    ahead(item["modes", m], item["threads", t], item["peers", 2], item["peers", p]) " |"
+            row(item["threads", t], line)
+        }
+}
+
+END {
+    if (of == "arrbench") print_arrbench()
+    else print_when_it_pays()
+}
