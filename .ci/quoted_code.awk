@@ -14,7 +14,7 @@ function stands_in(text,    i, at, rest) {
 
 # Takes a line of the page: opens a block, ends it, or adds to its last piece.
 function take(line,    name) {
-    if (!inside && line ~ /^```(rust|rattle|c)$/) { inside = 1; pieces = 1; piece[1] = ""; from = FNR; return }
+    if (!inside && line ~ /^```(rust|rattle|c|cpp)$/) { inside = 1; pieces = 1; piece[1] = ""; from = FNR; return }
     if (!inside) return
     if (line == "..") { piece[++pieces] = ""; return }
     if (line != "```") { if (line != "" && line !~ /^\/\//) piece[pieces] = piece[pieces] line "\n"; return }
@@ -25,7 +25,7 @@ function take(line,    name) {
     failed = 1
 }
 
-FNR == 1 { again = FILENAME in text || FILENAME !~ /\.(rt|c|h)$/; inside = 0 }
+FNR == 1 { again = FILENAME in text || FILENAME !~ /\.(rt|rs|c|h|cpp|hpp)$/; inside = 0 }
 !again { line = bare($0); if (line != "" && line !~ /^\/\//) text[FILENAME] = text[FILENAME] (text[FILENAME] ? "" : "\n") line "\n"; next }
 FILENAME ~ /\.rt$/ && bare($0) !~ /^\/\/[\/!]/ { next }
 { line = bare($0); if (FILENAME ~ /\.rt$/) { sub(/^\/\/[\/!] ?/, "", line) } take(line) }

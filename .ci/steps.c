@@ -13,7 +13,7 @@ int main(void) {
     if (gz_range_open_plain(1, &handle)) return 1;
     for (int turn = 0; turn < 18; turn++) {
         mark();
-        if (gz_range_try(&handle, 0, 10, true, 1, &busy)) return 1;
+        if (gz_range_try(&handle, 0, 10, GZ_RANGE_WRITER, 1, &busy)) return 1;
         mark();
         if (gz_range_release(&handle)) return 1;
     }
