@@ -105,6 +105,18 @@ fn threads_never_see_a_writer_inside(rt: HostRuntime) {
     }
 }
 
+/// Two threads whose ranges exclude each other, and four, each have all their turns. In blocks of 64 numbers all ranges
+/// lie in one region: a writer and a reader meet there. In blocks of eight a narrow writer and a wide reader meet in
+/// list 0 and in the region's list, and of four threads a wide writer meets two narrow ones.
+#[test]
+fn threads_that_exclude_each_other_all_have_their_turns(rt: HostRuntime) {
+    let whole = Cut::of(7, 6).expect(&rt, "a cut");
+    let seven = Cut::of(7, 3).expect(&rt, "a cut");
+    for (count, cut, turns) in [(2, whole, 500), (2, seven, 500), (4, seven, 300)] {
+        visit_beside(&rt, rt.alloc(), count, cut, turns);
+    }
+}
+
 /// A seat has a scan open, behind so many tries of its own, and another makes sixteen tries beside it, which take its
 /// sixteen nodes. The next has no node until the scan is ended. The scan is the first operation of its seat that enters
 /// an epoch, as that refusal tells: so each try at the empty list took a node, filled it and linked it at once, in five

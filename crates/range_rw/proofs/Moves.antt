@@ -273,6 +273,11 @@ module _ {P : Type 0} where
     λ s. long.1 (sym look ∙ (s.0 ∙ ap (λ k. 16 * k + 1) seats)),
   )
 
+  -- where the standing stays, what was passed stays passed
+  pub passed_on : (c : Regions) (at : ℕ) (range : Interval) (p q : SeatPart (Beside P)) → q.pass.standing ≡ p.pass.standing
+      → HasPassed c range at p → HasPassed c range at q
+  passed_on c at range p q same x = subst (λ (s : Standing). ((s ≡ Free) × TakesNone c range 0 at) ⊎ (s ≡ Wide at)) (sym same) x
+
   -- the next list that a wide range takes may be passed
   pub pass_next : (c : Regions) (at up : ℕ) (asked : Held) (p : SeatPart (Beside P)) → at < p.pass.lists → 1 ≤ at → HoldsAlone 0 asked p
       → HasPassed c asked.range at p → TakesNone c asked.range (at + 1) up → at + 1 ≤ up → up ≤ p.pass.lists → MayPass c p at up

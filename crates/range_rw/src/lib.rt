@@ -7,6 +7,7 @@
 mod acquire;
 mod client;
 mod inserting;
+mod keeping;
 mod laws;
 mod nodes;
 mod patience;

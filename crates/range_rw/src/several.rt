@@ -85,7 +85,7 @@ pub(crate) fn leave_and_count<G: Guard, L: Ledger>(
 
 /// Turns the hand to a list and tries once there to hold the range. Ok says whether the fast path linked the node.
 #[inline(always)]
-fn link_piece<G: Guard, L: Ledger>(
+pub(crate) fn link_piece<G: Guard, L: Ledger>(
     list: &List<G>,
     hand: &mut Hand<G>,
     at: u32,
@@ -155,7 +155,7 @@ fn sweep_piece<G: Guard, L: Ledger>(
 
 /// Turns the hand to a list that holds a range which counts only through another list, and gives it back there: in one
 /// step or two. `quick` says whether the fast path linked it.
-fn give_piece<G: Guard, L: Ledger>(
+pub(crate) fn give_piece<G: Guard, L: Ledger>(
     list: &List<G>,
     hand: &mut Hand<G>,
     at: u32,
@@ -244,7 +244,7 @@ fn count_in_both<G: Guard, L: Ledger>(
 /// Makes the narrow range count, which the hand's list `at` holds, where a look found list 0 not empty: sweeps list 0
 /// and looks again, and otherwise links the range there too. After a refusal nothing counts.
 #[inline(never)]
-fn count_swept<G: Guard, L: Ledger>(
+pub(crate) fn count_swept<G: Guard, L: Ledger>(
     list: &List<G>,
     hand: &mut Hand<G>,
     at: u32,
@@ -323,7 +323,7 @@ pub(crate) fn hold_narrow<G: Guard, L: Ledger>(
 }
 
 /// The first list from `from` on that the range takes, or the number of lists where it takes none from there on.
-fn next_taken(cut: Cut, range: Range, from: u32) -> u32
+pub(crate) fn next_taken(cut: Cut, range: Range, from: u32) -> u32
     requires there { from ≤ list_count cut }
     ensures from { from ≤ result }
     ensures most { result ≤ list_count cut }
@@ -385,7 +385,7 @@ fn pass_in_both<G: Guard, L: Ledger>(
 /// Has the wide range, which list 0 holds, pass the list `at`; behind it and below `up` it takes none. A list that
 /// isn't empty is swept, and otherwise the range is linked there too. After a refusal nothing more is passed than
 /// before.
-fn pass_one<G: Guard, L: Ledger>(
+pub(crate) fn pass_one<G: Guard, L: Ledger>(
     list: &List<G>,
     hand: &mut Hand<G>,
     at: u32,
@@ -453,7 +453,6 @@ fn pass_all<G: Guard, L: Ledger>(
     ensures cause { IfErr result (λ why. (i : ℕ) × (0 < i) × (i < hand.old.part.pass.lists) × Takes list.now.cut range i
         × IsCauseAt hand.old.table i hand.old.part hand.new.part (record { range = range; mode = mode }) why) }
     ensures long { IfErr result (λ why. IsLongRefusal why ↔ HasSpent hand.new.part) }
-    ensures bound { hand.new.part.trace.taken ≤ hand.old.part.trace.taken + (55 + 193 * hand.old.part.seats) * hand.old.part.pass.lists }
     ensures each { (k : ℕ) → TakesMany list.now.cut range k → hand.new.part.trace.taken ≤ hand.old.part.trace.taken + (55 + 193 * hand.old.part.seats) * k }
     ensures counted { steps.new + hand.old.part.trace.taken ≡ steps.old + hand.new.part.trace.taken }
 {
@@ -495,8 +494,6 @@ pub(crate) fn hold_wide<G: Guard, L: Ledger>(
     ensures cause { IfErr result (IsCauseIn hand.old.table list.now.cut hand.old.part hand.new.part (record { range = range; mode = mode })) }
     ensures long { IfErr result (λ why. IsLongRefusal why ↔ IsSpent hand.new.part) }
     ensures seats { hand.old.part.seats ≡ list.now.seats }
-    ensures bound { hand.new.part.trace.taken ≤ hand.old.part.trace.taken + 44 + 145 * hand.old.part.seats
-        + (55 + 193 * hand.old.part.seats) * hand.old.part.pass.lists }
     ensures each { (k : ℕ) → TakesMany list.now.cut range k
         → hand.new.part.trace.taken ≤ hand.old.part.trace.taken + 44 + 145 * hand.old.part.seats + (55 + 193 * hand.old.part.seats) * k }
     ensures counted { steps.new + hand.old.part.trace.taken ≡ steps.old + hand.new.part.trace.taken }
@@ -543,7 +540,6 @@ pub(crate) fn try_hold<G: Guard, L: Ledger>(
     ensures long { IfErr result (λ why. IsLongRefusal why ↔ IsSpent hand.new.part) }
     ensures seats { hand.old.part.seats ≡ list.now.seats }
     ensures narrow { TakesAlone list.now.cut range → hand.new.part.trace.taken ≤ hand.old.part.trace.taken + 63 + 386 * hand.old.part.seats }
-    ensures bound { hand.new.part.trace.taken + 1 ≤ hand.old.part.trace.taken + (64 + 386 * hand.old.part.seats) * list_count list.now.cut }
     ensures each { (k : ℕ) → TakesMany list.now.cut range k → hand.new.part.trace.taken + 1 ≤ hand.old.part.trace.taken + try_steps hand.old.part.seats k }
     ensures counted { steps.new + hand.old.part.trace.taken ≡ steps.old + hand.new.part.trace.taken }
 {

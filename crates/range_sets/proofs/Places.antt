@@ -1,39 +1,58 @@
 -- The seats of a set from a place on: what is left of them by tries of one seat after the other, and what this says of
 -- the whole set. Each law is an induction on the wants, with the seats at their places.
-use Rattle.std.proofs.Common.{◌≡◌, ℕ, zero, suc, ◌+◌, ◌*◌, ◌<◌, ◌≤◌, List, [], ◌∷◌, length, Some, None, Result, Ok, Err, refl, sym, ap, subst, ◌∙◌, arith}
+use Rattle.std.proofs.Common.{◌≡◌, ℕ, zero, suc, ◌+◌, ◌*◌, ◌<◌, ◌≤◌, List, [], ◌∷◌, length, take, Some, None, Result, Ok, Err, refl, sym, ap, subst, ◌∙◌, arith}
 use Rattle.std.specs.Prelude.{All, IfErr, OnErr, map, slice_get}
 use Rattle.std.specs.Option.{option_map}
-use Rattle.std.proofs.Math.Nat.{one-mul, suc-mul}
-use Rattle.std.proofs.lemmas.List.{nil_from_length}
+use Rattle.std.proofs.Math.Nat.{suc-mul, zero-mul}
+use Rattle.std.proofs.Math.Seq.{take-length}
 use Rattle.std.proofs.lemmas.List.Elements.{All-cons}
 use Rattle.std.proofs.lemmas.List.Sums.{sum_by-cons}
 use Rattle.std.proofs.lemmas.Option.{none-some, slice_get_past}
 use Rattle.atomic_table.specs.Seated.{TableId}
 use Rattle.lock_core.specs.declared.range.Held.{Held}
 use Rattle.range_rw.specs.declared.refusals.NotHeld.{NotHeld}
-use Rattle.range_rw.specs.Contract.{SeatState, IsLockCall, IsRelease, pass_in}
+use Rattle.range_rw.specs.Contract.{SeatState, TableShape, IsLockCall, IsRelease, pass_in, try_steps}
+use Rattle.range_rw.specs.Several.{TakesAlone}
+use Rattle.range_rw.proofs.TakenLists.{alone_steps}
 use Rattle.range_sets.specs.declared.taking.SetRefused.{SetRefused}
 use Rattle.range_sets.specs.declared.wants.Want.{Want}
 use Rattle.range_sets.specs.Wants.{want_held}
-use Rattle.range_sets.specs.Sets.{SetView, AllFree, AreHeld, EachIs, IsCauseAt, IsLetGo, held_in, passes_after, taken_by, taken_of}
-use Rattle.range_sets.specs.Taking.{AreGranted, IsGranted, IsRefused, IsRefusedAt, IsTakenBack}
+use Rattle.range_sets.specs.Sets.{SetView, AllFree, AreHeld, EachIs, IsCauseAt, IsLetGo, TriesTake, held_in, passes_after, taken_by, taken_of}
+use Rattle.range_sets.specs.Taking.{AreGranted, IsGranted, IsOneTry, IsRefused, IsRefusedAt, IsTakenBack}
 
 -- the steps of one granted try beside those of the others
-granted_steps : (x y xs ys sx sy p all most : ℕ) → sx ≡ x + xs → sy ≡ y + ys → all ≡ p + most → ys ≤ xs + p → y ≤ x + most → sy ≤ sx + all
-granted_steps x y xs ys sx sy p all most before after e more one = omega arith
+granted_steps : (x y xs ys sx sy one rest all : ℕ) → sx ≡ x + xs → sy ≡ y + ys → all ≡ one + rest → ys ≤ xs + rest → y ≤ x + one → sy ≤ sx + all
+granted_steps x y xs ys sx sy one rest all before after e more first = omega arith
 
 -- the steps of a refused try, with no others behind it
-refused_steps : (x y xs ys sx sy p q most : ℕ) → sx ≡ x + xs → sy ≡ y + ys → p ≡ most → q ≡ 0 → ys ≡ xs → y ≤ x + most → sy ≤ sx + p + q
-refused_steps x y xs ys sx sy p q most before after e none same one = omega arith
+refused_steps : (x y xs ys sx sy one rest all : ℕ) → sx ≡ x + xs → sy ≡ y + ys → all ≡ one + rest → ys ≡ xs → y ≤ x + one → sy ≤ sx + all + 2 * 0
+refused_steps x y xs ys sx sy one rest all before after e same first = omega arith
 
 -- the steps of a try that is taken back, beside those behind it
-back_steps : (x y xs ys sx sy p q all two most : ℕ) → sx ≡ x + xs → sy ≡ y + ys → all ≡ p + most → two ≡ q + 2 → ys ≤ xs + p + q → y ≤ x + most + 2
-    → sy ≤ sx + all + two
-back_steps x y xs ys sx sy p q all two most before after e f more one = omega arith
+back_steps : (x y xs ys sx sy one rest all i : ℕ) → sx ≡ x + xs → sy ≡ y + ys → all ≡ one + rest → ys ≤ xs + rest + 2 * i → y ≤ x + one + 2
+    → sy ≤ sx + all + 2 * suc i
+back_steps x y xs ys sx sy one rest all i before after e more first = omega arith
 
--- one try more
-one_more : (n most : ℕ) → (suc n + 1) * most ≡ (n + 1) * most + most
-one_more n most = let e : suc n + 1 ≡ suc (n + 1) = omega arith in ap (λ k. k * most) e ∙ suc-mul (n + 1) most
+-- what is so of each of a list is so of those behind the first
+all_behind : {A : Type 0} (Q : A → Type 0) (x : A) (xs : List A) → All Q (x ∷ xs) → All Q xs
+all_behind Q x xs all i d lt = all (suc i) d (omega arith)
+
+-- the first wants of some, where each range takes one list
+alone_first : (t : TableShape) (i : ℕ) (wants : List Want) → i ≤ length wants → All (λ w. TakesAlone t.cut w.range) wants
+    → TriesTake t (take i wants) (i * (64 + 386 * t.seats))
+alone_first t zero [] there alone = zero-mul (64 + 386 * t.seats)
+alone_first t zero (w ∷ ws) there alone = zero-mul (64 + 386 * t.seats)
+alone_first t (suc i) [] there alone = absurd (omega arith)
+alone_first t (suc i) (w ∷ ws) there alone =
+    let one = alone_steps t.cut w.range t.seats (alone 0 w (omega arith)) in
+    let more = suc-mul i (64 + 386 * t.seats) in
+    let behind = all_behind (λ w. TakesAlone t.cut w.range) w ws alone in
+    (one.0, i * (64 + 386 * t.seats), one.1, alone_first t i ws (omega arith) behind, let s = one.2 in omega arith)
+
+-- and all of them
+pub alone_take : (t : TableShape) (wants : List Want) → All (λ w. TakesAlone t.cut w.range) wants → TriesTake t wants (length wants * (64 + 386 * t.seats))
+alone_take t wants alone =
+    subst (λ l. TriesTake t l (length wants * (64 + 386 * t.seats))) (take-length wants) (alone_first t (length wants) wants (omega arith) alone)
 
 module _ {P : Type 0} where
   -- seats of which the first holds something aren't all free
@@ -43,9 +62,6 @@ module _ {P : Type 0} where
   -- the seats behind the first of free ones are free
   free_behind : (x : SeatState P) (xs : List (SeatState P)) → AllFree (x ∷ xs) → AllFree xs
   free_behind x xs free i d lt = free (suc i) d (omega arith)
-
-  all_behind : (Q : SeatState P → Type 0) (x : SeatState P) (xs : List (SeatState P)) → All Q (x ∷ xs) → All Q xs
-  all_behind Q x xs all i d lt = all (suc i) d (omega arith)
 
   -- what is so of each seat of a set is so of its four seats
   pub four_seats : (Q : SeatState P → Type 0) (table : TableId) (a b c d : SeatState P) (set : SetView P)
@@ -83,26 +99,26 @@ module _ {P : Type 0} where
     same_free xs (free_behind x xs free),
   )
 
-  module _ (most : ℕ) where
+  module _ (t : TableShape) where
     -- without a want nothing was tried
-    pub granted_none : (wants : List Want) (xs : List (SeatState P)) → length wants ≡ 0 → AreGranted most wants xs xs
+    pub granted_none : (wants : List Want) (xs : List (SeatState P)) → length wants ≡ 0 → AreGranted t wants xs xs
     granted_none [] xs none = refl
     granted_none (w ∷ ws) xs none = absurd (omega arith)
 
     -- the first want was granted, and those behind it
     pub granted_more : (wants rest : List Want) (w : Want) (x y : SeatState P) (xs ys : List (SeatState P)) → wants ≡ w ∷ rest
-        → IsGranted most w x y → AreGranted most rest xs ys → AreGranted most wants (x ∷ xs) (y ∷ ys)
-    granted_more wants rest w x y xs ys e one more = subst (λ l. AreGranted most l (x ∷ xs) (y ∷ ys)) (sym e) (one, more)
+        → IsGranted t w x y → AreGranted t rest xs ys → AreGranted t wants (x ∷ xs) (y ∷ ys)
+    granted_more wants rest w x y xs ys e one more = subst (λ l. AreGranted t l (x ∷ xs) (y ∷ ys)) (sym e) (one, more)
 
     -- the one want was granted to the last seat
     pub granted_last : (wants rest : List Want) (w : Want) (x y : SeatState P) → wants ≡ w ∷ rest → length wants ≤ 1
-        → IsGranted most w x y → AreGranted most wants (x ∷ []) (y ∷ [])
+        → IsGranted t w x y → AreGranted t wants (x ∷ []) (y ∷ [])
     granted_last wants rest w x y e few one =
         let long : length wants ≡ length (w ∷ rest) = ap length e in
         granted_more wants rest w x y [] [] e one (granted_none rest [] (omega arith))
 
     -- granted wants are held, each by the seat at its place, and the other seats hold nothing
-    pub held_at : (wants : List Want) (xs ys : List (SeatState P)) → AllFree xs → AreGranted most wants xs ys
+    pub held_at : (wants : List Want) (xs ys : List (SeatState P)) → AllFree xs → AreGranted t wants xs ys
         → (i : ℕ) → i < length xs → held_in ys i ≡ option_map want_held (slice_get wants i)
     held_at [] xs ys free e i lt = subst (λ l. held_in l i ≡ None) (sym e) (none_held xs free i lt)
         ∙ sym (ap (option_map want_held) (slice_get_past [] i (omega arith)))
@@ -112,61 +128,62 @@ module _ {P : Type 0} where
     held_at (w ∷ ws) (x ∷ xs) (y ∷ ys) free g (suc i) lt = held_at ws xs ys (free_behind x xs free) g.1 i (omega arith)
 
     -- what was granted changed no pass and made no client step
-    pub granted_calls : (wants : List Want) (xs ys : List (SeatState P)) → AreGranted most wants xs ys → EachIs IsLockCall xs ys
+    pub granted_calls : (wants : List Want) (xs ys : List (SeatState P)) → AreGranted t wants xs ys → EachIs IsLockCall xs ys
     granted_calls [] xs ys e = subst (EachIs IsLockCall xs) (sym e) (same_calls xs)
     granted_calls (w ∷ ws) [] ys g = absurd g
     granted_calls (w ∷ ws) (x ∷ xs) [] g = absurd g
     granted_calls (w ∷ ws) (x ∷ xs) (y ∷ ys) g = (g.0.call, granted_calls ws xs ys g.1)
 
     -- where a want was granted something is held
-    pub granted_some : (wants : List Want) (xs ys : List (SeatState P)) → 0 < length wants → AreGranted most wants xs ys → ¬ (AllFree ys)
+    pub granted_some : (wants : List Want) (xs ys : List (SeatState P)) → 0 < length wants → AreGranted t wants xs ys → ¬ (AllFree ys)
     granted_some [] xs ys some g = absurd (omega arith)
     granted_some (w ∷ ws) [] ys some g = absurd g
     granted_some (w ∷ ws) (x ∷ xs) [] some g = absurd g
     granted_some (w ∷ ws) (x ∷ xs) (y ∷ ys) some g = first_holds ys y (want_held w) g.0.held
 
     -- each granted want took one try
-    pub granted_bound : (wants : List Want) (xs ys : List (SeatState P)) → AreGranted most wants xs ys → taken_by ys ≤ taken_by xs + length wants * most
-    granted_bound [] xs ys e = let same : taken_by ys ≡ taken_by xs = ap taken_by e in omega arith
-    granted_bound (w ∷ ws) [] ys g = absurd g
-    granted_bound (w ∷ ws) (x ∷ xs) [] g = absurd g
-    granted_bound (w ∷ ws) (x ∷ xs) (y ∷ ys) g =
+    pub granted_each : (wants : List Want) (xs ys : List (SeatState P)) → AreGranted t wants xs ys
+        → (n : ℕ) → TriesTake t wants n → taken_by ys ≤ taken_by xs + n
+    granted_each [] xs ys e n takes = let same : taken_by ys ≡ taken_by xs = ap taken_by e in omega arith
+    granted_each (w ∷ ws) [] ys g n takes = absurd g
+    granted_each (w ∷ ws) (x ∷ xs) [] g n takes = absurd g
+    granted_each (w ∷ ws) (x ∷ xs) (y ∷ ys) g n takes =
         granted_steps x.trace.taken y.trace.taken (taken_by xs) (taken_by ys) (taken_by (x ∷ xs)) (taken_by (y ∷ ys))
-        (length ws * most) (length (w ∷ ws) * most) most
-        (sum_by-cons taken_of x xs) (sum_by-cons taken_of y ys) (suc-mul (length ws) most) (granted_bound ws xs ys g.1) g.0.bound
+        (try_steps t.seats takes.0) takes.1 n (sum_by-cons taken_of x xs) (sum_by-cons taken_of y ys) takes.4
+        (granted_each ws xs ys g.1 takes.1 takes.3) (g.0.bound takes.0 takes.2)
 
     -- four seats hold what is wanted, each at its place
-    pub all_held : (wants : List Want) (xs ys : List (SeatState P)) → length xs ≡ 4 → AllFree xs → AreGranted most wants xs ys → AreHeld wants ys
+    pub all_held : (wants : List Want) (xs ys : List (SeatState P)) → length xs ≡ 4 → AllFree xs → AreGranted t wants xs ys → AreHeld wants ys
     all_held wants xs ys four free granted i lt = held_at wants xs ys free granted i (omega arith)
 
     module _ (rested : P → P) where
       -- a range that was got in one try and given back
-      pub taken_back : (x z y : SeatState P) → IsLockCall x z → z.trace.taken ≤ x.trace.taken + most → IsRelease rested z y → IsTakenBack most rested x y
-      taken_back x z y call bound back = record {
+      pub taken_back : (w : Want) (x z y : SeatState P) → IsLockCall x z → IsOneTry t w x z → IsRelease rested z y → IsTakenBack t rested w x y
+      taken_back w x z y call bound back = record {
         table = back.table ∙ call.table;
         number = back.number ∙ call.number;
         free = back.held;
         pass = back.pass ∙ ap rested call.pass;
         client = back.client ∙ call.client;
-        bound = let two = back.most in omega arith;
+        bound = λ k takes. let one = bound k takes in let two = back.most in omega arith;
       }
 
       -- the first want was refused
       pub refused_first : (wants rest : List Want) (w : Want) (x y : SeatState P) (xs : List (SeatState P)) (i : ℕ) (why : NotHeld)
-          → wants ≡ w ∷ rest → i ≡ 0 → IsRefused most w why x y → IsRefusedAt most rested wants (x ∷ xs) (y ∷ xs) i why
+          → wants ≡ w ∷ rest → i ≡ 0 → IsRefused t w why x y → IsRefusedAt t rested wants (x ∷ xs) (y ∷ xs) i why
       refused_first wants rest w x y xs i why e first one =
-          subst (λ l. IsRefusedAt most rested l (x ∷ xs) (y ∷ xs) i why) (sym e)
-          (subst (λ k. IsRefusedAt most rested (w ∷ rest) (x ∷ xs) (y ∷ xs) k why) (sym first) (one, refl))
+          subst (λ l. IsRefusedAt t rested l (x ∷ xs) (y ∷ xs) i why) (sym e)
+          (subst (λ k. IsRefusedAt t rested (w ∷ rest) (x ∷ xs) (y ∷ xs) k why) (sym first) (one, refl))
 
       -- a want behind the first was refused, and the first seat's range given back
       pub refused_behind : (wants rest : List Want) (w : Want) (x y : SeatState P) (xs ys : List (SeatState P)) (i n : ℕ) (why told : NotHeld)
-          → wants ≡ w ∷ rest → n ≡ i + 1 → told ≡ why → IsTakenBack most rested x y → IsRefusedAt most rested rest xs ys i why
-          → IsRefusedAt most rested wants (x ∷ xs) (y ∷ ys) n told
+          → wants ≡ w ∷ rest → n ≡ i + 1 → told ≡ why → IsTakenBack t rested w x y → IsRefusedAt t rested rest xs ys i why
+          → IsRefusedAt t rested wants (x ∷ xs) (y ∷ ys) n told
       refused_behind wants rest w x y xs ys i n why told e next same one behind =
           let is : n ≡ suc i = omega arith in
-          subst (λ l. IsRefusedAt most rested l (x ∷ xs) (y ∷ ys) n told) (sym e)
-          (subst (λ k. IsRefusedAt most rested (w ∷ rest) (x ∷ xs) (y ∷ ys) k told) (sym is)
-          (subst (λ v. IsRefusedAt most rested (w ∷ rest) (x ∷ xs) (y ∷ ys) (suc i) v) (sym same) (one, behind)))
+          subst (λ l. IsRefusedAt t rested l (x ∷ xs) (y ∷ ys) n told) (sym e)
+          (subst (λ k. IsRefusedAt t rested (w ∷ rest) (x ∷ xs) (y ∷ ys) k told) (sym is)
+          (subst (λ v. IsRefusedAt t rested (w ∷ rest) (x ∷ xs) (y ∷ ys) (suc i) v) (sym same) (one, behind)))
 
       -- what a refusal leaves of the seats from a place on
       pub record Refusal (wants : List Want) (xs ys : List (SeatState P)) (i : ℕ) (why : NotHeld) : Type 0 where
@@ -174,7 +191,15 @@ module _ {P : Type 0} where
         pub let_go : EachIs IsLetGo xs ys
         pub passes : map pass_in ys ≡ passes_after rested i xs
         pub cause : IsCauseAt xs ys wants i why
-        pub bound : taken_by ys ≤ taken_by xs + (i + 1) * most + 2 * i
+        pub each : (n : ℕ) → TriesTake t (take (suc i) wants) n → taken_by ys ≤ taken_by xs + n + 2 * i
+
+      -- the place of a refused want is one of the wants
+      refused_there : (wants : List Want) (xs ys : List (SeatState P)) (i : ℕ) (why : NotHeld) → IsRefusedAt t rested wants xs ys i why → i < length wants
+      refused_there [] xs ys i why r = absurd r
+      refused_there (w ∷ ws) [] ys i why r = absurd r
+      refused_there (w ∷ ws) (x ∷ xs) [] i why r = absurd r
+      refused_there (w ∷ ws) (x ∷ xs) (y ∷ ys) zero why r = omega arith
+      refused_there (w ∷ ws) (x ∷ xs) (y ∷ ys) (suc i) why r = let n = refused_there ws xs ys i why r.1 in omega arith
 
       same_behind : (x y : SeatState P) (xs ys : List (SeatState P)) → ys ≡ xs → (k : ℕ) → 0 < k → slice_get (y ∷ ys) k ≡ slice_get (x ∷ xs) k
       same_behind x y xs ys e zero lt = absurd (omega arith)
@@ -187,7 +212,7 @@ module _ {P : Type 0} where
 
       -- what a refused want leaves of its seat and those behind it, and what the seats before it are
       pub refusal : (wants : List Want) (xs ys : List (SeatState P)) (i : ℕ) (why : NotHeld) → AllFree xs
-          → IsRefusedAt most rested wants xs ys i why → Refusal wants xs ys i why
+          → IsRefusedAt t rested wants xs ys i why → Refusal wants xs ys i why
       refusal [] xs ys i why free r = absurd r
       refusal (w ∷ ws) [] ys i why free r = absurd r
       refusal (w ∷ ws) (x ∷ xs) [] i why free r = absurd r
@@ -210,13 +235,12 @@ module _ {P : Type 0} where
               cause = r.0.cause;
               same = same_behind x y xs ys r.1;
             };
-            bound = refused_steps x.trace.taken y.trace.taken (taken_by xs) (taken_by ys) (taken_by (x ∷ xs)) (taken_by (y ∷ ys))
-                ((zero + 1) * most) (2 * zero) most
-                (sum_by-cons taken_of x xs) (sum_by-cons taken_of y ys) (one-mul most) refl (ap taken_by r.1) r.0.bound;
+            each = λ n takes. refused_steps x.trace.taken y.trace.taken (taken_by xs) (taken_by ys) (taken_by (x ∷ xs)) (taken_by (y ∷ ys))
+                (try_steps t.seats takes.0) takes.1 n (sum_by-cons taken_of x xs) (sum_by-cons taken_of y ys) takes.4 (ap taken_by r.1)
+                (r.0.bound takes.0 takes.2);
           }
       refusal (w ∷ ws) (x ∷ xs) (y ∷ ys) (suc i) why free r =
           let n = refusal ws xs ys i why (free_behind x xs free) r.1 in
-          let two : 2 * suc i ≡ 2 * i + 2 = omega arith in
           record {
             free = All-cons (λ s. s.held ≡ None) y ys r.0.free n.free;
             let_go = (record { back = record { table = r.0.table; number = r.0.number; held = r.0.free }; client = r.0.client }, n.let_go);
@@ -231,36 +255,47 @@ module _ {P : Type 0} where
               cause = n.cause.cause;
               same = same_further x y xs ys i n.cause.same;
             };
-            bound = back_steps x.trace.taken y.trace.taken (taken_by xs) (taken_by ys) (taken_by (x ∷ xs)) (taken_by (y ∷ ys))
-                ((i + 1) * most) (2 * i) ((suc i + 1) * most) (2 * suc i) most
-                (sum_by-cons taken_of x xs) (sum_by-cons taken_of y ys) (one_more i most) two n.bound r.0.bound;
+            each = λ m takes. back_steps x.trace.taken y.trace.taken (taken_by xs) (taken_by ys) (taken_by (x ∷ xs)) (taken_by (y ∷ ys))
+                (try_steps t.seats takes.0) takes.1 m i (sum_by-cons taken_of x xs) (sum_by-cons taken_of y ys) takes.4
+                (n.each takes.1 takes.3) (r.0.bound takes.0 takes.2);
           }
 
       module _ (wants : List Want) (xs ys : List (SeatState P)) (free : AllFree xs) where
         -- after a refusal nothing is held
-        pub free_told : (r : Result (Unit {0}) SetRefused) → IfErr r (λ e. IsRefusedAt most rested wants xs ys e.index e.why) → OnErr r (AllFree ys)
+        pub free_told : (r : Result (Unit {0}) SetRefused) → IfErr r (λ e. IsRefusedAt t rested wants xs ys e.index e.why) → OnErr r (AllFree ys)
         free_told (Ok x) h = tt
         free_told (Err e) h = (refusal wants xs ys e.index e.why free h).free
 
         -- each seat let go what it had got
-        pub let_go_told : (r : Result (Unit {0}) SetRefused) → IfErr r (λ e. IsRefusedAt most rested wants xs ys e.index e.why) → OnErr r (EachIs IsLetGo xs ys)
+        pub let_go_told : (r : Result (Unit {0}) SetRefused) → IfErr r (λ e. IsRefusedAt t rested wants xs ys e.index e.why) → OnErr r (EachIs IsLetGo xs ys)
         let_go_told (Ok x) h = tt
         let_go_told (Err e) h = (refusal wants xs ys e.index e.why free h).let_go
 
         -- the passes before the refused place are rested
-        pub passes_told : (r : Result (Unit {0}) SetRefused) → IfErr r (λ e. IsRefusedAt most rested wants xs ys e.index e.why)
+        pub passes_told : (r : Result (Unit {0}) SetRefused) → IfErr r (λ e. IsRefusedAt t rested wants xs ys e.index e.why)
             → IfErr r (λ e. map pass_in ys ≡ passes_after rested e.index xs)
         passes_told (Ok x) h = tt
         passes_told (Err e) h = (refusal wants xs ys e.index e.why free h).passes
 
         -- the refused want has its cause
-        pub cause_told : (r : Result (Unit {0}) SetRefused) → IfErr r (λ e. IsRefusedAt most rested wants xs ys e.index e.why)
+        pub cause_told : (r : Result (Unit {0}) SetRefused) → IfErr r (λ e. IsRefusedAt t rested wants xs ys e.index e.why)
             → IfErr r (λ e. IsCauseAt xs ys wants e.index e.why)
         cause_told (Ok x) h = tt
         cause_told (Err e) h = (refusal wants xs ys e.index e.why free h).cause
 
-        -- a refusal took so many steps at most
-        pub bound_told : (r : Result (Unit {0}) SetRefused) → IfErr r (λ e. IsRefusedAt most rested wants xs ys e.index e.why)
-            → IfErr r (λ e. taken_by ys ≤ taken_by xs + (e.index + 1) * most + 2 * e.index)
-        bound_told (Ok x) h = tt
-        bound_told (Err e) h = (refusal wants xs ys e.index e.why free h).bound
+        -- a refusal took the steps of the tries up to that of its want, and two for each range given back
+        pub each_told : (r : Result (Unit {0}) SetRefused) → IfErr r (λ e. IsRefusedAt t rested wants xs ys e.index e.why)
+            → IfErr r (λ e. (n : ℕ) → TriesTake t (take (e.index + 1) wants) n → taken_by ys ≤ taken_by xs + n + 2 * e.index)
+        each_told (Ok x) h = tt
+        each_told (Err e) h = λ n takes.
+            let next : e.index + 1 ≡ suc e.index = omega arith in
+            (refusal wants xs ys e.index e.why free h).each n (subst (λ k. TriesTake t (take k wants) n) next takes)
+
+        -- with the steps of one list for each, where each range takes one
+        pub bound_told : All (λ w. TakesAlone t.cut w.range) wants → (r : Result (Unit {0}) SetRefused)
+            → IfErr r (λ e. IsRefusedAt t rested wants xs ys e.index e.why)
+            → IfErr r (λ e. taken_by ys ≤ taken_by xs + (e.index + 1) * (64 + 386 * t.seats) + 2 * e.index)
+        bound_told alone (Ok x) h = tt
+        bound_told alone (Err e) h =
+            let there = refused_there wants xs ys e.index e.why h in
+            each_told (Err e) h ((e.index + 1) * (64 + 386 * t.seats)) (alone_first t (e.index + 1) wants (omega arith) alone)

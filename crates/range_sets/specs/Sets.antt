@@ -1,12 +1,12 @@
 -- What contracts see of a set of seats, and what its calls leave of it: all the wants held, or nothing. What one try
 -- and one release leave of a seat is said by `range_rw`; that several ranges are taken together or not at all is this
 -- project's own profile.
-use Rattle.std.specs.Prelude.{◌≡◌, ◌⊎◌, ℕ, zero, suc, ◌<◌, List, [], ◌∷◌, All, map, sum_by, slice_get, Option, Some, None, IsSome}
+use Rattle.std.specs.Prelude.{◌≡◌, ◌⊎◌, ℕ, zero, suc, ◌+◌, ◌<◌, List, [], ◌∷◌, All, map, sum_by, slice_get, Option, Some, None, IsSome}
 use Rattle.std.specs.Option.{option_and_then, option_map}
 use Rattle.atomic_table.specs.Seated.{TableId}
 use Rattle.lock_core.specs.declared.range.Held.{Held}
 use Rattle.range_rw.specs.declared.refusals.NotHeld.{NotHeld}
-use Rattle.range_rw.specs.Contract.{SeatState, IsCause, IsGivenBack, IsRelease, pass_in}
+use Rattle.range_rw.specs.Contract.{SeatState, TableShape, IsCause, IsGivenBack, IsRelease, TakesMany, pass_in, try_steps}
 use Rattle.range_sets.specs.declared.wants.Want.{Want}
 use Rattle.range_sets.specs.Wants.{want_held}
 
@@ -14,6 +14,12 @@ use Rattle.range_sets.specs.Wants.{want_held}
 pub record SetView (P : Type 0) : Type 0 where
   pub table : TableId
   pub seats : List (SeatState P)
+
+-- at most so many steps are made by one try for each of these wants, by the lists that each range takes: the sum of the
+-- tries' own
+abbrev pub TriesTake : TableShape → List Want → ℕ → Type 0
+TriesTake t [] steps = steps ≡ 0
+TriesTake t (w ∷ ws) steps = (k : ℕ) × (rest : ℕ) × TakesMany t.cut w.range k × TriesTake t ws rest × (steps ≡ try_steps t.seats k + rest)
 
 module _ {P : Type 0} where
   -- no seat holds anything

@@ -1,11 +1,12 @@
 //! Taking several ranges, all or none, and giving them back. The seat of each place tries once to hold the want of that
 //! place; the first refusal ends the call, and the ranges before it are given back. A reader may rely on the cause of a
 //! refusal being that of one try of `range_rw`, and on a set at rest staying so.
-ghost use Rattle.std.specs.Prelude.{◌≡◌, ◌+◌, ◌*◌, ◌<◌, ◌≤◌, ◌-◌, ◌∷◌, [], Some, None, All, IfErr, IfOk, OnOk, OnErr, IsSome, length, map};
-ghost use Rattle.range_rw.specs.Contract.{IsCause, IsLockCall, IsRelease, most_steps, pass_in};
+ghost use Rattle.std.specs.Prelude.{◌≡◌, ℕ, ◌+◌, ◌*◌, ◌<◌, ◌≤◌, ◌-◌, ◌∷◌, [], Some, None, All, IfErr, IfOk, OnOk, OnErr, IsSome, length, map, take};
+ghost use Rattle.range_rw.specs.Contract.{IsCause, IsLockCall, IsRelease, pass_in};
+ghost use Rattle.range_rw.specs.Several.{TakesAlone};
 ghost use Rattle.range_sets.specs.Wants.{NoClash, want_held};
-ghost use Rattle.range_sets.specs.Sets.{AllFree, AllRest, AreHeld, EachIs, IsLetGo, IsReleasedIfHeld, IsCauseAt, passes_after, taken_by};
-ghost use Rattle.range_sets.specs.Taking.{AreGranted, IsRefusedAt};
+ghost use Rattle.range_sets.specs.Sets.{AllFree, AllRest, AreHeld, EachIs, IsLetGo, IsReleasedIfHeld, IsCauseAt, TriesTake, passes_after, taken_by};
+ghost use Rattle.range_sets.specs.Taking.{AreGranted, IsOneTry, IsRefusedAt};
 
 use crate::set::{Place, SetSeat};
 use crate::wants::Want;
@@ -44,7 +45,7 @@ impl<G: Guard> Place<G> {
         ensures free { OnErr result (self.new.held ≡ None) }
         ensures first { IfErr result (λ r. r.index ≡ 0) }
         ensures cause { IfErr result (λ r. IsCause self.old self.new (want_held want) r.why) }
-        ensures bound { self.new.trace.taken ≤ self.old.trace.taken + most_steps table.now }
+        ensures each { IsOneTry table.now want self.old self.new }
         ensures counted { steps.new + self.old.trace.taken ≡ steps.old + self.new.trace.taken }
     {
         match table.try_acquire(&mut self.seat, want.range, want.mode, steps) {
@@ -122,8 +123,8 @@ fn try_last<G: Guard, L: Ledger>(
     requires rest { G.is_at_rest d.old.pass }
     ensures table { d.new.table ≡ d.old.table }
     ensures at_rest { G.is_at_rest d.new.pass }
-    ensures granted { OnOk result (AreGranted (most_steps table.now) wants.now (d.old ∷ []) (d.new ∷ [])) }
-    ensures refused { IfErr result (λ r. IsRefusedAt (most_steps table.now) G.rested wants.now (d.old ∷ []) (d.new ∷ []) r.index r.why) }
+    ensures granted { OnOk result (AreGranted table.now wants.now (d.old ∷ []) (d.new ∷ [])) }
+    ensures refused { IfErr result (λ r. IsRefusedAt table.now G.rested wants.now (d.old ∷ []) (d.new ∷ []) r.index r.why) }
     ensures few { IfErr result (λ r. r.index < 1) }
     ensures counted { steps.new + d.old.trace.taken ≡ steps.old + d.new.trace.taken }
 {
@@ -147,8 +148,8 @@ fn try_two<G: Guard, L: Ledger>(
     requires rest { G.is_at_rest c.old.pass × G.is_at_rest d.old.pass }
     ensures table { (c.new.table ≡ c.old.table) × (d.new.table ≡ d.old.table) }
     ensures at_rest { G.is_at_rest c.new.pass × G.is_at_rest d.new.pass }
-    ensures granted { OnOk result (AreGranted (most_steps table.now) wants.now (c.old ∷ d.old ∷ []) (c.new ∷ d.new ∷ [])) }
-    ensures refused { IfErr result (λ r. IsRefusedAt (most_steps table.now) G.rested wants.now (c.old ∷ d.old ∷ []) (c.new ∷ d.new ∷ []) r.index r.why) }
+    ensures granted { OnOk result (AreGranted table.now wants.now (c.old ∷ d.old ∷ []) (c.new ∷ d.new ∷ [])) }
+    ensures refused { IfErr result (λ r. IsRefusedAt table.now G.rested wants.now (c.old ∷ d.old ∷ []) (c.new ∷ d.new ∷ []) r.index r.why) }
     ensures few { IfErr result (λ r. r.index < 2) }
     ensures counted { steps.new + taken_by (c.old ∷ d.old ∷ []) ≡ steps.old + taken_by (c.new ∷ d.new ∷ []) }
 {
@@ -179,8 +180,8 @@ fn try_three<G: Guard, L: Ledger>(
     requires rest { G.is_at_rest b.old.pass × G.is_at_rest c.old.pass × G.is_at_rest d.old.pass }
     ensures table { (b.new.table ≡ b.old.table) × (c.new.table ≡ c.old.table) × (d.new.table ≡ d.old.table) }
     ensures at_rest { G.is_at_rest b.new.pass × G.is_at_rest c.new.pass × G.is_at_rest d.new.pass }
-    ensures granted { OnOk result (AreGranted (most_steps table.now) wants.now (b.old ∷ c.old ∷ d.old ∷ []) (b.new ∷ c.new ∷ d.new ∷ [])) }
-    ensures refused { IfErr result (λ r. IsRefusedAt (most_steps table.now) G.rested wants.now (b.old ∷ c.old ∷ d.old ∷ [])
+    ensures granted { OnOk result (AreGranted table.now wants.now (b.old ∷ c.old ∷ d.old ∷ []) (b.new ∷ c.new ∷ d.new ∷ [])) }
+    ensures refused { IfErr result (λ r. IsRefusedAt table.now G.rested wants.now (b.old ∷ c.old ∷ d.old ∷ [])
         (b.new ∷ c.new ∷ d.new ∷ []) r.index r.why) }
     ensures few { IfErr result (λ r. r.index < 3) }
     ensures counted { steps.new + taken_by (b.old ∷ c.old ∷ d.old ∷ []) ≡ steps.old + taken_by (b.new ∷ c.new ∷ d.new ∷ []) }
@@ -211,8 +212,8 @@ fn try_four<G: Guard, L: Ledger>(
     ensures four { length set.old.seats ≡ 4 }
     ensures table { set.new.table ≡ set.old.table }
     ensures at_rest { AllRest G.is_at_rest set.new.seats }
-    ensures granted { OnOk result (AreGranted (most_steps table.now) wants.now set.old.seats set.new.seats) }
-    ensures refused { IfErr result (λ r. IsRefusedAt (most_steps table.now) G.rested wants.now set.old.seats set.new.seats r.index r.why) }
+    ensures granted { OnOk result (AreGranted table.now wants.now set.old.seats set.new.seats) }
+    ensures refused { IfErr result (λ r. IsRefusedAt table.now G.rested wants.now set.old.seats set.new.seats r.index r.why) }
     ensures counted { steps.new + taken_by set.old.seats ≡ steps.old + taken_by set.new.seats }
 {
     let SetSeat { a, b, c, d } = set;
@@ -232,8 +233,9 @@ fn try_four<G: Guard, L: Ledger>(
 /// place, and waits for nobody. From 1 to 4 wants, of which no two conflict (`clash` tells); the set is of this table
 /// and holds nothing, and its passes are at rest.
 /// `SetRefused` says which want's try was refused, and why; the ranges before it have then been given back, and seats
-/// behind it made no step. A try makes at most 64 steps and 386 for each seat of the table, once for each of its lists,
-/// and giving a range back one or two; `steps` counts both.
+/// behind it made no step. A try makes at most 64 steps and 386 for each seat of the table where its range takes one
+/// list, as every range does in a table of one, and for each further list 55 and 193 for each seat more; giving a range
+/// back makes one or two, and `steps` counts both.
 pub fn try_set<G: Guard, L: Ledger>(
     table: &RangeTable<G>,
     set: &mut SetSeat<G>,
@@ -255,8 +257,13 @@ pub fn try_set<G: Guard, L: Ledger>(
     ensures let_go { OnErr result (EachIs IsLetGo set.old.seats set.new.seats) }
     ensures passes { IfErr result (λ r. map pass_in set.new.seats ≡ passes_after G.rested r.index set.old.seats) }
     ensures cause { IfErr result (λ r. IsCauseAt set.old.seats set.new.seats wants.now r.index r.why) }
-    ensures bound { OnOk result (taken_by set.new.seats ≤ taken_by set.old.seats + length wants.now * most_steps table.now) }
-    ensures refused_bound { IfErr result (λ r. taken_by set.new.seats ≤ taken_by set.old.seats + (r.index + 1) * most_steps table.now + 2 * r.index) }
+    ensures bound { All (λ w. TakesAlone table.now.cut w.range) wants.now
+        → OnOk result (taken_by set.new.seats ≤ taken_by set.old.seats + length wants.now * (64 + 386 * table.now.seats)) }
+    ensures each { OnOk result ((n : ℕ) → TriesTake table.now wants.now n → taken_by set.new.seats ≤ taken_by set.old.seats + n) }
+    ensures refused_bound { All (λ w. TakesAlone table.now.cut w.range) wants.now
+        → IfErr result (λ r. taken_by set.new.seats ≤ taken_by set.old.seats + (r.index + 1) * (64 + 386 * table.now.seats) + 2 * r.index) }
+    ensures refused_each { IfErr result (λ r. (n : ℕ) → TriesTake table.now (take (r.index + 1) wants.now) n
+        → taken_by set.new.seats ≤ taken_by set.old.seats + n + 2 * r.index) }
     ensures counted { steps.new + taken_by set.old.seats ≡ steps.old + taken_by set.new.seats }
 {
     try_four(table, set, wants, steps)

@@ -22,7 +22,8 @@ use std::time::Clock;
 /// How many turns a seat takes in a round.
 const TURNS: u32 = 200;
 
-/// A seat's turns, which add what they came to.
+/// A seat's turns, which add what they came to. The first seat wants all slots at each turn, so that in every round
+/// somebody waits for everything.
 fn play_seat<R: Wait>(
     wait: &R,
     table: &RangeTable<FreeGuard>,
@@ -37,7 +38,7 @@ fn play_seat<R: Wait>(
     ensures back { IsGivenBack seat.old seat.new }
 {
     let mut draws = Pcg32::new(seed, place as u64);
-    let visits = take_turns(wait, table, seat, &mut draws, TURNS);
+    let visits = take_turns(wait, table, seat, &mut draws, place == 0, TURNS);
     let mut total = total.lock(wait);
     *total = total.plus(visits);
 }

@@ -1,7 +1,7 @@
 //! One seat's turns at the range lock. Each slot is a client word that counts its owners: a reader as 1 and a writer as
 //! 2^32. A turn draws a range of slots and a mode, holds the range, adds its share to each slot and takes it away
 //! again; what it finds there says whether another owner was in whom its range excludes.
-ghost use Rattle.std.specs.Prelude.{◌≡◌, ◌≤◌, ◌↔◌, ℕ, None, IsSome, IsTrue};
+ghost use Rattle.std.specs.Prelude.{◌≡◌, ◌<◌, ◌≤◌, ◌↔◌, ℕ, None, IsSome, IsTrue};
 ghost use Rattle.range_rw.specs.Contract.{IsGivenBack};
 ghost use Rattle.stress.specs.Slots.{IsCountOf, MayShare};
 ghost use Rattle.stress.specs.Counts.{CountsOneTry};
@@ -136,12 +136,25 @@ fn hold<R: Wait>(
     }
 }
 
-/// One turn of a seat.
+/// The slots of a turn, from the first one on and below the second: all of them, or drawn ones.
+fn slots_of(draws: &mut Pcg32, all: bool) -> (u32, u32)
+    ensures some { result.0 < result.1 }
+    ensures most { result.1 ≤ SLOTS }
+{
+    if all {
+        return (0, SLOTS);
+    }
+    let lo = below(draws, SLOTS);
+    (lo, lo + 1 + below(draws, SLOTS - lo))
+}
+
+/// One turn of a seat, at drawn slots or at all of them.
 fn take_turn<R: Wait>(
     wait: &R,
     table: &RangeTable<FreeGuard>,
     seat: &mut Seat<FreeGuard>,
     draws: &mut Pcg32,
+    all: bool,
     visits: &mut Visits,
 )
     requires table { seat.old.table ≡ table.now.table }
@@ -149,8 +162,7 @@ fn take_turn<R: Wait>(
     requires free { seat.old.held ≡ None }
     ensures back { IsGivenBack seat.old seat.new }
 {
-    let lo = below(draws, SLOTS);
-    let hi = lo + 1 + below(draws, SLOTS - lo);
+    let (lo, hi) = slots_of(draws, all);
     let mode = if below(draws, 2) == 0 {
         Mode::Reader
     } else {
@@ -165,12 +177,13 @@ fn take_turn<R: Wait>(
     table.release_uncounted(seat);
 }
 
-/// So many turns of a seat, and what they came to.
+/// So many turns of a seat, each at drawn slots or each at all of them, and what they came to.
 pub fn take_turns<R: Wait>(
     wait: &R,
     table: &RangeTable<FreeGuard>,
     seat: &mut Seat<FreeGuard>,
     draws: &mut Pcg32,
+    all: bool,
     turns: u32,
 ) -> Visits
     requires table { seat.old.table ≡ table.now.table }
@@ -180,7 +193,7 @@ pub fn take_turns<R: Wait>(
 {
     let mut visits = Visits::none();
     'turns: for _ in 0..turns {
-        take_turn(wait, table, seat, draws, &mut visits);
+        take_turn(wait, table, seat, draws, all, &mut visits);
     }
     visits
 }

@@ -19,6 +19,13 @@ pub const LONGEST_WAIT: u32 = 8192;
 /// going on while it waits looks again as many times at most.
 pub const MOST_LOOKS: u32 = 4;
 
+/// How many rounds of a caller whose range takes several lists are refused before it has a round in which it keeps its
+/// place while it waits. These rounds' waits take at least twice as long as that one's.
+pub const REFUSED_ROUNDS: u32 = 16;
+
+/// How many times such a caller looks again in that round, with a wait before each.
+pub const KEPT_LOOKS: u32 = 8;
+
 /// How long a caller waits before it looks again: twice as long each time, up to `LONGEST_WAIT`. Contracts see it as
 /// the number of turns of its next wait.
 #[derive(Debug, Drop)]

@@ -8,7 +8,7 @@ mod open;
 mod rule;
 mod steps;
 
-pub use backoff::{Backoff, LONGEST_WAIT, MOST_LOOKS, SHORTEST_WAIT};
+pub use backoff::{Backoff, KEPT_LOOKS, LONGEST_WAIT, MOST_LOOKS, REFUSED_ROUNDS, SHORTEST_WAIT};
 pub use open::open_words;
 pub use rule::{Start, StartRule};
 pub use steps::Steps;

@@ -179,19 +179,3 @@ returns-in-Err-pass_all-clause-cause g c =
                 c.args.mode;
           }) c.in-Err-pass_all.why) (sym there) first)),
     )
-
--- the steps of the link and the looks
-pub returns-in-Ok-pass_all-clause-bound : goal.returns-in-Ok-pass_all-clause-bound
-returns-in-Ok-pass_all-clause-bound g c =
-    let l = c.link_piece.ensures.piece.later in
-    let same : (55 + 193 * c.link_piece.new.hand.part.seats) * c.link_piece.new.hand.part.pass.lists
-    ≡ (55 + 193 * c.args.hand.now.part.seats) * c.args.hand.now.part.pass.lists = λ i. (55 + 193 * l.seats i) * l.lists i in
-    let a = c.link_piece.ensures.bound in let b = c.pass_all.ensures.bound in omega arith
-
--- the steps of the link, the looks and the mark
-pub returns-in-Err-pass_all-clause-bound : goal.returns-in-Err-pass_all-clause-bound
-returns-in-Err-pass_all-clause-bound g c =
-    let l = c.link_piece.ensures.piece.later in
-    let same : (55 + 193 * c.link_piece.new.hand.part.seats) * c.link_piece.new.hand.part.pass.lists
-    ≡ (55 + 193 * c.args.hand.now.part.seats) * c.args.hand.now.part.pass.lists = λ i. (55 + 193 * l.seats i) * l.lists i in
-    let a = c.link_piece.ensures.bound in let b = c.pass_all.ensures.bound in let m = c.give_up.ensures.taken in omega arith

@@ -44,7 +44,6 @@ all-init g c =
       only = λ j none. refl;
       takes = λ less. subst (λ x. Takes x c.args.range c.next_taken-at.result) cut
           (c.next_taken-at.ensures.taken (let e = ap list_count cut in let l = c.requires.lists.1 in omega arith));
-      bound = omega arith;
       each = (
         0,
         below_none c.args.list.now.cut c.args.range 1 c.next_taken-at.result 0 c.next_taken-at.ensures.from first
@@ -92,12 +91,6 @@ all-preserved g c =
       only = λ j none. c.pass_one.ensures.only j (λ e. none (inr (subst (Takes c.args.list.now.cut c.args.range) (sym e) here))) ∙ i.only j none;
       takes = λ less. subst (λ x. Takes x c.args.range up) i.cut
           (c.next_taken-up.ensures.taken (let e = ap list_count i.cut in let l = i.lists.1 in omega arith));
-      bound =
-          let s = i.later.seats in
-          let a = i.bound in let b = c.pass_one.ensures.bound in
-          let le : (55 + 193 * c.args.hand.now.part.seats) * (c.all.at + 1) ≤ (55 + 193 * c.args.hand.now.part.seats) * up = mul-le _ _ _ _ (omega
-          arith) c.next_taken-up.ensures.from in
-          omega arith;
       each =
           let s = i.later.seats in
           let a = i.each.2 in let b = c.pass_one.ensures.bound in

@@ -22,7 +22,6 @@ invariant-all g l = record {
   ready : (j : ℕ) → IsReadyLeft (shown_core l.initial.hand.part j).ready (shown_core l.hand.part j).ready;
   only : ShowsOthers l.list.cut l.range l.initial.hand.part l.hand.part;
   takes : l.at < l.lists → Takes l.list.cut l.range l.at;
-  bound : l.hand.part.trace.taken ≤ l.initial.hand.part.trace.taken + (55 + 193 * l.initial.hand.part.seats) * l.at;
   each : (m : ℕ) × TakesBelow l.list.cut l.range l.at m
       × (l.hand.part.trace.taken ≤ l.initial.hand.part.trace.taken + (55 + 193 * l.initial.hand.part.seats) * m);
   counted : l.steps + l.initial.hand.part.trace.taken ≡ l.initial.steps + l.hand.part.trace.taken;

@@ -1,5 +1,4 @@
-use Rattle.std.proofs.Common.{◌≡◌, ◌≢◌, suc, ◌+◌, ◌-◌, ◌*◌, ◌<◌, ◌≤◌, inl, inr, refl, sym, ap, ◌∙◌, subst, arith, add-mul}
-use Rattle.std.proofs.lemmas.Nat.{mul-le}
+use Rattle.std.proofs.Common.{◌≡◌, suc, ◌+◌, ◌-◌, ◌*◌, ◌≤◌, inl, inr, refl, sym, ap, ◌∙◌, subst, arith}
 use Rattle.list_cuts.proofs.Cutting.{takes_there, takes_behind}
 use Rattle.list_cuts.specs.Cut.{Regions, list_count, TakesOne, TakesTwo}
 use Rattle.std.proofs.Math.Nat.{mul-suc}
@@ -179,35 +178,3 @@ returns-in-None-clause-each g c = λ k many.
     let e : (55 + 193 * n) * k ≡ (55 + 193 * n) * (k - 1) + (55 + 193 * n) = ap (λ m. (55 + 193 * n) * m) whole ∙ mul-suc (55 + 193 * n) (k - 1) in
     let s = c.seats.ensures.some in let y = c.seats.ensures.seats in
     let b = c.hold_wide.ensures.each k many in omega arith
-
--- the steps of one list
-pub returns-then-lists-eq1-clause-bound : goal.returns-then-lists-eq1-clause-bound
-returns-then-lists-eq1-clause-bound g c =
-    let one : list_count c.args.list.now.cut ≡ 1 = sym c.requires.lists.1 ∙ c.if-lists-eq1.true in
-    let e = ap (λ n. (64 + 386 * c.args.hand.now.part.seats) * n) one in
-    let b = c.try_range.ensures.bound in omega arith
-
--- which are fewer than those for two lists
-pub returns-in-Some-clause-bound : goal.returns-in-Some-clause-bound
-returns-in-Some-clause-bound g c =
-    let b = c.hold_narrow.ensures.bound in
-    let many : list_count c.args.list.now.cut ≢ 1 = λ e. c.if-lists-eq1.false (c.requires.lists.1 ∙ e) in
-    let more : 2 ≤ list_count c.args.list.now.cut = let m = c.list.ensures.there in let x = c.requires.lists.0 in
-    let y = c.requires.lists.1 in omega arith in
-    let le : (64 + 386 * c.args.hand.now.part.seats) * 2 ≤ (64 + 386 * c.args.hand.now.part.seats) * list_count c.args.list.now.cut = mul-le _ _ _ _ (omega
-    arith) more in
-    omega arith
-
--- the steps of a wide try
-pub returns-in-None-clause-bound : goal.returns-in-None-clause-bound
-returns-in-None-clause-bound g c =
-    let n = c.args.hand.now.part.seats in let l = list_count c.args.list.now.cut in
-    let e : (55 + 193 * n) * c.args.hand.now.part.pass.lists ≡ (55 + 193 * n) * l =
-    ap (λ k. (55 + 193 * n) * k) (sym c.requires.lists.0 ∙ c.requires.lists.1) in
-    let many : l ≢ 1 = λ x. c.if-lists-eq1.false (c.requires.lists.1 ∙ x) in
-    let more : 2 ≤ l = let m = c.list.ensures.there in let x = c.requires.lists.0 in let y = c.requires.lists.1 in omega arith in
-    let some : 0 < n = let s = c.seats.ensures.some in let y = c.seats.ensures.seats in omega arith in
-    let le : (9 + 193 * n) * 2 ≤ (9 + 193 * n) * l = mul-le _ _ _ _ (omega arith) more in
-    let z : 64 + 386 * n ≡ (55 + 193 * n) + (9 + 193 * n) = omega arith in
-    let all : (64 + 386 * n) * l ≡ (55 + 193 * n) * l + (9 + 193 * n) * l = ap (λ k. k * l) z ∙ add-mul (55 + 193 * n) (9 + 193 * n) l in
-    let b = c.hold_wide.ensures.bound in omega arith

@@ -1,5 +1,6 @@
+use Rattle.std.proofs.Common.{◌+◌, ◌*◌, length}
 use Rattle.std.proofs.lemmas.Result.{on_ok_weaker}
-use Rattle.range_sets.proofs.Places.{all_held, granted_calls, granted_some, granted_bound, free_told, let_go_told, passes_told, cause_told, bound_told}
+use Rattle.range_sets.proofs.Places.{all_held, granted_calls, granted_some, granted_each, alone_take, free_told, let_go_told, passes_told, cause_told, each_told, bound_told}
 use Rattle.range_sets.proofs.taking.try_set.Goals as goal
 
 -- what was granted is held, each want by the seat at its place
@@ -15,8 +16,15 @@ pub returns-clause-some : goal.returns-clause-some
 returns-clause-some g c = on_ok_weaker c.try_four.result (granted_some _ _ _ _ c.requires.some) c.try_four.ensures.granted
 
 -- each want took one try
+pub returns-clause-each : goal.returns-clause-each
+returns-clause-each g c = on_ok_weaker c.try_four.result (granted_each _ _ _ _) c.try_four.ensures.granted
+
+-- which has the steps of one list, where each range takes one
 pub returns-clause-bound : goal.returns-clause-bound
-returns-clause-bound g c = on_ok_weaker c.try_four.result (granted_bound _ _ _ _) c.try_four.ensures.granted
+returns-clause-bound g c = λ alone.
+    let n = alone_take c.args.table.now c.args.wants.now alone in
+    on_ok_weaker c.try_four.result (λ granted. granted_each _ _ _ _ granted (length c.args.wants.now * (64 + 386 * c.args.table.now.seats)) n)
+    c.try_four.ensures.granted
 
 -- after a refusal nothing is held
 pub returns-clause-free : goal.returns-clause-free
@@ -34,6 +42,11 @@ returns-clause-passes g c = passes_told _ _ _ _ _ c.requires.free c.try_four.res
 pub returns-clause-cause : goal.returns-clause-cause
 returns-clause-cause g c = cause_told _ _ _ _ _ c.requires.free c.try_four.result c.try_four.ensures.refused
 
--- a refusal took so many steps at most
+-- a refusal took the steps of the tries up to its want
+pub returns-clause-refused_each : goal.returns-clause-refused_each
+returns-clause-refused_each g c = each_told _ _ _ _ _ c.requires.free c.try_four.result c.try_four.ensures.refused
+
+-- which have the steps of one list each, where each range takes one
 pub returns-clause-refused_bound : goal.returns-clause-refused_bound
-returns-clause-refused_bound g c = bound_told _ _ _ _ _ c.requires.free c.try_four.result c.try_four.ensures.refused
+returns-clause-refused_bound g c = λ alone.
+    bound_told _ _ _ _ _ c.requires.free alone c.try_four.result c.try_four.ensures.refused

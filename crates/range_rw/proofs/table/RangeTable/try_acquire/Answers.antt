@@ -1,4 +1,4 @@
-use Rattle.std.proofs.Common.{◌≡◌, ◌↔◌, ◌+◌, ◌*◌, ap, ◌∙◌, subst, sym, arith}
+use Rattle.std.proofs.Common.{◌↔◌, ◌+◌, ◌*◌, ◌≤◌, ap, ◌∙◌, subst, sym, arith}
 use Rattle.list_cuts.specs.Cut.{list_count}
 use Rattle.range_rw.specs.Contract.{
   TableShape,
@@ -20,6 +20,7 @@ use Rattle.range_rw.specs.Seats.{counted_in, seat_state_of}
 use Rattle.range_rw.proofs.Moves.{lists_on, ready_from}
 use Rattle.range_rw.proofs.Choosing.{seat_cause_in, seat_told_in, seat_long_in, left_ready, ready_at, others_kept, closed_even}
 use Rattle.range_rw.proofs.Pieces.{is_there}
+use Rattle.range_rw.proofs.TakenLists.{wide_steps}
 use Rattle.range_rw.proofs.Seated.{seated_none, seated_own, seated_free, free_seated, alone_seated, seated_grant, rests_closed, lists_call, try_lists, none_here}
 use Rattle.range_rw.proofs.table.RangeTable.try_acquire.Goals as goal
 
@@ -233,24 +234,26 @@ returns-in-Err-clause-told g c =
     c.leave_and_count-lists.ensures.later (left_ready p m c.leave_and_count-lists.ensures.later c.leave_and_count-lists.ensures.ready)
     c.try_hold-tried.ensures.later.lists c.self.inside.list.cut (record { range = c.args.range; mode = c.args.mode }) c.in-Err.why c.in-Err.ensures.cause)
 
--- and of any
+-- which are no more than those of one list for each
 pub returns-in-Ok-clause-wide : goal.returns-in-Ok-clause-wide
 returns-in-Ok-clause-wide g c =
-    let b = c.try_hold-tried.ensures.bound in
-    let many = c.try_hold-tried.ensures.seats ∙ ap (λ (t : TableShape). t.seats) c.self.view_is in
-    let all : (64 + 386 * c.leave_and_count-lists.new.hand.part.seats) * list_count c.self.inside.list.cut
-    ≡ (64 + 386 * c.args.self.now.seats) * list_count c.args.self.now.cut =
-    λ i. (64 + 386 * many i) * list_count (ap (λ (t : TableShape). t.cut) c.self.view_is i) in
+    let now = c.try_hold-tried.new.hand.part.trace.taken in
+    subst (λ (t : TableShape). now ≤ c.args.seat.now.trace.taken + (64 + 386 * t.seats) * list_count t.cut) c.self.view_is
+    (wide_steps c.self.inside.list.cut c.args.range c.self.inside.list.seats now c.args.seat.now.trace.taken
+    c.leave_and_count-lists.ensures.regions (λ k takes.
+    let b = c.try_hold-tried.ensures.each k takes in
+    let all = ap (λ n. try_steps n k) c.try_hold-tried.ensures.seats in
     let l = c.leave_and_count-lists.ensures.bound in
-    let w = ap (λ (s : SeatState _). s.trace.taken) c.seat.view_is in omega arith
+    let w = ap (λ (s : SeatState _). s.trace.taken) c.seat.view_is in omega arith))
 
--- and of any
+-- which are no more than those of one list for each
 pub returns-in-Err-clause-wide : goal.returns-in-Err-clause-wide
 returns-in-Err-clause-wide g c =
-    let b = c.try_hold-tried.ensures.bound in
-    let many = c.try_hold-tried.ensures.seats ∙ ap (λ (t : TableShape). t.seats) c.self.view_is in
-    let all : (64 + 386 * c.leave_and_count-lists.new.hand.part.seats) * list_count c.self.inside.list.cut
-    ≡ (64 + 386 * c.args.self.now.seats) * list_count c.args.self.now.cut =
-    λ i. (64 + 386 * many i) * list_count (ap (λ (t : TableShape). t.cut) c.self.view_is i) in
+    let now = c.try_hold-tried.new.hand.part.trace.taken in
+    subst (λ (t : TableShape). now ≤ c.args.seat.now.trace.taken + (64 + 386 * t.seats) * list_count t.cut) c.self.view_is
+    (wide_steps c.self.inside.list.cut c.args.range c.self.inside.list.seats now c.args.seat.now.trace.taken
+    c.leave_and_count-lists.ensures.regions (λ k takes.
+    let b = c.try_hold-tried.ensures.each k takes in
+    let all = ap (λ n. try_steps n k) c.try_hold-tried.ensures.seats in
     let l = c.leave_and_count-lists.ensures.bound in
-    let w = ap (λ (s : SeatState _). s.trace.taken) c.seat.view_is in omega arith
+    let w = ap (λ (s : SeatState _). s.trace.taken) c.seat.view_is in omega arith))

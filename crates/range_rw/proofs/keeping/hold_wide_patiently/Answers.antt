@@ -1,0 +1,83 @@
+use Rattle.std.proofs.Common.{◌≡◌, ◌≢◌, inl, inr, refl, sym, ap, ◌∙◌, subst, arith}
+use Rattle.range_rw.proofs.Moves.{lists_on, some_held, piece_alone, piece_free}
+use Rattle.range_rw.proofs.keeping.hold_wide_patiently.Goals as goal
+
+-- the hand rests
+pub link_patiently-requires-clause-resting : goal.link_patiently-requires-clause-resting
+link_patiently-requires-clause-resting g c = c.requires.free.rests
+
+-- there is list 0
+pub link_patiently-requires-clause-there : goal.link_patiently-requires-clause-there
+link_patiently-requires-clause-there g c = let r = c.requires.regions in let x = c.requires.lists.0 in let y = c.requires.lists.1 in omega arith
+
+-- in which the hand has no node of its own
+pub link_patiently-requires-clause-free : goal.link_patiently-requires-clause-free
+link_patiently-requires-clause-free g c = c.requires.free.free 0
+
+-- a refused link leaves nothing held
+pub returns-in-Err-clause-free : goal.returns-in-Err-clause-free
+returns-in-Err-clause-free g c = piece_free 0 c.args.hand.now.part c.link_patiently.new.hand.part c.link_patiently.ensures.piece c.in-Err.ensures.free
+    (c.link_patiently.ensures.standing ∙ c.requires.free.standing) (λ j away. c.requires.free.free j)
+
+-- the seat is the same
+pub returns-in-Err-clause-later : goal.returns-in-Err-clause-later
+returns-in-Err-clause-later g c = c.link_patiently.ensures.piece.later
+
+-- no other list has changed
+pub returns-in-Err-clause-only : goal.returns-in-Err-clause-only
+returns-in-Err-clause-only g c = λ j none. c.link_patiently.ensures.piece.only j (λ e. none (inl e))
+
+pub returns-in-Ok-pass_patiently-clause-only : goal.returns-in-Ok-pass_patiently-clause-only
+returns-in-Ok-pass_patiently-clause-only g c = λ j none. c.pass_patiently.ensures.only j none
+    ∙ c.link_patiently.ensures.piece.only j (λ e. none (inl e))
+
+pub returns-in-Err-pass_patiently-clause-only : goal.returns-in-Err-pass_patiently-clause-only
+returns-in-Err-pass_patiently-clause-only g c = λ j none. c.give_piece.ensures.piece.only j (λ e. none (inl e))
+    ∙ (c.pass_patiently.ensures.only j none ∙ c.link_patiently.ensures.piece.only j (λ e. none (inl e)))
+
+-- the range is held in list 0
+pub pass_patiently-requires-clause-holds : goal.pass_patiently-requires-clause-holds
+pass_patiently-requires-clause-holds g c = piece_alone 0 (record { range = c.args.range; mode = c.args.mode }) c.args.hand.now.part
+    c.link_patiently.new.hand.part c.requires.free c.link_patiently.ensures.piece c.in-Ok.ensures.held
+
+-- there are that many lists still
+pub pass_patiently-requires-clause-lists : goal.pass_patiently-requires-clause-lists
+pass_patiently-requires-clause-lists g c = (c.requires.lists.0 ∙ sym c.link_patiently.ensures.piece.later.lists, c.requires.lists.1)
+
+-- and nothing counts
+pub pass_patiently-requires-clause-free : goal.pass_patiently-requires-clause-free
+pass_patiently-requires-clause-free g c = c.link_patiently.ensures.standing ∙ c.requires.free.standing
+
+-- the seat is the same
+pub returns-in-Ok-pass_patiently-clause-later : goal.returns-in-Ok-pass_patiently-clause-later
+returns-in-Ok-pass_patiently-clause-later g c = lists_on c.args.hand.now.part c.link_patiently.new.hand.part c.pass_patiently.new.hand.part
+    c.link_patiently.ensures.piece.later c.pass_patiently.ensures.later
+
+-- there is the list that holds the range
+pub give_piece-requires-clause-there : goal.give_piece-requires-clause-there
+give_piece-requires-clause-there g c =
+    let e = c.link_patiently.ensures.piece.later.lists in let f = c.pass_patiently.ensures.later.lists in
+    let r = c.requires.regions in let x = c.requires.lists.0 in let y = c.requires.lists.1 in omega arith
+
+-- the hand rests
+pub give_piece-requires-clause-resting : goal.give_piece-requires-clause-resting
+give_piece-requires-clause-resting g c = c.in-Err-pass_patiently.ensures.holds.0.rests
+
+-- the range is held
+pub give_piece-requires-clause-holds : goal.give_piece-requires-clause-holds
+give_piece-requires-clause-holds g c = some_held c.in-Err-pass_patiently.ensures.holds.0.held
+
+-- and doesn't count
+pub give_piece-requires-clause-beside : goal.give_piece-requires-clause-beside
+give_piece-requires-clause-beside g c = c.in-Err-pass_patiently.ensures.holds.1
+
+-- the seat is the same after it has given its node back
+pub returns-in-Err-pass_patiently-clause-later : goal.returns-in-Err-pass_patiently-clause-later
+returns-in-Err-pass_patiently-clause-later g c = lists_on c.args.hand.now.part c.pass_patiently.new.hand.part c.give_piece.new.hand.part
+    (lists_on c.args.hand.now.part c.link_patiently.new.hand.part c.pass_patiently.new.hand.part c.link_patiently.ensures.piece.later
+    c.pass_patiently.ensures.later) c.give_piece.ensures.piece.later
+
+-- and holds nothing
+pub returns-in-Err-pass_patiently-clause-free : goal.returns-in-Err-pass_patiently-clause-free
+returns-in-Err-pass_patiently-clause-free g c = piece_free 0 c.pass_patiently.new.hand.part c.give_piece.new.hand.part c.give_piece.ensures.piece
+    c.give_piece.ensures.free (c.give_piece.ensures.standing ∙ c.in-Err-pass_patiently.ensures.back) c.in-Err-pass_patiently.ensures.holds.0.others
