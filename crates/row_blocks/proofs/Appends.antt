@@ -1,0 +1,117 @@
+-- What stands where the rows of a block were appended to the one before it.
+use Rattle.std.proofs.Common.{◌≡◌, ◌≢◌, ℕ, ◌+◌, ◌*◌, ◌/◌, ◌%◌, ◌<◌, ◌≤◌, List, ◌∷◌, ◌++◌, length, take, drop}
+use Rattle.std.proofs.Common.{ap, ◌∙◌, subst, arith, inl, inr}
+use Rattle.std.specs.Prelude.{slice_index, slice_set}
+use Rattle.std.proofs.lemmas.Bool.{cases_lt}
+use Rattle.std.proofs.lemmas.List.{length-set, get_or-set_same, get_or-set_other}
+use Rattle.row_blocks.specs.Blocks.{blocks_of, body_of, rows_of, body_at, block, IsLaidOut}
+use Rattle.row_blocks.specs.Moves.{IsCopied}
+use Rattle.row_blocks.proofs.Puts.{OnlyBlock, same_run}
+use Rattle.row_blocks.proofs.OneBlock.{told_is, block_is, only_block}
+use Rattle.row_blocks.proofs.Splits.{cut_run, copied_run}
+
+-- the stores of an append, one after another, after what was read
+pub record IsAppended (nb : ℕ) (one started middle two : List ℕ) (i : ℕ) : Type 0 where
+  pub head : started ≡ slice_set one (body_at nb one i + rows_of nb one i) (slice_index one (i + 1))
+  pub rest : IsCopied started middle (body_at nb one (i + 1)) (body_at nb one i + rows_of nb one i + 1) (rows_of nb one (i + 1))
+  pub told : two ≡ slice_set middle (128 * nb + 1 + i) (slice_index one (128 * nb + 1 + i) + (rows_of nb one (i + 1) + 1))
+
+-- what was read says where they stand
+pub is_appended : (nb : ℕ) (one loaded started middle two : List ℕ) (i packed other first : ℕ) → loaded ≡ one → packed ≡ slice_index one (128 * nb + 1 + i)
+    → other ≡ slice_index one (128 * nb + 1 + (i + 1)) → first ≡ slice_index one (i + 1)
+    → started ≡ slice_set loaded (nb + 127 * (packed / 128) + packed % 128) first
+    → IsCopied started middle (nb + 127 * (other / 128)) (nb + 127 * (packed / 128) + packed % 128 + 1) (other % 128)
+    → two ≡ slice_set middle (128 * nb + 1 + i) (packed + (other % 128 + 1)) → IsAppended nb one started middle two i
+is_appended nb one loaded started middle two i packed other first same read behind was laid c stored = record {
+  head = laid
+      ∙ (ap (λ (l : List ℕ). slice_set l (nb + 127 * (packed / 128) + packed % 128) first) same
+      ∙ (ap (λ (x : ℕ). slice_set one (nb + 127 * (x / 128) + x % 128) first) read
+      ∙ ap (λ (w : ℕ). slice_set one (body_at nb one i + rows_of nb one i) w) was));
+  rest = subst (λ (x : ℕ). IsCopied started middle (body_at nb one (i + 1)) (nb + 127 * (x / 128) + x % 128 + 1) (rows_of nb one (i + 1))) read
+      (subst (λ (y : ℕ). IsCopied started middle (nb + 127 * (y / 128)) (nb + 127 * (packed / 128) + packed % 128 + 1) (y % 128)) behind c);
+  told = stored
+      ∙ (ap (λ (x : ℕ). slice_set middle (128 * nb + 1 + i) (x + (other % 128 + 1))) read
+      ∙ ap (λ (y : ℕ). slice_set middle (128 * nb + 1 + i) (slice_index one (128 * nb + 1 + i) + (y % 128 + 1))) behind);
+}
+
+-- the rows of the upper block stand as they stood once its head stands behind those of the lower one
+pub started_stays : (nb : ℕ) (one loaded started : List ℕ) (i packed other first m : ℕ) → IsLaidOut nb one → i + 1 < blocks_of nb one
+    → rows_of nb one i + 1 + rows_of nb one (i + 1) ≤ 127 → loaded ≡ one → packed ≡ slice_index one (128 * nb + 1 + i)
+    → other ≡ slice_index one (128 * nb + 1 + (i + 1)) → m < other % 128
+    → started ≡ slice_set loaded (nb + 127 * (packed / 128) + packed % 128) first
+    → slice_index started (nb + 127 * (other / 128) + m) ≡ slice_index one (nb + 127 * (other / 128) + m)
+started_stays nb one loaded started i packed other first m laid there room same read behind lt laid_first =
+    let spare = laid.spare in
+    let apart : body_of nb one i ≢ body_of nb one (i + 1) = λ e. let z = laid.apart i (i + 1) (omega arith) (omega arith) e in absurd (omega arith) in
+    ap (λ (l : List ℕ). slice_index l (nb + 127 * (other / 128) + m)) laid_first
+    ∙ (get_or-set_other loaded (nb + 127 * (packed / 128) + packed % 128) (nb + 127 * (other / 128) + m) first 0
+    (λ e. elim (cases_lt (body_of nb one i) (body_of nb one (i + 1))) [
+      | inl less ↦ absurd (omega arith)
+      | inr ge ↦ absurd (omega (arith, apart))
+    ])
+    ∙ ap (λ (l : List ℕ). slice_index l (nb + 127 * (other / 128) + m)) same)
+
+module _ (nb : ℕ) (one started middle two : List ℕ) (i : ℕ) (laid : IsLaidOut nb one) (there : i + 1 < blocks_of nb one)
+    (room : rows_of nb one i + 1 + rows_of nb one (i + 1) ≤ 127) (a : IsAppended nb one started middle two i) where
+  started_other : (s : ℕ) → s ≢ body_at nb one i + rows_of nb one i → slice_index started s ≡ slice_index one s
+  started_other s d = ap (λ (l : List ℕ). slice_index l s) a.head ∙ get_or-set_other one (body_at nb one i + rows_of nb one i) s (slice_index one (i + 1)) 0 d
+
+  long_middle : length middle ≡ length one
+  long_middle = a.rest.long ∙ (ap length a.head ∙ length-set one (body_at nb one i + rows_of nb one i) (slice_index one (i + 1)))
+
+  bodies_apart : body_of nb one i ≢ body_of nb one (i + 1)
+  bodies_apart e = let s = laid.spare in let z = laid.apart i (i + 1) (omega arith) (omega arith) e in absurd (omega arith)
+
+  -- only the lower block has changed
+  pub append_only : OnlyBlock nb one two i
+  append_only =
+      let s = laid.spare in
+      only_block nb one middle two i (slice_index one (128 * nb + 1 + i) + (rows_of nb one (i + 1) + 1)) 0 laid (omega arith) long_middle a.told (omega arith)
+      (λ t differ low. a.rest.below t (omega arith) ∙ started_other t (λ e. omega arith))
+      (λ t high. a.rest.above t (omega arith) ∙ started_other t (λ e. omega arith))
+
+  -- and has the rows of both
+  pub append_more : rows_of nb two i ≡ rows_of nb one i + 1 + rows_of nb one (i + 1)
+  append_more =
+      let e = told_is nb one middle two i (slice_index one (128 * nb + 1 + i) + (rows_of nb one (i + 1) + 1)) 0 laid (omega arith) long_middle a.told in
+      omega arith
+
+  -- the rows of both stand in one block
+  pub both : block nb two i ≡ block nb one i ++ block nb one (i + 1)
+  both =
+      let wide = laid.wide in
+      let spare = laid.spare in
+      let p = laid.bodies i (omega arith) in
+      let q = laid.bodies (i + 1) (omega arith) in
+      let apart = bodies_apart in
+      let n : ℕ = rows_of nb one i in
+      let m : ℕ = rows_of nb one (i + 1) in
+      let at : ℕ = body_at nb one i in
+      let from : ℕ = body_at nb one (i + 1) in
+      let head : ℕ = slice_index one (i + 1) in
+      let lm = long_middle in
+      let whole : block nb two i ≡ slice_index middle i ∷ take (n + (1 + m)) (drop at middle) =
+      block_is nb one middle two i (slice_index one (128 * nb + 1 + i) + (m + 1)) (n + (1 + m)) laid (omega arith) lm a.told
+      (omega arith) (omega arith) (omega arith) in
+      let first : slice_index middle i ≡ slice_index one i = a.rest.below i (omega arith) ∙ started_other i (λ e. omega arith) in
+      let second : slice_index middle (at + n) ≡ head =
+      a.rest.below (at + n) (omega arith)
+      ∙ (ap (λ (l : List ℕ). slice_index l (at + n)) a.head ∙ get_or-set_same one (at + n) head 0 (omega arith)) in
+      let front : take n (drop at middle) ≡ take n (drop at one) = same_run one middle at n (omega arith) lm (λ k lt.
+      a.rest.below (at + k) (omega arith) ∙ started_other (at + k) (λ e. omega arith)) in
+      let behind : take m (drop (at + (n + 1)) middle) ≡ take m (drop from one) =
+      copied_run one middle from (at + (n + 1)) m (omega arith) (omega arith) (λ k lt.
+      let place : at + (n + 1) + k ≡ at + n + 1 + k = omega arith in
+      ap (slice_index middle) place
+      ∙ (a.rest.copied k lt
+      ∙ started_other (from + k) (λ e. elim (cases_lt (body_of nb one i) (body_of nb one (i + 1))) [
+        | inl less ↦ absurd (omega arith)
+        | inr ge ↦ absurd (omega (arith, apart))
+      ]))) in
+      let cut = cut_run middle at n m (omega arith) in
+      whole
+      ∙ (ap (λ (x : ℕ). x ∷ take (n + (1 + m)) (drop at middle)) first
+      ∙ (ap (λ (l : List ℕ). slice_index one i ∷ l) cut
+      ∙ (ap (λ (l : List ℕ). slice_index one i ∷ (l ++ (slice_index middle (at + n) ∷ take m (drop (at + (n + 1)) middle)))) front
+      ∙ (ap (λ (x : ℕ). slice_index one i ∷ (take n (drop at one) ++ (x ∷ take m (drop (at + (n + 1)) middle)))) second
+      ∙ ap (λ (l : List ℕ). slice_index one i ∷ (take n (drop at one) ++ (head ∷ l))) behind))))

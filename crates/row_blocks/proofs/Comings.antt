@@ -1,0 +1,45 @@
+-- A few rows that come one after another.
+use Rattle.std.proofs.Common.{◌≡◌, ◌≢◌, ℕ, ◌+◌, ◌%◌, ◌<◌, ◌≤◌, List, [], ◌∷◌, ◌++◌, length, get_or, take}
+use Rattle.std.proofs.Common.{sym, ap, ◌∙◌, subst, arith, inl, inr}
+use Rattle.std.proofs.lemmas.Bool.{cases_lt}
+use Rattle.std.specs.List.{splice}
+use Rattle.std.proofs.lemmas.List.{take_more, length-take-le}
+use Rattle.row_blocks.specs.Blocks.{rows_of, count_to, told}
+use Rattle.row_blocks.proofs.RowSplices.{splice_behind}
+use Rattle.row_blocks.proofs.Counts.{count_same}
+
+-- rows before a block are as many while others come into it
+pub count_stays_before : (nb : ℕ) (one two : List ℕ) (i : ℕ) → i < nb → ((k : ℕ) → k < nb → k ≢ i → told nb two k ≡ told nb one k)
+    → count_to nb two i ≡ count_to nb one i
+count_stays_before nb one two i there others = count_same nb one two i (λ k lt. ap (λ (x : ℕ). x % 128) (others k (omega arith) (λ e. omega arith)))
+
+-- one row more
+pub comes_on : (R two three more : List ℕ) (r k at w : ℕ) → r ≤ length R → k < length more → two ≡ splice R r r (take k more)
+    → three ≡ splice two at at (w ∷ []) → at ≡ r + k → w ≡ get_or more k 0 → three ≡ splice R r r (take (k + 1) more)
+comes_on R two three more r k at w there some was comes place word =
+    let u : List ℕ = take k more in
+    let long : length u ≡ k = length-take-le k more (omega arith) in
+    let here : at ≡ r + length u = omega arith in
+    let none : r + length u + 0 ≡ r + length u = omega arith in
+    let zero : r + 0 ≡ r = omega arith in
+    let behind : splice (splice R r r u) (r + length u) (r + length u + 0) (w ∷ []) ≡ splice R r (r + 0) (u ++ (w ∷ [])) =
+    splice_behind R u (w ∷ []) r r 0 there in
+    let last : take (k + 1) more ≡ u ++ (get_or more k 0 ∷ []) = take_more more k 0 some in
+    comes
+    ∙ (ap (λ (l : List ℕ). splice l at at (w ∷ [])) was
+    ∙ (ap (λ (n : ℕ). splice (splice R r r u) n n (w ∷ [])) here
+    ∙ (ap (λ (n : ℕ). splice (splice R r r u) (r + length u) n (w ∷ [])) (sym none)
+    ∙ (behind
+    ∙ (ap (λ (n : ℕ). splice R r n (u ++ (w ∷ []))) zero
+    ∙ (ap (λ (x : ℕ). splice R r r (u ++ (x ∷ []))) word ∙ ap (splice R r r) (sym last)))))))
+
+-- block 0 has at most 64 rows still
+pub stays_short : (nb : ℕ) (two three : List ℕ) (i m : ℕ) → 0 < nb → (i ≡ 0 → rows_of nb two 0 + m < 64) → rows_of nb two 0 < 64
+    → rows_of nb three i ≡ rows_of nb two i + m → ((k : ℕ) → k < nb → k ≢ i → told nb three k ≡ told nb two k) → rows_of nb three 0 < 64
+stays_short nb two three i m some first short grown others = elim (cases_lt 0 i) [
+  | inl more ↦ let e : rows_of nb three 0 ≡ rows_of nb two 0 = ap (λ (x : ℕ). x % 128) (others 0 some (λ q. omega arith)) in omega arith
+  | inr none ↦
+      let z : i ≡ 0 = omega arith in
+      let e : rows_of nb three 0 ≡ rows_of nb two 0 + m = subst (λ (n : ℕ). rows_of nb three n ≡ rows_of nb two n + m) z grown in
+      let f = first z in omega arith
+]

@@ -1,0 +1,22 @@
+-- What the two halves of a block that was split have, and where their rows stand among all.
+use Rattle.std.proofs.Common.{◌≡◌, ℕ, ◌+◌, ◌%◌, ◌<◌, ◌≤◌, List, ap, subst, arith, inl, inr}
+use Rattle.std.proofs.lemmas.Bool.{cases_lt}
+use Rattle.row_blocks.specs.Blocks.{rows_of, count_to, told}
+use Rattle.row_blocks.proofs.Counts.{count_same, count_next}
+
+module _ (nb : ℕ) (one two : List ℕ) (i half : ℕ) (before : (k : ℕ) → k < i → told nb two k ≡ told nb one k) (lower : rows_of nb two i + 1 ≡ half) where
+  -- as many rows stand before the lower half
+  pub low_rank : count_to nb two i ≡ count_to nb one i
+  low_rank = count_same nb one two i (λ k lt. ap (λ (x : ℕ). x % 128) (before k lt))
+
+  -- and those of the lower half before the upper one
+  pub high_rank : count_to nb two (i + 1) ≡ count_to nb one i + half
+  high_rank = let l = low_rank in let n = count_next nb two i in omega arith
+
+  -- block 0 has at most 64 rows still
+  pub first_short : rows_of nb one 0 < 64 → half ≤ 64 → rows_of nb two 0 < 64
+  first_short short few = elim (cases_lt 0 i) [
+    | inl some ↦ let e : rows_of nb two 0 ≡ rows_of nb one 0 = ap (λ (x : ℕ). x % 128) (before 0 some) in omega arith
+    | inr none ↦ let z : i ≡ 0 = omega arith in
+        let l : rows_of nb two 0 + 1 ≡ half = subst (λ (n : ℕ). rows_of nb two n + 1 ≡ half) z lower in omega arith
+  ]

@@ -1,0 +1,284 @@
+-- What is left where blocks go.
+use Rattle.std.proofs.Common.{◌≡◌, ◌≢◌, ℕ, zero, suc, ◌+◌, ◌-◌, ◌*◌, ◌/◌, ◌%◌, ◌<◌, ◌≤◌, List, [], ◌∷◌, ◌++◌, length, take, drop}
+use Rattle.std.proofs.Common.{sym, refl, ap, ◌∙◌, subst, arith, inl, inr}
+use Rattle.std.proofs.lemmas.Bool.{cases_lt}
+use Rattle.std.proofs.lemmas.List.{append_assoc, append-nil, drop_all, take_all, take-append-le, drop-append-le}
+use Rattle.std.proofs.lemmas.List.{length-set, get_or-set_same, get_or-set_other}
+use Rattle.std.specs.Prelude.{slice_index, slice_set}
+use Rattle.std.specs.List.{splice}
+use mathlib.Core.Logic.{dite}
+use native.Mathlib.Decide.{ℕ_discrete}
+use Rattle.row_blocks.specs.Moves.{IsCopied, IsSwapped, IsRotated}
+use Rattle.row_blocks.specs.Blocks.{pieces, blocks_of, body_of, rows_of, body_at, block, rows_in, count_to, AreBodies, IsLaidOut}
+use Rattle.row_blocks.proofs.Pieces.{same_pieces, fewer_pieces}
+use Rattle.row_blocks.proofs.Puts.{same_run, count_is}
+
+-- which of two that change places a number is after it
+record Swapped (a b k m : ℕ) : Type 0 where
+  one : k ≡ a → m ≡ b
+  other : k ≡ b → m ≡ a
+  stays : k ≢ a → k ≢ b → m ≡ k
+
+swap_apart : (a b k l m : ℕ) → Swapped a b k m → Swapped a b l m → k ≡ l
+swap_apart a b k l m one two =
+    let p = one.one in
+    let q = one.other in
+    let r = one.stays in
+    let s = two.one in
+    let t = two.other in
+    let u = two.stays in
+    grind arith
+
+module _ (nb : ℕ) (words : List ℕ) (a b : ℕ) (bodies : AreBodies nb words) (one : a < nb) (other : b < nb) (wide : 129 * nb + 1 ≤ length words) where
+  after : List ℕ
+  after = slice_set (slice_set words (128 * nb + 1 + a) (slice_index words (128 * nb + 1 + b))) (128 * nb + 1 + b) (slice_index words (128 * nb + 1 + a))
+
+  source : (k : ℕ) → k < nb → (m : ℕ) × (m < nb) × Swapped a b k m × (body_of nb after k ≡ body_of nb words m)
+  unfolding after
+  source k lt =
+      let middle : List ℕ = slice_set words (128 * nb + 1 + a) (slice_index words (128 * nb + 1 + b)) in
+      let l = length-set words (128 * nb + 1 + a) (slice_index words (128 * nb + 1 + b)) in
+      let two : List ℕ = slice_set middle (128 * nb + 1 + b) (slice_index words (128 * nb + 1 + a)) in
+      dite (ℕ_discrete k b)
+      (λ e. (
+        a,
+        one,
+        record { one = λ q. omega arith; other = λ q. refl; stays = λ p q. absurd (q e) },
+        subst (λ (n : ℕ). body_of nb two n ≡ body_of nb words a) (sym e)
+            (ap (λ (x : ℕ). x / 128) (get_or-set_same middle (128 * nb + 1 + b) (slice_index words (128 * nb + 1 + a)) 0 (omega arith))),
+      ))
+      (λ differ. let first : slice_index two (128 * nb + 1 + k) ≡ slice_index middle (128 * nb + 1 + k) =
+      get_or-set_other middle (128 * nb + 1 + b) (128 * nb + 1 + k) (slice_index words (128 * nb + 1 + a)) 0 (λ e. differ (omega arith)) in
+      dite (ℕ_discrete k a)
+      (λ e. (
+        b,
+        other,
+        record { one = λ q. refl; other = λ q. absurd (differ q); stays = λ p q. absurd (p e) },
+        ap (λ (x : ℕ). x / 128) (first ∙ subst (λ (n : ℕ). slice_index middle (128 * nb + 1 + n) ≡ slice_index words (128 * nb + 1 + b)) (sym e)
+            (get_or-set_same words (128 * nb + 1 + a) (slice_index words (128 * nb + 1 + b)) 0 (omega arith))),
+      ))
+      (λ apart. (
+        k,
+        lt,
+        record { one = λ q. absurd (apart q); other = λ q. absurd (differ q); stays = λ p q. refl },
+        ap (λ (x : ℕ). x / 128) (first ∙ get_or-set_other words (128 * nb + 1 + a) (128 * nb + 1 + k) (slice_index words (128 * nb + 1 + b)) 0
+            (λ e. apart (omega arith))),
+      )))
+
+  swapped_after : AreBodies nb after
+  swapped_after = record {
+    there = λ k lt. let s = source k lt in let t = bodies.there s.0 s.1 in let e = s.3 in omega arith;
+    apart = λ k l x y e.
+        let s = source k x in
+        let t = source l y in
+        let same : s.0 ≡ t.0 = bodies.apart s.0 t.0 s.1 t.1 (sym s.3 ∙ (e ∙ t.3)) in
+        swap_apart a b k l s.0 s.2 (subst (Swapped a b l) (sym same) t.2);
+  }
+
+  -- each body still is of one block
+  pub swapped : AreBodies nb (slice_set (slice_set words (128 * nb + 1 + a) (slice_index words (128 * nb + 1 + b))) (128 * nb + 1 + b)
+      (slice_index words (128 * nb + 1 + a)))
+  unfolding after
+  swapped = swapped_after
+
+-- two body words change places, each by a load and a store
+pub swap_done : (one loaded mid two : List ℕ) (a b first second : ℕ) → a < length one → b < length one → loaded ≡ one → first ≡ slice_index one a
+    → second ≡ slice_index loaded b → mid ≡ slice_set loaded b first → two ≡ slice_set mid a second
+    → two ≡ slice_set (slice_set one b (slice_index one a)) a (slice_index one b)
+swap_done one loaded mid two a b first second low high same read found laid stored =
+    let value : second ≡ slice_index one b = found ∙ ap (λ (l : List ℕ). slice_index l b) same in
+    let middle : mid ≡ slice_set one b (slice_index one a) =
+    laid ∙ (ap (λ (l : List ℕ). slice_set l b first) same ∙ ap (λ (x : ℕ). slice_set one b x) read) in
+    stored ∙ (ap (λ (l : List ℕ). slice_set l a second) middle ∙ ap (λ (x : ℕ). slice_set (slice_set one b (slice_index one a)) a x) value)
+
+-- so each stands where the other one stood
+pub is_swapped : (one two : List ℕ) (a b : ℕ) → a < length one → b < length one → two ≡ slice_set (slice_set one b (slice_index one a)) a (slice_index one b)
+    → IsSwapped one two a b
+is_swapped one two a b low high is =
+    let mid : List ℕ = slice_set one b (slice_index one a) in
+    let long = length-set one b (slice_index one a) in
+    let here : slice_index two a ≡ slice_index one b =
+    ap (λ (l : List ℕ). slice_index l a) is ∙ get_or-set_same mid a (slice_index one b) 0 (omega arith) in
+    record {
+      long = ap length is ∙ (length-set mid a (slice_index one b) ∙ long);
+      first = here;
+      second = dite (ℕ_discrete b a)
+          (λ e. ap (slice_index two) e ∙ (here ∙ ap (slice_index one) e))
+          (λ differ. ap (λ (l : List ℕ). slice_index l b) is
+          ∙ (get_or-set_other mid a b (slice_index one b) 0 differ ∙ get_or-set_same one b (slice_index one a) 0 high));
+      others = λ s x y. ap (λ (l : List ℕ). slice_index l s) is
+          ∙ (get_or-set_other mid a s (slice_index one b) 0 x ∙ get_or-set_other one b s (slice_index one a) 0 y);
+    }
+
+-- no body word has moved yet
+pub rotates_none : (nb : ℕ) (one : List ℕ) (to gap : ℕ) → IsRotated nb one one to gap 0
+rotates_none nb one to gap = record {
+  long = refl;
+  moved = λ k le lt. absurd (omega arith);
+  behind = λ k le. refl;
+  below = λ s lt. refl;
+}
+
+-- and one more
+pub rotates_on : (nb : ℕ) (one two three : List ℕ) (to gap k : ℕ) → 0 < gap → IsRotated nb one two to gap k
+    → IsSwapped two three (128 * nb + 1 + (to + k)) (128 * nb + 1 + (to + k + gap)) → IsRotated nb one three to gap (k + 1)
+rotates_on nb one two three to gap k some r s = record {
+  long = s.long ∙ r.long;
+  moved = λ j le lt. elim (cases_lt j (to + k)) [
+    | inl less ↦ s.others (128 * nb + 1 + j) (λ e. omega arith) (λ e. omega arith) ∙ r.moved j le less
+    | inr ge ↦ let e : to + k ≡ j = omega arith in
+        subst (λ (m : ℕ). slice_index three (128 * nb + 1 + m) ≡ slice_index one (128 * nb + 1 + (m + gap))) e
+        (s.first ∙ r.behind (to + k + gap) (omega arith))
+  ];
+  behind = λ j le. s.others (128 * nb + 1 + j) (λ e. omega arith) (λ e. omega arith) ∙ r.behind j (omega arith);
+  below = λ t lt. s.others t (λ e. omega arith) (λ e. omega arith) ∙ r.below t lt;
+}
+
+-- the first lists are the front of more of them
+take_pieces : (f : ℕ → List ℕ) (first more : ℕ) → take (length (pieces f first)) (pieces f (first + more)) ≡ pieces f first
+take_pieces f first zero =
+    let e : first + 0 ≡ first = omega arith in
+    ap (λ (m : ℕ). take (length (pieces f first)) (pieces f m)) e ∙ take_all (length (pieces f first)) (pieces f first) (omega arith)
+take_pieces f first (suc more) =
+    let e : first + suc more ≡ suc (first + more) = omega arith in
+    let a = fewer_pieces f first (first + more) (omega arith) in
+    ap (λ (m : ℕ). take (length (pieces f first)) (pieces f m)) e
+    ∙ (take-append-le (length (pieces f first)) (pieces f (first + more)) (f (first + more)) a ∙ take_pieces f first more)
+
+-- where some lists go, the rest is a splice of the whole
+pub pieces_cut : (f g : ℕ → List ℕ) (first gap n : ℕ) → ((i : ℕ) → i < first → g i ≡ f i)
+    → ((i : ℕ) → first ≤ i → i < first + n → g i ≡ f (i + gap))
+    → pieces g (first + n) ≡ splice (pieces f (first + n + gap)) (length (pieces f first)) (length (pieces f (first + gap))) []
+pieces_cut f g first gap zero before behind =
+    let e : first + 0 ≡ first = omega arith in
+    let d : first + 0 + gap ≡ first + gap = omega arith in
+    let front : pieces g first ≡ pieces f first = same_pieces f g first before in
+    let none : drop (length (pieces f (first + gap))) (pieces f (first + gap)) ≡ [] = drop_all (length (pieces f (first + gap))) (pieces f (first + gap))
+    (omega arith) in
+    ap (pieces g) e ∙ (front ∙ sym
+    (ap (λ (m : ℕ). splice (pieces f m) (length (pieces f first)) (length (pieces f (first + gap))) []) d
+    ∙ (ap (λ (l : List ℕ). take (length (pieces f first)) (pieces f (first + gap)) ++ l) none
+    ∙ (append-nil (take (length (pieces f first)) (pieces f (first + gap))) ∙ take_pieces f first gap))))
+pieces_cut f g first gap (suc n) before behind =
+    let e : first + suc n ≡ suc (first + n) = omega arith in
+    let d : first + suc n + gap ≡ suc (first + n + gap) = omega arith in
+    let front = pieces_cut f g first gap n before (λ i a b. behind i a (omega arith)) in
+    let last : g (first + n) ≡ f (first + n + gap) = behind (first + n) (omega arith) (omega arith) in
+    let a = fewer_pieces f first (first + n + gap) (omega arith) in
+    let b = fewer_pieces f (first + gap) (first + n + gap) (omega arith) in
+    let one = take-append-le (length (pieces f first)) (pieces f (first + n + gap)) (f (first + n + gap)) a in
+    let two = drop-append-le (length (pieces f (first + gap))) (pieces f (first + n + gap)) (f (first + n + gap)) b in
+    ap (pieces g) e ∙ (ap (λ (l : List ℕ). l ++ g (first + n)) front
+    ∙ (ap (λ (l : List ℕ). splice (pieces f (first + n + gap)) (length (pieces f first)) (length (pieces f (first + gap))) [] ++ l) last
+    ∙ sym (ap (λ (m : ℕ). splice (pieces f m) (length (pieces f first)) (length (pieces f (first + gap))) []) d
+    ∙ rw (one, two) (simp append_assoc))))
+
+-- what stands once blocks have gone
+pub record IsTakenOut (nb : ℕ) (one two : List ℕ) (first gap n : ℕ) : Type 0 where
+  pub long : length two ≡ length one
+  pub before : blocks_of nb one ≡ first + n + gap
+  pub count : blocks_of nb two ≡ first + n
+  pub region : (s : ℕ) → nb ≤ s → s < 128 * nb → slice_index two s ≡ slice_index one s
+  pub heads : (k : ℕ) → k < first → slice_index two k ≡ slice_index one k
+  pub later_heads : (k : ℕ) → first ≤ k → k < first + n → slice_index two k ≡ slice_index one (k + gap)
+  pub told : (k : ℕ) → k < first → slice_index two (128 * nb + 1 + k) ≡ slice_index one (128 * nb + 1 + k)
+  pub later : (k : ℕ) → first ≤ k → k < first + n → slice_index two (128 * nb + 1 + k) ≡ slice_index one (128 * nb + 1 + (k + gap))
+
+module _ (nb : ℕ) (one two : List ℕ) (first gap n : ℕ) (laid : IsLaidOut nb one) (out : IsTakenOut nb one two first gap n) where
+  -- blocks with the same body word and the same head are the same
+  same_block : (k l : ℕ) → k < nb → slice_index two (128 * nb + 1 + l) ≡ slice_index one (128 * nb + 1 + k)
+      → slice_index two l ≡ slice_index one k → block nb two l ≡ block nb one k
+  same_block k l lt word head =
+      let wide = laid.wide in
+      let b = laid.bodies k lt in
+      let rest : take (rows_of nb one k) (drop (body_at nb one k) two) ≡ take (rows_of nb one k) (drop (body_at nb one k) one) =
+      same_run one two (body_at nb one k) (rows_of nb one k) (omega arith) out.long
+      (λ m lm. out.region (body_at nb one k + m) (omega arith) (omega arith)) in
+      ap (λ (x : ℕ). slice_index two l ∷ take (x % 128) (drop (nb + 127 * (x / 128)) two)) word
+      ∙ (ap (λ (x : ℕ). x ∷ take (rows_of nb one k) (drop (body_at nb one k) two)) head
+      ∙ ap (λ (r : List ℕ). slice_index one k ∷ r) rest)
+
+  -- the rows of the blocks that went are gone
+  pub rows_out : rows_in nb two ≡ splice (rows_in nb one) (length (pieces (block nb one) first)) (length (pieces (block nb one) (first + gap))) []
+  rows_out =
+      let before = out.before in
+      let spare = laid.spare in
+      ap (pieces (block nb two)) out.count
+      ∙ (pieces_cut (block nb one) (block nb two) first gap n
+      (λ i l. same_block i i (omega arith) (out.told i l) (out.heads i l))
+      (λ i a b. same_block (i + gap) i (omega arith) (out.later i a b) (out.later_heads i a b))
+      ∙ ap (λ (m : ℕ). splice (pieces (block nb one) m) (length (pieces (block nb one) first)) (length (pieces (block nb one) (first + gap))) []) (sym before))
+
+  -- by how many rows the blocks have
+  pub rows_taken : rows_in nb two ≡ splice (rows_in nb one) (count_to nb one first) (count_to nb one (first + gap)) []
+  rows_taken =
+      let before = out.before in
+      let spare = laid.spare in
+      rows_out
+      ∙ (ap (λ (m : ℕ). splice (rows_in nb one) m (length (pieces (block nb one) (first + gap))) []) (count_is nb one first laid (omega arith))
+      ∙ ap (λ (m : ℕ). splice (rows_in nb one) (count_to nb one first) m []) (count_is nb one (first + gap) laid (omega arith)))
+
+-- the stores of a removal, one after another
+module _ (nb : ℕ) (one loaded heads told two : List ℕ) (first end count : ℕ) (laid : IsLaidOut nb one) (some : first < end)
+    (there : end ≤ blocks_of nb one) (left : 0 < first) (same : loaded ≡ one) (count_told : count ≡ blocks_of nb one)
+    (c : IsCopied loaded heads end first (count - end)) (r : IsRotated nb heads told first (end - first) (count - end))
+    (bodies : AreBodies nb told) (stored : two ≡ slice_set told (128 * nb) (count - (end - first))) where
+  other : (s : ℕ) → s ≢ 128 * nb → slice_index two s ≡ slice_index told s
+  other s differ = ap (λ (l : List ℕ). slice_index l s) stored ∙ get_or-set_other told (128 * nb) s (count - (end - first)) 0 differ
+
+  was : (s : ℕ) → slice_index loaded s ≡ slice_index one s
+  was s = ap (λ (l : List ℕ). slice_index l s) same
+
+  long_told : length told ≡ length one
+  long_told = r.long ∙ (c.long ∙ ap length same)
+
+  long_two : length two ≡ length one
+  long_two = ap length stored ∙ (length-set told (128 * nb) (count - (end - first)) ∙ long_told)
+
+  here : slice_index two (128 * nb) ≡ count - (end - first)
+  here =
+      let wide = laid.wide in
+      let l = long_told in
+      ap (λ (l : List ℕ). slice_index l (128 * nb)) stored ∙ get_or-set_same told (128 * nb) (count - (end - first)) 0 (omega arith)
+
+  past : (s : ℕ) → count ≤ s → s < 128 * nb + 1 + first → s ≢ 128 * nb → slice_index two s ≡ slice_index one s
+  past s le lt d = other s d ∙ (r.below s lt ∙ (c.above s (omega arith) ∙ was s))
+
+  -- what they come to
+  pub is_out : IsTakenOut nb one two first (end - first) (count - end)
+  is_out =
+      let spare = laid.spare in
+      let h = here in
+      record {
+        long = long_two;
+        before = omega arith;
+        count = omega arith;
+        region = λ s le lt. past s (omega arith) (omega arith) (λ e. omega arith);
+        heads = λ k lt. other k (λ e. omega arith) ∙ (r.below k (omega arith) ∙ (c.below k lt ∙ was k));
+        later_heads = λ k le lt.
+            let e : first + (k - first) ≡ k = omega arith in
+            let f : end + (k - first) ≡ k + (end - first) = omega arith in
+            other k (λ e. omega arith)
+            ∙ (r.below k (omega arith)
+            ∙ (ap (slice_index heads) (sym e) ∙ (c.copied (k - first) (omega arith) ∙ (ap (slice_index loaded) f ∙ was (k + (end - first))))));
+        told = λ k lt. past (128 * nb + 1 + k) (omega arith) (omega arith) (λ e. omega arith);
+        later = λ k le lt. other (128 * nb + 1 + k) (λ e. omega arith)
+            ∙ (r.moved k le lt ∙ (c.above (128 * nb + 1 + (k + (end - first))) (omega arith) ∙ was (128 * nb + 1 + (k + (end - first)))));
+      }
+
+  -- and the words are laid out
+  pub laid_out : IsLaidOut nb two
+  laid_out =
+      let spare = laid.spare in
+      let wide = laid.wide in
+      let long = long_two in
+      let h = here in
+      let stays : (k : ℕ) → body_of nb two k ≡ body_of nb told k =
+      λ (k : ℕ). ap (λ (x : ℕ). x / 128) (other (128 * nb + 1 + k) (λ e. omega arith)) in
+      record {
+        wide = omega arith;
+        some = omega arith;
+        spare = omega arith;
+        bodies = λ k lt. let e = stays k in let b = bodies.there k lt in omega arith;
+        apart = λ k l a b e. bodies.apart k l a b (sym (stays k) ∙ (e ∙ stays l));
+      }

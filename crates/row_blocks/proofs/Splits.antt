@@ -1,0 +1,361 @@
+-- What a split leaves: the same rows, in one block more.
+use Rattle.std.proofs.Common.{◌≡◌, ◌≢◌, ℕ, zero, suc, ◌+◌, ◌-◌, ◌*◌, ◌/◌, ◌%◌, ◌<◌, ◌≤◌, List, ◌∷◌, ◌++◌, length, get_or, take, drop}
+use Rattle.std.proofs.Common.{sym, refl, ap, ◌∙◌, subst, arith, inl, inr}
+use Rattle.std.proofs.Math.Seq.{take-add}
+use Rattle.std.proofs.lemmas.Bool.{cases_lt}
+use Rattle.std.proofs.lemmas.List.{append_assoc, drop-drop, drop_more, length-set, get_or-set_same, get_or-set_other}
+use Rattle.std.proofs.lemmas.Grind.{same_number_lists}
+use Rattle.std.specs.Prelude.{slice_index, slice_set}
+use mathlib.Core.Logic.{dite}
+use native.Mathlib.Decide.{ℕ_discrete}
+use Rattle.row_blocks.specs.Moves.{IsCopied, IsPushed}
+use Rattle.row_blocks.specs.Blocks.{pieces, blocks_of, body_of, rows_of, body_at, block, rows_in, IsLaidOut}
+use Rattle.row_blocks.proofs.Pieces.{same_pieces}
+use Rattle.row_blocks.proofs.Puts.{run_length, run_at, same_run}
+
+-- where one list is cut in two, the whole stays
+pub piece_splits : (f g : ℕ → List ℕ) (k n : ℕ) → k < n → ((i : ℕ) → i < k → g i ≡ f i) → f k ≡ g k ++ g (suc k)
+    → ((i : ℕ) → k < i → i < n → g (suc i) ≡ f i) → pieces g (suc n) ≡ pieces f n
+piece_splits f g k zero lt before here behind = absurd (omega arith)
+piece_splits f g k (suc n) lt before here behind = elim (cases_lt k n) [
+  | inl less ↦
+      let front : pieces g (suc n) ≡ pieces f n = piece_splits f g k n less before here (λ i a b. behind i a (omega arith)) in
+      let last : g (suc n) ≡ f n = behind n less (omega arith) in
+      ap (λ (l : List ℕ). l ++ g (suc n)) front ∙ ap (λ (l : List ℕ). pieces f n ++ l) last
+  | inr ge ↦
+      let e : k ≡ n = omega arith in
+      let front : pieces g n ≡ pieces f n = same_pieces f g n (λ i l. before i (omega arith)) in
+      let cut : f n ≡ g n ++ g (suc n) = subst (λ (m : ℕ). f m ≡ g m ++ g (suc m)) e here in
+      append_assoc (pieces g n) (g n) (g (suc n))
+      ∙ (ap (λ (l : List ℕ). l ++ (g n ++ g (suc n))) front ∙ ap (λ (l : List ℕ). pieces f n ++ l) (sym cut))
+]
+
+-- words that are copied are the same
+pub copied_run : (one two : List ℕ) (from to n : ℕ) → from + n ≤ length one → to + n ≤ length two
+    → ((m : ℕ) → m < n → get_or two (to + m) 0 ≡ get_or one (from + m) 0) → take n (drop to two) ≡ take n (drop from one)
+copied_run one two from to n wide_one wide_two same =
+    let a = run_length one from n wide_one in
+    let b = run_length two to n wide_two in
+    same_number_lists (take n (drop to two)) (take n (drop from one)) (omega arith)
+    (λ k lt. run_at two to n k (omega arith) ∙ (same k (omega arith) ∙ sym (run_at one from n k (omega arith))))
+
+-- a row of a body, those before it and those behind
+pub cut_run : (words : List ℕ) (at before behind : ℕ) → at + before < length words
+    → take (before + (1 + behind)) (drop at words)
+    ≡ take before (drop at words) ++ (get_or words (at + before) 0 ∷ take behind (drop (at + (before + 1)) words))
+cut_run words at before behind wide =
+    let d = drop-drop before at words in
+    let m = drop_more words (at + before) 0 wide in
+    let two : at + before + 1 ≡ at + (before + 1) = omega arith in
+    take-add before (1 + behind) (drop at words)
+    ∙ ap (λ (l : List ℕ). take before (drop at words) ++ l)
+    (ap (take (1 + behind)) (d ∙ m)
+    ∙ (let up : 1 + behind ≡ suc behind = omega arith in
+    ap (λ (n : ℕ). take n (get_or words (at + before) 0 ∷ drop (at + before + 1) words)) up
+    ∙ ap (λ (n : ℕ). get_or words (at + before) 0 ∷ take behind (drop n words)) two))
+
+-- what stands after a split of a block at a place
+pub record IsSplit (nb : ℕ) (one two : List ℕ) (i place : ℕ) : Type 0 where
+  pub long : length two ≡ length one
+  pub count : slice_index two (128 * nb) ≡ blocks_of nb one + 1
+  pub told : (k : ℕ) → k < i → slice_index two (128 * nb + 1 + k) ≡ slice_index one (128 * nb + 1 + k)
+  pub lower : slice_index two (128 * nb + 1 + i) + (rows_of nb one i - place + 1) ≡ slice_index one (128 * nb + 1 + i)
+  pub upper : slice_index two (128 * nb + 1 + (i + 1)) ≡ 128 * body_of nb one (blocks_of nb one) + (rows_of nb one i - place)
+  pub later : (k : ℕ) → i < k → k < blocks_of nb one → slice_index two (128 * nb + 1 + (k + 1)) ≡ slice_index one (128 * nb + 1 + k)
+  pub free : (k : ℕ) → blocks_of nb one < k → k < nb → slice_index two (128 * nb + 1 + k) ≡ slice_index one (128 * nb + 1 + k)
+  pub heads : (k : ℕ) → k ≤ i → slice_index two k ≡ slice_index one k
+  pub head : slice_index two (i + 1) ≡ slice_index one (body_at nb one i + (place - 1))
+  pub later_heads : (k : ℕ) → i < k → k < blocks_of nb one → slice_index two (k + 1) ≡ slice_index one k
+  pub copied : (m : ℕ) → m < rows_of nb one i - place
+      → slice_index two (body_at nb one (blocks_of nb one) + m) ≡ slice_index one (body_at nb one i + place + m)
+  pub low : (s : ℕ) → nb ≤ s → s < body_at nb one (blocks_of nb one) → slice_index two s ≡ slice_index one s
+  pub high : (s : ℕ) → body_at nb one (blocks_of nb one) + (rows_of nb one i - place) ≤ s → s < 128 * nb → slice_index two s ≡ slice_index one s
+
+-- which block of those before a block comes from, counting the free one that it took
+record ComesFrom (i count k m : ℕ) : Type 0 where
+  low : k ≤ i → m ≡ k
+  at : k ≡ i + 1 → m ≡ count
+  later : i + 1 < k → k ≤ count → m + 1 ≡ k
+  free : count < k → m ≡ k
+
+comes_apart : (i count k l m : ℕ) → i < count → ComesFrom i count k m → ComesFrom i count l m → k ≡ l
+comes_apart i count k l m there one two =
+    let a = one.low in
+    let b = one.at in
+    let c = one.later in
+    let d = one.free in
+    let e = two.low in
+    let f = two.at in
+    let g = two.later in
+    let h = two.free in
+    grind arith
+
+module _ (nb : ℕ) (one two : List ℕ) (i place : ℕ) (laid : IsLaidOut nb one) (there : i < blocks_of nb one) (spare : blocks_of nb one < nb)
+    (some : 0 < place) (within : place ≤ rows_of nb one i) (split : IsSplit nb one two i place) where
+  -- the bodies are those that were, in another order
+  comes : (k : ℕ) → k < nb → (m : ℕ) × (m < nb) × ComesFrom i (blocks_of nb one) k m × (body_of nb two k ≡ body_of nb one m)
+  comes k lt = elim (cases_lt i k) [
+    | inr low ↦ (
+      k,
+      lt,
+      record { low = λ l. refl; at = λ e. absurd (omega arith); later = λ l. absurd (omega arith); free = λ l. refl },
+      elim (cases_lt k i) [
+        | inl less ↦ ap (λ (x : ℕ). x / 128) (split.told k less)
+        | inr ge ↦ let e : k ≡ i = omega arith in
+            let l = split.lower in
+            subst (λ (n : ℕ). body_of nb two n ≡ body_of nb one n) (sym e) (omega arith)
+      ],
+    )
+    | inl over ↦ dite (ℕ_discrete k (i + 1))
+        (λ e. (
+          blocks_of nb one,
+          spare,
+          record { low = λ l. absurd (omega arith); at = λ l. refl; later = λ l. absurd (omega arith); free = λ l. absurd (omega arith) },
+          let u = split.upper in
+              subst (λ (n : ℕ). body_of nb two n ≡ body_of nb one (blocks_of nb one)) (sym e) (omega arith),
+        ))
+        (λ differ. elim (cases_lt (blocks_of nb one) k) [
+          | inl free ↦ (
+            k,
+            lt,
+            record { low = λ l. refl; at = λ e. absurd (omega (arith, differ)); later = λ a b. absurd (omega arith); free = λ l. refl },
+            ap (λ (x : ℕ). x / 128) (split.free k free lt),
+          )
+          | inr used ↦ (
+            k - 1,
+            omega arith,
+            record { low = λ l. absurd (omega arith); at = λ e. absurd (omega (arith, differ)); later = λ a b. omega arith; free = λ l. absurd (omega arith) },
+            let up : k - 1 + 1 ≡ k = omega arith in
+                subst (λ (n : ℕ). body_of nb two n ≡ body_of nb one (k - 1)) up
+                (ap (λ (x : ℕ). x / 128) (split.later (k - 1) (omega (arith, differ)) (omega arith))),
+          )
+        ])
+  ]
+
+  -- the words are laid out, one block more
+  pub laid_split : IsLaidOut nb two
+  laid_split =
+      let wide = laid.wide in
+      let long = split.long in
+      let count = split.count in
+      record {
+        wide = omega arith;
+        some = omega arith;
+        spare = omega arith;
+        bodies = λ k lt. let s = comes k lt in let b = laid.bodies s.0 s.1 in let e = s.3 in omega arith;
+        apart = λ k l a b e.
+            let s = comes k a in
+            let t = comes l b in
+            let same : s.0 ≡ t.0 = laid.apart s.0 t.0 s.1 t.1 (sym s.3 ∙ (e ∙ t.3)) in
+            comes_apart i (blocks_of nb one) k l s.0 there s.2 (subst (ComesFrom i (blocks_of nb one) l) (sym same) t.2);
+      }
+
+  -- the words of the bodies in use stand as they stood
+  body_same : (k : ℕ) → k < blocks_of nb one
+      → take (rows_of nb one k) (drop (body_at nb one k) two) ≡ take (rows_of nb one k) (drop (body_at nb one k) one)
+  body_same k lt =
+      let wide = laid.wide in
+      let b = laid.bodies k (omega arith) in
+      let f = laid.bodies (blocks_of nb one) spare in
+      let apart : body_of nb one k ≢ body_of nb one (blocks_of nb one) = λ e.
+      let same = laid.apart k (blocks_of nb one) (omega arith) spare e in absurd (omega arith) in
+      same_run one two (body_at nb one k) (rows_of nb one k) (omega arith) split.long (λ m l.
+      elim (cases_lt (body_of nb one k) (body_of nb one (blocks_of nb one))) [
+        | inl less ↦ split.low (body_at nb one k + m) (omega arith) (omega arith)
+        | inr ge ↦ split.high (body_at nb one k + m) (omega (arith, apart)) (omega arith)
+      ])
+
+  -- blocks with the same body word and the same head are the same
+  moved_block : (k l : ℕ) → k < blocks_of nb one → slice_index two (128 * nb + 1 + l) ≡ slice_index one (128 * nb + 1 + k)
+      → slice_index two l ≡ slice_index one k → block nb two l ≡ block nb one k
+  moved_block k l lt word head =
+      ap (λ (x : ℕ). slice_index two l ∷ take (x % 128) (drop (nb + 127 * (x / 128)) two)) word
+      ∙ (ap (λ (x : ℕ). x ∷ take (rows_of nb one k) (drop (body_at nb one k) two)) head
+      ∙ ap (λ (r : List ℕ). slice_index one k ∷ r) (body_same k lt))
+
+  -- the rows of the block are those of its two halves
+  halves : block nb one i ≡ block nb two i ++ block nb two (suc i)
+  halves =
+      let wide = laid.wide in
+      let b = laid.bodies i (omega arith) in
+      let f = laid.bodies (blocks_of nb one) spare in
+      let at : ℕ = body_at nb one i in
+      let n : ℕ = rows_of nb one i in
+      let lower = split.lower in
+      let upper = split.upper in
+      let next : i + 1 ≡ suc i = omega arith in
+      let all : place - 1 + (1 + (n - place)) ≡ n = omega arith in
+      let from : at + (place - 1 + 1) ≡ at + place = omega arith in
+      let low_word : slice_index two (128 * nb + 1 + i) % 128 ≡ place - 1 = omega arith in
+      let low_body : slice_index two (128 * nb + 1 + i) / 128 ≡ body_of nb one i = omega arith in
+      let high_word : slice_index two (128 * nb + 1 + (i + 1)) % 128 ≡ n - place = omega arith in
+      let high_body : slice_index two (128 * nb + 1 + (i + 1)) / 128 ≡ body_of nb one (blocks_of nb one) = omega arith in
+      let short : take (place - 1) (drop at two) ≡ take (place - 1) (drop at one) =
+      same_run one two at (place - 1) (omega arith) split.long (λ m l.
+      let apart : body_of nb one i ≢ body_of nb one (blocks_of nb one) = λ e.
+      let same = laid.apart i (blocks_of nb one) (omega arith) spare e in absurd (omega arith) in
+      elim (cases_lt (body_of nb one i) (body_of nb one (blocks_of nb one))) [
+        | inl less ↦ split.low (at + m) (omega arith) (omega arith)
+        | inr ge ↦ split.high (at + m) (omega (arith, apart)) (omega arith)
+      ]) in
+      let long_two = split.long in
+      let rest : take (n - place) (drop (body_at nb one (blocks_of nb one)) two) ≡ take (n - place) (drop (at + place) one) =
+      copied_run one two (at + place) (body_at nb one (blocks_of nb one)) (n - place) (omega arith) (omega arith) split.copied in
+      let first : block nb two i ≡ slice_index one i ∷ take (place - 1) (drop at one) =
+      ap (λ (x : ℕ). slice_index two i ∷ take x (drop (nb + 127 * (slice_index two (128 * nb + 1 + i) / 128)) two)) low_word
+      ∙ (ap (λ (x : ℕ). slice_index two i ∷ take (place - 1) (drop (nb + 127 * x) two)) low_body
+      ∙ (ap (λ (x : ℕ). x ∷ take (place - 1) (drop at two)) (split.heads i (omega arith))
+      ∙ ap (λ (r : List ℕ). slice_index one i ∷ r) short)) in
+      let second : block nb two (i + 1) ≡ slice_index one (at + (place - 1)) ∷ take (n - place) (drop (at + place) one) =
+      ap (λ (x : ℕ). slice_index two (i + 1) ∷ take x (drop (nb + 127 * (slice_index two (128 * nb + 1 + (i + 1)) / 128)) two)) high_word
+      ∙ (ap (λ (x : ℕ). slice_index two (i + 1) ∷ take (n - place) (drop (nb + 127 * x) two)) high_body
+      ∙ (ap (λ (x : ℕ). x ∷ take (n - place) (drop (body_at nb one (blocks_of nb one)) two)) split.head
+      ∙ ap (λ (r : List ℕ). slice_index one (at + (place - 1)) ∷ r) rest)) in
+      let cut : take n (drop at one) ≡ take (place - 1) (drop at one) ++ (slice_index one (at + (place - 1)) ∷ take (n - place) (drop (at + place) one)) =
+      ap (λ (x : ℕ). take x (drop at one)) (sym all)
+      ∙ (cut_run one at (place - 1) (n - place) (omega arith)
+      ∙ ap (λ (x : ℕ). take (place - 1) (drop at one) ++ (slice_index one (at + (place - 1)) ∷ take (n - place) (drop x one))) from) in
+      ap (λ (r : List ℕ). slice_index one i ∷ r) cut
+      ∙ (ap (λ (r : List ℕ). r ++ (slice_index one (at + (place - 1)) ∷ take (n - place) (drop (at + place) one))) (sym first)
+      ∙ (ap (λ (r : List ℕ). block nb two i ++ r) (sym second)
+      ∙ ap (λ (x : ℕ). block nb two i ++ block nb two x) next))
+
+  -- and the rows are those that were
+  pub rows_split : rows_in nb two ≡ rows_in nb one
+  rows_split =
+      let count : blocks_of nb two ≡ suc (blocks_of nb one) = let e = split.count in omega arith in
+      ap (pieces (block nb two)) count
+      ∙ piece_splits (block nb one) (block nb two) i (blocks_of nb one) there
+      (λ k lt. moved_block k k (omega arith) (split.told k lt) (split.heads k (omega arith)))
+      halves
+      (λ k over lt. let up : k + 1 ≡ suc k = omega arith in
+      subst (λ (x : ℕ). block nb two x ≡ block nb one k) up
+      (moved_block k (k + 1) lt (split.later k over lt) (split.later_heads k over lt)))
+
+-- the rows that stay in their body stand as they stood
+pub lower_stays : (nb : ℕ) (one copy : List ℕ) (i place s : ℕ) → IsLaidOut nb one → i < blocks_of nb one → blocks_of nb one < nb
+    → body_at nb one i ≤ s → s < body_at nb one i + 127
+    → IsCopied one copy (body_at nb one i + place) (body_at nb one (blocks_of nb one)) (rows_of nb one i - place) → slice_index copy s ≡ slice_index one s
+lower_stays nb one copy i place s laid there spare from until c =
+    let apart : body_of nb one i ≢ body_of nb one (blocks_of nb one) = λ e.
+    let q = laid.apart i (blocks_of nb one) (omega arith) spare e in absurd (omega arith) in
+    elim (cases_lt (body_of nb one i) (body_of nb one (blocks_of nb one))) [
+      | inl under ↦ c.below s (omega arith)
+      | inr ge ↦ c.above s (omega (arith, apart))
+    ]
+
+-- the five stores of a split, one after another
+pub is_split : (nb : ℕ) (one copy heads told : List ℕ) (i place lower : ℕ) → IsLaidOut nb one → i < blocks_of nb one → blocks_of nb one < nb
+    → 0 < place → place ≤ rows_of nb one i
+    → IsCopied one copy (body_at nb one i + place) (body_at nb one (blocks_of nb one)) (rows_of nb one i - place)
+    → IsPushed copy heads (i + 1) (blocks_of nb one) (slice_index copy (body_at nb one i + (place - 1)))
+    → IsPushed heads told (128 * nb + 1 + (i + 1)) (128 * nb + 1 + blocks_of nb one)
+    (128 * body_of nb one (blocks_of nb one) + (rows_of nb one i - place))
+    → lower + (rows_of nb one i - place + 1) ≡ slice_index one (128 * nb + 1 + i)
+    → IsSplit nb one (slice_set (slice_set told (128 * nb + 1 + i) lower) (128 * nb) (blocks_of nb one + 1)) i place
+is_split nb one copy heads told i place lower laid there spare some within c h t less =
+    let long = c.long in
+    let copied = c.copied in
+    let low = c.below in
+    let high = c.above in
+    let n : ℕ = blocks_of nb one in
+    let wide = laid.wide in
+    let b = laid.bodies i (omega arith) in
+    let f = laid.bodies n spare in
+    let three : List ℕ = slice_set told (128 * nb + 1 + i) lower in
+    let two : List ℕ = slice_set three (128 * nb) (n + 1) in
+    let a = length-set told (128 * nb + 1 + i) lower in
+    let z = length-set three (128 * nb) (n + 1) in
+    let hl = h.long in
+    let tl = t.long in
+    let stays : (s : ℕ) → s ≢ 128 * nb + 1 + i → s ≢ 128 * nb → slice_index two s ≡ slice_index told s =
+    λ (s : ℕ) (x : s ≢ 128 * nb + 1 + i) (y : s ≢ 128 * nb).
+    get_or-set_other three (128 * nb) s (n + 1) 0 y ∙ get_or-set_other told (128 * nb + 1 + i) s lower 0 x in
+    let past : (s : ℕ) → 128 * nb ≤ s → slice_index copy s ≡ slice_index one s = λ (s : ℕ) (l : 128 * nb ≤ s). high s (omega arith) in
+    let front : (s : ℕ) → s < nb → slice_index copy s ≡ slice_index one s = λ (s : ℕ) (l : s < nb). low s (omega arith) in
+    record {
+      long = omega arith;
+      count = get_or-set_same three (128 * nb) (n + 1) 0 (omega arith);
+      told = λ k l. stays (128 * nb + 1 + k) (λ e. omega arith) (λ e. omega arith)
+          ∙ (t.below (128 * nb + 1 + k) (omega arith) ∙ (h.above (128 * nb + 1 + k) (omega arith) ∙ past (128 * nb + 1 + k) (omega arith)));
+      lower =
+          let e : slice_index two (128 * nb + 1 + i) ≡ lower = get_or-set_other three (128 * nb) (128 * nb + 1 + i) (n + 1) 0 (λ e. omega arith)
+          ∙ get_or-set_same told (128 * nb + 1 + i) lower 0 (omega arith) in
+          ap (λ (x : ℕ). x + (rows_of nb one i - place + 1)) e ∙ less;
+      upper = stays (128 * nb + 1 + (i + 1)) (λ e. omega arith) (λ e. omega arith) ∙ t.here;
+      later = λ k over l.
+          let at : 128 * nb + 1 + k + 1 ≡ 128 * nb + 1 + (k + 1) = omega arith in
+          stays (128 * nb + 1 + (k + 1)) (λ e. omega arith) (λ e. omega arith)
+          ∙ (ap (slice_index told) (sym at)
+          ∙ (t.moved (128 * nb + 1 + k) (omega arith) (omega arith)
+          ∙ (h.above (128 * nb + 1 + k) (omega arith) ∙ past (128 * nb + 1 + k) (omega arith))));
+      free = λ k over l. stays (128 * nb + 1 + k) (λ e. omega arith) (λ e. omega arith)
+          ∙ (t.above (128 * nb + 1 + k) (omega arith) ∙ (h.above (128 * nb + 1 + k) (omega arith) ∙ past (128 * nb + 1 + k) (omega arith)));
+      heads = λ k l. stays k (λ e. omega arith) (λ e. omega arith)
+          ∙ (t.below k (omega arith) ∙ (h.below k (omega arith) ∙ front k (omega arith)));
+      head =
+          let first = lower_stays nb one copy i place (body_at nb one i + (place - 1)) laid there spare (omega arith) (omega arith) c in
+          stays (i + 1) (λ e. omega arith) (λ e. omega arith) ∙ (t.below (i + 1) (omega arith) ∙ (h.here ∙ first));
+      later_heads = λ k over l. stays (k + 1) (λ e. omega arith) (λ e. omega arith)
+          ∙ (t.below (k + 1) (omega arith) ∙ (h.moved k (omega arith) l ∙ front k (omega arith)));
+      copied = λ m l. stays (body_at nb one n + m) (λ e. omega arith) (λ e. omega arith)
+          ∙ (t.below (body_at nb one n + m) (omega arith) ∙ (h.above (body_at nb one n + m) (omega arith) ∙ copied m l));
+      low = λ s from l. stays s (λ e. omega arith) (λ e. omega arith)
+          ∙ (t.below s (omega arith) ∙ (h.above s (omega arith) ∙ low s l));
+      high = λ s from l. stays s (λ e. omega arith) (λ e. omega arith)
+          ∙ (t.below s (omega arith) ∙ (h.above s (omega arith) ∙ high s from));
+    }
+
+-- what was read of the layout says from where and to where rows are copied
+pub split_copied : (nb : ℕ) (one loaded copy : List ℕ) (i place packed count free : ℕ) → loaded ≡ one → packed ≡ slice_index one (128 * nb + 1 + i)
+    → count ≡ blocks_of nb one → free ≡ slice_index one (128 * nb + 1 + count)
+    → IsCopied loaded copy (nb + 127 * (packed / 128) + place) (nb + 127 * (free / 128)) (packed % 128 - place)
+    → IsCopied one copy (body_at nb one i + place) (body_at nb one (blocks_of nb one)) (rows_of nb one i - place)
+split_copied nb one loaded copy i place packed count free same read counted freed copied =
+    let body : free ≡ slice_index one (128 * nb + 1 + blocks_of nb one) = freed ∙ ap (λ (n : ℕ). slice_index one (128 * nb + 1 + n)) counted in
+    subst (λ (f : ℕ). IsCopied one copy (body_at nb one i + place) (nb + 127 * (f / 128)) (rows_of nb one i - place)) body
+    (subst (λ (x : ℕ). IsCopied one copy (nb + 127 * (x / 128) + place) (nb + 127 * (free / 128)) (x % 128 - place)) read
+    (subst (λ (l : List ℕ). IsCopied l copy (nb + 127 * (packed / 128) + place) (nb + 127 * (free / 128)) (packed % 128 - place)) same copied))
+
+-- the same by what was read of the layout
+pub split_done : (nb : ℕ) (one loaded copy again heads told three two : List ℕ) (i place packed count free head : ℕ) → IsLaidOut nb one
+    → i < blocks_of nb one → blocks_of nb one < nb → 0 < place → place ≤ rows_of nb one i → loaded ≡ one → packed ≡ slice_index one (128 * nb + 1 + i)
+    → count ≡ blocks_of nb one → free ≡ slice_index one (128 * nb + 1 + count)
+    → IsCopied loaded copy (nb + 127 * (packed / 128) + place) (nb + 127 * (free / 128)) (packed % 128 - place) → again ≡ copy
+    → head ≡ slice_index copy (nb + 127 * (packed / 128) + (place - 1)) → IsPushed again heads (i + 1) count head
+    → IsPushed heads told (128 * nb + 1 + (i + 1)) (128 * nb + 1 + count) (128 * (free / 128) + (packed % 128 - place))
+    → three ≡ slice_set told (128 * nb + 1 + i) (packed - (packed % 128 - place + 1)) → two ≡ slice_set three (128 * nb) (count + 1)
+    → IsSplit nb one two i place
+split_done nb one loaded copy again heads told three two i place packed count free head laid there spare some within same read counted freed copied
+    as_copied first
+    h t less more =
+    let body : free ≡ slice_index one (128 * nb + 1 + blocks_of nb one) = freed ∙ ap (λ (n : ℕ). slice_index one (128 * nb + 1 + n)) counted in
+    let c = split_copied nb one loaded copy i place packed count free same read counted freed copied in
+    let word : head ≡ slice_index copy (body_at nb one i + (place - 1)) =
+    first ∙ ap (λ (x : ℕ). slice_index copy (nb + 127 * (x / 128) + (place - 1))) read in
+    let p : IsPushed copy heads (i + 1) (blocks_of nb one) (slice_index copy (body_at nb one i + (place - 1))) =
+    subst (λ (l : List ℕ). IsPushed l heads (i + 1) (blocks_of nb one) (slice_index copy (body_at nb one i + (place - 1)))) as_copied
+    (subst (λ (n : ℕ). IsPushed again heads (i + 1) n (slice_index copy (body_at nb one i + (place - 1)))) counted
+    (subst (λ (x : ℕ). IsPushed again heads (i + 1) count x) word h)) in
+    let q : IsPushed heads told (128 * nb + 1 + (i + 1)) (128 * nb + 1 + blocks_of nb one)
+    (128 * body_of nb one (blocks_of nb one) + (rows_of nb one i - place)) =
+    subst (λ (x : ℕ). IsPushed heads told (128 * nb + 1 + (i + 1)) (128 * nb + 1 + blocks_of nb one)
+    (128 * body_of nb one (blocks_of nb one) + (x % 128 - place))) read
+    (subst (λ (f : ℕ). IsPushed heads told (128 * nb + 1 + (i + 1)) (128 * nb + 1 + blocks_of nb one) (128 * (f / 128) + (packed % 128 - place))) body
+    (subst (λ (n : ℕ). IsPushed heads told (128 * nb + 1 + (i + 1)) (128 * nb + 1 + n) (128 * (free / 128) + (packed % 128 - place))) counted t)) in
+    let lower : ℕ = packed - (packed % 128 - place + 1) in
+    let stored : two ≡ slice_set (slice_set told (128 * nb + 1 + i) lower) (128 * nb) (blocks_of nb one + 1) =
+    more ∙ (ap (λ (l : List ℕ). slice_set l (128 * nb) (count + 1)) less
+    ∙ ap (λ (n : ℕ). slice_set (slice_set told (128 * nb + 1 + i) lower) (128 * nb) (n + 1)) counted) in
+    let sum : lower + (rows_of nb one i - place + 1) ≡ slice_index one (128 * nb + 1 + i) = omega arith in
+    subst (λ (l : List ℕ). IsSplit nb one l i place) (sym stored)
+    (is_split nb one copy heads told i place lower laid there spare some within c p q sum)
+
+-- how many rows the two halves have
+pub split_lower : (nb : ℕ) (one two : List ℕ) (i place : ℕ) → 0 < place → place ≤ rows_of nb one i → IsSplit nb one two i place → rows_of nb two i + 1 ≡ place
+split_lower nb one two i place some within split = let l = split.lower in omega arith
+
+-- and those of the upper half
+pub split_upper : (nb : ℕ) (one two : List ℕ) (i place : ℕ) → place ≤ rows_of nb one i → IsSplit nb one two i place
+    → rows_of nb two (i + 1) + place ≡ rows_of nb one i
+split_upper nb one two i place within split = let u = split.upper in omega arith

@@ -1,0 +1,100 @@
+use Rattle.std.proofs.Common.{ℕ, [], ◌∷◌, ◌≡◌, ◌+◌, All, length, take, refl, sym, ap, subst, ◌∙◌, arith}
+use Rattle.std.specs.Prelude.{slice_index}
+use Rattle.std.specs.List.{splice}
+use Rattle.std.proofs.lemmas.List.{take_all}
+use Rattle.std.proofs.lemmas.List.Elements.{All-get_or, All-nil, All-cons, All-weaker}
+use Rattle.row_blocks.specs.Blocks.{blocks_of, rows_in, rank}
+use Rattle.row_blocks.proofs.RowSplices.{splice_none, all_spliced}
+use Rattle.row_blocks.proofs.Counts.{count_next, count_up}
+use Rattle.row_blocks.proofs.Comings.{count_stays_before, comes_on}
+use Rattle.row_blocks.proofs.Slots.{length-rows_in}
+use Rattle.row_blocks.proofs.coming.insert_all.Goals as goal
+
+-- none has come
+pub rows-init : goal.rows-init
+rows-init g c = record {
+  laid = c.requires.laid;
+  spliced = sym (splice_none (rows_in c.args.blocks (g.W.Words.words c.args.words.now c.args.hand.now))
+      (rank c.args.blocks (g.W.Words.words c.args.words.now c.args.hand.now) c.args.at.block c.args.at.place));
+  count = refl;
+  grown = omega arith;
+  others = λ i lt differ. refl;
+  all = c.requires.rows;
+  high = omega arith;
+  may = c.requires.may;
+  rows = λ w r. r;
+  kept = g.W.Words.no_step c.args.words.now c.args.hand.now;
+  steps = omega arith;
+}
+
+-- the row that comes is a row
+pub insert-requires-clause-row : goal.insert-requires-clause-row
+insert-requires-clause-row g c =
+    let ws = c.args.words.now in
+    let lt = c.rows-test.true in
+    c.rows.invariant.rows (slice_index c.args.more.now c.rows.k)
+    (All-get_or (g.W.Words.is_row ws c.args.hand.now) c.args.more.now c.rows.k 0 (omega arith) c.requires.new)
+
+-- one more has come
+pub rows-preserved : goal.rows-preserved
+rows-preserved g c =
+    let ws = c.args.words.now in
+    let nb = c.args.blocks in
+    let one = g.W.Words.words ws c.args.hand.now in
+    let two = g.W.Words.words ws c.rows.hand in
+    let three = g.W.Words.words ws c.insert.new.hand in
+    let inv = c.rows.invariant in
+    let lt = c.rows-test.true in
+    let i = c.args.at.block in
+    let k = c.rows.k in
+    let w = slice_index c.args.more.now k in
+    let r : ℕ = rank nb one i c.args.at.place in
+    let there = c.requires.there in
+    let place = c.requires.place in
+    let spare = c.requires.laid.spare in
+    let call = c.insert.ensures in
+    let before = count_stays_before nb one two i (omega arith) inv.others in
+    let at : rank nb two i (c.args.at.place + k) ≡ r + k = omega arith in
+    let long = length-rows_in nb one c.requires.laid in
+    let next = count_next nb one i in
+    let up = count_up nb one (i + 1) (blocks_of nb one) (omega arith) in
+    let grown = inv.grown in
+    let more = call.more in
+    let steps = inv.steps in
+    let step = call.steps in
+    let room = c.requires.room in
+    let is = All-get_or (g.W.Words.is_row ws c.args.hand.now) c.args.more.now k 0 (omega arith) c.requires.new in
+    let row : g.W.Words.is_row ws c.insert.new.hand w = call.rows w (inv.rows w is) in
+    record {
+      laid = call.laid;
+      spliced = comes_on (rows_in nb one) (rows_in nb two) (rows_in nb three) c.args.more.now r k (rank nb two i (c.args.at.place + k)) w
+          (omega arith) (omega arith) inv.spliced call.spliced at refl;
+      count = call.count ∙ inv.count;
+      grown = omega arith;
+      others = λ j less differ. call.others j less differ ∙ inv.others j less differ;
+      all = subst (All (g.W.Words.is_row ws c.insert.new.hand)) (sym call.spliced)
+          (all_spliced (g.W.Words.is_row ws c.insert.new.hand) (rows_in nb two) (w ∷ []) (rank nb two i (c.args.at.place + k))
+          (rank nb two i (c.args.at.place + k))
+          (All-weaker (g.W.Words.is_row ws c.rows.hand) (g.W.Words.is_row ws c.insert.new.hand) call.rows (rows_in nb two) inv.all)
+          (All-cons (g.W.Words.is_row ws c.insert.new.hand) w [] row (All-nil (g.W.Words.is_row ws c.insert.new.hand))));
+      high = omega arith;
+      may = call.may;
+      rows = λ x p. call.rows x (inv.rows x p);
+      kept = g.W.Words.steps_on ws c.args.hand.now c.rows.hand c.insert.new.hand inv.kept call.kept;
+      steps = omega arith;
+    }
+
+-- all have come
+pub returns-clause-spliced : goal.returns-clause-spliced
+returns-clause-spliced g c =
+    let ws = c.args.words.now in
+    let nb = c.args.blocks in
+    let one = g.W.Words.words ws c.args.hand.now in
+    let two = g.W.Words.words ws c.rows.hand in
+    let r : ℕ = rank nb one c.args.at.block c.args.at.place in
+    let more = c.args.more.now in
+    let out = c.rows-test.false in
+    let high = c.rows.invariant.high in
+    let all : c.rows.k ≡ length more = omega arith in
+    subst (λ (n : ℕ). rows_in nb two ≡ splice (rows_in nb one) r r (take n more)) all c.rows.invariant.spliced
+    ∙ ap (splice (rows_in nb one) r r) (take_all (length more) more (omega arith))

@@ -1,0 +1,137 @@
+use Rattle.std.proofs.Common.{ℕ, ◌≡◌, ◌+◌, ◌<◌, ◌≤◌, List, length, take, refl, sym, ap, subst, ◌∙◌, arith, rules}
+use Rattle.std.specs.Prelude.{slice_index, slice_set}
+use Rattle.std.specs.List.{splice}
+use Rattle.std.proofs.lemmas.List.{take_all}
+use Rattle.std.proofs.lemmas.List.Elements.{All-get_or}
+use Rattle.row_blocks.specs.Blocks.{IsLaidOut, blocks_of, body_at, rows_of, rows_in, rank}
+use Rattle.row_blocks.proofs.Lays.{SameLayout, IsSpot, same_layout, spot_now, spot_on, spot_below, lays_none, laid_more, next_below, lay_steps}
+use Rattle.row_blocks.proofs.laying.lay_rows.Given.{Over}
+use Rattle.row_blocks.proofs.laying.lay_rows.Goals.{In-rows}
+use Rattle.row_blocks.proofs.laying.lay_rows.Goals as goal
+
+-- while rows are laid the layout is that of the beginning
+same : (g : Over) (c : In-rows g) → SameLayout c.args.blocks (g.W.Words.words c.args.words.now c.args.hand.now) (g.W.Words.words c.args.words.now c.rows.hand)
+same g c = same_layout c.args.blocks (g.W.Words.words c.args.words.now c.args.hand.now) (g.W.Words.words c.args.words.now c.rows.hand) c.rows.invariant.layout
+
+-- and the place behind those that are laid is one of now
+spot : (g : Over) (c : In-rows g) → IsSpot c.args.blocks (g.W.Words.words c.args.words.now c.rows.hand) c.rows.spot.at.block c.rows.spot.at.place
+    c.rows.spot.body.at c.rows.spot.body.rows
+    (rank c.args.blocks (g.W.Words.words c.args.words.now c.args.hand.now) c.args.from.at.block c.args.from.at.place + c.rows.k)
+spot g c = spot_now c.args.blocks (g.W.Words.words c.args.words.now c.args.hand.now) (g.W.Words.words c.args.words.now c.rows.hand) c.rows.spot.at.block
+    c.rows.spot.at.place c.rows.spot.body.at c.rows.spot.body.rows
+    (rank c.args.blocks (g.W.Words.words c.args.words.now c.args.hand.now) c.args.from.at.block c.args.from.at.place + c.rows.k) (same g c)
+    c.rows.invariant.spot
+
+-- nothing is laid yet
+pub rows-init : goal.rows-init
+rows-init g c = record {
+  laid = c.requires.laid;
+  spliced = lays_none c.args.blocks (g.W.Words.words c.args.words.now c.args.hand.now) c.args.more.now
+      (rank c.args.blocks (g.W.Words.words c.args.words.now c.args.hand.now) c.args.from.at.block c.args.from.at.place);
+  layout = λ t le. refl;
+  spot = record { there = c.requires.there; place = c.requires.place; body = c.requires.body; count = c.requires.count; rank = omega arith };
+  high = omega arith;
+  may = c.requires.may;
+  rows = λ w r. r;
+  kept = g.W.Words.no_step c.args.words.now c.args.hand.now;
+  steps = omega arith;
+}
+
+-- its block is there, its body stands there, and a row stands behind it
+pub go_on-here-requires-clause-there : goal.go_on-here-requires-clause-there
+go_on-here-requires-clause-there g c = let s = spot g (goal.at.go_on-here-requires-clause-there g c).In-rows in s.there
+
+-- in or right behind the rows of the block
+pub go_on-here-requires-clause-place : goal.go_on-here-requires-clause-place
+go_on-here-requires-clause-place g c = let s = spot g (goal.at.go_on-here-requires-clause-place g c).In-rows in s.place
+
+-- whose body it is
+pub go_on-here-requires-clause-body : goal.go_on-here-requires-clause-body
+go_on-here-requires-clause-body g c = let s = spot g (goal.at.go_on-here-requires-clause-body g c).In-rows in s.body
+
+-- and which has so many
+pub go_on-here-requires-clause-count : goal.go_on-here-requires-clause-count
+go_on-here-requires-clause-count g c = let s = spot g (goal.at.go_on-here-requires-clause-count g c).In-rows in s.count
+
+-- and a row is left
+pub go_on-here-requires-clause-more : goal.go_on-here-requires-clause-more
+go_on-here-requires-clause-more g c =
+    let ws = c.args.words.now in
+    let h = (goal.at.go_on-here-requires-clause-more g c).In-rows in
+    let lt : c.rows.k < length c.args.more.now = search rules in
+    spot_below c.args.blocks (g.W.Words.words ws c.args.hand.now) (g.W.Words.words ws c.rows.hand) c.rows.spot.at.block c.rows.spot.at.place
+    c.rows.spot.body.at c.rows.spot.body.rows (rank c.args.blocks (g.W.Words.words ws c.args.hand.now) c.args.from.at.block c.args.from.at.place) c.rows.k
+    (length c.args.more.now) c.requires.laid c.rows.invariant.laid (same g h) (spot g h) lt c.requires.fits
+
+pub lay_row-requires-clause-laid : goal.lay_row-requires-clause-laid
+lay_row-requires-clause-laid g c = subst (IsLaidOut c.args.blocks) (sym c.go_on-here.ensures.words) c.rows.invariant.laid
+
+pub lay_row-requires-clause-there : goal.lay_row-requires-clause-there
+lay_row-requires-clause-there g c =
+    subst (λ (l : List ℕ). c.go_on-here.result.at.block < blocks_of c.args.blocks l) (sym c.go_on-here.ensures.words) c.go_on-here.ensures.there
+
+pub lay_row-requires-clause-place : goal.lay_row-requires-clause-place
+lay_row-requires-clause-place g c =
+    subst (λ (l : List ℕ). c.go_on-here.result.at.place ≤ rows_of c.args.blocks l c.go_on-here.result.at.block) (sym c.go_on-here.ensures.words)
+    c.go_on-here.ensures.place
+
+pub lay_row-requires-clause-body : goal.lay_row-requires-clause-body
+lay_row-requires-clause-body g c =
+    subst (λ (l : List ℕ). c.go_on-here.result.body.at ≡ body_at c.args.blocks l c.go_on-here.result.at.block) (sym c.go_on-here.ensures.words)
+    c.go_on-here.ensures.body
+
+pub lay_row-requires-clause-row : goal.lay_row-requires-clause-row
+lay_row-requires-clause-row g c =
+    let ws = c.args.words.now in
+    let w = slice_index c.args.more.now c.rows.k in
+    let lt = c.rows-test.true in
+    c.go_on-here.ensures.rows w (c.rows.invariant.rows w
+    (All-get_or (g.W.Words.is_row ws c.args.hand.now) c.args.more.now c.rows.k 0 (omega arith) c.requires.more))
+
+-- one row more is laid
+pub rows-preserved : goal.rows-preserved
+rows-preserved g c =
+    let ws = c.args.words.now in
+    let nb = c.args.blocks in
+    let h = (goal.at.rows-preserved g c).In-rows in
+    let one = g.W.Words.words ws c.args.hand.now in
+    let two = g.W.Words.words ws c.rows.hand in
+    let three = g.W.Words.words ws c.lay_row.new.hand in
+    let inv = c.rows.invariant in
+    let lt : c.rows.k < length c.args.more.now = search rules in
+    let to = c.go_on-here.result in
+    let go = c.go_on-here.ensures in
+    let w = slice_index c.args.more.now c.rows.k in
+    let r : ℕ = rank nb one c.args.from.at.block c.args.from.at.place in
+    let s = spot g h in
+    let here : rank nb two to.at.block to.at.place ≡ r + c.rows.k = go.rank ∙ s.rank in
+    let laid : rows_in nb three ≡ slice_set (rows_in nb two) (rank nb two to.at.block to.at.place) w =
+    subst (λ (l : List ℕ). rows_in nb three ≡ slice_set (rows_in nb l) (rank nb l to.at.block to.at.place) w) go.words c.lay_row.ensures.laid_row in
+    record {
+      laid = c.lay_row.ensures.laid;
+      spliced = laid_more nb one two three c.args.more.now r c.rows.k (rank nb two to.at.block to.at.place) w (next_below r c.rows.k _ _ lt c.requires.fits) lt
+          inv.spliced laid here refl;
+      layout = λ t le. c.lay_row.ensures.layout t le ∙ (ap (λ (l : List ℕ). slice_index l t) go.words ∙ inv.layout t le);
+      spot = spot_on nb one two to.at.block to.at.place to.body.at to.body.rows r c.rows.k (same g h) go.there go.place go.body go.count here;
+      high = search rules;
+      may = c.lay_row.ensures.may;
+      rows = λ x p. c.lay_row.ensures.rows x (go.rows x (inv.rows x p));
+      kept = g.W.Words.steps_on ws c.args.hand.now c.go_on-here.new.hand c.lay_row.new.hand
+          (g.W.Words.steps_on ws c.args.hand.now c.rows.hand c.go_on-here.new.hand inv.kept go.kept) c.lay_row.ensures.kept;
+      steps = lay_steps _ _ _ _ _ _ _ _ inv.steps go.steps c.lay_row.ensures.steps;
+    }
+
+-- all are laid
+pub returns-clause-spliced : goal.returns-clause-spliced
+returns-clause-spliced g c =
+    let ws = c.args.words.now in
+    let nb = c.args.blocks in
+    let one = g.W.Words.words ws c.args.hand.now in
+    let two = g.W.Words.words ws c.rows.hand in
+    let r : ℕ = rank nb one c.args.from.at.block c.args.from.at.place in
+    let more = c.args.more.now in
+    let out = c.rows-test.false in
+    let high = c.rows.invariant.high in
+    let all : c.rows.k ≡ length more = omega arith in
+    subst (λ (n : ℕ). rows_in nb two ≡ splice (rows_in nb one) r (r + n) (take n more)) all c.rows.invariant.spliced
+    ∙ ap (splice (rows_in nb one) r (r + length more)) (take_all (length more) more (omega arith))

@@ -1,0 +1,46 @@
+use Rattle.std.proofs.Common.{◌≡◌, subst, arith}
+use Rattle.row_blocks.specs.Moves.{IsRotated}
+use Rattle.row_blocks.proofs.Removals.{rotates_none, rotates_on}
+use Rattle.row_blocks.proofs.removing.rotate.Goals as goal
+
+-- nothing has moved yet
+pub bodies-init : goal.bodies-init
+bodies-init g c = record {
+  bodies = c.requires.bodies;
+  rotated = rotates_none c.args.blocks (g.W.Words.words c.args.words.now c.args.hand.now) c.args.to c.args.gap;
+  high = omega arith;
+  may = c.requires.may;
+  rows = λ w r. r;
+  kept = g.W.Words.no_step c.args.words.now c.args.hand.now;
+  steps = omega arith;
+}
+
+-- one body word more has moved down
+pub bodies-preserved : goal.bodies-preserved
+bodies-preserved g c =
+    let ws = c.args.words.now in
+    let inv = c.bodies.invariant in
+    let lt = c.bodies-test.true in
+    let call = c.swap in
+    let steps = inv.steps in
+    let more = call.ensures.steps in
+    record {
+      bodies = call.ensures.bodies;
+      rotated = rotates_on c.args.blocks (g.W.Words.words ws c.args.hand.now) (g.W.Words.words ws c.bodies.hand) (g.W.Words.words ws call.new.hand)
+          c.args.to c.args.gap c.bodies.k c.requires.some inv.rotated call.ensures.swapped;
+      high = omega arith;
+      may = call.ensures.may;
+      rows = λ w r. call.ensures.rows w (inv.rows w r);
+      kept = g.W.Words.steps_on ws c.args.hand.now c.bodies.hand call.new.hand inv.kept call.ensures.kept;
+      steps = omega arith;
+    }
+
+-- all have
+pub returns-clause-rotated : goal.returns-clause-rotated
+returns-clause-rotated g c =
+    let ws = c.args.words.now in
+    let inv = c.bodies.invariant in
+    let out = c.bodies-test.false in
+    let high = inv.high in
+    let all : c.bodies.k ≡ c.args.count = omega arith in
+    subst (IsRotated c.args.blocks (g.W.Words.words ws c.args.hand.now) (g.W.Words.words ws c.bodies.hand) c.args.to c.args.gap) all inv.rotated

@@ -1,0 +1,43 @@
+use Rattle.std.proofs.Common.{◌+◌, ◌/◌, ◌<◌, arith}
+use Rattle.row_blocks.proofs.Halves.{low_rank, high_rank, first_short}
+use Rattle.row_blocks.proofs.rooms.split_half.Given.{Over}
+use Rattle.row_blocks.proofs.rooms.split_half.Goals.{After-split}
+use Rattle.row_blocks.specs.Blocks.{rows_of}
+use Rattle.row_blocks.proofs.rooms.split_half.Goals as goal
+
+-- block 0 has at most 64 rows still
+short : (g : Over) (c : After-split g) → rows_of c.args.blocks (g.W.Words.words c.args.words.now c.split.new.hand) 0 < 64
+short g c =
+    let told = c.requires.rows_told in
+    first_short c.args.blocks (g.W.Words.words c.args.words.now c.args.hand.now) (g.W.Words.words c.args.words.now c.split.new.hand) c.args.at.block
+    ((c.args.rows + 1) / 2) c.split.ensures.before c.split.ensures.lower c.requires.short (omega arith)
+
+-- where the position stays
+pub returns-then-at-half-clause-short : goal.returns-then-at-half-clause-short
+returns-then-at-half-clause-short g c = short g (goal.at.returns-then-at-half-clause-short g c).After-split
+
+-- as many rows stand before the position
+pub returns-then-at-half-clause-rank : goal.returns-then-at-half-clause-rank
+returns-then-at-half-clause-rank g c =
+    let low = low_rank c.args.blocks (g.W.Words.words c.args.words.now c.args.hand.now) (g.W.Words.words c.args.words.now c.split.new.hand)
+    c.args.at.block ((c.args.rows + 1) / 2) c.split.ensures.before c.split.ensures.lower in
+    omega arith
+
+-- and where it is one of the upper half
+pub returns-clause-short : goal.returns-clause-short
+returns-clause-short g c = short g (goal.at.returns-clause-short g c).After-split
+
+-- which is the next block
+pub returns-clause-there : goal.returns-clause-there
+returns-clause-there g c =
+    let there = c.requires.there in
+    let count = c.split.ensures.count in
+    omega arith
+
+-- as many rows stand before the position
+pub returns-clause-rank : goal.returns-clause-rank
+returns-clause-rank g c =
+    let above = c.if-at-half.false in
+    let high = high_rank c.args.blocks (g.W.Words.words c.args.words.now c.args.hand.now) (g.W.Words.words c.args.words.now c.split.new.hand)
+    c.args.at.block ((c.args.rows + 1) / 2) c.split.ensures.before c.split.ensures.lower in
+    omega arith

@@ -1,0 +1,16 @@
+use Rattle.std.proofs.Common.{◌≡◌, ◌-◌, ◌<◌, ◌≤◌, length}
+use Rattle.row_blocks.specs.Blocks.{IsLaidOut, blocks_of, rows_of, rows_in}
+use Rattle.row_blocks.proofs.tests.come_and_go.Given as goal
+
+-- as many rows stand there as before
+abbrev pub invariant-places : goal.invariant-places
+invariant-places g l = record {
+  laid : IsLaidOut l.blocks l.bench.words.items;
+  long : length (rows_in l.blocks l.bench.words.items) ≡ l.count;
+  free : blocks_of l.blocks l.bench.words.items < l.blocks;
+  short : rows_of l.blocks l.bench.words.items 0 < 64;
+  high : l.k ≤ l.times;
+}
+
+abbrev pub decreases-places : goal.decreases-places
+decreases-places g l = l.times - l.k

@@ -1,0 +1,16 @@
+use Rattle.std.proofs.Common.{◌≡◌, ◌+◌, ◌-◌, ◌*◌, ◌<◌, ◌≤◌, length}
+use Rattle.row_blocks.specs.Blocks.{IsLaidOut, blocks_of, rows_of, rows_in}
+use Rattle.row_blocks.proofs.tests.fill.Given as goal
+
+-- four rows have come so many times
+abbrev pub invariant-fours : goal.invariant-fours
+invariant-fours g l = record {
+  laid : IsLaidOut l.blocks l.bench.words.items;
+  long : length (rows_in l.blocks l.bench.words.items) ≡ l.from + 4 * l.k;
+  free : blocks_of l.blocks l.bench.words.items < l.blocks;
+  short : rows_of l.blocks l.bench.words.items 0 < 64;
+  high : l.k ≤ l.times;
+}
+
+abbrev pub decreases-fours : goal.decreases-fours
+decreases-fours g l = l.times - l.k

@@ -1,0 +1,108 @@
+//! Room for a few rows more in a block, by a split where it would have too many. The limits are this project's own,
+//! measured: blocks are small while there are few of them. Block 0 has at most 64 rows, so that a search which loads
+//! its head takes no load more than another one. A reader may rely on the rows being the same.
+ghost use Rattle.std.specs.Prelude.{ℕ, All, [], ◌≡◌, ◌≢◌, ◌+◌, ◌-◌, ◌*◌, ◌/◌, ◌<◌, ◌≤◌, length, slice_index};
+ghost use Rattle.std.specs.List.{splice};
+ghost use Rattle.row_blocks.specs.Blocks.{IsLaidOut, blocks_of, rows_of, rows_in, count_to, rank, told};
+
+use crate::positions::{Position, body_of};
+use crate::splitting::split;
+use crate::words::Words;
+
+/// How many rows a block may have before it is split, where so many blocks are in use.
+pub(crate) fn most_rows(count: usize, block: usize) -> usize
+    ensures low { 32 ≤ result }
+    ensures high { result ≤ 128 }
+    ensures first { block ≡ 0 → result ≤ 64 }
+{
+    if count < 192 {
+        return 32;
+    }
+    if count < 1024 || block == 0 {
+        return 64;
+    }
+    128
+}
+
+/// Splits a block in two halves, and gives where a position is then.
+fn split_half<W: Words>(
+    words: &W,
+    hand: &mut W::Hand,
+    blocks: usize,
+    at: Position,
+    rows: usize,
+) -> Position
+    requires blocks { blocks ≡ W.blocks words.now }
+    requires few { blocks ≤ 2048 }
+    requires may { W.may_store words.now hand.old }
+    requires laid { IsLaidOut blocks (W.words words.now hand.old) }
+    requires rows { All (W.is_row words.now hand.old) (rows_in blocks (W.words words.now hand.old)) }
+    requires there { at.block < blocks_of blocks (W.words words.now hand.old) }
+    requires place { at.place ≤ rows_of blocks (W.words words.now hand.old) at.block + 1 }
+    requires rows_told { rows ≡ rows_of blocks (W.words words.now hand.old) at.block }
+    requires big { 0 < rows }
+    requires free { blocks_of blocks (W.words words.now hand.old) < blocks }
+    requires short { rows_of blocks (W.words words.now hand.old) 0 < 64 }
+    ensures laid { IsLaidOut blocks (W.words words.now hand.new) }
+    ensures same { rows_in blocks (W.words words.now hand.new) ≡ rows_in blocks (W.words words.now hand.old) }
+    ensures count { blocks_of blocks (W.words words.now hand.new) ≡ blocks_of blocks (W.words words.now hand.old) + 1 }
+    ensures short { rows_of blocks (W.words words.now hand.new) 0 < 64 }
+    ensures there { result.block < blocks_of blocks (W.words words.now hand.new) }
+    ensures place { result.place ≤ rows_of blocks (W.words words.now hand.new) result.block + 1 }
+    ensures rank { rank blocks (W.words words.now hand.new) result.block result.place ≡ rank blocks (W.words words.now hand.old) at.block at.place }
+    ensures room { rows_of blocks (W.words words.now hand.new) result.block < 64 }
+    ensures half { result.block ≡ 0 → rows_of blocks (W.words words.now hand.new) 0 < 32 }
+    ensures may { W.may_store words.now hand.new }
+    ensures rows { (w : ℕ) → W.is_row words.now hand.old w → W.is_row words.now hand.new w }
+    ensures kept { W.kept words.now hand.old hand.new }
+    ensures steps { W.steps words.now hand.new ≤ W.steps words.now hand.old + (4 * blocks + 391) }
+{
+    let half = (rows + 1) / 2;
+    split(words, hand, blocks, at.block, half);
+    if at.place <= half {
+        return at;
+    }
+    Position {
+        block: at.block + 1,
+        place: at.place - half,
+    }
+}
+
+/// Splits a block where so many rows more would be too many, and gives where they are to come.
+pub(crate) fn make_room<W: Words>(
+    words: &W,
+    hand: &mut W::Hand,
+    blocks: usize,
+    at: Position,
+    more: usize,
+) -> Position
+    requires blocks { blocks ≡ W.blocks words.now }
+    requires few { blocks ≤ 2048 }
+    requires may { W.may_store words.now hand.old }
+    requires laid { IsLaidOut blocks (W.words words.now hand.old) }
+    requires rows { All (W.is_row words.now hand.old) (rows_in blocks (W.words words.now hand.old)) }
+    requires there { at.block < blocks_of blocks (W.words words.now hand.old) }
+    requires place { at.place ≤ rows_of blocks (W.words words.now hand.old) at.block + 1 }
+    requires free { blocks_of blocks (W.words words.now hand.old) < blocks }
+    requires short { rows_of blocks (W.words words.now hand.old) 0 < 64 }
+    requires more { more ≤ 4 }
+    ensures laid { IsLaidOut blocks (W.words words.now hand.new) }
+    ensures same { rows_in blocks (W.words words.now hand.new) ≡ rows_in blocks (W.words words.now hand.old) }
+    ensures short { rows_of blocks (W.words words.now hand.new) 0 < 64 }
+    ensures there { result.block < blocks_of blocks (W.words words.now hand.new) }
+    ensures place { result.place ≤ rows_of blocks (W.words words.now hand.new) result.block + 1 }
+    ensures rank { rank blocks (W.words words.now hand.new) result.block result.place ≡ rank blocks (W.words words.now hand.old) at.block at.place }
+    ensures room { rows_of blocks (W.words words.now hand.new) result.block + more < 128 }
+    ensures first { result.block ≡ 0 → rows_of blocks (W.words words.now hand.new) 0 + more < 64 }
+    ensures may { W.may_store words.now hand.new }
+    ensures rows { (w : ℕ) → W.is_row words.now hand.old w → W.is_row words.now hand.new w }
+    ensures kept { W.kept words.now hand.old hand.new }
+    ensures steps { W.steps words.now hand.new ≤ W.steps words.now hand.old + (4 * blocks + 393) }
+{
+    let count = words.load(hand, 128 * blocks) as usize;
+    let body = body_of(words, hand, blocks, at.block);
+    if body.rows + 1 + more <= most_rows(count, at.block) {
+        return at;
+    }
+    split_half(words, hand, blocks, at, body.rows)
+}
