@@ -38,7 +38,7 @@ use Rattle.area_guard.specs.History.{with_whole, IsPart, planned_calls, planned_
 use Rattle.area_guard.specs.History.{RowsStandFor, IsRunningSpace, Backs, IsBacked, AreBacked, HoldsFor, Leaves, after_draw}
 use Rattle.area_guard.specs.History.{Runs, IsRight, FitsIn, IsOfLastEntry, IsOwed, rows_after}
 use Rattle.area_guard.specs.Replies.{all_more, reply_named, left_named, left_few}
-use Rattle.area_guard.specs.Stands.{all_stand, same_low, low_rows, shown_set}
+use Rattle.area_guard.specs.Stands.{all_stand, layout_stays, same_low, low_rows, shown_set}
 use Rattle.area_guard.specs.Parts.{own_more, own_same, count_set, most_set, room_kept, rows_fit, rows_fit_more, no_wrap}
 use Rattle.area_guard.specs.Parts.{whole_more, planned_set, resting_of, none_is}
 use Rattle.area_guard.specs.Writes.{everything_pages, span_pages, clash, plan_length}
@@ -179,7 +179,7 @@ others_part start history words value worker p e differ own = record {
   few = own.few;
   room = own.room ∙ sym (length-set words 0 value);
   owed = owed_on start history p.mine p.pending e own.owed;
-  count = λ n c. get_or-set_other words 0 2 value 0 (λ same. omega arith) ∙ own.count n c;
+  laid = λ l k. layout_stays words 0 value (λ same. omega arith) ∙ own.laid l k;
   sequence = λ n c. get_or-set_other words 0 1 value 0 (λ same. omega arith) ∙ own.sequence n c;
 }
 
@@ -195,7 +195,7 @@ own_part start history state left words value worker p e AtRest held is few runs
   few = let l = length-append p.mine (e ∷ []) in omega arith;
   room = own.room ∙ sym (length-set words 0 value);
   owed = tt;
-  count = λ n none. absurd (none_is n none);
+  laid = λ l none. absurd (none_is l none);
   sequence = λ n none. absurd (none_is n none);
 }
 own_part start history state left words value worker p e (Planned plan) held is few runs right leaves own = record {
@@ -205,7 +205,7 @@ own_part start history state left words value worker p e (Planned plan) held is 
   few = let l = length-append p.mine (e ∷ []) in omega arith;
   room = own.room ∙ sym (length-set words 0 value);
   owed = last_drawn start history p.mine state left (Planned plan) e runs right leaves;
-  count = λ n c. get_or-set_other words 0 2 value 0 (λ same. omega arith) ∙ own.count n c;
+  laid = λ l k. layout_stays words 0 value (λ same. omega arith) ∙ own.laid l k;
   sequence = λ n c. get_or-set_other words 0 1 value 0 (λ same. omega arith) ∙ own.sequence n c;
 }
 own_part start history state left words value worker p e (OneRow c) held is few runs right leaves own = record {
@@ -215,7 +215,7 @@ own_part start history state left words value worker p e (OneRow c) held is few 
   few = let l = length-append p.mine (e ∷ []) in omega arith;
   room = own.room ∙ sym (length-set words 0 value);
   owed = last_drawn start history p.mine state left (OneRow c) e runs right leaves;
-  count = λ n k. get_or-set_other words 0 2 value 0 (λ same. omega arith) ∙ own.count n k;
+  laid = λ l k. layout_stays words 0 value (λ same. omega arith) ∙ own.laid l k;
   sequence = λ n k. get_or-set_other words 0 1 value 0 (λ same. omega arith) ∙ own.sequence n k;
 }
 

@@ -32,9 +32,9 @@ use Rattle.area_guard.specs.declared.guard.Pending.{Pending}
 use Rattle.area_guard.specs.declared.guard.Splice.{Splice}
 use Rattle.area_guard.specs.declared.guard.Pending.TheVariants.{AtRest, Planned, OneRow}
 use Rattle.row_plans.specs.RowLists.{areas_from}
-use Rattle.area_guard.specs.Rows.{rows_in, IsSlot, RowsShow}
+use Rattle.area_guard.specs.Rows.{rows_in, layout_in, slots_in, IsSlot, RowsShow}
 use Rattle.row_plans.specs.Plans.{PlanShows}
-use Rattle.area_guard.specs.Reads.{everything, StillStands, noted_from}
+use Rattle.area_guard.specs.Reads.{everything, StillStands, noted_at}
 use Rattle.std.specs.List.{splice}
 use Rattle.area_guard.specs.Changes.{IsIn, alone, new_word, IsInside, IsChange, MayReplace}
 
@@ -83,9 +83,9 @@ most_count passes = sum_by own_most passes
 abbrev pub HasRoom : ℕ → ℕ → ℕ → Type 0
 HasRoom wide rows most = (19 + ROWS ≤ wide) ⊎ (19 + (rows + SPARE * most) ≤ wide)
 
--- what a caller has read of the row count under its range is so
-abbrev pub StillCounts : List ℕ → Option ℕ → Type 0
-StillCounts words count = (n : ℕ) → count ≡ Some n → slice_index words 2 ≡ n
+-- the layout that a caller has read under its range is so
+abbrev pub StillLaid : List ℕ → Option (List ℕ) → Type 0
+StillLaid words laid = (layout : List ℕ) → laid ≡ Some layout → layout_in words ≡ layout
 
 -- what a caller has read of the sequence word under its range is so
 abbrev pub StillRaised : List ℕ → Option ℕ → Type 0
@@ -147,7 +147,7 @@ IsOwed start history mine (OneRow change) = IsOfLastEntry start history mine (On
 
 -- one caller's part: it began with the same areas, has seen a beginning of the history, stores just its own entries,
 -- no more of them than it may have, knows the room for rows, what it has to write is what the last of these entries
--- leaves, and what it has read of the row count and the sequence word is still so
+-- leaves, and what it has read of the layout and the sequence word is still so
 pub record IsPart (start : List Areas) (history : List Entry) (words : List ℕ) (worker : ℕ) (pass : Pass) : Type 0 where
   pub began : pass.start ≡ start
   pub seen : StartsWith history pass.seen
@@ -155,7 +155,7 @@ pub record IsPart (start : List Areas) (history : List Entry) (words : List ℕ)
   pub few : length pass.mine ≤ pass.most
   pub room : 19 + pass.room ≡ length words
   pub owed : IsOwed start history pass.mine pass.pending
-  pub count : StillCounts words pass.count
+  pub laid : StillLaid words pass.laid
   pub sequence : StillRaised words pass.sequence
 
 -- 1 where a call under everything has its number and isn't written yet
@@ -228,7 +228,7 @@ HoldsPages grants worker = (h : Held) × Holds grants worker h × HasPages h
 
 -- a pass that has read nothing of what others may change
 abbrev pub HasReadNothing : Pass → Type 0
-HasReadNothing pass = (pass.count ≡ None) × (pass.rows ≡ []) × (pass.sequence ≡ None)
+HasReadNothing pass = (pass.laid ≡ None) × (pass.rows ≡ []) × (pass.sequence ≡ None)
 
 -- what is to be written is right for the last state, and its caller holds what its entry names
 abbrev pub Backs : Grants → List Areas → ℕ → Pending → Type 0
@@ -263,7 +263,7 @@ newcomer words number = record {
   most = slice_index words (length words - 16 + number);
   seen = [];
   mine = [];
-  count = None;
+  laid = None;
   rows = [];
   sequence = None;
   pending = AtRest;
@@ -273,7 +273,7 @@ newcomer words number = record {
 
 -- a pass when its range is given back: what was read under it may change from now on
 abbrev pub rest_of : Pass → Pass
-rest_of p = record p { count = None; rows = []; sequence = None }
+rest_of p = record p { laid = None; rows = []; sequence = None }
 
 -- nothing is left to be written
 abbrev pub IsAtRest : Pass → Type 0
@@ -327,13 +327,13 @@ after_look history held p = record p { seen = history; looks = record { found = 
 abbrev pub after_sequence : ℕ → Pass → Pass
 after_sequence n p = record p { sequence = Some n }
 
--- the pass after a load of the row count, with which the caller notes all rows as they stand
-abbrev pub after_seen : List ℕ → ℕ → Pass → Pass
-after_seen rows n p = record p { count = Some n; rows = noted_from 0 rows ++ p.rows }
+-- the pass after a load of a word of the layout, with which the caller notes all of it, and all rows as they stand
+abbrev pub after_seen : List ℕ → Pass → Pass
+after_seen words p = record p { laid = Some (layout_in words); rows = noted_at words (slots_in words) ++ p.rows }
 
--- the pass after a store of the row count
+-- the pass after a store of the row count, which is the whole layout
 abbrev pub after_count : ℕ → Pass → Pass
-after_count n p = record p { count = Some n }
+after_count n p = record p { laid = Some (n ∷ []) }
 
 -- the pass after a load of a row
 abbrev pub after_row : ℕ → ℕ → Pass → Pass
@@ -356,7 +356,7 @@ after_draw history e AtRest held p = record {
   most = p.most;
   seen = history ++ e ∷ [];
   mine = p.mine ++ e ∷ [];
-  count = None;
+  laid = None;
   rows = [];
   sequence = None;
   pending = AtRest;
@@ -369,7 +369,7 @@ after_draw history e (Planned plan) held p = record {
   most = p.most;
   seen = history ++ e ∷ [];
   mine = p.mine ++ e ∷ [];
-  count = p.count;
+  laid = p.laid;
   rows = p.rows;
   sequence = p.sequence;
   pending = Planned plan;
@@ -382,7 +382,7 @@ after_draw history e (OneRow change) held p = record {
   most = p.most;
   seen = history ++ e ∷ [];
   mine = p.mine ++ e ∷ [];
-  count = p.count;
+  laid = p.laid;
   rows = p.rows;
   sequence = p.sequence;
   pending = OneRow change;
@@ -396,17 +396,18 @@ after_raise p = record p { sequence = None; pending = AtRest }
 
 -- the pass after the one row of a call over its area was stored: all is written, and what was read is read anew
 abbrev pub after_change : Pass → Pass
-after_change p = record p { count = None; rows = []; sequence = None; pending = AtRest }
+after_change p = record p { laid = None; rows = []; sequence = None; pending = AtRest }
 
 -- the loads that a caller may make: the number word and the sequence word at any time. What it has read of the sequence
--- word, of the row count and of a row it remembers, and it reads the last two only while it holds pages. With the row
--- count it remembers all rows of the moment; those that others may change beside its range stand still as far as it can
--- tell, and all of them where it holds everything. Of a load of the number word it remembers what it found and held
+-- word, of the layout and of a row it remembers, and it reads the last two only while it holds pages. With a word of
+-- the layout it remembers all of it and all rows of the moment; those that others may change beside its range stand
+-- still as far as it can tell, and all of them where it holds everything. Of a load of the number word it remembers
+-- what it found and held
 pub data MayLoad (own : Option Held → Type 0) (free held : Type 0) (words : List ℕ) (history : List Entry) (place : ℕ) (p after : Pass) : Type 0 where
   number : (h : Option Held) → own h → place ≡ 0 → after ≡ after_look history h p → MayLoad own free held words history place p after
   glance : free → place ≡ 1 → after ≡ p → MayLoad own free held words history place p after
   sequence : held → place ≡ 1 → after ≡ after_sequence (slice_index words 1) p → MayLoad own free held words history place p after
-  count : held → place ≡ 2 → after ≡ after_seen (rows_in words) (slice_index words 2) p → MayLoad own free held words history place p after
+  count : held → place ≡ 2 → after ≡ after_seen words p → MayLoad own free held words history place p after
   row : (index : ℕ) → held → index < ROWS → place ≡ 3 + index → after ≡ after_row index (slice_index words (3 + index)) p
       → MayLoad own free held words history place p after
 

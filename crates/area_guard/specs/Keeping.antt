@@ -22,9 +22,9 @@ use Rattle.area_guard.specs.declared.guard.Note.{Note}
 use Rattle.area_guard.specs.declared.guard.ReadRow.{ReadRow}
 use Rattle.area_guard.specs.declared.guard.Pass.{Pass}
 use Rattle.area_guard.specs.declared.guard.Pending.{Pending}
-use Rattle.area_guard.specs.Rows.{rows_in}
+use Rattle.area_guard.specs.Rows.{slots_in}
 use Rattle.area_guard.specs.declared.guard.Pending.TheVariants.{AtRest, Planned, OneRow}
-use Rattle.area_guard.specs.Reads.{everything, noted_from, StillStands}
+use Rattle.area_guard.specs.Reads.{everything, noted_at, StillStands}
 use Rattle.area_guard.specs.Changes.{alone}
 use Rattle.area_guard.specs.History.{IsRunningSpace, HoldsPages, HoldsJust, HoldsNothing, Backs, IsBacked, AreBacked, HasHistory}
 use Rattle.area_guard.specs.History.{rest_of, IsAtRest, entry_of, after_look, after_seen, after_sequence, after_row}
@@ -59,7 +59,7 @@ module _ (grants : Grants) (words : List ℕ) (history : List Entry) (state : Li
   load_backed (sequence h e is) = subst (IsBacked grants words state worker) (sym is) (record { reads = inr h; rows = b.rows; pending = b.pending })
   load_backed (count h e is) = subst (IsBacked grants words state worker) (sym is) (record {
     reads = inr h;
-    rows = λ held has. All-append (StillStands held words) (noted_from 0 (rows_in words)) p.rows (noted_stand held words) (b.rows held has);
+    rows = λ held has. All-append (StillStands held words) (noted_at words (slots_in words)) p.rows (noted_stand held words (slots_in words)) (b.rows held has);
     pending = b.pending;
   })
   load_backed (row index h few e is) = subst (IsBacked grants words state worker) (sym is) (record {
@@ -87,7 +87,7 @@ module _ (mine : Option Held → Type 0) (free held : Type 0) (start : List Area
       (raised start history state words worker p (r.parts worker p at)) refl refl refl)
   loads_keep (count h e is) =
       subst (λ (q : Pass). IsRunningSpace start history state words (set passes worker q)) (sym is)
-      (replaced start history state words worker p (r.parts worker p at) passes (after_seen (rows_in words) (slice_index words 2) p) r at
+      (replaced start history state words worker p (r.parts worker p at) passes (after_seen words p) r at
       (counted start history state words worker p (r.parts worker p at)) refl refl refl)
   loads_keep (row index h few e is) =
       subst (λ (q : Pass). IsRunningSpace start history state words (set passes worker q)) (sym is)

@@ -22,13 +22,13 @@ use Rattle.lock_core.specs.declared.range.Held.{Held}
 use Rattle.area_guard.specs.declared.guard.Pass.{Pass}
 use Rattle.area_guard.specs.declared.guard.Pending.{Pending}
 use Rattle.area_guard.specs.declared.guard.Splice.{Splice}
-use Rattle.area_guard.specs.Rows.{rows_in}
+use Rattle.area_guard.specs.Rows.{layout_in}
 use Rattle.area_guard.specs.declared.guard.Pending.TheVariants.{AtRest, Planned}
 use Rattle.area_guard.specs.History.{entries_of, with_whole, whole_count, own_count, entry_count, own_most, most_count, HasRoom, IsPart, planned_calls}
 use Rattle.area_guard.specs.History.{own_planned, planned_count, RowsStandFor, IsRunningSpace, HasReadNothing, rest_of}
 use Rattle.area_guard.specs.History.{after_look, after_seen, after_count, after_sequence, after_row, after_store, after_raise}
 use Rattle.area_guard.specs.History.{after_change}
-use Rattle.area_guard.specs.Stands.{shown_set}
+use Rattle.area_guard.specs.Stands.{layout_stays, shown_set}
 
 keep_end : {A : Type 0} (b : Bool) (x : A) (xs ys zs : List A) → ys ≡ xs ++ zs → cond b (x ∷ ys) ys ≡ cond b (x ∷ xs) xs ++ zs
 keep_end true x xs ys zs e = ap (λ l. x ∷ l) e
@@ -164,7 +164,7 @@ blank_part start history words others worker x n wide own = record {
   few = own.few;
   room = own.room ∙ sym wide;
   owed = own.owed;
-  count = λ m e. absurd (none_is m (sym n.0 ∙ e));
+  laid = λ l e. absurd (none_is l (sym n.0 ∙ e));
   sequence = λ m e. absurd (none_is m (sym n.2 ∙ e));
 }
 
@@ -178,7 +178,7 @@ beside_part start history words worker index value x own = record {
   few = own.few;
   room = own.room ∙ sym (length-set words (3 + index) value);
   owed = own.owed;
-  count = λ n e. get_or-set_other words (3 + index) 2 value 0 (λ same. omega arith) ∙ own.count n e;
+  laid = λ l e. layout_stays words (3 + index) value (λ same. omega arith) ∙ own.laid l e;
   sequence = λ n e. get_or-set_other words (3 + index) 1 value 0 (λ same. omega arith) ∙ own.sequence n e;
 }
 
@@ -192,11 +192,11 @@ module _ (start : List Areas) (history : List Entry) (state : List Areas) (words
     few = own.few;
     room = own.room;
     owed = own.owed;
-    count = own.count;
+    laid = own.laid;
     sequence = own.sequence;
   }
 
-  pub counted : IsPart start history words worker (after_seen (rows_in words) (slice_index words 2) p)
+  pub counted : IsPart start history words worker (after_seen words p)
   counted = record {
     began = own.began;
     seen = own.seen;
@@ -204,7 +204,7 @@ module _ (start : List Areas) (history : List Entry) (state : List Areas) (words
     few = own.few;
     room = own.room;
     owed = own.owed;
-    count = λ n e. some_is (slice_index words 2) n e;
+    laid = λ l e. some_is (layout_in words) l e;
     sequence = own.sequence;
   }
 
@@ -216,7 +216,7 @@ module _ (start : List Areas) (history : List Entry) (state : List Areas) (words
     few = own.few;
     room = own.room;
     owed = own.owed;
-    count = own.count;
+    laid = own.laid;
     sequence = λ n e. some_is (slice_index words 1) n e;
   }
 
@@ -228,7 +228,7 @@ module _ (start : List Areas) (history : List Entry) (state : List Areas) (words
     few = own.few;
     room = own.room;
     owed = own.owed;
-    count = own.count;
+    laid = own.laid;
     sequence = own.sequence;
   }
 
@@ -240,7 +240,7 @@ module _ (start : List Areas) (history : List Entry) (state : List Areas) (words
     few = own.few;
     room = own.room;
     owed = own.owed;
-    count = λ n e. absurd (none_is n e);
+    laid = λ l e. absurd (none_is l e);
     sequence = λ n e. absurd (none_is n e);
   }
 
@@ -252,7 +252,7 @@ module _ (start : List Areas) (history : List Entry) (state : List Areas) (words
     few = own.few;
     room = own.room ∙ sym (length-set words (3 + index) value);
     owed = own.owed;
-    count = λ n e. get_or-set_other words (3 + index) 2 value 0 (λ same. omega arith) ∙ own.count n e;
+    laid = λ l e. layout_stays words (3 + index) value (λ same. omega arith) ∙ own.laid l e;
     sequence = λ n e. get_or-set_other words (3 + index) 1 value 0 (λ same. omega arith) ∙ own.sequence n e;
   }
 
@@ -264,7 +264,7 @@ module _ (start : List Areas) (history : List Entry) (state : List Areas) (words
     few = own.few;
     room = own.room ∙ sym (length-set words 2 value);
     owed = own.owed;
-    count = λ n e. get_or-set_same words 2 value 0 there ∙ some_is value n e;
+    laid = λ l e. ap (λ (n : ℕ). n ∷ []) (get_or-set_same words 2 value 0 there) ∙ some_is (value ∷ []) l e;
     sequence = λ n e. get_or-set_other words 2 1 value 0 (λ same. omega arith) ∙ own.sequence n e;
   }
 
@@ -276,7 +276,7 @@ module _ (start : List Areas) (history : List Entry) (state : List Areas) (words
     few = own.few;
     room = own.room ∙ sym (length-set words 1 value);
     owed = tt;
-    count = λ n e. get_or-set_other words 1 2 value 0 (λ same. omega arith) ∙ own.count n e;
+    laid = λ l e. layout_stays words 1 value (λ same. omega arith) ∙ own.laid l e;
     sequence = λ n e. absurd (none_is n e);
   }
 
@@ -288,7 +288,7 @@ module _ (start : List Areas) (history : List Entry) (state : List Areas) (words
     few = own.few;
     room = own.room ∙ sym wide;
     owed = tt;
-    count = λ n e. absurd (none_is n e);
+    laid = λ l e. absurd (none_is l e);
     sequence = λ n e. absurd (none_is n e);
   }
 

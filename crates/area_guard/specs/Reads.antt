@@ -2,14 +2,16 @@
 -- row's boundary may move there, but never over a held page: so a row that was read stays on its side of each page that
 -- is held, and is as it was read where such a page touches it. The definitions are this project's own; the range lock
 -- is that of Kogan, Dice and Issa, EuroSys 2020.
-use Rattle.std.specs.Prelude.{ℕ, zero, suc, ◌≡◌, ◌<◌, ◌≤◌, ◌+◌, ◌==◌, ◌⊎◌, ◌↔◌, if◌then◌else◌, Option, Some, None, List, [], ◌∷◌, ◌++◌, length, slice_index}
+use Rattle.std.specs.Prelude.{ℕ, ◌≡◌, ◌<◌, ◌≤◌, ◌+◌, ◌==◌, ◌⊎◌, ◌↔◌, if◌then◌else◌, Option, Some, None, List, [], ◌∷◌, length, slice_index}
+use mathlib.Core.Option.{some}
+use lib.ListN.{get_elem?}
 use Rattle.page_types.specs.declared.TheConstants.{LIMIT}
 use Rattle.lock_core.specs.declared.range.Mode.TheVariants.{Writer}
 use Rattle.lock_core.specs.declared.range.Held.{Held}
 use Rattle.area_guard.specs.declared.guard.ReadRow.{ReadRow}
 use Rattle.area_guard.specs.declared.guard.Pass.{Pass}
 use Rattle.row_plans.specs.RowWords.{row_start, row_kind}
-use Rattle.area_guard.specs.Rows.{IsRowOf}
+use Rattle.area_guard.specs.Rows.{slots_of, IsRowOf}
 
 -- all pages, held as a writer
 abbrev pub everything : Held
@@ -19,38 +21,44 @@ everything = record { range = record { lo = 0; hi = LIMIT }; mode = Writer }
 abbrev pub IsHeldPage : Option Held → ℕ → Type 0
 IsHeldPage held page = (h : Held) × (held ≡ Some h) × (h.range.lo ≤ page) × (page < h.range.hi)
 
--- a number, or 0 where there is none
-abbrev pub or_zero : Option ℕ → ℕ
-or_zero None = 0
-or_zero (Some n) = n
+-- the slots in which rows stand by a layout, where one is known
+abbrev pub slots_by : Option (List ℕ) → List ℕ
+slots_by None = []
+slots_by (Some layout) = slots_of layout
+
+-- how many rows there are by a layout, where one is known
+abbrev pub counts_of : Option (List ℕ) → Option ℕ
+counts_of None = None
+counts_of (Some layout) = Some (length (slots_of layout))
 
 -- a row was read like that, among others
 abbrev pub HasRead : List ReadRow → ℕ → ℕ → Type 0
 HasRead [] index word = ⊥
 HasRead (r ∷ rest) index word = ((r.index ≡ index) × (r.word ≡ word)) ⊎ HasRead rest index word
 
--- rows as a caller notes them, with their numbers from one on
-abbrev pub noted_from : ℕ → List ℕ → List ReadRow
-noted_from index [] = []
-noted_from index (word ∷ rest) = record { index = index; word = word } ∷ noted_from (index + 1) rest
+-- the rows in these slots as a caller notes them
+abbrev pub noted_at : List ℕ → List ℕ → List ReadRow
+noted_at words [] = []
+noted_at words (slot ∷ rest) = record { index = slot; word = slice_index words (3 + slot) } ∷ noted_at words rest
 
 -- the word that was read last of a row, or 0
 abbrev pub word_of : List ReadRow → ℕ → ℕ
 word_of [] index = 0
 word_of (r ∷ rest) index = if r.index == index then r.word else word_of rest index
 
--- the words that were read last of so many rows
-unfoldable pub words_of : List ReadRow → ℕ → List ℕ
-words_of rows zero = []
-words_of rows (suc count) = words_of rows count ++ word_of rows count ∷ []
+-- the words that were read last of the rows in these slots
+unfoldable pub words_of : List ReadRow → List ℕ → List ℕ
+words_of rows [] = []
+words_of rows (slot ∷ rest) = word_of rows slot ∷ words_of rows rest
 
--- the row words that a caller knows, as many as it has counted
+-- the row words that a caller knows, by the layout that it has read
 abbrev pub known_rows : Pass → List ℕ
-known_rows pass = words_of pass.rows (or_zero pass.count)
+known_rows pass = words_of pass.rows (slots_by pass.laid)
 
--- the caller has read, or stored, these row words and their count: they are all there are
+-- the caller has read, or stored, these row words, each in its slot, and the layout: they are all there are
 abbrev pub HasRows : Pass → List ℕ → Type 0
-HasRows pass rows = (pass.count ≡ Some (length rows)) × ((i : ℕ) → i < length rows → HasRead pass.rows i (slice_index rows i))
+HasRows pass rows = (counts_of pass.laid ≡ Some (length rows))
+    × ((k slot : ℕ) → get_elem? (slots_by pass.laid) k ≡ some slot → HasRead pass.rows slot (slice_index rows k))
 
 -- it knows all rows that there are
 abbrev pub KnowsRows : Pass → Type 0

@@ -34,10 +34,22 @@ abbrev pub slots_from : ℕ → ℕ → List ℕ
 slots_from first zero = []
 slots_from first (suc n) = first ∷ slots_from (first + 1) n
 
--- the slots in which rows stand, in order of pages: the row of slot s is client word 3 + s. They are the first ones, as
--- many as word 2 counts
+-- the layout: the words that say which words are rows, and in which order. It is the row count alone
+abbrev pub layout_in : List ℕ → List ℕ
+layout_in words = slice_index words 2 ∷ []
+
+-- the slots in which rows stand by a layout, in order of pages: the row of slot s is client word 3 + s. They are the
+-- first ones, as many as the row count
+abbrev pub slots_of : List ℕ → List ℕ
+slots_of layout = slots_from 0 (slice_index layout 0)
+
+-- the slot of the row of that number by a layout. The number rises with the order of pages
+abbrev pub slot_at : List ℕ → ℕ → ℕ
+slot_at layout index = index
+
+-- the slots in which rows stand
 abbrev pub slots_in : List ℕ → List ℕ
-slots_in words = slots_from 0 (slice_index words 2)
+slots_in words = slots_of (layout_in words)
 
 -- one of these slots
 abbrev pub IsOneOf : List ℕ → ℕ → Type 0
@@ -46,6 +58,14 @@ IsOneOf slots slot = (k : ℕ) × (get_elem? slots k ≡ some slot)
 -- one of them and the one behind it
 abbrev pub AreNeighbours : List ℕ → ℕ → ℕ → Type 0
 AreNeighbours slots slot next = (k : ℕ) × (get_elem? slots k ≡ some slot) × (get_elem? slots (k + 1) ≡ some next)
+
+-- the first of them
+abbrev pub IsFirstOf : List ℕ → ℕ → Type 0
+IsFirstOf slots slot = get_elem? slots 0 ≡ some slot
+
+-- the last of them
+abbrev pub IsLastOf : List ℕ → ℕ → Type 0
+IsLastOf slots slot = (k : ℕ) × (get_elem? slots k ≡ some slot) × (k + 1 ≡ length slots)
 
 -- a row stands in that slot
 abbrev pub IsSlot : List ℕ → ℕ → Type 0

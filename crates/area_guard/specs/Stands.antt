@@ -2,10 +2,10 @@
 -- a caller's pass is replaced by one with as much to write. These are parts of the proofs in `Keeping`; a reader who
 -- trusts the check may pass them over.
 use Rattle.std.specs.Prelude.{All, Option, Some, slice_index}
-use Rattle.std.proofs.Common.{◌≡◌, ℕ, zero, suc, ◌+◌, ◌<◌, ◌≤◌, Bool, true, false, not, cond, eqb, List, [], ◌∷◌}
-use Rattle.std.proofs.Common.{length, get_or, drop, set, sym, refl, ap, ◌∙◌, subst, arith, ⊎_elim}
+use Rattle.std.proofs.Common.{◌≡◌, ◌≢◌, ℕ, zero, suc, ◌+◌, ◌<◌, ◌≤◌, Bool, true, false, not, cond, eqb, List, [], ◌∷◌}
+use Rattle.std.proofs.Common.{length, set, sym, refl, ap, ◌∙◌, subst, arith, ⊎_elim}
 use Rattle.std.proofs.lemmas.Bool.{eqb-false}
-use Rattle.std.proofs.lemmas.List.{get_or-set_same, get_or-set_other, get_or-take, get_or-drop}
+use Rattle.std.proofs.lemmas.List.{get_or-set_same, get_or-set_other}
 use Rattle.std.proofs.lemmas.List.Elements.{All-nil, All-cons, All-head, All-tail, All-weaker}
 use mathlib.Core.Option.{some, some-injective}
 use mathlib.Core.Logic.{dite}
@@ -20,27 +20,17 @@ use Rattle.area_guard.specs.declared.guard.ReadRow.{ReadRow}
 use Rattle.area_guard.specs.declared.guard.Pass.{Pass}
 use Rattle.area_guard.specs.declared.guard.Pending.{Pending}
 use Rattle.row_plans.specs.RowWords.{row_start, row_kind}
-use Rattle.area_guard.specs.Rows.{rows_in, slots_from, slots_in, AreNeighbours, IsOneOf, IsRowOf, RowsShow}
-use Rattle.row_plans.proofs.RowChanges.{take_few}
-use Rattle.area_guard.specs.Reads.{everything, noted_from, StillStands}
+use Rattle.area_guard.specs.Rows.{layout_in, slots_from, slots_in, AreNeighbours, IsOneOf, IsRowOf, RowsShow}
+use Rattle.area_guard.specs.Reads.{everything, noted_at, StillStands}
 use Rattle.area_guard.specs.History.{LagsAt, ShowsBefore, IsShown, without}
 
--- the row count and the row words are the same
+-- the layout and the row words are the same
 abbrev pub HasSameWords : List ℕ → List ℕ → Type 0
 HasSameWords words others = (i : ℕ) → 2 ≤ i → slice_index others i ≡ slice_index words i
 
-add-zero : (n : ℕ) → n ≡ n + 0
-add-zero n = omega arith
-
-next_place : (first i : ℕ) → first + 1 + i ≡ first + suc i
-next_place first i = omega arith
-
--- the row word at a place of the list is a client word
-noted_at : (words : List ℕ) (i : ℕ) → i < length (rows_in words) → get_or (rows_in words) i 0 ≡ slice_index words (3 + (0 + i))
-noted_at words i lt =
-    let few = take_few (slice_index words 2) (drop 3 words) in
-    let at : i ≡ 0 + i = omega arith in
-    get_or-take (slice_index words 2) (drop 3 words) i 0 (omega arith) ∙ (get_or-drop 3 words i 0 ∙ ap (λ n. slice_index words (3 + n)) at)
+-- a store of another word leaves the layout
+pub layout_stays : (words : List ℕ) (place value : ℕ) → place ≢ 2 → layout_in (set words place value) ≡ layout_in words
+layout_stays words place value differ = ap (λ (n : ℕ). n ∷ []) (get_or-set_other words place 2 value 0 (λ e. differ (sym e)))
 
 -- a row whose word is the same stands still
 pub exact_stands : (held : Option Held) (words : List ℕ) (r : ReadRow) → slice_index words (3 + r.index) ≡ r.word → StillStands held words r
@@ -51,17 +41,12 @@ exact_stands held words r e = record {
   word = λ all. e;
 }
 
--- so do all rows as they are noted with their count
-noted_on : (held : Option Held) (words rows : List ℕ) (first : ℕ)
-    → ((i : ℕ) → i < length rows → slice_index words (3 + (first + i)) ≡ get_or rows i 0)
-    → All (StillStands held words) (noted_from first rows)
-noted_on held words [] first all = All-nil (StillStands held words)
-noted_on held words (word ∷ rest) first all = All-cons (StillStands held words) (record { index = first; word = word }) (noted_from (first + 1) rest)
-    (exact_stands held words (record { index = first; word = word }) (ap (λ n. slice_index words (3 + n)) (add-zero first) ∙ all 0 (omega arith)))
-    (noted_on held words rest (first + 1) (λ i lt. ap (λ n. slice_index words (3 + n)) (next_place first i) ∙ all (suc i) (omega arith)))
-
-pub noted_stand : (held : Option Held) (words : List ℕ) → All (StillStands held words) (noted_from 0 (rows_in words))
-noted_stand held words = noted_on held words (rows_in words) 0 (λ i lt. sym (noted_at words i lt))
+-- so do all rows as they are noted with the layout
+pub noted_stand : (held : Option Held) (words slots : List ℕ) → All (StillStands held words) (noted_at words slots)
+noted_stand held words [] = All-nil (StillStands held words)
+noted_stand held words (slot ∷ rest) =
+    let r : ReadRow = record { index = slot; word = slice_index words (3 + slot) } in
+    All-cons (StillStands held words) r (noted_at words rest) (exact_stands held words r refl) (noted_stand held words rest)
 
 module _ (held : Option Held) (words others : List ℕ) (same : HasSameWords words others) where
   slots : slots_in others ≡ slots_in words

@@ -10,7 +10,7 @@ use std::collections::LinkedList;
 
 /// A row word as a caller has read it.
 pub struct ReadRow {
-    /// The number of the row, counted from 0.
+    /// The slot in which the row stands (`slots_in` of `specs/Rows.antt`).
     pub index: u32,
     pub word: u64,
 }
@@ -19,7 +19,7 @@ pub struct ReadRow {
 /// there were. Pages are counted from 0.
 #[derive(Clone, Copy, Debug, PartialEq, Eq)]
 pub struct Change {
-    /// The number of the row, counted from 0.
+    /// The slot in which the row stands.
     pub index: u32,
     /// The page where the row starts from now on.
     pub start: u64,
@@ -86,9 +86,10 @@ pub struct Pass {
     pub seen: LinkedList<Entry>,
     /// The caller's own entries, in order.
     pub mine: LinkedList<Entry>,
-    /// The row count, where the caller has read it under the range that it holds.
-    pub count: Option<u64>,
-    /// The rows that the caller has read, or stored, under the range that it holds. With the row count it has noted all
+    /// The words that say which words are rows, and in which order, where the caller has read one of them under the
+    /// range that it holds.
+    pub laid: Option<LinkedList<u64>>,
+    /// The rows that the caller has read, or stored, under the range that it holds. With the layout it has noted all
     /// rows as they stood.
     pub rows: LinkedList<ReadRow>,
     /// The sequence word, where the caller has read it under the range that it holds.

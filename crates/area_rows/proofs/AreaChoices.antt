@@ -4,7 +4,7 @@
 use Rattle.std.proofs.Common.{◌≡◌, ◌≢◌, ℕ, zero, suc, ◌+◌, ◌-◌, ◌<◌, ◌≤◌, ◌⊎◌, inl, inr, List, drop, get_or, sym, refl, ap, ◌∙◌, subst, arith, ⊎_elim}
 use Rattle.std.proofs.lemmas.Bool.{cases_lt, true≢false}
 use Rattle.std.proofs.lemmas.List.{drop_all}
-use Rattle.std.specs.Prelude.{All, Option, Some, None, is_none, Bool, true, false, IsTrue, [], ◌∷◌}
+use Rattle.std.specs.Prelude.{All, Option, Some, None, is_none, Bool, true, false, IsTrue, [], ◌∷◌, length, slice_index}
 use Rattle.std.specs.Option.{option_map}
 use mathlib.Core.Option.{some}
 use lib.ListN.{get_elem?}
@@ -44,8 +44,9 @@ use Rattle.area_guard.specs.declared.guard.Pass.{Pass}
 use Rattle.area_rows.specs.declared.row.Row.{Row}
 use Rattle.row_plans.specs.RowWords.{row_start}
 use Rattle.row_plans.specs.RowLists.{rows_start, ShowFrom}
-use Rattle.area_guard.specs.Rows.{rows_in, room_of}
-use Rattle.area_guard.specs.Reads.{IsHeldPage, StillStands}
+use Rattle.area_guard.specs.Rows.{slots_of, slot_at, rows_in, room_of}
+use Rattle.area_guard.proofs.Slots.{slot_few}
+use Rattle.area_guard.specs.Reads.{slots_by, IsHeldPage, StillStands}
 use Rattle.area_guard.specs.Changes.{alone, IsChange}
 use Rattle.area_rows.specs.OneStore.{IsOneStore, IsRound}
 use Rattle.area_rows.specs.OneStore.IsOneStore.{whole, first_part, last_part}
@@ -58,6 +59,7 @@ use Rattle.area_guard.specs.Writes.{span_pages}
 use Rattle.row_plans.proofs.RowLists.{row_says, some_none}
 use Rattle.area_rows.proofs.Moments.{first_start, nobody_plans, shows_held}
 use Rattle.area_rows.specs.Loading.{reading_on}
+use Rattle.area_rows.proofs.Numbers.{end_by, before_by, behind_by}
 use Rattle.area_rows.proofs.Reading.{shows_on, before_on, as_read_on}
 use Rattle.area_rows.proofs.OneRow.{IsRowIn, shown_at, next_is}
 use Rattle.area_rows.proofs.ReplacingRows.{row_in}
@@ -115,14 +117,14 @@ beside rows kinds row before behind show f = record {
 }
 
 -- one store is one of the four ways
-pub four_of : (A : List Area) (a : Area) (row : Row) (before behind : Option Kind) (c : Change)
-    → IsAmong A a row c.old before behind → IsOneStore row before behind c → FourCases A a c.place.lo c.place.hi c.new
-four_of A a row before behind c g (whole index at new lo hi not_before not_behind) =
+pub four_of : (A : List Area) (a : Area) (slot next : ℕ) (row : Row) (before behind : Option Kind) (c : Change)
+    → IsAmong A a row c.old before behind → IsOneStore slot next row before behind c → FourCases A a c.place.lo c.place.hi c.new
+four_of A a slot next row before behind c g (whole index at new lo hi not_before not_behind) =
     all_change (lo ∙ sym g.lo) (hi ∙ sym g.hi) (λ e. not_before (sym g.left ∙ (ap (kind_before A) (sym lo) ∙ e)))
     (λ e. not_behind (sym g.right ∙ (ap (kind_at A) (sym hi) ∙ e)))
-four_of A a row before behind c g (first_part index at same_kind lo hi is_before) =
+four_of A a slot next row before behind c g (first_part index at same_kind lo hi is_before) =
     first_change (lo ∙ sym g.lo) (let h = g.hi in omega arith) (ap (kind_before A) lo ∙ (g.left ∙ is_before))
-four_of A a row before behind c g (last_part index at new lo hi is_behind) =
+four_of A a slot next row before behind c g (last_part index at new lo hi is_behind) =
     last_change (let l = g.lo in omega arith) (hi ∙ sym g.hi) (ap (kind_at A) hi ∙ (g.right ∙ is_behind))
 
 -- no way leads to more rows or fewer
@@ -147,11 +149,11 @@ none_of A a row before behind c g differ all first last (last_change lo hi is_be
     last (let l = g.lo in omega arith) at_hi (sym g.right ∙ (ap (kind_at A) (sym at_hi) ∙ is_behind))
 
 -- at a moment of a caller that holds the row and a page on each side, and has read the rows round it
-module _ (seat : SeatState Pass) (span : Span) (row : Row) (kind : Kind) (before behind : Option Kind) (addr len : ℕ) (prot : Prot)
+module _ (seat : SeatState Pass) (span : Span) (row : Row) (kind : Kind) (next : ℕ) (before behind : Option Kind) (addr len : ℕ) (prot : Prot)
     (held : seat.held ≡ Some (alone span)) (rest : IsAtRest seat.pass) (round : IsRound row span) (limit : row.hi ≤ LIMIT)
     (is_kind : row.kind ≡ Some kind)
-    (read : IsAsRead seat.pass row) (read_before : IsReadBefore seat.pass.rows row.index before)
-    (read_behind : IsReadBehind seat.pass.rows read.count row.index behind)
+    (read : IsAsRead seat.pass row) (read_before : IsReadBefore seat.pass.rows (slots_of read.layout) (slot_at read.layout row.index) before)
+    (read_behind : IsReadBehind seat.pass.rows (slots_of read.layout) (slot_at read.layout row.index) next behind)
     (undecided : plain_reply (Protect addr len prot) ≡ None) (some_page : page_of addr < end_page addr len)
     (from : row.lo ≤ page_of addr) (until : end_page addr len ≤ row.hi)
     (start : List Area) (history : List Entry) (state : List Area) (words : List ℕ) (m : IsMoment seat start history state words)
@@ -186,12 +188,16 @@ module _ (seat : SeatState Pass) (span : Span) (row : Row) (kind : Kind) (before
   found =
       let part = m.running.parts seat.number m.pass m.own in
       let stood : All (StillStands (Some (alone span)) words) m.pass.rows = (m.backed seat.number m.pass m.own).rows (Some (alone span)) granted in
-      row_in span words rows.0 rows.2 m.pass.rows stood row before behind read.count read.word round (omega arith) limit
-      (part.count read.count (m.read.count read.count read.counted)) read.there (m.read.rows row.index read.word read.read)
+      row_in span words rows.0 rows.2 m.pass.rows stood row before behind (slice_index read.layout 0) read.word round (omega arith) limit
+      (ap (λ (l : List ℕ). slice_index l 0) (part.laid read.layout (m.read.laid read.layout read.laid)))
+      (slot_few read.layout row.index read.there) (m.read.rows row.index read.word read.read)
       read.lo read.kind
-      (⊎_elim (λ t. inl (t.0, t.1, m.read.rows (row.index + 1) t.1 t.2, t.3)) (λ t. inr t) read.hi)
-      (⊎_elim (λ t. inl t) (λ t. inr (t.0, t.1, m.read.rows (row.index - 1) t.1 t.2, t.3)) read_before)
-      (⊎_elim (λ t. inl t) (λ t. inr (t.0, t.1, m.read.rows (row.index + 1) t.1 t.2, t.3)) read_behind)
+      (⊎_elim (λ t. inl (t.0, t.1, m.read.rows (row.index + 1) t.1 t.2, t.3)) (λ t. inr t)
+      (end_by seat.pass.rows read.layout row.index row.hi read.hi))
+      (⊎_elim (λ t. inl t) (λ t. inr (t.0, t.1, m.read.rows (row.index - 1) t.1 t.2, t.3))
+      (before_by seat.pass.rows read.layout row.index before read_before))
+      (⊎_elim (λ t. inl t) (λ t. inr (t.0, t.1, m.read.rows (row.index + 1) t.1 t.2, t.3))
+      (behind_by seat.pass.rows read.layout row.index next behind read_behind))
 
   sides : IsBeside rows.0 row before behind
   sides = beside (rows_in words) rows.0 row before behind rows.2.show found
@@ -361,12 +367,12 @@ cases_to : (A : List Area) (a : Area) (c : Change) (span : Span) (lo hi : ℕ) (
 cases_to A a c span lo hi old new o way = subst (λ (z : ℕ × ℕ × Kind). FourCases A a z.0 z.1 z.2) (λ i. (sym o.lo_is i, sym o.hi_is i, sym o.new_is i)) way
 
 -- the plan of a caller that holds the area and has read the rows round it
-module _ (c : CallerView) (span : Span) (row : Row) (kind : Kind) (before behind : Option Kind) (addr len : ℕ) (prot : Prot)
+module _ (c : CallerView) (span : Span) (row : Row) (kind : Kind) (next : ℕ) (before behind : Option Kind) (addr len : ℕ) (prot : Prot)
     (held : c.seat.held ≡ Some (alone span)) (rest : IsAtRest c.seat.pass) (round : IsRound row span) (limit : row.hi ≤ LIMIT)
     (is_kind : row.kind ≡ Some kind)
-    (read : IsAsRead c.seat.pass row) (few : read.count ≤ ROWS) (fits : read.count ≤ room_of c.seat.table)
-    (read_before : IsReadBefore c.seat.pass.rows row.index before)
-    (read_behind : IsReadBehind c.seat.pass.rows read.count row.index behind)
+    (read : IsAsRead c.seat.pass row) (few : length (slots_of read.layout) ≤ ROWS) (fits : length (slots_of read.layout) ≤ room_of c.seat.table)
+    (read_before : IsReadBefore c.seat.pass.rows (slots_of read.layout) (slot_at read.layout row.index) before)
+    (read_behind : IsReadBehind c.seat.pass.rows (slots_of read.layout) (slot_at read.layout row.index) next behind)
     (undecided : plain_reply (Protect addr len prot) ≡ None) (some_page : page_of addr < end_page addr len)
     (from : row.lo ≤ page_of addr) (until : end_page addr len ≤ row.hi)
     (shows : Shows c.seat (RowIs c.seat.held (page_of addr) row)) where
@@ -380,21 +386,21 @@ module _ (c : CallerView) (span : Span) (row : Row) (kind : Kind) (before behind
       → MayNumber c (Protect addr len prot) Zero (OverArea span)
   number_by change chosen unsealed way leaves start history state words m =
       let is = shows start history state words m in
-      let g = among c.seat span row kind before behind addr len prot held rest round limit is_kind read read_before read_behind
+      let g = among c.seat span row kind next before behind addr len prot held rest round limit is_kind read read_before read_behind
       undecided some_page from until start history state words m is in
-      let mine = own c.seat span row kind before behind addr len prot held rest round limit is_kind read read_before read_behind
+      let mine = own c.seat span row kind next before behind addr len prot held rest round limit is_kind read read_before read_behind
       undecided some_page from until start history state words m is in
       let w = way state mine g refl in
-      let s = done_list c.seat span row kind before behind addr len prot held rest round limit is_kind read read_before
+      let s = done_list c.seat span row kind next before behind addr len prot held rest round limit is_kind read read_before
       read_behind undecided some_page from until start history state words m is unsealed w in (
         s.0,
-        right c.seat span row kind before behind addr len prot held rest round limit is_kind read read_before read_behind
+        right c.seat span row kind next before behind addr len prot held rest round limit is_kind read read_before read_behind
             undecided some_page from until start history state words m is unsealed w,
         subst (λ (o : Option Change). Leaves state (OverArea span) (change_pending o) s.0) (sym chosen)
             (leaves state s.0
-            (nothing_left c.seat span row kind before behind addr len prot held rest round limit is_kind read read_before
+            (nothing_left c.seat span row kind next before behind addr len prot held rest round limit is_kind read read_before
             read_behind undecided some_page from until start history state words m is unsealed w)
-            (λ d o. change_left c.seat span row kind before behind addr len prot held rest round limit is_kind read read_before
+            (λ d o. change_left c.seat span row kind next before behind addr len prot held rest round limit is_kind read read_before
             read_behind undecided some_page from until start history state words m is unsealed w d o.span_is o.lo_is o.hi_is o.old_is
             o.new_is)),
       )
@@ -404,7 +410,7 @@ module _ (c : CallerView) (span : Span) (row : Row) (kind : Kind) (before behind
       → MayNumber c (Protect addr len prot) (Refused (Eperm (page_of addr))) (OverArea span)
   number_refused none sealed start history state words m = (
     state,
-    sealed_right c.seat span row kind before behind addr len prot held rest round limit is_kind read read_before read_behind
+    sealed_right c.seat span row kind next before behind addr len prot held rest round limit is_kind read read_before read_behind
         undecided some_page from until start history state words m (shows start history state words m) sealed,
     subst (λ (o : Option Change). Leaves state (OverArea span) (change_pending o) state) (sym none) refl,
   )
@@ -416,17 +422,19 @@ module _ (c : CallerView) (span : Span) (row : Row) (kind : Kind) (before behind
 
   one_store : (d : Change) (reply : Reply) → reply ≡ Zero → c.change ≡ Some d → kind.sealed ≡ false
       → IsOf d span (page_of addr) (end_page addr len) kind (protected_kind prot kind)
-      → IsOneStore row before behind d → d.new ≢ d.old → IsNamedKind d.kind → MayChange c (Protect addr len prot) span d reply
+      → IsOneStore (slot_at read.layout row.index) next row before behind d → d.new ≢ d.old → IsNamedKind d.kind
+      → MayChange c (Protect addr len prot) span d reply
   one_store d reply said chosen unsealed o store differs named = record {
     number = number_as reply Zero said (number_by (Some d) chosen unsealed
         (λ A a g e. cases_of A a d span (page_of addr) (end_page addr len) kind (protected_kind prot kind) o
-        (four_of A a row before behind d (subst (λ (k : Kind). IsAmong A a row k before behind) (sym o.old_is) g) store))
+        (four_of A a (slot_at read.layout row.index) next row before behind d (subst (λ (k : Kind). IsAmong A a row k before behind) (sym o.old_is) g) store))
         (λ state left none change. change d o));
     said = said;
     chosen = chosen;
     differs = differs;
     round = record {
       row = row;
+      next = next;
       before = before;
       behind = behind;
       held = subst (λ (s : Span). c.seat.held ≡ Some (alone s)) (sym o.span_is) held;
@@ -445,14 +453,14 @@ module _ (c : CallerView) (span : Span) (row : Row) (kind : Kind) (before behind
   }
 
   -- the kind that the row gets has named bits
-  named_by : (d : Change) → IsNamedKind d.old → IsNamedKind d.new → IsOneStore row before behind d → IsNamedKind d.kind
-  named_by d old new (whole index at is lo hi not_before not_behind) = subst IsNamedKind (sym is) new
-  named_by d old new (first_part index at is lo hi is_before) = subst IsNamedKind (sym is) old
-  named_by d old new (last_part index at is lo hi is_behind) = subst IsNamedKind (sym is) new
+  named_by : (slot : ℕ) (d : Change) → IsNamedKind d.old → IsNamedKind d.new → IsOneStore slot next row before behind d → IsNamedKind d.kind
+  named_by slot d old new (whole index at is lo hi not_before not_behind) = subst IsNamedKind (sym is) new
+  named_by slot d old new (first_part index at is lo hi is_before) = subst IsNamedKind (sym is) old
+  named_by slot d old new (last_part index at is lo hi is_behind) = subst IsNamedKind (sym is) new
 
-  named_of : (d : Change) → IsOf d span (page_of addr) (end_page addr len) kind (protected_kind prot kind) → IsNamedKind kind
-      → IsNamedKind (protected_kind prot kind) → IsOneStore row before behind d → IsNamedKind d.kind
-  named_of d o old new store = named_by d (subst IsNamedKind (sym o.old_is) old) (subst IsNamedKind (sym o.new_is) new) store
+  named_of : (slot : ℕ) (d : Change) → IsOf d span (page_of addr) (end_page addr len) kind (protected_kind prot kind) → IsNamedKind kind
+      → IsNamedKind (protected_kind prot kind) → IsOneStore slot next row before behind d → IsNamedKind d.kind
+  named_of slot d o old new store = named_by slot d (subst IsNamedKind (sym o.old_is) old) (subst IsNamedKind (sym o.new_is) new) store
 
   -- the kind of a change of these pages is sealed as the row is
   sealed_as : (d : Change) (b : Bool) → IsOf d span (page_of addr) (end_page addr len) kind (protected_kind prot kind)
@@ -460,65 +468,70 @@ module _ (c : CallerView) (span : Span) (row : Row) (kind : Kind) (before behind
   sealed_as d b o is = ap (λ (k : Kind). k.sealed) (sym o.old_is) ∙ is
 
   -- a way that was chosen for a change of these pages and kinds is what a plan over the area promises
-  pub plan_says : (chosen : Change) (plan : AreaPlan)
+  pub plan_says : (chosen : Change) (plan : AreaPlan) → chosen.index ≡ slot_at read.layout row.index
       → IsOf chosen span (page_of addr) (end_page addr len) kind (protected_kind prot kind) → IsNamedKind kind
-      → IsNamedKind (protected_kind prot kind) → IsChosen row chosen before behind plan → c.change ≡ planned_change plan
+      → IsNamedKind (protected_kind prot kind) → IsChosen row next chosen before behind plan → c.change ≡ planned_change plan
       → IsAreaPlan c (Protect addr len prot) span (page_of addr) (end_page addr len) plan
-  plan_says chosen NotSimple o old new is kept = λ start history state words m.
+  plan_says chosen NotSimple slot o old new is kept = λ start history state words m.
       let row_is = shows start history state words m in (
-        one_kind c.seat span row kind before behind addr len prot held rest round limit is_kind read read_before read_behind
+        one_kind c.seat span row kind next before behind addr len prot held rest round limit is_kind read read_before read_behind
             undecided some_page from until start history state words m row_is,
-        not_simple c.seat span row kind before behind addr len prot held rest round limit is_kind read read_before read_behind
+        not_simple c.seat span row kind next before behind addr len prot held rest round limit is_kind read read_before read_behind
             undecided some_page from until start history state words m row_is (sealed_as chosen false o is.0)
-            (λ way. is.1 state (own c.seat span row kind before behind addr len prot held rest round limit is_kind read read_before
+            (λ way. is.1 state (own c.seat span row kind next before behind addr len prot held rest round limit is_kind read read_before
             read_behind undecided some_page from until start history state words m row_is)
-            (subst (λ (k : Kind). IsAmong state (own c.seat span row kind before behind addr len prot held rest round limit
+            (subst (λ (k : Kind). IsAmong state (own c.seat span row kind next before behind addr len prot held rest round limit
             is_kind read read_before read_behind undecided some_page from until start history state words m row_is) row k
             before behind) (sym o.old_is)
-            (among c.seat span row kind before behind addr len prot held rest round limit is_kind read read_before read_behind
+            (among c.seat span row kind next before behind addr len prot held rest round limit is_kind read read_before read_behind
             undecided some_page from until start history state words m row_is))
-            (cases_to state (own c.seat span row kind before behind addr len prot held rest round limit is_kind read read_before
+            (cases_to state (own c.seat span row kind next before behind addr len prot held rest round limit is_kind read read_before
             read_behind undecided some_page from until start history state words m row_is) chosen span (page_of addr)
             (end_page addr len) kind (protected_kind prot kind) o way)),
       )
-  plan_says chosen (Sealed reply) o old new is kept =
+  plan_says chosen (Sealed reply) slot o old new is kept =
       let said : reply ≡ Refused (Eperm (page_of addr)) = is.1 ∙ ap (λ (n : ℕ). Refused (Eperm n)) o.lo_is in
       (kept, number_as reply (Refused (Eperm (page_of addr))) said (number_refused kept (sealed_as chosen true o is.0)), said)
-  plan_says chosen (Same reply) o old new is kept =
+  plan_says chosen (Same reply) slot o old new is kept =
       let same : protected_kind prot kind ≡ kind = sym o.new_is ∙ (is.1 ∙ o.old_is) in (
         kept,
         number_as reply Zero is.2
             (number_by None kept (sealed_as chosen false o is.0) (λ A a g e. nothing (same ∙ sym e)) (λ state left none change. none same)),
         is.2,
       )
-  plan_says chosen (SetKind d reply) o old new is kept =
+  plan_says chosen (SetKind d reply) slot o old new is kept =
       let of_d = of_like chosen d span (page_of addr) (end_page addr len) kind (protected_kind prot kind) is.1 o in
-      one_store d reply is.5 kept (sealed_as chosen false o is.0) of_d is.2 (other_kind chosen d is.1 is.3) (named_of d of_d old new is.2)
-  plan_says chosen (MoveStart d reply) o old new is kept =
+      one_store d reply is.5 kept (sealed_as chosen false o is.0) of_d
+      (subst (λ (n : ℕ). IsOneStore n next row before behind d) slot is.2) (other_kind chosen d is.1 is.3) (named_of chosen.index d of_d old new is.2)
+  plan_says chosen (MoveStart d reply) slot o old new is kept =
       let of_d = of_like chosen d span (page_of addr) (end_page addr len) kind (protected_kind prot kind) is.1 o in
-      one_store d reply is.4 kept (sealed_as chosen false o is.0) of_d is.2 (other_kind chosen d is.1 is.3) (named_of d of_d old new is.2)
+      one_store d reply is.4 kept (sealed_as chosen false o is.0) of_d
+      (subst (λ (n : ℕ). IsOneStore n next row before behind d) slot is.2) (other_kind chosen d is.1 is.3) (named_of chosen.index d of_d old new is.2)
 
 -- the same of a caller that has read the count once more and the kinds beside its row
-pub plan_made : (old a b : SeatState Pass) (v : CallerView) (span : Span) (row : Row) (kind : Kind) (before behind : Option Kind)
-    (addr len count : ℕ) (prot : Prot) → old.held ≡ Some (alone span) → IsAtRest old.pass → IsRound row span → row.hi ≤ LIMIT
+pub plan_made : (old a b : SeatState Pass) (v : CallerView) (span : Span) (row : Row) (kind : Kind) (next : ℕ) (before behind : Option Kind)
+    (addr len : ℕ) (prot : Prot) → old.held ≡ Some (alone span) → IsAtRest old.pass → IsRound row span → row.hi ≤ LIMIT
     → row.kind ≡ Some kind → (read : IsAsRead old.pass row)
-    → read.count ≤ ROWS → read.count ≤ room_of old.table → plain_reply (Protect addr len prot) ≡ None → page_of addr < end_page addr len → row.lo ≤ page_of addr
-    → end_page addr len ≤ row.hi → Shows old (RowIs old.held (page_of addr) row) → count ≡ read.count → IsReading old a
+    → length (slots_of read.layout) ≤ ROWS → length (slots_of read.layout) ≤ room_of old.table
+    → plain_reply (Protect addr len prot) ≡ None → page_of addr < end_page addr len → row.lo ≤ page_of addr
+    → end_page addr len ≤ row.hi → Shows old (RowIs old.held (page_of addr) row) → IsReading old a
     → IsReading a b → IsReading b v.seat
-    → IsReadBefore b.pass.rows row.index before → IsReadBehind v.seat.pass.rows count row.index behind
+    → IsReadBefore b.pass.rows (slots_by a.pass.laid) row.index before → IsReadBehind v.seat.pass.rows (slots_by b.pass.laid) row.index next behind
     → (chosen : Change) (plan : AreaPlan) → IsOf chosen span (page_of addr) (end_page addr len) kind
     (protected_kind prot kind) → IsNamedKind kind → IsNamedKind (protected_kind prot kind)
-    → IsChosen row chosen before behind plan
-    → v.change ≡ planned_change plan → IsAreaPlan v (Protect addr len prot) span (page_of addr) (end_page addr len) plan
-plan_made old a b v span row kind before behind addr len count prot held rest round limit is_kind read few fits undecided some_page
-    from until shows counted one two three read_before read_behind chosen plan of_call named named_new is kept =
+    → IsChosen row next chosen before behind plan
+    → v.change ≡ planned_change plan → chosen.index ≡ row.index → IsAreaPlan v (Protect addr len prot) span (page_of addr) (end_page addr len) plan
+plan_made old a b v span row kind next before behind addr len prot held rest round limit is_kind read few fits undecided some_page
+    from until shows one two three read_before read_behind chosen plan of_call named named_new is kept slot =
     let on : IsReading old v.seat = reading_on old b v.seat (reading_on old a b one two) three in
     let now : IsAsRead v.seat.pass row = as_read_on old.pass v.seat.pass row on.read read in
     let same : old.held ≡ v.seat.held = sym on.held in
-    plan_says v span row kind before behind addr len prot (on.held ∙ held) (on.read.pending ∙ rest) round limit is_kind now few
-    (subst (λ (t : TableId). read.count ≤ room_of t) (sym on.table) fits)
-    (before_on b.pass v.seat.pass row.index before three.read read_before)
-    (subst (λ (n : ℕ). IsReadBehind v.seat.pass.rows n row.index behind) counted read_behind)
+    plan_says v span row kind next before behind addr len prot (on.held ∙ held) (on.read.pending ∙ rest) round limit is_kind now few
+    (subst (λ (t : TableId). length (slots_of read.layout) ≤ room_of t) (sym on.table) fits)
+    (before_on b.pass v.seat.pass (slots_of read.layout) row.index before three.read
+    (subst (λ (l : Option (List ℕ)). IsReadBefore b.pass.rows (slots_by l) row.index before) (one.read.laid read.layout read.laid) read_before))
+    (subst (λ (l : Option (List ℕ)). IsReadBehind v.seat.pass.rows (slots_by l) row.index next behind)
+    (two.read.laid read.layout (one.read.laid read.layout read.laid)) read_behind)
     undecided some_page from until
     (subst (λ (h : Option Held). Shows v.seat (RowIs h (page_of addr) row)) same (shows_on old v.seat (RowIs old.held (page_of addr) row) on shows))
-    chosen plan of_call named named_new is kept
+    chosen plan slot of_call named named_new is kept

@@ -262,7 +262,7 @@ runs_new start calls room areas named few fits callers enough small =
             few = omega arith;
             room = sym wide;
             owed = tt;
-            count = λ n e. absurd (none_is n e);
+            laid = λ l e. absurd (none_is l e);
             sequence = λ n e. absurd (none_is n e);
           });
       no_other = λ worker le. refl;

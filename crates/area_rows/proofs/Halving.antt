@@ -8,8 +8,8 @@ use Rattle.row_plans.specs.RowWords.{row_start}
 use Rattle.area_rows.specs.Halving.{IsOnSameSide, StartsBehind, IsAmong}
 
 -- among all rows that there are
-pub all_rows : (rows : List ReadRow) (page count : ℕ) → 0 < count → IsAmong rows page count 0 count
-all_rows rows page count some_rows = record {
+pub all_rows : (rows : List ReadRow) (page count : ℕ) (at : ℕ → ℕ) → 0 < count → IsAmong rows page count at 0 count
+all_rows rows page count at some_rows = record {
   some = some_rows;
   there = omega arith;
   from = inl refl;
@@ -17,18 +17,18 @@ all_rows rows page count some_rows = record {
 }
 
 -- a row that was read behind the page isn't found before it
-not_behind : (rows : List ReadRow) (page count index word : ℕ) → index < count → IsOnSameSide rows index word page
-    → row_start word ≤ page → StartsBehind rows page count index → ⊥
-not_behind rows page count index word there side low behind = ⊎_elim
+not_behind : (rows : List ReadRow) (page count : ℕ) (at : ℕ → ℕ) (index word : ℕ) → index < count → IsOnSameSide rows (at index) word page
+    → row_start word ≤ page → StartsBehind rows page count at index → ⊥
+not_behind rows page count at index word there side low behind = ⊎_elim
     (λ none. absurd (omega arith))
     (λ t. let back : row_start t.0 ≤ page = (side t.0 t.1).1 low in let over = t.2 in absurd (omega arith))
     behind
 
-module _ (rows : List ReadRow) (page count base size half word : ℕ) (among : IsAmong rows page count base size)
+module _ (rows : List ReadRow) (page count : ℕ) (at : ℕ → ℕ) (base size half word : ℕ) (among : IsAmong rows page count at base size)
     (some_half : 0 < half) (two : half + half ≤ size) (odd : size ≤ half + half + 1) where
   -- the middle row starts at or before the page
-  pub upper : IsOnSameSide rows (base + half) word page → row_start word ≤ page
-      → IsAmong (record { index = base + half; word = word } ∷ rows) page count (base + half) (size - half)
+  pub upper : IsOnSameSide rows (at (base + half)) word page → row_start word ≤ page
+      → IsAmong (record { index = at (base + half); word = word } ∷ rows) page count at (base + half) (size - half)
   upper side low =
       let next = among.behind.0 in
       let above = among.behind.1 in
@@ -38,8 +38,8 @@ module _ (rows : List ReadRow) (page count base size half word : ℕ) (among : I
       let after : base + half < next = elim (cases_lt (base + half) next) [
         | inl lt ↦ lt
         | inr ge ↦ let here : next ≡ base + half = omega arith in
-            absurd (not_behind rows page count (base + half) word (omega arith) side low
-            (subst (StartsBehind rows page count) here among.behind.4))
+            absurd (not_behind rows page count at (base + half) word (omega arith) side low
+            (subst (StartsBehind rows page count at) here among.behind.4))
       ] in
       record {
         some = omega arith;
@@ -49,7 +49,7 @@ module _ (rows : List ReadRow) (page count base size half word : ℕ) (among : I
       }
 
   -- the middle row starts behind it
-  pub lower : page < row_start word → IsAmong (record { index = base + half; word = word } ∷ rows) page count base (size - half)
+  pub lower : page < row_start word → IsAmong (record { index = at (base + half); word = word } ∷ rows) page count at base (size - half)
   lower over =
       let there = among.there in
       record {
@@ -60,17 +60,17 @@ module _ (rows : List ReadRow) (page count base size half word : ℕ) (among : I
       }
 
 -- one step of the search
-pub narrowed : (rows : List ReadRow) (page count base size word start next : ℕ) → IsAmong rows page count base size → 1 < size
-    → IsOnSameSide rows (base + size / 2) word page → start ≡ row_start word → (start ≤ page → next ≡ base + size / 2)
+pub narrowed : (rows : List ReadRow) (page count : ℕ) (at : ℕ → ℕ) (base size word start next : ℕ) → IsAmong rows page count at base size → 1 < size
+    → IsOnSameSide rows (at (base + size / 2)) word page → start ≡ row_start word → (start ≤ page → next ≡ base + size / 2)
     → (page < start → next ≡ base)
-    → IsAmong (record { index = base + size / 2; word = word } ∷ rows) page count next (size - size / 2)
-narrowed rows page count base size word start next among more side is up down =
-    let after : List ReadRow = record { index = base + size / 2; word = word } ∷ rows in
+    → IsAmong (record { index = at (base + size / 2); word = word } ∷ rows) page count at next (size - size / 2)
+narrowed rows page count at base size word start next among more side is up down =
+    let after : List ReadRow = record { index = at (base + size / 2); word = word } ∷ rows in
     elim (cases_lt page start) [
-      | inl lt ↦ subst (λ n. IsAmong after page count n (size - size / 2)) (sym (down lt))
-          (lower rows page count base size (size / 2) word among (omega arith) (omega arith) (omega arith) (omega arith))
-      | inr ge ↦ subst (λ n. IsAmong after page count n (size - size / 2)) (sym (up ge))
-          (upper rows page count base size (size / 2) word among (omega arith) (omega arith) (omega arith) side (omega arith))
+      | inl lt ↦ subst (λ n. IsAmong after page count at n (size - size / 2)) (sym (down lt))
+          (lower rows page count at base size (size / 2) word among (omega arith) (omega arith) (omega arith) (omega arith))
+      | inr ge ↦ subst (λ n. IsAmong after page count at n (size - size / 2)) (sym (up ge))
+          (upper rows page count at base size (size / 2) word among (omega arith) (omega arith) (omega arith) side (omega arith))
     ]
 
 -- and it leaves at most half of the rows, rounded up
@@ -79,22 +79,22 @@ halved size zero more few = absurd (omega arith)
 halved size (suc m) more few = let p : 2 ^ suc m ≡ 2 ^ m * 2 = pow-suc 2 m in (m, omega arith, omega arith)
 
 -- one row is left: as it is read anew, it starts at or before the page
-pub starts_up_to : (rows : List ReadRow) (page count index word : ℕ) → IsAmong rows page count index 1
-    → (index ≡ 0 → row_start word ≡ 0) → IsOnSameSide rows index word page → row_start word ≤ page
-starts_up_to rows page count index word among first side = ⊎_elim
+pub starts_up_to : (rows : List ReadRow) (page count : ℕ) (at : ℕ → ℕ) (index word : ℕ) → IsAmong rows page count at index 1
+    → (index ≡ 0 → row_start word ≡ 0) → IsOnSameSide rows (at index) word page → row_start word ≤ page
+starts_up_to rows page count at index word among first side = ⊎_elim
     (λ none. let z = first none in omega arith)
     (λ t. (side t.0 t.1).0 t.2)
     among.from
 
 -- and the next one starts behind it
-pub starts_behind : (rows : List ReadRow) (read : ReadRow) (page count index word : ℕ) → IsAmong rows page count index 1
-    → index + 1 < count → IsOnSameSide (read ∷ rows) (index + 1) word page → page < row_start word
-starts_behind rows read page count index word among more side =
+pub starts_behind : (rows : List ReadRow) (read : ReadRow) (page count : ℕ) (at : ℕ → ℕ) (index word : ℕ) → IsAmong rows page count at index 1
+    → index + 1 < count → IsOnSameSide (read ∷ rows) (at (index + 1)) word page → page < row_start word
+starts_behind rows read page count at index word among more side =
     let above = among.behind.1 in
     let within = among.behind.2 in
     let here : among.behind.0 ≡ index + 1 = omega arith in
-    let next : StartsBehind rows page count (index + 1) = subst (StartsBehind rows page count) here among.behind.4 in
+    let next : StartsBehind rows page count at (index + 1) = subst (StartsBehind rows page count at) here among.behind.4 in
     elim (cases_lt page (row_start word)) [
       | inl lt ↦ lt
-      | inr ge ↦ absurd (not_behind (read ∷ rows) page count (index + 1) word more side ge (⊎_elim (λ none. inl none) (λ t. inr (t.0, inr t.1, t.2)) next))
+      | inr ge ↦ absurd (not_behind (read ∷ rows) page count at (index + 1) word more side ge (⊎_elim (λ none. inl none) (λ t. inr (t.0, inr t.1, t.2)) next))
     ]

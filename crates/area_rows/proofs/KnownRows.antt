@@ -1,108 +1,104 @@
--- What a caller that holds everything knows of the rows: all of them from the load of their count on, and the same ones
+-- What a caller that holds everything knows of the rows: all of them from the load of the layout on, and the same ones
 -- after each load.
-use Rattle.std.proofs.Common.{◌≡◌, ℕ, zero, suc, ◌+◌, ◌-◌, ◌<◌, cond, List, [], ◌∷◌, ◌++◌, length, get_or}
-use Rattle.std.proofs.Common.{sym, refl, ap, ◌∙◌, subst, arith, inl, inr, eq-eqb, ne_eqb, length-append}
-use Rattle.std.proofs.lemmas.Bool.{cases_lt}
-use Rattle.std.proofs.lemmas.List.{get_or_append_left, get_or-append_right}
+use Rattle.std.proofs.Common.{◌≡◌, ℕ, zero, suc, ◌+◌, ◌<◌, cond, List, [], ◌∷◌, ◌++◌, length, get_or}
+use Rattle.std.proofs.Common.{sym, refl, ap, ◌∙◌, subst, arith, inl, inr, eq-eqb, ne_eqb}
 use Rattle.std.specs.Prelude.{Some, slice_index}
+use mathlib.Core.Option.{some, some-injective, some-ne-none}
 use mathlib.Core.Logic.{dite}
+use lib.ListN.{get_elem?}
 use native.Mathlib.Decide.{ℕ_discrete}
 use Rattle.range_rw.specs.Contract.{SeatState}
 use Rattle.area_guard.specs.declared.guard.ReadRow.{ReadRow}
 use Rattle.area_guard.specs.declared.guard.Pass.{Pass}
-use Rattle.area_guard.specs.Reads.{HasRead, HasRows, noted_from, word_of, words_of, or_zero, known_rows, KnowsRows}
+use Rattle.area_guard.specs.Rows.{slots_in, rows_in, IsOneOf}
+use Rattle.area_guard.specs.Reads.{HasRead, noted_at, slots_by, counts_of, word_of, words_of, known_rows, KnowsRows}
 use Rattle.area_guard.specs.History.{after_row, after_seen}
+use Rattle.area_guard.proofs.Slots.{slots_many, at_zero}
 use Rattle.area_rows.specs.Callers.{IsReading, HasLoaded}
-use Rattle.area_rows.proofs.Moments.{same_by}
+use Rattle.area_rows.proofs.Moments.{at_row, same_by}
 
--- as many words as were asked for
-pub words_many : (rows : List ReadRow) (count : ℕ) → length (words_of rows count) ≡ count
+-- as many words as slots
+pub words_many : (rows : List ReadRow) (slots : List ℕ) → length (words_of rows slots) ≡ length slots
 unfolding words_of
-words_many rows zero = refl
-words_many rows (suc count) =
-    let all = length-append (words_of rows count) (word_of rows count ∷ []) in let r = words_many rows count in omega arith
+words_many rows [] = refl
+words_many rows (slot ∷ rest) = ap suc (words_many rows rest)
 
--- the word at each place is the one that was read last of that row
-pub word_at : (rows : List ReadRow) (count i : ℕ) → i < count → get_or (words_of rows count) i 0 ≡ word_of rows i
+-- the word at each place is the one that was read last in that slot
+pub word_at : (rows : List ReadRow) (slots : List ℕ) (k slot : ℕ) → get_elem? slots k ≡ some slot → get_or (words_of rows slots) k 0 ≡ word_of rows slot
 unfolding words_of
-word_at rows zero i lt = absurd (omega arith)
-word_at rows (suc count) i lt =
-    let wide = words_many rows count in
-    elim (cases_lt i count) [
-      | inl less ↦ get_or_append_left (words_of rows count) (word_of rows count ∷ []) 0 i (omega arith) ∙ word_at rows count i less
-      | inr ge ↦
-          let same : i ≡ count = omega arith in
-          let last : i - count ≡ 0 = omega arith in
-          get_or-append_right (words_of rows count) (word_of rows count ∷ []) count i 0 wide ge
-          ∙ (ap (λ n. get_or (word_of rows count ∷ []) n 0) last ∙ ap (word_of rows) (sym same))
-    ]
+word_at rows [] k slot at = absurd (some-ne-none slot (sym at))
+word_at rows (s ∷ rest) zero slot at = ap (word_of rows) (some-injective s slot at)
+word_at rows (s ∷ rest) (suc k) slot at = word_at rows rest k slot at
 
--- as far as the same was read of each row, the same is known
-pub words_same : (rows others : List ReadRow) (count : ℕ) → ((i : ℕ) → i < count → word_of others i ≡ word_of rows i)
-    → words_of others count ≡ words_of rows count
+-- as far as the same was read in each slot, the same is known
+pub words_same : (rows others : List ReadRow) (slots : List ℕ) → ((slot : ℕ) → word_of others slot ≡ word_of rows slot)
+    → words_of others slots ≡ words_of rows slots
 unfolding words_of
-words_same rows others zero all = refl
-words_same rows others (suc count) all =
-    λ j. words_same rows others count (λ i lt. all i (omega arith)) j ++ all count (omega arith) j ∷ []
+words_same rows others [] all = refl
+words_same rows others (slot ∷ rest) all = λ j. all slot j ∷ words_same rows others rest all j
 
 -- of a row that was read anew with the same word the same is known
-word_again : (rows : List ReadRow) (index word i : ℕ) → word ≡ word_of rows index → word_of (record { index = index; word = word } ∷ rows) i ≡ word_of rows i
-word_again rows index word i same = dite (ℕ_discrete index i)
-    (λ is. ap (λ b. cond b word (word_of rows i)) (eq-eqb index i is) ∙ (same ∙ ap (word_of rows) is))
-    (λ differ. ap (λ b. cond b word (word_of rows i)) (ne_eqb index i differ))
+word_again : (rows : List ReadRow) (slot word i : ℕ) → word ≡ word_of rows slot → word_of (record { index = slot; word = word } ∷ rows) i ≡ word_of rows i
+word_again rows slot word i same = dite (ℕ_discrete slot i)
+    (λ is. ap (λ b. cond b word (word_of rows i)) (eq-eqb slot i is) ∙ (same ∙ ap (word_of rows) is))
+    (λ differ. ap (λ b. cond b word (word_of rows i)) (ne_eqb slot i differ))
 
 -- a load of a known row leaves what is known
-pub loaded_row : (one two : SeatState Pass) (index word : ℕ) → IsReading one two → two.pass ≡ after_row index word one.pass
-    → word ≡ slice_index (known_rows one.pass) index → index < length (known_rows one.pass) → HasLoaded one two
-loaded_row one two index word reading is same lt =
-    let count = or_zero one.pass.count in
-    let wide = words_many one.pass.rows count in
-    let here : word ≡ word_of one.pass.rows index = same ∙ word_at one.pass.rows count index (omega arith) in
-    let words : known_rows (after_row index word one.pass) ≡ known_rows one.pass =
-    words_same one.pass.rows (record { index = index; word = word } ∷ one.pass.rows) count (λ i below. word_again one.pass.rows index word i here) in
+pub loaded_row : (one two : SeatState Pass) (k slot word : ℕ) → IsReading one two → two.pass ≡ after_row slot word one.pass
+    → get_elem? (slots_by one.pass.laid) k ≡ some slot → word ≡ slice_index (known_rows one.pass) k → HasLoaded one two
+loaded_row one two k slot word reading is at same =
+    let here : word ≡ word_of one.pass.rows slot = same ∙ word_at one.pass.rows (slots_by one.pass.laid) k slot at in
+    let words : known_rows (after_row slot word one.pass) ≡ known_rows one.pass =
+    words_same one.pass.rows (record { index = slot; word = word } ∷ one.pass.rows) (slots_by one.pass.laid)
+    (λ i. word_again one.pass.rows slot word i here) in
     record {
       reading = reading;
       room = ap (λ (x : Pass). x.room) is;
       most = ap (λ (x : Pass). x.most) is;
       same = ap known_rows is ∙ words;
       knows = λ knows. subst KnowsRows (sym is) (
-        knows.0 ∙ ap (λ l. Some (length l)) (sym words),
-        λ i below. subst (λ (l : List ℕ). HasRead (record { index = index; word = word } ∷ one.pass.rows) i (slice_index l i)) (sym words)
-            (inr (knows.1 i (subst (λ (l : List ℕ). i < length l) words below))),
+        knows.0 ∙ ap (λ (l : List ℕ). Some (length l)) (sym words),
+        λ j other there. subst (λ (l : List ℕ). HasRead (record { index = slot; word = word } ∷ one.pass.rows) other (slice_index l j)) (sym words)
+            (inr (knows.1 j other there)),
       );
     }
 
--- of rows that are noted the words are those
-noted_word : (rows : List ℕ) (others : List ReadRow) (first i : ℕ) → i < length rows → word_of (noted_from first rows ++ others) (first + i) ≡ get_or rows i 0
-noted_word [] others first i lt = absurd (omega arith)
-noted_word (word ∷ rest) others first zero lt =
-    let same : first ≡ first + 0 = omega arith in
-    ap (λ b. cond b word (word_of (noted_from (first + 1) rest ++ others) (first + 0))) (eq-eqb first (first + 0) same)
-noted_word (word ∷ rest) others first (suc i) lt =
-    let next : first + 1 + i ≡ first + suc i = omega arith in
-    ap (λ b. cond b word (word_of (noted_from (first + 1) rest ++ others) (first + suc i))) (ne_eqb first (first + suc i) (λ e. omega arith))
-    ∙ (ap (word_of (noted_from (first + 1) rest ++ others)) (sym next) ∙ noted_word rest others (first + 1) i (omega arith))
+-- of rows that are noted the words are those that stood there
+noted_word : (words slots : List ℕ) (others : List ReadRow) (k slot : ℕ) → get_elem? slots k ≡ some slot
+    → word_of (noted_at words slots ++ others) slot ≡ slice_index words (3 + slot)
+noted_word words [] others k slot at = absurd (some-ne-none slot (sym at))
+noted_word words (s ∷ rest) others zero slot at =
+    let is : s ≡ slot = some-injective s slot at in
+    ap (λ b. cond b (slice_index words (3 + s)) (word_of (noted_at words rest ++ others) slot)) (eq-eqb s slot is)
+    ∙ ap (λ (n : ℕ). slice_index words (3 + n)) is
+noted_word words (s ∷ rest) others (suc k) slot at = dite (ℕ_discrete s slot)
+    (λ is. ap (λ b. cond b (slice_index words (3 + s)) (word_of (noted_at words rest ++ others) slot)) (eq-eqb s slot is)
+    ∙ ap (λ (n : ℕ). slice_index words (3 + n)) is)
+    (λ differ. ap (λ b. cond b (slice_index words (3 + s)) (word_of (noted_at words rest ++ others) slot)) (ne_eqb s slot differ)
+    ∙ noted_word words rest others k slot at)
 
 -- and they were read so
-noted_read : (rows : List ℕ) (others : List ReadRow) (first i : ℕ) → i < length rows → HasRead (noted_from first rows ++ others) (first + i) (get_or rows i 0)
-noted_read [] others first i lt = absurd (omega arith)
-noted_read (word ∷ rest) others first zero lt = inl (omega arith, refl)
-noted_read (word ∷ rest) others first (suc i) lt =
-    let next : first + 1 + i ≡ first + suc i = omega arith in
-    inr (subst (λ (n : ℕ). HasRead (noted_from (first + 1) rest ++ others) n (get_or rest i 0)) next (noted_read rest others (first + 1) i (omega arith)))
+noted_read : (words slots : List ℕ) (others : List ReadRow) (k slot : ℕ) → get_elem? slots k ≡ some slot
+    → HasRead (noted_at words slots ++ others) slot (slice_index words (3 + slot))
+noted_read words [] others k slot at = absurd (some-ne-none slot (sym at))
+noted_read words (s ∷ rest) others zero slot at = let is : s ≡ slot = some-injective s slot at in inl (is, ap (λ (n : ℕ). slice_index words (3 + n)) is)
+noted_read words (s ∷ rest) others (suc k) slot at = inr (noted_read words rest others k slot at)
 
--- with their count a caller knows all rows
-pub seen_known : (rows : List ℕ) (p : Pass) → known_rows (after_seen rows (length rows) p) ≡ rows
-seen_known rows p = same_by (known_rows (after_seen rows (length rows) p)) rows (words_many (noted_from 0 rows ++ p.rows) (length rows))
+-- with the layout a caller has read all rows
+pub seen_knows : (words : List ℕ) (p : Pass) → KnowsRows (after_seen words p)
+seen_knows words p =
+    let rows = noted_at words (slots_in words) ++ p.rows in (
+      ap (λ (n : ℕ). Some n) (sym (words_many rows (slots_in words))),
+      λ k slot at. subst (HasRead rows slot) (sym (word_at rows (slots_in words) k slot at ∙ noted_word words (slots_in words) p.rows k slot at))
+          (noted_read words (slots_in words) p.rows k slot at),
+    )
+
+-- and knows them, where each slot has a word
+pub seen_known : (words : List ℕ) (p : Pass) → length (slots_in words) ≡ length (rows_in words) → known_rows (after_seen words p) ≡ rows_in words
+seen_known words p wide =
+    let rows = noted_at words (slots_in words) ++ p.rows in
+    let many = slots_many 0 (slice_index words 2) in
+    same_by (words_of rows (slots_in words)) (rows_in words) (words_many rows (slots_in words) ∙ wide)
     (λ i lt.
-    let at : i ≡ 0 + i = omega arith in
-    word_at (noted_from 0 rows ++ p.rows) (length rows) i lt ∙ (ap (word_of (noted_from 0 rows ++ p.rows)) at ∙ noted_word rows p.rows 0 i lt))
-
--- and has read them
-pub seen_knows : (rows : List ℕ) (p : Pass) → KnowsRows (after_seen rows (length rows) p)
-seen_knows rows p = subst (HasRows (after_seen rows (length rows) p)) (sym (seen_known rows p)) (
-  refl,
-  λ i lt.
-      let at : 0 + i ≡ i = omega arith in
-      subst (λ (n : ℕ). HasRead (noted_from 0 rows ++ p.rows) n (slice_index rows i)) at (noted_read rows p.rows 0 i lt),
-)
+    let at = at_zero (slice_index words 2) i (omega arith) in
+    word_at rows (slots_in words) i i at ∙ (noted_word words (slots_in words) p.rows i i at ∙ sym (at_row words i (omega arith))))

@@ -7,6 +7,7 @@ pub mod Stepping
 pub mod StoringRows
 pub mod SpliceStores
 pub mod StoreCounts
+pub mod Numbers
 pub mod OneRow
 pub mod ReplacingRows
 pub mod AreaChoices

@@ -276,7 +276,7 @@ module _ (rows : List ℕ) (kinds : ℕ → Option Kind) (row : Row) (before beh
       f.right
 
   -- so the rows show the changed kinds
-  pub replaced_shows : IsOneStore row before behind c → ShowFrom 0 (set rows c.index word) (with_change c kinds)
+  pub replaced_shows : IsOneStore row.index (row.index + 1) row before behind c → ShowFrom 0 (set rows c.index word) (with_change c kinds)
   replaced_shows (whole index at new lo hi not_before not_behind) =
       subst (λ n. ShowFrom 0 (set rows n word) (with_change c kinds)) (sym index) (whole_shows at new lo hi not_before not_behind)
   replaced_shows (first_part index at same_kind lo hi is_before) =

@@ -3,10 +3,10 @@ use Rattle.std.proofs.Common.{◌≡◌, ◌≢◌, ℕ, zero, suc, ◌+◌, ◌
 use Rattle.std.proofs.Common.{ap, ◌∙◌, subst, arith, ◌⊎◌, inl, inr, ⊎_elim}
 use Rattle.std.proofs.lemmas.Bool.{cases_lt}
 use Rattle.std.proofs.lemmas.List.{drop_all}
-use Rattle.std.specs.Prelude.{All, Option, Some, slice_index}
+use Rattle.std.specs.Prelude.{All, Option, Some, None, slice_index}
 use Rattle.page_types.specs.declared.TheConstants.{LIMIT}
 use Rattle.page_types.specs.declared.calls.Kind.{Kind}
-use mathlib.Core.Option.{some}
+use mathlib.Core.Option.{some, some-ne-none}
 use lib.ListN.{get_elem?}
 use Rattle.space_model.specs.declared.areas.Area.{Area}
 use Rattle.space_model.specs.Areas.{kind_at}
@@ -16,26 +16,27 @@ use Rattle.range_rw.specs.Contract.{Record}
 use Rattle.area_guard.specs.declared.guard.Pass.{Pass}
 use Rattle.row_plans.specs.RowWords.{row_start, row_kind}
 use Rattle.row_plans.specs.RowLists.{rows_start}
-use Rattle.area_guard.specs.Rows.{rows_in, RowsShow, IsRowOf}
-use Rattle.area_guard.proofs.Slots.{slot_of, next_is, next_of}
+use Rattle.area_guard.specs.Rows.{layout_in, slot_at, slots_in, rows_in, IsOneOf, RowsShow, IsRowOf}
+use Rattle.area_guard.proofs.Slots.{slots_many, slot_of, slot_few, next_is, next_of, last_of, last_is, counts_now}
 use Rattle.area_guard.specs.declared.guard.ReadRow.{ReadRow}
-use Rattle.area_guard.specs.Reads.{IsHeldPage, HasRead, StillStands, noted_from}
+use Rattle.area_guard.specs.Reads.{counts_of, slots_by, IsHeldPage, HasRead, StillStands, noted_at}
 use Rattle.area_guard.specs.History.{RowsStandFor, HoldsPages, IsAtRest, after_seen, after_row}
 use Rattle.area_rows.specs.declared.row.Row.{Row}
-use Rattle.area_rows.specs.Callers.{IsHeldPages, KeepsRead, IsRowEnd, IsAsRead, IsReadBefore, IsReadBehind, RowIs, Shows, IsReading, IsClientStep, IsCounted}
+use Rattle.area_rows.specs.Callers.{IsHeldPages, KeepsRead, IsEndIn, IsAsRead, IsReadBefore, IsReadBehind, RowIs, Shows, IsReading, IsClientStep, IsCounted}
 pub use Rattle.area_rows.specs.Loading.{keeps_on, no_reading, reading_on}
 use Rattle.row_plans.proofs.RowLists.{row_says}
 use Rattle.area_rows.proofs.Moments.{length-rows_in, at_row, first_row, row_below, stands, nobody_plans, shows_held}
 use Rattle.area_rows.proofs.Gathering.{next_start}
+use Rattle.area_rows.proofs.Numbers.{EndsBy, by_end, by_before, by_behind, counted_laid, counts_on}
 
 -- the row of a page by its number: the last one that starts at or before it
 pub row_of_number : (words : List ℕ) (page slot : ℕ) → slot < slice_index words 2 → row_start (slice_index words (3 + slot)) ≤ page
     → (slot + 1 < slice_index words 2 → page < row_start (slice_index words (3 + (slot + 1)))) → IsRowOf words page slot
 row_of_number words page slot lt from last = record {
-  there = slot_of words slot lt;
+  there = slot_of (layout_in words) slot lt;
   from = from;
   last = λ next after.
-      let is = next_is words slot next after in
+      let is = next_is (layout_in words) slot next after in
       let e = is.0 in
       let few = is.1 in
       subst (λ (n : ℕ). page < row_start (slice_index words (3 + n))) (sym is.0) (last (omega arith));
@@ -116,14 +117,16 @@ module _ (words : List ℕ) (kinds : ℕ → Option Kind) (s : RowsShow words ki
       (ap row_kind is ∙ (sym same ∙ v.within hi (omega arith) (omega arith) (λ l. let r = v.rises l in omega arith)))
 
 -- the row ends where the next one starts, or at the limit
-end_is : (words : List ℕ) (kinds : ℕ → Option Kind) → RowsShow words kinds → (count index hi : ℕ) → slice_index words 2 ≡ count
-    → (index + 1 < count → hi ≡ row_start (slice_index words (3 + (index + 1))))
-    → (index + 1 < count) ⊎ ((index + 1 ≡ count) × (hi ≡ LIMIT)) → rows_start (drop (index + 1) (rows_in words)) ≡ hi
-end_is words kinds s count index hi counts next ends =
+pub end_is : (words : List ℕ) (kinds : ℕ → Option Kind) → RowsShow words kinds → (index hi : ℕ) → IsEndIn words index hi
+    → rows_start (drop (index + 1) (rows_in words)) ≡ hi
+end_is words kinds s index hi ends =
     let wide = s.room in let few = s.few in let l = length-rows_in words kinds s in
     ⊎_elim
-    (λ more. next_start words index (omega arith) (omega arith) ∙ sym (next more))
-    (λ t. let done = t.0 in ap rows_start (drop_all (index + 1) (rows_in words) (omega arith)) ∙ sym t.1)
+    (λ t.
+    let is = next_is (layout_in words) index t.0 t.1 in
+    let same = is.0 in let more = is.1 in
+    next_start words index (omega arith) (omega arith) ∙ (ap (λ n. row_start (slice_index words (3 + n))) (sym is.0) ∙ t.2))
+    (λ t. let done = last_is (layout_in words) index t.0 in ap rows_start (drop_all (index + 1) (rows_in words) (omega arith)) ∙ sym t.1)
     ends
 
 -- what a row that was read says, from what still stands of it and of the next one
@@ -153,7 +156,7 @@ module _ (held : Option Held) (words : List ℕ) (kinds : ℕ → Option Kind) (
     index = row_of_page page here from until;
     kind = λ p h low high. let r = row_of_page p h low high in
         sym (same p h) ∙ ((word_says words kinds index s (omega arith)).within p r.from (below_end held p pages h)
-        (λ more. r.last (index + 1) (next_of words index more)) ∙ kind_now);
+        (λ more. r.last (index + 1) (next_of (layout_in words) index more)) ∙ kind_now);
     next = λ h e. ⊎_elim
         (λ t. let at : row_start (slice_index words (3 + (index + 1))) ≡ row_start t.1 = t.3.start hi h (inl t.2) in
         after_row_page words kinds s page count index (slice_index words (3 + index)) counts refl lt hi t.0 (t.2 ∙ sym at) (same hi h ∙ (e ∙ sym kind_now)))
@@ -169,16 +172,20 @@ module _ (held : Option Held) (words : List ℕ) (kinds : ℕ → Option Kind) (
         let first : IsHeldPage held (row_start word) = (h, a.1, omega arith, omega arith) in
         let last : IsHeldPage held (hi - 1) = (h, a.1, omega arith, omega arith) in (
           still.start (row_start word) first (inl refl),
-          end_is words kinds s count index hi counts
-              (λ more. ⊎_elim (λ t. t.2 ∙ sym (t.3.start (hi - 1) last (inr (let e = t.2 in omega arith)))) (λ t. absurd (let e = t.0 in omega arith)) ends)
-              (⊎_elim (λ t. inl t.0) (λ t. inr t) ends),
+          ⊎_elim
+              (λ t. let more = t.0 in inl (
+                index + 1,
+                next_of (layout_in words) index (omega arith),
+                t.3.start (hi - 1) last (inr (let e = t.2 in omega arith)) ∙ sym t.2,
+              ))
+              (λ t. let done = t.0 in inr (last_of (layout_in words) index (omega arith), t.1)) ends,
         );
   }
 
 row_is : (seat : SeatState Pass) (held : Option Held) (page count index word hi : ℕ) → seat.held ≡ held → IsHeldPages held
-    → IsAtRest seat.pass → seat.pass.count ≡ Some count → HasRead seat.pass.rows index word → index < count → IsHeldPage held page
+    → IsAtRest seat.pass → counts_of seat.pass.laid ≡ Some count → HasRead seat.pass.rows index word → index < count → IsHeldPage held page
     → row_start word ≤ page → page < hi → hi ≤ LIMIT
-    → IsRowEnd seat.pass.rows count index hi → Shows seat (RowIs held page (record { index = index; lo = row_start word; hi = hi; kind = row_kind word }))
+    → EndsBy seat.pass.rows count index hi → Shows seat (RowIs held page (record { index = index; lo = row_start word; hi = hi; kind = row_kind word }))
 row_is seat held page count index word hi same pages rest counted read lt here from until limit ends start history state words m =
     let part = m.running.parts seat.number m.pass m.own in
     let granted : get_elem? m.grants seat.number ≡ some held = m.granted ∙ ap some same in
@@ -187,15 +194,16 @@ row_is seat held page count index word hi same pages rest counted read lt here f
     let rows : RowsStandFor state m.passes words =
     m.running.rows (nobody_plans m.grants words state m.passes seat.number m.pass m.exclusive m.backed m.own rested holds) in
     let stood : All (StillStands held words) m.pass.rows = (m.backed seat.number m.pass m.own).rows held granted in
-    row_is_still held words rows.0 rows.2 page count index word hi (part.count count (m.read.count count counted)) lt here from until limit pages
+    row_is_still held words rows.0 rows.2 page count index word hi
+    (counts_now words m.pass.laid count part.laid (counts_on seat.pass.laid m.pass.laid count m.read.laid counted)) lt here from until limit pages
     (stands held words m.pass.rows index word stood (m.read.rows index word read))
     (⊎_elim (λ t. inl (t.0, t.1, t.3, stands held words m.pass.rows (index + 1) t.1 stood (m.read.rows (index + 1) t.1 t.2))) (λ t. inr t) ends)
     state (shows_held m.grants words state m.passes seat.number m.pass m.exclusive m.backed m.own rested held granted rows.0 rows.1)
 
 shows_row : (seat : SeatState Pass) (held : Option Held) (page count index word lo hi : ℕ) (kind : Option Kind) → lo ≡ row_start word
-    → kind ≡ row_kind word → seat.held ≡ held → IsHeldPages held → IsAtRest seat.pass → seat.pass.count ≡ Some count
+    → kind ≡ row_kind word → seat.held ≡ held → IsHeldPages held → IsAtRest seat.pass → counts_of seat.pass.laid ≡ Some count
     → HasRead seat.pass.rows index word → index < count
-    → IsHeldPage held page → row_start word ≤ page → page < hi → hi ≤ LIMIT → IsRowEnd seat.pass.rows count index hi
+    → IsHeldPage held page → row_start word ≤ page → page < hi → hi ≤ LIMIT → EndsBy seat.pass.rows count index hi
     → Shows seat (RowIs held page (record { index = index; lo = lo; hi = hi; kind = kind }))
 shows_row seat held page count index word lo hi kind l k same pages rest counted read lt here from until limit ends =
     subst (λ (z : ℕ × Option Kind). Shows seat (RowIs held page (record { index = index; lo = z.0; hi = hi; kind = z.1 })))
@@ -223,27 +231,33 @@ step_reads a b place p s x y z l k = record {
   read = subst (KeepsRead a.pass) (sym s.pass) k;
 }
 
-same_some : (n m : ℕ) → n ≡ m → Some n ≡ Some m
-same_some n m e = ap Some e
-
 -- what was read before is still read where rows are noted
 read_behind : (front rows : List ReadRow) (index word : ℕ) → HasRead rows index word → HasRead (front ++ rows) index word
 read_behind [] rows index word has = has
 read_behind (r ∷ front) rows index word has = inr (read_behind front rows index word has)
 
--- so is a load of the row count that finds what was found before
-pub count_reads : (a b : SeatState Pass) (n : ℕ) → IsCounted a n b → ((m : ℕ) → a.pass.count ≡ Some m → n ≡ m) → IsReading a b
-count_reads a b n s again = step_reads a b 2 (after_seen s.rows n a.pass) s.step refl refl refl refl (record {
-  count = λ m e. same_some n m (again m e);
-  rows = λ index word h. read_behind (noted_from 0 s.rows) a.pass.rows index word h;
+-- so is a load of the row count, which finds the layout that was found before
+pub count_reads : (a b : SeatState Pass) (n : ℕ) → IsCounted a n b → IsReading a b
+count_reads a b n s = step_reads a b 2 (after_seen s.words a.pass) s.step refl refl refl refl (record {
+  laid = λ layout e. ap (λ (l : List ℕ). Some l) (s.again layout e);
+  rows = λ index word h. read_behind (noted_at s.words (slots_in s.words)) a.pass.rows index word h;
   sequence = λ m e. e;
   pending = refl;
 })
 
+-- after it the row count is known
+pub count_known : (a b : SeatState Pass) (n : ℕ) → IsCounted a n b → counts_of b.pass.laid ≡ Some n
+count_known a b n s = ap (λ (p : Pass). counts_of p.laid) s.step.pass ∙ ap (λ (m : ℕ). Some m) s.slots
+
+-- and it is that of the layout that was read before
+pub count_again : (a b : SeatState Pass) (n : ℕ) → IsCounted a n b → (layout : List ℕ) → a.pass.laid ≡ Some layout → n ≡ slice_index layout 0
+count_again a b n s layout laid =
+    sym s.slots ∙ (slots_many 0 (slice_index s.words 2) ∙ ap (λ (l : List ℕ). slice_index l 0) (s.again layout laid))
+
 -- so is a load of a row
 pub row_reads : (a b : SeatState Pass) (index word : ℕ) → IsClientStep a (3 + index) (after_row index word a.pass) b → IsReading a b
 row_reads a b index word s = step_reads a b (3 + index) (after_row index word a.pass) s refl refl refl refl
-    (record { count = λ n e. e; rows = λ i w h. inr h; sequence = λ n e. e; pending = refl })
+    (record { laid = λ layout e. e; rows = λ i w h. inr h; sequence = λ n e. e; pending = refl })
 
 -- what a range has shown lasts while the caller reads more rows
 pub shows_on : (a b : SeatState Pass) (what : List ℕ → List Area → Type 0) → IsReading a b → Shows a what → Shows b what
@@ -263,20 +277,20 @@ shows_on a b what r shows start history state words m = shows start history stat
 pub found_row : (old new : SeatState Pass) (held : Option Held) (page count index word next lo hi : ℕ) (kind : Option Kind)
     → IsClientStep old (3 + (index + 1)) (after_row (index + 1) next old.pass) new → lo ≡ row_start word → kind ≡ row_kind word
     → hi ≡ row_start next → new.held ≡ held → IsHeldPages held
-    → IsAtRest old.pass → old.pass.count ≡ Some count → HasRead old.pass.rows index word → index + 1 < count
+    → IsAtRest old.pass → counts_of old.pass.laid ≡ Some count → HasRead old.pass.rows index word → index + 1 < count
     → IsHeldPage held page → row_start word ≤ page → page < hi → hi ≤ LIMIT
     → Shows new (RowIs held page (record { index = index; lo = lo; hi = hi; kind = kind }))
 found_row old new held page count index word next lo hi kind step l k h same pages rest counted read lt here from until limit =
     let rows : record { index = index + 1; word = next } ∷ old.pass.rows ≡ new.pass.rows = sym (ap (λ (p : Pass). p.rows) step.pass) in
     shows_row new held page count index word lo hi kind l k same pages (ap (λ (p : Pass). p.pending) step.pass ∙ rest)
-    (ap (λ (p : Pass). p.count) step.pass ∙ counted) (subst (λ r. HasRead r index word) rows (inr read)) (omega arith) here
+    (ap (λ (p : Pass). counts_of p.laid) step.pass ∙ counted) (subst (λ r. HasRead r index word) rows (inr read)) (omega arith) here
     from until limit
     (inl (lt, next, subst (λ r. HasRead r (index + 1) next) rows (inl (refl, refl)), h))
 
 -- the last row
 pub last_row : (seat : SeatState Pass) (held : Option Held) (page count index word lo : ℕ) (kind : Option Kind) → lo ≡ row_start word
     → kind ≡ row_kind word → seat.held ≡ held → IsHeldPages held → IsAtRest seat.pass → IsHeldPage held page
-    → seat.pass.count ≡ Some count → HasRead seat.pass.rows index word → index < count → ¬ (index + 1 < count)
+    → counts_of seat.pass.laid ≡ Some count → HasRead seat.pass.rows index word → index < count → ¬ (index + 1 < count)
     → row_start word ≤ page → Shows seat (RowIs held page (record { index = index; lo = lo; hi = LIMIT; kind = kind }))
 last_row seat held page count index word lo kind l k same pages rest h counted read lt not_more from =
     shows_row seat held page count index word lo LIMIT kind l k same pages rest counted read lt h from
@@ -286,60 +300,95 @@ last_row seat held page count index word lo kind l k same pages rest h counted r
 pub found_read : (old new : SeatState Pass) (count index word next lo hi : ℕ) (kind : Option Kind)
     → IsClientStep old (3 + (index + 1)) (after_row (index + 1) next old.pass) new → lo ≡ row_start word → kind ≡ row_kind word
     → hi ≡ row_start next
-    → old.pass.count ≡ Some count → HasRead old.pass.rows index word → index + 1 < count
+    → counts_of old.pass.laid ≡ Some count → HasRead old.pass.rows index word → index + 1 < count
     → IsAsRead new.pass (record { index = index; lo = lo; hi = hi; kind = kind })
-found_read old new count index word next lo hi kind step l k h counted read lt =
+found_read old new count index word next lo hi kind step is_lo is_kind h counted read lt =
     let rows : record { index = index + 1; word = next } ∷ old.pass.rows ≡ new.pass.rows = sym (ap (λ (p : Pass). p.rows) step.pass) in
+    let l = counted_laid new.pass.laid count (ap (λ (p : Pass). counts_of p.laid) step.pass ∙ counted) in
+    let counts = l.2 in
     record {
-      count = count;
-      counted = ap (λ (p : Pass). p.count) step.pass ∙ counted;
-      there = omega arith;
+      layout = l.0;
+      laid = l.1;
+      there = slot_of l.0 index (omega arith);
       word = word;
       read = subst (λ r. HasRead r index word) rows (inr read);
-      lo = l;
-      kind = k;
-      hi = inl (lt, next, subst (λ r. HasRead r (index + 1) next) rows (inl (refl, refl)), h);
+      lo = is_lo;
+      kind = is_kind;
+      hi = by_end new.pass.rows l.0 index count hi l.2 (inl (lt, next, subst (λ r. HasRead r (index + 1) next) rows (inl (refl, refl)), h));
     }
 
 -- the last row is as it was read, and it ends at the limit
 pub last_read : (seat : SeatState Pass) (count index word lo : ℕ) (kind : Option Kind) → lo ≡ row_start word → kind ≡ row_kind word
-    → seat.pass.count ≡ Some count → HasRead seat.pass.rows index word → index < count → ¬ (index + 1 < count)
+    → counts_of seat.pass.laid ≡ Some count → HasRead seat.pass.rows index word → index < count → ¬ (index + 1 < count)
     → IsAsRead seat.pass (record { index = index; lo = lo; hi = LIMIT; kind = kind })
-last_read seat count index word lo kind l k counted read lt not_more =
+last_read seat count index word lo kind is_lo is_kind counted read lt not_more =
+    let l = counted_laid seat.pass.laid count counted in
+    let counts = l.2 in
     record {
-      count = count;
-      counted = counted;
-      there = lt;
+      layout = l.0;
+      laid = l.1;
+      there = slot_of l.0 index (omega arith);
       word = word;
       read = read;
-      lo = l;
-      kind = k;
-      hi = inr (omega arith, refl);
+      lo = is_lo;
+      kind = is_kind;
+      hi = by_end seat.pass.rows l.0 index count LIMIT l.2 (inr (omega arith, refl));
     }
 
--- the kinds of the rows beside a row, as they are read now
-pub before_read : (a b : SeatState Pass) (index word : ℕ) (kind : Option Kind) → 0 < index → kind ≡ row_kind word
-    → IsClientStep a (3 + (index - 1)) (after_row (index - 1) word a.pass) b → IsReadBefore b.pass.rows index kind
-before_read a b index word kind more is s = inr (more, word, subst (λ (p : Pass). HasRead p.rows (index - 1) word) (sym s.pass) (inl (refl, refl)), is)
+-- a slot in use by what is known has a number below the row count
+pub known_in : (laid : Option (List ℕ)) (index : ℕ) → IsOneOf (slots_by laid) index → (layout : List ℕ) × (laid ≡ Some layout) × (index < slice_index layout 0)
+known_in None index there = absurd (some-ne-none index (sym there.1))
+known_in (Some layout) index there = (layout, refl, slot_few layout index there)
+
+-- the kind of the row before one, as it is read now
+pub before_read : (a b : SeatState Pass) (index word : ℕ) (kind : Option Kind) → IsOneOf (slots_by a.pass.laid) index → 0 < index → kind ≡ row_kind word
+    → IsClientStep a (3 + (index - 1)) (after_row (index - 1) word a.pass) b → IsReadBefore b.pass.rows (slots_by a.pass.laid) index kind
+before_read a b index word kind there more is s =
+    let l = known_in a.pass.laid index there in
+    subst (λ (laid : Option (List ℕ)). IsReadBefore b.pass.rows (slots_by laid) index kind) (sym l.1)
+    (by_before b.pass.rows l.0 index kind l.2
+    (inr (more, word, subst (λ (p : Pass). HasRead p.rows (index - 1) word) (sym s.pass) (inl (refl, refl)), is)))
+
+-- before the first one there is none
+pub none_before : (a : SeatState Pass) (index : ℕ) → IsOneOf (slots_by a.pass.laid) index → index ≡ 0
+    → IsReadBefore a.pass.rows (slots_by a.pass.laid) index None
+none_before a index there none =
+    let l = known_in a.pass.laid index there in
+    subst (λ (laid : Option (List ℕ)). IsReadBefore a.pass.rows (slots_by laid) index None) (sym l.1)
+    (by_before a.pass.rows l.0 index None l.2 (inl (none, refl)))
 
 -- the kind of the row behind, from the load of its word
-pub behind_read : (a b : SeatState Pass) (count index word : ℕ) (kind : Option Kind) → index + 1 < count → kind ≡ row_kind word
-    → IsClientStep a (3 + (index + 1)) (after_row (index + 1) word a.pass) b → IsReadBehind b.pass.rows count index kind
-behind_read a b count index word kind more is s = inr (more, word, subst (λ (p : Pass). HasRead p.rows (index + 1) word) (sym s.pass) (inl (refl, refl)), is)
+pub behind_read : (a b : SeatState Pass) (count index word : ℕ) (kind : Option Kind) → counts_of a.pass.laid ≡ Some count → index + 1 < count
+    → kind ≡ row_kind word → IsClientStep a (3 + (index + 1)) (after_row (index + 1) word a.pass) b
+    → IsReadBehind b.pass.rows (slots_by a.pass.laid) index (index + 1) kind
+behind_read a b count index word kind counted more is s =
+    let l = counted_laid a.pass.laid count counted in
+    subst (λ (laid : Option (List ℕ)). IsReadBehind b.pass.rows (slots_by laid) index (index + 1) kind) (sym l.1)
+    (by_behind b.pass.rows l.0 index count kind l.2
+    (inr (more, word, subst (λ (p : Pass). HasRead p.rows (index + 1) word) (sym s.pass) (inl (refl, refl)), is)))
+
+-- behind the last one there is none
+pub none_behind : (a : SeatState Pass) (count index : ℕ) → counts_of a.pass.laid ≡ Some count → index + 1 ≡ count
+    → IsReadBehind a.pass.rows (slots_by a.pass.laid) index (index + 1) None
+none_behind a count index counted last =
+    let l = counted_laid a.pass.laid count counted in
+    subst (λ (laid : Option (List ℕ)). IsReadBehind a.pass.rows (slots_by laid) index (index + 1) None) (sym l.1)
+    (by_behind a.pass.rows l.0 index count None l.2 (inl (last, refl)))
 
 -- what was read of a row and of the one before it is read still
-pub before_on : (a b : Pass) (index : ℕ) (kind : Option Kind) → KeepsRead a b → IsReadBefore a.rows index kind → IsReadBefore b.rows index kind
-before_on a b index kind k r = ⊎_elim (λ t. inl t) (λ t. inr (t.0, t.1, k.rows (index - 1) t.1 t.2, t.3)) r
+pub before_on : (a b : Pass) (slots : List ℕ) (slot : ℕ) (kind : Option Kind) → KeepsRead a b → IsReadBefore a.rows slots slot kind
+    → IsReadBefore b.rows slots slot kind
+before_on a b slots slot kind k r = ⊎_elim (λ t. inl t) (λ t. inr (t.0, t.1, t.2, k.rows t.0 t.2 t.3, t.4)) r
 
 -- a row that is as it was read stays so while more is read
 abbrev pub as_read_on : (a b : Pass) (row : Row) → KeepsRead a b → IsAsRead a row → IsAsRead b row
 as_read_on a b row k r = record {
-  count = r.count;
-  counted = k.count r.count r.counted;
+  layout = r.layout;
+  laid = k.laid r.layout r.laid;
   there = r.there;
   word = r.word;
-  read = k.rows row.index r.word r.read;
+  read = k.rows (slot_at r.layout row.index) r.word r.read;
   lo = r.lo;
   kind = r.kind;
-  hi = ⊎_elim (λ t. inl (t.0, t.1, k.rows (row.index + 1) t.1 t.2, t.3)) (λ t. inr t) r.hi;
+  hi = ⊎_elim (λ t. inl (t.0, t.1, t.2, k.rows t.0 t.2 t.3, t.4)) (λ t. inr t) r.hi;
 }

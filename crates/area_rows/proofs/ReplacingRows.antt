@@ -23,14 +23,14 @@ use Rattle.area_guard.specs.declared.guard.ReadRow.{ReadRow}
 use Rattle.area_rows.specs.declared.row.Row.{Row}
 use Rattle.row_plans.specs.RowWords.{row_start, row_kind}
 use Rattle.row_plans.specs.RowLists.{rows_start, ShowFrom, IsBareGap, areas_from}
-use Rattle.area_guard.specs.Rows.{rows_in, room_of, RowsShow, IsRowOf}
-use Rattle.area_guard.proofs.Slots.{slot_of, next_of}
+use Rattle.area_guard.specs.Rows.{layout_in, rows_in, room_of, RowsShow, IsRowOf}
+use Rattle.area_guard.proofs.Slots.{slots_many, slot_of, slot_few, next_of}
 use Rattle.area_guard.specs.Reads.{IsHeldPage, HasRead, StillStands}
 use Rattle.area_guard.specs.Changes.{IsIn, alone, new_word, IsInside, with_change, MayReplace}
 use Rattle.area_rows.specs.OneStore.{IsOneStore, IsRound}
 use Rattle.area_rows.specs.OneStore.IsOneStore.{whole, first_part, last_part}
 use Rattle.area_guard.specs.History.{planned_calls, RowsStandFor, HasHistory, Allowed, Backs, MayWrite, after_change}
-use Rattle.area_rows.specs.Callers.{CallerView, HasToStore, IsHeldPages, IsRowEnd, RowIs, IsReadBefore, IsReadBehind, IsReadRound, IsClientStep, IsStoredRow}
+use Rattle.area_rows.specs.Callers.{CallerView, HasToStore, IsHeldPages, RowIs, IsReadRound, IsClientStep, IsStoredRow}
 use Rattle.area_guard.specs.Parts.{some_is}
 use Rattle.area_guard.specs.Writes.{span_pages}
 use Rattle.area_guard.specs.Keeping.{no_note}
@@ -38,7 +38,8 @@ use Rattle.row_plans.proofs.ReadBack.{start_back, kind_back}
 use Rattle.row_plans.proofs.RowLists.{are_next, some_none}
 use Rattle.area_rows.proofs.Moments.{length-rows_in, at_row, row_below, same_by, stands, only_own_plan, here_at}
 use Rattle.area_rows.proofs.Gathering.{length-rows}
-use Rattle.area_rows.proofs.Reading.{row_of_number, row_is_still}
+use Rattle.area_rows.proofs.Numbers.{EndsBy, BeforeBy, BehindBy, end_by, before_by, behind_by, store_by}
+use Rattle.area_rows.proofs.Reading.{row_of_number, end_is, row_is_still}
 use Rattle.area_rows.proofs.OneRow.{IsRowIn, ShownAt, shown_at, next_is, replaced_shows}
 
 -- the rows among the client words, after a row word was stored
@@ -72,7 +73,7 @@ module _ (span : Span) (words : List ℕ) (kinds : ℕ → Option Kind) (s : Row
     (round : IsRound row span) (pages : row.lo < row.hi) (limit : row.hi ≤ LIMIT) (counts : slice_index words 2 ≡ count)
     (lt : row.index < count) (has : HasRead read row.index word) (lo : row.lo ≡ row_start word)
     (kind : row.kind ≡ row_kind word)
-    (end : IsRowEnd read count row.index row.hi) (left : IsReadBefore read row.index before) (right : IsReadBehind read count row.index behind) where
+    (end : EndsBy read count row.index row.hi) (left : BeforeBy read row.index before) (right : BehindBy read count row.index behind) where
   -- pages round the row are held
   is_held : (page : ℕ) → row.lo - 1 ≤ page → page ≤ row.hi → page < LIMIT → IsHeldPage (Some (alone span)) page
   is_held page from until low = let a = round.0 in let b = round.1 in (alone span, refl, omega arith, omega arith)
@@ -98,7 +99,9 @@ module _ (span : Span) (words : List ℕ) (kinds : ℕ → Option Kind) (s : Row
       let l = h.3 in omega arith)))
 
   ends_now : (row_start (slice_index words (3 + row.index)) ≡ row_start word) × (rows_start (drop (row.index + 1) (rows_in words)) ≡ row.hi)
-  ends_now = row_now.ends (alone span, refl, refl, (let a = round.0 in omega arith), (let b = round.1 in omega arith))
+  ends_now =
+      let ends = row_now.ends (alone span, refl, refl, (let a = round.0 in omega arith), (let b = round.1 in omega arith)) in
+      (ends.0, end_is words kinds s row.index row.hi ends.1)
 
   wide : length (rows_in words) ≡ slice_index words 2
   wide = length-rows_in words kinds s
@@ -202,16 +205,33 @@ module _ (span : Span) (words : List ℕ) (kinds : ℕ → Option Kind) (s : Row
   is_behind = behind_now
 
 -- the pages of a change lie in the row
-place_in : (c : Change) (row : Row) (before behind : Option Kind) → row.lo < row.hi → c.place.lo < c.place.hi
-    → IsOneStore row before behind c → (row.lo ≤ c.place.lo) × (c.place.hi ≤ row.hi)
-place_in c row before behind pages some_page (whole index at new lo hi not_before not_behind) = (omega arith, omega arith)
-place_in c row before behind pages some_page (first_part index at same_kind lo hi is_before) = (omega arith, omega arith)
-place_in c row before behind pages some_page (last_part index at new lo hi is_behind_new) = (omega arith, omega arith)
+place_in : (slot next : ℕ) (c : Change) (row : Row) (before behind : Option Kind) → row.lo < row.hi → c.place.lo < c.place.hi
+    → IsOneStore slot next row before behind c → (row.lo ≤ c.place.lo) × (c.place.hi ≤ row.hi)
+place_in slot next c row before behind pages some_page (whole index at new lo hi not_before not_behind) = (omega arith, omega arith)
+place_in slot next c row before behind pages some_page (first_part index at same_kind lo hi is_before) = (omega arith, omega arith)
+place_in slot next c row before behind pages some_page (last_part index at new lo hi is_behind_new) = (omega arith, omega arith)
+
+-- what was read round a change, by numbers
+module _ (s : SeatState Pass) (c : Change) (r : IsReadRound s c) where
+  few_there : r.row.index < slice_index r.read.layout 0
+  few_there = slot_few r.read.layout r.row.index r.read.there
+
+  ends_there : EndsBy s.pass.rows (slice_index r.read.layout 0) r.row.index r.row.hi
+  ends_there = end_by s.pass.rows r.read.layout r.row.index r.row.hi r.read.hi
+
+  before_there : BeforeBy s.pass.rows r.row.index r.before
+  before_there = before_by s.pass.rows r.read.layout r.row.index r.before r.read_before
+
+  behind_there : BehindBy s.pass.rows (slice_index r.read.layout 0) r.row.index r.behind
+  behind_there = behind_by s.pass.rows r.read.layout r.row.index r.next r.behind r.read_behind
+
+  store_there : IsOneStore r.row.index (r.row.index + 1) r.row r.before r.behind c
+  store_there = store_by s.pass.rows r.read.layout r.row.index r.next r.row r.before r.behind c r.read_behind r.store
 
 -- so the change may be stored
 module _ (words : List ℕ) (kinds : ℕ → Option Kind) (s : RowsShow words kinds) (c : Change) (seat : SeatState Pass)
     (r : IsReadRound seat c) (inside : IsInside c) (stood : All (StillStands (Some (alone c.span)) words) seat.pass.rows)
-    (counts : slice_index words 2 ≡ r.read.count) (from : r.row.lo ≤ c.place.lo) (until : c.place.hi ≤ r.row.hi) where
+    (counts : slice_index words 2 ≡ slice_index r.read.layout 0) (from : r.row.lo ≤ c.place.lo) (until : c.place.hi ≤ r.row.hi) where
   named_word : row_start (new_word c) ≡ c.start
   named_word = start_back c.start (Some c.kind) r.named
 
@@ -219,14 +239,14 @@ module _ (words : List ℕ) (kinds : ℕ → Option Kind) (s : RowsShow words ki
   kind_word = kind_back c.start (Some c.kind) r.named
 
   found : IsRowIn (rows_in words) r.row r.before r.behind
-  found = row_in c.span words kinds s seat.pass.rows stood r.row r.before r.behind r.read.count r.read.word r.round r.pages
-      r.limit counts r.read.there r.read.read r.read.lo r.read.kind r.read.hi r.read_before r.read_behind
+  found = row_in c.span words kinds s seat.pass.rows stood r.row r.before r.behind (slice_index r.read.layout 0) r.read.word r.round r.pages
+      r.limit counts (few_there seat c r) r.read.read r.read.lo r.read.kind (ends_there seat c r) (before_there seat c r) (behind_there seat c r)
 
-  there_is : IsOneStore r.row r.before r.behind c → c.index < slice_index words 2
-  there_is (whole index at new lo hi not_before not_behind) = let t = r.read.there in omega arith
-  there_is (first_part index at same_kind lo hi is_before) = let t = r.read.there in omega arith
+  there_is : IsOneStore r.row.index (r.row.index + 1) r.row r.before r.behind c → c.index < slice_index words 2
+  there_is (whole index at new lo hi not_before not_behind) = let t = few_there seat c r in omega arith
+  there_is (first_part index at same_kind lo hi is_before) = let t = few_there seat c r in omega arith
   there_is (last_part index at new lo hi is_behind_new) =
-      ⊎_elim (λ t. absurd (some_none c.new r.behind t.1 is_behind_new)) (λ t. let n = t.0 in omega arith) r.read_behind
+      ⊎_elim (λ t. absurd (some_none c.new r.behind t.1 is_behind_new)) (λ t. let n = t.0 in omega arith) (behind_there seat c r)
 
   shows_after : c.index < slice_index words 2 → (others : ℕ → Option Kind) → RowsShow words others
       → RowsShow (set words (3 + c.index) (new_word c)) (with_change c others)
@@ -243,27 +263,27 @@ module _ (words : List ℕ) (kinds : ℕ → Option Kind) (s : RowsShow words ki
         few = omega arith;
         show = subst (λ l. ShowFrom 0 l (with_change c others)) (sym rows)
             (replaced_shows (rows_in words) others r.row r.before r.behind c (new_word c) o.show found r.kind named_word kind_word
-            from c.place.ordered until r.store);
+            from c.place.ordered until (store_there seat c r));
         gaps = subst (All IsBareGap) (sym rows) (All-set IsBareGap (rows_in words) c.index (new_word c)
             (λ none. absurd (some_none c.kind (row_kind (new_word c)) none kind_word)) o.gaps);
       }
 
   start_here : row_start (slice_index words (3 + r.row.index)) ≡ r.row.lo
-  start_here = starts_now c.span words kinds s seat.pass.rows stood r.row r.before r.behind r.read.count r.read.word r.round
-      r.pages r.limit counts r.read.there r.read.read r.read.lo r.read.kind r.read.hi r.read_before r.read_behind
+  start_here = starts_now c.span words kinds s seat.pass.rows stood r.row r.before r.behind (slice_index r.read.layout 0) r.read.word r.round
+      r.pages r.limit counts (few_there seat c r) r.read.read r.read.lo r.read.kind (ends_there seat c r) (before_there seat c r) (behind_there seat c r)
 
-  start_next : r.row.index + 1 < r.read.count → row_start (slice_index words (3 + (r.row.index + 1))) ≡ r.row.hi
-  start_next = starts_behind c.span words kinds s seat.pass.rows stood r.row r.before r.behind r.read.count r.read.word r.round
-      r.pages r.limit counts r.read.there r.read.read r.read.lo r.read.kind r.read.hi r.read_before r.read_behind
+  start_next : r.row.index + 1 < slice_index r.read.layout 0 → row_start (slice_index words (3 + (r.row.index + 1))) ≡ r.row.hi
+  start_next = starts_behind c.span words kinds s seat.pass.rows stood r.row r.before r.behind (slice_index r.read.layout 0) r.read.word r.round
+      r.pages r.limit counts (few_there seat c r) r.read.read r.read.lo r.read.kind (ends_there seat c r) (before_there seat c r) (behind_there seat c r)
 
   kind_here : row_kind (slice_index words (3 + r.row.index)) ≡ r.row.kind
-  kind_here = is_kind c.span words kinds s seat.pass.rows stood r.row r.before r.behind r.read.count r.read.word r.round r.pages
-      r.limit counts r.read.there r.read.read r.read.lo r.read.kind r.read.hi r.read_before r.read_behind
+  kind_here = is_kind c.span words kinds s seat.pass.rows stood r.row r.before r.behind (slice_index r.read.layout 0) r.read.word r.round r.pages
+      r.limit counts (few_there seat c r) r.read.read r.read.lo r.read.kind (ends_there seat c r) (before_there seat c r) (behind_there seat c r)
 
-  kind_next : r.row.index + 1 < r.read.count → (w : ℕ) → HasRead seat.pass.rows (r.row.index + 1) w
+  kind_next : r.row.index + 1 < slice_index r.read.layout 0 → (w : ℕ) → HasRead seat.pass.rows (r.row.index + 1) w
       → row_kind (slice_index words (3 + (r.row.index + 1))) ≡ row_kind w
-  kind_next = is_behind c.span words kinds s seat.pass.rows stood r.row r.before r.behind r.read.count r.read.word r.round r.pages
-      r.limit counts r.read.there r.read.read r.read.lo r.read.kind r.read.hi r.read_before r.read_behind
+  kind_next = is_behind c.span words kinds s seat.pass.rows stood r.row r.before r.behind (slice_index r.read.layout 0) r.read.word r.round r.pages
+      r.limit counts (few_there seat c r) r.read.read r.read.lo r.read.kind (ends_there seat c r) (before_there seat c r) (behind_there seat c r)
 
   -- a page of the row, or next to it, is held
   in_round : (page : ℕ) → r.row.lo - 1 ≤ page → page < r.row.hi → IsIn c.span page
@@ -275,25 +295,25 @@ module _ (words : List ℕ) (kinds : ℕ → Option Kind) (s : RowsShow words ki
       (λ t.
       let more : i + 1 < slice_index words 2 = let n = t.0 in omega arith in
       let e : row_start (slice_index words (3 + (i + 1))) ≡ r.row.hi = ap (λ n. row_start (slice_index words (3 + (n + 1)))) is ∙ start_next t.0 in
-      let l = row.last (i + 1) (next_of words i more) in omega arith)
+      let l = row.last (i + 1) (next_of (layout_in words) i more) in omega arith)
       (λ t. let e = t.1 in omega arith)
-      r.read.hi
+      (ends_there seat c r)
 
   -- the row behind has the kind that was read of it
-  same_behind : r.row.index + 1 < r.read.count → r.behind ≡ row_kind (slice_index words (3 + (r.row.index + 1)))
+  same_behind : r.row.index + 1 < slice_index r.read.layout 0 → r.behind ≡ row_kind (slice_index words (3 + (r.row.index + 1)))
   same_behind more = ⊎_elim
       (λ t. absurd (let e = t.0 in omega arith))
       (λ t. t.3 ∙ (sym (kind_next t.0 t.1 t.2)))
-      r.read_behind
+      (behind_there seat c r)
 
-  may_by : IsOneStore r.row r.before r.behind c → c.index < slice_index words 2 → MayReplace words c
+  may_by : IsOneStore r.row.index (r.row.index + 1) r.row r.before r.behind c → c.index < slice_index words 2 → MayReplace words c
   may_by (whole index at new lo hi not_before not_behind) lt =
       let at_index : row_start (slice_index words (3 + c.index)) ≡ r.row.lo = ap (λ n. row_start (slice_index words (3 + n))) index ∙ start_here in
       let room = s.room in
       let w = named_word in
       record {
         there = omega arith;
-        used = slot_of words c.index lt;
+        used = slot_of (layout_in words) c.index lt;
         up = λ page low high. absurd (omega arith);
         down = λ page low high. absurd (omega arith);
         stood = λ moves. absurd (moves (at_index ∙ (sym at ∙ sym named_word)));
@@ -307,7 +327,7 @@ module _ (words : List ℕ) (kinds : ℕ → Option Kind) (s : RowsShow words ki
       let w = named_word in
       record {
         there = omega arith;
-        used = slot_of words c.index lt;
+        used = slot_of (layout_in words) c.index lt;
         up = λ page low high. in_round page (omega arith) (omega arith);
         down = λ page low high. absurd (let p = c.place.ordered in omega arith);
         stood = λ moves page beside. in_round page (⊎_elim (λ e. omega arith) (λ e. omega arith) beside) (let p = r.pages in
@@ -317,7 +337,7 @@ module _ (words : List ℕ) (kinds : ℕ → Option Kind) (s : RowsShow words ki
         shows = shows_after lt;
       }
   may_by (last_part index at new lo hi is_behind_new) lt =
-      let more : r.row.index + 1 < r.read.count = omega arith in
+      let more : r.row.index + 1 < slice_index r.read.layout 0 = omega arith in
       let at_index : row_start (slice_index words (3 + c.index)) ≡ r.row.hi = ap (λ n. row_start (slice_index words (3 + n))) index ∙ start_next more in
       let room = s.room in
       let low_end = row_below words kinds c.index s lt in
@@ -325,7 +345,7 @@ module _ (words : List ℕ) (kinds : ℕ → Option Kind) (s : RowsShow words ki
       let w = named_word in
       record {
         there = omega arith;
-        used = slot_of words c.index lt;
+        used = slot_of (layout_in words) c.index lt;
         up = λ page low high. absurd (let p = c.place.ordered in omega arith);
         down = λ page low high. in_round page (omega arith) (omega arith);
         stood = λ moves page beside. (
@@ -341,27 +361,29 @@ module _ (words : List ℕ) (kinds : ℕ → Option Kind) (s : RowsShow words ki
 
   -- the row of the change may get its new word
   pub may_replace : MayReplace words c
-  may_replace = may_by r.store (there_is r.store)
+  may_replace = may_by (store_there seat c r) (there_is (store_there seat c r))
 
 -- a change starts below the limit
-low_start : (s : SeatState Pass) (c : Change) (r : IsReadRound s c) → IsOneStore r.row r.before r.behind c → c.start < LIMIT
+low_start : (s : SeatState Pass) (c : Change) (r : IsReadRound s c) → IsOneStore r.row.index (r.row.index + 1) r.row r.before r.behind c → c.start < LIMIT
 low_start s c r (whole index at new lo hi not_before not_behind) = let p = r.pages in let l = r.limit in omega arith
 low_start s c r (first_part index at same_kind lo hi is_before) = let l = r.limit in omega arith
 low_start s c r (last_part index at new lo hi is_behind) = let o = c.place.ordered in let l = r.limit in omega arith
 
 -- the row of a change that was read round starts below the limit
 pub start_low : (s : SeatState Pass) (c : Change) → IsReadRound s c → c.start < LIMIT
-start_low s c r = low_start s c r r.store
+start_low s c r = low_start s c r (store_there s c r)
 
-low_index : (s : SeatState Pass) (c : Change) (r : IsReadRound s c) → IsOneStore r.row r.before r.behind c → c.index < ROWS
-low_index s c r (whole index at new lo hi not_before not_behind) = let t = r.read.there in let f = r.few in omega arith
-low_index s c r (first_part index at same_kind lo hi is_before) = let t = r.read.there in let f = r.few in omega arith
-low_index s c r (last_part index at new lo hi is_behind) = let f = r.few in
-    ⊎_elim (λ t. absurd (some_none c.new r.behind t.1 is_behind)) (λ t. let n = t.0 in omega arith) r.read_behind
+low_index : (s : SeatState Pass) (c : Change) (r : IsReadRound s c) → IsOneStore r.row.index (r.row.index + 1) r.row r.before r.behind c → c.index < ROWS
+low_index s c r (whole index at new lo hi not_before not_behind) =
+    let t = few_there s c r in let m = slots_many 0 (slice_index r.read.layout 0) in let f = r.few in omega arith
+low_index s c r (first_part index at same_kind lo hi is_before) =
+    let t = few_there s c r in let m = slots_many 0 (slice_index r.read.layout 0) in let f = r.few in omega arith
+low_index s c r (last_part index at new lo hi is_behind) = let m = slots_many 0 (slice_index r.read.layout 0) in let f = r.few in
+    ⊎_elim (λ t. absurd (some_none c.new r.behind t.1 is_behind)) (λ t. let n = t.0 in omega arith) (behind_there s c r)
 
 -- its number is below the most rows that there may be
 pub index_low : (s : SeatState Pass) (c : Change) → IsReadRound s c → c.index < ROWS
-index_low s c r = low_index s c r r.store
+index_low s c r = low_index s c r (store_there s c r)
 
 -- the guard allows the store of a change
 pub may_store_change : (note : Note) (s : SeatState Pass) (c : Change) → s.pass.pending ≡ OneRow c → IsReadRound s c
@@ -377,8 +399,9 @@ may_store_change note s c pends r index word at is grants words passes m there s
     let rows : RowsStandFor here.state passes words = here.running.rows none in
     let stood : All (StillStands (Some (alone c.span)) words) s.pass.rows = backed.rows (Some (alone c.span)) granted in
     let part = here.running.parts s.number s.pass here.own in
-    let counts : slice_index words 2 ≡ r.read.count = part.count r.read.count r.read.counted in
-    let ends = place_in c r.row r.before r.behind r.pages c.place.ordered r.store in (
+    let counts : slice_index words 2 ≡ slice_index r.read.layout 0 =
+    ap (λ (l : List ℕ). slice_index l 0) (part.laid r.read.layout r.read.laid) in
+    let ends = place_in r.row.index (r.row.index + 1) c r.row r.before r.behind r.pages c.place.ordered (store_there s c r) in (
       after_change s.pass,
       (
         here,
@@ -437,12 +460,15 @@ chosen_store u v c d index word same has at own is =
     let e : d ≡ c = cc in
     (c, h.pending, h.round, at, is e)
 
-room_index : (s : SeatState Pass) (c : Change) (r : IsReadRound s c) → IsOneStore r.row r.before r.behind c → c.index < room_of s.table
-room_index s c r (whole index at new lo hi not_before not_behind) = let t = r.read.there in let f = r.fits in omega arith
-room_index s c r (first_part index at same_kind lo hi is_before) = let t = r.read.there in let f = r.fits in omega arith
-room_index s c r (last_part index at new lo hi is_behind) = let f = r.fits in
-    ⊎_elim (λ t. absurd (some_none c.new r.behind t.1 is_behind)) (λ t. let n = t.0 in omega arith) r.read_behind
+room_index : (s : SeatState Pass) (c : Change) (r : IsReadRound s c) → IsOneStore r.row.index (r.row.index + 1) r.row r.before r.behind c
+    → c.index < room_of s.table
+room_index s c r (whole index at new lo hi not_before not_behind) =
+    let t = few_there s c r in let m = slots_many 0 (slice_index r.read.layout 0) in let f = r.fits in omega arith
+room_index s c r (first_part index at same_kind lo hi is_before) =
+    let t = few_there s c r in let m = slots_many 0 (slice_index r.read.layout 0) in let f = r.fits in omega arith
+room_index s c r (last_part index at new lo hi is_behind) = let m = slots_many 0 (slice_index r.read.layout 0) in let f = r.fits in
+    ⊎_elim (λ t. absurd (some_none c.new r.behind t.1 is_behind)) (λ t. let n = t.0 in omega arith) (behind_there s c r)
 
 -- and there is room for it
 pub index_fits : (s : SeatState Pass) (c : Change) → IsReadRound s c → c.index < room_of s.table
-index_fits s c r = room_index s c r r.store
+index_fits s c r = room_index s c r (store_there s c r)

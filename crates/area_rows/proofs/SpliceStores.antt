@@ -10,9 +10,10 @@ use Rattle.row_plans.proofs.Splices.{splice_length}
 use Rattle.area_guard.specs.declared.guard.Pass.{Pass}
 use Rattle.area_guard.specs.declared.guard.ReadRow.{ReadRow}
 use Rattle.area_guard.specs.declared.guard.Splice.{Splice}
-use Rattle.area_guard.specs.Reads.{HasRead, HasRows}
+use Rattle.area_guard.specs.Reads.{counts_of, HasRead, HasRows}
 use Rattle.area_guard.specs.History.{rows_after, without}
 use Rattle.area_rows.specs.Writing.{IsRaised, IsLowered, IsLaid, HasMoved, moved_to}
+use Rattle.area_rows.proofs.Numbers.{row_read, rows_read}
 use Rattle.area_rows.proofs.StoringRows.{has_others}
 
 -- a load of a row, and a store of its word at another place
@@ -60,13 +61,13 @@ module _ (plan : Splice) (ordered : plan.first ≤ plan.end) (there : plan.end �
 
   -- before the first store all rows stand as they stood
   pub none_raised : (p : Pass) → HasRows p plan.old → IsRaised p.rows plan (length plan.old)
-  none_raised p has = record { moved = λ i le lt. absurd (omega arith); others = λ i lt old. has.1 i old }
+  none_raised p has = record { moved = λ i le lt. absurd (omega arith); others = λ i lt old. row_read p plan.old has i old }
 
   pub none_lowered : (p : Pass) → moved_to plan < plan.end → HasRows p plan.old → IsLowered p.rows plan plan.end
   none_lowered p down has = record {
     moved = λ i le lt. absurd (omega arith);
-    others = λ i le lt. has.1 i lt;
-    before = λ i lt. has.1 i (omega arith);
+    others = λ i le lt. row_read p plan.old has i lt;
+    before = λ i lt. row_read p plan.old has i (omega arith);
   }
 
   module _ (rows after : List ReadRow) (index : ℕ) (from : plan.end ≤ index) (below : index < length plan.old)
@@ -119,10 +120,11 @@ module _ (plan : Splice) (ordered : plan.first ≤ plan.end) (there : plan.end �
   -- or where none has to move
   pub same_laid : (p : Pass) → moved_to plan ≡ plan.end → HasRows p plan.old → IsLaid p.rows plan plan.first
   same_laid p stays has = record {
-    before = λ i lt. subst (HasRead p.rows i) (sym (after_before i lt)) (has.1 i (omega arith));
-    others = λ i le lt old. has.1 i old;
+    before = λ i lt. subst (HasRead p.rows i) (sym (after_before i lt)) (row_read p plan.old has i (omega arith));
+    others = λ i le lt old. row_read p plan.old has i old;
     behind = behind_of p.rows (λ i le lt.
-        let at : i ≡ i - plan.end + moved_to plan = omega arith in subst (λ (n : ℕ). HasRead p.rows n (slice_index plan.old i)) at (has.1 i lt));
+        let at : i ≡ i - plan.end + moved_to plan = omega arith in
+        subst (λ (n : ℕ). HasRead p.rows n (slice_index plan.old i)) at (row_read p plan.old has i lt));
   }
 
   -- a row that was read once more changes nothing
@@ -157,5 +159,6 @@ module _ (plan : Splice) (ordered : plan.first ≤ plan.end) (there : plan.end �
   }
 
   -- once all are laid, all rows after the splice stand there
-  pub all_laid : (p : Pass) → p.count ≡ Some (length (rows_after plan)) → IsLaid p.rows plan (moved_to plan) → HasRows p (rows_after plan)
-  all_laid p counted l = (counted, λ i lt. elim (cases_lt i (moved_to plan)) [ inl less ↦ l.before i less | inr ge ↦ l.behind i ge lt ])
+  pub all_laid : (p : Pass) → counts_of p.laid ≡ Some (length (rows_after plan)) → IsLaid p.rows plan (moved_to plan) → HasRows p (rows_after plan)
+  all_laid p counted l = rows_read p (rows_after plan) counted
+      (λ i lt. elim (cases_lt i (moved_to plan)) [ inl less ↦ l.before i less | inr ge ↦ l.behind i ge lt ])

@@ -22,13 +22,14 @@ use Rattle.area_guard.specs.declared.guard.Pass.{Pass}
 use Rattle.area_guard.specs.declared.guard.Pending.{Pending}
 use Rattle.area_guard.specs.declared.guard.Splice.{Splice}
 use Rattle.row_plans.specs.declared.planning.Cut.{Cut}
-use Rattle.area_guard.specs.Rows.{room_of, rows_in}
+use Rattle.area_guard.specs.Rows.{layout_in, slots_of, slot_at, slots_in, IsOneOf, room_of, rows_in}
+use Rattle.area_guard.proofs.Slots.{slots_many}
 use Rattle.area_guard.specs.Writes.{everything_pages}
 use Rattle.area_guard.specs.declared.guard.Pending.TheVariants.{AtRest, Planned, OneRow}
 use Rattle.row_plans.specs.RowWords.{row_start}
 use Rattle.row_plans.specs.Plans.{IsRowList}
 use Rattle.area_rows.specs.Halving.{IsOnSameSide}
-use Rattle.area_guard.specs.Reads.{everything, IsHeldPage, HasRead, or_zero, words_of, known_rows, KnowsRows, StillStands}
+use Rattle.area_guard.specs.Reads.{everything, slots_by, counts_of, IsHeldPage, HasRead, words_of, known_rows, KnowsRows, StillStands}
 use Rattle.area_guard.specs.History.{Runs, StartsWith, planned_calls, RowsStandFor, HasHistory, Allowed, Here, MayLoad}
 use Rattle.area_guard.specs.History.{MayAdd, IsAtRest, IsRight, Leaves, FitsIn, HoldsFor, HoldsJust, HoldsPages, pending_of, entry_of}
 use Rattle.area_guard.specs.History.{after_look, after_seen, after_sequence, after_row, after_draw, rows_after}
@@ -40,7 +41,7 @@ use Rattle.area_rows.specs.Callers.{IsReading, IsLook, IsNumbered, IsDrawn, IsCl
 use Rattle.area_guard.specs.Draws.{draw_pending, draw_mine, draw_seen, draw_start, draw_drew, draw_looks, draw_room, draw_most, plan_fits}
 use Rattle.area_guard.specs.Keeping.{no_note}
 use Rattle.area_guard.specs.Parts.{none_is}
-use Rattle.area_rows.proofs.Reading.{step_reads}
+use Rattle.area_rows.proofs.Reading.{known_in, step_reads}
 use Rattle.area_rows.proofs.Moments.{length-rows_in, at_row}
 use Rattle.area_rows.proofs.Moments.{held_some, held_pages, first_row, row_below, row_list, stands, only_own_plan, nobody_plans, rows_are, here_at, moment_of}
 
@@ -60,7 +61,7 @@ module _ (own : Option Held → Type 0) (free held : Type 0) (words : List ℕ) 
   sequence_tells (count h e is) = absurd (omega arith)
   sequence_tells (row i h few e is) = absurd (omega arith)
 
-  count_tells : MayLoad own free held words history 2 p after → after ≡ after_seen (rows_in words) (slice_index words 2) p
+  count_tells : MayLoad own free held words history 2 p after → after ≡ after_seen words p
   count_tells (number h o e is) = absurd (omega arith)
   count_tells (glance f e is) = absurd (omega arith)
   count_tells (sequence h e is) = absurd (omega arith)
@@ -99,7 +100,7 @@ module _ (note : Note) (seat : ℕ) (held : Option Held) (pass : Pass) where
   -- a load of the row count, while pages are held
   pub may_count : IsSome held → IsHeldPages held → IsAllowed HasHistory Allowed note seat held pass (loads 2)
   may_count some_held pages grants words passes m lt small = (
-    after_seen (rows_in words) (slice_index words 2) pass,
+    after_seen words pass,
     (
       here_at grants words passes seat held pass m,
       count (held_pages grants seat held m.grant some_held pages) refl refl,
@@ -163,34 +164,36 @@ module _ (note : Note) (seat : ℕ) (held : Option Held) (pass : Pass) where
       row_list (rows_in words) here.state are.0 are.1
 
   module _ (found : ℕ) (after : Pass) where
-    -- a load of the row count is kept in the pass, and with it all rows of the moment: at least one, at most as many as
-    -- there may be and as there is room for, and as many as were found before. Where everything is held they are a list
-    -- of rows
+    -- a load of the row count is kept in the pass, with the layout and all rows of the moment: at least one, at most as
+    -- many as there may be and as there is room for, and the layout is the one that was found before. Where everything
+    -- is held they are a list of rows
     pub counts : IsSome held → IsHeldPages held → IsAtRest pass
         → IsMade HasHistory Allowed note seat held pass (loads 2) found after
-        → (rows : List ℕ) × (length rows ≡ found) × (after ≡ after_seen rows found pass) × (held ≡ Some everything → IsRowList rows)
-        × (0 < found) × (found ≤ ROWS) × (found ≤ pass.room) × ((n : ℕ) → pass.count ≡ Some n → found ≡ n)
+        → (words : List ℕ) × (length (rows_in words) ≡ found) × (length (slots_in words) ≡ found) × (after ≡ after_seen words pass)
+        × ((layout : List ℕ) → pass.laid ≡ Some layout → layout_in words ≡ layout) × (held ≡ Some everything → IsRowList (rows_in words))
+        × (0 < found) × (found ≤ ROWS) × (found ≤ pass.room)
     counts some_held pages rest s =
         let m = s.3 in let here = s.5.0 in
         let same : here.pass ≡ pass = some-injective here.pass pass (sym here.own ∙ m.own) in
         let rows : RowsStandFor here.state s.2 s.1 = rows_here s.0 s.1 s.2 here some_held pages m.grant (ap (λ (x : Pass). x.pending) same ∙ rest) in
         let some_rows = rows.2.some in let few = rows.2.few in let fits = rows.2.room in let e = s.4 in
         let room = (here.running.parts seat here.pass here.own).room in (
-          rows_in s.1,
+          s.1,
           length-rows_in s.1 rows.0 rows.2 ∙ e,
-          count_tells _ _ _ s.1 here.history here.pass after s.5.1 ∙ (λ i. after_seen (rows_in s.1) (e i) (same i)),
+          slots_many 0 (slice_index s.1 2) ∙ e,
+          count_tells _ _ _ s.1 here.history here.pass after s.5.1 ∙ (λ i. after_seen s.1 (same i)),
+          λ layout laid. (here.running.parts seat here.pass here.own).laid layout (ap (λ (x : Pass). x.laid) same ∙ laid),
           λ all. whole_list s.0 s.1 s.2 here (ap (λ (x : Pass). x.pending) same ∙ rest) (m.grant ∙ ap some all),
           omega arith,
           omega arith,
           subst (λ (x : Pass). found ≤ x.room) same (omega arith),
-          λ n counted. sym e ∙ (here.running.parts seat here.pass here.own).count n (ap (λ (x : Pass). x.count) same ∙ counted),
         )
 
     -- a load of a row is kept in the pass: the first one starts at page 0, and each that is counted below the limit
     pub reads : (index : ℕ) → IsSome held → IsHeldPages held → IsAtRest pass
         → IsMade HasHistory Allowed note seat held pass (loads (3 + index)) found after
         → (after ≡ after_row index found pass) × (index ≡ 0 → row_start found ≡ 0)
-        × ((n : ℕ) → pass.count ≡ Some n → index < n → row_start found < LIMIT)
+        × (IsOneOf (slots_by pass.laid) index → row_start found < LIMIT)
     reads index some_held pages rest s =
         let m = s.3 in let here = s.5.0 in
         let same : here.pass ≡ pass = some-injective here.pass pass (sym here.own ∙ m.own) in
@@ -198,8 +201,11 @@ module _ (note : Note) (seat : ℕ) (held : Option Held) (pass : Pass) where
         let e = s.4 in (
           row_tells _ _ _ s.1 here.history here.pass after index s.5.1 ∙ (λ i. after_row index (e i) (same i)),
           λ none. ap row_start (sym e ∙ ap (λ n. slice_index s.1 (3 + n)) none) ∙ first_row s.1 rows.0 rows.2,
-          λ n counted lt.
-              let c : slice_index s.1 2 ≡ n = (here.running.parts seat here.pass here.own).count n (ap (λ (x : Pass). x.count) same ∙ counted) in
+          λ there.
+              let l = known_in pass.laid index there in
+              let laid = (here.running.parts seat here.pass here.own).laid l.0 (ap (λ (x : Pass). x.laid) same ∙ l.1) in
+              let count : slice_index s.1 2 ≡ slice_index l.0 0 = ap (λ (layout : List ℕ). slice_index layout 0) laid in
+              let few = l.2 in
               subst (λ w. row_start w < LIMIT) e (row_below s.1 rows.0 index rows.2 (omega arith)),
         )
 
@@ -313,10 +319,10 @@ look_is s u found call made =
 
 -- a pass that remembers the sequence word still has what it had read
 remembers : (p : Pass) (n : ℕ) → ((k : ℕ) → p.sequence ≡ Some k → n ≡ k) → KeepsRead p (after_sequence n p)
-remembers p n again = record { count = λ k e. e; rows = λ index word h. h; sequence = λ k e. ap Some (again k e); pending = refl }
+remembers p n again = record { laid = λ layout e. e; rows = λ index word h. h; sequence = λ k e. ap Some (again k e); pending = refl }
 
 keeps_all : (p : Pass) → KeepsRead p p
-keeps_all p = record { count = λ k e. e; rows = λ index word h. h; sequence = λ k e. e; pending = refl }
+keeps_all p = record { laid = λ layout e. e; rows = λ index word h. h; sequence = λ k e. e; pending = refl }
 
 -- how many entries are under everything, by the sequence word that a caller remembers
 counts_whole : (u : SeatState Pass) (found : ℕ) → u.pass.sequence ≡ Some found → IsSome u.held → IsHeldPages u.held → CountsWhole u found
@@ -370,11 +376,11 @@ sequence_is s u found pages call made =
     (sequence_tells _ _ _ made.1 here.history here.pass u.pass made.5.1)
 
 -- a pass that has read the same knows the same
-knows_on : (p q : Pass) → q.count ≡ p.count → q.rows ≡ p.rows → KnowsRows p → KnowsRows q
-knows_on p q same_count same_rows knows =
-    subst (λ (z : Option ℕ × List ReadRow). (z.0 ≡ Some (length (words_of z.1 (or_zero z.0))))
-    × ((i : ℕ) → i < length (words_of z.1 (or_zero z.0)) → HasRead z.1 i (slice_index (words_of z.1 (or_zero z.0)) i)))
-    (λ i. (sym same_count i, sym same_rows i)) knows
+knows_on : (p q : Pass) → q.laid ≡ p.laid → q.rows ≡ p.rows → KnowsRows p → KnowsRows q
+knows_on p q same_laid same_rows knows =
+    subst (λ (z : Option (List ℕ) × List ReadRow). (counts_of z.0 ≡ Some (length (words_of z.1 (slots_by z.0))))
+    × ((k slot : ℕ) → get_elem? (slots_by z.0) k ≡ some slot → HasRead z.1 slot (slice_index (words_of z.1 (slots_by z.0)) k)))
+    (λ i. (sym same_laid i, sym same_rows i)) knows
 
 -- a caller that has drawn a number under everything has its plan to write
 pub writes_plan : (before after : CallerView) (e : Entry) (under : Under) → HasSameRows before after
@@ -390,7 +396,7 @@ writes_plan before after e under same room held d whole known few =
     subst (λ (q : Pending). FitsIn q after.seat.pass.room) is d.fits in
     let table : room_of after.seat.table ≡ room_of before.seat.table = ap room_of d.numbered.table in
     let same_room = d.room in
-    let rows : known_rows after.seat.pass ≡ known_rows before.seat.pass = λ i. words_of (k.1 i) (or_zero (k.0 i)) in
+    let rows : known_rows after.seat.pass ≡ known_rows before.seat.pass = λ i. words_of (k.1 i) (slots_by (k.0 i)) in
     let plan : plan_of after ≡ plan_of before =
     λ i. record { old = rows i; first = (same.cut i).first; end = (same.cut i).end; more = same.more i } in
     let stood = known.fits in
@@ -411,12 +417,13 @@ writes_plan before after e under same room held d whole known few =
     }
 
 -- what was read round a change is read still where the range and the rows are the same
-pub round_on : (a b : SeatState Pass) (change : Change) → b.table ≡ a.table → b.held ≡ a.held → b.pass.count ≡ a.pass.count
+pub round_on : (a b : SeatState Pass) (change : Change) → b.table ≡ a.table → b.held ≡ a.held → b.pass.laid ≡ a.pass.laid
     → b.pass.rows ≡ a.pass.rows → IsReadRound a change → IsReadRound b change
-round_on a b change same_table same_held same_count same_rows r =
+round_on a b change same_table same_held same_laid same_rows r =
     let read = r.read in
     record {
       row = r.row;
+      next = r.next;
       before = r.before;
       behind = r.behind;
       held = same_held ∙ r.held;
@@ -424,21 +431,23 @@ round_on a b change same_table same_held same_count same_rows r =
       pages = r.pages;
       limit = r.limit;
       read = record {
-        count = read.count;
-        counted = same_count ∙ read.counted;
+        layout = read.layout;
+        laid = same_laid ∙ read.laid;
         there = read.there;
         word = read.word;
-        read = subst (λ (l : List ReadRow). HasRead l r.row.index read.word) (sym same_rows) read.read;
+        read = subst (λ (l : List ReadRow). HasRead l (slot_at read.layout r.row.index) read.word) (sym same_rows) read.read;
         lo = read.lo;
         kind = read.kind;
-        hi = subst (λ (l : List ReadRow). IsRowEnd l read.count r.row.index r.row.hi) (sym same_rows) read.hi;
+        hi = subst (λ (l : List ReadRow). IsRowEnd l (slots_of read.layout) (slot_at read.layout r.row.index) r.row.hi) (sym same_rows) read.hi;
       };
       few = r.few;
-      fits = subst (λ (t : TableId). read.count ≤ room_of t) (sym same_table) r.fits;
+      fits = subst (λ (t : TableId). length (slots_of read.layout) ≤ room_of t) (sym same_table) r.fits;
       kind = r.kind;
       named = r.named;
-      read_before = subst (λ (l : List ReadRow). IsReadBefore l r.row.index r.before) (sym same_rows) r.read_before;
-      read_behind = subst (λ (l : List ReadRow). IsReadBehind l read.count r.row.index r.behind) (sym same_rows) r.read_behind;
+      read_before = subst (λ (l : List ReadRow). IsReadBefore l (slots_of read.layout) (slot_at read.layout r.row.index) r.before)
+          (sym same_rows) r.read_before;
+      read_behind = subst (λ (l : List ReadRow). IsReadBehind l (slots_of read.layout) (slot_at read.layout r.row.index) r.next r.behind)
+          (sym same_rows) r.read_behind;
       store = r.store;
     }
 

@@ -27,7 +27,8 @@ use native.Mathlib.Decide.{ℕ_discrete}
 use Rattle.area_guard.specs.declared.guard.Pass.{Pass}
 use Rattle.area_guard.specs.declared.guard.Splice.{Splice}
 use Rattle.area_guard.specs.History.{rows_after}
-use Rattle.area_guard.specs.Reads.{HasRead}
+use Rattle.area_guard.specs.Reads.{counts_of, HasRead}
+use Rattle.area_rows.proofs.StoringRows.{new_by}
 use Rattle.area_rows.specs.Callers.{IsClientStep}
 use Rattle.area_rows.specs.Writing.{IsNewRow, moved_to, moves_of, look_at, looks_of, steps_of, new_row, new_rows, new_count}
 use Rattle.area_rows.proofs.SpliceStores.{after_before, after_behind, after_length}
@@ -111,10 +112,11 @@ moved_new old plan i j differ one lt is = elim (cases_lt i (length old)) [
 ]
 
 -- and a row that moves is new at its place, where what stood there still stands
-pub moves_new : (pass : Pass) (old : List ℕ) (index place : ℕ) → IsRowList old → pass.count ≡ Some (length old) → index < length old
+pub moves_new : (pass : Pass) (old : List ℕ) (index place : ℕ) → IsRowList old → counts_of pass.laid ≡ Some (length old) → index < length old
     → (place ≡ index → ⊥) → (place < length old → HasRead pass.rows place (slice_index old place)) → IsNewRow pass place (slice_index old index)
 moves_new pass old index place list counted there differ stood =
-    (length old, counted, λ lt. (slice_index old place, stood lt, λ same. differ (one_place old list place index lt there same)))
+    new_by pass (length old) place (slice_index old index) counted
+    (λ lt. (slice_index old place, stood lt, λ same. differ (one_place old list place index lt there same)))
 
 -- a step on a client word is one step
 pub one_step : (s u : SeatState Pass) (place : ℕ) (p : Pass) → IsClientStep s place p u → u.trace.taken ≡ s.trace.taken + 1

@@ -17,9 +17,9 @@ use Rattle.area_guard.specs.declared.guard.Pending.{Pending}
 use Rattle.area_guard.specs.declared.guard.Splice.{Splice}
 use Rattle.area_guard.specs.declared.guard.Pending.TheVariants.{Planned}
 use Rattle.row_plans.specs.RowLists.{ShowFrom, IsBareGap}
-use Rattle.area_guard.specs.Rows.{room_of, rows_in, RowsShow}
-use Rattle.area_guard.specs.Reads.{everything, HasRead, HasRows}
-use Rattle.area_guard.specs.History.{HasHistory, Allowed, Here, IsNew, MayStore, MayWrite, MayAdd, Backs, without, rows_after}
+use Rattle.area_guard.specs.Rows.{room_of, rows_in, slots_of, IsOneOf, RowsShow}
+use Rattle.area_guard.specs.Reads.{everything, counts_of, HasRead, HasRows}
+use Rattle.area_guard.specs.History.{StillLaid, HasHistory, Allowed, Here, IsNew, MayStore, MayWrite, MayAdd, Backs, without, rows_after}
 use Rattle.area_guard.specs.History.{after_count, after_row, after_store, after_raise}
 use Rattle.area_guard.specs.History.MayStore.{store_row, store_count}
 use Rattle.area_guard.specs.History.MayAdd.{draw, raise}
@@ -29,16 +29,20 @@ use Rattle.atomic_table.specs.Seated.{TableId}
 use Rattle.row_plans.specs.Plans.{IsRowList}
 use Rattle.area_rows.specs.Writing.{IsNewRow, IsWriting, WritesPlan, plan_at, splice_in}
 use Rattle.area_guard.specs.Keeping.{no_note}
-use Rattle.area_guard.proofs.Slots.{slot_few}
+use Rattle.area_guard.proofs.Slots.{slot_few, counts_now}
+use Rattle.area_rows.proofs.Numbers.{counted_laid, row_read}
 use Rattle.area_guard.specs.Parts.{rows_fit}
 use Rattle.area_guard.specs.Writes.{plan_length}
 use Rattle.area_rows.proofs.Moments.{here_at, rows_known, stands}
 
 module _ (note : Note) (seat : ℕ) (held : Option Held) (pass : Pass) (plan : Splice) (planned : pass.pending ≡ Planned plan) where
-  -- at a moment of its caller the row count and the rows that it knows stand so
+  -- at a moment of its caller the layout and the rows that it knows stand so
   module _ (grants : Grants) (words : List ℕ) (passes : List Pass) (here : Here grants words passes seat) (same : here.pass ≡ pass) where
-    count_stands : (n : ℕ) → pass.count ≡ Some n → slice_index words 2 ≡ n
-    count_stands n is = (here.running.parts seat here.pass here.own).count n (ap (λ (x : Pass). x.count) same ∙ is)
+    laid_stands : StillLaid words pass.laid
+    laid_stands layout is = (here.running.parts seat here.pass here.own).laid layout (ap (λ (x : Pass). x.laid) same ∙ is)
+
+    count_stands : (n : ℕ) → counts_of pass.laid ≡ Some n → slice_index words 2 ≡ n
+    count_stands n is = counts_now words pass.laid n laid_stands is
 
     row_stands : (i w : ℕ) → HasRead pass.rows i w → slice_index words (3 + i) ≡ w
     row_stands i w has =
@@ -53,8 +57,11 @@ module _ (note : Note) (seat : ℕ) (held : Option Held) (pass : Pass) (plan : S
     new_row index value new used same_word = ⊎_elim
         (λ two. omega arith)
         (λ t.
-        let slot = slot_few words t.0 t.2 in let at = t.1 in let count = count_stands new.0 new.1 in
-        let row = new.2 (omega arith) in row.2 (sym (row_stands index row.0 row.1) ∙ same_word))
+        let at = t.1 in
+        let slot : t.0 ≡ index = omega arith in
+        let laid = laid_stands new.0 new.1 in
+        let row = new.2 (subst (λ (z : List ℕ × ℕ). IsOneOf (slots_of z.0) z.1) (λ i. (laid i, slot i)) t.2) in
+        row.2 (sym (row_stands index row.0 row.1) ∙ same_word))
         used
 
   may_write : (words : List ℕ) (place value : ℕ) (after : Pass) → MayStore (rows_after plan) place value pass after → IsNew words place value
@@ -75,7 +82,7 @@ module _ (note : Note) (seat : ℕ) (held : Option Held) (pass : Pass) (plan : S
       )
 
   -- and the store of how many rows it has, where there are more or fewer
-  pub may_store_count : (value : ℕ) → value ≡ length (rows_after plan) → ((stood : ℕ) × (pass.count ≡ Some stood) × (stood ≢ value))
+  pub may_store_count : (value : ℕ) → value ≡ length (rows_after plan) → ((stood : ℕ) × (counts_of pass.laid ≡ Some stood) × (stood ≢ value))
       → IsAllowed HasHistory Allowed note seat held pass (stores 2 value)
   may_store_count value is new grants words passes m there small =
       let here = here_at grants words passes seat held pass m in (
@@ -100,7 +107,7 @@ module _ (note : Note) (seat : ℕ) (held : Option Held) (pass : Pass) (plan : S
       let long = plan_length (rows_after plan) here.state here.running.in_order shows in
       let few = shows.few in
       let rows : rows_in words ≡ rows_after plan = rows_known words (rows_after plan) (omega arith) count
-      (λ i lt. row_stands grants words passes here same i (slice_index (rows_after plan) i) (has.1 i lt)) in
+      (λ i lt. row_stands grants words passes here same i (slice_index (rows_after plan) i) (row_read pass (rows_after plan) has i lt)) in
       record {
         room = omega arith;
         some = let s = shows.some in omega arith;
@@ -114,6 +121,14 @@ module _ (note : Note) (seat : ℕ) (held : Option Held) (pass : Pass) (plan : S
   may_raise has grants words passes m there small =
       let here = here_at grants words passes seat held pass m in
       (after_raise pass, (refl, here, raise plan refl planned (written_shows grants words passes here refl has) refl))
+
+-- a row is new where another one was read there, if so many are counted
+pub new_by : (pass : Pass) (count index value : ℕ) → counts_of pass.laid ≡ Some count
+    → (index < count → (word : ℕ) × HasRead pass.rows index word × (word ≢ value)) → IsNewRow pass index value
+new_by pass count index value counted new =
+    let l = counted_laid pass.laid count counted in
+    let same = l.2 in
+    (l.0, l.1, λ there. let few = slot_few l.0 index there in new (omega arith))
 
 -- a row that is new stays so when one is read
 pub still_new : (pass : Pass) (index word place value : ℕ) → IsNewRow pass place value → IsNewRow (after_row index word pass) place value
@@ -230,14 +245,14 @@ no_writing a = record {
   taken = omega arith;
 }
 
--- a pass that knows another row count and other rows
-abbrev knows : Option ℕ → List ReadRow → Pass → Pass
-knows count rows p = record p { count = count; rows = rows }
+-- a pass that knows another layout and other rows
+abbrev knows : Option (List ℕ) → List ReadRow → Pass → Pass
+knows laid rows p = record p { laid = laid; rows = rows }
 
 -- a step after which the caller knows these is a writing
-step_writes : (a b : SeatState Pass) (place : ℕ) (count : Option ℕ) (rows : List ReadRow) → IsClientStep a place (knows count rows a.pass) b
+step_writes : (a b : SeatState Pass) (place : ℕ) (laid : Option (List ℕ)) (rows : List ReadRow) → IsClientStep a place (knows laid rows a.pass) b
     → IsWriting a b
-step_writes a b place count rows s = record {
+step_writes a b place laid rows s = record {
   table = s.table;
   number = s.number;
   held = s.held;
@@ -256,11 +271,11 @@ step_writes a b place count rows s = record {
 
 -- so is the store of a row
 pub store_writes : (a b : SeatState Pass) (index value : ℕ) → IsClientStep a (3 + index) (after_store index value a.pass) b → IsWriting a b
-store_writes a b index value s = step_writes a b (3 + index) a.pass.count _ s
+store_writes a b index value s = step_writes a b (3 + index) a.pass.laid _ s
 
 -- the load of one
 pub load_writes : (a b : SeatState Pass) (index value : ℕ) → IsClientStep a (3 + index) (after_row index value a.pass) b → IsWriting a b
-load_writes a b index value s = step_writes a b (3 + index) a.pass.count _ s
+load_writes a b index value s = step_writes a b (3 + index) a.pass.laid _ s
 
 -- and the store of the row count
 pub count_writes : (a b : SeatState Pass) (value : ℕ) → IsClientStep a 2 (after_count value a.pass) b → IsWriting a b

@@ -24,6 +24,8 @@ use Rattle.area_guard.specs.Rows.{rows_in}
 use Rattle.area_guard.specs.Reads.{everything, known_rows, KnowsRows, StillStands}
 use Rattle.area_guard.specs.History.{StartsWith, Runs, RowsStandFor, IsAtRest, HoldsFor, rest_of}
 use Rattle.area_guard.specs.Writes.{everything_pages}
+use Rattle.area_guard.proofs.Slots.{counts_now}
+use Rattle.area_rows.proofs.Numbers.{counts_on, row_read}
 use Rattle.area_rows.specs.Callers.{CallerView, IsMoment, MayNumber, IsKnown, HasPlanned, IsReading, IsNumbered, IsDrawn, IsWritten}
 use Rattle.area_rows.specs.Called.{IsLastStep, IsCalled}
 use Rattle.area_rows.proofs.Moments.{stands, nobody_plans, rows_known, rows_are}
@@ -67,9 +69,11 @@ rows_now c held rest knows start history state words m =
     let granted : get_elem? m.grants c.seat.number ≡ some (Some everything) = m.granted ∙ ap some held in
     let stood : All (StillStands (Some everything) words) m.pass.rows = (m.backed c.seat.number m.pass m.own).rows (Some everything) granted in
     let part = m.running.parts c.seat.number m.pass m.own in
-    let counted : slice_index words 2 ≡ length rows = part.count (length rows) (m.read.count (length rows) knows.0) in
+    let counted : slice_index words 2 ≡ length rows = counts_now words m.pass.laid (length rows) part.laid
+    (counts_on c.seat.pass.laid m.pass.laid (length rows) m.read.laid knows.0) in
     let word : (i : ℕ) → i < length rows → slice_index words (3 + i) ≡ slice_index rows i = λ i lt.
-    (stands (Some everything) words m.pass.rows i (slice_index rows i) stood (m.read.rows i (slice_index rows i) (knows.1 i lt))).word refl in
+    (stands (Some everything) words m.pass.rows i (slice_index rows i) stood
+    (m.read.rows i (slice_index rows i) (row_read c.seat.pass rows knows i lt))).word refl in
     let stand : RowsStandFor state m.passes words =
     m.running.rows (nobody_plans m.grants words state m.passes c.seat.number m.pass m.exclusive m.backed m.own
     (m.read.pending ∙ rest) (everything, granted, everything_pages)) in

@@ -39,16 +39,17 @@ pub record IsLike (c d : Change) : Type 0 where
   pub old : d.old ≡ c.old
   pub new : d.new ≡ c.new
 
--- the way and the reply were chosen by the row and the kinds beside it
-abbrev pub IsChosen : Row → Change → Option Kind → Option Kind → AreaPlan → Type 0
-IsChosen row c before behind NotSimple =
+-- the way and the reply were chosen by the row, the slot next to its own, and the kinds beside it, for a change that
+-- names the row's slot
+abbrev pub IsChosen : Row → ℕ → Change → Option Kind → Option Kind → AreaPlan → Type 0
+IsChosen row next c before behind NotSimple =
     (c.old.sealed ≡ false) × ((A : List Area) (a : Area) → IsAmong A a row c.old before behind → ¬ FourCases A a c.place.lo c.place.hi c.new)
-IsChosen row c before behind (Sealed reply) = IsTrue c.old.sealed × (reply ≡ Refused (Eperm c.place.lo))
-IsChosen row c before behind (Same reply) = (c.old.sealed ≡ false) × (c.new ≡ c.old) × (reply ≡ Zero)
-IsChosen row c before behind (SetKind d reply) =
-    (c.old.sealed ≡ false) × IsLike c d × IsOneStore row before behind d × (c.new ≢ c.old) × (d.index ≡ row.index) × (reply ≡ Zero)
-IsChosen row c before behind (MoveStart d reply) =
-    (c.old.sealed ≡ false) × IsLike c d × IsOneStore row before behind d × (c.new ≢ c.old) × (reply ≡ Zero)
+IsChosen row next c before behind (Sealed reply) = IsTrue c.old.sealed × (reply ≡ Refused (Eperm c.place.lo))
+IsChosen row next c before behind (Same reply) = (c.old.sealed ≡ false) × (c.new ≡ c.old) × (reply ≡ Zero)
+IsChosen row next c before behind (SetKind d reply) =
+    (c.old.sealed ≡ false) × IsLike c d × IsOneStore c.index next row before behind d × (c.new ≢ c.old) × (d.index ≡ c.index) × (reply ≡ Zero)
+IsChosen row next c before behind (MoveStart d reply) =
+    (c.old.sealed ≡ false) × IsLike c d × IsOneStore c.index next row before behind d × (c.new ≢ c.old) × (reply ≡ Zero)
 
 -- the row that a plan changes
 abbrev pub planned_change : AreaPlan → Option Change

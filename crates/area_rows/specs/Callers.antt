@@ -1,7 +1,7 @@
 -- What contracts see of a caller and of a space, and what each call says. What a caller's range has shown of the
 -- history is stated as what is so at every moment at which the caller holds that range and has read those rows; so it
 -- lasts while the caller keeps both. The definitions are this project's own.
-use Rattle.std.specs.Prelude.{ℕ, ◌≡◌, ◌≢◌, ◌<◌, ◌≤◌, ◌+◌, ◌-◌, Option, Some, None, List, [], ◌∷◌, ◌++◌, ◌*◌, drop, length, min, replicate, slice_index, ◌⊎◌}
+use Rattle.std.specs.Prelude.{ℕ, ◌≡◌, ◌≢◌, ◌<◌, ◌≤◌, ◌+◌, ◌-◌, Option, Some, None, List, [], ◌∷◌, ◌++◌, ◌*◌, length, min, replicate, slice_index, ◌⊎◌}
 use mathlib.Core.Option.{some}
 use lib.ListN.{get_elem?}
 use Rattle.page_types.specs.declared.TheConstants.{LIMIT, ROWS, SPARE}
@@ -31,8 +31,8 @@ use Rattle.area_rows.specs.declared.row.Row.{Row}
 use Rattle.area_rows.specs.declared.space.SpaceFault.{SpaceFault}
 use Rattle.area_rows.specs.declared.space.SpaceFault.TheVariants.{Callers, Rows, Memory}
 use Rattle.row_plans.specs.RowWords.{row_start, row_kind}
-use Rattle.row_plans.specs.RowLists.{rows_start, rows_from}
-use Rattle.area_guard.specs.Rows.{IsRowOf, room_of, rows_in}
+use Rattle.row_plans.specs.RowLists.{rows_from}
+use Rattle.area_guard.specs.Rows.{layout_in, slots_of, slot_at, slots_in, AreNeighbours, IsOneOf, IsFirstOf, IsLastOf, IsNext, IsRowOf, room_of, rows_in}
 use Rattle.row_plans.specs.declared.planning.Cut.{Cut}
 use Rattle.row_plans.specs.Plans.{IsRowList, spliced, IsPlan}
 use Rattle.area_guard.specs.Reads.{everything, IsHeldPage, HasRead, known_rows, KnowsRows}
@@ -95,9 +95,9 @@ IsHeldBelow held limit = (h : Held) → held ≡ Some h → h.range.hi ≤ limit
 abbrev pub IsHeldPages : Option Held → Type 0
 IsHeldPages held = (h : Held) → held ≡ Some h → HasPages h
 
--- a pass still has what another has read: the row count, the rows and the sequence word; and it has as much to write
+-- a pass still has what another has read: the layout, the rows and the sequence word; and it has as much to write
 pub record KeepsRead (old new : Pass) : Type 0 where
-  pub count : (n : ℕ) → old.count ≡ Some n → new.count ≡ Some n
+  pub laid : (layout : List ℕ) → old.laid ≡ Some layout → new.laid ≡ Some layout
   pub rows : (index word : ℕ) → HasRead old.rows index word → HasRead new.rows index word
   pub sequence : (n : ℕ) → old.sequence ≡ Some n → new.sequence ≡ Some n
   pub pending : new.pending ≡ old.pending
@@ -149,51 +149,62 @@ pub record HasToWrite (c : CallerView) : Type 0 where
   pub few : length (rows_after (plan_of c)) ≤ ROWS
   pub fits : length (rows_after (plan_of c)) ≤ room_of c.seat.table
 
--- where a row ends, by what was read: where the next one starts, or at LIMIT
-abbrev pub IsRowEnd : List ReadRow → ℕ → ℕ → ℕ → Type 0
-IsRowEnd rows count index hi = ((index + 1 < count) × (next : ℕ) × HasRead rows (index + 1) next × (hi ≡ row_start next)) ⊎ ((index + 1 ≡ count) × (hi ≡ LIMIT))
+-- where the row in a slot ends, by what was read: where the one in the next slot starts, or at LIMIT
+abbrev pub IsRowEnd : List ReadRow → List ℕ → ℕ → ℕ → Type 0
+IsRowEnd rows slots slot hi = ((next : ℕ) × AreNeighbours slots slot next × (word : ℕ) × HasRead rows next word × (hi ≡ row_start word))
+    ⊎ (IsLastOf slots slot × (hi ≡ LIMIT))
 
--- the ends and the kind of the row are as the caller has read them under its range
+-- the ends and the kind of the row are as the caller has read them under its range, in a slot of the layout that it has
+-- read
 pub record IsAsRead (pass : Pass) (row : Row) : Type 0 where
-  pub count : ℕ
-  pub counted : pass.count ≡ Some count
-  pub there : row.index < count
+  pub layout : List ℕ
+  pub laid : pass.laid ≡ Some layout
+  pub there : IsOneOf (slots_of layout) (slot_at layout row.index)
   pub word : ℕ
-  pub read : HasRead pass.rows row.index word
+  pub read : HasRead pass.rows (slot_at layout row.index) word
   pub lo : row.lo ≡ row_start word
   pub kind : row.kind ≡ row_kind word
-  pub hi : IsRowEnd pass.rows count row.index row.hi
+  pub hi : IsRowEnd pass.rows (slots_of layout) (slot_at layout row.index) row.hi
 
 -- a page past each end of the row is held as well, by a writer, or there is none
 abbrev pub HoldsAround : Option Held → Row → Type 0
 HoldsAround held row = (h : Held) × (held ≡ Some h) × (h.mode ≡ Writer) × (h.range.lo ≤ row.lo - 1) × (min (row.hi + 1) LIMIT ≤ h.range.hi)
 
--- the row word of that number starts at lo, and the next one at hi, or LIMIT is there
+-- where the row in a slot ends: where the one in the next slot starts, or at LIMIT
+abbrev pub IsEndIn : List ℕ → ℕ → ℕ → Type 0
+IsEndIn words slot hi = ((next : ℕ) × IsNext words slot next × (row_start (slice_index words (3 + next)) ≡ hi))
+    ⊎ (IsLastOf (slots_in words) slot × (hi ≡ LIMIT))
+
+-- the row word in the row's slot starts at lo, and the row ends at hi
 abbrev pub HasEnds : List ℕ → Row → Type 0
-HasEnds words row = (row_start (slice_index words (3 + row.index)) ≡ row.lo) × (rows_start (drop (row.index + 1) (rows_in words)) ≡ row.hi)
+HasEnds words row = (row_start (slice_index words (3 + slot_at (layout_in words) row.index)) ≡ row.lo)
+    × IsEndIn words (slot_at (layout_in words) row.index) row.hi
 
 -- the row is that of the page; its held pages have its kind at the state, and the held pages next to it have another,
 -- a gap counting as a kind; its ends are those of the row words where a page past each of them is held as well
 pub record RowIs (held : Option Held) (page : ℕ) (row : Row) (words : List ℕ) (state : List Area) : Type 0 where
-  pub index : IsRowOf words page row.index
+  pub index : IsRowOf words page (slot_at (layout_in words) row.index)
   pub kind : (p : ℕ) → IsHeldPage held p → row.lo ≤ p → p < row.hi → kind_at state p ≡ row.kind
   pub next : IsHeldPage held row.hi → kind_at state row.hi ≢ row.kind
   pub previous : 0 < row.lo → IsHeldPage held (row.lo - 1) → kind_at state (row.lo - 1) ≢ row.kind
   pub ends : HoldsAround held row → HasEnds words row
 
--- the kind of the row before this one, as the caller has read it, or None where there is no row before it
-abbrev pub IsReadBefore : List ReadRow → ℕ → Option Kind → Type 0
-IsReadBefore rows index kind = ((index ≡ 0) × (kind ≡ None)) ⊎ ((0 < index) × (word : ℕ) × HasRead rows (index - 1) word × (kind ≡ row_kind word))
+-- the kind of the row before the one in a slot, as the caller has read it, or None where there is no row before it
+abbrev pub IsReadBefore : List ReadRow → List ℕ → ℕ → Option Kind → Type 0
+IsReadBefore rows slots slot kind = (IsFirstOf slots slot × (kind ≡ None))
+    ⊎ ((previous : ℕ) × AreNeighbours slots previous slot × (word : ℕ) × HasRead rows previous word × (kind ≡ row_kind word))
 
--- the kind of the row behind this one, as the caller has read it, or None where there is no row behind it
-abbrev pub IsReadBehind : List ReadRow → ℕ → ℕ → Option Kind → Type 0
-IsReadBehind rows count index kind = ((index + 1 ≡ count) × (kind ≡ None))
-    ⊎ ((index + 1 < count) × (word : ℕ) × HasRead rows (index + 1) word × (kind ≡ row_kind word))
+-- the kind of the row behind the one in a slot, in the next slot, as the caller has read it, or None where there is no
+-- row behind it
+abbrev pub IsReadBehind : List ReadRow → List ℕ → ℕ → ℕ → Option Kind → Type 0
+IsReadBehind rows slots slot next kind = (IsLastOf slots slot × (kind ≡ None))
+    ⊎ (AreNeighbours slots slot next × (word : ℕ) × HasRead rows next word × (kind ≡ row_kind word))
 
 -- a caller holds an area and a page on each side as a writer, has read the area's row and those on both sides, and the
 -- change is one store on one of them
 pub record IsReadRound (seat : SeatState Pass) (change : Change) : Type 0 where
   pub row : Row
+  pub next : ℕ
   pub before : Option Kind
   pub behind : Option Kind
   pub held : seat.held ≡ Some (alone change.span)
@@ -201,13 +212,13 @@ pub record IsReadRound (seat : SeatState Pass) (change : Change) : Type 0 where
   pub pages : row.lo < row.hi
   pub limit : row.hi ≤ LIMIT
   pub read : IsAsRead seat.pass row
-  pub few : read.count ≤ ROWS
-  pub fits : read.count ≤ room_of seat.table
+  pub few : length (slots_of read.layout) ≤ ROWS
+  pub fits : length (slots_of read.layout) ≤ room_of seat.table
   pub kind : row.kind ≡ Some change.old
   pub named : IsNamedKind change.kind
-  pub read_before : IsReadBefore seat.pass.rows row.index before
-  pub read_behind : IsReadBehind seat.pass.rows read.count row.index behind
-  pub store : IsOneStore row before behind change
+  pub read_before : IsReadBefore seat.pass.rows (slots_of read.layout) (slot_at read.layout row.index) before
+  pub read_behind : IsReadBehind seat.pass.rows (slots_of read.layout) (slot_at read.layout row.index) next behind
+  pub store : IsOneStore (slot_at read.layout row.index) next row before behind change
 
 -- a caller has one row to store: it has numbered the call, and has read the rows round its change
 pub record HasToStore (c : CallerView) (change : Change) : Type 0 where
@@ -239,7 +250,7 @@ new_pass start room most = record {
   most = most;
   seen = [];
   mine = [];
-  count = None;
+  laid = None;
   rows = [];
   sequence = None;
   pending = AtRest;
@@ -338,13 +349,15 @@ pub record HasLoaded (before after : SeatState Pass) : Type 0 where
   pub same : known_rows after.pass ≡ known_rows before.pass
   pub knows : KnowsRows before.pass → KnowsRows after.pass
 
--- a load of the row count: one step, with which the caller notes all rows of the moment. Where it holds everything they
--- are a list of rows
+-- a load of the row count: one step, with which the caller notes the layout and all rows of the moment, each in its
+-- slot. The layout is the one that it has read before. Where it holds everything the rows are a list of rows
 pub record IsCounted (before : SeatState Pass) (found : ℕ) (after : SeatState Pass) : Type 0 where
-  pub rows : List ℕ
-  pub all : length rows ≡ found
-  pub step : IsClientStep before 2 (after_seen rows found before.pass) after
-  pub list : before.held ≡ Some everything → IsRowList rows
+  pub words : List ℕ
+  pub all : length (rows_in words) ≡ found
+  pub slots : length (slots_in words) ≡ found
+  pub step : IsClientStep before 2 (after_seen words before.pass) after
+  pub again : (layout : List ℕ) → before.pass.laid ≡ Some layout → layout_in words ≡ layout
+  pub list : before.held ≡ Some everything → IsRowList (rows_in words)
 
 -- a look at the number word: at a moment of the running space the caller sees the history so far, and it keeps what
 -- it has read; so what its range has shown is so of the state that this history leaves. Its pass keeps how many entries
@@ -381,8 +394,8 @@ pub record IsNumbered (before : SeatState Pass) (e : Entry) (after : SeatState P
 -- a caller that has rows to write still has what it has read of the old ones
 abbrev pub KeepsRows : Pending → Pass → Pass → Type 0
 KeepsRows AtRest old new = Unit {0}
-KeepsRows (Planned plan) old new = (new.count ≡ old.count) × (new.rows ≡ old.rows)
-KeepsRows (OneRow change) old new = (new.count ≡ old.count) × (new.rows ≡ old.rows)
+KeepsRows (Planned plan) old new = (new.laid ≡ old.laid) × (new.rows ≡ old.rows)
+KeepsRows (OneRow change) old new = (new.laid ≡ old.laid) × (new.rows ≡ old.rows)
 
 -- the same by one step on the number word, made at a moment of the running space whose history is the one before the
 -- entry; so what the caller's range has shown is so of the state that this history leaves. What was held at the draw

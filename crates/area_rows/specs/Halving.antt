@@ -7,22 +7,26 @@ use Rattle.area_guard.specs.declared.guard.ReadRow.{ReadRow}
 use Rattle.row_plans.specs.RowWords.{row_start}
 use Rattle.area_guard.specs.Reads.{HasRead}
 
--- the word of a row starts on the same side of the page as each word that was read of that row before
+-- the word of a row starts on the same side of the page as each word that was read in that slot before
 abbrev pub IsOnSameSide : List ReadRow → ℕ → ℕ → ℕ → Type 0
-IsOnSameSide rows index word page = (old : ℕ) → HasRead rows index old → (row_start old ≤ page) ↔ (row_start word ≤ page)
+IsOnSameSide rows slot word page = (old : ℕ) → HasRead rows slot old → (row_start old ≤ page) ↔ (row_start word ≤ page)
 
--- a row starts at or before the page: it is the first one, or was read so
-abbrev pub StartsUpTo : List ReadRow → ℕ → ℕ → Type 0
-StartsUpTo rows page index = (index ≡ 0) ⊎ ((word : ℕ) × HasRead rows index word × (row_start word ≤ page))
+-- the row at a place starts at or before the page: it is the first one, or was read so in the slot of that place
+abbrev pub StartsUpTo : List ReadRow → ℕ → (ℕ → ℕ) → ℕ → Type 0
+StartsUpTo rows page at place = (place ≡ 0) ⊎ ((word : ℕ) × HasRead rows (at place) word × (row_start word ≤ page))
 
--- a row starts behind the page: there is none of that number, or it was read so
-abbrev pub StartsBehind : List ReadRow → ℕ → ℕ → ℕ → Type 0
-StartsBehind rows page count index = (index ≡ count) ⊎ ((word : ℕ) × HasRead rows index word × (page < row_start word))
+-- the row at a place starts behind the page: there is none at that place, or it was read so
+abbrev pub StartsBehind : List ReadRow → ℕ → ℕ → (ℕ → ℕ) → ℕ → Type 0
+StartsBehind rows page count at place = (place ≡ count) ⊎ ((word : ℕ) × HasRead rows (at place) word × (page < row_start word))
 
--- the row of the page is one of so many from a base on. The base starts at or before the page; the first row after
--- them, or the last one of them, starts behind it
-pub record IsAmong (rows : List ReadRow) (page count base size : ℕ) : Type 0 where
+-- of so many places, each of which has a slot, the row of the page is at one of so many from a base on. The base starts
+-- at or before the page; the first row after them, or the last one of them, starts behind it
+pub record IsAmong (rows : List ReadRow) (page count : ℕ) (at : ℕ → ℕ) (base size : ℕ) : Type 0 where
   pub some : 0 < size
   pub there : base + size ≤ count
-  pub from : StartsUpTo rows page base
-  pub behind : (next : ℕ) × (base < next) × (next ≤ base + size) × (base + size ≤ next + 1) × StartsBehind rows page count next
+  pub from : StartsUpTo rows page at base
+  pub behind : (next : ℕ) × (base < next) × (next ≤ base + size) × (base + size ≤ next + 1) × StartsBehind rows page count at next
+
+-- each place is its own slot
+abbrev pub own_slot : ℕ → ℕ
+own_slot place = place

@@ -13,7 +13,7 @@ use Rattle.area_rows.specs.Callers.{KeepsRead, IsReading, HasLoaded, MayLoadAll}
 -- what was read stays read
 pub keeps_on : (a b c : Pass) → KeepsRead a b → KeepsRead b c → KeepsRead a c
 keeps_on a b c f g = record {
-  count = λ n e. g.count n (f.count n e);
+  laid = λ layout e. g.laid layout (f.laid layout e);
   rows = λ index word h. g.rows index word (f.rows index word h);
   sequence = λ n e. g.sequence n (f.sequence n e);
   pending = g.pending ∙ f.pending;
@@ -48,7 +48,7 @@ no_reading a = record {
   mine = refl;
   looks = refl;
   taken = omega arith;
-  read = record { count = λ n e. e; rows = λ index word h. h; sequence = λ n e. e; pending = refl };
+  read = record { laid = λ layout e. e; rows = λ index word h. h; sequence = λ n e. e; pending = refl };
 }
 
 -- no load leaves all as it is

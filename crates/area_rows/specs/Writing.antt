@@ -10,7 +10,7 @@ use Rattle.area_guard.specs.declared.guard.Splice.{Splice}
 use Rattle.row_plans.specs.Plans.{IsRowList}
 use Rattle.area_guard.specs.History.{rows_after}
 use Rattle.area_guard.specs.Reads.{everything, HasRead}
-use Rattle.area_guard.specs.Rows.{room_of}
+use Rattle.area_guard.specs.Rows.{slots_of, IsOneOf, room_of}
 use Rattle.page_types.specs.declared.TheConstants.{ROWS}
 use Rattle.atomic_table.specs.Seated.{TableId}
 use Rattle.area_guard.specs.declared.guard.Pending.{Pending}
@@ -47,9 +47,11 @@ pub record WritesPlan (table : TableId) (seat : SeatState Pass) : Type 0 where
   pub few : length (rows_after (plan_at seat)) ≤ ROWS
   pub fits : length (rows_after (plan_at seat)) ≤ room_of seat.table
 
--- a row word is new at its place, as its caller knows: where there are so many rows, another word was read there
+-- a row word is new in its slot, as its caller knows: where a row stands in it by the layout, another word was read
+-- there
 abbrev pub IsNewRow : Pass → ℕ → ℕ → Type 0
-IsNewRow pass index value = (count : ℕ) × (pass.count ≡ Some count) × (index < count → (word : ℕ) × HasRead pass.rows index word × (word ≢ value))
+IsNewRow pass slot value = (layout : List ℕ) × (pass.laid ≡ Some layout)
+    × (IsOneOf (slots_of layout) slot → (word : ℕ) × HasRead pass.rows slot word × (word ≢ value))
 
 -- rows move up: those from a number on stand at their new places, and at each place below these what stood there
 pub record IsRaised (rows : List ReadRow) (plan : Splice) (index : ℕ) : Type 0 where

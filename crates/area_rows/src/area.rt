@@ -9,7 +9,8 @@ ghost use Rattle.page_types.specs.declared.calls.Call.TheVariants.{Protect};
 ghost use Rattle.page_types.specs.Named.{IsNamedCall, IsNamedKind};
 ghost use Rattle.page_types.specs.Pages.{page_of, end_page};
 ghost use Rattle.page_types.specs.PlainReply.{plain_reply};
-ghost use Rattle.area_guard.specs.Rows.{room_of};
+ghost use Rattle.area_guard.specs.Rows.{room_of, IsOneOf};
+ghost use Rattle.area_guard.specs.Reads.{slots_by, counts_of};
 ghost use Rattle.area_guard.specs.Changes.{alone};
 ghost use Rattle.area_rows.specs.OneStore.{IsRound};
 ghost use Rattle.area_guard.specs.History.{IsAtRest};
@@ -50,13 +51,18 @@ fn change_in(plan: AreaPlan) -> Option<Change>
 
 /// Whether the area is sealed, and else which of the four ways it is, by the kinds of the page before the row and of
 /// the page behind it, None where there is none. `change` has the pages of the call, which lie in the row, and their
-/// kinds, and names the row as if it changed whole.
-fn choose(row: &Row, change: Change, before: Option<Kind>, behind: Option<Kind>) -> AreaPlan
-    requires index { row.now.index < ROWS }
+/// kinds, and names the slot of the row as if this changed whole; `next` is the one behind it.
+fn choose(
+    row: &Row,
+    next: u32,
+    change: Change,
+    before: Option<Kind>,
+    behind: Option<Kind>,
+) -> AreaPlan
     requires from { row.now.lo ≤ change.place.lo }
     requires until { change.place.hi ≤ row.now.hi }
-    requires at { (change.index ≡ row.now.index) × (change.start ≡ row.now.lo) × (change.kind ≡ change.new) }
-    ensures { IsChosen row.now change before behind result }
+    requires at { (change.start ≡ row.now.lo) × (change.kind ≡ change.new) }
+    ensures { IsChosen row.now next change before behind result }
 {
     if change.old.sealed {
         return AreaPlan::Sealed(Reply::Refused(Why::Eperm(change.place.lo)));
@@ -82,7 +88,7 @@ fn choose(row: &Row, change: Change, before: Option<Kind>, behind: Option<Kind>)
     }
     if place.hi == row.hi && behind == Some(new) {
         let moved = Change {
-            index: row.index + 1,
+            index: next,
             start: place.lo,
             ..change
         };
@@ -92,14 +98,15 @@ fn choose(row: &Row, change: Change, before: Option<Kind>, behind: Option<Kind>)
 }
 
 impl Space {
-    /// The kind of the row before this one, or None before the first row.
+    /// The kind of the row before the one in this slot, or None before the first row.
     fn kind_before(&self, caller: &mut Caller, index: u32) -> Option<Kind>
         requires table { caller.old.seat.table ≡ self.now.table }
         requires held { IsSome caller.old.seat.held }
         requires rest { IsAtRest caller.old.seat.pass }
         requires index { index < ROWS }
         requires room { index < room_of caller.old.seat.table }
-        ensures read { IsReadBefore caller.new.seat.pass.rows index result }
+        requires there { IsOneOf (slots_by caller.old.seat.pass.laid) index }
+        ensures read { IsReadBefore caller.new.seat.pass.rows (slots_by caller.old.seat.pass.laid) index result }
         ensures reading { IsReading caller.old.seat caller.new.seat }
         ensures left { caller.new.left ≡ caller.old.left }
     {
@@ -110,7 +117,7 @@ impl Space {
         kind
     }
 
-    /// The kind of the row behind this one, or None behind the last of `count` rows.
+    /// The kind of the row behind the one in this slot, or None behind the last of `count` rows.
     fn kind_behind(&self, caller: &mut Caller, index: u32, count: u64) -> Option<Kind>
         requires table { caller.old.seat.table ≡ self.now.table }
         requires held { IsSome caller.old.seat.held }
@@ -118,7 +125,8 @@ impl Space {
         requires index { index < count }
         requires few { count ≤ ROWS }
         requires fits { count ≤ room_of caller.old.seat.table }
-        ensures read { IsReadBehind caller.new.seat.pass.rows count index result }
+        requires counted { counts_of caller.old.seat.pass.laid ≡ Some count }
+        ensures read { IsReadBehind caller.new.seat.pass.rows (slots_by caller.old.seat.pass.laid) index (index + 1) result }
         ensures reading { IsReading caller.old.seat caller.new.seat }
         ensures left { caller.new.left ≡ caller.old.left }
     {
@@ -175,7 +183,7 @@ impl Space {
             old: kind,
             new,
         };
-        let plan = choose(row, change, before, behind);
+        let plan = choose(row, row.index + 1, change, before, behind);
         caller.change = change_in(plan);
         plan
     }

@@ -29,7 +29,7 @@ impl Space {
             .store_as_uncounted::<By<Brand>>(seat, FIRST_ROW + index, word);
     }
 
-    /// Gives the whole row of that number, counted from 0, another kind, in one step: that of the area which the
+    /// Gives the whole row in that slot another kind, in one step: that of the area which the
     /// caller's last call changes. The caller is of this space, has numbered this change, and has not written it yet.
     pub fn set_kind(&self, caller: &mut Caller, index: u32, kind: Kind)
         requires table { caller.old.seat.table ≡ self.now.table }
@@ -45,7 +45,7 @@ impl Space {
         self.store_change(&mut caller.seat, index, word);
     }
 
-    /// Moves the start of the row of that number, counted from 0, to a page, in one step: the boundary of the area
+    /// Moves the start of the row in that slot to a page, in one step: the boundary of the area
     /// which the caller's last call changes. The caller is of this space, has numbered this change, and has not written
     /// it yet.
     pub fn move_start(&self, caller: &mut Caller, index: u32, page: u64)

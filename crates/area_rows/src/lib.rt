@@ -29,6 +29,6 @@ pub use area_guard::{
 };
 pub use close::{Closed, SpaceCloseRefused};
 pub use row::Row;
-pub use row_plans::{Cut, Planned};
+pub use row_plans::Cut;
 pub use scan::SpaceScan;
 pub use space::{Caller, Space, SpaceFault, is_send_and_sync};

@@ -5,9 +5,9 @@ ghost use Rattle.std.specs.Prelude.{◌≡◌, ◌<◌, ◌≤◌, ◌+◌, ◌^
 ghost use Rattle.page_types.specs.declared.TheConstants.{LIMIT, ROWS, SEARCH};
 ghost use Rattle.page_types.specs.Named.{IsNamedOption};
 ghost use Rattle.area_guard.specs.History.{IsAtRest};
-ghost use Rattle.area_rows.specs.Halving.{IsAmong};
+ghost use Rattle.area_rows.specs.Halving.{own_slot, IsAmong};
 ghost use Rattle.area_guard.specs.Rows.{room_of};
-ghost use Rattle.area_guard.specs.Reads.{IsHeldPage};
+ghost use Rattle.area_guard.specs.Reads.{counts_of, IsHeldPage};
 ghost use Rattle.area_rows.specs.Callers.{HasSameRows, IsHeldPages, IsReading, IsAsRead, RowIs, Shows};
 
 use crate::row::Row;
@@ -46,11 +46,11 @@ impl Space {
         requires held { IsHeldPage caller.old.seat.held page }
         requires rest { IsAtRest caller.old.seat.pass }
         requires low { page < LIMIT }
-        requires count { caller.old.seat.pass.count ≡ Some count }
+        requires count { counts_of caller.old.seat.pass.laid ≡ Some count }
         requires some { 0 < count }
         requires few { count ≤ ROWS }
         requires fits { count ≤ room_of caller.old.seat.table }
-        ensures found { IsAmong caller.new.seat.pass.rows page count result 1 }
+        ensures found { IsAmong caller.new.seat.pass.rows page count own_slot result 1 }
         ensures reading { IsReading caller.old.seat caller.new.seat }
         ensures left { caller.new.left ≡ caller.old.left }
         ensures rows { HasSameRows caller.old caller.new }
@@ -83,10 +83,10 @@ impl Space {
         requires held { IsHeldPage caller.old.seat.held page }
         requires pages { IsHeldPages caller.old.seat.held }
         requires rest { IsAtRest caller.old.seat.pass }
-        requires count { caller.old.seat.pass.count ≡ Some count }
+        requires count { counts_of caller.old.seat.pass.laid ≡ Some count }
         requires few { count ≤ ROWS }
         requires fits { count ≤ room_of caller.old.seat.table }
-        requires found { IsAmong caller.old.seat.pass.rows page count index 1 }
+        requires found { IsAmong caller.old.seat.pass.rows page count own_slot index 1 }
         ensures from { result.lo ≤ page }
         ensures until { page < result.hi }
         ensures limit { result.hi ≤ LIMIT }

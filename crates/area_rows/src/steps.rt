@@ -11,8 +11,8 @@ ghost use Rattle.area_guard.specs.declared.guard.Change.{Change};
 ghost use Rattle.space_model.specs.declared.entries.Under.TheVariants.{Area as OverArea, Whole};
 ghost use Rattle.row_plans.specs.RowWords.{row_start};
 ghost use Rattle.area_rows.specs.Halving.{IsOnSameSide};
-ghost use Rattle.area_guard.specs.Rows.{room_of};
-ghost use Rattle.area_guard.specs.Reads.{everything, HasRead, IsHeldPage};
+ghost use Rattle.area_guard.specs.Rows.{room_of, IsOneOf};
+ghost use Rattle.area_guard.specs.Reads.{everything, slots_by, HasRead, IsHeldPage};
 ghost use Rattle.area_guard.specs.History.{HoldsFor, IsAtRest, IsRight, Leaves, pending_of, after_row, entry_note};
 ghost use Rattle.area_rows.specs.Callers.{HasSameRows, splice_of, plan_of, IsKnown, HasToWrite, HasToStore, IsReadRound, CountsWhole, IsReading, IsCounted};
 ghost use Rattle.area_rows.specs.Callers.{IsClientStep, IsLook, IsDrawn, MayNumber, Shows};
@@ -31,8 +31,8 @@ use word_rows::Steps;
 
 impl Space {
     /// Loads the row count, from 1 to `ROWS`, and no more than there is room for; with it the caller notes, in what it
-    /// knows alone, all rows of the moment. The caller is of this space, holds a range, and has written what it has
-    /// numbered.
+    /// knows alone, the layout and all rows of the moment. The caller is of this space, holds a range, and has written
+    /// what it has numbered.
     pub(crate) fn load_count(&self, caller: &mut Caller) -> u64
         requires table { caller.old.seat.table ≡ self.now.table }
         requires held { IsSome caller.old.seat.held }
@@ -43,13 +43,12 @@ impl Space {
         ensures some { 0 < result }
         ensures few { result ≤ ROWS }
         ensures fits { result ≤ room_of caller.old.seat.table }
-        ensures again { (n : ℕ) → caller.old.seat.pass.count ≡ Some n → result ≡ n }
     {
         self.table
             .load_as_uncounted::<By<Brand>>(&mut caller.seat, ROW_COUNT)
     }
 
-    /// Loads the word of a row, counted from 0. The caller is of this space, holds a range, and has written what it has
+    /// Loads the word of the row in a slot. The caller is of this space, holds a range, and has written what it has
     /// numbered. A row that it has read before starts on the same side of each page that it holds as it did then.
     pub(crate) fn load_row(&self, caller: &mut Caller, index: u32) -> u64
         requires table { caller.old.seat.table ≡ self.now.table }
@@ -61,14 +60,14 @@ impl Space {
         ensures left { caller.new.left ≡ caller.old.left }
         ensures rows { HasSameRows caller.old caller.new }
         ensures first { index ≡ 0 → row_start result ≡ 0 }
-        ensures below { (n : ℕ) → caller.old.seat.pass.count ≡ Some n → index < n → row_start result < LIMIT }
+        ensures below { IsOneOf (slots_by caller.old.seat.pass.laid) index → row_start result < LIMIT }
         ensures side { (page : ℕ) → IsHeldPage caller.old.seat.held page → IsOnSameSide caller.old.seat.pass.rows index result page }
     {
         self.table
             .load_as_uncounted::<By<Brand>>(&mut caller.seat, FIRST_ROW + index)
     }
 
-    /// Loads the word of a row, counted from 0, by the seat of a caller that holds everything, whether it has something
+    /// Loads the word of the row in a slot, by the seat of a caller that holds everything, whether it has something
     /// to write or not. A row that it has read, stored or noted before has the same word.
     pub(crate) fn load_known(&self, seat: &mut Seat<RowGuard>, index: u32) -> u64
         requires table { seat.old.table ≡ self.now.table }

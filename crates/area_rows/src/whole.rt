@@ -22,7 +22,7 @@ use area_guard::RowGuard;
 use lock_core::Mode;
 use page_types::{Call, LIMIT, Reply, Span, plain};
 use range_rw::Seat;
-use row_plans::{Planned, Rows, plan_rows};
+use row_plans::{Rows, plan_rows};
 use space_model::{Entry, Under};
 use std::sync::Wait;
 
@@ -66,37 +66,38 @@ impl<'a> Rows for AllRows<'a> {
 
 impl Caller {
     /// Plans a call, on the rows as they stand.
-    fn plan_call(&mut self, space: &Space, count: u32, call: &Call) -> Planned
+    fn plan_call(&mut self, space: &Space, count: u32, call: &Call) -> (Reply, u32)
         requires may { MayLoadAll space.now.table count self.old.seat }
         requires named { IsNamedCall call.now }
         ensures reading { IsReading self.old.seat self.new.seat }
         ensures left { self.new.left ≡ self.old.left }
         ensures known { IsKnown self.new }
         ensures same { known_rows self.new.seat.pass ≡ known_rows self.old.seat.pass }
-        ensures plan { IsPlan call.now result.reply result.rows (spliced (known_rows self.old.seat.pass) self.new.cut self.new.more)
+        ensures plan { IsPlan call.now result.0 result.1 (spliced (known_rows self.old.seat.pass) self.new.cut self.new.more)
             (areas_from (known_rows self.old.seat.pass)) }
     {
         let rows = AllRows { space, count };
         let planned = plan_rows(&rows, &mut self.seat, call, &mut self.plan);
         self.count = count;
         self.cut = planned.cut;
-        planned
+        (planned.reply, planned.rows)
     }
 }
 
 impl Space {
-    /// Plans a call that is no fault, by the rows as they stand: its reply, and the splice that it makes of them. The
-    /// rows that come go into the caller's own room. The caller is of this space, holds everything as a writer, and has
-    /// written what it has numbered. The plan is right until the caller draws a number or gives the range back. That of
-    /// a refused call leaves the rows as they are. Rows are loaded only where the plan needs them. It takes no memory.
-    pub fn plan(&self, caller: &mut Caller, call: &Call) -> Planned
+    /// Plans a call that is no fault, by the rows as they stand: its reply, and how many rows it leaves. The splice
+    /// that it makes of them goes into the caller's own room. The caller is of this space, holds everything as a
+    /// writer, and has written what it has numbered. The plan is right until the caller draws a number or gives the
+    /// range back. That of a refused call leaves the rows as they are. Rows are loaded only where the plan needs them.
+    /// It takes no memory.
+    pub fn plan(&self, caller: &mut Caller, call: &Call) -> (Reply, u32)
         requires table { caller.old.seat.table ≡ self.now.table }
         requires held { caller.old.seat.held ≡ Some everything }
         requires rest { IsAtRest caller.old.seat.pass }
         requires call { ¬ IsFault call.now }
         requires named { IsNamedCall call.now }
-        ensures planned { HasPlanned call.now result.reply result.rows caller.new }
-        ensures refused { (why : Why) → result.reply ≡ Refused why
+        ensures planned { HasPlanned call.now result.0 result.1 caller.new }
+        ensures refused { (why : Why) → result.0 ≡ Refused why
             → spliced (known_rows caller.new.seat.pass) caller.new.cut caller.new.more ≡ known_rows caller.new.seat.pass }
         ensures reading { IsReading caller.old.seat caller.new.seat }
         ensures left { caller.new.left ≡ caller.old.left }
@@ -141,8 +142,8 @@ impl Space {
         caller.holds_pages();
         let all = Span { lo: 0, hi: LIMIT };
         self.acquire(wait, caller, all, Mode::Writer);
-        let planned = self.plan(caller, &call);
-        let entry = self.draw(caller, line, call, planned.reply, Under::Whole);
+        let (reply, _) = self.plan(caller, &call);
+        let entry = self.draw(caller, line, call, reply, Under::Whole);
         self.write_plan(caller);
         self.release_uncounted(caller);
         entry

@@ -5,7 +5,7 @@
 //! stores rows, and nobody else reads them meanwhile; a reader may rely on the rows showing the last state again when
 //! the sequence word is raised.
 ghost use Rattle.std.specs.Prelude.{ℕ, ◌≡◌, ◌≢◌, ◌≤◌, ◌<◌, ◌+◌, ◌*◌, ◌-◌, Some, length, slice_index};
-ghost use Rattle.area_guard.specs.Reads.{HasRead, HasRows};
+ghost use Rattle.area_guard.specs.Reads.{counts_of, HasRead, HasRows};
 ghost use Rattle.area_guard.specs.History.{rows_after, after_count, after_store, after_raise};
 ghost use Rattle.area_rows.specs.Callers.{HasSameRows, HasToWrite, IsClientStep, IsWritten, plan_of, splice_of};
 ghost use Rattle.area_rows.specs.Writing.{IsNewRow, IsRaised, IsLowered, IsLaid, HasMoved, IsWriting, WritesPlan, plan_at};
@@ -36,7 +36,7 @@ impl Space {
     fn store_count(&self, seat: &mut Seat<RowGuard>, count: u32)
         requires writes { WritesPlan self.now.table seat.old }
         requires count { count ≡ length (rows_after (plan_at seat.old)) }
-        requires differs { (stood : ℕ) × (seat.old.pass.count ≡ Some stood) × (stood ≢ count) }
+        requires differs { (stood : ℕ) × (counts_of seat.old.pass.laid ≡ Some stood) × (stood ≢ count) }
         ensures step { IsClientStep seat.old 2 (after_count count seat.old.pass) seat.new }
     {
         self.table
@@ -62,7 +62,7 @@ impl Space {
         requires differs { IsNewRow seat.old.pass place (slice_index (plan_at seat.old).old index) }
         ensures moved { HasMoved seat.old.pass.rows index place (slice_index (plan_at seat.old).old index) seat.new.pass.rows }
         ensures writes { WritesPlan self.now.table seat.new }
-        ensures count { seat.new.pass.count ≡ seat.old.pass.count }
+        ensures count { counts_of seat.new.pass.laid ≡ counts_of seat.old.pass.laid }
         ensures writing { IsWriting seat.old seat.new }
         ensures taken { seat.new.trace.taken ≡ seat.old.trace.taken + 2 }
     {
@@ -75,14 +75,14 @@ impl Space {
     fn raise_tail(&self, seat: &mut Seat<RowGuard>, count: u32, end: u32, to: u32)
         requires writes { WritesPlan self.now.table seat.old }
         requires count { count ≡ length (plan_at seat.old).old }
-        requires counted { seat.old.pass.count ≡ Some count }
+        requires counted { counts_of seat.old.pass.laid ≡ Some count }
         requires end { end ≡ (plan_at seat.old).end }
         requires to { to ≡ moved_to (plan_at seat.old) }
         requires up { end < to }
         requires raised { IsRaised seat.old.pass.rows (plan_at seat.old) count }
         ensures raised { IsRaised seat.new.pass.rows (plan_at seat.old) end }
         ensures writes { WritesPlan self.now.table seat.new }
-        ensures count { seat.new.pass.count ≡ seat.old.pass.count }
+        ensures count { counts_of seat.new.pass.laid ≡ counts_of seat.old.pass.laid }
         ensures writing { IsWriting seat.old seat.new }
         ensures taken { seat.new.trace.taken ≡ seat.old.trace.taken + 2 * (count - end) }
     {
@@ -97,14 +97,14 @@ impl Space {
     fn lower_tail(&self, seat: &mut Seat<RowGuard>, count: u32, end: u32, to: u32)
         requires writes { WritesPlan self.now.table seat.old }
         requires count { count ≡ length (plan_at seat.old).old }
-        requires counted { seat.old.pass.count ≡ Some count }
+        requires counted { counts_of seat.old.pass.laid ≡ Some count }
         requires end { end ≡ (plan_at seat.old).end }
         requires to { to ≡ moved_to (plan_at seat.old) }
         requires down { to < end }
         requires lowered { IsLowered seat.old.pass.rows (plan_at seat.old) end }
         ensures lowered { IsLowered seat.new.pass.rows (plan_at seat.old) count }
         ensures writes { WritesPlan self.now.table seat.new }
-        ensures count { seat.new.pass.count ≡ seat.old.pass.count }
+        ensures count { counts_of seat.new.pass.laid ≡ counts_of seat.old.pass.laid }
         ensures writing { IsWriting seat.old seat.new }
         ensures taken { seat.new.trace.taken ≡ seat.old.trace.taken + 2 * (count - end) }
     {
@@ -119,14 +119,14 @@ impl Space {
     fn lay_row(&self, seat: &mut Seat<RowGuard>, count: u32, index: u32, word: u64)
         requires writes { WritesPlan self.now.table seat.old }
         requires count { count ≡ length (plan_at seat.old).old }
-        requires counted { seat.old.pass.count ≡ Some count }
+        requires counted { counts_of seat.old.pass.laid ≡ Some count }
         requires from { (plan_at seat.old).first ≤ index }
         requires until { index < moved_to (plan_at seat.old) }
         requires word { word ≡ slice_index (rows_after (plan_at seat.old)) index }
         requires laid { IsLaid seat.old.pass.rows (plan_at seat.old) index }
         ensures laid { IsLaid seat.new.pass.rows (plan_at seat.old) (index + 1) }
         ensures writes { WritesPlan self.now.table seat.new }
-        ensures count { seat.new.pass.count ≡ seat.old.pass.count }
+        ensures count { counts_of seat.new.pass.laid ≡ counts_of seat.old.pass.laid }
         ensures writing { IsWriting seat.old seat.new }
         ensures taken { seat.new.trace.taken ≡ seat.old.trace.taken + (look_at (plan_at seat.old) index
             + new_row (plan_at seat.old).old (rows_after (plan_at seat.old)) index) }
@@ -146,13 +146,13 @@ impl Space {
     fn lay_rows(&self, seat: &mut Seat<RowGuard>, count: u32, first: u32, more: &[u64])
         requires writes { WritesPlan self.now.table seat.old }
         requires count { count ≡ length (plan_at seat.old).old }
-        requires counted { seat.old.pass.count ≡ Some count }
+        requires counted { counts_of seat.old.pass.laid ≡ Some count }
         requires first { first ≡ (plan_at seat.old).first }
         requires more { more.now ≡ (plan_at seat.old).more }
         requires laid { IsLaid seat.old.pass.rows (plan_at seat.old) first }
         ensures laid { IsLaid seat.new.pass.rows (plan_at seat.old) (moved_to (plan_at seat.old)) }
         ensures writes { WritesPlan self.now.table seat.new }
-        ensures count { seat.new.pass.count ≡ seat.old.pass.count }
+        ensures count { counts_of seat.new.pass.laid ≡ counts_of seat.old.pass.laid }
         ensures writing { IsWriting seat.old seat.new }
         ensures taken { seat.new.trace.taken ≡ seat.old.trace.taken + (looks_of (plan_at seat.old)
             + new_rows (plan_at seat.old).old (rows_after (plan_at seat.old)) (moved_to (plan_at seat.old))) }
@@ -169,7 +169,7 @@ impl Space {
         requires writes { WritesPlan self.now.table seat.old }
         requires count { count ≡ length (plan_at seat.old).old }
         requires left { left ≡ length (rows_after (plan_at seat.old)) }
-        requires counted { seat.old.pass.count ≡ Some count }
+        requires counted { counts_of seat.old.pass.laid ≡ Some count }
         requires laid { IsLaid seat.old.pass.rows (plan_at seat.old) (moved_to (plan_at seat.old)) }
         ensures rows { HasRows seat.new.pass (rows_after (plan_at seat.old)) }
         ensures writes { WritesPlan self.now.table seat.new }
@@ -191,7 +191,7 @@ impl Space {
         requires stand { HasRows seat.old.pass (plan_at seat.old).old }
         ensures laid { IsLaid seat.new.pass.rows (plan_at seat.old) (plan_at seat.old).first }
         ensures writes { WritesPlan self.now.table seat.new }
-        ensures count { seat.new.pass.count ≡ seat.old.pass.count }
+        ensures count { counts_of seat.new.pass.laid ≡ counts_of seat.old.pass.laid }
         ensures writing { IsWriting seat.old seat.new }
         ensures taken { seat.new.trace.taken ≡ seat.old.trace.taken + 2 * moves_of (plan_at seat.old) }
     {

@@ -7,20 +7,20 @@ use Rattle.area_rows.proofs.space.Space.call_whole.Goals as goal
 
 -- the call may be numbered with the reply of its plan
 pub draw-entry-requires-clause-right : goal.draw-entry-requires-clause-right
-draw-entry-requires-clause-right g c = planned_right c.plan-planned.new.caller c.args.call c.plan-planned.result.reply
-    c.plan-planned.result.rows c.plan-planned.ensures.planned (c.plan-planned.ensures.reading.held ∙ c.acquire.ensures.held)
-    (c.plan-planned.ensures.reading.read.pending
+draw-entry-requires-clause-right g c = planned_right c.plan-reply.new.caller c.args.call c.plan-reply.result.0
+    c.plan-reply.result.1 c.plan-reply.ensures.planned (c.plan-reply.ensures.reading.held ∙ c.acquire.ensures.held)
+    (c.plan-reply.ensures.reading.read.pending
     ∙ (ap (λ (x : Pass). x.pending) c.acquire.ensures.call.pass ∙ c.holds_pages.ensures.rest c.requires.free)) c.requires.undecided c.requires.call
 
 -- after the draw the caller has that plan to write
 pub write_plan-requires-clause-planned : goal.write_plan-requires-clause-planned
-write_plan-requires-clause-planned g c = c.draw-entry.ensures.write refl c.plan-planned.ensures.planned.known
+write_plan-requires-clause-planned g c = c.draw-entry.ensures.write refl c.plan-reply.ensures.planned.known
 
 -- holding, planning, drawing, writing and giving back are the whole call
 pub returns-clause-called : goal.returns-clause-called
 returns-clause-called g c =
     let b = c.acquire.ensures in
-    let p = c.plan-planned.ensures in
+    let p = c.plan-reply.ensures in
     let n = c.draw-entry.ensures in
     let w = c.write_plan.ensures in
     let d = c.release_uncounted.ensures in
@@ -28,11 +28,11 @@ returns-clause-called g c =
       line_is = n.line;
       call_is = n.call;
       named = n.named;
-      numbered = numbered_whole c.args.caller.now.seat c.acquire.new.caller.seat c.plan-planned.new.caller.seat
+      numbered = numbered_whole c.args.caller.now.seat c.acquire.new.caller.seat c.plan-reply.new.caller.seat
           c.draw-entry.new.caller.seat c.write_plan.new.caller.seat c.release_uncounted.new.caller.seat c.draw-entry.result _
           c.requires.free b.call p.reading n.drawn w.written d.release;
       last = subst (λ (u : Under). IsLastStep c.args.caller.now.seat u c.release_uncounted.new.caller.seat) (sym n.under)
-          (last_whole c.args.caller.now.seat c.acquire.new.caller.seat c.plan-planned.new.caller.seat c.draw-entry.new.caller.seat
+          (last_whole c.args.caller.now.seat c.acquire.new.caller.seat c.plan-reply.new.caller.seat c.draw-entry.new.caller.seat
           c.write_plan.new.caller.seat c.release_uncounted.new.caller.seat c.draw-entry.result _ b.call p.reading n.drawn w.written
           d.release);
       written = ap (λ (x : Pass). x.pending) d.release.pass ∙ w.written.rest;
@@ -44,4 +44,4 @@ pub returns-clause-looks : goal.returns-clause-looks
 returns-clause-looks g c =
     let looks = λ (x : Pass). x.looks in
     ap looks c.release_uncounted.ensures.release.pass ∙ (c.write_plan.ensures.written.looks ∙ (c.draw-entry.ensures.drawn.looks
-    ∙ (c.plan-planned.ensures.reading.looks ∙ ap looks c.acquire.ensures.call.pass)))
+    ∙ (c.plan-reply.ensures.reading.looks ∙ ap looks c.acquire.ensures.call.pass)))

@@ -3,7 +3,8 @@ use Rattle.std.specs.Prelude.{Option}
 use Rattle.page_types.specs.declared.TheConstants.{SEARCH}
 use Rattle.lock_core.specs.declared.range.Held.{Held}
 use Rattle.area_guard.specs.declared.guard.Pass.{Pass}
-use Rattle.area_rows.specs.Halving.{IsAmong}
+use Rattle.area_rows.specs.Halving.{own_slot, IsAmong}
+use Rattle.area_guard.specs.Reads.{counts_of}
 use Rattle.area_guard.specs.Rows.{room_of}
 use Rattle.area_guard.specs.Reads.{IsHeldPage}
 use Rattle.area_rows.proofs.Halving.{all_rows, narrowed, halved}
@@ -20,7 +21,7 @@ halve-init g c = record {
   rest = c.requires.rest;
   counted = refl;
   count = c.requires.count;
-  among = all_rows c.args.caller.now.seat.pass.rows c.args.page c.args.count c.requires.some;
+  among = all_rows c.args.caller.now.seat.pass.rows c.args.page c.args.count own_slot c.requires.some;
   room = (SEARCH, let few = c.requires.few in omega arith, omega arith);
 }
 
@@ -48,9 +49,9 @@ halve-preserved g c =
       rows = search rules;
       rest = ap (λ (p : Pass). p.pending) w.step.pass ∙ i.rest;
       counted = let t = c.tick.ensures in let b = i.counted in omega arith;
-      count = ap (λ (p : Pass). p.count) w.step.pass ∙ i.count;
-      among = subst (λ (p : Pass). IsAmong p.rows c.args.page c.args.count c.next_base-base.result (c.halve.size - c.halve.size / 2)) (sym w.step.pass)
-          (narrowed seat.pass.rows c.args.page c.args.count c.halve.base c.halve.size c.load_row-word.result
+      count = ap (λ (p : Pass). counts_of p.laid) w.step.pass ∙ i.count;
+      among = subst (λ (p : Pass). IsAmong p.rows c.args.page c.args.count own_slot c.next_base-base.result (c.halve.size - c.halve.size / 2)) (sym w.step.pass)
+          (narrowed seat.pass.rows c.args.page c.args.count own_slot c.halve.base c.halve.size c.load_row-word.result
           c.read_row-start.result.0 c.next_base-base.result i.among c.halve-test.true side c.read_row-start.ensures.start
           c.next_base-base.ensures.upper c.next_base-base.ensures.lower);
       room = (half.0, half.2, let b = i.room.2 in let e = half.1 in omega arith);

@@ -5,9 +5,9 @@ use Rattle.area_guard.specs.declared.guard.Pass.{Pass}
 use Rattle.area_guard.specs.declared.guard.ReadRow.{ReadRow}
 use Rattle.area_guard.specs.declared.guard.Splice.{Splice}
 use Rattle.area_guard.specs.History.{rows_after, without}
-use Rattle.area_guard.specs.Reads.{HasRead}
+use Rattle.area_guard.specs.Reads.{counts_of, HasRead}
 use Rattle.area_rows.specs.Writing.{IsLaid, plan_at, splice_in}
-use Rattle.area_rows.proofs.StoringRows.{load_writes, store_writes, writing_on, writes_on}
+use Rattle.area_rows.proofs.StoringRows.{new_by, load_writes, store_writes, writing_on, writes_on}
 use Rattle.area_rows.proofs.SpliceStores.{after_length, laid_more, one_laid, stays_laid}
 use Rattle.area_rows.proofs.StoreCounts.{look_none, look_some, row_behind, row_other, row_same}
 use Rattle.area_rows.proofs.space.Space.lay_row.Goals as goal
@@ -26,7 +26,7 @@ store_row-requires-clause-index c =
 pub store_row-requires-clause-differs : goal.store_row-requires-clause-differs
 store_row-requires-clause-differs c =
     let past : c.args.count ≤ c.args.index = search rules in
-    (c.args.count, c.requires.counted, λ lt. absurd (omega (arith, lt, past)))
+    new_by c.args.seat.now.pass c.args.count c.args.index c.args.word c.requires.counted (λ lt. absurd (omega (arith, lt, past)))
 
 -- behind the rows that stood the row is laid
 pub returns-then-index-count-clause-laid : goal.returns-then-index-count-clause-laid
@@ -53,7 +53,7 @@ returns-then-index-count-clause-writes c =
 
 -- the row count that is known is as before
 pub returns-then-index-count-clause-count : goal.returns-then-index-count-clause-count
-returns-then-index-count-clause-count c = ap (λ (x : Pass). x.count) c.store_row.ensures.step.pass
+returns-then-index-count-clause-count c = ap (λ (x : Pass). counts_of x.laid) c.store_row.ensures.step.pass
 
 -- it was one step, since no row stood there
 pub returns-then-index-count-clause-taken : goal.returns-then-index-count-clause-taken
@@ -109,7 +109,7 @@ returns-then-stands-word-clause-writes c =
 
 -- the row count that is known is as before
 pub returns-then-stands-word-clause-count : goal.returns-then-stands-word-clause-count
-returns-then-stands-word-clause-count c = ap (λ (x : Pass). x.count) c.load_known-stands.ensures.step.pass
+returns-then-stands-word-clause-count c = ap (λ (x : Pass). counts_of x.laid) c.load_known-stands.ensures.step.pass
 
 -- it was one step, since the row isn't new
 pub returns-then-stands-word-clause-taken : goal.returns-then-stands-word-clause-taken
@@ -151,15 +151,14 @@ store_row-requires-2-clause-word c =
 -- and what stands there was just read
 pub store_row-requires-2-clause-differs : goal.store_row-requires-2-clause-differs
 store_row-requires-2-clause-differs c =
-    let step = c.load_known-stands.ensures.step in (
-      c.args.count,
-      ap (λ (x : Pass). x.count) step.pass ∙ c.requires.counted,
-      λ lt. (
-        c.load_known-stands.result,
-        subst (λ (x : Pass). HasRead x.rows c.args.index c.load_known-stands.result) (sym step.pass) (inl (refl, refl)),
-        c.if-stands-word.false,
-      ),
-    )
+    let step = c.load_known-stands.ensures.step in
+    new_by c.load_known-stands.new.seat.pass c.args.count c.args.index c.args.word
+    (ap (λ (x : Pass). counts_of x.laid) step.pass ∙ c.requires.counted)
+    (λ lt. (
+      c.load_known-stands.result,
+      subst (λ (x : Pass). HasRead x.rows c.args.index c.load_known-stands.result) (sym step.pass) (inl (refl, refl)),
+      c.if-stands-word.false,
+    ))
 
 -- the row is laid
 pub returns-clause-laid : goal.returns-clause-laid
@@ -189,7 +188,7 @@ returns-clause-writes c = writes_on _ c.args.seat.now c.store_row-2.new.seat c.r
 -- the row count that is known is as before
 pub returns-clause-count : goal.returns-clause-count
 returns-clause-count c =
-    ap (λ (x : Pass). x.count) c.store_row-2.ensures.step.pass ∙ ap (λ (x : Pass). x.count) c.load_known-stands.ensures.step.pass
+    ap (λ (x : Pass). counts_of x.laid) c.store_row-2.ensures.step.pass ∙ ap (λ (x : Pass). counts_of x.laid) c.load_known-stands.ensures.step.pass
 
 -- they were two steps, since the row is new
 pub returns-clause-taken : goal.returns-clause-taken

@@ -1,5 +1,6 @@
 use Rattle.std.proofs.Common.{◌≡◌, ◌+◌, ◌-◌, ◌≤◌, length, min}
 use Rattle.area_guard.specs.History.{rows_after}
+use Rattle.area_guard.specs.Reads.{counts_of}
 use Rattle.area_rows.specs.Writing.{IsLaid, WritesPlan, IsWriting, plan_at, new_rows}
 use Rattle.area_rows.proofs.space.Space.lay_rows.Given as goal
 
@@ -10,7 +11,7 @@ invariant-rows l = record {
   bound : l.i ≤ length l.more;
   laid : IsLaid l.seat.pass.rows (plan_at l.initial.seat) (l.first + l.i);
   writes : WritesPlan l.self.table l.seat;
-  count : l.seat.pass.count ≡ l.initial.seat.pass.count;
+  count : counts_of l.seat.pass.laid ≡ counts_of l.initial.seat.pass.laid;
   writing : IsWriting l.initial.seat l.seat;
   taken : l.seat.trace.taken ≡ l.initial.seat.trace.taken + ((min (l.first + l.i) l.count - l.first)
       + new_rows (plan_at l.initial.seat).old (rows_after (plan_at l.initial.seat)) (l.first + l.i));

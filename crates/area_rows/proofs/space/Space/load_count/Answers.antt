@@ -17,10 +17,12 @@ returns-clause-counted c =
     (search rules) c.caller.invariant.5 (search rules) c.load_as_uncounted.ensures.made in
     let call = c.load_as_uncounted.ensures.call in
     subst (λ (v : CallerView). IsCounted v.seat c.load_as_uncounted.result c.load_as_uncounted.new.seat) c.caller.view_is (record {
-      rows = r.0;
+      words = r.0;
       all = r.1;
-      step = record { table = call.table; number = call.number; held = call.held; pools = call.pools; further = call.further; pass = r.2; trace = call.trace };
-      list = r.3;
+      slots = r.2;
+      step = record { table = call.table; number = call.number; held = call.held; pools = call.pools; further = call.further; pass = r.3; trace = call.trace };
+      again = r.4;
+      list = r.5;
     })
 
 -- there is a row
@@ -28,14 +30,14 @@ pub returns-clause-some : goal.returns-clause-some
 returns-clause-some c =
     let s = c.caller.inside.seat in
     (counts no_note s.number s.held s.pass c.load_as_uncounted.result c.load_as_uncounted.new.seat.pass
-    (search rules) c.caller.invariant.5 (search rules) c.load_as_uncounted.ensures.made).4
+    (search rules) c.caller.invariant.5 (search rules) c.load_as_uncounted.ensures.made).6
 
 -- there are no more rows than there may be
 pub returns-clause-few : goal.returns-clause-few
 returns-clause-few c =
     let s = c.caller.inside.seat in
     (counts no_note s.number s.held s.pass c.load_as_uncounted.result c.load_as_uncounted.new.seat.pass
-    (search rules) c.caller.invariant.5 (search rules) c.load_as_uncounted.ensures.made).5
+    (search rules) c.caller.invariant.5 (search rules) c.load_as_uncounted.ensures.made).7
 
 -- and no more than there is room for
 pub returns-clause-fits : goal.returns-clause-fits
@@ -44,12 +46,4 @@ returns-clause-fits c =
     let r = counts no_note s.number s.held s.pass c.load_as_uncounted.result c.load_as_uncounted.new.seat.pass
     (search rules) c.caller.invariant.5 (search rules) c.load_as_uncounted.ensures.made in
     subst (λ (v : CallerView). c.load_as_uncounted.result ≤ room_of v.seat.table) c.caller.view_is
-    (subst (λ (n : ℕ). c.load_as_uncounted.result ≤ n) c.caller.invariant.7 r.6)
-
--- the count is what was found before, where the caller has read it
-pub returns-clause-again : goal.returns-clause-again
-returns-clause-again c = λ n counted.
-    let s = c.caller.inside.seat in
-    let r = counts no_note s.number s.held s.pass c.load_as_uncounted.result c.load_as_uncounted.new.seat.pass (search rules) c.caller.invariant.5
-    (search rules) c.load_as_uncounted.ensures.made in
-    r.7 n (ap (λ (v : CallerView). v.seat.pass.count) c.caller.view_is ∙ counted)
+    (subst (λ (n : ℕ). c.load_as_uncounted.result ≤ n) c.caller.invariant.7 r.8)

@@ -1,9 +1,9 @@
 use Rattle.std.proofs.Common.{rules, ◌≡◌, arith, ap, ◌∙◌, subst, sym}
 use Rattle.range_rw.specs.Contract.{TableShape}
-use Rattle.area_guard.specs.Rows.{room_of}
+use Rattle.area_guard.specs.Rows.{room_of, IsOneOf}
 use Rattle.area_guard.specs.Keeping.{no_note}
 use Rattle.area_rows.specs.Halving.{IsOnSameSide}
-use Rattle.area_guard.specs.Reads.{IsHeldPage}
+use Rattle.area_guard.specs.Reads.{slots_by, IsHeldPage}
 use Rattle.area_rows.specs.Callers.{CallerView}
 use Rattle.area_rows.proofs.Stepping.{may_row, reads, reads_side}
 use Rattle.area_rows.proofs.space.Space.load_row.Goals as goal
@@ -22,11 +22,11 @@ load_as_uncounted-requires-clause-place c =
 
 -- a row that is counted starts below the limit
 pub returns-clause-below : goal.returns-clause-below
-returns-clause-below c = λ n counted lt.
+returns-clause-below c = λ there.
     let s = c.caller.inside.seat in
     let r = reads no_note s.number s.held s.pass c.load_as_uncounted.result c.load_as_uncounted.new.seat.pass c.args.index (search rules)
     c.caller.invariant.5 (search rules) c.load_as_uncounted.ensures.made in
-    r.2 n (ap (λ (v : CallerView). v.seat.pass.count) c.caller.view_is ∙ counted) lt
+    r.2 (subst (λ (v : CallerView). IsOneOf (slots_by v.seat.pass.laid) c.args.index) (sym c.caller.view_is) there)
 
 -- the first row starts at page 0
 pub returns-clause-first : goal.returns-clause-first

@@ -1,4 +1,5 @@
 use Rattle.std.proofs.Common.{◌≡◌, ◌+◌, ◌*◌, ◌-◌, ◌≤◌}
+use Rattle.area_guard.specs.Reads.{counts_of}
 use Rattle.area_rows.specs.Writing.{IsLowered, WritesPlan, IsWriting, plan_at}
 use Rattle.area_rows.proofs.space.Space.lower_tail.Given as goal
 
@@ -9,7 +10,7 @@ invariant-rows l = record {
   bound : l.index ≤ l.count;
   moved : IsLowered l.seat.pass.rows (plan_at l.initial.seat) l.index;
   writes : WritesPlan l.self.table l.seat;
-  count : l.seat.pass.count ≡ l.initial.seat.pass.count;
+  count : counts_of l.seat.pass.laid ≡ counts_of l.initial.seat.pass.laid;
   writing : IsWriting l.initial.seat l.seat;
   taken : l.seat.trace.taken ≡ l.initial.seat.trace.taken + 2 * (l.index - l.end);
 }

@@ -1,6 +1,7 @@
 use Rattle.std.proofs.Common.{ℕ, ◌≡◌, ◌<◌, ◌∙◌, List, ◌∷◌, length, sym, ap, subst, arith}
 use Rattle.std.specs.Prelude.{slice_index}
 use Rattle.range_rw.specs.Contract.{Record}
+use Rattle.area_guard.specs.Reads.{counts_of}
 use Rattle.area_guard.specs.declared.guard.Pass.{Pass}
 use Rattle.area_guard.specs.declared.guard.ReadRow.{ReadRow}
 use Rattle.area_guard.specs.declared.guard.Splice.{Splice}
@@ -70,7 +71,8 @@ returns-clause-writes c = writes_on _ c.args.seat.now c.store_row.new.seat c.req
 
 -- the row count that is known is as before
 pub returns-clause-count : goal.returns-clause-count
-returns-clause-count c = ap (λ (x : Pass). x.count) c.store_row.ensures.step.pass ∙ ap (λ (x : Pass). x.count) c.load_known-word.ensures.step.pass
+returns-clause-count c = ap (λ (x : Pass). counts_of x.laid) c.store_row.ensures.step.pass
+    ∙ ap (λ (x : Pass). counts_of x.laid) c.load_known-word.ensures.step.pass
 
 -- of two steps
 pub returns-clause-taken : goal.returns-clause-taken

@@ -1,11 +1,10 @@
 use Rattle.std.proofs.Common.{ℕ, List, ◌≡◌, ◌≤◌, ◌∙◌, length, ap, sym, subst}
 use Rattle.atomic_table.specs.Seated.{TableId}
-use Rattle.area_guard.specs.Rows.{room_of}
+use Rattle.area_guard.specs.Rows.{room_of, rows_in}
 use Rattle.row_plans.specs.Plans.{IsRowList, spliced, IsPlan}
 use Rattle.row_plans.specs.RowLists.{areas_from}
 use Rattle.area_guard.specs.declared.guard.Pass.{Pass}
 use Rattle.area_guard.specs.Reads.{known_rows, KnowsRows}
-use Rattle.area_guard.specs.History.{after_seen}
 use Rattle.area_rows.proofs.KnownRows.{seen_known, seen_knows}
 use Rattle.area_rows.specs.Loading.{reading_on}
 use Rattle.area_rows.proofs.Reading.{count_reads}
@@ -18,13 +17,13 @@ pub plan_call-requires-clause-may : goal.plan_call-requires-clause-may
 plan_call-requires-clause-may c =
     let n = c.load_count-count.ensures.counted in
     let p = c.args.caller.now.seat.pass in
-    let pass : c.load_count-count.new.caller.seat.pass ≡ after_seen n.rows (length n.rows) p = n.step.pass ∙ (λ i. after_seen n.rows (sym n.all i) p) in
-    let rows : known_rows c.load_count-count.new.caller.seat.pass ≡ n.rows = ap known_rows pass ∙ seen_known n.rows p in
+    let rows : known_rows c.load_count-count.new.caller.seat.pass ≡ rows_in n.words =
+    ap known_rows n.step.pass ∙ seen_known n.words p (n.slots ∙ sym n.all) in
     record {
       table_is = n.step.table ∙ c.requires.table;
       held = n.step.held ∙ c.requires.held;
       rest = ap (λ (x : Pass). x.pending) n.step.pass ∙ c.requires.rest;
-      knows = subst KnowsRows (sym pass) (seen_knows n.rows p);
+      knows = subst KnowsRows (sym n.step.pass) (seen_knows n.words p);
       counted = sym n.all ∙ ap length (sym rows);
       fits = subst (λ (t : TableId). c.load_count-count.result ≤ room_of t) (sym n.step.table) c.load_count-count.ensures.fits;
       list = subst IsRowList (sym rows) (n.list c.requires.held);
@@ -36,9 +35,9 @@ returns-clause-planned c =
     let n = c.load_count-count.ensures.counted in
     let e = c.plan_call.ensures in
     let p = c.plan_call.result in
-    plan_shows c.plan_call.new.self c.args.call.now p.reply p.rows (e.reading.held ∙ (n.step.held ∙ c.requires.held))
+    plan_shows c.plan_call.new.self c.args.call.now p.0 p.1 (e.reading.held ∙ (n.step.held ∙ c.requires.held))
     (e.reading.read.pending ∙ (ap (λ (x : Pass). x.pending) n.step.pass ∙ c.requires.rest)) e.known
-    (subst (λ (l : List ℕ). IsPlan c.args.call.now p.reply p.rows (spliced l c.plan_call.new.self.cut c.plan_call.new.self.more) (areas_from l))
+    (subst (λ (l : List ℕ). IsPlan c.args.call.now p.0 p.1 (spliced l c.plan_call.new.self.cut c.plan_call.new.self.more) (areas_from l))
     (sym e.same) e.plan)
 
 -- the plan of a refused call leaves the rows as they are
@@ -47,8 +46,8 @@ returns-clause-refused c = λ why is.
     let e = c.plan_call.ensures in
     let p = c.plan_call.result in
     let rows = known_rows c.plan_call.new.self.seat.pass in
-    refused_rows rows (spliced rows c.plan_call.new.self.cut c.plan_call.new.self.more) c.args.call.now p.reply p.rows why e.known.list
-    (subst (λ (l : List ℕ). IsPlan c.args.call.now p.reply p.rows (spliced l c.plan_call.new.self.cut c.plan_call.new.self.more) (areas_from l))
+    refused_rows rows (spliced rows c.plan_call.new.self.cut c.plan_call.new.self.more) c.args.call.now p.0 p.1 why e.known.list
+    (subst (λ (l : List ℕ). IsPlan c.args.call.now p.0 p.1 (spliced l c.plan_call.new.self.cut c.plan_call.new.self.more) (areas_from l))
     (sym e.same) e.plan) is
 
 -- all that was done is a reading
@@ -56,4 +55,4 @@ pub returns-clause-reading : goal.returns-clause-reading
 returns-clause-reading c =
     let n = c.load_count-count.ensures in
     reading_on c.args.caller.now.seat c.load_count-count.new.caller.seat c.plan_call.new.self.seat
-    (count_reads c.args.caller.now.seat c.load_count-count.new.caller.seat c.load_count-count.result n.counted n.again) c.plan_call.ensures.reading
+    (count_reads c.args.caller.now.seat c.load_count-count.new.caller.seat c.load_count-count.result n.counted) c.plan_call.ensures.reading

@@ -2,13 +2,17 @@ use Rattle.std.proofs.Common.{◌≡◌, arith, ap, ◌∙◌, sym}
 use Rattle.range_rw.specs.Contract.{TableShape}
 use Rattle.area_guard.specs.Rows.{room_of}
 use Rattle.area_guard.specs.Keeping.{no_note}
-use Rattle.area_rows.proofs.ReplacingRows.{may_store_change, change_stored, index_fits}
+use Rattle.area_rows.proofs.ReplacingRows.{may_store_change, change_stored, index_low, index_fits}
 use Rattle.area_rows.proofs.space.Space.store_change.Goals as goal
 
 -- the guard allows the store of the change
 pub store_as_uncounted-requires-clause-allowed : goal.store_as_uncounted-requires-clause-allowed
 store_as_uncounted-requires-clause-allowed c = let w = c.requires.change in may_store_change no_note c.args.seat.now w.0 w.1 w.2 c.args.index
     c.args.word w.3 w.4
+
+-- its place is a word's
+pub overflow_add-index : goal.overflow_add-index
+overflow_add-index c = let w = c.requires.change in let lt = index_low c.args.seat.now w.0 w.2 in let at = w.3 in omega arith
 
 -- there is a client word for the row
 pub store_as_uncounted-requires-clause-place : goal.store_as_uncounted-requires-clause-place

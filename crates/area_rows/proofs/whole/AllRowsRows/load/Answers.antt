@@ -1,5 +1,8 @@
-use Rattle.std.proofs.Common.{arith}
+use Rattle.std.proofs.Common.{arith, length}
+use Rattle.area_guard.specs.Reads.{known_rows}
+use Rattle.area_guard.proofs.Slots.{known_slot}
 use Rattle.area_rows.proofs.KnownRows.{loaded_row}
+use Rattle.area_rows.proofs.Numbers.{row_read}
 use Rattle.area_rows.proofs.Reading.{row_reads}
 use Rattle.area_rows.proofs.whole.AllRowsRows.load.Goals as goal
 
@@ -14,7 +17,8 @@ load_known-requires-clause-room c =
 
 -- the word is the one that is known
 pub returns-clause-word : goal.returns-clause-word
-returns-clause-word c = c.load_known.ensures.word _ (c.requires.may.knows.1 c.args.index c.requires.there)
+returns-clause-word c =
+    c.load_known.ensures.word _ (row_read c.args.hand.now.pass (known_rows c.args.hand.now.pass) c.requires.may.knows c.args.index c.requires.there)
 
 -- and the seat knows the same rows
 pub returns-clause-loaded : goal.returns-clause-loaded
@@ -22,5 +26,6 @@ returns-clause-loaded c =
     let s = c.args.hand.now in
     let u = c.load_known.new.seat in
     let step = c.load_known.ensures.step in
-    loaded_row s u c.args.index c.load_known.result (row_reads s u c.args.index c.load_known.result step) step.pass
-    (c.load_known.ensures.word _ (c.requires.may.knows.1 c.args.index c.requires.there)) c.requires.there
+    loaded_row s u c.args.index c.args.index c.load_known.result (row_reads s u c.args.index c.load_known.result step) step.pass
+    (known_slot s.pass.laid (length (known_rows s.pass)) c.args.index c.requires.may.knows.0 c.requires.there)
+    (c.load_known.ensures.word _ (row_read c.args.hand.now.pass (known_rows c.args.hand.now.pass) c.requires.may.knows c.args.index c.requires.there))
