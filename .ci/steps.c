@@ -1,22 +1,30 @@
-/* Eighteen tries and releases of one seat that meets nobody, with a call of mark before, between and behind them. The
-   gate counts the locked instructions from one mark to the next in valgrind's trace: each step on a word of the lock is
-   one, unless it is a load. It prints nothing. */
+/* Eighteen tries and releases of one seat that meets nobody, and then one in each region of a table of three, and one
+   over all of them, with a call of mark before, between and behind them. The gate counts the locked instructions from
+   one mark to the next in valgrind's trace: each step on a word of the lock is one, unless it is a load. It prints
+   nothing. */
 #include "gz_range.h"
 
 static volatile int marks;
 
 __attribute__((noinline)) void mark(void) { marks++; }
 
-int main(void) {
-    gz_range handle = GZ_RANGE_CLOSED;
+static bool hold(gz_range *handle, uint64_t lo, uint64_t hi) {
     gz_busy busy;
-    if (gz_range_open_plain(1, &handle)) return 1;
-    for (int turn = 0; turn < 18; turn++) {
-        mark();
-        if (gz_range_try(&handle, 0, 10, GZ_RANGE_WRITER, 1, &busy)) return 1;
-        mark();
-        if (gz_range_release(&handle)) return 1;
-    }
     mark();
-    return gz_range_close(&handle) ? 1 : 0;
+    if (gz_range_try(handle, lo, hi, GZ_RANGE_WRITER, 1, &busy)) return false;
+    mark();
+    return !gz_range_release(handle);
+}
+
+int main(void) {
+    const uint64_t none = 0;
+    gz_range one = GZ_RANGE_CLOSED, regions = GZ_RANGE_CLOSED;
+    if (gz_range_open_plain(1, &one) || gz_range_open_cut(1, 3, 4, &none, 0, &regions)) return 1;
+    for (int turn = 0; turn < 18; turn++)
+        if (!hold(&one, 0, 10)) return 1;
+    for (int region = 0; region < 3; region++)
+        if (!hold(&regions, 16 * region, 16 * region + 10)) return 1;
+    if (!hold(&regions, 0, 48)) return 1;
+    mark();
+    return gz_range_close(&one) || gz_range_close(&regions) ? 1 : 0;
 }

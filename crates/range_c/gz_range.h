@@ -4,10 +4,10 @@
    holds one range at a time, as a reader or as a writer. Two handles of one table never hold ranges that overlap at
    once where one of them is a writer's. Beside the lock a table has client words: 64-bit atomic numbers of yours.
 
-   A table has a fixed number of seats, and each open handle has one. Open the first handle with gz_range_open, get one
-   more for each thread with gz_range_share, and close each with gz_range_close; the last one frees the table. The seat
-   of a closed handle isn't given out again: at most as many handles as seats are ever opened over one table. Where
-   threads come and go, one that ends hands its handle on to one that begins, as in the example handing.c.
+   A table has a fixed number of seats, and each open handle has one: at most as many handles as seats are open at once.
+   Open the first handle with gz_range_open, get one more for each thread with gz_range_share, and close each with
+   gz_range_close; the last one frees the table. The seat of a closed handle is free, and goes to a later share by any
+   handle of the table: so threads may come and go, as in the example pool.c.
 
        #include <gz_range.h>
        #include <stdio.h>
@@ -39,7 +39,7 @@
      moving no access across a call.
    - No call sleeps or takes a lock. gz_range_acquire alone waits without a bound, by trying again; gz_range_try and
      gz_range_pause wait a bounded number of turns. open, open_cut and share alone take memory; the others can't fail
-     for want of it. A table takes 2 to 23 KB for 1 to 16 seats, once for each of its
+     for want of it. A table takes 2 to 25 KB for 1 to 16 seats, once for each of its
      lists, twice as much while it is opened, and 8 bytes for each client word; each further handle takes 128 bytes.
 
    What you owe. Nothing checks it:
@@ -52,7 +52,7 @@
      longjmp or by an asynchronous cancel; none is a point at which a deferred cancel comes.
    - malloc, realloc and free are of one allocator, which aligns a block to each power of two up to 16 that divides its
      size.
-   - A thread that ends without closing its handle leaves its range held for ever.
+   - A thread that ends without closing its handle leaves its range held and its seat taken for ever.
 
    The archive is for Linux on x86-64. Programs that aren't installed link two archives in order, librange_c.a and the
    kit's liblibc_c.a; `install` beside this header makes one of them, with a file for pkg-config. */
@@ -72,7 +72,7 @@
    second rises where calls, names or causes of a refusal came; the first, which the shared object's name has too, where
    a program for the version before may not compile any more, or means something else.
    1.1 has gz_range_open_cut, BAD_CUT, gz_range_held, gz_range_pause and the names of the modes; gz_range_end refuses an
-   open `next`; what gz_range_try waits between two tries grows. */
+   open `next`; what gz_range_try waits between two tries grows; the seat of a closed handle is shared again. */
 #define GZ_RANGE_VERSION 101
 #define GZ_RANGE_VERSION_TEXT "1.1"
 
@@ -113,7 +113,8 @@ typedef struct gz_range {
 /* A range of a handle, the numbers from lo on and below hi, with the number of that handle's seat, counted from 0, and
    whether it is a writer's. A try that is refused shows the one that was in its way, held or only asked for, and
    gz_range_held a handle's own.
-   The first handle of a table of n seats has seat n - 1, and each call of share on it gives the next one below. */
+   The first handle of a table of n seats has seat n - 1, and each call of share on it gives the next one below; then
+   it gives seats that were given back. The number is below n, and no two open handles of one table have the same. */
 typedef struct gz_busy {
     uint64_t lo, hi;
     uint32_t owner;
@@ -138,7 +139,7 @@ typedef enum gz_range_answer {
     GZ_RANGE_NO_MEMORY = 11, /* there was no memory */
     GZ_RANGE_BAD_SEATS = 12, /* the number of seats is 0 or above GZ_RANGE_MOST_SEATS */
     GZ_RANGE_BAD_WORDS = 13, /* there are more than GZ_RANGE_MOST_WORDS client words */
-    GZ_RANGE_NONE_LEFT = 14, /* the handle has no seat left to share */
+    GZ_RANGE_NONE_LEFT = 14, /* the handle has no seat left to share, and none was found that was given back */
     GZ_RANGE_NO_WORD = 15,   /* the table has no client word of that number */
     GZ_RANGE_OTHER = 16,     /* the client word had another value than the expected one */
     GZ_RANGE_BAD_CUT = 17    /* there are 0 regions, or more than 16, or a block has more than 2^62 numbers */
@@ -166,7 +167,7 @@ static inline const char *gz_range_text(gz_range_answer answer) {
     case GZ_RANGE_NO_MEMORY: return "out of memory";
     case GZ_RANGE_BAD_SEATS: return "the number of seats isn't from 1 to 16";
     case GZ_RANGE_BAD_WORDS: return "more than 1048576 client words";
-    case GZ_RANGE_NONE_LEFT: return "the handle has no seat left to share";
+    case GZ_RANGE_NONE_LEFT: return "no seat is free";
     case GZ_RANGE_NO_WORD: return "the table has no client word of that number";
     case GZ_RANGE_OTHER: return "the client word has another value than the expected one";
     case GZ_RANGE_BAD_CUT: return "the numbers make no cut into regions";
@@ -205,10 +206,12 @@ static inline gz_range_answer gz_range_open_plain(uint32_t seats, gz_range *hand
     return gz_range_open(seats, &none, 0, handle);
 }
 
-/* Opens a handle with a seat of its own in the table of `from`: the last of those that `from` has left to share. It
-   holds nothing, and has none to share itself. What `from` holds stays.
+/* Opens a handle with a seat of its own in the table of `from`: the last of those that `from` has left to share, or
+   where it has none, one that a closed handle gave back. It holds nothing, and has none left itself; so it shares those
+   alone that were given back. What `from` holds stays.
    DONE; IS_OPEN of handle, IS_CLOSED of from, NONE_LEFT, NO_MEMORY, the first of these that is so. After a refusal
-   nothing has changed.
+   nothing has changed. After NONE_LEFT a later share may do better: once a close of another handle has returned, its
+   seat is there for the next share, unless another share takes it first.
    The thread that has `from`. It allocates. */
 GZ_RANGE_MUST_CHECK
 gz_range_answer gz_range_share(gz_range *from, gz_range *handle);
@@ -273,7 +276,9 @@ gz_range_answer gz_range_add(gz_range *handle, uint32_t i, uint64_t by, uint64_t
 GZ_RANGE_MUST_CHECK
 gz_range_answer gz_range_exchange(gz_range *handle, uint32_t i, uint64_t *expected, uint64_t value);
 
-/* What gz_range_close calls: it puts `next`, which is to be closed, in the place of the handle, and ends what that was.
+/* What gz_range_close calls: it puts `next`, which is to be closed, in the place of the handle, and ends what that was:
+   the range that it holds is given back, then the seats that it had left to share, and its own. It waits for nobody, and
+   other handles of the table may be in calls meanwhile.
    IS_OPEN where next is open, with nothing changed; else DONE, or IS_CLOSED where the handle was closed already, and
    the handle is closed. */
 GZ_RANGE_NONNULL

@@ -193,7 +193,7 @@ class seat {
         return held;
     }
 
-    /* One more seat of the same table: gz_range_share. */
+    /* One more seat of the same table, where one is free: gz_range_share. */
     result<seat> share() noexcept {
         if (!place_) return GZ_RANGE_IS_CLOSED;
         seat further(new (std::nothrow) detail::place);
@@ -315,8 +315,8 @@ class table {
         return *this;
     }
 
-    /* Hands out a seat: as many times as the table has seats. NONE_LEFT when they are out, IS_CLOSED of a closed table,
-       NO_MEMORY. */
+    /* Hands out a seat that is free; the table's own one comes last. NONE_LEFT when they are out, IS_CLOSED of a closed
+       table, NO_MEMORY. Where the table's own one is out, share() of any seat gives those that were closed since. */
     result<seat> take_seat() noexcept {
         if (!last_.is_open()) return took_last_ ? GZ_RANGE_NONE_LEFT : GZ_RANGE_IS_CLOSED;
         result<seat> shared = last_.share();
@@ -325,7 +325,8 @@ class table {
         return std::move(last_);
     }
 
-    /* Gives up the seats that weren't taken. DONE, or IS_CLOSED where it is closed or has none. */
+    /* Gives up the seats that weren't taken; share() of a seat of the table still gives them. DONE, or IS_CLOSED where
+       it is closed or has none. */
     gz_range_answer close() noexcept {
         took_last_ = false;
         return last_.close();

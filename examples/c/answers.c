@@ -88,7 +88,17 @@ static void openings(void) {
     says("share into an open handle", gz_range_share(&handle, &other));
     says("share where none is left", gz_range_share(&handle, &third));
     says("share of a handle that was shared", gz_range_share(&other, &third));
-    gz_range_close(&handle);
+    says("try by the handle that was shared", gz_range_try_plain(&other, 0, 9, GZ_RANGE_WRITER, 1));
+    says("close of it while it holds a range", gz_range_close(&other));
+    says("try by it when it is closed", gz_range_try_plain(&other, 0, 9, GZ_RANGE_WRITER, 1));
+    says("share of a seat that was given back", gz_range_share(&handle, &third));
+    looks("what it holds", &third);
+    says("try of the range that was held", gz_range_try_plain(&handle, 0, 9, GZ_RANGE_WRITER, 1));
+    says("close of the first handle", gz_range_close(&handle));
+    says("share of its seat by the other one", gz_range_share(&third, &other));
+    looks("what it holds", &other);
+    says("share where none is left", gz_range_share(&third, &handle));
+    gz_range_close(&third);
     says("store by the handle that is left", gz_range_store(&other, 0, 1));
     looks("what it holds", &other);
     gz_range_close(&other);

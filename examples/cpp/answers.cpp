@@ -94,6 +94,8 @@ void closed_tables() {
     show("the last seat", second);
     show("one more", moved.take_seat());
     show("one more shared by a seat", first->share());
+    second->close();
+    show("one more when a seat was closed", first->share());
     auto closed = gz::table::open(2);
     auto early = closed->take_seat();
     show("a table's close", closed->close());

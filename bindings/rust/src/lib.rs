@@ -69,7 +69,7 @@ pub enum Refused {
     BadWords,
     /// There are no regions, or more than 16, or a block has more than 2^62 numbers.
     BadCut,
-    /// The table has no seat left.
+    /// No seat of the table is free.
     NoneLeft,
     /// The table has no client word of that number.
     NoWord,
@@ -198,7 +198,8 @@ impl Table {
         Ok(Table { last: Some(last), id })
     }
 
-    /// Hands out a seat: as many times as the table has seats, then it is [`Refused::NoneLeft`].
+    /// Hands out a seat that is free; the table's own one comes last, and behind it [`Refused::NoneLeft`]. Where that one
+    /// is out, [`Seat::share`] of any seat gives those that ended since.
     pub fn take_seat(&mut self) -> Result<Seat, Refused> {
         match self.last.as_ref().ok_or(Refused::NoneLeft)?.share() {
             Err(Refused::NoneLeft) => self.last.take().ok_or(Refused::NoneLeft),
@@ -206,7 +207,7 @@ impl Table {
         }
     }
 
-    /// Hands out all seats that are left.
+    /// Hands out all seats that are free.
     pub fn into_seats(mut self) -> Result<Vec<Seat>, Refused> {
         let mut seats = Vec::new();
         loop {
@@ -285,7 +286,8 @@ impl Seat {
         self.place.as_ptr()
     }
 
-    /// One more seat of the same table, where this one's handle has one to share: that of a table's last seat has.
+    /// One more seat of the same table: where this one is the table's last, one that is left; or else one that ended
+    /// since it was handed out.
     pub fn share(&self) -> Result<Seat, Refused> {
         // SAFETY: both handles are live, and this seat is in no other call.
         Seat::open_by(self.table, |handle| unsafe { raw::gz_range_share(self.handle(), handle) })

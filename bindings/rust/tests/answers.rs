@@ -35,6 +35,40 @@ fn each_seat_is_handed_out_once() {
 }
 
 #[test]
+fn a_seat_that_ended_is_handed_out_again() {
+    let mut table = Table::open(3).unwrap();
+    for _ in 0..40 {
+        let (mut one, two) = (table.take_seat().unwrap(), table.take_seat().unwrap());
+        let held = one.try_write(0..10).unwrap();
+        forget(held);
+        assert_ne!(one.number(), two.number());
+    }
+    let seats = table.into_seats().unwrap();
+    assert_eq!(seats.len(), 3);
+    drop(seats);
+}
+
+#[test]
+fn a_pool_has_more_threads_than_seats() {
+    let mut table = Table::open(4).unwrap();
+    let row = Guarded::new(&table, vec![0u64; 20]);
+    let first = table.take_seat().unwrap();
+    drop(table);
+    for _ in 0..10 {
+        thread::scope(|scope| {
+            for _ in 0..3 {
+                let (mut seat, row) = (first.share().unwrap(), &row);
+                scope.spawn(move || {
+                    let mut held = seat.write(5..15).unwrap();
+                    row.write(&mut held).unwrap().iter_mut().for_each(|value| *value += 1);
+                });
+            }
+        });
+    }
+    assert_eq!(row.into_inner().iter().sum::<u64>(), 10 * 3 * 10);
+}
+
+#[test]
 fn seats_outlive_their_table() {
     let mut table = Table::open(3).unwrap();
     let (mut first, mut second) = (table.take_seat().unwrap(), table.take_seat().unwrap());

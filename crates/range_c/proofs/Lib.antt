@@ -1,5 +1,7 @@
 pub mod AsBox
+pub mod Crossing
 pub mod Lifting
+pub mod Places
 pub mod Refusals
 pub mod Rows
 pub mod Steps

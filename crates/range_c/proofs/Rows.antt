@@ -12,7 +12,7 @@ use Rattle.range_rw.specs.Contract.{IsSeatCount, AreNewSeatsIn, new_seat_in}
 use Rattle.range_c.specs.declared.answers.Answer.{Answer}
 use Rattle.range_c.specs.declared.answers.Answer.TheVariants.{BadCut}
 use Rattle.range_c.specs.Recording.{begun}
-use Rattle.range_c.specs.Behind.{Behind, RecordingSeat, IsNewBehindIn, IsNotOpened, IsNotCut, IsShared, cut_into}
+use Rattle.range_c.specs.Behind.{Behind, RecordingSeat, IsNewBehindIn, IsNotOpened, IsNotCut, IsShared, IsSpareShared, IsFreeShared, cut_into}
 
 -- this is so of each element of the list, by its place
 abbrev pub AllAt : {A : Type 0} → (ℕ → A → Type 0) → List A → Type 0
@@ -69,22 +69,19 @@ opens t cut c seats n client old new s b counted most len e all same kept is = s
   table_cut = kept;
 })
 
--- what is behind a handle that shares, and behind the new one
-pub shares : (t : TableId) (old new rest : Row) (mine s : RecordingSeat) (words seats : ℕ) (cut : Regions) (before b : Behind)
+-- what is behind a handle that shares the last of its seats, and behind the new one
+pub shares : (t : TableId) (old new : Row) (mine s : RecordingSeat) (words seats : ℕ) (cut : Regions) (before b : Behind)
     → behind mine (length old) words seats cut ≡ before → mine.table ≡ t
-    → old ≡ new ++ s ∷ [] → AreNewSeatsIn (list_count cut) t (begun mine.pass.opened) old → length rest ≡ 0
-    → b ≡ behind s (length rest) words seats cut → IsShared before (behind mine (length new) words seats cut) b
-shares t old new rest mine s words seats cut before b was table e all none is =
+    → old ≡ new ++ s ∷ [] → AreNewSeatsIn (list_count cut) t (begun mine.pass.opened) old
+    → b ≡ behind s 0 words seats cut → IsSpareShared before (behind mine (length new) words seats cut) b
+shares t old new mine s words seats cut before b was table e all is =
     let now = behind mine (length new) words seats cut in
     let w = mine.pass.opened in
-    subst (λ x. IsShared x now b) was (subst (λ x. IsShared (behind mine (length old) words seats cut) now x) (sym is) (record {
+    subst (λ x. IsSpareShared x now b) was (subst (λ x. IsSpareShared (behind mine (length old) words seats cut) now x) (sym is) (record {
       kept = refl;
       spare = longer old new s e;
       seat = subst (λ x. s ≡ new_seat_in (list_count cut) x (begun w) (length new)) (sym table) (taken (list_count cut) t w old new s e all).0;
-      none = none;
-      words = refl;
-      seats = refl;
-      cut = refl;
+      rest = refl;
     }))
 
 -- what a table over a cut begins with, by the two numbers of the cut
@@ -106,3 +103,15 @@ pub no_cut : {A E : Type 0} (r : Result A E) (e : E) (regions bits seats count :
     → IsNotCut regions bits seats count BadCut
 no_cut (Ok a) e regions bits seats count is exactly = absurd cc
 no_cut (Err x) e regions bits seats count is exactly = inl (refl, λ cut. absurd (let never : false ≡ true = exactly.1 cut in cc))
+
+-- a share of the last seat that was left is one
+pub spare_shared : {A E : Type 0} (r : Result A E) (of : A → Behind) (before after : Behind) → IfOk r (λ b. IsSpareShared before after (of b))
+    → IfOk r (λ b. IsShared before after (of b))
+spare_shared (Ok b) of before after s = inl s
+spare_shared (Err e) of before after s = tt
+
+-- so is one of a seat that was given back
+pub free_shared : {A E : Type 0} (r : Result A E) (of : A → Behind) (before : Behind) → IfOk r (λ b. IsFreeShared before (of b))
+    → IfOk r (λ b. IsShared before before (of b))
+free_shared (Ok b) of before s = inr (refl, s)
+free_shared (Err e) of before s = tt

@@ -9,14 +9,18 @@ use prog.Atomic.{either}
 use Rattle.atomic_table.specs.Seated.{TableId}
 use Rattle.lock_core.specs.Client.{ClientStep, loads, stores, adds, exchanges, place_of, words_after, IsAllowed, IsMade}
 use Rattle.lock_core.specs.declared.range.Held.{Held}
-use Rattle.range_rw.specs.Contract.{IsLockCall, IsRelease, AreNewSeatsIn, first_passes}
+use Rattle.list_cuts.specs.Cut.{Regions}
+use Rattle.range_rw.specs.Contract.{IsLockCall, IsClientCall, IsRelease, AreNewSeatsIn, first_passes}
 use Rattle.range_rw.proofs.SeatLists.{at_firsts}
+use Rattle.range_c.specs.declared.answers.Answer.{Answer}
+use Rattle.range_c.specs.declared.answers.Answer.TheVariants.{Done, Other}
 use Rattle.range_c.specs.declared.recording.Made.{Made}
 use Rattle.range_c.specs.declared.recording.Recorded.{Recorded}
 use Rattle.range_c.specs.declared.recording.WordStep.{WordStep}
 use Rattle.range_c.specs.declared.recording.WordStep.TheVariants.{Load, Store, Add, Exchange}
 use Rattle.range_c.specs.Recording.{step_on, kind_of, left_by, made_on, begun, with_last, IsBegun, IsRecorded}
-use Rattle.range_c.specs.Behind.{RecordingSeat}
+use Rattle.range_c.specs.Behind.{Behind, RecordingSeat, IsStepped}
+use Rattle.range_c.proofs.Rows.{behind}
 
 not_equal : (a b : ℕ) → a ≢ b → eqb a b ≡ false
 not_equal a b other = go (eqb a b) refl where
@@ -118,3 +122,50 @@ pub after_step : (lists : ℕ) (t : TableId) (a b : RecordingSeat) (l : List Rec
     → AreNewSeatsIn lists t (begun a.pass.opened) l → AreNewSeatsIn lists t (begun b.pass.opened) l
 after_step lists t a b l step found made new = subst (λ w. AreNewSeatsIn lists t (begun w) l)
     (sym (ap (λ (p : Recorded). p.opened) (last_is a.number a.held a.pass step found b.pass made))) new
+
+-- an exchange that found the expected value, as it is told
+pub exchange_done : (i expected new told spare words seats : ℕ) (cut : Regions) (old seat : RecordingSeat) (before : Behind) (step : WordStep)
+    (result : Answer × ℕ) → step ≡ Exchange expected new → result ≡ (Done, expected) → behind old spare words seats cut ≡ before → i < words
+    → IsClientCall old i seat → IsMade IsBegun IsRecorded tt old.number old.held old.pass (exchanges i expected new) expected seat.pass
+    → IsStepped i step told result.1 result.0 before (behind seat spare words seats cut)
+exchange_done i expected new told spare words seats cut old seat before step result is answer was there call made =
+    let now = behind seat spare words seats cut in
+    subst (λ (s : WordStep). IsStepped i s told result.1 result.0 before now) (sym is)
+    (subst (λ (r : Answer × ℕ). IsStepped i (Exchange expected new) told r.1 r.0 before now) (sym answer)
+    (subst (λ (b : Behind). IsStepped i (Exchange expected new) told expected Done b now) was (
+      refl,
+      record {
+        there = there;
+        call = call;
+        made = made;
+        last = exchanged old.number old.held old.pass i expected new seat.pass made;
+        spare = refl;
+        words = refl;
+        seats = refl;
+        cut = refl;
+      },
+    )))
+
+-- one that found another value, as it is told
+pub exchange_other : (i expected new found told spare words seats : ℕ) (cut : Regions) (old seat : RecordingSeat) (before : Behind) (step : WordStep)
+    (result : Answer × ℕ) → step ≡ Exchange expected new → result ≡ (Other, found) → behind old spare words seats cut ≡ before → i < words
+    → IsClientCall old i seat → found ≢ expected
+    → IsMade IsBegun IsRecorded tt old.number old.held old.pass (exchanges i expected new) found seat.pass
+    → IsStepped i step told result.1 result.0 before (behind seat spare words seats cut)
+exchange_other i expected new found told spare words seats cut old seat before step result is answer was there call other made =
+    let now = behind seat spare words seats cut in
+    subst (λ (s : WordStep). IsStepped i s told result.1 result.0 before now) (sym is)
+    (subst (λ (r : Answer × ℕ). IsStepped i (Exchange expected new) told r.1 r.0 before now) (sym answer)
+    (subst (λ (b : Behind). IsStepped i (Exchange expected new) told found Other b now) was (
+      other,
+      record {
+        there = there;
+        call = call;
+        made = made;
+        last = unexchanged old.number old.held old.pass i expected new found seat.pass other made;
+        spare = refl;
+        words = refl;
+        seats = refl;
+        cut = refl;
+      },
+    )))

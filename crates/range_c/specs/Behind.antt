@@ -1,7 +1,8 @@
 -- What contracts see of what is behind a handle: its seat, how many seats are left to share, how many client words and
 -- seats the table has, and how the numbers are cut for its lists; and what each call answers and leaves of it. The
 -- causes of a refused try are those of `range_rw`; the answers are this project's own.
-use Rattle.std.specs.Prelude.{◌≡◌, ◌≢◌, ◌⊎◌, ℕ, zero, suc, ◌+◌, ◌*◌, ◌%◌, ◌<◌, ◌≤◌, ◌^◌, ◌↔◌, Bool, true, false, List, length, Option, Some, None}
+use Rattle.std.specs.Prelude.{◌≡◌, ◌≢◌, ◌⊎◌, ℕ, zero, suc, ◌+◌, ◌*◌, ◌%◌, ◌<◌, ◌≤◌, ◌^◌, ◌↔◌, Bool, true, false, List, length, slice_index_or, Option, Some, None}
+use Rattle.atomic_table.specs.Seated.{TableId}
 use Rattle.list_cuts.specs.Cut.{Regions, IsCut, list_count}
 use Rattle.lock_core.specs.Client.{IsMade}
 use Rattle.lock_core.specs.Range.{Interval, IsRange}
@@ -76,21 +77,57 @@ IsNotOpened seats count _ = ⊥
 abbrev pub IsNotCut : ℕ → ℕ → ℕ → ℕ → Answer → Type 0
 IsNotCut regions bits seats count why = ((why ≡ BadCut) × ¬ (IsCut regions bits)) ⊎ (IsCut regions bits × IsNotOpened seats count why)
 
--- a seat was taken out for a handle of its own: the last of those that were left, which is of the same table, holds
--- nothing, and knows of the same words at the opening
-pub record IsShared (before after new : Behind) : Type 0 where
+-- a seat is free: it is of the same table as another one, has one of so many numbers, holds nothing, and knows of the
+-- same words at the opening
+pub record IsFreeIn (seats : ℕ) (mine seat : RecordingSeat) : Type 0 where
+  pub table : seat.table ≡ mine.table
+  pub number : seat.number < seats
+  pub held : seat.held ≡ None
+  pub opened : seat.pass.opened ≡ mine.pass.opened
+
+-- a seat with its number fits a place for a seat that was given back: it is free, and of the table of the seat of the
+-- highest number, by which the place was made
+abbrev pub FitsPlace : RecordingSeat → RecordingSeat → ℕ → Type 0
+FitsPlace highest seat number = IsFreeIn (highest.number + 1) highest seat × (seat.number ≡ number)
+
+-- a seat with its number was taken from one of these places
+abbrev pub IsFromPlace : List RecordingSeat → RecordingSeat → ℕ → Type 0
+IsFromPlace places seat number = (k : ℕ) × (place : RecordingSeat) × (k < length places) × (place ≡ slice_index_or places k place)
+    × FitsPlace place seat number
+
+-- a place is one for the seats of that table, which are so many and know that these were the words at the opening
+pub record IsPlaceOf (t : TableId) (seats : ℕ) (words : List ℕ) (place : RecordingSeat) : Type 0 where
+  pub table : place.table ≡ t
+  pub number : place.number + 1 ≡ seats
+  pub opened : place.pass.opened ≡ words
+
+-- a seat with its number may go behind a further handle of the table
+abbrev pub IsSeatFor : Behind → RecordingSeat → ℕ → Type 0
+IsSeatFor b seat number = IsFreeIn b.seats b.seat seat × (seat.number ≡ number)
+
+-- the last of the seats that were left was taken out for a handle of its own: it is new, and of the same table
+pub record IsSpareShared (before after new : Behind) : Type 0 where
   pub kept : after ≡ record before { spare = after.spare }
   pub spare : after.spare + 1 ≡ before.spare
   pub seat : new.seat ≡ new_seat_in (list_count before.cut) before.seat.table (begun before.seat.pass.opened) after.spare
-  pub none : new.spare ≡ 0
-  pub words : new.words ≡ before.words
-  pub seats : new.seats ≡ before.seats
-  pub cut : new.cut ≡ before.cut
+  pub rest : new ≡ record before { seat = new.seat; spare = 0 }
 
--- why no seat was taken out of so many that were left
+-- no seat was left, and a free one of the same table has a handle of its own
+pub record IsFreeShared (before new : Behind) : Type 0 where
+  pub spent : before.spare ≡ 0
+  pub seat : IsFreeIn before.seats before.seat new.seat
+  pub rest : new ≡ record before { seat = new.seat; spare = 0 }
+
+-- a seat was taken out for a handle of its own: the last of those that were left; or where none was, one that a closed
+-- handle gave back, and nothing has changed
+abbrev pub IsShared : Behind → Behind → Behind → Type 0
+IsShared before after new = IsSpareShared before after new ⊎ ((after ≡ before) × IsFreeShared before new)
+
+-- why no seat was taken out of so many that were left. That none was given back is no part of what contracts see: other
+-- threads may give seats back at any moment
 abbrev pub IsUnshared : ℕ → Answer → Type 0
 IsUnshared spare NoneLeft = spare ≡ 0
-IsUnshared spare Memory = 0 < spare
+IsUnshared spare Memory = Unit {0}
 IsUnshared spare _ = ⊥
 
 -- no seat was taken out, for that cause, and nothing has changed

@@ -10,7 +10,7 @@ ghost use Rattle.range_c.specs.Calls.{OnHandle, OnLook, OnWord, IsFresh, IsFresh
 use crate::answers::{Answer, GzBusy};
 use crate::calls::{WordCall, look_by, release_by, share_by, step_by, try_by};
 use crate::handle::GzRange;
-use crate::opening::{open_regions, open_table};
+use crate::opening::{end, open_regions, open_table};
 use crate::recording::WordStep;
 use crate::state::{Asked, State};
 use core::mem::{forget, replace};
@@ -78,7 +78,8 @@ pub extern "C" fn gz_range_open_cut(
     }
 }
 
-/// Gives a handle that is closed a seat of its own in the table of an open one.
+/// Gives a handle that is closed a seat of its own in the table of an open one: the last of those that this one has
+/// left, or where it has none, one that was given back.
 #[unsafe(no_mangle)]
 pub extern "C" fn gz_range_share(alloc: Global, from: &mut GzRange, handle: &mut GzRange) -> u32
     ensures shared { result ≡ 0 → (handle.old.pointer.behind ≡ None) × HandleShared from.old.pointer.behind from.new.pointer.behind handle.new.pointer.behind }
@@ -224,9 +225,10 @@ pub extern "C" fn gz_range_pause(turns: &mut u32) -> bool
     longest
 }
 
-/// Puts a closed handle in the place of a handle, and ends what that was: gives back what it held, and lets its seat
-/// and its share of the table go. The last handle of a table frees it. A closed handle has nothing to end. Where the
-/// handle that is to be put there is open, nothing is done.
+/// Puts a closed handle in the place of a handle, and ends what that was: gives back what it held, then its seat and
+/// those that it had left to share, which other handles of the table may share again; and lets its share of the table
+/// go. The last handle of a table frees it. A closed handle has nothing to end. Where the handle that is to be put
+/// there is open, nothing is done.
 #[unsafe(no_mangle)]
 pub extern "C" fn gz_range_end(handle: &mut GzRange, next: GzRange) -> u32
     ensures ended { Says (IsEnd next.pointer.behind handle.old.pointer.behind handle.new.pointer.behind) result }
@@ -240,7 +242,6 @@ pub extern "C" fn gz_range_end(handle: &mut GzRange, next: GzRange) -> u32
         was.forget();
         return Answer::Closed.code();
     }
-    let mut b = was.into_box();
-    b.release();
+    end(was.into_box());
     Answer::Done.code()
 }

@@ -10,4 +10,5 @@ mod handle;
 mod opening;
 mod parts;
 mod recording;
+mod shelf;
 mod state;

@@ -1,4 +1,4 @@
-//! What is behind an open handle: an owner of the table, one seat of it, and the seats that no handle has yet. Each
+//! What is behind an open handle: an owner of the table, one seat of it, and the seats that no handle has had yet. Each
 //! call of C's is a method here. A reader may rely on all the seats being of that table, and on those that are left to
 //! share being as they were at the opening.
 ghost use Rattle.std.specs.Prelude.{◌≡◌, None, IfOk, IfErr};
@@ -6,6 +6,7 @@ ghost use Rattle.range_c.specs.Behind.{IsTried, IsReleased, IsStepped, IsTrial, 
 
 use crate::answers::{Answer, GzBusy, NOTHING};
 use crate::recording::{Recording, WordStep};
+use crate::shelf::Shelf;
 use lock_core::{Mode, Range};
 use range_rw::{NotHeld, RangeTable, Seat};
 use std::alloc::Global;
@@ -13,10 +14,17 @@ use std::marker::Model;
 use std::sync::Arc;
 use word_rows::Backoff;
 
+/// A table, and the seats that closed handles gave back.
+#[derive(Drop)]
+pub(crate) struct Lock {
+    pub(crate) table: RangeTable<Recording>,
+    pub(crate) shelf: Shelf,
+}
+
 /// An owner of the table, a seat, and the seats that are left to share.
 #[derive(Drop)]
 pub(crate) struct State {
-    pub(crate) table: Arc<RangeTable<Recording>, Global>,
+    pub(crate) lock: Arc<Lock, Global>,
     pub(crate) seat: Seat<Recording>,
     /// The seat's number, counted from 0.
     pub(crate) number: u32,
@@ -25,12 +33,13 @@ pub(crate) struct State {
 }
 
 impl Model for State {
-    ghost use Rattle.std.specs.Prelude.{◌≡◌, ◌≤◌, length};
+    ghost use Rattle.std.specs.Prelude.{◌≡◌, ◌≤◌, ◌<◌, length};
     ghost use Rattle.std.specs.Arc.{arc_value};
+    ghost use Rattle.std.specs.List.{All};
     ghost use Rattle.list_cuts.specs.Cut.{list_count};
     ghost use Rattle.range_rw.specs.Contract.{AreNewSeatsIn};
     ghost use Rattle.range_c.specs.Recording.{begun};
-    ghost use Rattle.range_c.specs.Behind.{Behind};
+    ghost use Rattle.range_c.specs.Behind.{Behind, IsPlaceOf};
 
     ghost Value = { Behind };
 
@@ -38,13 +47,15 @@ impl Model for State {
       seat = s.seat;
       spare = length s.spare.items;
       words = s.words;
-      seats = (arc_value s.table).seats;
-      cut = (arc_value s.table).cut;
+      seats = (arc_value s.lock).table.seats;
+      cut = (arc_value s.lock).table.cut;
     } };
 
-    ghost invariant = { λ s. (s.seat.table ≡ (arc_value s.table).table)
-        × AreNewSeatsIn (list_count (arc_value s.table).cut) (arc_value s.table).table (begun s.seat.pass.opened) s.spare.items
-        × ((arc_value s.table).client ≡ s.words) × (s.seat.number ≡ s.number) × (length s.spare.items ≤ s.number) };
+    ghost invariant = { λ s. (s.seat.table ≡ (arc_value s.lock).table.table)
+        × AreNewSeatsIn (list_count (arc_value s.lock).table.cut) (arc_value s.lock).table.table (begun s.seat.pass.opened) s.spare.items
+        × ((arc_value s.lock).table.client ≡ s.words) × (s.seat.number ≡ s.number) × (length s.spare.items ≤ s.number)
+        × (s.number < (arc_value s.lock).table.seats)
+        × All (IsPlaceOf (arc_value s.lock).table.table (arc_value s.lock).table.seats s.seat.pass.opened) (arc_value s.lock).shelf.places.items };
 }
 
 /// The range that a call of C's asks for, and how often it is to try.
@@ -85,7 +96,8 @@ impl State {
         ensures held { IfOk result (λ _. IsGranted self.old.seats self.old.cut (record { range = range; mode = mode }) self.old.seat self.new.seat) }
         ensures refused { IfErr result (IsRefused self.old.seats self.old.cut (record { range = range; mode = mode }) self.old.seat self.new.seat) }
     {
-        self.table
+        self.lock
+            .table
             .try_acquire_uncounted(&mut self.seat, range, mode)
     }
 
@@ -116,7 +128,7 @@ impl State {
     pub(crate) fn try_asked(&mut self, asked: Asked) -> Answer
         ensures tried { IsTried asked.lo asked.hi asked.writer asked.tries result self.old self.new }
     {
-        if self.table.held(&self.seat).is_some() {
+        if self.lock.table.held(&self.seat).is_some() {
             return Answer::HasOne;
         }
         let Ok(range) = Range::of(asked.lo, asked.hi) else {
@@ -128,11 +140,12 @@ impl State {
     /// Gives the held range back.
     pub(crate) fn release(&mut self) -> Answer
         ensures released { IsReleased result self.old self.new }
+        ensures free { self.new.seat.held ≡ None }
     {
-        if self.table.held(&self.seat).is_none() {
+        if self.lock.table.held(&self.seat).is_none() {
             return Answer::HasNone;
         }
-        self.table.release_uncounted(&mut self.seat);
+        self.lock.table.release_uncounted(&mut self.seat);
         Answer::Done
     }
 
@@ -141,7 +154,7 @@ impl State {
         ensures looked { IsLooked result.1 result.0 self.now self.now }
     {
         let owner = self.number;
-        match self.table.held(&self.seat) {
+        match self.lock.table.held(&self.seat) {
             Some((range, mode)) => {
                 let shown = GzBusy {
                     lo: range.lo(),
@@ -166,20 +179,25 @@ impl State {
         match step {
             WordStep::Load => (
                 Answer::Done,
-                self.table.load_as_uncounted::<Recording>(&mut self.seat, i),
+                self.lock
+                    .table
+                    .load_as_uncounted::<Recording>(&mut self.seat, i),
             ),
             WordStep::Store(value) => {
-                self.table
+                self.lock
+                    .table
                     .store_as_uncounted::<Recording>(&mut self.seat, i, value);
                 (Answer::Done, told)
             }
             WordStep::Add(by) => (
                 Answer::Done,
-                self.table
+                self.lock
+                    .table
                     .add_as_uncounted::<Recording>(&mut self.seat, i, by),
             ),
             WordStep::Exchange { expected, new } => {
                 match self
+                    .lock
                     .table
                     .exchange_as_uncounted::<Recording>(&mut self.seat, i, expected, new)
                 {

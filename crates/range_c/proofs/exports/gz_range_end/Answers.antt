@@ -1,5 +1,5 @@
-use Rattle.std.proofs.Common.{rules, ◌≡◌, None, refl}
-use Rattle.range_c.proofs.Refusals.{ends_closed, ends_by_open}
+use Rattle.std.proofs.Common.{rules, ◌≡◌, ◌∙◌, None, refl}
+use Rattle.range_c.proofs.Refusals.{ends_closed, ends_open, ends_by_open}
 use Rattle.range_c.proofs.exports.gz_range_end.Goals as goal
 
 -- where the handle that is to be put there is open, that is told, and nothing has changed
@@ -18,4 +18,15 @@ returns-then-not-is_open c =
     record {
       ended = ends_closed c.code-then-not-is_open.result c.args.next.pointer.behind c.args.handle.now.pointer.behind c.replace-was.new.dest.pointer.behind
           none was put c.code-then-not-is_open.ensures;
+    }
+
+-- an open one is ended, and the closed one stands in its place
+pub returns : goal.returns
+returns c =
+    let none : c.args.next.pointer.behind ≡ None = search rules in
+    let put : c.replace-was.new.dest.pointer.behind ≡ c.args.next.pointer.behind = search rules in
+    let same : c.args.handle.now.pointer.behind ≡ c.replace-was.result.pointer.behind = search rules in
+    record {
+      ended = ends_open c.code-2.result c.args.next.pointer.behind c.args.handle.now.pointer.behind c.replace-was.new.dest.pointer.behind none
+          (c.into_box-2.result.value, same ∙ c.into_box-2.ensures) put c.code-2.ensures;
     }

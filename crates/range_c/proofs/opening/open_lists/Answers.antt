@@ -1,10 +1,14 @@
-use Rattle.std.proofs.Common.{rules, arith, ◌≡◌, ◌≤◌, ◌+◌, ◌-◌, ◌^◌, ℕ, List, sym, ap, ◌∙◌, subst, length}
+use Rattle.std.proofs.Common.{rules, arith, ◌≡◌, ◌≤◌, ◌<◌, ◌+◌, ◌-◌, ◌^◌, ℕ, List, refl, sym, ap, ◌∙◌, subst, length}
 use Rattle.std.specs.Arc.{arc_value}
+use Rattle.std.specs.List.{All}
 use Rattle.atomic_table.specs.Seated.{TableId}
 use Rattle.list_cuts.specs.Cut.{Regions, list_count}
-use Rattle.range_rw.specs.Contract.{TableShape, AreNewSeatsIn}
-use Rattle.range_c.specs.Behind.{RecordingSeat}
+use Rattle.range_rw.specs.Contract.{AreNewSeatsIn}
+use Rattle.range_c.specs.declared.shelf.Shelf.{Shelf}
+use Rattle.range_c.specs.declared.state.Lock.{Lock}
+use Rattle.range_c.specs.Behind.{RecordingSeat, IsPlaceOf}
 use Rattle.range_c.specs.Recording.{begun}
+use Rattle.range_c.proofs.Places.{places_of}
 use Rattle.range_c.proofs.Rows.{taken, longer, opens}
 use Rattle.range_c.proofs.Steps.{begins}
 use Rattle.range_c.proofs.opening.open_lists.Goals as goal
@@ -18,8 +22,8 @@ pub invariant_of-state : goal.invariant_of-state
 invariant_of-state c =
     let all = taken (list_count c.args.cut) c.in-Ok.opened.0.table c.args.client.now c.in-Ok.opened.1.items c.pop.new.self.items c.in-Some.seat
     c.in-Some.ensures.items c.in-Ok.ensures.seats.1 in
-    let table = sym (ap (λ (t : TableShape). t.table) c.in-Ok-new.ensures.ok) in
-    let cuts = ap (λ (t : TableShape). t.cut) c.in-Ok-new.ensures.ok ∙ c.in-Ok.ensures.shape.2 in
+    let table = sym (ap (λ (l : Lock). l.table.table) c.in-Ok-new.ensures.ok) in
+    let cuts = ap (λ (l : Lock). l.table.cut) c.in-Ok-new.ensures.ok ∙ c.in-Ok.ensures.shape.2 in
     let opened = sym (ap (λ (s : RecordingSeat). s.pass.opened) all.0) in
     let one : length c.pop.new.self.items + 1 ≡ c.args.seats =
     longer c.in-Ok.opened.1.items c.pop.new.self.items c.in-Some.seat c.in-Some.ensures.items ∙ c.in-Ok.ensures.seats.0 in
@@ -27,22 +31,32 @@ invariant_of-state c =
     let number : c.in-Some.seat.number ≡ c.args.seats - 1 = omega arith in
     let least : length c.pop.new.self.items ≤ c.args.seats - 1 = omega arith in
     let here = subst (λ (t : TableId). AreNewSeatsIn (list_count c.args.cut) t (begun c.args.client.now) c.pop.new.self.items) table all.1 in
-    let lists = subst (λ (k : Regions). AreNewSeatsIn (list_count k) (arc_value c.in-Ok-new.table).table (begun c.args.client.now) c.pop.new.self.items)
-    (sym cuts) here in (
+    let lists = subst (λ (k : Regions). AreNewSeatsIn (list_count k) (arc_value c.in-Ok-new.lock).table.table (begun c.args.client.now) c.pop.new.self.items)
+    (sym cuts) here in
+    let all_seats = ap (λ (l : Lock). l.table.seats) c.in-Ok-new.ensures.ok ∙ c.in-Ok.ensures.shape.0 in
+    let below : c.args.seats - 1 < (arc_value c.in-Ok-new.lock).table.seats = omega arith in
+    let last : c.in-Some.seat.number + 1 ≡ (arc_value c.in-Ok-new.lock).table.seats = omega arith in
+    let shelf = ap (λ (l : Lock). l.shelf) c.in-Ok-new.ensures.ok in
+    let made = places_of (arc_value c.in-Ok-new.lock).table.table (arc_value c.in-Ok-new.lock).table.seats c.in-Some.seat.pass.opened c.in-Some.seat
+    c.in-Ok-of.shelf.places.items (ap (λ (s : RecordingSeat). s.table) all.0 ∙ table) last refl c.in-Ok-of.ensures in
+    let places = subst (λ (s : Shelf). All (IsPlaceOf (arc_value c.in-Ok-new.lock).table.table (arc_value c.in-Ok-new.lock).table.seats
+    c.in-Some.seat.pass.opened) s.places.items) (sym shelf) made in (
       ap (λ (s : RecordingSeat). s.table) all.0 ∙ table,
-      subst (λ (w : List ℕ). AreNewSeatsIn (list_count (arc_value c.in-Ok-new.table).cut) (arc_value c.in-Ok-new.table).table (begun w)
+      subst (λ (w : List ℕ). AreNewSeatsIn (list_count (arc_value c.in-Ok-new.lock).table.cut) (arc_value c.in-Ok-new.lock).table.table (begun w)
           c.pop.new.self.items) opened lists,
-      ap (λ (t : TableShape). t.client) c.in-Ok-new.ensures.ok ∙ c.in-Ok.ensures.shape.1,
+      ap (λ (l : Lock). l.table.client) c.in-Ok-new.ensures.ok ∙ c.in-Ok.ensures.shape.1,
       number,
       least,
+      below,
+      places,
     )
 
 -- what is in the box is what is behind a new handle of a new table
 pub returns-in-Ok-new-2-clause-opened : goal.returns-in-Ok-new-2-clause-opened
 returns-in-Ok-new-2-clause-opened c =
     let most : length c.args.client.now ≤ 2 ^ 20 = search rules in
-    let seats = ap (λ (t : TableShape). t.seats) c.in-Ok-new.ensures.ok ∙ c.in-Ok.ensures.shape.0 in
-    let cuts = ap (λ (t : TableShape). t.cut) c.in-Ok-new.ensures.ok ∙ c.in-Ok.ensures.shape.2 in
-    opens c.in-Ok.opened.0.table c.args.cut (arc_value c.in-Ok-new.table).cut c.args.seats (arc_value c.in-Ok-new.table).seats c.args.client.now
+    let seats = ap (λ (l : Lock). l.table.seats) c.in-Ok-new.ensures.ok ∙ c.in-Ok.ensures.shape.0 in
+    let cuts = ap (λ (l : Lock). l.table.cut) c.in-Ok-new.ensures.ok ∙ c.in-Ok.ensures.shape.2 in
+    opens c.in-Ok.opened.0.table c.args.cut (arc_value c.in-Ok-new.lock).table.cut c.args.seats (arc_value c.in-Ok-new.lock).table.seats c.args.client.now
     c.in-Ok.opened.1.items c.pop.new.self.items c.in-Some.seat c.in-Ok-new-2.b.value c.in-Ok.ensures.count
     most c.in-Ok.ensures.seats.0 c.in-Some.ensures.items c.in-Ok.ensures.seats.1 seats cuts c.in-Ok-new-2.ensures.ok

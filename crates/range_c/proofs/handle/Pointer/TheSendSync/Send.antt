@@ -14,7 +14,7 @@ use Rattle.std_heap.proofs.Global.TheSendSync as handle
 use Rattle.range_c.specs.Behind.{Behind}
 use Rattle.range_c.specs.Handles.{handle_owns}
 use Rattle.range_c.specs.contracts.state.State as State
-use Rattle.range_c.proofs.state.State.TheSendSync.{the_send as state}
+use Rattle.range_c.proofs.Crossing.{state_send as state}
 use Rattle.range_c.specs.contracts.handle.Pointer.{the_row, the_type}
 
 owned_keyless : (alloc : Global) (p : Ptr) (b : Option Behind) → Keyless (handle_owns alloc p b)

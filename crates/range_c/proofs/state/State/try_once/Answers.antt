@@ -1,6 +1,7 @@
 use Rattle.std.proofs.Common.{◌∙◌, IfOk, IfErr, ap, subst}
 use Rattle.lock_core.specs.declared.range.Held.{Held}
 use Rattle.range_rw.specs.Contract.{TableShape}
+use Rattle.range_c.specs.declared.state.Lock.{Lock}
 use Rattle.range_c.specs.Behind.{Behind, IsGranted, IsRefused}
 use Rattle.range_c.proofs.Tries.{granted_for, refused_for}
 use Rattle.range_c.proofs.state.State.try_once.Goals as goal
@@ -11,7 +12,7 @@ returns-clause-held c =
     let ask : Held = record { range = c.args.range; mode = c.args.mode } in
     let free = ap (λ (b : Behind). b.seat.held) c.self.view_is ∙ c.requires.free in
     let here = subst (λ (t : TableShape). IfOk c.try_acquire_uncounted.result
-    (λ _. IsGranted t.seats t.cut ask c.self.inside.seat c.try_acquire_uncounted.new.seat)) c.deref.ensures
+    (λ _. IsGranted t.seats t.cut ask c.self.inside.seat c.try_acquire_uncounted.new.seat)) (ap (λ (l : Lock). l.table) c.deref.ensures)
     (granted_for c.try_acquire_uncounted.result _ _ ask c.self.inside.seat c.try_acquire_uncounted.new.seat c.try_acquire_uncounted.ensures.call free
     c.try_acquire_uncounted.ensures.wide c.try_acquire_uncounted.ensures.bound c.try_acquire_uncounted.ensures.held) in
     subst (λ (b : Behind). IfOk c.try_acquire_uncounted.result (λ _. IsGranted b.seats b.cut ask b.seat c.try_acquire_uncounted.new.seat))
@@ -23,7 +24,7 @@ returns-clause-refused c =
     let ask : Held = record { range = c.args.range; mode = c.args.mode } in
     let free = ap (λ (b : Behind). b.seat.held) c.self.view_is ∙ c.requires.free in
     let here = subst (λ (t : TableShape). IfErr c.try_acquire_uncounted.result
-    (IsRefused t.seats t.cut ask c.self.inside.seat c.try_acquire_uncounted.new.seat)) c.deref.ensures
+    (IsRefused t.seats t.cut ask c.self.inside.seat c.try_acquire_uncounted.new.seat)) (ap (λ (l : Lock). l.table) c.deref.ensures)
     (refused_for c.try_acquire_uncounted.result _ _ ask c.self.inside.seat c.try_acquire_uncounted.new.seat c.try_acquire_uncounted.ensures.call free
     c.try_acquire_uncounted.ensures.wide c.try_acquire_uncounted.ensures.bound c.try_acquire_uncounted.ensures.free c.try_acquire_uncounted.ensures.cause
     c.try_acquire_uncounted.ensures.long) in
