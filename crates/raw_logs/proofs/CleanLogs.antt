@@ -1,6 +1,6 @@
 -- Lines without a newline stay so through each stage of the reading.
-use Rattle.std.proofs.Common.{◌≡◌, ◌⊎◌, ℕ, ◌+◌, ◌*◌, ◌^◌, ◌<◌, List, [], ◌∷◌, ◌++◌, length, take, drop, codes}
-use Rattle.std.proofs.Common.{Bool, true, false, Option, Some, None, refl, sym, ap, subst, ◌∙◌, append_assoc, inl, inr, arith}
+use Rattle.std.proofs.Common.{◌≡◌, ℕ, ◌+◌, ◌*◌, ◌^◌, ◌<◌, List, [], ◌∷◌, ◌++◌, length, codes}
+use Rattle.std.proofs.Common.{Bool, true, false, Option, Some, None, refl, sym, ap, subst, ◌∙◌, inl, inr, arith}
 use Rattle.std.specs.Prelude.{◌==◌, decimal, if◌then◌else◌}
 use Rattle.std.proofs.lemmas.Fmt.{decimal_is_IsNumeral}
 use Rattle.std.proofs.lemmas.Bool.Decides.{nat_tests}
@@ -12,7 +12,6 @@ use Rattle.line_parts.proofs.Leaves.{bool_cases}
 use Rattle.strace_reader.specs.Grammar.{IsCut}
 use Rattle.raw_lines.specs.Plain.{IsPlain}
 use Rattle.raw_lines.proofs.Searches.{isnt, each_parts, each_whole}
-use Rattle.raw_lines.proofs.MarkFacts.{each_by}
 use Rattle.raw_lines.proofs.PlainFacts.{taken_parts}
 use Rattle.raw_logs.specs.declared.counts.Counts.{Counts}
 use Rattle.raw_logs.specs.declared.counts.Sort.TheVariants.{Elsewhere, Earlier}
@@ -23,7 +22,7 @@ use Rattle.raw_logs.specs.declared.told.Form.TheVariants.{Blank, Unknown, Long, 
 use Rattle.raw_logs.specs.declared.told.Told.{Told}
 use Rattle.raw_logs.specs.Choosing.{Picked, is_blank, with_own, with_line, picked}
 use Rattle.raw_logs.specs.Counting.{one_more_of}
-use Rattle.raw_logs.specs.Log.{Numbered, texts_of, goes_on, Heals, all_healed, heals_message, heals_stack, heals_broken, heals_line}
+use Rattle.raw_logs.specs.Log.{Numbered, texts_of, goes_on, Heals, all_healed, heals_message, heals_stack, heals_broken, heals_blank, heals_line}
 use Rattle.raw_logs.specs.Log.{ArePlain, all_plain, plain_stays, plain_changes}
 use Rattle.raw_logs.specs.Numbering.{StartsAt, IsRoot, ChangesNumber, IsNumbering, LosesBrackets, with_number}
 use Rattle.raw_logs.specs.Numbering.{AreNumbered, all_numbered, number_stays, number_changes}
@@ -89,7 +88,9 @@ heals_clean number part left lines texts counts hp hl (heals_broken {line = line
     let k = m.broken in
     let f = each_parts (isnt 10) front (codes "strace: Process " ++ (k.0 ++ k.1)) (subst IsClean k.5 hl.0) in
     heals_clean (number + 1) (Some (goes_on part number front)) left l texts c (on_clean part number front hp f.0) hl.1 more
-heals_clean number part left lines texts counts hp hl (heals_line {line = line} {lines = l} {texts = t} {counts = c} m more) =
+heals_clean number part left lines texts counts hp hl (heals_blank {lines = l} {counts = c} m e more) =
+    heals_clean (number + 1) None left l texts c tt hl.1 more
+heals_clean number part left lines texts counts hp hl (heals_line {line = line} {lines = l} {texts = t} {counts = c} m e more) =
     (on_clean part number line hp hl.0, heals_clean (number + 1) None left l t c tt hl.1 more)
 
 -- what is taken away leaves none

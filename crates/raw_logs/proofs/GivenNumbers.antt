@@ -10,9 +10,8 @@ use Rattle.raw_lines.specs.declared.makers.Making.{Making}
 use Rattle.raw_lines.specs.declared.makers.Making.TheVariants.{Makes, Begins, Ends, Execs, Nothing}
 use Rattle.raw_lines.specs.Makers.{IsMaking}
 use Rattle.raw_lines.proofs.MakerFacts.{making_one}
-use Rattle.raw_logs.specs.declared.line.Line.{Line}
+use Rattle.raw_logs.specs.Log.{Numbered, texts_of}
 use Rattle.raw_logs.specs.Numbering.{Gives, IsAttached, IsLater}
-use Rattle.raw_logs.specs.Stages.{texts}
 use Rattle.raw_logs.proofs.Following.{only_item}
 use Rattle.raw_logs.proofs.TextLists.{texts_more, texts_all}
 
@@ -78,35 +77,35 @@ later_none log has h q = ((λ x. inl ((h q).0 x)), back)
     back (inr x) = let l = x.1.1 in absurd (omega arith)
 
 -- a line more
-pub later_more : (log : List (List ℕ)) (lines : List Line) (i : ℕ) (line : Line) (shown : List ℕ) (old new : ℕ → Type 0) → i < length lines
-    → line ≡ get_or lines i line → shown ≡ line.text.items → ((q : ℕ) → old q ↔ IsLater log (take i (texts lines)) q)
-    → ((q : ℕ) → new q ↔ (old q ⊎ Gives shown q)) → (q : ℕ) → new q ↔ IsLater log (take (i + 1) (texts lines)) q
+pub later_more : (log : List (List ℕ)) (lines : List Numbered) (i : ℕ) (line : Numbered) (shown : List ℕ) (old new : ℕ → Type 0) → i < length lines
+    → line ≡ get_or lines i line → shown ≡ line.text → ((q : ℕ) → old q ↔ IsLater log (take i (texts_of lines)) q)
+    → ((q : ℕ) → new q ↔ (old q ⊎ Gives shown q)) → (q : ℕ) → new q ↔ IsLater log (take (i + 1) (texts_of lines)) q
 later_more log lines i line shown old new l e s h more q = (
   (λ n. subst (λ (x : List (List ℕ)). IsLater log x q) (sym (texts_more lines i line l e)) (forth ((more q).0 n))),
   (λ a. back (subst (λ (x : List (List ℕ)). IsLater log x q) (texts_more lines i line l e) a)),
 )
   where
-    to : IsLater log (take i (texts lines)) q → IsLater log (take i (texts lines) ++ (line.text.items ∷ [])) q
+    to : IsLater log (take i (texts_of lines)) q → IsLater log (take i (texts_of lines) ++ (line.text ∷ [])) q
     to (inl x) = inl x
-    to (inr x) = inr (x.0, Contains-append_left (take i (texts lines)) (line.text.items ∷ []) x.0 x.1, x.2)
+    to (inr x) = inr (x.0, Contains-append_left (take i (texts_of lines)) (line.text ∷ []) x.0 x.1, x.2)
 
-    forth : old q ⊎ Gives shown q → IsLater log (take i (texts lines) ++ (line.text.items ∷ [])) q
+    forth : old q ⊎ Gives shown q → IsLater log (take i (texts_of lines) ++ (line.text ∷ [])) q
     forth (inl o) = to ((h q).0 o)
     forth (inr g) = inr (
-      line.text.items,
-      Contains-append_right (take i (texts lines)) (line.text.items ∷ []) line.text.items (0, omega arith, refl),
+      line.text,
+      Contains-append_right (take i (texts_of lines)) (line.text ∷ []) line.text (0, omega arith, refl),
       subst (λ (x : List ℕ). Gives x q) s g,
     )
 
-    by : (text : List ℕ) → Contains (take i (texts lines)) text ⊎ Contains (line.text.items ∷ []) text → Gives text q → new q
+    by : (text : List ℕ) → Contains (take i (texts_of lines)) text ⊎ Contains (line.text ∷ []) text → Gives text q → new q
     by text (inl d) g = (more q).1 (inl ((h q).1 (inr (text, d, g))))
-    by text (inr d) g = (more q).1 (inr (subst (λ (x : List ℕ). Gives x q) (sym (s ∙ only_item line.text.items text d)) g))
+    by text (inr d) g = (more q).1 (inr (subst (λ (x : List ℕ). Gives x q) (sym (s ∙ only_item line.text text d)) g))
 
-    back : IsLater log (take i (texts lines) ++ (line.text.items ∷ [])) q → new q
+    back : IsLater log (take i (texts_of lines) ++ (line.text ∷ [])) q → new q
     back (inl x) = (more q).1 (inl ((h q).1 (inl x)))
-    back (inr x) = by x.0 (Contains-append_cases (take i (texts lines)) (line.text.items ∷ []) x.0 x.1) x.2
+    back (inr x) = by x.0 (Contains-append_cases (take i (texts_of lines)) (line.text ∷ []) x.0 x.1) x.2
 
 -- all lines
-pub later_all : (log : List (List ℕ)) (lines : List Line) (i : ℕ) (has : ℕ → Type 0) → length lines ≤ i
-    → ((q : ℕ) → has q ↔ IsLater log (take i (texts lines)) q) → (q : ℕ) → has q ↔ IsLater log (texts lines) q
+pub later_all : (log : List (List ℕ)) (lines : List Numbered) (i : ℕ) (has : ℕ → Type 0) → length lines ≤ i
+    → ((q : ℕ) → has q ↔ IsLater log (take i (texts_of lines)) q) → (q : ℕ) → has q ↔ IsLater log (texts_of lines) q
 later_all log lines i has l h q = subst (λ (x : List (List ℕ)). has q ↔ IsLater log x q) (texts_all lines i l) (h q)

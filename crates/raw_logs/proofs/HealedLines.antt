@@ -1,32 +1,7 @@
--- A line more is read: what comes behind is read on from there, and the line is counted.
-use Rattle.std.proofs.Common.{
-  ◌≡◌,
-  ◌⊎◌,
-  ℕ,
-  ◌+◌,
-  ◌<◌,
-  ◌≤◌,
-  List,
-  [],
-  ◌∷◌,
-  ◌++◌,
-  length,
-  take,
-  drop,
-  true,
-  Option,
-  Some,
-  None,
-  refl,
-  sym,
-  ap,
-  subst,
-  ◌∙◌,
-  append_assoc,
-  inl,
-  inr,
-  arith,
-}
+-- A line more is read: what comes behind is read on from there, and the line is counted. Texts are made plain as they
+-- come.
+use Rattle.std.proofs.Common.{◌≡◌, ◌⊎◌, ℕ, ◌+◌, ◌<◌, ◌≤◌, List, [], ◌∷◌, ◌++◌, length, take, drop, true, Option, Some, None, refl, sym, ap, subst, ◌∙◌, inl, inr}
+use Rattle.std.proofs.Common.{append_assoc, arith}
 use Rattle.std.proofs.Common.{get_or, take-append-drop}
 use Rattle.std.proofs.lemmas.List.{append-nil, length-append, take_more, get_or-drop, length-drop}
 use Rattle.std.proofs.lemmas.Grind.{get_or_default_zero}
@@ -37,12 +12,15 @@ use Rattle.raw_lines.specs.Marks.{IsMessage, IsStackLine}
 use Rattle.raw_logs.specs.declared.counts.Counts.{Counts}
 use Rattle.raw_logs.specs.declared.counts.Sort.TheVariants.{Messages, Stack}
 use Rattle.raw_logs.specs.Counting.{no_counts, one_more_of, both}
-use Rattle.raw_logs.specs.Log.{Numbered, IsLog, IsUnbroken, IsCutShort, goes_on, Heals, all_healed, heals_message, heals_stack, heals_broken, heals_line}
+use Rattle.raw_logs.specs.Log.{Numbered, IsLog, IsUnbroken, IsCutShort, IsBlank, goes_on, ArePlain, all_plain}
+use Rattle.raw_logs.specs.Log.{Heals, all_healed, heals_message, heals_stack, heals_broken, heals_blank, heals_line}
 use Rattle.std.specs.Prelude.{option_map}
 use Rattle.raw_lines.specs.Marks.{IsUnread, IsBroken}
+use Rattle.raw_logs.specs.declared.healing.Changed.{Changed}
 use Rattle.raw_logs.specs.declared.healing.Healer.{Healer}
-use Rattle.raw_logs.specs.Stages.{numbered, numbered_all, part_of, Takes}
+use Rattle.raw_logs.specs.Stages.{part_line, part_of, MakesSome, Takes}
 use Rattle.raw_logs.proofs.CountSums.{both_more, IsWithin, none_within, more_within, none_before}
+use Rattle.raw_logs.proofs.MadeLines.{made_all, plain_start}
 
 -- ---- the lines of a log
 
@@ -82,17 +60,18 @@ log_cut text none =
 
 -- ---- one line more
 
--- what comes behind these lines is read on from there
-abbrev pub Reads : Option Numbered → Counts → List (List ℕ) → List Numbered → Type 0
-Reads part counts before found = (later : List (List ℕ)) (more : List Numbered) (left : Option Numbered) (c : Counts)
-    → Heals (length before + 1) part later more left c → Heals 1 None (before ++ later) (found ++ more) left (both counts c)
+-- what comes behind these lines is read on from there, and made plain behind these texts
+abbrev pub Reads : Option Numbered → Counts → List (List ℕ) → Changed → Type 0
+Reads part counts before plain = (later : List (List ℕ)) (more : List Numbered) (left : Option Numbered) (c : Counts)
+    → Heals (length before + 1) part later more left c
+    → (texts : List Numbered) × Heals 1 None (before ++ later) texts left (both counts c) × MakesSome ArePlain texts more plain.lines plain.counts
 
 next_number : (before : List (List ℕ)) (text : List ℕ) → length (before ++ (text ∷ [])) + 1 ≡ length before + 1 + 1
 next_number before text = ap (λ (x : ℕ). x + 1) (length-append before (text ∷ []))
 
-read_on : (part next : Option Numbered) (before later : List (List ℕ)) (text : List ℕ) (more : List Numbered) (left : Option Numbered) (c : Counts)
-    → Heals (length (before ++ (text ∷ [])) + 1) next later more left c → Heals (length before + 1 + 1) next later more left c
-read_on part next before later text more left c h = subst (λ (x : ℕ). Heals x next later more left c) (next_number before text) h
+read_on : (part : Option Numbered) (before later : List (List ℕ)) (text : List ℕ) (more : List Numbered) (left : Option Numbered) (c : Counts)
+    → Heals (length (before ++ (text ∷ [])) + 1) part later more left c → Heals (length before + 1 + 1) part later more left c
+read_on part before later text more left c h = subst (λ (x : ℕ). Heals x part later more left c) (next_number before text) h
 
 back : (before later : List (List ℕ)) (text : List ℕ) (texts : List Numbered) (left : Option Numbered) (c d : Counts) → c ≡ d
     → Heals 1 None (before ++ (text ∷ later)) texts left c → Heals 1 None ((before ++ (text ∷ [])) ++ later) texts left d
@@ -101,45 +80,57 @@ back before later text texts left c d e h =
     (subst (λ (x : Counts). Heals 1 None (before ++ (text ∷ later)) texts left x) e h)
 
 -- a message is left out
-pub reads_message : (part : Option Numbered) (counts : Counts) (before : List (List ℕ)) (found : List Numbered) (text : List ℕ) → Reads part counts before found
-    → IsMessage text → Reads part (one_more_of Messages counts) (before ++ (text ∷ [])) found
-reads_message part counts before found text r m = λ later more left c h.
-    back before later text (found ++ more) left (both counts (one_more_of Messages c)) (both (one_more_of Messages counts) c) (both_more Messages counts c)
-    (r (text ∷ later) more left (one_more_of Messages c) (heals_message m (read_on part part before later text more left c h)))
+reads_message : (part : Option Numbered) (counts : Counts) (before : List (List ℕ)) (plain : Changed) (text : List ℕ) → Reads part counts before plain
+    → IsMessage text → Reads part (one_more_of Messages counts) (before ++ (text ∷ [])) plain
+reads_message part counts before plain text r m = λ later more left c h.
+    let k = r (text ∷ later) more left (one_more_of Messages c) (heals_message m (read_on part before later text more left c h)) in
+    (k.0, back before later text k.0 left (both counts (one_more_of Messages c)) (both (one_more_of Messages counts) c) (both_more Messages counts c) k.1, k.2)
 
 -- so is a line of a stack
-pub reads_stack : (part : Option Numbered) (counts : Counts) (before : List (List ℕ)) (found : List Numbered) (text : List ℕ) → Reads part counts before found
-    → (¬ IsMessage text) → IsStackLine text → Reads part (one_more_of Stack counts) (before ++ (text ∷ [])) found
-reads_stack part counts before found text r never m = λ later more left c h.
-    back before later text (found ++ more) left (both counts (one_more_of Stack c)) (both (one_more_of Stack counts) c) (both_more Stack counts c)
-    (r (text ∷ later) more left (one_more_of Stack c) (heals_stack never m (read_on part part before later text more left c h)))
+reads_stack : (part : Option Numbered) (counts : Counts) (before : List (List ℕ)) (plain : Changed) (text : List ℕ) → Reads part counts before plain
+    → (¬ IsMessage text) → IsStackLine text → Reads part (one_more_of Stack counts) (before ++ (text ∷ [])) plain
+reads_stack part counts before plain text r never m = λ later more left c h.
+    let k = r (text ∷ later) more left (one_more_of Stack c) (heals_stack never m (read_on part before later text more left c h)) in
+    (k.0, back before later text k.0 left (both counts (one_more_of Stack c)) (both (one_more_of Stack counts) c) (both_more Stack counts c) k.1, k.2)
 
 -- a line that a message broke waits for its rest
-pub reads_broken : (part : Option Numbered) (counts : Counts) (before : List (List ℕ)) (found : List Numbered) (text front : List ℕ)
-    → Reads part counts before found
-    → IsCutShort text front → Reads (Some (goes_on part (length before + 1) front)) (one_more_of Messages counts) (before ++ (text ∷ [])) found
-reads_broken part counts before found text front r m = λ later more left c h.
-    back before later text (found ++ more) left (both counts (one_more_of Messages c)) (both (one_more_of Messages counts) c) (both_more Messages counts c)
-    (r (text ∷ later) more left (one_more_of Messages c)
-    (heals_broken m (read_on part (Some (goes_on part (length before + 1) front)) before later text more left c h)))
+reads_broken : (part : Option Numbered) (counts : Counts) (before : List (List ℕ)) (plain : Changed) (text front : List ℕ) → Reads part counts before plain
+    → IsCutShort text front → Reads (Some (goes_on part (length before + 1) front)) (one_more_of Messages counts) (before ++ (text ∷ [])) plain
+reads_broken part counts before plain text front r m = λ later more left c h.
+    let k = r (text ∷ later) more left (one_more_of Messages c)
+    (heals_broken m (read_on (Some (goes_on part (length before + 1) front)) before later text more left c h)) in
+    (k.0, back before later text k.0 left (both counts (one_more_of Messages c)) (both (one_more_of Messages counts) c) (both_more Messages counts c) k.1, k.2)
 
--- every other line is a text, behind the part that waited
-pub reads_line : (part : Option Numbered) (counts : Counts) (before : List (List ℕ)) (found : List Numbered) (text : List ℕ) → Reads part counts before found
-    → IsUnbroken text → Reads None counts (before ++ (text ∷ [])) (found ++ (goes_on part (length before + 1) text ∷ []))
-reads_line part counts before found text r m = λ later more left c h.
-    let line = goes_on part (length before + 1) text in
-    back before later text ((found ++ (line ∷ [])) ++ more) left (both counts c) (both counts c) refl
-    (subst (λ (x : List Numbered). Heals 1 None (before ++ (text ∷ later)) x left (both counts c)) (sym (append_assoc found (line ∷ []) more))
-    (r (text ∷ later) (line ∷ more) left c (heals_line m (read_on part None before later text more left c h))))
+-- an empty line is left out
+reads_blank : (part : Option Numbered) (counts : Counts) (before : List (List ℕ)) (plain : Changed) (text : List ℕ) → Reads part counts before plain
+    → IsUnbroken text → IsBlank part text → Reads None counts (before ++ (text ∷ [])) plain
+reads_blank part counts before plain text r u b = λ later more left c h.
+    let k = r (text ∷ later) more left c (heals_blank u b (read_on None before later text more left c h)) in
+    (k.0, back before later text k.0 left (both counts c) (both counts c) refl k.1, k.2)
+
+-- every other line is a text, behind the part that waited, and is made plain
+reads_line : (part : Option Numbered) (counts : Counts) (before : List (List ℕ)) (plain next : Changed) (text : List ℕ) → Reads part counts before plain
+    → IsUnbroken text → (¬ IsBlank part text)
+    → ((all rest : List Numbered) → MakesSome ArePlain all (goes_on part (length before + 1) text ∷ rest) plain.lines plain.counts
+    → MakesSome ArePlain all rest next.lines next.counts) → Reads None counts (before ++ (text ∷ [])) next
+reads_line part counts before plain next text r u b made = λ later more left c h.
+    let k = r (text ∷ later) (goes_on part (length before + 1) text ∷ more) left c (heals_line u b (read_on None before later text more left c h)) in
+    (k.0, back before later text k.0 left (both counts c) (both counts c) refl k.1, made k.0 more k.2)
+
+-- what the lines make, and their plain texts
+abbrev pub MakesPlain : List (List ℕ) → Option Numbered → Counts → Changed → Type 0
+MakesPlain lines part counts plain = (texts : List Numbered) × Heals 1 None lines texts part counts × ArePlain texts plain.lines plain.counts
 
 -- behind the last line
-pub reads_all : (part : Option Numbered) (counts : Counts) (before : List (List ℕ)) (found : List Numbered) → Reads part counts before found → IsWithin counts
-    → Heals 1 None before found part counts
-reads_all part counts before found r w =
-    let h : Heals 1 None (before ++ []) (found ++ []) part (both counts no_counts) = r [] [] part no_counts all_healed in
-    subst (λ (x : Counts). Heals 1 None before found part x) w
-    (subst (λ (x : List (List ℕ)). Heals 1 None x found part (both counts no_counts)) (append-nil before)
-    (subst (λ (x : List Numbered). Heals 1 None (before ++ []) x part (both counts no_counts)) (append-nil found) h))
+reads_all : (part : Option Numbered) (counts : Counts) (before : List (List ℕ)) (plain : Changed) → Reads part counts before plain → IsWithin counts
+    → MakesPlain before part counts plain
+reads_all part counts before plain r w =
+    let k = r [] [] part no_counts all_healed in (
+      k.0,
+      subst (λ (x : Counts). Heals 1 None before k.0 part x) w
+          (subst (λ (x : List (List ℕ)). Heals 1 None x k.0 part (both counts no_counts)) (append-nil before) k.1),
+      made_all ArePlain k.0 plain.lines plain.counts k.2 all_plain,
+    )
 
 -- what is counted is within 32 bits
 heals_within : (number : ℕ) (part : Option Numbered) (lines : List (List ℕ)) (texts : List Numbered) (left : Option Numbered) (c : Counts)
@@ -148,69 +139,101 @@ heals_within number part lines texts left c all_healed = none_within
 heals_within number part lines texts left c (heals_message {counts = k} m h) = more_within Messages k (heals_within _ _ _ _ _ k h)
 heals_within number part lines texts left c (heals_stack {counts = k} never m h) = more_within Stack k (heals_within _ _ _ _ _ k h)
 heals_within number part lines texts left c (heals_broken {counts = k} m h) = more_within Messages k (heals_within _ _ _ _ _ k h)
-heals_within number part lines texts left c (heals_line {counts = k} m h) = heals_within _ _ _ _ _ k h
+heals_within number part lines texts left c (heals_blank {counts = k} m b h) = heals_within _ _ _ _ _ k h
+heals_within number part lines texts left c (heals_line {counts = k} m b h) = heals_within _ _ _ _ _ k h
 
 -- ---- what a healer holds
 
-takes_as : (next : Healer) (before : List (List ℕ)) (part : Option Numbered) (found : List Numbered) (counts : Counts) → part_of next ≡ part
-    → numbered_all next.lines.items ≡ found → next.counts ≡ counts → IsWithin counts → Reads part counts before found → Takes next before
-takes_as next before part found counts e g f w r =
+takes_as : (next : Healer) (before : List (List ℕ)) (part : Option Numbered) (plain : Changed) (counts : Counts) → part_of next ≡ part
+    → next.plain ≡ plain → next.counts ≡ counts → IsWithin counts → Reads part counts before plain → Takes next before
+takes_as next before part plain counts e g f w r =
     record {
       within = subst IsWithin (sym f) w;
-      completes = subst (λ (x : Option Numbered). Reads x next.counts before (numbered_all next.lines.items)) (sym e)
-          (subst (λ (x : Counts). Reads part x before (numbered_all next.lines.items)) (sym f)
-          (subst (λ (x : List Numbered). Reads part counts before x) (sym g) r));
+      completes = subst (λ (x : Option Numbered). Reads x next.counts before next.plain) (sym e)
+          (subst (λ (x : Counts). Reads part x before next.plain) (sym f) (subst (λ (x : Changed). Reads part counts before x) (sym g) r));
     }
 
 -- nothing was read
-pub takes_none : (healer : Healer) → healer.part ≡ None → healer.lines.items ≡ [] → healer.counts ≡ no_counts → Takes healer []
-takes_none healer p l e =
-    takes_as healer [] None [] no_counts (ap (option_map numbered) p) (ap numbered_all l) e none_within (λ later more left c h.
-    subst (λ (x : Counts). Heals 1 None later more left x) (sym (none_before c (heals_within _ _ _ _ _ c h))) h)
+pub takes_none : (healer : Healer) → healer.part ≡ None → healer.plain.lines ≡ [] → healer.plain.counts ≡ no_counts → healer.counts ≡ no_counts
+    → Takes healer []
+takes_none healer p l k e =
+    takes_as healer [] None healer.plain no_counts (ap (option_map part_line) p) refl e none_within (λ later more left c h. (
+      more,
+      subst (λ (x : Counts). Heals 1 None later more left x) (sym (none_before c (heals_within _ _ _ _ _ c h))) h,
+      plain_start more more healer.plain.lines healer.plain.counts refl l k,
+    ))
 
 -- a message was read
 pub takes_message : (healer next : Healer) (before : List (List ℕ)) (text : List ℕ) → Takes healer before → IsMessage text
-    → next.part ≡ healer.part → next.lines ≡ healer.lines → next.counts ≡ one_more_of Messages healer.counts → Takes next (before ++ (text ∷ []))
+    → next.part ≡ healer.part → next.plain ≡ healer.plain → next.counts ≡ one_more_of Messages healer.counts → Takes next (before ++ (text ∷ []))
 takes_message healer next before text t m p l e =
-    takes_as next (before ++ (text ∷ [])) (part_of healer) (numbered_all healer.lines.items) (one_more_of Messages healer.counts)
-    (ap (option_map numbered) p) (ap (λ x. numbered_all x.items) l) e (more_within Messages healer.counts t.within)
-    (reads_message (part_of healer) healer.counts before (numbered_all healer.lines.items) text t.completes m)
+    takes_as next (before ++ (text ∷ [])) (part_of healer) healer.plain (one_more_of Messages healer.counts)
+    (ap (option_map part_line) p) l e (more_within Messages healer.counts t.within)
+    (reads_message (part_of healer) healer.counts before healer.plain text t.completes m)
 
 -- a line of a stack was read
 pub takes_stack : (healer next : Healer) (before : List (List ℕ)) (text : List ℕ) → Takes healer before → (¬ IsMessage text) → IsStackLine text
-    → next.part ≡ healer.part → next.lines ≡ healer.lines → next.counts ≡ one_more_of Stack healer.counts → Takes next (before ++ (text ∷ []))
+    → next.part ≡ healer.part → next.plain ≡ healer.plain → next.counts ≡ one_more_of Stack healer.counts → Takes next (before ++ (text ∷ []))
 takes_stack healer next before text t never m p l e =
-    takes_as next (before ++ (text ∷ [])) (part_of healer) (numbered_all healer.lines.items) (one_more_of Stack healer.counts)
-    (ap (option_map numbered) p) (ap (λ x. numbered_all x.items) l) e (more_within Stack healer.counts t.within)
-    (reads_stack (part_of healer) healer.counts before (numbered_all healer.lines.items) text t.completes never m)
+    takes_as next (before ++ (text ∷ [])) (part_of healer) healer.plain (one_more_of Stack healer.counts)
+    (ap (option_map part_line) p) l e (more_within Stack healer.counts t.within)
+    (reads_stack (part_of healer) healer.counts before healer.plain text t.completes never m)
 
 -- a line was read that a message broke
 pub takes_broken : (healer next : Healer) (before : List (List ℕ)) (number : ℕ) (text front : List ℕ) → Takes healer before → length before + 1 ≡ number
     → (¬ IsMessage text) → (¬ IsStackLine text) → (¬ IsUnread text) → IsBroken text front
-    → part_of next ≡ Some (goes_on (part_of healer) number front) → next.lines ≡ healer.lines
+    → part_of next ≡ Some (goes_on (part_of healer) number front) → next.plain ≡ healer.plain
     → next.counts ≡ one_more_of Messages healer.counts → Takes next (before ++ (text ∷ []))
 takes_broken healer next before number text front t n never ns nu b p l e =
-    takes_as next (before ++ (text ∷ [])) (Some (goes_on (part_of healer) (length before + 1) front)) (numbered_all healer.lines.items)
+    takes_as next (before ++ (text ∷ [])) (Some (goes_on (part_of healer) (length before + 1) front)) healer.plain
     (one_more_of Messages healer.counts)
-    (p ∙ ap (λ (x : ℕ). Some (goes_on (part_of healer) x front)) (sym n)) (ap (λ x. numbered_all x.items) l) e (more_within Messages healer.counts t.within)
-    (reads_broken (part_of healer) healer.counts before (numbered_all healer.lines.items) text front t.completes
+    (p ∙ ap (λ (x : ℕ). Some (goes_on (part_of healer) x front)) (sym n)) l e (more_within Messages healer.counts t.within)
+    (reads_broken (part_of healer) healer.counts before healer.plain text front t.completes
     (record { no_message = never; no_stack = ns; no_mark = nu; broken = b }))
+
+-- an empty line was read
+pub takes_blank : (healer : Healer) (before : List (List ℕ)) (text : List ℕ) → Takes healer before → (¬ IsMessage text) → (¬ IsStackLine text)
+    → ((front : List ℕ) → ¬ IsBroken text front) → IsBlank (part_of healer) text → Takes healer (before ++ (text ∷ []))
+takes_blank healer before text t never ns nb b =
+    takes_as healer (before ++ (text ∷ [])) None healer.plain healer.counts b.0 refl refl t.within
+    (reads_blank (part_of healer) healer.counts before healer.plain text t.completes (record { no_message = never; no_stack = ns; whole = inr nb }) b)
 
 -- every other line was read
 pub takes_line : (healer next : Healer) (before : List (List ℕ)) (number : ℕ) (text : List ℕ) → Takes healer before → length before + 1 ≡ number
-    → (¬ IsMessage text) → (¬ IsStackLine text) → IsUnread text ⊎ ((front : List ℕ) → ¬ IsBroken text front)
-    → numbered_all next.lines.items ≡ numbered_all healer.lines.items ++ (goes_on (part_of healer) number text ∷ [])
+    → (¬ IsMessage text) → (¬ IsStackLine text) → IsUnread text ⊎ ((front : List ℕ) → ¬ IsBroken text front) → (¬ IsBlank (part_of healer) text)
+    → ((all rest : List Numbered)
+    → MakesSome ArePlain all (goes_on (part_of healer) number text ∷ rest) healer.plain.lines healer.plain.counts
+    → MakesSome ArePlain all rest next.plain.lines next.plain.counts)
     → part_of next ≡ None → next.counts ≡ healer.counts → Takes next (before ++ (text ∷ []))
-takes_line healer next before number text t n never ns whole l p e =
-    takes_as next (before ++ (text ∷ [])) None (numbered_all healer.lines.items ++ (goes_on (part_of healer) (length before + 1) text ∷ [])) healer.counts
-    p (l ∙ ap (λ (x : ℕ). numbered_all healer.lines.items ++ (goes_on (part_of healer) x text ∷ [])) (sym n)) e t.within
-    (reads_line (part_of healer) healer.counts before (numbered_all healer.lines.items) text t.completes
-    (record { no_message = never; no_stack = ns; whole = whole }))
+takes_line healer next before number text t n never ns whole filled made p e =
+    takes_as next (before ++ (text ∷ [])) None next.plain healer.counts p refl e t.within
+    (reads_line (part_of healer) healer.counts before healer.plain next.plain text t.completes
+    (record { no_message = never; no_stack = ns; whole = whole }) filled
+    (λ all rest h. made all rest
+    (subst (λ (x : ℕ). MakesSome ArePlain all (goes_on (part_of healer) x text ∷ rest) healer.plain.lines healer.plain.counts) n h)))
+
+-- a text that goes on is made plain
+pub kept_made : (part : Option Numbered) (number : ℕ) (text : List ℕ) (line : Numbered) (old middle next : Changed) → line ≡ goes_on part number text
+    → middle ≡ old
+    → ((all rest : List Numbered) → MakesSome ArePlain all (line ∷ rest) middle.lines middle.counts → MakesSome ArePlain all rest next.lines next.counts)
+    → (all rest : List Numbered) → MakesSome ArePlain all (goes_on part number text ∷ rest) old.lines old.counts
+    → MakesSome ArePlain all rest next.lines next.counts
+kept_made part number text line old middle next e f made all rest h =
+    made all rest (subst (λ (x : Changed). MakesSome ArePlain all (line ∷ rest) x.lines x.counts) (sym f)
+    (subst (λ (x : Numbered). MakesSome ArePlain all (x ∷ rest) old.lines old.counts) (sym e) h))
+
+abbrev filled : List ℕ → Type 0
+filled [] = ⊥
+filled (byte ∷ text) = Unit {0}
+
+-- a line with the mark isn't empty
+pub unread_filled : (part : Option Numbered) (text : List ℕ) → IsUnread text → ¬ IsBlank part text
+unread_filled part text u b = subst filled (sym u.1 ∙ b.1) tt
 
 -- all lines were read
 pub takes_all : (healer : Healer) (whole rest : List ℕ) (before : List (List ℕ)) → Takes healer before → lines_of whole ≡ before ++ lines_of rest
-    → rest ≡ [] → Heals 1 None (lines_of whole) (numbered_all healer.lines.items) (part_of healer) healer.counts
+    → rest ≡ [] → MakesPlain (lines_of whole) (part_of healer) healer.counts healer.plain
 takes_all healer whole rest before t e none =
     let same : before ≡ lines_of whole = sym (e ∙ ap (λ (x : List ℕ). before ++ lines_of x) none ∙ append-nil before) in
-    subst (λ (x : List (List ℕ)). Heals 1 None x (numbered_all healer.lines.items) (part_of healer) healer.counts) same
-    (reads_all (part_of healer) healer.counts before (numbered_all healer.lines.items) t.completes t.within)
+    subst (λ (x : List (List ℕ)). MakesPlain x (part_of healer) healer.counts healer.plain) same
+    (reads_all (part_of healer) healer.counts before healer.plain t.completes t.within)

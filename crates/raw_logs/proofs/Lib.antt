@@ -1,4 +1,5 @@
 pub mod AttachedLines
+pub mod BufferFacts
 pub mod CleanLogs
 pub mod CountSums
 pub mod Decided

@@ -1,33 +1,26 @@
 -- Lines that are made one by one, and counted where they change: what the rest makes, behind those that are made, is
 -- made of all. Each step hands it on from the rest with a line more to the rest without it.
-use Rattle.std.proofs.Common.{◌≡◌, ℕ, suc, ◌≤◌, List, [], ◌∷◌, ◌++◌, length, Bool, true, Option, Some, None, refl, sym, ap, subst, append_assoc, inl, inr}
-use Rattle.std.proofs.Common.{arith}
-use Rattle.std.proofs.lemmas.List.{append-nil}
-use Rattle.std.specs.Bool.{Decides}
-use Rattle.std.specs.Prelude.{All}
-use Rattle.strace_reader.specs.Grammar.{IsCut}
-use Rattle.strace_reader.proofs.FormFacts.{cut_same}
-use Rattle.raw_lines.specs.Marks.{IsUnread}
+use Rattle.std.proofs.Common.{◌≡◌, ◌≢◌, ℕ, ◌+◌, List, [], ◌∷◌, ◌++◌, length, Bool, true, false, not, eqb, refl, sym, ap, subst, ◌∙◌, append_assoc}
+use Rattle.std.specs.Prelude.{if◌then◌else◌}
+use Rattle.std.proofs.lemmas.Bool.{eqb-true, eq-eqb}
+use Rattle.std.proofs.lemmas.List.{append-nil, length-append}
+use Rattle.raw_lines.specs.Plain.{IsPlain}
 use Rattle.raw_logs.specs.declared.counts.Counts.{Counts}
-use Rattle.raw_logs.specs.declared.line.Line.{Line}
 use Rattle.raw_logs.specs.declared.counts.Sort.{Sort}
-use Rattle.raw_logs.specs.declared.counts.Sort.TheVariants.{Stripped, Elsewhere, Numbered as OfNumbered}
+use Rattle.raw_logs.specs.declared.counts.Sort.TheVariants.{Stripped, Numbered as OfNumbered}
 use Rattle.raw_logs.specs.declared.numbering.Numbering.{Numbering}
 use Rattle.raw_logs.specs.declared.numbering.Numbering.TheVariants.{AsPrinted}
 use Rattle.raw_logs.specs.Counting.{no_counts, one_more_of, both}
-use Rattle.raw_logs.specs.Log.{Numbered, ArePlain, all_plain, plain_stays, plain_changes}
-use Rattle.raw_logs.specs.Numbering.{AreNumbered, all_numbered, number_stays, number_changes}
-use Rattle.raw_logs.specs.Stages.{numbered, numbered_all, MakesSome, changed_text, counted_if, BecomesPlain, BecomesNumbered}
+use Rattle.raw_logs.specs.Log.{Numbered, line_of, ArePlain, all_plain, plain_stays, plain_changes}
+use Rattle.raw_logs.specs.Numbering.{ChangesNumber, AreNumbered, all_numbered, number_stays, number_changes}
+use Rattle.raw_logs.specs.Stages.{MakesSome}
 use Rattle.raw_logs.proofs.CountSums.{IsWithin, both_more, none_within, more_within, none_before}
+use Rattle.raw_logs.proofs.Following.{not_both}
+use Rattle.raw_logs.proofs.PlainTexts.{plain_long}
 
 -- what lines make
 abbrev pub Making : Type 1
 Making = List Numbered → List Numbered → Counts → Type 0
-
--- a list without items is empty
-pub nothing_left : {A : Type 0} (items : List A) (count : ℕ) → count ≡ length items → count ≡ 0 → items ≡ []
-nothing_left [] count e f = refl
-nothing_left (x ∷ items) count e f = absurd (omega arith)
 
 -- ---- any step
 
@@ -55,19 +48,6 @@ made_counted Makes all rest done next line other sort counts more_counts h step 
       completes = λ more c r. subst (λ (x : Counts). Makes all ((done ++ (other ∷ [])) ++ more) x) (both_more sort counts c)
           (subst (λ (x : List Numbered). Makes all x (both counts (one_more_of sort c))) (sym (append_assoc done (other ∷ []) more))
           (h.completes (other ∷ more) (one_more_of sort c) (step more c r)));
-      within = more_within sort counts h.within;
-    }))
-
--- a line is left out, and counted
-pub made_none : (Makes : Making) (all rest done next : List Numbered) (line : Numbered) (sort : Sort) (counts more_counts : Counts)
-    → MakesSome Makes all (line ∷ rest) done counts
-    → ((more : List Numbered) (c : Counts) → Makes rest more c → Makes (line ∷ rest) more (one_more_of sort c))
-    → next ≡ done → more_counts ≡ one_more_of sort counts → MakesSome Makes all rest next more_counts
-made_none Makes all rest done next line sort counts more_counts h step e f =
-    subst (λ (x : Counts). MakesSome Makes all rest next x) (sym f)
-    (subst (λ (x : List Numbered). MakesSome Makes all rest x (one_more_of sort counts)) (sym e) (record {
-      completes = λ more c r. subst (λ (x : Counts). Makes all (done ++ more) x) (both_more sort counts c)
-          (h.completes more (one_more_of sort c) (step more c r));
       within = more_within sort counts h.within;
     }))
 
@@ -105,20 +85,25 @@ start Makes all rest done counts w g e f =
 pub plain_start : (all rest done : List Numbered) (counts : Counts) → rest ≡ all → done ≡ [] → counts ≡ no_counts → MakesSome ArePlain all rest done counts
 plain_start all rest done counts g e f = start ArePlain all rest done counts (λ more c r. plain_within all more c r) g e f
 
--- a line is made plain
-pub plain_added : (number : ℕ) (shown text : List ℕ) (other : Option (List ℕ)) (all rest done next : List Numbered) (counts more_counts : Counts)
-    → MakesSome ArePlain all (record { number = number; text = text } ∷ rest) done counts → shown ≡ text → BecomesPlain shown other
-    → next ≡ done ++ (record { number = number; text = changed_text text other } ∷ []) → more_counts ≡ counted_if Stripped other counts
-    → MakesSome ArePlain all rest next more_counts
-plain_added number shown text None all rest done next counts more_counts h same q e f =
-    let p : BecomesPlain text None = subst (λ (x : List ℕ). BecomesPlain x None) same q in
-    let line : Numbered = record { number = number; text = text } in
-    made_as_is ArePlain all rest done next line line counts more_counts h (λ more c r. plain_stays p r) e f
-plain_added number shown text (Some other) all rest done next counts more_counts h same q e f =
-    let p : BecomesPlain text (Some other) = subst (λ (x : List ℕ). BecomesPlain x (Some other)) same q in
-    let line : Numbered = record { number = number; text = text } in
-    let changed : Numbered = record { number = number; text = other } in
-    made_counted ArePlain all rest done next line changed Stripped counts more_counts h (λ more c r. plain_changes p.0 p.1 r) e f
+-- a text is made plain
+pub plain_added : (number : ℕ) (text front end : List ℕ) (changes : Bool) (all rest done next : List Numbered) (counts more_counts : Counts)
+    → MakesSome ArePlain all (line_of number text ∷ rest) done counts → IsPlain text (front ++ end)
+    → changes ≡ not (eqb (length front + length end) (length text)) → next ≡ done ++ (line_of number (front ++ end) ∷ [])
+    → more_counts ≡ (if changes then one_more_of Stripped counts else counts) → MakesSome ArePlain all rest next more_counts
+plain_added number text front end changes all rest done next counts more_counts h p c e f = by (eqb (length front + length end) (length text)) refl
+  where
+    by : (same : Bool) → eqb (length front + length end) (length text) ≡ same → MakesSome ArePlain all rest next more_counts
+    by true same =
+        let is : front ++ end ≡ text = plain_long text (front ++ end) p (length-append front end ∙ eqb-true _ _ same) in
+        let stays : IsPlain text text = subst (IsPlain text) is p in
+        made_as_is ArePlain all rest done next (line_of number text) (line_of number text) counts more_counts h (λ more k r. plain_stays stays r)
+        (e ∙ ap (λ (x : List ℕ). done ++ (line_of number x ∷ [])) is)
+        (f ∙ ap (λ (b : Bool). if b then one_more_of Stripped counts else counts) (c ∙ ap not same))
+    by false same =
+        let other : front ++ end ≢ text = λ is. not_both _ (eq-eqb _ _ (sym (length-append front end) ∙ ap length is)) same in
+        made_counted ArePlain all rest done next (line_of number text) (line_of number (front ++ end)) Stripped counts more_counts h
+        (λ more k r. plain_changes p other r) e
+        (f ∙ ap (λ (b : Bool). if b then one_more_of Stripped counts else counts) (c ∙ ap not same))
 
 -- all lines are plain
 pub plain_end : (all rest done : List Numbered) (counts : Counts) → MakesSome ArePlain all rest done counts → rest ≡ [] → ArePlain all done counts
@@ -138,22 +123,21 @@ pub numbered_start : (numbering : Numbering) (all rest done : List Numbered) (co
 numbered_start numbering all rest done counts g e f =
     start (AreNumbered numbering) all rest done counts (λ more c r. numbered_within numbering all more c r) g e f
 
--- a line has its number
-pub numbered_added : (numbering : Numbering) (number : ℕ) (shown text : List ℕ) (other : Option (List ℕ)) (all rest done next : List Numbered)
-    (counts more_counts : Counts)
-    → MakesSome (AreNumbered numbering) all (record { number = number; text = text } ∷ rest) done counts → shown ≡ text
-    → BecomesNumbered numbering shown other
-    → next ≡ done ++ (record { number = number; text = changed_text text other } ∷ []) → more_counts ≡ counted_if OfNumbered other counts
-    → MakesSome (AreNumbered numbering) all rest next more_counts
-numbered_added numbering number shown text None all rest done next counts more_counts h same q e f =
-    let p : BecomesNumbered numbering text None = subst (λ (x : List ℕ). BecomesNumbered numbering x None) same q in
-    let line : Numbered = record { number = number; text = text } in
-    made_as_is (AreNumbered numbering) all rest done next line line counts more_counts h (λ more c r. number_stays p r) e f
-numbered_added numbering number shown text (Some other) all rest done next counts more_counts h same q e f =
-    let p : BecomesNumbered numbering text (Some other) = subst (λ (x : List ℕ). BecomesNumbered numbering x (Some other)) same q in
-    let line : Numbered = record { number = number; text = text } in
-    let changed : Numbered = record { number = number; text = other } in
-    made_counted (AreNumbered numbering) all rest done next line changed OfNumbered counts more_counts h (λ more c r. number_changes p r) e f
+-- a text keeps its number
+pub number_kept : (numbering : Numbering) (number : ℕ) (text : List ℕ) (all rest done next : List Numbered) (counts more_counts : Counts)
+    → MakesSome (AreNumbered numbering) all (line_of number text ∷ rest) done counts → ((line : List ℕ) → ¬ ChangesNumber numbering text line)
+    → next ≡ done ++ (line_of number text ∷ []) → more_counts ≡ counts → MakesSome (AreNumbered numbering) all rest next more_counts
+number_kept numbering number text all rest done next counts more_counts h p e f =
+    made_as_is (AreNumbered numbering) all rest done next (line_of number text) (line_of number text) counts more_counts h
+    (λ more k r. number_stays p r) e f
+
+-- a text gets another
+pub number_changed : (numbering : Numbering) (number : ℕ) (text line : List ℕ) (all rest done next : List Numbered) (counts more_counts : Counts)
+    → MakesSome (AreNumbered numbering) all (line_of number text ∷ rest) done counts → ChangesNumber numbering text line
+    → next ≡ done ++ (line_of number line ∷ []) → more_counts ≡ one_more_of OfNumbered counts → MakesSome (AreNumbered numbering) all rest next more_counts
+number_changed numbering number text line all rest done next counts more_counts h p e f =
+    made_counted (AreNumbered numbering) all rest done next (line_of number text) (line_of number line) OfNumbered counts more_counts h
+    (λ more k r. number_changes p r) e f
 
 -- all lines have their numbers
 pub numbered_end : (numbering : Numbering) (all rest done : List Numbered) (counts : Counts) → MakesSome (AreNumbered numbering) all rest done counts
@@ -165,13 +149,6 @@ numbered_end numbering all rest done counts h e =
 pub numbers_stay : (all : List Numbered) → AreNumbered AsPrinted all all no_counts
 numbers_stay [] = all_numbered
 numbers_stay (line ∷ all) = number_stays (λ other never. never) (numbers_stay all)
-
--- ---- lines
-
--- a line more as its number and its text
-pub numbered_more : (lines : List Line) (line : Line) → numbered_all (lines ++ (line ∷ [])) ≡ numbered_all lines ++ (numbered line ∷ [])
-numbered_more [] line = refl
-numbered_more (x ∷ lines) line = ap (λ (z : List Numbered). numbered x ∷ z) (numbered_more lines line)
 
 -- a log whose numbers stay
 pub numbers_as : (numbering : Numbering) (all : List Numbered) (counts : Counts) → numbering ≡ AsPrinted → counts ≡ no_counts

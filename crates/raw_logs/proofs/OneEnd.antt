@@ -1,6 +1,6 @@
 -- That a log ends within a line is told in one way: its lines, what was cut off behind them and what a message left of
 -- a line are the same however they are told.
-use Rattle.std.proofs.Common.{◌≡◌, ℕ, List, [], Bool, true, false, Option, None, refl, sym, subst, ◌∙◌}
+use Rattle.std.proofs.Common.{◌≡◌, ℕ, List, Bool, true, false, None, refl, sym, subst, ◌∙◌}
 use Rattle.raw_logs.specs.Log.{Heals}
 use Rattle.raw_logs.specs.Reading.{EndsCut}
 use Rattle.raw_logs.proofs.OneLog.{log_one, heals_one}

@@ -1,7 +1,7 @@
 -- A log is read in one way: each stage gives one result.
-use Rattle.std.proofs.Common.{◌≡◌, ◌⊎◌, ℕ, suc, ◌+◌, List, [], ◌∷◌, ◌++◌, Bool, Option, Some, None, refl, sym, ap, subst, ◌∙◌, append_assoc, codes, inl, inr}
+use Rattle.std.proofs.Common.{◌≡◌, ◌⊎◌, ℕ, suc, ◌+◌, List, [], ◌∷◌, ◌++◌, Option, Some, None, refl, sym, ap, subst, ◌∙◌, append_assoc, codes, inl, inr}
 use Rattle.std.proofs.Common.{arith}
-use Rattle.std.specs.Prelude.{◌==◌, Contains, option_to_list}
+use Rattle.std.specs.Prelude.{◌==◌, Contains}
 use Rattle.std.proofs.lemmas.Bool.{eqb-true}
 use Rattle.std.proofs.lemmas.List.{append_cancel_left}
 use Rattle.line_parts.specs.Lines.{lines_of}
@@ -16,7 +16,7 @@ use Rattle.raw_logs.specs.declared.counts.Sort.TheVariants.{Messages, Stack, Str
 use Rattle.raw_logs.specs.declared.numbering.Numbering.{Numbering}
 use Rattle.raw_logs.specs.declared.numbering.Numbering.TheVariants.{AsPrinted, Plain}
 use Rattle.raw_logs.specs.Counting.{one_more_of, both}
-use Rattle.raw_logs.specs.Log.{Numbered, IsLog, goes_on, Heals, all_healed, heals_message, heals_stack, heals_broken, heals_line}
+use Rattle.raw_logs.specs.Log.{Numbered, IsLog, IsUnbroken, IsCutShort, goes_on, Heals, all_healed, heals_message, heals_stack, heals_broken, heals_blank, heals_line}
 use Rattle.raw_logs.specs.Log.{ArePlain, all_plain, plain_stays, plain_changes}
 use Rattle.raw_logs.specs.Numbering.{IsLater, IsStart, StartsAt, IsFirstThread, IsRoot, IsNumbering, LosesBrackets, GetsNumber, ChangesNumber, with_number}
 use Rattle.raw_logs.specs.Numbering.{AreNumbered, all_numbered, number_stays, number_changes}
@@ -65,6 +65,13 @@ log_one bytes lines more cut over h g =
 abbrev pub SameTexts : List Numbered → List Numbered → Option Numbered → Option Numbered → Counts → Counts → Type 0
 SameTexts a b x y m n = (a ≡ b) × (x ≡ y) × (m ≡ n)
 
+-- a line that no message broke wasn't broken by one
+whole_or_broken : (line front : List ℕ) → IsUnbroken line → IsCutShort line front → ⊥
+whole_or_broken line front h g = elim h.whole [
+  | inl u ↦ g.no_mark u
+  | inr w ↦ w front g.broken
+]
+
 -- lines have one text each
 pub heals_one : (number : ℕ) (part : Option Numbered) (lines : List (List ℕ)) (a b : List Numbered) (x y : Option Numbered) (m n : Counts)
     → Heals number part lines a x m → Heals number part lines b y n → SameTexts a b x y m n
@@ -73,12 +80,14 @@ heals_one number part lines a b x y m n (heals_message {lines = l} {counts = c} 
     let r = heals_one (number + 1) part l a b x y c d more other in (r.0, r.1, ap (one_more_of Messages) r.2)
 heals_one number part lines a b x y m n (heals_message h more) (heals_stack never g other) = absurd (never h)
 heals_one number part lines a b x y m n (heals_message h more) (heals_broken g other) = absurd (g.no_message h)
-heals_one number part lines a b x y m n (heals_message h more) (heals_line g other) = absurd (g.no_message h)
+heals_one number part lines a b x y m n (heals_message h more) (heals_blank g e other) = absurd (g.no_message h)
+heals_one number part lines a b x y m n (heals_message h more) (heals_line g e other) = absurd (g.no_message h)
 heals_one number part lines a b x y m n (heals_stack never h more) (heals_message g other) = absurd (never g)
 heals_one number part lines a b x y m n (heals_stack {lines = l} {counts = c} never h more) (heals_stack {counts = d} none g other) =
     let r = heals_one (number + 1) part l a b x y c d more other in (r.0, r.1, ap (one_more_of Stack) r.2)
 heals_one number part lines a b x y m n (heals_stack never h more) (heals_broken g other) = absurd (g.no_stack h)
-heals_one number part lines a b x y m n (heals_stack never h more) (heals_line g other) = absurd (g.no_stack h)
+heals_one number part lines a b x y m n (heals_stack never h more) (heals_blank g e other) = absurd (g.no_stack h)
+heals_one number part lines a b x y m n (heals_stack never h more) (heals_line g e other) = absurd (g.no_stack h)
 heals_one number part lines a b x y m n (heals_broken h more) (heals_message g other) = absurd (h.no_message g)
 heals_one number part lines a b x y m n (heals_broken h more) (heals_stack never g other) = absurd (h.no_stack g)
 heals_one number part lines a b x y m n (heals_broken {line =
@@ -87,17 +96,19 @@ heals_one number part lines a b x y m n (heals_broken {line =
     let r = heals_one (number + 1) (Some (goes_on part number f)) l a b x y c d more
     (subst (λ (z : List ℕ). Heals (number + 1) (Some (goes_on part number z)) l b y d) s other) in
     (r.0, r.1, ap (one_more_of Messages) r.2)
-heals_one number part lines a b x y m n (heals_broken {front = f} h more) (heals_line g other) = elim g.whole [
-  | inl u ↦ absurd (h.no_mark u)
-  | inr w ↦ absurd (w f h.broken)
-]
-heals_one number part lines a b x y m n (heals_line h more) (heals_message g other) = absurd (h.no_message g)
-heals_one number part lines a b x y m n (heals_line h more) (heals_stack never g other) = absurd (h.no_stack g)
-heals_one number part lines a b x y m n (heals_line h more) (heals_broken {front = f} g other) = elim h.whole [
-  | inl u ↦ absurd (g.no_mark u)
-  | inr w ↦ absurd (w f g.broken)
-]
-heals_one number part lines a b x y m n (heals_line {line = line} {lines = l} {texts = t} h more) (heals_line {texts = u} g other) =
+heals_one number part lines a b x y m n (heals_broken {line = line} {front = f} h more) (heals_blank g e other) = absurd (whole_or_broken line f g h)
+heals_one number part lines a b x y m n (heals_broken {line = line} {front = f} h more) (heals_line g e other) = absurd (whole_or_broken line f g h)
+heals_one number part lines a b x y m n (heals_blank h e more) (heals_message g other) = absurd (h.no_message g)
+heals_one number part lines a b x y m n (heals_blank h e more) (heals_stack never g other) = absurd (h.no_stack g)
+heals_one number part lines a b x y m n (heals_blank {line = line} h e more) (heals_broken {front = f} g other) = absurd (whole_or_broken line f h g)
+heals_one number part lines a b x y m n (heals_blank {lines = l} {counts = c} h e more) (heals_blank {counts = d} g f other) =
+    heals_one (number + 1) None l a b x y c d more other
+heals_one number part lines a b x y m n (heals_blank h e more) (heals_line g f other) = absurd (f e)
+heals_one number part lines a b x y m n (heals_line h e more) (heals_message g other) = absurd (h.no_message g)
+heals_one number part lines a b x y m n (heals_line h e more) (heals_stack never g other) = absurd (h.no_stack g)
+heals_one number part lines a b x y m n (heals_line {line = line} h e more) (heals_broken {front = f} g other) = absurd (whole_or_broken line f h g)
+heals_one number part lines a b x y m n (heals_line h e more) (heals_blank g f other) = absurd (e f)
+heals_one number part lines a b x y m n (heals_line {line = line} {lines = l} {texts = t} h e more) (heals_line {texts = u} g f other) =
     let r = heals_one (number + 1) None l t u x y m n more other in
     (ap (λ (z : List Numbered). goes_on part number line ∷ z) r.0, r.1, r.2)
 

@@ -1,54 +1,47 @@
 -- A whole log: it is read in the stages that the code has.
-use Rattle.std.proofs.Common.{◌≡◌, ◌⊎◌, ℕ, ◌+◌, ◌≤◌, Bool, true, false, List, [], ◌∷◌, ◌++◌, length, reverse, map, Option, Some, None, refl, sym, ap, subst}
-use Rattle.std.proofs.Common.{◌∙◌, inl, inr, arith}
-use Rattle.std.specs.Prelude.{IfOk, Result, Ok, Err, if◌then◌else◌}
-use Rattle.std.proofs.lemmas.List.{length-map}
+use Rattle.std.proofs.Common.{◌≡◌, ℕ, Bool, false, List, [], length, Option, Some, None, sym, ap}
+use Rattle.std.proofs.Common.{◌∙◌}
+use Rattle.std.specs.Prelude.{if◌then◌else◌}
 use Rattle.raw_logs.specs.declared.spaces.Made.{Made}
 use Rattle.line_parts.specs.Lines.{lines_of}
 use Rattle.raw_logs.specs.declared.choosing.Picker.{Picker}
 use Rattle.raw_logs.specs.declared.counts.Counts.{Counts}
 use Rattle.raw_logs.specs.declared.fault.LogFault.{LogFault}
-use Rattle.raw_logs.specs.declared.fault.LogFault.TheVariants.{LongLine, NoProcess, Memory}
-use Rattle.raw_logs.specs.declared.line.Line.{Line}
+use Rattle.raw_logs.specs.declared.fault.LogFault.TheVariants.{NoProcess}
 use Rattle.raw_logs.specs.declared.numbering.Numbering.{Numbering}
 use Rattle.raw_logs.specs.declared.told.Told.{Told}
 use Rattle.raw_logs.specs.Choosing.{Picked, picked, with_silent, picked_of, fault_of, long_fault}
 use Rattle.raw_logs.specs.Counting.{within_32_bits, both}
 use Rattle.raw_logs.specs.Log.{Numbered, texts_of, IsLog, Heals, ArePlain}
 use Rattle.raw_logs.specs.Numbering.{IsNumbering, AreNumbered}
-use Rattle.raw_logs.specs.Reading.{IsNumberedLog, IsRead, AreTexts, IsFirstUnknown, IsLogFault, EndsCut}
-use Rattle.raw_logs.specs.Stages.{numbered, numbered_all, texts, seen}
+use Rattle.raw_logs.specs.Reading.{IsNumberedLog, IsRead, EndsCut}
+use Rattle.raw_logs.specs.Stages.{seen}
 use Rattle.raw_logs.specs.Spaces.{made_from, has_line, silent}
 use Rattle.raw_logs.specs.Told.{AreTold}
 use Rattle.raw_logs.proofs.ToldFacts.{told_length}
 
--- texts of numbered lines are those of the lines
-pub same_texts : (lines : List Line) → texts_of (numbered_all lines) ≡ texts lines
-same_texts [] = refl
-same_texts (line ∷ lines) = ap (λ (x : List (List ℕ)). line.text.items ∷ x) (same_texts lines)
-
 -- ---- the stages of the reading
 
 -- what the stages make of a log
-abbrev pub numbered_log : (bytes whole cut : List ℕ) (healed_texts : List Numbered) (left : Option Numbered) (healed stripped renumbered counts : Counts)
-    (numbering : Numbering) (plains shown lines : List Line) → IsLog bytes (lines_of whole) cut → Heals 1 None (lines_of whole) healed_texts left healed
-    → ArePlain healed_texts (numbered_all plains) stripped → shown ≡ plains → IsNumbering (lines_of whole) (texts shown) numbering
-    → AreNumbered numbering (numbered_all plains) (numbered_all lines) renumbered → counts ≡ both healed (both stripped renumbered)
-    → IsNumberedLog bytes (numbered_all lines) counts
-numbered_log bytes whole cut healed_texts left healed stripped renumbered counts numbering plains shown lines log heals plain e numbered numbers sum =
+abbrev pub numbered_log : (bytes whole cut : List ℕ) (left : Option Numbered) (healed stripped renumbered counts : Counts)
+    (numbering : Numbering) (plains lines : List Numbered) → IsLog bytes (lines_of whole) cut
+    → (texts : List Numbered) × Heals 1 None (lines_of whole) texts left healed × ArePlain texts plains stripped
+    → IsNumbering (lines_of whole) (texts_of plains) numbering → AreNumbered numbering plains lines renumbered
+    → counts ≡ both healed (both stripped renumbered) → IsNumberedLog bytes lines counts
+numbered_log bytes whole cut left healed stripped renumbered counts numbering plains lines log heals numbered numbers sum =
     record {
       lines = lines_of whole;
       cut = cut;
       log = log;
-      texts = healed_texts;
+      texts = heals.0;
       left = left;
       healed = healed;
-      heals = heals;
-      plains = numbered_all plains;
+      heals = heals.1;
+      plains = plains;
       stripped = stripped;
-      plain = plain;
+      plain = heals.2;
       numbering = numbering;
-      numbered = subst (λ (x : List (List ℕ)). IsNumbering (lines_of whole) x numbering) (ap (λ (x : List Line). texts x) e ∙ sym (same_texts plains)) numbered;
+      numbered = numbered;
       renumbered = renumbered;
       numbers = numbers;
       sum = sum;
@@ -72,17 +65,17 @@ ends_cut bytes whole cut healed_texts left healed ends log heals none some_left 
     }
 
 -- what was picked, with the counts of the stages before
-abbrev pub found_of : Counts → Picker → Picked
-found_of before picker = let p = seen picker in record p { counts = both before p.counts }
+abbrev pub found_of : Counts → List Numbered → Picker → Picked
+found_of before kept picker = let p = seen kept picker in record p { counts = both before p.counts }
 
 -- what was picked of a log is how it is read
-pub read_so : (process : Option ℕ) (bytes : List ℕ) (lines : List Line) (before : Counts) (picker : Picker) (fault : Option LogFault)
-    → IsNumberedLog bytes (numbered_all lines) before → (tolds : List Told) → AreTold (numbered_all lines) tolds
-    → seen picker ≡ picked_of process (numbered_all lines) tolds → fault ≡ fault_of process tolds picker.too_long
-    → IsRead process bytes (found_of before picker) fault
-read_so process bytes lines before picker fault n tolds told is f =
+pub read_so : (process : Option ℕ) (bytes : List ℕ) (lines kept : List Numbered) (before : Counts) (picker : Picker) (fault : Option LogFault)
+    → IsNumberedLog bytes lines before → (tolds : List Told) → AreTold lines tolds
+    → seen kept picker ≡ picked_of process lines tolds → fault ≡ fault_of process tolds picker.too_long
+    → IsRead process bytes (found_of before kept picker) fault
+read_so process bytes lines kept before picker fault n tolds told is f =
     record {
-      whole = numbered_all lines;
+      whole = lines;
       before = before;
       numbered = n;
       tolds = tolds;
@@ -92,18 +85,18 @@ read_so process bytes lines before picker fault n tolds told is f =
     }
 
 -- what is picked by who made whom is what is picked of a log
-pub pick_is : (process : Option ℕ) (lines : List Line) (made : List Made) (count without : ℕ) (old new : Picked) (tolds : List Told)
-    → AreTold (numbered_all lines) tolds → made ≡ made_from 0 tolds → count ≡ length lines
-    → old ≡ picked (has_line process made count) 0 (numbered_all lines) tolds → without ≡ within_32_bits (silent made tolds)
-    → new ≡ with_silent without old → (x : List Told) × AreTold (numbered_all lines) x × (new ≡ picked_of process (numbered_all lines) x)
+pub pick_is : (process : Option ℕ) (lines : List Numbered) (made : List Made) (count without : ℕ) (old new : Picked) (tolds : List Told)
+    → AreTold lines tolds → made ≡ made_from 0 tolds → count ≡ length lines
+    → old ≡ picked (has_line process made count) 0 lines tolds → without ≡ within_32_bits (silent made tolds)
+    → new ≡ with_silent without old → (x : List Told) × AreTold lines x × (new ≡ picked_of process lines x)
 pick_is process lines made count without old new tolds t m n h k e = (
   tolds,
   t,
   e ∙ ap (λ (x : ℕ). with_silent x old) (k ∙ ap (λ (x : List Made). within_32_bits (silent x tolds)) m)
       ∙ ap (with_silent (within_32_bits (silent (made_from 0 tolds) tolds)))
-      (h ∙ ap (λ (x : List Made). picked (has_line process x count) 0 (numbered_all lines) tolds) m
-      ∙ ap (λ (x : ℕ). picked (has_line process (made_from 0 tolds) x) 0 (numbered_all lines) tolds)
-      (n ∙ sym (length-map lines numbered) ∙ sym (told_length (numbered_all lines) tolds t))),
+      (h ∙ ap (λ (x : List Made). picked (has_line process x count) 0 lines tolds) m
+      ∙ ap (λ (x : ℕ). picked (has_line process (made_from 0 tolds) x) 0 lines tolds)
+      (n ∙ sym (told_length lines tolds t))),
 )
 
 -- the fault of a log, by whether its process is silent

@@ -1,7 +1,7 @@
 -- Who made whom and of which space they are, one line or link more at a time.
-use Rattle.std.proofs.Common.{◌≡◌, ◌≢◌, ℕ, ◌+◌, List, [], ◌∷◌, ◌++◌, length, Bool, true, false, Option, Some, None, refl, sym, ap, subst, ◌∙◌, append_assoc}
+use Rattle.std.proofs.Common.{◌≡◌, ◌≢◌, ℕ, ◌+◌, List, [], ◌∷◌, ◌++◌, Bool, true, false, Option, Some, None, refl, sym, ap, subst, ◌∙◌}
 use Rattle.std.proofs.Common.{cond, eqb, arith}
-use Rattle.std.specs.Prelude.{◌==◌, if◌then◌else◌, map}
+use Rattle.std.specs.Prelude.{◌==◌, if◌then◌else◌}
 use Rattle.std.specs.BTreeMap.{BTreeMap, get}
 use Rattle.std.specs.BTreeSet.{BTreeSet, contains, Updates}
 use Rattle.raw_logs.proofs.Following.{key_is}
@@ -11,17 +11,14 @@ use Rattle.std.proofs.lemmas.Bool.{eqb-true, eq-eqb}
 use Rattle.std.proofs.lemmas.List.{append-nil}
 use Rattle.raw_lines.specs.declared.makers.MadeAs.{MadeAs}
 use Rattle.raw_lines.specs.declared.makers.MadeAs.TheVariants.{Thread, Process, Untold}
-use Rattle.raw_lines.specs.declared.makers.Making.{Making}
-use Rattle.raw_lines.specs.declared.makers.Making.TheVariants.{Makes, Begins, Ends, Execs, Nothing}
-use Rattle.raw_logs.specs.declared.line.Line.{Line}
 use Rattle.raw_logs.specs.declared.spaces.Made.{Made}
 use Rattle.raw_logs.specs.declared.spaces.Makers.{Makers}
 use Rattle.raw_logs.specs.declared.spaces.Space.{Space}
 use Rattle.raw_logs.specs.declared.told.Told.{Told}
 use Rattle.raw_logs.specs.Log.{Numbered}
-use Rattle.raw_logs.specs.Spaces.{ends, ended_by, link_of, made_from, led, space_of, before_by, before_in, speaks, silent}
-use Rattle.raw_logs.specs.Stages.{numbered, numbered_all, HasMade, space_or, space_in, HasSpaces, IsPast, or_else, HasSpeakers}
-use Rattle.raw_logs.specs.Told.{Tells, AreTold, all_told, line_told}
+use Rattle.raw_logs.specs.Spaces.{ends, ended_by, link_of, led, space_of, before_by, before_in, speaks, silent}
+use Rattle.raw_logs.specs.Stages.{HasMade, space_or, space_in, HasSpaces, IsPast, or_else, HasSpeakers}
+use Rattle.raw_logs.specs.Told.{Tells, line_told}
 use Rattle.raw_logs.proofs.ToldFacts.{tells_one}
 
 not_same : (p q : ℕ) → eqb p q ≡ false → q ≢ p
@@ -54,10 +51,6 @@ made_nothing old place told tolds h none same =
     made_step old old place told tolds h
     (sym (append-nil old.made.items) ∙ ap (λ (x : List Made). old.made.items ++ x) (sym (none (ended_by told.pid tolds))))
     (h.ended told.pid ∙ sym (same (ended_by told.pid tolds))) (λ q other. refl)
-
--- all of some lines and one behind them
-pub numbered_last : (front : List Line) (line : Line) (done : List Line) → (front ++ (line ∷ [])) ++ done ≡ front ++ (line ∷ done)
-numbered_last front line done = append_assoc front (line ∷ []) done
 
 -- ---- spaces
 
@@ -177,11 +170,11 @@ put_more old new pid u q = u.0 q ∙ ap (λ (x : Bool). cond x true (contains na
     by false = refl
 
 -- a line more
-pub speakers_more : (old new : BTreeSet ℕ) (line : Line) (done : List Line) (told : Told) → Tells line.text.items told → HasSpeakers old done
+pub speakers_more : (old new : BTreeSet ℕ) (line : Numbered) (done : List Numbered) (told : Told) → Tells line.text told → HasSpeakers old done
     → ((q : ℕ) → contains nat_cmp new q ≡ (if told.pid == q then true else contains nat_cmp old q)) → HasSpeakers new (line ∷ done)
 speakers_more old new line done told tells h put ts (line_told {told = t} {tolds = us} tell more) q =
     put q ∙ ap (λ (b : Bool). if told.pid == q then true else b) (h us more q)
-    ∙ ap (λ (x : Told). if x.pid == q then true else speaks q us) (tells_one line.text.items told t tells tell)
+    ∙ ap (λ (x : Told). if x.pid == q then true else speaks q us) (tells_one line.text told t tells tell)
 
 -- a link more, whose number has a line
 pub silent_same : (link : Made) (done : List Made) (tolds : List Told) (count : ℕ) → count ≡ within_32_bits (silent done tolds)

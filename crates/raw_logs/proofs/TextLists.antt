@@ -1,10 +1,9 @@
 -- The texts of lines, one more at a time: what holds of those so far and of the next holds of those with it.
-use Rattle.std.proofs.Common.{◌≡◌, ◌⊎◌, ℕ, zero, suc, ◌+◌, ◌<◌, ◌≤◌, List, [], ◌∷◌, ◌++◌, length, map, take, get_or, refl, sym, ap, subst, ◌∙◌, inl, inr, arith}
+use Rattle.std.proofs.Common.{◌≡◌, ◌⊎◌, ℕ, zero, suc, ◌+◌, ◌<◌, ◌≤◌, List, [], ◌∷◌, ◌++◌, length, map, take, drop, get_or, refl, sym, ap, subst, ◌∙◌, inl, inr, arith}
 use Rattle.std.specs.Prelude.{All, Contains}
-use Rattle.std.proofs.lemmas.List.{take_more, take_all, length-map}
+use Rattle.std.proofs.lemmas.List.{take_more, take_all, drop_more, length-map}
 use Rattle.std.proofs.lemmas.List.Elements.{All-append, All-cons, All-nil, Contains-append_cases}
-use Rattle.raw_logs.specs.declared.line.Line.{Line}
-use Rattle.raw_logs.specs.Stages.{texts}
+use Rattle.raw_logs.specs.Log.{Numbered, texts_of}
 use Rattle.raw_logs.proofs.Following.{only_item}
 
 -- the item of a list whose items were made of others
@@ -14,47 +13,53 @@ item_of f (x ∷ items) zero d = refl
 item_of f (x ∷ items) (suc i) d = item_of f items i d
 
 -- a line more
-pub texts_more : (lines : List Line) (i : ℕ) (line : Line) → i < length lines → line ≡ get_or lines i line
-    → take (i + 1) (texts lines) ≡ take i (texts lines) ++ (line.text.items ∷ [])
+pub texts_more : (lines : List Numbered) (i : ℕ) (line : Numbered) → i < length lines → line ≡ get_or lines i line
+    → take (i + 1) (texts_of lines) ≡ take i (texts_of lines) ++ (line.text ∷ [])
 texts_more lines i line l e =
-    let l2 = length-map lines (λ (x : Line). x.text.items) in
-    take_more (texts lines) i line.text.items (omega arith)
-    ∙ ap (λ (x : List ℕ). take i (texts lines) ++ (x ∷ [])) (item_of (λ (x : Line). x.text.items) lines i line ∙ ap (λ (x : Line). x.text.items) (sym e))
+    let l2 = length-map lines (λ (x : Numbered). x.text) in
+    take_more (texts_of lines) i line.text (omega arith)
+    ∙ ap (λ (x : List ℕ). take i (texts_of lines) ++ (x ∷ [])) (item_of (λ (x : Numbered). x.text) lines i line ∙ ap (λ (x : Numbered). x.text) (sym e))
 
 -- all lines
-pub texts_all : (lines : List Line) (i : ℕ) → length lines ≤ i → take i (texts lines) ≡ texts lines
-texts_all lines i l = let l2 = length-map lines (λ (x : Line). x.text.items) in take_all i (texts lines) (omega arith)
+pub texts_all : (lines : List Numbered) (i : ℕ) → length lines ≤ i → take i (texts_of lines) ≡ texts_of lines
+texts_all lines i l = let l2 = length-map lines (λ (x : Numbered). x.text) in take_all i (texts_of lines) (omega arith)
 
 -- none of the texts so far is so, nor is the next
-pub none_more : (P : List ℕ → Type 0) (lines : List Line) (i : ℕ) (line : Line) → i < length lines → line ≡ get_or lines i line
-    → ((text : List ℕ) → Contains (take i (texts lines)) text → ¬ P text) → (¬ P line.text.items)
-    → (text : List ℕ) → Contains (take (i + 1) (texts lines)) text → ¬ P text
+pub none_more : (P : List ℕ → Type 0) (lines : List Numbered) (i : ℕ) (line : Numbered) → i < length lines → line ≡ get_or lines i line
+    → ((text : List ℕ) → Contains (take i (texts_of lines)) text → ¬ P text) → (¬ P line.text)
+    → (text : List ℕ) → Contains (take (i + 1) (texts_of lines)) text → ¬ P text
 none_more P lines i line l e f n text c =
-    by (Contains-append_cases (take i (texts lines)) (line.text.items ∷ []) text
+    by (Contains-append_cases (take i (texts_of lines)) (line.text ∷ []) text
     (subst (λ (x : List (List ℕ)). Contains x text) (texts_more lines i line l e) c))
   where
-    by : Contains (take i (texts lines)) text ⊎ Contains (line.text.items ∷ []) text → ¬ P text
+    by : Contains (take i (texts_of lines)) text ⊎ Contains (line.text ∷ []) text → ¬ P text
     by (inl d) = f text d
-    by (inr d) = subst (λ (x : List ℕ). ¬ P x) (only_item line.text.items text d) n
+    by (inr d) = subst (λ (x : List ℕ). ¬ P x) (only_item line.text text d) n
 
 -- none of all is
-pub none_of_all : (P : List ℕ → Type 0) (lines : List Line) (i : ℕ) → length lines ≤ i
-    → ((text : List ℕ) → Contains (take i (texts lines)) text → ¬ P text) → (text : List ℕ) × Contains (texts lines) text × P text → ⊥
+pub none_of_all : (P : List ℕ → Type 0) (lines : List Numbered) (i : ℕ) → length lines ≤ i
+    → ((text : List ℕ) → Contains (take i (texts_of lines)) text → ¬ P text) → (text : List ℕ) × Contains (texts_of lines) text × P text → ⊥
 none_of_all P lines i l f h = f h.0 (subst (λ (x : List (List ℕ)). Contains x h.0) (sym (texts_all lines i l)) h.1) h.2
 
 -- the text of a line is one of the texts
-pub text_there : (lines : List Line) (i : ℕ) (line : Line) → i < length lines → line ≡ get_or lines i line → Contains (texts lines) line.text.items
+pub text_there : (lines : List Numbered) (i : ℕ) (line : Numbered) → i < length lines → line ≡ get_or lines i line → Contains (texts_of lines) line.text
 text_there lines i line l e =
-    let l2 = length-map lines (λ (x : Line). x.text.items) in
-    (i, omega arith, item_of (λ (x : Line). x.text.items) lines i line ∙ ap (λ (x : Line). x.text.items) (sym e))
+    let l2 = length-map lines (λ (x : Numbered). x.text) in
+    (i, omega arith, item_of (λ (x : Numbered). x.text) lines i line ∙ ap (λ (x : Numbered). x.text) (sym e))
 
 -- a line more is so
-pub all_more : (P : Line → Type 0) (lines : List Line) (i : ℕ) (line : Line) → i < length lines → line ≡ get_or lines i line → All P (take i lines)
+pub all_more : (P : Numbered → Type 0) (lines : List Numbered) (i : ℕ) (line : Numbered) → i < length lines → line ≡ get_or lines i line → All P (take i lines)
     → P line → All P (take (i + 1) lines)
 all_more P lines i line l e h p =
-    subst (All P) (sym (take_more lines i line l ∙ ap (λ (x : Line). take i lines ++ (x ∷ [])) (sym e)))
+    subst (All P) (sym (take_more lines i line l ∙ ap (λ (x : Numbered). take i lines ++ (x ∷ [])) (sym e)))
     (All-append P (take i lines) (line ∷ []) h (All-cons P line [] p (All-nil P)))
 
 -- all lines are
-pub all_of_all : (P : Line → Type 0) (lines : List Line) (i : ℕ) → length lines ≤ i → All P (take i lines) → All P lines
+pub all_of_all : (P : Numbered → Type 0) (lines : List Numbered) (i : ℕ) → length lines ≤ i → All P (take i lines) → All P lines
 all_of_all P lines i l h = subst (All P) (take_all i lines l) h
+
+-- the lines from a place on begin with the one there
+pub lines_from : (lines : List Numbered) (place next : ℕ) (line : Numbered) → place < length lines → next ≡ place + 1 → line ≡ get_or lines place line
+    → drop place lines ≡ line ∷ drop next lines
+lines_from lines place next line l n e =
+    drop_more lines place line l ∙ ap (λ (x : Numbered). x ∷ drop (place + 1) lines) (sym e) ∙ ap (λ (x : ℕ). line ∷ drop x lines) (sym n)

@@ -1,5 +1,5 @@
 -- A text tells one thing, and so do lines.
-use Rattle.std.proofs.Common.{◌≡◌, ℕ, List, [], ◌∷◌, length, Bool, true, false, refl, sym, ap, subst, ◌∙◌, arith}
+use Rattle.std.proofs.Common.{◌≡◌, ℕ, List, ◌∷◌, length, Bool, true, false, refl, sym, ap, subst, ◌∙◌, arith}
 use Rattle.std.specs.Bool.{Decides}
 use Rattle.strace_reader.proofs.FormFacts.{cut_same}
 use Rattle.raw_lines.specs.declared.makers.Making.{Making}

@@ -5,7 +5,7 @@ use Rattle.std.specs.Prelude.{if◌then◌else◌}
 use Rattle.raw_logs.specs.declared.counts.Counts.{Counts}
 use Rattle.raw_logs.specs.declared.numbering.Numbering.{Numbering}
 use Rattle.raw_logs.specs.Counting.{both, one_more_of}
-use Rattle.raw_logs.specs.Log.{Numbered, Heals, all_healed, heals_message, heals_stack, heals_broken, heals_line}
+use Rattle.raw_logs.specs.Log.{Numbered, Heals, all_healed, heals_message, heals_stack, heals_broken, heals_blank, heals_line}
 use Rattle.raw_logs.specs.Log.{ArePlain, all_plain, plain_stays, plain_changes}
 use Rattle.raw_logs.specs.Numbering.{AreNumbered, all_numbered, number_stays, number_changes}
 use Rattle.raw_logs.specs.declared.counts.Sort.TheVariants.{Elsewhere, Earlier, Untold}
@@ -23,7 +23,8 @@ heals_unread number part lines texts left c all_healed = refl
 heals_unread number part lines texts left c (heals_message {counts = k} m h) = heals_unread _ _ _ _ _ k h
 heals_unread number part lines texts left c (heals_stack {counts = k} never m h) = heals_unread _ _ _ _ _ k h
 heals_unread number part lines texts left c (heals_broken {counts = k} m h) = heals_unread _ _ _ _ _ k h
-heals_unread number part lines texts left c (heals_line {counts = k} m h) = heals_unread _ _ _ _ _ k h
+heals_unread number part lines texts left c (heals_blank {counts = k} m e h) = heals_unread _ _ _ _ _ k h
+heals_unread number part lines texts left c (heals_line {counts = k} m e h) = heals_unread _ _ _ _ _ k h
 
 -- texts are made plain with none
 pub plain_unread : (lines plains : List Numbered) (c : Counts) → ArePlain lines plains c → c.unread ≡ 0

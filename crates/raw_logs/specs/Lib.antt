@@ -1,3 +1,4 @@
+pub mod Buffer
 pub mod Counting
 pub mod Log
 pub mod Numbering

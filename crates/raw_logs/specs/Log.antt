@@ -1,6 +1,7 @@
 -- From the bytes of a raw log to its texts. strace(1) ends each line with a newline, so what stands behind the last one
--- was cut off and is no line. Messages of strace's own and lines of stacks are left out. A message that broke into a
--- line is taken out of it: the line goes on with the next one that is left in. Each text is then its plain text.
+-- was cut off and is no line. Messages of strace's own, lines of stacks and empty lines are left out. A message that
+-- broke into a line is taken out of it: the line goes on with the next one that is left in. Each text is then its plain
+-- text.
 use Rattle.std.specs.Prelude.{◌≡◌, ◌≢◌, ◌⊎◌, ℕ, ◌+◌, List, [], ◌∷◌, ◌++◌, map, Option, Some, None, Contains}
 use Rattle.line_parts.specs.Lines.{lines_of}
 use Rattle.strace_reader.specs.Grammar.{EndsWith}
@@ -23,14 +24,21 @@ pub record Numbered : Type 0 where
   pub number : ℕ
   pub text : List ℕ
 
+abbrev pub line_of : ℕ → List ℕ → Numbered
+line_of number text = record { number = number; text = text }
+
 -- the texts, without their numbers
 abbrev pub texts_of : List Numbered → List (List ℕ)
 texts_of lines = map (λ line. line.text) lines
 
 -- a line with this number, behind the part of a line that a message broke off
 abbrev pub goes_on : Option Numbered → ℕ → List ℕ → Numbered
-goes_on None number line = record { number = number; text = line }
-goes_on (Some part) number line = record { number = part.number; text = part.text ++ line }
+goes_on None number line = line_of number line
+goes_on (Some part) number line = line_of part.number (part.text ++ line)
+
+-- an empty line where no part waits
+abbrev pub IsBlank : Option Numbered → List ℕ → Type 0
+IsBlank part line = (part ≡ None) × (line ≡ [])
 
 -- the line is left in, and is no line that a message broke
 pub record IsUnbroken (line : List ℕ) : Type 0 where
@@ -58,8 +66,11 @@ pub data Heals : ℕ → Option Numbered → List (List ℕ) → List Numbered �
   heals_broken : {number : ℕ} {part left : Option Numbered} {line front : List ℕ} {lines : List (List ℕ)} {texts : List Numbered} {counts : Counts}
       → IsCutShort line front → Heals (number + 1) (Some (goes_on part number front)) lines texts left counts
       → Heals number part (line ∷ lines) texts left (one_more_of Messages counts)
+  heals_blank : {number : ℕ} {part left : Option Numbered} {line : List ℕ} {lines : List (List ℕ)} {texts : List Numbered} {counts : Counts}
+      → IsUnbroken line → IsBlank part line → Heals (number + 1) None lines texts left counts
+      → Heals number part (line ∷ lines) texts left counts
   heals_line : {number : ℕ} {part left : Option Numbered} {line : List ℕ} {lines : List (List ℕ)} {texts : List Numbered} {counts : Counts}
-      → IsUnbroken line → Heals (number + 1) None lines texts left counts
+      → IsUnbroken line → (¬ IsBlank part line) → Heals (number + 1) None lines texts left counts
       → Heals number part (line ∷ lines) (goes_on part number line ∷ texts) left counts
 
 -- each text is the plain text of its like, and those that changed are counted

@@ -1,55 +1,38 @@
 -- What the private functions of this crate say of what they hold: lines as numbered texts, what was read of a log so
 -- far, and what was found of spaces. It ties the code to the other definitions, which speak of texts.
-use Rattle.std.specs.Prelude.{All, ◌≤◌, ◌≡◌, ◌≢◌, ◌⊎◌, ℕ, ◌+◌, List, [], ◌++◌, length, map, reverse, Option, Some, None, option_map, true, false}
+use Rattle.std.specs.Prelude.{All, ◌≤◌, ◌≡◌, ℕ, ◌+◌, List, [], ◌∷◌, ◌++◌, length, drop, Option, Some, None, option_map, Bool, true, false, if◌then◌else◌}
 use Rattle.std.specs.BTreeMap.{BTreeMap, get}
 use Rattle.std.specs.BTreeSet.{BTreeSet, contains}
 use Rattle.std.specs.Ordering.{nat_cmp}
 use Rattle.strace_reader.specs.Grammar.{IsBracketed}
-use Rattle.raw_lines.specs.Plain.{IsPlain}
 use Rattle.raw_logs.specs.declared.choosing.Picker.{Picker}
 use Rattle.raw_logs.specs.declared.counts.Counts.{Counts}
-use Rattle.raw_logs.specs.declared.counts.Sort.{Sort}
 use Rattle.raw_logs.specs.declared.healing.Healer.{Healer}
-use Rattle.raw_logs.specs.declared.line.Line.{Line}
-use Rattle.raw_logs.specs.declared.numbering.Numbering.{Numbering}
+use Rattle.raw_logs.specs.declared.healing.Part.{Part}
 use Rattle.raw_logs.specs.declared.spaces.Chooser.{Chooser}
 use Rattle.raw_logs.specs.declared.spaces.Made.{Made}
 use Rattle.raw_logs.specs.declared.spaces.Makers.{Makers}
 use Rattle.raw_logs.specs.declared.spaces.Space.{Space}
+use Rattle.raw_logs.specs.declared.told.Form.{Form}
+use Rattle.raw_logs.specs.declared.told.Form.TheVariants.{Blank, Unknown, Long, TooLong, Whole}
 use Rattle.raw_logs.specs.declared.told.Told.{Told}
-use Rattle.raw_logs.specs.Choosing.{Picked}
-use Rattle.raw_logs.specs.Counting.{no_counts, one_more_of, both}
-use Rattle.raw_logs.specs.Log.{Numbered, Heals}
-use Rattle.raw_logs.specs.Numbering.{ChangesNumber}
+use Rattle.raw_logs.specs.Choosing.{Picked, picked}
+use Rattle.raw_logs.specs.Counting.{no_counts, both}
+use Rattle.raw_logs.specs.Log.{Numbered, line_of, Heals, ArePlain}
 use Rattle.raw_logs.specs.Spaces.{made_from, ended_by, space_of, before_in, speaks}
 use Rattle.raw_logs.specs.Told.{AreTold}
 
--- a line as its number and its text
-abbrev pub numbered : Line → Numbered
-numbered line = record { number = line.number; text = line.text.items }
+-- no text is longer than a line may be
+abbrev pub AreShort : List Numbered → Type 0
+AreShort lines = All (λ line. length line.text ≤ 65535) lines
 
-abbrev pub numbered_all : List Line → List Numbered
-numbered_all lines = map numbered lines
-
--- the texts of lines
-abbrev pub texts : List Line → List (List ℕ)
-texts lines = map (λ line. line.text.items) lines
-
--- no line is longer than a line may be
-abbrev pub AreShort : List Line → Type 0
-AreShort lines = All (λ line. length line.text.items ≤ 65535) lines
+-- a part of a line as a numbered text
+abbrev pub part_line : Part → Numbered
+part_line part = line_of part.number part.text.items
 
 -- the part that waits for its rest
 abbrev pub part_of : Healer → Option Numbered
-part_of healer = option_map numbered healer.part
-
--- These lines were read, and make the texts so far; what comes behind them is read on from there, and its counts are
--- added.
-pub record Takes (healer : Healer) (before : List (List ℕ)) : Type 0 where
-  pub within : both healer.counts no_counts ≡ healer.counts
-  pub completes : (later : List (List ℕ)) (more : List Numbered) (left : Option Numbered) (counts : Counts)
-      → Heals (length before + 1) (part_of healer) later more left counts
-      → Heals 1 None (before ++ later) (numbered_all healer.lines.items ++ more) left (both healer.counts counts)
+part_of healer = option_map part_line healer.part
 
 -- ---- lines that are made one by one
 
@@ -58,25 +41,14 @@ pub record MakesSome (Makes : List Numbered → List Numbered → Counts → Typ
   pub completes : (more : List Numbered) (others : Counts) → Makes rest more others → Makes all (done ++ more) (both counts others)
   pub within : both counts no_counts ≡ counts
 
--- the text that another becomes, where it changes
-abbrev pub changed_text : List ℕ → Option (List ℕ) → List ℕ
-changed_text text None = text
-changed_text text (Some other) = other
-
--- it is counted where it changes
-abbrev pub counted_if : Sort → Option (List ℕ) → Counts → Counts
-counted_if sort None counts = counts
-counted_if sort (Some other) counts = one_more_of sort counts
-
--- the plain text of a text, where it isn't the text itself
-abbrev pub BecomesPlain : List ℕ → Option (List ℕ) → Type 0
-BecomesPlain text None = IsPlain text text
-BecomesPlain text (Some other) = IsPlain text other × (other ≢ text)
-
--- the text with its number, where that changes
-abbrev pub BecomesNumbered : Numbering → List ℕ → Option (List ℕ) → Type 0
-BecomesNumbered numbering text None = (line : List ℕ) → ¬ ChangesNumber numbering text line
-BecomesNumbered numbering text (Some line) = ChangesNumber numbering text line
+-- These lines were read, and make the texts so far, which are made plain; what comes behind them is read on from there,
+-- and its counts are added.
+pub record Takes (healer : Healer) (before : List (List ℕ)) : Type 0 where
+  pub within : both healer.counts no_counts ≡ healer.counts
+  pub completes : (later : List (List ℕ)) (more : List Numbered) (left : Option Numbered) (counts : Counts)
+      → Heals (length before + 1) (part_of healer) later more left counts
+      → (texts : List Numbered) × Heals 1 None (before ++ later) texts left (both healer.counts counts)
+      × MakesSome ArePlain texts more healer.plain.lines healer.plain.counts
 
 -- ---- numbers
 
@@ -129,17 +101,44 @@ pub record IsChooser (process : Option ℕ) (made : List Made) (count : ℕ) (ch
   pub past : IsPastOf process made count chooser.past
 
 -- the set has the numbers that have a line
-abbrev pub HasSpeakers : BTreeSet ℕ → List Line → Type 0
-HasSpeakers found lines = (tolds : List Told) → AreTold (numbered_all lines) tolds → (q : ℕ) → contains nat_cmp found q ≡ speaks q tolds
+abbrev pub HasSpeakers : BTreeSet ℕ → List Numbered → Type 0
+HasSpeakers found lines = (tolds : List Told) → AreTold lines tolds → (q : ℕ) → contains nat_cmp found q ≡ speaks q tolds
 
 -- ---- lines that are picked
 
--- what was picked, in the order of the log
-abbrev pub seen : Picker → Picked
-seen picker = record {
-  lines = reverse (numbered_all picker.lines.items);
+-- what was picked, where these lines are written
+abbrev pub seen : List Numbered → Picker → Picked
+seen lines picker = record {
+  lines = lines;
   counts = picker.counts;
   ended = picker.ended;
   unknown = picker.unknown;
   too_long = picker.too_long;
 }
+
+-- a line before others, where it is written
+abbrev pub written : Bool → Numbered → List Numbered → List Numbered
+written is line lines = if is then line ∷ lines else lines
+
+-- a line may be written
+abbrev pub keeps : Form → Bool → Bool
+keeps Blank here = false
+keeps Unknown here = false
+keeps Long here = false
+keeps TooLong here = false
+keeps Whole here = here
+
+-- of lines, the first of which has this place, those that may be written
+abbrev pub kept : (ℕ → Told → Bool) → ℕ → List Numbered → List Told → List Numbered
+kept here place [] tolds = []
+kept here place (line ∷ lines) [] = []
+kept here place (line ∷ lines) (told ∷ tolds) = written (keeps told.form (here place told)) line (kept here (place + 1) lines tolds)
+
+-- those from this place on
+abbrev pub kept_from : (ℕ → Told → Bool) → ℕ → List Numbered → List Told → List Numbered
+kept_from here place lines tolds = kept here place (drop place lines) (drop place tolds)
+
+-- what was picked of the lines from this place on, where those are written that may be, from the picker's start on
+pub record HasPicked (here : ℕ → Told → Bool) (lines : List Numbered) (tolds : List Told) (place : ℕ) (picker : Picker) : Type 0 where
+  pub is : seen (kept_from here picker.start lines tolds) picker ≡ picked here place (drop place lines) (drop place tolds)
+  pub at : picker.ended ≡ false → picker.start ≡ place

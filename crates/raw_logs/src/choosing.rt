@@ -1,26 +1,27 @@
 //! Which lines of a log are written, and what is left out by its cause. `picked` in `specs/Choosing.antt` says it from
-//! the last line to the first, as lines are taken here.
+//! the last line to the first, as lines are looked at here; they are taken from the first to the last, behind that.
 
-ghost use Rattle.std.specs.Prelude.{◌≡◌, ◌≤◌, ◌<◌, ◌^◌, ◌+◌, ℕ, List, Option, Some, length, IfOk, OnOk};
+ghost use Rattle.std.specs.Prelude.{◌≡◌, ◌≤◌, ◌<◌, ◌^◌, ◌+◌, ◌++◌, ◌∷◌, ℕ, List, Option, Some, Bool, true, false, length, drop, if◌then◌else◌, IfOk, OnOk};
 ghost use Rattle.raw_logs.specs.declared.told.Told.{Told as ToldOf};
 ghost use Rattle.raw_logs.specs.declared.spaces.Made.{Made as MadeOf};
-ghost use Rattle.raw_logs.specs.Choosing.{execs, hides, with_own, with_line, with_silent, picked};
+ghost use Rattle.raw_logs.specs.Log.{Numbered, line_of};
+ghost use Rattle.raw_logs.specs.Choosing.{execs, hides, with_own, with_line, with_silent};
 ghost use Rattle.raw_logs.specs.Spaces.{has_line};
 ghost use Rattle.raw_logs.specs.Told.{Tells, AreTold};
-ghost use Rattle.raw_logs.specs.Stages.{numbered, numbered_all, seen, AreShort, IsChooser};
+ghost use Rattle.raw_logs.specs.Stages.{seen, written, keeps, kept_from, HasPicked, AreShort, IsChooser};
 
 use crate::counts::{Counts, Sort};
-use crate::line::Line;
+use crate::lines::Lines;
 use crate::spaces::Chooser;
 use crate::told::{Form, Told, told_of};
 use raw_lines::{MadeAs, Making};
 use std::alloc::{AllocError, Global};
 
 /// What was picked of the lines behind a place.
-#[derive(Drop)]
+#[derive(Clone, Copy)]
 pub(crate) struct Picker {
-    /// The lines that are written, the last one first.
-    pub(crate) lines: Vec<Line>,
+    /// The place from which on lines are written that may be.
+    pub(crate) start: u32,
     /// How many are not, by cause.
     pub(crate) counts: Counts,
     /// One of those tells of execve(2).
@@ -53,57 +54,80 @@ fn hides(making: Making) -> bool
 }
 
 impl Picker {
-    /// Adds a line of the space, before those that were added.
-    fn add_own(&mut self, line: Line, told: Told) -> Result<(), AllocError>
-        ensures seen { OnOk result (seen self.new ≡ with_own told.form (numbered line) told.making (seen self.old)) }
-        ensures few { OnOk result (length self.new.lines.items ≤ length self.old.lines.items + 1) }
-        ensures short { Tells line.text.items told → AreShort self.old.lines.items → OnOk result (AreShort self.new.lines.items) }
+    /// Adds a line of the space, before those that were added: whether it is written.
+    fn add_own(&mut self, number: u32, told: Told) -> bool
+        ensures seen { (text : List ℕ) (lines : List Numbered) → seen (written result (line_of number text) lines) self.new
+            ≡ with_own told.form (line_of number text) told.making (seen lines self.old) }
+        ensures start { self.new.start ≡ self.old.start }
+        ensures is { result ≡ keeps told.form true }
     {
         match told.form {
             Form::Blank => {}
             Form::Unknown => {
                 self.counts.add(Sort::Unknown);
-                self.unknown = Some(line.number);
+                self.unknown = Some(number);
             }
             Form::Long => self.counts.add(Sort::Long),
-            Form::TooLong => self.too_long = Some(line.number),
+            Form::TooLong => self.too_long = Some(number),
             Form::Whole => {
-                self.lines.push(line)?;
                 if hides(told.making) {
                     self.counts.add(Sort::Untold);
                 }
                 self.ended = execs(told.making);
+                return true;
             }
         }
-        Ok(())
+        false
     }
 
-    /// Adds a line before those that were added, which is of the space or not.
-    fn add(&mut self, line: Line, told: Told, here: bool) -> Result<(), AllocError>
-        ensures seen { OnOk result (seen self.new ≡ with_line here (numbered line) told (seen self.old)) }
-        ensures few { OnOk result (length self.new.lines.items ≤ length self.old.lines.items + 1) }
-        ensures short { Tells line.text.items told → AreShort self.old.lines.items → OnOk result (AreShort self.new.lines.items) }
+    /// Adds a line before those that were added, which is of the space or not: whether it is written.
+    fn add(&mut self, number: u32, told: Told, here: bool) -> bool
+        ensures seen { (text : List ℕ) (lines : List Numbered) → seen (written result (line_of number text) lines) self.new
+            ≡ with_line here (line_of number text) told (seen lines self.old) }
+        ensures start { self.new.start ≡ self.old.start }
+        ensures begins { self.old.ended ≡ false → result ≡ keeps told.form here }
+        ensures stays { self.old.ended ≡ true → (result ≡ false) × (self.new.ended ≡ true) }
     {
         if told.form == Form::Blank {
-            return Ok(());
+            return false;
         }
         if !here {
             self.counts.add(Sort::Elsewhere);
-            return Ok(());
+            return false;
         }
         if self.ended {
             self.counts.add(Sort::Earlier);
-            return Ok(());
+            return false;
         }
-        self.add_own(line, told)?;
-        Ok(())
+        self.add_own(number, told)
+    }
+
+    /// Lines are written from this place on, unless those that were added have a later beginning.
+    fn start_at(&mut self, place: u32)
+        ensures start { self.new.start ≡ (if self.old.ended then self.old.start else place) }
+        ensures seen { (lines : List Numbered) → seen lines self.new ≡ seen lines self.old }
+    {
+        if !self.ended {
+            self.start = place;
+        }
+    }
+
+    /// Looks at the line of a place, before those that were looked at.
+    fn look(&mut self, place: u32, number: u32, told: Told, here: bool)
+        ensures start { self.new.start ≡ (if self.old.ended then self.old.start else place) }
+        ensures picked { (here_of : ℕ → ToldOf → Bool) (lines : List Numbered) (tolds : List ToldOf) (text : List ℕ)
+            → HasPicked here_of lines tolds (place + 1) self.old → drop place lines ≡ line_of number text ∷ drop (place + 1) lines
+            → drop place tolds ≡ told ∷ drop (place + 1) tolds → here ≡ here_of place told → HasPicked here_of lines tolds place self.new }
+    {
+        self.start_at(place);
+        self.add(number, told, here);
     }
 }
 
 /// What was picked, with how many numbers were made that have no line.
 pub(crate) fn with_silent(picker: Picker, count: u32) -> Picker
-    ensures seen { seen result ≡ with_silent count (seen picker) }
-    ensures lines { result.lines ≡ picker.lines }
+    ensures seen { (lines : List Numbered) → seen lines result ≡ with_silent count (seen lines picker) }
+    ensures start { result.start ≡ picker.start }
 {
     let mut picker = picker;
     picker.counts.silent = count;
@@ -111,26 +135,66 @@ pub(crate) fn with_silent(picker: Picker, count: u32) -> Picker
 }
 
 /// What is picked of the lines of a log.
-pub(crate) fn pick(alloc: Global, lines: Vec<Line>, chooser: &Chooser) -> Result<Picker, AllocError>
-    requires { length lines.items < 2 ^ 32 }
+pub(crate) fn pick(lines: &Lines, chooser: &Chooser) -> Picker
+    requires { length lines.now < 2 ^ 32 }
     ensures picked { (process : Option ℕ) (made : List MadeOf) (count : ℕ) (tolds : List ToldOf) → IsChooser process made count chooser.now
-        → AreTold (numbered_all lines.items) tolds
-        → IfOk result (λ picker. seen picker ≡ picked (has_line process made count) 0 (numbered_all lines.items) tolds) }
-    ensures few { IfOk result (λ picker. length picker.lines.items ≤ length lines.items) }
-    ensures short { IfOk result (λ picker. AreShort picker.lines.items) }
+        → AreTold lines.now tolds → HasPicked (has_line process made count) lines.now tolds 0 result }
+    ensures start { result.start ≤ length lines.now }
 {
-    let mut left = lines;
     let mut picker = Picker {
-        lines: Vec::new(alloc),
+        start: lines.len() as u32,
         counts: Counts::new(),
         ended: false,
         unknown: None,
         too_long: None,
     };
-    'lines: while let Some(line) = left.pop() {
-        let told = told_of(line.text.as_slice());
-        let here = chooser.has(left.as_slice().len() as u32, told);
-        picker.add(line, told, here)?;
+    'lines: for place in (0..lines.len()).rev() {
+        let (number, text) = lines.at(place);
+        let told = told_of(text);
+        let here = chooser.has(place as u32, told);
+        picker.look(place as u32, number, told, here);
     }
-    Ok(picker)
+    picker
+}
+
+/// Adds a line that may be written, where it is.
+fn add_kept(
+    kept: &mut Lines,
+    number: u32,
+    text: &[u8],
+    told: Told,
+    here: bool,
+) -> Result<(), AllocError>
+    ensures kept { OnOk result ((rest : List Numbered) → kept.new ++ rest ≡ kept.old ++ written (keeps told.form here) (line_of number text.now) rest) }
+    ensures few { OnOk result (length kept.new ≤ length kept.old + 1) }
+    ensures short { Tells text.now told → AreShort kept.old → OnOk result (AreShort kept.new) }
+{
+    if told.form == Form::Whole && here {
+        kept.push(number, &[], &[], text)?;
+    }
+    Ok(())
+}
+
+/// The lines that are written: from a place on all that may be.
+pub(crate) fn chosen(
+    alloc: Global,
+    lines: &Lines,
+    chooser: &Chooser,
+    start: u32,
+) -> Result<Lines, AllocError>
+    requires start { start ≤ length lines.now }
+    requires few { length lines.now < 2 ^ 32 }
+    ensures kept { (process : Option ℕ) (made : List MadeOf) (count : ℕ) (tolds : List ToldOf) → IsChooser process made count chooser.now
+        → AreTold lines.now tolds → IfOk result (λ kept. kept ≡ kept_from (has_line process made count) start lines.now tolds) }
+    ensures few { IfOk result (λ kept. length kept ≤ length lines.now) }
+    ensures short { IfOk result AreShort }
+{
+    let mut kept = Lines::new(alloc);
+    'lines: for place in start..lines.len() as u32 {
+        let (number, text) = lines.at(place as usize);
+        let told = told_of(text);
+        let here = chooser.has(place, told);
+        add_kept(&mut kept, number, text, told, here)?;
+    }
+    Ok(kept)
 }

@@ -7,7 +7,7 @@ mod choosing;
 mod counts;
 mod fault;
 mod healing;
-mod line;
+mod lines;
 mod numbering;
 mod reading;
 mod spaces;
@@ -15,6 +15,6 @@ mod told;
 
 pub use counts::{Counts, Sort};
 pub use fault::LogFault;
-pub use line::{LINE_LIMIT, Line};
+pub use lines::{LINE_LIMIT, Lines};
 pub use numbering::Numbering;
 pub use reading::{Texts, read_log};

@@ -2,21 +2,21 @@
 //! then the first thread's lines come with and without its number, and each line gets a plain one.
 //! `specs/Numbering.antt` says when, and which.
 
-ghost use Rattle.std.specs.Prelude.{◌≡◌, ◌≢◌, ◌⊎◌, ◌↔◌, ◌≤◌, ◌+◌, ℕ, List, [], ◌∷◌, length, Contains, MatchOption, Option, option_map, IfOk, IfSome, IsNone};
+ghost use Rattle.std.specs.Prelude.{◌≡◌, ◌≢◌, ◌⊎◌, ◌↔◌, ◌≤◌, ◌+◌, ◌++◌, ℕ, List, [], ◌∷◌, length, Contains, MatchOption, Option, option_map, IfOk, IfSome, IsNone};
 ghost use Rattle.std.specs.Prelude.{OnOk};
 ghost use Rattle.raw_lines.specs.Marks.{IsUnread};
-ghost use Rattle.raw_logs.specs.Log.{Numbered};
+ghost use Rattle.raw_logs.specs.Log.{Numbered, line_of, texts_of};
 ghost use Rattle.std.specs.Bool.{Decides};
 ghost use Rattle.line_parts.specs.Lines.{lines_of};
 ghost use Rattle.strace_reader.specs.Grammar.{IsBracketed};
 ghost use Rattle.raw_logs.specs.Numbering.{HasBrackets, HasNoNumber, IsBareCall, IsAttached, Gives, IsLater, IsStart, StartsAt, IsMixed, IsFirstThread};
 ghost use Rattle.raw_logs.specs.Numbering.{IsNumbering};
-ghost use Rattle.raw_logs.specs.Numbering.{AreNumbered, with_number};
-ghost use Rattle.raw_logs.specs.Stages.{numbered, numbered_all, texts, Has, EachLater, MakesSome, BecomesNumbered};
+ghost use Rattle.raw_logs.specs.Numbering.{AreNumbered, ChangesNumber, with_number};
+ghost use Rattle.raw_logs.specs.Stages.{Has, EachLater, MakesSome};
 
 use crate::counts::{Counts, Sort};
 use crate::healing::Changed;
-use crate::line::Line;
+use crate::lines::Lines;
 use line_parts::next_line;
 use raw_lines::{Making, is_of_profile, is_unread, number_end, told_by};
 use std::alloc::{AllocError, Global};
@@ -76,11 +76,12 @@ fn is_bare_call(text: &[u8]) -> bool
 }
 
 /// Whether one of the lines begins with a number in brackets.
-fn some_bracketed(lines: &[Line]) -> bool
-    ensures { Decides result ((text : List ℕ) × Contains (texts lines.now) text × HasBrackets text) }
+fn some_bracketed(lines: &Lines) -> bool
+    ensures { Decides result ((text : List ℕ) × Contains (texts_of lines.now) text × HasBrackets text) }
 {
-    'lines: for line in lines {
-        if has_brackets(line.text.as_slice()) {
+    'lines: for place in 0..lines.len() {
+        let (_, text) = lines.at(place);
+        if has_brackets(text) {
             return true;
         }
     }
@@ -88,11 +89,12 @@ fn some_bracketed(lines: &[Line]) -> bool
 }
 
 /// Whether one of the lines is a call of the profile, or a half of one, without a number.
-fn some_bare_call(lines: &[Line]) -> bool
-    ensures { Decides result ((text : List ℕ) × Contains (texts lines.now) text × IsBareCall text) }
+fn some_bare_call(lines: &Lines) -> bool
+    ensures { Decides result ((text : List ℕ) × Contains (texts_of lines.now) text × IsBareCall text) }
 {
-    'lines: for line in lines {
-        if is_bare_call(line.text.as_slice()) {
+    'lines: for place in 0..lines.len() {
+        let (_, text) = lines.at(place);
+        if is_bare_call(text) {
             return true;
         }
     }
@@ -100,8 +102,8 @@ fn some_bare_call(lines: &[Line]) -> bool
 }
 
 /// Whether the log has lines with a number in brackets, and calls without a number.
-fn is_mixed(lines: &[Line]) -> bool
-    ensures { Decides result (IsMixed (texts lines.now)) }
+fn is_mixed(lines: &Lines) -> bool
+    ensures { Decides result (IsMixed (texts_of lines.now)) }
 {
     some_bracketed(lines) && some_bare_call(lines)
 }
@@ -168,12 +170,13 @@ fn add_given(found: &mut BTreeSet<u32>, text: &[u8]) -> Result<(), AllocError>
 }
 
 /// The numbers that messages say were attached, or that lines give as such results.
-fn all_later(alloc: Global, whole: &[u8], lines: &[Line]) -> Result<BTreeSet<u32>, AllocError>
-    ensures { IfOk result (λ found. (pid : ℕ) → Has found pid ↔ IsLater (lines_of whole.now) (texts lines.now) pid) }
+fn all_later(alloc: Global, whole: &[u8], lines: &Lines) -> Result<BTreeSet<u32>, AllocError>
+    ensures { IfOk result (λ found. (pid : ℕ) → Has found pid ↔ IsLater (lines_of whole.now) (texts_of lines.now) pid) }
 {
     let mut found = all_attached(alloc, whole)?;
-    'lines: for line in lines {
-        add_given(&mut found, line.text.as_slice())?;
+    'lines: for place in 0..lines.len() {
+        let (_, text) = lines.at(place);
+        add_given(&mut found, text)?;
     }
     Ok(found)
 }
@@ -193,12 +196,13 @@ fn fresh(text: &[u8], later: &BTreeSet<u32>) -> Option<u32>
 }
 
 /// The number of the first thread: the first in brackets that didn't come later.
-fn first_thread(lines: &[Line], later: &BTreeSet<u32>) -> Option<u32>
+fn first_thread(lines: &Lines, later: &BTreeSet<u32>) -> Option<u32>
     ensures { (log all : List (List ℕ)) → ((pid : ℕ) → Has later.now pid ↔ IsLater log all pid)
-        → MatchOption result ((pid : ℕ) → ¬ IsFirstThread (IsLater log all) (texts lines.now) pid) (IsFirstThread (IsLater log all) (texts lines.now)) }
+        → MatchOption result ((pid : ℕ) → ¬ IsFirstThread (IsLater log all) (texts_of lines.now) pid) (IsFirstThread (IsLater log all) (texts_of lines.now)) }
 {
-    'lines: for line in lines {
-        if let Some(pid) = fresh(line.text.as_slice(), later) {
+    'lines: for place in 0..lines.len() {
+        let (_, text) = lines.at(place);
+        if let Some(pid) = fresh(text, later) {
             return Some(pid);
         }
     }
@@ -229,9 +233,9 @@ fn start(whole: &[u8]) -> Option<u32>
 pub(crate) fn numbering_of(
     alloc: Global,
     whole: &[u8],
-    lines: &[Line],
+    lines: &Lines,
 ) -> Result<Numbering, AllocError>
-    ensures { IfOk result (λ numbering. IsNumbering (lines_of whole.now) (texts lines.now) numbering) }
+    ensures { IfOk result (λ numbering. IsNumbering (lines_of whole.now) (texts_of lines.now) numbering) }
 {
     if let Some(pid) = start(whole) {
         return Ok(Numbering::Plain(Some(pid)));
@@ -241,17 +245,6 @@ pub(crate) fn numbering_of(
     }
     let later = all_later(alloc, whole, lines)?;
     Ok(Numbering::Plain(first_thread(lines, &later)))
-}
-
-/// A text with a number before it.
-fn with_number(alloc: Global, pid: u32, body: &[u8]) -> Result<Vec<u8>, AllocError>
-    ensures { IfOk result (λ text. text.items ≡ with_number pid body.now) }
-{
-    let mut buffer = itoa::Buffer::new();
-    let mut text = Vec::from_slice(alloc, buffer.format(pid).as_bytes())?;
-    text.push(b' ')?;
-    text.extend_from_slice(body)?;
-    Ok(text)
 }
 
 /// Whether a text gets the number of the first thread: where it has none, isn't empty, and bears no mark.
@@ -267,67 +260,81 @@ fn gets_number(text: &[u8]) -> bool
     has_no_number(text)
 }
 
-/// The text that a text becomes, where its number changes.
-fn renumbered(alloc: Global, first: Option<u32>, text: &[u8]) -> Result<Option<Vec<u8>>, AllocError>
-    ensures { IfOk result (λ found. BecomesNumbered (Numbering.Plain first) text.now (option_map (λ line. line.items) found)) }
+/// The number that is written before a text, and the text behind it, where its number changes.
+fn renumbered(first: Option<u32>, text: &[u8]) -> Option<(u32, &[u8])>
+    ensures { MatchOption result ((line : List ℕ) → ¬ ChangesNumber (Numbering.Plain first) text.now line)
+        (λ x. ChangesNumber (Numbering.Plain first) text.now (with_number x.0 x.1.now)) }
 {
     if let Some(pid) = bracketed(text) {
         let (_, body) = cut(text);
-        return Ok(Some(with_number(alloc, pid, body)?));
+        return Some((pid, body));
     }
     let Some(pid) = first else {
-        return Ok(None);
+        return None;
     };
     if gets_number(text) {
-        return Ok(Some(with_number(alloc, pid, text)?));
+        return Some((pid, text));
     }
-    Ok(None)
+    None
 }
 
-/// The lines with their numbers, and how many of them that changed.
+/// Adds a text with a number before it.
+fn push_with_number(lines: &mut Lines, number: u32, pid: u32, body: &[u8]) -> Result<(), AllocError>
+    ensures { OnOk result (lines.new ≡ lines.old ++ (line_of number (with_number pid body.now) ∷ [])) }
+{
+    let mut buffer = itoa::Buffer::new();
+    lines.push(number, buffer.format(pid).as_bytes(), b" ", body)?;
+    Ok(())
+}
+
+/// Adds a text with its plain number to those that were made.
+fn add_numbered(
+    changed: &mut Changed,
+    number: u32,
+    text: &[u8],
+    first: Option<u32>,
+) -> Result<(), AllocError>
+    ensures made { OnOk result ((all rest : List Numbered)
+        → MakesSome (AreNumbered (Numbering.Plain first)) all (line_of number text.now ∷ rest) changed.old.lines changed.old.counts
+        → MakesSome (AreNumbered (Numbering.Plain first)) all rest changed.new.lines changed.new.counts) }
+    ensures one { OnOk result (length changed.new.lines ≡ length changed.old.lines + 1) }
+{
+    let Some((pid, body)) = renumbered(first, text) else {
+        changed.lines.push(number, &[], &[], text)?;
+        return Ok(());
+    };
+    push_with_number(&mut changed.lines, number, pid, body)?;
+    changed.counts.add(Sort::Numbered);
+    Ok(())
+}
+
+/// The texts with plain numbers.
+fn number_all(alloc: Global, lines: &Lines, first: Option<u32>) -> Result<Changed, AllocError>
+    ensures numbers { IfOk result (λ changed. AreNumbered (Numbering.Plain first) lines.now changed.lines changed.counts) }
+    ensures few { IfOk result (λ changed. length changed.lines ≡ length lines.now) }
+{
+    let mut changed = Changed::new(alloc);
+    'lines: for place in 0..lines.len() {
+        let (number, text) = lines.at(place);
+        add_numbered(&mut changed, number, text, first)?;
+    }
+    Ok(changed)
+}
+
+/// The texts with their numbers, and how many of them that changed.
 pub(crate) fn renumber(
     alloc: Global,
-    lines: Vec<Line>,
+    lines: Lines,
     numbering: Numbering,
 ) -> Result<Changed, AllocError>
-    ensures numbers { IfOk result (λ changed. AreNumbered numbering (numbered_all lines.items) (numbered_all changed.lines.items) changed.counts) }
-    ensures few { IfOk result (λ changed. length changed.lines.items ≡ length lines.items) }
+    ensures numbers { IfOk result (λ changed. AreNumbered numbering lines changed.lines changed.counts) }
+    ensures few { IfOk result (λ changed. length changed.lines ≡ length lines) }
 {
     match numbering {
         Numbering::AsPrinted => Ok(Changed {
             lines,
             counts: Counts::new(),
         }),
-        Numbering::Plain(first) => number_all(alloc, lines, first),
+        Numbering::Plain(first) => number_all(alloc, &lines, first),
     }
-}
-
-/// Adds a line with its plain number to those that were made.
-fn add_numbered(
-    alloc: Global,
-    changed: &mut Changed,
-    line: Line,
-    first: Option<u32>,
-) -> Result<(), AllocError>
-    ensures made { OnOk result ((all rest : List Numbered)
-        → MakesSome (AreNumbered (Numbering.Plain first)) all (numbered line ∷ rest) (numbered_all changed.old.lines.items) changed.old.counts
-        → MakesSome (AreNumbered (Numbering.Plain first)) all rest (numbered_all changed.new.lines.items) changed.new.counts) }
-    ensures one { OnOk result (length changed.new.lines.items ≡ length changed.old.lines.items + 1) }
-{
-    let other = renumbered(alloc, first, line.text.as_slice())?;
-    changed.add(line, other, Sort::Numbered)?;
-    Ok(())
-}
-
-/// The lines with plain numbers.
-fn number_all(alloc: Global, lines: Vec<Line>, first: Option<u32>) -> Result<Changed, AllocError>
-    ensures numbers { IfOk result (λ changed.
-        AreNumbered (Numbering.Plain first) (numbered_all lines.items) (numbered_all changed.lines.items) changed.counts) }
-    ensures few { IfOk result (λ changed. length changed.lines.items ≡ length lines.items) }
-{
-    let mut changed = Changed::new(alloc);
-    'lines: for line in lines {
-        add_numbered(alloc, &mut changed, line, first)?;
-    }
-    Ok(changed)
 }

@@ -9,14 +9,15 @@ ghost use Rattle.raw_logs.specs.Spaces.{speaks};
 ghost use Rattle.raw_logs.specs.declared.told.Told.{Told as ToldOf};
 ghost use Rattle.raw_logs.specs.Choosing.{picked_of, fault_of, long_fault};
 ghost use Rattle.raw_logs.specs.Reading.{IsNumberedLog, AreTexts, IsFirstUnknown, IsLogFault, EndsCut};
-ghost use Rattle.raw_logs.specs.Stages.{numbered, numbered_all, AreShort, HasSpeakers, seen};
+ghost use Rattle.raw_logs.specs.Log.{Numbered};
+ghost use Rattle.raw_logs.specs.Stages.{part_line, AreShort, HasSpeakers, seen};
 ghost use Rattle.raw_logs.specs.Told.{AreTold};
 
-use crate::choosing::{Picker, pick, with_silent};
+use crate::choosing::{Picker, chosen, pick, with_silent};
 use crate::counts::Counts;
 use crate::fault::LogFault;
-use crate::healing::{heal, make_plain, split_log};
-use crate::line::Line;
+use crate::healing::{Changed, Part, heal, split_log};
+use crate::lines::Lines;
 use crate::numbering::{numbering_of, renumber};
 use crate::spaces::{all_made, chooser_of, silent, speakers};
 use std::alloc::{AllocError, Global};
@@ -26,7 +27,7 @@ use std::collections::BTreeSet;
 #[derive(Debug, Drop)]
 pub struct Texts {
     /// The texts, each with the number of its line.
-    pub lines: Vec<Line>,
+    pub lines: Lines,
     /// How many lines of each sort were changed or left out.
     pub counts: Counts,
     /// The number of the first line whose beginning isn't known; such lines are left out.
@@ -38,15 +39,15 @@ pub struct Texts {
 /// The texts of a log, each with its number.
 #[derive(Drop)]
 struct NumberedLog {
-    lines: Vec<Line>,
+    lines: Lines,
     counts: Counts,
     ends_cut: bool,
 }
 
 /// Whether a log ends within a line: bytes are left behind the last newline, or a part of a line waits for its rest.
-fn ends_within(cut: &[u8], part: &Option<Line>) -> bool
-    ensures none { result ≡ false → (cut.now ≡ []) × (option_map numbered part.now ≡ None) }
-    ensures some { (cut.now ≡ []) → option_map numbered part.now ≡ None → result ≡ false }
+fn ends_within(cut: &[u8], part: &Option<Part>) -> bool
+    ensures none { result ≡ false → (cut.now ≡ []) × (option_map part_line part.now ≡ None) }
+    ensures some { (cut.now ≡ []) → option_map part_line part.now ≡ None → result ≡ false }
 {
     if !cut.is_empty() {
         return true;
@@ -57,43 +58,43 @@ fn ends_within(cut: &[u8], part: &Option<Line>) -> bool
 /// The texts of a log, plain and with their numbers.
 fn read_texts(alloc: Global, text: &[u8]) -> Result<NumberedLog, AllocError>
     requires { length text.now ≤ 67108864 }
-    ensures read { IfOk result (λ found. IsNumberedLog text.now (numbered_all found.lines.items) found.counts) }
-    ensures few { IfOk result (λ found. length found.lines.items ≤ length text.now) }
+    ensures read { IfOk result (λ found. IsNumberedLog text.now found.lines found.counts) }
+    ensures few { IfOk result (λ found. length found.lines ≤ length text.now) }
     ensures cut { IfOk result (λ found. EndsCut text.now found.ends_cut) }
 {
     let (whole, cut) = split_log(text);
     let healer = heal(alloc, whole)?;
     let ends_cut = ends_within(cut, &healer.part);
-    let plains = make_plain(alloc, healer.lines)?;
-    let numbering = numbering_of(alloc, whole, plains.lines.as_slice())?;
-    let numbered = renumber(alloc, plains.lines, numbering)?;
+    let healed = healer.counts;
+    let Changed { lines, counts } = healer.plain;
+    let numbering = numbering_of(alloc, whole, &lines)?;
+    let numbered = renumber(alloc, lines, numbering)?;
     Ok(NumberedLog {
         lines: numbered.lines,
-        counts: healer.counts.with(plains.counts.with(numbered.counts)),
+        counts: healed.with(counts.with(numbered.counts)),
         ends_cut,
     })
 }
 
-/// What is picked of the lines of a log, of which these numbers have some.
+/// What is picked of the lines of a log, of which these numbers have some, and the lines that are written.
 fn pick_lines(
     alloc: Global,
-    lines: Vec<Line>,
+    lines: Lines,
     process: Option<u32>,
     speakers: &BTreeSet<u32>,
-) -> Result<Picker, AllocError>
-    requires { length lines.items < 2 ^ 32 }
-    ensures picked { HasSpeakers speakers.now lines.items → IfOk result (λ picker. (tolds : List ToldOf) × AreTold (numbered_all lines.items) tolds
-        × (seen picker ≡ picked_of process (numbered_all lines.items) tolds)) }
-    ensures few { IfOk result (λ picker. length picker.lines.items ≤ length lines.items) }
-    ensures short { IfOk result (λ picker. AreShort picker.lines.items) }
+) -> Result<(Picker, Lines), AllocError>
+    requires { length lines < 2 ^ 32 }
+    ensures picked { HasSpeakers speakers.now lines → IfOk result (λ found. (tolds : List ToldOf) × AreTold lines tolds
+        × (seen found.1 found.0 ≡ picked_of process lines tolds)) }
+    ensures few { IfOk result (λ found. length found.1 ≤ length lines) }
+    ensures short { IfOk result (λ found. AreShort found.1) }
 {
-    let shown = lines.as_slice();
-    let count = shown.len() as u32;
-    let made = all_made(alloc, shown)?;
+    let count = lines.len() as u32;
+    let made = all_made(alloc, &lines)?;
     let chooser = chooser_of(alloc, made.as_slice(), process, count)?;
-    let without = silent(made.as_slice(), speakers);
-    let picker = pick(alloc, lines, &chooser)?;
-    Ok(with_silent(picker, without))
+    let picker = with_silent(pick(&lines, &chooser), silent(made.as_slice(), speakers));
+    let kept = chosen(alloc, &lines, &chooser, picker.start)?;
+    Ok((picker, kept))
 }
 
 /// Whether a process is asked for that has no line.
@@ -114,30 +115,28 @@ fn is_silent(speakers: &BTreeSet<u32>, process: Option<u32>) -> bool
 pub fn read_log(alloc: Global, text: &[u8], process: Option<u32>) -> Result<Texts, LogFault>
     requires { length text.now ≤ 67108864 }
     // They are the texts that are written.
-    ensures texts { IfOk result (λ found. AreTexts process text.now (numbered_all found.lines.items) found.counts) }
+    ensures texts { IfOk result (λ found. AreTexts process text.now found.lines found.counts) }
     // The first line whose beginning isn't known.
     ensures unknown { IfOk result (λ found. IsFirstUnknown process text.now found.unknown) }
     // None is longer than a line may be.
-    ensures short { IfOk result (λ found. AreShort found.lines.items) }
+    ensures short { IfOk result (λ found. AreShort found.lines) }
     // There are no more of them than bytes.
-    ensures few { IfOk result (λ found. length found.lines.items ≤ length text.now) }
+    ensures few { IfOk result (λ found. length found.lines ≤ length text.now) }
     // Whether the log ends within a line.
     ensures cut { IfOk result (λ found. EndsCut text.now found.ends_cut) }
     // A fault has its cause.
     ensures fault { IfErr result (λ fault. (fault ≡ Memory) ⊎ IsLogFault process text.now fault) }
 {
     let found = read_texts(alloc, text)?;
-    let speakers = speakers(alloc, found.lines.as_slice())?;
+    let speakers = speakers(alloc, &found.lines)?;
     let alone = is_silent(&speakers, process);
-    let picker = pick_lines(alloc, found.lines, process, &speakers)?;
+    let (picker, lines) = pick_lines(alloc, found.lines, process, &speakers)?;
     if alone {
         return Err(LogFault::NoProcess);
     }
     if let Some(line) = picker.too_long {
         return Err(LogFault::LongLine { line });
     }
-    let mut lines = picker.lines;
-    lines.reverse();
     Ok(Texts {
         lines,
         counts: found.counts.with(picker.counts),

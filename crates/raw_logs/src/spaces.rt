@@ -12,9 +12,9 @@ ghost use Rattle.raw_logs.specs.declared.told.Told.{Told as ToldOf};
 ghost use Rattle.raw_logs.specs.Spaces.{links, made_from, led, has_line, speaks, silent};
 ghost use Rattle.raw_logs.specs.Counting.{within_32_bits};
 ghost use Rattle.raw_logs.specs.Told.{AreTold};
-ghost use Rattle.raw_logs.specs.Stages.{numbered_all, HasMade, space_in, HasSpaces, IsPast, IsChooser, or_else, HasSpeakers};
+ghost use Rattle.raw_logs.specs.Stages.{HasMade, space_in, HasSpaces, IsPast, IsChooser, or_else, HasSpeakers};
 
-use crate::line::Line;
+use crate::lines::Lines;
 use crate::told::{Told, told_of};
 use raw_lines::{MadeAs, Making};
 use std::alloc::{AllocError, Global};
@@ -117,19 +117,17 @@ impl Makers {
 }
 
 /// Who made whom, by the lines of a log, the latest first.
-pub(crate) fn all_made(alloc: Global, lines: &[Line]) -> Result<Vec<Made>, AllocError>
+pub(crate) fn all_made(alloc: Global, lines: &Lines) -> Result<Vec<Made>, AllocError>
     requires { length lines.now < 2 ^ 32 }
-    ensures { IfOk result (λ made. (tolds : List ToldOf) × AreTold (numbered_all lines.now) tolds × (made.items ≡ made_from 0 tolds)) }
+    ensures { IfOk result (λ made. (tolds : List ToldOf) × AreTold lines.now tolds × (made.items ≡ made_from 0 tolds)) }
 {
     let mut makers = Makers {
         ended: BTreeMap::new(alloc),
         made: Vec::new(alloc),
     };
-    let mut left = lines;
-    'lines: while let Some((line, front)) = left.split_last() {
-        let told = told_of(line.text.as_slice());
-        makers.take(front.len() as u32, told)?;
-        left = front;
+    'lines: for place in (0..lines.len()).rev() {
+        let (_, text) = lines.at(place);
+        makers.take(place as u32, told_of(text))?;
     }
     Ok(makers.made)
 }
@@ -308,15 +306,13 @@ fn put_number(found: &mut BTreeSet<u32>, pid: u32) -> Result<(), AllocError>
 }
 
 /// The numbers that have a line.
-pub(crate) fn speakers(alloc: Global, lines: &[Line]) -> Result<BTreeSet<u32>, AllocError>
+pub(crate) fn speakers(alloc: Global, lines: &Lines) -> Result<BTreeSet<u32>, AllocError>
     ensures { IfOk result (λ found. HasSpeakers found lines.now) }
 {
     let mut found = BTreeSet::new(alloc);
-    let mut left = lines;
-    'lines: while let Some((line, front)) = left.split_last() {
-        let told = told_of(line.text.as_slice());
-        put_number(&mut found, told.pid)?;
-        left = front;
+    'lines: for place in (0..lines.len()).rev() {
+        let (_, text) = lines.at(place);
+        put_number(&mut found, told_of(text).pid)?;
     }
     Ok(found)
 }

@@ -3,7 +3,7 @@
 
 ghost use Rattle.raw_logs.specs.Told.{IsForm, Tells};
 
-use crate::line::LINE_LIMIT;
+use crate::lines::LINE_LIMIT;
 use raw_lines::{Making, is_known, is_of_profile, is_unread, told_by};
 use strace_reader::cut;
 

@@ -3,9 +3,7 @@ use Rattle.std.proofs.Common.{◌≡◌, ◌⊎◌, ℕ, zero, suc, ◌+◌, ◌
 use Rattle.std.specs.Prelude.{reverse, slice_get}
 use Rattle.std.proofs.lemmas.List.{append-nil, length-append, length-map, reverse-append}
 use Rattle.raw_logs.specs.declared.counts.Counts.{Counts}
-use Rattle.raw_logs.specs.declared.line.Line.{Line}
 use Rattle.raw_logs.specs.Log.{Numbered, texts_of}
-use Rattle.raw_logs.specs.Stages.{numbered, numbered_all, texts}
 use Rattle.raw_trace.specs.declared.fault.Fault.{Fault}
 use Rattle.raw_trace.specs.declared.fault.Fault.TheVariants.{Memory}
 use Rattle.raw_trace.specs.declared.halves.Role.{Role}
@@ -19,7 +17,7 @@ use Rattle.raw_trace.specs.Stages.{entries, EachEntry, MayBeWritten, WroteLines,
 use Rattle.raw_trace.proofs.EachEntries.{each_both}
 use Rattle.raw_trace.proofs.OneFault.{first_more, first_behind, texts_both as of_both}
 use Rattle.raw_trace.proofs.Turns.{text_both, counted_both, calls_both}
-use Rattle.raw_trace.proofs.TextPlaces.{LeftAt, left_at, split_texts, role_here, number_there, same_texts, fed_more, none_later}
+use Rattle.raw_trace.proofs.TextPlaces.{LeftAt, left_at, split_texts, role_here, number_there, fed_more, none_later}
 
 -- ---- a step more
 
@@ -45,26 +43,18 @@ steps_more fed (x ∷ xs) t later (s ∷ steps) step are is = (
   steps_more (x.text ∷ fed) xs t later steps step are.1 is,
 )
 
-numbered_both : (a b : List Line) → numbered_all (a ++ b) ≡ numbered_all a ++ numbered_all b
-numbered_both [] b = refl
-numbered_both (x ∷ a) b = ap (λ (z : List Numbered). numbered x ∷ z) (numbered_both a b)
-
--- the steps with that of a line more
-line_more : (fed rest : List Line) (line : Line) (steps : List Step) (step : Step) → AreSteps [] (numbered_all fed) (line.text.items ∷ texts rest) steps
-    → IsStep (reverse (texts fed)) (numbered line) (texts rest) step
-    → AreSteps [] (numbered_all (fed ++ (line ∷ []))) (texts rest) (steps ++ (step ∷ []))
+line_more : (fed rest : List Numbered) (line : Numbered) (steps : List Step) (step : Step) → AreSteps [] fed (line.text ∷ texts_of rest) steps
+    → IsStep (reverse (texts_of fed)) line (texts_of rest) step
+    → AreSteps [] (fed ++ (line ∷ [])) (texts_of rest) (steps ++ (step ∷ []))
 line_more fed rest line steps step are is =
-    let back : reverse (texts fed) ≡ behind_all [] (numbered_all fed) =
-    ap (λ (z : List (List ℕ)). reverse z) (sym (same_texts fed)) ∙ sym (append-nil (reverse (texts_of (numbered_all fed))))
-    ∙ sym (behind_is [] (numbered_all fed)) in
-    subst (λ (z : List Numbered). AreSteps [] z (texts rest) (steps ++ (step ∷ []))) (sym (numbered_both fed (line ∷ [])))
-    (steps_more [] (numbered_all fed) (numbered line) (texts rest) steps step are
-    (subst (λ (z : List (List ℕ)). IsStep z (numbered line) (texts rest) step) back is))
+    let back : reverse (texts_of fed) ≡ behind_all [] fed =
+    sym (append-nil (reverse (texts_of fed))) ∙ sym (behind_is [] fed) in
+    steps_more [] fed line (texts_of rest) steps step are (subst (λ (z : List (List ℕ)). IsStep z line (texts_of rest) step) back is)
 
 -- ---- the loop
 
 -- nothing was done yet
-pub did_none : (strict : Bool) (lines : List Line) (counts : Counts) (now : Ordering) → now.waiting.items ≡ [] → now.written.out.items ≡ []
+pub did_none : (strict : Bool) (lines : List Numbered) (counts : Counts) (now : Ordering) → now.waiting.items ≡ [] → now.written.out.items ≡ []
     → now.written.counts ≡ counts → now.written.calls ≡ 0 → DidSome strict lines 0 counts now
 did_none strict lines counts now w o c n =
     record {
@@ -83,18 +73,18 @@ did_none strict lines counts now w o c n =
     }
 
 -- what a line more gives
-did_more : (strict : Bool) (lines : List Line) (place : ℕ) (counts : Counts) (old new : Ordering) (d : DidSome strict lines place counts old) (line : Line)
-    (rest : List Line) → d.later ≡ line ∷ rest → TookText strict (reverse (texts d.fed)) (numbered line) (texts rest) old new
+did_more : (strict : Bool) (lines : List Numbered) (place : ℕ) (counts : Counts) (old new : Ordering) (d : DidSome strict lines place counts old)
+    (line : Numbered) (rest : List Numbered) → d.later ≡ line ∷ rest → TookText strict (reverse (texts_of d.fed)) line (texts_of rest) old new
     → DidSome strict lines (place + 1) counts new
 did_more strict lines place counts old new d line rest e t =
     let found = does frees_for t.step (entries old.waiting.items) in
     record {
       fed = d.fed ++ (line ∷ []);
       later = rest;
-      parts = d.parts ∙ ap (λ (x : List Line). d.fed ++ x) e ∙ sym (append_assoc d.fed (line ∷ []) rest);
+      parts = d.parts ∙ ap (λ (x : List Numbered). d.fed ++ x) e ∙ sym (append_assoc d.fed (line ∷ []) rest);
       count = length-append d.fed (line ∷ []) ∙ ap (λ (x : ℕ). x + 1) d.count;
       steps = d.steps ++ (t.step ∷ []);
-      are = line_more d.fed rest line d.steps t.step (subst (λ (x : List Line). AreSteps [] (numbered_all d.fed) (texts x) d.steps) e d.are) t.is;
+      are = line_more d.fed rest line d.steps t.step (subst (λ (x : List Numbered). AreSteps [] d.fed (texts_of x) d.steps) e d.are) t.is;
       written = d.written ++ found.lines;
       follows = λ more.
           ap (λ (x : List Step). order frees_for [] x) (append_assoc d.steps (t.step ∷ []) more) ∙ d.follows (t.step ∷ more)
@@ -107,20 +97,19 @@ did_more strict lines place counts old new d line rest e t =
     }
 
 -- the writing ends at a line
-did_end : (strict : Bool) (lines : List Line) (place : ℕ) (counts : Counts) (old : Ordering) (d : DidSome strict lines place counts old) (line : Line)
-    (rest : List Line) (fault : Fault) → d.later ≡ line ∷ rest → EndsText strict (reverse (texts d.fed)) (numbered line) (texts rest) old fault
-    → EndsAll strict (numbered_all lines) fault
+did_end : (strict : Bool) (lines : List Numbered) (place : ℕ) (counts : Counts) (old : Ordering) (d : DidSome strict lines place counts old) (line : Numbered)
+    (rest : List Numbered) (fault : Fault) → d.later ≡ line ∷ rest → EndsText strict (reverse (texts_of d.fed)) line (texts_of rest) old fault
+    → EndsAll strict lines fault
 did_end strict lines place counts old d line rest fault e (inl h) = inl h
 did_end strict lines place counts old d line rest fault e (inr h) =
     let found = does frees_for h.0 (entries old.waiting.items) in
-    let parts = d.parts ∙ ap (λ (x : List Line). d.fed ++ x) e ∙ sym (append_assoc d.fed (line ∷ []) rest) in
+    let parts = d.parts ∙ ap (λ (x : List Numbered). d.fed ++ x) e ∙ sym (append_assoc d.fed (line ∷ []) rest) in
     inr (record {
-      fed = numbered_all (d.fed ++ (line ∷ []));
-      later = numbered_all rest;
-      parts = ap (λ (x : List Line). numbered_all x) parts ∙ numbered_both (d.fed ++ (line ∷ [])) rest;
+      fed = d.fed ++ (line ∷ []);
+      later = rest;
+      parts = parts;
       steps = d.steps ++ (h.0 ∷ []);
-      are = subst (λ (x : List (List ℕ)). AreSteps [] (numbered_all (d.fed ++ (line ∷ []))) x (d.steps ++ (h.0 ∷ []))) (sym (same_texts rest))
-          (line_more d.fed rest line d.steps h.0 (subst (λ (x : List Line). AreSteps [] (numbered_all d.fed) (texts x) d.steps) e d.are) h.1);
+      are = line_more d.fed rest line d.steps h.0 (subst (λ (x : List Numbered). AreSteps [] d.fed (texts_of x) d.steps) e d.are) h.1;
       first = subst (λ (x : List Entry). IsFirstFault strict x fault) (sym (d.follows (h.0 ∷ [])))
           (first_behind strict d.written (found.lines ++ []) fault d.may (first_more strict found.lines [] fault h.2));
     })
@@ -128,72 +117,72 @@ did_end strict lines place counts old d line rest fault e (inr h) =
 -- ---- with the roles of the texts
 
 -- the role of a place that wasn't looked at yet
-pub step_role : (strict : Bool) (lines : List Line) (place : ℕ) (counts : Counts) (roles : List Role) (role : Role) (old : Ordering)
-    → DidSome strict lines place counts old → AreRoles [] (texts lines) roles → role ≡ get_or roles place role → place < length roles → place < length lines
-    → (text : List ℕ) × IsRoleAt (texts lines) place text role
+pub step_role : (strict : Bool) (lines : List Numbered) (place : ℕ) (counts : Counts) (roles : List Role) (role : Role) (old : Ordering)
+    → DidSome strict lines place counts old → AreRoles [] (texts_of lines) roles → role ≡ get_or roles place role → place < length roles → place < length lines
+    → (text : List ℕ) × IsRoleAt (texts_of lines) place text role
 step_role strict lines place counts roles role old w h is l k =
     let left = left_at lines w.fed w.later place w.parts w.count k in
-    let parts = split_texts lines w.fed left.rest left.line (w.parts ∙ ap (λ (x : List Line). w.fed ++ x) left.is) in (
-      left.line.text.items,
+    let parts = split_texts lines w.fed left.rest left.line (w.parts ∙ ap (λ (x : List Numbered). w.fed ++ x) left.is) in (
+      left.line.text,
       record {
-        before = texts w.fed;
-        after = texts left.rest;
+        before = texts_of w.fed;
+        after = texts_of left.rest;
         parts = parts;
-        count = length-map w.fed (λ (x : Line). x.text.items) ∙ w.count;
+        count = length-map w.fed (λ (x : Numbered). x.text) ∙ w.count;
         has = role_here lines w.fed left.rest left.line place roles role parts w.count h is l;
       },
     )
 
 -- what its text does was done
-pub step_did : (strict : Bool) (lines : List Line) (place : ℕ) (counts : Counts) (roles : List Role) (role : Role) (old new : Ordering)
-    → DidSome strict lines place counts old → AreRoles [] (texts lines) roles → role ≡ get_or roles place role → place < length roles → place < length lines
-    → ((text : Numbered) (at : IsRoleAt (texts lines) place text.text role) → slice_get (numbered_all lines) place ≡ Some text
+pub step_did : (strict : Bool) (lines : List Numbered) (place : ℕ) (counts : Counts) (roles : List Role) (role : Role) (old new : Ordering)
+    → DidSome strict lines place counts old → AreRoles [] (texts_of lines) roles → role ≡ get_or roles place role → place < length roles → place < length lines
+    → ((text : Numbered) (at : IsRoleAt (texts_of lines) place text.text role) → slice_get lines place ≡ Some text
     → TookText strict (reverse at.before) text at.after old new)
     → DidSome strict lines (place + 1) counts new
 step_did strict lines place counts roles role old new w h is l k did =
     let left = left_at lines w.fed w.later place w.parts w.count k in
-    let whole = w.parts ∙ ap (λ (x : List Line). w.fed ++ x) left.is in
+    let whole = w.parts ∙ ap (λ (x : List Numbered). w.fed ++ x) left.is in
     let parts = split_texts lines w.fed left.rest left.line whole in
-    did_more strict lines place counts old new w left.line left.rest left.is (did (numbered left.line) (record {
-      before = texts w.fed;
-      after = texts left.rest;
+    did_more strict lines place counts old new w left.line left.rest left.is (did left.line (record {
+      before = texts_of w.fed;
+      after = texts_of left.rest;
       parts = parts;
-      count = length-map w.fed (λ (x : Line). x.text.items) ∙ w.count;
+      count = length-map w.fed (λ (x : Numbered). x.text) ∙ w.count;
       has = role_here lines w.fed left.rest left.line place roles role parts w.count h is l;
-    }) (subst (λ (x : List Line). slice_get (numbered_all x) place ≡ Some (numbered left.line)) (sym whole)
+    }) (subst (λ (x : List Numbered). slice_get x place ≡ Some left.line) (sym whole)
     (number_there w.fed left.rest left.line place w.count)))
 
 -- the writing ended at it
-pub step_ends : (strict : Bool) (lines : List Line) (place : ℕ) (counts : Counts) (roles : List Role) (role : Role) (old : Ordering) (fault : Fault)
-    → DidSome strict lines place counts old → AreRoles [] (texts lines) roles → role ≡ get_or roles place role → place < length roles → place < length lines
-    → ((text : Numbered) (at : IsRoleAt (texts lines) place text.text role) → slice_get (numbered_all lines) place ≡ Some text
+pub step_ends : (strict : Bool) (lines : List Numbered) (place : ℕ) (counts : Counts) (roles : List Role) (role : Role) (old : Ordering) (fault : Fault)
+    → DidSome strict lines place counts old → AreRoles [] (texts_of lines) roles → role ≡ get_or roles place role → place < length roles → place < length lines
+    → ((text : Numbered) (at : IsRoleAt (texts_of lines) place text.text role) → slice_get lines place ≡ Some text
     → EndsText strict (reverse at.before) text at.after old fault)
-    → EndsAll strict (numbered_all lines) fault
+    → EndsAll strict lines fault
 step_ends strict lines place counts roles role old fault w h is l k ends =
     let left = left_at lines w.fed w.later place w.parts w.count k in
-    let whole = w.parts ∙ ap (λ (x : List Line). w.fed ++ x) left.is in
+    let whole = w.parts ∙ ap (λ (x : List Numbered). w.fed ++ x) left.is in
     let parts = split_texts lines w.fed left.rest left.line whole in
-    did_end strict lines place counts old w left.line left.rest fault left.is (ends (numbered left.line) (record {
-      before = texts w.fed;
-      after = texts left.rest;
+    did_end strict lines place counts old w left.line left.rest fault left.is (ends left.line (record {
+      before = texts_of w.fed;
+      after = texts_of left.rest;
       parts = parts;
-      count = length-map w.fed (λ (x : Line). x.text.items) ∙ w.count;
+      count = length-map w.fed (λ (x : Numbered). x.text) ∙ w.count;
       has = role_here lines w.fed left.rest left.line place roles role parts w.count h is l;
-    }) (subst (λ (x : List Line). slice_get (numbered_all x) place ≡ Some (numbered left.line)) (sym whole)
+    }) (subst (λ (x : List Numbered). slice_get x place ≡ Some left.line) (sym whole)
     (number_there w.fed left.rest left.line place w.count)))
 
 -- all was done
-pub did_all : (strict : Bool) (lines : List Line) (place : ℕ) (counts : Counts) (now : Ordering) → DidSome strict lines place counts now
-    → length lines ≤ place → WroteAll strict (numbered_all lines) counts now.written
+pub did_all : (strict : Bool) (lines : List Numbered) (place : ℕ) (counts : Counts) (now : Ordering) → DidSome strict lines place counts now
+    → length lines ≤ place → WroteAll strict lines counts now.written
 did_all strict lines place counts now d l =
     let none = none_later lines d.fed d.later place d.parts d.count l in
-    let whole : lines ≡ d.fed = d.parts ∙ ap (λ (x : List Line). d.fed ++ x) none ∙ append-nil d.fed in
+    let whole : lines ≡ d.fed = d.parts ∙ ap (λ (x : List Numbered). d.fed ++ x) none ∙ append-nil d.fed in
     let same : order frees_for [] d.steps ≡ d.written =
     ap (λ (x : List Step). order frees_for [] x) (sym (append-nil d.steps)) ∙ d.follows [] ∙ append-nil d.written in
     record {
       steps = d.steps;
-      are = subst (λ (x : List Line). AreSteps [] (numbered_all x) [] d.steps) (sym whole)
-          (subst (λ (x : List Line). AreSteps [] (numbered_all d.fed) (texts x) d.steps) none d.are);
+      are = subst (λ (x : List Numbered). AreSteps [] x [] d.steps) (sym whole)
+          (subst (λ (x : List Numbered). AreSteps [] d.fed (texts_of x) d.steps) none d.are);
       out = d.out ∙ ap (λ (x : List Entry). text_of (lines_as x)) (sym same);
       sum = d.sum ∙ ap (λ (x : List Entry). counted_all counts x) (sym same);
       calls = d.calls ∙ ap (λ (x : List Entry). calls_after 0 x) (sym same);

@@ -10,9 +10,7 @@ use Rattle.strace_reader.specs.Grammar.{EndsWith, IsCut, IsBody, Spells}
 use Rattle.strace_reader.proofs.FormFacts.{cut_same}
 use Rattle.strace_reader.proofs.OneOutcome.{one_outcome}
 use Rattle.raw_lines.specs.Marks.{unread_text}
-use Rattle.raw_logs.specs.declared.line.Line.{Line}
-use Rattle.raw_logs.specs.Log.{Numbered}
-use Rattle.raw_logs.specs.Stages.{numbered_all, texts}
+use Rattle.raw_logs.specs.Log.{Numbered, texts_of}
 use Rattle.raw_trace.specs.declared.fault.Trouble.{Trouble}
 use Rattle.raw_trace.specs.declared.fault.Fault.{Fault}
 use Rattle.raw_trace.specs.declared.fault.Fault.TheVariants.{Memory}
@@ -85,8 +83,8 @@ entry_of number joined line body piece n j c b t r =
 -- ---- by role
 
 -- the number of the line at a place
-abbrev pub IsNumberAt : List Line → ℕ → ℕ → Type 0
-IsNumberAt lines place number = (text : Numbered) → slice_get (numbered_all lines) place ≡ Some text → number ≡ text.number
+abbrev pub IsNumberAt : List Numbered → ℕ → ℕ → Type 0
+IsNumberAt lines place number = (text : Numbered) → slice_get lines place ≡ Some text → number ≡ text.number
 
 -- the entry of the text at a place
 entry_at : (number : ℕ) (joined : Bool) (shown : List ℕ) (e : Entry) (text : Numbered) → number ≡ text.number → shown ≡ text.text
@@ -95,38 +93,38 @@ entry_at number joined shown e text n s is =
     subst (λ (x : ℕ). IsEntry x joined text.text e) n (subst (λ (x : List ℕ). IsEntry number joined x e) s is)
 
 -- a text alone comes
-alone_step : (lines : List Line) (place number : ℕ) (role : Role) (shown : List ℕ) (e : Entry) → role ≡ Alone → IsTextAt lines place shown
+alone_step : (lines : List Numbered) (place number : ℕ) (role : Role) (shown : List ℕ) (e : Entry) → role ≡ Alone → IsTextAt lines place shown
     → IsNumberAt lines place number → IsEntry number false shown e
-    → (text : Numbered) (at : IsRoleAt (texts lines) place text.text role) → slice_get (numbered_all lines) place ≡ Some text
+    → (text : Numbered) (at : IsRoleAt (texts_of lines) place text.text role) → slice_get lines place ≡ Some text
     → IsStep (reverse at.before) text at.after (Comes e)
 alone_step lines place number role shown e r is n en text at get = (
   subst (IsRole at.before text.text at.after) r at.has,
-  entry_at number false shown e text (n text get) (is text.text (role_text (texts lines) place text.text role at)) en,
+  entry_at number false shown e text (n text get) (is text.text (role_text (texts_of lines) place text.text role at)) en,
 )
 
-pub alone_took : (strict : Bool) (lines : List Line) (place number : ℕ) (role : Role) (shown : List ℕ) (e : Entry) (old new : Ordering) → role ≡ Alone
+pub alone_took : (strict : Bool) (lines : List Numbered) (place number : ℕ) (role : Role) (shown : List ℕ) (e : Entry) (old new : Ordering) → role ≡ Alone
     → IsTextAt lines place shown → IsNumberAt lines place number → IsEntry number false shown e
     → WroteDue strict old (write_entry frees_for e (entries old.waiting.items)) new
-    → (text : Numbered) (at : IsRoleAt (texts lines) place text.text role) → slice_get (numbered_all lines) place ≡ Some text
+    → (text : Numbered) (at : IsRoleAt (texts_of lines) place text.text role) → slice_get lines place ≡ Some text
     → TookText strict (reverse at.before) text at.after old new
 alone_took strict lines place number role shown e old new r is n en did text at get =
     record { step = Comes e; is = alone_step lines place number role shown e r is n en text at get; did = did }
 
-pub alone_ends : (strict : Bool) (lines : List Line) (place number : ℕ) (role : Role) (shown : List ℕ) (e : Entry) (old : Ordering) (fault : Fault)
+pub alone_ends : (strict : Bool) (lines : List Numbered) (place number : ℕ) (role : Role) (shown : List ℕ) (e : Entry) (old : Ordering) (fault : Fault)
     → role ≡ Alone → IsTextAt lines place shown → IsNumberAt lines place number → IsEntry number false shown e
     → EndsDue strict (write_entry frees_for e (entries old.waiting.items)).lines fault
-    → (text : Numbered) (at : IsRoleAt (texts lines) place text.text role) → slice_get (numbered_all lines) place ≡ Some text
+    → (text : Numbered) (at : IsRoleAt (texts_of lines) place text.text role) → slice_get lines place ≡ Some text
     → EndsText strict (reverse at.before) text at.after old fault
 alone_ends strict lines place number role shown e old fault r is n en (inl m) text at get = inl m
 alone_ends strict lines place number role shown e old fault r is n en (inr f) text at get =
     inr (Comes e, alone_step lines place number role shown e r is n en text at get, f)
 
 -- a first half begins its call
-pub first_took : (strict : Bool) (lines : List Line) (place number other to behind : ℕ) (name : Name) (role : Role) (shown second line : List ℕ) (e : Entry)
+pub first_took : (strict : Bool) (lines : List Numbered) (place number other to behind : ℕ) (name : Name) (role : Role) (shown second line : List ℕ) (e : Entry)
     (old new : Ordering) → role ≡ First other to behind name → IsTextAt lines place shown → IsTextAt lines other second
     → line ≡ take to shown ++ drop behind second → IsNumberAt lines place number → IsEntry number true line e
     → entries new.waiting.items ≡ entries old.waiting.items ++ (e ∷ []) → new.written ≡ old.written
-    → (text : Numbered) (at : IsRoleAt (texts lines) place text.text role) → slice_get (numbered_all lines) place ≡ Some text
+    → (text : Numbered) (at : IsRoleAt (texts_of lines) place text.text role) → slice_get lines place ≡ Some text
     → TookText strict (reverse at.before) text at.after old new
 first_took strict lines place number other to behind name role shown second line e old new r is other_is le n en w same text at get =
     record {
@@ -135,7 +133,7 @@ first_took strict lines place number other to behind name role shown second line
         name,
         line,
         joined_first lines at.before at.after text.text shown second line other to behind name at.parts
-            (is text.text (role_text (texts lines) place text.text role at)) other_is le (subst (IsRole at.before text.text at.after) r at.has),
+            (is text.text (role_text (texts_of lines) place text.text role at)) other_is le (subst (IsRole at.before text.text at.after) r at.has),
         subst (λ (x : ℕ). IsEntry x true line e) (n text get) en,
       );
       did = record { wrote = subst (λ (x : Written). WroteLines strict old.written [] x) (sym same) (wrote_none strict old.written); waits = w };
@@ -146,28 +144,28 @@ cut_second : (text : List ℕ) (p : ℕ) (name : Name) (from : ℕ) → Spells t
 unfolding Spells
 cut_second text p name from h = (h.0, h.2)
 
-second_step : (lines : List Line) (place other to behind pid : ℕ) (name : Name) (role : Role) (shown body : List ℕ)
+second_step : (lines : List Numbered) (place other to behind pid : ℕ) (name : Name) (role : Role) (shown body : List ℕ)
     → role ≡ Second other to behind name → IsTextAt lines place shown → IsCut shown pid body
-    → (text : Numbered) (at : IsRoleAt (texts lines) place text.text role) → IsStep (reverse at.before) text at.after (Ends pid)
+    → (text : Numbered) (at : IsRoleAt (texts_of lines) place text.text role) → IsStep (reverse at.before) text at.after (Ends pid)
 second_step lines place other to behind pid name role shown body r is cut text at =
     let has = subst (IsRole at.before text.text at.after) r at.has in
     let s = has.6 in
     let c = cut_second text.text s.process name s.halves.2 s.halves.4 in
-    let here : IsCut text.text pid body = subst (λ (x : List ℕ). IsCut x pid body) (is text.text (role_text (texts lines) place text.text role at)) cut in
+    let here : IsCut text.text pid body = subst (λ (x : List ℕ). IsCut x pid body) (is text.text (role_text (texts_of lines) place text.text role at)) cut in
     (name, take to has.0 ++ drop behind text.text, s, (cut_same text.text s.process pid c.0 body c.1 here).0)
 
-pub second_took : (strict : Bool) (lines : List Line) (place other to behind pid : ℕ) (name : Name) (role : Role) (shown body : List ℕ)
+pub second_took : (strict : Bool) (lines : List Numbered) (place other to behind pid : ℕ) (name : Name) (role : Role) (shown body : List ℕ)
     (old new : Ordering) → role ≡ Second other to behind name → IsTextAt lines place shown → IsCut shown pid body
     → WroteDue strict old (does frees_for (Ends pid) (entries old.waiting.items)) new
-    → (text : Numbered) (at : IsRoleAt (texts lines) place text.text role) → slice_get (numbered_all lines) place ≡ Some text
+    → (text : Numbered) (at : IsRoleAt (texts_of lines) place text.text role) → slice_get lines place ≡ Some text
     → TookText strict (reverse at.before) text at.after old new
 second_took strict lines place other to behind pid name role shown body old new r is cut did text at get =
     record { step = Ends pid; is = second_step lines place other to behind pid name role shown body r is cut text at; did = did }
 
-pub second_ends : (strict : Bool) (lines : List Line) (place other to behind pid : ℕ) (name : Name) (role : Role) (shown body : List ℕ)
+pub second_ends : (strict : Bool) (lines : List Numbered) (place other to behind pid : ℕ) (name : Name) (role : Role) (shown body : List ℕ)
     (old : Ordering) (fault : Fault) → role ≡ Second other to behind name → IsTextAt lines place shown → IsCut shown pid body
     → EndsDue strict (does frees_for (Ends pid) (entries old.waiting.items)).lines fault
-    → (text : Numbered) (at : IsRoleAt (texts lines) place text.text role) → slice_get (numbered_all lines) place ≡ Some text
+    → (text : Numbered) (at : IsRoleAt (texts_of lines) place text.text role) → slice_get lines place ≡ Some text
     → EndsText strict (reverse at.before) text at.after old fault
 second_ends strict lines place other to behind pid name role shown body old fault r is cut (inl m) text at get = inl m
 second_ends strict lines place other to behind pid name role shown body old fault r is cut (inr f) text at get =

@@ -8,9 +8,7 @@ use Rattle.strace_reader.specs.Grammar.{IsBody, Spells}
 use Rattle.strace_reader.proofs.FormFacts.{half_length}
 use Rattle.raw_trace.specs.declared.halves.Role.{Role}
 use Rattle.raw_trace.specs.declared.halves.Role.TheVariants.{Alone, First, Second}
-use Rattle.raw_logs.specs.declared.line.Line.{Line}
 use Rattle.raw_logs.specs.Log.{Numbered, texts_of}
-use Rattle.raw_logs.specs.Stages.{numbered, numbered_all, texts}
 use Rattle.raw_trace.specs.Places.{IsFirst, IsSecond, IsPaired}
 use Rattle.raw_trace.specs.Stages.{IsRole, AreRoles, IsRoleAt}
 use Rattle.raw_trace.proofs.RoleLists.{roles_at, roles_length}
@@ -48,95 +46,74 @@ pub role_text : (log : List (List ℕ)) (place : ℕ) (text : List ℕ) (role : 
 role_text log place text role at =
     subst (λ (x : List (List ℕ)). slice_get x place ≡ Some text) (sym at.parts) (get_there at.before at.after text place at.count)
 
+-- the line at a place is the one there
+pub line_got : (lines : List Numbered) (place : ℕ) (line other : Numbered) → line ≡ get_or lines place line → slice_get lines place ≡ Some other
+    → line ≡ other
+line_got [] place line other e g = absurd cc
+line_got (x ∷ lines) zero line other e g = let k : x ≡ other = cc in e ∙ k
+line_got (x ∷ lines) (suc place) line other e g = line_got lines place line other e g
+
+-- and so is its text
+pub text_got : (lines : List Numbered) (place : ℕ) (line : Numbered) (text : List ℕ) → line ≡ get_or lines place line
+    → slice_get (texts_of lines) place ≡ Some text → line.text ≡ text
+text_got [] place line text e g = absurd cc
+text_got (x ∷ lines) zero line text e g = let k : x.text ≡ text = cc in ap (λ (y : Numbered). y.text) e ∙ k
+text_got (x ∷ lines) (suc place) line text e g = text_got lines place line text e g
+
 -- the other half is there
-pub second_there : (lines : List Line) (place other to behind : ℕ) (name : Name) (text : List ℕ)
-    → IsRoleAt (texts lines) place text (First other to behind name) → other < length lines
+pub second_there : (lines : List Numbered) (place other to behind : ℕ) (name : Name) (text : List ℕ)
+    → IsRoleAt (texts_of lines) place text (First other to behind name) → other < length lines
 second_there lines place other to behind name text at =
     let k = get_within (at.before ++ (text ∷ at.after)) other at.has.0 at.has.3 in
     let l = ap length at.parts in
-    let m = length-map lines (λ (x : Line). x.text.items) in
-    omega arith
-
--- and so is the first
-pub first_there : (lines : List Line) (place other to behind : ℕ) (name : Name) (text : List ℕ)
-    → IsRoleAt (texts lines) place text (Second other to behind name) → other < length lines
-first_there lines place other to behind name text at =
-    let k = get_within (at.before ++ (text ∷ at.after)) other at.has.0 at.has.3 in
-    let l = ap length at.parts in
-    let m = length-map lines (λ (x : Line). x.text.items) in
+    let m = length-map lines (λ (x : Numbered). x.text) in
     omega arith
 
 -- ---- the place of a role
 
 -- a text is the one at this place
-abbrev pub IsTextAt : List Line → ℕ → List ℕ → Type 0
-IsTextAt lines place shown = (text : List ℕ) → slice_get (texts lines) place ≡ Some text → shown ≡ text
+abbrev pub IsTextAt : List Numbered → ℕ → List ℕ → Type 0
+IsTextAt lines place shown = (text : List ℕ) → slice_get (texts_of lines) place ≡ Some text → shown ≡ text
 
 -- some text of this role stands at the place
-abbrev pub HasRoleAt : List Line → ℕ → Role → Type 0
-HasRoleAt lines place role = (text : List ℕ) × IsRoleAt (texts lines) place text role
+abbrev pub HasRoleAt : List Numbered → ℕ → Role → Type 0
+HasRoleAt lines place role = (text : List ℕ) × IsRoleAt (texts_of lines) place text role
 
 -- the second half is there
-pub second_place : (lines : List Line) (place other to behind : ℕ) (name : Name) (role : Role) → role ≡ First other to behind name
+pub second_place : (lines : List Numbered) (place other to behind : ℕ) (name : Name) (role : Role) → role ≡ First other to behind name
     → HasRoleAt lines place role → other < length lines
 second_place lines place other to behind name role e h =
-    second_there lines place other to behind name h.0 (subst (IsRoleAt (texts lines) place h.0) e h.1)
-
--- and so is the first
-pub first_place : (lines : List Line) (place other to behind : ℕ) (name : Name) (role : Role) → role ≡ Second other to behind name
-    → HasRoleAt lines place role → other < length lines
-first_place lines place other to behind name role e h =
-    first_there lines place other to behind name h.0 (subst (IsRoleAt (texts lines) place h.0) e h.1)
+    second_there lines place other to behind name h.0 (subst (IsRoleAt (texts_of lines) place h.0) e h.1)
 
 -- the other text is the one at its place
-other_text : (lines : List Line) (before after : List (List ℕ)) (text other_one shown : List ℕ) (other : ℕ) → texts lines ≡ before ++ (text ∷ after)
+other_text : (lines : List Numbered) (before after : List (List ℕ)) (text other_one shown : List ℕ) (other : ℕ) → texts_of lines ≡ before ++ (text ∷ after)
     → slice_get (before ++ (text ∷ after)) other ≡ Some other_one → IsTextAt lines other shown → shown ≡ other_one
 other_text lines before after text other_one shown other parts get is =
     is other_one (subst (λ (x : List (List ℕ)). slice_get x other ≡ Some other_one) (sym parts) get)
 
 -- what is kept of a first half ends within it
-pub first_kept : (lines : List Line) (place other to behind : ℕ) (name : Name) (role : Role) (shown : List ℕ) → role ≡ First other to behind name
+pub first_kept : (lines : List Numbered) (place other to behind : ℕ) (name : Name) (role : Role) (shown : List ℕ) → role ≡ First other to behind name
     → HasRoleAt lines place role → IsTextAt lines place shown → to ≤ length shown
 first_kept lines place other to behind name role shown e h is =
-    let at = subst (IsRoleAt (texts lines) place h.0) e h.1 in
+    let at = subst (IsRoleAt (texts_of lines) place h.0) e h.1 in
     let r = at.has in
-    let same = ap length (is h.0 (role_text (texts lines) place h.0 (First other to behind name) at)) in
+    let same = ap length (is h.0 (role_text (texts_of lines) place h.0 (First other to behind name) at)) in
     let k = half_ends h.0 r.1 name r.2 to r.4 in
     omega arith
 
 -- what is kept of its second half begins within that
-pub rest_kept : (lines : List Line) (place other to behind : ℕ) (name : Name) (role : Role) (shown : List ℕ) → role ≡ First other to behind name
+pub rest_kept : (lines : List Numbered) (place other to behind : ℕ) (name : Name) (role : Role) (shown : List ℕ) → role ≡ First other to behind name
     → HasRoleAt lines place role → IsTextAt lines other shown → behind ≤ length shown
 rest_kept lines place other to behind name role shown e h is =
-    let at = subst (IsRoleAt (texts lines) place h.0) e h.1 in
+    let at = subst (IsRoleAt (texts_of lines) place h.0) e h.1 in
     let r = at.has in
     let same = ap length (other_text lines at.before at.after h.0 r.0 shown other at.parts r.3 is) in
     let k = rest_begins r.0 r.1 name behind r.5 in
     omega arith
 
--- the same of the first half of a second one
-pub front_kept : (lines : List Line) (place other to behind : ℕ) (name : Name) (role : Role) (shown : List ℕ) → role ≡ Second other to behind name
-    → HasRoleAt lines place role → IsTextAt lines other shown → to ≤ length shown
-front_kept lines place other to behind name role shown e h is =
-    let at = subst (IsRoleAt (texts lines) place h.0) e h.1 in
-    let r = at.has in
-    let same = ap length (other_text lines at.before at.after h.0 r.0 shown other at.parts r.3 is) in
-    let k = half_ends r.0 r.1 name r.2 to r.4 in
-    omega arith
-
--- and of the second one itself
-pub second_kept : (lines : List Line) (place other to behind : ℕ) (name : Name) (role : Role) (shown : List ℕ) → role ≡ Second other to behind name
-    → HasRoleAt lines place role → IsTextAt lines place shown → behind ≤ length shown
-second_kept lines place other to behind name role shown e h is =
-    let at = subst (IsRoleAt (texts lines) place h.0) e h.1 in
-    let r = at.has in
-    let same = ap length (is h.0 (role_text (texts lines) place h.0 (Second other to behind name) at)) in
-    let k = rest_begins h.0 r.1 name behind r.5 in
-    omega arith
-
 -- a line of two halves, at its first
-pub joined_first : (lines : List Line) (before after : List (List ℕ)) (text first second line : List ℕ) (other to behind : ℕ) (name : Name)
-    → texts lines ≡ before ++ (text ∷ after) → first ≡ text → IsTextAt lines other second → line ≡ take to first ++ drop behind second
+pub joined_first : (lines : List Numbered) (before after : List (List ℕ)) (text first second line : List ℕ) (other to behind : ℕ) (name : Name)
+    → texts_of lines ≡ before ++ (text ∷ after) → first ≡ text → IsTextAt lines other second → line ≡ take to first ++ drop behind second
     → IsRole before text after (First other to behind name) → IsFirst text after name line
 joined_first lines before after text first second line other to behind name parts same is e r =
     let k = other_text lines before after text r.0 second other parts r.3 is in
@@ -144,41 +121,37 @@ joined_first lines before after text first second line other to behind name part
     ∙ ap (λ (x : List ℕ). take to text ++ drop behind x) k)) r.6
 
 -- and at its second
-pub joined_second : (lines : List Line) (before after : List (List ℕ)) (text first second line : List ℕ) (other to behind : ℕ) (name : Name)
-    → texts lines ≡ before ++ (text ∷ after) → second ≡ text → IsTextAt lines other first → line ≡ take to first ++ drop behind second
+pub joined_second : (lines : List Numbered) (before after : List (List ℕ)) (text first second line : List ℕ) (other to behind : ℕ) (name : Name)
+    → texts_of lines ≡ before ++ (text ∷ after) → second ≡ text → IsTextAt lines other first → line ≡ take to first ++ drop behind second
     → IsRole before text after (Second other to behind name) → IsSecond (reverse before) text name line
 joined_second lines before after text first second line other to behind name parts same is e r =
     let k = other_text lines before after text r.0 first other parts r.3 is in
     subst (IsSecond (reverse before) text name) (sym (e ∙ ap (λ (x : List ℕ). take to first ++ drop behind x) same
     ∙ ap (λ (x : List ℕ). take to x ++ drop behind text) k)) r.6
 
--- the texts of numbered lines
-pub same_texts : (lines : List Line) → texts_of (numbered_all lines) ≡ texts lines
-same_texts [] = refl
-same_texts (x ∷ lines) = ap (λ (y : List (List ℕ)). x.text.items ∷ y) (same_texts lines)
-
-pub texts_both : (a b : List Line) → texts (a ++ b) ≡ texts a ++ texts b
+-- the texts of lines behind others
+pub texts_both : (a b : List Numbered) → texts_of (a ++ b) ≡ texts_of a ++ texts_of b
 texts_both [] b = refl
-texts_both (x ∷ a) b = ap (λ (y : List (List ℕ)). x.text.items ∷ y) (texts_both a b)
+texts_both (x ∷ a) b = ap (λ (y : List (List ℕ)). x.text ∷ y) (texts_both a b)
 
 -- a line more is before
-pub fed_more : (fed : List Line) (line : Line) → reverse (texts (fed ++ (line ∷ []))) ≡ line.text.items ∷ reverse (texts fed)
+pub fed_more : (fed : List Numbered) (line : Numbered) → reverse (texts_of (fed ++ (line ∷ []))) ≡ line.text ∷ reverse (texts_of fed)
 fed_more fed line =
-    ap (λ (x : List (List ℕ)). reverse x) (texts_both fed (line ∷ [])) ∙ reverse-append (texts fed) (line.text.items ∷ [])
+    ap (λ (x : List (List ℕ)). reverse x) (texts_both fed (line ∷ [])) ∙ reverse-append (texts_of fed) (line.text ∷ [])
 
 -- ---- a line at its place
 
 -- what is left at a place that is there
-pub record LeftAt (later : List Line) : Type 0 where
+pub record LeftAt (later : List Numbered) : Type 0 where
   -- the line there
-  pub line : Line
+  pub line : Numbered
   -- those behind it
-  pub rest : List Line
+  pub rest : List Numbered
   -- they are what is left
   pub is : later ≡ line ∷ rest
 
 -- before the end of the lines some are left
-pub left_at : (lines fed later : List Line) (place : ℕ) → lines ≡ fed ++ later → length fed ≡ place → place < length lines → LeftAt later
+pub left_at : (lines fed later : List Numbered) (place : ℕ) → lines ≡ fed ++ later → length fed ≡ place → place < length lines → LeftAt later
 left_at lines fed [] place e c l = let k = ap length e in let m = ap length (append-nil fed) in absurd (omega arith)
 left_at lines fed (line ∷ rest) place e c l = record { line = line; rest = rest; is = refl }
 
@@ -188,34 +161,35 @@ get_other (r ∷ roles) zero d e l = refl
 get_other (r ∷ roles) (suc i) d e l = get_other roles i d e (omega arith)
 
 -- the role of a line, behind those before it
-pub role_here : (lines fed rest : List Line) (line : Line) (place : ℕ) (roles : List Role) (role : Role)
-    → texts lines ≡ texts fed ++ (line.text.items ∷ texts rest)
-    → length fed ≡ place → AreRoles [] (texts lines) roles → role ≡ get_or roles place role → place < length roles
-    → IsRole (texts fed) line.text.items (texts rest) role
+pub role_here : (lines fed rest : List Numbered) (line : Numbered) (place : ℕ) (roles : List Role) (role : Role)
+    → texts_of lines ≡ texts_of fed ++ (line.text ∷ texts_of rest)
+    → length fed ≡ place → AreRoles [] (texts_of lines) roles → role ≡ get_or roles place role → place < length roles
+    → IsRole (texts_of fed) line.text (texts_of rest) role
 role_here lines fed rest line place roles role parts c h is l =
-    let many : length (texts fed) ≡ place = length-map fed (λ (x : Line). x.text.items) ∙ c in
-    let same : get_or roles (length (texts fed)) Alone ≡ role = ap (λ (x : ℕ). get_or roles x Alone) many ∙ get_other roles place Alone role l ∙ sym is in
-    subst (λ (x : Role). IsRole (texts fed) line.text.items (texts rest) x) same
-    (roles_at [] (texts lines) roles h (texts fed) line.text.items (texts rest) parts)
+    let many : length (texts_of fed) ≡ place = length-map fed (λ (x : Numbered). x.text) ∙ c in
+    let same : get_or roles (length (texts_of fed)) Alone ≡ role = ap (λ (x : ℕ). get_or roles x Alone) many ∙ get_other roles place Alone role l ∙ sym is in
+    subst (λ (x : Role). IsRole (texts_of fed) line.text (texts_of rest) x) same
+    (roles_at [] (texts_of lines) roles h (texts_of fed) line.text (texts_of rest) parts)
 
-pub split_texts : (lines fed rest : List Line) (line : Line) → lines ≡ fed ++ (line ∷ rest) → texts lines ≡ texts fed ++ (line.text.items ∷ texts rest)
-split_texts lines fed rest line e = ap (λ (x : List Line). texts x) e ∙ texts_both fed (line ∷ rest)
+pub split_texts : (lines fed rest : List Numbered) (line : Numbered) → lines ≡ fed ++ (line ∷ rest)
+    → texts_of lines ≡ texts_of fed ++ (line.text ∷ texts_of rest)
+split_texts lines fed rest line e = ap (λ (x : List Numbered). texts_of x) e ∙ texts_both fed (line ∷ rest)
 
-pub number_there : (fed rest : List Line) (line : Line) (place : ℕ) → length fed ≡ place
-    → slice_get (numbered_all (fed ++ (line ∷ rest))) place ≡ Some (numbered line)
+pub number_there : (fed rest : List Numbered) (line : Numbered) (place : ℕ) → length fed ≡ place
+    → slice_get ((fed ++ (line ∷ rest))) place ≡ Some line
 number_there [] rest line zero e = refl
 number_there [] rest line (suc place) e = absurd (omega arith)
 number_there (x ∷ fed) rest line zero e = absurd (omega arith)
 number_there (x ∷ fed) rest line (suc place) e = number_there fed rest line place (omega arith)
 
 -- behind the last place nothing is left
-pub none_later : (lines fed later : List Line) (place : ℕ) → lines ≡ fed ++ later → length fed ≡ place → length lines ≤ place → later ≡ []
+pub none_later : (lines fed later : List Numbered) (place : ℕ) → lines ≡ fed ++ later → length fed ≡ place → length lines ≤ place → later ≡ []
 none_later lines fed [] place e c l = refl
 none_later lines fed (x ∷ later) place e c l = let k = ap length e in let m = length-append fed (x ∷ later) in absurd (omega arith)
 
 -- there are as many roles as lines
-pub roles_many : (lines : List Line) (roles : List Role) → AreRoles [] (texts lines) roles → length roles ≡ length lines
-roles_many lines roles h = roles_length [] (texts lines) roles h ∙ length-map lines (λ (x : Line). x.text.items)
+pub roles_many : (lines : List Numbered) (roles : List Role) → AreRoles [] (texts_of lines) roles → length roles ≡ length lines
+roles_many lines roles h = roles_length [] (texts_of lines) roles h ∙ length-map lines (λ (x : Numbered). x.text)
 
 -- the role at an index, whatever stands for a missing one
 pub get_self : (roles : List Role) (i j : ℕ) (d : Role) → i ≡ j → j < length roles → get_or roles j d ≡ get_or roles i (get_or roles j d)

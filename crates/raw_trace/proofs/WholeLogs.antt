@@ -8,11 +8,9 @@ use Rattle.line_parts.proofs.Leaves.{bool_cases}
 use Rattle.raw_logs.specs.declared.counts.Counts.{Counts}
 use Rattle.raw_logs.specs.declared.fault.LogFault.{LogFault}
 use Rattle.raw_logs.specs.declared.fault.LogFault.TheVariants.{Memory as LogMemory}
-use Rattle.raw_logs.specs.declared.line.Line.{Line}
 use Rattle.raw_logs.specs.Counting.{one_more_of}
 use Rattle.raw_logs.specs.declared.counts.Sort.TheVariants.{Joined, Forms}
 use Rattle.raw_logs.specs.Log.{Numbered}
-use Rattle.raw_logs.specs.Stages.{numbered_all}
 use Rattle.raw_logs.specs.Reading.{AreTexts, IsFirstUnknown, IsLogFault}
 use Rattle.raw_logs.proofs.OneLog.{texts_one, unknown_one, texts_no_fault}
 use Rattle.raw_logs.proofs.UnreadLogs.{texts_unread}
@@ -36,16 +34,16 @@ use Rattle.raw_trace.proofs.OneFault.{never_stops, no_unknown}
 -- ---- the whole
 
 -- what is written of its texts is the rewriting
-pub rewriting_is : (process : Option ℕ) (strict : Bool) (bytes : List ℕ) (chosen shown : List Line) (before : Counts) (found : Written)
-    → AreTexts process bytes (numbered_all chosen) before → shown ≡ chosen → WroteAll strict (numbered_all shown) before found
+pub rewriting_is : (process : Option ℕ) (strict : Bool) (bytes : List ℕ) (chosen shown : List Numbered) (before : Counts) (found : Written)
+    → AreTexts process bytes chosen before → shown ≡ chosen → WroteAll strict shown before found
     → IsRewriting process bytes found.out.items found.counts found.calls
 rewriting_is process strict bytes chosen shown before found are e w =
     record {
-      chosen = numbered_all chosen;
+      chosen = chosen;
       before = before;
       texts = are;
       steps = w.steps;
-      are = subst (λ (x : List Line). AreSteps [] (numbered_all x) [] w.steps) e w.are;
+      are = subst (λ (x : List Numbered). AreSteps [] x [] w.steps) e w.are;
       bytes_of = w.out;
       sum = w.sum;
       number = w.calls;
@@ -255,22 +253,22 @@ fault_comes process strict bytes (Err Memory) one h never fault g = inr refl
 
 -- ---- the same of lines that are shown otherwise
 
-pub shown_unread : (process : Option ℕ) (strict : Bool) (bytes : List ℕ) (chosen shown : List Line) (before : Counts) (found : Written)
-    → AreTexts process bytes (numbered_all chosen) before → shown ≡ chosen → WroteAll strict (numbered_all shown) before found
+pub shown_unread : (process : Option ℕ) (strict : Bool) (bytes : List ℕ) (chosen shown : List Numbered) (before : Counts) (found : Written)
+    → AreTexts process bytes chosen before → shown ≡ chosen → WroteAll strict shown before found
     → strict ≡ true → found.counts.unread ≡ 0
 shown_unread process strict bytes chosen shown before found are e w =
-    none_unread process strict bytes (numbered_all chosen) before found are (subst (λ (x : List Line). WroteAll strict (numbered_all x) before found) e w)
+    none_unread process strict bytes chosen before found are (subst (λ (x : List Numbered). WroteAll strict x before found) e w)
 
-pub shown_no_cause : (process : Option ℕ) (strict : Bool) (bytes : List ℕ) (chosen shown : List Line) (before : Counts) (unknown : Option ℕ)
-    (found : Written) → AreTexts process bytes (numbered_all chosen) before → IsFirstUnknown process bytes unknown → (strict ≡ true → unknown ≡ None)
-    → shown ≡ chosen → WroteAll strict (numbered_all shown) before found → (fault : Fault) → ¬ IsCausedFault process strict bytes fault
+pub shown_no_cause : (process : Option ℕ) (strict : Bool) (bytes : List ℕ) (chosen shown : List Numbered) (before : Counts) (unknown : Option ℕ)
+    (found : Written) → AreTexts process bytes chosen before → IsFirstUnknown process bytes unknown → (strict ≡ true → unknown ≡ None)
+    → shown ≡ chosen → WroteAll strict shown before found → (fault : Fault) → ¬ IsCausedFault process strict bytes fault
 shown_no_cause process strict bytes chosen shown before unknown found are u k e w =
-    no_cause process strict bytes (numbered_all chosen) before unknown found are u k
-    (subst (λ (x : List Line). WroteAll strict (numbered_all x) before found) e w)
+    no_cause process strict bytes chosen before unknown found are u k
+    (subst (λ (x : List Numbered). WroteAll strict x before found) e w)
 
-pub shown_fault : (process : Option ℕ) (strict : Bool) (bytes : List ℕ) (chosen shown : List Line) (before : Counts) (unknown : Option ℕ) (fault : Fault)
-    → AreTexts process bytes (numbered_all chosen) before → IsFirstUnknown process bytes unknown → (strict ≡ true → unknown ≡ None)
-    → shown ≡ chosen → EndsAll strict (numbered_all shown) fault → IsFault process strict bytes fault
+pub shown_fault : (process : Option ℕ) (strict : Bool) (bytes : List ℕ) (chosen shown : List Numbered) (before : Counts) (unknown : Option ℕ) (fault : Fault)
+    → AreTexts process bytes chosen before → IsFirstUnknown process bytes unknown → (strict ≡ true → unknown ≡ None)
+    → shown ≡ chosen → EndsAll strict shown fault → IsFault process strict bytes fault
 shown_fault process strict bytes chosen shown before unknown fault are u k e w =
-    written_fault process strict bytes (numbered_all chosen) before unknown fault are u k
-    (subst (λ (x : List Line). EndsAll strict (numbered_all x) fault) e w)
+    written_fault process strict bytes chosen before unknown fault are u k
+    (subst (λ (x : List Numbered). EndsAll strict x fault) e w)

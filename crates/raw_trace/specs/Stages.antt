@@ -6,9 +6,7 @@ use Rattle.std.specs.Ordering.{nat_cmp}
 use Rattle.strace_reader.specs.Grammar.{Spells}
 use Rattle.strace_reader.specs.declared.item.Item.TheVariants.{Unfinished, Resumed}
 use Rattle.raw_logs.specs.declared.counts.Counts.{Counts}
-use Rattle.raw_logs.specs.declared.line.Line.{Line}
-use Rattle.raw_logs.specs.Log.{Numbered}
-use Rattle.raw_logs.specs.Stages.{numbered_all, texts}
+use Rattle.raw_logs.specs.Log.{Numbered, texts_of}
 use Rattle.raw_trace.specs.declared.fault.Fault.{Fault}
 use Rattle.raw_trace.specs.declared.fault.Fault.TheVariants.{Memory}
 use Rattle.raw_trace.specs.declared.halves.Finder.{Finder}
@@ -175,13 +173,13 @@ EndsAll strict all fault = (fault ≡ Memory) ⊎ Stops strict all fault
 
 -- Of the texts before this place all was done: the steps of the others follow theirs, and what these write is behind
 -- what was written.
-pub record DidSome (strict : Bool) (lines : List Line) (place : ℕ) (counts : Counts) (now : Ordering) : Type 0 where
-  pub fed : List Line
-  pub later : List Line
+pub record DidSome (strict : Bool) (lines : List Numbered) (place : ℕ) (counts : Counts) (now : Ordering) : Type 0 where
+  pub fed : List Numbered
+  pub later : List Numbered
   pub parts : lines ≡ fed ++ later
   pub count : length fed ≡ place
   pub steps : List Step
-  pub are : AreSteps [] (numbered_all fed) (texts later) steps
+  pub are : AreSteps [] fed (texts_of later) steps
   pub written : List Entry
   pub follows : (more : List Step) → order frees_for [] (steps ++ more) ≡ written ++ order frees_for (entries now.waiting.items) more
   pub out : now.written.out.items ≡ text_of (lines_as written)

@@ -2,14 +2,15 @@
 //! half of that process, and a line of it that is refused, ends the waiting. `IsFirst` and `IsSecond` in
 //! `specs/Places.antt` say it of the texts before and behind.
 
-ghost use Rattle.std.specs.Prelude.{◌≡◌, ◌≤◌, ◌<◌, ◌^◌, ℕ, [], All, length, IfOk};
+ghost use Rattle.std.specs.Prelude.{◌≡◌, ◌≤◌, ◌<◌, ◌^◌, ℕ, [], length, IfOk};
 ghost use Rattle.std.specs.Prelude.{◌≢◌, ◌⊎◌, ◌+◌, ◌++◌, ◌∷◌, List, Some, None, OnOk, slice_set};
 ghost use Rattle.std.specs.BTreeMap.{get};
 ghost use Rattle.std.specs.Ordering.{nat_cmp};
 ghost use Rattle.raw_trace.specs.Stages.{AreRoles};
-ghost use Rattle.raw_logs.specs.Stages.{texts};
+ghost use Rattle.raw_logs.specs.Log.{texts_of};
+ghost use Rattle.raw_logs.specs.Stages.{AreShort};
 
-use raw_logs::Line;
+use raw_logs::Lines;
 use std::alloc::{AllocError, Global};
 use std::collections::BTreeMap;
 use strace_reader::{Item, Name, cut, read_line};
@@ -164,19 +165,18 @@ impl Finder {
 }
 
 /// What each text is to its other half.
-pub(crate) fn roles_of(alloc: Global, lines: &[Line]) -> Result<Vec<Role>, AllocError>
+pub(crate) fn roles_of(alloc: Global, lines: &Lines) -> Result<Vec<Role>, AllocError>
     requires few { length lines.now < 2 ^ 32 }
-    requires short { All (λ line. length line.text.items ≤ 65535) lines.now }
-    ensures { IfOk result (λ roles. AreRoles [] (texts lines.now) roles.items) }
+    requires short { AreShort lines.now }
+    ensures { IfOk result (λ roles. AreRoles [] (texts_of lines.now) roles.items) }
 {
     let mut finder = Finder {
         waiting: BTreeMap::new(alloc),
         roles: Vec::new(alloc),
     };
-    let mut place = 0;
-    'lines: for line in lines {
-        finder.take(line.text.as_slice(), place)?;
-        place += 1;
+    'lines: for place in 0..lines.len() {
+        let (_, text) = lines.at(place);
+        finder.take(text, place as u32)?;
     }
     Ok(finder.roles)
 }

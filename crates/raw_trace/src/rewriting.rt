@@ -67,9 +67,8 @@ fn rewritten(
 {
     let texts = read_log(alloc, text, process)?;
     keep_known(texts.unknown, strict)?;
-    let roles = roles_of(alloc, texts.lines.as_slice())?;
-    let lines = texts.lines.as_slice();
-    let written = write_lines(alloc, lines, roles.as_slice(), texts.counts, strict)?;
+    let roles = roles_of(alloc, &texts.lines)?;
+    let written = write_lines(alloc, &texts.lines, roles.as_slice(), texts.counts, strict)?;
     Ok(Rewriting {
         out: written.out,
         counts: written.counts,

@@ -4,8 +4,7 @@
 ghost use Rattle.std.specs.Prelude.{◌≡◌, ◌≢◌, ◌⊎◌, ◌≤◌, ◌<◌, ◌+◌, ◌-◌, ◌^◌, ℕ, List, [], ◌∷◌, ◌++◌, length, take, drop, reverse, true, false, Some, slice_get, All};
 ghost use Rattle.std.specs.Prelude.{IfOk, IfErr, OnOk, IfSome, IsNone, if◌then◌else◌};
 ghost use Rattle.raw_logs.specs.Counting.{one_more_of};
-ghost use Rattle.raw_logs.specs.Log.{Numbered as NumberedOf};
-ghost use Rattle.raw_logs.specs.Stages.{numbered_all, texts};
+ghost use Rattle.raw_logs.specs.Log.{Numbered as NumberedOf, texts_of};
 ghost use Rattle.raw_trace.specs.declared.fault.Fault.TheVariants.{Memory};
 ghost use Rattle.raw_trace.specs.Faults.{IsEntryFault};
 ghost use Rattle.std.specs.Bool.{Decides};
@@ -19,7 +18,7 @@ use crate::halves::Role;
 use crate::order::{Ordering, Piece};
 use crate::settling::{Ending, cause_of, joined, settle};
 use raw_lines::changes_space;
-use raw_logs::{Counts, LINE_LIMIT, Line, Sort};
+use raw_logs::{Counts, LINE_LIMIT, Lines, Sort};
 use std::alloc::{AllocError, Global};
 use strace_reader::{Item, cut, ends_with, read_line};
 
@@ -143,20 +142,13 @@ fn is_form(trouble: Option<Trouble>) -> bool
     }
 }
 
-/// The text at a place.
-fn text_at(lines: &[Line], place: usize) -> &[u8]
+/// The text at a place, with the number of its line.
+fn text_at(lines: &Lines, place: usize) -> (u32, &[u8])
     requires { place < length lines.now }
-    ensures { (text : List ℕ) → slice_get (texts lines.now) place ≡ Some text → result.now ≡ text }
+    ensures number { (text : NumberedOf) → slice_get lines.now place ≡ Some text → result.0 ≡ text.number }
+    ensures text { (text : List ℕ) → slice_get (texts_of lines.now) place ≡ Some text → result.1.now ≡ text }
 {
-    lines[place].text.as_slice()
-}
-
-/// The number of the line at a place.
-fn number_at(lines: &[Line], place: usize) -> u32
-    requires { place < length lines.now }
-    ensures { (text : NumberedOf) → slice_get (numbered_all lines.now) place ≡ Some text → result ≡ text.number }
-{
-    lines[place].number
+    lines.at(place)
 }
 
 /// The line of two halves: what is kept of the first, with the number of its process, and of the second.
@@ -269,22 +261,21 @@ fn piece_of(alloc: Global, line: &[u8], number: u32, joined: bool) -> Result<Pie
 fn take_text(
     ordering: &mut Ordering,
     alloc: Global,
-    lines: &[Line],
+    lines: &Lines,
     place: usize,
     role: Role,
     strict: bool,
 ) -> Result<(), Fault>
     requires place { place < length lines.now }
-    requires role { (text : List ℕ) × IsRoleAt (texts lines.now) place text role }
-    ensures took { OnOk result ((text : NumberedOf) (at : IsRoleAt (texts lines.now) place text.text role)
-        → slice_get (numbered_all lines.now) place ≡ Some text
+    requires role { (text : List ℕ) × IsRoleAt (texts_of lines.now) place text role }
+    ensures took { OnOk result ((text : NumberedOf) (at : IsRoleAt (texts_of lines.now) place text.text role)
+        → slice_get lines.now place ≡ Some text
         → TookText strict (reverse at.before) text at.after ordering.old ordering.new) }
-    ensures fault { IfErr result (λ fault. (text : NumberedOf) (at : IsRoleAt (texts lines.now) place text.text role)
-        → slice_get (numbered_all lines.now) place ≡ Some text
+    ensures fault { IfErr result (λ fault. (text : NumberedOf) (at : IsRoleAt (texts_of lines.now) place text.text role)
+        → slice_get lines.now place ≡ Some text
         → EndsText strict (reverse at.before) text at.after ordering.old fault) }
 {
-    let text = text_at(lines, place);
-    let number = number_at(lines, place);
+    let (number, text) = text_at(lines, place);
     match role {
         Role::Alone => {
             let piece = piece_of(alloc, text, number, false)?;
@@ -296,7 +287,7 @@ fn take_text(
             behind,
             ..
         } => {
-            let second = text_at(lines, other as usize);
+            let (_, second) = text_at(lines, other as usize);
             let line = line_of_halves(alloc, text, second, to, behind)?;
             let piece = piece_of(alloc, line.as_slice(), number, true)?;
             ordering.begin(piece)
@@ -311,15 +302,15 @@ fn take_text(
 /// Writes the lines in their order, counting on from these counts.
 pub(crate) fn write_lines(
     alloc: Global,
-    lines: &[Line],
+    lines: &Lines,
     roles: &[Role],
     counts: Counts,
     strict: bool,
 ) -> Result<Written, Fault>
     requires few { length lines.now < 2 ^ 32 - 1 }
-    requires roles { AreRoles [] (texts lines.now) roles.now }
-    ensures wrote { IfOk result (WroteAll strict (numbered_all lines.now) counts) }
-    ensures fault { IfErr result (EndsAll strict (numbered_all lines.now)) }
+    requires roles { AreRoles [] (texts_of lines.now) roles.now }
+    ensures wrote { IfOk result (WroteAll strict lines.now counts) }
+    ensures fault { IfErr result (EndsAll strict lines.now) }
 {
     let mut ordering = Ordering {
         waiting: Vec::new(alloc),

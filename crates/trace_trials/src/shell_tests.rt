@@ -25,7 +25,7 @@ fn a_child_begins_with_its_makers_lines(rt: HostRuntime) -> Result<(), Fail> {
     let found = read_log(rt.alloc(), SHELL, Some(8)).expect(&rt, "texts");
     assert_eq!(rt; found.lines.len(), 3);
     assert_eq!(rt;
-        found.lines[2].text.as_slice(),
+        found.lines.at(2).1,
         b"8 munmap(0x3000, 4096) = 0".as_slice()
     );
     assert_eq!(rt; found.counts.elsewhere, 3);
@@ -77,7 +77,7 @@ fn a_number_that_a_call_made_is_not_the_first_thread(rt: HostRuntime) -> Result<
     let found = read_log(rt.alloc(), QUIET, None).expect(&rt, "texts");
     assert_eq!(rt; found.lines.len(), 4);
     assert_eq!(rt;
-        found.lines[3].text.as_slice(),
+        found.lines.at(3).1,
         b"7 munmap(0x2000, 4096) = 0".as_slice()
     );
     Ok(())
@@ -95,7 +95,7 @@ fn lines_without_a_number_are_of_the_process_that_strace_was_let_to(
     let found = read_log(rt.alloc(), ATTACHED, Some(7)).expect(&rt, "texts");
     assert_eq!(rt; found.lines.len(), 1);
     assert_eq!(rt;
-        found.lines[0].text.as_slice(),
+        found.lines.at(0).1,
         b"7 munmap(0x1000, 4096) = 0".as_slice()
     );
     assert_eq!(rt; found.counts.unknown, 1);

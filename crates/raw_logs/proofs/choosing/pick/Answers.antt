@@ -1,35 +1,41 @@
-use Rattle.std.proofs.Common.{◌≡◌, ℕ, ◌+◌, List, [], ◌∷◌, ◌++◌, length, sym, ap, subst, ◌∙◌, append_assoc, arith}
-use Rattle.std.proofs.lemmas.List.{length-append}
-use Rattle.raw_logs.specs.declared.told.Told.{Told}
-use Rattle.raw_logs.specs.Choosing.{picked}
+use Rattle.std.proofs.Common.{◌-◌, ◌+◌, ◌≡◌, [], length, false, None, sym, ap, subst, ◌∙◌, arith}
+use Rattle.raw_logs.specs.declared.counts.Counts.{Counts}
+use Rattle.raw_logs.specs.Log.{line_of}
 use Rattle.raw_logs.specs.Spaces.{has_line}
-use Rattle.raw_logs.specs.Stages.{numbered_all, seen}
-use Rattle.raw_logs.specs.Told.{Tells, AreTold}
-use Rattle.raw_logs.proofs.PickFacts.{pick_step}
+use Rattle.raw_logs.specs.Stages.{HasPicked}
+use Rattle.raw_logs.proofs.PickFacts.{look_none, start_within, told_at}
+use Rattle.raw_logs.proofs.TextLists.{lines_from}
 use Rattle.raw_logs.proofs.choosing.pick.Goals as goal
 
--- a line more, before those that were picked
+-- no line was looked at
+pub lines-init : goal.lines-init
+lines-init c = (
+  λ process made count tolds choose told.
+      look_none (has_line process made count) c.args.lines.now tolds c.len-place.result _ (omega (arith, c.len-place.ensures))
+      (ap (λ (k : Counts). record { lines = []; counts = k; ended = false; unknown = None; too_long = None }) c.new.ensures)
+      (c.len.ensures ∙ sym c.len-place.ensures),
+  omega (arith, c.len.ensures),
+)
+
+-- a line more
 pub lines-preserved : goal.lines-preserved
 lines-preserved c =
-    let i = c.lines.invariant in
-    let line = c.in-Some.line in
-    let told = c.told_of-told.result in
-    let left = c.pop.new.self.items in
-    let done = i.0.0 in
-    let tells = subst (λ x. Tells x told) c.as_slice.ensures.value c.told_of-told.ensures in
-    let len = ap length c.in-Some.ensures.items ∙ length-append left (line ∷ []) in
-    let place = ap length c.as_slice-in-Some.ensures.value in
-    let few = c.in_ok-add.ensures.few in
-    let before = i.1 in (
-      (
-        line ∷ done,
-        i.0.1 ∙ ap (λ x. x ++ done) c.in-Some.ensures.items ∙ append_assoc left (line ∷ []) done,
-        λ process made count h.
-            pick_step (has_line process made count) (length left) line done told c.has-here.result (seen c.lines.picker) (seen c.add.new.self) tells
-            (c.has-here.ensures process made count h ∙ ap (λ (n : ℕ). has_line process made count n told) place) c.in_ok-add.ensures.seen
-            (subst (λ n. (tolds : List Told) → AreTold (numbered_all done) tolds
-            → seen c.lines.picker ≡ picked (has_line process made count) n (numbered_all done) tolds) len (i.0.2 process made count h)),
-      ),
-      omega arith,
-      c.in_ok-add.ensures.short tells i.2,
+    let next : c.lines.place ≡ c.lines.place - 1 + 1 = omega arith in
+    let lines = c.args.lines.now in
+    let line = line_of c.at-number.result.0 c.at-number.result.1.now in (
+      λ process made count tolds choose told.
+          c.look.ensures.picked (has_line process made count) lines tolds c.at-number.result.1.now
+          (subst (λ n. HasPicked (has_line process made count) lines tolds n c.lines.picker) next (c.lines.invariant.0 process made count tolds choose told))
+          (lines_from lines (c.lines.place - 1) (c.lines.place - 1 + 1) line (omega arith) (omega arith) c.at-number.ensures)
+          (told_at lines tolds (c.lines.place - 1) line c.told_of-told.result told (omega arith) c.at-number.ensures c.told_of-told.ensures)
+          (c.has-here.ensures process made count choose),
+      start_within c.lines.picker.ended c.lines.picker.start (c.lines.place - 1) (length lines) c.look.new.self.start c.look.ensures.start c.lines.invariant.1
+          (omega arith),
     )
+
+-- all lines were
+pub returns-clause-picked : goal.returns-clause-picked
+returns-clause-picked c = λ process made count tolds choose told.
+    let first : c.lines.place ≡ 0 = omega arith in
+    subst (λ n. HasPicked (has_line process made count) c.args.lines.now tolds n c.lines.picker) first
+    (c.lines.invariant.0 process made count tolds choose told)

@@ -1,14 +1,11 @@
-use Rattle.std.proofs.Common.{◌≡◌, ◌+◌, length}
-use Rattle.std.specs.Vec.Iter.{into_iter_items, into_iter_len}
+use Rattle.std.proofs.Common.{◌≡◌, ◌≤◌, length, drop}
 use Rattle.raw_logs.specs.declared.numbering.Numbering.TheVariants.{Plain}
 use Rattle.raw_logs.specs.Numbering.{AreNumbered}
-use Rattle.raw_logs.specs.Stages.{MakesSome, numbered_all}
+use Rattle.raw_logs.specs.Stages.{MakesSome}
 use Rattle.raw_logs.proofs.numbering.number_all.Given as goal
 
--- the lines so far have their numbers, and so many are left
+-- the texts so far have their numbers
 abbrev pub invariant-lines : goal.invariant-lines
 invariant-lines l =
-    MakesSome (AreNumbered (Plain l.first)) (numbered_all l.fn.lines.items) (numbered_all (into_iter_items l.line-iterator))
-    (numbered_all l.changed.lines.items) l.changed.counts
-    × (length l.changed.lines.items + into_iter_len l.line-iterator ≡ length l.fn.lines.items)
-    × (into_iter_len l.line-iterator ≡ length (into_iter_items l.line-iterator))
+    MakesSome (AreNumbered (Plain l.first)) l.lines (drop l.place l.lines) l.changed.lines l.changed.counts × (length l.changed.lines ≡ l.place)
+    × (l.place ≤ length l.lines)

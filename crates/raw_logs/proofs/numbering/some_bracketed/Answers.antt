@@ -1,4 +1,4 @@
-use Rattle.std.proofs.Common.{ℕ, List, subst}
+use Rattle.std.proofs.Common.{arith}
 use Rattle.raw_logs.specs.Numbering.{HasBrackets}
 use Rattle.raw_logs.proofs.Decided.{is_so, is_not, decides_true, decides_false}
 use Rattle.raw_logs.proofs.TextLists.{none_more, none_of_all, text_there}
@@ -9,16 +9,17 @@ pub returns-then-has_brackets : goal.returns-then-has_brackets
 returns-then-has_brackets c =
     decides_true (
       _,
-      text_there c.args.lines.now c.lines.line-index c.line-item.result c.lines-test.true c.line-item.is,
-      subst HasBrackets c.as_slice.ensures.value (is_so c.has_brackets.result c.has_brackets.ensures c.if-has_brackets.true),
+      text_there c.args.lines.now c.lines.place _ (omega (arith, c.lines-test.true, c.len-place-end.ensures)) c.at.ensures,
+      is_so c.has_brackets.result c.has_brackets.ensures c.if-has_brackets.true,
     )
 
 -- this one isn't either
 pub lines-preserved : goal.lines-preserved
 lines-preserved c =
-    none_more HasBrackets c.args.lines.now c.lines.line-index c.line-item.result c.lines-test.true c.line-item.is c.lines.invariant
-    (subst (λ (x : List ℕ). ¬ HasBrackets x) c.as_slice.ensures.value (is_not c.has_brackets.result c.has_brackets.ensures c.if-has_brackets.false))
+    none_more HasBrackets c.args.lines.now c.lines.place _ (omega (arith, c.lines-test.true, c.len-place-end.ensures)) c.at.ensures c.lines.invariant
+    (is_not c.has_brackets.result c.has_brackets.ensures c.if-has_brackets.false)
 
 -- none is
 pub returns : goal.returns
-returns c = decides_false (none_of_all HasBrackets c.args.lines.now c.lines.line-index c.lines-test.false c.lines.invariant)
+returns c =
+    decides_false (none_of_all HasBrackets c.args.lines.now c.lines.place (omega (arith, c.lines-test.false, c.len-place-end.ensures)) c.lines.invariant)

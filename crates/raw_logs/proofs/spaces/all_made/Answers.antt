@@ -1,23 +1,32 @@
-use Rattle.std.proofs.Common.{◌≡◌, ℕ, ◌+◌, List, [], ◌∷◌, ◌++◌, length, sym, ap, subst, ◌∙◌, append_assoc, rules}
-use Rattle.std.proofs.lemmas.List.{append-nil, length-append}
-use Rattle.raw_logs.specs.Told.{Tells, all_told, line_told}
+use Rattle.std.proofs.Common.{◌-◌, ◌+◌, ◌≡◌, ◌∷◌, [], drop, sym, subst, rules, arith}
+use Rattle.std.proofs.lemmas.List.{drop_all}
+use Rattle.raw_logs.specs.Log.{line_of}
+use Rattle.raw_logs.specs.Told.{AreTold, all_told, line_told}
 use Rattle.raw_logs.specs.Stages.{HasMade}
+use Rattle.raw_logs.proofs.TextLists.{lines_from}
 use Rattle.raw_logs.proofs.spaces.all_made.Goals as goal
 
 -- no line was taken
 pub lines-init : goal.lines-init
-lines-init c = ([], sym (append-nil c.args.lines.now), [], all_told, search rules)
+lines-init c = ([], subst (λ x. AreTold x []) (sym (drop_all _ c.args.lines.now (omega arith))) all_told, search rules)
 
 -- a line more
 pub lines-preserved : goal.lines-preserved
 lines-preserved c =
     let i = c.lines.invariant in
-    let line = c.in-Some.line.now in
-    let front = c.in-Some.front.now in
-    let len = ap length c.in-Some.ensures.cases.0 ∙ length-append front (line ∷ []) in (
-      line ∷ i.0,
-      i.1 ∙ ap (λ x. x ++ i.0) c.in-Some.ensures.cases.0 ∙ append_assoc front (line ∷ []) i.0,
-      c.told_of-told.result ∷ i.2,
-      line_told (subst (λ x. Tells x c.told_of-told.result) c.as_slice.ensures.value c.told_of-told.ensures) i.3,
-      c.in_ok-take.ensures i.2 (subst (λ n. HasMade c.lines.makers n i.2) len i.4),
+    let next : c.lines.place ≡ c.lines.place - 1 + 1 = omega arith in
+    let more = lines_from c.args.lines.now (c.lines.place - 1) c.lines.place (line_of c.at.result.0 c.at.result.1.now) (omega arith) next c.at.ensures in (
+      c.told_of.result ∷ i.0,
+      subst (λ x. AreTold x (c.told_of.result ∷ i.0)) (sym more) (line_told c.told_of.ensures i.1),
+      c.in_ok-take.ensures i.0 (subst (λ n. HasMade c.lines.makers n i.0) next i.2),
+    )
+
+-- all lines
+pub returns : goal.returns
+returns c =
+    let i = c.lines.invariant in
+    let first : c.lines.place ≡ 0 = omega arith in (
+      i.0,
+      subst (λ n. AreTold (drop n c.args.lines.now) i.0) first i.1,
+      (subst (λ n. HasMade c.lines.makers n i.0) first i.2).made,
     )

@@ -1,15 +1,9 @@
-use Rattle.std.proofs.Common.{◌≡◌, ◌++◌, List, length}
-use Rattle.raw_logs.specs.declared.line.Line.{Line}
+use Rattle.std.proofs.Common.{List, drop}
 use Rattle.raw_logs.specs.declared.told.Told.{Told}
-use Rattle.raw_logs.specs.Stages.{numbered_all, HasMade}
+use Rattle.raw_logs.specs.Stages.{HasMade}
 use Rattle.raw_logs.specs.Told.{AreTold}
 use Rattle.raw_logs.proofs.spaces.all_made.Given as goal
 
--- the lines behind those that are left were taken
+-- the lines from here on were taken
 abbrev pub invariant-lines : goal.invariant-lines
-invariant-lines l = (done : List Line) × (l.lines ≡ l.left ++ done) × (tolds : List Told) × AreTold (numbered_all done) tolds
-    × HasMade l.makers (length l.left) tolds
-
--- the lines that are left
-abbrev pub decreases-lines : goal.decreases-lines
-decreases-lines l = length l.left
+invariant-lines l = (tolds : List Told) × AreTold (drop l.place l.lines) tolds × HasMade l.makers l.place tolds

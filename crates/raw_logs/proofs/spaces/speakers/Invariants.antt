@@ -1,12 +1,7 @@
-use Rattle.std.proofs.Common.{◌≡◌, ◌++◌, List, length}
-use Rattle.raw_logs.specs.declared.line.Line.{Line}
+use Rattle.std.proofs.Common.{drop}
 use Rattle.raw_logs.specs.Stages.{HasSpeakers}
 use Rattle.raw_logs.proofs.spaces.speakers.Given as goal
 
--- the numbers of the lines behind those that are left
+-- the numbers of the lines from here on
 abbrev pub invariant-lines : goal.invariant-lines
-invariant-lines l = (done : List Line) × (l.lines ≡ l.left ++ done) × HasSpeakers l.found done
-
--- the lines that are left
-abbrev pub decreases-lines : goal.decreases-lines
-decreases-lines l = length l.left
+invariant-lines l = HasSpeakers l.found (drop l.place l.lines)

@@ -2,6 +2,7 @@ use Rattle.std.proofs.Common.{ℕ, List, length, refl, ap, arith}
 use Rattle.std.specs.BTreeMap.{is_at}
 use Rattle.std.specs.Map.{lookup}
 use Rattle.std.specs.Ordering.{nat_cmp}
+use Rattle.raw_logs.specs.Log.{line_of}
 use Rattle.raw_trace.specs.declared.halves.Waiting.{Waiting}
 use Rattle.raw_logs.proofs.TextLists.{texts_more}
 use Rattle.raw_trace.proofs.FoundHalves.{finds_none, finds_turn}
@@ -11,17 +12,15 @@ use Rattle.raw_trace.proofs.halves.roles_of.Goals as goal
 pub lines-init : goal.lines-init
 lines-init c =
     let vec = c.new-2.ensures.items in
-    (finds_none _ vec (λ q. ap (λ (es : List (ℕ × Waiting)). lookup (is_at (nat_cmp q)) es) c.new.ensures.empty), refl, ap (λ x. length x) vec)
+    (finds_none _ vec (λ q. ap (λ (es : List (ℕ × Waiting)). lookup (is_at (nat_cmp q)) es) c.new.ensures.empty), ap (λ x. length x) vec)
 
 -- a text more was looked at
 pub lines-preserved : goal.lines-preserved
 lines-preserved c =
     let i = c.lines.invariant in
     let one = c.in_ok-take.ensures.one in
-    let were = i.1 in
-    let many = i.2 in (
-      finds_turn _ _ _ (c.in_ok-take.ensures.finds _ i.0) c.as_slice.ensures.value (texts_more c.args.lines.now c.lines.line-index c.line-item.result
-          c.lines-test.true c.line-item.is),
-      omega arith,
+    let were = i.1 in (
+      finds_turn _ _ _ (c.in_ok-take.ensures.finds _ i.0) refl
+          (texts_more c.args.lines.now c.lines.place (line_of c.at.result.0 c.at.result.1.now) (omega arith) c.at.ensures),
       omega arith,
     )

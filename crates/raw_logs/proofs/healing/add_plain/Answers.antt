@@ -1,7 +1,0 @@
-use Rattle.raw_logs.proofs.MadeLines.{plain_added}
-use Rattle.raw_logs.proofs.healing.add_plain.Goals as goal
-
--- the line stays, or its plain text is counted
-pub returns-clause-made : goal.returns-clause-made
-returns-clause-made c = λ all rest h.
-    plain_added _ _ _ _ all rest _ _ _ _ h c.as_slice.ensures.value c.in_ok-other.ensures c.in_ok-add.ensures.lines c.in_ok-add.ensures.counts
