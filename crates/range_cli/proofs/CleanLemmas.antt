@@ -1,7 +1,7 @@
 -- Runs whose sinks have room: no sink is ever full, so no count rises, and the run ends as it is called for. A sized
 -- sink's meaning is the length of its store and then the bytes that it holds, so it tells that the store is as long
 -- afterwards as before.
-use Rattle.std.proofs.Common.{◌≡◌, ◌⊎◌, inl, inr, ℕ, ◌+◌, ◌-◌, ◌^◌, ◌<◌, ◌≤◌, List, [], ◌∷◌, ◌++◌, length, take}
+use Rattle.std.proofs.Common.{◌≡◌, ◌⊎◌, inl, inr, Bool, ℕ, ◌+◌, ◌-◌, ◌^◌, ◌<◌, ◌≤◌, List, [], ◌∷◌, ◌++◌, length, take}
 use Rattle.std.proofs.Common.{vec_len, codes, decimal, Option, None, Some, refl, sym, ap, ◌∙◌, subst, arith}
 use Rattle.std.proofs.Common.{length-append}
 use Rattle.std.proofs.lemmas.Fmt.{length-decimal-le}
@@ -23,10 +23,10 @@ use Rattle.history_check.specs.declared.verdict.Verdict.{Verdict}
 use Rattle.history_check.specs.declared.verdict.Verdict.TheVariants.{Legal, Wrong as WrongVerdict}
 use Rattle.history_check.specs.declared.verdict.WrongLog.{WrongLog}
 use Rattle.history_check.specs.declared.verdict.WrongLog.TheVariants.{Form as FormWrong, Number as NumberWrong, Order as OrderWrong, Held, Reply, Rest}
-use Rattle.range_cli.specs.Checking.{verdict_line, wrong_text}
+use Rattle.range_cli.specs.Checking.{Judged, IsChecked, ChecksAs, verdict_line, wrong_text}
 use Rattle.range_cli.specs.Judging.{HasNumbers}
 use Rattle.range_cli.proofs.JudgeLemmas.{small_numbers}
-use Rattle.range_cli.specs.Run.{Wrote, Judged, Complains, IsDone, IsOnlyOutcome, IsHindered}
+use Rattle.range_cli.specs.Run.{Wrote, Complains, IsDone, IsOnlyOutcome, IsHindered}
 use Rattle.range_cli.specs.Status.{ending}
 
 -- ---- lines on standard error
@@ -92,9 +92,9 @@ short_verdict before (WrongVerdict line why) small =
     let rest = short_why why in
     omega arith
 
-short_judged : {words : List (List ℕ)} {i j : Option (List ℕ)} {P : ℕ → Verdict → Type 0} → (h : Judged words i j P)
+short_judged : {opening : Bool} {input : Option (List ℕ) × Option (List ℕ)} {P : ℕ → Verdict → Type 0} → (h : Judged opening input P)
     → length (verdict_line h.before h.verdict) ≤ 200
-short_judged h = short_verdict h.before h.verdict (small_numbers h.opening h.bytes h.before h.verdict h.is h.input.1)
+short_judged {opening = opening} h = short_verdict h.before h.verdict (small_numbers opening h.bytes h.before h.verdict h.is h.read.1)
 
 -- ---- what a sized sink tells
 
@@ -115,13 +115,11 @@ prefix_alone n m old new text p =
     record { front = p.front; rest = p.rest; whole = p.whole; appended = ap rest_of p.appended }
 
 -- what is so of a verdict is so in each weaker form
-judged_weaker : {words : List (List ℕ)} {i j : Option (List ℕ)} (P Q : ℕ → Verdict → Type 0)
-    → ((before : ℕ) (verdict : Verdict) → P before verdict → Q before verdict) → Judged words i j P → Judged words i j Q
+judged_weaker : {opening : Bool} {input : Option (List ℕ) × Option (List ℕ)} (P Q : ℕ → Verdict → Type 0)
+    → ((before : ℕ) (verdict : Verdict) → P before verdict → Q before verdict) → Judged opening input P → Judged opening input Q
 judged_weaker P Q weaker h = record {
-  opening = h.opening;
-  accepted = h.accepted;
   bytes = h.bytes;
-  input = h.input;
+  read = h.read;
   before = h.before;
   verdict = h.verdict;
   is = h.is;
@@ -131,16 +129,29 @@ judged_weaker P Q weaker h = record {
 -- what a run wrote, of the bytes alone
 wrote_alone : (words : List (List ℕ)) (input_old input_new : Option (List ℕ)) (n m : ℕ) (old new : List ℕ) (status : Status)
     → Wrote words input_old input_new (Some (n ∷ old)) (Some (m ∷ new)) status → Wrote words input_old input_new (Some old) (Some new) status
-wrote_alone words i j n m old new (Done None) h = judged_weaker _ _ (λ before verdict x. (x.0, ap rest_of x.1)) h
+wrote_alone words i j n m old new (Done None) h = h
 wrote_alone words i j n m old new (Done (Some closed)) h = (h.0, h.1, ap rest_of h.2)
-wrote_alone words i j n m old new (WriteFault None) h = judged_weaker _ _ (λ before verdict x. prefix_alone n m old new (verdict_line before verdict) x) h
+wrote_alone words i j n m old new (WriteFault None) h = h
 wrote_alone words i j n m old new (WriteFault (Some closed)) h = (h.0, h.1, prefix_alone n m old new h.0 h.2)
 wrote_alone words i j n m old new Usage h = ap rest_of h
 wrote_alone words i j n m old new (BadLine line column what) h = ap rest_of h
 wrote_alone words i j n m old new ReadFault h = ap rest_of h
 wrote_alone words i j n m old new Memory h = ap rest_of h
 wrote_alone words i j n m old new (Limit which value) h = ap rest_of h
-wrote_alone words i j n m old new (Wrong line) h = judged_weaker _ _ (λ before verdict x. (x.0, ap rest_of x.1)) h
+wrote_alone words i j n m old new (Wrong line) h = h
+
+-- what a check said, of the bytes alone
+checked_alone : (opening : Bool) (input : Option (List ℕ) × Option (List ℕ)) (n m : ℕ) (old new : List ℕ) (status : Status)
+    → IsChecked opening input (Some (n ∷ old), Some (m ∷ new)) status → IsChecked opening input (Some old, Some new) status
+checked_alone opening input n m old new (Done closed) h = judged_weaker _ _ (λ before verdict x. (x.0, ap rest_of x.1)) h
+checked_alone opening input n m old new (WriteFault closed) h =
+    (h.0, judged_weaker _ _ (λ before verdict x. prefix_alone n m old new (verdict_line before verdict) x) h.1)
+checked_alone opening input n m old new Usage h = h
+checked_alone opening input n m old new (BadLine line column what) h = ap rest_of h
+checked_alone opening input n m old new ReadFault h = ap rest_of h
+checked_alone opening input n m old new Memory h = ap rest_of h
+checked_alone opening input n m old new (Limit which value) h = ap rest_of h
+checked_alone opening input n m old new (Wrong line) h = judged_weaker _ _ (λ before verdict x. (x.0, ap rest_of x.1)) h
 
 -- the store is as long as before, and longer than the bytes, where a first part of a text was taken and there was room
 -- for more than the text
@@ -182,17 +193,21 @@ module _ (before after : CleanSink) where
 
   -- whatever a run wrote, its output counts no failure
   no_fault_out : (words : List (List ℕ)) (bytes : List ℕ) (j : Option (List ℕ)) (status : Status) → HasRoomForLine before → HasRoomForReports words bytes before
-      → Wrote words (Some bytes) j (told before) (told after) status → after.faults ≡ 0
-  no_fault_out words bytes j (Done None) some room h = no_fault_verdict h.before h.verdict (short_judged h) some h.holds.1
-  no_fault_out words bytes j (Done (Some closed)) some room h = no_fault h.0 (AppendsPrefix-itself (told before) (told after) h.0 h.2) (room j closed h.0 h.1)
-  no_fault_out words bytes j (WriteFault None) some room h = no_fault (verdict_line h.before h.verdict) h.holds (omega (arith, some, short_judged h))
-  no_fault_out words bytes j (WriteFault (Some closed)) some room h = no_fault h.0 h.2 (room j closed h.0 h.1)
-  no_fault_out words bytes j Usage some room h = no_fault_kept some h
-  no_fault_out words bytes j (BadLine line column what) some room h = no_fault_kept some h
-  no_fault_out words bytes j ReadFault some room h = no_fault_kept some h
-  no_fault_out words bytes j Memory some room h = no_fault_kept some h
-  no_fault_out words bytes j (Limit which value) some room h = no_fault_kept some h
-  no_fault_out words bytes j (Wrong line) some room h = no_fault_verdict h.before h.verdict (short_judged h) some h.holds.1
+      → Wrote words (Some bytes) j (told before) (told after) status → ChecksAs words (Some bytes, j) (told before, told after) status → after.faults ≡ 0
+  no_fault_out words bytes j (Done None) some room h says =
+      let c = says h.0 h.1 in no_fault_verdict c.before c.verdict (short_judged c) some c.holds.1
+  no_fault_out words bytes j (Done (Some closed)) some room h says =
+      no_fault h.0 (AppendsPrefix-itself (told before) (told after) h.0 h.2) (room j closed h.0 h.1)
+  no_fault_out words bytes j (WriteFault None) some room h says =
+      let c = (says h.0 h.1).1 in no_fault (verdict_line c.before c.verdict) c.holds (omega (arith, some, short_judged c))
+  no_fault_out words bytes j (WriteFault (Some closed)) some room h says = no_fault h.0 h.2 (room j closed h.0 h.1)
+  no_fault_out words bytes j Usage some room h says = no_fault_kept some h
+  no_fault_out words bytes j (BadLine line column what) some room h says = no_fault_kept some h
+  no_fault_out words bytes j ReadFault some room h says = no_fault_kept some h
+  no_fault_out words bytes j Memory some room h says = no_fault_kept some h
+  no_fault_out words bytes j (Limit which value) some room h says = no_fault_kept some h
+  no_fault_out words bytes j (Wrong line) some room h says =
+      let c = says h.0 h.1 in no_fault_verdict c.before c.verdict (short_judged c) some c.holds.1
 
   -- nor does the other one, whose line is short
   no_fault_err : (status : Status) → length (error_line status) ≤ 200 → HasRoomForLine before
@@ -242,6 +257,12 @@ pub run_wrote : (words : List (List ℕ)) (i j : Option (List ℕ)) (before take
 run_wrote words i j before taken after status same h =
     wrote_alone words i j _ _ _ _ status (subst (λ sink. Wrote words i j (told sink) (told after) status) same h)
 
+-- so it is with what a check said
+pub run_checked : (words : List (List ℕ)) (input : Option (List ℕ) × Option (List ℕ)) (before taken after : CleanSink) (status : Status) → taken ≡ before
+    → ChecksAs words input (told taken, told after) status → ChecksAs words input (Some (held_by before), Some (held_by after)) status
+run_checked words input before taken after status same says opening asked =
+    checked_alone opening input _ _ _ _ status (subst (λ sink. IsChecked opening input (told sink, told after) status) same (says opening asked))
+
 module _ (before taken after : CleanSink) (same : taken ≡ before) (some : HasRoomForLine before) where
   module _ (status : Status) (short : length (error_line status) ≤ 200) (h : Complains (told taken) (told after) taken.faults after.faults status) where
     complained : Complains (told before) (told after) before.faults after.faults status
@@ -256,9 +277,13 @@ module _ (before taken after : CleanSink) (same : taken ≡ before) (some : HasR
     err_line = line_where_none before after status (no_fault_err before after status short some complained) complained
 
   module _ (words : List (List ℕ)) (bytes : List ℕ) (j : Option (List ℕ)) (status : Status)
-      (room : HasRoomForReports words bytes before) (h : Wrote words (Some bytes) j (told taken) (told after) status) where
+      (room : HasRoomForReports words bytes before) (h : Wrote words (Some bytes) j (told taken) (told after) status)
+      (says : ChecksAs words (Some bytes, j) (told taken, told after) status) where
     out_none : after.faults ≡ 0
-    out_none = no_fault_out before after words bytes j status some room (subst (λ sink. Wrote words (Some bytes) j (told sink) (told after) status) same h)
+    out_none =
+        no_fault_out before after words bytes j status some room
+        (subst (λ sink. Wrote words (Some bytes) j (told sink) (told after) status) same h)
+        (subst (λ sink. ChecksAs words (Some bytes, j) (told sink, told after) status) same says)
 
     -- the sink for the report counts no failure that it hadn't counted before
     pub out_faults : after.faults ≡ before.faults

@@ -28,7 +28,7 @@ use Rattle.range_cli.specs.TraceReader.{Opens}
 use Rattle.range_cli.specs.Endings.{IsRefused, IsShort, EndsMap, EndsMaps, EndsOpening, map_stop, EndsTrace, EndsInput, Ends, EndsAt}
 use Rattle.range_cli.specs.Script.ReadsMaps.{over, empty as empty_map, mapped, past_end}
 use Rattle.range_cli.specs.Endings.EndsMaps.{here as here_map, later as later_map}
-use Rattle.range_cli.specs.Run.{Heard, Judged, EndsByInput, EndsByLog, Reports, Wrote, HasCause, IsOutcome, IsOnlyOutcome, IsHindered}
+use Rattle.range_cli.specs.Run.{Heard, EndsByInput, EndsByLog, Reports, Wrote, HasCause, IsOutcome, IsOnlyOutcome, IsHindered}
 use Rattle.range_cli.specs.Run.IsOutcome.{usage, too_long, early, done, loaded, check_early, checked}
 use Rattle.range_cli.specs.Status.{status_of, ending}
 use Rattle.range_cli.proofs.CheckLemmas.{all_behind}
@@ -42,7 +42,7 @@ use Rattle.history_check.specs.Verdicts.{IsVerdict}
 use Rattle.history_check.proofs.Cutting.{places}
 use Rattle.history_check.proofs.Cutting.Places.{one_place as at_same, first_earlier as is_before, first_later as is_behind}
 use Rattle.history_check.proofs.OneVerdict.{one_verdict}
-use Rattle.range_cli.specs.Checking.{KeepsLimits, EndsBehind, EndsLog, EndsByLine, EndsByStart, EndsCheck, IsInputVerdict, verdict_status}
+use Rattle.range_cli.specs.Checking.{KeepsLimits, EndsBehind, EndsLog, EndsByLine, EndsByStart, EndsCheck, IsInputVerdict, Judged, ChecksAs, verdict_status}
 
 -- a line that asks for something ends no run
 asks_ends : (stand : TracePosition) (text : List ℕ) (answer : Fed) (end : EarlyEnd) → Asks stand text answer → Ends stand text end → ⊥
@@ -473,12 +473,12 @@ early_from words bytes new end (inr h) =
     check_early h.accepted (subst (λ b. length b ≤ 67108864) same h.input.1) (subst (λ b. EndsCheck h.opening b end) same h.ends) refl
 
 -- a verdict is called for
-checked_from : (words : List (List ℕ)) (bytes : List ℕ) (new : Option (List ℕ)) (status : Status) (P : ℕ → Verdict → Type 0)
-    → (h : Judged words (Some bytes) new P) → verdict_status h.before h.verdict ≡ status → IsOutcome words bytes status
-checked_from words bytes new status P h is =
-    let same = sym h.input.0.0 in
-    checked h.accepted (subst (λ b. length b ≤ 67108864) same h.input.1)
-    (subst (λ b. IsInputVerdict h.opening b h.before h.verdict) same h.is) (sym is)
+checked_from : (words : List (List ℕ)) (bytes : List ℕ) (new : Option (List ℕ)) (status : Status) (P : ℕ → Verdict → Type 0) (opening : Bool)
+    → AskFor words (Check opening) → (h : Judged opening (Some bytes, new) P) → verdict_status h.before h.verdict ≡ status → IsOutcome words bytes status
+checked_from words bytes new status P opening accepted h is =
+    let same = sym h.read.0.0 in
+    checked accepted (subst (λ b. length b ≤ 67108864) same h.read.1)
+    (subst (λ b. IsInputVerdict opening b h.before h.verdict) same h.is) (sym is)
 
 -- a report is called for
 done_outcome : (words : List (List ℕ)) (bytes : List ℕ) (new : Option (List ℕ)) (closed : ClosedView) (report : List ℕ)
@@ -491,29 +491,31 @@ done_outcome words bytes new closed report (inr h) = loaded h.accepted
 
 -- the status of a run is the outcome of its words and its input, unless something hindered it
 outcome_of : (words : List (List ℕ)) (bytes : List ℕ) (new out_old out_new : Option (List ℕ)) (input out : ℕ × ℕ) (result : Status)
-    → Wrote words (Some bytes) new out_old out_new result → HasCause words (Some bytes) new input out result
-    → IsOutcome words bytes result ⊎ IsHindered input out result
-outcome_of words bytes new out_old out_new input out (Done None) wrote cause = inl (checked_from words bytes new (Done None) _ wrote wrote.holds.0)
-outcome_of words bytes new out_old out_new input out (Done (Some closed)) wrote cause =
+    → Wrote words (Some bytes) new out_old out_new result → ChecksAs words (Some bytes, new) (out_old, out_new) result
+    → HasCause words (Some bytes) new input out result → IsOutcome words bytes result ⊎ IsHindered input out result
+outcome_of words bytes new out_old out_new input out (Done None) wrote says cause =
+    let h = says wrote.0 wrote.1 in inl (checked_from words bytes new (Done None) _ wrote.0 wrote.1 h h.holds.0)
+outcome_of words bytes new out_old out_new input out (Done (Some closed)) wrote says cause =
     inl (done_outcome words bytes new closed wrote.0 wrote.1)
-outcome_of words bytes new out_old out_new input out Usage wrote cause = inl (usage cause)
-outcome_of words bytes new out_old out_new input out (BadLine l k w) wrote cause = inl (early_from words bytes new (Refused l k w) cause)
-outcome_of words bytes new out_old out_new input out ReadFault wrote cause = inr cause
-outcome_of words bytes new out_old out_new input out (WriteFault closed) wrote cause = inr cause
-outcome_of words bytes new out_old out_new input out Memory wrote cause = inr tt
-outcome_of words bytes new out_old out_new input out (Limit Input v) wrote cause =
+outcome_of words bytes new out_old out_new input out Usage wrote says cause = inl (usage cause)
+outcome_of words bytes new out_old out_new input out (BadLine l k w) wrote says cause = inl (early_from words bytes new (Refused l k w) cause)
+outcome_of words bytes new out_old out_new input out ReadFault wrote says cause = inr cause
+outcome_of words bytes new out_old out_new input out (WriteFault closed) wrote says cause = inr cause
+outcome_of words bytes new out_old out_new input out Memory wrote says cause = inr tt
+outcome_of words bytes new out_old out_new input out (Limit Input v) wrote says cause =
     inl (subst (λ n. IsOutcome words bytes (Limit Input n)) (sym cause.0) (too_long cause.2 cause.1))
-outcome_of words bytes new out_old out_new input out (Limit OfLine v) wrote cause = inl (early_from words bytes new (Above OfLine v) cause)
-outcome_of words bytes new out_old out_new input out (Limit OfLines v) wrote cause = inl (early_from words bytes new (Above OfLines v) cause)
-outcome_of words bytes new out_old out_new input out (Limit Rows v) wrote cause = inl (early_from words bytes new (Above Rows v) cause)
-outcome_of words bytes new out_old out_new input out (Wrong n) wrote cause = inl (checked_from words bytes new (Wrong n) _ wrote wrote.holds.0)
+outcome_of words bytes new out_old out_new input out (Limit OfLine v) wrote says cause = inl (early_from words bytes new (Above OfLine v) cause)
+outcome_of words bytes new out_old out_new input out (Limit OfLines v) wrote says cause = inl (early_from words bytes new (Above OfLines v) cause)
+outcome_of words bytes new out_old out_new input out (Limit Rows v) wrote says cause = inl (early_from words bytes new (Above Rows v) cause)
+outcome_of words bytes new out_old out_new input out (Wrong n) wrote says cause =
+    let h = says wrote.0 wrote.1 in inl (checked_from words bytes new (Wrong n) _ wrote.0 wrote.1 h h.holds.0)
 
 -- and it is the only one
 pub complete : (words : List (List ℕ)) → AskForOne words → (bytes : List ℕ) (new out_old out_new : Option (List ℕ)) (input out : ℕ × ℕ) (result : Status)
-    → Wrote words (Some bytes) new out_old out_new result → HasCause words (Some bytes) new input out result
-    → IsOnlyOutcome words bytes result ⊎ IsHindered input out result
-complete words one bytes new out_old out_new input out result wrote cause =
-    elim (outcome_of words bytes new out_old out_new input out result wrote cause) [
+    → Wrote words (Some bytes) new out_old out_new result → ChecksAs words (Some bytes, new) (out_old, out_new) result
+    → HasCause words (Some bytes) new input out result → IsOnlyOutcome words bytes result ⊎ IsHindered input out result
+complete words one bytes new out_old out_new input out result wrote says cause =
+    elim (outcome_of words bytes new out_old out_new input out result wrote says cause) [
       | inl is ↦ inl (record { called_for = is; only = λ other h. one_status one h is })
       | inr hindered ↦ inr hindered
     ]

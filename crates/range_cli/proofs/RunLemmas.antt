@@ -1,22 +1,26 @@
 -- What ends a run early wrote nothing and has its cause, and a check that has its verdict wrote that.
-use Rattle.std.proofs.Common.{◌≡◌, Bool, true, false, ◌⊎◌, inl, inr, ℕ, List, Option, None, Some, refl, sym, subst}
+use Rattle.std.proofs.Common.{◌≡◌, Bool, true, false, ◌⊎◌, inl, inr, ℕ, List, Option, None, Some, refl, sym, ap, subst}
 use Rattle.std.specs.Io.KnownBytes.{Appends, Keeps}
+use Rattle.byte_ports.specs.Bytes.{AppendsPrefix}
 use Rattle.range_cli.specs.declared.status.EarlyEnd.{EarlyEnd}
 use Rattle.range_cli.specs.declared.status.EarlyEnd.TheVariants.{Refused, Failed, NoMemory, Above}
-use Rattle.range_cli.specs.declared.status.Status.TheVariants.{Usage}
+use Rattle.range_cli.specs.declared.status.Status.{Status}
+use Rattle.range_cli.specs.declared.status.Status.TheVariants.{Usage, WriteFault}
 use Rattle.range_cli.specs.declared.status.Which.TheVariants.{Input, Line as OfLine, Lines as OfLines, Rows}
-use Rattle.command_words.specs.declared.commands.Command.TheVariants.{Play, Check}
+use Rattle.command_words.specs.declared.commands.Command.{Command}
+use Rattle.command_words.specs.declared.commands.Command.TheVariants.{Play, Load, Check}
 use Rattle.command_words.specs.declared.commands.Options.{Options}
 use Rattle.history_check.specs.declared.verdict.Verdict.{Verdict}
 use Rattle.history_check.specs.declared.verdict.Verdict.TheVariants.{Legal, Wrong as WrongVerdict}
 use Rattle.range_cli.specs.Checking.{EndsBehind, EndsCheck, EndsCheckEarly, HasRead, IsInputVerdict, verdict_line, verdict_status}
+use Rattle.range_cli.specs.Checking.{Judged, IsChecked, ChecksAs}
 use Rattle.range_cli.specs.Endings.{EndsReading, EndsMap, EndsMaps, EndsOpening, EndsInput, EndsEarly, Ends, EndsAt}
 use Rattle.range_cli.specs.Endings.EndsMaps.{here as here_map, later as later_map}
 use Rattle.range_cli.specs.Status.{status_of, OrMemory}
 use Rattle.range_cli.specs.Script.{TracePosition}
 use Rattle.range_cli.specs.Endings.EndsAt.{here, later}
-use Rattle.command_words.specs.Commands.{AskFor, AskToRead}
-use Rattle.range_cli.specs.Run.{Wrote, HasCause, EndsByInput, Judged, IsUnwritten}
+use Rattle.command_words.specs.Commands.{AskFor, AskForOne, AskToRead, RefusesWords}
+use Rattle.range_cli.specs.Run.{Wrote, HasCause, EndsByInput, IsUnwritten}
 
 -- the bytes of an input end a run with a refusal, or with another limit than that on their number
 abbrev IsOfBytes : EarlyEnd → Type 0
@@ -88,6 +92,13 @@ wrote_nothing words a b out Failed = keeps_same out
 wrote_nothing words a b out NoMemory = keeps_same out
 wrote_nothing words a b out (Above which value) = keeps_same out
 
+-- so it is where a check ends early
+pub checked_nothing : (opening : Bool) (a b out : Option (List ℕ)) (end : EarlyEnd) → IsChecked opening (a, b) (out, out) (status_of end)
+checked_nothing opening a b out (Refused line column what) = keeps_same out
+checked_nothing opening a b out Failed = keeps_same out
+checked_nothing opening a b out NoMemory = keeps_same out
+checked_nothing opening a b out (Above which value) = keeps_same out
+
 -- an early end is never that of words that are not accepted
 pub never_usage : (end : EarlyEnd) → status_of end ≡ Usage → ⊥
 never_usage (Refused line column what) is = cc
@@ -141,14 +152,12 @@ has_check_cause words opening a b m n failures end accepted (inr (inr h)) =
 
 -- ---- what a check wrote
 
--- the verdict on what was read, for words that ask for it
-pub judged_as : (words : List (List ℕ)) (opening : Bool) (a b : Option (List ℕ)) (before : ℕ) (verdict : Verdict) (P : ℕ → Verdict → Type 0)
-    → AskFor words (Check opening) → HasRead a b (λ bytes. IsInputVerdict opening bytes before verdict) → P before verdict → Judged words a b P
-judged_as words opening a b before verdict P accepted read holds = record {
-  opening = opening;
-  accepted = accepted;
+-- the verdict on what was read
+pub judged_as : (opening : Bool) (a b : Option (List ℕ)) (before : ℕ) (verdict : Verdict) (P : ℕ → Verdict → Type 0)
+    → HasRead a b (λ bytes. IsInputVerdict opening bytes before verdict) → P before verdict → Judged opening (a, b) P
+judged_as opening a b before verdict P read holds = record {
   bytes = read.0;
-  input = read.1;
+  read = read.1;
   before = before;
   verdict = verdict;
   is = read.2;
@@ -156,21 +165,56 @@ judged_as words opening a b before verdict P accepted read holds = record {
 }
 
 -- where its whole line was written, the run's status is that of the verdict
-pub wrote_verdict : (words : List (List ℕ)) (opening : Bool) (a b out_old out_new : Option (List ℕ)) (before : ℕ) (verdict : Verdict)
-    → AskFor words (Check opening) → HasRead a b (λ bytes. IsInputVerdict opening bytes before verdict)
-    → Appends out_old out_new (verdict_line before verdict) → Wrote words a b out_old out_new (verdict_status before verdict)
-wrote_verdict words opening a b out_old out_new before (Legal entries) accepted read appends =
-    judged_as words opening a b before (Legal entries) _ accepted read (refl, appends)
-wrote_verdict words opening a b out_old out_new before (WrongVerdict line why) accepted read appends =
-    judged_as words opening a b before (WrongVerdict line why) _ accepted read (refl, appends)
+pub says_verdict : (opening : Bool) (a b out_old out_new : Option (List ℕ)) (before : ℕ) (verdict : Verdict)
+    → HasRead a b (λ bytes. IsInputVerdict opening bytes before verdict) → Appends out_old out_new (verdict_line before verdict)
+    → IsChecked opening (a, b) (out_old, out_new) (verdict_status before verdict)
+says_verdict opening a b out_old out_new before (Legal entries) read appends =
+    judged_as opening a b before (Legal entries) _ read (refl, appends)
+says_verdict opening a b out_old out_new before (WrongVerdict line why) read appends =
+    judged_as opening a b before (WrongVerdict line why) _ read (refl, appends)
 
--- and this is its cause
+-- where the output failed it has a first part of the line
+pub says_part : (opening : Bool) (a b out_old out_new : Option (List ℕ)) (before : ℕ) (verdict : Verdict)
+    → HasRead a b (λ bytes. IsInputVerdict opening bytes before verdict) → AppendsPrefix out_old out_new (verdict_line before verdict)
+    → IsChecked opening (a, b) (out_old, out_new) (WriteFault None)
+says_part opening a b out_old out_new before verdict read part = (refl, judged_as opening a b before verdict _ read part)
+
+-- the status of a verdict is one of a check
+pub wrote_verdict : (words : List (List ℕ)) (opening : Bool) (a b out_old out_new : Option (List ℕ)) (before : ℕ) (verdict : Verdict)
+    → AskFor words (Check opening) → Wrote words a b out_old out_new (verdict_status before verdict)
+wrote_verdict words opening a b out_old out_new before (Legal entries) accepted = (opening, accepted)
+wrote_verdict words opening a b out_old out_new before (WrongVerdict line why) accepted = (opening, accepted)
+
+-- and the verdict is its cause
 pub verdict_cause : (words : List (List ℕ)) (opening : Bool) (a b : Option (List ℕ)) (input out : ℕ × ℕ) (before : ℕ) (verdict : Verdict)
     → AskFor words (Check opening) → HasRead a b (λ bytes. IsInputVerdict opening bytes before verdict)
     → HasCause words a b input out (verdict_status before verdict)
 verdict_cause words opening a b input out before (Legal entries) accepted read = tt
 verdict_cause words opening a b input out before (WrongVerdict line why) accepted read =
-    judged_as words opening a b before (WrongVerdict line why) _ accepted read refl
+    (opening, accepted, judged_as opening a b before (WrongVerdict line why) _ read refl)
+
+-- words that ask for a play ask for no check
+pub play_is_no_check : (words : List (List ℕ)) (options : Options) (threads : ℕ) (opening : Bool)
+    → AskForOne words → AskFor words (Play options threads) → AskFor words (Check opening) → ⊥
+play_is_no_check words options threads opening one spells asked =
+    let same : Play options threads ≡ Check opening = one (Play options threads) (Check opening) spells asked in cc
+
+-- nor do those that ask for a load
+pub load_is_no_check : (words : List (List ℕ)) (seed threads calls : ℕ) (opening : Bool)
+    → AskForOne words → AskFor words (Load seed threads calls) → AskFor words (Check opening) → ⊥
+load_is_no_check words seed threads calls opening one spells asked =
+    let same : Load seed threads calls ≡ Check opening = one (Load seed threads calls) (Check opening) spells asked in cc
+
+abbrev opening_of : Command → Bool
+opening_of (Play options threads) = false
+opening_of (Load seed threads calls) = false
+opening_of (Check opening) = opening
+
+-- where the words ask for a check, it is the one that was made
+pub checks_as_asked : (words : List (List ℕ)) (opening : Bool) (input out : Option (List ℕ) × Option (List ℕ)) (status : Status)
+    → AskForOne words → AskFor words (Check opening) → IsChecked opening input out status → ChecksAs words input out status
+checks_as_asked words opening input out status one spells is other asked =
+    subst (λ o. IsChecked o input out status) (ap opening_of (one (Check opening) (Check other) spells asked)) is
 
 -- the status of a verdict is never that of words that are not accepted, nor one that leaves the output alone
 pub verdict_never : (before : ℕ) (verdict : Verdict) → verdict_status before verdict ≡ Usage → ⊥

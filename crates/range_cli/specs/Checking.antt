@@ -3,6 +3,10 @@
 -- stand the limits, the number of a line in the whole input, and the text. The order of refusals is that of a trace,
 -- and this project's own profile: the lines one after another, then the rows.
 use Rattle.std.specs.Prelude.{◌≡◌, ◌⊎◌, ℕ, ◌+◌, ◌<◌, ◌≤◌, Bool, List, [], ◌∷◌, ◌++◌, Option, None, All, length, codes}
+use Rattle.std.specs.Io.KnownBytes.{Appends, Keeps}
+use Rattle.byte_ports.specs.Bytes.{AppendsPrefix}
+use Rattle.command_words.specs.Commands.{AskFor}
+use Rattle.command_words.specs.declared.commands.Command.TheVariants.{Check}
 use Rattle.page_types.specs.declared.TheConstants.{ROWS}
 use Rattle.space_model.specs.declared.areas.Area.{Area}
 use Rattle.space_model.specs.Areas.{kind_at, row_count, HasKinds}
@@ -16,7 +20,7 @@ use Rattle.history_check.specs.Verdicts.{IsVerdict}
 use Rattle.range_cli.specs.declared.status.EarlyEnd.{EarlyEnd}
 use Rattle.range_cli.specs.declared.status.EarlyEnd.TheVariants.{Refused, Failed, NoMemory, Above}
 use Rattle.range_cli.specs.declared.status.Status.{Status}
-use Rattle.range_cli.specs.declared.status.Status.TheVariants.{Done, Wrong}
+use Rattle.range_cli.specs.declared.status.Status.TheVariants.{Done, Usage, BadLine, ReadFault, WriteFault, Memory, Limit, Wrong}
 use Rattle.range_cli.specs.declared.status.Which.{Which}
 use Rattle.range_cli.specs.declared.status.Which.TheVariants.{Input, Line as OfLine, Lines as OfLines, Rows}
 use Rattle.range_cli.specs.declared.trace.TheConstants.{LINE_LIMIT}
@@ -100,6 +104,39 @@ verdict_line before (WrongVerdict line why) = numbered (codes "wrong line ") (be
 abbrev pub verdict_status : ℕ → Verdict → Status
 verdict_status before (Legal entries) = Done None
 verdict_status before (WrongVerdict line why) = Wrong (before + line)
+
+-- the whole input was read, within its limit, and this holds of the verdict on it. The bytes of an input or an output
+-- before and after stand as a pair
+pub record Judged (opening : Bool) (input : Option (List ℕ) × Option (List ℕ)) (P : ℕ → Verdict → Type 0) : Type 0 where
+  pub bytes : List ℕ
+  pub read : IsInput input.0 input.1 bytes
+  pub before : ℕ
+  pub verdict : Verdict
+  pub is : IsInputVerdict opening bytes before verdict
+  pub holds : P before verdict
+
+-- the verdict has this status, and its line was written
+abbrev pub SaysVerdict : Bool → Option (List ℕ) × Option (List ℕ) → Option (List ℕ) × Option (List ℕ) → Status → Type 0
+SaysVerdict opening input out status =
+    Judged opening input (λ before verdict. (verdict_status before verdict ≡ status) × Appends out.0 out.1 (verdict_line before verdict))
+
+-- What a check says of its input, by its status: where it is done or the log is wrong, the line of the verdict was
+-- written, and the status is that of the verdict; where the output failed, a first part of this line was. Else nothing
+-- was written.
+abbrev pub IsChecked : Bool → Option (List ℕ) × Option (List ℕ) → Option (List ℕ) × Option (List ℕ) → Status → Type 0
+IsChecked opening input out (Done closed) = SaysVerdict opening input out (Done closed)
+IsChecked opening input out (Wrong line) = SaysVerdict opening input out (Wrong line)
+IsChecked opening input out (WriteFault closed) =
+    (closed ≡ None) × Judged opening input (λ before verdict. AppendsPrefix out.0 out.1 (verdict_line before verdict))
+IsChecked opening input out Usage = ⊥
+IsChecked opening input out (BadLine line column what) = Keeps out.0 out.1
+IsChecked opening input out ReadFault = Keeps out.0 out.1
+IsChecked opening input out Memory = Keeps out.0 out.1
+IsChecked opening input out (Limit which value) = Keeps out.0 out.1
+
+-- where the words ask for a check, the run is one
+abbrev pub ChecksAs : List (List ℕ) → Option (List ℕ) × Option (List ℕ) → Option (List ℕ) × Option (List ℕ) → Status → Type 0
+ChecksAs words input out status = (opening : Bool) → AskFor words (Check opening) → IsChecked opening input out status
 
 -- the input was read to its end, and this holds of its bytes
 abbrev pub HasRead : Option (List ℕ) → Option (List ℕ) → (List ℕ → Type 0) → Type 0

@@ -18,9 +18,9 @@ use Rattle.range_cli.specs.declared.status.Status.TheVariants.{Done, Usage, BadL
 use Rattle.range_cli.specs.declared.status.Which.{Which}
 use Rattle.range_cli.specs.declared.status.Which.TheVariants.{Input, Line as OfLine, Lines as OfLines, Rows}
 use Rattle.range_cli.specs.declared.trace.Line.{Line}
-use Rattle.command_words.specs.Commands.{AskFor, RefusesWords, AskToRead}
+use Rattle.command_words.specs.Commands.{AskFor, RefusesWords, AskForCheck, AskToRead}
 use Rattle.history_check.specs.declared.verdict.Verdict.{Verdict}
-use Rattle.range_cli.specs.Checking.{IsInputVerdict, EndsCheck, verdict_line, verdict_status}
+use Rattle.range_cli.specs.Checking.{IsInputVerdict, EndsCheck, Judged, verdict_status}
 use Rattle.range_cli.specs.ErrorLine.{error_line}
 use Rattle.range_cli.specs.Script.{IsInput, IsScript}
 use Rattle.range_cli.specs.Endings.{IsTooLong, EndsInput}
@@ -68,27 +68,14 @@ abbrev pub Reports : List (List ℕ) → Option (List ℕ) → Option (List ℕ)
 Reports words input_old input_new closed report =
     Heard words input_old input_new (λ options threads bytes. IsReport options threads bytes closed report) ⊎ Loaded words closed report
 
--- with words that ask for a log to be checked the whole input was read, within its limit, its verdict is this one, and
--- this holds
-pub record Judged (words : List (List ℕ)) (input_old input_new : Option (List ℕ)) (P : ℕ → Verdict → Type 0) : Type 0 where
-  pub opening : Bool
-  pub accepted : AskFor words (Check opening)
-  pub bytes : List ℕ
-  pub input : IsInput input_old input_new bytes
-  pub before : ℕ
-  pub verdict : Verdict
-  pub is : IsInputVerdict opening bytes before verdict
-  pub holds : P before verdict
-
--- What a run wrote: the whole report or the line of the verdict, or a first part of it where the output failed, else
--- nothing. Where a report was written the status carries the closed space whose history it is.
+-- What a play or a load wrote: the whole report, or a first part of it where the output failed, else nothing. Where a
+-- report was written the status carries the closed space whose history it is. The other statuses with an output are
+-- those of a check: what that wrote is `ChecksAs` of `Checking`.
 abbrev pub Wrote : List (List ℕ) → Option (List ℕ) → Option (List ℕ) → Option (List ℕ) → Option (List ℕ) → Status → Type 0
-Wrote words input_old input_new out_old out_new (Done None) = Judged words input_old input_new
-    (λ before verdict. (verdict_status before verdict ≡ Done None) × Appends out_old out_new (verdict_line before verdict))
+Wrote words input_old input_new out_old out_new (Done None) = AskForCheck words
 Wrote words input_old input_new out_old out_new (Done (Some closed)) = (report : List ℕ)
     × Reports words input_old input_new closed report × Appends out_old out_new report
-Wrote words input_old input_new out_old out_new (WriteFault None) = Judged words input_old input_new
-    (λ before verdict. AppendsPrefix out_old out_new (verdict_line before verdict))
+Wrote words input_old input_new out_old out_new (WriteFault None) = AskForCheck words
 Wrote words input_old input_new out_old out_new (WriteFault (Some closed)) = (report : List ℕ)
     × Reports words input_old input_new closed report × AppendsPrefix out_old out_new report
 Wrote words input_old input_new out_old out_new Usage = Keeps out_old out_new
@@ -96,8 +83,7 @@ Wrote words input_old input_new out_old out_new (BadLine line column what) = Kee
 Wrote words input_old input_new out_old out_new ReadFault = Keeps out_old out_new
 Wrote words input_old input_new out_old out_new Memory = Keeps out_old out_new
 Wrote words input_old input_new out_old out_new (Limit which value) = Keeps out_old out_new
-Wrote words input_old input_new out_old out_new (Wrong line) = Judged words input_old input_new
-    (λ before verdict. (verdict_status before verdict ≡ Wrong line) × Appends out_old out_new (verdict_line before verdict))
+Wrote words input_old input_new out_old out_new (Wrong line) = AskForCheck words
 
 -- a run that ends so has written its whole report, or that a log is legal
 abbrev pub IsDone : Status → Type 0
@@ -151,8 +137,8 @@ HasCause words input_old input_new input_failures out_failures ReadFault = Rose 
 HasCause words input_old input_new input_failures out_failures (WriteFault closed) = Rose out_failures.0 out_failures.1
 HasCause words input_old input_new input_failures out_failures Memory = ⊤
 HasCause words input_old input_new input_failures out_failures (Limit which value) = PassedLimit words input_old input_new which value
-HasCause words input_old input_new input_failures out_failures (Wrong line) =
-    Judged words input_old input_new (λ before verdict. verdict_status before verdict ≡ Wrong line)
+HasCause words input_old input_new input_failures out_failures (Wrong line) = (opening : Bool) × AskFor words (Check opening)
+    × Judged opening (input_old, input_new) (λ before verdict. verdict_status before verdict ≡ Wrong line)
 
 -- the words and an input with these bytes call for this status, whatever history it carries
 pub data IsOutcome (words : List (List ℕ)) (bytes : List ℕ) : Status → Type 0 where

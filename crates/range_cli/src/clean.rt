@@ -6,6 +6,7 @@ ghost use Rattle.std.specs.Io.KnownBytes.{Appends};
 ghost use Rattle.std.specs.String.{string_bytes};
 ghost use Rattle.range_cli.specs.Clean.{left_in, held_by, HasRoomForLine, HasRoomForReports, CallForDone, EndsAsCalledFor, IsDoneOrMemory};
 ghost use Rattle.range_cli.specs.ErrorLine.{error_line, which_text, bad_line_text, numbered};
+ghost use Rattle.range_cli.specs.Checking.{ChecksAs};
 ghost use Rattle.range_cli.specs.Run.{Wrote};
 
 use crate::run::run;
@@ -53,6 +54,8 @@ pub fn run_clean<R: Threads + Wait + Sync, G: Gate>(
     requires err_room { HasRoomForLine err.old }
     ensures out { Wrote (map string_bytes words.now) (Some (left_in input.old)) (Some (left_in input.new))
         (Some (held_by out.old)) (Some (held_by out.new)) result }
+    ensures verdict { ChecksAs (map string_bytes words.now) (Some (left_in input.old), Some (left_in input.new))
+        (Some (held_by out.old), Some (held_by out.new)) result }
     ensures err { Appends (Some (held_by err.old)) (Some (held_by err.new)) (error_line result) }
     ensures err_faults { err.new.faults ≡ err.old.faults }
     ensures out_faults { HasRoomForReports (map string_bytes words.now) (left_in input.old) out.old

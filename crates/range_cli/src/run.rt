@@ -9,6 +9,7 @@ ghost use Rattle.load_lines.specs.declared.TheConstants.{SEED_LIMIT, THREADS_LIM
 ghost use Rattle.command_words.specs.Commands.{AskFor, RefusesWords, AskForLoad, AskForOne};
 ghost use Rattle.command_words.specs.declared.commands.Command.TheVariants.{Play, Load, Check};
 ghost use Rattle.range_cli.specs.Laws.{LogsAreGood, HasOneReport};
+ghost use Rattle.range_cli.specs.Checking.{IsChecked, ChecksAs};
 ghost use Rattle.range_cli.specs.Run.{Wrote, IsDone, IsUnwritten, HasCause, IsOnlyOutcome, IsHindered, Complains};
 
 use crate::checking::{judge, write_verdict};
@@ -58,8 +59,11 @@ pub fn run<R: Threads + Wait + Sync, S: Source, K: Sink, G: Gate>(
     // Read `out` in this order: `Wrote`, by status; `Reports` and `Heard`, what words and input ask for; `IsReport`;
     // then its parts: `IsScript`, the lines, `IsHistoryOf`, what became of them, and `report_text`, what is printed of
     // that. The crate's README unfolds it once for two lines and two workers.
+    // Who wants to know of a check alone reads `verdict` in its place.
     ensures out { Wrote (map string_bytes words.now) (S.remaining input.old)
         (S.remaining input.new) (K.contents out.old) (K.contents out.new) result }
+    ensures verdict { ChecksAs (map string_bytes words.now) (S.remaining input.old, S.remaining input.new)
+        (K.contents out.old, K.contents out.new) result }
     ensures cause { HasCause (map string_bytes words.now) (S.remaining input.old)
         (S.remaining input.new) (S.fault_count input.old, S.fault_count input.new)
         (K.fault_count out.old, K.fault_count out.new) result }
@@ -102,6 +106,8 @@ fn report<R: Threads + Wait + Sync, S: Source, K: Sink, G: Gate>(
 ) -> Status
     ensures out { Wrote (map string_bytes words.now) (S.remaining input.old)
         (S.remaining input.new) (K.contents out.old) (K.contents out.new) result }
+    ensures verdict { ChecksAs (map string_bytes words.now) (S.remaining input.old, S.remaining input.new)
+        (K.contents out.old, K.contents out.new) result }
     ensures cause { HasCause (map string_bytes words.now) (S.remaining input.old)
         (S.remaining input.new) (S.fault_count input.old, S.fault_count input.new)
         (K.fault_count out.old, K.fault_count out.new) result }
@@ -183,6 +189,8 @@ fn check_input<S: Source, K: Sink>(
 ) -> Status
     ensures out { (words : List (List ℕ)) → AskFor words (Check opening) → Wrote words (S.remaining input.old)
         (S.remaining input.new) (K.contents out.old) (K.contents out.new) result }
+    ensures verdict { IsChecked opening (S.remaining input.old, S.remaining input.new)
+        (K.contents out.old, K.contents out.new) result }
     ensures cause { (words : List (List ℕ)) → AskFor words (Check opening) → HasCause words (S.remaining input.old)
         (S.remaining input.new) (S.fault_count input.old, S.fault_count input.new)
         (K.fault_count out.old, K.fault_count out.new) result }
